@@ -1,0 +1,90 @@
+//! How far gaps and tokens reach.
+
+ghost use Rattle.std.specs.Prelude.{◌≡◌, ◌≤◌, false, length, IfSome};
+ghost use Rattle.std.specs.List.{prefix_len};
+ghost use Rattle.cmap_parts.specs.Bytes.{is_regular};
+ghost use Rattle.cmap_parts.specs.TokenReading as reading;
+
+use super::byte_class::{ends_comment, is_digit, is_regular, is_white};
+
+/// How many bytes of white space and comments a text begins with.
+pub fn gap_len(text: &[u8]) -> usize
+    ensures exact { result ≡ reading.gap_len false text.now }
+    ensures within { result ≤ length text.now }
+{
+    let mut in_comment = false;
+    for (i, byte) in text.iter().enumerate() {
+        if in_comment {
+            in_comment = !ends_comment(*byte);
+        } else if *byte == b'%' {
+            in_comment = true;
+        } else if !is_white(*byte) {
+            return i;
+        }
+    }
+    text.len()
+}
+
+/// How many regular bytes a text begins with.
+fn run_len(text: &[u8]) -> usize
+    ensures exact { result ≡ prefix_len is_regular text.now }
+    ensures within { result ≤ length text.now }
+{
+    text.iter().take_while(|byte| is_regular(**byte)).count()
+}
+
+/// How many bytes the token takes that a text begins with, `None` where it begins with none.
+#[tactic(auto, unfolding(crate::specs::TokenReading::piece_len))]
+pub fn piece_len(text: &[u8]) -> Option<usize>
+    ensures exact { result ≡ reading.piece_len text.now }
+    ensures within { IfSome result (λ len. len ≤ length text.now) }
+{
+    match text {
+        [b'[' | b']' | b'{' | b'}', ..] => Some(1),
+        [b'<', b'<', ..] | [b'>', b'>', ..] => Some(2),
+        [b'<', rest @ ..] => Some(1 + hex_len(rest)?),
+        [b'(', rest @ ..] => Some(1 + text_len(rest)?),
+        [b'/', rest @ ..] => Some(1 + run_len(rest)),
+        [first, ..] if is_regular(*first) => Some(run_len(text)),
+        _ => None,
+    }
+}
+
+/// How many bytes a hexadecimal string takes behind its `<`.
+fn hex_len(text: &[u8]) -> Option<usize>
+    ensures exact { result ≡ reading.hex_len text.now }
+    ensures within { IfSome result (λ len. len ≤ length text.now) }
+{
+    for (i, byte) in text.iter().enumerate() {
+        if *byte == b'>' {
+            return Some(i + 1);
+        }
+        if !is_white(*byte) && !is_digit(*byte, 16) {
+            return None;
+        }
+    }
+    None
+}
+
+/// How many bytes a string in parentheses takes behind its `(`.
+fn text_len(text: &[u8]) -> Option<usize>
+    ensures exact { result ≡ reading.text_len false 1 text.now }
+    ensures within { IfSome result (λ len. len ≤ length text.now) }
+{
+    let mut depth: usize = 1;
+    let mut escaped = false;
+    for (i, byte) in text.iter().enumerate() {
+        if escaped {
+            escaped = false;
+        } else {
+            match byte {
+                b'\\' => escaped = true,
+                b'(' => depth += 1,
+                b')' if depth == 1 => return Some(i + 1),
+                b')' => depth -= 1,
+                _ => {}
+            }
+        }
+    }
+    None
+}
