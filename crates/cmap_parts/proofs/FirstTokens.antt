@@ -3,7 +3,7 @@ use Rattle.std.proofs.Common.{◌≡◌, ℕ, ◌+◌, ◌-◌, ◌<◌, ◌≤�
 use Rattle.std.proofs.lemmas.List.{take_rest, drop-drop}
 use Rattle.cmap_parts.specs.Bytes.{IsBlank}
 use Rattle.cmap_parts.specs.Tokens.{Token, Front, IsMalformed}
-use Rattle.cmap_parts.specs.Scanner.{OnlyFront, FirstToken}
+use Rattle.cmap_parts.specs.Scanner.{OnlyFront, FirstToken, HasNoFront}
 use Rattle.cmap_parts.specs.TokenReading.{gap_len, piece_len, token_of}
 use Rattle.cmap_parts.proofs.Pieces.{is_read}
 use Rattle.cmap_parts.proofs.Fronts.{only_front, blank_from, front_not_blank, malformed_from}
@@ -43,6 +43,9 @@ pub blank_is : (text : List ℕ) (n : ℕ) → n ≡ gap_len false text → leng
 blank_is text n gap empty =
     let cut = is_cut text n gap in
     blank_from text (omega (arith, empty, ap length cut.rest, length-drop (gap_len false text) text))
+
+pub blank_only : (text : List ℕ) → IsBlank text → HasNoFront text
+blank_only text blank gap piece rest token front = front_not_blank text gap piece token rest front blank
 
 pub malformed_is : (text : List ℕ) (n : ℕ) → n ≡ gap_len false text → 0 < length (rest_from text n) → None ≡ piece_len (rest_from text n) → IsMalformed text
 malformed_is text n gap more none =

@@ -121,7 +121,7 @@ impl<'a> Scanner<'a> {
     ghost use Rattle.std.specs.Prelude.{◌≡◌, ◌↔◌, ◌<◌, None, Ok, IfOk, IfSome, IsErr, OnErr, length};
     ghost use Rattle.cmap_parts.specs.Bytes.{IsBlank};
     ghost use Rattle.cmap_parts.specs.Tokens.{IsMalformed};
-    ghost use Rattle.cmap_parts.specs.Scanner.{ReadsToken, rest_of};
+    ghost use Rattle.cmap_parts.specs.Scanner.{HasNoFront, ReadsToken, rest_of};
     ghost use Rattle.cmap_parts.specs.TokenSeen.{token_seen};
 
     pub fn new(source: &'a [u8]) -> Self
@@ -138,6 +138,7 @@ impl<'a> Scanner<'a> {
         ensures shorter { IfOk result
             (λ found. IfSome found (λ _. length (rest_of self.new) < length (rest_of self.old))) }
         ensures end { (result ≡ Ok None) ↔ IsBlank (rest_of self.old) }
+        ensures end_only { result ≡ Ok None → HasNoFront (rest_of self.old) }
         ensures malformed { IsErr result ↔ IsMalformed (rest_of self.old) }
 
         ensures end_stays { result ≡ Ok None → self.new ≡ self.old }

@@ -3,7 +3,7 @@
 ghost use Rattle.std.specs.Prelude.{◌≡◌, ◌↔◌, ◌<◌, ◌≤◌, length, Some, None, Ok, IfOk, IfSome, IsErr};
 ghost use Rattle.cmap_parts.specs.Bytes.{IsBlank};
 ghost use Rattle.cmap_parts.specs.Tokens.{IsMalformed};
-ghost use Rattle.cmap_parts.specs.Scanner.{FirstToken};
+ghost use Rattle.cmap_parts.specs.Scanner.{FirstToken, HasNoFront};
 ghost use Rattle.cmap_parts.specs.TokenReading as reading;
 ghost use Rattle.cmap_parts.specs.TokenSeen.{token_seen};
 
@@ -16,6 +16,7 @@ pub fn first_token(text: &[u8]) -> Result<Option<(Token<'_>, usize)>, Malformed>
     ensures token { IfOk result
         (λ found. IfSome found (λ first. FirstToken text.now (token_seen first.0) first.1)) }
     ensures end { (result ≡ Ok None) ↔ IsBlank text.now }
+    ensures end_only { result ≡ Ok None → HasNoFront text.now }
     ensures malformed { IsErr result ↔ IsMalformed text.now }
     ensures within { IfOk result (λ found. IfSome found (λ first. first.1 ≤ length text.now)) }
     ensures moves { IfOk result (λ found. IfSome found (λ first. 0 < first.1)) }

@@ -1,7 +1,7 @@
 use Rattle.std.proofs.Common.{◌<◌, length, refl, sym, ◌∙◌, arith}
 use Rattle.std.proofs.lemmas.Bool.{eqb-true, eqb-false, false≢true}
 use Rattle.cmap_parts.proofs.Pieces.{piece_again}
-use Rattle.cmap_parts.proofs.FirstTokens.{rest_from, first_token_is, not_blank, not_malformed, blank_is, malformed_is, moves}
+use Rattle.cmap_parts.proofs.FirstTokens.{rest_from, first_token_is, not_blank, not_malformed, blank_is, blank_only, malformed_is, moves}
 use Rattle.cmap_parts.proofs.token.pieces.first_token.Goals as goal
 
 pub token_of-requires : goal.token_of-requires
@@ -29,6 +29,10 @@ pub returns-in-None-clause-end : goal.returns-in-None-clause-end
 returns-in-None-clause-end c =
     let blank = blank_is c.args.text.now c.gap_len-gap.result c.gap_len-gap.ensures.exact (eqb-true _ 0 (sym c.is_empty.ensures ∙ c.if-is_empty.true)) in
     (λ e. blank, λ h. refl)
+
+pub returns-in-None-clause-end_only : goal.returns-in-None-clause-end_only
+returns-in-None-clause-end_only c e =
+    blank_only _ (blank_is c.args.text.now c.gap_len-gap.result c.gap_len-gap.ensures.exact (eqb-true _ 0 (sym c.is_empty.ensures ∙ c.if-is_empty.true)))
 
 pub returns-in-None-clause-malformed : goal.returns-in-None-clause-malformed
 returns-in-None-clause-malformed c =
