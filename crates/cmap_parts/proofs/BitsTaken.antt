@@ -7,10 +7,10 @@ use Rattle.std.proofs.Math.Nat.{pow-suc}
 use Rattle.cmap_parts.specs.PrefixWords.{bits}
 use Rattle.cmap_parts.specs.Reader.{Reading, bits_left, after_bits}
 use Rattle.cmap_parts.specs.TableReading.{MovesBy}
-use Rattle.cmap_parts.specs.declared.prefix.Words.{Words}
+use Rattle.cmap_parts.specs.declared.prefix.words.Words.{Words}
 use Rattle.cmap_parts.specs.WordsByLength.{place_of, found_or, place_behind}
 use Rattle.cmap_parts.proofs.BitsOfBytes.{bits_left-next, bits_left-none}
-use Rattle.cmap_parts.proofs.BitNumbers.{AllBelowBase-bits_left}
+use Rattle.cmap_parts.proofs.NumbersOfBits.{AllBelowBase-bits_left}
 
 -- what read_bit says where it gives a bit
 pub record BitTaken (old new : Reading) (bit : ℕ) : Type 0 where

@@ -29,21 +29,6 @@ counts_at-read (high ∷ low ∷ m ∷ bytes) filled most e f =
     let size : m ≡ most = cc in
     ap (λ n. cut_at (cond (eqb n 0) 0 (2 * m)) bytes) number ∙ ap (λ n. cut_at (cond (eqb filled 0) 0 (2 * n)) bytes) size
 
-pub counts_at-no_number : (bytes : List ℕ) → None ≡ number_at 2 bytes → counts_at bytes ≡ None
-counts_at-no_number [] e = refl
-counts_at-no_number (high ∷ []) e = refl
-counts_at-no_number (high ∷ low ∷ []) e = refl
-counts_at-no_number (high ∷ low ∷ m ∷ bytes) e =
-    let two : leb 2 (length (high ∷ low ∷ m ∷ bytes)) ≡ true = le-leb _ _ (omega arith) in
-    let both : None ≡ option_map big_endian (Some (high ∷ low ∷ [])) = e ∙ ap (λ b. option_map big_endian (cond b (Some (high ∷ low ∷ [])) None)) two in
-    absurd (cc)
-
-pub counts_at-no_most : (bytes : List ℕ) → None ≡ slice_get (drop 2 bytes) 0 → counts_at bytes ≡ None
-counts_at-no_most [] e = refl
-counts_at-no_most (high ∷ []) e = refl
-counts_at-no_most (high ∷ low ∷ []) e = refl
-counts_at-no_most (high ∷ low ∷ m ∷ bytes) e = absurd (cc)
-
 abbrev cut_by : Bool → ℕ → List ℕ → Option (List ℕ × List ℕ)
 cut_by b count bytes = cond b (Some (take count bytes, drop count bytes)) None
 

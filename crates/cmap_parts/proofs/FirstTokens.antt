@@ -5,8 +5,8 @@ use Rattle.cmap_parts.specs.Bytes.{IsBlank}
 use Rattle.cmap_parts.specs.Tokens.{Token, Front, IsMalformed}
 use Rattle.cmap_parts.specs.Scanner.{OnlyFront, FirstToken, HasNoFront}
 use Rattle.cmap_parts.specs.TokenReading.{gap_len, piece_len, token_of}
-use Rattle.cmap_parts.proofs.Pieces.{is_read}
-use Rattle.cmap_parts.proofs.Fronts.{only_front, blank_from, front_not_blank, malformed_from}
+use Rattle.cmap_parts.proofs.TokenPieces.{is_read}
+use Rattle.cmap_parts.proofs.TextFronts.{only_front, blank_from, front_not_blank, malformed_from}
 
 -- what `&text[n..]` is
 abbrev pub rest_from : List ℕ → ℕ → List ℕ

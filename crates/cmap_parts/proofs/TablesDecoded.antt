@@ -10,30 +10,15 @@ use Rattle.std.proofs.lemmas.Nat.{pow-add, pow_pos}
 use Rattle.std.proofs.lemmas.Option.{none-some, slice_get_within, same_Some, some_pair_parts, get_or_from_slice_get}
 use Rattle.std.proofs.Math.Nat.{add-mul, mul-le-mul_right}
 use Rattle.cmap_parts.specs.PrefixWords.{Place, BeginsAt, Decodes, IsPrefixFree, bits_of, word_behind, lengths_from, zip_places}
-use Rattle.cmap_parts.specs.declared.prefix.Words.{Words}
+use Rattle.cmap_parts.specs.declared.prefix.words.Words.{Words}
 use Rattle.cmap_parts.specs.WordsByLength.{words_from, counts_of, places_of, place_behind, IsTable}
 use Rattle.cmap_parts.specs.Reader.{Reading, bits_left, after_bits}
 use Rattle.cmap_parts.specs.TableReading.{MovesBy}
 use Rattle.cmap_parts.proofs.BitsOfBytes.{length-bits_of}
-use Rattle.cmap_parts.proofs.BitNumbers.{bits_of-number_after, number-bits_of, AllBelowBase-bits_of, AllBelowBase-bits_left}
+use Rattle.cmap_parts.proofs.NumbersOfBits.{bits_of-number_after, number-bits_of, AllBelowBase-bits_of, AllBelowBase-bits_left}
 use Rattle.cmap_parts.proofs.WordValues.{value_at}
 use Rattle.cmap_parts.proofs.PlacesFound.{IsWord, place_behind-complete, place_behind-found}
-
--- ---- places, made of lengths and symbols
-pub map-len-zip_places : (lens symbols : List ℕ) → length symbols ≡ length lens → map (λ p. p.len) (zip_places lens symbols) ≡ lens
-map-len-zip_places [] symbols e = refl
-map-len-zip_places (l ∷ lens) [] e = absurd (omega arith)
-map-len-zip_places (l ∷ lens) (s ∷ symbols) e = ap (λ ls. l ∷ ls) (map-len-zip_places lens symbols (omega arith))
-
-pub slice_get-zip_places : (lens symbols : List ℕ) (i : ℕ) → length symbols ≡ length lens → i < length lens → slice_get (zip_places lens symbols) i ≡ Some (record { len = get_or lens i 0; symbol = get_or symbols i 0 })
-slice_get-zip_places [] symbols i e h = absurd (omega arith)
-slice_get-zip_places (l ∷ lens) [] i e h = absurd (omega arith)
-slice_get-zip_places (l ∷ lens) (s ∷ symbols) zero e h = refl
-slice_get-zip_places (l ∷ lens) (s ∷ symbols) (suc i) e h = slice_get-zip_places lens symbols i (omega arith) (omega arith)
-
-pub sum_by-map : {X Y : Type 0} (f : Y → ℕ) (g : X → Y) (xs : List X) → sum_by f (map g xs) ≡ sum_by (λ x. f (g x)) xs
-sum_by-map f g [] = refl
-sum_by-map f g (x ∷ xs) = sum_by-cons f (g x) (map g xs) ∙ ap (λ s. f (g x) + s) (sum_by-map f g xs) ∙ sym (sum_by-cons (λ x. f (g x)) x xs)
+use Rattle.cmap_parts.proofs.PlacesZipped.{map-len-zip_places, length-zip_places, slice_get-zip_places, sum_by-map, sound_length, sound_room}
 
 -- what the words before a place are worth, by their lengths alone
 worth_before : (lens symbols : List ℕ) (i l : ℕ) → length symbols ≡ length lens → sum_by (λ p. 2 ^ (l - p.len)) (take i (zip_places lens symbols)) ≡ sum_by (λ j. 2 ^ (l - j)) (take i lens)
@@ -70,14 +55,6 @@ has_room lens i rising room h most =
     ]
 
 -- ---- a table and its words by their lengths
--- the place at i has this length and symbol, and the word whose value is that of its length
-place_at : (words : List Words) (symbols : List ℕ) → IsTable words symbols → (i : ℕ) → i < length (lengths_from 1 (counts_of words))
-    → slice_get (places_of words symbols) i ≡ Some (record { len = get_or (lengths_from 1 (counts_of words)) i 0; symbol = get_or symbols i 0 })
-place_at words symbols t i h = slice_get-zip_places (lengths_from 1 (counts_of words)) symbols i t.a_symbol_each h
-
-length-places : (words : List Words) (symbols : List ℕ) → IsTable words symbols → length (places_of words symbols) ≡ length (lengths_from 1 (counts_of words))
-length-places words symbols t = sym (length-map (places_of words symbols) (λ (p : Place). p.len)) ∙ ap length (map-len-zip_places (lengths_from 1 (counts_of words)) symbols t.a_symbol_each)
-
 abbrev value_of : List Words → ℕ → ℕ
 value_of words i = sum_by (λ l. 2 ^ (get_or (lengths_from 1 (counts_of words)) i 0 - l)) (take i (lengths_from 1 (counts_of words)))
 
@@ -110,7 +87,7 @@ IsDecoded-found words symbols stream place rest t small e =
     let is = finds.word_is in
     let l = get_or lens i 0 in
     let size : length word ≡ l = omega (arith, is.length_is) in
-    let here : slice_get (places_of words symbols) i ≡ Some (record { len = l; symbol = get_or symbols i 0 }) = place_at words symbols t i is.within in
+    let here : slice_get (places_of words symbols) i ≡ Some (record { len = l; symbol = get_or symbols i 0 }) = slice_get-zip_places (lengths_from 1 (counts_of words)) symbols i t.a_symbol_each is.within in
     let spelled : word ≡ word_behind (take i (places_of words symbols)) l =
     sym (bits_of-number_after 0 word is.are_bits) ∙ ap (λ n. bits_of n (number_from_digits 2 word)) size ∙ ap (bits_of l) (is.value_is ∙ value_at-first words i) ∙ sym (word_behind-value words symbols t i) in
     subst (λ (p : ℕ). IsDecoded words symbols stream p rest) (sym at) (record {
@@ -119,19 +96,6 @@ IsDecoded-found words symbols stream place rest t small e =
       decodes = record { place = i; word = word; place_is = here; word_is = (record { len = l; symbol = get_or symbols i 0 }, here, spelled); bits_are = finds.cut };
       len_is = ap length finds.cut ∙ length-append word rest ∙ ap (λ n. n + length rest) size;
     })
-
--- ---- what begins the bits is found
-sound_room : (words : List Words) (symbols : List ℕ) → IsTable words symbols → sum_by (λ j. 2 ^ (32 - j)) (lengths_from 1 (counts_of words)) ≤ 2 ^ 32
-sound_room words symbols t =
-    let same : sum_by (λ j. 2 ^ (32 - j)) (lengths_from 1 (counts_of words)) ≡ sum_by (λ p. 2 ^ (32 - p.len)) (places_of words symbols) =
-    ap (sum_by (λ j. 2 ^ (32 - j))) (sym (map-len-zip_places (lengths_from 1 (counts_of words)) symbols t.a_symbol_each)) ∙ sum_by-map (λ j. 2 ^ (32 - j)) (λ (p : Place). p.len) (places_of words symbols) in
-    omega (arith, same, t.sound.room)
-
-sound_length : (words : List Words) (symbols : List ℕ) → IsTable words symbols → (i : ℕ) → i < length (lengths_from 1 (counts_of words)) → get_or (lengths_from 1 (counts_of words)) i 0 ≤ 32
-sound_length words symbols t i h =
-    let here : Place = record { len = get_or (lengths_from 1 (counts_of words)) i 0; symbol = get_or symbols i 0 } in
-    let P : Place → Type 0 = λ p. p.len ≤ 32 in
-    subst P (get_or_from_slice_get (places_of words symbols) i here here (place_at words symbols t i h)) (t.sound.lengths i here (omega (arith, length-places words symbols t))).1
 
 bits_of_value : (words : List Words) (symbols : List ℕ) → IsTable words symbols → (i : ℕ) → i < length (lengths_from 1 (counts_of words))
     → IsWord 0 0 0 (counts_of words) (bits_of (get_or (lengths_from 1 (counts_of words)) i 0) (value_of words i)) i
@@ -144,7 +108,7 @@ bits_of_value words symbols t i h =
       within = h;
       are_bits = subst (AllBelowBase 2) (append-nil (bits_of l v)) (AllBelowBase-bits_of l v [] tt);
       length_is = omega (arith, length-bits_of l v);
-      value_is = number-bits_of l v (has_room lens i rising (sound_room words symbols t) h (sound_length words symbols t i h)) ∙ sym (value_at-first words i);
+      value_is = number-bits_of l v (has_room lens i rising (sound_room (lengths_from 1 (counts_of words)) symbols t.a_symbol_each t.sound) h (sound_length (lengths_from 1 (counts_of words)) symbols i t.a_symbol_each t.sound h)) ∙ sym (value_at-first words i);
     }
 
 pub place_behind-begins : (words : List Words) (symbols stream : List ℕ) (i : ℕ) → IsTable words symbols → BeginsAt (places_of words symbols) stream i
@@ -154,8 +118,8 @@ place_behind-begins words symbols stream i t begins =
     let word = begins.0 in
     let rest = begins.1 in
     let place = begins.2.0 in
-    let h : i < length (lengths_from 1 counts) = omega (arith, slice_get_within (places_of words symbols) i place begins.2.1, length-places words symbols t) in
-    let same : place ≡ record { len = get_or (lengths_from 1 counts) i 0; symbol = get_or symbols i 0 } = same_Some _ _ (sym begins.2.1 ∙ place_at words symbols t i h) in
+    let h : i < length (lengths_from 1 counts) = omega (arith, slice_get_within (places_of words symbols) i place begins.2.1, length-zip_places (lengths_from 1 (counts_of words)) symbols t.a_symbol_each) in
+    let same : place ≡ record { len = get_or (lengths_from 1 counts) i 0; symbol = get_or symbols i 0 } = same_Some _ _ (sym begins.2.1 ∙ slice_get-zip_places (lengths_from 1 (counts_of words)) symbols i t.a_symbol_each h) in
     let spelled : word ≡ bits_of (get_or (lengths_from 1 counts) i 0) (value_of words i) =
     begins.2.2 ∙ ap (λ (p : Place). word_behind (take i (places_of words symbols)) p.len) same ∙ word_behind-value words symbols t i in
     let found = place_behind-complete counts 0 0 0 0 _ rest i (bits_of_value words symbols t i h) in

@@ -1,4 +1,4 @@
-//! Numbers and bits, read from bytes in order.
+//! Bits and big-endian numbers, read from bytes in order.
 
 ghost use Rattle.std.specs.Prelude.{◌≡◌, ℕ, ◌/◌, ◌≤◌, ◌↔◌, Bool, [], length, option_map, is_some, slice_get, IsTrue, if◌then◌else◌, nat_le, ◌&&◌};
 ghost use Rattle.std.specs.List.{before_first};
@@ -8,9 +8,10 @@ ghost use Rattle.cmap_parts.specs.PrefixWords.{bits};
 
 use std::marker::Model;
 
-/// Bytes, and how far they have been read. Bits are taken from the high bit of each byte on.
-/// A call that answers `None` takes nothing. A clause sees the bytes and the number of bits taken.
-#[derive(Drop)]
+/// Bytes, and how far they have been read. Bits are taken from the high bit of each byte on, and
+/// whole bytes only where no byte is begun (`at_byte`). A call that answers `None` takes nothing,
+/// and none takes memory. A clause sees the bytes and how many bits have been taken.
+#[derive(Debug, Drop)]
 pub struct Reader<'a> {
     bytes: &'a [u8],
     // whole bytes passed
@@ -31,7 +32,7 @@ impl<'a> Model for Reader<'a> {
 }
 
 impl<'a> Reader<'a> {
-    /// A reader at the first byte.
+    /// A reader before the first byte.
     pub fn new(bytes: &'a [u8]) -> Reader<'a>
         ensures { result ≡ record { source = bytes.now; taken = 0 } }
     {
@@ -42,7 +43,7 @@ impl<'a> Reader<'a> {
         }
     }
 
-    /// The next bit.
+    /// The next bit, 0 or 1; `None` where none is left.
     pub fn read_bit(&mut self) -> Option<u8>
         ensures value { result ≡ slice_get (bits self.old.source) self.old.taken }
         ensures moves { self.new ≡ (if is_some result then after_bits self.old 1 else self.old) }
@@ -58,7 +59,7 @@ impl<'a> Reader<'a> {
         Some(bit)
     }
 
-    /// The next byte.
+    /// The next byte; `None` where none is left.
     pub fn read_u8(&mut self) -> Option<u8>
         requires { IsAtByte self.old }
         ensures value { result ≡ slice_get (bytes_left self.old) 0 }
@@ -69,7 +70,7 @@ impl<'a> Reader<'a> {
         Some(byte)
     }
 
-    /// The number that the next two bytes write, the high one first.
+    /// The number that the next two bytes write, the high one first; `None` where fewer are left.
     pub fn read_u16(&mut self) -> Option<u16>
         requires { IsAtByte self.old }
         ensures value { result ≡ number_at 2 (bytes_left self.old) }
@@ -79,7 +80,7 @@ impl<'a> Reader<'a> {
         Some(u16::from_be_bytes([bytes[0], bytes[1]]))
     }
 
-    /// The number that the next four bytes write, the high one first.
+    /// The number that the next four bytes write, the high one first; `None` where fewer are left.
     pub fn read_u32(&mut self) -> Option<u32>
         requires { IsAtByte self.old }
         ensures value { result ≡ number_at 4 (bytes_left self.old) }
@@ -88,7 +89,8 @@ impl<'a> Reader<'a> {
         self.read_n_bytes(4)
     }
 
-    /// The number that the next `n` bytes write, for an `n` from 1 to 4; `None` for any other `n`.
+    /// The number that the next `n` bytes write, the high one first, for an `n` from 1 to 4; `None`
+    /// for any other `n`, and where fewer bytes are left.
     pub fn read_n_bytes(&mut self, n: u8) -> Option<u32>
         requires { IsAtByte self.old }
         ensures value { result ≡ (if nat_le 1 n && nat_le n 4 then number_at n (bytes_left self.old) else None) }
@@ -101,7 +103,7 @@ impl<'a> Reader<'a> {
         Some(number(bytes))
     }
 
-    /// The next `n` bytes.
+    /// The next `n` bytes, a slice of those of the reader; `None` where fewer are left.
     pub fn read_bytes(&mut self, n: usize) -> Option<&'a [u8]>
         requires { IsAtByte self.old }
         ensures value { option_map (λ s. s.now) result ≡ front n (bytes_left self.old) }
@@ -115,7 +117,9 @@ impl<'a> Reader<'a> {
         Some(&left[..n])
     }
 
-    /// The bytes up to the first one for which `f` is true, which is not taken.
+    /// The bytes up to the first one for which `f` is true, which is not taken, or all that are left
+    /// where there is none: a slice of those of the reader. `f` may be asked any byte, and answers by
+    /// the byte alone.
     pub fn eat_until<F: Fn(u8) -> bool + Drop>(&mut self, f: F) -> &'a [u8]
         requires at_byte { IsAtByte self.old }
         requires callable { F.IsAlwaysCallable f }
@@ -135,7 +139,7 @@ impl<'a> Reader<'a> {
         &left[..count]
     }
 
-    /// How many whole bytes have been passed.
+    /// How many whole bytes have been passed. A byte that is begun is not.
     pub fn position(&self) -> usize
         ensures value { result ≡ self.now.taken / 8 }
         ensures within { result ≤ length self.now.source }
@@ -143,21 +147,21 @@ impl<'a> Reader<'a> {
         self.byte
     }
 
-    /// No bit is left.
+    /// Whether no bit is left.
     pub fn at_end(&self) -> bool
         ensures { IsTrue result ↔ (bits_left self.now ≡ []) }
     {
         self.byte == self.bytes.len()
     }
 
-    /// No byte is begun.
+    /// Whether no byte is begun, which the calls that read bytes ask for.
     pub fn at_byte(&self) -> bool
         ensures { IsTrue result ↔ IsAtByte self.now }
     {
         self.bit == 0
     }
 
-    /// A reader at the same place, to try what may fail.
+    // A reader at the same place, to try what may fail.
     pub(crate) fn fork(&self) -> Reader<'a>
         ensures { result ≡ self.now }
     {

@@ -1,4 +1,4 @@
-//! Tokens of PostScript text: names, strings and numbers.
+//! Tokens of PostScript text, one after another: names, strings and numbers.
 
 ghost use Rattle.std.specs.Prelude.{◌≡◌, length, Some};
 ghost use Rattle.cmap_parts.specs.TokenReading.{string_len};
@@ -14,15 +14,20 @@ use self::values::{decode_hex, decode_text};
 use std::alloc::AllocError;
 use std::marker::Model;
 
-/// A token. Its slices are those of the text that it stands in.
+/// A token, as the PostScript Language Reference, third edition, 3.2.2, spells it, without base-85
+/// strings. Its slices are those of the text that it stands in.
 #[derive(Clone, Copy, Debug)]
 pub enum Token<'a> {
+    /// `/WMode`, `def`, `[`, `<<`
     Name(Name<'a>),
+    /// `(text)`, `<8140>`
     String(StringToken<'a>),
+    /// `17`, `-4.5`, `16#1F`
     Number(Number),
 }
 
-/// A name: literal behind a slash, else executable. Brackets are executable names too.
+/// A name: literal behind a slash, else executable. The brackets `[`, `]`, `{`, `}`, `<<` and `>>`
+/// are executable names too.
 #[derive(Clone, Copy, Debug)]
 pub struct Name<'a> {
     literal: bool,
@@ -33,14 +38,14 @@ impl<'a> Name<'a> {
     ghost use Rattle.std.specs.Prelude.{◌≡◌};
     ghost use Rattle.cmap_parts.specs.TokenSeen.{name_is_literal, name_bytes};
 
-    /// Whether a slash stands before it.
+    /// Whether a slash stands before the name.
     pub fn is_literal(&self) -> bool
         ensures { result ≡ name_is_literal self.now }
     {
         self.literal
     }
 
-    /// The name without the slash.
+    /// The bytes of the name in the text, without the slash. `#` begins no escape among them.
     pub fn as_bytes(&self) -> &'a [u8]
         ensures { result.now ≡ name_bytes self.now }
     {
@@ -48,7 +53,7 @@ impl<'a> Name<'a> {
     }
 }
 
-/// A string as it is written, in its brackets.
+/// A string as it is written, in parentheses or between `<` and `>`.
 #[derive(Clone, Copy, Debug)]
 pub struct StringToken<'a> {
     raw: &'a [u8],
@@ -60,14 +65,18 @@ impl<'a> StringToken<'a> {
     ghost use Rattle.cmap_parts.specs.Strings.{IsValue};
     ghost use Rattle.cmap_parts.specs.TokenSeen.{string_raw};
 
-    /// The string as it is written, with its brackets.
+    /// The bytes of the string in the text, with its brackets.
     pub fn raw(&self) -> &'a [u8]
         ensures { result.now ≡ string_raw self.now }
     {
         self.raw
     }
 
-    /// Replaces the content of `out` by the bytes that the string stands for.
+    /// Replaces the content of `out` by the bytes that the string stands for, as the PostScript
+    /// Language Reference, third edition, 3.2.2, gives them. The value is no longer than `raw`, and
+    /// all growth of `out` comes first.
+    ///
+    /// It fails only where `out` can't grow, and then `out` holds what it held.
     pub fn decode_into(&self, out: &mut Vec<u8>) -> Result<(), AllocError>
         ensures value { OnOk result (IsValue (string_raw self.now) out.new.items) }
         // The string stands for no other bytes.
@@ -88,18 +97,23 @@ impl<'a> StringToken<'a> {
     }
 }
 
-/// The value of a number. A real has none here, nor has an integer that 64 bits with sign don't hold.
+/// The value of a number.
 #[derive(Clone, Copy, Debug, PartialEq, Eq)]
 pub enum Number {
+    /// `-17`, `08`, `16#1F`: an integer, in the base that it names or in base 10.
     Integer(i64),
+    /// `4.5`, `1E9`: a real, whose value isn't told, or an integer that `i64` doesn't hold.
     Real,
 }
 
-/// What stands next is no token.
+/// What stands next in a text is no token: a string without an end, another byte than a digit in a
+/// hexadecimal string, or a `)` or `>` alone.
 #[derive(Clone, Copy, Debug, PartialEq, Eq)]
 pub struct Malformed;
 
-/// Reads the tokens of a text, one after another.
+/// Reads the tokens of a text in order. White space and comments separate them and are none
+/// (PostScript Language Reference, third edition, 3.2.1). A clause sees the text and how many of its
+/// bytes have been passed.
 #[derive(Debug, Drop)]
 pub struct Scanner<'a> {
     source: &'a [u8],
@@ -124,13 +138,18 @@ impl<'a> Scanner<'a> {
     ghost use Rattle.cmap_parts.specs.Scanner.{HasNoFront, ReadsToken, rest_of};
     ghost use Rattle.cmap_parts.specs.TokenSeen.{token_seen};
 
+    /// A scanner before the first byte of a text.
     pub fn new(source: &'a [u8]) -> Self
         ensures { result ≡ record { source = source.now; passed = 0 } }
     {
         Scanner { source, place: 0 }
     }
 
-    /// The next token, `None` at the end of the text. Only a token moves the scanner.
+    /// The next token, whose slices are those of the text; `None` where only white space and comments
+    /// are left.
+    ///
+    /// Only a token moves the scanner, to the byte behind it. So after `Malformed` each later call
+    /// answers `Malformed` again.
     pub fn next_token(&mut self) -> Result<Option<Token<'a>>, Malformed>
         // The token that is read is the one that the text begins with, and there is no other.
         ensures token { IfOk result
@@ -154,104 +173,4 @@ impl<'a> Scanner<'a> {
 }
 
 #[cfg(test)]
-mod tests {
-    use super::*;
-    use std::fmt::Write;
-    use std::test::Fail;
-
-    /// The tokens of a text, each on a line, and `malformed` where there is no next one.
-    fn told(rt: &HostRuntime, text: &[u8]) -> Result<String, Fail> {
-        let mut lines = String::new(rt.alloc());
-        let mut scanner = Scanner::new(text);
-        for _ in 0..text.len() + 1 {
-            match scanner.next_token() {
-                Ok(Some(Token::Name(name))) => {
-                    let kind = if name.is_literal() {
-                        "literal"
-                    } else {
-                        "executable"
-                    };
-                    let bytes = name.as_bytes();
-                    write!(lines, "{kind} {bytes:?}\n")?;
-                }
-                Ok(Some(Token::String(string))) => {
-                    let mut value = Vec::new(rt.alloc());
-                    string.decode_into(&mut value)?;
-                    write!(lines, "string {value:?}\n")?;
-                }
-                Ok(Some(Token::Number(number))) => write!(lines, "{number:?}\n")?,
-                Ok(None) => break,
-                Err(Malformed) => {
-                    write!(lines, "malformed\n")?;
-                    break;
-                }
-            }
-        }
-        Ok(lines)
-    }
-
-    #[test]
-    fn strings(rt: HostRuntime) -> Result<(), Fail> {
-        assert_eq!(rt;
-            told(&rt, b"<<41>>")?.as_str(),
-            "executable [60, 60]\nInteger(41)\nexecutable [62, 62]\n"
-        );
-        assert_eq!(rt;
-            told(&rt, b"(a\\)b(c)\\1234\\q)")?.as_str(),
-            "string [97, 41, 98, 40, 99, 41, 83, 52, 113]\n"
-        );
-        assert_eq!(rt;
-            told(&rt, b"(\\400)<4 1 5>")?.as_str(),
-            "string [0]\nstring [65, 80]\n"
-        );
-        assert_eq!(rt;
-            told(&rt, b"(a\r\nb\rc\nd\\\r\ne\\\nf)")?.as_str(),
-            "string [97, 10, 98, 10, 99, 10, 100, 101, 102]\n"
-        );
-        assert_eq!(rt;
-            told(&rt, b"(\\0\\18\\n\\))()<>")?.as_str(),
-            "string [0, 1, 56, 10, 41]\nstring []\nstring []\n"
-        );
-        Ok(())
-    }
-
-    #[test]
-    fn names_and_numbers(rt: HostRuntime) -> Result<(), Fail> {
-        assert_eq!(rt;
-            told(&rt, b"36#z 16#7FFFFFFFFFFFFFFF")?.as_str(),
-            "Integer(35)\nInteger(9223372036854775807)\n"
-        );
-        assert_eq!(rt;
-            told(&rt, b"9223372036854775808 -9223372036854775808")?.as_str(),
-            "Real\nInteger(-9223372036854775808)\n"
-        );
-        assert_eq!(rt;
-            told(&rt, b"1#0 37#0 2#2")?.as_str(),
-            "executable [49, 35, 48]\nexecutable [51, 55, 35, 48]\nexecutable [50, 35, 50]\n"
-        );
-        assert_eq!(rt;
-            told(&rt, b"//x%c\n/#41")?.as_str(),
-            "literal []\nliteral [120]\nliteral [35, 52, 49]\n"
-        );
-        assert_eq!(rt;
-            told(&rt, b"4.5 .5e3 1E+9 . 1e -.")?.as_str(),
-            "Real\nReal\nReal\nexecutable [46]\nexecutable [49, 101]\nexecutable [45, 46]\n"
-        );
-        assert_eq!(rt; told(&rt, b"%c")?.as_str(), "");
-        Ok(())
-    }
-
-    #[test]
-    fn malformed(rt: HostRuntime) -> Result<(), Fail> {
-        assert_eq!(rt;
-            told(&rt, b"[1>")?.as_str(),
-            "executable [91]\nInteger(1)\nmalformed\n"
-        );
-        assert_eq!(rt; told(&rt, b"a(b")?.as_str(), "executable [97]\nmalformed\n");
-        assert_eq!(rt; told(&rt, b"(\\)")?.as_str(), "malformed\n");
-        assert_eq!(rt; told(&rt, b"<4g>")?.as_str(), "malformed\n");
-        assert_eq!(rt; told(&rt, b"<~>")?.as_str(), "malformed\n");
-        assert_eq!(rt; told(&rt, b")")?.as_str(), "malformed\n");
-        Ok(())
-    }
-}
+mod tests;

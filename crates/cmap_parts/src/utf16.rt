@@ -1,4 +1,4 @@
-//! Texts in UTF-16.
+//! Texts in UTF-16, as The Unicode Standard, 3.9, D91 defines it.
 
 ghost use Rattle.std.specs.Prelude.{◌≡◌, [], ◌∷◌, ◌<◌, true, length, Some, IfOk, OnErr, IfSome, IsSomeAnd, MatchOption, option_map, is_some};
 ghost use Rattle.std.specs.Char.{IsScalar};
@@ -6,20 +6,44 @@ ghost use Rattle.std.specs.Char.Utf16.{utf16_chars, lone_unit_char};
 ghost use Rattle.std.specs.List.{filter_map, list_all};
 ghost use Rattle.std.specs.Str.{chars};
 ghost use Rattle.std.specs.String.{string_bytes};
-ghost use Rattle.cmap_parts.specs.Texts.{units_of, text_at, characters, only_character};
+ghost use Rattle.cmap_parts.specs.Texts.{units_of, text_at, text_of, characters, only_character};
 ghost use Rattle.cmap_parts.specs.LastUnits.{with_last, moved_last, pair_char, IsStuck};
-ghost use Rattle.cmap_parts.specs.TextSeen.{characters_of, IsShortest};
+ghost use Rattle.cmap_parts.specs.TextSeen.{text_seen};
 
 use std::alloc::{AllocError, Global};
 
-/// A text: one character, or more of them.
+/// The text that a code stands for: what a bf destination of a CMap gives (ISO 32000, ToUnicode CMaps).
 #[derive(Debug, Drop, PartialEq, Eq)]
 pub enum BfString {
+    /// A text of one character.
     Char(char),
+    /// A text of more characters.
     String(String),
 }
 
-/// The units of a destination, big-endian. Of an odd number of bytes the first one is a unit by itself.
+impl BfString {
+    ghost use Rattle.std.specs.Prelude.{◌≡◌, ℕ, List, IfOk, OnErr};
+    ghost use Rattle.cmap_parts.specs.Texts.{more};
+    ghost use Rattle.cmap_parts.specs.TextSeen.{text_seen};
+
+    /// The same text again.
+    ///
+    /// It fails only where there is no memory. Only a `String` takes some.
+    pub fn clone(&self, alloc: Global) -> Result<BfString, AllocError>
+        ensures same { IfOk result (λ copy. text_seen copy ≡ text_seen self.now) }
+        ensures err { OnErr result ((characters : List ℕ) × (text_seen self.now ≡ more characters)) }
+    {
+        match self {
+            BfString::Char(c) => Ok(BfString::Char(*c)),
+            BfString::String(text) => Ok(BfString::String(String::from_str(alloc, text.as_str())?)),
+        }
+    }
+}
+
+/// The 16-bit units that the bytes of a destination write, the high byte of each first. Of an odd
+/// number of bytes the first one is a unit by itself.
+///
+/// It fails only where there is no memory.
 pub fn units(alloc: Global, bytes: &[u8]) -> Result<Vec<u16>, AllocError>
     ensures { IfOk result (λ v. v.items ≡ units_of bytes.now) }
 {
@@ -35,11 +59,13 @@ pub fn units(alloc: Global, bytes: &[u8]) -> Result<Vec<u16>, AllocError>
     Ok(units)
 }
 
-/// The text of the code at this offset from the start of a declaration, where there is one.
-/// Only a `String` takes memory.
+/// The text of the code at this offset from the first code of a declaration, whose 16-bit units
+/// these are. The offset is added to the last unit. `None` where there is no unit, where the sum
+/// is no unit, or where a surrogate stands alone.
+///
+/// It fails only where there is no memory. Only a `String` takes some.
 pub fn text(alloc: Global, units: &[u16], offset: u32) -> Result<Option<BfString>, AllocError>
-    ensures value { IfOk result (λ t. option_map characters_of t ≡ text_at units.now offset) }
-    ensures shortest { IfOk result (λ t. IfSome t IsShortest) }
+    ensures value { IfOk result (λ t. option_map text_seen t ≡ option_map text_of (text_at units.now offset)) }
     ensures err { OnErr result (IsSomeAnd (text_at units.now offset) (λ cs. 1 < length cs)) }
 {
     let Some(last) = last_unit(units, offset) else {
@@ -54,7 +80,7 @@ pub fn text(alloc: Global, units: &[u16], offset: u32) -> Result<Option<BfString
     Ok(Some(BfString::String(string(alloc, units, last)?)))
 }
 
-/// The character of that text, where it is just one.
+/// The character of the text that `text` gives, where it is just one. It takes no memory.
 pub fn one_char(units: &[u16], offset: u32) -> Option<char>
     ensures { result ≡ only_character (text_at units.now offset) }
 {

@@ -1,4 +1,4 @@
-//! How far gaps and tokens reach.
+//! How far gaps and tokens reach, in bytes.
 
 ghost use Rattle.std.specs.Prelude.{◌≡◌, ◌≤◌, false, length, IfSome};
 ghost use Rattle.std.specs.List.{prefix_len};
@@ -7,8 +7,8 @@ ghost use Rattle.cmap_parts.specs.TokenReading as reading;
 
 use super::byte_class::{ends_comment, is_digit, is_regular, is_white};
 
-/// How many bytes of white space and comments a text begins with.
-pub fn gap_len(text: &[u8]) -> usize
+// How many bytes of white space and comments a text begins with.
+pub(super) fn gap_len(text: &[u8]) -> usize
     ensures exact { result ≡ reading.gap_len false text.now }
     ensures within { result ≤ length text.now }
 {
@@ -25,7 +25,7 @@ pub fn gap_len(text: &[u8]) -> usize
     text.len()
 }
 
-/// How many regular bytes a text begins with.
+// How many regular bytes a text begins with.
 fn run_len(text: &[u8]) -> usize
     ensures exact { result ≡ prefix_len is_regular text.now }
     ensures within { result ≤ length text.now }
@@ -33,9 +33,9 @@ fn run_len(text: &[u8]) -> usize
     text.iter().take_while(|byte| is_regular(**byte)).count()
 }
 
-/// How many bytes the token takes that a text begins with, `None` where it begins with none.
+// How many bytes the token takes that a text begins with, `None` where it begins with none.
 #[tactic(auto, unfolding(crate::specs::TokenReading::piece_len))]
-pub fn piece_len(text: &[u8]) -> Option<usize>
+pub(super) fn piece_len(text: &[u8]) -> Option<usize>
     ensures exact { result ≡ reading.piece_len text.now }
     ensures within { IfSome result (λ len. len ≤ length text.now) }
 {
@@ -50,7 +50,7 @@ pub fn piece_len(text: &[u8]) -> Option<usize>
     }
 }
 
-/// How many bytes a hexadecimal string takes behind its `<`.
+// How many bytes a hexadecimal string takes behind its `<`.
 fn hex_len(text: &[u8]) -> Option<usize>
     ensures exact { result ≡ reading.hex_len text.now }
     ensures within { IfSome result (λ len. len ≤ length text.now) }
@@ -66,7 +66,7 @@ fn hex_len(text: &[u8]) -> Option<usize>
     None
 }
 
-/// How many bytes a string in parentheses takes behind its `(`.
+// How many bytes a string in parentheses takes behind its `(`.
 fn text_len(text: &[u8]) -> Option<usize>
     ensures exact { result ≡ reading.text_len false 1 text.now }
     ensures within { IfSome result (λ len. len ≤ length text.now) }

@@ -1,8 +1,9 @@
-//! How numbers are spelled.
+//! The numbers that runs of regular bytes are spelled as.
 
 ghost use Rattle.std.specs.Prelude.{◌≡◌, ◌-◌, ◌≤◌, ◌^◌, ◌==◌, min, count_by, length, option_map, pos, neg_ℤ};
 ghost use Rattle.std.specs.List.{list_any, prefix_len};
 ghost use Rattle.std.specs.Char.{is_digit};
+ghost use Rattle.cmap_parts.specs.Ascii.{dot};
 ghost use Rattle.cmap_parts.specs.Numbers as numbers;
 ghost use Rattle.cmap_parts.specs.TokenReading as reading;
 ghost use Rattle.cmap_parts.specs.NumberSeen.{number_seen};
@@ -10,9 +11,9 @@ ghost use Rattle.cmap_parts.specs.NumberSeen.{number_seen};
 use super::Number;
 use super::byte_class::is_digit;
 
-/// The number that a run of regular bytes is spelled as.
+// The number that a run of regular bytes is spelled as.
 #[tactic(auto, unfolding(crate::specs::TokenReading::numeral))]
-pub fn number_of(run: &[u8]) -> Option<Number>
+pub(super) fn number_of(run: &[u8]) -> Option<Number>
     ensures { option_map number_seen result ≡ reading.numeral run.now }
 {
     if let Some(number) = integer_of(run) {
@@ -26,7 +27,7 @@ pub fn number_of(run: &[u8]) -> Option<Number>
     }
 }
 
-/// `-17`, `+4`, `08`
+// `-17`, `+4`, `08`
 #[tactic(auto, unfolding(crate::specs::TokenReading::integer))]
 fn integer_of(run: &[u8]) -> Option<Number>
     ensures { option_map number_seen result ≡ reading.integer run.now }
@@ -38,7 +39,7 @@ fn integer_of(run: &[u8]) -> Option<Number>
     }
 }
 
-/// `16#1F`: a base of one or two digits.
+// `16#1F`: a base of one or two digits.
 #[tactic(auto, unfolding(crate::specs::TokenReading::radix_integer))]
 fn radix_integer_of(run: &[u8]) -> Option<Number>
     ensures { option_map number_seen result ≡ reading.radix_integer run.now }
@@ -50,7 +51,7 @@ fn radix_integer_of(run: &[u8]) -> Option<Number>
     }
 }
 
-/// The integer that digits write in a base from 2 to 36.
+// The integer that digits write in a base from 2 to 36.
 #[tactic(auto, unfolding(crate::specs::TokenReading::integer_in_base))]
 fn integer_in_base(base: &[u8], digits: &[u8]) -> Option<Number>
     ensures { option_map number_seen result ≡ reading.integer_in_base base.now digits.now }
@@ -62,7 +63,7 @@ fn integer_in_base(base: &[u8], digits: &[u8]) -> Option<Number>
     Some(positive_number(digits_number(base as u32, digits)?))
 }
 
-/// `4.5`, `.5e3`, `1E9`: with a dot or an exponent.
+// `4.5`, `.5e3`, `1E9`: with a dot or an exponent.
 #[tactic(auto, unfolding(crate::specs::TokenReading::is_real))]
 fn is_real(run: &[u8]) -> bool
     ensures { result ≡ reading.is_real run.now }
@@ -76,7 +77,7 @@ fn is_real(run: &[u8]) -> bool
     }
 }
 
-/// How many digits and dots a text begins with.
+// How many digits and dots a text begins with.
 fn mantissa_len(text: &[u8]) -> usize
     ensures exact { result ≡ prefix_len reading.is_mantissa_byte text.now }
     ensures within { result ≤ length text.now }
@@ -93,12 +94,12 @@ fn has_digit(text: &[u8]) -> bool
 }
 
 fn count_dots(text: &[u8]) -> usize
-    ensures { result ≡ count_by (λ b. b == 46) text.now }
+    ensures { result ≡ count_by (λ b. b == dot) text.now }
 {
     text.iter().filter(|byte| **byte == b'.').count()
 }
 
-/// `e5`, `E-12`
+// `e5`, `E-12`
 fn is_exponent(text: &[u8]) -> bool
     ensures { result ≡ reading.is_exponent text.now }
 {
@@ -117,8 +118,8 @@ fn without_sign(text: &[u8]) -> &[u8]
     }
 }
 
-/// The number that one or more digits of a base write, or `u64::MAX` where it is larger.
-pub fn digits_number(base: u32, text: &[u8]) -> Option<u64>
+// The number that one or more digits of a base write, or `u64::MAX` where it is larger.
+pub(super) fn digits_number(base: u32, text: &[u8]) -> Option<u64>
     requires low { 2 ≤ base }
     requires high { base ≤ 36 }
     ensures { result ≡ option_map (λ n. min n (2 ^ 64 - 1)) (reading.digits_value base text.now) }

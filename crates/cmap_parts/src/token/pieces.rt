@@ -1,4 +1,4 @@
-//! What a piece of text is as a token.
+//! The token that a text begins with.
 
 ghost use Rattle.std.specs.Prelude.{◌≡◌, ◌↔◌, ◌<◌, ◌≤◌, length, Some, None, Ok, IfOk, IfSome, IsErr};
 ghost use Rattle.cmap_parts.specs.Bytes.{IsBlank};
@@ -11,8 +11,8 @@ use super::lengths::{gap_len, piece_len};
 use super::numerals::number_of;
 use super::{Malformed, Name, StringToken, Token};
 
-/// The token that a text begins with, and how many bytes it takes with the gap before it.
-pub fn first_token(text: &[u8]) -> Result<Option<(Token<'_>, usize)>, Malformed>
+// The token that a text begins with, and how many bytes it takes with the gap before it.
+pub(super) fn first_token(text: &[u8]) -> Result<Option<(Token<'_>, usize)>, Malformed>
     ensures token { IfOk result
         (λ found. IfSome found (λ first. FirstToken text.now (token_seen first.0) first.1)) }
     ensures end { (result ≡ Ok None) ↔ IsBlank text.now }
@@ -30,7 +30,7 @@ pub fn first_token(text: &[u8]) -> Result<Option<(Token<'_>, usize)>, Malformed>
     }
 }
 
-/// The token that a whole piece is.
+// The token that a whole piece is.
 #[tactic(auto, unfolding(crate::specs::TokenReading::token_of, crate::specs::TokenReading::piece_len))]
 fn token_of(piece: &[u8]) -> Token<'_>
     requires { reading.piece_len piece.now ≡ Some (length piece.now) }

@@ -5,11 +5,11 @@ ghost use Rattle.cmap_parts.specs.TokenReading as reading;
 ghost use Rattle.cmap_parts.specs.TokenReading.{HasCut};
 ghost use Rattle.cmap_parts.specs.Strings.{hex_value, escape_value};
 
-use super::byte_class::is_digit;
+use super::byte_class::{BACKSPACE, FORM_FEED, is_digit};
 use super::numerals::digits_number;
 
-/// Appends the bytes of hexadecimal digits, white space among them.
-pub fn decode_hex(digits: &[u8], out: &mut Vec<u8>)
+// Appends the bytes of hexadecimal digits, white space among them.
+pub(super) fn decode_hex(digits: &[u8], out: &mut Vec<u8>)
     requires { vec_len out.old + length digits.now ≤ vec_capacity out.old }
     ensures { out.new.items ≡ out.old.items ++ hex_value digits.now }
 {
@@ -30,8 +30,8 @@ pub fn decode_hex(digits: &[u8], out: &mut Vec<u8>)
     }
 }
 
-/// Appends the bytes that the body of a string in parentheses stands for.
-pub fn decode_text(body: &[u8], out: &mut Vec<u8>)
+// Appends the bytes that the body of a string in parentheses stands for.
+pub(super) fn decode_text(body: &[u8], out: &mut Vec<u8>)
     requires room { vec_len out.old + length body.now ≤ vec_capacity out.old }
     requires paired { reading.is_paired false body.now ≡ true }
     ensures found { (value : List ℕ) × HasCut body.now value × (out.new.items ≡ out.old.items ++ value) }
@@ -47,7 +47,7 @@ pub fn decode_text(body: &[u8], out: &mut Vec<u8>)
     }
 }
 
-/// The byte that the first part of a body stands for, if any, and how many bytes the part takes.
+// The byte that the first part of a body stands for, if any, and how many bytes the part takes.
 #[tactic(auto, unfolding(crate::specs::TokenReading::first_part))]
 fn first_part(body: &[u8]) -> (Option<u8>, usize)
     requires { 0 < length body.now }
@@ -67,7 +67,7 @@ fn first_part(body: &[u8]) -> (Option<u8>, usize)
     }
 }
 
-/// The same of what stands behind a backslash.
+// The same of what stands behind a backslash.
 #[tactic(auto, unfolding(crate::specs::TokenReading::escape))]
 fn escape(text: &[u8]) -> (Option<u8>, usize)
     ensures exact { result ≡ reading.escape text.now }
@@ -85,7 +85,7 @@ fn escape(text: &[u8]) -> (Option<u8>, usize)
     }
 }
 
-/// The value of up to three octal digits, modulo 256, and how many there are.
+// The value of up to three octal digits, modulo 256, and how many there are.
 fn octal(text: &[u8]) -> (u8, usize)
     ensures exact { result ≡ reading.octal text.now }
     ensures within { result.1 ≤ length text.now }
@@ -112,8 +112,8 @@ fn escaped_byte(byte: u8) -> u8
         b'n' => b'\n',
         b'r' => b'\r',
         b't' => b'\t',
-        b'b' => 8,
-        b'f' => 12,
+        b'b' => BACKSPACE,
+        b'f' => FORM_FEED,
         _ => byte,
     }
 }

@@ -3,7 +3,7 @@ use Rattle.std.proofs.lemmas.Bool.Decides.{nat_tests}
 use Rattle.std.proofs.lemmas.Grind.{common_steps}
 use Rattle.std.proofs.lemmas.List.{at_drop_more}
 use Rattle.cmap_parts.specs.TokenReading.{text_len}
-use Rattle.cmap_parts.proofs.Counts.{one_more_from}
+use Rattle.cmap_parts.proofs.ByteCounts.{one_more_from}
 use Rattle.cmap_parts.proofs.token.lengths.text_len.Goals as goal
 use Rattle.cmap_parts.proofs.token.lengths.text_len.Goals.{then-escaped, else-escaped+in-92, else-escaped+in-40, else-escaped+in-41-2, else-escaped+in_default}
 

@@ -1,6 +1,6 @@
 use Rattle.std.proofs.Common.{◌<◌, length, refl, sym, ◌∙◌, arith}
 use Rattle.std.proofs.lemmas.Bool.{eqb-true, eqb-false, false≢true}
-use Rattle.cmap_parts.proofs.Pieces.{piece_again}
+use Rattle.cmap_parts.proofs.TokenPieces.{piece_again}
 use Rattle.cmap_parts.proofs.FirstTokens.{rest_from, first_token_is, not_blank, not_malformed, blank_is, blank_only, malformed_is, moves}
 use Rattle.cmap_parts.proofs.token.pieces.first_token.Goals as goal
 

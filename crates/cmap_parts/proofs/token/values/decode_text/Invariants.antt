@@ -1,6 +1,6 @@
 use Rattle.std.proofs.Common.{◌≡◌, ◌+◌, ◌≤◌, false, true, length, vec_len, vec_capacity}
 use Rattle.cmap_parts.specs.TokenReading.{is_paired}
-use Rattle.cmap_parts.proofs.Decoded.{Decoded}
+use Rattle.cmap_parts.proofs.StringValues.{Decoded}
 use Rattle.cmap_parts.proofs.token.values.decode_text.Given as goal
 
 abbrev pub invariant-loop-rest : goal.invariant-loop-rest

@@ -2,7 +2,7 @@ use Rattle.std.proofs.Common.{◌≡◌, ◌-◌, ◌%◌, ◌^◌, min, take, a
 use Rattle.std.specs.Prelude.{option_map, unwrap_or}
 use Rattle.cmap_parts.specs.Numbers.{digits_number}
 use Rattle.cmap_parts.specs.TokenReading.{digits_value, octal_len}
-use Rattle.cmap_parts.proofs.Octal.{octal_value}
+use Rattle.cmap_parts.proofs.OctalEscapes.{octal_value}
 use Rattle.cmap_parts.proofs.token.values.octal.Goals as goal
 
 pub returns-clause-exact : goal.returns-clause-exact

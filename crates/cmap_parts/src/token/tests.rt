@@ -1,0 +1,25 @@
+use super::*;
+use std::test::Fail;
+
+#[test]
+fn a_token_of_each_kind(rt: HostRuntime) -> Result<(), Fail> {
+    let mut scanner = Scanner::new(b"/A (\\101) 16#1F )");
+    let Ok(Some(Token::Name(name))) = scanner.next_token() else {
+        return Err("no name")?;
+    };
+    assert!(rt; name.is_literal());
+    assert_eq!(rt; name.as_bytes(), b"A".as_slice());
+    let Ok(Some(Token::String(string))) = scanner.next_token() else {
+        return Err("no string")?;
+    };
+    assert_eq!(rt; string.raw(), b"(\\101)".as_slice());
+    let mut value = Vec::new(rt.alloc());
+    string.decode_into(&mut value)?;
+    assert_eq!(rt; value.as_slice(), b"A".as_slice());
+    let Ok(Some(Token::Number(number))) = scanner.next_token() else {
+        return Err("no number")?;
+    };
+    assert_eq!(rt; number, Number::Integer(31));
+    assert!(rt; scanner.next_token().is_err());
+    Ok(())
+}
