@@ -1,0 +1,186 @@
+-- The items of a text: read one after another, they are one list and no other.
+use Rattle.std.proofs.Common.{◌≡◌, ◌≢◌, ℕ, true, false, refl, sym, ap, ◌∙◌, subst, List, [], ◌∷◌, ◌++◌, ◌⊎◌, inl, inr, append_assoc, append-nil}
+use Rattle.std.specs.Prelude.{flat_map}
+use Rattle.cmap_parts.specs.Bytes.{IsBlank}
+use Rattle.cmap_parts.specs.Tokens.{Token, Tokens}
+use Rattle.hayro_cmap.specs.Only.{IsOnly, HoldsOfNone}
+use Rattle.hayro_cmap.specs.Files.{Declaration}
+use Rattle.hayro_cmap.specs.TextFiles.{Section, cid_range, cid_char, opener, closer, use_word, Item, entries, other, IsPlain, IsItem, declared_by, file_declaring, IsTextFile}
+use Rattle.hayro_cmap.specs.TextReading.{TokenAt, TokensAt, BodyAt, ItemBehind, ItemsAt}
+use Rattle.hayro_cmap.proofs.TextFronts.{pair_is, first_is, second_is, Tokens-append, Tokens-joined}
+
+abbrev pub opening : Section → Token
+opening section = Token.Name false (opener section)
+
+opener_only : (a b : Section) → opening a ≡ opening b → a ≡ b
+opener_only cid_range cid_range e = refl
+opener_only cid_range cid_char e = cc
+opener_only cid_char cid_range e = cc
+opener_only cid_char cid_char e = refl
+
+opener_no_use : (section : Section) → opening section ≡ Token.Name false use_word → ⊥
+opener_no_use cid_range e = cc
+opener_no_use cid_char e = cc
+
+-- a section behind its opener is one item
+section_parts : (t : Token) (text : List ℕ) (r : Item × List ℕ) (section : Section) → t ≡ opening section → ItemBehind t text r → (declared : List Declaration) × BodyAt section text (declared, r.1) × (r.0 ≡ entries declared)
+section_parts t text (entries declared, rest) section opens (more, at, (kind, body, shape, is_body)) =
+    let head : opening kind ≡ opening section = cc in
+    let same : kind ≡ section = opener_only kind section head in
+    let tail : more ≡ body ++ Token.Name false (closer kind) ∷ [] = cc in
+    (declared, subst (λ s. BodyAt s text (declared, rest)) same (body, subst (λ ts. TokensAt text ts rest) tail at, is_body), refl)
+section_parts t text (other u, rest) section opens (more, at, (plain, shape)) =
+    let same : u ≡ opening section = cc in
+    absurd ((subst IsPlain same plain).1 section refl)
+
+pub section_item : (t : Token) (text mid : List ℕ) (section : Section) (declared : List Declaration) → t ≡ opening section → IsOnly (BodyAt section text) (declared, mid) → IsOnly (ItemBehind t text) (entries declared, mid)
+section_item t text mid section declared opens only = let (body, at, is_body) = only.holds in record {
+  holds = (body ++ Token.Name false (closer section) ∷ [], at, (section, body, ap (λ u. u ∷ body ++ Token.Name false (closer section) ∷ []) opens, is_body));
+  alone = λ r behind.
+      let (all, body_at, is) = section_parts t text r section opens behind in
+      pair_is r (entries declared) mid (is ∙ ap entries (first_is (BodyAt section text) declared all mid r.1 only body_at)) (second_is (BodyAt section text) declared all mid r.1 only body_at);
+}
+
+pub no_section_item : (t : Token) (text : List ℕ) (section : Section) → t ≡ opening section → HoldsOfNone (BodyAt section text) → HoldsOfNone (ItemBehind t text)
+no_section_item t text section opens none r behind = let (all, body_at, is) = section_parts t text r section opens behind in none (all, r.1) body_at
+
+-- a token that neither opens a section nor uses a file is one item
+is_plain : (t : Token) → ((section : Section) → t ≡ opening section → ⊥) → t ≢ Token.Name false use_word → IsPlain t
+is_plain (Token.Name true bytes) opens uses = tt
+is_plain (Token.Name false bytes) opens uses = (λ e. uses (ap (Token.Name false) e), λ section e. opens section (ap (Token.Name false) e))
+is_plain (Token.String piece) opens uses = tt
+is_plain (Token.Numeral x) opens uses = tt
+
+plain_only : (t : Token) (text : List ℕ) (r : Item × List ℕ) → ((section : Section) → t ≡ opening section → ⊥) → ItemBehind t text r → r ≡ (other t, text)
+plain_only t text (entries declared, rest) opens (more, at, (kind, body, shape, is_body)) = absurd (opens kind cc)
+plain_only t text (other u, rest) opens (more, at, (plain, shape)) =
+    let same : u ≡ t = cc in
+    let none : more ≡ [] = cc in
+    pair_is (other u, rest) (other t) text (ap other same) (subst (λ ts. TokensAt text ts rest) none at)
+
+pub plain_item : (t : Token) (text : List ℕ) → ((section : Section) → t ≡ opening section → ⊥) → t ≢ Token.Name false use_word → IsOnly (ItemBehind t text) (other t, text)
+plain_item t text opens uses = record {
+  holds = ([], refl, (is_plain t opens uses, refl));
+  alone = λ r behind. plain_only t text r opens behind;
+}
+
+pub no_use_item : (t : Token) (text : List ℕ) → t ≡ Token.Name false use_word → HoldsOfNone (ItemBehind t text)
+no_use_item t text uses (entries declared, rest) (more, at, (kind, body, shape, is_body)) = opener_no_use kind cc
+no_use_item t text uses (other u, rest) (more, at, (plain, shape)) = let same : u ≡ Token.Name false use_word = cc in (subst IsPlain same plain).0 refl
+
+-- an item, and the items behind it
+record HasItem (text : List ℕ) (items : List Item) : Type 0 where
+  token : Token
+  next : List ℕ
+  item : Item
+  mid : List ℕ
+  more : List Item
+  first : TokenAt text (token, next)
+  behind : ItemBehind token next (item, mid)
+  later : ItemsAt mid more
+  whole : items ≡ item ∷ more
+
+item_begins : (tokens : List Token) (item : Item) → IsItem tokens item → (t : Token) × (more : List Token) × (tokens ≡ t ∷ more)
+item_begins tokens (entries declared) (section, body, shape, is_body) = (opening section, body ++ Token.Name false (closer section) ∷ [], shape)
+item_begins tokens (other t) (plain, shape) = (t, [], shape)
+
+items_parts : (text : List ℕ) (items : List Item) → ItemsAt text items → (IsBlank text × (items ≡ [])) ⊎ HasItem text items
+items_parts text [] (tokens, at, none) = inl (subst (Tokens text) none at, refl)
+items_parts text (item ∷ items) (tokens, at, (front, rest, whole, is_item, are)) =
+    let (t, more, begins) = item_begins front item is_item in
+    let (mid, front_at, later) = Tokens-append text front rest (subst (Tokens text) whole at) in
+    let (next, first, behind) = subst (λ ts. TokensAt text ts mid) begins front_at in
+    inr (record {
+      token = t;
+      next = next;
+      item = item;
+      mid = mid;
+      more = items;
+      first = first;
+      behind = (more, behind, subst (λ ts. IsItem ts item) begins is_item);
+      later = (rest, later, are);
+      whole = refl;
+    })
+
+item_more : (text next mid : List ℕ) (t : Token) (item : Item) (items : List Item) → TokenAt text (t, next) → ItemBehind t next (item, mid) → ItemsAt mid items → ItemsAt text (item ∷ items)
+item_more text next mid t item items first (more, behind, is_item) (rest, later, are) =
+    ((t ∷ more) ++ rest, Tokens-joined text mid (t ∷ more) rest (next, first, behind) later, (t ∷ more, rest, refl, is_item, are))
+
+-- From the start of a text to here it has these items.
+pub record HasRead (start here : List ℕ) (items : List Item) : Type 0 where
+  pub found : (more : List Item) → ItemsAt here more → ItemsAt start (items ++ more)
+  pub only : (all : List Item) → ItemsAt start all → (more : List Item) × (all ≡ items ++ more) × ItemsAt here more
+
+pub HasRead-none : (start : List ℕ) → HasRead start start []
+HasRead-none start = record { found = λ more at. at; only = λ all at. (all, refl, at) }
+
+-- where a token comes next and one item begins with it, the items begin with that item
+next_item : (here next mid : List ℕ) (t : Token) (item : Item) (items : List Item) → (IsBlank here → ⊥) → IsOnly (TokenAt here) (t, next) → IsOnly (ItemBehind t next) (item, mid) → ItemsAt here items
+    → (more : List Item) × (items ≡ item ∷ more) × ItemsAt mid more
+next_item here next mid t item items filled token only at =
+    elim (items_parts here items at) [
+      | inl blank ↦ absurd (filled blank.0)
+      | inr has ↦
+          let same : has.token ≡ t = first_is (TokenAt here) t has.token next has.next token has.first in
+          let next_is : has.next ≡ next = second_is (TokenAt here) t has.token next has.next token has.first in
+          let one : ItemBehind t next (has.item, has.mid) = subst (λ u. ItemBehind u next (has.item, has.mid)) same (subst (λ n. ItemBehind has.token n (has.item, has.mid)) next_is has.behind) in
+          let item_is : has.item ≡ item = first_is (ItemBehind t next) item has.item mid has.mid only one in
+          let mid_is : has.mid ≡ mid = second_is (ItemBehind t next) item has.item mid has.mid only one in
+          (has.more, has.whole ∙ ap (λ i. i ∷ has.more) item_is, subst (λ m. ItemsAt m has.more) mid_is has.later)
+    ]
+
+pub HasRead-item : (start here next mid : List ℕ) (items : List Item) (t : Token) (item : Item) → HasRead start here items → (IsBlank here → ⊥) → IsOnly (TokenAt here) (t, next) → IsOnly (ItemBehind t next) (item, mid) → HasRead start mid (items ++ item ∷ [])
+HasRead-item start here next mid items t item read filled token only = record {
+  found = λ more at. subst (ItemsAt start) (sym (append_assoc items (item ∷ []) more)) (read.found (item ∷ more) (item_more here next mid t item more token.holds only.holds at));
+  only = λ all at.
+      let (behind, is, here_at) = read.only all at in
+      let (more, begins, later) = next_item here next mid t item behind filled token only here_at in
+      (more, is ∙ ap (λ l. items ++ l) begins ∙ sym (append_assoc items (item ∷ []) more), later);
+}
+
+-- At the end of the text these are its items.
+pub HasRead-all : (start here : List ℕ) (items : List Item) → HasRead start here items → IsBlank here → HoldsOfNone (TokenAt here) → IsOnly (ItemsAt start) items
+HasRead-all start here items read blank none = record {
+  holds = subst (ItemsAt start) (append-nil items) (read.found [] ([], blank, refl));
+  alone = λ all at.
+      let (behind, is, here_at) = read.only all at in
+      elim (items_parts here behind here_at) [
+        | inl ended ↦ is ∙ ap (λ l. items ++ l) ended.1 ∙ append-nil items
+        | inr has ↦ absurd (none (has.token, has.next) has.first)
+      ];
+}
+
+-- Where what is left has no items, nor has the text.
+no_items : (start here : List ℕ) (items : List Item) → HasRead start here items → HoldsOfNone (ItemsAt here) → HoldsOfNone (ItemsAt start)
+no_items start here items read none all at = let (behind, is, here_at) = read.only all at in none behind here_at
+
+pub HasRead-malformed : (start here : List ℕ) (items : List Item) → HasRead start here items → (IsBlank here → ⊥) → HoldsOfNone (TokenAt here) → HoldsOfNone (ItemsAt start)
+HasRead-malformed start here items read filled none =
+    no_items start here items read (λ all at.
+    elim (items_parts here all at) [
+      | inl blank ↦ filled blank.0
+      | inr has ↦ none (has.token, has.next) has.first
+    ])
+
+pub HasRead-wrong : (start here next : List ℕ) (items : List Item) (t : Token) → HasRead start here items → (IsBlank here → ⊥) → IsOnly (TokenAt here) (t, next) → HoldsOfNone (ItemBehind t next) → HoldsOfNone (ItemsAt start)
+HasRead-wrong start here next items t read filled token none =
+    no_items start here items read (λ all at.
+    elim (items_parts here all at) [
+      | inl blank ↦ filled blank.0
+      | inr has ↦
+          let same : has.token ≡ t = first_is (TokenAt here) t has.token next has.next token has.first in
+          let next_is : has.next ≡ next = second_is (TokenAt here) t has.token next has.next token has.first in
+          none (has.item, has.mid) (subst (λ u. ItemBehind u next (has.item, has.mid)) same (subst (λ n. ItemBehind has.token n (has.item, has.mid)) next_is has.behind))
+    ])
+
+-- The file of a text is that of its items.
+pub file_is : (text : List ℕ) (items : List Item) → IsOnly (ItemsAt text) items → IsOnly (IsTextFile text) (file_declaring (flat_map declared_by items))
+unfolding IsTextFile
+file_is text items only = let (tokens, at, are) = only.holds in record {
+  holds = (tokens, items, at, are, refl);
+  alone = λ file (others, all, tokens_at, are_all, is). is ∙ ap (λ l. file_declaring (flat_map declared_by l)) (only.alone all (others, tokens_at, are_all));
+}
+
+pub no_file : (text : List ℕ) → HoldsOfNone (ItemsAt text) → HoldsOfNone (IsTextFile text)
+unfolding IsTextFile
+no_file text none file (tokens, items, at, are, is) = none items (tokens, at, are)

@@ -1,0 +1,9 @@
+pub mod TextFronts
+pub mod SectionBodies
+pub mod FileItems
+pub mod Outcomes
+pub mod ListsMade
+pub mod SectionsRead
+pub mod ItemsRead
+pub mod LastFound
+pub mod LayersSearched

@@ -1,0 +1,103 @@
+-- What one file says: its metadata, its declarations, and the files that it uses.
+use Rattle.std.specs.Prelude.{ℕ, ℤ, List, [], ◌∷◌, ◌==◌, Option, Some, None, if◌then◌else◌}
+use Rattle.hayro_cmap.specs.Names.{Family}
+
+-- codes from start to end: start + k has the CID cid + k, or in a notdef declaration cid itself
+pub record CidEntry : Type 0 where
+  pub start : ℕ
+  pub end : ℕ
+  pub cid : ℕ
+
+-- codes from start to end: start + k has the text of the units at offset k
+pub record BfEntry : Type 0 where
+  pub start : ℕ
+  pub end : ℕ
+  pub units : List ℕ
+
+-- codes of len bytes, each byte of them between those of low and high
+pub record Codespace : Type 0 where
+  pub len : ℕ
+  pub low : ℕ
+  pub high : ℕ
+
+-- one declaration as a file makes it; those of CIDs are filed by a length of code
+pub data Declaration : Type 0 where
+  cid : ℕ → CidEntry → Declaration
+  notdef : ℕ → CidEntry → Declaration
+  bf : BfEntry → Declaration
+  codespace : Codespace → Declaration
+
+-- lists for codes of one to four bytes
+pub record ByLength : Type 0 where
+  pub one : List CidEntry
+  pub two : List CidEntry
+  pub three : List CidEntry
+  pub four : List CidEntry
+
+abbrev pub of_length : ByLength → ℕ → List CidEntry
+of_length lists len =
+    if len == 1 then lists.one
+    else if len == 2 then lists.two
+    else if len == 3 then lists.three
+    else if len == 4 then lists.four
+    else []
+
+-- the declarations of a file by their kinds, each list in the order of the file
+pub record Lists : Type 0 where
+  pub cids : ByLength
+  pub notdefs : ByLength
+  pub bfs : List BfEntry
+  pub spaces : List Codespace
+
+abbrev pub cids_of : ℕ → List Declaration → List CidEntry
+cids_of len [] = []
+cids_of len (cid n entry ∷ rest) = if n == len then entry ∷ cids_of len rest else cids_of len rest
+cids_of len (_ ∷ rest) = cids_of len rest
+
+abbrev pub notdefs_of : ℕ → List Declaration → List CidEntry
+notdefs_of len [] = []
+notdefs_of len (notdef n entry ∷ rest) = if n == len then entry ∷ notdefs_of len rest else notdefs_of len rest
+notdefs_of len (_ ∷ rest) = notdefs_of len rest
+
+abbrev pub bfs_of : List Declaration → List BfEntry
+bfs_of [] = []
+bfs_of (bf entry ∷ rest) = entry ∷ bfs_of rest
+bfs_of (_ ∷ rest) = bfs_of rest
+
+abbrev pub spaces_of : List Declaration → List Codespace
+spaces_of [] = []
+spaces_of (codespace space ∷ rest) = space ∷ spaces_of rest
+spaces_of (_ ∷ rest) = spaces_of rest
+
+abbrev pub lists_of : List Declaration → Lists
+lists_of ds = record {
+  cids = record { one = cids_of 1 ds; two = cids_of 2 ds; three = cids_of 3 ds; four = cids_of 4 ds };
+  notdefs = record { one = notdefs_of 1 ds; two = notdefs_of 2 ds; three = notdefs_of 3 ds; four = notdefs_of 4 ds };
+  bfs = bfs_of ds;
+  spaces = spaces_of ds;
+}
+
+-- the writing mode
+pub data Mode : Type 0 where
+  horizontal : Mode
+  vertical : Mode
+
+pub record Collection : Type 0 where
+  pub family : Family
+  pub supplement : ℤ
+
+-- what a file says of itself
+pub record FileMetadata : Type 0 where
+  pub collection : Option Collection
+  pub name : Option (List ℕ)
+  pub mode : Option Mode
+
+-- what a file says: the names that it uses are in the order of the file
+pub record File : Type 0 where
+  pub metadata : FileMetadata
+  pub lists : Lists
+  pub uses : List (List ℕ)
+
+-- 0 and 1 number the writing modes
+abbrev pub mode_numbered : ℕ → Option Mode
+mode_numbered n = if n == 0 then Some horizontal else if n == 1 then Some vertical else None

@@ -1,0 +1,24 @@
+-- Files over the files that they use: the layers of a map.
+use Rattle.std.specs.Prelude.{◌≡◌, ℕ, zero, suc, List, [], ◌∷◌, Option, Some, None, unwrap_or}
+use Rattle.std.specs.List.{AllZip, last_or}
+use Rattle.hayro_cmap.specs.Files.{FileMetadata, Lists, File}
+
+-- a layer of a map: what a file says, without the names that it uses
+pub record Layer : Type 0 where
+  pub metadata : FileMetadata
+  pub lists : Lists
+
+abbrev pub layer_of : File → Layer
+layer_of file = record { metadata = file.metadata; lists = file.lists }
+
+-- files in a chain, the top one counted
+abbrev pub most_files : ℕ
+most_files = 16
+
+module _ (means : List ℕ → File → Type 0) (answer : List ℕ → Option (List ℕ) → Type 0) where
+  -- the file of these bytes, over the layers of the last file that it uses; each file that it uses has layers, and no chain is longer than this
+  abbrev pub AreLayers : ℕ → List ℕ → List Layer → Type 0
+  AreLayers zero bytes layers = ⊥
+  AreLayers (suc most) bytes layers = (file : File) × (bases : List (List Layer)) × means bytes file
+      × AllZip (λ name base. (base_bytes : List ℕ) × answer name (Some base_bytes) × AreLayers most base_bytes base) file.uses bases
+      × (layers ≡ layer_of file ∷ unwrap_or (last_or None bases) [])

@@ -1,0 +1,15 @@
+pub mod Only
+pub mod Names
+pub mod Files
+pub mod TextFiles
+pub mod Layers
+pub mod Lookups
+pub mod Searches
+pub mod Identity
+pub mod CMapNames
+pub mod Answers
+pub mod DeclarationsSeen
+pub mod LayersSeen
+pub mod ListsAppended
+pub mod TextReading
+pub mod TextSeen

@@ -1,0 +1,113 @@
+//! What a CMap declares for its codes.
+
+ghost use Rattle.std.specs.Prelude.{◌≡◌, [], ◌∷◌, OnOk};
+ghost use Rattle.hayro_cmap.specs.Files.{Declaration, lists_of};
+ghost use Rattle.hayro_cmap.specs.DeclarationsSeen.{cid_entry_seen, lists_seen};
+ghost use Rattle.hayro_cmap.specs.ListsAppended.{no_lists, append_lists};
+
+use crate::names::Cid;
+use cmap_parts::runs::{HasRange, Range};
+use std::alloc::{AllocError, Global};
+
+/// Codes from a start to an end, with their CIDs.
+#[derive(Debug, Drop)]
+pub struct CidRange {
+    pub(crate) range: Range,
+    /// The CID of the first code.
+    pub(crate) cid: Cid,
+}
+
+impl HasRange for CidRange {
+    ghost use Rattle.hayro_cmap.specs.DeclarationsSeen.{cid_range_span};
+
+    ghost span = { cid_range_span };
+
+    fn range(&self) -> &Range {
+        &self.range
+    }
+}
+
+/// Codes from a start to an end, with their texts.
+#[derive(Debug, Drop)]
+pub struct BfRange {
+    pub(crate) range: Range,
+    /// The units of the text of the first code, in UTF-16.
+    pub(crate) units: Vec<u16>,
+}
+
+impl HasRange for BfRange {
+    ghost use Rattle.hayro_cmap.specs.DeclarationsSeen.{bf_range_span};
+
+    ghost span = { bf_range_span };
+
+    fn range(&self) -> &Range {
+        &self.range
+    }
+}
+
+/// Codes of `len` bytes, each byte between those of `low` and `high`.
+#[derive(Clone, Copy, Debug)]
+pub(crate) struct Codespace {
+    pub(crate) len: u8,
+    pub(crate) low: u32,
+    pub(crate) high: u32,
+}
+
+/// One for codes of each length in bytes.
+#[derive(Debug, Drop)]
+pub(crate) struct ByLength<T> {
+    pub(crate) one: T,
+    pub(crate) two: T,
+    pub(crate) three: T,
+    pub(crate) four: T,
+}
+
+/// The declarations of a file by their kinds, each list in the order of the file.
+#[derive(Debug, Drop)]
+pub(crate) struct Lists {
+    pub(crate) cids: ByLength<Vec<CidRange>>,
+    pub(crate) notdefs: ByLength<Vec<CidRange>>,
+    pub(crate) bfs: Vec<BfRange>,
+    pub(crate) spaces: Vec<Codespace>,
+}
+
+impl Lists {
+    pub(crate) fn new(alloc: Global) -> Lists
+        ensures { lists_seen result ≡ no_lists }
+    {
+        Lists {
+            cids: empty_lists(alloc),
+            notdefs: empty_lists(alloc),
+            bfs: Vec::new(alloc),
+            spaces: Vec::new(alloc),
+        }
+    }
+
+    /// Adds a declaration of CIDs for codes of `len` bytes.
+    pub(crate) fn add_cid(&mut self, len: u8, range: CidRange) -> Result<(), AllocError>
+        ensures { OnOk result (lists_seen self.new ≡ append_lists (lists_seen self.old) (lists_of (Declaration.cid len (cid_entry_seen range) ∷ []))) }
+    {
+        match len {
+            1 => self.cids.one.push(range)?,
+            2 => self.cids.two.push(range)?,
+            3 => self.cids.three.push(range)?,
+            4 => self.cids.four.push(range)?,
+            _ => {}
+        }
+        Ok(())
+    }
+}
+
+fn empty_lists(alloc: Global) -> ByLength<Vec<CidRange>>
+    ensures one { result.one.items ≡ [] }
+    ensures two { result.two.items ≡ [] }
+    ensures three { result.three.items ≡ [] }
+    ensures four { result.four.items ≡ [] }
+{
+    ByLength {
+        one: Vec::new(alloc),
+        two: Vec::new(alloc),
+        three: Vec::new(alloc),
+        four: Vec::new(alloc),
+    }
+}

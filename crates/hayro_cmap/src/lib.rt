@@ -1,0 +1,20 @@
+//! CMap files: which CID a character code stands for, and which Unicode text. Adobe Technical Notes 5014 and 5411.
+#![tactic(auto)]
+
+mod bundle;
+mod declarations;
+mod fault;
+mod layers;
+mod lookup;
+mod map;
+mod metadata;
+mod names;
+mod text;
+
+pub use bundle::Bundle;
+pub use cmap_parts::utf16::BfString;
+pub use cmap_parts::{runs, token};
+pub use declarations::{BfRange, CidRange};
+pub use map::CMap;
+pub use metadata::{CharacterCollection, CidFamily, Metadata, WritingMode};
+pub use names::{CMapName, Cid};

@@ -1,0 +1,82 @@
+//! Which CID a code stands for: the first layer that decides, from the top one on.
+
+ghost use Rattle.std.specs.Prelude.{◌≡◌, ◌+◌, ◌*◌, ◌≤◌, length, map, option_and_then, option_map, IfSome};
+ghost use Rattle.std.specs.Option.{option_copied};
+ghost use Rattle.cmap_parts.specs.Texts.{only_character};
+ghost use Rattle.hayro_cmap.specs.DeclarationsSeen.{bf_entry_seen, cid_entry_seen};
+ghost use Rattle.hayro_cmap.specs.Files.{of_length};
+ghost use Rattle.hayro_cmap.specs.LayersSeen.{layer_seen, layers_seen, tables_seen};
+ghost use Rattle.hayro_cmap.specs.Lookups.{bf_at, bf_span, cid_of, cid_span, last_bf, last_cid};
+ghost use Rattle.hayro_cmap.specs.Searches.{cid_looks, layer_cid, layer_looks, search_looks};
+
+use crate::declarations::{BfRange, ByLength, CidRange};
+use crate::layers::Layer;
+use crate::names::Cid;
+use cmap_parts::runs::{Looks, Table};
+use cmap_parts::utf16::one_char;
+
+/// The CID of a code of `byte_len` bytes.
+pub(crate) fn cid_of(layers: &[Layer], code: u32, byte_len: u8, looks: &mut Looks) -> Option<Cid>
+    ensures value { result ≡ cid_of (layers_seen layers.now) code byte_len }
+    ensures runs { looks.new.runs ≤ looks.old.runs + cid_looks (layers_seen layers.now) byte_len }
+    ensures runs_grow { looks.old.runs ≤ looks.new.runs }
+    ensures declarations { looks.new.declarations ≤ looks.old.declarations + 3 * length layers.now }
+    ensures declarations_grow { looks.old.declarations ≤ looks.new.declarations }
+{
+    if !(1..=4).contains(&byte_len) {
+        return None;
+    }
+    for layer in layers {
+        if let Some(decided) = decided_by(layer, code, byte_len, looks) {
+            return decided;
+        }
+    }
+    None
+}
+
+/// What a layer decides for a code, if it does: its CID, or that it has none.
+fn decided_by(layer: &Layer, code: u32, byte_len: u8, looks: &mut Looks) -> Option<Option<Cid>>
+    ensures value { result ≡ layer_cid (layer_seen layer.now) code byte_len }
+    ensures runs { looks.new.runs ≤ looks.old.runs + layer_looks (layer_seen layer.now) byte_len }
+    ensures runs_grow { looks.old.runs ≤ looks.new.runs }
+    ensures declarations { looks.new.declarations ≤ looks.old.declarations + 3 }
+    ensures declarations_grow { looks.old.declarations ≤ looks.new.declarations }
+{
+    if let Some(found) = find_cid(&layer.cids, code, byte_len, looks) {
+        return Some(found.cid.checked_add(code - found.range.start));
+    }
+    if let Some(found) = find_cid(&layer.notdefs, code, byte_len, looks) {
+        return Some(Some(found.cid));
+    }
+    let character = character_of(&layer.bfs, code, looks)?;
+    Some(Some(u32::from(character)))
+}
+
+/// The text of a code, where it is one character.
+fn character_of(table: &Table<BfRange>, code: u32, looks: &mut Looks) -> Option<char>
+    ensures value { result ≡ only_character (option_and_then (λ entry. bf_at entry code) (last_bf (map bf_entry_seen table.now) code)) }
+    ensures runs { looks.new.runs ≤ looks.old.runs + search_looks (map bf_span (map bf_entry_seen table.now)) }
+    ensures runs_grow { looks.old.runs ≤ looks.new.runs }
+    ensures declarations { looks.new.declarations ≤ looks.old.declarations + 1 }
+    ensures declarations_grow { looks.old.declarations ≤ looks.new.declarations }
+{
+    let found = table.find(code, looks)?;
+    one_char(&found.units, code - found.range.start)
+}
+
+/// The last declaration of CIDs for codes of `byte_len` bytes that contains the code.
+fn find_cid<'t>(
+    tables: &'t ByLength<Table<CidRange>>,
+    code: u32,
+    byte_len: u8,
+    looks: &mut Looks,
+) -> Option<&'t CidRange>
+    ensures found { option_map cid_entry_seen (option_copied result) ≡ last_cid (of_length (tables_seen tables.now) byte_len) code }
+    ensures start { IfSome result (λ found. found.now.range.start ≤ code) }
+    ensures runs { looks.new.runs ≤ looks.old.runs + search_looks (map cid_span (of_length (tables_seen tables.now) byte_len)) }
+    ensures runs_grow { looks.old.runs ≤ looks.new.runs }
+    ensures declarations { looks.new.declarations ≤ looks.old.declarations + 1 }
+    ensures declarations_grow { looks.old.declarations ≤ looks.new.declarations }
+{
+    tables.get(byte_len)?.find(code, looks)
+}

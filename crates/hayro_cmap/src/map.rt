@@ -1,0 +1,166 @@
+//! Maps: what the codes of a CMap file stand for.
+
+ghost use Rattle.std.specs.Prelude.{◌≡◌, ◌+◌, ◌*◌, ◌≤◌, [], ◌∷◌, IfOk, IfSome, IfNone, codes, length};
+ghost use Rattle.hayro_cmap.specs.Answers.{Answers, AnswersByName};
+ghost use Rattle.hayro_cmap.specs.DeclarationsSeen.{lists_seen};
+ghost use Rattle.hayro_cmap.specs.Files as files;
+ghost use Rattle.hayro_cmap.specs.Identity.{identity_layer};
+ghost use Rattle.hayro_cmap.specs.Layers.{AreLayers};
+ghost use Rattle.hayro_cmap.specs.LayersSeen.{IsMetadataOf, metadata_seen, mode_seen};
+ghost use Rattle.hayro_cmap.specs.Lookups.{cid_of};
+ghost use Rattle.hayro_cmap.specs.Only.{IsOnly, HoldsOfNone};
+ghost use Rattle.hayro_cmap.specs.Searches.{cid_looks};
+ghost use Rattle.hayro_cmap.specs.TextFiles.{IsTextFile};
+
+use crate::bundle::Bundle;
+use crate::declarations::{CidRange, Codespace, Lists};
+use crate::fault::Fault;
+use crate::layers::Layer;
+use crate::lookup;
+use crate::metadata::{CharacterCollection, CidFamily, Metadata, WritingMode};
+use crate::names::{CMapName, Cid};
+use crate::text::read_text;
+use cmap_parts::runs::{Looks, Range};
+use std::alloc::{AllocError, Global};
+use std::marker::Model;
+
+/// What the codes of a CMap file stand for: the layers of the file and of those that it is based on, at
+/// most 16. A clause sees the list of layers, the top one first.
+#[derive(Debug, Drop)]
+pub struct CMap {
+    layers: Vec<Layer>,
+}
+
+impl Model for CMap {
+    ghost use Rattle.std.specs.Prelude.{List, ◌<◌, ◌≤◌, length};
+    ghost use Rattle.hayro_cmap.specs.Layers.{Layer};
+
+    ghost Value = { List Layer };
+
+    ghost use Rattle.hayro_cmap.specs.LayersSeen.{layers_seen};
+
+    ghost view = { λ map. layers_seen map.layers.items };
+
+    ghost invariant = { λ map. (0 < length map.layers.items) × (length map.layers.items ≤ 16) };
+}
+
+impl CMap {
+    /// The map of the CMap file `data`; `None` where it is outside the grammar.
+    ///
+    /// A file that uses another one is refused for now, and `get_cmap` isn't asked.
+    pub fn parse<'a, F>(
+        alloc: Global,
+        data: &[u8],
+        bundle: Option<&Bundle<'_>>,
+        get_cmap: &F,
+    ) -> Result<Option<CMap>, AllocError>
+    where
+        F: Fn(CMapName<'_>) -> Option<&'a [u8]>,
+        requires callable { F.IsAlwaysCallable get_cmap.now }
+        requires by_name { AnswersByName F.Fn get_cmap.now }
+
+        // A map is that of the file, and no other layers are.
+        ensures accepts { IfOk result (λ found. IfSome found
+            (λ map. IsOnly (AreLayers IsTextFile (Answers F.Fn get_cmap.now) 16 «data».now) map)) }
+        ensures refuses { IfOk result (λ found. IfNone found
+            (HoldsOfNone (AreLayers IsTextFile (Answers F.Fn get_cmap.now) 16 «data».now))) }
+    {
+        match read_text(alloc, data) {
+            Ok(lists) => Ok(Some(CMap::of_lists(alloc, unknown_metadata(), lists)?)),
+            Err(Fault::Refused) => Ok(None),
+            Err(Fault::Memory) => Err(AllocError),
+        }
+    }
+
+    /// The predefined CMap Identity-H: codes of two bytes are CIDs. ISO 32000-1, 9.7.5.2.
+    pub fn identity_h(alloc: Global) -> Result<CMap, AllocError>
+        ensures { IfOk result (λ map. map ≡ identity_layer (codes "Identity-H") files.horizontal ∷ []) }
+    {
+        CMap::identity(alloc, b"Identity-H", WritingMode::Horizontal)
+    }
+
+    /// The predefined CMap Identity-V, the same for vertical text. ISO 32000-1, 9.7.5.2.
+    pub fn identity_v(alloc: Global) -> Result<CMap, AllocError>
+        ensures { IfOk result (λ map. map ≡ identity_layer (codes "Identity-V") files.vertical ∷ []) }
+    {
+        CMap::identity(alloc, b"Identity-V", WritingMode::Vertical)
+    }
+
+    /// What the file says of itself, and not what those say that it is based on.
+    pub fn metadata(&self) -> &Metadata
+        ensures top { IsMetadataOf self.now (metadata_seen result.now) }
+        ensures few { length self.now ≤ 16 }
+    {
+        &self.layers[0].metadata
+    }
+
+    /// The CID of `code`, a code of `byte_len` bytes, big-endian.
+    ///
+    /// It is `None` where no layer decides, for a `byte_len` outside 1 to 4, and where the CID that is
+    /// declared passes 32 bits. Codespace ranges aren't looked at.
+    pub fn lookup_cid_code(&self, code: u32, byte_len: u8) -> Option<Cid>
+        ensures { result ≡ cid_of self.now code byte_len }
+    {
+        lookup::cid_of(&self.layers, code, byte_len, &mut Looks::new())
+    }
+
+    /// The same answer, and what is looked at is counted.
+    pub fn lookup_cid_counted(&self, code: u32, byte_len: u8, looks: &mut Looks) -> Option<Cid>
+        ensures value { result ≡ cid_of self.now code byte_len }
+
+        // Each search looks at no more runs than their number has binary digits.
+        ensures runs { looks.new.runs ≤ looks.old.runs + cid_looks self.now byte_len }
+        ensures runs_grow { looks.old.runs ≤ looks.new.runs }
+
+        // And at no more than one declaration of each list: CIDs, notdef CIDs, texts.
+        ensures declarations { looks.new.declarations ≤ looks.old.declarations + 3 * length self.now }
+        ensures declarations_grow { looks.old.declarations ≤ looks.new.declarations }
+    {
+        lookup::cid_of(&self.layers, code, byte_len, looks)
+    }
+
+    fn identity(alloc: Global, name: &[u8], mode: WritingMode) -> Result<CMap, AllocError>
+        ensures { IfOk result (λ map. map ≡ identity_layer name.now (mode_seen mode) ∷ []) }
+    {
+        let mut lists = Lists::new(alloc);
+        let range = Range {
+            start: 0,
+            end: 0xFFFF,
+        };
+        lists.add_cid(2, CidRange { range, cid: 0 })?;
+        lists.spaces.push(Codespace {
+            len: 2,
+            low: 0,
+            high: 0xFFFF,
+        })?;
+        let metadata = Metadata {
+            character_collection: Some(CharacterCollection {
+                family: CidFamily::AdobeIdentity,
+                supplement: 0,
+            }),
+            name: Some(Vec::from_slice(alloc, name)?),
+            writing_mode: Some(mode),
+        };
+        CMap::of_lists(alloc, metadata, lists)
+    }
+
+    /// The map of one file.
+    fn of_lists(alloc: Global, metadata: Metadata, lists: Lists) -> Result<CMap, AllocError>
+        ensures { IfOk result (λ map. map ≡ record { metadata = metadata_seen metadata; lists = lists_seen lists } ∷ []) }
+    {
+        let mut layers = Vec::new(alloc);
+        layers.push(Layer::build(alloc, metadata, lists)?)?;
+        Ok(CMap { layers })
+    }
+}
+
+/// What a file says of itself that says nothing.
+fn unknown_metadata() -> Metadata
+    ensures { metadata_seen result ≡ record { collection = None; name = None; mode = None } }
+{
+    Metadata {
+        character_collection: None,
+        name: None,
+        writing_mode: None,
+    }
+}

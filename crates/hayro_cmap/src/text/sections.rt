@@ -1,0 +1,89 @@
+//! Sections: an opener, entries, a closer.
+
+ghost use Rattle.std.specs.Prelude.{◌≡◌, ◌≤◌, false, length, IsErrOf, OnOk, MatchOption};
+ghost use Rattle.cmap_parts.specs.TokenSeen.{token_seen};
+ghost use Rattle.cmap_parts.specs.Tokens as tokens;
+ghost use Rattle.hayro_cmap.specs.DeclarationsSeen.{lists_seen};
+ghost use Rattle.hayro_cmap.specs.Only.{HoldsOfNone};
+ghost use Rattle.hayro_cmap.specs.TextFiles as files;
+ghost use Rattle.hayro_cmap.specs.TextFiles.{IsEntry};
+ghost use Rattle.hayro_cmap.specs.TextReading.{EntryBehind, BodyAt, Declares};
+ghost use Rattle.hayro_cmap.specs.TextSeen.{section_seen};
+ghost use Rattle.hayro_cmap.specs.declared.fault.Fault.TheVariants.{Refused};
+
+use super::entries::{read_cid_char, read_cid_range};
+use super::tokens::{TokenReader, is_executable};
+use crate::declarations::Lists;
+use crate::fault::Fault;
+use cmap_parts::token::Token;
+
+/// The kinds of sections.
+#[derive(Clone, Copy)]
+pub(super) enum Section {
+    CidRange,
+    CidChar,
+}
+
+impl Section {
+    /// The section that a token opens.
+    pub(super) fn opened_by(token: &Token<'_>) -> Option<Section>
+        ensures { MatchOption result ((section : files.Section) → token_seen token.now ≡ tokens.Name false (files.opener section) → ⊥)
+            (λ section. token_seen token.now ≡ tokens.Name false (files.opener (section_seen section))) }
+    {
+        if is_executable(token, b"begincidrange") {
+            Some(Section::CidRange)
+        } else if is_executable(token, b"begincidchar") {
+            Some(Section::CidChar)
+        } else {
+            None
+        }
+    }
+
+    /// The name that closes it.
+    fn closer(self) -> &'static [u8]
+        ensures { result.now ≡ files.closer (section_seen self) }
+    {
+        match self {
+            Section::CidRange => b"endcidrange",
+            Section::CidChar => b"endcidchar",
+        }
+    }
+}
+
+/// Reads the entries of a section and its closer.
+pub(super) fn read_section(
+    reader: &mut TokenReader<'_>,
+    section: Section,
+    lists: &mut Lists,
+) -> Result<(), Fault>
+    ensures body { OnOk result (Declares (BodyAt (section_seen section) reader.old) reader.new (lists_seen lists.old) (lists_seen lists.new)) }
+    ensures shorter { OnOk result (length reader.new ≤ length reader.old) }
+    ensures refused { IsErrOf result Refused → HoldsOfNone (BodyAt (section_seen section) reader.old) }
+{
+    loop {
+        let token = reader.required_token()?;
+        if is_executable(&token, section.closer()) {
+            return Ok(());
+        }
+        read_entry(reader, section, &token, lists)?;
+    }
+}
+
+/// Reads what follows the first token of an entry.
+fn read_entry(
+    reader: &mut TokenReader<'_>,
+    section: Section,
+    first: &Token<'_>,
+    lists: &mut Lists,
+) -> Result<(), Fault>
+    ensures entry { OnOk result (Declares (EntryBehind (IsEntry (section_seen section)) (token_seen first.now) reader.old) reader.new (lists_seen lists.old) (lists_seen lists.new)) }
+    ensures shorter { OnOk result (length reader.new ≤ length reader.old) }
+    ensures refused { IsErrOf result Refused → HoldsOfNone (EntryBehind (IsEntry (section_seen section)) (token_seen first.now) reader.old) }
+{
+    let filed = match section {
+        Section::CidRange => read_cid_range(reader, first)?,
+        Section::CidChar => read_cid_char(reader, first)?,
+    };
+    lists.add_cid(filed.len, filed.range)?;
+    Ok(())
+}
