@@ -5,7 +5,8 @@ use Rattle.std.proofs.lemmas.Bool.{le-leb}
 use Rattle.std.proofs.lemmas.List.{drop-drop, append_assoc, append-nil}
 use Rattle.cmap_parts.specs.Bytes.{big_endian}
 use Rattle.cmap_parts.specs.Reader.{Reading, bytes_left, IsAtByte, after_bytes, front, number_at}
-use Rattle.cmap_parts.specs.TableReading.{cut_at, counts_at, numbers_at, StaysAtByte}
+use Rattle.cmap_parts.specs.TableReading.{cut_at, counts_at, numbers_at}
+use Rattle.cmap_parts.specs.TableTaken.{StaysAtByte}
 
 pub bytes_left-after_bytes : (r : Reading) (count : ℕ) → IsAtByte r → bytes_left (after_bytes r count) ≡ drop count (bytes_left r)
 bytes_left-after_bytes r count h =

@@ -3,7 +3,7 @@ use Rattle.std.proofs.Common.{◌≡◌, ℕ, ◌+◌, ◌-◌, true, false, ◌
 use Rattle.std.proofs.lemmas.Bool.{and_parts, cases_Bool, eqb-true}
 use Rattle.std.proofs.lemmas.List.{take_at, nil_from_length, same_from_push}
 use Rattle.cmap_parts.specs.Tokens.{closes_at_end}
-use Rattle.cmap_parts.specs.Strings.{hex_value, IsCut, IsValue}
+use Rattle.cmap_parts.specs.Strings.{IsCut, IsValue}
 use Rattle.cmap_parts.specs.TokenReading.{one_more, hex_len, text_len, string_len, is_paired, HasCut}
 use Rattle.cmap_parts.proofs.StringLengths.{one_more_some, has_hex, has_closing}
 

@@ -1,13 +1,13 @@
 -- A table of places, and what its words by their lengths find.
-use Rattle.std.proofs.Common.{◌≡◌, ℕ, zero, suc, ◌+◌, ◌-◌, ◌*◌, ◌^◌, ◌<◌, ◌≤◌, List, [], inl, inr, ◌∷◌, ◌++◌, length, get_or, take, map, Some, None, refl, ap, ◌∙◌, sym, subst, arith}
+use Rattle.std.proofs.Common.{◌≡◌, ℕ, suc, ◌+◌, ◌-◌, ◌*◌, ◌^◌, ◌<◌, ◌≤◌, List, [], inl, inr, ◌∷◌, ◌++◌, length, get_or, take, Some, None, refl, ap, ◌∙◌, sym, subst, arith}
 use Rattle.std.specs.List.{sum_by, slice_get}
 use Rattle.std.specs.List.Sorted.{IsNonDecreasing}
 use Rattle.std.specs.Int.Digits.{number_from_digits, AllBelowBase}
 use Rattle.std.proofs.lemmas.Bool.{cases_lt}
-use Rattle.std.proofs.lemmas.List.{append-nil, get_or_read, length-map, length-append, take-map, get_or-take, length-take-le}
+use Rattle.std.proofs.lemmas.List.{append-nil, get_or_read, length-append, take-map, get_or-take, length-take-le}
 use Rattle.std.proofs.lemmas.List.Sums.{sum_by-cons, sum_by_more_le}
 use Rattle.std.proofs.lemmas.Nat.{pow-add, pow_pos}
-use Rattle.std.proofs.lemmas.Option.{none-some, slice_get_within, same_Some, some_pair_parts, get_or_from_slice_get}
+use Rattle.std.proofs.lemmas.Option.{none-some, slice_get_within, same_Some, some_pair_parts}
 use Rattle.std.proofs.Math.Nat.{add-mul, mul-le-mul_right}
 use Rattle.cmap_parts.specs.PrefixWords.{Place, BeginsAt, Decodes, IsPrefixFree, bits_of, word_behind, lengths_from, zip_places}
 use Rattle.cmap_parts.specs.declared.prefix.words.Words.{Words}

@@ -11,6 +11,7 @@ pub mod NumberSeen
 pub mod TokenSeen
 pub mod Reader
 pub mod TextSeen
+pub mod TableTaken
 pub mod TokenReading
 pub mod TableReading
 pub mod WordsByLength

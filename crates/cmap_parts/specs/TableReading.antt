@@ -1,9 +1,9 @@
--- Prefix tables, as the code reads them.
+-- Private aid: prefix tables as the code reads them, as functions on lists.
 use Rattle.std.specs.Prelude.{◌≡◌, ℕ, zero, suc, ◌+◌, ◌*◌, ◌^◌, Bool, ◌&&◌, ◌==◌, nat_le, List, [], ◌∷◌, length, take, drop, sum, Option, Some, None, option_and_then, if◌then◌else◌}
 use Rattle.std.specs.List.{list_all}
 use Rattle.cmap_parts.specs.Bytes.{big_endian}
-use Rattle.cmap_parts.specs.Reader.{Reading, IsAtByte, after_bits, bits_left, bytes_left}
-use Rattle.cmap_parts.specs.PrefixWords.{Place, IsSound, IsPrefixFree, TableFront, lengths_from, zip_places}
+use Rattle.cmap_parts.specs.Reader.{Reading, after_bits, bits_left}
+use Rattle.cmap_parts.specs.PrefixWords.{Place, lengths_from, zip_places}
 use Rattle.cmap_parts.specs.WordsByLength.{after_words}
 
 infixl 10 ◌>>=◌
@@ -41,17 +41,6 @@ unfoldable pub table_at : ℕ → List ℕ → Option (List Place × List ℕ)
 table_at width bytes = counts_at bytes >>= λ counts.
     if have_room counts.0 then (numbers_at width (sum (padded_counts 32 counts.0)) counts.1 >>= λ symbols. Some (zip_places (lengths_from 1 (padded_counts 32 counts.0)) symbols.0, symbols.1))
     else None
-
--- at a byte of the same bytes
-abbrev pub StaysAtByte : Reading → Reading → Type 0
-StaysAtByte old new = (new.source ≡ old.source) × IsAtByte new
-
--- this table began the bytes that were left, and what follows it is left now
-pub record TakesTable (width : ℕ) (old : Reading) (table : List Place) (new : Reading) : Type 0 where
-  pub front : TableFront width (bytes_left old) table (bytes_left new)
-  pub sound : IsSound table
-  pub prefix_free : IsPrefixFree table
-  pub place : StaysAtByte old new
 
 -- so many bits, which were left, have been taken more
 abbrev pub MovesBy : Reading → ℕ → Reading → Type 0

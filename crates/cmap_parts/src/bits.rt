@@ -89,11 +89,12 @@ impl<'a> Reader<'a> {
         self.read_n_bytes(4)
     }
 
-    /// The number that the next `n` bytes write, the high one first, for an `n` from 1 to 4; `None`
-    /// for any other `n`, and where fewer bytes are left.
+    /// The number that the next `n` bytes write, the high one first, for an `n` from 1 to 4;
+    /// `None` for any other `n`, and where fewer bytes are left.
     pub fn read_n_bytes(&mut self, n: u8) -> Option<u32>
         requires { IsAtByte self.old }
-        ensures value { result ≡ (if nat_le 1 n && nat_le n 4 then number_at n (bytes_left self.old) else None) }
+        ensures value { result ≡
+            (if nat_le 1 n && nat_le n 4 then number_at n (bytes_left self.old) else None) }
         ensures moves { self.new ≡ (if is_some result then after_bytes self.old n else self.old) }
     {
         if !(1..=4).contains(&n) {
@@ -117,14 +118,15 @@ impl<'a> Reader<'a> {
         Some(&left[..n])
     }
 
-    /// The bytes up to the first one for which `f` is true, which is not taken, or all that are left
-    /// where there is none: a slice of those of the reader. `f` may be asked any byte, and answers by
-    /// the byte alone.
+    /// The bytes up to the first one for which `f` is true, which is not taken, or all that are
+    /// left where there is none: a slice of those of the reader. `f` may be asked any byte, and
+    /// answers by the byte alone.
     pub fn eat_until<F: Fn(u8) -> bool + Drop>(&mut self, f: F) -> &'a [u8]
         requires at_byte { IsAtByte self.old }
         requires callable { F.IsAlwaysCallable f }
         requires answers { AnswersByByte (F.post f) }
-        ensures value { (p : ℕ → Bool) → AnswersBy (F.post f) p → result.now ≡ before_first p (bytes_left self.old) }
+        ensures value { (p : ℕ → Bool) → AnswersBy (F.post f) p →
+            result.now ≡ before_first p (bytes_left self.old) }
         ensures moves { self.new ≡ after_bytes self.old (length result.now) }
     {
         let left = &self.bytes[self.byte..];

@@ -1,4 +1,4 @@
-//! The parts that CMap files are read with: tokens, numbers and bits, prefix tables, texts and tables of ranges.
+//! The parts that CMap files are read with: tokens, texts, bits, prefix tables, tables of ranges.
 #![tactic(auto)]
 
 pub mod bits;

@@ -73,8 +73,8 @@ impl<'a> StringToken<'a> {
     }
 
     /// Replaces the content of `out` by the bytes that the string stands for, as the PostScript
-    /// Language Reference, third edition, 3.2.2, gives them. The value is no longer than `raw`, and
-    /// all growth of `out` comes first.
+    /// Language Reference, third edition, 3.2.2, gives them. The value is no longer than `raw`,
+    /// and all growth of `out` comes first.
     ///
     /// It fails only where `out` can't grow, and then `out` holds what it held.
     pub fn decode_into(&self, out: &mut Vec<u8>) -> Result<(), AllocError>
@@ -112,8 +112,8 @@ pub enum Number {
 pub struct Malformed;
 
 /// Reads the tokens of a text in order. White space and comments separate them and are none
-/// (PostScript Language Reference, third edition, 3.2.1). A clause sees the text and how many of its
-/// bytes have been passed.
+/// (PostScript Language Reference, third edition, 3.2.1). A clause sees the text and how many of
+/// its bytes have been passed.
 #[derive(Debug, Drop)]
 pub struct Scanner<'a> {
     source: &'a [u8],
@@ -145,8 +145,8 @@ impl<'a> Scanner<'a> {
         Scanner { source, place: 0 }
     }
 
-    /// The next token, whose slices are those of the text; `None` where only white space and comments
-    /// are left.
+    /// The next token, whose slices are those of the text; `None` where only white space and
+    /// comments are left.
     ///
     /// Only a token moves the scanner, to the byte behind it. So after `Malformed` each later call
     /// answers `Malformed` again.

@@ -12,7 +12,8 @@ ghost use Rattle.cmap_parts.specs.TextSeen.{text_seen};
 
 use std::alloc::{AllocError, Global};
 
-/// The text that a code stands for: what a bf destination of a CMap gives (ISO 32000, ToUnicode CMaps).
+/// The text that a code stands for, as a bf destination of a CMap gives it (ISO 32000, ToUnicode
+/// CMaps).
 #[derive(Debug, Drop, PartialEq, Eq)]
 pub enum BfString {
     /// A text of one character.
@@ -31,7 +32,8 @@ impl BfString {
     /// It fails only where there is no memory. Only a `String` takes some.
     pub fn clone(&self, alloc: Global) -> Result<BfString, AllocError>
         ensures same { IfOk result (λ copy. text_seen copy ≡ text_seen self.now) }
-        ensures err { OnErr result ((characters : List ℕ) × (text_seen self.now ≡ more characters)) }
+        ensures err { OnErr result
+            ((characters : List ℕ) × (text_seen self.now ≡ more characters)) }
     {
         match self {
             BfString::Char(c) => Ok(BfString::Char(*c)),
@@ -65,7 +67,8 @@ pub fn units(alloc: Global, bytes: &[u8]) -> Result<Vec<u16>, AllocError>
 ///
 /// It fails only where there is no memory. Only a `String` takes some.
 pub fn text(alloc: Global, units: &[u16], offset: u32) -> Result<Option<BfString>, AllocError>
-    ensures value { IfOk result (λ t. option_map text_seen t ≡ option_map text_of (text_at units.now offset)) }
+    ensures value { IfOk result
+        (λ t. option_map text_seen t ≡ option_map text_of (text_at units.now offset)) }
     ensures err { OnErr result (IsSomeAnd (text_at units.now offset) (λ cs. 1 < length cs)) }
 {
     let Some(last) = last_unit(units, offset) else {
@@ -103,10 +106,11 @@ fn only_char(units: &[u16], last: u16) -> Option<char>
     rest.is_empty().then_some(first)
 }
 
-// The first character that units spell, `last` in the place of the last one, and the units after it.
+// The first character of units, `last` in the place of the last one, and the units after it.
 fn next_char(units: &[u16], last: u16) -> Option<(char, &[u16])>
     ensures value { MatchOption result (IsStuck (with_last units.now last))
-        (λ x. utf16_chars (with_last units.now last) ≡ Some x.0 ∷ utf16_chars (with_last x.1.now last)) }
+        (λ x. utf16_chars (with_last units.now last)
+        ≡ Some x.0 ∷ utf16_chars (with_last x.1.now last)) }
     ensures shorter { IfSome result (λ x. length x.1.now < length units.now) }
     ensures scalar { IfSome result (λ x. IsScalar x.0) }
 {
@@ -119,7 +123,8 @@ fn next_char(units: &[u16], last: u16) -> Option<(char, &[u16])>
 
 // The character of the surrogate pair that `first` and the next unit are, and the units after it.
 fn pair_from(first: u16, rest: &[u16], last: u16) -> Option<(char, &[u16])>
-    ensures value { let next = with_last rest.now last in MatchOption result (utf16_chars (first ∷ next) ≡ lone_unit_char first ∷ utf16_chars next)
+    ensures value { let next = with_last rest.now last in
+        MatchOption result (utf16_chars (first ∷ next) ≡ lone_unit_char first ∷ utf16_chars next)
         (λ x. utf16_chars (first ∷ next) ≡ Some x.0 ∷ utf16_chars (with_last x.1.now last)) }
     ensures shorter { IfSome result (λ x. length x.1.now < length rest.now) }
     ensures scalar { IfSome result (λ x. IsScalar x.0) }
@@ -130,7 +135,8 @@ fn pair_from(first: u16, rest: &[u16], last: u16) -> Option<(char, &[u16])>
 
 // The first unit, `last` in the place of the last one, and the units after it.
 fn first_unit(units: &[u16], last: u16) -> Option<(u16, &[u16])>
-    ensures value { MatchOption result (units.now ≡ []) (λ x. with_last units.now last ≡ x.0 ∷ with_last x.1.now last) }
+    ensures value { MatchOption result (units.now ≡ [])
+        (λ x. with_last units.now last ≡ x.0 ∷ with_last x.1.now last) }
     ensures shorter { IfSome result (λ x. length x.1.now < length units.now) }
 {
     let (first, rest) = units.split_first()?;
@@ -163,7 +169,8 @@ fn is_well_formed(units: &[u16], last: u16) -> bool
 // All the characters that units spell.
 fn string(alloc: Global, units: &[u16], last: u16) -> Result<String, AllocError>
     requires { list_all is_some (utf16_chars (with_last units.now last)) ≡ true }
-    ensures { IfOk result (λ s. chars (string_bytes s) ≡ filter_map (λ c. c) (utf16_chars (with_last units.now last))) }
+    ensures { IfOk result (λ s. chars (string_bytes s)
+        ≡ filter_map (λ c. c) (utf16_chars (with_last units.now last))) }
 {
     let mut text = String::new(alloc);
     let mut rest = units;

@@ -3,14 +3,15 @@
 ghost use Rattle.std.specs.Prelude.{◌≡◌, ℕ, ◌≤◌, List, None, Some, IfOk, IfSome, IfNone, OnErr, MatchOption};
 ghost use Rattle.cmap_parts.specs.PrefixWords.{Place, TableFront, IsSound, IsPrefixFree};
 ghost use Rattle.cmap_parts.specs.Reader.{bytes_left, IsAtByte};
-ghost use Rattle.cmap_parts.specs.TableReading.{numbers_at, counts_at, table_at, StaysAtByte, TakesTable};
+ghost use Rattle.cmap_parts.specs.TableReading.{numbers_at, counts_at, table_at};
+ghost use Rattle.cmap_parts.specs.TableTaken.{StaysAtByte, TakesTable};
 
 use super::PrefixTable;
 use super::words::words_of;
 use crate::bits::Reader;
 use std::alloc::{AllocError, Global};
 
-// The table that comes next, whose symbols have this many bytes each. Where there is none, or no memory, the reader stays.
+// The table that comes next, with symbols of `width` bytes. The reader stays where none does.
 pub(super) fn parse(
     alloc: Global,
     reader: &mut Reader<'_>,
@@ -18,8 +19,11 @@ pub(super) fn parse(
 ) -> Result<Option<PrefixTable>, AllocError>
     requires at_byte { IsAtByte reader.old }
     requires width { (1 ≤ width) × (width ≤ 4) }
-    ensures some { IfOk result (λ o. IfSome o (λ table. TakesTable width reader.old table reader.new)) }
-    ensures only { (table : List Place) (rest : List ℕ) → TableFront width (bytes_left reader.old) table rest → IfOk result (λ o. (o ≡ Some table) × (bytes_left reader.new ≡ rest)) }
+    ensures some { IfOk result
+        (λ o. IfSome o (λ table. TakesTable width reader.old table reader.new)) }
+    ensures only { (table : List Place) (rest : List ℕ)
+        → TableFront width (bytes_left reader.old) table rest
+        → IfOk result (λ o. (o ≡ Some table) × (bytes_left reader.new ≡ rest)) }
     ensures none { IfOk result (λ o. IfNone o (reader.new ≡ reader.old)) }
     ensures err { OnErr result (reader.new ≡ reader.old) }
 {
@@ -39,7 +43,8 @@ fn read_table(
 ) -> Result<Option<PrefixTable>, AllocError>
     requires at_byte { IsAtByte reader.old }
     requires width { (1 ≤ width) × (width ≤ 4) }
-    ensures value { IfOk result (λ o. MatchOption o (table_at width (bytes_left reader.old) ≡ None) (λ table. table_at width (bytes_left reader.old) ≡ Some (table, bytes_left reader.new))) }
+    ensures value { IfOk result (λ o. MatchOption o (table_at width (bytes_left reader.old) ≡ None)
+        (λ table. table_at width (bytes_left reader.old) ≡ Some (table, bytes_left reader.new))) }
     ensures sound { IfOk result (λ o. IfSome o IsSound) }
     ensures prefix_free { IfOk result (λ o. IfSome o IsPrefixFree) }
     ensures moves { IfOk result (λ o. IfSome o (λ _. StaysAtByte reader.old reader.new)) }
@@ -60,7 +65,8 @@ fn read_table(
 // The bytes that say how many words there are of each length: none where the table has no symbols.
 fn read_counts<'a>(reader: &mut Reader<'a>) -> Option<&'a [u8]>
     requires { IsAtByte reader.old }
-    ensures value { MatchOption result (counts_at (bytes_left reader.old) ≡ None) (λ counts. counts_at (bytes_left reader.old) ≡ Some (counts.now, bytes_left reader.new)) }
+    ensures value { MatchOption result (counts_at (bytes_left reader.old) ≡ None)
+        (λ counts. counts_at (bytes_left reader.old) ≡ Some (counts.now, bytes_left reader.new)) }
     ensures moves { IfSome result (λ _. StaysAtByte reader.old reader.new) }
 {
     let filled = reader.read_u16()?;
@@ -82,7 +88,9 @@ fn read_symbols(
 ) -> Result<Option<Vec<u32>>, AllocError>
     requires at_byte { IsAtByte reader.old }
     requires width { (1 ≤ width) × (width ≤ 4) }
-    ensures value { IfOk result (λ o. MatchOption o (numbers_at width count (bytes_left reader.old) ≡ None) (λ symbols. numbers_at width count (bytes_left reader.old) ≡ Some (symbols.items, bytes_left reader.new))) }
+    ensures value { IfOk result (λ o. let read = numbers_at width count (bytes_left reader.old) in
+        MatchOption o (read ≡ None)
+        (λ symbols. read ≡ Some (symbols.items, bytes_left reader.new))) }
     ensures moves { IfOk result (λ o. IfSome o (λ _. StaysAtByte reader.old reader.new)) }
 {
     let mut symbols = Vec::new(alloc);

@@ -29,18 +29,18 @@ impl Words {
         ensures { result ≡ place_of self.now word }
     {
         let index = word.checked_sub(self.first)?;
-        if index < self.count as u64 {
-            Some(self.place + index as usize)
-        } else {
-            None
+        if index >= self.count as u64 {
+            return None;
         }
+        Some(self.place + index as usize)
     }
 }
 
 // The place whose word comes next. Where no word does, the reader stays.
 pub(super) fn find(words: &[Words; LONGEST], reader: &mut Reader<'_>) -> Option<usize>
     requires { All (λ w. w.place + w.count < 2 ^ 64) words.now }
-    ensures found { IfSome result (λ place. place_behind 0 words.now (bits_left reader.old) ≡ Some (place, bits_left reader.new)) }
+    ensures found { IfSome result (λ place.
+        place_behind 0 words.now (bits_left reader.old) ≡ Some (place, bits_left reader.new)) }
     ensures moves { IfSome result (λ _. (count : ℕ) × MovesBy reader.old count reader.new) }
     ensures none { IfNone result (place_behind 0 words.now (bits_left reader.old) ≡ None) }
     ensures unmoved { IfNone result (reader.new ≡ reader.old) }
@@ -57,9 +57,10 @@ pub(super) fn find(words: &[Words; LONGEST], reader: &mut Reader<'_>) -> Option<
     None
 }
 
-// The words of each length, and how many there are in all, where none is too long and there is room for each.
+// The words of each length, and how many there are, where none is too long and each has room.
 pub(super) fn words_of(counts: &[u8]) -> Option<([Words; LONGEST], usize)>
-    ensures { MatchOption result (have_room counts.now ≡ false) (λ made. let all = padded_counts 32 counts.now in
+    ensures { MatchOption result (have_room counts.now ≡ false) (λ made.
+        let all = padded_counts 32 counts.now in
         (have_room counts.now ≡ true) × (made.0 ≡ words_from 0 0 all) × (made.1 ≡ sum all)) }
 {
     let mut words = [Words {

@@ -34,8 +34,10 @@ pub(super) fn decode_hex(digits: &[u8], out: &mut Vec<u8>)
 pub(super) fn decode_text(body: &[u8], out: &mut Vec<u8>)
     requires room { vec_len out.old + length body.now ≤ vec_capacity out.old }
     requires paired { reading.is_paired false body.now ≡ true }
-    ensures found { (value : List ℕ) × HasCut body.now value × (out.new.items ≡ out.old.items ++ value) }
-    ensures only { (value : List ℕ) → HasCut body.now value → out.new.items ≡ out.old.items ++ value }
+    ensures found { (value : List ℕ)
+        × HasCut body.now value × (out.new.items ≡ out.old.items ++ value) }
+    ensures only { (value : List ℕ)
+        → HasCut body.now value → out.new.items ≡ out.old.items ++ value }
 {
     let mut rest = body;
     while !rest.is_empty() {
