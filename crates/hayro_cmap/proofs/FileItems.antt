@@ -1,26 +1,49 @@
 -- The items of a text: read one after another, they are one list and no other.
 use Rattle.std.proofs.Common.{◌≡◌, ◌≢◌, ℕ, true, false, refl, sym, ap, ◌∙◌, subst, List, [], ◌∷◌, ◌++◌, ◌⊎◌, inl, inr, append_assoc, append-nil}
-use Rattle.std.specs.Prelude.{flat_map}
+use Rattle.std.specs.Prelude.{flat_map, bytes_eq, Option, Some, None, if◌then◌else◌}
+use Rattle.std.proofs.lemmas.Option.{none-some, same_Some}
 use Rattle.cmap_parts.specs.Bytes.{IsBlank}
 use Rattle.cmap_parts.specs.Tokens.{Token, Tokens}
 use Rattle.hayro_cmap.specs.Only.{IsOnly, HoldsOfNone}
 use Rattle.hayro_cmap.specs.Files.{Declaration}
-use Rattle.hayro_cmap.specs.TextFiles.{Section, cid_range, cid_char, opener, closer, use_word, Item, entries, other, IsPlain, IsItem, declared_by, file_declaring, IsTextFile}
+use Rattle.hayro_cmap.specs.TextFiles.{Section, codespace_range, cid_range, cid_char, notdef_range, notdef_char, bf_range, bf_char, opener, closer, use_word, Item, entries, other, IsPlain, IsItem, declared_by, file_declaring, IsTextFile}
 use Rattle.hayro_cmap.specs.TextReading.{TokenAt, TokensAt, BodyAt, ItemBehind, ItemsAt}
 use Rattle.hayro_cmap.proofs.TextFronts.{pair_is, first_is, second_is, Tokens-append, Tokens-joined}
 
 abbrev pub opening : Section → Token
 opening section = Token.Name false (opener section)
 
+-- the section that a name opens
+opened : List ℕ → Option Section
+opened name =
+    if bytes_eq name (opener codespace_range) then Some codespace_range
+    else if bytes_eq name (opener cid_range) then Some cid_range
+    else if bytes_eq name (opener cid_char) then Some cid_char
+    else if bytes_eq name (opener notdef_range) then Some notdef_range
+    else if bytes_eq name (opener notdef_char) then Some notdef_char
+    else if bytes_eq name (opener bf_range) then Some bf_range
+    else if bytes_eq name (opener bf_char) then Some bf_char
+    else None
+
+opened-opener : (section : Section) → opened (opener section) ≡ Some section
+unfolding opened
+opened-opener codespace_range = refl
+opened-opener cid_range = refl
+opened-opener cid_char = refl
+opened-opener notdef_range = refl
+opened-opener notdef_char = refl
+opened-opener bf_range = refl
+opened-opener bf_char = refl
+
 opener_only : (a b : Section) → opening a ≡ opening b → a ≡ b
-opener_only cid_range cid_range e = refl
-opener_only cid_range cid_char e = cc
-opener_only cid_char cid_range e = cc
-opener_only cid_char cid_char e = refl
+opener_only a b same = let names : opener a ≡ opener b = cc in same_Some a b (sym (opened-opener a) ∙ ap opened names ∙ opened-opener b)
 
 opener_no_use : (section : Section) → opening section ≡ Token.Name false use_word → ⊥
-opener_no_use cid_range e = cc
-opener_no_use cid_char e = cc
+unfolding opened
+opener_no_use section same =
+    let names : opener section ≡ use_word = cc in
+    let none : opened use_word ≡ None = refl in
+    none-some section (sym none ∙ ap opened (sym names) ∙ opened-opener section)
 
 -- a section behind its opener is one item
 section_parts : (t : Token) (text : List ℕ) (r : Item × List ℕ) (section : Section) → t ≡ opening section → ItemBehind t text r → (declared : List Declaration) × BodyAt section text (declared, r.1) × (r.0 ≡ entries declared)

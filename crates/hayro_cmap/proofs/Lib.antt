@@ -7,3 +7,6 @@ pub mod SectionsRead
 pub mod ItemsRead
 pub mod LastFound
 pub mod LayersSearched
+pub mod BfRanges
+pub mod CodespaceRanges
+pub mod ListsOfDestinations

@@ -1,10 +1,10 @@
 -- The entries of a section up to its closer: read one after another, they are one list and no other.
 use Rattle.std.proofs.Common.{◌≡◌, ◌≢◌, ℕ, false, refl, sym, ap, ◌∙◌, subst, List, [], ◌∷◌, ◌++◌, ◌⊎◌, inl, inr, append_assoc, append-nil}
-use Rattle.std.specs.Prelude.{flat_map}
+use Rattle.std.specs.Prelude.{flat_map, codes}
 use Rattle.cmap_parts.specs.Tokens.{Token}
 use Rattle.hayro_cmap.specs.Only.{IsOnly, HoldsOfNone}
 use Rattle.hayro_cmap.specs.Files.{Declaration}
-use Rattle.hayro_cmap.specs.TextFiles.{Section, cid_range, cid_char, closer, IsEntry}
+use Rattle.hayro_cmap.specs.TextFiles.{Section, codespace_range, cid_range, cid_char, notdef_range, notdef_char, bf_range, bf_char, closer, IsEntry}
 use Rattle.hayro_cmap.specs.TextReading.{TokenAt, TokensAt, EntryBehind, BodyAt}
 use Rattle.hayro_cmap.proofs.TextFronts.{pair_is, first_is, second_is, TokensAt-append, TokensAt-joined}
 
@@ -13,8 +13,15 @@ closing section = Token.Name false (closer section)
 
 -- each entry begins with a string
 entry_begins : (section : Section) (tokens : List Token) (declared : List Declaration) → IsEntry section tokens declared → (piece : List ℕ) × (more : List Token) × (tokens ≡ Token.String piece ∷ more)
+entry_begins codespace_range tokens declared (a, b, low, high, shape, (piece, is, value, least, most), is_high, same, declares) = (piece, b ∷ [], shape ∙ ap (λ t. t ∷ b ∷ []) is)
 entry_begins cid_range tokens declared (a, b, c, start, end, cid, shape, (piece, is, value, least, most), is_end, is_cid, declares) = (piece, b ∷ c ∷ [], shape ∙ ap (λ t. t ∷ b ∷ c ∷ []) is)
 entry_begins cid_char tokens declared (a, c, code, cid, shape, (piece, is, value, least, most), is_cid, declares) = (piece, c ∷ [], shape ∙ ap (λ t. t ∷ c ∷ []) is)
+entry_begins notdef_range tokens declared (a, b, c, start, end, cid, shape, (piece, is, value, least, most), is_end, is_cid, declares) = (piece, b ∷ c ∷ [], shape ∙ ap (λ t. t ∷ b ∷ c ∷ []) is)
+entry_begins notdef_char tokens declared (a, c, code, cid, shape, (piece, is, value, least, most), is_cid, declares) = (piece, c ∷ [], shape ∙ ap (λ t. t ∷ c ∷ []) is)
+entry_begins bf_char tokens declared (a, d, code, units, shape, (piece, is, value, least, most), is_destination, declares) = (piece, d ∷ [], shape ∙ ap (λ t. t ∷ d ∷ []) is)
+entry_begins bf_range tokens declared (a, b, start, end, (piece, is, value, least, most), is_end, inl (d, units, shape, is_destination, declares)) = (piece, b ∷ d ∷ [], shape ∙ ap (λ t. t ∷ b ∷ d ∷ []) is)
+entry_begins bf_range tokens declared (a, b, start, end, (piece, is, value, least, most), is_end, inr (ds, texts, shape, all, count, declares)) =
+    (piece, b ∷ Token.Name false (codes "[") ∷ ds ++ Token.Name false (codes "]") ∷ [], shape ∙ ap (λ t. t ∷ b ∷ Token.Name false (codes "[") ∷ ds ++ Token.Name false (codes "]") ∷ []) is)
 
 -- an entry, and the section behind it
 record Continues (section : Section) (text : List ℕ) (all : List Declaration) (end : List ℕ) : Type 0 where

@@ -1,11 +1,12 @@
 -- Private aid: what a text begins with and the rest of it, as the code reads it. Public contracts speak of TextFiles alone.
-use Rattle.std.specs.Prelude.{◌≡◌, ℕ, false, List, [], ◌∷◌, ◌++◌, length, flat_map, None}
+use Rattle.std.specs.Prelude.{◌≡◌, ℕ, false, List, [], ◌∷◌, ◌++◌, length, map, flat_map, codes, None}
+use Rattle.std.specs.List.{enumerate_from}
 use Rattle.cmap_parts.specs.Bytes.{big_endian}
 use Rattle.cmap_parts.specs.Tokens.{Token, Tokens, Front}
 use Rattle.hayro_cmap.specs.Only.{IsOnly}
 use Rattle.hayro_cmap.specs.Files.{Declaration, Lists, File, lists_of}
 use Rattle.hayro_cmap.specs.ListsAppended.{append_lists}
-use Rattle.hayro_cmap.specs.TextFiles.{Section, closer, IsCode, IsCid, IsBody, Item, IsItem, AreItems, declared_by}
+use Rattle.hayro_cmap.specs.TextFiles.{Section, closer, IsCode, IsCid, IsDestination, declares_bf, IsBody, Item, IsItem, AreItems, declared_by}
 
 -- a code, by the number of its bytes and the number that they write
 pub record Code : Type 0 where
@@ -33,6 +34,24 @@ CodeAt text r = (t : Token) × (bytes : List ℕ) × TokenAt text (t, r.1) × Is
 
 abbrev pub CidAt : List ℕ → ℕ × List ℕ → Type 0
 CidAt text r = (t : Token) × TokenAt text (t, r.1) × IsCid t r.0
+
+-- the text begins with a token that is a destination with these units
+abbrev pub DestinationAt : List ℕ → List ℕ × List ℕ → Type 0
+DestinationAt text r = (t : Token) × TokenAt text (t, r.1) × IsDestination t r.0
+
+-- the text begins with these destinations
+abbrev pub DestinationsAt : List ℕ → List (List ℕ) → List ℕ → Type 0
+DestinationsAt text [] rest = rest ≡ text
+DestinationsAt text (units ∷ texts) rest = (next : List ℕ) × DestinationAt text (units, next) × DestinationsAt next texts rest
+
+-- one declaration for each destination, from this code on
+abbrev pub declared_from : ℕ → List (List ℕ) → List Declaration
+declared_from start texts = map (λ p. declares_bf p.0 p.0 p.1) (enumerate_from start texts)
+
+-- the text begins with so many destinations and the ] behind them
+abbrev pub ListAt : ℕ → ℕ → List ℕ → List Declaration × List ℕ → Type 0
+ListAt start count text r = (texts : List (List ℕ)) × (next : List ℕ) × DestinationsAt text texts next × TokenAt next (Token.Name false (codes "]"), r.1)
+    × (length texts ≡ count) × (r.0 ≡ declared_from start texts)
 
 -- the text goes on behind the first token of an entry of this kind, which declares these
 abbrev pub EntryBehind : (List Token → List Declaration → Type 0) → Token → List ℕ → List Declaration × List ℕ → Type 0

@@ -1,8 +1,8 @@
 //! What a CMap declares for its codes.
 
-ghost use Rattle.std.specs.Prelude.{◌≡◌, [], ◌∷◌, OnOk};
+ghost use Rattle.std.specs.Prelude.{◌≡◌, ◌==◌, [], ◌∷◌, ◌++◌, OnOk, if◌then◌else◌};
 ghost use Rattle.hayro_cmap.specs.Files.{Declaration, lists_of};
-ghost use Rattle.hayro_cmap.specs.DeclarationsSeen.{cid_entry_seen, lists_seen};
+ghost use Rattle.hayro_cmap.specs.DeclarationsSeen.{bf_entry_seen, cid_entry_seen, codespace_seen, lists_seen};
 ghost use Rattle.hayro_cmap.specs.ListsAppended.{no_lists, append_lists};
 
 use crate::names::Cid;
@@ -85,17 +85,58 @@ impl Lists {
 
     /// Adds a declaration of CIDs for codes of `len` bytes.
     pub(crate) fn add_cid(&mut self, len: u8, range: CidRange) -> Result<(), AllocError>
-        ensures { OnOk result (lists_seen self.new ≡ append_lists (lists_seen self.old) (lists_of (Declaration.cid len (cid_entry_seen range) ∷ []))) }
+        ensures { OnOk result (lists_seen self.new ≡ append_lists (lists_seen self.old)
+            (lists_of (Declaration.cid len (cid_entry_seen range) ∷ []))) }
     {
-        match len {
-            1 => self.cids.one.push(range)?,
-            2 => self.cids.two.push(range)?,
-            3 => self.cids.three.push(range)?,
-            4 => self.cids.four.push(range)?,
-            _ => {}
-        }
+        push_filed(&mut self.cids, len, range)
+    }
+
+    /// Adds a notdef declaration for codes of `len` bytes.
+    pub(crate) fn add_notdef(&mut self, len: u8, range: CidRange) -> Result<(), AllocError>
+        ensures { OnOk result (lists_seen self.new ≡ append_lists (lists_seen self.old)
+            (lists_of (Declaration.notdef len (cid_entry_seen range) ∷ []))) }
+    {
+        push_filed(&mut self.notdefs, len, range)
+    }
+
+    /// Adds a declaration of texts.
+    pub(crate) fn add_bf(&mut self, range: BfRange) -> Result<(), AllocError>
+        ensures { OnOk result (lists_seen self.new ≡ append_lists (lists_seen self.old)
+            (lists_of (Declaration.bf (bf_entry_seen range) ∷ []))) }
+    {
+        self.bfs.push(range)?;
         Ok(())
     }
+
+    /// Adds a codespace range.
+    pub(crate) fn add_codespace(&mut self, space: Codespace) -> Result<(), AllocError>
+        ensures { OnOk result (lists_seen self.new ≡ append_lists (lists_seen self.old)
+            (lists_of (Declaration.codespace (codespace_seen space) ∷ []))) }
+    {
+        self.spaces.push(space)?;
+        Ok(())
+    }
+}
+
+/// Adds a declaration to the list for codes of `len` bytes, if there is one.
+fn push_filed(
+    lists: &mut ByLength<Vec<CidRange>>,
+    len: u8,
+    range: CidRange,
+) -> Result<(), AllocError>
+    ensures one { OnOk result (lists.new.one.items ≡ lists.old.one.items ++ (if len == 1 then range ∷ [] else [])) }
+    ensures two { OnOk result (lists.new.two.items ≡ lists.old.two.items ++ (if len == 2 then range ∷ [] else [])) }
+    ensures three { OnOk result (lists.new.three.items ≡ lists.old.three.items ++ (if len == 3 then range ∷ [] else [])) }
+    ensures four { OnOk result (lists.new.four.items ≡ lists.old.four.items ++ (if len == 4 then range ∷ [] else [])) }
+{
+    match len {
+        1 => lists.one.push(range)?,
+        2 => lists.two.push(range)?,
+        3 => lists.three.push(range)?,
+        4 => lists.four.push(range)?,
+        _ => {}
+    }
+    Ok(())
 }
 
 fn empty_lists(alloc: Global) -> ByLength<Vec<CidRange>>

@@ -1,67 +1,187 @@
-//! The entries of sections.
+//! The entries of sections. Each call here has the first token of an entry, reads the others, and adds
+//! what the entry declares.
 
-ghost use Rattle.std.specs.Prelude.{◌≤◌, [], ◌∷◌, length, IfOk, IsErrOf, OnOk};
+ghost use Rattle.std.specs.Prelude.{◌+◌, ◌-◌, ◌≤◌, ℕ, [], ◌∷◌, length, IfOk, IsErrOf, OnOk};
 ghost use Rattle.cmap_parts.specs.TokenSeen.{token_seen};
-ghost use Rattle.hayro_cmap.specs.DeclarationsSeen.{cid_entry_seen};
-ghost use Rattle.hayro_cmap.specs.Files.{Declaration};
+ghost use Rattle.hayro_cmap.specs.DeclarationsSeen.{cid_entry_seen, lists_seen};
+ghost use Rattle.hayro_cmap.specs.Files.{CidEntry, Declaration};
 ghost use Rattle.hayro_cmap.specs.Only.{IsOnly, HoldsOfNone};
-ghost use Rattle.hayro_cmap.specs.TextFiles.{IsCidRange, IsCidChar};
-ghost use Rattle.hayro_cmap.specs.TextReading.{EntryBehind};
+ghost use Rattle.hayro_cmap.specs.TextFiles as files;
+ghost use Rattle.hayro_cmap.specs.TextFiles.{IsCidRange, IsCidChar, IsEntry};
+ghost use Rattle.hayro_cmap.specs.TextReading.{Declares, EntryBehind, ListAt};
 ghost use Rattle.hayro_cmap.specs.declared.fault.Fault.TheVariants.{Refused};
 
-use super::tokens::TokenReader;
-use crate::declarations::CidRange;
+use super::tokens::{TokenReader, is_executable};
+use crate::declarations::{BfRange, CidRange, Codespace, Lists};
 use crate::fault::Fault;
 use cmap_parts::runs::Range;
 use cmap_parts::token::Token;
 
+/// code, code of the same length
+pub(super) fn add_codespace_range(reader: &mut TokenReader<'_>, first: &Token<'_>, lists: &mut Lists) -> Result<(), Fault>
+    ensures entry { OnOk result (Declares (EntryBehind (IsEntry files.codespace_range) (token_seen first.now) reader.old) reader.new (lists_seen lists.old) (lists_seen lists.new)) }
+    ensures shorter { OnOk result (length reader.new ≤ length reader.old) }
+    ensures refused { IsErrOf result Refused → HoldsOfNone (EntryBehind (IsEntry files.codespace_range) (token_seen first.now) reader.old) }
+{
+    let low = reader.code(first)?;
+    let high = reader.next_code()?;
+    if low.len != high.len {
+        return Err(Fault::Refused);
+    }
+    lists.add_codespace(Codespace {
+        len: low.len,
+        low: low.number,
+        high: high.number,
+    })?;
+    Ok(())
+}
+
+/// code, code, CID
+pub(super) fn add_cid_range(reader: &mut TokenReader<'_>, first: &Token<'_>, lists: &mut Lists) -> Result<(), Fault>
+    ensures entry { OnOk result (Declares (EntryBehind (IsEntry files.cid_range) (token_seen first.now) reader.old) reader.new (lists_seen lists.old) (lists_seen lists.new)) }
+    ensures shorter { OnOk result (length reader.new ≤ length reader.old) }
+    ensures refused { IsErrOf result Refused → HoldsOfNone (EntryBehind (IsEntry files.cid_range) (token_seen first.now) reader.old) }
+{
+    let filed = read_cid_range(reader, first)?;
+    lists.add_cid(filed.len, filed.range)?;
+    Ok(())
+}
+
+/// code, CID
+pub(super) fn add_cid_char(reader: &mut TokenReader<'_>, first: &Token<'_>, lists: &mut Lists) -> Result<(), Fault>
+    ensures entry { OnOk result (Declares (EntryBehind (IsEntry files.cid_char) (token_seen first.now) reader.old) reader.new (lists_seen lists.old) (lists_seen lists.new)) }
+    ensures shorter { OnOk result (length reader.new ≤ length reader.old) }
+    ensures refused { IsErrOf result Refused → HoldsOfNone (EntryBehind (IsEntry files.cid_char) (token_seen first.now) reader.old) }
+{
+    let filed = read_cid_char(reader, first)?;
+    lists.add_cid(filed.len, filed.range)?;
+    Ok(())
+}
+
+/// code, code, CID
+pub(super) fn add_notdef_range(reader: &mut TokenReader<'_>, first: &Token<'_>, lists: &mut Lists) -> Result<(), Fault>
+    ensures entry { OnOk result (Declares (EntryBehind (IsEntry files.notdef_range) (token_seen first.now) reader.old) reader.new (lists_seen lists.old) (lists_seen lists.new)) }
+    ensures shorter { OnOk result (length reader.new ≤ length reader.old) }
+    ensures refused { IsErrOf result Refused → HoldsOfNone (EntryBehind (IsEntry files.notdef_range) (token_seen first.now) reader.old) }
+{
+    let filed = read_cid_range(reader, first)?;
+    lists.add_notdef(filed.len, filed.range)?;
+    Ok(())
+}
+
+/// code, CID
+pub(super) fn add_notdef_char(reader: &mut TokenReader<'_>, first: &Token<'_>, lists: &mut Lists) -> Result<(), Fault>
+    ensures entry { OnOk result (Declares (EntryBehind (IsEntry files.notdef_char) (token_seen first.now) reader.old) reader.new (lists_seen lists.old) (lists_seen lists.new)) }
+    ensures shorter { OnOk result (length reader.new ≤ length reader.old) }
+    ensures refused { IsErrOf result Refused → HoldsOfNone (EntryBehind (IsEntry files.notdef_char) (token_seen first.now) reader.old) }
+{
+    let filed = read_cid_char(reader, first)?;
+    lists.add_notdef(filed.len, filed.range)?;
+    Ok(())
+}
+
+/// code, destination
+pub(super) fn add_bf_char(reader: &mut TokenReader<'_>, first: &Token<'_>, lists: &mut Lists) -> Result<(), Fault>
+    ensures entry { OnOk result (Declares (EntryBehind (IsEntry files.bf_char) (token_seen first.now) reader.old) reader.new (lists_seen lists.old) (lists_seen lists.new)) }
+    ensures shorter { OnOk result (length reader.new ≤ length reader.old) }
+    ensures refused { IsErrOf result Refused → HoldsOfNone (EntryBehind (IsEntry files.bf_char) (token_seen first.now) reader.old) }
+{
+    let code = reader.code(first)?;
+    let units = reader.next_destination()?;
+    lists.add_bf(BfRange {
+        range: Range {
+            start: code.number,
+            end: code.number,
+        },
+        units,
+    })?;
+    Ok(())
+}
+
+/// code, code, and one destination or a list of them
+pub(super) fn add_bf_range(reader: &mut TokenReader<'_>, first: &Token<'_>, lists: &mut Lists) -> Result<(), Fault>
+    ensures entry { OnOk result (Declares (EntryBehind (IsEntry files.bf_range) (token_seen first.now) reader.old) reader.new (lists_seen lists.old) (lists_seen lists.new)) }
+    ensures shorter { OnOk result (length reader.new ≤ length reader.old) }
+    ensures refused { IsErrOf result Refused → HoldsOfNone (EntryBehind (IsEntry files.bf_range) (token_seen first.now) reader.old) }
+{
+    let start = reader.code(first)?;
+    let end = reader.next_code()?;
+    let token = reader.required_token()?;
+    if is_executable(&token, b"[") {
+        return add_list(reader, start.number, end.number, lists);
+    }
+    let units = reader.destination(&token)?;
+    lists.add_bf(BfRange {
+        range: Range {
+            start: start.number,
+            end: end.number,
+        },
+        units,
+    })?;
+    Ok(())
+}
+
+/// One destination for each code from `start` to `end`, and the closing bracket.
+fn add_list(reader: &mut TokenReader<'_>, start: u32, end: u32, lists: &mut Lists) -> Result<(), Fault>
+    ensures list { OnOk result (Declares (ListAt start (end + 1 - start) reader.old) reader.new (lists_seen lists.old) (lists_seen lists.new)) }
+    ensures shorter { OnOk result (length reader.new ≤ length reader.old) }
+    ensures refused { IsErrOf result Refused → HoldsOfNone (ListAt start (end + 1 - start) reader.old) }
+{
+    for code in u64::from(start)..u64::from(end) + 1 {
+        let units = reader.next_destination()?;
+        let range = Range {
+            start: code as u32,
+            end: code as u32,
+        };
+        lists.add_bf(BfRange { range, units })?;
+    }
+    let token = reader.required_token()?;
+    if !is_executable(&token, b"]") {
+        return Err(Fault::Refused);
+    }
+    Ok(())
+}
+
 /// A declaration of CIDs, and the length of the codes that it is filed by.
 #[derive(Drop)]
-pub(super) struct Filed {
-    pub(super) len: u8,
-    pub(super) range: CidRange,
+struct Filed {
+    len: u8,
+    range: CidRange,
 }
 
 /// code, code, CID: filed by the length of the first code.
-pub(super) fn read_cid_range(
-    reader: &mut TokenReader<'_>,
-    first: &Token<'_>,
-) -> Result<Filed, Fault>
-    ensures entry { IfOk result (λ filed. IsOnly (EntryBehind (IsCidRange Declaration.cid) (token_seen first.now) reader.old) (Declaration.cid filed.len (cid_entry_seen filed.range) ∷ [], reader.new)) }
+fn read_cid_range(reader: &mut TokenReader<'_>, first: &Token<'_>) -> Result<Filed, Fault>
+    ensures entry { (kind : ℕ → CidEntry → Declaration) → IfOk result (λ filed. IsOnly (EntryBehind (IsCidRange kind) (token_seen first.now) reader.old) (kind filed.len (cid_entry_seen filed.range) ∷ [], reader.new)) }
     ensures shorter { OnOk result (length reader.new ≤ length reader.old) }
-    ensures refused { IsErrOf result Refused → HoldsOfNone (EntryBehind (IsCidRange Declaration.cid) (token_seen first.now) reader.old) }
+    ensures refused { (kind : ℕ → CidEntry → Declaration) → IsErrOf result Refused → HoldsOfNone (EntryBehind (IsCidRange kind) (token_seen first.now) reader.old) }
 {
     let start = reader.code(first)?;
     let end = reader.next_code()?;
     let cid = reader.next_cid()?;
+    let range = Range {
+        start: start.number,
+        end: end.number,
+    };
     Ok(Filed {
         len: start.len,
-        range: CidRange {
-            range: Range {
-                start: start.number,
-                end: end.number,
-            },
-            cid,
-        },
+        range: CidRange { range, cid },
     })
 }
 
 /// code, CID
-pub(super) fn read_cid_char(reader: &mut TokenReader<'_>, first: &Token<'_>) -> Result<Filed, Fault>
-    ensures entry { IfOk result (λ filed. IsOnly (EntryBehind (IsCidChar Declaration.cid) (token_seen first.now) reader.old) (Declaration.cid filed.len (cid_entry_seen filed.range) ∷ [], reader.new)) }
+fn read_cid_char(reader: &mut TokenReader<'_>, first: &Token<'_>) -> Result<Filed, Fault>
+    ensures entry { (kind : ℕ → CidEntry → Declaration) → IfOk result (λ filed. IsOnly (EntryBehind (IsCidChar kind) (token_seen first.now) reader.old) (kind filed.len (cid_entry_seen filed.range) ∷ [], reader.new)) }
     ensures shorter { OnOk result (length reader.new ≤ length reader.old) }
-    ensures refused { IsErrOf result Refused → HoldsOfNone (EntryBehind (IsCidChar Declaration.cid) (token_seen first.now) reader.old) }
+    ensures refused { (kind : ℕ → CidEntry → Declaration) → IsErrOf result Refused → HoldsOfNone (EntryBehind (IsCidChar kind) (token_seen first.now) reader.old) }
 {
     let code = reader.code(first)?;
     let cid = reader.next_cid()?;
+    let range = Range {
+        start: code.number,
+        end: code.number,
+    };
     Ok(Filed {
         len: code.len,
-        range: CidRange {
-            range: Range {
-                start: code.number,
-                end: code.number,
-            },
-            cid,
-        },
+        range: CidRange { range, cid },
     })
 }

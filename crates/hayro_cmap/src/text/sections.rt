@@ -11,7 +11,10 @@ ghost use Rattle.hayro_cmap.specs.TextReading.{EntryBehind, BodyAt, Declares};
 ghost use Rattle.hayro_cmap.specs.TextSeen.{section_seen};
 ghost use Rattle.hayro_cmap.specs.declared.fault.Fault.TheVariants.{Refused};
 
-use super::entries::{read_cid_char, read_cid_range};
+use super::entries::{
+    add_bf_char, add_bf_range, add_cid_char, add_cid_range, add_codespace_range, add_notdef_char,
+    add_notdef_range,
+};
 use super::tokens::{TokenReader, is_executable};
 use crate::declarations::Lists;
 use crate::fault::Fault;
@@ -20,8 +23,13 @@ use cmap_parts::token::Token;
 /// The kinds of sections.
 #[derive(Clone, Copy)]
 pub(super) enum Section {
+    CodespaceRange,
     CidRange,
     CidChar,
+    NotdefRange,
+    NotdefChar,
+    BfRange,
+    BfChar,
 }
 
 impl Section {
@@ -34,6 +42,16 @@ impl Section {
             Some(Section::CidRange)
         } else if is_executable(token, b"begincidchar") {
             Some(Section::CidChar)
+        } else if is_executable(token, b"beginbfrange") {
+            Some(Section::BfRange)
+        } else if is_executable(token, b"beginbfchar") {
+            Some(Section::BfChar)
+        } else if is_executable(token, b"beginnotdefrange") {
+            Some(Section::NotdefRange)
+        } else if is_executable(token, b"beginnotdefchar") {
+            Some(Section::NotdefChar)
+        } else if is_executable(token, b"begincodespacerange") {
+            Some(Section::CodespaceRange)
         } else {
             None
         }
@@ -44,8 +62,13 @@ impl Section {
         ensures { result.now ≡ files.closer (section_seen self) }
     {
         match self {
+            Section::CodespaceRange => b"endcodespacerange",
             Section::CidRange => b"endcidrange",
             Section::CidChar => b"endcidchar",
+            Section::NotdefRange => b"endnotdefrange",
+            Section::NotdefChar => b"endnotdefchar",
+            Section::BfRange => b"endbfrange",
+            Section::BfChar => b"endbfchar",
         }
     }
 }
@@ -69,7 +92,7 @@ pub(super) fn read_section(
     }
 }
 
-/// Reads what follows the first token of an entry.
+/// Reads what follows the first token of an entry, and adds what the entry declares.
 fn read_entry(
     reader: &mut TokenReader<'_>,
     section: Section,
@@ -80,10 +103,13 @@ fn read_entry(
     ensures shorter { OnOk result (length reader.new ≤ length reader.old) }
     ensures refused { IsErrOf result Refused → HoldsOfNone (EntryBehind (IsEntry (section_seen section)) (token_seen first.now) reader.old) }
 {
-    let filed = match section {
-        Section::CidRange => read_cid_range(reader, first)?,
-        Section::CidChar => read_cid_char(reader, first)?,
-    };
-    lists.add_cid(filed.len, filed.range)?;
-    Ok(())
+    match section {
+        Section::CodespaceRange => add_codespace_range(reader, first, lists),
+        Section::CidRange => add_cid_range(reader, first, lists),
+        Section::CidChar => add_cid_char(reader, first, lists),
+        Section::NotdefRange => add_notdef_range(reader, first, lists),
+        Section::NotdefChar => add_notdef_char(reader, first, lists),
+        Section::BfRange => add_bf_range(reader, first, lists),
+        Section::BfChar => add_bf_char(reader, first, lists),
+    }
 }

@@ -5,8 +5,8 @@ ghost use Rattle.cmap_parts.specs.Bytes.{IsBlank};
 ghost use Rattle.cmap_parts.specs.TokenSeen.{token_seen};
 ghost use Rattle.cmap_parts.specs.Tokens as tokens;
 ghost use Rattle.hayro_cmap.specs.Only.{IsOnly, HoldsOfNone};
-ghost use Rattle.hayro_cmap.specs.TextFiles.{IsCode, IsCid};
-ghost use Rattle.hayro_cmap.specs.TextReading.{TokenAt, CodeAt, CidAt, IsOnlyCode, code_of};
+ghost use Rattle.hayro_cmap.specs.TextFiles.{IsCode, IsCid, IsDestination};
+ghost use Rattle.hayro_cmap.specs.TextReading.{TokenAt, CodeAt, CidAt, DestinationAt, IsOnlyCode, code_of};
 ghost use Rattle.hayro_cmap.specs.TextSeen.{code_seen, IsCodeBytes};
 ghost use Rattle.hayro_cmap.specs.declared.fault.Fault.TheVariants.{Refused};
 
@@ -14,6 +14,7 @@ use crate::fault::Fault;
 use crate::names::Cid;
 use cmap_parts::bits::Reader;
 use cmap_parts::token::{Number, Scanner, Token};
+use cmap_parts::utf16::units;
 use std::alloc::Global;
 use std::marker::Model;
 
@@ -27,6 +28,7 @@ pub(super) struct Code {
 /// Reads the tokens of a text; a clause sees what is left of it.
 #[derive(Drop)]
 pub(super) struct TokenReader<'d> {
+    alloc: Global,
     scanner: Scanner<'d>,
     // the bytes of the last string
     string: Vec<u8>,
@@ -46,6 +48,7 @@ impl<'d> TokenReader<'d> {
         ensures { result ≡ text.now }
     {
         TokenReader {
+            alloc,
             scanner: Scanner::new(text),
             string: Vec::new(alloc),
         }
@@ -95,6 +98,32 @@ impl<'d> TokenReader<'d> {
     {
         let token = self.required_token()?;
         self.code(&token)
+    }
+
+    /// The units of the destination that a token is: a string that isn't empty.
+    pub(super) fn destination(&mut self, token: &Token<'_>) -> Result<Vec<u16>, Fault>
+        ensures destination { IfOk result (λ units. IsOnly (IsDestination (token_seen token.now)) units.items) }
+        ensures refused { IsErrOf result Refused → HoldsOfNone (IsDestination (token_seen token.now)) }
+        ensures stays { self.new ≡ self.old }
+    {
+        let Token::String(string) = token else {
+            return Err(Fault::Refused);
+        };
+        string.decode_into(&mut self.string)?;
+        if self.string.is_empty() {
+            return Err(Fault::Refused);
+        }
+        Ok(units(self.alloc, &self.string)?)
+    }
+
+    /// The units of the destination that comes next.
+    pub(super) fn next_destination(&mut self) -> Result<Vec<u16>, Fault>
+        ensures destination { IfOk result (λ units. IsOnly (DestinationAt self.old) (units.items, self.new)) }
+        ensures shorter { IfOk result (λ _. length self.new < length self.old) }
+        ensures refused { IsErrOf result Refused → HoldsOfNone (DestinationAt self.old) }
+    {
+        let token = self.required_token()?;
+        self.destination(&token)
     }
 
     /// The CID that comes next: an integer of 32 bits without sign.
