@@ -10,3 +10,4 @@ pub mod LayersSearched
 pub mod BfRanges
 pub mod CodespaceRanges
 pub mod ListsOfDestinations
+pub mod OneName

@@ -1,5 +1,5 @@
 -- What contracts see of layers, and of what files say of themselves.
-use Rattle.std.specs.Prelude.{◌≡◌, ℕ, ◌==◌, List, [], ◌∷◌, map, Option, Some, None, option_map, if◌then◌else◌}
+use Rattle.std.specs.Prelude.{◌≡◌, ℕ, ◌==◌, List, [], ◌∷◌, map, Option, Some, None, option_map, IsSome, IsSomeAnd, ◌⊎◌, if◌then◌else◌}
 use Rattle.hayro_cmap.specs.Names as names
 use Rattle.hayro_cmap.specs.Files as files
 use Rattle.hayro_cmap.specs.Layers as layers
@@ -35,6 +35,10 @@ metadata_seen metadata = record {
   name = option_map (λ name. name.items) metadata.name;
   mode = option_map mode_seen metadata.writing_mode;
 }
+
+-- it holds a name, or the texts of a family
+abbrev pub HoldsTexts : files.FileMetadata → Type 0
+HoldsTexts metadata = IsSome metadata.name ⊎ IsSomeAnd metadata.collection (λ collection. names.IsCustom collection.family)
 
 -- a table is seen as its list
 abbrev pub tables_seen : ByLength (List CidRange) → files.ByLength

@@ -17,6 +17,18 @@ pub struct CidRange {
     pub(crate) cid: Cid,
 }
 
+impl CidRange {
+    /// The same range again. It takes no memory.
+    pub fn clone(&self) -> CidRange
+        ensures { result ≡ self.now }
+    {
+        CidRange {
+            range: self.range,
+            cid: self.cid,
+        }
+    }
+}
+
 impl HasRange for CidRange {
     ghost use Rattle.hayro_cmap.specs.DeclarationsSeen.{cid_range_span};
 

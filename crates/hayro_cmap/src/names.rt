@@ -1,10 +1,18 @@
 //! Names of CMaps.
 
+ghost use Rattle.std.specs.Prelude.{◌≡◌, ◌<◌, [], Some, slice_index_or};
+ghost use Rattle.hayro_cmap.specs.CMapNames.{IsNameOf, IsSameName, name_bytes, place};
+ghost use Rattle.hayro_cmap.specs.Names.{known_names};
+ghost use Rattle.hayro_cmap.specs.declared.names.CMapName.{CMapName};
+
 /// The number of a character in a character collection. Adobe Technical Note 5014.
 pub type Cid = u32;
 
 /// The name of a CMap: one of the predefined CMaps of ISO 32000-1, 9.7.5.2, and of the ToUnicode mapping
 /// files of Adobe Technical Note 5411, or any other name.
+///
+/// Equality is the derived one: by the variant, and of `Custom` by its bytes. So a `Custom` that was made by
+/// hand of a known text isn't equal to the known name; `from_bytes` makes none.
 #[derive(Clone, Copy, Debug, PartialEq, Eq)]
 pub enum CMapName<'a> {
     /// `83pv-RKSJ-H`
@@ -139,4 +147,177 @@ pub enum CMapName<'a> {
     V,
     /// Any other name, by its bytes.
     Custom(&'a [u8]),
+}
+
+/// How many names are known.
+const KNOWN_COUNT: usize = 65;
+
+impl<'a> CMapName<'a> {
+    /// The name whose text these bytes are; `Custom` of every other text, the empty one too.
+    pub fn from_bytes(bytes: &'a [u8]) -> CMapName<'a>
+        ensures name { IsNameOf bytes.now result }
+
+        // A text has one name. So the name of `name.to_bytes()` is `name`, unless that was made by hand as
+        // a `Custom` of a known text.
+        ensures only { (other : CMapName) → IsNameOf bytes.now other → IsSameName other result }
+    {
+        for place in 0..KNOWN_COUNT {
+            let known = known_name(place);
+            if known.to_bytes() == bytes {
+                return known;
+            }
+        }
+        CMapName::Custom(bytes)
+    }
+
+    /// The text of this name, without the slash that stands before it in a file.
+    #[tactic(auto, unfolding(crate::specs::Names::known_names))]
+    pub fn to_bytes(&self) -> &'a [u8]
+        ensures { result.now ≡ name_bytes self.now }
+    {
+        match self {
+            CMapName::N83pvRksjH => b"83pv-RKSJ-H",
+            CMapName::N90msRksjH => b"90ms-RKSJ-H",
+            CMapName::N90msRksjV => b"90ms-RKSJ-V",
+            CMapName::N90mspRksjH => b"90msp-RKSJ-H",
+            CMapName::N90mspRksjV => b"90msp-RKSJ-V",
+            CMapName::N90pvRksjH => b"90pv-RKSJ-H",
+            CMapName::AddRksjH => b"Add-RKSJ-H",
+            CMapName::AddRksjV => b"Add-RKSJ-V",
+            CMapName::AdobeCns1Ucs2 => b"Adobe-CNS1-UCS2",
+            CMapName::AdobeGb1Ucs2 => b"Adobe-GB1-UCS2",
+            CMapName::AdobeJapan1Ucs2 => b"Adobe-Japan1-UCS2",
+            CMapName::AdobeKorea1Ucs2 => b"Adobe-Korea1-UCS2",
+            CMapName::B5pcH => b"B5pc-H",
+            CMapName::B5pcV => b"B5pc-V",
+            CMapName::CnsEucH => b"CNS-EUC-H",
+            CMapName::CnsEucV => b"CNS-EUC-V",
+            CMapName::ETenB5H => b"ETen-B5-H",
+            CMapName::ETenB5V => b"ETen-B5-V",
+            CMapName::ETenmsB5H => b"ETenms-B5-H",
+            CMapName::ETenmsB5V => b"ETenms-B5-V",
+            CMapName::EucH => b"EUC-H",
+            CMapName::EucV => b"EUC-V",
+            CMapName::ExtRksjH => b"Ext-RKSJ-H",
+            CMapName::ExtRksjV => b"Ext-RKSJ-V",
+            CMapName::GbEucH => b"GB-EUC-H",
+            CMapName::GbEucV => b"GB-EUC-V",
+            CMapName::GbkEucH => b"GBK-EUC-H",
+            CMapName::GbkEucV => b"GBK-EUC-V",
+            CMapName::Gbk2kH => b"GBK2K-H",
+            CMapName::Gbk2kV => b"GBK2K-V",
+            CMapName::GbkpEucH => b"GBKp-EUC-H",
+            CMapName::GbkpEucV => b"GBKp-EUC-V",
+            CMapName::GbpcEucH => b"GBpc-EUC-H",
+            CMapName::GbpcEucV => b"GBpc-EUC-V",
+            CMapName::H => b"H",
+            CMapName::HKscsB5H => b"HKscs-B5-H",
+            CMapName::HKscsB5V => b"HKscs-B5-V",
+            CMapName::IdentityH => b"Identity-H",
+            CMapName::IdentityV => b"Identity-V",
+            CMapName::KscEucH => b"KSC-EUC-H",
+            CMapName::KscEucV => b"KSC-EUC-V",
+            CMapName::KscmsUhcH => b"KSCms-UHC-H",
+            CMapName::KscmsUhcHwH => b"KSCms-UHC-HW-H",
+            CMapName::KscmsUhcHwV => b"KSCms-UHC-HW-V",
+            CMapName::KscmsUhcV => b"KSCms-UHC-V",
+            CMapName::KscpcEucH => b"KSCpc-EUC-H",
+            CMapName::UniCnsUcs2H => b"UniCNS-UCS2-H",
+            CMapName::UniCnsUcs2V => b"UniCNS-UCS2-V",
+            CMapName::UniCnsUtf16H => b"UniCNS-UTF16-H",
+            CMapName::UniCnsUtf16V => b"UniCNS-UTF16-V",
+            CMapName::UniGbUcs2H => b"UniGB-UCS2-H",
+            CMapName::UniGbUcs2V => b"UniGB-UCS2-V",
+            CMapName::UniGbUtf16H => b"UniGB-UTF16-H",
+            CMapName::UniGbUtf16V => b"UniGB-UTF16-V",
+            CMapName::UniJisUcs2H => b"UniJIS-UCS2-H",
+            CMapName::UniJisUcs2HwH => b"UniJIS-UCS2-HW-H",
+            CMapName::UniJisUcs2HwV => b"UniJIS-UCS2-HW-V",
+            CMapName::UniJisUcs2V => b"UniJIS-UCS2-V",
+            CMapName::UniJisUtf16H => b"UniJIS-UTF16-H",
+            CMapName::UniJisUtf16V => b"UniJIS-UTF16-V",
+            CMapName::UniKsUcs2H => b"UniKS-UCS2-H",
+            CMapName::UniKsUcs2V => b"UniKS-UCS2-V",
+            CMapName::UniKsUtf16H => b"UniKS-UTF16-H",
+            CMapName::UniKsUtf16V => b"UniKS-UTF16-V",
+            CMapName::V => b"V",
+            CMapName::Custom(bytes) => bytes,
+        }
+    }
+}
+
+/// The known name at a place, in the order of their texts.
+fn known_name(at: usize) -> CMapName<'static>
+    requires { at < KNOWN_COUNT }
+    ensures place { place result ≡ Some at }
+    ensures text { name_bytes result ≡ slice_index_or known_names at [] }
+{
+    match at {
+        0 => CMapName::N83pvRksjH,
+        1 => CMapName::N90msRksjH,
+        2 => CMapName::N90msRksjV,
+        3 => CMapName::N90mspRksjH,
+        4 => CMapName::N90mspRksjV,
+        5 => CMapName::N90pvRksjH,
+        6 => CMapName::AddRksjH,
+        7 => CMapName::AddRksjV,
+        8 => CMapName::AdobeCns1Ucs2,
+        9 => CMapName::AdobeGb1Ucs2,
+        10 => CMapName::AdobeJapan1Ucs2,
+        11 => CMapName::AdobeKorea1Ucs2,
+        12 => CMapName::B5pcH,
+        13 => CMapName::B5pcV,
+        14 => CMapName::CnsEucH,
+        15 => CMapName::CnsEucV,
+        16 => CMapName::ETenB5H,
+        17 => CMapName::ETenB5V,
+        18 => CMapName::ETenmsB5H,
+        19 => CMapName::ETenmsB5V,
+        20 => CMapName::EucH,
+        21 => CMapName::EucV,
+        22 => CMapName::ExtRksjH,
+        23 => CMapName::ExtRksjV,
+        24 => CMapName::GbEucH,
+        25 => CMapName::GbEucV,
+        26 => CMapName::GbkEucH,
+        27 => CMapName::GbkEucV,
+        28 => CMapName::Gbk2kH,
+        29 => CMapName::Gbk2kV,
+        30 => CMapName::GbkpEucH,
+        31 => CMapName::GbkpEucV,
+        32 => CMapName::GbpcEucH,
+        33 => CMapName::GbpcEucV,
+        34 => CMapName::H,
+        35 => CMapName::HKscsB5H,
+        36 => CMapName::HKscsB5V,
+        37 => CMapName::IdentityH,
+        38 => CMapName::IdentityV,
+        39 => CMapName::KscEucH,
+        40 => CMapName::KscEucV,
+        41 => CMapName::KscmsUhcH,
+        42 => CMapName::KscmsUhcHwH,
+        43 => CMapName::KscmsUhcHwV,
+        44 => CMapName::KscmsUhcV,
+        45 => CMapName::KscpcEucH,
+        46 => CMapName::UniCnsUcs2H,
+        47 => CMapName::UniCnsUcs2V,
+        48 => CMapName::UniCnsUtf16H,
+        49 => CMapName::UniCnsUtf16V,
+        50 => CMapName::UniGbUcs2H,
+        51 => CMapName::UniGbUcs2V,
+        52 => CMapName::UniGbUtf16H,
+        53 => CMapName::UniGbUtf16V,
+        54 => CMapName::UniJisUcs2H,
+        55 => CMapName::UniJisUcs2HwH,
+        56 => CMapName::UniJisUcs2HwV,
+        57 => CMapName::UniJisUcs2V,
+        58 => CMapName::UniJisUtf16H,
+        59 => CMapName::UniJisUtf16V,
+        60 => CMapName::UniKsUcs2H,
+        61 => CMapName::UniKsUcs2V,
+        62 => CMapName::UniKsUtf16H,
+        63 => CMapName::UniKsUtf16V,
+        64 => CMapName::V,
+        _ => unreachable!(),
+    }
 }
