@@ -38,7 +38,7 @@ destination_is text rest units here t token destination stays = record {
   holds = (t, subst (λ m. TokenAt text (t, m)) (sym stays) token.holds, destination.holds);
   alone = λ other (u, at, is).
       pair_is other units here (destination.alone other.0 (subst (λ v. IsDestination v other.0) (first_is (TokenAt text) t u rest other.1 token at) is))
-          (second_is (TokenAt text) t u rest other.1 token at ∙ sym stays);
+      (second_is (TokenAt text) t u rest other.1 token at ∙ sym stays);
 }
 
 pub no_destination : (text rest : List ℕ) (t : Token) → IsOnly (TokenAt text) (t, rest) → HoldsOfNone (IsDestination t) → HoldsOfNone (DestinationAt text)
@@ -103,7 +103,7 @@ ListAt-all start count text here next texts t taken full token closes =
           let all_are : all ≡ texts = is ∙ ap (λ l. texts ++ l) none ∙ append-nil texts in
           let mid_is : mid ≡ here = subst (λ l. DestinationsAt here l mid) none here_at in
           pair_is r (declared_from start texts) next (declares ∙ ap (declared_from start) all_are)
-              (second_is (TokenAt here) closing_bracket closing_bracket next r.1 bracket (subst (λ m. TokenAt m (closing_bracket, r.1)) mid_is closed));
+          (second_is (TokenAt here) closing_bracket closing_bracket next r.1 bracket (subst (λ m. TokenAt m (closing_bracket, r.1)) mid_is closed));
     }
 
 -- a list that ends too early, or that isn't closed behind its last destination
@@ -156,8 +156,8 @@ bf_char_is first text here rest units code (bytes, only_code, seen) stays only_t
           let same_code : parts.code ≡ bytes = only_code.alone parts.code parts.code_is in
           let same_units : parts.units ≡ units = first_is (DestinationAt text) units parts.units rest r.1 only parts.destination_at in
           pair_is r (declares_bf (big_endian bytes) (big_endian bytes) units ∷ []) rest
-              (parts.declares ∙ ap (λ b. declares_bf (big_endian b) (big_endian b) parts.units ∷ []) same_code ∙ ap (λ u. declares_bf (big_endian bytes) (big_endian bytes) u ∷ []) same_units)
-              (second_is (DestinationAt text) units parts.units rest r.1 only parts.destination_at);
+          (parts.declares ∙ ap (λ b. declares_bf (big_endian b) (big_endian b) parts.units ∷ []) same_code ∙ ap (λ u. declares_bf (big_endian bytes) (big_endian bytes) u ∷ []) same_units)
+          (second_is (DestinationAt text) units parts.units rest r.1 only parts.destination_at);
     } in
     subst (λ n. IsOnly (EntryBehind (IsEntry bf_char) first text) (declares_bf n n units ∷ [], rest)) (sym number_is) whole
 
@@ -222,8 +222,11 @@ module _ (first : Token) (text : List ℕ) (bytes : List ℕ) (end : Code) (next
         | inl (units, at, declares) ↦
             inl (units, subst (λ m. DestinationAt m (units, r.1)) same_next at, declares ∙ ap (λ b. declares_bf (big_endian b) parts.end.number units ∷ []) same_start ∙ ap (λ e. declares_bf (big_endian bytes) e.number units ∷ []) same_end)
         | inr (mid, opens, list) ↦
-            inr (mid, subst (λ m. TokenAt m (opening_bracket, mid)) same_next opens,
-              subst (λ e. ListAt (big_endian bytes) (e.number + 1 - big_endian bytes) mid r) same_end (subst (λ b. ListAt (big_endian b) (parts.end.number + 1 - big_endian b) mid r) same_start list))
+            inr (
+              mid,
+              subst (λ m. TokenAt m (opening_bracket, mid)) same_next opens,
+              subst (λ e. ListAt (big_endian bytes) (e.number + 1 - big_endian bytes) mid r) same_end (subst (λ b. ListAt (big_endian b) (parts.end.number + 1 - big_endian b) mid r) same_start list),
+            )
       ]
 
   range_one : (rest units : List ℕ) (t : Token) (mid : List ℕ) → IsOnly (TokenAt next) (t, mid) → t ≢ opening_bracket → IsOnly (IsDestination t) units → mid ≡ rest
@@ -232,9 +235,11 @@ module _ (first : Token) (text : List ℕ) (bytes : List ℕ) (end : Code) (next
       let (b, end_bytes, end_at, is_end, seen) = only_end.holds in
       let at : TokenAt next (t, rest) = subst (λ m. TokenAt next (t, m)) mid_is token.holds in
       record {
-        holds =
-            (b ∷ t ∷ [], (next, end_at, (rest, at, refl)),
-              (first, b, bytes, end_bytes, only_start.holds, is_end, inl (t, units, refl, only.holds, ap (λ e. declares_bf (big_endian bytes) e.number units ∷ []) seen)));
+        holds = (
+          b ∷ t ∷ [],
+          (next, end_at, (rest, at, refl)),
+          (first, b, bytes, end_bytes, only_start.holds, is_end, inl (t, units, refl, only.holds, ap (λ e. declares_bf (big_endian bytes) e.number units ∷ []) seen)),
+        );
         alone = λ r behind.
             elim (agreed r behind) [
               | inl (others, (u, u_at, is), declares) ↦
@@ -254,9 +259,11 @@ module _ (first : Token) (text : List ℕ) (bytes : List ℕ) (end : Code) (next
       let (ds, ds_at, all) = unzipped mid last texts at in
       let number_is : end.number ≡ big_endian end_bytes = ap (λ k. k.number) seen in
       record {
-        holds =
-            (b ∷ opening_bracket ∷ ds ++ closing_bracket ∷ [], (next, end_at, (mid, token.holds, TokensAt-joined mid last rest ds (closing_bracket ∷ []) ds_at (rest, closes, refl))),
-              (first, b, bytes, end_bytes, only_start.holds, is_end, inr (ds, texts, refl, all, count ∙ ap (λ n. n + 1 - big_endian bytes) number_is, declares)));
+        holds = (
+          b ∷ opening_bracket ∷ ds ++ closing_bracket ∷ [],
+          (next, end_at, (mid, token.holds, TokensAt-joined mid last rest ds (closing_bracket ∷ []) ds_at (rest, closes, refl))),
+          (first, b, bytes, end_bytes, only_start.holds, is_end, inr (ds, texts, refl, all, count ∙ ap (λ n. n + 1 - big_endian bytes) number_is, declares)),
+        );
         alone = λ r behind.
             elim (agreed r behind) [
               | inl (others, (u, u_at, is), other_declares) ↦ absurd (no_bracket others (subst (λ v. IsDestination v others) (first_is (TokenAt next) opening_bracket u mid r.1 token u_at) is))

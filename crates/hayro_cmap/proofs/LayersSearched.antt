@@ -1,11 +1,13 @@
 -- The layers of a map, searched for the CID of a code from the top one on.
-use Rattle.std.proofs.Common.{◌≡◌, ℕ, ◌+◌, ◌*◌, ◌≤◌, ◌<◌, suc, get_or, drop, drop-cons, true, List, [], ◌∷◌, length, Option, Some, None, refl, sym, ap, ◌∙◌, arith}
-use Rattle.std.specs.Prelude.{unwrap_or, sum_by, ◌&&◌, nat_le}
+use Rattle.std.proofs.Common.{◌≡◌, ℕ, ◌+◌, ◌*◌, ◌≤◌, ◌<◌, suc, get_or, drop, drop-cons, true, List, [], ◌∷◌, length, map, Option, Some, None, refl, sym, ap, ◌∙◌, arith}
+use Rattle.std.specs.Prelude.{unwrap_or, sum_by, ◌&&◌, nat_le, option_and_then}
+use Rattle.std.specs.Option.{option_or}
 use Rattle.std.proofs.lemmas.List.Sums.{sum_by-cons}
 use Rattle.std.proofs.lemmas.Bool.{cond-true}
+use Rattle.hayro_cmap.specs.Files.{BfEntry}
 use Rattle.hayro_cmap.specs.Layers.{Layer}
-use Rattle.hayro_cmap.specs.Lookups.{cid_in, cid_of}
-use Rattle.hayro_cmap.specs.Searches.{layer_cid, layer_looks, cid_looks}
+use Rattle.hayro_cmap.specs.Lookups.{cid_in, cid_of, bf_span, bf_at, last_bf, bf_of, decided_text}
+use Rattle.hayro_cmap.specs.Searches.{layer_cid, layer_looks, cid_looks, search_looks, bf_looks, deciding_bf}
 use Rattle.hayro_cmap.proofs.LastFound.{decided_cid-decided_in}
 
 -- the element that stands next
@@ -79,4 +81,59 @@ IsSearched-all layers rest code len before now within searched none = record {
   runs_grow = searched.runs_grow;
   declarations = omega (arith, searched.declarations);
   declarations_grow = searched.declarations_grow;
+}
+
+-- ---- the text of a code
+decided_text-option_or : (code : ℕ) (o deciding : Option BfEntry) (below : Option (List ℕ)) → below ≡ option_and_then (λ e. bf_at e code) deciding → decided_text code o below ≡ option_and_then (λ e. bf_at e code) (option_or o deciding)
+decided_text-option_or code None deciding below is = is
+decided_text-option_or code (Some e) deciding below is = refl
+
+pub bf_of-deciding_bf : (layers : List Layer) (code : ℕ) → bf_of layers code ≡ option_and_then (λ e. bf_at e code) (deciding_bf layers code)
+bf_of-deciding_bf [] code = refl
+bf_of-deciding_bf (layer ∷ layers) code = decided_text-option_or code (last_bf layer.lists.bfs code) (deciding_bf layers code) (bf_of layers code) (bf_of-deciding_bf layers code)
+
+-- no layer above these has a declaration for the code, and so much was looked at in those above
+pub record IsBfSearched (layers rest : List Layer) (code : ℕ) (before now : Looked) : Type 0 where
+  pub value : deciding_bf layers code ≡ deciding_bf rest code
+  pub runs : now.runs + bf_looks rest ≤ before.runs + bf_looks layers
+  pub runs_grow : before.runs ≤ now.runs
+  pub declarations : now.declarations + length rest ≤ before.declarations + length layers
+  pub declarations_grow : before.declarations ≤ now.declarations
+
+pub IsBfSearched-none : (layers : List Layer) (code : ℕ) (before : Looked) → IsBfSearched layers layers code before before
+IsBfSearched-none layers code before = record { value = refl; runs = omega arith; runs_grow = omega arith; declarations = omega arith; declarations_grow = omega arith }
+
+-- what searching one more layer may look at
+pub record LooksForBf (layer : Layer) (old new : Looked) : Type 0 where
+  pub runs : new.runs ≤ old.runs + search_looks (map bf_span layer.lists.bfs)
+  pub runs_grow : old.runs ≤ new.runs
+  pub declarations : new.declarations ≤ old.declarations + 1
+  pub declarations_grow : old.declarations ≤ new.declarations
+
+pub IsBfSearched-more : (layers : List Layer) (layer : Layer) (below : List Layer) (code : ℕ) (before now after : Looked) → IsBfSearched layers (layer ∷ below) code before now → None ≡ last_bf layer.lists.bfs code → LooksForBf layer now after
+    → IsBfSearched layers below code before after
+IsBfSearched-more layers layer below code before now after searched none looks = record {
+  value = searched.value ∙ ap (λ o. option_or o (deciding_bf below code)) (sym none);
+  runs = omega (arith, searched.runs, looks.runs, sum_by-cons (λ l. search_looks (map bf_span l.lists.bfs)) layer below);
+  runs_grow = omega (arith, searched.runs_grow, looks.runs_grow);
+  declarations = omega (arith, searched.declarations, looks.declarations);
+  declarations_grow = omega (arith, searched.declarations_grow, looks.declarations_grow);
+}
+
+-- what a search for a text finds, and what it may look at
+pub record FindsBf (layers : List Layer) (code : ℕ) (found : Option BfEntry) (before after : Looked) : Type 0 where
+  pub value : found ≡ deciding_bf layers code
+  pub runs : after.runs ≤ before.runs + bf_looks layers
+  pub runs_grow : before.runs ≤ after.runs
+  pub declarations : after.declarations ≤ before.declarations + length layers
+  pub declarations_grow : before.declarations ≤ after.declarations
+
+pub IsBfSearched-found : (layers : List Layer) (layer : Layer) (below : List Layer) (code : ℕ) (entry : BfEntry) (before now after : Looked) → IsBfSearched layers (layer ∷ below) code before now → Some entry ≡ last_bf layer.lists.bfs code
+    → LooksForBf layer now after → FindsBf layers code (Some entry) before after
+IsBfSearched-found layers layer below code entry before now after searched found looks = record {
+  value = sym (searched.value ∙ ap (λ o. option_or o (deciding_bf below code)) (sym found));
+  runs = omega (arith, searched.runs, looks.runs, sum_by-cons (λ l. search_looks (map bf_span l.lists.bfs)) layer below);
+  runs_grow = omega (arith, searched.runs_grow, looks.runs_grow);
+  declarations = omega (arith, searched.declarations, looks.declarations);
+  declarations_grow = omega (arith, searched.declarations_grow, looks.declarations_grow);
 }

@@ -77,7 +77,7 @@ IsEntry bf_range tokens declared = (a b : Token) × (start end : List ℕ) × Is
     × (((d : Token) × (units : List ℕ) × (tokens ≡ a ∷ b ∷ d ∷ []) × IsDestination d units × (declared ≡ declares_bf (big_endian start) (big_endian end) units ∷ []))
     -- [ ] with one destination for each code from start to end
     ⊎ ((ds : List Token) × (texts : List (List ℕ)) × (tokens ≡ a ∷ b ∷ Token.Name false (codes "[") ∷ ds ++ Token.Name false (codes "]") ∷ []) × AllZip IsDestination ds texts
-        × (length texts ≡ big_endian end + 1 - big_endian start) × (declared ≡ map (λ p. declares_bf p.0 p.0 p.1) (enumerate_from (big_endian start) texts))))
+    × (length texts ≡ big_endian end + 1 - big_endian start) × (declared ≡ map (λ p. declares_bf p.0 p.0 p.1) (enumerate_from (big_endian start) texts))))
 
 -- the tokens between opener and closer are entries, and declare these in order
 abbrev pub IsBody : Section → List Token → List Declaration → Type 0

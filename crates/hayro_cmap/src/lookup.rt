@@ -1,19 +1,21 @@
-//! Which CID a code stands for: the first layer that decides, from the top one on.
+//! What a code stands for: the first layer that decides, from the top one on.
 
-ghost use Rattle.std.specs.Prelude.{◌≡◌, ◌+◌, ◌*◌, ◌≤◌, length, map, option_and_then, option_map, IfSome};
+ghost use Rattle.std.specs.Prelude.{◌≡◌, ◌+◌, ◌*◌, ◌<◌, ◌≤◌, length, map, option_and_then, option_map, IfOk, IfSome, IsSomeAnd, OnErr};
 ghost use Rattle.std.specs.Option.{option_copied};
-ghost use Rattle.cmap_parts.specs.Texts.{only_character};
+ghost use Rattle.cmap_parts.specs.Texts.{only_character, text_of};
+ghost use Rattle.cmap_parts.specs.TextSeen.{text_seen};
 ghost use Rattle.hayro_cmap.specs.DeclarationsSeen.{bf_entry_seen, cid_entry_seen};
 ghost use Rattle.hayro_cmap.specs.Files.{of_length};
 ghost use Rattle.hayro_cmap.specs.LayersSeen.{layer_seen, layers_seen, tables_seen};
-ghost use Rattle.hayro_cmap.specs.Lookups.{bf_at, bf_span, cid_of, cid_span, last_bf, last_cid};
-ghost use Rattle.hayro_cmap.specs.Searches.{cid_looks, layer_cid, layer_looks, search_looks};
+ghost use Rattle.hayro_cmap.specs.Lookups.{bf_at, bf_of, bf_span, cid_of, cid_span, last_bf, last_cid};
+ghost use Rattle.hayro_cmap.specs.Searches.{bf_looks, cid_looks, deciding_bf, layer_cid, layer_looks, search_looks};
 
 use crate::declarations::{BfRange, ByLength, CidRange};
 use crate::layers::Layer;
 use crate::names::Cid;
 use cmap_parts::runs::{Looks, Table};
-use cmap_parts::utf16::one_char;
+use cmap_parts::utf16::{BfString, one_char, text};
+use std::alloc::{AllocError, Global};
 
 /// The CID of a code of `byte_len` bytes.
 pub(crate) fn cid_of(layers: &[Layer], code: u32, byte_len: u8, looks: &mut Looks) -> Option<Cid>
@@ -32,6 +34,57 @@ pub(crate) fn cid_of(layers: &[Layer], code: u32, byte_len: u8, looks: &mut Look
         }
     }
     None
+}
+
+/// The text of a code.
+///
+/// It fails only where there is no memory. Only a `String` takes some.
+pub(crate) fn bf_of(
+    alloc: Global,
+    layers: &[Layer],
+    code: u32,
+    looks: &mut Looks,
+) -> Result<Option<BfString>, AllocError>
+    ensures value { IfOk result (λ text. option_map text_seen text ≡ option_map text_of (bf_of (layers_seen layers.now) code)) }
+    ensures err { OnErr result (IsSomeAnd (bf_of (layers_seen layers.now) code) (λ characters. 1 < length characters)) }
+    ensures runs { looks.new.runs ≤ looks.old.runs + bf_looks (layers_seen layers.now) }
+    ensures runs_grow { looks.old.runs ≤ looks.new.runs }
+    ensures declarations { looks.new.declarations ≤ looks.old.declarations + length layers.now }
+    ensures declarations_grow { looks.old.declarations ≤ looks.new.declarations }
+{
+    let Some(found) = find_bf(layers, code, looks) else {
+        return Ok(None);
+    };
+    text(alloc, &found.units, code - found.range.start)
+}
+
+/// The declaration that decides the text of a code.
+fn find_bf<'l>(layers: &'l [Layer], code: u32, looks: &mut Looks) -> Option<&'l BfRange>
+    ensures found { option_map bf_entry_seen (option_copied result) ≡ deciding_bf (layers_seen layers.now) code }
+    ensures start { IfSome result (λ found. found.now.range.start ≤ code) }
+    ensures runs { looks.new.runs ≤ looks.old.runs + bf_looks (layers_seen layers.now) }
+    ensures runs_grow { looks.old.runs ≤ looks.new.runs }
+    ensures declarations { looks.new.declarations ≤ looks.old.declarations + length layers.now }
+    ensures declarations_grow { looks.old.declarations ≤ looks.new.declarations }
+{
+    for layer in layers {
+        if let Some(found) = last_bf(&layer.bfs, code, looks) {
+            return Some(found);
+        }
+    }
+    None
+}
+
+/// The last declaration of a text that contains the code.
+fn last_bf<'t>(table: &'t Table<BfRange>, code: u32, looks: &mut Looks) -> Option<&'t BfRange>
+    ensures found { option_map bf_entry_seen (option_copied result) ≡ last_bf (map bf_entry_seen table.now) code }
+    ensures start { IfSome result (λ found. found.now.range.start ≤ code) }
+    ensures runs { looks.new.runs ≤ looks.old.runs + search_looks (map bf_span (map bf_entry_seen table.now)) }
+    ensures runs_grow { looks.old.runs ≤ looks.new.runs }
+    ensures declarations { looks.new.declarations ≤ looks.old.declarations + 1 }
+    ensures declarations_grow { looks.old.declarations ≤ looks.new.declarations }
+{
+    table.find(code, looks)
 }
 
 /// What a layer decides for a code, if it does: its CID, or that it has none.
@@ -60,7 +113,7 @@ fn character_of(table: &Table<BfRange>, code: u32, looks: &mut Looks) -> Option<
     ensures declarations { looks.new.declarations ≤ looks.old.declarations + 1 }
     ensures declarations_grow { looks.old.declarations ≤ looks.new.declarations }
 {
-    let found = table.find(code, looks)?;
+    let found = last_bf(table, code, looks)?;
     one_char(&found.units, code - found.range.start)
 }
 

@@ -1,15 +1,17 @@
 //! Maps: what the codes of a CMap file stand for.
 
-ghost use Rattle.std.specs.Prelude.{◌≡◌, ◌+◌, ◌*◌, ◌≤◌, [], ◌∷◌, IfOk, IfSome, IfNone, codes, length};
+ghost use Rattle.std.specs.Prelude.{◌≡◌, ◌+◌, ◌*◌, ◌≤◌, [], ◌∷◌, ◌<◌, IfOk, IfSome, IfNone, IsSomeAnd, OnErr, codes, length, option_map};
+ghost use Rattle.cmap_parts.specs.TextSeen.{text_seen};
+ghost use Rattle.cmap_parts.specs.Texts.{text_of};
 ghost use Rattle.hayro_cmap.specs.Answers.{Answers, AnswersByName};
 ghost use Rattle.hayro_cmap.specs.DeclarationsSeen.{lists_seen};
 ghost use Rattle.hayro_cmap.specs.Files as files;
 ghost use Rattle.hayro_cmap.specs.Identity.{identity_layer};
 ghost use Rattle.hayro_cmap.specs.Layers.{AreLayers};
 ghost use Rattle.hayro_cmap.specs.LayersSeen.{IsMetadataOf, metadata_seen, mode_seen};
-ghost use Rattle.hayro_cmap.specs.Lookups.{cid_of};
+ghost use Rattle.hayro_cmap.specs.Lookups.{bf_of, cid_of};
 ghost use Rattle.hayro_cmap.specs.Only.{IsOnly, HoldsOfNone};
-ghost use Rattle.hayro_cmap.specs.Searches.{cid_looks};
+ghost use Rattle.hayro_cmap.specs.Searches.{bf_looks, cid_looks};
 ghost use Rattle.hayro_cmap.specs.TextFiles.{IsTextFile};
 
 use crate::bundle::Bundle;
@@ -21,6 +23,7 @@ use crate::metadata::{CharacterCollection, CidFamily, Metadata, WritingMode};
 use crate::names::{CMapName, Cid};
 use crate::text::read_text;
 use cmap_parts::runs::{Looks, Range};
+use cmap_parts::utf16::BfString;
 use std::alloc::{AllocError, Global};
 use std::marker::Model;
 
@@ -117,6 +120,37 @@ impl CMap {
         ensures declarations_grow { looks.old.declarations ≤ looks.new.declarations }
     {
         lookup::cid_of(&self.layers, code, byte_len, looks)
+    }
+
+    /// The Unicode text of `code`: one character, or more of them.
+    ///
+    /// It is `None` where no declaration contains the code, and where the one that decides gives no text: a
+    /// layer's declaration decides also then. It fails only where there is no memory, and only a `String`
+    /// takes some. ISO 32000-1, 9.10.3.
+    pub fn lookup_bf_string(&self, alloc: Global, code: u32) -> Result<Option<BfString>, AllocError>
+        ensures value { IfOk result (λ text. option_map text_seen text ≡ option_map text_of (bf_of self.now code)) }
+        ensures err { OnErr result (IsSomeAnd (bf_of self.now code) (λ characters. 1 < length characters)) }
+    {
+        lookup::bf_of(alloc, &self.layers, code, &mut Looks::new())
+    }
+
+    /// The same answer, and what is looked at is counted.
+    pub fn lookup_bf_counted(
+        &self,
+        alloc: Global,
+        code: u32,
+        looks: &mut Looks,
+    ) -> Result<Option<BfString>, AllocError>
+        ensures value { IfOk result (λ text. option_map text_seen text ≡ option_map text_of (bf_of self.now code)) }
+        ensures err { OnErr result (IsSomeAnd (bf_of self.now code) (λ characters. 1 < length characters)) }
+
+        // Each search looks at no more runs than their number has binary digits, and at one declaration.
+        ensures runs { looks.new.runs ≤ looks.old.runs + bf_looks self.now }
+        ensures runs_grow { looks.old.runs ≤ looks.new.runs }
+        ensures declarations { looks.new.declarations ≤ looks.old.declarations + length self.now }
+        ensures declarations_grow { looks.old.declarations ≤ looks.new.declarations }
+    {
+        lookup::bf_of(alloc, &self.layers, code, looks)
     }
 
     fn identity(alloc: Global, name: &[u8], mode: WritingMode) -> Result<CMap, AllocError>

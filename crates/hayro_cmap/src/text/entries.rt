@@ -18,7 +18,11 @@ use cmap_parts::runs::Range;
 use cmap_parts::token::Token;
 
 /// code, code of the same length
-pub(super) fn add_codespace_range(reader: &mut TokenReader<'_>, first: &Token<'_>, lists: &mut Lists) -> Result<(), Fault>
+pub(super) fn add_codespace_range(
+    reader: &mut TokenReader<'_>,
+    first: &Token<'_>,
+    lists: &mut Lists,
+) -> Result<(), Fault>
     ensures entry { OnOk result (Declares (EntryBehind (IsEntry files.codespace_range) (token_seen first.now) reader.old) reader.new (lists_seen lists.old) (lists_seen lists.new)) }
     ensures shorter { OnOk result (length reader.new ≤ length reader.old) }
     ensures refused { IsErrOf result Refused → HoldsOfNone (EntryBehind (IsEntry files.codespace_range) (token_seen first.now) reader.old) }
@@ -37,7 +41,11 @@ pub(super) fn add_codespace_range(reader: &mut TokenReader<'_>, first: &Token<'_
 }
 
 /// code, code, CID
-pub(super) fn add_cid_range(reader: &mut TokenReader<'_>, first: &Token<'_>, lists: &mut Lists) -> Result<(), Fault>
+pub(super) fn add_cid_range(
+    reader: &mut TokenReader<'_>,
+    first: &Token<'_>,
+    lists: &mut Lists,
+) -> Result<(), Fault>
     ensures entry { OnOk result (Declares (EntryBehind (IsEntry files.cid_range) (token_seen first.now) reader.old) reader.new (lists_seen lists.old) (lists_seen lists.new)) }
     ensures shorter { OnOk result (length reader.new ≤ length reader.old) }
     ensures refused { IsErrOf result Refused → HoldsOfNone (EntryBehind (IsEntry files.cid_range) (token_seen first.now) reader.old) }
@@ -48,7 +56,11 @@ pub(super) fn add_cid_range(reader: &mut TokenReader<'_>, first: &Token<'_>, lis
 }
 
 /// code, CID
-pub(super) fn add_cid_char(reader: &mut TokenReader<'_>, first: &Token<'_>, lists: &mut Lists) -> Result<(), Fault>
+pub(super) fn add_cid_char(
+    reader: &mut TokenReader<'_>,
+    first: &Token<'_>,
+    lists: &mut Lists,
+) -> Result<(), Fault>
     ensures entry { OnOk result (Declares (EntryBehind (IsEntry files.cid_char) (token_seen first.now) reader.old) reader.new (lists_seen lists.old) (lists_seen lists.new)) }
     ensures shorter { OnOk result (length reader.new ≤ length reader.old) }
     ensures refused { IsErrOf result Refused → HoldsOfNone (EntryBehind (IsEntry files.cid_char) (token_seen first.now) reader.old) }
@@ -59,7 +71,11 @@ pub(super) fn add_cid_char(reader: &mut TokenReader<'_>, first: &Token<'_>, list
 }
 
 /// code, code, CID
-pub(super) fn add_notdef_range(reader: &mut TokenReader<'_>, first: &Token<'_>, lists: &mut Lists) -> Result<(), Fault>
+pub(super) fn add_notdef_range(
+    reader: &mut TokenReader<'_>,
+    first: &Token<'_>,
+    lists: &mut Lists,
+) -> Result<(), Fault>
     ensures entry { OnOk result (Declares (EntryBehind (IsEntry files.notdef_range) (token_seen first.now) reader.old) reader.new (lists_seen lists.old) (lists_seen lists.new)) }
     ensures shorter { OnOk result (length reader.new ≤ length reader.old) }
     ensures refused { IsErrOf result Refused → HoldsOfNone (EntryBehind (IsEntry files.notdef_range) (token_seen first.now) reader.old) }
@@ -70,7 +86,11 @@ pub(super) fn add_notdef_range(reader: &mut TokenReader<'_>, first: &Token<'_>, 
 }
 
 /// code, CID
-pub(super) fn add_notdef_char(reader: &mut TokenReader<'_>, first: &Token<'_>, lists: &mut Lists) -> Result<(), Fault>
+pub(super) fn add_notdef_char(
+    reader: &mut TokenReader<'_>,
+    first: &Token<'_>,
+    lists: &mut Lists,
+) -> Result<(), Fault>
     ensures entry { OnOk result (Declares (EntryBehind (IsEntry files.notdef_char) (token_seen first.now) reader.old) reader.new (lists_seen lists.old) (lists_seen lists.new)) }
     ensures shorter { OnOk result (length reader.new ≤ length reader.old) }
     ensures refused { IsErrOf result Refused → HoldsOfNone (EntryBehind (IsEntry files.notdef_char) (token_seen first.now) reader.old) }
@@ -81,7 +101,11 @@ pub(super) fn add_notdef_char(reader: &mut TokenReader<'_>, first: &Token<'_>, l
 }
 
 /// code, destination
-pub(super) fn add_bf_char(reader: &mut TokenReader<'_>, first: &Token<'_>, lists: &mut Lists) -> Result<(), Fault>
+pub(super) fn add_bf_char(
+    reader: &mut TokenReader<'_>,
+    first: &Token<'_>,
+    lists: &mut Lists,
+) -> Result<(), Fault>
     ensures entry { OnOk result (Declares (EntryBehind (IsEntry files.bf_char) (token_seen first.now) reader.old) reader.new (lists_seen lists.old) (lists_seen lists.new)) }
     ensures shorter { OnOk result (length reader.new ≤ length reader.old) }
     ensures refused { IsErrOf result Refused → HoldsOfNone (EntryBehind (IsEntry files.bf_char) (token_seen first.now) reader.old) }
@@ -99,7 +123,11 @@ pub(super) fn add_bf_char(reader: &mut TokenReader<'_>, first: &Token<'_>, lists
 }
 
 /// code, code, and one destination or a list of them
-pub(super) fn add_bf_range(reader: &mut TokenReader<'_>, first: &Token<'_>, lists: &mut Lists) -> Result<(), Fault>
+pub(super) fn add_bf_range(
+    reader: &mut TokenReader<'_>,
+    first: &Token<'_>,
+    lists: &mut Lists,
+) -> Result<(), Fault>
     ensures entry { OnOk result (Declares (EntryBehind (IsEntry files.bf_range) (token_seen first.now) reader.old) reader.new (lists_seen lists.old) (lists_seen lists.new)) }
     ensures shorter { OnOk result (length reader.new ≤ length reader.old) }
     ensures refused { IsErrOf result Refused → HoldsOfNone (EntryBehind (IsEntry files.bf_range) (token_seen first.now) reader.old) }
@@ -122,7 +150,12 @@ pub(super) fn add_bf_range(reader: &mut TokenReader<'_>, first: &Token<'_>, list
 }
 
 /// One destination for each code from `start` to `end`, and the closing bracket.
-fn add_list(reader: &mut TokenReader<'_>, start: u32, end: u32, lists: &mut Lists) -> Result<(), Fault>
+fn add_list(
+    reader: &mut TokenReader<'_>,
+    start: u32,
+    end: u32,
+    lists: &mut Lists,
+) -> Result<(), Fault>
     ensures list { OnOk result (Declares (ListAt start (end + 1 - start) reader.old) reader.new (lists_seen lists.old) (lists_seen lists.new)) }
     ensures shorter { OnOk result (length reader.new ≤ length reader.old) }
     ensures refused { IsErrOf result Refused → HoldsOfNone (ListAt start (end + 1 - start) reader.old) }

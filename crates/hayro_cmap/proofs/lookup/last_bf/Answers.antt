@@ -1,0 +1,13 @@
+use Rattle.std.proofs.Common.{◌+◌, ◌≤◌, sym, ap, ◌∙◌, subst}
+use Rattle.std.specs.Prelude.{option_map}
+use Rattle.hayro_cmap.specs.DeclarationsSeen.{bf_entry_seen}
+use Rattle.hayro_cmap.specs.Lookups.{bf_span}
+use Rattle.hayro_cmap.specs.Searches.{search_looks}
+use Rattle.hayro_cmap.proofs.LastFound.{last_of-map, spans-map}
+use Rattle.hayro_cmap.proofs.lookup.last_bf.Goals as goal
+
+pub returns-clause-found : goal.returns-clause-found
+returns-clause-found c = ap (option_map bf_entry_seen) c.find.ensures.found ∙ sym (last_of-map bf_span bf_entry_seen c.args.table.now c.args.code)
+
+pub returns-clause-runs : goal.returns-clause-runs
+returns-clause-runs c = subst (λ spans. c.find.new.looks.runs ≤ c.args.looks.now.runs + search_looks spans) (sym (spans-map bf_span bf_entry_seen c.args.table.now)) c.find.ensures.runs
