@@ -1,0 +1,2 @@
+pub mod CodeWordParts
+pub mod InputPieces

@@ -1,0 +1,2 @@
+pub mod CodeWords
+pub mod Queries

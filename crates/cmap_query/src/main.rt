@@ -1,0 +1,30 @@
+//! Answers which CIDs the character codes on the command line stand for, in the CMap file on the standard input.
+#![tactic(auto)]
+
+mod failure;
+mod input;
+mod query;
+mod run;
+
+use failure::Failure;
+use std::process::ExitCode;
+use std::{env, io};
+
+fn main(rt: HostRuntime) -> ExitCode {
+    let status = match words(&rt) {
+        Ok(words) => run::run(
+            rt.alloc(),
+            &words,
+            &mut rt.stdin(),
+            &mut rt.stdout(),
+            &mut rt.stderr(),
+        ),
+        Err(_) => run::report(Failure::Unreadable, &mut rt.stderr()),
+    };
+    ExitCode::from(status)
+}
+
+/// The words of the command line, without the program's name.
+fn words(rt: &HostRuntime) -> io::Result<Vec<String>> {
+    Ok(env::args(rt)?.skip(1).collect(rt.alloc())?)
+}

@@ -1,0 +1,60 @@
+//! A whole run, from the words and the input to the exit status.
+
+use crate::failure::Failure;
+use crate::input::read_all;
+use crate::query::{Query, Request};
+use hayro_cmap::{CMap, CMapName};
+use std::alloc::{AllocError, Global};
+use std::io::{Read, Write};
+
+/// Answers the words from the CMap file that `input` gives, one line each on `out`, and returns the exit
+/// status: 0, or that of a failure, which `err` then names in one line.
+///
+/// The words are looked at before the input is read, and the answers are made before one is written.
+pub fn run<R: Read, W: Write, E: Write>(
+    alloc: Global,
+    words: &[String],
+    input: &mut R,
+    out: &mut W,
+    err: &mut E,
+) -> u8 {
+    match answer(alloc, words, input, out) {
+        Ok(()) => 0,
+        Err(failure) => report(failure, err),
+    }
+}
+
+/// Writes the failure's line, and returns its status, also where the line can't be written.
+pub fn report<E: Write>(failure: Failure, err: &mut E) -> u8 {
+    let _ = writeln!(err, "{failure}");
+    failure.status()
+}
+
+fn answer<R: Read, W: Write>(
+    alloc: Global,
+    words: &[String],
+    input: &mut R,
+    out: &mut W,
+) -> Result<(), Failure> {
+    let request = Request::parse(alloc, words)?;
+    let data = read_all(alloc, input)?;
+    let map = CMap::parse(alloc, &data, None, &|_name: CMapName<'_>| None)?.ok_or(
+        Failure::Refused,
+    )?;
+    let lines = answers(alloc, &map, &request.queries)?;
+    out.write_all(lines.as_bytes())?;
+    out.flush()?;
+    Ok(())
+}
+
+/// The lines that answer the queries.
+fn answers(alloc: Global, map: &CMap, queries: &[Query<'_>]) -> Result<String, AllocError> {
+    let mut lines = String::new(alloc);
+    for query in queries {
+        query.write_answer(map, &mut lines)?;
+    }
+    Ok(lines)
+}
+
+#[cfg(test)]
+mod tests;

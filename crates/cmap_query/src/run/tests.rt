@@ -1,0 +1,332 @@
+//! Whole runs, over readers and writers in memory.
+
+use super::run;
+use std::alloc::{AllocError, Global};
+use std::io::{self, ErrorKind, Read, Write};
+use std::test::Fail;
+
+/// The codes of two bytes from 0000 to 00FF stand for the CIDs from 0 on.
+const TWO_BYTE_RANGE: &str = "1 begincidrange <0000> <00FF> 0 endcidrange";
+
+/// What words are to be answered on an input.
+#[derive(Drop)]
+struct Answers<'a> {
+    name: &'a str,
+    words: &'a [&'a str],
+    input: &'a str,
+    lines: &'a str,
+}
+
+#[test]
+fn answers_each_word(rt: HostRuntime) -> Result<(), Fail> {
+    let rows = [
+        Answers {
+            name: "a code that stands for a CID, and one that stands for none",
+            words: &["2:0041", "2:0100"],
+            input: TWO_BYTE_RANGE,
+            lines: "cid 2:0041 65\ncid 2:0100 none\n",
+        },
+        Answers {
+            name: "digits of either case, repeated as typed",
+            words: &["2:00ff", "2:00FF", "2:00fF"],
+            input: TWO_BYTE_RANGE,
+            lines: "cid 2:00ff 255\ncid 2:00FF 255\ncid 2:00fF 255\n",
+        },
+        Answers {
+            name: "several words, in their order",
+            words: &["2:0100", "2:00ff", "2:0041"],
+            input: TWO_BYTE_RANGE,
+            lines: "cid 2:0100 none\ncid 2:00ff 255\ncid 2:0041 65\n",
+        },
+        Answers {
+            name: "a code of one byte",
+            words: &["1:41"],
+            input: "1 begincidchar <41> 7 endcidchar",
+            lines: "cid 1:41 7\n",
+        },
+        Answers {
+            name: "the greatest code of four bytes",
+            words: &["4:FFFFFFFF"],
+            input: "1 begincidrange <00000000> <FFFFFFFF> 0 endcidrange",
+            lines: "cid 4:FFFFFFFF 4294967295\n",
+        },
+    ];
+    for row in rows {
+        let outcome = outcome_of(rt.alloc(), row.words, &mut row.input.as_bytes())?;
+        let name = row.name;
+        assert_eq!(rt; outcome.status, 0, "{name}");
+        assert_eq!(rt; outcome.out.as_slice(), row.lines.as_bytes(), "{name}");
+        assert!(rt; outcome.err.is_empty(), "{name}");
+    }
+    Ok(())
+}
+
+#[test]
+fn refuses_what_is_no_map(rt: HostRuntime) -> Result<(), Fail> {
+    for input in ["(", "usecmap"] {
+        let outcome = outcome_of(rt.alloc(), &["2:0041"], &mut input.as_bytes())?;
+        assert_eq!(rt; outcome.status, 1, "{input}");
+        assert!(rt; outcome.out.is_empty(), "{input}");
+        assert_eq!(rt; outcome.err.as_slice(), b"refused\n".as_slice(), "{input}");
+    }
+    Ok(())
+}
+
+#[test]
+fn wrong_words_are_found_before_the_input_is_read(rt: HostRuntime) -> Result<(), Fail> {
+    let wrong: [&[&str]; 13] = [
+        &["1:0041"],
+        &["5:00"],
+        &["0:"],
+        &["2:004"],
+        &["2:00g1"],
+        &[":41"],
+        &["2:"],
+        &["bf:41"],
+        &["--bundle"],
+        &["--budget"],
+        &[""],
+        &[],
+        &["2:0041", "x"],
+    ];
+    for words in wrong {
+        let mut input = Script::new(&[]);
+        let outcome = outcome_of(rt.alloc(), words, &mut input)?;
+        assert_eq!(rt; outcome.status, 2, "{words:?}");
+        assert_eq!(rt; input.reads, 0, "{words:?}");
+        assert!(rt; outcome.out.is_empty(), "{words:?}");
+        assert_eq!(rt; outcome.err.as_slice(), b"usage\n".as_slice(), "{words:?}");
+    }
+    Ok(())
+}
+
+/// Each allocation of this run is to be refused in turn: `rt try --test --fail-alloc 1..`.
+#[test]
+fn a_refused_growth_gives_no_other_answer(rt: HostRuntime) -> Result<(), Fail> {
+    let mut input = TWO_BYTE_RANGE.as_bytes();
+    let outcome = outcome_of(rt.alloc(), &["2:0041", "2:0100"], &mut input)?;
+    let said = (
+        outcome.status,
+        outcome.out.as_slice(),
+        outcome.err.as_slice(),
+    );
+    let answered = (
+        0,
+        b"cid 2:0041 65\ncid 2:0100 none\n".as_slice(),
+        b"".as_slice(),
+    );
+    let refused = (3, b"".as_slice(), b"no memory\n".as_slice());
+    assert!(rt; said == answered || said == refused, "{said:?}");
+    Ok(())
+}
+
+#[test]
+fn a_read_that_lacks_memory_is_no_memory(rt: HostRuntime) -> Result<(), Fail> {
+    let mut input = Script::new(&[Step::Fail(ErrorKind::OutOfMemory)]);
+    let outcome = outcome_of(rt.alloc(), &["2:0041"], &mut input)?;
+    assert_eq!(rt; outcome.status, 3);
+    assert!(rt; outcome.out.is_empty());
+    assert_eq!(rt; outcome.err.as_slice(), b"no memory\n".as_slice());
+    Ok(())
+}
+
+#[test]
+fn a_failed_read_is_unreadable(rt: HostRuntime) -> Result<(), Fail> {
+    let piece = Step::Give(TWO_BYTE_RANGE);
+    let fault = Step::Fail(ErrorKind::PermissionDenied);
+    let scripts: [&[Step]; 3] = [&[fault], &[piece, fault], &[piece, piece, fault]];
+    for steps in scripts {
+        let mut input = Script::new(steps);
+        let outcome = outcome_of(rt.alloc(), &["2:0041"], &mut input)?;
+        assert_eq!(rt; outcome.status, 4, "{steps:?}");
+        assert_eq!(rt; input.reads, steps.len(), "{steps:?}");
+        assert!(rt; outcome.out.is_empty(), "{steps:?}");
+        assert_eq!(rt;
+            outcome.err.as_slice(),
+            b"unreadable\n".as_slice(),
+            "{steps:?}"
+        );
+    }
+    Ok(())
+}
+
+#[test]
+fn an_interrupted_read_is_tried_again(rt: HostRuntime) -> Result<(), Fail> {
+    let interrupted = Step::Fail(ErrorKind::Interrupted);
+    let piece = Step::Give(TWO_BYTE_RANGE);
+    let steps = [interrupted, piece, interrupted, interrupted];
+    let mut input = Script::new(&steps);
+    let outcome = outcome_of(rt.alloc(), &["2:0041"], &mut input)?;
+    assert_eq!(rt; outcome.status, 0);
+    assert_eq!(rt; outcome.out.as_slice(), b"cid 2:0041 65\n".as_slice());
+    Ok(())
+}
+
+#[test]
+fn reads_an_input_byte_by_byte(rt: HostRuntime) -> Result<(), Fail> {
+    let mut input = ByteByByte(TWO_BYTE_RANGE.as_bytes());
+    let outcome = outcome_of(rt.alloc(), &["2:0041"], &mut input)?;
+    assert_eq!(rt; outcome.status, 0);
+    assert_eq!(rt; outcome.out.as_slice(), b"cid 2:0041 65\n".as_slice());
+    Ok(())
+}
+
+#[test]
+fn reads_an_input_of_several_full_pieces(rt: HostRuntime) -> Result<(), Fail> {
+    let mut data = Vec::from_slice(rt.alloc(), b"1 begincidchar <41> 7 endcidchar")?;
+    data.resize(300_000, b' ')?;
+    data.extend_from_slice(TWO_BYTE_RANGE.as_bytes())?;
+    let outcome = outcome_of(rt.alloc(), &["1:41", "2:0041"], &mut data.as_slice())?;
+    assert_eq!(rt; outcome.status, 0);
+    assert_eq!(rt;
+        outcome.out.as_slice(),
+        b"cid 1:41 7\ncid 2:0041 65\n".as_slice()
+    );
+    Ok(())
+}
+
+#[test]
+fn a_failed_write_is_unreadable(rt: HostRuntime) -> Result<(), Fail> {
+    let words = words_of(rt.alloc(), &["2:0041"])?;
+    let rows = [
+        ("the first write", 0, false, ""),
+        ("a later write", 5, false, "cid 2"),
+        ("the flush", 100, true, "cid 2:0041 65\n"),
+    ];
+    for (name, room, is_flush_failing, written) in rows {
+        let mut out = Faulty {
+            taken: Vec::new(rt.alloc()),
+            room,
+            is_flush_failing,
+        };
+        let mut err = Vec::with_capacity(rt.alloc(), 100)?;
+        let mut input = TWO_BYTE_RANGE.as_bytes();
+        let status = run(rt.alloc(), &words, &mut input, &mut out, &mut err);
+        assert_eq!(rt; status, 4, "{name}");
+        assert_eq!(rt; out.taken.as_slice(), written.as_bytes(), "{name}");
+        assert_eq!(rt; err.as_slice(), b"unreadable\n".as_slice(), "{name}");
+    }
+    Ok(())
+}
+
+#[test]
+fn a_lost_error_line_changes_no_status(rt: HostRuntime) -> Result<(), Fail> {
+    let rows: [(&[&str], &str, u8); 2] = [(&["2:0041"], "(", 1), (&[], TWO_BYTE_RANGE, 2)];
+    for (texts, input, want) in rows {
+        let words = words_of(rt.alloc(), texts)?;
+        let mut out = Vec::new(rt.alloc());
+        let mut err = Faulty {
+            taken: Vec::new(rt.alloc()),
+            room: 0,
+            is_flush_failing: true,
+        };
+        let status = run(
+            rt.alloc(),
+            &words,
+            &mut input.as_bytes(),
+            &mut out,
+            &mut err,
+        );
+        assert_eq!(rt; status, want, "{input}");
+        assert!(rt; out.is_empty(), "{input}");
+    }
+    Ok(())
+}
+
+/// What a run leaves.
+#[derive(Drop)]
+struct Outcome {
+    status: u8,
+    out: Vec<u8>,
+    err: Vec<u8>,
+}
+
+/// Runs over writers that have room for all that the tests expect.
+fn outcome_of<R: Read>(
+    alloc: Global,
+    texts: &[&str],
+    input: &mut R,
+) -> Result<Outcome, AllocError> {
+    let words = words_of(alloc, texts)?;
+    let mut out = Vec::with_capacity(alloc, 100)?;
+    let mut err = Vec::with_capacity(alloc, 100)?;
+    let status = run(alloc, &words, input, &mut out, &mut err);
+    Ok(Outcome { status, out, err })
+}
+
+fn words_of(alloc: Global, texts: &[&str]) -> Result<Vec<String>, AllocError> {
+    texts
+        .iter()
+        .map(|text| String::from_str(alloc, text))
+        .try_collect(alloc)
+}
+
+/// What a read does.
+#[derive(Clone, Copy, Debug)]
+enum Step {
+    Give(&'static str),
+    Fail(ErrorKind),
+}
+
+/// A reader that does one step after the other, then is at its end, and counts its reads.
+#[derive(Drop)]
+struct Script<'a> {
+    steps: &'a [Step],
+    reads: usize,
+}
+
+impl<'a> Script<'a> {
+    fn new(steps: &'a [Step]) -> Script<'a> {
+        Script { steps, reads: 0 }
+    }
+}
+
+impl Read for Script<'_> {
+    fn read(&mut self, buf: &mut [u8]) -> io::Result<usize> {
+        let step = self.steps.get(self.reads);
+        self.reads = self.reads.saturating_add(1);
+        match step {
+            Some(Step::Give(text)) => text.as_bytes().read(buf),
+            Some(Step::Fail(kind)) => Err(io::Error::from(*kind)),
+            None => Ok(0),
+        }
+    }
+}
+
+/// A reader that gives one byte a read.
+#[derive(Drop)]
+struct ByteByByte<'a>(&'a [u8]);
+
+impl Read for ByteByByte<'_> {
+    fn read(&mut self, buf: &mut [u8]) -> io::Result<usize> {
+        let most = buf.len().min(1);
+        self.0.read(&mut buf[..most])
+    }
+}
+
+/// A writer that takes some bytes and then fails, and whose flush may fail.
+#[derive(Drop)]
+struct Faulty {
+    taken: Vec<u8>,
+    room: usize,
+    is_flush_failing: bool,
+}
+
+impl Write for Faulty {
+    fn write(&mut self, buf: &[u8]) -> io::Result<usize> {
+        if self.room == 0 {
+            return Err(io::Error::from(ErrorKind::BrokenPipe));
+        }
+        let count = buf.len().min(self.room);
+        self.taken.extend_from_slice(&buf[..count])?;
+        self.room -= count;
+        Ok(count)
+    }
+
+    fn flush(&mut self) -> io::Result<()> {
+        if self.is_flush_failing {
+            return Err(io::Error::from(ErrorKind::BrokenPipe));
+        }
+        Ok(())
+    }
+}

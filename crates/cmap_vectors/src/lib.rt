@@ -1,0 +1,25 @@
+//! Worked examples of CMap files and of their parts, as tests: what goes in, and what comes out.
+#![tactic(auto)]
+
+#[cfg(test)]
+mod bits;
+#[cfg(test)]
+mod cid_sections;
+#[cfg(test)]
+mod files;
+#[cfg(test)]
+mod identity;
+#[cfg(test)]
+mod malformed_files;
+#[cfg(test)]
+mod prefix_tables;
+#[cfg(test)]
+mod refused_memory;
+#[cfg(test)]
+mod runs;
+#[cfg(test)]
+mod string_values;
+#[cfg(test)]
+mod texts;
+#[cfg(test)]
+mod tokens;

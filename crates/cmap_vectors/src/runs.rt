@@ -1,0 +1,169 @@
+//! The runs of ranges: the rows of codes that one declaration decides.
+
+use hayro_cmap::runs::{HasRange, Looks, Range, Table};
+use std::alloc::{AllocError, Global};
+use std::test::Fail;
+
+#[derive(Debug, Drop)]
+struct Declared {
+    range: Range,
+}
+
+impl HasRange for Declared {
+    ghost span = { λ d. record { start = d.range.start; end = d.range.end } };
+
+    fn range(&self) -> &Range {
+        &self.range
+    }
+}
+
+/// A first code, a last code and the place of the declaration that decides them.
+type Run = (u32, u32, usize);
+
+/// The table of ranges from a first code to a last one.
+fn table_of(alloc: Global, ranges: &[(u32, u32)]) -> Result<Table<Declared>, AllocError> {
+    let mut list = Vec::new(alloc);
+    for (start, end) in ranges {
+        let range = Range {
+            start: *start,
+            end: *end,
+        };
+        list.push(Declared { range })?;
+    }
+    Table::build(alloc, list)
+}
+
+fn runs_of(alloc: Global, ranges: &[(u32, u32)]) -> Result<Vec<Run>, AllocError> {
+    let table = table_of(alloc, ranges)?;
+    let mut looks = Looks::new();
+    let mut runs = Vec::new(alloc);
+    for i in 0..table.run_count() {
+        runs.push(table.run(i, &mut looks))?;
+    }
+    Ok(runs)
+}
+
+#[test]
+fn the_last_range_decides_each_code(rt: HostRuntime) -> Result<(), Fail> {
+    let rows: [(&str, &[(u32, u32)], &[Run]); 8] = [
+        (
+            "ranges within ranges",
+            &[(0, 0xFF), (0x10, 0x20), (0x18, 0x18)],
+            &[
+                (0, 0xF, 0),
+                (0x10, 0x17, 1),
+                (0x18, 0x18, 2),
+                (0x19, 0x20, 1),
+                (0x21, 0xFF, 0),
+            ],
+        ),
+        (
+            "a start above an end",
+            &[(0x10, 0x20), (0x15, 0x12)],
+            &[(0x10, 0x20, 0)],
+        ),
+        ("all codes", &[(0, u32::MAX)], &[(0, u32::MAX, 0)]),
+        (
+            "the same range again",
+            &[(0, 0xF), (0, 0xF)],
+            &[(0, 0xF, 1)],
+        ),
+        (
+            "neighbours",
+            &[(0, 0xF), (0x10, 0x1F)],
+            &[(0, 0xF, 0), (0x10, 0x1F, 1)],
+        ),
+        (
+            "a range that is covered",
+            &[(0x10, 0x10), (0, 0xFF)],
+            &[(0, 0xFF, 1)],
+        ),
+        ("no range", &[], &[]),
+        (
+            "the ends of the codes",
+            &[(u32::MAX, u32::MAX), (0, 0)],
+            &[(0, 0, 1), (u32::MAX, u32::MAX, 0)],
+        ),
+    ];
+    for (name, ranges, expected) in rows {
+        assert_eq!(rt; runs_of(rt.alloc(), ranges)?.as_slice(), expected, "{name}");
+    }
+    Ok(())
+}
+
+#[test]
+fn a_covered_declaration_stays_in_the_table(rt: HostRuntime) -> Result<(), Fail> {
+    let table = table_of(rt.alloc(), &[(0x10, 0x10), (0, 0xFF)])?;
+    let mut looks = Looks::new();
+    assert_eq!(rt; table.decl_count(), 2);
+    assert_eq!(rt; table.decl(0, &mut looks).range.end, 0x10);
+    assert_eq!(rt;
+        table.find(0x10, &mut looks).map(|d| d.range.end),
+        Some(0xFF)
+    );
+    Ok(())
+}
+
+#[test]
+fn an_empty_table_finds_nothing(rt: HostRuntime) -> Result<(), Fail> {
+    let table = table_of(rt.alloc(), &[])?;
+    let mut looks = Looks::new();
+    assert_eq!(rt; table.decl_count(), 0);
+    assert_eq!(rt; table.run_count(), 0);
+    assert!(rt; table.find(0, &mut looks).is_none());
+    assert!(rt; table.find(u32::MAX, &mut looks).is_none());
+    Ok(())
+}
+
+#[test]
+fn ranges_that_narrow_have_two_runs_each(rt: HostRuntime) -> Result<(), Fail> {
+    let mut ranges = Vec::new(rt.alloc());
+    for i in 0..2000 {
+        ranges.push((i, 4000 - i))?;
+    }
+    let runs = runs_of(rt.alloc(), &ranges)?;
+    assert_eq!(rt; runs.len(), 3999);
+    assert_eq!(rt; runs.first().copied(), Some((0, 0, 0)));
+    assert_eq!(rt; runs.get(1999).copied(), Some((1999, 2001, 1999)));
+    assert_eq!(rt; runs.last().copied(), Some((4000, 4000, 0)));
+    Ok(())
+}
+
+#[test]
+fn ranges_that_widen_have_one_run(rt: HostRuntime) -> Result<(), Fail> {
+    let mut ranges = Vec::new(rt.alloc());
+    for i in 0..2000 {
+        ranges.push((1999 - i, 2001 + i))?;
+    }
+    let runs = runs_of(rt.alloc(), &ranges)?;
+    assert_eq!(rt; runs.as_slice(), [(0, 4000, 1999)].as_slice());
+    Ok(())
+}
+
+#[test]
+fn a_range_over_many_codes_covers_them(rt: HostRuntime) -> Result<(), Fail> {
+    let mut ranges = Vec::new(rt.alloc());
+    for code in 0..1000 {
+        ranges.push((code, code))?;
+    }
+    ranges.push((0, u32::MAX))?;
+    let runs = runs_of(rt.alloc(), &ranges)?;
+    assert_eq!(rt; runs.as_slice(), [(0, u32::MAX, 1000)].as_slice());
+    Ok(())
+}
+
+#[test]
+fn each_of_many_codes_is_found(rt: HostRuntime) -> Result<(), Fail> {
+    let mut ranges = Vec::new(rt.alloc());
+    for i in 0..100_000 {
+        ranges.push((2 * i, 2 * i))?;
+    }
+    let table = table_of(rt.alloc(), &ranges)?;
+    let mut looks = Looks::new();
+    assert_eq!(rt; table.run_count(), 100_000);
+    for code in 0..200_000 {
+        let found = table.find(code, &mut looks).map(|d| d.range.start);
+        assert_eq!(rt; found, (code % 2 == 0).then_some(code), "code {code}");
+    }
+    Ok(())
+}
