@@ -3,6 +3,7 @@
 
 #[cfg(test)]
 mod bits;
+pub mod caller;
 #[cfg(test)]
 mod cid_sections;
 #[cfg(test)]
@@ -23,3 +24,5 @@ mod string_values;
 mod texts;
 #[cfg(test)]
 mod tokens;
+#[cfg(test)]
+mod unicode_texts;
