@@ -75,7 +75,7 @@ fn one_character_is_a_char_and_more_are_a_string(rt: HostRuntime) -> Result<(), 
             ),
             (
                 "beginbfchar <01> <D83DDE> endbfchar",
-                &[(1, Some("\u{D8}\u{3DDE}"))],
+                &[(1, Some("\u{00D8}\u{3DDE}"))],
             ),
             ("beginbfchar <01> <D800> endbfchar", &[(1, None)]),
             (
