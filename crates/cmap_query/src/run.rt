@@ -5,7 +5,7 @@ use crate::input::read_all;
 use crate::query::{Query, Request};
 use hayro_cmap::{CMap, CMapName};
 use std::alloc::{AllocError, Global};
-use std::io::{Read, Write};
+use std::io::{self, Read, Write};
 
 /// Answers the words from the CMap file that `input` gives, one line each on `out`, and returns the exit
 /// status: 0, or that of a failure, which `err` then names in one line.
@@ -42,9 +42,13 @@ fn answer<R: Read, W: Write>(
         Failure::Refused,
     )?;
     let lines = answers(alloc, &map, &request.queries)?;
+    send(out, lines.as_str()).map_err(|_| Failure::Unreadable)
+}
+
+/// Writes the lines, and sees that they are out.
+fn send<W: Write>(out: &mut W, lines: &str) -> io::Result<()> {
     out.write_all(lines.as_bytes())?;
-    out.flush()?;
-    Ok(())
+    out.flush()
 }
 
 /// The lines that answer the queries.

@@ -1,7 +1,7 @@
 -- The destinations of texts: one, or one for each code of a range.
-use Rattle.std.proofs.Common.{◌≡◌, ◌≢◌, ℕ, zero, suc, ◌+◌, ◌-◌, ◌<◌, ◌≤◌, false, refl, sym, ap, ◌∙◌, subst, List, [], ◌∷◌, ◌++◌, ◌⊎◌, inl, inr, length, map, arith, append-nil, append_assoc, length-append}
+use Rattle.std.proofs.Common.{◌≡◌, ◌≢◌, ℕ, ◌+◌, ◌-◌, ◌<◌, ◌≤◌, false, refl, sym, ap, ◌∙◌, subst, List, [], ◌∷◌, ◌++◌, ◌⊎◌, inl, inr, length, arith, append-nil, append_assoc, length-append}
 use Rattle.std.specs.Prelude.{codes}
-use Rattle.std.specs.List.{AllZip, enumerate_from}
+use Rattle.std.specs.List.{AllZip}
 use Rattle.cmap_parts.specs.Bytes.{big_endian}
 use Rattle.cmap_parts.specs.Strings.{IsValue}
 use Rattle.cmap_parts.specs.Texts.{units_of}

@@ -1,6 +1,5 @@
 -- The entries of a codespace section: two codes of one length.
 use Rattle.std.proofs.Common.{◌≡◌, ◌≢◌, ℕ, refl, sym, ap, ◌∙◌, subst, List, [], ◌∷◌, length}
-use Rattle.cmap_parts.specs.Bytes.{big_endian}
 use Rattle.cmap_parts.specs.Tokens.{Token}
 use Rattle.hayro_cmap.specs.Only.{IsOnly, HoldsOfNone}
 use Rattle.hayro_cmap.specs.Files.{Declaration}

@@ -1,9 +1,8 @@
 -- A list of destinations, as far as it is read, with what it has added to the lists of a file.
-use Rattle.std.proofs.Common.{◌≡◌, ℕ, ◌+◌, ◌-◌, ◌<◌, ◌≤◌, suc, List, [], ◌∷◌, ◌++◌, refl, sym, ap, ◌∙◌, length, map, arith, length-append}
-use Rattle.std.specs.List.{enumerate_from}
+use Rattle.std.proofs.Common.{◌≡◌, ℕ, ◌+◌, ◌-◌, ◌<◌, ◌≤◌, suc, List, [], ◌∷◌, ◌++◌, sym, ap, ◌∙◌, length, arith, length-append}
 use Rattle.cmap_parts.specs.Tokens.{Token}
 use Rattle.hayro_cmap.specs.Only.{IsOnly, HoldsOfNone}
-use Rattle.hayro_cmap.specs.Files.{Declaration, Lists, lists_of}
+use Rattle.hayro_cmap.specs.Files.{Lists, lists_of}
 use Rattle.hayro_cmap.specs.ListsAppended.{append_lists}
 use Rattle.hayro_cmap.specs.TextFiles.{declares_bf, IsEntry, bf_range}
 use Rattle.hayro_cmap.specs.TextReading.{Code, IsOnlyCode, CodeAt, EntryBehind, TokenAt, DestinationAt, declared_from, ListAt, Declares}

@@ -13,3 +13,4 @@ pub mod LayersSeen
 pub mod ListsAppended
 pub mod TextReading
 pub mod TextSeen
+pub mod EntriesSeen

@@ -1,6 +1,6 @@
 -- CMap files as text: tokens read as items, nothing executed. Adobe Technical Notes 5014 and 5411, with what PDF writers make of them.
 -- So far all sections; every other token is an item by itself, and a file that uses another one has no items.
-use Rattle.std.specs.Prelude.{◌≡◌, ◌≢◌, ℕ, pos, ◌+◌, ◌-◌, ◌<◌, ◌≤◌, ◌^◌, Bool, true, false, List, [], ◌∷◌, ◌++◌, ◌⊎◌, length, map, flat_map, codes, None}
+use Rattle.std.specs.Prelude.{◌≡◌, ◌≢◌, ℕ, pos, ◌+◌, ◌-◌, ◌<◌, ◌≤◌, ◌^◌, true, false, List, [], ◌∷◌, ◌++◌, ◌⊎◌, length, map, flat_map, codes, None}
 use Rattle.std.specs.List.{AllByRecursion, AllZip, enumerate_from}
 use Rattle.cmap_parts.specs.Bytes.{big_endian}
 use Rattle.cmap_parts.specs.Numbers.{Number}

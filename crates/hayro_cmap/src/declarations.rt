@@ -136,10 +136,14 @@ fn push_filed(
     len: u8,
     range: CidRange,
 ) -> Result<(), AllocError>
-    ensures one { OnOk result (lists.new.one.items ≡ lists.old.one.items ++ (if len == 1 then range ∷ [] else [])) }
-    ensures two { OnOk result (lists.new.two.items ≡ lists.old.two.items ++ (if len == 2 then range ∷ [] else [])) }
-    ensures three { OnOk result (lists.new.three.items ≡ lists.old.three.items ++ (if len == 3 then range ∷ [] else [])) }
-    ensures four { OnOk result (lists.new.four.items ≡ lists.old.four.items ++ (if len == 4 then range ∷ [] else [])) }
+    ensures one { OnOk result (lists.new.one.items
+        ≡ lists.old.one.items ++ (if len == 1 then range ∷ [] else [])) }
+    ensures two { OnOk result (lists.new.two.items
+        ≡ lists.old.two.items ++ (if len == 2 then range ∷ [] else [])) }
+    ensures three { OnOk result (lists.new.three.items
+        ≡ lists.old.three.items ++ (if len == 3 then range ∷ [] else [])) }
+    ensures four { OnOk result (lists.new.four.items
+        ≡ lists.old.four.items ++ (if len == 4 then range ∷ [] else [])) }
 {
     match len {
         1 => lists.one.push(range)?,

@@ -27,7 +27,8 @@ impl Layer {
         metadata: Metadata,
         lists: Lists,
     ) -> Result<Layer, AllocError>
-        ensures { IfOk result (λ layer. layer_seen layer ≡ record { metadata = metadata_seen metadata; lists = lists_seen lists }) }
+        ensures { IfOk result (λ layer. layer_seen layer
+            ≡ record { metadata = metadata_seen metadata; lists = lists_seen lists }) }
     {
         let Lists {
             cids,

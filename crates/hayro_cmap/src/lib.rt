@@ -1,4 +1,5 @@
-//! CMap files: which CID a character code stands for, and which Unicode text. Adobe Technical Notes 5014 and 5411.
+//! CMap files: which CID a character code stands for, and which Unicode text. Adobe Technical
+//! Notes 5014, 5099 and 5411; ISO 32000-1, 9.7.5 and 9.10.3.
 #![tactic(auto)]
 
 mod bundle;

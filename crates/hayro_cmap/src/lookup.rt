@@ -1,6 +1,6 @@
 //! What a code stands for: the first layer that decides, from the top one on.
 
-ghost use Rattle.std.specs.Prelude.{◌≡◌, ◌+◌, ◌*◌, ◌<◌, ◌≤◌, length, map, option_and_then, option_map, IfOk, IfSome, IsSomeAnd, OnErr};
+ghost use Rattle.std.specs.Prelude.{◌≡◌, ◌+◌, ◌*◌, ◌<◌, ◌≤◌, length, map, option_and_then, option_map, IfOk, IfSome, IsSomeAnd, OnErr, OnSome};
 ghost use Rattle.std.specs.Option.{option_copied};
 ghost use Rattle.cmap_parts.specs.Texts.{only_character, text_of};
 ghost use Rattle.cmap_parts.specs.TextSeen.{text_seen};
@@ -24,6 +24,8 @@ pub(crate) fn cid_of(layers: &[Layer], code: u32, byte_len: u8, looks: &mut Look
     ensures runs_grow { looks.old.runs ≤ looks.new.runs }
     ensures declarations { looks.new.declarations ≤ looks.old.declarations + 3 * length layers.now }
     ensures declarations_grow { looks.old.declarations ≤ looks.new.declarations }
+    ensures some_run { OnSome result (looks.old.runs + 1 ≤ looks.new.runs) }
+    ensures some_declaration { OnSome result (looks.old.declarations + 1 ≤ looks.new.declarations) }
 {
     if !(1..=4).contains(&byte_len) {
         return None;
@@ -45,12 +47,17 @@ pub(crate) fn bf_of(
     code: u32,
     looks: &mut Looks,
 ) -> Result<Option<BfString>, AllocError>
-    ensures value { IfOk result (λ text. option_map text_seen text ≡ option_map text_of (bf_of (layers_seen layers.now) code)) }
-    ensures err { OnErr result (IsSomeAnd (bf_of (layers_seen layers.now) code) (λ characters. 1 < length characters)) }
+    ensures value { IfOk result (λ text. option_map text_seen text
+        ≡ option_map text_of (bf_of (layers_seen layers.now) code)) }
+    ensures err { OnErr result (IsSomeAnd (bf_of (layers_seen layers.now) code)
+        (λ characters. 1 < length characters)) }
     ensures runs { looks.new.runs ≤ looks.old.runs + bf_looks (layers_seen layers.now) }
     ensures runs_grow { looks.old.runs ≤ looks.new.runs }
     ensures declarations { looks.new.declarations ≤ looks.old.declarations + length layers.now }
     ensures declarations_grow { looks.old.declarations ≤ looks.new.declarations }
+    ensures some_run { IfOk result (λ text. OnSome text (looks.old.runs + 1 ≤ looks.new.runs)) }
+    ensures some_declaration { IfOk result
+        (λ text. OnSome text (looks.old.declarations + 1 ≤ looks.new.declarations)) }
 {
     let Some(found) = find_bf(layers, code, looks) else {
         return Ok(None);
@@ -60,12 +67,15 @@ pub(crate) fn bf_of(
 
 /// The declaration that decides the text of a code.
 fn find_bf<'l>(layers: &'l [Layer], code: u32, looks: &mut Looks) -> Option<&'l BfRange>
-    ensures found { option_map bf_entry_seen (option_copied result) ≡ deciding_bf (layers_seen layers.now) code }
+    ensures found { option_map bf_entry_seen (option_copied result)
+        ≡ deciding_bf (layers_seen layers.now) code }
     ensures start { IfSome result (λ found. found.now.range.start ≤ code) }
     ensures runs { looks.new.runs ≤ looks.old.runs + bf_looks (layers_seen layers.now) }
     ensures runs_grow { looks.old.runs ≤ looks.new.runs }
     ensures declarations { looks.new.declarations ≤ looks.old.declarations + length layers.now }
     ensures declarations_grow { looks.old.declarations ≤ looks.new.declarations }
+    ensures some_run { OnSome result (looks.old.runs + 1 ≤ looks.new.runs) }
+    ensures some_declaration { OnSome result (looks.old.declarations + 1 ≤ looks.new.declarations) }
 {
     for layer in layers {
         if let Some(found) = last_bf(&layer.bfs, code, looks) {
@@ -77,12 +87,16 @@ fn find_bf<'l>(layers: &'l [Layer], code: u32, looks: &mut Looks) -> Option<&'l 
 
 /// The last declaration of a text that contains the code.
 fn last_bf<'t>(table: &'t Table<BfRange>, code: u32, looks: &mut Looks) -> Option<&'t BfRange>
-    ensures found { option_map bf_entry_seen (option_copied result) ≡ last_bf (map bf_entry_seen table.now) code }
+    ensures found { option_map bf_entry_seen (option_copied result)
+        ≡ last_bf (map bf_entry_seen table.now) code }
     ensures start { IfSome result (λ found. found.now.range.start ≤ code) }
-    ensures runs { looks.new.runs ≤ looks.old.runs + search_looks (map bf_span (map bf_entry_seen table.now)) }
+    ensures runs { looks.new.runs
+        ≤ looks.old.runs + search_looks (map bf_span (map bf_entry_seen table.now)) }
     ensures runs_grow { looks.old.runs ≤ looks.new.runs }
     ensures declarations { looks.new.declarations ≤ looks.old.declarations + 1 }
     ensures declarations_grow { looks.old.declarations ≤ looks.new.declarations }
+    ensures some_run { OnSome result (looks.old.runs + 1 ≤ looks.new.runs) }
+    ensures some_declaration { OnSome result (looks.old.declarations + 1 ≤ looks.new.declarations) }
 {
     table.find(code, looks)
 }
@@ -94,6 +108,8 @@ fn decided_by(layer: &Layer, code: u32, byte_len: u8, looks: &mut Looks) -> Opti
     ensures runs_grow { looks.old.runs ≤ looks.new.runs }
     ensures declarations { looks.new.declarations ≤ looks.old.declarations + 3 }
     ensures declarations_grow { looks.old.declarations ≤ looks.new.declarations }
+    ensures some_run { OnSome result (looks.old.runs + 1 ≤ looks.new.runs) }
+    ensures some_declaration { OnSome result (looks.old.declarations + 1 ≤ looks.new.declarations) }
 {
     if let Some(found) = find_cid(&layer.cids, code, byte_len, looks) {
         return Some(found.cid.checked_add(code - found.range.start));
@@ -107,11 +123,15 @@ fn decided_by(layer: &Layer, code: u32, byte_len: u8, looks: &mut Looks) -> Opti
 
 /// The text of a code, where it is one character.
 fn character_of(table: &Table<BfRange>, code: u32, looks: &mut Looks) -> Option<char>
-    ensures value { result ≡ only_character (option_and_then (λ entry. bf_at entry code) (last_bf (map bf_entry_seen table.now) code)) }
-    ensures runs { looks.new.runs ≤ looks.old.runs + search_looks (map bf_span (map bf_entry_seen table.now)) }
+    ensures value { result ≡ only_character (option_and_then
+        (λ entry. bf_at entry code) (last_bf (map bf_entry_seen table.now) code)) }
+    ensures runs { looks.new.runs
+        ≤ looks.old.runs + search_looks (map bf_span (map bf_entry_seen table.now)) }
     ensures runs_grow { looks.old.runs ≤ looks.new.runs }
     ensures declarations { looks.new.declarations ≤ looks.old.declarations + 1 }
     ensures declarations_grow { looks.old.declarations ≤ looks.new.declarations }
+    ensures some_run { OnSome result (looks.old.runs + 1 ≤ looks.new.runs) }
+    ensures some_declaration { OnSome result (looks.old.declarations + 1 ≤ looks.new.declarations) }
 {
     let found = last_bf(table, code, looks)?;
     one_char(&found.units, code - found.range.start)
@@ -124,12 +144,16 @@ fn find_cid<'t>(
     byte_len: u8,
     looks: &mut Looks,
 ) -> Option<&'t CidRange>
-    ensures found { option_map cid_entry_seen (option_copied result) ≡ last_cid (of_length (tables_seen tables.now) byte_len) code }
+    ensures found { option_map cid_entry_seen (option_copied result)
+        ≡ last_cid (of_length (tables_seen tables.now) byte_len) code }
     ensures start { IfSome result (λ found. found.now.range.start ≤ code) }
-    ensures runs { looks.new.runs ≤ looks.old.runs + search_looks (map cid_span (of_length (tables_seen tables.now) byte_len)) }
+    ensures runs { looks.new.runs ≤ looks.old.runs
+        + search_looks (map cid_span (of_length (tables_seen tables.now) byte_len)) }
     ensures runs_grow { looks.old.runs ≤ looks.new.runs }
     ensures declarations { looks.new.declarations ≤ looks.old.declarations + 1 }
     ensures declarations_grow { looks.old.declarations ≤ looks.new.declarations }
+    ensures some_run { OnSome result (looks.old.runs + 1 ≤ looks.new.runs) }
+    ensures some_declaration { OnSome result (looks.old.declarations + 1 ≤ looks.new.declarations) }
 {
     tables.get(byte_len)?.find(code, looks)
 }

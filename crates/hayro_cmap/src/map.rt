@@ -1,6 +1,6 @@
 //! Maps: what the codes of a CMap file stand for.
 
-ghost use Rattle.std.specs.Prelude.{◌≡◌, ◌+◌, ◌*◌, ◌≤◌, [], ◌∷◌, ◌<◌, IfOk, IfSome, IfNone, IsSomeAnd, OnErr, codes, length, option_map};
+ghost use Rattle.std.specs.Prelude.{◌≡◌, ◌+◌, ◌*◌, ◌≤◌, [], ◌∷◌, ◌<◌, IfOk, IfSome, IfNone, IsSomeAnd, OnErr, OnSome, codes, length, option_map};
 ghost use Rattle.cmap_parts.specs.TextSeen.{text_seen};
 ghost use Rattle.cmap_parts.specs.Texts.{text_of};
 ghost use Rattle.hayro_cmap.specs.Answers.{Answers, AnswersByName};
@@ -77,14 +77,16 @@ impl CMap {
 
     /// The predefined CMap Identity-H: codes of two bytes are CIDs. ISO 32000-1, 9.7.5.2.
     pub fn identity_h(alloc: Global) -> Result<CMap, AllocError>
-        ensures { IfOk result (λ map. map ≡ identity_layer (codes "Identity-H") files.horizontal ∷ []) }
+        ensures { IfOk result
+            (λ map. map ≡ identity_layer (codes "Identity-H") files.horizontal ∷ []) }
     {
         CMap::identity(alloc, b"Identity-H", WritingMode::Horizontal)
     }
 
     /// The predefined CMap Identity-V, the same for vertical text. ISO 32000-1, 9.7.5.2.
     pub fn identity_v(alloc: Global) -> Result<CMap, AllocError>
-        ensures { IfOk result (λ map. map ≡ identity_layer (codes "Identity-V") files.vertical ∷ []) }
+        ensures { IfOk result
+            (λ map. map ≡ identity_layer (codes "Identity-V") files.vertical ∷ []) }
     {
         CMap::identity(alloc, b"Identity-V", WritingMode::Vertical)
     }
@@ -111,25 +113,31 @@ impl CMap {
     pub fn lookup_cid_counted(&self, code: u32, byte_len: u8, looks: &mut Looks) -> Option<Cid>
         ensures value { result ≡ cid_of self.now code byte_len }
 
-        // Each search looks at no more runs than their number has binary digits.
+        // For each list that may be searched, no more runs than their number has binary digits.
         ensures runs { looks.new.runs ≤ looks.old.runs + cid_looks self.now byte_len }
         ensures runs_grow { looks.old.runs ≤ looks.new.runs }
 
-        // And at no more than one declaration of each list: CIDs, notdef CIDs, texts.
+        // And one declaration for each of a layer's three lists: CIDs, notdef CIDs, texts.
         ensures declarations { looks.new.declarations ≤ looks.old.declarations + 3 * length self.now }
         ensures declarations_grow { looks.old.declarations ≤ looks.new.declarations }
+
+        // An answer comes from a run and from a declaration.
+        ensures some_run { OnSome result (looks.old.runs + 1 ≤ looks.new.runs) }
+        ensures some_declaration { OnSome result (looks.old.declarations + 1 ≤ looks.new.declarations) }
     {
         lookup::cid_of(&self.layers, code, byte_len, looks)
     }
 
     /// The Unicode text of `code`: one character, or more of them.
     ///
-    /// It is `None` where no declaration contains the code, and where the one that decides gives no text: a
-    /// layer's declaration decides also then. It fails only where there is no memory, and only a `String`
-    /// takes some. ISO 32000-1, 9.10.3.
+    /// It is `None` where no declaration contains the code, and where the one that decides gives no
+    /// text: a layer's declaration decides also then. It fails only where there is no memory, and
+    /// only a `String` takes some. ISO 32000-1, 9.10.3.
     pub fn lookup_bf_string(&self, alloc: Global, code: u32) -> Result<Option<BfString>, AllocError>
-        ensures value { IfOk result (λ text. option_map text_seen text ≡ option_map text_of (bf_of self.now code)) }
-        ensures err { OnErr result (IsSomeAnd (bf_of self.now code) (λ characters. 1 < length characters)) }
+        ensures value { IfOk result
+            (λ text. option_map text_seen text ≡ option_map text_of (bf_of self.now code)) }
+        ensures err { OnErr result
+            (IsSomeAnd (bf_of self.now code) (λ characters. 1 < length characters)) }
     {
         lookup::bf_of(alloc, &self.layers, code, &mut Looks::new())
     }
@@ -141,14 +149,21 @@ impl CMap {
         code: u32,
         looks: &mut Looks,
     ) -> Result<Option<BfString>, AllocError>
-        ensures value { IfOk result (λ text. option_map text_seen text ≡ option_map text_of (bf_of self.now code)) }
-        ensures err { OnErr result (IsSomeAnd (bf_of self.now code) (λ characters. 1 < length characters)) }
+        ensures value { IfOk result
+            (λ text. option_map text_seen text ≡ option_map text_of (bf_of self.now code)) }
+        ensures err { OnErr result
+            (IsSomeAnd (bf_of self.now code) (λ characters. 1 < length characters)) }
 
-        // Each search looks at no more runs than their number has binary digits, and at one declaration.
+        // For each layer, no more runs than their number has binary digits, and one declaration.
         ensures runs { looks.new.runs ≤ looks.old.runs + bf_looks self.now }
         ensures runs_grow { looks.old.runs ≤ looks.new.runs }
         ensures declarations { looks.new.declarations ≤ looks.old.declarations + length self.now }
         ensures declarations_grow { looks.old.declarations ≤ looks.new.declarations }
+
+        // An answer comes from a run and from a declaration.
+        ensures some_run { IfOk result (λ text. OnSome text (looks.old.runs + 1 ≤ looks.new.runs)) }
+        ensures some_declaration { IfOk result
+            (λ text. OnSome text (looks.old.declarations + 1 ≤ looks.new.declarations)) }
     {
         lookup::bf_of(alloc, &self.layers, code, looks)
     }
@@ -180,7 +195,8 @@ impl CMap {
 
     /// The map of one file.
     fn of_lists(alloc: Global, metadata: Metadata, lists: Lists) -> Result<CMap, AllocError>
-        ensures { IfOk result (λ map. map ≡ record { metadata = metadata_seen metadata; lists = lists_seen lists } ∷ []) }
+        ensures { IfOk result (λ map. map
+            ≡ record { metadata = metadata_seen metadata; lists = lists_seen lists } ∷ []) }
     {
         let mut layers = Vec::new(alloc);
         layers.push(Layer::build(alloc, metadata, lists)?)?;

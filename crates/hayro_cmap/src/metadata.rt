@@ -23,8 +23,8 @@ const IDENTITY: &[u8] = b"Identity";
 /// A family of character collections: the registry and the ordering of a CIDSystemInfo dictionary.
 /// Adobe Technical Note 5014.
 ///
-/// Equality and hash are the derived ones: by the variant, and of `Custom` by both texts. So equal families
-/// have equal hashes.
+/// Equality and hash are the derived ones: by the variant, and of `Custom` by both texts. So equal
+/// families have equal hashes.
 #[derive(Debug, Drop, PartialEq, Eq, Hash)]
 pub enum CidFamily {
     /// Adobe-Japan1
@@ -75,7 +75,8 @@ impl CidFamily {
         }
     }
 
-    /// The CMap from Unicode, in UTF-16, to the CIDs of this family, for horizontal text. ISO 32000-1, 9.7.5.2.
+    /// The CMap from Unicode, in UTF-16, to the CIDs of this family, for horizontal text.
+    /// ISO 32000-1, 9.7.5.2.
     #[tactic(auto, unfolding(crate::specs::Names::known_names))]
     pub fn unicode_cmap(&self) -> Option<CMapName<'static>>
         ensures text { option_map name_bytes result ≡ unicode_cmap_of (family_seen self.now) }
@@ -90,8 +91,8 @@ impl CidFamily {
         }
     }
 
-    /// The CMap from the CIDs of this family to Unicode, in UCS-2. ISO 32000-1, 9.10.2, and Adobe Technical
-    /// Note 5411.
+    /// The CMap from the CIDs of this family to Unicode, in UCS-2. ISO 32000-1, 9.10.2, and Adobe
+    /// Technical Note 5411.
     #[tactic(auto, unfolding(crate::specs::Names::known_names))]
     pub fn ucs2_cmap(&self) -> Option<CMapName<'static>>
         ensures text { option_map name_bytes result ≡ ucs2_cmap_of (family_seen self.now) }

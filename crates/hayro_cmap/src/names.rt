@@ -8,11 +8,11 @@ ghost use Rattle.hayro_cmap.specs.declared.names.CMapName.{CMapName};
 /// The number of a character in a character collection. Adobe Technical Note 5014.
 pub type Cid = u32;
 
-/// The name of a CMap: one of the predefined CMaps of ISO 32000-1, 9.7.5.2, and of the ToUnicode mapping
-/// files of Adobe Technical Note 5411, or any other name.
+/// The name of a CMap: one of the predefined CMaps of ISO 32000-1, 9.7.5.2, and of the ToUnicode
+/// mapping files of Adobe Technical Note 5411, or any other name.
 ///
-/// Equality is the derived one: by the variant, and of `Custom` by its bytes. So a `Custom` that was made by
-/// hand of a known text isn't equal to the known name; `from_bytes` makes none.
+/// Equality is the derived one: by the variant, and of `Custom` by its bytes. So a `Custom` that was
+/// made by hand of a known text isn't equal to the known name; `from_bytes` makes none.
 #[derive(Clone, Copy, Debug, PartialEq, Eq)]
 pub enum CMapName<'a> {
     /// `83pv-RKSJ-H`
@@ -157,8 +157,8 @@ impl<'a> CMapName<'a> {
     pub fn from_bytes(bytes: &'a [u8]) -> CMapName<'a>
         ensures name { IsNameOf bytes.now result }
 
-        // A text has one name. So the name of `name.to_bytes()` is `name`, unless that was made by hand as
-        // a `Custom` of a known text.
+        // A text has one name. So the name of `name.to_bytes()` is `name`, unless that was made by
+        // hand as a `Custom` of a known text.
         ensures only { (other : CMapName) → IsNameOf bytes.now other → IsSameName other result }
     {
         for place in 0..KNOWN_COUNT {

@@ -20,7 +20,8 @@ use std::alloc::Global;
 
 /// The declarations of a text file.
 pub(crate) fn read_text(alloc: Global, text: &[u8]) -> Result<Lists, Fault>
-    ensures file { IfOk result (λ lists. IsOnly (IsTextFile text.now) (file_saying (lists_seen lists))) }
+    ensures file { IfOk result
+        (λ lists. IsOnly (IsTextFile text.now) (file_saying (lists_seen lists))) }
     ensures refused { IsErrOf result Refused → HoldsOfNone (IsTextFile text.now) }
 {
     let mut lists = Lists::new(alloc);

@@ -4,10 +4,11 @@
 ghost use Rattle.std.specs.Prelude.{◌+◌, ◌-◌, ◌≤◌, ℕ, [], ◌∷◌, length, IfOk, IsErrOf, OnOk};
 ghost use Rattle.cmap_parts.specs.TokenSeen.{token_seen};
 ghost use Rattle.hayro_cmap.specs.DeclarationsSeen.{cid_entry_seen, lists_seen};
+ghost use Rattle.hayro_cmap.specs.EntriesSeen.{AddsEntry, HasNoEntry};
 ghost use Rattle.hayro_cmap.specs.Files.{CidEntry, Declaration};
 ghost use Rattle.hayro_cmap.specs.Only.{IsOnly, HoldsOfNone};
 ghost use Rattle.hayro_cmap.specs.TextFiles as files;
-ghost use Rattle.hayro_cmap.specs.TextFiles.{IsCidRange, IsCidChar, IsEntry};
+ghost use Rattle.hayro_cmap.specs.TextFiles.{IsCidRange, IsCidChar};
 ghost use Rattle.hayro_cmap.specs.TextReading.{Declares, EntryBehind, ListAt};
 ghost use Rattle.hayro_cmap.specs.declared.fault.Fault.TheVariants.{Refused};
 
@@ -23,9 +24,11 @@ pub(super) fn add_codespace_range(
     first: &Token<'_>,
     lists: &mut Lists,
 ) -> Result<(), Fault>
-    ensures entry { OnOk result (Declares (EntryBehind (IsEntry files.codespace_range) (token_seen first.now) reader.old) reader.new (lists_seen lists.old) (lists_seen lists.new)) }
+    ensures entry { OnOk result
+        (AddsEntry files.codespace_range first.now reader.old reader.new lists.old lists.new) }
     ensures shorter { OnOk result (length reader.new ≤ length reader.old) }
-    ensures refused { IsErrOf result Refused → HoldsOfNone (EntryBehind (IsEntry files.codespace_range) (token_seen first.now) reader.old) }
+    ensures refused { IsErrOf result Refused
+        → HasNoEntry files.codespace_range first.now reader.old }
 {
     let low = reader.code(first)?;
     let high = reader.next_code()?;
@@ -46,9 +49,11 @@ pub(super) fn add_cid_range(
     first: &Token<'_>,
     lists: &mut Lists,
 ) -> Result<(), Fault>
-    ensures entry { OnOk result (Declares (EntryBehind (IsEntry files.cid_range) (token_seen first.now) reader.old) reader.new (lists_seen lists.old) (lists_seen lists.new)) }
+    ensures entry { OnOk result
+        (AddsEntry files.cid_range first.now reader.old reader.new lists.old lists.new) }
     ensures shorter { OnOk result (length reader.new ≤ length reader.old) }
-    ensures refused { IsErrOf result Refused → HoldsOfNone (EntryBehind (IsEntry files.cid_range) (token_seen first.now) reader.old) }
+    ensures refused { IsErrOf result Refused
+        → HasNoEntry files.cid_range first.now reader.old }
 {
     let filed = read_cid_range(reader, first)?;
     lists.add_cid(filed.len, filed.range)?;
@@ -61,9 +66,11 @@ pub(super) fn add_cid_char(
     first: &Token<'_>,
     lists: &mut Lists,
 ) -> Result<(), Fault>
-    ensures entry { OnOk result (Declares (EntryBehind (IsEntry files.cid_char) (token_seen first.now) reader.old) reader.new (lists_seen lists.old) (lists_seen lists.new)) }
+    ensures entry { OnOk result
+        (AddsEntry files.cid_char first.now reader.old reader.new lists.old lists.new) }
     ensures shorter { OnOk result (length reader.new ≤ length reader.old) }
-    ensures refused { IsErrOf result Refused → HoldsOfNone (EntryBehind (IsEntry files.cid_char) (token_seen first.now) reader.old) }
+    ensures refused { IsErrOf result Refused
+        → HasNoEntry files.cid_char first.now reader.old }
 {
     let filed = read_cid_char(reader, first)?;
     lists.add_cid(filed.len, filed.range)?;
@@ -76,9 +83,11 @@ pub(super) fn add_notdef_range(
     first: &Token<'_>,
     lists: &mut Lists,
 ) -> Result<(), Fault>
-    ensures entry { OnOk result (Declares (EntryBehind (IsEntry files.notdef_range) (token_seen first.now) reader.old) reader.new (lists_seen lists.old) (lists_seen lists.new)) }
+    ensures entry { OnOk result
+        (AddsEntry files.notdef_range first.now reader.old reader.new lists.old lists.new) }
     ensures shorter { OnOk result (length reader.new ≤ length reader.old) }
-    ensures refused { IsErrOf result Refused → HoldsOfNone (EntryBehind (IsEntry files.notdef_range) (token_seen first.now) reader.old) }
+    ensures refused { IsErrOf result Refused
+        → HasNoEntry files.notdef_range first.now reader.old }
 {
     let filed = read_cid_range(reader, first)?;
     lists.add_notdef(filed.len, filed.range)?;
@@ -91,9 +100,11 @@ pub(super) fn add_notdef_char(
     first: &Token<'_>,
     lists: &mut Lists,
 ) -> Result<(), Fault>
-    ensures entry { OnOk result (Declares (EntryBehind (IsEntry files.notdef_char) (token_seen first.now) reader.old) reader.new (lists_seen lists.old) (lists_seen lists.new)) }
+    ensures entry { OnOk result
+        (AddsEntry files.notdef_char first.now reader.old reader.new lists.old lists.new) }
     ensures shorter { OnOk result (length reader.new ≤ length reader.old) }
-    ensures refused { IsErrOf result Refused → HoldsOfNone (EntryBehind (IsEntry files.notdef_char) (token_seen first.now) reader.old) }
+    ensures refused { IsErrOf result Refused
+        → HasNoEntry files.notdef_char first.now reader.old }
 {
     let filed = read_cid_char(reader, first)?;
     lists.add_notdef(filed.len, filed.range)?;
@@ -106,9 +117,11 @@ pub(super) fn add_bf_char(
     first: &Token<'_>,
     lists: &mut Lists,
 ) -> Result<(), Fault>
-    ensures entry { OnOk result (Declares (EntryBehind (IsEntry files.bf_char) (token_seen first.now) reader.old) reader.new (lists_seen lists.old) (lists_seen lists.new)) }
+    ensures entry { OnOk result
+        (AddsEntry files.bf_char first.now reader.old reader.new lists.old lists.new) }
     ensures shorter { OnOk result (length reader.new ≤ length reader.old) }
-    ensures refused { IsErrOf result Refused → HoldsOfNone (EntryBehind (IsEntry files.bf_char) (token_seen first.now) reader.old) }
+    ensures refused { IsErrOf result Refused
+        → HasNoEntry files.bf_char first.now reader.old }
 {
     let code = reader.code(first)?;
     let units = reader.next_destination()?;
@@ -128,9 +141,11 @@ pub(super) fn add_bf_range(
     first: &Token<'_>,
     lists: &mut Lists,
 ) -> Result<(), Fault>
-    ensures entry { OnOk result (Declares (EntryBehind (IsEntry files.bf_range) (token_seen first.now) reader.old) reader.new (lists_seen lists.old) (lists_seen lists.new)) }
+    ensures entry { OnOk result
+        (AddsEntry files.bf_range first.now reader.old reader.new lists.old lists.new) }
     ensures shorter { OnOk result (length reader.new ≤ length reader.old) }
-    ensures refused { IsErrOf result Refused → HoldsOfNone (EntryBehind (IsEntry files.bf_range) (token_seen first.now) reader.old) }
+    ensures refused { IsErrOf result Refused
+        → HasNoEntry files.bf_range first.now reader.old }
 {
     let start = reader.code(first)?;
     let end = reader.next_code()?;
@@ -156,9 +171,11 @@ fn add_list(
     end: u32,
     lists: &mut Lists,
 ) -> Result<(), Fault>
-    ensures list { OnOk result (Declares (ListAt start (end + 1 - start) reader.old) reader.new (lists_seen lists.old) (lists_seen lists.new)) }
+    ensures list { OnOk result (Declares (ListAt start (end + 1 - start) reader.old) reader.new
+        (lists_seen lists.old) (lists_seen lists.new)) }
     ensures shorter { OnOk result (length reader.new ≤ length reader.old) }
-    ensures refused { IsErrOf result Refused → HoldsOfNone (ListAt start (end + 1 - start) reader.old) }
+    ensures refused { IsErrOf result Refused
+        → HoldsOfNone (ListAt start (end + 1 - start) reader.old) }
 {
     for code in u64::from(start)..u64::from(end) + 1 {
         let units = reader.next_destination()?;
@@ -184,9 +201,12 @@ struct Filed {
 
 /// code, code, CID: filed by the length of the first code.
 fn read_cid_range(reader: &mut TokenReader<'_>, first: &Token<'_>) -> Result<Filed, Fault>
-    ensures entry { (kind : ℕ → CidEntry → Declaration) → IfOk result (λ filed. IsOnly (EntryBehind (IsCidRange kind) (token_seen first.now) reader.old) (kind filed.len (cid_entry_seen filed.range) ∷ [], reader.new)) }
+    ensures entry { (kind : ℕ → CidEntry → Declaration) → IfOk result
+        (λ filed. IsOnly (EntryBehind (IsCidRange kind) (token_seen first.now) reader.old)
+        (kind filed.len (cid_entry_seen filed.range) ∷ [], reader.new)) }
     ensures shorter { OnOk result (length reader.new ≤ length reader.old) }
-    ensures refused { (kind : ℕ → CidEntry → Declaration) → IsErrOf result Refused → HoldsOfNone (EntryBehind (IsCidRange kind) (token_seen first.now) reader.old) }
+    ensures refused { (kind : ℕ → CidEntry → Declaration) → IsErrOf result Refused
+        → HoldsOfNone (EntryBehind (IsCidRange kind) (token_seen first.now) reader.old) }
 {
     let start = reader.code(first)?;
     let end = reader.next_code()?;
@@ -203,9 +223,12 @@ fn read_cid_range(reader: &mut TokenReader<'_>, first: &Token<'_>) -> Result<Fil
 
 /// code, CID
 fn read_cid_char(reader: &mut TokenReader<'_>, first: &Token<'_>) -> Result<Filed, Fault>
-    ensures entry { (kind : ℕ → CidEntry → Declaration) → IfOk result (λ filed. IsOnly (EntryBehind (IsCidChar kind) (token_seen first.now) reader.old) (kind filed.len (cid_entry_seen filed.range) ∷ [], reader.new)) }
+    ensures entry { (kind : ℕ → CidEntry → Declaration) → IfOk result
+        (λ filed. IsOnly (EntryBehind (IsCidChar kind) (token_seen first.now) reader.old)
+        (kind filed.len (cid_entry_seen filed.range) ∷ [], reader.new)) }
     ensures shorter { OnOk result (length reader.new ≤ length reader.old) }
-    ensures refused { (kind : ℕ → CidEntry → Declaration) → IsErrOf result Refused → HoldsOfNone (EntryBehind (IsCidChar kind) (token_seen first.now) reader.old) }
+    ensures refused { (kind : ℕ → CidEntry → Declaration) → IsErrOf result Refused
+        → HoldsOfNone (EntryBehind (IsCidChar kind) (token_seen first.now) reader.old) }
 {
     let code = reader.code(first)?;
     let cid = reader.next_cid()?;

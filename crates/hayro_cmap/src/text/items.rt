@@ -15,7 +15,8 @@ use cmap_parts::token::Token;
 
 /// Reads all the items of a text.
 pub(super) fn read_items(reader: &mut TokenReader<'_>, lists: &mut Lists) -> Result<(), Fault>
-    ensures items { OnOk result (DeclaresAll (ItemsAt reader.old) (lists_seen lists.old) (lists_seen lists.new)) }
+    ensures items { OnOk result
+        (DeclaresAll (ItemsAt reader.old) (lists_seen lists.old) (lists_seen lists.new)) }
     ensures refused { IsErrOf result Refused → HoldsOfNone (ItemsAt reader.old) }
 {
     while let Some(token) = reader.next_token()? {
@@ -30,9 +31,12 @@ fn read_item(
     first: &Token<'_>,
     lists: &mut Lists,
 ) -> Result<(), Fault>
-    ensures item { OnOk result (DeclaresItem (ItemBehind (token_seen first.now) reader.old) reader.new (lists_seen lists.old) (lists_seen lists.new)) }
+    ensures item { OnOk result
+        (DeclaresItem (ItemBehind (token_seen first.now) reader.old) reader.new
+        (lists_seen lists.old) (lists_seen lists.new)) }
     ensures shorter { OnOk result (length reader.new ≤ length reader.old) }
-    ensures refused { IsErrOf result Refused → HoldsOfNone (ItemBehind (token_seen first.now) reader.old) }
+    ensures refused { IsErrOf result Refused
+        → HoldsOfNone (ItemBehind (token_seen first.now) reader.old) }
 {
     if let Some(section) = Section::opened_by(first) {
         return read_section(reader, section, lists);

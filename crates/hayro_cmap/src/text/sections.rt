@@ -3,11 +3,10 @@
 ghost use Rattle.std.specs.Prelude.{◌≡◌, ◌≤◌, false, length, IsErrOf, OnOk, MatchOption};
 ghost use Rattle.cmap_parts.specs.TokenSeen.{token_seen};
 ghost use Rattle.cmap_parts.specs.Tokens as tokens;
-ghost use Rattle.hayro_cmap.specs.DeclarationsSeen.{lists_seen};
+ghost use Rattle.hayro_cmap.specs.EntriesSeen.{AddsBody, AddsEntry, HasNoEntry};
 ghost use Rattle.hayro_cmap.specs.Only.{HoldsOfNone};
 ghost use Rattle.hayro_cmap.specs.TextFiles as files;
-ghost use Rattle.hayro_cmap.specs.TextFiles.{IsEntry};
-ghost use Rattle.hayro_cmap.specs.TextReading.{EntryBehind, BodyAt, Declares};
+ghost use Rattle.hayro_cmap.specs.TextReading.{BodyAt};
 ghost use Rattle.hayro_cmap.specs.TextSeen.{section_seen};
 ghost use Rattle.hayro_cmap.specs.declared.fault.Fault.TheVariants.{Refused};
 
@@ -35,8 +34,11 @@ pub(super) enum Section {
 impl Section {
     /// The section that a token opens.
     pub(super) fn opened_by(token: &Token<'_>) -> Option<Section>
-        ensures { MatchOption result ((section : files.Section) → token_seen token.now ≡ tokens.Name false (files.opener section) → ⊥)
-            (λ section. token_seen token.now ≡ tokens.Name false (files.opener (section_seen section))) }
+        ensures { MatchOption result
+            ((section : files.Section)
+            → token_seen token.now ≡ tokens.Name false (files.opener section) → ⊥)
+            (λ section.
+            token_seen token.now ≡ tokens.Name false (files.opener (section_seen section))) }
     {
         if is_executable(token, b"begincidrange") {
             Some(Section::CidRange)
@@ -79,9 +81,11 @@ pub(super) fn read_section(
     section: Section,
     lists: &mut Lists,
 ) -> Result<(), Fault>
-    ensures body { OnOk result (Declares (BodyAt (section_seen section) reader.old) reader.new (lists_seen lists.old) (lists_seen lists.new)) }
+    ensures body { OnOk result
+        (AddsBody (section_seen section) reader.old reader.new lists.old lists.new) }
     ensures shorter { OnOk result (length reader.new ≤ length reader.old) }
-    ensures refused { IsErrOf result Refused → HoldsOfNone (BodyAt (section_seen section) reader.old) }
+    ensures refused { IsErrOf result Refused
+        → HoldsOfNone (BodyAt (section_seen section) reader.old) }
 {
     loop {
         let token = reader.required_token()?;
@@ -99,9 +103,11 @@ fn read_entry(
     first: &Token<'_>,
     lists: &mut Lists,
 ) -> Result<(), Fault>
-    ensures entry { OnOk result (Declares (EntryBehind (IsEntry (section_seen section)) (token_seen first.now) reader.old) reader.new (lists_seen lists.old) (lists_seen lists.new)) }
+    ensures entry { OnOk result
+        (AddsEntry (section_seen section) first.now reader.old reader.new lists.old lists.new) }
     ensures shorter { OnOk result (length reader.new ≤ length reader.old) }
-    ensures refused { IsErrOf result Refused → HoldsOfNone (EntryBehind (IsEntry (section_seen section)) (token_seen first.now) reader.old) }
+    ensures refused { IsErrOf result Refused
+        → HasNoEntry (section_seen section) first.now reader.old }
 {
     match section {
         Section::CodespaceRange => add_codespace_range(reader, first, lists),

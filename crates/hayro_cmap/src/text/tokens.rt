@@ -56,8 +56,10 @@ impl<'d> TokenReader<'d> {
 
     /// The next token, `None` at the end of the text.
     pub(super) fn next_token(&mut self) -> Result<Option<Token<'d>>, Fault>
-        ensures token { IfOk result (λ found. IfSome found (λ token. IsOnly (TokenAt self.old) (token_seen token, self.new))) }
-        ensures shorter { IfOk result (λ found. IfSome found (λ _. length self.new < length self.old)) }
+        ensures token { IfOk result (λ found. IfSome found
+            (λ token. IsOnly (TokenAt self.old) (token_seen token, self.new))) }
+        ensures shorter { IfOk result (λ found. IfSome found
+            (λ _. length self.new < length self.old)) }
         ensures filled { IfOk result (λ found. IfSome found (λ _. IsBlank self.old → ⊥)) }
         ensures end { IfOk result (λ found. IfNone found (IsBlank self.old)) }
         ensures end_only { IfOk result (λ found. IfNone found (HoldsOfNone (TokenAt self.old))) }
@@ -102,8 +104,10 @@ impl<'d> TokenReader<'d> {
 
     /// The units of the destination that a token is: a string that isn't empty.
     pub(super) fn destination(&mut self, token: &Token<'_>) -> Result<Vec<u16>, Fault>
-        ensures destination { IfOk result (λ units. IsOnly (IsDestination (token_seen token.now)) units.items) }
-        ensures refused { IsErrOf result Refused → HoldsOfNone (IsDestination (token_seen token.now)) }
+        ensures destination { IfOk result
+            (λ units. IsOnly (IsDestination (token_seen token.now)) units.items) }
+        ensures refused { IsErrOf result Refused
+            → HoldsOfNone (IsDestination (token_seen token.now)) }
         ensures stays { self.new ≡ self.old }
     {
         let Token::String(string) = token else {
@@ -118,7 +122,8 @@ impl<'d> TokenReader<'d> {
 
     /// The units of the destination that comes next.
     pub(super) fn next_destination(&mut self) -> Result<Vec<u16>, Fault>
-        ensures destination { IfOk result (λ units. IsOnly (DestinationAt self.old) (units.items, self.new)) }
+        ensures destination { IfOk result
+            (λ units. IsOnly (DestinationAt self.old) (units.items, self.new)) }
         ensures shorter { IfOk result (λ _. length self.new < length self.old) }
         ensures refused { IsErrOf result Refused → HoldsOfNone (DestinationAt self.old) }
     {
@@ -139,7 +144,8 @@ impl<'d> TokenReader<'d> {
 
 /// The code of one to four bytes.
 fn code_of(bytes: &[u8]) -> Option<Code>
-    ensures { MatchOption result (IsCodeBytes bytes.now → ⊥) (λ code. IsCodeBytes bytes.now × (code_seen code ≡ code_of bytes.now)) }
+    ensures { MatchOption result (IsCodeBytes bytes.now → ⊥)
+        (λ code. IsCodeBytes bytes.now × (code_seen code ≡ code_of bytes.now)) }
 {
     let len = u8::try_from(bytes.len()).ok()?;
     let number = Reader::new(bytes).read_n_bytes(len)?;
@@ -148,7 +154,8 @@ fn code_of(bytes: &[u8]) -> Option<Code>
 
 /// The CID that a token is.
 fn cid_of(token: &Token<'_>) -> Option<Cid>
-    ensures { MatchOption result (HoldsOfNone (IsCid (token_seen token.now))) (λ cid. IsOnly (IsCid (token_seen token.now)) cid) }
+    ensures { MatchOption result (HoldsOfNone (IsCid (token_seen token.now)))
+        (λ cid. IsOnly (IsCid (token_seen token.now)) cid) }
 {
     match token {
         Token::Number(Number::Integer(n)) => u32::try_from(*n).ok(),

@@ -1,5 +1,5 @@
-use Rattle.std.proofs.Common.{◌≡◌, ◌-◌, ◌<◌, List, ℕ, sym, ap, ◌∙◌, subst, length}
-use Rattle.std.specs.Prelude.{Option, Some, None, IfOk, OnErr, IsSomeAnd, option_map, option_and_then}
+use Rattle.std.proofs.Common.{◌≡◌, ◌-◌, ◌<◌, sym, ap, ◌∙◌, subst, length}
+use Rattle.std.specs.Prelude.{IfOk, OnErr, IsSomeAnd, option_map, option_and_then}
 use Rattle.cmap_parts.specs.TextSeen.{text_seen}
 use Rattle.cmap_parts.specs.Texts.{text_at, text_of}
 use Rattle.hayro_cmap.specs.LayersSeen.{layers_seen}

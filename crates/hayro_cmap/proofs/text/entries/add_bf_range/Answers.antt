@@ -1,9 +1,8 @@
-use Rattle.std.proofs.Common.{◌≡◌, ◌≢◌, [], ◌∷◌, refl, sym}
+use Rattle.std.proofs.Common.{◌≢◌, [], ◌∷◌, refl}
 use Rattle.std.proofs.lemmas.Bool.{false≢true}
 use Rattle.std.proofs.lemmas.Result.{err_from_is_err_and, on_ok_weaker}
 use Rattle.cmap_parts.specs.TokenSeen.{token_seen}
-use Rattle.hayro_cmap.specs.TextFiles.{IsEntry, bf_range, declares_bf}
-use Rattle.hayro_cmap.specs.TextReading.{EntryBehind, Declares}
+use Rattle.hayro_cmap.specs.TextFiles.{declares_bf}
 use Rattle.hayro_cmap.proofs.BfRanges.{opening_bracket, bf_range_one, no_bf_range-start, no_bf_range-end, no_bf_range-one, no_bf_range-list, no_bf_range-token}
 use Rattle.hayro_cmap.proofs.ListsOfDestinations.{declares_list}
 use Rattle.hayro_cmap.proofs.text.entries.add_bf_range.Goals as goal
