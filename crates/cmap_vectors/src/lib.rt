@@ -7,11 +7,15 @@ pub mod caller;
 #[cfg(test)]
 mod cid_sections;
 #[cfg(test)]
+mod counted_lookups;
+#[cfg(test)]
 mod files;
 #[cfg(test)]
 mod identity;
 #[cfg(test)]
 mod malformed_files;
+#[cfg(test)]
+mod names;
 #[cfg(test)]
 mod prefix_tables;
 #[cfg(test)]

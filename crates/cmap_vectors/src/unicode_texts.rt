@@ -20,96 +20,103 @@ fn is_found(found: &Option<BfString>, expected: Option<&str>) -> bool {
     }
 }
 
-/// Asserts the texts of codes, for each file.
-fn assert_texts(
-    rt: &(impl Abort + AllocGlobal),
-    rows: &[(&str, &[(u32, Option<&str>)])],
-) -> Result<(), Fail> {
-    for (file, texts) in rows {
-        let map = map_of(rt.alloc(), file.as_bytes())?.expect(rt, file);
-        for (code, text) in *texts {
-            let found = map.lookup_bf_string(rt.alloc(), *code)?;
-            assert!(rt; is_found(&found, *text), "{code:#X} in {file}");
-        }
+/// Texts of codes.
+type Texts = &'static [(u32, Option<&'static str>)];
+
+/// Asserts the texts of codes in a file.
+fn assert_texts(rt: &(impl Abort + AllocGlobal), file: &str, texts: Texts) -> Result<(), Fail> {
+    let map = map_of(rt.alloc(), file.as_bytes())?.expect(rt, file);
+    for (code, text) in texts {
+        let found = map.lookup_bf_string(rt.alloc(), *code)?;
+        assert!(rt; is_found(&found, *text), "{code:#X} in {file}");
     }
     Ok(())
 }
 
+/// Ranges whose destination is that of their first code.
+const RANGES: &[(&str, Texts)] = &[
+    (
+        "beginbfrange <00> <03> <D83DDFFE> endbfrange",
+        &[(0, Some("\u{1F7FE}")), (1, Some("\u{1F7FF}")), (2, None)],
+    ),
+    (
+        "beginbfrange <0000> <0002> <FFFF> endbfrange",
+        &[(0, Some("\u{FFFF}")), (1, None)],
+    ),
+    (
+        "beginbfrange <00000000> <00010000> <0000> endbfrange",
+        &[(65535, Some("\u{FFFF}")), (65536, None)],
+    ),
+    (
+        "beginbfrange <0000> <0001> <00660066> endbfrange",
+        &[(1, Some("fg"))],
+    ),
+    (
+        "1 beginbfrange <00> <7f> <00> endbfrange",
+        &[(0, Some("\0")), (0x41, Some("A")), (0x7F, Some("\u{7F}"))],
+    ),
+];
+
 #[test]
 fn a_text_counts_on_in_its_last_unit(rt: HostRuntime) -> Result<(), Fail> {
-    assert_texts(
-        &rt,
-        &[
-            (
-                "beginbfrange <00> <03> <D83DDFFE> endbfrange",
-                &[(0, Some("\u{1F7FE}")), (1, Some("\u{1F7FF}")), (2, None)],
-            ),
-            (
-                "beginbfrange <0000> <0002> <FFFF> endbfrange",
-                &[(0, Some("\u{FFFF}")), (1, None)],
-            ),
-            (
-                "beginbfrange <00000000> <00010000> <0000> endbfrange",
-                &[(65535, Some("\u{FFFF}")), (65536, None)],
-            ),
-            (
-                "beginbfrange <0000> <0001> <00660066> endbfrange",
-                &[(1, Some("fg"))],
-            ),
-            (
-                "1 beginbfrange <00> <7f> <00> endbfrange",
-                &[(0, Some("\0")), (0x41, Some("A")), (0x7F, Some("\u{7F}"))],
-            ),
-        ],
-    )
+    for (file, texts) in RANGES {
+        assert_texts(&rt, file, texts)?;
+    }
+    Ok(())
 }
+
+/// Single codes.
+const CHARS: &[(&str, Texts)] = &[
+    (
+        "beginbfchar <3A51> <D840DC3E> <005F> <00660066> endbfchar",
+        &[(0x3A51, Some("\u{2003E}")), (0x5F, Some("ff"))],
+    ),
+    (
+        "beginbfchar <01> <D83DDE> endbfchar",
+        &[(1, Some("\u{00D8}\u{3DDE}"))],
+    ),
+    ("beginbfchar <01> <D800> endbfchar", &[(1, None)]),
+    (
+        "2 beginbfchar <0041> <0048> <0042> <0065> endbfchar",
+        &[
+            (0x41, Some("H")),
+            (0x42, Some("e")),
+            (0x43, None),
+            (0, None),
+        ],
+    ),
+];
 
 #[test]
 fn one_character_is_a_char_and_more_are_a_string(rt: HostRuntime) -> Result<(), Fail> {
-    assert_texts(
-        &rt,
-        &[
-            (
-                "beginbfchar <3A51> <D840DC3E> <005F> <00660066> endbfchar",
-                &[(0x3A51, Some("\u{2003E}")), (0x5F, Some("ff"))],
-            ),
-            (
-                "beginbfchar <01> <D83DDE> endbfchar",
-                &[(1, Some("\u{00D8}\u{3DDE}"))],
-            ),
-            ("beginbfchar <01> <D800> endbfchar", &[(1, None)]),
-            (
-                "2 beginbfchar <0041> <0048> <0042> <0065> endbfchar",
-                &[
-                    (0x41, Some("H")),
-                    (0x42, Some("e")),
-                    (0x43, None),
-                    (0, None),
-                ],
-            ),
-        ],
-    )
+    for (file, texts) in CHARS {
+        assert_texts(&rt, file, texts)?;
+    }
+    Ok(())
 }
+
+/// Ranges with a list of destinations.
+const LISTS: &[(&str, Texts)] = &[
+    (
+        "1 beginbfrange <005F> <0061> [<00660066> <00660069> <0066006C>] endbfrange",
+        &[(0x5F, Some("ff")), (0x60, Some("fi")), (0x61, Some("fl"))],
+    ),
+    (
+        "beginbfrange <06> <05> [] endbfrange",
+        &[(5, None), (6, None)],
+    ),
+    (
+        "beginbfrange <FFFFFFFF> <FFFFFFFF> [<0041>] endbfrange",
+        &[(0xFFFF_FFFF, Some("A"))],
+    ),
+];
 
 #[test]
 fn a_list_has_one_destination_for_each_code(rt: HostRuntime) -> Result<(), Fail> {
-    assert_texts(
-        &rt,
-        &[
-            (
-                "1 beginbfrange <005F> <0061> [<00660066> <00660069> <0066006C>] endbfrange",
-                &[(0x5F, Some("ff")), (0x60, Some("fi")), (0x61, Some("fl"))],
-            ),
-            (
-                "beginbfrange <06> <05> [] endbfrange",
-                &[(5, None), (6, None)],
-            ),
-            (
-                "beginbfrange <FFFFFFFF> <FFFFFFFF> [<0041>] endbfrange",
-                &[(0xFFFF_FFFF, Some("A"))],
-            ),
-        ],
-    )
+    for (file, texts) in LISTS {
+        assert_texts(&rt, file, texts)?;
+    }
+    Ok(())
 }
 
 /// A code, how many bytes it has, and its CID.
