@@ -1,4 +1,5 @@
-//! Answers which CIDs the character codes on the command line stand for, in the CMap file on the standard input.
+//! Answers which CIDs the character codes on the command line stand for, in the CMap file on the
+//! standard input.
 #![tactic(auto)]
 
 mod failure;
@@ -7,8 +8,8 @@ mod query;
 mod run;
 
 use failure::Failure;
+use std::env;
 use std::process::ExitCode;
-use std::{env, io};
 
 fn main(rt: HostRuntime) -> ExitCode {
     let status = match words(&rt) {
@@ -19,12 +20,12 @@ fn main(rt: HostRuntime) -> ExitCode {
             &mut rt.stdout(),
             &mut rt.stderr(),
         ),
-        Err(_) => run::report(Failure::Unreadable, &mut rt.stderr()),
+        Err(failure) => run::report(failure, &mut rt.stderr()),
     };
     ExitCode::from(status)
 }
 
 /// The words of the command line, without the program's name.
-fn words(rt: &HostRuntime) -> io::Result<Vec<String>> {
+fn words(rt: &HostRuntime) -> Result<Vec<String>, Failure> {
     Ok(env::args(rt)?.skip(1).collect(rt.alloc())?)
 }
