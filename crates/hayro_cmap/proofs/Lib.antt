@@ -4,7 +4,10 @@ pub mod FileItems
 pub mod Outcomes
 pub mod ListsMade
 pub mod SectionsRead
+pub mod ItemsSaid
 pub mod ItemsRead
+pub mod ValuesRead
+pub mod LoneFiles
 pub mod LastFound
 pub mod LayersSearched
 pub mod BfRanges

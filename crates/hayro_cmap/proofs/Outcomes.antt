@@ -20,3 +20,7 @@ some_unless (Some x) P only = λ p. let e = only p in cc
 pub none_then : {A E : Type 0} (o : Option A) (P : Type 0) → (◌≡◌ {A = Result (Option A) E} (Ok o) (Ok None) → P) → IfNone o P
 none_then None P only = only refl
 none_then (Some x) P only = tt
+
+pub ok_or_is : {A E : Type 0} (o : Option A) (fault : E) (x : A) → ok_or o fault ≡ Ok x → o ≡ Some x
+ok_or_is None fault x is = cc
+ok_or_is (Some y) fault x is = cc

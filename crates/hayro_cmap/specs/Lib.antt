@@ -10,6 +10,7 @@ pub mod CMapNames
 pub mod Answers
 pub mod DeclarationsSeen
 pub mod LayersSeen
+pub mod FilesSeen
 pub mod ListsAppended
 pub mod TextReading
 pub mod TextSeen

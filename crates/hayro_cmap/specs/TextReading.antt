@@ -1,12 +1,12 @@
 -- Private aid: what a text begins with and the rest of it, as the code reads it. Public contracts speak of TextFiles alone.
-use Rattle.std.specs.Prelude.{◌≡◌, ℕ, false, List, [], ◌∷◌, ◌++◌, length, map, flat_map, codes, None}
+use Rattle.std.specs.Prelude.{◌≡◌, ℕ, false, List, [], ◌∷◌, ◌++◌, length, map, codes, bytes_eq, Option, Some, None, if◌then◌else◌}
 use Rattle.std.specs.List.{enumerate_from}
-use Rattle.cmap_parts.specs.Bytes.{big_endian}
+use Rattle.cmap_parts.specs.Bytes.{IsBlank, big_endian}
 use Rattle.cmap_parts.specs.Tokens.{Token, Tokens, Front}
-use Rattle.hayro_cmap.specs.Only.{IsOnly}
-use Rattle.hayro_cmap.specs.Files.{Declaration, Lists, File, lists_of}
-use Rattle.hayro_cmap.specs.ListsAppended.{append_lists}
-use Rattle.hayro_cmap.specs.TextFiles.{Section, closer, IsCode, IsCid, IsDestination, declares_bf, IsBody, Item, IsItem, AreItems, declared_by}
+use Rattle.hayro_cmap.specs.Only.{IsOnly, HoldsOfNone}
+use Rattle.hayro_cmap.specs.Files.{Declaration, Lists, lists_of}
+use Rattle.hayro_cmap.specs.ListsAppended.{no_lists, append_lists}
+use Rattle.hayro_cmap.specs.TextFiles.{Section, closer, IsCode, IsCid, IsDestination, declares_bf, IsBody, Item, key, entries, use_of_base, other, IsItem, AreItems, literal_head, Values}
 
 -- a code, by the number of its bytes and the number that they write
 pub record Code : Type 0 where
@@ -61,9 +61,17 @@ EntryBehind entry first text r = (more : List Token) × TokensAt text more r.1 �
 abbrev pub BodyAt : Section → List ℕ → List Declaration × List ℕ → Type 0
 BodyAt section text r = (body : List Token) × TokensAt text (body ++ Token.Name false (closer section) ∷ []) r.1 × IsBody section body r.0
 
+-- behind a key without a value the text ends
+abbrev pub EndsBehind : Item → List ℕ → Type 0
+EndsBehind (key k None) rest = IsBlank rest
+EndsBehind (key k (Some value)) rest = Unit {0}
+EndsBehind (entries declared) rest = Unit {0}
+EndsBehind use_of_base rest = Unit {0}
+EndsBehind (other t) rest = Unit {0}
+
 -- the text goes on behind the first token of an item
 abbrev pub ItemBehind : Token → List ℕ → Item × List ℕ → Type 0
-ItemBehind first text r = (more : List Token) × TokensAt text more r.1 × IsItem (first ∷ more) r.0
+ItemBehind first text r = (more : List Token) × TokensAt text more r.1 × IsItem (first ∷ more) r.0 × EndsBehind r.0 r.1
 
 -- the whole text has these items
 abbrev pub ItemsAt : List ℕ → List Item → Type 0
@@ -75,18 +83,65 @@ pub record Declares (reads : List Declaration × List ℕ → Type 0) (rest : Li
   pub only : IsOnly reads (declared, rest)
   pub added : new ≡ append_lists old (lists_of declared)
 
--- one item is read and no other, and what it declares is added
-pub record DeclaresItem (reads : Item × List ℕ → Type 0) (rest : List ℕ) (old new : Lists) : Type 0 where
+-- what items say, as far as they are read
+pub record Said : Type 0 where
+  pub values : Values
+  pub lists : Lists
+  pub uses : List (List ℕ)
+  -- the literal name that the last item begins with
+  pub operand : Option (List ℕ)
+
+abbrev pub no_values : Values
+no_values = record { registry = None; ordering = None; supplement = None; name = None; mode = None }
+
+abbrev pub nothing_said : Said
+nothing_said = record { values = no_values; lists = no_lists; uses = []; operand = None }
+
+-- the value of this key is that one
+abbrev pub with_value : Values → List ℕ → Option Token → Values
+with_value values k value = record {
+  registry = if bytes_eq k (codes "Registry") then value else values.registry;
+  ordering = if bytes_eq k (codes "Ordering") then value else values.ordering;
+  supplement = if bytes_eq k (codes "Supplement") then value else values.supplement;
+  name = if bytes_eq k (codes "CMapName") then value else values.name;
+  mode = if bytes_eq k (codes "WMode") then value else values.mode;
+}
+
+-- what is said with one item more; a use needs an operand
+abbrev pub Says : Said → Item → Said → Type 0
+Says old (key k value) new = new ≡ record { values = with_value old.values k value; lists = old.lists; uses = old.uses; operand = Some k }
+Says old (entries declared) new = new ≡ record { values = old.values; lists = append_lists old.lists (lists_of declared); uses = old.uses; operand = None }
+Says old use_of_base new = (name : List ℕ) × (old.operand ≡ Some name) × (new ≡ record { values = old.values; lists = old.lists; uses = old.uses ++ name ∷ []; operand = None })
+Says old (other t) new = new ≡ record { values = old.values; lists = old.lists; uses = old.uses; operand = literal_head (other t) }
+
+abbrev pub SaysAll : Said → List Item → Said → Type 0
+SaysAll old [] new = new ≡ old
+SaysAll old (item ∷ items) new = (mid : Said) × Says old item mid × SaysAll mid items new
+
+-- no token follows a key without a value
+abbrev pub HasEnd : Item → List ℕ → Type 0
+HasEnd (key k None) rest = HoldsOfNone (TokenAt rest)
+HasEnd (key k (Some value)) rest = Unit {0}
+HasEnd (entries declared) rest = Unit {0}
+HasEnd use_of_base rest = Unit {0}
+HasEnd (other t) rest = Unit {0}
+
+-- one item is read and no other, and what it says is said
+pub record SaysItem (reads : Item × List ℕ → Type 0) (rest : List ℕ) (old new : Said) : Type 0 where
   pub item : Item
   pub only : IsOnly reads (item, rest)
-  pub added : new ≡ append_lists old (lists_of (declared_by item))
+  pub has_end : HasEnd item rest
+  pub says : Says old item new
 
--- these items are read and no others, and what they declare is added
-pub record DeclaresAll (reads : List Item → Type 0) (old new : Lists) : Type 0 where
+-- no item that could be read says anything
+abbrev pub NoItemSays : (Item × List ℕ → Type 0) → Said → Type 0
+NoItemSays reads old = (item : Item) (rest : List ℕ) (new : Said) → reads (item, rest) → Says old item new → ⊥
+
+-- these items are read and no others, and what they say is said
+pub record SaysItems (reads : List Item → Type 0) (old new : Said) : Type 0 where
   pub items : List Item
   pub only : IsOnly reads items
-  pub added : new ≡ append_lists old (lists_of (flat_map declared_by items))
+  pub says : SaysAll old items new
 
--- a file that says no more than these lists
-abbrev pub file_saying : Lists → File
-file_saying lists = record { metadata = record { collection = None; name = None; mode = None }; lists = lists; uses = [] }
+abbrev pub NoItemsSay : (List Item → Type 0) → Said → Type 0
+NoItemsSay reads old = (items : List Item) (new : Said) → reads items → SaysAll old items new → ⊥

@@ -1,9 +1,17 @@
 -- Private aid: what contracts see of what the code reads from a text.
-use Rattle.std.specs.Prelude.{ℕ, ◌≤◌, List, length}
+use Rattle.std.specs.Prelude.{ℕ, ◌≤◌, List, codes, length, option_map}
+use Rattle.std.specs.Option.{option_copied}
+use Rattle.cmap_parts.specs.TokenSeen.{token_seen}
+use Rattle.hayro_cmap.specs.DeclarationsSeen.{lists_seen}
+use Rattle.hayro_cmap.specs.FilesSeen.{names_seen}
 use Rattle.hayro_cmap.specs.TextFiles as files
 use Rattle.hayro_cmap.specs.TextReading as reading
 use Rattle.hayro_cmap.specs.declared.text.sections.Section.{Section}
 use Rattle.hayro_cmap.specs.declared.text.sections.Section.TheVariants.{CodespaceRange, CidRange, CidChar, NotdefRange, NotdefChar, BfRange, BfChar}
+use Rattle.hayro_cmap.specs.declared.text.items.Said.{Said}
+use Rattle.hayro_cmap.specs.declared.text.keys.Key.{Key}
+use Rattle.hayro_cmap.specs.declared.text.keys.Key.TheVariants.{Registry, Ordering, Supplement, CMapName, WMode}
+use Rattle.hayro_cmap.specs.declared.text.keys.Values.{Values}
 use Rattle.hayro_cmap.specs.declared.text.tokens.Code.{Code}
 
 abbrev pub section_seen : Section → files.Section
@@ -21,3 +29,22 @@ code_seen code = record { len = code.len; number = code.number }
 -- one to four bytes
 abbrev pub IsCodeBytes : List ℕ → Type 0
 IsCodeBytes bytes = (1 ≤ length bytes) × (length bytes ≤ 4)
+
+abbrev pub key_name : Key → List ℕ
+key_name Registry = codes "Registry"
+key_name Ordering = codes "Ordering"
+key_name Supplement = codes "Supplement"
+key_name CMapName = codes "CMapName"
+key_name WMode = codes "WMode"
+
+abbrev pub values_seen : Values → files.Values
+values_seen values = record {
+  registry = option_map token_seen values.registry;
+  ordering = option_map token_seen values.ordering;
+  supplement = option_map token_seen values.supplement;
+  name = option_map token_seen values.name;
+  mode = option_map token_seen values.mode;
+}
+
+abbrev pub said_seen : Said → reading.Said
+said_seen said = record { values = values_seen said.values; lists = lists_seen said.lists; uses = names_seen said.uses.items; operand = option_copied said.operand }

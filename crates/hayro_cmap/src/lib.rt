@@ -5,6 +5,7 @@
 mod bundle;
 mod declarations;
 mod fault;
+mod file;
 mod layers;
 mod lookup;
 mod map;

@@ -1,22 +1,24 @@
 //! Maps: what the codes of a CMap file stand for.
 
-ghost use Rattle.std.specs.Prelude.{◌≡◌, ◌+◌, ◌*◌, ◌≤◌, [], ◌∷◌, ◌<◌, IfOk, IfSome, IfNone, IsSomeAnd, OnErr, OnSome, codes, length, option_map};
+ghost use Rattle.std.specs.Prelude.{◌≡◌, ◌≢◌, ◌+◌, ◌*◌, ◌≤◌, [], ◌∷◌, ◌<◌, IfOk, IfSome, IfNone, IsSomeAnd, OnErr, OnSome, codes, length, option_map};
 ghost use Rattle.cmap_parts.specs.TextSeen.{text_seen};
 ghost use Rattle.cmap_parts.specs.Texts.{text_of};
 ghost use Rattle.hayro_cmap.specs.Answers.{Answers, AnswersByName};
 ghost use Rattle.hayro_cmap.specs.DeclarationsSeen.{lists_seen};
 ghost use Rattle.hayro_cmap.specs.Files as files;
+ghost use Rattle.hayro_cmap.specs.FilesSeen.{file_seen};
 ghost use Rattle.hayro_cmap.specs.Identity.{identity_layer};
-ghost use Rattle.hayro_cmap.specs.Layers.{AreLayers};
+ghost use Rattle.hayro_cmap.specs.Layers.{AreLayers, layer_of};
 ghost use Rattle.hayro_cmap.specs.LayersSeen.{IsMetadataOf, metadata_seen, mode_seen};
 ghost use Rattle.hayro_cmap.specs.Lookups.{bf_of, cid_of};
 ghost use Rattle.hayro_cmap.specs.Only.{IsOnly, HoldsOfNone};
 ghost use Rattle.hayro_cmap.specs.Searches.{bf_looks, cid_looks};
-ghost use Rattle.hayro_cmap.specs.TextFiles.{IsTextFile};
+ghost use Rattle.hayro_cmap.specs.TextFiles.{IsLoneTextFile};
 
 use crate::bundle::Bundle;
 use crate::declarations::{CidRange, Codespace, Lists};
 use crate::fault::Fault;
+use crate::file::File;
 use crate::layers::Layer;
 use crate::lookup;
 use crate::metadata::{CharacterCollection, CidFamily, Metadata, WritingMode};
@@ -64,12 +66,12 @@ impl CMap {
 
         // A map is that of the file, and no other layers are.
         ensures accepts { IfOk result (λ found. IfSome found
-            (λ map. IsOnly (AreLayers IsTextFile (Answers F.Fn get_cmap.now) 16 «data».now) map)) }
+            (λ map. IsOnly (AreLayers IsLoneTextFile (Answers F.Fn get_cmap.now) 16 «data».now) map)) }
         ensures refuses { IfOk result (λ found. IfNone found
-            (HoldsOfNone (AreLayers IsTextFile (Answers F.Fn get_cmap.now) 16 «data».now))) }
+            (HoldsOfNone (AreLayers IsLoneTextFile (Answers F.Fn get_cmap.now) 16 «data».now))) }
     {
         match read_text(alloc, data) {
-            Ok(lists) => Ok(Some(CMap::of_lists(alloc, unknown_metadata(), lists)?)),
+            Ok(file) => CMap::of_file(alloc, file),
             Err(Fault::Refused) => Ok(None),
             Err(Fault::Memory) => Err(AllocError),
         }
@@ -193,6 +195,18 @@ impl CMap {
         CMap::of_lists(alloc, metadata, lists)
     }
 
+    /// The map of a file that uses no other.
+    fn of_file(alloc: Global, file: File<'_>) -> Result<Option<CMap>, AllocError>
+        ensures alone { IfOk result (λ found. IfSome found (λ map.
+            (file.entry.uses.items ≡ []) × (map ≡ layer_of (file_seen file.entry) ∷ []))) }
+        ensures uses { IfOk result (λ found. IfNone found (file.entry.uses.items ≢ [])) }
+    {
+        if file.uses.first().is_some() {
+            return Ok(None);
+        }
+        Ok(Some(CMap::of_lists(alloc, file.metadata, file.lists)?))
+    }
+
     /// The map of one file.
     fn of_lists(alloc: Global, metadata: Metadata, lists: Lists) -> Result<CMap, AllocError>
         ensures { IfOk result (λ map. map
@@ -201,16 +215,5 @@ impl CMap {
         let mut layers = Vec::new(alloc);
         layers.push(Layer::build(alloc, metadata, lists)?)?;
         Ok(CMap { layers })
-    }
-}
-
-/// What a file says of itself that says nothing.
-fn unknown_metadata() -> Metadata
-    ensures { metadata_seen result ≡ record { collection = None; name = None; mode = None } }
-{
-    Metadata {
-        character_collection: None,
-        name: None,
-        writing_mode: None,
     }
 }

@@ -1,30 +1,33 @@
 //! CMap files as text.
 
-ghost use Rattle.std.specs.Prelude.{◌≡◌, IfOk, IsErrOf};
-ghost use Rattle.hayro_cmap.specs.DeclarationsSeen.{lists_seen};
+ghost use Rattle.std.specs.Prelude.{IfOk, IsErrOf};
+ghost use Rattle.hayro_cmap.specs.FilesSeen.{file_seen};
 ghost use Rattle.hayro_cmap.specs.Only.{IsOnly, HoldsOfNone};
 ghost use Rattle.hayro_cmap.specs.TextFiles.{IsTextFile};
-ghost use Rattle.hayro_cmap.specs.TextReading.{file_saying};
 ghost use Rattle.hayro_cmap.specs.declared.fault.Fault.TheVariants.{Refused};
 
 mod entries;
 mod items;
+mod keys;
 mod sections;
 mod tokens;
 
-use self::items::read_items;
+use self::items::{Said, read_items};
 use self::tokens::TokenReader;
-use crate::declarations::Lists;
 use crate::fault::Fault;
+use crate::file::File;
 use std::alloc::Global;
 
-/// The declarations of a text file.
-pub(crate) fn read_text(alloc: Global, text: &[u8]) -> Result<Lists, Fault>
-    ensures file { IfOk result
-        (λ lists. IsOnly (IsTextFile text.now) (file_saying (lists_seen lists))) }
+/// What a text file says.
+pub(crate) fn read_text<'d>(alloc: Global, text: &'d [u8]) -> Result<File<'d>, Fault>
+    ensures file { IfOk result (λ file. IsOnly (IsTextFile text.now) (file_seen file)) }
     ensures refused { IsErrOf result Refused → HoldsOfNone (IsTextFile text.now) }
 {
-    let mut lists = Lists::new(alloc);
-    read_items(&mut TokenReader::new(alloc, text), &mut lists)?;
-    Ok(lists)
+    let mut said = Said::new(alloc);
+    read_items(&mut TokenReader::new(alloc, text), &mut said)?;
+    Ok(File {
+        metadata: said.values.metadata(alloc)?,
+        lists: said.lists,
+        uses: said.uses,
+    })
 }

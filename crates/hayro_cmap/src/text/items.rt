@@ -1,48 +1,90 @@
-//! The items of a text: sections, and tokens by themselves.
+//! The items of a text: keys with their values, sections, uses of other files, and tokens by themselves.
 
-ghost use Rattle.std.specs.Prelude.{◌≤◌, length, IsErrOf, OnOk};
+ghost use Rattle.std.specs.Prelude.{◌≡◌, ◌≤◌, length, None, IsErrOf, OnOk};
+ghost use Rattle.std.specs.Option.{option_copied};
 ghost use Rattle.cmap_parts.specs.TokenSeen.{token_seen};
-ghost use Rattle.hayro_cmap.specs.DeclarationsSeen.{lists_seen};
-ghost use Rattle.hayro_cmap.specs.Only.{HoldsOfNone};
-ghost use Rattle.hayro_cmap.specs.TextReading.{DeclaresAll, DeclaresItem, ItemBehind, ItemsAt};
+ghost use Rattle.hayro_cmap.specs.TextFiles.{use_of_base};
+ghost use Rattle.hayro_cmap.specs.TextReading.{ItemBehind, ItemsAt, NoItemSays, NoItemsSay, Says, SaysItem, SaysItems, nothing_said};
+ghost use Rattle.hayro_cmap.specs.TextSeen.{said_seen};
 ghost use Rattle.hayro_cmap.specs.declared.fault.Fault.TheVariants.{Refused};
 
+use super::keys::{Key, Values};
 use super::sections::{Section, read_section};
-use super::tokens::{TokenReader, is_executable};
+use super::tokens::{TokenReader, is_executable, literal_name};
 use crate::declarations::Lists;
 use crate::fault::Fault;
 use cmap_parts::token::Token;
+use std::alloc::Global;
+
+/// What items say, as far as they are read.
+#[derive(Drop)]
+pub(super) struct Said<'d> {
+    pub(super) values: Values<'d>,
+    pub(super) lists: Lists,
+    /// The names of the files that are used.
+    pub(super) uses: Vec<&'d [u8]>,
+    /// The literal name that the last item begins with, which a use takes.
+    operand: Option<&'d [u8]>,
+}
+
+impl<'d> Said<'d> {
+    pub(super) fn new(alloc: Global) -> Self
+        ensures { said_seen result ≡ nothing_said }
+    {
+        Said {
+            values: Values::new(),
+            lists: Lists::new(alloc),
+            uses: Vec::new(alloc),
+            operand: None,
+        }
+    }
+
+    /// Adds a use of the file that the last item names.
+    fn add_use(&mut self) -> Result<(), Fault>
+        ensures says { OnOk result (Says (said_seen self.old) use_of_base (said_seen self.new)) }
+        ensures refused { IsErrOf result Refused → option_copied self.old.operand ≡ None }
+    {
+        let name = self.operand.take().ok_or(Fault::Refused)?;
+        self.uses.push(name)?;
+        Ok(())
+    }
+}
 
 /// Reads all the items of a text.
-pub(super) fn read_items(reader: &mut TokenReader<'_>, lists: &mut Lists) -> Result<(), Fault>
+pub(super) fn read_items<'d>(reader: &mut TokenReader<'d>, said: &mut Said<'d>) -> Result<(), Fault>
     ensures items { OnOk result
-        (DeclaresAll (ItemsAt reader.old) (lists_seen lists.old) (lists_seen lists.new)) }
-    ensures refused { IsErrOf result Refused → HoldsOfNone (ItemsAt reader.old) }
+        (SaysItems (ItemsAt reader.old) (said_seen said.old) (said_seen said.new)) }
+    ensures refused { IsErrOf result Refused → NoItemsSay (ItemsAt reader.old) (said_seen said.old) }
 {
     while let Some(token) = reader.next_token()? {
-        read_item(reader, &token, lists)?;
+        read_item(reader, &token, said)?;
     }
     Ok(())
 }
 
-/// Reads what follows the first token of an item. One that uses another file is refused for now.
-fn read_item(
-    reader: &mut TokenReader<'_>,
-    first: &Token<'_>,
-    lists: &mut Lists,
+/// Reads what follows the first token of an item.
+fn read_item<'d>(
+    reader: &mut TokenReader<'d>,
+    first: &Token<'d>,
+    said: &mut Said<'d>,
 ) -> Result<(), Fault>
     ensures item { OnOk result
-        (DeclaresItem (ItemBehind (token_seen first.now) reader.old) reader.new
-        (lists_seen lists.old) (lists_seen lists.new)) }
+        (SaysItem (ItemBehind (token_seen first.now) reader.old) reader.new
+        (said_seen said.old) (said_seen said.new)) }
     ensures shorter { OnOk result (length reader.new ≤ length reader.old) }
     ensures refused { IsErrOf result Refused
-        → HoldsOfNone (ItemBehind (token_seen first.now) reader.old) }
+        → NoItemSays (ItemBehind (token_seen first.now) reader.old) (said_seen said.old) }
 {
     if let Some(section) = Section::opened_by(first) {
-        return read_section(reader, section, lists);
+        said.operand = None;
+        return read_section(reader, section, &mut said.lists);
     }
     if is_executable(first, b"usecmap") {
-        return Err(Fault::Refused);
+        return said.add_use();
     }
+    if let Some(key) = Key::of(first) {
+        said.values.set(key, reader.next_token()?);
+    }
+    said.operand = literal_name(first);
     Ok(())
 }

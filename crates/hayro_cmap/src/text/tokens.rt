@@ -1,11 +1,12 @@
 //! The tokens of a text in order, and what single tokens stand for.
 
 ghost use Rattle.std.specs.Prelude.{◌≡◌, ◌↔◌, ◌<◌, ◌≤◌, ◌∷◌, ℕ, List, false, length, IfOk, IfErr, OnErr, IfSome, IfNone, IsErrOf, IsTrue, MatchOption};
+ghost use Rattle.std.specs.Option.{option_copied};
 ghost use Rattle.cmap_parts.specs.Bytes.{IsBlank};
 ghost use Rattle.cmap_parts.specs.TokenSeen.{token_seen};
 ghost use Rattle.cmap_parts.specs.Tokens as tokens;
 ghost use Rattle.hayro_cmap.specs.Only.{IsOnly, HoldsOfNone};
-ghost use Rattle.hayro_cmap.specs.TextFiles.{IsCode, IsCid, IsDestination};
+ghost use Rattle.hayro_cmap.specs.TextFiles.{IsCode, IsCid, IsDestination, literal_head, other};
 ghost use Rattle.hayro_cmap.specs.TextReading.{TokenAt, CodeAt, CidAt, DestinationAt, IsOnlyCode, code_of};
 ghost use Rattle.hayro_cmap.specs.TextSeen.{code_seen, IsCodeBytes};
 ghost use Rattle.hayro_cmap.specs.declared.fault.Fault.TheVariants.{Refused};
@@ -63,6 +64,7 @@ impl<'d> TokenReader<'d> {
         ensures filled { IfOk result (λ found. IfSome found (λ _. IsBlank self.old → ⊥)) }
         ensures end { IfOk result (λ found. IfNone found (IsBlank self.old)) }
         ensures end_only { IfOk result (λ found. IfNone found (HoldsOfNone (TokenAt self.old))) }
+        ensures end_stays { IfOk result (λ found. IfNone found (self.new ≡ self.old)) }
         ensures refused { IfErr result (λ fault. fault ≡ Refused) }
         ensures malformed { OnErr result (IsBlank self.old → ⊥) }
         ensures malformed_only { OnErr result (HoldsOfNone (TokenAt self.old)) }
@@ -170,5 +172,15 @@ pub(super) fn is_executable(token: &Token<'_>, name: &[u8]) -> bool
     match token {
         Token::Name(found) => !found.is_literal() && found.as_bytes() == name,
         _ => false,
+    }
+}
+
+/// The bytes of a literal name.
+pub(super) fn literal_name<'d>(token: &Token<'d>) -> Option<&'d [u8]>
+    ensures { option_copied result ≡ literal_head (other (token_seen token.now)) }
+{
+    match token {
+        Token::Name(name) if name.is_literal() => Some(name.as_bytes()),
+        _ => None,
     }
 }
