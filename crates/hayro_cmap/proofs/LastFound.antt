@@ -6,7 +6,7 @@ use Rattle.std.proofs.lemmas.Bool.{and_parts, leb-true}
 use Rattle.cmap_parts.specs.Ranges.{Span, contains, last_place, last_of}
 use Rattle.hayro_cmap.specs.Files.{CidEntry}
 use Rattle.hayro_cmap.specs.Lookups.{decided_cid}
-use Rattle.hayro_cmap.specs.Searches.{decided_in}
+use Rattle.hayro_cmap.specs.LayersDecide.{decided_in}
 
 map-of-map : {A B C : Type 0} (f : B → C) (g : A → B) (xs : List A) → map f (map g xs) ≡ map (λ x. f (g x)) xs
 map-of-map f g [] = refl

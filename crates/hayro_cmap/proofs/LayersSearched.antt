@@ -7,7 +7,8 @@ use Rattle.std.proofs.lemmas.Bool.{cond-true}
 use Rattle.hayro_cmap.specs.Files.{BfEntry}
 use Rattle.hayro_cmap.specs.Layers.{Layer}
 use Rattle.hayro_cmap.specs.Lookups.{cid_in, cid_of, bf_span, bf_at, last_bf, bf_of, decided_text}
-use Rattle.hayro_cmap.specs.Searches.{layer_cid, layer_looks, cid_looks, search_looks, bf_looks, deciding_bf}
+use Rattle.hayro_cmap.specs.LayersDecide.{layer_cid, deciding_bf}
+use Rattle.hayro_cmap.specs.Searches.{layer_looks, cid_looks, search_looks, bf_looks}
 use Rattle.hayro_cmap.proofs.LastFound.{decided_cid-decided_in}
 
 -- the element that stands next

@@ -5,6 +5,7 @@ pub mod TextFiles
 pub mod Layers
 pub mod Lookups
 pub mod Searches
+pub mod LayersDecide
 pub mod Identity
 pub mod CMapNames
 pub mod Answers

@@ -8,7 +8,8 @@ ghost use Rattle.hayro_cmap.specs.DeclarationsSeen.{bf_entry_seen, cid_entry_see
 ghost use Rattle.hayro_cmap.specs.Files.{of_length};
 ghost use Rattle.hayro_cmap.specs.LayersSeen.{layer_seen, layers_seen, tables_seen};
 ghost use Rattle.hayro_cmap.specs.Lookups.{bf_at, bf_of, bf_span, cid_of, cid_span, last_bf, last_cid};
-ghost use Rattle.hayro_cmap.specs.Searches.{bf_looks, cid_looks, deciding_bf, layer_cid, layer_looks, search_looks};
+ghost use Rattle.hayro_cmap.specs.LayersDecide.{deciding_bf, layer_cid};
+ghost use Rattle.hayro_cmap.specs.Searches.{bf_looks, cid_looks, layer_looks, search_looks};
 
 use crate::declarations::{BfRange, ByLength, CidRange};
 use crate::layers::Layer;
