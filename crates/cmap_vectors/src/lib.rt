@@ -7,6 +7,8 @@ pub mod caller;
 #[cfg(test)]
 mod cid_sections;
 #[cfg(test)]
+mod codespaces;
+#[cfg(test)]
 mod counted_lookups;
 #[cfg(test)]
 mod files;

@@ -12,5 +12,6 @@ pub mod LastFound
 pub mod LayersSearched
 pub mod BfRanges
 pub mod CodespaceRanges
+pub mod BytesWithin
 pub mod ListsOfDestinations
 pub mod OneName

@@ -3,6 +3,7 @@
 #![tactic(auto)]
 
 mod bundle;
+mod codespaces;
 mod declarations;
 mod fault;
 mod file;

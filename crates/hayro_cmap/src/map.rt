@@ -10,7 +10,7 @@ ghost use Rattle.hayro_cmap.specs.FilesSeen.{file_seen};
 ghost use Rattle.hayro_cmap.specs.Identity.{identity_layer};
 ghost use Rattle.hayro_cmap.specs.Layers.{AreLayers, layer_of};
 ghost use Rattle.hayro_cmap.specs.LayersSeen.{IsMetadataOf, metadata_seen, mode_seen};
-ghost use Rattle.hayro_cmap.specs.Lookups.{bf_of, cid_of};
+ghost use Rattle.hayro_cmap.specs.Lookups.{InCodespace, bf_of, cid_of};
 ghost use Rattle.hayro_cmap.specs.Only.{IsOnly, HoldsOfNone};
 ghost use Rattle.hayro_cmap.specs.Searches.{bf_looks, cid_looks};
 ghost use Rattle.hayro_cmap.specs.TextFiles.{IsLoneTextFile};
@@ -20,10 +20,10 @@ use crate::declarations::{CidRange, Codespace, Lists};
 use crate::fault::Fault;
 use crate::file::File;
 use crate::layers::Layer;
-use crate::lookup;
 use crate::metadata::{CharacterCollection, CidFamily, Metadata, WritingMode};
 use crate::names::{CMapName, Cid};
 use crate::text::read_text;
+use crate::{codespaces, lookup};
 use cmap_parts::runs::{Looks, Range};
 use cmap_parts::utf16::BfString;
 use std::alloc::{AllocError, Global};
@@ -128,6 +128,23 @@ impl CMap {
         ensures some_declaration { OnSome result (looks.old.declarations + 1 ≤ looks.new.declarations) }
     {
         lookup::cid_of(&self.layers, code, byte_len, looks)
+    }
+
+    /// The same answer as that of `lookup_cid_code`, where the code lies in a codespace range of
+    /// some layer; else `None`.
+    ///
+    /// A code lies in a range of its own length where each of its bytes lies between those of the
+    /// range's two ends. One that doesn't fit in its length lies in none. ISO 32000-1, 9.7.6.2.
+    pub fn lookup_cid_code_strict(&self, code: u32, byte_len: u8) -> Option<Cid>
+        ensures within { InCodespace self.now code byte_len
+            → result ≡ cid_of self.now code byte_len }
+        ensures outside { (InCodespace self.now code byte_len → ⊥) → result ≡ None }
+    {
+        if codespaces::contains(&self.layers, code, byte_len) {
+            self.lookup_cid_code(code, byte_len)
+        } else {
+            None
+        }
     }
 
     /// The Unicode text of `code`: one character, or more of them.
