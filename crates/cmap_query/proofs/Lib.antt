@@ -1,2 +1,3 @@
 pub mod CodeWordParts
 pub mod InputPieces
+pub mod OneMore

@@ -1,6 +1,8 @@
--- How a word of the command line spells a character code.
-use Rattle.std.specs.Prelude.{◌≡◌, ℕ, ◌+◌, ◌*◌, ◌≤◌, List, ◌∷◌, length}
+-- How a word of the command line spells a character code, and what is asked of it.
+use Rattle.std.specs.Prelude.{◌≡◌, ℕ, ◌+◌, ◌*◌, ◌≤◌, List, [], ◌∷◌, ◌++◌, codes, length}
 use Rattle.std.specs.Str.Parse.{AllDigits, digits_value}
+use Rattle.cmap_query.specs.declared.query.Asked.{Asked}
+use Rattle.cmap_query.specs.declared.query.Asked.TheVariants.{Cid, Text}
 
 -- the character `0`
 abbrev pub zero_digit : ℕ
@@ -10,16 +12,30 @@ zero_digit = 48
 abbrev pub colon : ℕ
 colon = 58
 
--- the word is `L:HEX` for a code of L bytes: L is 1 to 4, and HEX has two hexadecimal digits for each byte
-pub record SpellsCode (byte_len code : ℕ) (word : List ℕ) : Type 0 where
+-- a CID is asked of codes of one to four bytes, and a text of each code
+abbrev pub IsKnown : Asked → Type 0
+IsKnown (Cid byte_len) = (1 ≤ byte_len) × (byte_len ≤ 4)
+IsKnown Text = Unit {0}
+
+-- what stands before the colon: the number of bytes, or `bf`
+abbrev pub name_of : Asked → List ℕ
+name_of (Cid byte_len) = (zero_digit + byte_len) ∷ []
+name_of Text = codes "bf"
+
+-- how many digits stand behind the colon: two for each byte, or one to eight
+abbrev pub HasDigits : Asked → ℕ → Type 0
+HasDigits (Cid byte_len) count = count ≡ 2 * byte_len
+HasDigits Text count = (1 ≤ count) × (count ≤ 8)
+
+-- the word is `L:HEX`, with 2L hexadecimal digits, for the CID of a code of L bytes, or `bf:HEX`, with one to eight, for the text of a code
+pub record Spells (asked : Asked) (code : ℕ) (word : List ℕ) : Type 0 where
   pub digits : List ℕ
-  pub at_least_one : 1 ≤ byte_len
-  pub at_most_four : byte_len ≤ 4
-  pub parts : word ≡ (zero_digit + byte_len) ∷ colon ∷ digits
-  pub two_each : length digits ≡ 2 * byte_len
+  pub known : IsKnown asked
+  pub parts : word ≡ name_of asked ++ colon ∷ digits
+  pub count : HasDigits asked (length digits)
   pub hexadecimal : AllDigits 16 digits
   pub value : code ≡ digits_value 16 digits
 
--- the word spells no code
+-- the word asks nothing of any code
 abbrev pub SpellsNone : List ℕ → Type 0
-SpellsNone word = (byte_len code : ℕ) → ¬ SpellsCode byte_len code word
+SpellsNone word = (asked : Asked) → (code : ℕ) → ¬ Spells asked code word

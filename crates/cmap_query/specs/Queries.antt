@@ -1,12 +1,12 @@
 -- What a query says of its word.
-use Rattle.std.specs.Prelude.{ℕ, List}
-use Rattle.cmap_query.specs.CodeWords.{SpellsCode}
+use Rattle.std.specs.Prelude.{ℕ, List, ◌∷◌, ◌++◌}
+use Rattle.cmap_query.specs.CodeWords.{colon, name_of, Spells}
 use Rattle.cmap_query.specs.declared.query.Query.{Query}
 
 -- the word that it was read from
-abbrev pub text_of : Query → List ℕ
-text_of query = query.text.now
+abbrev pub word_of : Query → List ℕ
+word_of query = name_of query.asked ++ colon ∷ query.digits.now
 
--- its word spells its code
+-- its word asks what it asks of its code
 abbrev pub IsSpelled : Query → Type 0
-IsSpelled query = SpellsCode query.byte_len query.code query.text.now
+IsSpelled query = Spells query.asked query.code (word_of query)

@@ -1,5 +1,5 @@
-//! Answers which CIDs the character codes on the command line stand for, in the CMap file on the
-//! standard input.
+//! Answers which CIDs and which texts the character codes on the command line stand for, in the
+//! CMap file on the standard input.
 #![tactic(auto)]
 
 mod failure;

@@ -1,12 +1,11 @@
 //! The words of the command line.
 
-ghost use Rattle.std.specs.Prelude.{◌≡◌, ◌≢◌, ℕ, ◌+◌, ◌^◌, ◌<◌, ◌≤◌, [], ◌∷◌, ◌⊎◌, IsNone, IfSome, IfOk, IsErrOf, All, Any, map, string_bytes};
+ghost use Rattle.std.specs.Prelude.{◌≡◌, ◌≢◌, ◌^◌, ◌<◌, [], ◌⊎◌, ◌↔◌, IsNone, IsTrue, IfSome, IfOk, IfErr, IsErrOf, All, Any, map, string_bytes};
 ghost use Rattle.std.specs.Option.{SomeIff};
 ghost use Rattle.std.specs.Str.Parse.{IsNumeral, digits_value};
-ghost use Rattle.cmap_query.specs.CodeWords.{zero_digit, SpellsNone};
 
 use crate::failure::Failure;
-use hayro_cmap::CMap;
+use hayro_cmap::{BfString, CMap};
 use std::alloc::{AllocError, Global};
 
 /// What the words of the command line ask for.
@@ -17,14 +16,19 @@ pub struct Request<'a> {
 }
 
 impl<'a> Request<'a> {
-    ghost use Rattle.cmap_query.specs.Queries.{text_of, IsSpelled};
+    ghost use Rattle.cmap_query.specs.CodeWords.{SpellsNone};
+    ghost use Rattle.cmap_query.specs.Queries.{word_of, IsSpelled};
 
-    /// The request that the words spell; a fault of usage where one of them is wrong, or none is there.
+    /// The request that the words spell; a fault of usage where one of them is wrong, or none is
+    /// there.
     pub fn parse(alloc: Global, words: &'a [String]) -> Result<Request<'a>, Failure>
-        ensures texts { IfOk result (λ request. map text_of request.queries.items ≡ map string_bytes words.now) }
+        ensures words { IfOk result
+            (λ request. map word_of request.queries.items ≡ map string_bytes words.now) }
         ensures spelled { IfOk result (λ request. All IsSpelled request.queries.items) }
         ensures usage { IsErrOf result Failure.Usage →
             (words.now ≡ []) ⊎ Any (λ word. SpellsNone (string_bytes word)) words.now }
+        ensures failures { IfErr result
+            (λ failure. (failure ≡ Failure.Usage) ⊎ (failure ≡ Failure.NoMemory)) }
     {
         if words.is_empty() {
             return Err(Failure::Usage);
@@ -38,60 +42,111 @@ impl<'a> Request<'a> {
     }
 }
 
-/// A character code whose CID is asked for.
+/// A character code, and what is asked of it.
 #[derive(Clone, Copy, Debug)]
 pub struct Query<'a> {
+    /// What is asked.
+    pub asked: Asked,
     /// The bytes of the code as one number, big-endian.
     pub code: u32,
-    /// How many bytes the code has, 1 to 4.
-    pub byte_len: u8,
-    /// The word that spells it.
-    pub text: &'a str,
+    /// The digits that spell the code.
+    pub digits: &'a str,
 }
 
 impl<'a> Query<'a> {
-    ghost use Rattle.cmap_query.specs.Queries.{IsSpelled};
+    ghost use Rattle.cmap_query.specs.CodeWords.{SpellsNone};
+    ghost use Rattle.cmap_query.specs.Queries.{word_of, IsSpelled};
 
-    /// The query that the word `L:HEX` spells: a code of L bytes, in hexadecimal digits of either case.
+    /// The query that a word spells. The word `L:HEX` asks for the CID of a code of L bytes, 1 to
+    /// 4, in 2L hexadecimal digits, and `bf:HEX` for the text of a code, in 1 to 8 of them. The
+    /// digits are of either case.
     pub fn parse(word: &'a str) -> Option<Query<'a>>
         ensures spelled { IfSome result IsSpelled }
-        ensures text { IfSome result (λ query. query.text.now ≡ word.now) }
+        ensures word { IfSome result (λ query. word_of query ≡ word.now) }
         ensures none { IsNone result → SpellsNone word.now }
     {
-        let (length, digits) = word.split_once(':')?;
-        let byte_len = byte_len(length)?;
-        if digits.len() != 2 * usize::from(byte_len) {
+        let (name, digits) = word.split_once(':')?;
+        let asked = Asked::named(name)?;
+        if !asked.has_digits(digits.len()) {
             return None;
         }
         let code = hexadecimal(digits)?;
         Some(Query {
+            asked,
             code,
-            byte_len,
-            text: word,
+            digits,
         })
     }
 
     /// Adds the line that answers the query to `lines`.
-    pub fn write_answer(&self, map: &CMap, lines: &mut String) -> Result<(), AllocError> {
-        let text = self.text;
-        match map.lookup_cid_code(self.code, self.byte_len) {
-            Some(cid) => writeln!(lines, "cid {text} {cid}"),
-            None => writeln!(lines, "cid {text} none"),
+    pub fn write_answer(
+        &self,
+        alloc: Global,
+        map: &CMap,
+        lines: &mut String,
+    ) -> Result<(), AllocError> {
+        match self.asked {
+            Asked::Cid { byte_len } => self.write_cid(byte_len, map, lines),
+            Asked::Text => self.write_text(alloc, map, lines),
         }
+    }
+
+    fn write_cid(&self, byte_len: u8, map: &CMap, lines: &mut String) -> Result<(), AllocError> {
+        let digits = self.digits;
+        match map.lookup_cid_code(self.code, byte_len) {
+            Some(cid) => writeln!(lines, "cid {byte_len}:{digits} {cid}"),
+            None => writeln!(lines, "cid {byte_len}:{digits} none"),
+        }
+    }
+
+    fn write_text(&self, alloc: Global, map: &CMap, lines: &mut String) -> Result<(), AllocError> {
+        let digits = self.digits;
+        write!(lines, "bf {digits}")?;
+        match map.lookup_bf_string(alloc, self.code)? {
+            Some(BfString::Char(character)) => write_character(character, lines)?,
+            Some(BfString::String(text)) => write_characters(text.as_str(), lines)?,
+            None => lines.push_str(" none")?,
+        }
+        lines.push('\n')
     }
 }
 
-/// The number of bytes that one digit from 1 to 4 stands for.
-fn byte_len(length: &str) -> Option<u8>
-    ensures some { IfSome result (λ n. (1 ≤ n) × (n ≤ 4) × (length.now ≡ (zero_digit + n) ∷ [])) }
-    ensures none { IsNone result → (n : ℕ) → 1 ≤ n → n ≤ 4 → length.now ≢ (zero_digit + n) ∷ [] }
-{
-    match length {
-        "1" => Some(1),
-        "2" => Some(2),
-        "3" => Some(3),
-        "4" => Some(4),
-        _ => None,
+/// What is asked of a code.
+#[derive(Clone, Copy, Debug)]
+pub enum Asked {
+    /// The CID of a code of so many bytes, 1 to 4.
+    Cid { byte_len: u8 },
+    /// The text of a code.
+    Text,
+}
+
+impl Asked {
+    ghost use Rattle.cmap_query.specs.CodeWords.{name_of, HasDigits, IsKnown};
+
+    /// What is asked by the part of a word before its colon.
+    fn named(name: &str) -> Option<Asked>
+        ensures known { IfSome result IsKnown }
+        ensures name { IfSome result (λ asked. name.now ≡ name_of asked) }
+        ensures none { IsNone result → (asked : Asked) → IsKnown asked → name.now ≢ name_of asked }
+    {
+        match name {
+            "1" => Some(Asked::Cid { byte_len: 1 }),
+            "2" => Some(Asked::Cid { byte_len: 2 }),
+            "3" => Some(Asked::Cid { byte_len: 3 }),
+            "4" => Some(Asked::Cid { byte_len: 4 }),
+            "bf" => Some(Asked::Text),
+            _ => None,
+        }
+    }
+
+    /// Whether a word that asks this has so many digits.
+    fn has_digits(self, count: usize) -> bool
+        ensures { IsTrue result ↔ HasDigits self count }
+    {
+        match self {
+            Asked::Cid { byte_len } => count == 2 * usize::from(byte_len),
+            Asked::Text => (1..=8).contains(&count),
+        }
     }
 }
 
@@ -104,4 +159,17 @@ fn hexadecimal(digits: &str) -> Option<u32>
         return None;
     }
     u32::from_str_radix(digits, 16).ok()
+}
+
+/// Adds the characters of a text to `lines`.
+fn write_characters(text: &str, lines: &mut String) -> Result<(), AllocError> {
+    for character in text.chars() {
+        write_character(character, lines)?;
+    }
+    Ok(())
+}
+
+/// Adds a character to `lines` by its number, in four hexadecimal digits or more.
+fn write_character(character: char, lines: &mut String) -> Result<(), AllocError> {
+    write!(lines, " U+{:04X}", u32::from(character))
 }

@@ -55,7 +55,7 @@ fn send<W: Write>(out: &mut W, lines: &str) -> io::Result<()> {
 fn answers(alloc: Global, map: &CMap, queries: &[Query<'_>]) -> Result<String, AllocError> {
     let mut lines = String::new(alloc);
     for query in queries {
-        query.write_answer(map, &mut lines)?;
+        query.write_answer(alloc, map, &mut lines)?;
     }
     Ok(lines)
 }

@@ -17,6 +17,8 @@ mod identity;
 #[cfg(test)]
 mod malformed_files;
 #[cfg(test)]
+mod metadata;
+#[cfg(test)]
 mod names;
 #[cfg(test)]
 mod prefix_tables;

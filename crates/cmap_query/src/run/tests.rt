@@ -3,6 +3,7 @@
 use super::run;
 use std::alloc::{AllocError, Global};
 use std::io::{self, ErrorKind, Read, Write};
+use std::process::Abort;
 use std::test::Fail;
 
 /// The codes of two bytes from 0000 to 00FF stand for the CIDs from 0 on.
@@ -52,29 +53,87 @@ fn answers_each_word(rt: HostRuntime) -> Result<(), Fail> {
         },
     ];
     for row in rows {
-        let outcome = outcome_of(rt.alloc(), row.words, &mut row.input.as_bytes())?;
-        let name = row.name;
-        assert_eq!(rt; outcome.status, 0, "{name}");
-        assert_eq!(rt; outcome.out.as_slice(), row.lines.as_bytes(), "{name}");
-        assert!(rt; outcome.err.is_empty(), "{name}");
+        assert_answered(&rt, &row)?;
     }
+    Ok(())
+}
+
+#[test]
+fn answers_the_texts_of_codes(rt: HostRuntime) -> Result<(), Fail> {
+    let rows = [
+        Answers {
+            name: "a CID and a text, in the order of the words",
+            words: &["2:0041", "bf:41"],
+            input: "begincidchar <0041> 7 endcidchar beginbfchar <41> <00660066> endbfchar",
+            lines: "cid 2:0041 7\nbf 41 U+0066 U+0066\n",
+        },
+        Answers {
+            name: "a text and a CID, the other way round",
+            words: &["bf:41", "2:0041", "bf:42"],
+            input: "begincidchar <0041> 7 endcidchar beginbfchar <41> <00660066> endbfchar",
+            lines: "bf 41 U+0066 U+0066\ncid 2:0041 7\nbf 42 none\n",
+        },
+        Answers {
+            name: "a character of five digits, and a code without a text",
+            words: &["bf:1", "bf:3"],
+            input: "beginbfrange <00> <03> <D83DDFFE> endbfrange",
+            lines: "bf 1 U+1F7FF\nbf 3 none\n",
+        },
+        Answers {
+            name: "characters of four, five and six digits in one text",
+            words: &["bf:1"],
+            input: "beginbfchar <01> <000AD83DDFFEDBFFDFFF> endbfchar",
+            lines: "bf 1 U+000A U+1F7FE U+10FFFF\n",
+        },
+        Answers {
+            name: "digits of either case and of any number, repeated as typed",
+            words: &["bf:af", "bf:AF", "bf:00af", "bf:000000Af"],
+            input: "beginbfchar <AF> <0041> endbfchar",
+            lines: "bf af U+0041\nbf AF U+0041\nbf 00af U+0041\nbf 000000Af U+0041\n",
+        },
+        Answers {
+            name: "the greatest code, and the least",
+            words: &["bf:FFFFFFFF", "bf:0"],
+            input: "beginbfchar <FFFFFFFF> <0041> <00> <00E9> endbfchar",
+            lines: "bf FFFFFFFF U+0041\nbf 0 U+00E9\n",
+        },
+    ];
+    for row in rows {
+        assert_answered(&rt, &row)?;
+    }
+    Ok(())
+}
+
+/// Asserts that the run ends well, with these lines and no others.
+fn assert_answered(rt: &(impl Abort + AllocGlobal), row: &Answers<'_>) -> Result<(), Fail> {
+    let outcome = outcome_of(rt.alloc(), row.words, &mut row.input.as_bytes())?;
+    let name = row.name;
+    assert_eq!(rt; outcome.status, 0, "{name}");
+    assert_eq!(rt; outcome.out.as_slice(), row.lines.as_bytes(), "{name}");
+    assert!(rt; outcome.err.is_empty(), "{name}");
     Ok(())
 }
 
 #[test]
 fn refuses_what_is_no_map(rt: HostRuntime) -> Result<(), Fail> {
     for input in ["(", "usecmap"] {
-        let outcome = outcome_of(rt.alloc(), &["2:0041"], &mut input.as_bytes())?;
-        assert_eq!(rt; outcome.status, 1, "{input}");
-        assert!(rt; outcome.out.is_empty(), "{input}");
-        assert_eq!(rt; outcome.err.as_slice(), b"refused\n".as_slice(), "{input}");
+        for word in ["2:0041", "1:41", "bf:41"] {
+            let outcome = outcome_of(rt.alloc(), &[word], &mut input.as_bytes())?;
+            assert_eq!(rt; outcome.status, 1, "{word} on {input}");
+            assert!(rt; outcome.out.is_empty(), "{word} on {input}");
+            assert_eq!(rt;
+                outcome.err.as_slice(),
+                b"refused\n".as_slice(),
+                "{word} on {input}"
+            );
+        }
     }
     Ok(())
 }
 
 #[test]
 fn wrong_words_are_found_before_the_input_is_read(rt: HostRuntime) -> Result<(), Fail> {
-    let wrong: [&[&str]; 13] = [
+    let wrong: [&[&str]; 25] = [
         &["1:0041"],
         &["5:00"],
         &["0:"],
@@ -82,12 +141,24 @@ fn wrong_words_are_found_before_the_input_is_read(rt: HostRuntime) -> Result<(),
         &["2:00g1"],
         &[":41"],
         &["2:"],
-        &["bf:41"],
+        &["2:+041"],
+        &["bf:"],
+        &["bf:123456789"],
+        &["bf:000000041"],
+        &["bf:+1"],
+        &["bf:1g"],
+        &["bf:1 "],
+        &["bf: 1"],
+        &["bf:1:1"],
+        &["bf"],
+        &["b:1"],
+        &["BF:1"],
         &["--bundle"],
         &["--budget"],
         &[""],
         &[],
         &["2:0041", "x"],
+        &["bf:41", "bf:"],
     ];
     for words in wrong {
         let mut input = Script::new(&[]);
@@ -103,8 +174,9 @@ fn wrong_words_are_found_before_the_input_is_read(rt: HostRuntime) -> Result<(),
 /// Each allocation of this run is to be refused in turn: `rt try --test --fail-alloc 1..`.
 #[test]
 fn a_refused_growth_gives_no_other_answer(rt: HostRuntime) -> Result<(), Fail> {
-    let mut input = TWO_BYTE_RANGE.as_bytes();
-    let outcome = outcome_of(rt.alloc(), &["2:0041", "2:0100"], &mut input)?;
+    let input = "1 begincidrange <0000> <00FF> 0 endcidrange beginbfchar <41> <00660066> endbfchar";
+    let words = ["2:0041", "2:0100", "bf:41"];
+    let outcome = outcome_of(rt.alloc(), &words, &mut input.as_bytes())?;
     let said = (
         outcome.status,
         outcome.out.as_slice(),
@@ -112,7 +184,7 @@ fn a_refused_growth_gives_no_other_answer(rt: HostRuntime) -> Result<(), Fail> {
     );
     let answered = (
         0,
-        b"cid 2:0041 65\ncid 2:0100 none\n".as_slice(),
+        b"cid 2:0041 65\ncid 2:0100 none\nbf 41 U+0066 U+0066\n".as_slice(),
         b"".as_slice(),
     );
     let refused = (3, b"".as_slice(), b"no memory\n".as_slice());

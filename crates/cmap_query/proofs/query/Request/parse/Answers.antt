@@ -1,6 +1,18 @@
-use Rattle.std.proofs.Common.{inr, sym, subst}
+use Rattle.std.proofs.Common.{All, ap, inr, map, string_bytes, subst, sym, ◌∙◌}
+use Rattle.std.proofs.lemmas.List.Elements.{All-push}
 use Rattle.cmap_query.specs.CodeWords.{SpellsNone}
+use Rattle.cmap_query.specs.Queries.{word_of, IsSpelled}
+use Rattle.cmap_query.proofs.OneMore.{map-one_more}
 use Rattle.cmap_query.proofs.query.Request.parse.Goals as goal
+
+pub loop-word-preserved : goal.loop-word-preserved
+loop-word-preserved c =
+    let found = c.in_ok-query.ensures.ok_part in
+    let word = rw found at c.parse.ensures.word in
+    let spelled = rw found at c.parse.ensures.spelled in
+    let items = c.in_ok-push.ensures.items in
+    let words = map-one_more word_of string_bytes _ _ _ _ _ c.loop-word.invariant.0 c.loop-word-test.true c.word-item.is (word ∙ c.as_str.ensures.value) in
+    (ap (map word_of) items ∙ words, subst (All IsSpelled) (sym items) (All-push IsSpelled _ _ c.loop-word.invariant.1 spelled))
 
 pub returns-in_err-query-clause-usage : goal.returns-in_err-query-clause-usage
 returns-in_err-query-clause-usage c _ =
