@@ -2,7 +2,11 @@
 #![tactic(auto)]
 
 #[cfg(test)]
+mod bases;
+#[cfg(test)]
 mod bits;
+#[cfg(test)]
+mod budgets;
 pub mod caller;
 #[cfg(test)]
 mod cid_sections;

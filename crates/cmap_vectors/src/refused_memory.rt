@@ -1,12 +1,13 @@
 //! Calls that are made again where memory was refused. What they were handed is as it was, and the
 //! second call answers: to be run by `rt try --test --fail-alloc N`, for each N from 1 on.
 
-use crate::files::map_of;
+use crate::budgets::is_accepted_within;
+use crate::files::{map_of, map_over};
 use cmap_parts::bits::Reader;
 use cmap_parts::prefix::PrefixTable;
 use cmap_parts::utf16::{text, units};
 use hayro_cmap::token::{Scanner, Token};
-use hayro_cmap::{BfString, CMap};
+use hayro_cmap::{BfString, CMap, ParseError};
 use std::test::Fail;
 
 #[test]
@@ -62,6 +63,43 @@ fn a_file_that_is_read_again(rt: HostRuntime) -> Result<(), Fail> {
     let map = map.expect(&rt, "refused");
     for (code, cid) in [(0x17, 1007), (0x18, 5), (0x19, 1009), (0x21, 33)] {
         assert_eq!(rt; map.lookup_cid_code(code, 2), Some(cid), "{code:#X}");
+    }
+    Ok(())
+}
+
+#[test]
+fn a_file_over_another_that_is_read_again(rt: HostRuntime) -> Result<(), Fail> {
+    let alloc = rt.alloc();
+    let file = b"/B usecmap beginbfchar <01> <D800> endbfchar";
+    let base = b"beginbfchar <01> <0041> endbfchar";
+    let map = map_over(alloc, file, b"B", base).or_else(|_| map_over(alloc, file, b"B", base))?;
+    let map = map.expect(&rt, "refused");
+    assert!(rt; map.lookup_bf_string(alloc, 1)?.is_none());
+    assert_eq!(rt; map.lookup_cid_code(1, 1), Some(65));
+    Ok(())
+}
+
+#[test]
+fn a_map_that_is_cloned_again(rt: HostRuntime) -> Result<(), Fail> {
+    let alloc = rt.alloc();
+    let file = b"/CMapName /A def /B usecmap beginbfchar <01> <0041> endbfchar";
+    let base = b"begincidrange <0000> <00FF> 9 endcidrange";
+    let map = map_over(alloc, file, b"B", base).or_else(|_| map_over(alloc, file, b"B", base))?;
+    let map = map.expect(&rt, "refused");
+    let copy = map.clone(alloc).or_else(|_| map.clone(alloc))?;
+    assert_eq!(rt; copy.lookup_cid_code(0x20, 2), Some(41));
+    Ok(())
+}
+
+#[test]
+fn files_within_a_budget_that_are_read_again(rt: HostRuntime) -> Result<(), Fail> {
+    let file = b"/B usecmap /B usecmap";
+    for (budget, expected) in [(33, Ok(true)), (32, Err(ParseError::OverBudget))] {
+        let mut accepted = is_accepted_within(rt.alloc(), budget, file);
+        if accepted == Err(ParseError::Memory) {
+            accepted = is_accepted_within(rt.alloc(), budget, file);
+        }
+        assert_eq!(rt; accepted, expected, "{budget} bytes");
     }
     Ok(())
 }

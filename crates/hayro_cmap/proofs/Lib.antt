@@ -7,7 +7,6 @@ pub mod SectionsRead
 pub mod ItemsSaid
 pub mod ItemsRead
 pub mod ValuesRead
-pub mod LoneFiles
 pub mod LastFound
 pub mod LayersSearched
 pub mod BfRanges
@@ -15,3 +14,7 @@ pub mod CodespaceRanges
 pub mod BytesWithin
 pub mod ListsOfDestinations
 pub mod OneName
+pub mod BasesResolved
+pub mod BudgetLeft
+pub mod FilesOpened
+pub mod TablesCopied

@@ -1,6 +1,8 @@
--- The name of a text is one name.
-use Rattle.std.proofs.Common.{◌≡◌, refl, sym, ◌∙◌, ap, ℕ, List, [], ◌∷◌, Some, None, get_or, inl, inr, ◌⊎◌}
+-- The name of a text is one name, and so has one answer at the most.
+use Rattle.std.proofs.Common.{◌≡◌, refl, sym, ◌∙◌, ap, ℕ, List, [], ◌∷◌, Option, Some, None, get_or, inl, inr, ◌⊎◌}
 use Rattle.std.specs.Borrow.{Bor}
+use Rattle.std.specs.Fn.{Shared}
+use Rattle.hayro_cmap.specs.Answers.{Answers, AnswersByName, IsByName}
 use Rattle.hayro_cmap.specs.declared.names.CMapName.{CMapName}
 use Rattle.hayro_cmap.specs.declared.names.CMapName.TheVariants.{N83pvRksjH, N90msRksjH, N90msRksjV, N90mspRksjH, N90mspRksjV, N90pvRksjH, AddRksjH, AddRksjV, AdobeCns1Ucs2, AdobeGb1Ucs2, AdobeJapan1Ucs2, AdobeKorea1Ucs2, B5pcH, B5pcV, CnsEucH, CnsEucV, ETenB5H, ETenB5V, ETenmsB5H, ETenmsB5V, EucH, EucV, ExtRksjH, ExtRksjV, GbEucH, GbEucV, GbkEucH, GbkEucV, Gbk2kH, Gbk2kV, GbkpEucH, GbkpEucV, GbpcEucH, GbpcEucV, H, HKscsB5H, HKscsB5V, IdentityH, IdentityV, KscEucH, KscEucV, KscmsUhcH, KscmsUhcHwH, KscmsUhcHwV, KscmsUhcV, KscpcEucH, UniCnsUcs2H, UniCnsUcs2V, UniCnsUtf16H, UniCnsUtf16V, UniGbUcs2H, UniGbUcs2V, UniGbUtf16H, UniGbUtf16V, UniJisUcs2H, UniJisUcs2HwH, UniJisUcs2HwV, UniJisUcs2V, UniJisUtf16H, UniJisUtf16V, UniKsUcs2H, UniKsUcs2V, UniKsUtf16H, UniKsUtf16V, V, Custom}
 use Rattle.hayro_cmap.specs.CMapNames.{place, name_bytes, IsNameOf, IsSameName}
@@ -95,3 +97,6 @@ by_kinds name other (inr x) (inr y) e t =
 
 pub IsSameName-from_text : (text : List ℕ) (name other : CMapName) → IsNameOf text name → IsNameOf text other → IsSameName name other
 IsSameName-from_text text name other n o = by_kinds name other (sorted name) (sorted other) (n.1 ∙ sym o.1) (n.0 ∙ sym o.0)
+
+pub IsByName-from_answers : {F : Type 0} (calls : Shared F (CMapName × Unit {0}) (Option (Bor (List ℕ)))) (get_cmap : F) → AnswersByName calls get_cmap → IsByName (Answers calls get_cmap)
+IsByName-from_answers calls get_cmap h text first second a b = a.4 ∙ h a.0 b.0 a.1 b.1 (IsSameName-from_text text a.0 b.0 a.2 b.2) a.3 b.3 ∙ sym b.4

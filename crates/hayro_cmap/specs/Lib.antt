@@ -3,6 +3,7 @@ pub mod Names
 pub mod Files
 pub mod TextFiles
 pub mod Layers
+pub mod Budgets
 pub mod Lookups
 pub mod Searches
 pub mod LayersDecide
@@ -12,6 +13,7 @@ pub mod Answers
 pub mod DeclarationsSeen
 pub mod LayersSeen
 pub mod FilesSeen
+pub mod BytesSpent
 pub mod ListsAppended
 pub mod TextReading
 pub mod TextSeen

@@ -226,7 +226,3 @@ IsMetadata values metadata = IsCollection values metadata.collection × (metadat
 unfoldable pub IsTextFile : List ℕ → File → Type 0
 IsTextFile bytes file = (tokens : List Token) × (items : List Item) × Tokens bytes tokens × AreItems tokens items
     × (names_used None items ≡ Some file.uses) × IsMetadata (last_values items) file.metadata × (file.lists ≡ lists_of (flat_map declared_by items))
-
--- so far a file stands alone: it uses no other one
-abbrev pub IsLoneTextFile : List ℕ → File → Type 0
-IsLoneTextFile bytes file = IsTextFile bytes file × (file.uses ≡ [])

@@ -1,6 +1,6 @@
 //! What a CMap declares for its codes.
 
-ghost use Rattle.std.specs.Prelude.{◌≡◌, ◌==◌, [], ◌∷◌, ◌++◌, OnOk, if◌then◌else◌};
+ghost use Rattle.std.specs.Prelude.{◌≡◌, ◌==◌, [], ◌∷◌, ◌++◌, IfOk, OnOk, if◌then◌else◌};
 ghost use Rattle.hayro_cmap.specs.Files.{Declaration, lists_of};
 ghost use Rattle.hayro_cmap.specs.DeclarationsSeen.{bf_entry_seen, cid_entry_seen, codespace_seen, lists_seen};
 ghost use Rattle.hayro_cmap.specs.ListsAppended.{no_lists, append_lists};
@@ -45,6 +45,18 @@ pub struct BfRange {
     pub(crate) range: Range,
     /// The units of the text of the first code, in UTF-16.
     pub(crate) units: Vec<u16>,
+}
+
+impl BfRange {
+    /// The same range again.
+    pub(crate) fn clone(&self, alloc: Global) -> Result<BfRange, AllocError>
+        ensures { IfOk result (λ copy. bf_entry_seen copy ≡ bf_entry_seen self.now) }
+    {
+        Ok(BfRange {
+            range: self.range,
+            units: Vec::from_slice(alloc, &self.units)?,
+        })
+    }
 }
 
 impl HasRange for BfRange {

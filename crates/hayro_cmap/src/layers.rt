@@ -1,13 +1,13 @@
 //! The layers of a map: what each file in a chain says, its declarations in tables.
 
-ghost use Rattle.std.specs.Prelude.{◌≡◌, IfOk};
+ghost use Rattle.std.specs.Prelude.{◌≡◌, IfOk, map};
 ghost use Rattle.std.specs.Option.{option_copied};
-ghost use Rattle.hayro_cmap.specs.DeclarationsSeen.{lists_seen};
+ghost use Rattle.hayro_cmap.specs.DeclarationsSeen.{bf_entry_seen, lists_seen};
 ghost use Rattle.hayro_cmap.specs.LayersSeen.{layer_seen, metadata_seen, slot};
 
 use crate::declarations::{BfRange, ByLength, CidRange, Codespace, Lists};
 use crate::metadata::Metadata;
-use cmap_parts::runs::Table;
+use cmap_parts::runs::{Looks, Table};
 use std::alloc::{AllocError, Global};
 
 /// What one file says.
@@ -44,6 +44,19 @@ impl Layer {
             spaces,
         })
     }
+
+    /// The same layer again.
+    pub(crate) fn clone(&self, alloc: Global) -> Result<Layer, AllocError>
+        ensures { IfOk result (λ copy. layer_seen copy ≡ layer_seen self.now) }
+    {
+        Ok(Layer {
+            metadata: self.metadata.clone(alloc)?,
+            cids: clone_tables(alloc, &self.cids)?,
+            notdefs: clone_tables(alloc, &self.notdefs)?,
+            bfs: clone_bfs(alloc, &self.bfs)?,
+            spaces: Vec::from_slice(alloc, &self.spaces)?,
+        })
+    }
 }
 
 /// A table of each list.
@@ -68,6 +81,45 @@ fn build_tables(
         three: Table::build(alloc, three)?,
         four: Table::build(alloc, four)?,
     })
+}
+
+/// The same tables again.
+fn clone_tables(
+    alloc: Global,
+    tables: &ByLength<Table<CidRange>>,
+) -> Result<ByLength<Table<CidRange>>, AllocError>
+    ensures { IfOk result (λ copy. copy ≡ tables.now) }
+{
+    Ok(ByLength {
+        one: clone_cids(alloc, &tables.one)?,
+        two: clone_cids(alloc, &tables.two)?,
+        three: clone_cids(alloc, &tables.three)?,
+        four: clone_cids(alloc, &tables.four)?,
+    })
+}
+
+/// A table of the same declarations.
+fn clone_cids(alloc: Global, table: &Table<CidRange>) -> Result<Table<CidRange>, AllocError>
+    ensures { IfOk result (λ copy. copy ≡ table.now) }
+{
+    let mut looks = Looks::new();
+    let mut list = Vec::with_capacity(alloc, table.decl_count())?;
+    for place in 0..table.decl_count() {
+        list.push(table.decl(place, &mut looks).clone())?;
+    }
+    Table::build(alloc, list)
+}
+
+/// A table of the same declarations.
+fn clone_bfs(alloc: Global, table: &Table<BfRange>) -> Result<Table<BfRange>, AllocError>
+    ensures { IfOk result (λ copy. map bf_entry_seen copy ≡ map bf_entry_seen table.now) }
+{
+    let mut looks = Looks::new();
+    let mut list = Vec::with_capacity(alloc, table.decl_count())?;
+    for place in 0..table.decl_count() {
+        list.push(table.decl(place, &mut looks).clone(alloc)?)?;
+    }
+    Table::build(alloc, list)
 }
 
 impl<T> ByLength<T> {

@@ -2,7 +2,9 @@
 //! Notes 5014, 5099 and 5411; ISO 32000-1, 9.7.5 and 9.10.3.
 #![tactic(auto)]
 
+mod budget;
 mod bundle;
+mod chain;
 mod codespaces;
 mod declarations;
 mod fault;
@@ -12,8 +14,10 @@ mod lookup;
 mod map;
 mod metadata;
 mod names;
+mod source;
 mod text;
 
+pub use budget::ParseError;
 pub use bundle::Bundle;
 pub use cmap_parts::utf16::BfString;
 pub use cmap_parts::{runs, token};

@@ -1,33 +1,34 @@
 //! Maps: what the codes of a CMap file stand for.
 
-ghost use Rattle.std.specs.Prelude.{◌≡◌, ◌≢◌, ◌+◌, ◌*◌, ◌≤◌, [], ◌∷◌, ◌<◌, IfOk, IfSome, IfNone, IsSomeAnd, OnErr, OnSome, codes, length, option_map};
+ghost use Rattle.std.specs.Prelude.{◌≡◌, ◌+◌, ◌*◌, ◌≤◌, [], ◌∷◌, ◌<◌, IfOk, IfSome, IfNone, IsErrOf, IsSome, IsSomeAnd, OnErr, OnOk, OnSome, codes, length, option_map};
 ghost use Rattle.cmap_parts.specs.TextSeen.{text_seen};
 ghost use Rattle.cmap_parts.specs.Texts.{text_of};
 ghost use Rattle.hayro_cmap.specs.Answers.{Answers, AnswersByName};
+ghost use Rattle.hayro_cmap.specs.Budgets.{PassesBudget, StaysWithin};
 ghost use Rattle.hayro_cmap.specs.DeclarationsSeen.{lists_seen};
 ghost use Rattle.hayro_cmap.specs.Files as files;
-ghost use Rattle.hayro_cmap.specs.FilesSeen.{file_seen};
 ghost use Rattle.hayro_cmap.specs.Identity.{identity_layer};
-ghost use Rattle.hayro_cmap.specs.Layers.{AreLayers, layer_of};
+ghost use Rattle.hayro_cmap.specs.Layers.{AreLayers};
 ghost use Rattle.hayro_cmap.specs.LayersSeen.{IsMetadataOf, metadata_seen, mode_seen};
 ghost use Rattle.hayro_cmap.specs.Lookups.{InCodespace, bf_of, cid_of};
 ghost use Rattle.hayro_cmap.specs.Only.{IsOnly, HoldsOfNone};
 ghost use Rattle.hayro_cmap.specs.Searches.{bf_looks, cid_looks};
-ghost use Rattle.hayro_cmap.specs.TextFiles.{IsLoneTextFile};
+ghost use Rattle.hayro_cmap.specs.TextFiles.{IsTextFile};
+ghost use Rattle.hayro_cmap.specs.declared.budget.ParseError.TheVariants.{OverBudget};
 
+use crate::budget::ParseError;
 use crate::bundle::Bundle;
+use crate::chain::{MOST_BELOW, find_layers};
 use crate::declarations::{CidRange, Codespace, Lists};
-use crate::fault::Fault;
-use crate::file::File;
 use crate::layers::Layer;
 use crate::metadata::{CharacterCollection, CidFamily, Metadata, WritingMode};
 use crate::names::{CMapName, Cid};
-use crate::text::read_text;
+use crate::source::Asked;
 use crate::{codespaces, lookup};
 use cmap_parts::runs::{Looks, Range};
 use cmap_parts::utf16::BfString;
 use std::alloc::{AllocError, Global};
-use std::marker::Model;
+use std::marker::{Model, PhantomData};
 
 /// What the codes of a CMap file stand for: the layers of the file and of those that it is based on, at
 /// most 16. A clause sees the list of layers, the top one first.
@@ -50,9 +51,12 @@ impl Model for CMap {
 }
 
 impl CMap {
-    /// The map of the CMap file `data`; `None` where it is outside the grammar.
+    /// The map of the CMap file `data`; `None` where it is refused: it or a file that it uses is
+    /// outside the grammar, a use has no answer, or more than 16 files stand in a chain.
     ///
-    /// A file that uses another one is refused for now, and `get_cmap` isn't asked.
+    /// `get_cmap` is asked for the files that others use, by their names: those of a file in order,
+    /// and only after the file has been read whole. Each use needs its file, also one that a later
+    /// use replaces. A file takes the layers of the last one that it uses.
     pub fn parse<'a, F>(
         alloc: Global,
         data: &[u8],
@@ -66,14 +70,56 @@ impl CMap {
 
         // A map is that of the file, and no other layers are.
         ensures accepts { IfOk result (λ found. IfSome found
-            (λ map. IsOnly (AreLayers IsLoneTextFile (Answers F.Fn get_cmap.now) 16 «data».now) map)) }
+            (λ map. IsOnly (AreLayers IsTextFile (Answers F.Fn get_cmap.now) 16 «data».now) map)) }
         ensures refuses { IfOk result (λ found. IfNone found
-            (HoldsOfNone (AreLayers IsLoneTextFile (Answers F.Fn get_cmap.now) 16 «data».now))) }
+            (HoldsOfNone (AreLayers IsTextFile (Answers F.Fn get_cmap.now) 16 «data».now))) }
     {
-        match read_text(alloc, data) {
-            Ok(file) => CMap::of_file(alloc, file),
-            Err(Fault::Refused) => Ok(None),
-            Err(Fault::Memory) => Err(AllocError),
+        match CMap::parse_within(alloc, None, data, bundle, get_cmap) {
+            Ok(map) => Ok(map),
+            Err(ParseError::Memory) => Err(AllocError),
+            Err(ParseError::OverBudget) => unreachable!(),
+        }
+    }
+
+    /// The same map, where all files that are opened have no more bytes than `budget`; `None` is no
+    /// budget.
+    ///
+    /// Files count in the order in which they are opened, each before those that it uses, and a file
+    /// that is used twice counts twice. Nothing is opened behind a file outside the grammar or a use
+    /// without its file. A file that would pass the budget isn't read.
+    pub fn parse_within<'a, F>(
+        alloc: Global,
+        budget: Option<u64>,
+        data: &[u8],
+        bundle: Option<&Bundle<'_>>,
+        get_cmap: &F,
+    ) -> Result<Option<CMap>, ParseError>
+    where
+        F: Fn(CMapName<'_>) -> Option<&'a [u8]>,
+        requires callable { F.IsAlwaysCallable get_cmap.now }
+        requires by_name { AnswersByName F.Fn get_cmap.now }
+        ensures accepts { IfOk result (λ found. IfSome found
+            (λ map. IsOnly (AreLayers IsTextFile (Answers F.Fn get_cmap.now) 16 «data».now) map)) }
+        ensures refuses { IfOk result (λ found. IfNone found
+            (HoldsOfNone (AreLayers IsTextFile (Answers F.Fn get_cmap.now) 16 «data».now))) }
+
+        // With an answer, all that is opened is within the budget.
+        ensures within { OnOk result
+            (StaysWithin IsTextFile (Answers F.Fn get_cmap.now) 16 «data».now budget) }
+
+        // There is a budget, and all that would be opened passes it.
+        ensures some { IsErrOf result OverBudget → IsSome budget }
+        ensures over { IsErrOf result OverBudget
+            → PassesBudget IsTextFile (Answers F.Fn get_cmap.now) 16 «data».now budget }
+    {
+        let source = Asked {
+            get_cmap,
+            of: PhantomData,
+        };
+        let mut left = budget;
+        match find_layers(alloc, data, &source, MOST_BELOW, &mut left)? {
+            Some(layers) => Ok(Some(CMap { layers })),
+            None => Ok(None),
         }
     }
 
@@ -187,6 +233,17 @@ impl CMap {
         lookup::bf_of(alloc, &self.layers, code, looks)
     }
 
+    /// The same map again.
+    pub fn clone(&self, alloc: Global) -> Result<CMap, AllocError>
+        ensures { IfOk result (λ copy. copy ≡ self.now) }
+    {
+        let mut layers = Vec::with_capacity(alloc, self.layers.len())?;
+        for layer in &self.layers {
+            layers.push(layer.clone(alloc)?)?;
+        }
+        Ok(CMap { layers })
+    }
+
     fn identity(alloc: Global, name: &[u8], mode: WritingMode) -> Result<CMap, AllocError>
         ensures { IfOk result (λ map. map ≡ identity_layer name.now (mode_seen mode) ∷ []) }
     {
@@ -210,18 +267,6 @@ impl CMap {
             writing_mode: Some(mode),
         };
         CMap::of_lists(alloc, metadata, lists)
-    }
-
-    /// The map of a file that uses no other.
-    fn of_file(alloc: Global, file: File<'_>) -> Result<Option<CMap>, AllocError>
-        ensures alone { IfOk result (λ found. IfSome found (λ map.
-            (file.entry.uses.items ≡ []) × (map ≡ layer_of (file_seen file.entry) ∷ []))) }
-        ensures uses { IfOk result (λ found. IfNone found (file.entry.uses.items ≢ [])) }
-    {
-        if file.uses.first().is_some() {
-            return Ok(None);
-        }
-        Ok(Some(CMap::of_lists(alloc, file.metadata, file.lists)?))
     }
 
     /// The map of one file.

@@ -1,0 +1,91 @@
+//! Files over the files that they use.
+
+ghost use Rattle.std.specs.Prelude.{◌≡◌, suc, is_none, IfOk, IfSome, IfNone, IsErrOf, IsSome};
+ghost use Rattle.hayro_cmap.specs.Answers.{IsByName};
+ghost use Rattle.hayro_cmap.specs.Budgets.{PassesBudget};
+ghost use Rattle.hayro_cmap.specs.BytesSpent.{Spends};
+ghost use Rattle.hayro_cmap.specs.FilesSeen.{file_seen};
+ghost use Rattle.hayro_cmap.specs.Layers.{AreLayers};
+ghost use Rattle.hayro_cmap.specs.LayersSeen.{layers_seen};
+ghost use Rattle.hayro_cmap.specs.Only.{IsOnly, HoldsOfNone};
+ghost use Rattle.hayro_cmap.specs.TextFiles.{IsTextFile};
+ghost use Rattle.hayro_cmap.specs.declared.budget.ParseError.TheVariants.{OverBudget};
+
+use crate::budget::{ParseError, spend};
+use crate::fault::Fault;
+use crate::file::File;
+use crate::layers::Layer;
+use crate::source::Source;
+use crate::text::read_text;
+use std::alloc::{AllocError, Global};
+
+/// How many files may stand under the top one in a chain.
+pub(crate) const MOST_BELOW: u8 = 15;
+
+/// The layers of a file, its own first; `None` where it is refused: it or a file that it uses is
+/// outside the grammar, a use has no answer, or more than `below` files stand under it in a chain.
+///
+/// The length of each file that is opened, this one too, is first taken from what is `left` of the
+/// budget. A file is read whole before those that it uses are asked for. Each use is resolved,
+/// though only the layers of the last one are kept.
+pub(crate) fn find_layers<S: Source>(
+    alloc: Global,
+    bytes: &[u8],
+    source: &S,
+    below: u8,
+    left: &mut Option<u64>,
+) -> Result<Option<Vec<Layer>>, ParseError>
+    requires can_ask { S.can_ask source.now }
+    requires by_name { IsByName (S.answers source.now) }
+
+    ensures accepts { IfOk result (λ found. IfSome found (λ layers. IsOnly
+        (AreLayers IsTextFile (S.answers source.now) (suc below) bytes.now)
+        (layers_seen layers.items))) }
+    ensures refuses { IfOk result (λ found. IfNone found
+        (HoldsOfNone (AreLayers IsTextFile (S.answers source.now) (suc below) bytes.now))) }
+
+    // All that was opened is spent.
+    ensures within { IfOk result (λ found. Spends IsTextFile (S.answers source.now) (suc below)
+        bytes.now (is_none found) left.old left.new) }
+    ensures some { IsErrOf result OverBudget → IsSome left.old }
+    ensures over { IsErrOf result OverBudget
+        → PassesBudget IsTextFile (S.answers source.now) (suc below) bytes.now left.old }
+{
+    spend(left, bytes.len())?;
+    let Some(file) = read_file(alloc, bytes)? else {
+        return Ok(None);
+    };
+    let File {
+        metadata,
+        lists,
+        uses,
+    } = file;
+    let mut base = Vec::new(alloc);
+    for name in &uses {
+        if below == 0 {
+            return Ok(None);
+        }
+        let Some(base_bytes) = source.file(name) else {
+            return Ok(None);
+        };
+        let Some(layers) = find_layers(alloc, base_bytes, source, below - 1, left)? else {
+            return Ok(None);
+        };
+        base = layers;
+    }
+    base.insert(0, Layer::build(alloc, metadata, lists)?)?;
+    Ok(Some(base))
+}
+
+/// What one file says; `None` where it is outside the grammar.
+fn read_file<'d>(alloc: Global, bytes: &'d [u8]) -> Result<Option<File<'d>>, AllocError>
+    ensures accepts { IfOk result (λ found. IfSome found
+        (λ file. IsOnly (IsTextFile bytes.now) (file_seen file))) }
+    ensures refuses { IfOk result (λ found. IfNone found (HoldsOfNone (IsTextFile bytes.now))) }
+{
+    match read_text(alloc, bytes) {
+        Ok(file) => Ok(Some(file)),
+        Err(Fault::Refused) => Ok(None),
+        Err(Fault::Memory) => Err(AllocError),
+    }
+}
