@@ -1,2 +1,3 @@
 pub mod CodeWords
 pub mod Queries
+pub mod BudgetWords

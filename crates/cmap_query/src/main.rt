@@ -4,6 +4,7 @@
 
 mod failure;
 mod input;
+mod options;
 mod query;
 mod run;
 

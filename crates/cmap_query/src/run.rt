@@ -2,6 +2,7 @@
 
 use crate::failure::Failure;
 use crate::input::read_all;
+use crate::options::Options;
 use crate::query::{Query, Request};
 use hayro_cmap::{CMap, CMapName};
 use std::alloc::{AllocError, Global};
@@ -36,9 +37,11 @@ fn answer<R: Read, W: Write>(
     input: &mut R,
     out: &mut W,
 ) -> Result<(), Failure> {
+    let (options, words) = Options::parse(words)?;
     let request = Request::parse(alloc, words)?;
     let data = read_all(alloc, input)?;
-    let map = CMap::parse(alloc, &data, None, &|_name: CMapName<'_>| None)?.ok_or(
+    let no_file = |_name: CMapName<'_>| None;
+    let map = CMap::parse_within(alloc, options.budget, &data, None, &no_file)?.ok_or(
         Failure::Refused,
     )?;
     let lines = answers(alloc, &map, &request.queries)?;

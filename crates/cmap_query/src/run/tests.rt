@@ -132,8 +132,40 @@ fn refuses_what_is_no_map(rt: HostRuntime) -> Result<(), Fail> {
 }
 
 #[test]
+fn a_budget_bounds_the_bytes(rt: HostRuntime) -> Result<(), Fail> {
+    // the file that uses another one has ten bytes, the other one 43
+    let rows: [(&str, &str, u8, &str, &str); 6] = [
+        ("9", "/B usecmap", 5, "", "over budget\n"),
+        ("10", "/B usecmap", 1, "", "refused\n"),
+        ("0", "(", 5, "", "over budget\n"),
+        ("1", "(", 1, "", "refused\n"),
+        ("42", TWO_BYTE_RANGE, 5, "", "over budget\n"),
+        ("0043", TWO_BYTE_RANGE, 0, "cid 2:0041 65\n", ""),
+    ];
+    for (budget, input, status, out, err) in rows {
+        let words = ["--budget", budget, "2:0041"];
+        let outcome = outcome_of(rt.alloc(), &words, &mut input.as_bytes())?;
+        assert_eq!(rt; outcome.status, status, "{budget} for {input}");
+        assert_eq!(rt;
+            outcome.out.as_slice(),
+            out.as_bytes(),
+            "{budget} for {input}"
+        );
+        assert_eq!(rt;
+            outcome.err.as_slice(),
+            err.as_bytes(),
+            "{budget} for {input}"
+        );
+    }
+    let words = ["--budget", "18446744073709551615", "2:0041"];
+    let outcome = outcome_of(rt.alloc(), &words, &mut TWO_BYTE_RANGE.as_bytes())?;
+    assert_eq!(rt; outcome.status, 0);
+    Ok(())
+}
+
+#[test]
 fn wrong_words_are_found_before_the_input_is_read(rt: HostRuntime) -> Result<(), Fail> {
-    let wrong: [&[&str]; 25] = [
+    let wrong: [&[&str]; 34] = [
         &["1:0041"],
         &["5:00"],
         &["0:"],
@@ -155,6 +187,15 @@ fn wrong_words_are_found_before_the_input_is_read(rt: HostRuntime) -> Result<(),
         &["BF:1"],
         &["--bundle"],
         &["--budget"],
+        &["--budget", "9"],
+        &["--budget", "x", "1:41"],
+        &["--budget", "", "1:41"],
+        &["--budget", "+9", "1:41"],
+        &["--budget", "-1", "1:41"],
+        &["--budget", "0x9", "1:41"],
+        &["--budget", "18446744073709551616", "1:41"],
+        &["1:41", "--budget", "9"],
+        &["--budget", "9", "--budget", "9", "1:41"],
         &[""],
         &[],
         &["2:0041", "x"],
