@@ -7,6 +7,8 @@ mod bases;
 mod bits;
 #[cfg(test)]
 mod budgets;
+#[cfg(test)]
+mod bundles;
 pub mod caller;
 #[cfg(test)]
 mod cid_sections;

@@ -18,3 +18,5 @@ pub mod BasesResolved
 pub mod BudgetLeft
 pub mod FilesOpened
 pub mod TablesCopied
+pub mod BundleFronts
+pub mod FilesMeant

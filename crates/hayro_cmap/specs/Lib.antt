@@ -8,6 +8,9 @@ pub mod Lookups
 pub mod Searches
 pub mod LayersDecide
 pub mod Identity
+pub mod Bundles
+pub mod BundleReading
+pub mod BundleSeen
 pub mod CMapNames
 pub mod Answers
 pub mod DeclarationsSeen

@@ -5,13 +5,14 @@ ghost use Rattle.hayro_cmap.specs.Answers.{IsByName};
 ghost use Rattle.hayro_cmap.specs.Budgets.{PassesBudget};
 ghost use Rattle.hayro_cmap.specs.BytesSpent.{Spends};
 ghost use Rattle.hayro_cmap.specs.FilesSeen.{file_seen};
-ghost use Rattle.hayro_cmap.specs.Layers.{AreLayers};
+ghost use Rattle.hayro_cmap.specs.BundleSeen.{tables_given};
+ghost use Rattle.hayro_cmap.specs.Layers.{AreLayers, Means};
 ghost use Rattle.hayro_cmap.specs.LayersSeen.{layers_seen};
 ghost use Rattle.hayro_cmap.specs.Only.{IsOnly, HoldsOfNone};
-ghost use Rattle.hayro_cmap.specs.TextFiles.{IsTextFile};
 ghost use Rattle.hayro_cmap.specs.declared.budget.ParseError.TheVariants.{OverBudget};
 
 use crate::budget::{ParseError, spend};
+use crate::bundle::Bundle;
 use crate::fault::Fault;
 use crate::file::File;
 use crate::layers::Layer;
@@ -31,6 +32,7 @@ pub(crate) const MOST_BELOW: u8 = 15;
 pub(crate) fn find_layers<S: Source>(
     alloc: Global,
     bytes: &[u8],
+    bundle: Option<&Bundle<'_>>,
     source: &S,
     below: u8,
     left: &mut Option<u64>,
@@ -39,20 +41,20 @@ pub(crate) fn find_layers<S: Source>(
     requires by_name { IsByName (S.answers source.now) }
 
     ensures accepts { IfOk result (λ found. IfSome found (λ layers. IsOnly
-        (AreLayers IsTextFile (S.answers source.now) (suc below) bytes.now)
+        (AreLayers (Means (tables_given bundle.entry)) (S.answers source.now) (suc below) bytes.now)
         (layers_seen layers.items))) }
     ensures refuses { IfOk result (λ found. IfNone found
-        (HoldsOfNone (AreLayers IsTextFile (S.answers source.now) (suc below) bytes.now))) }
+        (HoldsOfNone (AreLayers (Means (tables_given bundle.entry)) (S.answers source.now) (suc below) bytes.now))) }
 
     // All that was opened is spent.
-    ensures within { IfOk result (λ found. Spends IsTextFile (S.answers source.now) (suc below)
+    ensures within { IfOk result (λ found. Spends (Means (tables_given bundle.entry)) (S.answers source.now) (suc below)
         bytes.now (is_none found) left.old left.new) }
     ensures some { IsErrOf result OverBudget → IsSome left.old }
     ensures over { IsErrOf result OverBudget
-        → PassesBudget IsTextFile (S.answers source.now) (suc below) bytes.now left.old }
+        → PassesBudget (Means (tables_given bundle.entry)) (S.answers source.now) (suc below) bytes.now left.old }
 {
     spend(left, bytes.len())?;
-    let Some(file) = read_file(alloc, bytes)? else {
+    let Some(file) = read_file(alloc, bytes, bundle)? else {
         return Ok(None);
     };
     let File {
@@ -68,7 +70,7 @@ pub(crate) fn find_layers<S: Source>(
         let Some(base_bytes) = source.file(name) else {
             return Ok(None);
         };
-        let Some(layers) = find_layers(alloc, base_bytes, source, below - 1, left)? else {
+        let Some(layers) = find_layers(alloc, base_bytes, bundle, source, below - 1, left)? else {
             return Ok(None);
         };
         base = layers;
@@ -77,12 +79,23 @@ pub(crate) fn find_layers<S: Source>(
     Ok(Some(base))
 }
 
-/// What one file says; `None` where it is outside the grammar.
-fn read_file<'d>(alloc: Global, bytes: &'d [u8]) -> Result<Option<File<'d>>, AllocError>
+/// What begins a binary file.
+const MAGIC: &[u8] = b"bcmap";
+
+/// What one file says; `None` where it is outside the grammar. With a bundle, bytes that are marked
+/// as a binary file are refused for now.
+fn read_file<'d>(
+    alloc: Global,
+    bytes: &'d [u8],
+    bundle: Option<&Bundle<'_>>,
+) -> Result<Option<File<'d>>, AllocError>
     ensures accepts { IfOk result (λ found. IfSome found
-        (λ file. IsOnly (IsTextFile bytes.now) (file_seen file))) }
-    ensures refuses { IfOk result (λ found. IfNone found (HoldsOfNone (IsTextFile bytes.now))) }
+        (λ file. IsOnly ((Means (tables_given bundle.entry)) bytes.now) (file_seen file))) }
+    ensures refuses { IfOk result (λ found. IfNone found (HoldsOfNone ((Means (tables_given bundle.entry)) bytes.now))) }
 {
+    if bundle.is_some() && bytes.starts_with(MAGIC) {
+        return Ok(None);
+    }
     match read_text(alloc, bytes) {
         Ok(file) => Ok(Some(file)),
         Err(Fault::Refused) => Ok(None),

@@ -9,6 +9,7 @@ mod codespaces;
 mod declarations;
 mod fault;
 mod file;
+mod frames;
 mod layers;
 mod lookup;
 mod map;
@@ -18,10 +19,17 @@ mod source;
 mod text;
 
 pub use budget::ParseError;
-pub use bundle::Bundle;
+pub use bundle::{Bundle, load_embedded};
 pub use cmap_parts::utf16::BfString;
 pub use cmap_parts::{runs, token};
 pub use declarations::{BfRange, CidRange};
 pub use map::CMap;
 pub use metadata::{CharacterCollection, CidFamily, Metadata, WritingMode};
 pub use names::{CMapName, Cid};
+
+/// The parts of the binary form of CMap files: bits and numbers, prefix tables, bundles.
+pub mod bcmap {
+    pub use crate::bundle::{Bundle, load_embedded};
+    pub use cmap_parts::bits::Reader;
+    pub use cmap_parts::prefix::PrefixTable;
+}

@@ -8,12 +8,12 @@ ghost use Rattle.hayro_cmap.specs.Budgets.{PassesBudget, StaysWithin};
 ghost use Rattle.hayro_cmap.specs.DeclarationsSeen.{lists_seen};
 ghost use Rattle.hayro_cmap.specs.Files as files;
 ghost use Rattle.hayro_cmap.specs.Identity.{identity_layer};
-ghost use Rattle.hayro_cmap.specs.Layers.{AreLayers};
+ghost use Rattle.hayro_cmap.specs.BundleSeen.{tables_given};
+ghost use Rattle.hayro_cmap.specs.Layers.{AreLayers, Means};
 ghost use Rattle.hayro_cmap.specs.LayersSeen.{IsMetadataOf, metadata_seen, mode_seen};
 ghost use Rattle.hayro_cmap.specs.Lookups.{InCodespace, bf_of, cid_of};
 ghost use Rattle.hayro_cmap.specs.Only.{IsOnly, HoldsOfNone};
 ghost use Rattle.hayro_cmap.specs.Searches.{bf_looks, cid_looks};
-ghost use Rattle.hayro_cmap.specs.TextFiles.{IsTextFile};
 ghost use Rattle.hayro_cmap.specs.declared.budget.ParseError.TheVariants.{OverBudget};
 
 use crate::budget::ParseError;
@@ -70,9 +70,9 @@ impl CMap {
 
         // A map is that of the file, and no other layers are.
         ensures accepts { IfOk result (λ found. IfSome found
-            (λ map. IsOnly (AreLayers IsTextFile (Answers F.Fn get_cmap.now) 16 «data».now) map)) }
+            (λ map. IsOnly (AreLayers (Means (tables_given bundle.entry)) (Answers F.Fn get_cmap.now) 16 «data».now) map)) }
         ensures refuses { IfOk result (λ found. IfNone found
-            (HoldsOfNone (AreLayers IsTextFile (Answers F.Fn get_cmap.now) 16 «data».now))) }
+            (HoldsOfNone (AreLayers (Means (tables_given bundle.entry)) (Answers F.Fn get_cmap.now) 16 «data».now))) }
     {
         match CMap::parse_within(alloc, None, data, bundle, get_cmap) {
             Ok(map) => Ok(map),
@@ -99,25 +99,25 @@ impl CMap {
         requires callable { F.IsAlwaysCallable get_cmap.now }
         requires by_name { AnswersByName F.Fn get_cmap.now }
         ensures accepts { IfOk result (λ found. IfSome found
-            (λ map. IsOnly (AreLayers IsTextFile (Answers F.Fn get_cmap.now) 16 «data».now) map)) }
+            (λ map. IsOnly (AreLayers (Means (tables_given bundle.entry)) (Answers F.Fn get_cmap.now) 16 «data».now) map)) }
         ensures refuses { IfOk result (λ found. IfNone found
-            (HoldsOfNone (AreLayers IsTextFile (Answers F.Fn get_cmap.now) 16 «data».now))) }
+            (HoldsOfNone (AreLayers (Means (tables_given bundle.entry)) (Answers F.Fn get_cmap.now) 16 «data».now))) }
 
         // With an answer, all that is opened is within the budget.
         ensures within { OnOk result
-            (StaysWithin IsTextFile (Answers F.Fn get_cmap.now) 16 «data».now budget) }
+            (StaysWithin (Means (tables_given bundle.entry)) (Answers F.Fn get_cmap.now) 16 «data».now budget) }
 
         // There is a budget, and all that would be opened passes it.
         ensures some { IsErrOf result OverBudget → IsSome budget }
         ensures over { IsErrOf result OverBudget
-            → PassesBudget IsTextFile (Answers F.Fn get_cmap.now) 16 «data».now budget }
+            → PassesBudget (Means (tables_given bundle.entry)) (Answers F.Fn get_cmap.now) 16 «data».now budget }
     {
         let source = Asked {
             get_cmap,
             of: PhantomData,
         };
         let mut left = budget;
-        match find_layers(alloc, data, &source, MOST_BELOW, &mut left)? {
+        match find_layers(alloc, data, bundle, &source, MOST_BELOW, &mut left)? {
             Some(layers) => Ok(Some(CMap { layers })),
             None => Ok(None),
         }

@@ -1,8 +1,8 @@
 //! Names of CMaps.
 
-ghost use Rattle.std.specs.Prelude.{◌≡◌, ◌<◌, [], Some, slice_index_or};
+ghost use Rattle.std.specs.Prelude.{◌≡◌, ◌<◌, [], Some, IfSome, slice_index_or};
 ghost use Rattle.hayro_cmap.specs.CMapNames.{IsNameOf, IsSameName, name_bytes, place};
-ghost use Rattle.hayro_cmap.specs.Names.{known_names};
+ghost use Rattle.hayro_cmap.specs.Names.{known_names, place_of};
 ghost use Rattle.hayro_cmap.specs.declared.names.CMapName.{CMapName};
 
 /// The number of a character in a character collection. Adobe Technical Note 5014.
@@ -161,13 +161,10 @@ impl<'a> CMapName<'a> {
         // hand as a `Custom` of a known text.
         ensures only { (other : CMapName) → IsNameOf bytes.now other → IsSameName other result }
     {
-        for place in 0..KNOWN_COUNT {
-            let known = known_name(place);
-            if known.to_bytes() == bytes {
-                return known;
-            }
+        match place_of(bytes) {
+            Some(place) => known_name(place),
+            None => CMapName::Custom(bytes),
         }
-        CMapName::Custom(bytes)
     }
 
     /// The text of this name, without the slash that stands before it in a file.
@@ -244,6 +241,30 @@ impl<'a> CMapName<'a> {
             CMapName::Custom(bytes) => bytes,
         }
     }
+
+    /// Its place among the known names; `None` for a `Custom` one, whatever its text is.
+    pub(crate) fn place(self) -> Option<usize>
+        ensures { result ≡ place self.entry }
+    {
+        match self {
+            CMapName::Custom(_) => None,
+            known => place_of(known.to_bytes()),
+        }
+    }
+}
+
+/// The place of the known name with this text.
+fn place_of(text: &[u8]) -> Option<usize>
+    ensures place { result ≡ place_of text.now }
+    ensures known { IfSome result (λ place.
+        (place < KNOWN_COUNT) × (slice_index_or known_names place [] ≡ text.now)) }
+{
+    for place in 0..KNOWN_COUNT {
+        if known_name(place).to_bytes() == text {
+            return Some(place);
+        }
+    }
+    None
 }
 
 /// The known name at a place, in the order of their texts.

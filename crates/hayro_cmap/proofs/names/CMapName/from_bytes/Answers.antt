@@ -1,43 +1,19 @@
-use Rattle.std.proofs.Common.{rules, ◌≡◌, ℕ, ◌<◌, ◌≤◌, List, [], get_or, false, true, cond, nat_lt, Some, None, sym, ap, refl, ◌∙◌, arith, below_more}
-use Rattle.std.specs.Prelude.{bytes_eq}
-use Rattle.std.proofs.lemmas.List.Sums.{position_or_len_is}
-use Rattle.hayro_cmap.specs.CMapNames.{IsNameOf, name_bytes}
-use Rattle.hayro_cmap.specs.Names.{known_names, place_of}
+use Rattle.std.proofs.Common.{refl, ◌∙◌}
+use Rattle.hayro_cmap.specs.CMapNames.{IsNameOf}
 use Rattle.hayro_cmap.specs.declared.names.CMapName.{CMapName}
 use Rattle.hayro_cmap.specs.declared.names.CMapName.TheVariants.{Custom}
 use Rattle.hayro_cmap.proofs.OneName.{IsSameName-from_text}
 use Rattle.hayro_cmap.proofs.names.CMapName.from_bytes.Goals as goal
 
--- the place is the first with this text
-place_of-first : (text : List ℕ) (at : ℕ) → at < 65 → ((k : ℕ) → k < at → bytes_eq (get_or known_names k []) text ≡ false) → bytes_eq (get_or known_names at []) text ≡ true
-    → Some at ≡ place_of text
-unfolding known_names
-place_of-first text at below before here =
-    let within : at ≤ 65 = omega arith in
-    let fits : nat_lt at 65 ≡ true = search rules in
-    sym (ap (λ (n : ℕ). cond (nat_lt n 65) (Some n) None) (position_or_len_is (λ known. bytes_eq known text) known_names at [] within before (λ _. here)) ∙ ap (λ b. cond b (Some at) None) fits)
-
--- a text that stands at no place has none
-place_of-none : (text : List ℕ) → ((k : ℕ) → k < 65 → bytes_eq (get_or known_names k []) text ≡ false) → None ≡ place_of text
-unfolding known_names
-place_of-none text differs =
-    let within : 65 ≤ 65 = omega arith in
-    sym (ap (λ (n : ℕ). cond (nat_lt n 65) (Some n) None) (position_or_len_is (λ known. bytes_eq known text) known_names 65 [] within differs (λ lt. let below : 65 < 65 = lt in absurd (omega arith))))
-
-pub loop-place-preserved : goal.loop-place-preserved
-loop-place-preserved c = below_more _ _ c.loop-place.invariant (rw (← c.known_name-known.ensures.text, ← c.to_bytes.ensures) (search (rules, c.if-eq.ensures, c.eq.ensures)))
-
-pub returns-then-eq : goal.returns-then-eq
-returns-then-eq c =
-    let known = c.known_name-known in
-    let same : bytes_eq (get_or known_names c.loop-place.place []) c.args.bytes.now ≡ true = rw (← known.ensures.text, ← c.to_bytes.ensures) (search (rules, c.if-eq.ensures, c.eq.ensures)) in
-    let text : name_bytes known.result ≡ c.args.bytes.now = search (rules, c.if-eq.ensures, c.eq.ensures, c.to_bytes.ensures) in
-    let is : IsNameOf c.args.bytes.now known.result = (text, known.ensures.place ∙ place_of-first _ _ (omega arith) c.loop-place.invariant same) in
+pub returns-in-Some : goal.returns-in-Some
+returns-in-Some c =
+    let known = c.known_name in
+    let is : IsNameOf c.args.bytes.now known.result = (known.ensures.text ∙ c.in-Some.ensures.known.1, known.ensures.place ∙ c.in-Some.ensures.place) in
     record { name = is; only = λ other named. IsSameName-from_text _ other _ named is }
 
-pub returns : goal.returns
-returns c =
+pub returns-in-None : goal.returns-in-None
+returns-in-None c =
     let text = c.args.bytes.now in
     let name : CMapName = Custom c.args.bytes in
-    let is : IsNameOf text name = (refl, place_of-none text (λ k lt. c.loop-place.invariant k (omega arith))) in
+    let is : IsNameOf text name = (refl, c.in-None.ensures.place) in
     record { name = is; only = λ other named. IsSameName-from_text text other name named is }

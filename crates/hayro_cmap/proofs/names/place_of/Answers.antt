@@ -1,0 +1,32 @@
+use Rattle.std.proofs.Common.{rules, ◌≡◌, ℕ, ◌<◌, ◌≤◌, List, [], get_or, false, true, cond, nat_lt, Some, None, sym, ap, ◌∙◌, arith, below_more}
+use Rattle.std.specs.Prelude.{bytes_eq}
+use Rattle.std.proofs.lemmas.List.Sums.{position_or_len_is}
+use Rattle.hayro_cmap.specs.Names.{known_names, place_of}
+use Rattle.hayro_cmap.proofs.names.place_of.Goals as goal
+
+-- the place is the first with this text
+place_of-first : (text : List ℕ) (at : ℕ) → at < 65 → ((k : ℕ) → k < at → bytes_eq (get_or known_names k []) text ≡ false) → bytes_eq (get_or known_names at []) text ≡ true
+    → Some at ≡ place_of text
+unfolding known_names
+place_of-first text at below before here =
+    let within : at ≤ 65 = omega arith in
+    let fits : nat_lt at 65 ≡ true = search rules in
+    sym (ap (λ (n : ℕ). cond (nat_lt n 65) (Some n) None) (position_or_len_is (λ known. bytes_eq known text) known_names at [] within before (λ _. here)) ∙ ap (λ b. cond b (Some at) None) fits)
+
+-- a text that stands at no place has none
+place_of-none : (text : List ℕ) → ((k : ℕ) → k < 65 → bytes_eq (get_or known_names k []) text ≡ false) → None ≡ place_of text
+unfolding known_names
+place_of-none text differs =
+    let within : 65 ≤ 65 = omega arith in
+    sym (ap (λ (n : ℕ). cond (nat_lt n 65) (Some n) None) (position_or_len_is (λ known. bytes_eq known text) known_names 65 [] within differs (λ lt. let below : 65 < 65 = lt in absurd (omega arith))))
+
+pub loop-place-preserved : goal.loop-place-preserved
+loop-place-preserved c = below_more _ _ c.loop-place.invariant (rw (← c.known_name.ensures.text, ← c.to_bytes.ensures) (search (rules, c.if-eq.ensures, c.eq.ensures)))
+
+pub returns-then-eq-clause-place : goal.returns-then-eq-clause-place
+returns-then-eq-clause-place c =
+    let same : bytes_eq (get_or known_names c.loop-place.place []) c.args.text.now ≡ true = rw (← c.known_name.ensures.text, ← c.to_bytes.ensures) (search (rules, c.if-eq.ensures, c.eq.ensures)) in
+    place_of-first _ _ (omega arith) c.loop-place.invariant same
+
+pub returns-clause-place : goal.returns-clause-place
+returns-clause-place c = place_of-none c.args.text.now (λ k lt. c.loop-place.invariant k (omega arith))
