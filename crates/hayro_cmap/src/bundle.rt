@@ -103,8 +103,9 @@ fn split_files<'b>(alloc: Global, bytes: &'b [u8]) -> Result<Option<Vec<&'b [u8]
 /// The file of this name; `None` without a bundle, for a `Custom` name, and where the bundle has no
 /// file at the place of the name. It takes no memory.
 pub fn load_embedded<'b>(bundle: Option<&Bundle<'b>>, name: CMapName<'_>) -> Option<&'b [u8]>
-    ensures { option_copied result ≡ option_and_then (λ b. option_and_then
-        (λ at. slice_get (bundle_seen b).files at) (place name.entry)) (option_copied bundle.entry) }
+    ensures { option_copied result ≡ option_and_then
+        (λ b. option_and_then (λ at. slice_get (bundle_seen b).files at) (place name.entry))
+        (option_copied bundle.entry) }
 {
     bundle?.files.get(name.place()?).copied()
 }

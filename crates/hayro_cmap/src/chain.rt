@@ -41,17 +41,20 @@ pub(crate) fn find_layers<S: Source>(
     requires by_name { IsByName (S.answers source.now) }
 
     ensures accepts { IfOk result (λ found. IfSome found (λ layers. IsOnly
-        (AreLayers (Means (tables_given bundle.entry)) (S.answers source.now) (suc below) bytes.now)
-        (layers_seen layers.items))) }
-    ensures refuses { IfOk result (λ found. IfNone found
-        (HoldsOfNone (AreLayers (Means (tables_given bundle.entry)) (S.answers source.now) (suc below) bytes.now))) }
+        (AreLayers (Means (tables_given bundle.entry)) (S.answers source.now)
+        (suc below) bytes.now) (layers_seen layers.items))) }
+    ensures refuses { IfOk result (λ found. IfNone found (HoldsOfNone
+        (AreLayers (Means (tables_given bundle.entry)) (S.answers source.now)
+        (suc below) bytes.now))) }
 
     // All that was opened is spent.
-    ensures within { IfOk result (λ found. Spends (Means (tables_given bundle.entry)) (S.answers source.now) (suc below)
-        bytes.now (is_none found) left.old left.new) }
+    ensures within { IfOk result (λ found.
+        Spends (Means (tables_given bundle.entry)) (S.answers source.now)
+        (suc below) bytes.now (is_none found) left.old left.new) }
     ensures some { IsErrOf result OverBudget → IsSome left.old }
     ensures over { IsErrOf result OverBudget
-        → PassesBudget (Means (tables_given bundle.entry)) (S.answers source.now) (suc below) bytes.now left.old }
+        → PassesBudget (Means (tables_given bundle.entry)) (S.answers source.now)
+        (suc below) bytes.now left.old }
 {
     spend(left, bytes.len())?;
     let Some(file) = read_file(alloc, bytes, bundle)? else {
@@ -90,8 +93,9 @@ fn read_file<'d>(
     bundle: Option<&Bundle<'_>>,
 ) -> Result<Option<File<'d>>, AllocError>
     ensures accepts { IfOk result (λ found. IfSome found
-        (λ file. IsOnly ((Means (tables_given bundle.entry)) bytes.now) (file_seen file))) }
-    ensures refuses { IfOk result (λ found. IfNone found (HoldsOfNone ((Means (tables_given bundle.entry)) bytes.now))) }
+        (λ file. IsOnly (Means (tables_given bundle.entry) bytes.now) (file_seen file))) }
+    ensures refuses { IfOk result (λ found. IfNone found
+        (HoldsOfNone (Means (tables_given bundle.entry) bytes.now))) }
 {
     if bundle.is_some() && bytes.starts_with(MAGIC) {
         return Ok(None);

@@ -56,7 +56,8 @@ impl CMap {
     ///
     /// `get_cmap` is asked for the files that others use, by their names: those of a file in order,
     /// and only after the file has been read whole. Each use needs its file, also one that a later
-    /// use replaces. A file takes the layers of the last one that it uses.
+    /// use replaces. A file takes the layers of the last one that it uses. With a bundle, a file that
+    /// is marked as binary is refused for now.
     pub fn parse<'a, F>(
         alloc: Global,
         data: &[u8],
@@ -70,9 +71,11 @@ impl CMap {
 
         // A map is that of the file, and no other layers are.
         ensures accepts { IfOk result (λ found. IfSome found
-            (λ map. IsOnly (AreLayers (Means (tables_given bundle.entry)) (Answers F.Fn get_cmap.now) 16 «data».now) map)) }
+            (λ map. IsOnly (AreLayers (Means (tables_given bundle.entry))
+            (Answers F.Fn get_cmap.now) 16 «data».now) map)) }
         ensures refuses { IfOk result (λ found. IfNone found
-            (HoldsOfNone (AreLayers (Means (tables_given bundle.entry)) (Answers F.Fn get_cmap.now) 16 «data».now))) }
+            (HoldsOfNone (AreLayers (Means (tables_given bundle.entry))
+            (Answers F.Fn get_cmap.now) 16 «data».now))) }
     {
         match CMap::parse_within(alloc, None, data, bundle, get_cmap) {
             Ok(map) => Ok(map),
@@ -99,18 +102,22 @@ impl CMap {
         requires callable { F.IsAlwaysCallable get_cmap.now }
         requires by_name { AnswersByName F.Fn get_cmap.now }
         ensures accepts { IfOk result (λ found. IfSome found
-            (λ map. IsOnly (AreLayers (Means (tables_given bundle.entry)) (Answers F.Fn get_cmap.now) 16 «data».now) map)) }
+            (λ map. IsOnly (AreLayers (Means (tables_given bundle.entry))
+            (Answers F.Fn get_cmap.now) 16 «data».now) map)) }
         ensures refuses { IfOk result (λ found. IfNone found
-            (HoldsOfNone (AreLayers (Means (tables_given bundle.entry)) (Answers F.Fn get_cmap.now) 16 «data».now))) }
+            (HoldsOfNone (AreLayers (Means (tables_given bundle.entry))
+            (Answers F.Fn get_cmap.now) 16 «data».now))) }
 
         // With an answer, all that is opened is within the budget.
         ensures within { OnOk result
-            (StaysWithin (Means (tables_given bundle.entry)) (Answers F.Fn get_cmap.now) 16 «data».now budget) }
+            (StaysWithin (Means (tables_given bundle.entry))
+            (Answers F.Fn get_cmap.now) 16 «data».now budget) }
 
         // There is a budget, and all that would be opened passes it.
         ensures some { IsErrOf result OverBudget → IsSome budget }
         ensures over { IsErrOf result OverBudget
-            → PassesBudget (Means (tables_given bundle.entry)) (Answers F.Fn get_cmap.now) 16 «data».now budget }
+            → PassesBudget (Means (tables_given bundle.entry))
+            (Answers F.Fn get_cmap.now) 16 «data».now budget }
     {
         let source = Asked {
             get_cmap,
