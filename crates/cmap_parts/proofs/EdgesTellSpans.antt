@@ -43,12 +43,12 @@ closes_code spans edge place span is closes at =
     (is.code ∙ cond-false edge.opens is.span.start (is.span.end + 1) (not-true edge.opens parts.0) ∙ ap (λ (s : Span). s.end + 1) same, subst (λ (s : Span). s.start ≤ s.end) same is.filled)
 
 -- ---- the spans that are open between two edges
-contains_at-none : (spans : List Span) (place code : ℕ) → slice_get spans place ≡ None → contains_at spans place code ≡ false
+pub contains_at-none : (spans : List Span) (place code : ℕ) → slice_get spans place ≡ None → contains_at spans place code ≡ false
 contains_at-none [] place code none = refl
 contains_at-none (span ∷ rest) zero code none = absurd (none-some span (sym none))
 contains_at-none (span ∷ rest) (suc place) code none = contains_at-none rest place code none
 
-contains_at-some : (spans : List Span) (place code : ℕ) (span : Span) → slice_get spans place ≡ Some span → contains_at spans place code ≡ contains span code
+pub contains_at-some : (spans : List Span) (place code : ℕ) (span : Span) → slice_get spans place ≡ Some span → contains_at spans place code ≡ contains span code
 contains_at-some [] place code span at = absurd (none-some span at)
 contains_at-some (first ∷ rest) zero code span at = ap (λ (s : Span). contains s code) (same_Some first span at)
 contains_at-some (first ∷ rest) (suc place) code span at = contains_at-some rest place code span at
@@ -184,16 +184,16 @@ is_open-push_opening spans front edge place each is e =
     omega (arith, opening.0, opening.1, closing.0, found.1.1)))
 
 -- ---- one more span
-slice_get_push : {X : Type 0} (xs : List X) (i : ℕ) (x y : X) → slice_get xs i ≡ Some x → slice_get (xs ++ y ∷ []) i ≡ Some x
+pub slice_get_push : {X : Type 0} (xs : List X) (i : ℕ) (x y : X) → slice_get xs i ≡ Some x → slice_get (xs ++ y ∷ []) i ≡ Some x
 slice_get_push [] i x y at = absurd (none-some x at)
 slice_get_push (first ∷ rest) zero x y at = at
 slice_get_push (first ∷ rest) (suc i) x y at = slice_get_push rest i x y at
 
-slice_get_pushed : {X : Type 0} (xs : List X) (y : X) → slice_get (xs ++ y ∷ []) (length xs) ≡ Some y
+pub slice_get_pushed : {X : Type 0} (xs : List X) (y : X) → slice_get (xs ++ y ∷ []) (length xs) ≡ Some y
 slice_get_pushed [] y = refl
 slice_get_pushed (first ∷ rest) y = slice_get_pushed rest y
 
-slice_get_push_cases : {X : Type 0} (xs : List X) (i : ℕ) (x y : X)
+pub slice_get_push_cases : {X : Type 0} (xs : List X) (i : ℕ) (x y : X)
     → slice_get (xs ++ y ∷ []) i ≡ Some x → (slice_get xs i ≡ Some x) ⊎ ((i ≡ length xs) × (y ≡ x))
 slice_get_push_cases [] zero x y at = inr (refl, same_Some y x at)
 slice_get_push_cases [] (suc i) x y at = absurd (none-some x at)

@@ -1,8 +1,10 @@
 pub mod BinaryDigits
 pub mod BitsOfBytes
 pub mod BitsTaken
+pub mod BlocksMade
 pub mod ByteCounts
 pub mod ByteTests
+pub mod ByteTables
 pub mod BytesTaken
 pub mod BytesWritten
 pub mod EdgesTellSpans
@@ -17,6 +19,7 @@ pub mod OctalEscapes
 pub mod PlacesFound
 pub mod PlacesZipped
 pub mod RunsBelowALimit
+pub mod RunsApart
 pub mod RunsInOrder
 pub mod SaturatingDigits
 pub mod StringBodies

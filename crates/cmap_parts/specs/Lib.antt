@@ -18,3 +18,5 @@ pub mod WordsByLength
 pub mod LastUnits
 pub mod Order
 pub mod Edges
+pub mod RangesApart
+pub mod Blocks

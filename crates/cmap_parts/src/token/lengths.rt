@@ -1,25 +1,40 @@
 //! How far gaps and tokens reach, in bytes.
 
-ghost use Rattle.std.specs.Prelude.{◌≡◌, ◌≤◌, false, length, IfSome};
+ghost use Rattle.std.specs.Prelude.{◌≡◌, ◌+◌, ◌≤◌, false, true, drop, length, IfSome};
 ghost use Rattle.std.specs.List.{prefix_len};
 ghost use Rattle.cmap_parts.specs.Bytes.{is_regular};
 ghost use Rattle.cmap_parts.specs.TokenReading as reading;
 
-use super::byte_class::{ends_comment, is_digit, is_regular, is_white};
+use super::byte_class::{ends_comment, is_hex_body, is_regular, is_white};
 
 // How many bytes of white space and comments a text begins with.
 pub(super) fn gap_len(text: &[u8]) -> usize
     ensures exact { result ≡ reading.gap_len false text.now }
     ensures within { result ≤ length text.now }
 {
-    let mut in_comment = false;
-    for (i, byte) in text.iter().enumerate() {
-        if in_comment {
-            in_comment = !ends_comment(*byte);
-        } else if *byte == b'%' {
-            in_comment = true;
-        } else if !is_white(*byte) {
+    let mut i = 0;
+    while i < text.len() {
+        let byte = text[i];
+        if is_white(byte) {
+            i += 1;
+        } else if byte == b'%' {
+            i += 1 + comment_len(&text[i + 1..]);
+        } else {
             return i;
+        }
+    }
+    i
+}
+
+// How many bytes are left of a comment, with the byte that ends it.
+fn comment_len(text: &[u8]) -> usize
+    ensures exact { reading.gap_len true text.now
+        ≡ result + reading.gap_len false (drop result text.now) }
+    ensures within { result ≤ length text.now }
+{
+    for (i, byte) in text.iter().enumerate() {
+        if ends_comment(*byte) {
+            return i + 1;
         }
     }
     text.len()
@@ -55,15 +70,15 @@ fn hex_len(text: &[u8]) -> Option<usize>
     ensures exact { result ≡ reading.hex_len text.now }
     ensures within { IfSome result (λ len. len ≤ length text.now) }
 {
-    for (i, byte) in text.iter().enumerate() {
-        if *byte == b'>' {
-            return Some(i + 1);
-        }
-        if !is_white(*byte) && !is_digit(*byte, 16) {
-            return None;
-        }
+    let mut i = 0;
+    while i < text.len() && is_hex_body(text[i]) {
+        i += 1;
     }
-    None
+    if i < text.len() && text[i] == b'>' {
+        Some(i + 1)
+    } else {
+        None
+    }
 }
 
 // How many bytes a string in parentheses takes behind its `(`.

@@ -118,6 +118,9 @@ fn without_sign(text: &[u8]) -> &[u8]
     }
 }
 
+// A smaller number has room for one more digit of any base.
+const SMALL: u64 = 1 << 58;
+
 // The number that one or more digits of a base write, or `u64::MAX` where it is larger.
 pub(super) fn digits_number(base: u32, text: &[u8]) -> Option<u64>
     requires low { 2 ≤ base }
@@ -129,10 +132,12 @@ pub(super) fn digits_number(base: u32, text: &[u8]) -> Option<u64>
     }
     let mut number: u64 = 0;
     for byte in text {
-        let digit = char::from(*byte).to_digit(base)?;
-        number = number
-            .saturating_mul(u64::from(base))
-            .saturating_add(u64::from(digit));
+        let digit = u64::from(char::from(*byte).to_digit(base)?);
+        number = if number < SMALL {
+            number * u64::from(base) + digit
+        } else {
+            number.saturating_mul(u64::from(base)).saturating_add(digit)
+        };
     }
     Some(number)
 }

@@ -5,11 +5,28 @@ ghost use Rattle.cmap_parts.specs.TokenReading as reading;
 ghost use Rattle.cmap_parts.specs.TokenReading.{HasCut};
 ghost use Rattle.cmap_parts.specs.Strings.{hex_value, escape_value};
 
-use super::byte_class::{BACKSPACE, FORM_FEED, is_digit};
+use super::byte_class::{BACKSPACE, FORM_FEED, digit_value, is_digit};
 use super::numerals::digits_number;
 
 // Appends the bytes of hexadecimal digits, white space among them.
 pub(super) fn decode_hex(digits: &[u8], out: &mut Vec<u8>)
+    requires { vec_len out.old + length digits.now ≤ vec_capacity out.old }
+    ensures { out.new.items ≡ out.old.items ++ hex_value digits.now }
+{
+    let mut rest = digits;
+    while let [first, second, after @ ..] = rest {
+        let (high, low) = (digit_value(*first), digit_value(*second));
+        if high >= 16 || low >= 16 {
+            break;
+        }
+        out.push_reserved(16 * high + low);
+        rest = after;
+    }
+    decode_spaced_hex(rest, out);
+}
+
+// The same, where white space may stand anywhere.
+fn decode_spaced_hex(digits: &[u8], out: &mut Vec<u8>)
     requires { vec_len out.old + length digits.now ≤ vec_capacity out.old }
     ensures { out.new.items ≡ out.old.items ++ hex_value digits.now }
 {

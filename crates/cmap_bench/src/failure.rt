@@ -1,0 +1,65 @@
+//! Why a run measures nothing.
+
+ghost use Rattle.std.specs.Prelude.{◌≡◌};
+ghost use Rattle.cmap_bench.specs.declared.failure.Failure.TheVariants.{NoMemory};
+
+use std::alloc::{AllocError, AllocFailed};
+use std::fmt;
+use std::io::{self, ErrorKind};
+
+/// Why a run measures nothing. Its number is the exit status, and its text the line on the standard
+/// error.
+#[derive(Clone, Copy, Debug, PartialEq, Eq)]
+pub enum Failure {
+    /// The input is no CMap file, or builds on another one.
+    Refused = 1,
+    /// The words of the command line are wrong.
+    Usage = 2,
+    /// A growth was refused.
+    NoMemory = 3,
+    /// The words or the input could not be read, or the answers not written.
+    Unreadable = 4,
+}
+
+impl Failure {
+    /// The exit status.
+    pub fn status(self) -> u8 {
+        self as u8
+    }
+}
+
+impl fmt::Display for Failure {
+    fn fmt<W: fmt::Write>(&self, f: &mut fmt::Formatter<W>) -> fmt::Result {
+        f.write_str(match self {
+            Failure::Refused => "refused",
+            Failure::Usage => "usage",
+            Failure::NoMemory => "no memory",
+            Failure::Unreadable => "unreadable",
+        })
+    }
+}
+
+impl From<AllocError> for Failure {
+    ghost from_gives = { λ _ failure. failure ≡ NoMemory };
+
+    fn from(_error: AllocError) -> Failure {
+        Failure::NoMemory
+    }
+}
+
+impl<T: Drop> From<AllocFailed<T>> for Failure {
+    ghost from_gives = { λ _ failure. failure ≡ NoMemory };
+
+    fn from(_error: AllocFailed<T>) -> Failure {
+        Failure::NoMemory
+    }
+}
+
+impl From<io::Error> for Failure {
+    fn from(error: io::Error) -> Failure {
+        match error.kind() {
+            ErrorKind::OutOfMemory => Failure::NoMemory,
+            _ => Failure::Unreadable,
+        }
+    }
+}

@@ -1,0 +1,123 @@
+//! Rounds of work on a file, and how long they take.
+
+use crate::failure::Failure;
+use crate::request::Mode;
+use hayro_cmap::{BfString, CMap, CMapName};
+use std::alloc::{AllocError, Global};
+use std::time::{Clock, Instant};
+
+/// One more than the last code of two bytes.
+const CODE_COUNT: u32 = 0x1_0000;
+
+/// How long rounds took, and what they found.
+#[derive(Clone, Copy, Debug, PartialEq, Eq)]
+pub struct Measured {
+    /// The nanoseconds of the rounds alone; 0 where there was none.
+    pub nanos: u128,
+    /// How many rounds accepted the file; or the sum of what one round of lookups finds.
+    pub checksum: u64,
+}
+
+/// What a round works on.
+#[derive(Drop)]
+pub enum Work<'d> {
+    /// The bytes of a file, to be read.
+    Parse(&'d [u8]),
+    /// A map whose CIDs are looked up.
+    Lookup(CMap),
+    /// A map whose texts are looked up.
+    Bf(CMap),
+}
+
+impl<'d> Work<'d> {
+    /// The work of a mode on the bytes of a file. For lookups the file is read here.
+    pub fn new(alloc: Global, mode: Mode, data: &'d [u8]) -> Result<Work<'d>, Failure> {
+        match mode {
+            Mode::Parse => Ok(Work::Parse(data)),
+            Mode::Lookup => Ok(Work::Lookup(parse(alloc, data)?.ok_or(Failure::Refused)?)),
+            Mode::Bf => Ok(Work::Bf(parse(alloc, data)?.ok_or(Failure::Refused)?)),
+        }
+    }
+
+    /// Makes this many rounds. The sum of lookups is also there for no rounds: one is made before
+    /// the clock is read.
+    pub fn measure<C: Clock>(
+        &self,
+        clock: &C,
+        alloc: Global,
+        rounds: u64,
+    ) -> Result<Measured, Failure> {
+        let checksum = match self {
+            Work::Parse(_) => 0,
+            Work::Lookup(_) | Work::Bf(_) => self.round(alloc, 0)?,
+        };
+        if rounds == 0 {
+            return Ok(Measured { nanos: 0, checksum });
+        }
+        let start = Instant::now(clock)?;
+        let checksum = self.repeat(alloc, checksum, rounds)?;
+        Ok(Measured {
+            nanos: start.elapsed(clock)?.as_nanos(),
+            checksum,
+        })
+    }
+
+    /// The checksum after this many more rounds.
+    fn repeat(&self, alloc: Global, before: u64, rounds: u64) -> Result<u64, AllocError> {
+        let mut checksum = before;
+        for _ in 0..rounds {
+            checksum = self.round(alloc, checksum)?;
+        }
+        Ok(checksum)
+    }
+
+    /// The checksum after one more round.
+    fn round(&self, alloc: Global, before: u64) -> Result<u64, AllocError> {
+        match self {
+            Work::Parse(data) => {
+                let accepted = parse(alloc, data)?.is_some();
+                Ok(before.wrapping_add(u64::from(accepted)))
+            }
+            Work::Lookup(map) => Ok(cid_sum(map)),
+            Work::Bf(map) => text_sum(alloc, map),
+        }
+    }
+}
+
+/// The map of a file that uses no other.
+fn parse(alloc: Global, data: &[u8]) -> Result<Option<CMap>, AllocError> {
+    CMap::parse(alloc, data, None, &|_name: CMapName<'_>| None)
+}
+
+/// The sum of the CIDs of all codes of two bytes; none counts 0.
+fn cid_sum(map: &CMap) -> u64 {
+    let mut sum: u64 = 0;
+    for code in 0..CODE_COUNT {
+        let cid = map.lookup_cid_code(code, 2).unwrap_or(0);
+        sum = sum.wrapping_add(u64::from(cid));
+    }
+    sum
+}
+
+/// The sum of the first characters of the texts of the same codes; none counts 0.
+fn text_sum(alloc: Global, map: &CMap) -> Result<u64, AllocError> {
+    let mut sum: u64 = 0;
+    for code in 0..CODE_COUNT {
+        let first = map
+            .lookup_bf_string(alloc, code)?
+            .and_then(|text| first_char(&text));
+        sum = sum.wrapping_add(first.map_or(0, u64::from));
+    }
+    Ok(sum)
+}
+
+/// The first character of a text.
+fn first_char(text: &BfString) -> Option<char> {
+    match text {
+        BfString::Char(c) => Some(*c),
+        BfString::String(text) => text.chars().next(),
+    }
+}
+
+#[cfg(test)]
+mod tests;

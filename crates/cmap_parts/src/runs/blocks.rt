@@ -1,0 +1,77 @@
+//! For blocks of codes, where in a list of runs a search begins and ends.
+
+ghost use Rattle.std.specs.Prelude.{◌<◌, ◌≤◌, IfOk, length};
+ghost use Rattle.std.specs.List.{AllWithin};
+ghost use Rattle.cmap_parts.specs.Blocks.{AreBlocks};
+ghost use Rattle.cmap_parts.specs.Order.{IsInOrder};
+
+use super::held::Runs;
+use std::alloc::{AllocError, Global};
+use std::marker::Model;
+
+// How many codes a block has.
+const BLOCK_LEN: u32 = 256;
+
+// The blocks of the codes of two bytes, and the one behind them.
+const BLOCK_COUNT: u32 = 257;
+
+// A shorter list of runs is searched without blocks.
+const FEWEST_RUNS: usize = 256;
+
+// For each block, how many runs end before its first code.
+#[derive(Debug, Drop)]
+pub(super) struct Blocks {
+    counts: Vec<usize>,
+}
+
+impl Model for Blocks {
+    ghost use Rattle.std.specs.Prelude.{List, ℕ};
+
+    ghost Value = { List ℕ };
+
+    ghost view = { λ blocks. blocks.counts.items };
+}
+
+impl Blocks {
+    pub(super) fn of(alloc: Global, runs: &Runs) -> Result<Blocks, AllocError>
+        requires { IsInOrder runs.now }
+        ensures { IfOk result (λ blocks. AreBlocks runs.now blocks) }
+    {
+        let mut counts = Vec::new(alloc);
+        let run_count = runs.len();
+        if run_count < FEWEST_RUNS {
+            return Ok(Blocks { counts });
+        }
+        let mut place = 0;
+        for block in 0..BLOCK_COUNT {
+            while place < run_count && runs.high_at(place) < BLOCK_LEN * block {
+                place += 1;
+            }
+            counts.push(place)?;
+        }
+        Ok(Blocks { counts })
+    }
+
+    // The places from the first of which up to the second a run that holds `code` stands.
+    pub(super) fn window(&self, runs: &Runs, code: u32) -> (usize, usize)
+        requires order { IsInOrder runs.now }
+        requires blocks { AreBlocks runs.now self.now }
+        ensures within { result.1 ≤ length runs.now }
+        ensures below { AllWithin (λ run. run.high < code) runs.now 0 result.0 }
+        ensures above { AllWithin (λ run. code < run.low) runs.now result.1 (length runs.now) }
+    {
+        let run_count = runs.len();
+        let block_count = self.counts.len();
+        if block_count == 0 {
+            return (0, run_count);
+        }
+        let block = (code / BLOCK_LEN) as usize;
+        if block + 1 >= block_count {
+            return (self.counts[block_count - 1], run_count);
+        }
+        let next = self.counts[block + 1];
+        // The run that ends behind the block may begin in it.
+        let end = if next < run_count { next + 1 } else { next };
+        (self.counts[block], end)
+    }
+}
