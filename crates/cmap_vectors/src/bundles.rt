@@ -84,9 +84,8 @@ fn a_bundle_that_is_cut_is_none(rt: HostRuntime) -> Result<(), Fail> {
         assert!(&rt; !found, "{len} bytes");
     }
     assert!(&rt; is_bundle(rt.alloc(), &[TABLES])?);
-    let whole = TABLES.len() + FILE.len();
     let bytes = joined(rt.alloc(), &[TABLES, FILE])?;
-    for len in TABLES.len() + 1..whole {
+    for len in TABLES.len() + 1..bytes.len() {
         let found = is_bundle(rt.alloc(), &[&bytes[..len]])?;
         assert!(&rt; !found, "{len} bytes");
     }

@@ -205,3 +205,49 @@ fn a_file_is_refused_where_its_last_section_is_cut(rt: HostRuntime) -> Result<()
     }
     Ok(())
 }
+
+/// Files, and the lengths at which what is left of them is refused: in a section or a string.
+const CUT: &[(&str, &[Range<usize>])] = &[
+    ("beginbfrange <0000> <0002> <FFFF> endbfrange", &[12..44]),
+    (
+        "beginbfchar <3A51> <D840DC3E> <005F> <00660066> endbfchar",
+        &[11..57],
+    ),
+    (
+        "beginbfrange <005F> <0061> [<00660066> <00660069> <0066006C>] endbfrange",
+        &[12..72],
+    ),
+    ("beginbfrange <06> <05> [] endbfrange", &[12..36]),
+    ("beginbfchar <0041> <0048> endbfchar", &[11..35]),
+    (
+        "begincidchar <0041> 7 endcidchar beginbfchar <41> <00660066> endbfchar",
+        &[12..32, 44..70],
+    ),
+    (
+        "begincodespacerange <8140> <9FFC> endcodespacerange begincidrange <8140> <9FFC> 100 endcidrange",
+        &[19..51, 65..95],
+    ),
+    ("2 beginnotdefchar <03> 10 <20> 20 endnotdefchar", &[17..47]),
+    (
+        "1 beginnotdefrange <0000> <001F> 100 endnotdefrange",
+        &[18..51],
+    ),
+    ("/WMode 0 def /WMode 7 def", &[]),
+    (
+        "/Registry (Adobe) /Ordering (Japan1) /Supplement 1.0",
+        &[11..17, 29..36],
+    ),
+    ("/CMapName begincidchar <01> 7 endcidchar", &[24..27]),
+];
+
+#[test]
+fn texts_and_keys_that_are_cut(rt: HostRuntime) -> Result<(), Fail> {
+    for (file, refused) in CUT {
+        for len in 0..=file.len() {
+            let map = map_of(rt.alloc(), &file.as_bytes()[..len])?;
+            let expected = refused.iter().any(|range| range.contains(&len));
+            assert_eq!(rt; map.is_none(), expected, "{len} bytes of {file}");
+        }
+    }
+    Ok(())
+}
