@@ -7,12 +7,12 @@ use std::process::Abort;
 use std::test::Fail;
 
 /// A bundle without files: a table of two deltas, 0x20 and 0, and an empty table of counts.
-const TABLES: &[u8] = &[
+pub(crate) const TABLES: &[u8] = &[
     0, 0, 0, 16, 0, 2, 1, 0, 2, 0, 0, 0, 0x20, 0, 0, 0, 0, 0, 0, 0,
 ];
 
-/// A binary file.
-const FILE: &[u8] = &[
+/// A binary file: the codes 0x20 and 0x21 of two bytes, with the CIDs 5 and 6.
+pub(crate) const FILE: &[u8] = &[
     0x62, 0x63, 0x6D, 0x61, 0x70, 1, 0, 0, 0, 26, 4, 0, 0, 0, 16, 0, 2, 0, 0, 0, 1, 0x40, 0, 5, 0,
     0,
 ];
@@ -159,30 +159,5 @@ fn a_file_of_a_bundle_may_be_used_by_a_text(rt: HostRuntime) -> Result<(), Fail>
         &|name: CMapName<'_>| { load_embedded(bundle, name) },
     )?;
     assert!(&rt; map.is_none());
-    Ok(())
-}
-
-#[test]
-fn binary_files_are_refused_where_there_is_a_bundle(rt: HostRuntime) -> Result<(), Fail> {
-    let no_file: Option<&'static [u8]> = None;
-    let bundle = Bundle::parse(rt.alloc(), TABLES)?.expect(&rt, "a bundle");
-    for (file, with_a_bundle) in [
-        (FILE, false),
-        (b"bcmap".as_slice(), false),
-        (b"bcma".as_slice(), true),
-        (b" bcmap".as_slice(), true),
-    ] {
-        let map = CMap::parse(
-            rt.alloc(),
-            file,
-            Some(&bundle),
-            &|_name: CMapName<'_>| no_file,
-        )?;
-        assert_eq!(&rt; map.is_some(), with_a_bundle, "{file:?}");
-        let map = CMap::parse(rt.alloc(), file, None, &|_name: CMapName<'_>| no_file)?.expect(
-            &rt, "a text",
-        );
-        assert_eq!(&rt; map.lookup_cid_code(0x20, 2), None, "{file:?}");
-    }
     Ok(())
 }

@@ -4,6 +4,7 @@ ghost use Rattle.std.specs.Prelude.{◌≡◌};
 ghost use Rattle.std.specs.Option.{option_copied};
 ghost use Rattle.cmap_vectors.specs.NamedFiles.{file_in};
 
+use hayro_cmap::bcmap::Bundle;
 use hayro_cmap::{CMap, CMapName, ParseError};
 use std::alloc::{AllocError, Global};
 use std::cell::Cell;
@@ -60,6 +61,21 @@ fn file_of(files: &[NamedFile], name: &[u8]) -> Option<&'static [u8]>
         }
     }
     None
+}
+
+/// The map of a file with a bundle, where these files stand behind names.
+pub(crate) fn map_with_bundle(
+    alloc: Global,
+    bundle: &Bundle<'_>,
+    file: &[u8],
+    files: &[NamedFile],
+) -> Result<Option<CMap>, AllocError> {
+    CMap::parse(
+        alloc,
+        file,
+        Some(bundle),
+        &|name: CMapName<'_>| file_of(files, name.to_bytes()),
+    )
 }
 
 /// The map of a file within a budget, where these files stand behind names, and how many files were

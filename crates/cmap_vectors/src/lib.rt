@@ -4,6 +4,8 @@
 #[cfg(test)]
 mod bases;
 #[cfg(test)]
+mod binary_files;
+#[cfg(test)]
 mod bits;
 #[cfg(test)]
 mod budgets;

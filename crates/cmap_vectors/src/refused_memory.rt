@@ -2,10 +2,12 @@
 //! second call answers: to be run by `rt try --test --fail-alloc N`, for each N from 1 on.
 
 use crate::budgets::is_accepted_within;
-use crate::files::{map_of, map_over};
+use crate::bundles::{FILE, TABLES};
+use crate::files::{map_of, map_over, map_with_bundle};
 use cmap_parts::bits::Reader;
 use cmap_parts::prefix::PrefixTable;
 use cmap_parts::utf16::{text, units};
+use hayro_cmap::bcmap::Bundle;
 use hayro_cmap::token::{Scanner, Token};
 use hayro_cmap::{BfString, CMap, ParseError};
 use std::test::Fail;
@@ -101,6 +103,26 @@ fn files_within_a_budget_that_are_read_again(rt: HostRuntime) -> Result<(), Fail
         }
         assert_eq!(rt; accepted, expected, "{budget} bytes");
     }
+    Ok(())
+}
+
+#[test]
+fn binary_files_that_are_read_again(rt: HostRuntime) -> Result<(), Fail> {
+    let alloc = rt.alloc();
+    let bundle = Bundle::parse(alloc, TABLES).or_else(|_| Bundle::parse(alloc, TABLES))?;
+    let bundle = bundle.expect(&rt, "refused");
+    let file = b"/H usecmap begincidchar <0020> 9 endcidchar";
+    let files = &[(b"H".as_slice(), FILE)];
+    let map = map_with_bundle(alloc, &bundle, file, files)
+        .or_else(|_| map_with_bundle(alloc, &bundle, file, files))?
+        .expect(&rt, "refused");
+    assert_eq!(rt; map.lookup_cid_code(0x20, 2), Some(9));
+    assert_eq!(rt; map.lookup_cid_code(0x21, 2), Some(6));
+    let cut = FILE.get(..25).expect(&rt, "so many bytes");
+    let map = map_with_bundle(alloc, &bundle, cut, files).or_else(|_| map_with_bundle(
+        alloc, &bundle, cut, files,
+    ))?;
+    assert!(rt; map.is_none());
     Ok(())
 }
 

@@ -3,6 +3,7 @@ pub mod SectionBodies
 pub mod FileItems
 pub mod Outcomes
 pub mod ListsMade
+pub mod ListsFiled
 pub mod SectionsRead
 pub mod ItemsSaid
 pub mod ItemsRead
@@ -20,3 +21,15 @@ pub mod FilesOpened
 pub mod TablesCopied
 pub mod BundleFronts
 pub mod FilesMeant
+pub mod PiecesInRow
+pub mod ColumnsRead
+pub mod EntryRows
+pub mod CidEntriesMade
+pub mod BfEntriesMade
+pub mod SegmentFronts
+pub mod SegmentKinds
+pub mod SegmentsSaid
+pub mod PiecesBehind
+pub mod RowsRead
+pub mod CollectionRead
+pub mod BinaryFronts

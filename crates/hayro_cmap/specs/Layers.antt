@@ -1,9 +1,10 @@
 -- Files over the files that they use: the layers of a map.
-use Rattle.std.specs.Prelude.{◌≡◌, ℕ, zero, suc, List, [], ◌∷◌, ◌++◌, codes, Option, Some, None, unwrap_or}
+use Rattle.std.specs.Prelude.{◌≡◌, ℕ, zero, suc, List, [], ◌∷◌, ◌⊎◌, Option, Some, None, unwrap_or}
 use Rattle.std.specs.List.{AllZip, last_or}
 use Rattle.hayro_cmap.specs.Files.{FileMetadata, Lists, File}
 use Rattle.hayro_cmap.specs.TextFiles.{IsTextFile}
 use Rattle.hayro_cmap.specs.Bundles.{PrefixTables}
+use Rattle.hayro_cmap.specs.BinaryFiles.{IsMarkedBinary, IsBinaryFile}
 
 -- a layer of a map: what a file says, without the names that it uses
 pub record Layer : Type 0 where
@@ -13,17 +14,10 @@ pub record Layer : Type 0 where
 abbrev pub layer_of : File → Layer
 layer_of file = record { metadata = file.metadata; lists = file.lists }
 
--- what begins a binary file
-abbrev pub magic : List ℕ
-magic = codes "bcmap"
-
-abbrev pub IsMarkedBinary : List ℕ → Type 0
-IsMarkedBinary bytes = (rest : List ℕ) × (bytes ≡ magic ++ rest)
-
--- what bytes mean: a text file; where there is a bundle, bytes that are marked as a binary file mean none so far
+-- what bytes mean: where there is a bundle, by its tables, bytes that are marked so are a binary file; all others are a text file
 abbrev pub Means : Option PrefixTables → List ℕ → File → Type 0
 Means None bytes file = IsTextFile bytes file
-Means (Some tables) bytes file = (IsMarkedBinary bytes → ⊥) × IsTextFile bytes file
+Means (Some tables) bytes file = (IsMarkedBinary bytes × IsBinaryFile tables bytes file) ⊎ ((IsMarkedBinary bytes → ⊥) × IsTextFile bytes file)
 
 -- files in a chain, the top one counted
 abbrev pub most_files : ℕ

@@ -9,6 +9,13 @@ pub mod Searches
 pub mod LayersDecide
 pub mod Identity
 pub mod Bundles
+pub mod BinaryEntries
+pub mod EntryReading
+pub mod ColumnsSeen
+pub mod BinaryFiles
+pub mod RowReading
+pub mod BinaryReading
+pub mod BinarySeen
 pub mod BundleReading
 pub mod BundleSeen
 pub mod CMapNames

@@ -72,7 +72,7 @@ impl Tables {
 }
 
 /// The piece that the bytes begin with, behind its length in four bytes, and the bytes behind it.
-fn split_sized(bytes: &[u8]) -> Option<(&[u8], &[u8])>
+pub(crate) fn split_sized(bytes: &[u8]) -> Option<(&[u8], &[u8])>
     ensures { MatchOption result (HoldsOfNone (SizedAt bytes.now))
         (λ r. IsOnly (SizedAt bytes.now) (both_seen r)) }
 {

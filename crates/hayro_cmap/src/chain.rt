@@ -10,7 +10,9 @@ ghost use Rattle.hayro_cmap.specs.Layers.{AreLayers, Means};
 ghost use Rattle.hayro_cmap.specs.LayersSeen.{layers_seen};
 ghost use Rattle.hayro_cmap.specs.Only.{IsOnly, HoldsOfNone};
 ghost use Rattle.hayro_cmap.specs.declared.budget.ParseError.TheVariants.{OverBudget};
+ghost use Rattle.hayro_cmap.specs.declared.fault.Fault.TheVariants.{Refused};
 
+use crate::binary::{MAGIC, read_binary};
 use crate::budget::{ParseError, spend};
 use crate::bundle::Bundle;
 use crate::fault::Fault;
@@ -82,11 +84,7 @@ pub(crate) fn find_layers<S: Source>(
     Ok(Some(base))
 }
 
-/// What begins a binary file.
-const MAGIC: &[u8] = b"bcmap";
-
-/// What one file says; `None` where it is outside the grammar. With a bundle, bytes that are marked
-/// as a binary file are refused for now.
+/// What one file says; `None` where it is outside the grammar.
 fn read_file<'d>(
     alloc: Global,
     bytes: &'d [u8],
@@ -97,12 +95,27 @@ fn read_file<'d>(
     ensures refuses { IfOk result (λ found. IfNone found
         (HoldsOfNone (Means (tables_given bundle.entry) bytes.now))) }
 {
-    if bundle.is_some() && bytes.starts_with(MAGIC) {
-        return Ok(None);
-    }
-    match read_text(alloc, bytes) {
+    match read_form(alloc, bytes, bundle) {
         Ok(file) => Ok(Some(file)),
         Err(Fault::Refused) => Ok(None),
         Err(Fault::Memory) => Err(AllocError),
+    }
+}
+
+/// What one file says. With a bundle, bytes that are marked so are a binary file; all others are a
+/// text.
+fn read_form<'d>(
+    alloc: Global,
+    bytes: &'d [u8],
+    bundle: Option<&Bundle<'_>>,
+) -> Result<File<'d>, Fault>
+    ensures file { IfOk result
+        (λ file. IsOnly (Means (tables_given bundle.entry) bytes.now) (file_seen file)) }
+    ensures refused { IsErrOf result Refused
+        → HoldsOfNone (Means (tables_given bundle.entry) bytes.now) }
+{
+    match bundle {
+        Some(bundle) if bytes.starts_with(MAGIC) => read_binary(alloc, &bundle.tables, bytes),
+        _ => read_text(alloc, bytes),
     }
 }

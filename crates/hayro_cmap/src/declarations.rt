@@ -1,8 +1,8 @@
 //! What a CMap declares for its codes.
 
-ghost use Rattle.std.specs.Prelude.{◌≡◌, ◌==◌, [], ◌∷◌, ◌++◌, IfOk, OnOk, if◌then◌else◌};
+ghost use Rattle.std.specs.Prelude.{◌≡◌, ◌==◌, [], ◌∷◌, ◌++◌, IfOk, OnOk, if◌then◌else◌, map};
 ghost use Rattle.hayro_cmap.specs.Files.{Declaration, lists_of};
-ghost use Rattle.hayro_cmap.specs.DeclarationsSeen.{bf_entry_seen, cid_entry_seen, codespace_seen, lists_seen};
+ghost use Rattle.hayro_cmap.specs.DeclarationsSeen.{bf_entry_seen, cid_entry_seen, codespace_seen, entries_seen, lists_seen};
 ghost use Rattle.hayro_cmap.specs.ListsAppended.{no_lists, append_lists};
 
 use crate::names::Cid;
@@ -140,6 +140,42 @@ impl Lists {
         self.spaces.push(space)?;
         Ok(())
     }
+
+    /// Adds declarations of CIDs for codes of `len` bytes, in their order.
+    pub(crate) fn add_cids(&mut self, len: u8, ranges: Vec<CidRange>) -> Result<(), AllocError>
+        ensures { OnOk result (lists_seen self.new ≡ append_lists (lists_seen self.old)
+            (lists_of (map (Declaration.cid len) (entries_seen ranges.items)))) }
+    {
+        append_filed(&mut self.cids, len, ranges)?;
+        Ok(())
+    }
+
+    /// Adds notdef declarations for codes of `len` bytes, in their order.
+    pub(crate) fn add_notdefs(&mut self, len: u8, ranges: Vec<CidRange>) -> Result<(), AllocError>
+        ensures { OnOk result (lists_seen self.new ≡ append_lists (lists_seen self.old)
+            (lists_of (map (Declaration.notdef len) (entries_seen ranges.items)))) }
+    {
+        append_filed(&mut self.notdefs, len, ranges)?;
+        Ok(())
+    }
+
+    /// Adds declarations of texts, in their order.
+    pub(crate) fn add_bfs(&mut self, mut ranges: Vec<BfRange>) -> Result<(), AllocError>
+        ensures { OnOk result (lists_seen self.new ≡ append_lists (lists_seen self.old)
+            (lists_of (map Declaration.bf (map bf_entry_seen ranges.items)))) }
+    {
+        self.bfs.append(&mut ranges)?;
+        Ok(())
+    }
+
+    /// Adds codespace ranges, in their order.
+    pub(crate) fn add_codespaces(&mut self, mut spaces: Vec<Codespace>) -> Result<(), AllocError>
+        ensures { OnOk result (lists_seen self.new ≡ append_lists (lists_seen self.old)
+            (lists_of (map Declaration.codespace (map codespace_seen spaces.items)))) }
+    {
+        self.spaces.append(&mut spaces)?;
+        Ok(())
+    }
 }
 
 /// Adds a declaration to the list for codes of `len` bytes, if there is one.
@@ -165,6 +201,30 @@ fn push_filed(
         _ => {}
     }
     Ok(())
+}
+
+/// Adds declarations to the list for codes of `len` bytes, if there is one.
+fn append_filed(
+    lists: &mut ByLength<Vec<CidRange>>,
+    len: u8,
+    mut ranges: Vec<CidRange>,
+) -> Result<(), AllocError>
+    ensures one { OnOk result (lists.new.one.items
+        ≡ lists.old.one.items ++ (if len == 1 then ranges.items else [])) }
+    ensures two { OnOk result (lists.new.two.items
+        ≡ lists.old.two.items ++ (if len == 2 then ranges.items else [])) }
+    ensures three { OnOk result (lists.new.three.items
+        ≡ lists.old.three.items ++ (if len == 3 then ranges.items else [])) }
+    ensures four { OnOk result (lists.new.four.items
+        ≡ lists.old.four.items ++ (if len == 4 then ranges.items else [])) }
+{
+    match len {
+        1 => lists.one.append(&mut ranges),
+        2 => lists.two.append(&mut ranges),
+        3 => lists.three.append(&mut ranges),
+        4 => lists.four.append(&mut ranges),
+        _ => Ok(()),
+    }
 }
 
 fn empty_lists(alloc: Global) -> ByLength<Vec<CidRange>>

@@ -2,6 +2,7 @@
 //! Notes 5014, 5099 and 5411; ISO 32000-1, 9.7.5 and 9.10.3.
 #![tactic(auto)]
 
+mod binary;
 mod budget;
 mod bundle;
 mod chain;

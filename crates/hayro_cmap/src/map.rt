@@ -57,7 +57,7 @@ impl CMap {
     /// `get_cmap` is asked for the files that others use, by their names: those of a file in order,
     /// and only after the file has been read whole. Each use needs its file, also one that a later
     /// use replaces. A file takes the layers of the last one that it uses. With a bundle, a file that
-    /// is marked as binary is refused for now.
+    /// begins with `bcmap` is read as binary, by the bundle's tables; all others are texts.
     pub fn parse<'a, F>(
         alloc: Global,
         data: &[u8],

@@ -2,7 +2,8 @@
 
 ghost use Rattle.std.specs.Prelude.{◌≡◌, IfOk, IfSome, OnErr, option_map};
 ghost use Rattle.hayro_cmap.specs.CMapNames.{IsNameOf, name_bytes};
-ghost use Rattle.hayro_cmap.specs.LayersSeen.{family_seen, collection_seen, metadata_seen, HoldsTexts};
+ghost use Rattle.hayro_cmap.specs.Files.{mode_numbered};
+ghost use Rattle.hayro_cmap.specs.LayersSeen.{family_seen, collection_seen, metadata_seen, mode_seen, HoldsTexts};
 ghost use Rattle.hayro_cmap.specs.Names.{IsCustom, custom, family_of, unicode_cmap_of, ucs2_cmap_of};
 
 use crate::names::CMapName;
@@ -165,6 +166,19 @@ pub enum WritingMode {
     #[default]
     Horizontal,
     Vertical,
+}
+
+impl WritingMode {
+    /// The mode that a file gives by this number: 0 is horizontal, 1 vertical.
+    pub(crate) fn numbered(number: u8) -> Option<WritingMode>
+        ensures { option_map mode_seen result ≡ mode_numbered number }
+    {
+        match number {
+            0 => Some(WritingMode::Horizontal),
+            1 => Some(WritingMode::Vertical),
+            _ => None,
+        }
+    }
 }
 
 /// What a CMap says of itself, each part where it does.

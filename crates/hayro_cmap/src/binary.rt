@@ -1,0 +1,80 @@
+//! CMap files in the binary form bcmap: a header, and segments up to the end that it tells.
+
+ghost use Rattle.std.specs.Prelude.{◌≡◌, IfOk, IsErrOf, MatchOption, OnOk};
+ghost use Rattle.hayro_cmap.specs.BinaryFiles.{IsBinaryFile};
+ghost use Rattle.hayro_cmap.specs.BinaryReading.{AreSegments, BodyOf, SaysSegments, no_file};
+ghost use Rattle.hayro_cmap.specs.BundleSeen.{tables_seen};
+ghost use Rattle.hayro_cmap.specs.FilesSeen.{file_seen};
+ghost use Rattle.hayro_cmap.specs.Only.{IsOnly, HoldsOfNone};
+ghost use Rattle.hayro_cmap.specs.declared.fault.Fault.TheVariants.{Refused};
+
+mod columns;
+mod entries;
+mod kinds;
+mod rows;
+mod segments;
+
+use self::segments::read_segment;
+use crate::bundle::Tables;
+use crate::fault::Fault;
+use crate::file::File;
+use crate::frames::split_framed;
+use std::alloc::Global;
+
+/// What begins a binary file.
+pub(crate) const MAGIC: &[u8] = b"bcmap";
+
+/// What begins one of version 1.
+const HEAD: &[u8] = b"bcmap\x01";
+
+/// What a binary file says.
+pub(crate) fn read_binary<'d>(
+    alloc: Global,
+    tables: &Tables,
+    bytes: &'d [u8],
+) -> Result<File<'d>, Fault>
+    ensures file { IfOk result
+        (λ file. IsOnly (IsBinaryFile (tables_seen tables.now) bytes.now) (file_seen file)) }
+    ensures refused { IsErrOf result Refused
+        → HoldsOfNone (IsBinaryFile (tables_seen tables.now) bytes.now) }
+{
+    let Some(body) = split_body(bytes) else {
+        return Err(Fault::Refused);
+    };
+    let mut file = File::new(alloc);
+    read_segments(alloc, tables, body, &mut file)?;
+    Ok(file)
+}
+
+/// The segments of a file, which stand behind its header; bytes behind its length are ignored.
+fn split_body(bytes: &[u8]) -> Option<&[u8]>
+    ensures { MatchOption result (HoldsOfNone (BodyOf bytes.now))
+        (λ body. IsOnly (BodyOf bytes.now) body.now) }
+{
+    let (file, _) = split_framed(bytes, HEAD.len())?;
+    file.strip_prefix(HEAD)?.get(4..)
+}
+
+/// Reads all the segments, into a file that says nothing yet.
+fn read_segments<'d>(
+    alloc: Global,
+    tables: &Tables,
+    segments: &'d [u8],
+    file: &mut File<'d>,
+) -> Result<(), Fault>
+    requires { file_seen file.old ≡ no_file }
+    ensures says { OnOk result
+        (SaysSegments (AreSegments (tables_seen tables.now) segments.now) (file_seen file.new)) }
+    ensures refused { IsErrOf result Refused
+        → HoldsOfNone (AreSegments (tables_seen tables.now) segments.now) }
+{
+    let mut rest = segments;
+    while !rest.is_empty() {
+        let Some((segment, behind)) = split_framed(rest, 1) else {
+            return Err(Fault::Refused);
+        };
+        read_segment(alloc, tables, segment[0], &segment[5..], file)?;
+        rest = behind;
+    }
+    Ok(())
+}
