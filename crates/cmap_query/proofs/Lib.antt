@@ -1,4 +1,4 @@
 pub mod CodeWordParts
 pub mod InputPieces
 pub mod OneMore
-pub mod BudgetFronts
+pub mod OptionFronts

@@ -1,3 +1,3 @@
 pub mod CodeWords
 pub mod Queries
-pub mod BudgetWords
+pub mod OptionWords

@@ -11,7 +11,7 @@ use std::io::{self, ErrorKind};
 /// Why a run gives no answers. Its number is the exit status, and its text the line on the standard error.
 #[derive(Clone, Copy, Debug, PartialEq, Eq)]
 pub enum Failure {
-    /// The input is no CMap file, or uses another one.
+    /// The input is no CMap file, or uses one that isn't known, or has no such bundle in front.
     Refused = 1,
     /// The words of the command line are wrong.
     Usage = 2,

@@ -1,17 +1,20 @@
 //! A whole run, from the words and the input to the exit status.
 
 use crate::failure::Failure;
-use crate::input::read_all;
+use crate::input::{read_all, split_bundle};
 use crate::options::Options;
 use crate::query::{Query, Request};
+use hayro_cmap::bcmap::{Bundle, load_embedded};
 use hayro_cmap::{CMap, CMapName};
 use std::alloc::{AllocError, Global};
 use std::io::{self, Read, Write};
 
-/// Answers the words from the CMap file that `input` gives, one line each on `out`, and returns the exit
-/// status: 0, or that of a failure, which `err` then names in one line.
+/// Answers the words from the CMap file that `input` gives, perhaps behind a bundle, one line each
+/// on `out`, and returns the exit status: 0, or that of a failure, which `err` then names in one
+/// line.
 ///
-/// The words are looked at before the input is read, and the answers are made before one is written.
+/// The words are looked at before the input is read, and the answers are made before one is
+/// written.
 pub fn run<R: Read, W: Write, E: Write>(
     alloc: Global,
     words: &[String],
@@ -39,13 +42,31 @@ fn answer<R: Read, W: Write>(
 ) -> Result<(), Failure> {
     let (options, words) = Options::parse(words)?;
     let request = Request::parse(alloc, words)?;
-    let data = read_all(alloc, input)?;
-    let no_file = |_name: CMapName<'_>| None;
-    let map = CMap::parse_within(alloc, options.budget, &data, None, &no_file)?.ok_or(
-        Failure::Refused,
-    )?;
+    let bytes = read_all(alloc, input)?;
+    let map = map_of(alloc, options, &bytes)?;
     let lines = answers(alloc, &map, &request.queries)?;
     send(out, lines.as_str()).map_err(|_| Failure::Unreadable)
+}
+
+/// The map of the input: of all its bytes, or of those behind the bundle.
+fn map_of(alloc: Global, options: Options, input: &[u8]) -> Result<CMap, Failure> {
+    let Some(bundle_len) = options.bundle else {
+        return map_over(alloc, options.budget, input, None);
+    };
+    let (front, file) = split_bundle(input, bundle_len).ok_or(Failure::Refused)?;
+    let bundle = Bundle::parse(alloc, front)?.ok_or(Failure::Refused)?;
+    map_over(alloc, options.budget, file, Some(&bundle))
+}
+
+/// The map of a file, which may use the files of the bundle and no others.
+fn map_over(
+    alloc: Global,
+    budget: Option<u64>,
+    file: &[u8],
+    bundle: Option<&Bundle<'_>>,
+) -> Result<CMap, Failure> {
+    let get_cmap = |name: CMapName<'_>| load_embedded(bundle, name);
+    CMap::parse_within(alloc, budget, file, bundle, &get_cmap)?.ok_or(Failure::Refused)
 }
 
 /// Writes the lines, and sees that they are out.

@@ -9,6 +9,22 @@ use std::test::Fail;
 /// The codes of two bytes from 0000 to 00FF stand for the CIDs from 0 on.
 const TWO_BYTE_RANGE: &str = "1 begincidrange <0000> <00FF> 0 endcidrange";
 
+/// A bundle of ten bytes, without files: a piece of six bytes, which are two empty tables.
+const NO_FILES: &str = "\0\0\0\x06\0\0\0\0\0\0";
+
+/// A bundle of 51 bytes: the same tables, and the file of 83pv-RKSJ-H, a text of 41 bytes whose
+/// first ten begin a comment.
+const ONE_FILE: &str = "\0\0\0\x06\0\0\0\0\0\0%xxxxx\0\0\0\x29\nbegincidchar <20> 9 endcidchar";
+
+/// The tables of a bundle, of 20 bytes: two deltas, 0x20 and 0, and no count.
+const DELTAS: &str = "\0\0\0\x10\0\x02\x01\0\x02\0\0\0\x20\0\0\0\0\0\0\0";
+
+/// A binary file of 26 bytes: the codes 0x20 and 0x21 of two bytes, with the CIDs 5 and 6.
+const BINARY: &str = "bcmap\x01\0\0\0\x1A\x04\0\0\0\x10\0\x02\0\0\0\x01\x40\0\x05\0\0";
+
+/// A file of twenty bytes that uses that of 83pv-RKSJ-H.
+const ONE_USE: &str = "/83pv-RKSJ-H usecmap";
+
 /// What words are to be answered on an input.
 #[derive(Drop)]
 struct Answers<'a> {
@@ -104,6 +120,74 @@ fn answers_the_texts_of_codes(rt: HostRuntime) -> Result<(), Fail> {
     Ok(())
 }
 
+#[test]
+fn answers_from_a_file_behind_a_bundle(rt: HostRuntime) -> Result<(), Fail> {
+    let alone = format!(in rt.alloc(); "{NO_FILES}{TWO_BYTE_RANGE}")?;
+    let based = format!(in rt.alloc(); "{ONE_FILE}{ONE_USE}")?;
+    let binary = format!(in rt.alloc(); "{DELTAS}{BINARY}")?;
+    let based_on_binary = format!(in rt.alloc(); "{DELTAS}{BINARY}{ONE_USE}")?;
+    let rows = [
+        Answers {
+            name: "a bundle without files",
+            words: &["--bundle", "10", "2:0041", "2:0100"],
+            input: alone.as_str(),
+            lines: "cid 2:0041 65\ncid 2:0100 none\n",
+        },
+        Answers {
+            name: "zeros before the digits",
+            words: &["--bundle", "0010", "2:0041"],
+            input: alone.as_str(),
+            lines: "cid 2:0041 65\n",
+        },
+        Answers {
+            name: "a budget of all bytes of the file",
+            words: &["--bundle", "10", "--budget", "43", "2:0041"],
+            input: alone.as_str(),
+            lines: "cid 2:0041 65\n",
+        },
+        Answers {
+            name: "a file that uses one of the bundle",
+            words: &["--bundle", "51", "1:20", "1:21"],
+            input: based.as_str(),
+            lines: "cid 1:20 9\ncid 1:21 none\n",
+        },
+        Answers {
+            name: "a budget of all bytes of both files",
+            words: &["--bundle", "51", "--budget", "61", "1:20"],
+            input: based.as_str(),
+            lines: "cid 1:20 9\n",
+        },
+        Answers {
+            name: "a binary file",
+            words: &["--bundle", "20", "2:0020", "2:0021", "2:0022"],
+            input: binary.as_str(),
+            lines: "cid 2:0020 5\ncid 2:0021 6\ncid 2:0022 none\n",
+        },
+        Answers {
+            name: "a binary file without a bundle, which is a text",
+            words: &["2:0020"],
+            input: BINARY,
+            lines: "cid 2:0020 none\n",
+        },
+        Answers {
+            name: "a file that uses a binary one of the bundle",
+            words: &["--bundle", "46", "2:0021", "1:21"],
+            input: based_on_binary.as_str(),
+            lines: "cid 2:0021 6\ncid 1:21 none\n",
+        },
+        Answers {
+            name: "no bytes behind the bundle",
+            words: &["--bundle", "10", "2:0041"],
+            input: NO_FILES,
+            lines: "cid 2:0041 none\n",
+        },
+    ];
+    for row in rows {
+        assert_answered(&rt, &row)?;
+    }
+    Ok(())
+}
+
 /// Asserts that the run ends well, with these lines and no others.
 fn assert_answered(rt: &(impl Abort + AllocGlobal), row: &Answers<'_>) -> Result<(), Fail> {
     let outcome = outcome_of(rt.alloc(), row.words, &mut row.input.as_bytes())?;
@@ -164,8 +248,71 @@ fn a_budget_bounds_the_bytes(rt: HostRuntime) -> Result<(), Fail> {
 }
 
 #[test]
+fn refuses_what_is_no_bundle_and_a_file(rt: HostRuntime) -> Result<(), Fail> {
+    let rows = [
+        // no bundle is empty, is cut, or has a byte behind its last file
+        ("0", NO_FILES, TWO_BYTE_RANGE),
+        ("9", NO_FILES, TWO_BYTE_RANGE),
+        ("11", NO_FILES, TWO_BYTE_RANGE),
+        ("50", ONE_FILE, ONE_USE),
+        // the piece has seven bytes, of which six are there
+        ("10", "\0\0\0\x07\0\0\0\0\0\0", TWO_BYTE_RANGE),
+        // the input has fewer bytes
+        ("1", "", ""),
+        ("3", "", "abc"),
+        ("4", "", "abc"),
+        ("11", NO_FILES, ""),
+        ("54", NO_FILES, TWO_BYTE_RANGE),
+        ("18446744073709551615", NO_FILES, TWO_BYTE_RANGE),
+        // the bundle has no file of the name
+        ("10", NO_FILES, ONE_USE),
+        ("10", NO_FILES, "/B usecmap"),
+        ("51", ONE_FILE, "/90ms-RKSJ-H usecmap"),
+        // the file is none, or a binary one that is cut
+        ("10", NO_FILES, "("),
+        ("10", NO_FILES, "bcmap"),
+    ];
+    for (len, bundle, file) in rows {
+        let input = format!(in rt.alloc(); "{bundle}{file}")?;
+        let words = ["--bundle", len, "2:0041"];
+        let outcome = outcome_of(rt.alloc(), &words, &mut input.as_bytes())?;
+        assert_eq!(rt; outcome.status, 1, "{len} bytes of {input:?}");
+        assert!(rt; outcome.out.is_empty(), "{len} bytes of {input:?}");
+        assert_eq!(rt;
+            outcome.err.as_slice(),
+            b"refused\n".as_slice(),
+            "{len} bytes of {input:?}"
+        );
+    }
+    Ok(())
+}
+
+#[test]
+fn a_budget_bounds_the_bytes_of_files_over_a_bundle(rt: HostRuntime) -> Result<(), Fail> {
+    // the file that uses another one has twenty bytes, the other one 41, and the range 43
+    let rows = [
+        ("10", NO_FILES, "42", TWO_BYTE_RANGE),
+        ("51", ONE_FILE, "19", ONE_USE),
+        ("51", ONE_FILE, "60", ONE_USE),
+    ];
+    for (len, bundle, budget, file) in rows {
+        let input = format!(in rt.alloc(); "{bundle}{file}")?;
+        let words = ["--bundle", len, "--budget", budget, "2:0041"];
+        let outcome = outcome_of(rt.alloc(), &words, &mut input.as_bytes())?;
+        assert_eq!(rt; outcome.status, 5, "{budget} for {file}");
+        assert!(rt; outcome.out.is_empty(), "{budget} for {file}");
+        assert_eq!(rt;
+            outcome.err.as_slice(),
+            b"over budget\n".as_slice(),
+            "{budget} for {file}"
+        );
+    }
+    Ok(())
+}
+
+#[test]
 fn wrong_words_are_found_before_the_input_is_read(rt: HostRuntime) -> Result<(), Fail> {
-    let wrong: [&[&str]; 34] = [
+    let wrong: [&[&str]; 46] = [
         &["1:0041"],
         &["5:00"],
         &["0:"],
@@ -194,6 +341,18 @@ fn wrong_words_are_found_before_the_input_is_read(rt: HostRuntime) -> Result<(),
         &["--budget", "-1", "1:41"],
         &["--budget", "0x9", "1:41"],
         &["--budget", "18446744073709551616", "1:41"],
+        &["--bundle", "9"],
+        &["--bundle", "x", "1:41"],
+        &["--bundle", "", "1:41"],
+        &["--bundle", "+9", "1:41"],
+        &["--bundle", "18446744073709551616", "1:41"],
+        &["--bundle=9", "1:41"],
+        &["--bundle", "9", "--budget", "9"],
+        &["--bundle", "9", "--budget", "x", "1:41"],
+        &["--bundle", "x", "--budget", "9", "1:41"],
+        &["--bundle", "9", "--bundle", "9", "1:41"],
+        &["--budget", "9", "--bundle", "9", "1:41"],
+        &["1:41", "--bundle", "9"],
         &["1:41", "--budget", "9"],
         &["--budget", "9", "--budget", "9", "1:41"],
         &[""],
@@ -212,24 +371,55 @@ fn wrong_words_are_found_before_the_input_is_read(rt: HostRuntime) -> Result<(),
     Ok(())
 }
 
-/// Each allocation of this run is to be refused in turn: `rt try --test --fail-alloc 1..`.
+/// Each allocation of these two runs is to be refused in turn: `rt try --test --fail-alloc N`, for each
+/// N from 1 on.
 #[test]
 fn a_refused_growth_gives_no_other_answer(rt: HostRuntime) -> Result<(), Fail> {
-    let input = "1 begincidrange <0000> <00FF> 0 endcidrange beginbfchar <41> <00660066> endbfchar";
-    let words = ["2:0041", "2:0100", "bf:41"];
-    let outcome = outcome_of(rt.alloc(), &words, &mut input.as_bytes())?;
+    let texts = "beginbfchar <41> <00660066> endbfchar";
+    let input = format!(in rt.alloc(); "{TWO_BYTE_RANGE} {texts}")?;
+    assert_answered_or_refused(
+        &rt,
+        &Answers {
+            name: "a file alone",
+            words: &["2:0041", "2:0100", "bf:41"],
+            input: input.as_str(),
+            lines: "cid 2:0041 65\ncid 2:0100 none\nbf 41 U+0066 U+0066\n",
+        },
+    )
+}
+
+#[test]
+fn a_refused_growth_over_a_bundle_gives_no_other_answer(rt: HostRuntime) -> Result<(), Fail> {
+    let input = format!(in rt.alloc(); "{ONE_FILE}{ONE_USE}")?;
+    assert_answered_or_refused(
+        &rt,
+        &Answers {
+            name: "a file over a bundle",
+            words: &["--bundle", "51", "1:20", "1:21"],
+            input: input.as_str(),
+            lines: "cid 1:20 9\ncid 1:21 none\n",
+        },
+    )
+}
+
+/// Asserts that the run ends well with these lines, or reports want of memory and writes none.
+fn assert_answered_or_refused(
+    rt: &(impl Abort + AllocGlobal),
+    row: &Answers<'_>,
+) -> Result<(), Fail> {
+    let outcome = outcome_of(rt.alloc(), row.words, &mut row.input.as_bytes())?;
     let said = (
         outcome.status,
         outcome.out.as_slice(),
         outcome.err.as_slice(),
     );
-    let answered = (
-        0,
-        b"cid 2:0041 65\ncid 2:0100 none\nbf 41 U+0066 U+0066\n".as_slice(),
-        b"".as_slice(),
-    );
+    let answered = (0, row.lines.as_bytes(), b"".as_slice());
     let refused = (3, b"".as_slice(), b"no memory\n".as_slice());
-    assert!(rt; said == answered || said == refused, "{said:?}");
+    assert!(rt;
+        said == answered || said == refused,
+        "{}: {said:?}",
+        row.name
+    );
     Ok(())
 }
 
