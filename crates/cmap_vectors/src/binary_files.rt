@@ -224,6 +224,10 @@ const SUMS: &[(&[Segment], &[Answer])] = &[
             (0x23, 2, None),
         ],
     ),
+    (
+        &[(3, b"\0\x01\0\0\0\x01\0\0\0\0\x01\0\0\x07")],
+        &[(0x20, 2, Some(7)), (0x25, 2, Some(12)), (0x26, 2, None)],
+    ),
     // a gap of codes leaves none of CIDs
     (
         &[(4, b"\0\x02\0\0\0\x01\0\0\x05\0\0")],

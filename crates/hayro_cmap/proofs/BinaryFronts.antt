@@ -9,7 +9,7 @@ use Rattle.hayro_cmap.specs.Only.{IsOnly, HoldsOfNone}
 use Rattle.hayro_cmap.specs.Files.{File, mode_numbered}
 use Rattle.hayro_cmap.specs.Bundles.{PrefixTables, IsField}
 use Rattle.hayro_cmap.specs.BundleReading.{FramedAt}
-use Rattle.hayro_cmap.specs.BinaryFiles.{Content, sets_mode, magic, file_of, IsBinaryFile}
+use Rattle.hayro_cmap.specs.BinaryFiles.{sets_mode, magic, file_of, IsBinaryFile}
 use Rattle.hayro_cmap.specs.BinaryReading.{AreSegments, BodyOf, SaysSegments, SaysAs, mode}
 
 abbrev pub binary_head : List ℕ

@@ -1,6 +1,6 @@
 -- What the bytes of a file mean.
-use Rattle.std.proofs.Common.{◌≡◌, ℕ, true, refl, List, inl, inr}
-use Rattle.std.specs.Prelude.{⊤, Option, Some, None, is_some, option_map}
+use Rattle.std.proofs.Common.{ℕ, List, inl, inr}
+use Rattle.std.specs.Prelude.{⊤, Option, Some, None}
 use Rattle.hayro_cmap.specs.Only.{IsOnly, HoldsOfNone}
 use Rattle.hayro_cmap.specs.Files.{File}
 use Rattle.hayro_cmap.specs.Bundles.{PrefixTables}

@@ -12,12 +12,13 @@ const TWO_BYTE_RANGE: &str = "1 begincidrange <0000> <00FF> 0 endcidrange";
 /// A bundle of ten bytes, without files: a piece of six bytes, which are two empty tables.
 const NO_FILES: &str = "\0\0\0\x06\0\0\0\0\0\0";
 
-/// A bundle of 51 bytes: the same tables, and the file of 83pv-RKSJ-H, a text of 41 bytes whose
-/// first ten begin a comment.
-const ONE_FILE: &str = "\0\0\0\x06\0\0\0\0\0\0%xxxxx\0\0\0\x29\nbegincidchar <20> 9 endcidchar";
-
 /// The tables of a bundle, of 20 bytes: two deltas, 0x20 and 0, and no count.
 const DELTAS: &str = "\0\0\0\x10\0\x02\x01\0\x02\0\0\0\x20\0\0\0\0\0\0\0";
+
+/// A bundle of 61 bytes: these tables, and the file of 83pv-RKSJ-H, a text of 41 bytes whose first
+/// ten begin a comment.
+const ONE_FILE: &str = "\0\0\0\x10\0\x02\x01\0\x02\0\0\0\x20\0\0\0\0\0\0\0\
+    %xxxxx\0\0\0\x29\nbegincidchar <20> 9 endcidchar";
 
 /// A binary file of 26 bytes: the codes 0x20 and 0x21 of two bytes, with the CIDs 5 and 6.
 const BINARY: &str = "bcmap\x01\0\0\0\x1A\x04\0\0\0\x10\0\x02\0\0\0\x01\x40\0\x05\0\0";
@@ -147,13 +148,13 @@ fn answers_from_a_file_behind_a_bundle(rt: HostRuntime) -> Result<(), Fail> {
         },
         Answers {
             name: "a file that uses one of the bundle",
-            words: &["--bundle", "51", "1:20", "1:21"],
+            words: &["--bundle", "61", "1:20", "1:21"],
             input: based.as_str(),
             lines: "cid 1:20 9\ncid 1:21 none\n",
         },
         Answers {
             name: "a budget of all bytes of both files",
-            words: &["--bundle", "51", "--budget", "61", "1:20"],
+            words: &["--bundle", "61", "--budget", "61", "1:20"],
             input: based.as_str(),
             lines: "cid 1:20 9\n",
         },
@@ -254,7 +255,7 @@ fn refuses_what_is_no_bundle_and_a_file(rt: HostRuntime) -> Result<(), Fail> {
         ("0", NO_FILES, TWO_BYTE_RANGE),
         ("9", NO_FILES, TWO_BYTE_RANGE),
         ("11", NO_FILES, TWO_BYTE_RANGE),
-        ("50", ONE_FILE, ONE_USE),
+        ("60", ONE_FILE, ONE_USE),
         // the piece has seven bytes, of which six are there
         ("10", "\0\0\0\x07\0\0\0\0\0\0", TWO_BYTE_RANGE),
         // the input has fewer bytes
@@ -267,7 +268,7 @@ fn refuses_what_is_no_bundle_and_a_file(rt: HostRuntime) -> Result<(), Fail> {
         // the bundle has no file of the name
         ("10", NO_FILES, ONE_USE),
         ("10", NO_FILES, "/B usecmap"),
-        ("51", ONE_FILE, "/90ms-RKSJ-H usecmap"),
+        ("61", ONE_FILE, "/90ms-RKSJ-H usecmap"),
         // the file is none, or a binary one that is cut
         ("10", NO_FILES, "("),
         ("10", NO_FILES, "bcmap"),
@@ -292,8 +293,8 @@ fn a_budget_bounds_the_bytes_of_files_over_a_bundle(rt: HostRuntime) -> Result<(
     // the file that uses another one has twenty bytes, the other one 41, and the range 43
     let rows = [
         ("10", NO_FILES, "42", TWO_BYTE_RANGE),
-        ("51", ONE_FILE, "19", ONE_USE),
-        ("51", ONE_FILE, "60", ONE_USE),
+        ("61", ONE_FILE, "19", ONE_USE),
+        ("61", ONE_FILE, "60", ONE_USE),
     ];
     for (len, bundle, budget, file) in rows {
         let input = format!(in rt.alloc(); "{bundle}{file}")?;
@@ -395,7 +396,7 @@ fn a_refused_growth_over_a_bundle_gives_no_other_answer(rt: HostRuntime) -> Resu
         &rt,
         &Answers {
             name: "a file over a bundle",
-            words: &["--bundle", "51", "1:20", "1:21"],
+            words: &["--bundle", "61", "1:20", "1:21"],
             input: input.as_str(),
             lines: "cid 1:20 9\ncid 1:21 none\n",
         },

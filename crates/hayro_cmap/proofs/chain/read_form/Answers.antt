@@ -1,12 +1,8 @@
-use Rattle.std.proofs.Common.{◌≡◌, ap, sym, ◌∙◌, ◌++◌, subst, take, drop}
+use Rattle.std.proofs.Common.{◌≡◌, ap, sym, ◌∙◌, ◌++◌, take, drop}
 use Rattle.std.specs.Cmp.Lexicographic.{same_text}
 use Rattle.std.proofs.lemmas.List.{take-append-drop}
 use Rattle.std.proofs.lemmas.Result.{IfOk-weaker}
 use Rattle.hayro_cmap.specs.BinaryFiles.{IsMarkedBinary, magic}
-use Rattle.hayro_cmap.specs.BundleSeen.{tables_given}
-use Rattle.hayro_cmap.specs.FilesSeen.{file_seen}
-use Rattle.hayro_cmap.specs.Layers.{Means}
-use Rattle.hayro_cmap.specs.Only.{IsOnly}
 use Rattle.hayro_cmap.proofs.FilesMeant.{means_binary}
 use Rattle.hayro_cmap.proofs.chain.read_form.Goals as goal
 
