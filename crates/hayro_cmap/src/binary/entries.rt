@@ -1,11 +1,13 @@
 //! The entries of segments of a binary file.
 
-ghost use Rattle.std.specs.Prelude.{◌≡◌, ◌+◌, ◌<◌, ◌≤◌, ◌^◌, IfOk, IsErrOf, MatchOption, length, map};
+ghost use Rattle.std.specs.Prelude.{◌≡◌, ◌+◌, ◌<◌, ◌≤◌, ◌^◌};
+ghost use Rattle.std.specs.Prelude.{IfOk, IsErrOf, MatchOption, length, map};
 ghost use Rattle.std.specs.List.{AllByRecursion};
 ghost use Rattle.hayro_cmap.specs.BundleSeen.{tables_seen};
 ghost use Rattle.hayro_cmap.specs.ColumnsSeen.{shape_seen};
 ghost use Rattle.hayro_cmap.specs.DeclarationsSeen.{bf_entry_seen, entries_seen};
-ghost use Rattle.hayro_cmap.specs.EntryReading.{BfEntriesIn, BfRangesAt, CidEntriesIn, CidFits, DestinationAt, cids_from};
+ghost use Rattle.hayro_cmap.specs.EntryReading.{BfEntriesIn, BfRangesAt, DestinationAt};
+ghost use Rattle.hayro_cmap.specs.EntryReading.{CidEntriesIn, CidFits, cids_from};
 ghost use Rattle.hayro_cmap.specs.Only.{IsOnly, HoldsOfNone};
 ghost use Rattle.hayro_cmap.specs.declared.fault.Fault.TheVariants.{Refused};
 
@@ -86,8 +88,8 @@ pub(crate) fn read_bf_entries(
     ensures entries { IfOk result (λ v.
         IsOnly (BfEntriesIn (tables_seen tables.now) (shape_seen shape) fixed payload.now)
         (map bf_entry_seen v.items)) }
-    ensures refused { IsErrOf result Refused
-        → HoldsOfNone (BfEntriesIn (tables_seen tables.now) (shape_seen shape) fixed payload.now) }
+    ensures refused { IsErrOf result Refused → HoldsOfNone
+        (BfEntriesIn (tables_seen tables.now) (shape_seen shape) fixed payload.now) }
 {
     let Some((count, rest)) = split_u16(payload) else {
         return Err(Fault::Refused);

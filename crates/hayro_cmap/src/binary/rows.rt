@@ -5,7 +5,9 @@ ghost use Rattle.hayro_cmap.specs.BinaryFiles.{IsCodespaceRow};
 ghost use Rattle.hayro_cmap.specs.DeclarationsSeen.{cid_entry_seen, codespace_seen, entries_seen};
 ghost use Rattle.hayro_cmap.specs.LayersSeen.{collection_seen};
 ghost use Rattle.hayro_cmap.specs.Only.{IsOnly, HoldsOfNone};
-ghost use Rattle.hayro_cmap.specs.RowReading.{AreRowsAt, CodeAt, CodespacesIn, CollectionIn, IsCodedNotdef, NotdefRowsAt, NotdefsIn, RowAt, TerminatedAt};
+ghost use Rattle.hayro_cmap.specs.RowReading.{AreRowsAt, CodeAt, CodespacesIn, CollectionIn};
+ghost use Rattle.hayro_cmap.specs.RowReading.{IsCodedNotdef, NotdefRowsAt, NotdefsIn, RowAt};
+ghost use Rattle.hayro_cmap.specs.RowReading.{TerminatedAt};
 ghost use Rattle.hayro_cmap.specs.declared.fault.Fault.TheVariants.{Refused};
 
 use super::columns::split_u16;

@@ -74,8 +74,8 @@ fn add_cids(
     payload: &[u8],
     file: &mut File<'_>,
 ) -> Result<(), Fault>
-    ensures says { OnOk result
-        (SaysContent (SaysAs (tables_seen tables.now) (reading.cids (shape_seen shape) len) payload.now)
+    ensures says { OnOk result (SaysContent
+        (SaysAs (tables_seen tables.now) (reading.cids (shape_seen shape) len) payload.now)
         (file_seen file.old) (file_seen file.new)) }
     ensures refused { IsErrOf result Refused → HoldsOfNone
         (SaysAs (tables_seen tables.now) (reading.cids (shape_seen shape) len) payload.now) }
@@ -94,8 +94,8 @@ fn add_texts(
     payload: &[u8],
     file: &mut File<'_>,
 ) -> Result<(), Fault>
-    ensures says { OnOk result
-        (SaysContent (SaysAs (tables_seen tables.now) (reading.texts (shape_seen shape) units) payload.now)
+    ensures says { OnOk result (SaysContent
+        (SaysAs (tables_seen tables.now) (reading.texts (shape_seen shape) units) payload.now)
         (file_seen file.old) (file_seen file.new)) }
     ensures refused { IsErrOf result Refused → HoldsOfNone
         (SaysAs (tables_seen tables.now) (reading.texts (shape_seen shape) units) payload.now) }
@@ -109,7 +109,8 @@ fn add_texts(
 fn add_use<'d>(payload: &'d [u8], file: &mut File<'d>) -> Result<(), Fault>
     ensures says { OnOk result (SaysContent (SaysAs reading.no_tables reading.base payload.now)
         (file_seen file.old) (file_seen file.new)) }
-    ensures succeeds { IsErrOf result Refused → HoldsOfNone (SaysAs reading.no_tables reading.base payload.now) }
+    ensures refused { IsErrOf result Refused
+        → HoldsOfNone (SaysAs reading.no_tables reading.base payload.now) }
 {
     file.uses.push(payload)?;
     Ok(())
