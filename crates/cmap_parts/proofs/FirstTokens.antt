@@ -4,7 +4,7 @@ use Rattle.std.proofs.lemmas.List.{take_rest, drop-drop}
 use Rattle.cmap_parts.specs.Bytes.{IsBlank}
 use Rattle.cmap_parts.specs.Tokens.{Token, Front, IsMalformed}
 use Rattle.cmap_parts.specs.Scanner.{OnlyFront, FirstToken, HasNoFront}
-use Rattle.cmap_parts.specs.TokenReading.{gap_len, piece_len, token_of}
+use Rattle.cmap_parts.specs.TokenReading.{gap_len, piece_len, token_of, IsPiece}
 use Rattle.cmap_parts.proofs.TokenPieces.{is_read}
 use Rattle.cmap_parts.proofs.TextFronts.{only_front, blank_from, front_not_blank, malformed_from}
 
@@ -19,18 +19,18 @@ record IsCut (text : List ℕ) (n : ℕ) : Type 0 where
 is_cut : (text : List ℕ) (n : ℕ) → n ≡ gap_len false text → IsCut text n
 is_cut text n gap = record { gap = gap; rest = take_rest text n ∙ ap (λ k. drop k text) gap }
 
-pub first_token_is : (text : List ℕ) (n m : ℕ) (token : Token) → n ≡ gap_len false text → n ≤ length text → Some m ≡ piece_len (rest_from text n) → m ≤ length (rest_from text n) → token ≡ token_of (take m (rest_from text n)) → FirstToken text token (n + m)
-first_token_is text n m token gap n_within is m_within reads =
+pub first_token_is : (text : List ℕ) (n m : ℕ) (token : Token) → n ≡ gap_len false text → n ≤ length text → IsPiece (rest_from text n) token m → FirstToken text token (n + m)
+first_token_is text n m token gap n_within piece =
     let cut = is_cut text n gap in
-    let measured : piece_len (drop (gap_len false text) text) ≡ Some m = sym (is ∙ ap piece_len cut.rest) in
+    let measured : piece_len (drop (gap_len false text) text) ≡ Some m = sym (sym piece.measured ∙ ap piece_len cut.rest) in
     let front = only_front text m measured in
-    let same_token : token_of (take m (drop (gap_len false text) text)) ≡ token = sym (reads ∙ ap (λ r. token_of (take m r)) cut.rest) in
+    let same_token : token_of (take m (drop (gap_len false text) text)) ≡ token = sym (piece.reads ∙ ap (λ r. token_of (take m r)) cut.rest) in
     let same_rest : drop m (drop (gap_len false text) text) ≡ drop (n + m) text = drop-drop m (gap_len false text) text ∙ ap (λ k. drop (k + m) text) (sym gap) in (
       take (gap_len false text) text,
       take m (drop (gap_len false text) text),
       subst (λ t. OnlyFront text (take (gap_len false text) text) (take m (drop (gap_len false text) text)) t (drop (n + m) text)) same_token
           (subst (λ r. OnlyFront text (take (gap_len false text) text) (take m (drop (gap_len false text) text)) (token_of (take m (drop (gap_len false text) text))) r) same_rest front),
-      omega (arith, gap, n_within, m_within, ap length cut.rest, length-take-le (gap_len false text) text (omega (arith, gap, n_within)), length-take-le m (drop (gap_len false text) text) (omega (arith, m_within, ap length cut.rest))),
+      omega (arith, gap, n_within, piece.within, ap length cut.rest, length-take-le (gap_len false text) text (omega (arith, gap, n_within)), length-take-le m (drop (gap_len false text) text) (omega (arith, piece.within, ap length cut.rest))),
     )
 
 pub not_blank : (text : List ℕ) (token : Token) (len : ℕ) → FirstToken text token len → IsBlank text → ⊥
@@ -47,10 +47,10 @@ blank_is text n gap empty =
 pub blank_only : (text : List ℕ) → IsBlank text → HasNoFront text
 blank_only text blank gap piece rest token front = front_not_blank text gap piece token rest front blank
 
-pub malformed_is : (text : List ℕ) (n : ℕ) → n ≡ gap_len false text → 0 < length (rest_from text n) → None ≡ piece_len (rest_from text n) → IsMalformed text
+pub malformed_is : (text : List ℕ) (n : ℕ) → n ≡ gap_len false text → 0 < length (rest_from text n) → piece_len (rest_from text n) ≡ None → IsMalformed text
 malformed_is text n gap more none =
     let cut = is_cut text n gap in
-    malformed_from text (omega (arith, more, ap length cut.rest, length-drop (gap_len false text) text)) (sym (none ∙ ap piece_len cut.rest))
+    malformed_from text (omega (arith, more, ap length cut.rest, length-drop (gap_len false text) text)) (ap piece_len (sym cut.rest) ∙ none)
 
 -- a token takes a byte at least
 pub filled : (text gap piece rest : List ℕ) (token : Token) → Front text gap piece token rest → 0 < length piece

@@ -8,6 +8,7 @@ pub mod ByteTables
 pub mod BytesTaken
 pub mod BytesWritten
 pub mod EdgesTellSpans
+pub mod FirstPieces
 pub mod FirstTokens
 pub mod GapLengths
 pub mod GreatestPlace
@@ -16,8 +17,10 @@ pub mod NoValue
 pub mod NumbersOfBits
 pub mod NumeralsRead
 pub mod OctalEscapes
+pub mod PairNumbers
 pub mod PlacesFound
 pub mod PlacesZipped
+pub mod PlainStrings
 pub mod RunsBelowALimit
 pub mod RunsApart
 pub mod RunsInOrder

@@ -81,10 +81,10 @@ body_between first last body raw e =
     let long : length raw - 1 - 1 ≡ length body = omega (arith, ap length e, length-append body (last ∷ [])) in
     ap (λ r. take (length raw - 1 - 1) (drop 1 r)) e ∙ ap (λ n. take n (body ++ last ∷ [])) long ∙ take_at body (last ∷ []) (length body) refl
 
-same_body : (first last : ℕ) (body other : List ℕ) → first ∷ body ++ last ∷ [] ≡ first ∷ other ++ last ∷ [] → body ≡ other
+pub same_body : (first last : ℕ) (body other : List ℕ) → first ∷ body ++ last ∷ [] ≡ first ∷ other ++ last ∷ [] → body ≡ other
 same_body first last body other e = let inner : body ++ last ∷ [] ≡ other ++ last ∷ [] = ap (drop 1) e in (same_from_push body other last last inner).0
 
-brackets_differ : (a b : List ℕ) → 60 ∷ a ≡ 40 ∷ b → ⊥
+pub brackets_differ : (a b : List ℕ) → 60 ∷ a ≡ 40 ∷ b → ⊥
 brackets_differ a b e = let heads : 60 ≡ 40 = ap (λ l. get_or l 0 0) e in omega (arith, heads)
 
 -- a string in parentheses has the values of its body alone

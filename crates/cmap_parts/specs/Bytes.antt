@@ -1,5 +1,5 @@
 -- The classes of bytes, and what stands between tokens. PostScript Language Reference, third edition, 3.2.1 and 3.2.2.
-use Rattle.std.specs.Prelude.{◌≡◌, ℕ, Bool, not, ◌&&◌, ◌==◌, List, [], ◌∷◌, ◌++◌, ◌⊎◌, IsTrue, codes}
+use Rattle.std.specs.Prelude.{◌≡◌, ◌<◌, ◌^◌, ℕ, Bool, not, ◌&&◌, ◌==◌, List, [], ◌∷◌, ◌++◌, ◌⊎◌, IsTrue, codes}
 use Rattle.std.specs.List.{list_any, list_all, concat, AllByRecursion}
 use Rattle.std.specs.Int.Digits.{number_from_digits}
 use Rattle.cmap_parts.specs.Ascii.{nul, tab, line_feed, form_feed, carriage_return, space, percent}
@@ -37,3 +37,7 @@ IsBlank text = IsGap text ⊎ ((gap comment : List ℕ) × (text ≡ gap ++ comm
 -- the number that bytes write, the high one first
 abbrev pub big_endian : List ℕ → ℕ
 big_endian bytes = number_from_digits 256 bytes
+
+-- numbers of eight bits each
+abbrev pub AreBytes : List ℕ → Type 0
+AreBytes bytes = AllByRecursion (λ b. b < 2 ^ 8) bytes

@@ -1,5 +1,6 @@
 -- The bytes that a string token stands for. PostScript Language Reference, third edition, 3.2.2.
-use Rattle.std.specs.Prelude.{◌≡◌, ℕ, ◌+◌, ◌*◌, ◌%◌, ◌≤◌, ◌||◌, ◌==◌, Bool, false, List, [], ◌∷◌, ◌++◌, ◌⊎◌, length, map, filter, Option, Some, None, is_some, if◌then◌else◌}
+use Rattle.std.specs.Prelude.{◌≡◌, ℕ, ◌+◌, ◌*◌, ◌%◌, ◌<◌, ◌≤◌, ◌||◌, ◌==◌, Bool, false, List, [], ◌∷◌, ◌++◌, ◌⊎◌, length, map, filter, Option, Some, None, is_some, IsTrue, if◌then◌else◌}
+use Rattle.std.specs.List.{list_all}
 use Rattle.std.specs.Char.{digit_value, is_digit}
 use Rattle.cmap_parts.specs.Ascii.{backspace, tab, line_feed, form_feed, carriage_return, open_parenthesis, close_parenthesis, less, greater, backslash, letter_b, letter_f, letter_n, letter_r, letter_t}
 use Rattle.cmap_parts.specs.Numbers.{AreDigits, digits_number}
@@ -63,3 +64,16 @@ abbrev pub IsValue : List ℕ → List ℕ → Type 0
 IsValue piece value =
     ((body : List ℕ) × (piece ≡ less ∷ body ++ greater ∷ []) × (value ≡ hex_value body))
     ⊎ ((body : List ℕ) × (parts : List (List ℕ × List ℕ)) × (piece ≡ open_parenthesis ∷ body ++ close_parenthesis ∷ []) × IsCut parts body value)
+
+-- two digits for each of one to four bytes, and nothing between them
+abbrev pub ArePairs : List ℕ → Type 0
+ArePairs digits = IsTrue (list_all (λ c. is_digit c 16) digits) × (length digits % 2 ≡ 0) × (0 < length digits) × (length digits ≤ 8)
+
+-- < such digits >
+abbrev pub IsPlain : List ℕ → Type 0
+IsPlain piece = (digits : List ℕ) × (piece ≡ less ∷ digits ++ greater ∷ []) × ArePairs digits
+
+-- the piece stands for these bytes alone
+pub record IsOnlyValue (piece value : List ℕ) : Type 0 where
+  pub holds : IsValue piece value
+  pub alone : (other : List ℕ) → IsValue piece other → other ≡ value

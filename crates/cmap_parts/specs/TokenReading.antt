@@ -1,5 +1,5 @@
 -- Private aid: what the code reads, as functions on lists. Public contracts speak of Tokens, Numbers and Strings alone.
-use Rattle.std.specs.Prelude.{ℕ, pos, neg_ℤ, ◌+◌, ◌-◌, ◌%◌, ◌||◌, ◌&&◌, ◌==◌, nat_lt, nat_le, Bool, true, false, not, List, [], ◌∷◌, length, take, drop, map, count_by, option_map, option_and_then, unwrap_or, filter, Option, Some, None, codes, if◌then◌else◌}
+use Rattle.std.specs.Prelude.{◌≡◌, ◌≤◌, ℕ, pos, neg_ℤ, ◌+◌, ◌-◌, ◌%◌, ◌||◌, ◌&&◌, ◌==◌, nat_lt, nat_le, Bool, true, false, not, List, [], ◌∷◌, length, take, drop, map, count_by, option_map, option_and_then, unwrap_or, filter, Option, Some, None, codes, if◌then◌else◌}
 use Rattle.std.specs.List.{list_any, list_all, prefix_len}
 use Rattle.std.specs.Option.{option_or, option_map_or}
 use Rattle.std.specs.Char.{digit_value, is_digit}
@@ -132,6 +132,12 @@ token_of (b ∷ text) =
     else if b == open_parenthesis then String (b ∷ text)
     else if b == less then (if begins_with less text then Name false (b ∷ text) else String (b ∷ text))
     else name_or_number (b ∷ text)
+
+-- the text begins with this token, which takes len bytes
+pub record IsPiece (text : List ℕ) (token : Token) (len : ℕ) : Type 0 where
+  pub measured : piece_len text ≡ Some len
+  pub within : len ≤ length text
+  pub reads : token ≡ token_of (take len text)
 
 -- how many octal digits a text begins with, three at most
 abbrev pub octal_len : List ℕ → ℕ

@@ -10,7 +10,7 @@ mod pieces;
 mod values;
 
 use self::pieces::first_token;
-use self::values::{decode_hex, decode_text};
+use self::values::{decode_hex, decode_text, pairs_number};
 use std::alloc::AllocError;
 use std::marker::Model;
 
@@ -61,8 +61,9 @@ pub struct StringToken<'a> {
 }
 
 impl<'a> StringToken<'a> {
-    ghost use Rattle.std.specs.Prelude.{◌≡◌, ◌≤◌, ℕ, List, length, vec_capacity, IsOk, OnOk, OnErr};
-    ghost use Rattle.cmap_parts.specs.Strings.{IsValue};
+    ghost use Rattle.std.specs.Prelude.{◌≡◌, ◌↔◌, ◌≤◌, ℕ, List, length, vec_capacity, is_some, IfSome, IsTrue, IsOk, OnOk, OnErr};
+    ghost use Rattle.cmap_parts.specs.Bytes.{AreBytes, big_endian};
+    ghost use Rattle.cmap_parts.specs.Strings.{IsValue, IsOnlyValue, IsPlain};
     ghost use Rattle.cmap_parts.specs.TokenSeen.{string_raw};
 
     /// The bytes of the string in the text, with its brackets.
@@ -70,6 +71,23 @@ impl<'a> StringToken<'a> {
         ensures { result.now ≡ string_raw self.now }
     {
         self.raw
+    }
+
+    /// How many bytes the string stands for, and the number that they write, the high one first: of
+    /// a hexadecimal string of one to four bytes, whose digits stand in pairs with no white space.
+    /// `None` of any other string. It takes no memory.
+    pub fn plain_number(&self) -> Option<(u8, u32)>
+        ensures value { IfSome result (λ first. (value : List ℕ)
+            × IsOnlyValue (string_raw self.now) value × AreBytes value
+            × (first.0 ≡ length value) × (first.1 ≡ big_endian value)) }
+        ensures plain { IsTrue (is_some result) ↔ IsPlain (string_raw self.now) }
+        ensures some { IfSome result (λ first. 1 ≤ first.0) }
+        ensures few { IfSome result (λ first. first.0 ≤ 4) }
+    {
+        if self.raw[0] != b'<' {
+            return None;
+        }
+        pairs_number(&self.raw[1..self.raw.len() - 1])
     }
 
     /// Replaces the content of `out` by the bytes that the string stands for, as the PostScript

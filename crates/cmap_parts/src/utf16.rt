@@ -1,11 +1,12 @@
 //! Texts in UTF-16, as The Unicode Standard, 3.9, D91 defines it.
 
-ghost use Rattle.std.specs.Prelude.{◌≡◌, [], ◌∷◌, ◌<◌, true, length, Some, IfOk, OnErr, IfSome, IsSomeAnd, MatchOption, option_map, is_some};
+ghost use Rattle.std.specs.Prelude.{◌≡◌, ℕ, List, [], ◌∷◌, ◌<◌, ◌≤◌, true, length, Some, IfOk, OnErr, IfSome, IsSomeAnd, MatchOption, option_map, is_some};
 ghost use Rattle.std.specs.Char.{IsScalar};
 ghost use Rattle.std.specs.Char.Utf16.{utf16_chars, lone_unit_char};
 ghost use Rattle.std.specs.List.{filter_map, list_all};
 ghost use Rattle.std.specs.Str.{chars};
 ghost use Rattle.std.specs.String.{string_bytes};
+ghost use Rattle.cmap_parts.specs.Bytes.{AreBytes, big_endian};
 ghost use Rattle.cmap_parts.specs.Texts.{units_of, text_at, text_of, characters, only_character};
 ghost use Rattle.cmap_parts.specs.LastUnits.{with_last, moved_last, pair_char, IsStuck};
 ghost use Rattle.cmap_parts.specs.TextSeen.{text_seen};
@@ -59,6 +60,26 @@ pub fn units(alloc: Global, bytes: &[u8]) -> Result<Vec<u16>, AllocError>
         pairs = rest;
     }
     Ok(units)
+}
+
+/// The same of one to four bytes, where this number is what they write, the high one first.
+///
+/// It fails only where there is no memory.
+pub fn number_units(alloc: Global, len: u8, number: u32) -> Result<Vec<u16>, AllocError>
+    ensures { (bytes : List ℕ) → AreBytes bytes → 1 ≤ len → len ≤ 4 → len ≡ length bytes
+        → number ≡ big_endian bytes → IfOk result (λ v. v.items ≡ units_of bytes) }
+{
+    let (high, low) = ((number / 0x1_0000) as u16, (number % 0x1_0000) as u16);
+    if len <= 2 {
+        let mut units = Vec::with_capacity(alloc, 1)?;
+        units.push_reserved(low);
+        Ok(units)
+    } else {
+        let mut units = Vec::with_capacity(alloc, 2)?;
+        units.push_reserved(high);
+        units.push_reserved(low);
+        Ok(units)
+    }
 }
 
 /// The text of the code at this offset from the first code of a declaration, whose 16-bit units

@@ -78,3 +78,6 @@ fn read_segments<'d>(
     }
     Ok(())
 }
+
+#[cfg(test)]
+mod tests;

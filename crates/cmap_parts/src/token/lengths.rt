@@ -65,20 +65,32 @@ pub(super) fn piece_len(text: &[u8]) -> Option<usize>
     }
 }
 
-// How many bytes a hexadecimal string takes behind its `<`.
-fn hex_len(text: &[u8]) -> Option<usize>
+// How many bytes a hexadecimal string takes behind its `<`. Two bytes are looked at in a turn.
+pub(super) fn hex_len(text: &[u8]) -> Option<usize>
     ensures exact { result ≡ reading.hex_len text.now }
     ensures within { IfSome result (λ len. len ≤ length text.now) }
 {
-    let mut i = 0;
-    while i < text.len() && is_hex_body(text[i]) {
-        i += 1;
+    let mut rest = text;
+    while let [first, second, after @ ..] = rest {
+        if !is_hex_body(*first) || !is_hex_body(*second) {
+            break;
+        }
+        rest = after;
     }
-    if i < text.len() && text[i] == b'>' {
-        Some(i + 1)
-    } else {
-        None
+    Some(text.len() - rest.len() + hex_rest_len(rest)?)
+}
+
+// The same, byte by byte.
+fn hex_rest_len(text: &[u8]) -> Option<usize>
+    ensures exact { result ≡ reading.hex_len text.now }
+    ensures within { IfSome result (λ len. len ≤ length text.now) }
+{
+    for (i, byte) in text.iter().enumerate() {
+        if !is_hex_body(*byte) {
+            return if *byte == b'>' { Some(i + 1) } else { None };
+        }
     }
+    None
 }
 
 // How many bytes a string in parentheses takes behind its `(`.

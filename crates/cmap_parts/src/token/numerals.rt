@@ -1,15 +1,41 @@
 //! The numbers that runs of regular bytes are spelled as.
 
-ghost use Rattle.std.specs.Prelude.{◌≡◌, ◌-◌, ◌≤◌, ◌^◌, ◌==◌, min, count_by, length, option_map, pos, neg_ℤ};
+ghost use Rattle.std.specs.Prelude.{◌≡◌, ◌-◌, ◌≤◌, ◌^◌, ◌==◌, min, count_by, length, IfSome, option_map, pos, neg_ℤ};
 ghost use Rattle.std.specs.List.{list_any, prefix_len};
 ghost use Rattle.std.specs.Char.{is_digit};
 ghost use Rattle.cmap_parts.specs.Ascii.{dot};
 ghost use Rattle.cmap_parts.specs.Numbers as numbers;
+ghost use Rattle.cmap_parts.specs.Tokens.{Numeral};
 ghost use Rattle.cmap_parts.specs.TokenReading as reading;
+ghost use Rattle.cmap_parts.specs.TokenReading.{IsPiece};
 ghost use Rattle.cmap_parts.specs.NumberSeen.{number_seen};
 
 use super::Number;
-use super::byte_class::is_digit;
+use super::byte_class::{digit_value, is_digit, is_regular};
+
+// The number in decimal digits that a text begins with, and how many digits it has. `None` where
+// there is no digit, where behind them the text ends or the run goes on, and where they are very
+// many.
+pub(super) fn decimal(text: &[u8]) -> Option<(Number, usize)>
+    ensures { IfSome result
+        (λ first. IsPiece text.now (Numeral (number_seen first.0)) first.1) }
+{
+    let mut number: u64 = 0;
+    for (i, byte) in text.iter().enumerate() {
+        let digit = digit_value(*byte);
+        if digit >= 10 {
+            if i == 0 || is_regular(*byte) {
+                return None;
+            }
+            return Some((Number::Integer(number as i64), i));
+        }
+        if number >= SMALL {
+            return None;
+        }
+        number = number * 10 + u64::from(digit);
+    }
+    None
+}
 
 // The number that a run of regular bytes is spelled as.
 #[tactic(auto, unfolding(crate::specs::TokenReading::numeral))]

@@ -1,14 +1,17 @@
 //! The token that a text begins with.
 
-ghost use Rattle.std.specs.Prelude.{◌≡◌, ◌↔◌, ◌<◌, ◌≤◌, length, Some, None, Ok, IfOk, IfSome, IsErr};
+ghost use Rattle.std.specs.Prelude.{◌≡◌, ◌↔◌, ◌<◌, ◌≤◌, false, length, drop, get_or, Some, None, Ok, IfOk, IfSome, IsErr, MatchOption};
+ghost use Rattle.cmap_parts.specs.Ascii.{less};
 ghost use Rattle.cmap_parts.specs.Bytes.{IsBlank};
+ghost use Rattle.cmap_parts.specs.Strings.{begins_with};
 ghost use Rattle.cmap_parts.specs.Tokens.{IsMalformed};
 ghost use Rattle.cmap_parts.specs.Scanner.{FirstToken, HasNoFront};
 ghost use Rattle.cmap_parts.specs.TokenReading as reading;
+ghost use Rattle.cmap_parts.specs.TokenReading.{IsPiece};
 ghost use Rattle.cmap_parts.specs.TokenSeen.{token_seen};
 
-use super::lengths::{gap_len, piece_len};
-use super::numerals::number_of;
+use super::lengths::{gap_len, hex_len, piece_len};
+use super::numerals::{decimal, number_of};
 use super::{Malformed, Name, StringToken, Token};
 
 // The token that a text begins with, and how many bytes it takes with the gap before it.
@@ -23,11 +26,48 @@ pub(super) fn first_token(text: &[u8]) -> Result<Option<(Token<'_>, usize)>, Mal
 {
     let gap = gap_len(text);
     let rest = &text[gap..];
-    match piece_len(rest) {
-        Some(len) => Ok(Some((token_of(&rest[..len]), gap + len))),
+    match first_piece(rest) {
+        Some((token, len)) => Ok(Some((token, gap + len))),
         None if rest.is_empty() => Ok(None),
         None => Err(Malformed),
     }
+}
+
+// The token that a text begins with, with no gap before it, and how many bytes it takes.
+// Hexadecimal strings and decimal numbers, of which files are full, are read in one pass.
+#[tactic(auto, unfolding(crate::specs::TokenReading::piece_len))]
+fn first_piece(text: &[u8]) -> Option<(Token<'_>, usize)>
+    ensures { MatchOption result (reading.piece_len text.now ≡ None)
+        (λ first. IsPiece text.now (token_seen first.0) first.1) }
+{
+    match text {
+        [b'<', second, ..] if *second != b'<' => hex_piece(text),
+        _ => match decimal(text) {
+            Some((number, len)) => Some((Token::Number(number), len)),
+            None => other_piece(text),
+        },
+    }
+}
+
+// The hexadecimal string that a text begins with, as `first_piece` gives it.
+fn hex_piece(text: &[u8]) -> Option<(Token<'_>, usize)>
+    requires some { 0 < length text.now }
+    requires opens { get_or text.now 0 0 ≡ less }
+    requires once { begins_with less (drop 1 text.now) ≡ false }
+    ensures { MatchOption result (reading.piece_len text.now ≡ None)
+        (λ first. IsPiece text.now (token_seen first.0) first.1) }
+{
+    let len = 1 + hex_len(&text[1..])?;
+    Some((Token::String(StringToken { raw: &text[..len] }), len))
+}
+
+// Any token that a text begins with, in two passes: its length, and what it is.
+fn other_piece(text: &[u8]) -> Option<(Token<'_>, usize)>
+    ensures { MatchOption result (reading.piece_len text.now ≡ None)
+        (λ first. IsPiece text.now (token_seen first.0) first.1) }
+{
+    let len = piece_len(text)?;
+    Some((token_of(&text[..len]), len))
 }
 
 // The token that a whole piece is.

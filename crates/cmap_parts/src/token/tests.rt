@@ -23,3 +23,17 @@ fn a_token_of_each_kind(rt: HostRuntime) -> Result<(), Fail> {
     assert!(rt; scanner.next_token().is_err());
     Ok(())
 }
+
+#[test]
+fn numbers_of_plain_strings(rt: HostRuntime) -> Result<(), Fail> {
+    let mut scanner = Scanner::new(b"<8140> <81 40>");
+    let Ok(Some(Token::String(plain))) = scanner.next_token() else {
+        return Err("no string")?;
+    };
+    assert_eq!(rt; plain.plain_number(), Some((2, 0x8140)));
+    let Ok(Some(Token::String(spaced))) = scanner.next_token() else {
+        return Err("no string")?;
+    };
+    assert_eq!(rt; spaced.plain_number(), None);
+    Ok(())
+}

@@ -1,12 +1,35 @@
 //! The bytes that strings stand for.
 
-ghost use Rattle.std.specs.Prelude.{◌≡◌, ◌+◌, ◌≤◌, ◌<◌, ◌++◌, List, ℕ, false, true, length, unwrap_or, vec_len, vec_capacity};
+ghost use Rattle.std.specs.Prelude.{◌≡◌, ◌+◌, ◌≤◌, ◌<◌, ◌++◌, List, ℕ, false, true, length, unwrap_or, vec_len, vec_capacity, MatchOption};
 ghost use Rattle.cmap_parts.specs.TokenReading as reading;
 ghost use Rattle.cmap_parts.specs.TokenReading.{HasCut};
-ghost use Rattle.cmap_parts.specs.Strings.{hex_value, escape_value};
+ghost use Rattle.cmap_parts.specs.Bytes.{big_endian};
+ghost use Rattle.cmap_parts.specs.Strings.{ArePairs, hex_value, escape_value};
 
 use super::byte_class::{BACKSPACE, FORM_FEED, digit_value, is_digit};
 use super::numerals::digits_number;
+
+// How many bytes digits in pairs stand for, one to four, and the number that the bytes write, the
+// high one first.
+pub(super) fn pairs_number(digits: &[u8]) -> Option<(u8, u32)>
+    ensures { MatchOption result (ArePairs digits.now → ⊥)
+        (λ first. ArePairs digits.now × (first.0 ≡ length (hex_value digits.now))
+        × (first.1 ≡ big_endian (hex_value digits.now))) }
+{
+    let len = digits.len();
+    if len == 0 || len > 8 || len % 2 != 0 {
+        return None;
+    }
+    let mut number: u32 = 0;
+    for byte in digits {
+        let digit = digit_value(*byte);
+        if digit >= 16 {
+            return None;
+        }
+        number = number * 16 + u32::from(digit);
+    }
+    Some((len as u8 / 2, number))
+}
 
 // Appends the bytes of hexadecimal digits, white space among them.
 pub(super) fn decode_hex(digits: &[u8], out: &mut Vec<u8>)

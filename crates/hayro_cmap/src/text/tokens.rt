@@ -15,7 +15,7 @@ use crate::fault::Fault;
 use crate::names::Cid;
 use cmap_parts::bits::Reader;
 use cmap_parts::token::{Number, Scanner, Token};
-use cmap_parts::utf16::units;
+use cmap_parts::utf16::{number_units, units};
 use std::alloc::Global;
 use std::marker::Model;
 
@@ -90,6 +90,9 @@ impl<'d> TokenReader<'d> {
         let Token::String(string) = token else {
             return Err(Fault::Refused);
         };
+        if let Some((len, number)) = string.plain_number() {
+            return Ok(Code { len, number });
+        }
         string.decode_into(&mut self.string)?;
         code_of(&self.string).ok_or(Fault::Refused)
     }
@@ -115,6 +118,9 @@ impl<'d> TokenReader<'d> {
         let Token::String(string) = token else {
             return Err(Fault::Refused);
         };
+        if let Some((len, number)) = string.plain_number() {
+            return Ok(number_units(self.alloc, len, number)?);
+        }
         string.decode_into(&mut self.string)?;
         if self.string.is_empty() {
             return Err(Fault::Refused);

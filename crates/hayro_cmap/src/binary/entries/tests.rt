@@ -1,4 +1,5 @@
 use super::*;
+use crate::binary::tests::are_cids;
 use crate::bundle::Bundle;
 use std::test::Fail;
 
@@ -11,15 +12,6 @@ const SMALL: [u8; 23] = [
 const LARGE: [u8; 20] = [
     0, 0, 0, 16, 0, 2, 1, 0, 2, 0xFF, 0xFF, 0xFF, 0xFF, 0, 0, 0, 0, 0, 0, 0,
 ];
-
-fn are_cids(ranges: &[CidRange], rows: &[(u32, u32, u32)]) -> bool {
-    ranges.len() == rows.len()
-        && ranges.iter().zip(rows).all(|(range, row)| (
-            range.range.start,
-            range.range.end,
-            range.cid,
-        ) == *row)
-}
 
 #[test]
 fn single_codes(rt: HostRuntime) -> Result<(), Fail> {

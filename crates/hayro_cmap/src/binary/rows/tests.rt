@@ -1,14 +1,6 @@
 use super::*;
+use crate::binary::tests::are_cids;
 use std::test::Fail;
-
-fn are_cids(ranges: &[CidRange], rows: &[(u32, u32, u32)]) -> bool {
-    ranges.len() == rows.len()
-        && ranges.iter().zip(rows).all(|(range, row)| (
-            range.range.start,
-            range.range.end,
-            range.cid,
-        ) == *row)
-}
 
 #[test]
 fn notdefs(rt: HostRuntime) -> Result<(), Fail> {

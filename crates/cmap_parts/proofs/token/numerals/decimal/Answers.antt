@@ -1,0 +1,34 @@
+use Rattle.std.proofs.Common.{◌≡◌, ◌+◌, ◌*◌, ◌<◌, ◌^◌, w64, get_or, take, sym, ◌∙◌, subst, arith}
+use Rattle.std.proofs.lemmas.Bool.{and_from, lt-ltb}
+use Rattle.std.proofs.lemmas.Int.{to_z_pos}
+use Rattle.std.proofs.lemmas.List.Folds.{list_all_more}
+use Rattle.std.specs.Char.{digit_value, is_digit}
+use Rattle.cmap_parts.specs.Numbers.{Integer, digits_number}
+use Rattle.cmap_parts.specs.Tokens.{Numeral}
+use Rattle.cmap_parts.specs.TokenReading.{IsPiece}
+use Rattle.cmap_parts.proofs.FirstPieces.{decimal_piece}
+use Rattle.cmap_parts.proofs.SaturatingDigits.{digits_number_more}
+use Rattle.cmap_parts.proofs.token.numerals.decimal.Goals as goal
+
+pub returns-then-digit-ge10 : goal.returns-then-digit-ge10
+returns-then-digit-ge10 c =
+    let text = c.args.text.now in
+    let small : c.loop-i.number < 2 ^ 63 = omega (arith, c.loop-i.invariant.small) in
+    subst (λ z. IsPiece text (Numeral (Integer z)) c.loop-i.i) (sym (to_z_pos w64 c.loop-i.number small))
+    (decimal_piece text c.loop-i.i c.loop-i.number (omega (arith, c.if-i-eq0.false)) c.loop-i-test.true c.loop-i.invariant.digits c.loop-i.invariant.value (sym c.if-is_regular.ensures) small)
+
+pub loop-i-preserved : goal.loop-i-preserved
+loop-i-preserved c =
+    let text = c.args.text.now in
+    let i = c.loop-i.i in
+    let number = c.loop-i.number in
+    let d = c.from.result in
+    let is : d ≡ digit_value (get_or text i 0) = c.from.ensures ∙ c.digit_value-digit.ensures in
+    let below : d < 10 = omega (arith, c.from.ensures, c.if-digit-ge10.false) in
+    let digit : digit_value (get_or text i 0) < 10 = omega (arith, is, below) in
+    let value : number * 10 + d ≡ digits_number 10 (take i text) * 10 + digit_value (get_or text i 0) = omega (arith, is, c.loop-i.invariant.value) in
+    record {
+      digits = list_all_more (λ b. is_digit b 10) text i 0 c.loop-i-test.true ∙ and_from _ _ c.loop-i.invariant.digits (lt-ltb (digit_value (get_or text i 0)) 10 digit);
+      value = value ∙ sym (digits_number_more 10 text i c.loop-i-test.true);
+      small = omega (arith, c.if-number-ge-SMALL.false, below);
+    }
