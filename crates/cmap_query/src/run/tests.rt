@@ -177,6 +177,12 @@ fn answers_from_a_file_behind_a_bundle(rt: HostRuntime) -> Result<(), Fail> {
             lines: "cid 2:0021 6\ncid 1:21 none\n",
         },
         Answers {
+            name: "a budget of all bytes of a text and a binary file",
+            words: &["--bundle", "46", "--budget", "46", "2:0021"],
+            input: based_on_binary.as_str(),
+            lines: "cid 2:0021 6\n",
+        },
+        Answers {
             name: "no bytes behind the bundle",
             words: &["--bundle", "10", "2:0041"],
             input: NO_FILES,
@@ -290,9 +296,12 @@ fn refuses_what_is_no_bundle_and_a_file(rt: HostRuntime) -> Result<(), Fail> {
 
 #[test]
 fn a_budget_bounds_the_bytes_of_files_over_a_bundle(rt: HostRuntime) -> Result<(), Fail> {
-    // the file that uses another one has twenty bytes, the other one 41, and the range 43
+    // the file that uses another one has twenty bytes, the other one 41 or, the binary one, 26, and
+    // the range 43
+    let binary = format!(in rt.alloc(); "{DELTAS}{BINARY}")?;
     let rows = [
         ("10", NO_FILES, "42", TWO_BYTE_RANGE),
+        ("46", binary.as_str(), "45", ONE_USE),
         ("61", ONE_FILE, "19", ONE_USE),
         ("61", ONE_FILE, "60", ONE_USE),
     ];
