@@ -42,7 +42,7 @@ AllZip-only R (a ∷ xs) [] zs h k = absurd h
 AllZip-only R (a ∷ xs) (b ∷ ys) [] h k = absurd k
 AllZip-only R (a ∷ xs) (b ∷ ys) (c ∷ zs) h k = let e = h.0.alone c k.0 in let f = AllZip-only R xs ys zs h.1 k.1 in cc
 
-last_or-push : {A : Type 0} (o : Option A) (xs : List A) (x : A) → last_or o (xs ++ x ∷ []) ≡ Some x
+pub last_or-push : {A : Type 0} (o : Option A) (xs : List A) (x : A) → last_or o (xs ++ x ∷ []) ≡ Some x
 last_or-push o [] x = refl
 last_or-push o (y ∷ xs) x = last_or-push (Some y) xs x
 

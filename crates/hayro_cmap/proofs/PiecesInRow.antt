@@ -4,6 +4,7 @@ use Rattle.std.specs.Prelude.{flat_map}
 use Rattle.std.specs.List.{AllZip}
 use Rattle.std.proofs.lemmas.List.{length-append, nil_from_length}
 use Rattle.hayro_cmap.specs.Only.{IsOnly, HoldsOfNone}
+use Rattle.hayro_cmap.specs.RowReading.{RowAt}
 use Rattle.hayro_cmap.proofs.TextFronts.{pair_is, first_is, second_is}
 
 -- the text begins with these things, and the rest follows
@@ -66,11 +67,7 @@ only_by P Q x there back only = record { holds = there x only.holds; alone = λ 
 pub none_by : {A : Type 0} (P Q : A → Type 0) → ((y : A) → Q y → P y) → HoldsOfNone P → HoldsOfNone Q
 none_by P Q back none y is = none y (back y is)
 
--- a piece of some kind, and the rest
-abbrev pub PieceAt : {A : Type 0} → (List ℕ → A → Type 0) → List ℕ → A × List ℕ → Type 0
-PieceAt R text r = (piece : List ℕ) × (text ≡ piece ++ r.1) × R piece r.0
-
-pub row_of_pieces : {A : Type 0} (R : List ℕ → A → Type 0) (pieces : List (List ℕ)) (xs : List A) (text rest : List ℕ) → text ≡ flat_map (λ p. p) pieces ++ rest → AllZip R pieces xs → InRow (PieceAt R) text xs rest
+pub row_of_pieces : {A : Type 0} (R : List ℕ → A → Type 0) (pieces : List (List ℕ)) (xs : List A) (text rest : List ℕ) → text ≡ flat_map (λ p. p) pieces ++ rest → AllZip R pieces xs → InRow (RowAt R) text xs rest
 row_of_pieces R [] [] text rest is all = sym is
 row_of_pieces R [] (x ∷ xs) text rest is all = absurd all
 row_of_pieces R (p ∷ ps) [] text rest is all = absurd all
@@ -78,7 +75,7 @@ row_of_pieces R (p ∷ ps) (x ∷ xs) text rest is (first, all) =
     let behind = flat_map (λ q. q) ps ++ rest in
     (behind, (p, is ∙ append_assoc p (flat_map (λ q. q) ps) rest, first), row_of_pieces R ps xs behind rest refl all)
 
-pub pieces_of_row : {A : Type 0} (R : List ℕ → A → Type 0) (xs : List A) (text rest : List ℕ) → InRow (PieceAt R) text xs rest → (pieces : List (List ℕ)) × (text ≡ flat_map (λ p. p) pieces ++ rest) × AllZip R pieces xs
+pub pieces_of_row : {A : Type 0} (R : List ℕ → A → Type 0) (xs : List A) (text rest : List ℕ) → InRow (RowAt R) text xs rest → (pieces : List (List ℕ)) × (text ≡ flat_map (λ p. p) pieces ++ rest) × AllZip R pieces xs
 pieces_of_row R [] text rest is = ([], sym is, tt)
 pieces_of_row R (x ∷ xs) text rest (next, (p, is, first), row) =
     let (ps, whole, all) = pieces_of_row R xs next rest row in

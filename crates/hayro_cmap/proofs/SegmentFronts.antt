@@ -12,11 +12,8 @@ use Rattle.hayro_cmap.specs.Bundles.{PrefixTables, IsFramed}
 use Rattle.hayro_cmap.specs.BundleReading.{FramedAt}
 use Rattle.hayro_cmap.specs.BinaryFiles.{Content, declares, uses, sets_mode, sets_name, sets_collection, declared_in, name_used, mode_set, name_set, collection_set, file_of, IsSegment, IsSegmentText}
 use Rattle.hayro_cmap.specs.BinaryReading.{AreSegments, with_content, SaysContent, SaysSegments}
+use Rattle.hayro_cmap.proofs.BasesResolved.{last_or-push}
 use Rattle.hayro_cmap.proofs.ListsMade.{append_lists-none, lists_of-append}
-
-last_or-more : {A : Type 0} (o : Option A) (xs : List A) (y : A) → last_or o (xs ++ y ∷ []) ≡ Some y
-last_or-more o [] y = refl
-last_or-more o (x ∷ xs) y = last_or-more (Some x) xs y
 
 gives_none : {A : Type 0} (f : Content → Option A) (content : Content) → f content ≡ None → filter_map f (content ∷ []) ≡ []
 gives_none f content none = rw none refl
@@ -33,7 +30,7 @@ last_kept f contents content none =
 last_set : {A : Type 0} (f : Content → Option A) (contents : List Content) (content : Content) (x : A) → f content ≡ Some x → last_or None (filter_map f (contents ++ content ∷ [])) ≡ Some x
 last_set f contents content x is =
     let set : filter_map f (contents ++ content ∷ []) ≡ filter_map f contents ++ x ∷ [] = filter_map-append f contents (content ∷ []) ∙ ap (λ l. filter_map f contents ++ l) (gives_one f content x is) in
-    ap (last_or None) set ∙ last_or-more None (filter_map f contents) x
+    ap (last_or None) set ∙ last_or-push None (filter_map f contents) x
 
 no_more_names : (contents : List Content) (content : Content) → name_used content ≡ None → filter_map name_used (contents ++ content ∷ []) ≡ filter_map name_used contents
 no_more_names contents content none = filter_map-append name_used contents (content ∷ []) ∙ ap (λ l. filter_map name_used contents ++ l) (gives_none name_used content none) ∙ append-nil (filter_map name_used contents)

@@ -1,9 +1,9 @@
 -- The type of a segment, and what a segment of this type says.
 use Rattle.std.proofs.Common.{◌≡◌, ℕ, zero, suc, ◌+◌, refl, sym, ap, ◌∙◌, subst, List, [], ◌∷◌, ◌++◌, length, arith, append_assoc}
 use Rattle.std.specs.Prelude.{pos, Option, Some, None, flat_map, slice_get, ⊤}
-use Rattle.std.specs.List.{AllZip}
 use Rattle.std.proofs.lemmas.Option.{none-some, same_Some, slice_get_past}
 use Rattle.cmap_parts.specs.Ascii.{nul}
+use Rattle.hayro_cmap.proofs.PiecesInRow.{length-AllZip}
 use Rattle.hayro_cmap.specs.Only.{IsOnly, HoldsOfNone}
 use Rattle.hayro_cmap.specs.Files.{File}
 use Rattle.hayro_cmap.specs.Bundles.{PrefixTables}
@@ -39,21 +39,15 @@ text_kind ranges (Some (suc zero)) kind (least, most, is) = ap kind_of is
 text_kind ranges (Some (suc (suc zero))) kind (least, most, is) = ap kind_of is
 text_kind ranges (Some (suc (suc (suc units)))) kind (least, most, is) = absurd (omega (arith, most))
 
-all_zip-length : {A B : Type 0} (R : A → B → Type 0) (xs : List A) (ys : List B) → AllZip R xs ys → length xs ≡ length ys
-all_zip-length R [] [] all = refl
-all_zip-length R [] (y ∷ ys) all = absurd all
-all_zip-length R (x ∷ xs) [] all = absurd all
-all_zip-length R (x ∷ xs) (y ∷ ys) (one, all) = ap suc (all_zip-length R xs ys all)
-
 -- a segment has one type, and says what its payload says as that
 says_as : (tables : PrefixTables) (kind : ℕ) (payload : List ℕ) (content : Content) → IsSegment tables kind payload content → (k : Kind) × (kind_of kind ≡ Some k) × SaysAs tables k payload content
 says_as tables kind payload content (cid_segment shape len n count rest entries within is parts field are says) = (cids shape len, cid_kind shape len kind within is, (entries, (n, count, rest, parts, field, are), says))
 says_as tables kind payload content (bf_segment shape fixed n count rest entries is parts field are says) = (texts shape fixed, text_kind shape fixed kind is, (entries, (n, count, rest, parts, field, are), says))
 says_as tables kind payload content (use_segment is says) = (base, ap kind_of is, says)
 says_as tables kind payload content (notdef_segment width n count ignored rows entries is parts field counted codes all says) =
-    (notdefs, ap kind_of is, ((width, entries), (n, count, flat_map (λ t. t) rows ++ ignored, parts ∙ append_assoc (width ∷ count) (flat_map (λ t. t) rows) ignored, field, codes, (rows, ignored, refl, all, sym (all_zip-length _ rows entries all) ∙ counted)), says))
+    (notdefs, ap kind_of is, ((width, entries), (n, count, flat_map (λ t. t) rows ++ ignored, parts ∙ append_assoc (width ∷ count) (flat_map (λ t. t) rows) ignored, field, codes, (rows, ignored, refl, all, sym (length-AllZip _ rows entries all) ∙ counted)), says))
 says_as tables kind payload content (mode_segment b ignored is parts says) = (mode, ap kind_of is, (b, ignored, parts, says))
-says_as tables kind payload content (codespace_segment ignored rows spaces is parts all says) = (codespaces, ap kind_of is, (spaces, (length rows, flat_map (λ t. t) rows ++ ignored, parts, (rows, ignored, refl, all, sym (all_zip-length _ rows spaces all))), says))
+says_as tables kind payload content (codespace_segment ignored rows spaces is parts all says) = (codespaces, ap kind_of is, (spaces, (length rows, flat_map (λ t. t) rows ++ ignored, parts, (rows, ignored, refl, all, sym (length-AllZip _ rows spaces all))), says))
 says_as tables kind payload content (name_segment is says) = (name, ap kind_of is, says)
 says_as tables kind payload content (collection_segment registry ordering field ignored supplement is parts is_field first second says) = (collection, ap kind_of is, (record { family = family_of registry ordering; supplement = pos supplement }, (registry, ordering, field, ignored, supplement, parts ∙ append_assoc (registry ++ nul ∷ ordering) (nul ∷ field) ignored ∙ append_assoc registry (nul ∷ ordering) (nul ∷ field ++ ignored), is_field, first, second, refl), says))
 
@@ -92,10 +86,10 @@ segment_says tables kind (cids shape len) payload content is (entries, (n, count
 segment_says tables kind (texts shape fixed) payload content is (entries, (n, count, rest, parts, field, are), says) = bf_segment shape fixed n count rest entries (is_type kind (texts shape fixed) is) parts field are says
 segment_says tables kind base payload content is says = use_segment (is_type kind base is) says
 segment_says tables kind notdefs payload content is ((width, entries), (n, count, rest, parts, field, codes, (rows, ignored, rest_is, all, counted)), says) =
-    notdef_segment width n count ignored rows entries (is_type kind notdefs is) (parts ∙ ap (λ l. width ∷ count ++ l) rest_is ∙ sym (append_assoc (width ∷ count) (flat_map (λ t. t) rows) ignored)) field (all_zip-length _ rows entries all ∙ counted) codes all says
+    notdef_segment width n count ignored rows entries (is_type kind notdefs is) (parts ∙ ap (λ l. width ∷ count ++ l) rest_is ∙ sym (append_assoc (width ∷ count) (flat_map (λ t. t) rows) ignored)) field (length-AllZip _ rows entries all ∙ counted) codes all says
 segment_says tables kind mode payload content is (b, ignored, parts, says) = mode_segment b ignored (is_type kind mode is) parts says
 segment_says tables kind codespaces payload content is (spaces, (n, rest, parts, (rows, ignored, rest_is, all, counted)), says) =
-    codespace_segment ignored rows spaces (is_type kind codespaces is) (parts ∙ ap (λ m. m ∷ rest) (sym (all_zip-length _ rows spaces all ∙ counted)) ∙ ap (λ l. length rows ∷ l) rest_is) all says
+    codespace_segment ignored rows spaces (is_type kind codespaces is) (parts ∙ ap (λ m. m ∷ rest) (sym (length-AllZip _ rows spaces all ∙ counted)) ∙ ap (λ l. length rows ∷ l) rest_is) all says
 segment_says tables kind name payload content is says = name_segment (is_type kind name is) says
 segment_says tables kind collection payload content is (made, (registry, ordering, field, ignored, supplement, parts, is_field, first, second, same), says) =
     collection_segment registry ordering field ignored supplement (is_type kind collection is)
