@@ -10,7 +10,7 @@ use Rattle.hayro_cmap.specs.Files.{CidEntry, BfEntry}
 abbrev pub AreRows : ℕ → List (List ℕ) → List ℕ → Type 0
 AreRows width rows text = AllByRecursion (λ row. length row ≡ width) rows × (text ≡ flat_map (λ row. row) rows)
 
--- each entry starts delta codes behind the end of the one before
+-- behind the end of an entry so many codes are left out as the delta of the next one says
 abbrev pub start_at : List ℕ → List ℕ → ℕ → ℕ
 start_at deltas widths i = sum (take (i + 1) deltas) + sum_by (λ w. w + 1) (take i widths)
 

@@ -27,6 +27,12 @@ pub(crate) const MAGIC: &[u8] = b"bcmap";
 /// What begins one of version 1.
 const HEAD: &[u8] = b"bcmap\x01";
 
+/// How many bytes of a segment, its type, stand before its length.
+const TYPE_LEN: usize = 1;
+
+/// How many bytes of a segment, its type and its length, stand before its payload.
+const SEGMENT_HEAD: usize = 5;
+
 /// What a binary file says.
 pub(crate) fn read_binary<'d>(
     alloc: Global,
@@ -70,10 +76,10 @@ fn read_segments<'d>(
 {
     let mut rest = segments;
     while !rest.is_empty() {
-        let Some((segment, behind)) = split_framed(rest, 1) else {
+        let Some((segment, behind)) = split_framed(rest, TYPE_LEN) else {
             return Err(Fault::Refused);
         };
-        read_segment(alloc, tables, segment[0], &segment[5..], file)?;
+        read_segment(alloc, tables, segment[0], &segment[SEGMENT_HEAD..], file)?;
         rest = behind;
     }
     Ok(())

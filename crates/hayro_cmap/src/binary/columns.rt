@@ -23,7 +23,7 @@ pub(crate) enum Shape {
 /// Where the codes of all entries lie, and the bytes behind these columns.
 #[derive(Debug, Drop)]
 pub(super) struct Columns<'b> {
-    /// How far each entry starts behind the end of the one before.
+    /// How many codes each entry leaves out behind the end of the one before.
     pub(super) deltas: Vec<u32>,
     /// The end of each entry less its start.
     pub(super) widths: Vec<u64>,
