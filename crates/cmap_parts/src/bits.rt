@@ -186,6 +186,3 @@ fn number(bytes: &[u8]) -> u32
     }
     number
 }
-
-#[cfg(test)]
-mod tests;

@@ -94,6 +94,3 @@ impl PrefixTable {
         Some(self.symbols[place])
     }
 }
-
-#[cfg(test)]
-mod tests;

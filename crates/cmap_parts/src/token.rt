@@ -189,6 +189,3 @@ impl<'a> Scanner<'a> {
         Ok(Some(token))
     }
 }
-
-#[cfg(test)]
-mod tests;

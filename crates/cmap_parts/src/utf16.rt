@@ -201,6 +201,3 @@ fn string(alloc: Global, units: &[u16], last: u16) -> Result<String, AllocError>
     }
     Ok(text)
 }
-
-#[cfg(test)]
-mod tests;

@@ -84,6 +84,3 @@ fn read_segments<'d>(
     }
     Ok(())
 }
-
-#[cfg(test)]
-mod tests;

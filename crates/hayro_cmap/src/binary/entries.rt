@@ -162,6 +162,3 @@ fn next_range(base: u64, delta: u32, width: u64) -> Option<Range>
         end: u32::try_from(end).ok()?,
     })
 }
-
-#[cfg(test)]
-mod tests;

@@ -147,6 +147,3 @@ fn split_terminated(text: &[u8]) -> Option<(&[u8], &[u8])>
     let end = text.iter().position(|byte| *byte == 0)?;
     Some((&text[..end], &text[end + 1..]))
 }
-
-#[cfg(test)]
-mod tests;
