@@ -2,31 +2,26 @@
 //! CMap file on the standard input.
 #![tactic(auto)]
 
-mod failure;
-mod input;
-mod options;
-mod query;
-mod run;
-
-use failure::Failure;
+use cmap_answers::failure::Failure;
+use cmap_answers::run::{report, run};
 use std::env;
 use std::process::ExitCode;
 
 fn main(rt: HostRuntime) -> ExitCode {
     let status = match words(&rt) {
-        Ok(words) => run::run(
+        Some(words) => run(
             rt.alloc(),
             &words,
             &mut rt.stdin(),
             &mut rt.stdout(),
             &mut rt.stderr(),
         ),
-        Err(failure) => run::report(failure, &mut rt.stderr()),
+        None => report(Failure::Unreadable, &mut rt.stderr()),
     };
     ExitCode::from(status)
 }
 
-/// The words of the command line, without the program's name.
-fn words(rt: &HostRuntime) -> Result<Vec<String>, Failure> {
-    Ok(env::args(rt)?.skip(1).collect(rt.alloc())?)
+/// The words of the command line, without the program's name, where they can be gathered.
+fn words(rt: &HostRuntime) -> Option<Vec<String>> {
+    env::args(rt).ok()?.skip(1).collect(rt.alloc()).ok()
 }

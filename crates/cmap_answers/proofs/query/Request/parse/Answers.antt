@@ -1,9 +1,9 @@
 use Rattle.std.proofs.Common.{All, ap, inr, map, string_bytes, subst, sym, ◌∙◌}
 use Rattle.std.proofs.lemmas.List.Elements.{All-push}
-use Rattle.cmap_query.specs.CodeWords.{SpellsNone}
-use Rattle.cmap_query.specs.Queries.{word_of, IsSpelled}
-use Rattle.cmap_query.proofs.OneMore.{map-one_more}
-use Rattle.cmap_query.proofs.query.Request.parse.Goals as goal
+use Rattle.cmap_answers.specs.CodeWords.{SpellsNone}
+use Rattle.cmap_answers.specs.Queries.{word_of, IsSpelled}
+use Rattle.cmap_answers.proofs.OneMore.{map-one_more}
+use Rattle.cmap_answers.proofs.query.Request.parse.Goals as goal
 
 pub loop-word-preserved : goal.loop-word-preserved
 loop-word-preserved c =

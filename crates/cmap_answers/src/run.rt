@@ -83,6 +83,3 @@ fn answers(alloc: Global, map: &CMap, queries: &[Query<'_>]) -> Result<String, A
     }
     Ok(lines)
 }
-
-#[cfg(test)]
-mod tests;

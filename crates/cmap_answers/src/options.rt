@@ -3,8 +3,8 @@
 ghost use Rattle.std.specs.Prelude.{◌≡◌, ◌^◌, ◌<◌, MatchResult, map, string_bytes};
 ghost use Rattle.std.specs.Option.{SomeIff};
 ghost use Rattle.std.specs.Str.Parse.{IsNumeral, digits_value};
-ghost use Rattle.cmap_query.specs.OptionWords.{SpellsNoNumber, SpellsNoOptions};
-ghost use Rattle.cmap_query.specs.OptionWords.{SpellsOption, SpellsOptions};
+ghost use Rattle.cmap_answers.specs.OptionWords.{SpellsNoNumber, SpellsNoOptions};
+ghost use Rattle.cmap_answers.specs.OptionWords.{SpellsOption, SpellsOptions};
 
 use crate::failure::Failure;
 

@@ -1,7 +1,7 @@
 //! Why a run gives no answers.
 
 ghost use Rattle.std.specs.Prelude.{◌≡◌};
-ghost use Rattle.cmap_query.specs.declared.failure.Failure.TheVariants.{NoMemory};
+ghost use Rattle.cmap_answers.specs.declared.failure.Failure.TheVariants.{NoMemory};
 
 use hayro_cmap::ParseError;
 use std::alloc::{AllocError, AllocFailed};

@@ -16,8 +16,8 @@ pub struct Request<'a> {
 }
 
 impl<'a> Request<'a> {
-    ghost use Rattle.cmap_query.specs.CodeWords.{SpellsNone};
-    ghost use Rattle.cmap_query.specs.Queries.{word_of, IsSpelled};
+    ghost use Rattle.cmap_answers.specs.CodeWords.{SpellsNone};
+    ghost use Rattle.cmap_answers.specs.Queries.{word_of, IsSpelled};
 
     /// The request that the words spell; a fault of usage where one of them is wrong, or none is
     /// there.
@@ -54,8 +54,8 @@ pub struct Query<'a> {
 }
 
 impl<'a> Query<'a> {
-    ghost use Rattle.cmap_query.specs.CodeWords.{SpellsNone};
-    ghost use Rattle.cmap_query.specs.Queries.{word_of, IsSpelled};
+    ghost use Rattle.cmap_answers.specs.CodeWords.{SpellsNone};
+    ghost use Rattle.cmap_answers.specs.Queries.{word_of, IsSpelled};
 
     /// The query that a word spells. The word `L:HEX` asks for the CID of a code of L bytes, 1 to
     /// 4, in 2L hexadecimal digits, and `bf:HEX` for the text of a code, in 1 to 8 of them. The
@@ -121,7 +121,7 @@ pub enum Asked {
 }
 
 impl Asked {
-    ghost use Rattle.cmap_query.specs.CodeWords.{name_of, HasDigits, IsKnown};
+    ghost use Rattle.cmap_answers.specs.CodeWords.{name_of, HasDigits, IsKnown};
 
     /// What is asked by the part of a word before its colon.
     fn named(name: &str) -> Option<Asked>

@@ -1,6 +1,6 @@
 use Rattle.std.proofs.Common.{refl, string_bytes}
-use Rattle.cmap_query.proofs.OptionFronts.{begin}
-use Rattle.cmap_query.proofs.options.parse_option.Goals as goal
+use Rattle.cmap_answers.proofs.OptionFronts.{begin}
+use Rattle.cmap_answers.proofs.options.parse_option.Goals as goal
 
 pub returns-in-Some : goal.returns-in-Some
 returns-in-Some c =
