@@ -1,0 +1,57 @@
+//! Callers of the library, as the README shows them.
+
+use hayro_cmap::bcmap::Bundle;
+use hayro_cmap::{CMap, CMapName, Cid, load_embedded};
+use std::alloc::{AllocError, Global};
+
+/// The CID of a code of two bytes in a CMap that stands alone.
+pub fn cid_of_two_bytes(alloc: Global, file: &[u8], code: u32) -> Result<Option<Cid>, AllocError> {
+    let no_file: Option<&'static [u8]> = None;
+    let map = CMap::parse(alloc, file, None, &|_name: CMapName<'_>| no_file)?;
+    Ok(map.and_then(|map| map.lookup_cid_code(code, 2)))
+}
+
+/// The CID of a code of two bytes in a CMap that may use the files of a bundle.
+pub fn cid_over_bundle(
+    alloc: Global,
+    bundle: &[u8],
+    file: &[u8],
+    code: u32,
+) -> Result<Option<Cid>, AllocError> {
+    let Some(bundle) = Bundle::parse(alloc, bundle)? else {
+        return Ok(None);
+    };
+    let get_cmap = |name: CMapName<'_>| load_embedded(Some(&bundle), name);
+    let map = CMap::parse(alloc, file, Some(&bundle), &get_cmap)?;
+    Ok(map.and_then(|map| map.lookup_cid_code(code, 2)))
+}
+
+#[cfg(test)]
+mod tests {
+    use super::*;
+    use crate::bundles::{FILE, TABLES};
+    use std::test::Fail;
+
+    #[test]
+    fn a_code_of_two_bytes_has_its_cid(rt: HostRuntime) -> Result<(), Fail> {
+        let file = b"1 begincidrange <0000> <00FF> 100 endcidrange";
+        assert_eq!(rt; cid_of_two_bytes(rt.alloc(), file, 0x41)?, Some(165));
+        assert_eq!(rt; cid_of_two_bytes(rt.alloc(), file, 0x100)?, None);
+        assert_eq!(rt; cid_of_two_bytes(rt.alloc(), b"usecmap", 0x41)?, None);
+        Ok(())
+    }
+
+    #[test]
+    fn a_code_of_two_bytes_has_its_cid_over_a_bundle(rt: HostRuntime) -> Result<(), Fail> {
+        let alloc = rt.alloc();
+        let mut bundle = Vec::from_slice(alloc, TABLES)?;
+        bundle.extend_from_slice(FILE)?;
+        let file = b"/83pv-RKSJ-H usecmap begincidchar <0020> 9 endcidchar";
+        assert_eq!(rt; cid_over_bundle(alloc, &bundle, file, 0x20)?, Some(9));
+        assert_eq!(rt; cid_over_bundle(alloc, &bundle, file, 0x21)?, Some(6));
+        assert_eq!(rt; cid_over_bundle(alloc, &bundle, FILE, 0x20)?, Some(5));
+        assert_eq!(rt; cid_over_bundle(alloc, &bundle, b"usecmap", 0x20)?, None);
+        assert_eq!(rt; cid_over_bundle(alloc, FILE, file, 0x20)?, None);
+        Ok(())
+    }
+}

@@ -1,0 +1,194 @@
+//! The names of the predefined CMaps, families of character collections, and clones of what a CMap
+//! says of itself.
+
+use hayro_cmap::{CMap, CMapName, CharacterCollection, CidFamily, Metadata, WritingMode};
+use std::process::Abort;
+use std::test::Fail;
+
+/// Each known text with its name.
+const KNOWN: &[(&[u8], CMapName<'static>)] = &[
+    (b"83pv-RKSJ-H", CMapName::N83pvRksjH),
+    (b"90ms-RKSJ-H", CMapName::N90msRksjH),
+    (b"90ms-RKSJ-V", CMapName::N90msRksjV),
+    (b"90msp-RKSJ-H", CMapName::N90mspRksjH),
+    (b"90msp-RKSJ-V", CMapName::N90mspRksjV),
+    (b"90pv-RKSJ-H", CMapName::N90pvRksjH),
+    (b"Add-RKSJ-H", CMapName::AddRksjH),
+    (b"Add-RKSJ-V", CMapName::AddRksjV),
+    (b"Adobe-CNS1-UCS2", CMapName::AdobeCns1Ucs2),
+    (b"Adobe-GB1-UCS2", CMapName::AdobeGb1Ucs2),
+    (b"Adobe-Japan1-UCS2", CMapName::AdobeJapan1Ucs2),
+    (b"Adobe-Korea1-UCS2", CMapName::AdobeKorea1Ucs2),
+    (b"B5pc-H", CMapName::B5pcH),
+    (b"B5pc-V", CMapName::B5pcV),
+    (b"CNS-EUC-H", CMapName::CnsEucH),
+    (b"CNS-EUC-V", CMapName::CnsEucV),
+    (b"ETen-B5-H", CMapName::ETenB5H),
+    (b"ETen-B5-V", CMapName::ETenB5V),
+    (b"ETenms-B5-H", CMapName::ETenmsB5H),
+    (b"ETenms-B5-V", CMapName::ETenmsB5V),
+    (b"EUC-H", CMapName::EucH),
+    (b"EUC-V", CMapName::EucV),
+    (b"Ext-RKSJ-H", CMapName::ExtRksjH),
+    (b"Ext-RKSJ-V", CMapName::ExtRksjV),
+    (b"GB-EUC-H", CMapName::GbEucH),
+    (b"GB-EUC-V", CMapName::GbEucV),
+    (b"GBK-EUC-H", CMapName::GbkEucH),
+    (b"GBK-EUC-V", CMapName::GbkEucV),
+    (b"GBK2K-H", CMapName::Gbk2kH),
+    (b"GBK2K-V", CMapName::Gbk2kV),
+    (b"GBKp-EUC-H", CMapName::GbkpEucH),
+    (b"GBKp-EUC-V", CMapName::GbkpEucV),
+    (b"GBpc-EUC-H", CMapName::GbpcEucH),
+    (b"GBpc-EUC-V", CMapName::GbpcEucV),
+    (b"H", CMapName::H),
+    (b"HKscs-B5-H", CMapName::HKscsB5H),
+    (b"HKscs-B5-V", CMapName::HKscsB5V),
+    (b"Identity-H", CMapName::IdentityH),
+    (b"Identity-V", CMapName::IdentityV),
+    (b"KSC-EUC-H", CMapName::KscEucH),
+    (b"KSC-EUC-V", CMapName::KscEucV),
+    (b"KSCms-UHC-H", CMapName::KscmsUhcH),
+    (b"KSCms-UHC-HW-H", CMapName::KscmsUhcHwH),
+    (b"KSCms-UHC-HW-V", CMapName::KscmsUhcHwV),
+    (b"KSCms-UHC-V", CMapName::KscmsUhcV),
+    (b"KSCpc-EUC-H", CMapName::KscpcEucH),
+    (b"UniCNS-UCS2-H", CMapName::UniCnsUcs2H),
+    (b"UniCNS-UCS2-V", CMapName::UniCnsUcs2V),
+    (b"UniCNS-UTF16-H", CMapName::UniCnsUtf16H),
+    (b"UniCNS-UTF16-V", CMapName::UniCnsUtf16V),
+    (b"UniGB-UCS2-H", CMapName::UniGbUcs2H),
+    (b"UniGB-UCS2-V", CMapName::UniGbUcs2V),
+    (b"UniGB-UTF16-H", CMapName::UniGbUtf16H),
+    (b"UniGB-UTF16-V", CMapName::UniGbUtf16V),
+    (b"UniJIS-UCS2-H", CMapName::UniJisUcs2H),
+    (b"UniJIS-UCS2-HW-H", CMapName::UniJisUcs2HwH),
+    (b"UniJIS-UCS2-HW-V", CMapName::UniJisUcs2HwV),
+    (b"UniJIS-UCS2-V", CMapName::UniJisUcs2V),
+    (b"UniJIS-UTF16-H", CMapName::UniJisUtf16H),
+    (b"UniJIS-UTF16-V", CMapName::UniJisUtf16V),
+    (b"UniKS-UCS2-H", CMapName::UniKsUcs2H),
+    (b"UniKS-UCS2-V", CMapName::UniKsUcs2V),
+    (b"UniKS-UTF16-H", CMapName::UniKsUtf16H),
+    (b"UniKS-UTF16-V", CMapName::UniKsUtf16V),
+    (b"V", CMapName::V),
+];
+
+#[test]
+fn a_known_text_has_its_name_and_a_name_its_text(rt: HostRuntime) {
+    assert_eq!(rt; KNOWN.len(), 65);
+    for (text, name) in KNOWN {
+        assert_eq!(rt; CMapName::from_bytes(text), *name);
+        assert!(rt; name.to_bytes() == *text);
+    }
+}
+
+#[test]
+fn any_other_text_is_a_name_by_its_bytes(rt: HostRuntime) {
+    let rows: [&[u8]; 7] = [
+        b"",
+        b"identity-h",
+        b"Identity-",
+        b"Identity-HH",
+        b"/H",
+        b"UniJIS-UTF8-H",
+        b"\xFF\x00",
+    ];
+    for text in rows {
+        assert_eq!(rt; CMapName::from_bytes(text), CMapName::Custom(text));
+        assert!(rt; CMapName::Custom(text).to_bytes() == text);
+    }
+}
+
+#[test]
+fn a_family_has_two_names(rt: HostRuntime) -> Result<(), Fail> {
+    let rows = [
+        (
+            "Japan1",
+            CMapName::UniJisUtf16H,
+            CMapName::AdobeJapan1Ucs2,
+            CidFamily::AdobeJapan1,
+        ),
+        (
+            "GB1",
+            CMapName::UniGbUtf16H,
+            CMapName::AdobeGb1Ucs2,
+            CidFamily::AdobeGB1,
+        ),
+        (
+            "CNS1",
+            CMapName::UniCnsUtf16H,
+            CMapName::AdobeCns1Ucs2,
+            CidFamily::AdobeCNS1,
+        ),
+        (
+            "Korea1",
+            CMapName::UniKsUtf16H,
+            CMapName::AdobeKorea1Ucs2,
+            CidFamily::AdobeKorea1,
+        ),
+    ];
+    for (ordering, unicode, ucs2, family) in rows {
+        let found = CidFamily::from_registry_ordering(rt.alloc(), b"Adobe", ordering.as_bytes())?;
+        assert!(rt; found == family, "{ordering}");
+        assert_eq!(rt; found.unicode_cmap(), Some(unicode));
+        assert_eq!(rt; found.ucs2_cmap(), Some(ucs2));
+        assert!(rt; found.clone(rt.alloc())? == family, "{ordering}");
+    }
+    Ok(())
+}
+
+#[test]
+fn other_families_have_no_names(rt: HostRuntime) -> Result<(), Fail> {
+    let identity = CidFamily::from_registry_ordering(rt.alloc(), b"Adobe", b"Identity")?;
+    assert!(rt; identity == CidFamily::AdobeIdentity);
+    assert_eq!(rt; identity.unicode_cmap(), None);
+    assert_eq!(rt; identity.ucs2_cmap(), None);
+    let rows: [(&[u8], &[u8]); 4] = [
+        (b"Adobe", b"Manga1"),
+        (b"adobe", b"Japan1"),
+        (b"", b"Japan1"),
+        (b"Adobe", b""),
+    ];
+    for (registry, ordering) in rows {
+        let family = CidFamily::from_registry_ordering(rt.alloc(), registry, ordering)?;
+        assert_eq!(rt; family.unicode_cmap(), None);
+        assert_eq!(rt; family.ucs2_cmap(), None);
+        let copy = family.clone(rt.alloc())?;
+        assert!(rt; copy == family);
+        let CidFamily::Custom {
+            registry: first,
+            ordering: second,
+        } = copy
+        else {
+            assert!(rt; false, "a known family of other texts");
+            return Ok(());
+        };
+        assert!(rt; first.as_slice() == registry && second.as_slice() == ordering);
+    }
+    Ok(())
+}
+
+#[test]
+fn clones_are_the_same_again(rt: HostRuntime) -> Result<(), Fail> {
+    let collection = CharacterCollection {
+        family: CidFamily::from_registry_ordering(rt.alloc(), b"Adobe", b"Manga1")?,
+        supplement: -7,
+    };
+    assert!(rt; collection.clone(rt.alloc())? == collection);
+    let name: &[u8] = b"Identity-V";
+    let map = CMap::identity_v(rt.alloc())?;
+    let copy = map.metadata().clone(rt.alloc())?;
+    assert!(rt; copy.character_collection == map.metadata().character_collection);
+    assert_eq!(rt; copy.name.as_ref().map(|name| name.as_slice()), Some(name));
+    assert_eq!(rt; copy.writing_mode, Some(WritingMode::Vertical));
+    let empty = Metadata {
+        character_collection: None,
+        name: None,
+        writing_mode: None,
+    };
+    let copy = empty.clone(rt.alloc())?;
+    assert!(rt; copy.character_collection.is_none() && copy.name.is_none());
+    assert_eq!(rt; copy.writing_mode, None);
+    Ok(())
+}
