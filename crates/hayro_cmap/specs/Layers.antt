@@ -19,10 +19,6 @@ abbrev pub Means : Option PrefixTables → List ℕ → File → Type 0
 Means None bytes file = IsTextFile bytes file
 Means (Some tables) bytes file = (IsMarkedBinary bytes × IsBinaryFile tables bytes file) ⊎ ((IsMarkedBinary bytes → ⊥) × IsTextFile bytes file)
 
--- files in a chain, the top one counted
-abbrev pub most_files : ℕ
-most_files = 16
-
 module _ (means : List ℕ → File → Type 0) (answer : List ℕ → Option (List ℕ) → Type 0) where
   -- the file of these bytes, over the layers of the last file that it uses; each file that it uses has layers, and no chain is longer than this
   abbrev pub AreLayers : ℕ → List ℕ → List Layer → Type 0

@@ -87,7 +87,7 @@ pub(crate) struct ByLength<T> {
 }
 
 /// The declarations of a file by their kinds, each list in the order of the file.
-#[derive(Debug, Drop)]
+#[derive(Drop)]
 pub(crate) struct Lists {
     pub(crate) cids: ByLength<Vec<CidRange>>,
     pub(crate) notdefs: ByLength<Vec<CidRange>>,

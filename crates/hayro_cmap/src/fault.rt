@@ -4,7 +4,7 @@ use cmap_parts::token::Malformed;
 use std::alloc::{AllocError, AllocFailed};
 
 /// Why a file gives no map.
-#[derive(Clone, Copy, Debug, PartialEq, Eq)]
+#[derive(Clone, Copy)]
 pub(crate) enum Fault {
     /// The file is outside the grammar.
     Refused,

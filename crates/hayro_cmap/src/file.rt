@@ -9,7 +9,7 @@ use crate::metadata::Metadata;
 use std::alloc::Global;
 
 /// What one file says, and the names of the files that it uses, in order.
-#[derive(Debug, Drop)]
+#[derive(Drop)]
 pub(crate) struct File<'d> {
     pub(crate) metadata: Metadata,
     pub(crate) lists: Lists,

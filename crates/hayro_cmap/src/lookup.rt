@@ -24,6 +24,7 @@ pub(crate) fn cid_of(layers: &[Layer], code: u32, byte_len: u8, looks: &mut Look
     ensures runs { looks.new.runs ≤ looks.old.runs + cid_looks (layers_seen layers.now) byte_len }
     ensures runs_grow { looks.old.runs ≤ looks.new.runs }
     ensures declarations { looks.new.declarations ≤ looks.old.declarations + 3 * length layers.now }
+    ensures outside { (1 ≤ byte_len → byte_len ≤ 4 → ⊥) → looks.new ≡ looks.old }
     ensures declarations_grow { looks.old.declarations ≤ looks.new.declarations }
     ensures some_run { OnSome result (looks.old.runs + 1 ≤ looks.new.runs) }
     ensures some_declaration { OnSome result (looks.old.declarations + 1 ≤ looks.new.declarations) }

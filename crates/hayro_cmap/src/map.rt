@@ -174,6 +174,9 @@ impl CMap {
 
         // And one declaration for each of a layer's three lists: CIDs, notdef CIDs, texts.
         ensures declarations { looks.new.declarations ≤ looks.old.declarations + 3 * length self.now }
+
+        // Nothing is looked at for a length that no code has.
+        ensures outside { (1 ≤ byte_len → byte_len ≤ 4 → ⊥) → looks.new ≡ looks.old }
         ensures declarations_grow { looks.old.declarations ≤ looks.new.declarations }
 
         // An answer comes from a run and from a declaration.

@@ -14,14 +14,14 @@ use cmap_parts::prefix::PrefixTable;
 use std::alloc::{AllocError, Global};
 
 /// Whether the entries of a segment are ranges, or single codes.
-#[derive(Clone, Copy, Debug)]
+#[derive(Clone, Copy)]
 pub(crate) enum Shape {
     Ranges,
     Singles,
 }
 
 /// Where the codes of all entries lie, and the bytes behind these columns.
-#[derive(Debug, Drop)]
+#[derive(Drop)]
 pub(super) struct Columns<'b> {
     /// How many codes each entry leaves out behind the end of the one before.
     pub(super) deltas: Vec<u32>,

@@ -9,7 +9,7 @@ ghost use Rattle.hayro_cmap.specs.BinarySeen.{kind_seen};
 use super::columns::Shape;
 
 /// What a segment holds.
-#[derive(Clone, Copy, Debug)]
+#[derive(Clone, Copy)]
 pub(super) enum Kind {
     /// CIDs for codes of `len` bytes.
     Cids { shape: Shape, len: u8 },
