@@ -57,18 +57,12 @@ fn bytes_up_to_one_that_is_not_taken(rt: HostRuntime) {
         );
         assert_eq!(rt; reader.position(), eaten.len(), "up to {stop}");
     }
-    let mut reader = Reader::new(&[12, 0x80]);
-    assert_eq!(rt; reader.eat_until(|byte| byte > 12), [12].as_slice());
-    assert_eq!(rt; reader.read_bit(), Some(1));
-    assert_eq!(rt; reader.position(), 1);
-    assert!(rt; !reader.at_byte());
-    assert!(rt; !reader.at_end());
 }
 
 #[test]
 fn bits_come_from_the_high_one_on(rt: HostRuntime) {
     let mut reader = Reader::new(&[1, 2, 3]);
-    assert_eq!(rt; reader.eat_until(|byte| byte == 3), [1, 2].as_slice());
+    assert_eq!(rt; reader.eat_until(|byte| byte > 2), [1, 2].as_slice());
     for (i, bit) in [0, 0, 0, 0, 0, 0, 1, 1].into_iter().enumerate() {
         assert_eq!(rt; reader.position(), 2, "bit {i}");
         assert_eq!(rt; reader.at_byte(), i == 0, "bit {i}");

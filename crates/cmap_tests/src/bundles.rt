@@ -2,7 +2,6 @@
 
 use hayro_cmap::CMapName;
 use hayro_cmap::bcmap::{Bundle, load_embedded};
-use std::process::Abort;
 use std::test::Fail;
 
 /// A bundle without files: a table of two deltas, 0x20 and 0, and an empty table of counts.

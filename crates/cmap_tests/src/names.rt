@@ -2,7 +2,6 @@
 //! says of itself.
 
 use hayro_cmap::{CMap, CMapName, CharacterCollection, CidFamily, Metadata, WritingMode};
-use std::process::Abort;
 use std::test::Fail;
 
 /// Each known text with its name.
@@ -101,71 +100,32 @@ fn any_other_text_is_a_name_by_its_bytes(rt: HostRuntime) {
 }
 
 #[test]
-fn a_family_has_two_names(rt: HostRuntime) -> Result<(), Fail> {
+fn a_family_has_its_variant(rt: HostRuntime) -> Result<(), Fail> {
     let rows = [
-        (
-            "Japan1",
-            CMapName::UniJisUtf16H,
-            CMapName::AdobeJapan1Ucs2,
-            CidFamily::AdobeJapan1,
-        ),
-        (
-            "GB1",
-            CMapName::UniGbUtf16H,
-            CMapName::AdobeGb1Ucs2,
-            CidFamily::AdobeGB1,
-        ),
-        (
-            "CNS1",
-            CMapName::UniCnsUtf16H,
-            CMapName::AdobeCns1Ucs2,
-            CidFamily::AdobeCNS1,
-        ),
-        (
-            "Korea1",
-            CMapName::UniKsUtf16H,
-            CMapName::AdobeKorea1Ucs2,
-            CidFamily::AdobeKorea1,
-        ),
+        ("Japan1", CidFamily::AdobeJapan1),
+        ("GB1", CidFamily::AdobeGB1),
+        ("CNS1", CidFamily::AdobeCNS1),
+        ("Korea1", CidFamily::AdobeKorea1),
+        ("Identity", CidFamily::AdobeIdentity),
     ];
-    for (ordering, unicode, ucs2, family) in rows {
+    for (ordering, family) in rows {
         let found = CidFamily::from_registry_ordering(rt.alloc(), b"Adobe", ordering.as_bytes())?;
         assert!(rt; found == family, "{ordering}");
-        assert_eq!(rt; found.unicode_cmap(), Some(unicode));
-        assert_eq!(rt; found.ucs2_cmap(), Some(ucs2));
         assert!(rt; found.clone(rt.alloc())? == family, "{ordering}");
     }
     Ok(())
 }
 
 #[test]
-fn other_families_have_no_names(rt: HostRuntime) -> Result<(), Fail> {
-    let identity = CidFamily::from_registry_ordering(rt.alloc(), b"Adobe", b"Identity")?;
-    assert!(rt; identity == CidFamily::AdobeIdentity);
-    assert_eq!(rt; identity.unicode_cmap(), None);
-    assert_eq!(rt; identity.ucs2_cmap(), None);
-    let rows: [(&[u8], &[u8]); 4] = [
-        (b"Adobe", b"Manga1"),
-        (b"adobe", b"Japan1"),
-        (b"", b"Japan1"),
-        (b"Adobe", b""),
-    ];
-    for (registry, ordering) in rows {
-        let family = CidFamily::from_registry_ordering(rt.alloc(), registry, ordering)?;
-        assert_eq!(rt; family.unicode_cmap(), None);
-        assert_eq!(rt; family.ucs2_cmap(), None);
-        let copy = family.clone(rt.alloc())?;
-        assert!(rt; copy == family);
-        let CidFamily::Custom {
-            registry: first,
-            ordering: second,
-        } = copy
-        else {
-            assert!(rt; false, "a known family of other texts");
-            return Ok(());
-        };
-        assert!(rt; first.as_slice() == registry && second.as_slice() == ordering);
-    }
+fn any_other_family_has_its_texts(rt: HostRuntime) -> Result<(), Fail> {
+    let family = CidFamily::from_registry_ordering(rt.alloc(), b"adobe", b"Japan1")?;
+    let copy = family.clone(rt.alloc())?;
+    assert!(rt; copy == family);
+    let CidFamily::Custom { registry, ordering } = copy else {
+        return Err("a known family")?;
+    };
+    assert_eq!(rt; registry.as_slice(), b"adobe".as_slice());
+    assert_eq!(rt; ordering.as_slice(), b"Japan1".as_slice());
     Ok(())
 }
 

@@ -12,6 +12,16 @@ use hayro_cmap::{BfString, CMap, CMapName, ParseError};
 use std::alloc::Global;
 use std::test::Fail;
 
+/// What a call answers. Where memory was refused, it is made once more.
+macro_rules! answer_of {
+    ($call:expr) => {
+        match $call {
+            Ok(answer) => answer,
+            Err(_) => $call?,
+        }
+    };
+}
+
 #[test]
 fn a_string_that_is_decoded_again(rt: HostRuntime) -> Result<(), Fail> {
     let Ok(Some(Token::String(string))) = Scanner::new(b"(a\\)b(c)\\1234\\q)").next_token() else {
@@ -47,9 +57,9 @@ fn a_prefix_table_that_is_read_again(rt: HostRuntime) -> Result<(), Fail> {
 fn a_text_that_is_made_again(rt: HostRuntime) -> Result<(), Fail> {
     let alloc = rt.alloc();
     let bytes = b"\0\x66\0\x66";
-    let units = units(alloc, bytes).or_else(|_| units(alloc, bytes))?;
+    let units = answer_of!(units(alloc, bytes));
     assert_eq!(rt; units.as_slice(), [0x66, 0x66].as_slice());
-    let text = text(alloc, &units, 0).or_else(|_| text(alloc, &units, 0))?;
+    let text = answer_of!(text(alloc, &units, 0));
     let Some(BfString::String(characters)) = text else {
         return Err("no string")?;
     };
@@ -61,7 +71,7 @@ fn a_text_that_is_made_again(rt: HostRuntime) -> Result<(), Fail> {
 fn a_file_that_is_read_again(rt: HostRuntime) -> Result<(), Fail> {
     let alloc = rt.alloc();
     let file = b"begincidrange <0000> <00FF> 0 <0010> <0020> 1000 <0018> <0018> 5 endcidrange";
-    let map = map_of(alloc, file).or_else(|_| map_of(alloc, file))?;
+    let map = answer_of!(map_of(alloc, file));
     let map = map.expect(&rt, "refused");
     for (code, cid) in [(0x17, 1007), (0x18, 5), (0x19, 1009), (0x21, 33)] {
         assert_eq!(rt; map.lookup_cid_code(code, 2), Some(cid), "{code:#X}");
@@ -74,7 +84,7 @@ fn a_file_over_another_that_is_read_again(rt: HostRuntime) -> Result<(), Fail> {
     let alloc = rt.alloc();
     let file = b"/B usecmap beginbfchar <01> <D800> endbfchar";
     let base = b"beginbfchar <01> <0041> endbfchar";
-    let map = map_over(alloc, None, file, base).or_else(|_| map_over(alloc, None, file, base))?;
+    let map = answer_of!(map_over(alloc, None, file, base));
     let map = map.expect(&rt, "refused");
     assert!(rt; map.lookup_bf_string(alloc, 1)?.is_none());
     assert_eq!(rt; map.lookup_cid_code(1, 1), Some(65));
@@ -86,9 +96,9 @@ fn a_map_that_is_cloned_again(rt: HostRuntime) -> Result<(), Fail> {
     let alloc = rt.alloc();
     let file = b"/CMapName /A def /B usecmap beginbfchar <01> <0041> endbfchar";
     let base = b"begincidrange <0000> <00FF> 9 endcidrange";
-    let map = map_over(alloc, None, file, base).or_else(|_| map_over(alloc, None, file, base))?;
+    let map = answer_of!(map_over(alloc, None, file, base));
     let map = map.expect(&rt, "refused");
-    let copy = map.clone(alloc).or_else(|_| map.clone(alloc))?;
+    let copy = answer_of!(map.clone(alloc));
     assert_eq!(rt; copy.lookup_cid_code(0x20, 2), Some(41));
     Ok(())
 }
@@ -116,17 +126,15 @@ fn files_within_a_budget_that_are_read_again(rt: HostRuntime) -> Result<(), Fail
 #[test]
 fn binary_files_that_are_read_again(rt: HostRuntime) -> Result<(), Fail> {
     let alloc = rt.alloc();
-    let bundle = Bundle::parse(alloc, TABLES).or_else(|_| Bundle::parse(alloc, TABLES))?;
+    let bundle = answer_of!(Bundle::parse(alloc, TABLES));
     let bundle = bundle.expect(&rt, "refused");
     let bundle = Some(&bundle);
     let file = b"/H usecmap begincidchar <0020> 9 endcidchar";
-    let map = map_over(alloc, bundle, file, FILE)
-        .or_else(|_| map_over(alloc, bundle, file, FILE))?
-        .expect(&rt, "refused");
+    let map = answer_of!(map_over(alloc, bundle, file, FILE)).expect(&rt, "refused");
     assert_eq!(rt; map.lookup_cid_code(0x20, 2), Some(9));
     assert_eq!(rt; map.lookup_cid_code(0x21, 2), Some(6));
     let cut = FILE.get(..25).expect(&rt, "so many bytes");
-    let map = map_over(alloc, bundle, cut, FILE).or_else(|_| map_over(alloc, bundle, cut, FILE))?;
+    let map = answer_of!(map_over(alloc, bundle, cut, FILE));
     assert!(rt; map.is_none());
     Ok(())
 }
@@ -135,7 +143,7 @@ fn binary_files_that_are_read_again(rt: HostRuntime) -> Result<(), Fail> {
 fn a_refused_file_that_is_read_again(rt: HostRuntime) -> Result<(), Fail> {
     let alloc = rt.alloc();
     let file = b"begincidrange <0000> <00FF> 0 <0010> <0020> 1000 endcidrange )";
-    let map = map_of(alloc, file).or_else(|_| map_of(alloc, file))?;
+    let map = answer_of!(map_of(alloc, file));
     assert!(rt; map.is_none());
     Ok(())
 }
@@ -143,7 +151,7 @@ fn a_refused_file_that_is_read_again(rt: HostRuntime) -> Result<(), Fail> {
 #[test]
 fn an_identity_map_that_is_made_again(rt: HostRuntime) -> Result<(), Fail> {
     let alloc = rt.alloc();
-    let map = CMap::identity_v(alloc).or_else(|_| CMap::identity_v(alloc))?;
+    let map = answer_of!(CMap::identity_v(alloc));
     assert_eq!(rt; map.lookup_cid_code(0xFFFF, 2), Some(65535));
     Ok(())
 }

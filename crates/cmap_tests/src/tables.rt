@@ -4,7 +4,7 @@ use cmap_parts::runs::{HasRange, Looks, Range, Table};
 use std::alloc::{AllocError, Global};
 use std::test::Fail;
 
-#[derive(Debug, Drop)]
+#[derive(Drop)]
 struct Declared {
     range: Range,
 }
