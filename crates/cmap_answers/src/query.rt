@@ -1,6 +1,6 @@
 //! The words of the command line.
 
-ghost use Rattle.std.specs.Prelude.{◌≡◌, ◌≢◌, ◌^◌, ◌<◌, [], ◌⊎◌, ◌↔◌, IsNone, IsTrue, IfSome, IfOk, IfErr, IsErrOf, All, Any, map, string_bytes};
+ghost use Rattle.std.specs.Prelude.{◌≡◌, ◌≢◌, ◌^◌, ◌<◌, [], ◌⊎◌, ◌↔◌, IsNone, IsTrue, IfSome, IfOk, IfErr, IsErrOf, All, Any, length, map, string_bytes};
 ghost use Rattle.std.specs.Option.{SomeIff};
 ghost use Rattle.std.specs.Str.Parse.{IsNumeral, digits_value};
 
@@ -25,6 +25,7 @@ impl<'a> Request<'a> {
         ensures words { IfOk result
             (λ request. map word_of request.queries.items ≡ map string_bytes words.now) }
         ensures spelled { IfOk result (λ request. All IsSpelled request.queries.items) }
+        ensures some { IfOk result (λ request. 0 < length request.queries.items) }
         ensures usage { IsErrOf result Failure.Usage →
             (words.now ≡ []) ⊎ Any (λ word. SpellsNone (string_bytes word)) words.now }
         ensures failures { IfErr result

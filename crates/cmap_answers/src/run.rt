@@ -45,7 +45,7 @@ fn answer<R: Read, W: Write>(
     let bytes = read_all(alloc, input)?;
     let map = map_of(alloc, options, &bytes)?;
     let lines = answers(alloc, &map, &request.queries)?;
-    send(out, lines.as_str()).map_err(|_| Failure::Unreadable)
+    Ok(send(out, lines.as_str())?)
 }
 
 /// The map of the input: of all its bytes, or of those behind the bundle.

@@ -1,6 +1,6 @@
 //! Texts in UTF-16, as The Unicode Standard, 3.9, D91 defines it.
 
-ghost use Rattle.std.specs.Prelude.{◌≡◌, ℕ, List, [], ◌∷◌, ◌<◌, ◌≤◌, true, length, Some, IfOk, OnErr, IfSome, IsSomeAnd, MatchOption, option_map, is_some};
+ghost use Rattle.std.specs.Prelude.{◌≡◌, ℕ, ◌/◌, ◌%◌, ◌^◌, List, [], ◌∷◌, ◌<◌, ◌≤◌, true, length, Some, IfOk, OnErr, IfSome, IsSomeAnd, MatchOption, option_map, is_some};
 ghost use Rattle.std.specs.Char.{IsScalar};
 ghost use Rattle.std.specs.Char.Utf16.{utf16_chars, lone_unit_char};
 ghost use Rattle.std.specs.List.{filter_map, list_all};
@@ -62,12 +62,16 @@ pub fn units(alloc: Global, bytes: &[u8]) -> Result<Vec<u16>, AllocError>
     Ok(units)
 }
 
-/// The same of one to four bytes, where this number is what they write, the high one first.
+/// The units of a destination of `len` bytes, one to four, where `number` is what these write, the
+/// high one first. For any other length or number it gives one unit, up to a length of two, or two.
 ///
 /// It fails only where there is no memory.
 pub fn number_units(alloc: Global, len: u8, number: u32) -> Result<Vec<u16>, AllocError>
-    ensures { (bytes : List ℕ) → AreBytes bytes → 1 ≤ len → len ≤ 4 → len ≡ length bytes
+    ensures value { (bytes : List ℕ) → AreBytes bytes → 1 ≤ len → len ≤ 4 → len ≡ length bytes
         → number ≡ big_endian bytes → IfOk result (λ v. v.items ≡ units_of bytes) }
+    ensures one { len ≤ 2 → IfOk result (λ v. v.items ≡ number % 2 ^ 16 ∷ []) }
+    ensures two { 2 < len
+        → IfOk result (λ v. v.items ≡ number / 2 ^ 16 ∷ number % 2 ^ 16 ∷ []) }
 {
     let (high, low) = ((number / 0x1_0000) as u16, (number % 0x1_0000) as u16);
     if len <= 2 {

@@ -1,0 +1,175 @@
+//! CMap files over other files, and bundles.
+
+ghost use Rattle.std.specs.Prelude.{◌≡◌};
+ghost use Rattle.std.specs.Option.{option_copied};
+ghost use Rattle.cmap_vectors.specs.NamedFiles.{file_in};
+
+use crate::escapes::{push_escaped, unescaped};
+use crate::fault::Fault;
+use crate::spelled::number;
+use hayro_cmap::bcmap::{Bundle, load_embedded};
+use hayro_cmap::{CMap, CMapName, ParseError};
+use std::alloc::{AllocError, Global};
+use std::cell::Cell;
+
+/// A name and the file that stands behind it.
+pub type NamedFile<'a> = (&'a [u8], &'a [u8]);
+
+/// What comes of a file.
+#[derive(Drop)]
+pub enum Outcome {
+    /// It is accepted.
+    Map(CMap),
+    /// It is refused.
+    Refused,
+    /// The files have more bytes than the budget.
+    OverBudget,
+    /// What stands for a bundle is none.
+    NoBundle,
+}
+
+impl Outcome {
+    /// The words for it.
+    pub fn words(&self) -> &'static str {
+        match self {
+            Outcome::Map(_) => "accepted",
+            Outcome::Refused => "refused",
+            Outcome::OverBudget => "over budget",
+            Outcome::NoBundle => "no bundle",
+        }
+    }
+}
+
+/// What a file may use.
+#[derive(Drop)]
+pub struct Around<'a> {
+    /// The bytes of a bundle.
+    pub bundle: Option<&'a [u8]>,
+    /// Files behind names. Where there are any, those of the bundle stand behind none.
+    pub bases: Vec<NamedFile<'a>>,
+    /// How many bytes the files may have together.
+    pub budget: Option<u64>,
+}
+
+impl Around<'_> {
+    /// What comes of a file, and how many files were asked for.
+    pub fn read(&self, alloc: Global, file: &[u8]) -> Result<(Outcome, u32), AllocError> {
+        let Some(bytes) = self.bundle else {
+            return self.read_over_bases(alloc, file, None);
+        };
+        match Bundle::parse(alloc, bytes)? {
+            None => Ok((Outcome::NoBundle, 0)),
+            Some(bundle) if self.bases.is_empty() => self.read_over_bundle(alloc, file, &bundle),
+            Some(bundle) => self.read_over_bases(alloc, file, Some(&bundle)),
+        }
+    }
+
+    /// Reads a file where the files of the bundle stand behind their names.
+    fn read_over_bundle(
+        &self,
+        alloc: Global,
+        file: &[u8],
+        bundle: &Bundle<'_>,
+    ) -> Result<(Outcome, u32), AllocError> {
+        let count = Cell::new(0u32);
+        let get_cmap = |name: CMapName<'_>| {
+            count.set(count.get().wrapping_add(1));
+            load_embedded(Some(bundle), name)
+        };
+        let map = CMap::parse_within(alloc, self.budget, file, Some(bundle), &get_cmap);
+        Ok((outcome_of(map)?, count.get()))
+    }
+
+    /// Reads a file where the bases stand behind their names.
+    fn read_over_bases(
+        &self,
+        alloc: Global,
+        file: &[u8],
+        bundle: Option<&Bundle<'_>>,
+    ) -> Result<(Outcome, u32), AllocError> {
+        let bases = self.bases.as_slice();
+        let count = Cell::new(0u32);
+        let get_cmap = |name: CMapName<'_>| {
+            count.set(count.get().wrapping_add(1));
+            file_of(bases, name.to_bytes())
+        };
+        let map = CMap::parse_within(alloc, self.budget, file, bundle, &get_cmap);
+        Ok((outcome_of(map)?, count.get()))
+    }
+}
+
+/// What a result means; want of memory is none.
+fn outcome_of(map: Result<Option<CMap>, ParseError>) -> Result<Outcome, AllocError> {
+    match map {
+        Ok(Some(map)) => Ok(Outcome::Map(map)),
+        Ok(None) => Ok(Outcome::Refused),
+        Err(ParseError::OverBudget) => Ok(Outcome::OverBudget),
+        Err(ParseError::Memory) => Err(AllocError),
+    }
+}
+
+/// The first file with a name.
+fn file_of<'x>(files: &'x [NamedFile<'x>], name: &[u8]) -> Option<&'x [u8]>
+    ensures { option_copied result ≡ file_in files.now name.now }
+{
+    for entry in files {
+        if entry.0 == name {
+            return Some(entry.1);
+        }
+    }
+    None
+}
+
+/// Whether bytes are a bundle.
+pub fn outcome_of_bundle(alloc: Global, bytes: &[u8]) -> Result<&'static str, Fault> {
+    match Bundle::parse(alloc, bytes)? {
+        Some(_) => Ok("accepted"),
+        None => Ok("refused"),
+    }
+}
+
+/// Adds the file at the place of the name that a line begins with.
+pub fn push_held(
+    alloc: Global,
+    bundle: &[u8],
+    word: &str,
+    rest: &str,
+    line: &mut String,
+) -> Result<(), Fault> {
+    let (asked, _) = rest.split_once(' ').ok_or(Fault::Wrong("holds NAME .."))?;
+    if word != "holds" {
+        return Err(Fault::Wrong("an unknown word"));
+    }
+    let name = unescaped(alloc, asked)?;
+    let bundle = Bundle::parse(alloc, bundle)?;
+    write!(line, " {asked} ")?;
+    match load_embedded(bundle.as_ref(), CMapName::from_bytes(&name)) {
+        Some(file) => Ok(push_escaped(file, line)?),
+        None => Ok(line.push_str("none")?),
+    }
+}
+
+/// Adds the budget that a line has, if the files of a file stay within it and pass one byte less.
+pub fn push_least_budget(
+    alloc: Global,
+    mut around: Around<'_>,
+    file: &[u8],
+    rest: &str,
+    line: &mut String,
+) -> Result<(), Fault> {
+    let least = number(
+        rest.strip_prefix("budget ")
+            .ok_or(Fault::Wrong("least budget N"))?,
+    )?;
+    around.budget = Some(least);
+    let is_too_small = matches!(around.read(alloc, file)?, (Outcome::OverBudget, _));
+    around.budget = least.checked_sub(1);
+    let is_least = least == 0 || matches!(around.read(alloc, file)?, (Outcome::OverBudget, _));
+    write!(line, " budget {least}")?;
+    if is_too_small {
+        line.push_str(" too small")?;
+    } else if !is_least {
+        line.push_str(" too large")?;
+    }
+    Ok(())
+}

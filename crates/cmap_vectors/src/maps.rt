@@ -1,0 +1,182 @@
+//! What is asked of a map.
+
+use crate::escapes::push_escaped;
+use crate::fault::Fault;
+use crate::ranges::code_of;
+use hayro_cmap::runs::Looks;
+use hayro_cmap::{BfString, CMap, CMapName, CidFamily, WritingMode};
+use std::alloc::{AllocError, Global};
+
+/// The words that ask something of a map.
+pub const QUESTIONS: [&str; 8] = [
+    "cid",
+    "strict",
+    "bf",
+    "name",
+    "mode",
+    "collection",
+    "unicode",
+    "ucs2",
+];
+
+/// Adds what a word asks of a map, and sees that a copy of it answers the same.
+pub fn push_answer(
+    alloc: Global,
+    map: &CMap,
+    word: &str,
+    rest: &str,
+    line: &mut String,
+) -> Result<(), Fault> {
+    let mut copied = line.clone()?;
+    push_answer_alone(alloc, map, word, rest, line)?;
+    push_answer_alone(alloc, &map.clone(alloc)?, word, rest, &mut copied)?;
+    if copied.as_str() != line.as_str() {
+        line.push_str(" unlike")?;
+    }
+    Ok(())
+}
+
+fn push_answer_alone(
+    alloc: Global,
+    map: &CMap,
+    word: &str,
+    rest: &str,
+    line: &mut String,
+) -> Result<(), Fault> {
+    let family = map
+        .metadata()
+        .character_collection
+        .as_ref()
+        .map(|c| &c.family);
+    match word {
+        "cid" | "strict" => push_cids(map, word, rest, line)?,
+        "bf" => push_text_of(alloc, map, rest, line)?,
+        "name" => push_name(map, line)?,
+        "mode" => push_mode(map, line)?,
+        "collection" => push_collection(map, line)?,
+        "unicode" => push_predefined(family.and_then(|family| family.unicode_cmap()), line)?,
+        "ucs2" => push_predefined(family.and_then(|family| family.ucs2_cmap()), line)?,
+        _ => return Err(Fault::Wrong("an unknown word")),
+    }
+    Ok(())
+}
+
+/// Adds the codes of a line, each with its CID.
+fn push_cids(map: &CMap, word: &str, rest: &str, line: &mut String) -> Result<(), Fault> {
+    let mut words = rest.split_whitespace();
+    let fault = Fault::Wrong("a code without its answer");
+    for _ in 0..rest.len() {
+        let Some(code) = words.next() else {
+            break;
+        };
+        words.next().ok_or(fault)?;
+        push_cid(map, word, code, line)?;
+    }
+    if rest.is_empty() { Err(fault) } else { Ok(()) }
+}
+
+/// Adds a code as `2:0041` with its CID.
+fn push_cid(map: &CMap, word: &str, asked: &str, line: &mut String) -> Result<(), Fault> {
+    let fault = Fault::Wrong("a code is LENGTH:DIGITS");
+    let (len, digits) = asked.split_once(':').ok_or(fault)?;
+    let len = u8::from_str_radix(len, 10).map_err(|_| fault)?;
+    let code = code_of(digits)?;
+    let plain = map.lookup_cid_code(code, len);
+    let counted = map.lookup_cid_counted(code, len, &mut Looks::new());
+    let strict = map.lookup_cid_code_strict(code, len);
+    match if word == "strict" { strict } else { plain } {
+        Some(cid) => write!(line, " {asked} {cid}")?,
+        None => write!(line, " {asked} none")?,
+    }
+    if counted != plain || (strict.is_some() && strict != plain) {
+        line.push_str(" unlike")?;
+    }
+    Ok(())
+}
+
+/// Adds the code that a line begins with, and its text.
+fn push_text_of(alloc: Global, map: &CMap, rest: &str, line: &mut String) -> Result<(), Fault> {
+    let (digits, _) = rest.split_once(' ').ok_or(Fault::Wrong("bf DIGITS .."))?;
+    let code = code_of(digits)?;
+    let found = map.lookup_bf_string(alloc, code)?;
+    write!(line, " {digits}")?;
+    push_text(found.as_ref(), line)?;
+    let counted = map.lookup_bf_counted(alloc, code, &mut Looks::new())?;
+    let copied = match &found {
+        Some(text) => Some(text.clone(alloc)?),
+        None => None,
+    };
+    if counted != found || copied != found {
+        line.push_str(" unlike")?;
+    }
+    Ok(())
+}
+
+/// Adds the characters of a text; a string of fewer than two is none that there can be.
+pub fn push_text(text: Option<&BfString>, line: &mut String) -> Result<(), AllocError> {
+    match text {
+        Some(BfString::Char(character)) => push_character(*character, line),
+        Some(BfString::String(text)) => push_characters(text.as_str(), line),
+        None => line.push_str(" none"),
+    }
+}
+
+fn push_characters(text: &str, line: &mut String) -> Result<(), AllocError> {
+    for character in text.chars() {
+        push_character(character, line)?;
+    }
+    if text.chars().count() < 2 {
+        line.push_str(" unlike")?;
+    }
+    Ok(())
+}
+
+fn push_character(character: char, line: &mut String) -> Result<(), AllocError> {
+    write!(line, " U+{:04X}", u32::from(character))
+}
+
+fn push_name(map: &CMap, line: &mut String) -> Result<(), AllocError> {
+    let Some(name) = &map.metadata().name else {
+        return line.push_str(" none");
+    };
+    line.push_str(" /")?;
+    push_escaped(name, line)
+}
+
+fn push_mode(map: &CMap, line: &mut String) -> Result<(), AllocError> {
+    line.push_str(match map.metadata().writing_mode {
+        Some(WritingMode::Horizontal) => " horizontal",
+        Some(WritingMode::Vertical) => " vertical",
+        None => " none",
+    })
+}
+
+fn push_collection(map: &CMap, line: &mut String) -> Result<(), AllocError> {
+    let Some(collection) = &map.metadata().character_collection else {
+        return line.push_str(" none");
+    };
+    match &collection.family {
+        CidFamily::AdobeJapan1 => line.push_str(" Adobe-Japan1")?,
+        CidFamily::AdobeGB1 => line.push_str(" Adobe-GB1")?,
+        CidFamily::AdobeCNS1 => line.push_str(" Adobe-CNS1")?,
+        CidFamily::AdobeKorea1 => line.push_str(" Adobe-Korea1")?,
+        CidFamily::AdobeIdentity => line.push_str(" Adobe-Identity")?,
+        CidFamily::Custom { registry, ordering } => {
+            line.push_str(" (")?;
+            push_escaped(registry, line)?;
+            line.push_str(") (")?;
+            push_escaped(ordering, line)?;
+            line.push(')')?;
+        }
+    }
+    write!(line, " {}", collection.supplement)
+}
+
+/// Adds the name of a predefined map.
+fn push_predefined(name: Option<CMapName<'_>>, line: &mut String) -> Result<(), AllocError> {
+    line.push(' ')?;
+    match name {
+        Some(name) => push_escaped(name.to_bytes(), line),
+        None => line.push_str("none"),
+    }
+}

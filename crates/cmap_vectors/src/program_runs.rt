@@ -1,0 +1,58 @@
+//! Whole runs of `cmap_query`, over an input and writers in memory.
+
+use crate::escapes::unescaped;
+use crate::fault::Fault;
+use cmap_answers::run::run;
+use std::alloc::{AllocError, Global};
+
+/// Adds how a run on these words and this input ends, and the lines that it writes.
+pub fn push_answer(
+    alloc: Global,
+    words: &str,
+    input: &[u8],
+    word: &str,
+    line: &mut String,
+) -> Result<(), Fault> {
+    if word != "ends" {
+        return Err(Fault::Wrong("an unknown word"));
+    }
+    let words = words_of(alloc, words)?;
+    let mut rest = input;
+    let mut out = Vec::new(alloc);
+    let mut err = Vec::new(alloc);
+    let status = run(alloc, &words, &mut rest, &mut out, &mut err);
+    write!(line, " {status}")?;
+    push_lines(out, line)?;
+    push_lines(err, line)?;
+    if !input.is_empty() && rest.len() == input.len() {
+        line.push_str(" unread")?;
+    }
+    Ok(())
+}
+
+/// The words of a line, of which `""` is the empty one.
+fn words_of(alloc: Global, line: &str) -> Result<Vec<String>, Fault> {
+    let mut words = Vec::new(alloc);
+    for word in line.split_whitespace() {
+        let bytes = unescaped(alloc, if word == "\"\"" { "" } else { word })?;
+        words.push(text_of(bytes)?)?;
+    }
+    Ok(words)
+}
+
+fn text_of(bytes: Vec<u8>) -> Result<String, Fault> {
+    String::from_utf8(bytes).map_err(|_| Fault::Wrong("bytes that are no text"))
+}
+
+/// Adds lines, parted by ` / `. A last one without an end is told.
+fn push_lines(bytes: Vec<u8>, line: &mut String) -> Result<(), Fault> {
+    let text = text_of(bytes)?;
+    for (i, part) in text.lines().enumerate() {
+        line.push_str(if i == 0 { " " } else { " / " })?;
+        line.push_str(part)?;
+    }
+    if !text.is_empty() && !text.as_str().ends_with('\n') {
+        line.push_str(" cut")?;
+    }
+    Ok(())
+}
