@@ -1,7 +1,6 @@
 //! Files of many ranges.
 
-use crate::files::map_of;
-use hayro_cmap::Cid;
+use hayro_cmap::{CMap, CMapName, Cid};
 use std::process::Abort;
 use std::test::Fail;
 
@@ -11,7 +10,14 @@ fn assert_cids(
     file: &str,
     answers: &[(u32, Option<Cid>)],
 ) -> Result<(), Fail> {
-    let map = map_of(rt.alloc(), file.as_bytes())?.expect(rt, "refused");
+    let no_file: Option<&'static [u8]> = None;
+    let map = CMap::parse(
+        rt.alloc(),
+        file.as_bytes(),
+        None,
+        &|_name: CMapName<'_>| no_file,
+    )?
+    .expect(rt, "refused");
     for (code, cid) in answers {
         assert_eq!(rt; map.lookup_cid_code(*code, 4), *cid, "{code}");
     }

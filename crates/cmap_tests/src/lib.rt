@@ -1,6 +1,6 @@
 //! What rows of data can't show: the callers of the README with their tests, and tests of readers and
-//! writers that fail, of refused memory, of the order of calls, of names and families by their
-//! variants, and of tables over a type of one's own.
+//! writers that fail, of the order of calls, of names and families by their variants, and of tables
+//! over a type of one's own.
 #![tactic(auto)]
 
 #[cfg(test)]
@@ -15,13 +15,9 @@ pub mod caller;
 #[cfg(test)]
 mod cid_ranges;
 #[cfg(test)]
-mod files;
-#[cfg(test)]
 mod names;
 #[cfg(test)]
 mod program_runs;
-#[cfg(test)]
-mod refused_memory;
 #[cfg(test)]
 mod tables;
 #[cfg(test)]

@@ -1,4 +1,4 @@
-//! Runs of `cmap_query` over readers and writers that fail or are slow, and where memory is refused.
+//! Runs of `cmap_query` over readers and writers that fail or are slow.
 
 use cmap_answers::failure::Failure;
 use cmap_answers::run::{report, run};
@@ -8,12 +8,6 @@ use std::test::Fail;
 
 /// The codes of two bytes from 0000 to 00FF stand for the CIDs from 0 on.
 const TWO_BYTE_RANGE: &str = "1 begincidrange <0000> <00FF> 0 endcidrange";
-
-/// A bundle of 61 bytes: tables of two deltas and no count, and the file of 83pv-RKSJ-H, a text of
-/// 41 bytes whose first ten begin a comment. Behind it stands a file that uses that one.
-const USE_OVER_BUNDLE: &str = "\0\0\0\x10\0\x02\x01\0\x02\0\0\0\x20\0\0\0\0\0\0\0\
-    %xxxxx\0\0\0\x29\nbegincidchar <20> 9 endcidchar\
-    /83pv-RKSJ-H usecmap";
 
 /// What a run leaves.
 #[derive(Drop)]
@@ -215,28 +209,4 @@ fn a_failure_that_cannot_be_told_keeps_its_status(rt: HostRuntime) {
     assert_eq!(rt; report(Failure::Usage, &mut err), 2);
     assert_eq!(rt; report(Failure::Unreadable, &mut err), 4);
     assert!(rt; err.taken.is_empty());
-}
-
-/// To be run by `rt try --test --fail-alloc N`, for each N from 1 on.
-#[test]
-fn a_refused_growth_gives_no_other_answer(rt: HostRuntime) -> Result<(), Fail> {
-    let file = "begincidchar <0041> 65 endcidchar beginbfchar <41> <00660066> endbfchar";
-    let rows: [(&[&str], &str, &str); 2] = [
-        (
-            &["2:0041", "2:0100", "bf:41"],
-            file,
-            "cid 2:0041 65\ncid 2:0100 none\nbf 41 U+0066 U+0066\n",
-        ),
-        (
-            &["--bundle", "61", "1:20", "1:21"],
-            USE_OVER_BUNDLE,
-            "cid 1:20 9\ncid 1:21 none\n",
-        ),
-    ];
-    for (words, input, lines) in rows {
-        let outcome = outcome_of(rt.alloc(), words, &mut input.as_bytes())?;
-        let answered = outcome.is(0, lines, "");
-        assert!(rt; answered || outcome.is(3, "", "no memory\n"), "{words:?}");
-    }
-    Ok(())
 }

@@ -1,0 +1,121 @@
+//! Destinations: their units, and the texts that these stand for.
+
+use crate::answer::{Answer, again, tell};
+use cmap_parts::utf16::{number_units, one_char, text, units};
+use hayro_cmap::BfString;
+use std::alloc::{AllocError, Global};
+use std::{fmt, io};
+
+/// The bytes of destinations.
+const DESTINATIONS: [(&str, &[u8]); 3] = [
+    ("two characters", &[0, 0x66, 0, 0x66]),
+    ("three bytes", &[0xD8, 0x3D, 0xDE]),
+    ("no byte", &[]),
+];
+
+/// Numbers of so many bytes, that destinations write.
+const NUMBERS: [(&str, u8, u32); 3] = [
+    ("two bytes", 2, 0x0041),
+    ("three bytes", 3, 0x00D8_3DDE),
+    ("four bytes", 4, 0xD83D_DFFE),
+];
+
+/// Units, and the offset of a code.
+const UNITS: [(&str, &[u16], u32); 8] = [
+    ("two characters", &[0x66, 0x66], 0),
+    ("two characters, one code on", &[0x66, 0x66], 1),
+    ("one character", &[0x41], 0),
+    ("a surrogate pair, one code on", &[0xD83D, 0xDFFE], 1),
+    ("a surrogate pair, two codes on", &[0xD83D, 0xDFFE], 2),
+    ("half a surrogate pair", &[0xD800], 0),
+    ("past the last unit", &[0xFFFF], 1),
+    ("no unit", &[], 0),
+];
+
+pub fn tell_all(rt: &(impl Print + AllocGlobal)) -> io::Result<()> {
+    let alloc = rt.alloc();
+    for (title, bytes) in DESTINATIONS {
+        tell(
+            rt,
+            "units",
+            title,
+            &again!(units(alloc, bytes) => DestinationUnits),
+        )?;
+    }
+    for (title, len, number) in NUMBERS {
+        tell(
+            rt,
+            "number_units",
+            title,
+            &again!(number_units(alloc, len, number) => DestinationUnits),
+        )?;
+    }
+    for (title, units, offset) in UNITS {
+        tell_text(rt, title, units, offset)?;
+    }
+    Ok(())
+}
+
+fn tell_text(
+    rt: &(impl Print + AllocGlobal),
+    title: &str,
+    units: &[u16],
+    offset: u32,
+) -> io::Result<()> {
+    let character = match one_char(units, offset) {
+        Some(character) => Characters(Some(BfString::Char(character))),
+        None => Characters(None),
+    };
+    tell(rt, "one_char", title, &character)?;
+    let found = again!(text(rt.alloc(), units, offset) => Characters);
+    tell(rt, "text", title, &found)?;
+    let copy = match &found {
+        Answer::Given(Characters(Some(found))) => again!(copy_of(rt.alloc(), found)),
+        Answer::Given(Characters(None)) => return Ok(()),
+        _ => Answer::NotMade,
+    };
+    tell(rt, "  BfString::clone", title, &copy)
+}
+
+fn copy_of(alloc: Global, text: &BfString) -> Result<Characters, AllocError> {
+    Ok(Characters(Some(text.clone(alloc)?)))
+}
+
+/// The units of a destination.
+#[derive(Drop)]
+struct DestinationUnits(Vec<u16>);
+
+impl fmt::Display for DestinationUnits {
+    fn fmt<W: fmt::Write>(&self, f: &mut fmt::Formatter<W>) -> fmt::Result {
+        if self.0.is_empty() {
+            return write!(f, " none");
+        }
+        for unit in &self.0 {
+            write!(f, " {unit:04X}")?;
+        }
+        Ok(())
+    }
+}
+
+/// The text of a code.
+#[derive(Drop)]
+pub struct Characters(pub Option<BfString>);
+
+impl fmt::Display for Characters {
+    fn fmt<W: fmt::Write>(&self, f: &mut fmt::Formatter<W>) -> fmt::Result {
+        match &self.0 {
+            Some(BfString::Char(character)) => write!(f, " U+{:04X}", u32::from(*character)),
+            Some(BfString::String(text)) => write_string(text.as_str(), f),
+            None => write!(f, " none"),
+        }
+    }
+}
+
+/// The characters of a string, which is told apart from a character.
+fn write_string<W: fmt::Write>(text: &str, f: &mut fmt::Formatter<W>) -> fmt::Result {
+    write!(f, " string")?;
+    for character in text.chars() {
+        write!(f, " U+{:04X}", u32::from(character))?;
+    }
+    Ok(())
+}
