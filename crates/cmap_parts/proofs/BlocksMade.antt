@@ -1,10 +1,8 @@
 -- How many runs end before each block of codes.
 use Rattle.std.proofs.Common.{◌≡◌, ℕ, ◌*◌, ◌<◌, ◌≤◌, List, [], ◌∷◌, ◌++◌, length, get_or, sym, subst, inl, inr, arith, length-append}
-use Rattle.std.specs.Prelude.{IfSome, slice_get}
 use Rattle.std.specs.List.{AllWithin}
 use Rattle.std.proofs.lemmas.Bool.{cases_lt}
 use Rattle.std.proofs.lemmas.List.{get_or_push, get_or_append_left}
-use Rattle.std.proofs.lemmas.Option.{slice_get-get_or}
 use Rattle.cmap_parts.specs.Blocks.{IsSplit, AreBlocks}
 use Rattle.cmap_parts.specs.Order.{IsInOrder}
 use Rattle.cmap_parts.specs.Ranges.{Run}
@@ -28,6 +26,3 @@ none_before runs code place order lt from = λ k d le within.
       | inl later ↦ omega (arith, from d, order.apart place k d later within, order.filled k d within)
       | inr same ↦ subst (λ n. code ≤ (get_or runs n d).high) (let e : place ≡ k = omega arith in e) (from d)
     ]
-
-pub high_is : (runs : List Run) (place high : ℕ) (d : Run) → place < length runs → IfSome (slice_get runs place) (λ run. run.high ≡ high) → (get_or runs place d).high ≡ high
-high_is runs place high d lt at = rw (slice_get-get_or runs place d lt) at at

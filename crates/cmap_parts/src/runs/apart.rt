@@ -1,8 +1,8 @@
 //! The runs of declarations of which no two share a code: each range is one.
 
-ghost use Rattle.std.specs.Prelude.{◌≡◌, IfOk, IfSome, map, true};
+ghost use Rattle.std.specs.Prelude.{◌≡◌, IfOk, IfSome, map};
 ghost use Rattle.cmap_parts.specs.Ranges.{runs_of};
-ghost use Rattle.cmap_parts.specs.RangesApart.{AreApart, AreRanges};
+ghost use Rattle.cmap_parts.specs.RangesApart.{AreRanges};
 
 use super::HasRange;
 use super::held::{Run, Runs};
@@ -16,13 +16,8 @@ pub(super) fn runs_apart<T: HasRange>(
     ensures { IfOk result
         (λ found. IfSome found (λ runs. runs ≡ runs_of (map T.span declarations.now))) }
 {
-    let mut ranges = ranges_of(alloc, declarations)?;
-    ranges.sort_by_key(|range| range.low)?;
-    if are_apart(&ranges) {
-        Ok(Some(Runs::from_list(ranges)))
-    } else {
-        Ok(None)
-    }
+    let ranges = ranges_of(alloc, declarations)?;
+    Runs::from_ranges(ranges)
 }
 
 // The ranges that aren't empty.
@@ -33,27 +28,8 @@ fn ranges_of<T: HasRange>(alloc: Global, declarations: &[T]) -> Result<Vec<Run>,
     for (place, declaration) in declarations.iter().enumerate() {
         let range = declaration.range();
         if range.start <= range.end {
-            ranges.push(Run {
-                low: range.start,
-                high: range.end,
-                place,
-            })?;
+            ranges.push(Run::new(range.start, range.end, place))?;
         }
     }
     Ok(ranges)
-}
-
-// Whether each range ends before the next one begins.
-fn are_apart(ranges: &[Run]) -> bool
-    ensures { result ≡ true → AreApart ranges.now }
-{
-    let mut i = 1;
-    while i < ranges.len() {
-        let (range, next) = (&ranges[i - 1], &ranges[i]);
-        if range.high >= next.low {
-            return false;
-        }
-        i += 1;
-    }
-    true
 }

@@ -1,6 +1,6 @@
 //! For blocks of codes, where in a list of runs a search begins and ends.
 
-ghost use Rattle.std.specs.Prelude.{◌<◌, ◌≤◌, IfOk, length};
+ghost use Rattle.std.specs.Prelude.{◌≡◌, ◌<◌, ◌≤◌, IfOk, length};
 ghost use Rattle.std.specs.List.{AllWithin};
 ghost use Rattle.cmap_parts.specs.Blocks.{AreBlocks};
 ghost use Rattle.cmap_parts.specs.Order.{IsInOrder};
@@ -10,10 +10,10 @@ use std::alloc::{AllocError, Global};
 use std::marker::Model;
 
 // How many codes a block has.
-const BLOCK_LEN: u32 = 256;
+pub(super) const BLOCK_LEN: u32 = 256;
 
 // The blocks of the codes of two bytes, and the one behind them.
-const BLOCK_COUNT: u32 = 257;
+pub(super) const BLOCK_COUNT: u32 = 257;
 
 // A shorter list of runs is searched without blocks.
 const FEWEST_RUNS: usize = 256;
@@ -33,23 +33,19 @@ impl Model for Blocks {
 }
 
 impl Blocks {
-    pub(super) fn of(alloc: Global, runs: &Runs) -> Result<Blocks, AllocError>
-        requires { IsInOrder runs.now }
-        ensures { IfOk result (λ blocks. AreBlocks runs.now blocks) }
+    pub(super) fn of(alloc: Global, runs: &mut Runs) -> Result<Blocks, AllocError>
+        requires { IsInOrder runs.old }
+        ensures blocks { IfOk result (λ blocks. AreBlocks runs.old blocks) }
+        ensures runs { runs.new ≡ runs.old }
     {
-        let mut counts = Vec::new(alloc);
-        let run_count = runs.len();
-        if run_count < FEWEST_RUNS {
-            return Ok(Blocks { counts });
+        if runs.len() < FEWEST_RUNS {
+            return Ok(Blocks {
+                counts: Vec::new(alloc),
+            });
         }
-        let mut place = 0;
-        for block in 0..BLOCK_COUNT {
-            while place < run_count && runs.high_at(place) < BLOCK_LEN * block {
-                place += 1;
-            }
-            counts.push(place)?;
-        }
-        Ok(Blocks { counts })
+        Ok(Blocks {
+            counts: runs.block_counts(alloc)?,
+        })
     }
 
     // The places from the first of which up to the second a run that holds `code` stands.

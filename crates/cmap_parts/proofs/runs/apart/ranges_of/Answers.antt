@@ -15,7 +15,7 @@ loop-place-preserved g c =
     elim c.if-range.branch [
       | then-range+in_ok-push w ↦
           let run : Run = record { low = range.start; high = range.end; place = place } in
-          let items_are : c.if-range.ranges.items ≡ old ++ run ∷ [] = ap (λ ranges. ranges.items) w.ranges-is ∙ w.in_ok-push.ensures.items in
+          let items_are : c.if-range.ranges.items ≡ old ++ run ∷ [] = ap (λ ranges. ranges.items) w.ranges-is ∙ subst (λ run. w.push.new.self.items ≡ old ++ run ∷ []) w.new.ensures w.in_ok-push.ensures.items in
           subst (λ ranges. AreRanges (map span (take (place + 1) list)) ranges) (sym items_are)
           (AreRanges-push_more span list place here old range.start range.end c.loop-place.invariant (omega arith) start_is end_is w.if-range.true (omega arith))
       | else-range w ↦

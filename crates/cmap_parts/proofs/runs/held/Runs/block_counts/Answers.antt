@@ -1,19 +1,22 @@
-use Rattle.std.proofs.Common.{◌*◌, ◌<◌, ◌≤◌, length, sym, subst, arith}
+use Rattle.std.proofs.Common.{◌*◌, ◌<◌, ◌≤◌, length, sym, ◌∙◌, ap, subst, arith}
 use Rattle.std.specs.List.{AllWithin}
+use Rattle.std.proofs.lemmas.List.{get_or_read}
 use Rattle.cmap_parts.specs.Blocks.{AreBlocks, IsSplit}
-use Rattle.cmap_parts.proofs.BlocksMade.{AreBlocks-push, none_before, high_is}
-use Rattle.cmap_parts.proofs.runs.blocks.Blocks.of.Goals as goal
-use Rattle.cmap_parts.proofs.runs.blocks.Blocks.of.Goals.{then-loop-place-test+else-high_at-block, else-loop-place-test}
+use Rattle.cmap_parts.specs.Order.{IsInOrder}
+use Rattle.cmap_parts.specs.Ranges.{Run}
+use Rattle.cmap_parts.proofs.BlocksMade.{AreBlocks-push, none_before}
+use Rattle.cmap_parts.proofs.runs.held.Runs.block_counts.Goals as goal
+use Rattle.cmap_parts.proofs.runs.held.Runs.block_counts.Goals.{then-loop-place-test+else-index-block, else-loop-place-test}
 
 pub loop-block-preserved : goal.loop-block-preserved
 loop-block-preserved c =
-    let runs = c.args.runs.now in let block = c.loop-block.block in let place = c.loop-place.place in let old = c.loop-block.invariant in
+    let runs = c.self.inside.list.items in let block = c.loop-block.block in let place = c.loop-place.place in let old = c.loop-block.invariant in
     let behind : AllWithin (λ run. 256 * block ≤ run.high) runs place (length runs) =
     elim c.loop-place-test.branch [
-      | then-loop-place-test+else-high_at-block w ↦
+      | then-loop-place-test+else-index-block w ↦
           let lt : place < length runs = omega (arith, w.loop-place-test.true) in
-          none_before runs (256 * block) place c.requires lt (λ d.
-          omega (arith, high_is runs place w.high_at.result d lt w.high_at.ensures, w.if-high_at-block.false))
+          none_before runs (256 * block) place (subst IsInOrder (sym c.self.view_is) c.requires) lt (λ d.
+          omega (arith, ap (λ (run : Run). run.high) (w.behind-self.view_is ∙ get_or_read runs place w.index.result.now lt w.index.ensures d), w.if-index-block.false))
       | else-loop-place-test w ↦ λ k d le within. absurd (omega (arith, w.loop-place-test.false))
     ]
     in
