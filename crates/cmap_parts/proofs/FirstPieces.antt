@@ -83,7 +83,7 @@ no_hex (b ∷ more) some opens once is =
     subst (λ c. piece_len (c ∷ more) ≡ None) (sym opens) (rw (single, none) refl)
 
 -- digits are regular bytes
-digit_regular : (b : ℕ) → is_digit b 10 ≡ true → is_regular b ≡ true
+pub digit_regular : (b : ℕ) → is_digit b 10 ≡ true → is_regular b ≡ true
 digit_regular b digit =
     let never : (k : ℕ) → is_digit k 10 ≡ false → (b == k) ≡ false = λ k other. other_byte (λ c. is_digit c 10) k b other digit in
     let n0 : (b == 0) ≡ false = never 0 refl in

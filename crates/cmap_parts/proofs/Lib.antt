@@ -9,6 +9,7 @@ pub mod BytesTaken
 pub mod BytesWritten
 pub mod EdgesTellSpans
 pub mod FirstPieces
+pub mod FewDigits
 pub mod FirstTokens
 pub mod GapLengths
 pub mod GreatestPlace

@@ -1,12 +1,12 @@
 -- Private aid: what the code reads, as functions on lists. Public contracts speak of Tokens, Numbers and Strings alone.
-use Rattle.std.specs.Prelude.{◌≡◌, ◌≤◌, ℕ, pos, neg_ℤ, ◌+◌, ◌-◌, ◌%◌, ◌||◌, ◌&&◌, ◌==◌, nat_lt, nat_le, Bool, true, false, not, List, [], ◌∷◌, length, take, drop, map, count_by, option_map, option_and_then, unwrap_or, filter, Option, Some, None, codes, if◌then◌else◌}
+use Rattle.std.specs.Prelude.{◌≡◌, ◌≤◌, ◌<◌, ℕ, pos, neg_ℤ, ◌+◌, ◌-◌, ◌%◌, ◌||◌, ◌&&◌, ◌==◌, nat_lt, nat_le, Bool, true, false, not, List, [], ◌∷◌, length, take, drop, map, count_by, option_map, option_and_then, unwrap_or, filter, Option, Some, None, codes, if◌then◌else◌}
 use Rattle.std.specs.List.{list_any, list_all, prefix_len}
 use Rattle.std.specs.Option.{option_or, option_map_or}
 use Rattle.std.specs.Char.{digit_value, is_digit}
 use Rattle.cmap_parts.specs.Ascii.{line_feed, carriage_return, hash, percent, open_parenthesis, close_parenthesis, plus, minus, dot, slash, less, greater, capital_e, backslash, letter_e}
 use Rattle.cmap_parts.specs.Bytes.{is_white, is_regular, ends_comment}
 use Rattle.cmap_parts.specs.Numbers.{Number, Real, number_of, digits_number}
-use Rattle.cmap_parts.specs.Tokens.{Token, Name, String, Numeral}
+use Rattle.cmap_parts.specs.Tokens.{Token, Name, String, Numeral, begins_regular}
 use Rattle.cmap_parts.specs.Strings.{begins_with, escape_value, digit_pairs, IsCut}
 
 -- one more, where there is a count
@@ -138,6 +138,12 @@ pub record IsPiece (text : List ℕ) (token : Token) (len : ℕ) : Type 0 where
   pub measured : piece_len text ≡ Some len
   pub within : len ≤ length text
   pub reads : token ≡ token_of (take len text)
+
+-- the text begins with len decimal digits, and after them stands a byte that is not regular
+pub record EndsDigits (text : List ℕ) (len : ℕ) : Type 0 where
+  pub within : len < length text
+  pub digits : list_all (λ c. is_digit c 10) (take len text) ≡ true
+  pub special : begins_regular (drop len text) ≡ false
 
 -- how many octal digits a text begins with, three at most
 abbrev pub octal_len : List ℕ → ℕ

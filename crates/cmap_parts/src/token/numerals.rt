@@ -1,24 +1,25 @@
 //! The numbers that runs of regular bytes are spelled as.
 
-ghost use Rattle.std.specs.Prelude.{◌≡◌, ◌-◌, ◌≤◌, ◌^◌, ◌==◌, min, count_by, length, IfSome, option_map, pos, neg_ℤ};
+ghost use Rattle.std.specs.Prelude.{◌≡◌, ℕ, ◌-◌, ◌≤◌, ◌^◌, ◌==◌, min, count_by, length, IfSome, IsSome, option_map, pos, neg_ℤ};
 ghost use Rattle.std.specs.List.{list_any, prefix_len};
 ghost use Rattle.std.specs.Char.{is_digit};
 ghost use Rattle.cmap_parts.specs.Ascii.{dot};
 ghost use Rattle.cmap_parts.specs.Numbers as numbers;
 ghost use Rattle.cmap_parts.specs.Tokens.{Numeral};
 ghost use Rattle.cmap_parts.specs.TokenReading as reading;
-ghost use Rattle.cmap_parts.specs.TokenReading.{IsPiece};
+ghost use Rattle.cmap_parts.specs.TokenReading.{EndsDigits, IsPiece};
 ghost use Rattle.cmap_parts.specs.NumberSeen.{number_seen};
 
 use super::Number;
 use super::byte_class::{digit_value, is_digit, is_regular};
 
 // The number in decimal digits that a text begins with, and how many digits it has. `None` where
-// there is no digit, where behind them the text ends or the run goes on, and where they are very
-// many.
+// there is no digit, where after them the text ends or the run goes on, and where they are more
+// than 18.
 pub(super) fn decimal(text: &[u8]) -> Option<(Number, usize)>
-    ensures { IfSome result
+    ensures piece { IfSome result
         (λ first. IsPiece text.now (Numeral (number_seen first.0)) first.1) }
+    ensures few { (n : ℕ) → 1 ≤ n → n ≤ 18 → EndsDigits text.now n → IsSome result }
 {
     let mut number: u64 = 0;
     for (i, byte) in text.iter().enumerate() {
