@@ -7,7 +7,7 @@ use Rattle.std.proofs.lemmas.List.{take-append-drop}
 use Rattle.std.proofs.lemmas.List.Folds.{list_any-append}
 use Rattle.cmap_parts.specs.Ascii.{nul}
 use Rattle.hayro_cmap.specs.Only.{IsOnly, HoldsOfNone}
-use Rattle.hayro_cmap.specs.Names.{Family, family_of}
+use Rattle.cmap_names.specs.Names.{Family, family_of}
 use Rattle.hayro_cmap.specs.Files.{Collection}
 use Rattle.hayro_cmap.specs.EntryReading.{FieldAt}
 use Rattle.hayro_cmap.specs.RowReading.{CollectionIn, TerminatedAt}

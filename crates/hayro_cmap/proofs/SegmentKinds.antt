@@ -8,7 +8,7 @@ use Rattle.hayro_cmap.specs.Only.{IsOnly, HoldsOfNone}
 use Rattle.hayro_cmap.specs.Files.{File}
 use Rattle.hayro_cmap.specs.Bundles.{PrefixTables}
 use Rattle.hayro_cmap.specs.BinaryEntries.{Shape, ranges, singles}
-use Rattle.hayro_cmap.specs.Names.{family_of}
+use Rattle.cmap_names.specs.Names.{family_of}
 use Rattle.hayro_cmap.specs.BinaryFiles.{Content, sets_collection, IsCodeLength, IsCidType, IsBfType, IsSegment, cid_segment, bf_segment, use_segment, notdef_segment, mode_segment, codespace_segment, name_segment, collection_segment}
 use Rattle.hayro_cmap.specs.BinaryReading.{Kind, cids, texts, base, notdefs, mode, codespaces, name, collection, kinds, kind_of, SaysAs, SaysContent}
 

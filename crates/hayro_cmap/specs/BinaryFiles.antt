@@ -2,7 +2,7 @@
 use Rattle.std.specs.Prelude.{◌≡◌, ℕ, pos, ◌+◌, ◌*◌, ◌<◌, ◌≤◌, ◌==◌, List, [], ◌∷◌, ◌++◌, length, map, flat_map, filter_map, codes, Option, Some, None, IsFalse, option_and_then}
 use Rattle.std.specs.List.{list_any, AllZip, last_or}
 use Rattle.cmap_parts.specs.Ascii.{nul}
-use Rattle.hayro_cmap.specs.Names.{family_of}
+use Rattle.cmap_names.specs.Names.{family_of}
 use Rattle.hayro_cmap.specs.Files.{CidEntry, BfEntry, Codespace, Declaration, Mode, Collection, File, lists_of, mode_numbered}
 use Rattle.hayro_cmap.specs.Bundles.{PrefixTables, IsField}
 use Rattle.hayro_cmap.specs.BinaryEntries.{Shape, ranges, singles, AreCidEntries, AreBfEntries}

@@ -1,6 +1,6 @@
 -- What one file says: its metadata, its declarations, and the files that it uses.
-use Rattle.std.specs.Prelude.{ℕ, ℤ, List, [], ◌∷◌, ◌==◌, Option, Some, None, if◌then◌else◌}
-use Rattle.hayro_cmap.specs.Names.{Family}
+use Rattle.std.specs.Prelude.{ℕ, List, [], ◌∷◌, ◌==◌, if◌then◌else◌}
+pub use Rattle.cmap_names.specs.Metadata.{Mode, horizontal, vertical, Collection, FileMetadata, mode_numbered}
 
 -- codes from start to end: start + k has the CID cid + k, or in a notdef declaration cid itself
 pub record CidEntry : Type 0 where
@@ -77,27 +77,8 @@ lists_of ds = record {
   spaces = spaces_of ds;
 }
 
--- the writing mode
-pub data Mode : Type 0 where
-  horizontal : Mode
-  vertical : Mode
-
-pub record Collection : Type 0 where
-  pub family : Family
-  pub supplement : ℤ
-
--- what a file says of itself
-pub record FileMetadata : Type 0 where
-  pub collection : Option Collection
-  pub name : Option (List ℕ)
-  pub mode : Option Mode
-
 -- what a file says: the names that it uses are in the order of the file
 pub record File : Type 0 where
   pub metadata : FileMetadata
   pub lists : Lists
   pub uses : List (List ℕ)
-
--- 0 and 1 number the writing modes
-abbrev pub mode_numbered : ℕ → Option Mode
-mode_numbered n = if n == 0 then Some horizontal else if n == 1 then Some vertical else None

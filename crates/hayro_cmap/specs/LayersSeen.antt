@@ -1,44 +1,12 @@
--- What contracts see of layers, and of what files say of themselves.
-use Rattle.std.specs.Prelude.{◌≡◌, ℕ, ◌==◌, List, [], ◌∷◌, map, Option, Some, None, option_map, IsSome, IsSomeAnd, ◌⊎◌, if◌then◌else◌}
-use Rattle.hayro_cmap.specs.Names as names
+-- What contracts see of layers.
+use Rattle.std.specs.Prelude.{◌≡◌, ℕ, ◌==◌, List, [], ◌∷◌, map, Option, Some, None, if◌then◌else◌}
+pub use Rattle.cmap_names.specs.MetadataSeen.{family_seen, collection_seen, mode_seen, metadata_seen, HoldsTexts}
 use Rattle.hayro_cmap.specs.Files as files
 use Rattle.hayro_cmap.specs.Layers as layers
 use Rattle.hayro_cmap.specs.DeclarationsSeen.{entries_seen, bf_entry_seen, codespace_seen}
 use Rattle.hayro_cmap.specs.declared.declarations.ByLength.{ByLength}
 use Rattle.hayro_cmap.specs.declared.declarations.CidRange.{CidRange}
 use Rattle.hayro_cmap.specs.declared.layers.Layer.{Layer}
-use Rattle.hayro_cmap.specs.declared.metadata.CidFamily.{CidFamily}
-use Rattle.hayro_cmap.specs.declared.metadata.CidFamily.TheVariants.{AdobeJapan1, AdobeGB1, AdobeCNS1, AdobeKorea1, AdobeIdentity, Custom}
-use Rattle.hayro_cmap.specs.declared.metadata.CharacterCollection.{CharacterCollection}
-use Rattle.hayro_cmap.specs.declared.metadata.WritingMode.{WritingMode}
-use Rattle.hayro_cmap.specs.declared.metadata.WritingMode.TheVariants.{Horizontal, Vertical}
-use Rattle.hayro_cmap.specs.declared.metadata.Metadata.{Metadata}
-
-abbrev pub family_seen : CidFamily → names.Family
-family_seen AdobeJapan1 = names.adobe_japan1
-family_seen AdobeGB1 = names.adobe_gb1
-family_seen AdobeCNS1 = names.adobe_cns1
-family_seen AdobeKorea1 = names.adobe_korea1
-family_seen AdobeIdentity = names.adobe_identity
-family_seen (Custom registry ordering) = names.custom registry.items ordering.items
-
-abbrev pub collection_seen : CharacterCollection → files.Collection
-collection_seen collection = record { family = family_seen collection.family; supplement = collection.supplement }
-
-abbrev pub mode_seen : WritingMode → files.Mode
-mode_seen Horizontal = files.horizontal
-mode_seen Vertical = files.vertical
-
-abbrev pub metadata_seen : Metadata → files.FileMetadata
-metadata_seen metadata = record {
-  collection = option_map collection_seen metadata.character_collection;
-  name = option_map (λ name. name.items) metadata.name;
-  mode = option_map mode_seen metadata.writing_mode;
-}
-
--- it holds a name, or the texts of a family
-abbrev pub HoldsTexts : files.FileMetadata → Type 0
-HoldsTexts metadata = IsSome metadata.name ⊎ IsSomeAnd metadata.collection (λ collection. names.IsCustom collection.family)
 
 -- a table is seen as its list
 abbrev pub tables_seen : ByLength (List CidRange) → files.ByLength

@@ -1,5 +1,4 @@
 pub mod Only
-pub mod Names
 pub mod Files
 pub mod TextFiles
 pub mod Layers
@@ -18,7 +17,6 @@ pub mod BinaryReading
 pub mod BinarySeen
 pub mod BundleReading
 pub mod BundleSeen
-pub mod CMapNames
 pub mod Answers
 pub mod DeclarationsSeen
 pub mod LayersSeen

@@ -2,7 +2,7 @@
 use Rattle.std.specs.Prelude.{◌≡◌, ℕ, pos, ◌<◌, ◌==◌, List, ◌∷◌, ◌++◌, length, flat_map, IsFalse}
 use Rattle.std.specs.List.{list_any, AllZip}
 use Rattle.cmap_parts.specs.Ascii.{nul}
-use Rattle.hayro_cmap.specs.Names.{family_of}
+use Rattle.cmap_names.specs.Names.{family_of}
 use Rattle.hayro_cmap.specs.Files.{CidEntry, Codespace, Collection}
 use Rattle.hayro_cmap.specs.Bundles.{IsField}
 use Rattle.hayro_cmap.specs.BinaryFiles.{IsCodeLength, IsNotdefRow, IsCodespaceRow}

@@ -6,7 +6,7 @@ use Rattle.cmap_parts.specs.Numbers.{Number}
 use Rattle.cmap_parts.specs.Tokens.{Token, Tokens}
 use Rattle.cmap_parts.specs.Strings.{IsValue}
 use Rattle.cmap_parts.specs.Texts.{units_of}
-use Rattle.hayro_cmap.specs.Names.{family_of}
+use Rattle.cmap_names.specs.Names.{family_of}
 use Rattle.hayro_cmap.specs.Files.{CidEntry, Declaration, Mode, Collection, FileMetadata, File, lists_of, mode_numbered}
 
 -- the names that take the next token as their value

@@ -5,12 +5,12 @@ ghost use Rattle.std.specs.Option.{option_copied};
 ghost use Rattle.hayro_cmap.specs.BundleReading.{AreFiles, SizedAt, both_seen};
 ghost use Rattle.hayro_cmap.specs.BundleSeen.{bundle_seen, tables_seen};
 ghost use Rattle.hayro_cmap.specs.Bundles.{HoldsTables, IsBundle};
-ghost use Rattle.hayro_cmap.specs.CMapNames.{place};
+ghost use Rattle.cmap_names.specs.CMapNames.{place};
 ghost use Rattle.hayro_cmap.specs.FilesSeen.{names_seen};
 ghost use Rattle.hayro_cmap.specs.Only.{IsOnly, HoldsOfNone};
 
 use crate::frames::split_framed;
-use crate::names::CMapName;
+use cmap_names::names::CMapName;
 use cmap_parts::bits::Reader;
 use cmap_parts::prefix::PrefixTable;
 use std::alloc::{AllocError, Global};

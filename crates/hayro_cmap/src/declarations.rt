@@ -5,7 +5,7 @@ ghost use Rattle.hayro_cmap.specs.Files.{Declaration, lists_of};
 ghost use Rattle.hayro_cmap.specs.DeclarationsSeen.{bf_entry_seen, cid_entry_seen, codespace_seen, entries_seen, lists_seen};
 ghost use Rattle.hayro_cmap.specs.ListsAppended.{no_lists, append_lists};
 
-use crate::names::Cid;
+use cmap_names::names::Cid;
 use cmap_parts::runs::{HasRange, Range};
 use std::alloc::{AllocError, Global};
 

@@ -5,7 +5,7 @@ ghost use Rattle.hayro_cmap.specs.BinaryReading.{no_file};
 ghost use Rattle.hayro_cmap.specs.FilesSeen.{file_seen};
 
 use crate::declarations::Lists;
-use crate::metadata::Metadata;
+use cmap_names::metadata::Metadata;
 use std::alloc::Global;
 
 /// What one file says, and the names of the files that it uses, in order.

@@ -6,7 +6,7 @@ ghost use Rattle.hayro_cmap.specs.DeclarationsSeen.{bf_entry_seen, lists_seen};
 ghost use Rattle.hayro_cmap.specs.LayersSeen.{layer_seen, metadata_seen, slot};
 
 use crate::declarations::{BfRange, ByLength, CidRange, Codespace, Lists};
-use crate::metadata::Metadata;
+use cmap_names::metadata::Metadata;
 use cmap_parts::runs::{Looks, Table};
 use std::alloc::{AllocError, Global};
 

@@ -14,19 +14,17 @@ mod frames;
 mod layers;
 mod lookup;
 mod map;
-mod metadata;
-mod names;
 mod source;
 mod text;
 
 pub use budget::ParseError;
 pub use bundle::{Bundle, load_embedded};
+pub use cmap_names::metadata::{CharacterCollection, CidFamily, Metadata, WritingMode};
+pub use cmap_names::names::{CMapName, Cid};
 pub use cmap_parts::utf16::BfString;
 pub use cmap_parts::{runs, token};
 pub use declarations::{BfRange, CidRange};
 pub use map::CMap;
-pub use metadata::{CharacterCollection, CidFamily, Metadata, WritingMode};
-pub use names::{CMapName, Cid};
 
 /// The parts of the binary form of CMap files: bits and numbers, prefix tables, bundles.
 pub mod bcmap {

@@ -13,7 +13,7 @@ ghost use Rattle.hayro_cmap.specs.Searches.{bf_looks, cid_looks, layer_looks, se
 
 use crate::declarations::{BfRange, ByLength, CidRange};
 use crate::layers::Layer;
-use crate::names::Cid;
+use cmap_names::names::Cid;
 use cmap_parts::runs::{Looks, Table};
 use cmap_parts::utf16::{BfString, one_char, text};
 use std::alloc::{AllocError, Global};

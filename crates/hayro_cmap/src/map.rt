@@ -21,10 +21,10 @@ use crate::bundle::Bundle;
 use crate::chain::{MOST_BELOW, find_layers};
 use crate::declarations::{CidRange, Codespace, Lists};
 use crate::layers::Layer;
-use crate::metadata::{CharacterCollection, CidFamily, Metadata, WritingMode};
-use crate::names::{CMapName, Cid};
 use crate::source::Asked;
 use crate::{codespaces, lookup};
+use cmap_names::metadata::{CharacterCollection, CidFamily, Metadata, WritingMode};
+use cmap_names::names::{CMapName, Cid, one_name_for_a_text};
 use cmap_parts::runs::{Looks, Range};
 use cmap_parts::utf16::BfString;
 use std::alloc::{AllocError, Global};
@@ -119,6 +119,7 @@ impl CMap {
             → PassesBudget (Means (tables_given bundle.entry))
             (Answers F.Fn get_cmap.now) 16 «data».now budget }
     {
+        one_name_for_a_text();
         let source = Asked {
             get_cmap,
             of: PhantomData,

@@ -13,7 +13,7 @@ ghost use Rattle.hayro_cmap.specs.declared.fault.Fault.TheVariants.{Refused};
 use super::columns::split_u16;
 use crate::declarations::{CidRange, Codespace};
 use crate::fault::Fault;
-use crate::metadata::{CharacterCollection, CidFamily};
+use cmap_names::metadata::{CharacterCollection, CidFamily};
 use cmap_parts::bits::Reader;
 use cmap_parts::runs::Range;
 use std::alloc::Global;

@@ -18,7 +18,7 @@ use super::rows::{read_codespaces, read_collection, read_notdefs};
 use crate::bundle::Tables;
 use crate::fault::Fault;
 use crate::file::File;
-use crate::metadata::WritingMode;
+use cmap_names::metadata::WritingMode;
 use std::alloc::Global;
 
 /// Reads a segment, and adds what it says to the file.

@@ -10,7 +10,7 @@ ghost use Rattle.hayro_cmap.specs.TextReading.{no_values, with_value};
 ghost use Rattle.hayro_cmap.specs.TextSeen.{key_name, values_seen};
 
 use super::tokens::literal_name;
-use crate::metadata::{CharacterCollection, CidFamily, Metadata, WritingMode};
+use cmap_names::metadata::{CharacterCollection, CidFamily, Metadata, WritingMode};
 use cmap_parts::token::{Number, Token};
 use std::alloc::{AllocError, Global};
 

@@ -12,7 +12,7 @@ ghost use Rattle.hayro_cmap.specs.TextSeen.{code_seen, IsCodeBytes};
 ghost use Rattle.hayro_cmap.specs.declared.fault.Fault.TheVariants.{Refused};
 
 use crate::fault::Fault;
-use crate::names::Cid;
+use cmap_names::names::Cid;
 use cmap_parts::bits::Reader;
 use cmap_parts::token::{Number, Scanner, Token};
 use cmap_parts::utf16::{number_units, units};

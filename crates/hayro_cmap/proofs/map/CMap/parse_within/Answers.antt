@@ -8,7 +8,7 @@ use Rattle.hayro_cmap.proofs.OneName.{IsByName-from_answers}
 use Rattle.hayro_cmap.proofs.map.CMap.parse_within.Goals as goal
 
 pub find_layers-requires-clause-by_name : goal.find_layers-requires-clause-by_name
-find_layers-requires-clause-by_name g c = IsByName-from_answers g.F.Fn c.args.get_cmap.now c.requires.by_name
+find_layers-requires-clause-by_name g c = IsByName-from_answers g.F.Fn c.args.get_cmap.now c.one_name_for_a_text.ensures c.requires.by_name
 
 pub returns-in-None-clause-within : goal.returns-in-None-clause-within
 returns-in-None-clause-within g c =

@@ -1,9 +1,9 @@
 use Rattle.std.proofs.Common.{refl, ◌∙◌}
-use Rattle.hayro_cmap.specs.CMapNames.{IsNameOf}
-use Rattle.hayro_cmap.specs.declared.names.CMapName.{CMapName}
-use Rattle.hayro_cmap.specs.declared.names.CMapName.TheVariants.{Custom}
-use Rattle.hayro_cmap.proofs.OneName.{IsSameName-from_text}
-use Rattle.hayro_cmap.proofs.names.CMapName.from_bytes.Goals as goal
+use Rattle.cmap_names.specs.CMapNames.{IsNameOf}
+use Rattle.cmap_names.specs.declared.names.CMapName.{CMapName}
+use Rattle.cmap_names.specs.declared.names.CMapName.TheVariants.{Custom}
+use Rattle.cmap_names.proofs.OneName.{IsSameName-from_text}
+use Rattle.cmap_names.proofs.names.CMapName.from_bytes.Goals as goal
 
 pub returns-in-Some : goal.returns-in-Some
 returns-in-Some c =

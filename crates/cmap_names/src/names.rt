@@ -1,9 +1,9 @@
 //! Names of CMaps.
 
-ghost use Rattle.std.specs.Prelude.{◌≡◌, ◌<◌, [], Some, IfSome, slice_index_or};
-ghost use Rattle.hayro_cmap.specs.CMapNames.{IsNameOf, IsSameName, name_bytes, place};
-ghost use Rattle.hayro_cmap.specs.Names.{known_names, place_of};
-ghost use Rattle.hayro_cmap.specs.declared.names.CMapName.{CMapName};
+ghost use Rattle.std.specs.Prelude.{◌≡◌, ℕ, List, ◌<◌, [], Some, IfSome, slice_index_or};
+ghost use Rattle.cmap_names.specs.CMapNames.{IsNameOf, IsSameName, name_bytes, place};
+ghost use Rattle.cmap_names.specs.Names.{known_names, place_of};
+ghost use Rattle.cmap_names.specs.declared.names.CMapName.{CMapName};
 
 /// The number of a character in a character collection. Adobe Technical Note 5014.
 pub type Cid = u32;
@@ -243,7 +243,7 @@ impl<'a> CMapName<'a> {
     }
 
     /// Its place among the known names; `None` for a `Custom` one, whatever its text is.
-    pub(crate) fn place(self) -> Option<usize>
+    pub fn place(self) -> Option<usize>
         ensures { result ≡ place self.entry }
     {
         match self {
@@ -252,6 +252,13 @@ impl<'a> CMapName<'a> {
         }
     }
 }
+
+/// A text is the text of one name, wherever the bytes of a custom one lie. Nothing is done here: the
+/// contract is a law for callers to stand on.
+pub fn one_name_for_a_text()
+    ensures { (text : List ℕ) (name other : CMapName) → IsNameOf text name → IsNameOf text other
+        → IsSameName name other }
+{}
 
 /// The place of the known name with this text.
 fn place_of(text: &[u8]) -> Option<usize>

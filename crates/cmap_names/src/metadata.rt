@@ -1,10 +1,10 @@
 //! What a CMap says of itself.
 
 ghost use Rattle.std.specs.Prelude.{◌≡◌, IfOk, IfSome, OnErr, option_map};
-ghost use Rattle.hayro_cmap.specs.CMapNames.{IsNameOf, name_bytes};
-ghost use Rattle.hayro_cmap.specs.Files.{mode_numbered};
-ghost use Rattle.hayro_cmap.specs.LayersSeen.{family_seen, collection_seen, metadata_seen, mode_seen, HoldsTexts};
-ghost use Rattle.hayro_cmap.specs.Names.{IsCustom, custom, family_of, unicode_cmap_of, ucs2_cmap_of};
+ghost use Rattle.cmap_names.specs.CMapNames.{IsNameOf, name_bytes};
+ghost use Rattle.cmap_names.specs.Metadata.{mode_numbered};
+ghost use Rattle.cmap_names.specs.MetadataSeen.{family_seen, collection_seen, metadata_seen, mode_seen, HoldsTexts};
+ghost use Rattle.cmap_names.specs.Names.{IsCustom, custom, family_of, unicode_cmap_of, ucs2_cmap_of};
 
 use crate::names::CMapName;
 use std::alloc::{AllocError, Global};
@@ -170,7 +170,7 @@ pub enum WritingMode {
 
 impl WritingMode {
     /// The mode that a file gives by this number: 0 is horizontal, 1 vertical.
-    pub(crate) fn numbered(number: u8) -> Option<WritingMode>
+    pub fn numbered(number: u8) -> Option<WritingMode>
         ensures { option_map mode_seen result ≡ mode_numbered number }
     {
         match number {

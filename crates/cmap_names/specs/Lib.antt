@@ -1,0 +1,4 @@
+pub mod Names
+pub mod CMapNames
+pub mod Metadata
+pub mod MetadataSeen
