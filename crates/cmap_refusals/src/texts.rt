@@ -1,7 +1,7 @@
 //! Destinations: their units, and the texts that these stand for.
 
 use crate::answer::{Answer, again, tell};
-use cmap_parts::utf16::{number_units, one_char, text, units};
+use cmap_tokens::utf16::{number_units, one_char, text, units};
 use hayro_cmap::BfString;
 use std::alloc::{AllocError, Global};
 use std::{fmt, io};

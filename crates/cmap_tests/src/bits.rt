@@ -1,6 +1,6 @@
 //! Numbers, bytes and bits, read from bytes in order.
 
-use cmap_parts::bits::Reader;
+use cmap_bits::bits::Reader;
 
 #[test]
 fn numbers_are_big_endian(rt: HostRuntime) {

@@ -1,6 +1,6 @@
 //! Tables over a type of declarations of one's own, and tables of many ranges.
 
-use cmap_parts::runs::{HasRange, Looks, Range, Table};
+use cmap_runs::runs::{HasRange, Looks, Range, Table};
 use std::alloc::{AllocError, Global};
 use std::test::Fail;
 

@@ -1,8 +1,8 @@
 //! Destinations: their units, and the texts that these stand for.
 
-use crate::fault::Fault;
+use cmap_files::fault::Fault;
 use crate::maps::push_text;
-use cmap_parts::utf16::{number_units, one_char, text, units};
+use cmap_tokens::utf16::{number_units, one_char, text, units};
 use hayro_cmap::BfString;
 use std::alloc::Global;
 

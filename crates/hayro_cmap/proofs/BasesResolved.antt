@@ -5,11 +5,12 @@ use Rattle.std.specs.List.{AllZip, last_or}
 use Rattle.std.specs.Borrow.{Bor}
 use Rattle.std.proofs.Math.ListN.{length-map}
 use Rattle.std.proofs.lemmas.List.{take_more, take_all, get_or-map}
-use Rattle.hayro_cmap.specs.Files.{File}
+use Rattle.cmap_files.proofs.LastOfLists.{last_or-push}
+use Rattle.cmap_files.specs.Files.{File}
 use Rattle.hayro_cmap.specs.Layers.{Layer, AreLayers, layer_of}
 use Rattle.hayro_cmap.specs.Answers.{IsByName}
-use Rattle.hayro_cmap.specs.Only.{IsOnly, HoldsOfNone}
-use Rattle.hayro_cmap.specs.FilesSeen.{names_seen}
+use Rattle.cmap_files.specs.Only.{IsOnly, HoldsOfNone}
+use Rattle.cmap_files.specs.FilesSeen.{names_seen}
 use Rattle.hayro_cmap.specs.LayersSeen.{layers_seen}
 use Rattle.hayro_cmap.specs.declared.layers.Layer as declared
 
@@ -41,10 +42,6 @@ AllZip-only R [] (b ∷ ys) zs h k = absurd h
 AllZip-only R (a ∷ xs) [] zs h k = absurd h
 AllZip-only R (a ∷ xs) (b ∷ ys) [] h k = absurd k
 AllZip-only R (a ∷ xs) (b ∷ ys) (c ∷ zs) h k = let e = h.0.alone c k.0 in let f = AllZip-only R xs ys zs h.1 k.1 in cc
-
-pub last_or-push : {A : Type 0} (o : Option A) (xs : List A) (x : A) → last_or o (xs ++ x ∷ []) ≡ Some x
-last_or-push o [] x = refl
-last_or-push o (y ∷ xs) x = last_or-push (Some y) xs x
 
 -- a name stands at this place
 pub record IsAt (names : List (List ℕ)) (i : ℕ) (name : List ℕ) : Type 0 where

@@ -1,12 +1,12 @@
 -- What the bytes of a file mean.
 use Rattle.std.proofs.Common.{ℕ, List, inl, inr}
 use Rattle.std.specs.Prelude.{⊤, Option, Some, None}
-use Rattle.hayro_cmap.specs.Only.{IsOnly, HoldsOfNone}
-use Rattle.hayro_cmap.specs.Files.{File}
-use Rattle.hayro_cmap.specs.Bundles.{PrefixTables}
-use Rattle.hayro_cmap.specs.BinaryFiles.{IsMarkedBinary, IsBinaryFile}
+use Rattle.cmap_files.specs.Only.{IsOnly, HoldsOfNone}
+use Rattle.cmap_files.specs.Files.{File}
+use Rattle.cmap_binary.specs.Bundles.{PrefixTables}
+use Rattle.cmap_binary.specs.BinaryFiles.{IsMarkedBinary, IsBinaryFile}
 use Rattle.hayro_cmap.specs.Layers.{Means}
-use Rattle.hayro_cmap.specs.TextFiles.{IsTextFile}
+use Rattle.cmap_text.specs.TextFiles.{IsTextFile}
 
 -- bytes without a bundle, or that aren't marked, are a text
 abbrev pub Unmarked : Option PrefixTables → List ℕ → Type 0

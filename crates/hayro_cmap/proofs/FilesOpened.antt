@@ -4,14 +4,14 @@ use Rattle.std.specs.Prelude.{nat_lt}
 use Rattle.std.specs.Borrow.{Bor}
 use Rattle.std.proofs.lemmas.List.{drop_more, drop_all}
 use Rattle.std.proofs.lemmas.List.Sums.{sum_by-append}
-use Rattle.hayro_cmap.specs.Files.{File}
-use Rattle.hayro_cmap.specs.Only.{IsOnly, HoldsOfNone}
+use Rattle.cmap_files.specs.Files.{File}
+use Rattle.cmap_files.specs.Only.{IsOnly, HoldsOfNone}
 use Rattle.hayro_cmap.specs.Answers.{IsByName}
 use Rattle.hayro_cmap.specs.Budgets.{IsOver, Opens, OpensUses, OpensFirst, OpensUsesFirst, Trail, PassesBudget, StaysWithin}
 use Rattle.hayro_cmap.specs.BytesSpent.{Leaves, Spends}
-use Rattle.hayro_cmap.specs.FilesSeen.{file_seen, names_seen}
+use Rattle.cmap_files.specs.FilesSeen.{file_seen, names_seen}
 use Rattle.hayro_cmap.specs.Layers.{AreLayers}
-use Rattle.hayro_cmap.specs.declared.file.File as declared
+use Rattle.cmap_files.specs.declared.file.File as declared
 use Rattle.hayro_cmap.proofs.BasesResolved.{AreLayersOf, IsAt, IsAt-from_items, no_layers-at, text_at}
 use Rattle.hayro_cmap.proofs.BudgetLeft.{sum-cons, sum-parts, IsOver-more, Leaves-none, Leaves-same, Leaves-more, Leaves-over, not_over}
 

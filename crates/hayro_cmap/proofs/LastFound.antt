@@ -3,8 +3,8 @@ use Rattle.std.proofs.Common.{◌≡◌, ℕ, ◌≤◌, List, [], ◌∷◌, Op
 use Rattle.std.specs.Prelude.{option_map, option_and_then, slice_get, unwrap_or, nat_le}
 use Rattle.std.proofs.lemmas.Option.{slice_get-map}
 use Rattle.std.proofs.lemmas.Bool.{and_parts, leb-true}
-use Rattle.cmap_parts.specs.Ranges.{Span, contains, last_place, last_of}
-use Rattle.hayro_cmap.specs.Files.{CidEntry}
+use Rattle.cmap_runs.specs.Ranges.{Span, contains, last_place, last_of}
+use Rattle.cmap_files.specs.Files.{CidEntry}
 use Rattle.hayro_cmap.specs.Lookups.{decided_cid}
 use Rattle.hayro_cmap.specs.LayersDecide.{decided_in}
 

@@ -4,7 +4,7 @@ use Rattle.std.specs.Prelude.{unwrap_or, sum_by, ◌&&◌, nat_le, option_and_th
 use Rattle.std.specs.Option.{option_or}
 use Rattle.std.proofs.lemmas.List.Sums.{sum_by-cons}
 use Rattle.std.proofs.lemmas.Bool.{cond-true}
-use Rattle.hayro_cmap.specs.Files.{BfEntry}
+use Rattle.cmap_files.specs.Files.{BfEntry}
 use Rattle.hayro_cmap.specs.Layers.{Layer}
 use Rattle.hayro_cmap.specs.Lookups.{cid_in, cid_of, bf_span, bf_at, last_bf, bf_of, decided_text}
 use Rattle.hayro_cmap.specs.LayersDecide.{layer_cid, deciding_bf}

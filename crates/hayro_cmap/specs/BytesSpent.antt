@@ -1,8 +1,8 @@
 -- Private aid: what the files that are opened take from a budget.
 use Rattle.std.specs.Prelude.{◌≡◌, ℕ, ◌+◌, List, Bool, sum, Option, Some, None}
 use Rattle.hayro_cmap.specs.Budgets.{Trail}
-use Rattle.hayro_cmap.specs.Files.{File}
-use Rattle.hayro_cmap.specs.Only.{IsOnly}
+use Rattle.cmap_files.specs.Files.{File}
+use Rattle.cmap_files.specs.Only.{IsOnly}
 
 -- so many bytes leave this of the budget; where there is none, none is left
 abbrev pub Leaves : Option ℕ → ℕ → Option ℕ → Type 0

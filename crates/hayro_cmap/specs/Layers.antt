@@ -1,10 +1,10 @@
 -- Files over the files that they use: the layers of a map.
 use Rattle.std.specs.Prelude.{◌≡◌, ℕ, zero, suc, List, [], ◌∷◌, ◌⊎◌, Option, Some, None, unwrap_or}
 use Rattle.std.specs.List.{AllZip, last_or}
-use Rattle.hayro_cmap.specs.Files.{FileMetadata, Lists, File}
-use Rattle.hayro_cmap.specs.TextFiles.{IsTextFile}
-use Rattle.hayro_cmap.specs.Bundles.{PrefixTables}
-use Rattle.hayro_cmap.specs.BinaryFiles.{IsMarkedBinary, IsBinaryFile}
+use Rattle.cmap_files.specs.Files.{FileMetadata, Lists, File}
+use Rattle.cmap_text.specs.TextFiles.{IsTextFile}
+use Rattle.cmap_binary.specs.Bundles.{PrefixTables}
+use Rattle.cmap_binary.specs.BinaryFiles.{IsMarkedBinary, IsBinaryFile}
 
 -- a layer of a map: what a file says, without the names that it uses
 pub record Layer : Type 0 where

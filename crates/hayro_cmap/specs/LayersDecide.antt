@@ -1,8 +1,8 @@
 -- Private aid: what one layer decides by itself, which the layers below can't change.
 use Rattle.std.specs.Prelude.{ℕ, List, [], ◌∷◌, Option, Some, None, option_and_then}
 use Rattle.std.specs.Option.{option_or}
-use Rattle.cmap_parts.specs.Texts.{only_character}
-use Rattle.hayro_cmap.specs.Files.{BfEntry, CidEntry, of_length}
+use Rattle.cmap_tokens.specs.Texts.{only_character}
+use Rattle.cmap_files.specs.Files.{BfEntry, CidEntry, of_length}
 use Rattle.hayro_cmap.specs.Layers.{Layer}
 use Rattle.hayro_cmap.specs.Lookups.{cid_at, bf_at, last_cid, last_bf}
 

@@ -1,8 +1,8 @@
 -- What a code stands for: the declarations scanned backward, layer by layer.
 use Rattle.std.specs.Prelude.{◌≡◌, ℕ, ◌+◌, ◌-◌, ◌/◌, ◌%◌, ◌^◌, ◌<◌, ◌≤◌, ◌&&◌, nat_le, nat_lt, List, [], ◌∷◌, Any, Option, Some, None, option_and_then, if◌then◌else◌}
-use Rattle.cmap_parts.specs.Texts.{text_at, only_character}
-use Rattle.cmap_parts.specs.Ranges.{Span, last_of}
-use Rattle.hayro_cmap.specs.Files.{CidEntry, BfEntry, Codespace, of_length}
+use Rattle.cmap_tokens.specs.Texts.{text_at, only_character}
+use Rattle.cmap_runs.specs.Ranges.{Span, last_of}
+use Rattle.cmap_files.specs.Files.{CidEntry, BfEntry, Codespace, of_length}
 use Rattle.hayro_cmap.specs.Layers.{Layer}
 
 abbrev pub cid_span : CidEntry → Span

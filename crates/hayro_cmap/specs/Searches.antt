@@ -1,7 +1,7 @@
 -- How many runs the search of a list of declarations may look at, and a lookup over layers.
 use Rattle.std.specs.Prelude.{ℕ, ◌+◌, ◌&&◌, nat_le, List, map, length, sum_by, if◌then◌else◌}
-use Rattle.cmap_parts.specs.Ranges.{Span, digits, runs_of}
-use Rattle.hayro_cmap.specs.Files.{of_length}
+use Rattle.cmap_runs.specs.Ranges.{Span, digits, runs_of}
+use Rattle.cmap_files.specs.Files.{of_length}
 use Rattle.hayro_cmap.specs.Layers.{Layer}
 use Rattle.hayro_cmap.specs.Lookups.{cid_span, bf_span}
 

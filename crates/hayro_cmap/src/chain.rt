@@ -4,22 +4,21 @@ ghost use Rattle.std.specs.Prelude.{◌≡◌, suc, is_none, IfOk, IfSome, IfNon
 ghost use Rattle.hayro_cmap.specs.Answers.{IsByName};
 ghost use Rattle.hayro_cmap.specs.Budgets.{PassesBudget};
 ghost use Rattle.hayro_cmap.specs.BytesSpent.{Spends};
-ghost use Rattle.hayro_cmap.specs.FilesSeen.{file_seen};
-ghost use Rattle.hayro_cmap.specs.BundleSeen.{tables_given};
+ghost use Rattle.cmap_files.specs.FilesSeen.{file_seen};
+ghost use Rattle.cmap_binary.specs.BundleSeen.{tables_given};
 ghost use Rattle.hayro_cmap.specs.Layers.{AreLayers, Means};
 ghost use Rattle.hayro_cmap.specs.LayersSeen.{layers_seen};
-ghost use Rattle.hayro_cmap.specs.Only.{IsOnly, HoldsOfNone};
+ghost use Rattle.cmap_files.specs.Only.{IsOnly, HoldsOfNone};
 ghost use Rattle.hayro_cmap.specs.declared.budget.ParseError.TheVariants.{OverBudget};
-ghost use Rattle.hayro_cmap.specs.declared.fault.Fault.TheVariants.{Refused};
+ghost use Rattle.cmap_files.specs.declared.fault.Fault.TheVariants.{Refused};
 
-use crate::binary::{MAGIC, read_binary};
 use crate::budget::{ParseError, spend};
-use crate::bundle::Bundle;
-use crate::fault::Fault;
-use crate::file::File;
 use crate::layers::Layer;
 use crate::source::Source;
-use crate::text::read_text;
+use cmap_binary::{Bundle, is_marked_binary, read_binary};
+use cmap_files::fault::Fault;
+use cmap_files::file::File;
+use cmap_text::read_text;
 use std::alloc::{AllocError, Global};
 
 /// How many files may stand under the top one in a chain.
@@ -115,7 +114,7 @@ fn read_form<'d>(
         → HoldsOfNone (Means (tables_given bundle.entry) bytes.now) }
 {
     match bundle {
-        Some(bundle) if bytes.starts_with(MAGIC) => read_binary(alloc, &bundle.tables, bytes),
+        Some(bundle) if is_marked_binary(bytes) => read_binary(alloc, bundle, bytes),
         _ => read_text(alloc, bytes),
     }
 }

@@ -1,19 +1,22 @@
 //! Whether a code lies in a codespace range: byte by byte, and not as a number.
 //! ISO 32000-1, 9.7.6.2.
 
-ghost use Rattle.std.specs.Prelude.{◌≡◌, ◌↔◌, ◌<◌, ◌≤◌, ◌^◌, Any, IsTrue};
-ghost use Rattle.hayro_cmap.specs.DeclarationsSeen.{codespace_seen};
-ghost use Rattle.hayro_cmap.specs.LayersSeen.{layer_seen, layers_seen};
+ghost use Rattle.std.specs.Prelude.{◌≡◌, ◌↔◌, ◌<◌, ◌≤◌, ◌^◌, Any, IsTrue, map};
+ghost use Rattle.cmap_files.specs.DeclarationsSeen.{codespace_seen};
+ghost use Rattle.hayro_cmap.specs.LayersSeen.{layers_seen};
 ghost use Rattle.hayro_cmap.specs.Lookups.{InCodespace, IsWithin, byte_at};
 
-use crate::declarations::Codespace;
 use crate::layers::Layer;
+use cmap_files::declarations::Codespace;
 
 /// Whether a codespace range of some layer contains a code of `byte_len` bytes.
 pub(crate) fn contains(layers: &[Layer], code: u32, byte_len: u8) -> bool
     ensures { IsTrue result ↔ InCodespace (layers_seen layers.now) code byte_len }
 {
-    fits_in(code, byte_len) && layers.iter().any(|layer| layer.contains(code, byte_len))
+    fits_in(code, byte_len)
+        && layers
+            .iter()
+            .any(|layer| any_contains(&layer.spaces, code, byte_len))
 }
 
 /// Whether a code fits in `byte_len` bytes, which are 1 to 4.
@@ -23,29 +26,24 @@ fn fits_in(code: u32, byte_len: u8) -> bool
     (1..=4).contains(&byte_len) && u64::from(code) < 256u64.pow(u32::from(byte_len))
 }
 
-impl Layer {
-    /// Whether one of its codespace ranges contains a code of `len` bytes.
-    fn contains(&self, code: u32, len: u8) -> bool
-        requires { len ≤ 4 }
-        ensures { IsTrue result
-            ↔ Any (λ space. IsWithin space code len) (layer_seen self.now).lists.spaces }
-    {
-        self.spaces.iter().any(|space| space.contains(code, len))
-    }
+/// Whether one of the codespace ranges contains a code of `len` bytes.
+fn any_contains(spaces: &[Codespace], code: u32, len: u8) -> bool
+    requires { len ≤ 4 }
+    ensures { IsTrue result ↔ Any (λ space. IsWithin space code len) (map codespace_seen spaces.now) }
+{
+    spaces.iter().any(|space| is_within(space, code, len))
 }
 
-impl Codespace {
-    /// Whether it contains a code of `len` bytes: each byte lies between its own.
-    fn contains(&self, code: u32, len: u8) -> bool
-        requires { len ≤ 4 }
-        ensures { IsTrue result ↔ IsWithin (codespace_seen self.now) code len }
-    {
-        self.len == len
-            && (0..len).all(|place| {
-                let byte = byte_at(code, place);
-                byte_at(self.low, place) <= byte && byte <= byte_at(self.high, place)
-            })
-    }
+/// Whether a codespace range contains a code of `len` bytes: each byte lies between its own.
+fn is_within(space: &Codespace, code: u32, len: u8) -> bool
+    requires { len ≤ 4 }
+    ensures { IsTrue result ↔ IsWithin (codespace_seen space.now) code len }
+{
+    space.len == len
+        && (0..len).all(|place| {
+            let byte = byte_at(code, place);
+            byte_at(space.low, place) <= byte && byte <= byte_at(space.high, place)
+        })
 }
 
 /// The byte of a number that stands `place` bytes before its last.

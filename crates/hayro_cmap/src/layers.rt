@@ -1,13 +1,12 @@
 //! The layers of a map: what each file in a chain says, its declarations in tables.
 
 ghost use Rattle.std.specs.Prelude.{◌≡◌, IfOk, map};
-ghost use Rattle.std.specs.Option.{option_copied};
-ghost use Rattle.hayro_cmap.specs.DeclarationsSeen.{bf_entry_seen, lists_seen};
-ghost use Rattle.hayro_cmap.specs.LayersSeen.{layer_seen, metadata_seen, slot};
+ghost use Rattle.cmap_files.specs.DeclarationsSeen.{bf_entry_seen, lists_seen};
+ghost use Rattle.hayro_cmap.specs.LayersSeen.{layer_seen, metadata_seen};
 
-use crate::declarations::{BfRange, ByLength, CidRange, Codespace, Lists};
+use cmap_files::declarations::{BfRange, ByLength, CidRange, Codespace, Lists};
 use cmap_names::metadata::Metadata;
-use cmap_parts::runs::{Looks, Table};
+use cmap_runs::runs::{Looks, Table};
 use std::alloc::{AllocError, Global};
 
 /// What one file says.
@@ -120,19 +119,4 @@ fn clone_bfs(alloc: Global, table: &Table<BfRange>) -> Result<Table<BfRange>, Al
         list.push(table.decl(place, &mut looks).clone(alloc)?)?;
     }
     Table::build(alloc, list)
-}
-
-impl<T> ByLength<T> {
-    /// The one for codes of `len` bytes; `None` unless `len` is 1 to 4.
-    pub(crate) fn get(&self, len: u8) -> Option<&T>
-        ensures { option_copied result ≡ slot self.now len }
-    {
-        match len {
-            1 => Some(&self.one),
-            2 => Some(&self.two),
-            3 => Some(&self.three),
-            4 => Some(&self.four),
-            _ => None,
-        }
-    }
 }

@@ -2,20 +2,20 @@
 
 ghost use Rattle.std.specs.Prelude.{◌≡◌, ◌+◌, ◌*◌, ◌<◌, ◌≤◌, length, map, option_and_then, option_map, IfOk, IfSome, IsSomeAnd, OnErr, OnSome};
 ghost use Rattle.std.specs.Option.{option_copied};
-ghost use Rattle.cmap_parts.specs.Texts.{only_character, text_of};
-ghost use Rattle.cmap_parts.specs.TextSeen.{text_seen};
-ghost use Rattle.hayro_cmap.specs.DeclarationsSeen.{bf_entry_seen, cid_entry_seen};
-ghost use Rattle.hayro_cmap.specs.Files.{of_length};
+ghost use Rattle.cmap_tokens.specs.Texts.{only_character, text_of};
+ghost use Rattle.cmap_tokens.specs.TextSeen.{text_seen};
+ghost use Rattle.cmap_files.specs.DeclarationsSeen.{bf_entry_seen, cid_entry_seen};
+ghost use Rattle.cmap_files.specs.Files.{of_length};
 ghost use Rattle.hayro_cmap.specs.LayersSeen.{layer_seen, layers_seen, tables_seen};
 ghost use Rattle.hayro_cmap.specs.Lookups.{bf_at, bf_of, bf_span, cid_of, cid_span, last_bf, last_cid};
 ghost use Rattle.hayro_cmap.specs.LayersDecide.{deciding_bf, layer_cid};
 ghost use Rattle.hayro_cmap.specs.Searches.{bf_looks, cid_looks, layer_looks, search_looks};
 
-use crate::declarations::{BfRange, ByLength, CidRange};
 use crate::layers::Layer;
+use cmap_files::declarations::{BfRange, ByLength, CidRange};
 use cmap_names::names::Cid;
-use cmap_parts::runs::{Looks, Table};
-use cmap_parts::utf16::{BfString, one_char, text};
+use cmap_runs::runs::{Looks, Table};
+use cmap_tokens::utf16::{BfString, one_char, text};
 use std::alloc::{AllocError, Global};
 
 /// The CID of a code of `byte_len` bytes.

@@ -1,32 +1,32 @@
 //! Maps: what the codes of a CMap file stand for.
 
 ghost use Rattle.std.specs.Prelude.{◌≡◌, ◌+◌, ◌*◌, ◌≤◌, [], ◌∷◌, ◌<◌, IfOk, IfSome, IfNone, IsErrOf, IsSome, IsSomeAnd, OnErr, OnOk, OnSome, codes, length, option_map};
-ghost use Rattle.cmap_parts.specs.TextSeen.{text_seen};
-ghost use Rattle.cmap_parts.specs.Texts.{text_of};
+ghost use Rattle.cmap_tokens.specs.TextSeen.{text_seen};
+ghost use Rattle.cmap_tokens.specs.Texts.{text_of};
 ghost use Rattle.hayro_cmap.specs.Answers.{Answers, AnswersByName};
 ghost use Rattle.hayro_cmap.specs.Budgets.{PassesBudget, StaysWithin};
-ghost use Rattle.hayro_cmap.specs.DeclarationsSeen.{lists_seen};
-ghost use Rattle.hayro_cmap.specs.Files as files;
+ghost use Rattle.cmap_files.specs.DeclarationsSeen.{lists_seen};
+ghost use Rattle.cmap_files.specs.Files as files;
 ghost use Rattle.hayro_cmap.specs.Identity.{identity_layer};
-ghost use Rattle.hayro_cmap.specs.BundleSeen.{tables_given};
+ghost use Rattle.cmap_binary.specs.BundleSeen.{tables_given};
 ghost use Rattle.hayro_cmap.specs.Layers.{AreLayers, Means};
 ghost use Rattle.hayro_cmap.specs.LayersSeen.{IsMetadataOf, metadata_seen, mode_seen};
 ghost use Rattle.hayro_cmap.specs.Lookups.{InCodespace, bf_of, cid_of};
-ghost use Rattle.hayro_cmap.specs.Only.{IsOnly, HoldsOfNone};
+ghost use Rattle.cmap_files.specs.Only.{IsOnly, HoldsOfNone};
 ghost use Rattle.hayro_cmap.specs.Searches.{bf_looks, cid_looks};
 ghost use Rattle.hayro_cmap.specs.declared.budget.ParseError.TheVariants.{OverBudget};
 
 use crate::budget::ParseError;
-use crate::bundle::Bundle;
 use crate::chain::{MOST_BELOW, find_layers};
-use crate::declarations::{CidRange, Codespace, Lists};
 use crate::layers::Layer;
 use crate::source::Asked;
 use crate::{codespaces, lookup};
+use cmap_binary::Bundle;
+use cmap_files::declarations::{CidRange, Codespace, Lists};
 use cmap_names::metadata::{CharacterCollection, CidFamily, Metadata, WritingMode};
 use cmap_names::names::{CMapName, Cid, one_name_for_a_text};
-use cmap_parts::runs::{Looks, Range};
-use cmap_parts::utf16::BfString;
+use cmap_runs::runs::{Looks, Range};
+use cmap_tokens::utf16::BfString;
 use std::alloc::{AllocError, Global};
 use std::marker::{Model, PhantomData};
 

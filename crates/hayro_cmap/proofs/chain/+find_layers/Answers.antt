@@ -1,9 +1,9 @@
 use Rattle.std.proofs.Common.{rules, suc, ◌-◌, ◌≤◌, arith, length}
 use Rattle.std.proofs.Math.ListN.{length-map}
 use Rattle.std.proofs.lemmas.Result.{err_from_is_err_and}
-use Rattle.hayro_cmap.specs.FilesSeen.{file_seen, names_seen}
+use Rattle.cmap_files.specs.FilesSeen.{file_seen, names_seen}
 use Rattle.hayro_cmap.specs.LayersSeen.{layers_seen}
-use Rattle.hayro_cmap.specs.BundleSeen.{tables_given}
+use Rattle.cmap_binary.specs.BundleSeen.{tables_given}
 use Rattle.hayro_cmap.specs.Layers.{Means}
 use Rattle.hayro_cmap.proofs.BasesResolved.{text_at, IsAt-from_items, no_base-deep, no_base-unanswered, no_base-refused, AreResolved-none, AreResolved-more, AreResolved-all, AreLayers-only}
 use Rattle.hayro_cmap.proofs.FilesOpened.{IsAtName-from_items, IsSoFar-none, IsSoFar-more, IsSoFar-names, no_layers-name, Spends-no_file, Spends-deep, Spends-unanswered, Spends-broken, Spends-ended, PassesBudget-below, PassesBudget-here}

@@ -1,7 +1,7 @@
 use Rattle.std.proofs.Common.{take, drop, length}
-use Rattle.hayro_cmap.specs.FilesSeen.{names_seen}
+use Rattle.cmap_files.specs.FilesSeen.{names_seen}
 use Rattle.hayro_cmap.specs.LayersSeen.{layers_seen}
-use Rattle.hayro_cmap.specs.BundleSeen.{tables_given}
+use Rattle.cmap_binary.specs.BundleSeen.{tables_given}
 use Rattle.hayro_cmap.specs.Layers.{Means}
 use Rattle.hayro_cmap.proofs.BasesResolved.{AreResolved}
 use Rattle.hayro_cmap.proofs.FilesOpened.{IsSoFar}

@@ -1,6 +1,6 @@
 use Rattle.std.proofs.Common.{sym, ap, ◌∙◌, [], ◌∷◌, ◌++◌, map}
 use Rattle.std.proofs.lemmas.List.{map-append}
-use Rattle.hayro_cmap.specs.DeclarationsSeen.{bf_entry_seen}
+use Rattle.cmap_files.specs.DeclarationsSeen.{bf_entry_seen}
 use Rattle.hayro_cmap.proofs.TablesCopied.{take_next-map}
 use Rattle.hayro_cmap.proofs.layers.clone_bfs.Goals as goal
 

@@ -1,5 +1,5 @@
 use Rattle.std.proofs.Common.{◌≡◌, take, map}
-use Rattle.hayro_cmap.specs.DeclarationsSeen.{bf_entry_seen}
+use Rattle.cmap_files.specs.DeclarationsSeen.{bf_entry_seen}
 use Rattle.hayro_cmap.proofs.layers.clone_bfs.Given as goal
 
 abbrev pub invariant-loop-place : goal.invariant-loop-place

@@ -1,7 +1,7 @@
 use Rattle.std.proofs.Common.{◌≡◌, ◌-◌, ◌<◌, sym, ap, ◌∙◌, subst, length}
 use Rattle.std.specs.Prelude.{IfOk, OnErr, IsSomeAnd, option_map, option_and_then}
-use Rattle.cmap_parts.specs.TextSeen.{text_seen}
-use Rattle.cmap_parts.specs.Texts.{text_at, text_of}
+use Rattle.cmap_tokens.specs.TextSeen.{text_seen}
+use Rattle.cmap_tokens.specs.Texts.{text_at, text_of}
 use Rattle.hayro_cmap.specs.LayersSeen.{layers_seen}
 use Rattle.hayro_cmap.specs.Lookups.{bf_at, bf_of}
 use Rattle.hayro_cmap.proofs.LayersSearched.{bf_of-deciding_bf}

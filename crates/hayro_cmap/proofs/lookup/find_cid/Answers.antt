@@ -1,12 +1,12 @@
 use Rattle.std.proofs.Common.{◌≡◌, ℕ, ◌+◌, ◌≤◌, Bool, true, false, cond, List, [], Some, None, sym, ap, ◌∙◌, subst, map}
 use Rattle.std.specs.Prelude.{option_map, ◌==◌}
-use Rattle.hayro_cmap.specs.Files.{of_length}
+use Rattle.cmap_files.specs.Files.{of_length}
 use Rattle.hayro_cmap.specs.Lookups.{cid_span, last_cid}
 use Rattle.hayro_cmap.specs.Searches.{search_looks}
-use Rattle.hayro_cmap.specs.DeclarationsSeen.{cid_range_span, cid_entry_seen, entries_seen}
-use Rattle.hayro_cmap.specs.LayersSeen.{tables_seen, slot}
-use Rattle.hayro_cmap.specs.declared.declarations.ByLength.{ByLength}
-use Rattle.hayro_cmap.specs.declared.declarations.CidRange.{CidRange}
+use Rattle.cmap_files.specs.DeclarationsSeen.{slot, cid_range_span, cid_entry_seen, entries_seen}
+use Rattle.hayro_cmap.specs.LayersSeen.{tables_seen}
+use Rattle.cmap_files.specs.declared.declarations.ByLength.{ByLength}
+use Rattle.cmap_files.specs.declared.declarations.CidRange.{CidRange}
 use Rattle.hayro_cmap.proofs.LastFound.{last_of-map, spans-map}
 use Rattle.hayro_cmap.proofs.lookup.find_cid.Goals as goal
 

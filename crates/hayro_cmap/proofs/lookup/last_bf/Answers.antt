@@ -1,6 +1,6 @@
 use Rattle.std.proofs.Common.{◌+◌, ◌≤◌, sym, ap, ◌∙◌, subst}
 use Rattle.std.specs.Prelude.{option_map}
-use Rattle.hayro_cmap.specs.DeclarationsSeen.{bf_entry_seen}
+use Rattle.cmap_files.specs.DeclarationsSeen.{bf_entry_seen}
 use Rattle.hayro_cmap.specs.Lookups.{bf_span}
 use Rattle.hayro_cmap.specs.Searches.{search_looks}
 use Rattle.hayro_cmap.proofs.LastFound.{last_of-map, spans-map}

@@ -1,6 +1,6 @@
 use Rattle.std.specs.Prelude.{true, false}
 use Rattle.hayro_cmap.specs.Answers.{Answers}
-use Rattle.hayro_cmap.specs.BundleSeen.{tables_given}
+use Rattle.cmap_binary.specs.BundleSeen.{tables_given}
 use Rattle.hayro_cmap.specs.Layers.{Means}
 use Rattle.hayro_cmap.proofs.BasesResolved.{layers-fit}
 use Rattle.hayro_cmap.proofs.FilesOpened.{StaysWithin-from_spends}

@@ -1,0 +1,14 @@
+pub mod BfEntriesMade
+pub mod BinaryFronts
+pub mod BundleFronts
+pub mod CidEntriesMade
+pub mod CollectionRead
+pub mod ColumnsRead
+pub mod EntryRows
+pub mod OnlyPairs
+pub mod PiecesBehind
+pub mod PiecesInRow
+pub mod RowsRead
+pub mod SegmentFronts
+pub mod SegmentKinds
+pub mod SegmentsSaid

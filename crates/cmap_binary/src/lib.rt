@@ -1,0 +1,14 @@
+//! CMap files in the binary form `bcmap`, and bundles of them.
+#![tactic(auto)]
+
+mod bundle;
+mod columns;
+mod entries;
+mod file;
+mod frames;
+mod kinds;
+mod rows;
+mod segments;
+
+pub use bundle::{Bundle, load_embedded};
+pub use file::{is_marked_binary, read_binary};

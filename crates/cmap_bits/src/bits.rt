@@ -1,0 +1,188 @@
+//! Bits and big-endian numbers, read from bytes in order.
+
+ghost use Rattle.std.specs.Prelude.{◌≡◌, ℕ, ◌/◌, ◌≤◌, ◌↔◌, Bool, [], length, option_map, is_some, slice_get, IsTrue, if◌then◌else◌, nat_le, ◌&&◌};
+ghost use Rattle.std.specs.List.{before_first};
+ghost use Rattle.cmap_bits.specs.BigEndian.{big_endian};
+ghost use Rattle.cmap_bits.specs.Reader.{bits_left, bytes_left, IsAtByte, after_bits, after_bytes, front, number_at, AnswersByByte, AnswersBy};
+ghost use Rattle.cmap_bits.specs.PrefixWords.{bits};
+
+use std::marker::Model;
+
+/// Bytes, and how far they have been read. Bits are taken from the high bit of each byte on, and
+/// whole bytes only where no byte is begun (`at_byte`). A call that answers `None` takes nothing,
+/// and none takes memory. A clause sees the bytes and how many bits have been taken.
+#[derive(Debug, Drop)]
+pub struct Reader<'a> {
+    bytes: &'a [u8],
+    // whole bytes passed
+    byte: usize,
+    // bits taken of the next one
+    bit: u8,
+}
+
+impl<'a> Model for Reader<'a> {
+    ghost use Rattle.std.specs.Prelude.{ℕ, ◌+◌, ◌*◌, ◌<◌, ◌≤◌, length};
+    ghost use Rattle.cmap_bits.specs.Reader.{Reading};
+
+    ghost Value = { Reading };
+
+    ghost view = { λ r. record { source = r.bytes.now; taken = 8 * r.byte + r.bit } };
+
+    ghost invariant = { λ r. (r.bit < 8) × (8 * r.byte + r.bit ≤ 8 * length r.bytes.now) };
+}
+
+impl<'a> Reader<'a> {
+    /// A reader before the first byte.
+    pub fn new(bytes: &'a [u8]) -> Reader<'a>
+        ensures { result ≡ record { source = bytes.now; taken = 0 } }
+    {
+        Reader {
+            bytes,
+            byte: 0,
+            bit: 0,
+        }
+    }
+
+    /// The next bit, 0 or 1; `None` where none is left.
+    pub fn read_bit(&mut self) -> Option<u8>
+        ensures value { result ≡ slice_get (bits self.old.source) self.old.taken }
+        ensures moves { self.new ≡ (if is_some result then after_bits self.old 1 else self.old) }
+    {
+        let byte = *self.bytes.get(self.byte)?;
+        let bit = byte >> (7 - self.bit) & 1;
+        if self.bit == 7 {
+            self.byte += 1;
+            self.bit = 0;
+        } else {
+            self.bit += 1;
+        }
+        Some(bit)
+    }
+
+    /// The next byte; `None` where none is left.
+    pub fn read_u8(&mut self) -> Option<u8>
+        requires { IsAtByte self.old }
+        ensures value { result ≡ slice_get (bytes_left self.old) 0 }
+        ensures moves { self.new ≡ (if is_some result then after_bytes self.old 1 else self.old) }
+    {
+        let byte = *self.bytes.get(self.byte)?;
+        self.byte += 1;
+        Some(byte)
+    }
+
+    /// The number that the next two bytes write, the high one first; `None` where fewer are left.
+    pub fn read_u16(&mut self) -> Option<u16>
+        requires { IsAtByte self.old }
+        ensures value { result ≡ number_at 2 (bytes_left self.old) }
+        ensures moves { self.new ≡ (if is_some result then after_bytes self.old 2 else self.old) }
+    {
+        let bytes = self.read_bytes(2)?;
+        Some(u16::from_be_bytes([bytes[0], bytes[1]]))
+    }
+
+    /// The number that the next four bytes write, the high one first; `None` where fewer are left.
+    pub fn read_u32(&mut self) -> Option<u32>
+        requires { IsAtByte self.old }
+        ensures value { result ≡ number_at 4 (bytes_left self.old) }
+        ensures moves { self.new ≡ (if is_some result then after_bytes self.old 4 else self.old) }
+    {
+        self.read_n_bytes(4)
+    }
+
+    /// The number that the next `n` bytes write, the high one first, for an `n` from 1 to 4;
+    /// `None` for any other `n`, and where fewer bytes are left.
+    pub fn read_n_bytes(&mut self, n: u8) -> Option<u32>
+        requires { IsAtByte self.old }
+        ensures value { result ≡
+            (if nat_le 1 n && nat_le n 4 then number_at n (bytes_left self.old) else None) }
+        ensures moves { self.new ≡ (if is_some result then after_bytes self.old n else self.old) }
+    {
+        if !(1..=4).contains(&n) {
+            return None;
+        }
+        let bytes = self.read_bytes(usize::from(n))?;
+        Some(number(bytes))
+    }
+
+    /// The next `n` bytes, a slice of those of the reader; `None` where fewer are left.
+    pub fn read_bytes(&mut self, n: usize) -> Option<&'a [u8]>
+        requires { IsAtByte self.old }
+        ensures value { option_map (λ s. s.now) result ≡ front n (bytes_left self.old) }
+        ensures moves { self.new ≡ (if is_some result then after_bytes self.old n else self.old) }
+    {
+        let left = &self.bytes[self.byte..];
+        if n > left.len() {
+            return None;
+        }
+        self.byte += n;
+        Some(&left[..n])
+    }
+
+    /// The bytes up to the first one for which `f` is true, which is not taken, or all that are
+    /// left where there is none: a slice of those of the reader. `f` may be asked any byte, and
+    /// answers by the byte alone.
+    pub fn eat_until<F: Fn(u8) -> bool + Drop>(&mut self, f: F) -> &'a [u8]
+        requires at_byte { IsAtByte self.old }
+        requires callable { F.IsAlwaysCallable f }
+        requires answers { AnswersByByte (F.post f) }
+        ensures value { (p : ℕ → Bool) → AnswersBy (F.post f) p →
+            result.now ≡ before_first p (bytes_left self.old) }
+        ensures moves { self.new ≡ after_bytes self.old (length result.now) }
+    {
+        let left = &self.bytes[self.byte..];
+        let mut count = 0;
+        for byte in left {
+            if f(*byte) {
+                break;
+            }
+            count += 1;
+        }
+        self.byte += count;
+        &left[..count]
+    }
+
+    /// How many whole bytes have been passed. A byte that is begun is not.
+    pub fn position(&self) -> usize
+        ensures value { result ≡ self.now.taken / 8 }
+        ensures within { result ≤ length self.now.source }
+    {
+        self.byte
+    }
+
+    /// Whether no bit is left.
+    pub fn at_end(&self) -> bool
+        ensures { IsTrue result ↔ (bits_left self.now ≡ []) }
+    {
+        self.byte == self.bytes.len()
+    }
+
+    /// Whether no byte is begun, which the calls that read bytes ask for.
+    pub fn at_byte(&self) -> bool
+        ensures { IsTrue result ↔ IsAtByte self.now }
+    {
+        self.bit == 0
+    }
+
+    // A reader at the same place, to try what may fail.
+    pub(crate) fn fork(&self) -> Reader<'a>
+        ensures { result ≡ self.now }
+    {
+        Reader {
+            bytes: self.bytes,
+            byte: self.byte,
+            bit: self.bit,
+        }
+    }
+}
+
+// The number that bytes write.
+fn number(bytes: &[u8]) -> u32
+    requires { length bytes.now ≤ 4 }
+    ensures { result ≡ big_endian bytes.now }
+{
+    let mut number = 0;
+    for byte in bytes {
+        number = number * 256 + u32::from(*byte);
+    }
+    number
+}

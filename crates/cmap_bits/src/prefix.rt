@@ -1,0 +1,96 @@
+//! Prefix tables: symbols that are spelled by words of bits, none of which begins another one.
+
+ghost use Rattle.std.specs.Prelude.{◌≡◌, ℕ, List, IfOk, IfSome, IfNone, OnErr};
+ghost use Rattle.cmap_bits.specs.PrefixWords.{Place, TableFront, BeginsAt, Decodes};
+ghost use Rattle.cmap_bits.specs.Reader.{bits_left, bytes_left, IsAtByte, after_bits};
+ghost use Rattle.cmap_bits.specs.TableTaken.{TakesTable};
+
+mod reading;
+mod words;
+
+use self::reading::parse;
+use self::words::{LONGEST, Words, find};
+use crate::bits::Reader;
+use std::alloc::{AllocError, Global};
+use std::marker::Model;
+
+/// Symbols, each spelled by a word of 1 to 32 bits, so that bits can be read word by word. A row
+/// of bits need not begin with a word. A clause sees the symbols in the order of their words,
+/// each with the length of its word in bits.
+#[derive(Debug, Drop)]
+pub struct PrefixTable {
+    // the words of each length, from 1 on
+    words: [Words; LONGEST],
+    symbols: Vec<u32>,
+}
+
+impl Model for PrefixTable {
+    ghost use Rattle.std.specs.Prelude.{List};
+    ghost use Rattle.cmap_bits.specs.PrefixWords.{Place};
+
+    ghost Value = { List Place };
+
+    ghost use Rattle.cmap_bits.specs.WordsByLength.{places_of, IsTable};
+
+    ghost view = { λ t. places_of t.words t.symbols.items };
+
+    ghost invariant = { λ t. IsTable t.words t.symbols.items };
+}
+
+impl PrefixTable {
+    /// The table that stands next, whose symbols have four bytes each: two bytes that are 0 where
+    /// there is no symbol, a byte that says how many lengths are counted, the counts of two bytes
+    /// each from length 1 on, and the symbols, all big-endian. `None` where none stands there:
+    /// where bytes are missing, a word is longer than 32 bits, or there are more words than fit.
+    ///
+    /// It fails only where there is no memory. Only a table moves the reader, to the byte behind
+    /// it.
+    pub fn parse_delta(
+        alloc: Global,
+        reader: &mut Reader<'_>,
+    ) -> Result<Option<PrefixTable>, AllocError>
+        requires { IsAtByte reader.old }
+        ensures some { IfOk result
+            (λ o. IfSome o (λ table. TakesTable 4 reader.old table reader.new)) }
+        ensures only { (table : List Place) (rest : List ℕ)
+            → TableFront 4 (bytes_left reader.old) table rest
+            → IfOk result (λ o. (o ≡ Some table) × (bytes_left reader.new ≡ rest)) }
+        ensures none { IfOk result (λ o. IfNone o (reader.new ≡ reader.old)) }
+        ensures err { OnErr result (reader.new ≡ reader.old) }
+    {
+        parse(alloc, reader, 4)
+    }
+
+    /// The table that stands next, whose symbols have one byte each. All else is as in
+    /// `parse_delta`.
+    pub fn parse_count(
+        alloc: Global,
+        reader: &mut Reader<'_>,
+    ) -> Result<Option<PrefixTable>, AllocError>
+        requires { IsAtByte reader.old }
+        ensures some { IfOk result
+            (λ o. IfSome o (λ table. TakesTable 1 reader.old table reader.new)) }
+        ensures only { (table : List Place) (rest : List ℕ)
+            → TableFront 1 (bytes_left reader.old) table rest
+            → IfOk result (λ o. (o ≡ Some table) × (bytes_left reader.new ≡ rest)) }
+        ensures none { IfOk result (λ o. IfNone o (reader.new ≡ reader.old)) }
+        ensures err { OnErr result (reader.new ≡ reader.old) }
+    {
+        parse(alloc, reader, 1)
+    }
+
+    /// The symbol whose word comes next, and the reader moves behind that word; `None` where no
+    /// word of the table does, and then the reader stays. It takes no memory.
+    pub fn decode(&self, reader: &mut Reader<'_>) -> Option<u32>
+        ensures found { IfSome result (λ symbol. (len : ℕ)
+            × Decodes self.now (bits_left reader.old) symbol len (bits_left reader.new)
+            × (reader.new ≡ after_bits reader.old len)) }
+        ensures none { IfNone result ((i : ℕ) → BeginsAt self.now (bits_left reader.old) i → ⊥) }
+        ensures only { (i j : ℕ) → BeginsAt self.now (bits_left reader.old) i
+            → BeginsAt self.now (bits_left reader.old) j → i ≡ j }
+        ensures unmoved { IfNone result (reader.new ≡ reader.old) }
+    {
+        let place = find(&self.words, reader)?;
+        Some(self.symbols[place])
+    }
+}

@@ -1,0 +1,4 @@
+pub mod ListsFiled
+pub mod ListsMade
+pub mod Outcomes
+pub mod LastOfLists

@@ -1,0 +1,44 @@
+-- What contracts see of declarations.
+use Rattle.std.specs.Prelude.{ℕ, ◌==◌, List, map, Option, Some, None, if◌then◌else◌}
+use Rattle.cmap_runs.specs.Ranges.{Span}
+use Rattle.cmap_files.specs.Files as files
+use Rattle.cmap_files.specs.declared.declarations.ByLength.{ByLength}
+use Rattle.cmap_files.specs.declared.declarations.CidRange.{CidRange}
+use Rattle.cmap_files.specs.declared.declarations.BfRange.{BfRange}
+use Rattle.cmap_files.specs.declared.declarations.Codespace.{Codespace}
+use Rattle.cmap_files.specs.declared.declarations.Lists.{Lists}
+
+abbrev pub cid_range_span : CidRange → Span
+cid_range_span declaration = record { start = declaration.range.start; end = declaration.range.end }
+
+abbrev pub bf_range_span : BfRange → Span
+bf_range_span declaration = record { start = declaration.range.start; end = declaration.range.end }
+
+abbrev pub cid_entry_seen : CidRange → files.CidEntry
+cid_entry_seen declaration = record { start = declaration.range.start; end = declaration.range.end; cid = declaration.cid }
+
+abbrev pub bf_entry_seen : BfRange → files.BfEntry
+bf_entry_seen declaration = record { start = declaration.range.start; end = declaration.range.end; units = declaration.units.items }
+
+abbrev pub codespace_seen : Codespace → files.Codespace
+codespace_seen space = record { len = space.len; low = space.low; high = space.high }
+
+abbrev pub entries_seen : List CidRange → List files.CidEntry
+entries_seen declarations = map cid_entry_seen declarations
+
+abbrev pub lists_seen : Lists → files.Lists
+lists_seen lists = record {
+  cids = record { one = entries_seen lists.cids.one.items; two = entries_seen lists.cids.two.items; three = entries_seen lists.cids.three.items; four = entries_seen lists.cids.four.items };
+  notdefs = record { one = entries_seen lists.notdefs.one.items; two = entries_seen lists.notdefs.two.items; three = entries_seen lists.notdefs.three.items; four = entries_seen lists.notdefs.four.items };
+  bfs = map bf_entry_seen lists.bfs.items;
+  spaces = map codespace_seen lists.spaces.items;
+}
+
+-- the one for codes of a length
+abbrev pub slot : {T : Type 0} → ByLength T → ℕ → Option T
+slot lists len =
+    if len == 1 then Some lists.one
+    else if len == 2 then Some lists.two
+    else if len == 3 then Some lists.three
+    else if len == 4 then Some lists.four
+    else None

@@ -1,0 +1,5 @@
+pub mod Only
+pub mod Files
+pub mod DeclarationsSeen
+pub mod FilesSeen
+pub mod ListsAppended

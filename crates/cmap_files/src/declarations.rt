@@ -1,0 +1,258 @@
+//! What a CMap declares for its codes.
+
+ghost use Rattle.std.specs.Prelude.{◌≡◌, ◌==◌, [], ◌∷◌, ◌++◌, IfOk, OnOk, if◌then◌else◌, map};
+ghost use Rattle.cmap_files.specs.Files.{Declaration, lists_of};
+ghost use Rattle.cmap_files.specs.DeclarationsSeen.{bf_entry_seen, cid_entry_seen, codespace_seen, entries_seen, lists_seen, slot};
+ghost use Rattle.std.specs.Option.{option_copied};
+ghost use Rattle.cmap_files.specs.ListsAppended.{no_lists, append_lists};
+
+use cmap_names::names::Cid;
+use cmap_runs::runs::{HasRange, Range};
+use std::alloc::{AllocError, Global};
+
+/// Codes from a start to an end, with their CIDs.
+#[derive(Debug, Drop)]
+pub struct CidRange {
+    pub range: Range,
+    /// The CID of the first code.
+    pub cid: Cid,
+}
+
+impl CidRange {
+    /// The same range again. It takes no memory.
+    pub fn clone(&self) -> CidRange
+        ensures { result ≡ self.now }
+    {
+        CidRange {
+            range: self.range,
+            cid: self.cid,
+        }
+    }
+}
+
+impl HasRange for CidRange {
+    ghost use Rattle.cmap_files.specs.DeclarationsSeen.{cid_range_span};
+
+    ghost span = { cid_range_span };
+
+    fn range(&self) -> &Range {
+        &self.range
+    }
+}
+
+/// Codes from a start to an end, with their texts.
+#[derive(Debug, Drop)]
+pub struct BfRange {
+    pub range: Range,
+    /// The units of the text of the first code, in UTF-16.
+    pub units: Vec<u16>,
+}
+
+impl BfRange {
+    /// The same range again.
+    pub fn clone(&self, alloc: Global) -> Result<BfRange, AllocError>
+        ensures { IfOk result (λ copy. bf_entry_seen copy ≡ bf_entry_seen self.now) }
+    {
+        Ok(BfRange {
+            range: self.range,
+            units: Vec::from_slice(alloc, &self.units)?,
+        })
+    }
+}
+
+impl HasRange for BfRange {
+    ghost use Rattle.cmap_files.specs.DeclarationsSeen.{bf_range_span};
+
+    ghost span = { bf_range_span };
+
+    fn range(&self) -> &Range {
+        &self.range
+    }
+}
+
+/// Codes of `len` bytes, each byte between those of `low` and `high`.
+#[derive(Clone, Copy, Debug)]
+pub struct Codespace {
+    pub len: u8,
+    pub low: u32,
+    pub high: u32,
+}
+
+/// One for codes of each length in bytes.
+#[derive(Debug, Drop)]
+pub struct ByLength<T> {
+    pub one: T,
+    pub two: T,
+    pub three: T,
+    pub four: T,
+}
+
+impl<T> ByLength<T> {
+    /// The one for codes of `len` bytes; `None` unless `len` is 1 to 4.
+    pub fn get(&self, len: u8) -> Option<&T>
+        ensures { option_copied result ≡ slot self.now len }
+    {
+        match len {
+            1 => Some(&self.one),
+            2 => Some(&self.two),
+            3 => Some(&self.three),
+            4 => Some(&self.four),
+            _ => None,
+        }
+    }
+}
+
+/// The declarations of a file by their kinds, each list in the order of the file.
+#[derive(Drop)]
+pub struct Lists {
+    pub cids: ByLength<Vec<CidRange>>,
+    pub notdefs: ByLength<Vec<CidRange>>,
+    pub bfs: Vec<BfRange>,
+    pub spaces: Vec<Codespace>,
+}
+
+impl Lists {
+    pub fn new(alloc: Global) -> Lists
+        ensures { lists_seen result ≡ no_lists }
+    {
+        Lists {
+            cids: empty_lists(alloc),
+            notdefs: empty_lists(alloc),
+            bfs: Vec::new(alloc),
+            spaces: Vec::new(alloc),
+        }
+    }
+
+    /// Adds a declaration of CIDs for codes of `len` bytes.
+    pub fn add_cid(&mut self, len: u8, range: CidRange) -> Result<(), AllocError>
+        ensures { OnOk result (lists_seen self.new ≡ append_lists (lists_seen self.old)
+            (lists_of (Declaration.cid len (cid_entry_seen range) ∷ []))) }
+    {
+        push_filed(&mut self.cids, len, range)
+    }
+
+    /// Adds a notdef declaration for codes of `len` bytes.
+    pub fn add_notdef(&mut self, len: u8, range: CidRange) -> Result<(), AllocError>
+        ensures { OnOk result (lists_seen self.new ≡ append_lists (lists_seen self.old)
+            (lists_of (Declaration.notdef len (cid_entry_seen range) ∷ []))) }
+    {
+        push_filed(&mut self.notdefs, len, range)
+    }
+
+    /// Adds a declaration of texts.
+    pub fn add_bf(&mut self, range: BfRange) -> Result<(), AllocError>
+        ensures { OnOk result (lists_seen self.new ≡ append_lists (lists_seen self.old)
+            (lists_of (Declaration.bf (bf_entry_seen range) ∷ []))) }
+    {
+        self.bfs.push(range)?;
+        Ok(())
+    }
+
+    /// Adds a codespace range.
+    pub fn add_codespace(&mut self, space: Codespace) -> Result<(), AllocError>
+        ensures { OnOk result (lists_seen self.new ≡ append_lists (lists_seen self.old)
+            (lists_of (Declaration.codespace (codespace_seen space) ∷ []))) }
+    {
+        self.spaces.push(space)?;
+        Ok(())
+    }
+
+    /// Adds declarations of CIDs for codes of `len` bytes, in their order.
+    pub fn add_cids(&mut self, len: u8, ranges: Vec<CidRange>) -> Result<(), AllocError>
+        ensures { OnOk result (lists_seen self.new ≡ append_lists (lists_seen self.old)
+            (lists_of (map (Declaration.cid len) (entries_seen ranges.items)))) }
+    {
+        append_filed(&mut self.cids, len, ranges)?;
+        Ok(())
+    }
+
+    /// Adds notdef declarations for codes of `len` bytes, in their order.
+    pub fn add_notdefs(&mut self, len: u8, ranges: Vec<CidRange>) -> Result<(), AllocError>
+        ensures { OnOk result (lists_seen self.new ≡ append_lists (lists_seen self.old)
+            (lists_of (map (Declaration.notdef len) (entries_seen ranges.items)))) }
+    {
+        append_filed(&mut self.notdefs, len, ranges)?;
+        Ok(())
+    }
+
+    /// Adds declarations of texts, in their order.
+    pub fn add_bfs(&mut self, mut ranges: Vec<BfRange>) -> Result<(), AllocError>
+        ensures { OnOk result (lists_seen self.new ≡ append_lists (lists_seen self.old)
+            (lists_of (map Declaration.bf (map bf_entry_seen ranges.items)))) }
+    {
+        self.bfs.append(&mut ranges)?;
+        Ok(())
+    }
+
+    /// Adds codespace ranges, in their order.
+    pub fn add_codespaces(&mut self, mut spaces: Vec<Codespace>) -> Result<(), AllocError>
+        ensures { OnOk result (lists_seen self.new ≡ append_lists (lists_seen self.old)
+            (lists_of (map Declaration.codespace (map codespace_seen spaces.items)))) }
+    {
+        self.spaces.append(&mut spaces)?;
+        Ok(())
+    }
+}
+
+/// Adds a declaration to the list for codes of `len` bytes, if there is one.
+fn push_filed(
+    lists: &mut ByLength<Vec<CidRange>>,
+    len: u8,
+    range: CidRange,
+) -> Result<(), AllocError>
+    ensures one { OnOk result (lists.new.one.items
+        ≡ lists.old.one.items ++ (if len == 1 then range ∷ [] else [])) }
+    ensures two { OnOk result (lists.new.two.items
+        ≡ lists.old.two.items ++ (if len == 2 then range ∷ [] else [])) }
+    ensures three { OnOk result (lists.new.three.items
+        ≡ lists.old.three.items ++ (if len == 3 then range ∷ [] else [])) }
+    ensures four { OnOk result (lists.new.four.items
+        ≡ lists.old.four.items ++ (if len == 4 then range ∷ [] else [])) }
+{
+    match len {
+        1 => lists.one.push(range)?,
+        2 => lists.two.push(range)?,
+        3 => lists.three.push(range)?,
+        4 => lists.four.push(range)?,
+        _ => {}
+    }
+    Ok(())
+}
+
+/// Adds declarations to the list for codes of `len` bytes, if there is one.
+fn append_filed(
+    lists: &mut ByLength<Vec<CidRange>>,
+    len: u8,
+    mut ranges: Vec<CidRange>,
+) -> Result<(), AllocError>
+    ensures one { OnOk result (lists.new.one.items
+        ≡ lists.old.one.items ++ (if len == 1 then ranges.items else [])) }
+    ensures two { OnOk result (lists.new.two.items
+        ≡ lists.old.two.items ++ (if len == 2 then ranges.items else [])) }
+    ensures three { OnOk result (lists.new.three.items
+        ≡ lists.old.three.items ++ (if len == 3 then ranges.items else [])) }
+    ensures four { OnOk result (lists.new.four.items
+        ≡ lists.old.four.items ++ (if len == 4 then ranges.items else [])) }
+{
+    match len {
+        1 => lists.one.append(&mut ranges),
+        2 => lists.two.append(&mut ranges),
+        3 => lists.three.append(&mut ranges),
+        4 => lists.four.append(&mut ranges),
+        _ => Ok(()),
+    }
+}
+
+fn empty_lists(alloc: Global) -> ByLength<Vec<CidRange>>
+    ensures one { result.one.items ≡ [] }
+    ensures two { result.two.items ≡ [] }
+    ensures three { result.three.items ≡ [] }
+    ensures four { result.four.items ≡ [] }
+{
+    ByLength {
+        one: Vec::new(alloc),
+        two: Vec::new(alloc),
+        three: Vec::new(alloc),
+        four: Vec::new(alloc),
+    }
+}

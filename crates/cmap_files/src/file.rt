@@ -1,0 +1,34 @@
+//! What one file says.
+
+ghost use Rattle.std.specs.Prelude.{◌≡◌};
+ghost use Rattle.cmap_files.specs.ListsAppended.{no_file};
+ghost use Rattle.cmap_files.specs.FilesSeen.{file_seen};
+
+use crate::declarations::Lists;
+use cmap_names::metadata::Metadata;
+use std::alloc::Global;
+
+/// What one file says, and the names of the files that it uses, in order.
+#[derive(Drop)]
+pub struct File<'d> {
+    pub metadata: Metadata,
+    pub lists: Lists,
+    pub uses: Vec<&'d [u8]>,
+}
+
+impl<'d> File<'d> {
+    /// One that says nothing.
+    pub fn new(alloc: Global) -> Self
+        ensures { file_seen result ≡ no_file }
+    {
+        File {
+            metadata: Metadata {
+                character_collection: None,
+                name: None,
+                writing_mode: None,
+            },
+            lists: Lists::new(alloc),
+            uses: Vec::new(alloc),
+        }
+    }
+}

@@ -1,0 +1,10 @@
+pub mod BinaryDigits
+pub mod BlocksMade
+pub mod EdgesTellSpans
+pub mod GreatestPlace
+pub mod HowManyRuns
+pub mod RunsApart
+pub mod RunsBelowALimit
+pub mod RunsInOrder
+pub mod SweepSteps
+pub mod TheOnlyRuns

@@ -1,0 +1,17 @@
+use Rattle.std.proofs.Common.{◌-◌, ◌≡◌, ◌+◌, ◌<◌, ◌≤◌, length}
+use Rattle.std.specs.List.{AllWithin}
+use Rattle.cmap_runs.specs.Ranges.{digits}
+use Rattle.cmap_runs.proofs.runs.search.find_place.Given as goal
+
+abbrev pub invariant-loop-low : goal.invariant-loop-low
+invariant-loop-low l = record {
+  within : l.high ≤ length l.runs;
+  below : AllWithin (λ run. run.high < l.code) l.runs 0 l.low;
+  above : AllWithin (λ run. l.code < run.low) l.runs l.high (length l.runs);
+  bound : l.looks.runs + digits (l.high - l.low) ≤ l.fn.looks.runs + digits (length l.runs);
+  grows : l.fn.looks.runs ≤ l.looks.runs;
+  declarations : l.looks.declarations ≡ l.fn.looks.declarations;
+}
+
+abbrev pub decreases-loop-low : goal.decreases-loop-low
+decreases-loop-low l = l.high - l.low

@@ -1,0 +1,5 @@
+pub mod Ranges
+pub mod Order
+pub mod Edges
+pub mod RangesApart
+pub mod Blocks

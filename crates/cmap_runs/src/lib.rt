@@ -1,0 +1,4 @@
+//! Tables of declarations for ranges of codes.
+#![tactic(auto)]
+
+pub mod runs;

@@ -1,0 +1,73 @@
+//! For blocks of codes, where in a list of runs a search begins and ends.
+
+ghost use Rattle.std.specs.Prelude.{◌≡◌, ◌<◌, ◌≤◌, IfOk, length};
+ghost use Rattle.std.specs.List.{AllWithin};
+ghost use Rattle.cmap_runs.specs.Blocks.{AreBlocks};
+ghost use Rattle.cmap_runs.specs.Order.{IsInOrder};
+
+use super::held::Runs;
+use std::alloc::{AllocError, Global};
+use std::marker::Model;
+
+// How many codes a block has.
+pub(super) const BLOCK_LEN: u32 = 256;
+
+// The blocks of the codes of two bytes, and the one behind them.
+pub(super) const BLOCK_COUNT: u32 = 257;
+
+// A shorter list of runs is searched without blocks.
+const FEWEST_RUNS: usize = 256;
+
+// For each block, how many runs end before its first code.
+#[derive(Debug, Drop)]
+pub(super) struct Blocks {
+    counts: Vec<usize>,
+}
+
+impl Model for Blocks {
+    ghost use Rattle.std.specs.Prelude.{List, ℕ};
+
+    ghost Value = { List ℕ };
+
+    ghost view = { λ blocks. blocks.counts.items };
+}
+
+impl Blocks {
+    pub(super) fn of(alloc: Global, runs: &mut Runs) -> Result<Blocks, AllocError>
+        requires { IsInOrder runs.old }
+        ensures blocks { IfOk result (λ blocks. AreBlocks runs.old blocks) }
+        ensures runs { runs.new ≡ runs.old }
+    {
+        if runs.len() < FEWEST_RUNS {
+            return Ok(Blocks {
+                counts: Vec::new(alloc),
+            });
+        }
+        Ok(Blocks {
+            counts: runs.block_counts(alloc)?,
+        })
+    }
+
+    // The places from the first of which up to the second a run that holds `code` stands.
+    pub(super) fn window(&self, runs: &Runs, code: u32) -> (usize, usize)
+        requires order { IsInOrder runs.now }
+        requires blocks { AreBlocks runs.now self.now }
+        ensures within { result.1 ≤ length runs.now }
+        ensures below { AllWithin (λ run. run.high < code) runs.now 0 result.0 }
+        ensures above { AllWithin (λ run. code < run.low) runs.now result.1 (length runs.now) }
+    {
+        let run_count = runs.len();
+        let block_count = self.counts.len();
+        if block_count == 0 {
+            return (0, run_count);
+        }
+        let block = (code / BLOCK_LEN) as usize;
+        if block + 1 >= block_count {
+            return (self.counts[block_count - 1], run_count);
+        }
+        let next = self.counts[block + 1];
+        // The run that ends behind the block may begin in it.
+        let end = if next < run_count { next + 1 } else { next };
+        (self.counts[block], end)
+    }
+}

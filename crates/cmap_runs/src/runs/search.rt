@@ -1,0 +1,44 @@
+//! The search for the run that holds a code, by halving.
+
+ghost use Rattle.std.specs.Prelude.{◌≡◌, ◌+◌, ◌<◌, ◌≤◌, All, Any, IfNone, IfSome, OnSome, length};
+ghost use Rattle.std.specs.List.{AllWithin};
+ghost use Rattle.cmap_runs.specs.Order.{Holds, IsInOrder};
+ghost use Rattle.cmap_runs.specs.Ranges.{digits};
+
+use super::held::Runs;
+use super::looks::Looks;
+
+// The place of the run that holds `code`. Only the runs from `window.0` on and before `window.1`
+// may hold it.
+pub(super) fn find_place(
+    runs: &Runs,
+    code: u32,
+    window: (usize, usize),
+    looks: &mut Looks,
+) -> Option<usize>
+    requires order { IsInOrder runs.now }
+    requires within { window.1 ≤ length runs.now }
+    requires below { AllWithin (λ run. run.high < code) runs.now 0 window.0 }
+    requires above { AllWithin (λ run. code < run.low) runs.now window.1 (length runs.now) }
+    ensures none { IfNone result (All (λ run. ¬ (Holds code run)) runs.now) }
+    ensures found { IfSome result
+        (λ place. Any (λ run. Holds code run × (run.place ≡ place)) runs.now) }
+    ensures bound { looks.new.runs ≤ looks.old.runs + digits (length runs.now) }
+    ensures grows { looks.old.runs ≤ looks.new.runs }
+    ensures looked { OnSome result (looks.old.runs + 1 ≤ looks.new.runs) }
+    ensures declarations { looks.new.declarations ≡ looks.old.declarations }
+{
+    let (mut low, mut high) = window;
+    while low < high {
+        let middle = low + (high - low) / 2;
+        let (first, last, place) = runs.get(middle, looks);
+        if code < first {
+            high = middle;
+        } else if last < code {
+            low = middle + 1;
+        } else {
+            return Some(place);
+        }
+    }
+    None
+}

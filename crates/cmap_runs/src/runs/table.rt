@@ -1,0 +1,123 @@
+//! Declarations with their runs.
+
+ghost use Rattle.std.specs.Prelude.{◌≡◌, ◌+◌, ◌-◌, ◌*◌, ◌<◌, ◌≤◌, Some, IfOk, IfNone, IfSome, OnSome, IsTrue, length, map, slice_get};
+ghost use Rattle.std.specs.Option.{option_copied};
+ghost use Rattle.cmap_runs.specs.Ranges.{AreTheRuns, HasDigits, contains, digits, last_of, runs_of};
+
+use super::HasRange;
+use super::blocks::Blocks;
+use super::held::{Declarations, Runs};
+use super::looks::Looks;
+use super::search::find_place;
+use super::sweep::runs_of;
+use std::alloc::{AllocError, Global};
+use std::marker::Model;
+
+/// A list of declarations, in which the last one that contains a code is found by halving a list
+/// of runs. A run is a row of codes that one declaration decides, as long as can be. A clause
+/// sees the list. Places count from 0, and codes are numbers of 32 bits.
+#[derive(Debug, Drop)]
+pub struct Table<T: HasRange> {
+    runs: Runs,
+    blocks: Blocks,
+    declarations: Declarations<T>,
+}
+
+impl<T: HasRange> Model for Table<T> {
+    ghost use Rattle.std.specs.Prelude.{◌≡◌, List, map};
+    ghost use Rattle.cmap_runs.specs.Blocks.{AreBlocks};
+    ghost use Rattle.cmap_runs.specs.Ranges.{runs_of};
+
+    ghost Value = { List T };
+
+    ghost view = { λ table. table.declarations };
+
+    ghost invariant = { λ table. (table.runs ≡ runs_of (map T.span table.declarations))
+        × AreBlocks table.runs table.blocks };
+}
+
+impl<T: HasRange> Table<T> {
+    /// The table of the declarations of `list`, in this order.
+    ///
+    /// It fails only where there is no memory, and `list` is dropped then. No other call takes
+    /// some.
+    pub fn build(alloc: Global, list: Vec<T>) -> Result<Table<T>, AllocError>
+        ensures { IfOk result (λ table. table ≡ list.items) }
+    {
+        let mut runs = runs_of(alloc, list.as_slice())?;
+        let blocks = Blocks::of(alloc, &mut runs)?;
+        Ok(Table {
+            runs,
+            blocks,
+            declarations: Declarations::new(list),
+        })
+    }
+
+    /// The last declaration of the list that contains `code`; `None` where there is none.
+    pub fn find(&self, code: u32, looks: &mut Looks) -> Option<&T>
+        ensures found { option_copied result ≡ last_of T.span self.now code }
+        ensures contains { IfSome result
+            (λ declaration. IsTrue (contains (T.span declaration.now) code)) }
+
+        // It looks at no more runs than their number has binary digits.
+        ensures runs { looks.new.runs
+            ≤ looks.old.runs + digits (length (runs_of (map T.span self.now))) }
+        ensures runs_grow { looks.old.runs ≤ looks.new.runs }
+        ensures some_run { OnSome result (looks.old.runs + 1 ≤ looks.new.runs) }
+
+        // It looks at a declaration only to answer it.
+        ensures declarations { looks.new.declarations ≤ looks.old.declarations + 1 }
+        ensures declarations_grow { looks.old.declarations ≤ looks.new.declarations }
+        ensures no_declaration { IfNone result
+            (looks.new.declarations ≡ looks.old.declarations) }
+        ensures one_declaration { OnSome result
+            (looks.new.declarations ≡ looks.old.declarations + 1) }
+    {
+        let window = self.blocks.window(&self.runs, code);
+        let place = find_place(&self.runs, code, window, looks)?;
+        Some(self.declarations.get(place, looks))
+    }
+
+    /// How many declarations the table has.
+    pub fn decl_count(&self) -> usize
+        ensures { result ≡ length self.now }
+    {
+        self.declarations.len()
+    }
+
+    /// How many runs the table has. They come in the order of their codes.
+    pub fn run_count(&self) -> usize
+        ensures count { result ≡ length (runs_of (map T.span self.now)) }
+        ensures runs { AreTheRuns (map T.span self.now) (runs_of (map T.span self.now)) }
+
+        // Fewer than two for each declaration.
+        ensures few { result ≤ 2 * length self.now - 1 }
+
+        // What `find` is bounded by.
+        ensures digits { HasDigits result (digits result) }
+    {
+        self.runs.len()
+    }
+
+    /// The first code of the run at `i`, its last code and the place of the declaration that
+    /// decides them.
+    pub fn run(&self, i: usize, looks: &mut Looks) -> (u32, u32, usize)
+        requires { i < length (runs_of (map T.span self.now)) }
+        ensures run { slice_get (runs_of (map T.span self.now)) i
+            ≡ Some (record { low = result.0; high = result.1; place = result.2 }) }
+        ensures runs { looks.new.runs ≡ looks.old.runs + 1 }
+        ensures declarations { looks.new.declarations ≡ looks.old.declarations }
+    {
+        self.runs.get(i, looks)
+    }
+
+    /// The declaration at place `i`.
+    pub fn decl(&self, i: usize, looks: &mut Looks) -> &T
+        requires { i < length self.now }
+        ensures declaration { slice_get self.now i ≡ Some result.now }
+        ensures runs { looks.new.runs ≡ looks.old.runs }
+        ensures declarations { looks.new.declarations ≡ looks.old.declarations + 1 }
+    {
+        self.declarations.get(i, looks)
+    }
+}

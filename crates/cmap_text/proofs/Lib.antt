@@ -1,0 +1,9 @@
+pub mod EntriesRead
+pub mod OneReading
+pub mod FileItems
+pub mod ItemsRead
+pub mod ItemsSaid
+pub mod ListsOfDestinations
+pub mod SectionsRead
+pub mod ValuesRead
+pub mod HeadsRead

@@ -1,0 +1,47 @@
+-- What the values of keys say of a file.
+use Rattle.std.proofs.Common.{◌≡◌, ℕ, zero, suc, refl, sym, ap, subst, ◌∙◌, List, lit<, arith}
+use Rattle.std.specs.Prelude.{Contains, Option, Some}
+use Rattle.cmap_tokens.specs.Strings.{IsValue}
+use Rattle.cmap_tokens.specs.Tokens.{Token}
+use Rattle.cmap_files.specs.Only.{IsOnly}
+use Rattle.cmap_files.specs.Files.{Collection, FileMetadata, Mode}
+use Rattle.cmap_text.specs.TextFiles.{keys, GivesText, IsCollection, IsMetadata, mode_in, name_in, Values}
+use Rattle.cmap_text.specs.TextSeen.{key_name}
+use Rattle.cmap_text.specs.declared.keys.Key.{Key}
+use Rattle.cmap_text.specs.declared.keys.Key.TheVariants.{Registry, Ordering, Supplement, CMapName, WMode}
+
+-- the keys are those of the list
+pub is_key : (key : Key) → Contains keys (key_name key)
+is_key Registry = (0, lit< tt, refl)
+is_key Ordering = (1, lit< tt, refl)
+is_key Supplement = (2, lit< tt, refl)
+is_key CMapName = (3, lit< tt, refl)
+is_key WMode = (4, lit< tt, refl)
+
+pub key_named : (name : List ℕ) → Contains keys name → (key : Key) × (name ≡ key_name key)
+key_named name (zero, less, is) = (Registry, sym is)
+key_named name (suc zero, less, is) = (Ordering, sym is)
+key_named name (suc (suc zero), less, is) = (Supplement, sym is)
+key_named name (suc (suc (suc zero)), less, is) = (CMapName, sym is)
+key_named name (suc (suc (suc (suc zero))), less, is) = (WMode, sym is)
+key_named name (suc (suc (suc (suc (suc k)))), less, is) = absurd (omega arith)
+
+-- the text of a string
+string_given : (piece bytes : List ℕ) → IsValue piece bytes → ((value : List ℕ) → IsValue piece value → value ≡ bytes) → IsOnly (GivesText (Some (Token.String piece))) (Some bytes)
+string_given piece bytes value only = record {
+  holds = (bytes, value, refl);
+  alone = λ other (given, is_value, is). is ∙ ap Some (only given is_value);
+}
+
+pub text_given : (t : Token) (piece bytes : List ℕ) → t ≡ Token.String piece → IsValue piece bytes → ((value : List ℕ) → IsValue piece value → value ≡ bytes) → IsOnly (GivesText (Some t)) (Some bytes)
+text_given t piece bytes is value only = subst (λ u. IsOnly (GivesText (Some u)) (Some bytes)) (sym is) (string_given piece bytes value only)
+
+pub metadata_is : (values : Values) (collection : Option Collection) (name : Option (List ℕ)) (mode : Option Mode) → IsOnly (IsCollection values) collection → name ≡ name_in values.name → mode ≡ mode_in values.mode
+    → IsOnly (IsMetadata values) (record { collection = collection; name = name; mode = mode })
+metadata_is values collection name mode only name_is mode_is = record {
+  holds = (only.holds, name_is, mode_is);
+  alone = λ other (other_only, other_name, other_mode).
+      ap (λ c. let m : FileMetadata = record { collection = c; name = other.name; mode = other.mode } in m) (only.alone other.collection other_only)
+      ∙ ap (λ n. let m : FileMetadata = record { collection = collection; name = n; mode = other.mode } in m) (other_name ∙ sym name_is)
+      ∙ ap (λ k. let m : FileMetadata = record { collection = collection; name = name; mode = k } in m) (other_mode ∙ sym mode_is);
+}

@@ -1,0 +1,4 @@
+pub mod TextFiles
+pub mod TextReading
+pub mod TextSeen
+pub mod EntriesSeen

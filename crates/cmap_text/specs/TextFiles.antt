@@ -1,0 +1,228 @@
+-- CMap files as text: tokens read as items, nothing executed. Adobe Technical Notes 5014 and 5411, with what PDF writers make of them.
+use Rattle.std.specs.Prelude.{◌≡◌, ◌≢◌, ℕ, ℤ, pos, negsuc, ◌+◌, ◌-◌, ◌<◌, ◌≤◌, ◌^◌, true, false, ◌&&◌, List, [], ◌∷◌, ◌++◌, ◌⊎◌, length, map, filter_map, flat_map, bytes_eq, codes, Contains, Option, Some, None, option_map, option_and_then, neg_ℤ, int_le, if◌then◌else◌}
+use Rattle.std.specs.List.{AllByRecursion, AllZip, last_or, enumerate_from}
+use Rattle.cmap_bits.specs.BigEndian.{big_endian}
+use Rattle.cmap_tokens.specs.Numbers.{Number}
+use Rattle.cmap_tokens.specs.Tokens.{Token, Tokens}
+use Rattle.cmap_tokens.specs.Strings.{IsValue}
+use Rattle.cmap_tokens.specs.Texts.{units_of}
+use Rattle.cmap_names.specs.Names.{family_of}
+use Rattle.cmap_files.specs.Files.{CidEntry, Declaration, Mode, Collection, FileMetadata, File, lists_of, mode_numbered}
+
+-- the names that take the next token as their value
+abbrev pub keys : List (List ℕ)
+keys = codes "Registry" ∷ codes "Ordering" ∷ codes "Supplement" ∷ codes "CMapName" ∷ codes "WMode" ∷ []
+
+pub data Section : Type 0 where
+  codespace_range : Section
+  cid_range : Section
+  cid_char : Section
+  notdef_range : Section
+  notdef_char : Section
+  bf_range : Section
+  bf_char : Section
+
+abbrev pub opener : Section → List ℕ
+opener codespace_range = codes "begincodespacerange"
+opener cid_range = codes "begincidrange"
+opener cid_char = codes "begincidchar"
+opener notdef_range = codes "beginnotdefrange"
+opener notdef_char = codes "beginnotdefchar"
+opener bf_range = codes "beginbfrange"
+opener bf_char = codes "beginbfchar"
+
+abbrev pub closer : Section → List ℕ
+closer codespace_range = codes "endcodespacerange"
+closer cid_range = codes "endcidrange"
+closer cid_char = codes "endcidchar"
+closer notdef_range = codes "endnotdefrange"
+closer notdef_char = codes "endnotdefchar"
+closer bf_range = codes "endbfrange"
+closer bf_char = codes "endbfchar"
+
+abbrev pub use_word : List ℕ
+use_word = codes "usecmap"
+
+-- a string of one to four bytes
+abbrev pub IsCode : Token → List ℕ → Type 0
+IsCode t bytes = (piece : List ℕ) × (t ≡ Token.String piece) × IsValue piece bytes × (1 ≤ length bytes) × (length bytes ≤ 4)
+
+-- an integer from 0 to 2^32 - 1
+abbrev pub IsCid : Token → ℕ → Type 0
+IsCid t n = (t ≡ Token.Numeral (Number.Integer (pos n))) × (n < 2 ^ 32)
+
+-- a string that isn't empty
+abbrev pub IsDestination : Token → List ℕ → Type 0
+IsDestination t units = (piece bytes : List ℕ) × (t ≡ Token.String piece) × IsValue piece bytes × (0 < length bytes) × (units ≡ units_of bytes)
+
+abbrev pub cid_entry : List ℕ → List ℕ → ℕ → CidEntry
+cid_entry start end cid = record { start = big_endian start; end = big_endian end; cid = cid }
+
+-- code, code, CID, filed by the length of the first; or code, CID
+abbrev pub IsCidRange : (ℕ → CidEntry → Declaration) → List Token → List Declaration → Type 0
+IsCidRange kind tokens declared = (a b c : Token) × (start end : List ℕ) × (cid : ℕ) × (tokens ≡ a ∷ b ∷ c ∷ []) × IsCode a start × IsCode b end × IsCid c cid × (declared ≡ kind (length start) (cid_entry start end cid) ∷ [])
+
+abbrev pub IsCidChar : (ℕ → CidEntry → Declaration) → List Token → List Declaration → Type 0
+IsCidChar kind tokens declared = (a c : Token) × (code : List ℕ) × (cid : ℕ) × (tokens ≡ a ∷ c ∷ []) × IsCode a code × IsCid c cid × (declared ≡ kind (length code) (cid_entry code code cid) ∷ [])
+
+abbrev pub declares_bf : ℕ → ℕ → List ℕ → Declaration
+declares_bf start end units = Declaration.bf (record { start = start; end = end; units = units })
+
+-- the tokens of one entry of a section, and what it declares
+abbrev pub IsEntry : Section → List Token → List Declaration → Type 0
+IsEntry codespace_range tokens declared = (a b : Token) × (low high : List ℕ) × (tokens ≡ a ∷ b ∷ []) × IsCode a low × IsCode b high × (length low ≡ length high)
+    × (declared ≡ Declaration.codespace (record { len = length low; low = big_endian low; high = big_endian high }) ∷ [])
+IsEntry cid_range tokens declared = IsCidRange Declaration.cid tokens declared
+IsEntry cid_char tokens declared = IsCidChar Declaration.cid tokens declared
+IsEntry notdef_range tokens declared = IsCidRange Declaration.notdef tokens declared
+IsEntry notdef_char tokens declared = IsCidChar Declaration.notdef tokens declared
+IsEntry bf_char tokens declared = (a d : Token) × (code units : List ℕ) × (tokens ≡ a ∷ d ∷ []) × IsCode a code × IsDestination d units × (declared ≡ declares_bf (big_endian code) (big_endian code) units ∷ [])
+IsEntry bf_range tokens declared = (a b : Token) × (start end : List ℕ) × IsCode a start × IsCode b end
+    × (((d : Token) × (units : List ℕ) × (tokens ≡ a ∷ b ∷ d ∷ []) × IsDestination d units × (declared ≡ declares_bf (big_endian start) (big_endian end) units ∷ []))
+    -- [ ] with one destination for each code from start to end
+    ⊎ ((ds : List Token) × (texts : List (List ℕ)) × (tokens ≡ a ∷ b ∷ Token.Name false (codes "[") ∷ ds ++ Token.Name false (codes "]") ∷ []) × AllZip IsDestination ds texts
+    × (length texts ≡ big_endian end + 1 - big_endian start) × (declared ≡ map (λ p. declares_bf p.0 p.0 p.1) (enumerate_from (big_endian start) texts))))
+
+-- the tokens between opener and closer are entries, and declare these in order
+abbrev pub IsBody : Section → List Token → List Declaration → Type 0
+IsBody section tokens declared = (es : List (List Token × List Declaration)) × AllByRecursion (λ e. IsEntry section e.0 e.1) es
+    × (tokens ≡ flat_map (λ e. e.0) es) × (declared ≡ flat_map (λ e. e.1) es)
+
+-- what the tokens of a file are read as
+pub data Item : Type 0 where
+  -- a key, and its value unless the file ends
+  key : List ℕ → Option Token → Item
+  -- a section, by what it declares
+  entries : List Declaration → Item
+  use_of_base : Item
+  other : Token → Item
+
+-- a token that is an item by itself: no key, no opener and no use
+abbrev pub IsPlain : Token → Type 0
+IsPlain (Token.Name true bytes) = Contains keys bytes → ⊥
+IsPlain (Token.Name false bytes) = (bytes ≢ use_word) × ((section : Section) → bytes ≢ opener section)
+IsPlain (Token.String piece) = Unit {0}
+IsPlain (Token.Numeral x) = Unit {0}
+
+-- the tokens of one item
+abbrev pub IsItem : List Token → Item → Type 0
+IsItem tokens (key k None) = Contains keys k × (tokens ≡ Token.Name true k ∷ [])
+IsItem tokens (key k (Some value)) = Contains keys k × (tokens ≡ Token.Name true k ∷ value ∷ [])
+IsItem tokens (entries declared) = (section : Section) × (body : List Token) × (tokens ≡ Token.Name false (opener section) ∷ body ++ Token.Name false (closer section) ∷ []) × IsBody section body declared
+IsItem tokens use_of_base = tokens ≡ Token.Name false use_word ∷ []
+IsItem tokens (other t) = IsPlain t × (tokens ≡ t ∷ [])
+
+-- only the last item may be a key without a value
+abbrev pub MayEnd : Item → List Token → Type 0
+MayEnd (key k None) rest = rest ≡ []
+MayEnd (key k (Some value)) rest = Unit {0}
+MayEnd (entries declared) rest = Unit {0}
+MayEnd use_of_base rest = Unit {0}
+MayEnd (other t) rest = Unit {0}
+
+-- the tokens, item by item
+abbrev pub AreItems : List Token → List Item → Type 0
+AreItems tokens [] = tokens ≡ []
+AreItems tokens (item ∷ items) = (front rest : List Token) × (tokens ≡ front ++ rest) × IsItem front item × MayEnd item rest × AreItems rest items
+
+-- the literal name that an item begins with
+abbrev pub literal_head : Item → Option (List ℕ)
+literal_head (key k value) = Some k
+literal_head (entries declared) = None
+literal_head use_of_base = None
+literal_head (other (Token.Name true bytes)) = Some bytes
+literal_head (other (Token.Name false bytes)) = None
+literal_head (other (Token.String piece)) = None
+literal_head (other (Token.Numeral x)) = None
+
+-- the names that the items use, where each use comes right behind an item that begins with a literal name
+abbrev pub names_used : Option (List ℕ) → List Item → Option (List (List ℕ))
+names_used before [] = Some []
+names_used before (use_of_base ∷ items) = option_and_then (λ name. option_map (λ names. name ∷ names) (names_used None items)) before
+names_used before (key k value ∷ items) = names_used (Some k) items
+names_used before (entries declared ∷ items) = names_used None items
+names_used before (other t ∷ items) = names_used (literal_head (other t)) items
+
+abbrev pub declared_by : Item → List Declaration
+declared_by (key k value) = []
+declared_by (entries declared) = declared
+declared_by use_of_base = []
+declared_by (other t) = []
+
+-- the value of an item with this key
+abbrev pub value_under : List ℕ → Item → Option (Option Token)
+value_under name (key k value) = if bytes_eq k name then Some value else None
+value_under name (entries declared) = None
+value_under name use_of_base = None
+value_under name (other t) = None
+
+-- the value of the last item with this key
+abbrev pub last_value : List ℕ → List Item → Option Token
+last_value name items = option_and_then (λ value. value) (last_or None (filter_map (value_under name) items))
+
+-- what stands behind the keys of a file, where it does
+pub record Values : Type 0 where
+  pub registry : Option Token
+  pub ordering : Option Token
+  pub supplement : Option Token
+  pub name : Option Token
+  pub mode : Option Token
+
+-- the last one with each key decides, also where it has no value
+abbrev pub last_values : List Item → Values
+last_values items = record {
+  registry = last_value (codes "Registry") items;
+  ordering = last_value (codes "Ordering") items;
+  supplement = last_value (codes "Supplement") items;
+  name = last_value (codes "CMapName") items;
+  mode = last_value (codes "WMode") items;
+}
+
+-- registry and ordering: the value of a string, or the bytes of a name
+abbrev pub GivesText : Option Token → Option (List ℕ) → Type 0
+GivesText None text = text ≡ None
+GivesText (Some (Token.Name literal bytes)) text = text ≡ Some bytes
+GivesText (Some (Token.String piece)) text = (value : List ℕ) × IsValue piece value × (text ≡ Some value)
+GivesText (Some (Token.Numeral x)) text = text ≡ None
+
+abbrev pub integer_in : Option Token → Option ℤ
+integer_in (Some (Token.Numeral (Number.Integer n))) = Some n
+integer_in (Some (Token.Numeral Number.Real)) = None
+integer_in (Some (Token.Name literal bytes)) = None
+integer_in (Some (Token.String piece)) = None
+integer_in None = None
+
+-- a supplement has 32 bits with sign
+abbrev pub supplement_in : Option Token → Option ℤ
+supplement_in t = option_and_then (λ n. if int_le (neg_ℤ (pos (2 ^ 31))) n && int_le n (pos (2 ^ 31 - 1)) then Some n else None) (integer_in t)
+
+abbrev pub name_in : Option Token → Option (List ℕ)
+name_in (Some (Token.Name literal bytes)) = Some bytes
+name_in (Some (Token.String piece)) = None
+name_in (Some (Token.Numeral x)) = None
+name_in None = None
+
+abbrev pub mode_of_integer : ℤ → Option Mode
+mode_of_integer (pos n) = mode_numbered n
+mode_of_integer (negsuc n) = None
+
+abbrev pub mode_in : Option Token → Option Mode
+mode_in t = option_and_then mode_of_integer (integer_in t)
+
+-- present only where all its parts are
+abbrev pub collection_of : Option (List ℕ) → Option (List ℕ) → Option ℤ → Option Collection
+collection_of registry ordering supplement = option_and_then (λ r. option_and_then (λ o. option_map (λ s. record { family = family_of r o; supplement = s }) supplement) ordering) registry
+
+-- the character collection that the values name
+abbrev pub IsCollection : Values → Option Collection → Type 0
+IsCollection values collection = (registry ordering : Option (List ℕ)) × GivesText values.registry registry × GivesText values.ordering ordering
+    × (collection ≡ collection_of registry ordering (supplement_in values.supplement))
+
+-- what the values say of the file
+abbrev pub IsMetadata : Values → FileMetadata → Type 0
+IsMetadata values metadata = IsCollection values metadata.collection × (metadata.name ≡ name_in values.name) × (metadata.mode ≡ mode_in values.mode)
+
+-- the bytes are a text that says what the file says
+unfoldable pub IsTextFile : List ℕ → File → Type 0
+IsTextFile bytes file = (tokens : List Token) × (items : List Item) × Tokens bytes tokens × AreItems tokens items
+    × (names_used None items ≡ Some file.uses) × IsMetadata (last_values items) file.metadata × (file.lists ≡ lists_of (flat_map declared_by items))

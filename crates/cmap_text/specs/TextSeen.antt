@@ -1,0 +1,50 @@
+-- Private aid: what contracts see of what the code reads from a text.
+use Rattle.std.specs.Prelude.{ℕ, ◌≤◌, List, codes, length, option_map}
+use Rattle.std.specs.Option.{option_copied}
+use Rattle.cmap_tokens.specs.TokenSeen.{token_seen}
+use Rattle.cmap_files.specs.DeclarationsSeen.{lists_seen}
+use Rattle.cmap_files.specs.FilesSeen.{names_seen}
+use Rattle.cmap_text.specs.TextFiles as files
+use Rattle.cmap_text.specs.TextReading as reading
+use Rattle.cmap_text.specs.declared.sections.Section.{Section}
+use Rattle.cmap_text.specs.declared.sections.Section.TheVariants.{CodespaceRange, CidRange, CidChar, NotdefRange, NotdefChar, BfRange, BfChar}
+use Rattle.cmap_text.specs.declared.items.Said.{Said}
+use Rattle.cmap_text.specs.declared.keys.Key.{Key}
+use Rattle.cmap_text.specs.declared.keys.Key.TheVariants.{Registry, Ordering, Supplement, CMapName, WMode}
+use Rattle.cmap_text.specs.declared.keys.Values.{Values}
+use Rattle.cmap_text.specs.declared.tokens.Code.{Code}
+
+abbrev pub section_seen : Section → files.Section
+section_seen CodespaceRange = files.codespace_range
+section_seen CidRange = files.cid_range
+section_seen CidChar = files.cid_char
+section_seen NotdefRange = files.notdef_range
+section_seen NotdefChar = files.notdef_char
+section_seen BfRange = files.bf_range
+section_seen BfChar = files.bf_char
+
+abbrev pub code_seen : Code → reading.Code
+code_seen code = record { len = code.len; number = code.number }
+
+-- one to four bytes
+abbrev pub IsCodeBytes : List ℕ → Type 0
+IsCodeBytes bytes = (1 ≤ length bytes) × (length bytes ≤ 4)
+
+abbrev pub key_name : Key → List ℕ
+key_name Registry = codes "Registry"
+key_name Ordering = codes "Ordering"
+key_name Supplement = codes "Supplement"
+key_name CMapName = codes "CMapName"
+key_name WMode = codes "WMode"
+
+abbrev pub values_seen : Values → files.Values
+values_seen values = record {
+  registry = option_map token_seen values.registry;
+  ordering = option_map token_seen values.ordering;
+  supplement = option_map token_seen values.supplement;
+  name = option_map token_seen values.name;
+  mode = option_map token_seen values.mode;
+}
+
+abbrev pub said_seen : Said → reading.Said
+said_seen said = record { values = values_seen said.values; lists = lists_seen said.lists; uses = names_seen said.uses.items; operand = option_copied said.operand }

@@ -1,0 +1,234 @@
+//! The entries of sections. Each call here has the first token of an entry, reads the others, and adds
+//! what the entry declares.
+
+ghost use Rattle.std.specs.Prelude.{◌+◌, ◌-◌, ℕ, [], ◌∷◌, IfOk, IsErrOf, OnOk};
+ghost use Rattle.cmap_tokens.specs.TokenSeen.{token_seen};
+ghost use Rattle.cmap_files.specs.DeclarationsSeen.{cid_entry_seen, lists_seen};
+ghost use Rattle.cmap_text.specs.EntriesSeen.{AddsEntry, HasNoEntry};
+ghost use Rattle.cmap_files.specs.Files.{CidEntry, Declaration};
+ghost use Rattle.cmap_text.specs.TextFiles as files;
+ghost use Rattle.cmap_text.specs.TextFiles.{IsCidRange, IsCidChar};
+ghost use Rattle.cmap_text.specs.TextReading.{Declares, Begins, Behind, HasNoFront, IsList};
+ghost use Rattle.cmap_files.specs.declared.fault.Fault.TheVariants.{Refused};
+
+use crate::tokens::{TokenReader, is_executable};
+use cmap_files::declarations::{BfRange, CidRange, Codespace, Lists};
+use cmap_files::fault::Fault;
+use cmap_runs::runs::Range;
+use cmap_tokens::token::{Token, one_value_for_a_string};
+
+/// code, code of the same length
+pub(crate) fn add_codespace_range(
+    reader: &mut TokenReader<'_>,
+    first: &Token<'_>,
+    lists: &mut Lists,
+) -> Result<(), Fault>
+    ensures entry { OnOk result
+        (AddsEntry files.codespace_range first.now reader.old reader.new lists.old lists.new) }
+    ensures refused { IsErrOf result Refused
+        → HasNoEntry files.codespace_range first.now reader.old.tokens }
+{
+    one_value_for_a_string();
+    let low = reader.code(first)?;
+    let high = reader.next_code()?;
+    if low.len != high.len {
+        return Err(Fault::Refused);
+    }
+    lists.add_codespace(Codespace {
+        len: low.len,
+        low: low.number,
+        high: high.number,
+    })?;
+    Ok(())
+}
+
+/// code, code, CID
+pub(crate) fn add_cid_range(
+    reader: &mut TokenReader<'_>,
+    first: &Token<'_>,
+    lists: &mut Lists,
+) -> Result<(), Fault>
+    ensures entry { OnOk result
+        (AddsEntry files.cid_range first.now reader.old reader.new lists.old lists.new) }
+    ensures refused { IsErrOf result Refused
+        → HasNoEntry files.cid_range first.now reader.old.tokens }
+{
+    let filed = read_cid_range(reader, first)?;
+    lists.add_cid(filed.len, filed.range)?;
+    Ok(())
+}
+
+/// code, CID
+pub(crate) fn add_cid_char(
+    reader: &mut TokenReader<'_>,
+    first: &Token<'_>,
+    lists: &mut Lists,
+) -> Result<(), Fault>
+    ensures entry { OnOk result
+        (AddsEntry files.cid_char first.now reader.old reader.new lists.old lists.new) }
+    ensures refused { IsErrOf result Refused
+        → HasNoEntry files.cid_char first.now reader.old.tokens }
+{
+    let filed = read_cid_char(reader, first)?;
+    lists.add_cid(filed.len, filed.range)?;
+    Ok(())
+}
+
+/// code, code, CID
+pub(crate) fn add_notdef_range(
+    reader: &mut TokenReader<'_>,
+    first: &Token<'_>,
+    lists: &mut Lists,
+) -> Result<(), Fault>
+    ensures entry { OnOk result
+        (AddsEntry files.notdef_range first.now reader.old reader.new lists.old lists.new) }
+    ensures refused { IsErrOf result Refused
+        → HasNoEntry files.notdef_range first.now reader.old.tokens }
+{
+    let filed = read_cid_range(reader, first)?;
+    lists.add_notdef(filed.len, filed.range)?;
+    Ok(())
+}
+
+/// code, CID
+pub(crate) fn add_notdef_char(
+    reader: &mut TokenReader<'_>,
+    first: &Token<'_>,
+    lists: &mut Lists,
+) -> Result<(), Fault>
+    ensures entry { OnOk result
+        (AddsEntry files.notdef_char first.now reader.old reader.new lists.old lists.new) }
+    ensures refused { IsErrOf result Refused
+        → HasNoEntry files.notdef_char first.now reader.old.tokens }
+{
+    let filed = read_cid_char(reader, first)?;
+    lists.add_notdef(filed.len, filed.range)?;
+    Ok(())
+}
+
+/// code, destination
+pub(crate) fn add_bf_char(
+    reader: &mut TokenReader<'_>,
+    first: &Token<'_>,
+    lists: &mut Lists,
+) -> Result<(), Fault>
+    ensures entry { OnOk result
+        (AddsEntry files.bf_char first.now reader.old reader.new lists.old lists.new) }
+    ensures refused { IsErrOf result Refused
+        → HasNoEntry files.bf_char first.now reader.old.tokens }
+{
+    let code = reader.code(first)?;
+    let units = reader.next_destination()?;
+    lists.add_bf(BfRange {
+        range: Range {
+            start: code.number,
+            end: code.number,
+        },
+        units,
+    })?;
+    Ok(())
+}
+
+/// code, code, and one destination or a list of them
+pub(crate) fn add_bf_range(
+    reader: &mut TokenReader<'_>,
+    first: &Token<'_>,
+    lists: &mut Lists,
+) -> Result<(), Fault>
+    ensures entry { OnOk result
+        (AddsEntry files.bf_range first.now reader.old reader.new lists.old lists.new) }
+    ensures refused { IsErrOf result Refused
+        → HasNoEntry files.bf_range first.now reader.old.tokens }
+{
+    one_value_for_a_string();
+    let start = reader.code(first)?;
+    let end = reader.next_code()?;
+    let token = reader.required_token()?;
+    if is_executable(&token, b"[") {
+        return add_list(reader, start.number, end.number, lists);
+    }
+    let units = reader.destination(&token)?;
+    lists.add_bf(BfRange {
+        range: Range {
+            start: start.number,
+            end: end.number,
+        },
+        units,
+    })?;
+    Ok(())
+}
+
+/// One destination for each code from `start` to `end`, and the closing bracket.
+fn add_list(
+    reader: &mut TokenReader<'_>,
+    start: u32,
+    end: u32,
+    lists: &mut Lists,
+) -> Result<(), Fault>
+    ensures list { OnOk result (Declares (IsList start (end + 1 - start)) reader.old reader.new
+        (lists_seen lists.old) (lists_seen lists.new)) }
+    ensures refused { IsErrOf result Refused
+        → HasNoFront (IsList start (end + 1 - start)) reader.old.tokens }
+{
+    for code in u64::from(start)..u64::from(end) + 1 {
+        let units = reader.next_destination()?;
+        let range = Range {
+            start: code as u32,
+            end: code as u32,
+        };
+        lists.add_bf(BfRange { range, units })?;
+    }
+    let token = reader.required_token()?;
+    if !is_executable(&token, b"]") {
+        return Err(Fault::Refused);
+    }
+    Ok(())
+}
+
+/// A declaration of CIDs, and the length of the codes that it is filed by.
+#[derive(Drop)]
+struct Filed {
+    len: u8,
+    range: CidRange,
+}
+
+/// code, code, CID: filed by the length of the first code.
+fn read_cid_range(reader: &mut TokenReader<'_>, first: &Token<'_>) -> Result<Filed, Fault>
+    ensures entry { (kind : ℕ → CidEntry → Declaration) → IfOk result
+        (λ filed. Begins (Behind (IsCidRange kind) (token_seen first.now)) reader.old
+        (kind filed.len (cid_entry_seen filed.range) ∷ []) reader.new) }
+    ensures refused { (kind : ℕ → CidEntry → Declaration) → IsErrOf result Refused
+        → HasNoFront (Behind (IsCidRange kind) (token_seen first.now)) reader.old.tokens }
+{
+    let start = reader.code(first)?;
+    let end = reader.next_code()?;
+    let cid = reader.next_cid()?;
+    let range = Range {
+        start: start.number,
+        end: end.number,
+    };
+    Ok(Filed {
+        len: start.len,
+        range: CidRange { range, cid },
+    })
+}
+
+/// code, CID
+fn read_cid_char(reader: &mut TokenReader<'_>, first: &Token<'_>) -> Result<Filed, Fault>
+    ensures entry { (kind : ℕ → CidEntry → Declaration) → IfOk result
+        (λ filed. Begins (Behind (IsCidChar kind) (token_seen first.now)) reader.old
+        (kind filed.len (cid_entry_seen filed.range) ∷ []) reader.new) }
+    ensures refused { (kind : ℕ → CidEntry → Declaration) → IsErrOf result Refused
+        → HasNoFront (Behind (IsCidChar kind) (token_seen first.now)) reader.old.tokens }
+{
+    let code = reader.code(first)?;
+    let cid = reader.next_cid()?;
+    let range = Range {
+        start: code.number,
+        end: code.number,
+    };
+    Ok(Filed {
+        len: code.len,
+        range: CidRange { range, cid },
+    })
+}

@@ -1,0 +1,90 @@
+//! The items of a text: keys with their values, sections, uses of other files, and tokens by themselves.
+
+ghost use Rattle.std.specs.Prelude.{◌≡◌, None, IsErrOf, OnOk};
+ghost use Rattle.std.specs.Option.{option_copied};
+ghost use Rattle.cmap_tokens.specs.TokenSeen.{token_seen};
+ghost use Rattle.cmap_text.specs.TextFiles.{use_of_base};
+ghost use Rattle.cmap_text.specs.TextReading.{NoItemSays, NoItemsSay, Says, SaysItem, SaysItems, nothing_said};
+ghost use Rattle.cmap_text.specs.TextSeen.{said_seen};
+ghost use Rattle.cmap_files.specs.declared.fault.Fault.TheVariants.{Refused};
+
+use crate::keys::{Key, Values};
+use crate::sections::{Section, read_section};
+use crate::tokens::{TokenReader, is_executable, literal_name};
+use cmap_files::declarations::Lists;
+use cmap_files::fault::Fault;
+use cmap_tokens::token::{Token, one_value_for_a_string};
+use std::alloc::Global;
+
+/// What items say, as far as they are read.
+#[derive(Drop)]
+pub(crate) struct Said<'d> {
+    pub(crate) values: Values<'d>,
+    pub(crate) lists: Lists,
+    /// The names of the files that are used.
+    pub(crate) uses: Vec<&'d [u8]>,
+    /// The literal name that the last item begins with, which a use takes.
+    operand: Option<&'d [u8]>,
+}
+
+impl<'d> Said<'d> {
+    pub(crate) fn new(alloc: Global) -> Self
+        ensures { said_seen result ≡ nothing_said }
+    {
+        Said {
+            values: Values::new(),
+            lists: Lists::new(alloc),
+            uses: Vec::new(alloc),
+            operand: None,
+        }
+    }
+
+    /// Adds a use of the file that the last item names.
+    fn add_use(&mut self) -> Result<(), Fault>
+        ensures says { OnOk result (Says (said_seen self.old) use_of_base (said_seen self.new)) }
+        ensures refused { IsErrOf result Refused → option_copied self.old.operand ≡ None }
+    {
+        let name = self.operand.take().ok_or(Fault::Refused)?;
+        self.uses.push(name)?;
+        Ok(())
+    }
+}
+
+/// Reads all the items of a text.
+pub(crate) fn read_items<'d>(reader: &mut TokenReader<'d>, said: &mut Said<'d>) -> Result<(), Fault>
+    ensures items { OnOk result
+        (SaysItems reader.old (said_seen said.old) (said_seen said.new)) }
+    ensures refused { IsErrOf result Refused → NoItemsSay reader.old (said_seen said.old) }
+{
+    one_value_for_a_string();
+    while let Some(token) = reader.next_token()? {
+        read_item(reader, &token, said)?;
+    }
+    Ok(())
+}
+
+/// Reads what follows the first token of an item.
+fn read_item<'d>(
+    reader: &mut TokenReader<'d>,
+    first: &Token<'d>,
+    said: &mut Said<'d>,
+) -> Result<(), Fault>
+    ensures item { OnOk result
+        (SaysItem (token_seen first.now) reader.old reader.new
+        (said_seen said.old) (said_seen said.new)) }
+    ensures refused { IsErrOf result Refused
+        → NoItemSays (token_seen first.now) reader.old (said_seen said.old) }
+{
+    if let Some(section) = Section::opened_by(first) {
+        said.operand = None;
+        return read_section(reader, section, &mut said.lists);
+    }
+    if is_executable(first, b"usecmap") {
+        return said.add_use();
+    }
+    if let Some(key) = Key::of(first) {
+        said.values.set(key, reader.next_token()?);
+    }
+    said.operand = literal_name(first);
+    Ok(())
+}

@@ -1,0 +1,178 @@
+//! Keys: literal names that take the next token as their value.
+
+ghost use Rattle.std.specs.Prelude.{◌≡◌, true, IfOk, MatchOption, option_map};
+ghost use Rattle.cmap_tokens.specs.TokenSeen.{token_seen};
+ghost use Rattle.cmap_tokens.specs.Tokens as tokens;
+ghost use Rattle.cmap_names.specs.MetadataSeen.{collection_seen, metadata_seen, mode_seen};
+ghost use Rattle.cmap_files.specs.Only.{IsOnly};
+ghost use Rattle.cmap_text.specs.TextFiles.{GivesText, IsCollection, IsMetadata, mode_in, name_in, supplement_in};
+ghost use Rattle.cmap_text.specs.TextReading.{no_values, with_value};
+ghost use Rattle.cmap_text.specs.TextSeen.{key_name, values_seen};
+
+use crate::tokens::literal_name;
+use cmap_names::metadata::{CharacterCollection, CidFamily, Metadata, WritingMode};
+use cmap_tokens::token::{Number, Token};
+use std::alloc::{AllocError, Global};
+
+const REGISTRY: &[u8] = b"Registry";
+
+const ORDERING: &[u8] = b"Ordering";
+
+const SUPPLEMENT: &[u8] = b"Supplement";
+
+const CMAP_NAME: &[u8] = b"CMapName";
+
+const WMODE: &[u8] = b"WMode";
+
+/// The keys of what a file says of itself.
+#[derive(Clone, Copy)]
+pub(crate) enum Key {
+    Registry,
+    Ordering,
+    Supplement,
+    CMapName,
+    WMode,
+}
+
+impl Key {
+    /// The key that a token is.
+    pub(crate) fn of(token: &Token<'_>) -> Option<Key>
+        ensures { MatchOption result
+            ((key : Key) → token_seen token.now ≡ tokens.Name true (key_name key) → ⊥)
+            (λ key. token_seen token.now ≡ tokens.Name true (key_name key)) }
+    {
+        let name = literal_name(token)?;
+        if name == REGISTRY {
+            Some(Key::Registry)
+        } else if name == ORDERING {
+            Some(Key::Ordering)
+        } else if name == SUPPLEMENT {
+            Some(Key::Supplement)
+        } else if name == CMAP_NAME {
+            Some(Key::CMapName)
+        } else if name == WMODE {
+            Some(Key::WMode)
+        } else {
+            None
+        }
+    }
+}
+
+/// The last value of each key; it is absent where there is no key, and behind a key that ends the file.
+#[derive(Clone, Copy)]
+pub(crate) struct Values<'d> {
+    registry: Option<Token<'d>>,
+    ordering: Option<Token<'d>>,
+    supplement: Option<Token<'d>>,
+    name: Option<Token<'d>>,
+    mode: Option<Token<'d>>,
+}
+
+impl<'d> Values<'d> {
+    /// No key has a value.
+    pub(crate) fn new() -> Self
+        ensures { values_seen result ≡ no_values }
+    {
+        Values {
+            registry: None,
+            ordering: None,
+            supplement: None,
+            name: None,
+            mode: None,
+        }
+    }
+
+    /// The key has this value from now on.
+    pub(crate) fn set(&mut self, key: Key, value: Option<Token<'d>>)
+        ensures { values_seen self.new
+            ≡ with_value (values_seen self.old) (key_name key) (option_map token_seen value.entry) }
+    {
+        match key {
+            Key::Registry => self.registry = value,
+            Key::Ordering => self.ordering = value,
+            Key::Supplement => self.supplement = value,
+            Key::CMapName => self.name = value,
+            Key::WMode => self.mode = value,
+        }
+    }
+
+    /// What the values say of the file.
+    pub(crate) fn metadata(&self, alloc: Global) -> Result<Metadata, AllocError>
+        ensures { IfOk result
+            (λ metadata. IsOnly (IsMetadata (values_seen self.now)) (metadata_seen metadata)) }
+    {
+        Ok(Metadata {
+            character_collection: self.character_collection(alloc)?,
+            name: name_of(alloc, self.name)?,
+            writing_mode: mode_of(self.mode),
+        })
+    }
+
+    /// The character collection; `None` unless all its parts are there.
+    fn character_collection(&self, alloc: Global) -> Result<Option<CharacterCollection>, AllocError>
+        ensures { IfOk result (λ found.
+            IsOnly (IsCollection (values_seen self.now)) (option_map collection_seen found)) }
+    {
+        let registry = text_of(alloc, self.registry)?;
+        let ordering = text_of(alloc, self.ordering)?;
+        let supplement = supplement_of(self.supplement);
+        match (registry, ordering, supplement) {
+            (Some(registry), Some(ordering), Some(supplement)) => {
+                let family = CidFamily::from_registry_ordering(alloc, &registry, &ordering)?;
+                Ok(Some(CharacterCollection { family, supplement }))
+            }
+            _ => Ok(None),
+        }
+    }
+}
+
+/// The text of a registry or an ordering: what a string stands for, or the bytes of a name.
+fn text_of(alloc: Global, value: Option<Token<'_>>) -> Result<Option<Vec<u8>>, AllocError>
+    ensures { IfOk result (λ text. IsOnly (GivesText (option_map token_seen value.entry))
+        (option_map (λ bytes. bytes.items) text)) }
+{
+    let Some(token) = value else {
+        return Ok(None);
+    };
+    match token {
+        Token::Name(name) => Ok(Some(Vec::from_slice(alloc, name.as_bytes())?)),
+        Token::String(string) => {
+            let mut text = Vec::new(alloc);
+            string.decode_into(&mut text)?;
+            Ok(Some(text))
+        }
+        Token::Number(_) => Ok(None),
+    }
+}
+
+/// The number of a supplement, an integer of 32 bits with sign.
+fn supplement_of(value: Option<Token<'_>>) -> Option<i32>
+    ensures { result ≡ supplement_in (option_map token_seen value.entry) }
+{
+    match value {
+        Some(Token::Number(Number::Integer(number))) => i32::try_from(number).ok(),
+        _ => None,
+    }
+}
+
+/// The name of the file, which is a name.
+fn name_of(alloc: Global, value: Option<Token<'_>>) -> Result<Option<Vec<u8>>, AllocError>
+    ensures { IfOk result (λ name. option_map (λ bytes. bytes.items) name
+        ≡ name_in (option_map token_seen value.entry)) }
+{
+    match value {
+        Some(Token::Name(name)) => Ok(Some(Vec::from_slice(alloc, name.as_bytes())?)),
+        _ => Ok(None),
+    }
+}
+
+/// The writing mode: 0 is horizontal, 1 vertical.
+fn mode_of(value: Option<Token<'_>>) -> Option<WritingMode>
+    ensures { option_map mode_seen result ≡ mode_in (option_map token_seen value.entry) }
+{
+    match value {
+        Some(Token::Number(Number::Integer(0))) => Some(WritingMode::Horizontal),
+        Some(Token::Number(Number::Integer(1))) => Some(WritingMode::Vertical),
+        _ => None,
+    }
+}

@@ -1,0 +1,118 @@
+//! Sections: an opener, entries, a closer.
+
+ghost use Rattle.std.specs.Prelude.{◌≡◌, false, IsErrOf, OnOk, MatchOption};
+ghost use Rattle.cmap_tokens.specs.TokenSeen.{token_seen};
+ghost use Rattle.cmap_tokens.specs.Tokens as tokens;
+ghost use Rattle.cmap_text.specs.EntriesSeen.{AddsBody, AddsEntry, HasNoEntry};
+ghost use Rattle.cmap_text.specs.TextFiles as files;
+ghost use Rattle.cmap_text.specs.TextReading.{HasNoFront, IsClosedBody};
+ghost use Rattle.cmap_text.specs.TextSeen.{section_seen};
+ghost use Rattle.cmap_files.specs.declared.fault.Fault.TheVariants.{Refused};
+
+use crate::entries::{
+    add_bf_char, add_bf_range, add_cid_char, add_cid_range, add_codespace_range, add_notdef_char,
+    add_notdef_range,
+};
+use crate::tokens::{TokenReader, is_executable};
+use cmap_files::declarations::Lists;
+use cmap_files::fault::Fault;
+use cmap_tokens::token::Token;
+
+/// The kinds of sections.
+#[derive(Clone, Copy)]
+pub(crate) enum Section {
+    CodespaceRange,
+    CidRange,
+    CidChar,
+    NotdefRange,
+    NotdefChar,
+    BfRange,
+    BfChar,
+}
+
+impl Section {
+    /// The section that a token opens.
+    pub(crate) fn opened_by(token: &Token<'_>) -> Option<Section>
+        ensures { MatchOption result
+            ((section : files.Section)
+            → token_seen token.now ≡ tokens.Name false (files.opener section) → ⊥)
+            (λ section.
+            token_seen token.now ≡ tokens.Name false (files.opener (section_seen section))) }
+    {
+        if is_executable(token, b"begincidrange") {
+            Some(Section::CidRange)
+        } else if is_executable(token, b"begincidchar") {
+            Some(Section::CidChar)
+        } else if is_executable(token, b"beginbfrange") {
+            Some(Section::BfRange)
+        } else if is_executable(token, b"beginbfchar") {
+            Some(Section::BfChar)
+        } else if is_executable(token, b"beginnotdefrange") {
+            Some(Section::NotdefRange)
+        } else if is_executable(token, b"beginnotdefchar") {
+            Some(Section::NotdefChar)
+        } else if is_executable(token, b"begincodespacerange") {
+            Some(Section::CodespaceRange)
+        } else {
+            None
+        }
+    }
+
+    /// The name that closes it.
+    fn closer(self) -> &'static [u8]
+        ensures { result.now ≡ files.closer (section_seen self) }
+    {
+        match self {
+            Section::CodespaceRange => b"endcodespacerange",
+            Section::CidRange => b"endcidrange",
+            Section::CidChar => b"endcidchar",
+            Section::NotdefRange => b"endnotdefrange",
+            Section::NotdefChar => b"endnotdefchar",
+            Section::BfRange => b"endbfrange",
+            Section::BfChar => b"endbfchar",
+        }
+    }
+}
+
+/// Reads the entries of a section and its closer.
+pub(crate) fn read_section(
+    reader: &mut TokenReader<'_>,
+    section: Section,
+    lists: &mut Lists,
+) -> Result<(), Fault>
+    ensures body { OnOk result
+        (AddsBody (section_seen section) reader.old reader.new lists.old lists.new) }
+    ensures refused { IsErrOf result Refused
+        → HasNoFront (IsClosedBody (section_seen section)) reader.old.tokens }
+{
+    loop {
+        let token = reader.required_token()?;
+        if is_executable(&token, section.closer()) {
+            return Ok(());
+        }
+        read_entry(reader, section, &token, lists)?;
+    }
+}
+
+/// Reads what follows the first token of an entry, and adds what the entry declares.
+fn read_entry(
+    reader: &mut TokenReader<'_>,
+    section: Section,
+    first: &Token<'_>,
+    lists: &mut Lists,
+) -> Result<(), Fault>
+    ensures entry { OnOk result
+        (AddsEntry (section_seen section) first.now reader.old reader.new lists.old lists.new) }
+    ensures refused { IsErrOf result Refused
+        → HasNoEntry (section_seen section) first.now reader.old.tokens }
+{
+    match section {
+        Section::CodespaceRange => add_codespace_range(reader, first, lists),
+        Section::CidRange => add_cid_range(reader, first, lists),
+        Section::CidChar => add_cid_char(reader, first, lists),
+        Section::NotdefRange => add_notdef_range(reader, first, lists),
+        Section::NotdefChar => add_notdef_char(reader, first, lists),
+        Section::BfRange => add_bf_range(reader, first, lists),
+        Section::BfChar => add_bf_char(reader, first, lists),
+    }
+}

@@ -1,0 +1,182 @@
+//! The tokens of a text in order, and what single tokens stand for.
+
+ghost use Rattle.std.specs.Prelude.{◌≡◌, ◌↔◌, [], ◌∷◌, false, IfOk, IsErrOf, IsTrue, MatchOption, MatchResult};
+ghost use Rattle.std.specs.Option.{option_copied};
+ghost use Rattle.cmap_tokens.specs.TokenSeen.{token_seen};
+ghost use Rattle.cmap_tokens.specs.Tokens as tokens;
+ghost use Rattle.cmap_files.specs.Only.{HoldsOfNone};
+ghost use Rattle.cmap_text.specs.TextFiles.{IsCid, IsDestination, literal_head, other};
+ghost use Rattle.cmap_text.specs.TextReading.{GivesCode, code_of, Takes, HasNoHead};
+ghost use Rattle.cmap_text.specs.TextSeen.{code_seen, IsCodeBytes};
+ghost use Rattle.cmap_tokens.specs.TokensLeft.{HasTokens, ended, malformed, with_front};
+ghost use Rattle.cmap_files.specs.declared.fault.Fault.TheVariants.{Refused};
+
+use cmap_bits::bits::Reader;
+use cmap_files::fault::Fault;
+use cmap_names::names::Cid;
+use cmap_tokens::token::{Number, Scanner, Token};
+use cmap_tokens::utf16::{number_units, units};
+use std::alloc::Global;
+use std::marker::Model;
+
+/// A code, and how many bytes it has.
+#[derive(Clone, Copy)]
+pub(crate) struct Code {
+    pub(crate) len: u8,
+    pub(crate) number: u32,
+}
+
+/// Reads the tokens of a text; a clause sees what is left of it.
+#[derive(Drop)]
+pub(crate) struct TokenReader<'d> {
+    alloc: Global,
+    scanner: Scanner<'d>,
+    // the bytes of the last string
+    string: Vec<u8>,
+}
+
+impl<'d> Model for TokenReader<'d> {
+    ghost use Rattle.cmap_tokens.specs.Scanner.{rest_of};
+    ghost use Rattle.cmap_tokens.specs.TokensLeft.{Left, tokens_of};
+
+    ghost Value = { Left };
+
+    ghost view = { λ reader. tokens_of (rest_of reader.scanner) };
+}
+
+impl<'d> TokenReader<'d> {
+    pub(crate) fn new(alloc: Global, text: &'d [u8]) -> Self
+        ensures tokens { HasTokens text.now result }
+    {
+        TokenReader {
+            alloc,
+            scanner: Scanner::new(text),
+            string: Vec::new(alloc),
+        }
+    }
+
+    /// The next token, `None` at the end of the text.
+    pub(crate) fn next_token(&mut self) -> Result<Option<Token<'d>>, Fault>
+        ensures { MatchResult result (λ found. MatchOption found ((self.old ≡ ended) × (self.new ≡ ended))
+            (λ token. self.old ≡ with_front (token_seen token ∷ []) self.new))
+            (λ fault. (fault ≡ Refused) × (self.old ≡ malformed)) }
+    {
+        let Ok(found) = self.scanner.next_token() else {
+            return Err(Fault::Refused);
+        };
+        Ok(found)
+    }
+
+    /// The next token, which a section needs.
+    pub(crate) fn required_token(&mut self) -> Result<Token<'d>, Fault>
+        ensures { MatchResult result (λ token. self.old ≡ with_front (token_seen token ∷ []) self.new)
+            (λ _. self.old.tokens ≡ []) }
+    {
+        self.next_token()?.ok_or(Fault::Refused)
+    }
+
+    /// The code that a token is: a string of one to four bytes.
+    pub(crate) fn code(&mut self, token: &Token<'_>) -> Result<Code, Fault>
+        ensures code { IfOk result (λ code. GivesCode (token_seen token.now) (code_seen code)) }
+        ensures refused { IsErrOf result Refused → HoldsOfNone (GivesCode (token_seen token.now)) }
+        ensures stays { self.new ≡ self.old }
+    {
+        let Token::String(string) = token else {
+            return Err(Fault::Refused);
+        };
+        if let Some((len, number)) = string.plain_number() {
+            return Ok(Code { len, number });
+        }
+        string.decode_into(&mut self.string)?;
+        code_of(&self.string).ok_or(Fault::Refused)
+    }
+
+    /// The code that comes next.
+    pub(crate) fn next_code(&mut self) -> Result<Code, Fault>
+        ensures code { IfOk result (λ code. Takes GivesCode self.old (code_seen code) self.new) }
+        ensures refused { IsErrOf result Refused → HasNoHead GivesCode self.old.tokens }
+    {
+        let token = self.required_token()?;
+        self.code(&token)
+    }
+
+    /// The units of the destination that a token is: a string that isn't empty.
+    pub(crate) fn destination(&mut self, token: &Token<'_>) -> Result<Vec<u16>, Fault>
+        ensures destination { IfOk result
+            (λ units. IsDestination (token_seen token.now) units.items) }
+        ensures refused { IsErrOf result Refused
+            → HoldsOfNone (IsDestination (token_seen token.now)) }
+        ensures stays { self.new ≡ self.old }
+    {
+        let Token::String(string) = token else {
+            return Err(Fault::Refused);
+        };
+        if let Some((len, number)) = string.plain_number() {
+            return Ok(number_units(self.alloc, len, number)?);
+        }
+        string.decode_into(&mut self.string)?;
+        if self.string.is_empty() {
+            return Err(Fault::Refused);
+        }
+        Ok(units(self.alloc, &self.string)?)
+    }
+
+    /// The units of the destination that comes next.
+    pub(crate) fn next_destination(&mut self) -> Result<Vec<u16>, Fault>
+        ensures destination { IfOk result (λ units. Takes IsDestination self.old units.items self.new) }
+        ensures refused { IsErrOf result Refused → HasNoHead IsDestination self.old.tokens }
+    {
+        let token = self.required_token()?;
+        self.destination(&token)
+    }
+
+    /// The CID that comes next: an integer of 32 bits without sign.
+    pub(crate) fn next_cid(&mut self) -> Result<Cid, Fault>
+        ensures cid { IfOk result (λ cid. Takes IsCid self.old cid self.new) }
+        ensures refused { IsErrOf result Refused → HasNoHead IsCid self.old.tokens }
+    {
+        let token = self.required_token()?;
+        cid_of(&token).ok_or(Fault::Refused)
+    }
+}
+
+/// The code of one to four bytes.
+fn code_of(bytes: &[u8]) -> Option<Code>
+    ensures { MatchOption result (IsCodeBytes bytes.now → ⊥)
+        (λ code. IsCodeBytes bytes.now × (code_seen code ≡ code_of bytes.now)) }
+{
+    let len = u8::try_from(bytes.len()).ok()?;
+    let number = Reader::new(bytes).read_n_bytes(len)?;
+    Some(Code { len, number })
+}
+
+/// The CID that a token is.
+fn cid_of(token: &Token<'_>) -> Option<Cid>
+    ensures { MatchOption result (HoldsOfNone (IsCid (token_seen token.now)))
+        (λ cid. IsCid (token_seen token.now) cid) }
+{
+    match token {
+        Token::Number(Number::Integer(n)) => u32::try_from(*n).ok(),
+        _ => None,
+    }
+}
+
+/// Whether a token is this executable name.
+pub(crate) fn is_executable(token: &Token<'_>, name: &[u8]) -> bool
+    ensures { IsTrue result ↔ (token_seen token.now ≡ tokens.Name false name.now) }
+{
+    match token {
+        Token::Name(found) => !found.is_literal() && found.as_bytes() == name,
+        _ => false,
+    }
+}
+
+/// The bytes of a literal name.
+pub(crate) fn literal_name<'d>(token: &Token<'d>) -> Option<&'d [u8]>
+    ensures { option_copied result ≡ literal_head (other (token_seen token.now)) }
+{
+    match token {
+        Token::Name(name) if name.is_literal() => Some(name.as_bytes()),
+        _ => None,
+    }
+}

@@ -1,0 +1,33 @@
+-- What a test of bytes tells of a byte, and of the bytes that a text begins with.
+use Rattle.std.proofs.Common.{◌≡◌, ℕ, ◌+◌, Bool, true, false, ◌==◌, List, [], ◌∷◌, ◌++◌, length, take, suc, refl, ap, subst, inl, inr, arith}
+use Rattle.std.specs.List.{list_all, prefix_len}
+use Rattle.std.proofs.lemmas.Bool.{both_ways, cases_Bool, eqb-true, false≢true, and_from, and_parts}
+use Rattle.cmap_tokens.specs.Strings.{begins_with}
+
+-- a byte that passes is none that fails
+pub other_byte : (p : ℕ → Bool) (k c : ℕ) → p k ≡ false → p c ≡ true → (c == k) ≡ false
+other_byte p k c fails passes =
+    elim (cases_Bool (c == k)) [
+      | inl same ↦ absurd (both_ways (p k) fails (subst (λ b. p b ≡ true) (eqb-true c k same) passes))
+      | inr other ↦ other
+    ]
+
+pub begins_with_is : (c : ℕ) (text : List ℕ) → begins_with c text ≡ true → (rest : List ℕ) × (text ≡ c ∷ rest)
+begins_with_is c [] e = absurd (false≢true e)
+begins_with_is c (b ∷ rest) e = (rest, ap (λ k. k ∷ rest) (eqb-true b c e))
+
+-- the longest front that passes
+pub all_prefix : (p : ℕ → Bool) (text : List ℕ) → list_all p (take (prefix_len p text) text) ≡ true
+all_prefix p [] = refl
+all_prefix p (b ∷ text) =
+    elim (cases_Bool (p b)) [
+      | inl passes ↦ rw passes (let longer : 1 + prefix_len p text ≡ suc (prefix_len p text) = omega arith in rw longer (and_from _ _ passes (all_prefix p text)))
+      | inr fails ↦ rw fails refl
+    ]
+
+pub prefix_len-append_all : (p : ℕ → Bool) (front rest : List ℕ) → list_all p front ≡ true → prefix_len p (front ++ rest) ≡ length front + prefix_len p rest
+prefix_len-append_all p [] rest all = omega arith
+prefix_len-append_all p (b ∷ front) rest all =
+    let (passes, more) = and_parts _ _ all in
+    let first : p b ≡ true = passes in
+    rw first (omega (arith, prefix_len-append_all p front rest more))

@@ -1,0 +1,5 @@
+use Rattle.cmap_tokens.proofs.OneValue.{IsValue-only}
+use Rattle.cmap_tokens.proofs.token.one_value_for_a_string.Goals as goal
+
+pub returns : goal.returns
+returns c = IsValue-only

@@ -1,0 +1,13 @@
+pub mod Ascii
+pub mod Bytes
+pub mod Numbers
+pub mod Tokens
+pub mod Strings
+pub mod Texts
+pub mod Scanner
+pub mod NumberSeen
+pub mod TokenSeen
+pub mod TextSeen
+pub mod TokenReading
+pub mod LastUnits
+pub mod TokensLeft

@@ -1,0 +1,26 @@
+-- What contracts see of a scanner.
+use Rattle.std.specs.Prelude.{◌≡◌, ℕ, ◌+◌, List, length, drop}
+use Rattle.cmap_tokens.specs.Tokens.{Token, Front}
+
+-- the source, and how far the scanner has come in it
+pub record Place : Type 0 where
+  pub source : List ℕ
+  pub passed : ℕ
+
+-- what is left of the source
+abbrev pub rest_of : Place → List ℕ
+rest_of place = drop place.passed place.source
+
+-- the text has this front and no other
+pub record OnlyFront (text gap piece : List ℕ) (token : Token) (rest : List ℕ) : Type 0 where
+  pub front : Front text gap piece token rest
+  pub only : (other_gap other_piece other_rest : List ℕ) (other : Token) → Front text other_gap other_piece other other_rest → (other_gap ≡ gap) × (other_piece ≡ piece) × (other ≡ token) × (other_rest ≡ rest)
+
+-- the text has one front, which is this token and takes len bytes, its gap among them
+abbrev pub FirstToken : List ℕ → Token → ℕ → Type 0
+FirstToken text token len = (gap piece : List ℕ) × OnlyFront text gap piece token (drop len text) × (len ≡ length gap + length piece)
+
+-- the token is that of the one front of what is left, and the new place is behind its piece
+abbrev pub ReadsToken : Place → Token → Place → Type 0
+ReadsToken old token new =
+    (gap piece : List ℕ) × OnlyFront (rest_of old) gap piece token (rest_of new) × (new ≡ record { source = old.source; passed = old.passed + (length gap + length piece) })

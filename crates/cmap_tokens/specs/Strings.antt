@@ -1,0 +1,83 @@
+-- The bytes that a string token stands for. PostScript Language Reference, third edition, 3.2.2.
+use Rattle.std.specs.Prelude.{◌≡◌, ℕ, ◌+◌, ◌*◌, ◌%◌, ◌<◌, ◌≤◌, ◌||◌, ◌==◌, Bool, false, List, [], ◌∷◌, ◌++◌, ◌⊎◌, length, map, filter, Option, Some, None, is_some, IsTrue, if◌then◌else◌}
+use Rattle.std.specs.List.{list_all}
+use Rattle.std.specs.Char.{digit_value, is_digit}
+use Rattle.cmap_tokens.specs.Ascii.{backspace, tab, line_feed, form_feed, carriage_return, open_parenthesis, close_parenthesis, less, greater, backslash, letter_b, letter_f, letter_n, letter_r, letter_t}
+use Rattle.cmap_tokens.specs.Numbers.{AreDigits, digits_number}
+
+-- two digits make a byte, and behind an odd last digit stands 0
+abbrev pub digit_pairs : List ℕ → List ℕ
+digit_pairs [] = []
+digit_pairs (high ∷ []) = 16 * high ∷ []
+digit_pairs (high ∷ low ∷ digits) = (16 * high + low) ∷ digit_pairs digits
+
+-- the bytes of < body >: white bytes are passed over
+abbrev pub hex_value : List ℕ → List ℕ
+hex_value body = digit_pairs (map digit_value (filter (λ b. is_digit b 16) body))
+
+-- \n \r \t \b \f, and \\ \( \) for the byte itself
+abbrev pub escape_value : ℕ → Option ℕ
+escape_value c =
+    if c == letter_n then Some line_feed
+    else if c == letter_r then Some carriage_return
+    else if c == letter_t then Some tab
+    else if c == letter_b then Some backspace
+    else if c == letter_f then Some form_feed
+    else if c == backslash || c == open_parenthesis || c == close_parenthesis then Some c
+    else None
+
+-- the text begins with this byte
+abbrev pub begins_with : ℕ → List ℕ → Bool
+begins_with c [] = false
+begins_with c (b ∷ bytes) = b == c
+
+abbrev pub begins_octal : List ℕ → Bool
+begins_octal [] = false
+begins_octal (b ∷ bytes) = is_digit b 8
+
+-- CR LF, LF, or a CR that no LF follows
+abbrev pub IsLineEnd : List ℕ → List ℕ → Type 0
+IsLineEnd text next = (text ≡ carriage_return ∷ line_feed ∷ []) ⊎ ((text ≡ line_feed ∷ []) ⊎ ((text ≡ carriage_return ∷ []) × (begins_with line_feed next ≡ false)))
+
+abbrev pub is_line_byte : ℕ → Bool
+is_line_byte b = b == line_feed || b == carriage_return
+
+-- a part of the body of ( .. ), the bytes that it stands for, and what follows it
+pub data IsPart : List ℕ → List ℕ → List ℕ → Type 0 where
+  plain : (b : ℕ) (next : List ℕ) → b == backslash || is_line_byte b ≡ false → IsPart (b ∷ []) (b ∷ []) next
+  line_end : (text next : List ℕ) → IsLineEnd text next → IsPart text (line_feed ∷ []) next
+  escape : (c b : ℕ) (next : List ℕ) → escape_value c ≡ Some b → IsPart (backslash ∷ c ∷ []) (b ∷ []) next
+  -- three octal digits, or fewer where no further one follows
+  octal : (digits next : List ℕ) → AreDigits 8 digits → length digits ≤ 3 → (length digits ≡ 3) ⊎ (begins_octal next ≡ false) → IsPart (backslash ∷ digits) (digits_number 8 digits % 256 ∷ []) next
+  -- a backslash before the end of a line takes it away
+  continued : (text next : List ℕ) → IsLineEnd text next → IsPart (backslash ∷ text) [] next
+  -- and before any other byte it is dropped
+  dropped : (c : ℕ) (next : List ℕ) → is_some (escape_value c) || is_digit c 8 || is_line_byte c ≡ false → IsPart (backslash ∷ c ∷ []) (c ∷ []) next
+
+-- the body of ( .. ) is these parts, each with its bytes, and stands for all their bytes
+abbrev pub IsCut : List (List ℕ × List ℕ) → List ℕ → List ℕ → Type 0
+IsCut [] body value = (body ≡ []) × (value ≡ [])
+IsCut (part ∷ parts) body value = (next more : List ℕ) × (body ≡ part.0 ++ next) × (value ≡ part.1 ++ more) × IsPart part.0 part.1 next × IsCut parts next more
+
+-- the bytes that a string token stands for
+abbrev pub IsValue : List ℕ → List ℕ → Type 0
+IsValue piece value =
+    ((body : List ℕ) × (piece ≡ less ∷ body ++ greater ∷ []) × (value ≡ hex_value body))
+    ⊎ ((body : List ℕ) × (parts : List (List ℕ × List ℕ)) × (piece ≡ open_parenthesis ∷ body ++ close_parenthesis ∷ []) × IsCut parts body value)
+
+-- a piece stands for one value, if it stands for any
+abbrev pub HaveOneValue : Type 0
+HaveOneValue = (piece value other : List ℕ) → IsValue piece value → IsValue piece other → value ≡ other
+
+-- two digits for each of one to four bytes, and nothing between them
+abbrev pub ArePairs : List ℕ → Type 0
+ArePairs digits = IsTrue (list_all (λ c. is_digit c 16) digits) × (length digits % 2 ≡ 0) × (0 < length digits) × (length digits ≤ 8)
+
+-- < such digits >
+abbrev pub IsPlain : List ℕ → Type 0
+IsPlain piece = (digits : List ℕ) × (piece ≡ less ∷ digits ++ greater ∷ []) × ArePairs digits
+
+-- the piece stands for these bytes alone
+pub record IsOnlyValue (piece value : List ℕ) : Type 0 where
+  pub holds : IsValue piece value
+  pub alone : (other : List ℕ) → IsValue piece other → other ≡ value

@@ -1,0 +1,39 @@
+-- The tokens that are left of a text, and whether the text ends after them.
+use Rattle.std.specs.Prelude.{◌≡◌, ◌↔◌, ℕ, zero, suc, nat_le, Bool, true, false, List, [], ◌∷◌, ◌++◌, length, take, drop, Some, None}
+use Rattle.cmap_tokens.specs.Tokens.{Token, Tokens}
+use Rattle.cmap_tokens.specs.TokenReading.{gap_len, piece_len, token_of}
+
+-- the tokens up to the end of the text, or up to the first place where no token stands
+pub record Left : Type 0 where
+  pub tokens : List Token
+  pub ends : Bool
+
+abbrev pub ended : Left
+ended = record { tokens = []; ends = true }
+
+abbrev pub malformed : Left
+malformed = record { tokens = []; ends = false }
+
+-- these tokens, and what is left behind them
+abbrev pub with_front : List Token → Left → Left
+with_front front left = record { tokens = front ++ left.tokens; ends = left.ends }
+
+-- the text behind its first gap
+abbrev pub behind_gap : List ℕ → List ℕ
+behind_gap text = drop (gap_len false text) text
+
+-- a text of at most so many bytes
+unfoldable pub tokens_within : ℕ → List ℕ → Left
+tokens_within zero text = record { tokens = []; ends = nat_le (length text) (gap_len false text) }
+tokens_within (suc n) text =
+    elim (piece_len (behind_gap text)) [
+      | None ↦ record { tokens = []; ends = nat_le (length text) (gap_len false text) }
+      | Some len ↦ with_front (token_of (take len (behind_gap text)) ∷ []) (tokens_within n (drop len (behind_gap text)))
+    ]
+
+unfoldable pub tokens_of : List ℕ → Left
+tokens_of text = tokens_within (length text) text
+
+-- the tokens of the text are those that are left, if it ends after them
+abbrev pub HasTokens : List ℕ → Left → Type 0
+HasTokens text left = (tokens : List Token) → Tokens text tokens ↔ ((left.tokens ≡ tokens) × (left.ends ≡ true))

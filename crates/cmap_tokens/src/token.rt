@@ -1,0 +1,206 @@
+//! Tokens of PostScript text, one after another: names, strings and numbers.
+
+ghost use Rattle.std.specs.Prelude.{◌≡◌, length, Some};
+ghost use Rattle.cmap_tokens.specs.Strings.{HaveOneValue};
+ghost use Rattle.cmap_tokens.specs.TokenReading.{string_len};
+
+mod byte_class;
+mod lengths;
+mod numerals;
+mod pieces;
+mod values;
+
+use self::pieces::first_token;
+use self::values::{decode_hex, decode_text, pairs_number};
+use std::alloc::AllocError;
+use std::marker::Model;
+
+/// A token, as the PostScript Language Reference, third edition, 3.2.2, spells it, without base-85
+/// strings. Its slices are those of the text that it stands in.
+#[derive(Clone, Copy, Debug)]
+pub enum Token<'a> {
+    /// `/WMode`, `def`, `[`, `<<`
+    Name(Name<'a>),
+    /// `(text)`, `<8140>`
+    String(StringToken<'a>),
+    /// `17`, `-4.5`, `16#1F`
+    Number(Number),
+}
+
+/// A name: literal behind a slash, else executable. The brackets `[`, `]`, `{`, `}`, `<<` and `>>`
+/// are executable names too.
+#[derive(Clone, Copy, Debug)]
+pub struct Name<'a> {
+    literal: bool,
+    bytes: &'a [u8],
+}
+
+impl<'a> Name<'a> {
+    ghost use Rattle.std.specs.Prelude.{◌≡◌};
+    ghost use Rattle.cmap_tokens.specs.TokenSeen.{name_is_literal, name_bytes};
+
+    /// Whether a slash stands before the name.
+    pub fn is_literal(&self) -> bool
+        ensures { result ≡ name_is_literal self.now }
+    {
+        self.literal
+    }
+
+    /// The bytes of the name in the text, without the slash. `#` begins no escape among them.
+    pub fn as_bytes(&self) -> &'a [u8]
+        ensures { result.now ≡ name_bytes self.now }
+    {
+        self.bytes
+    }
+}
+
+/// A string as it is written, in parentheses or between `<` and `>`.
+#[derive(Clone, Copy, Debug)]
+pub struct StringToken<'a> {
+    raw: &'a [u8],
+    ghost whole: { string_len raw.now ≡ Some (length raw.now) },
+}
+
+impl<'a> StringToken<'a> {
+    ghost use Rattle.std.specs.Prelude.{◌≡◌, ◌↔◌, ◌≤◌, ℕ, List, length, vec_capacity, is_some, IfSome, IsTrue, IsOk, OnOk, OnErr};
+    ghost use Rattle.cmap_bits.specs.BigEndian.{AreBytes, big_endian};
+    ghost use Rattle.cmap_tokens.specs.Strings.{IsValue, IsOnlyValue, IsPlain};
+    ghost use Rattle.cmap_tokens.specs.TokenSeen.{string_raw};
+
+    /// The bytes of the string in the text, with its brackets.
+    pub fn raw(&self) -> &'a [u8]
+        ensures { result.now ≡ string_raw self.now }
+    {
+        self.raw
+    }
+
+    /// How many bytes the string stands for, and the number that they write, the high one first: of
+    /// a hexadecimal string of one to four bytes, whose digits stand in pairs with no white space.
+    /// `None` of any other string. It takes no memory.
+    pub fn plain_number(&self) -> Option<(u8, u32)>
+        ensures value { IfSome result (λ first. (value : List ℕ)
+            × IsOnlyValue (string_raw self.now) value × AreBytes value
+            × (first.0 ≡ length value) × (first.1 ≡ big_endian value)) }
+        ensures plain { IsTrue (is_some result) ↔ IsPlain (string_raw self.now) }
+        ensures some { IfSome result (λ first. 1 ≤ first.0) }
+        ensures few { IfSome result (λ first. first.0 ≤ 4) }
+    {
+        if self.raw[0] != b'<' {
+            return None;
+        }
+        pairs_number(&self.raw[1..self.raw.len() - 1])
+    }
+
+    /// Replaces the content of `out` by the bytes that the string stands for, as the PostScript
+    /// Language Reference, third edition, 3.2.2, gives them. The value is no longer than `raw`,
+    /// and all growth of `out` comes first.
+    ///
+    /// It fails only where `out` can't grow, and then `out` holds what it held.
+    pub fn decode_into(&self, out: &mut Vec<u8>) -> Result<(), AllocError>
+        ensures value { OnOk result (IsValue (string_raw self.now) out.new.items) }
+        // The string stands for no other bytes.
+        ensures only { OnOk result
+            ((value : List ℕ) → IsValue (string_raw self.now) value → value ≡ out.new.items) }
+        ensures err { OnErr result (out.new.items ≡ out.old.items) }
+        ensures succeeds { length (string_raw self.now) ≤ vec_capacity out.old → IsOk result }
+    {
+        out.reserve(self.raw.len().saturating_sub(out.len()))?;
+        out.clear();
+        let body = &self.raw[1..self.raw.len() - 1];
+        if self.raw[0] == b'<' {
+            decode_hex(body, out);
+        } else {
+            decode_text(body, out);
+        }
+        Ok(())
+    }
+}
+
+/// The value of a number.
+#[derive(Clone, Copy, Debug, PartialEq, Eq)]
+pub enum Number {
+    /// `-17`, `08`, `16#1F`: an integer, in the base that it names or in base 10.
+    Integer(i64),
+    /// `4.5`, `1E9`: a real, whose value isn't told, or an integer that `i64` doesn't hold.
+    Real,
+}
+
+/// What stands next in a text is no token: a string without an end, another byte than a digit in a
+/// hexadecimal string, or a `)` or `>` alone.
+#[derive(Clone, Copy, Debug, PartialEq, Eq)]
+pub struct Malformed;
+
+/// Reads the tokens of a text in order. White space and comments separate them and are none
+/// (PostScript Language Reference, third edition, 3.2.1). A clause sees the text and how many of
+/// its bytes have been passed.
+#[derive(Debug, Drop)]
+pub struct Scanner<'a> {
+    source: &'a [u8],
+    place: usize,
+}
+
+impl<'a> Model for Scanner<'a> {
+    ghost use Rattle.std.specs.Prelude.{◌≤◌, length};
+    ghost use Rattle.cmap_tokens.specs.Scanner.{Place};
+
+    ghost Value = { Place };
+
+    ghost view = { λ scanner. record { source = scanner.source.now; passed = scanner.place } };
+
+    ghost invariant = { λ scanner. scanner.place ≤ length scanner.source.now };
+}
+
+impl<'a> Scanner<'a> {
+    ghost use Rattle.std.specs.Prelude.{◌≡◌, ◌↔◌, [], ◌∷◌, None, Ok, IfOk, IfSome, IsErr, MatchOption, MatchResult, OnErr};
+    ghost use Rattle.cmap_tokens.specs.Bytes.{IsBlank};
+    ghost use Rattle.cmap_tokens.specs.Tokens.{IsMalformed};
+    ghost use Rattle.cmap_tokens.specs.TokensLeft.{HasTokens, ended, malformed, tokens_of, with_front};
+    ghost use Rattle.cmap_tokens.specs.Scanner.{ReadsToken, rest_of};
+    ghost use Rattle.cmap_tokens.specs.TokenSeen.{token_seen};
+
+    /// A scanner before the first byte of a text.
+    pub fn new(source: &'a [u8]) -> Self
+        ensures scanner { result ≡ record { source = source.now; passed = 0 } }
+
+        // The tokens of a text are those that are left of it, if it ends after them.
+        ensures tokens { HasTokens source.now (tokens_of source.now) }
+    {
+        Scanner { source, place: 0 }
+    }
+
+    /// The next token, whose slices are those of the text; `None` where only white space and
+    /// comments are left.
+    ///
+    /// Only a token moves the scanner, to the byte behind it. So after `Malformed` each later call
+    /// answers `Malformed` again.
+    pub fn next_token(&mut self) -> Result<Option<Token<'a>>, Malformed>
+        // The token that is read is the one that the text begins with, and there is no other.
+        ensures token { IfOk result
+            (λ found. IfSome found (λ token. ReadsToken self.old (token_seen token) self.new)) }
+        ensures end { (result ≡ Ok None) ↔ IsBlank (rest_of self.old) }
+        ensures malformed { IsErr result ↔ IsMalformed (rest_of self.old) }
+
+        ensures end_stays { result ≡ Ok None → self.new ≡ self.old }
+        ensures err_stays { OnErr result (self.new ≡ self.old) }
+
+        // The same, of the tokens that are left and how they end.
+        ensures left { MatchResult result (λ found. MatchOption found
+            ((tokens_of (rest_of self.old) ≡ ended) × (tokens_of (rest_of self.new) ≡ ended))
+            (λ token. tokens_of (rest_of self.old)
+            ≡ with_front (token_seen token ∷ []) (tokens_of (rest_of self.new))))
+            (λ _. tokens_of (rest_of self.old) ≡ malformed) }
+    {
+        let rest = &self.source[self.place..];
+        let Some((token, len)) = first_token(rest)? else {
+            return Ok(None);
+        };
+        self.place += len;
+        Ok(Some(token))
+    }
+}
+
+/// A string stands for one value. Nothing is done here: the contract is a law for callers to stand
+/// on.
+pub fn one_value_for_a_string()
+    ensures { HaveOneValue }
+{}

@@ -1,0 +1,161 @@
+//! The bytes that strings stand for.
+
+ghost use Rattle.std.specs.Prelude.{◌≡◌, ◌+◌, ◌≤◌, ◌<◌, ◌++◌, List, ℕ, false, true, length, unwrap_or, vec_len, vec_capacity, MatchOption};
+ghost use Rattle.cmap_tokens.specs.TokenReading as reading;
+ghost use Rattle.cmap_tokens.specs.TokenReading.{HasCut};
+ghost use Rattle.cmap_bits.specs.BigEndian.{big_endian};
+ghost use Rattle.cmap_tokens.specs.Strings.{ArePairs, hex_value, escape_value};
+
+use super::byte_class::{BACKSPACE, FORM_FEED, digit_value, is_digit};
+use super::numerals::digits_number;
+
+// How many bytes digits in pairs stand for, one to four, and the number that the bytes write, the
+// high one first.
+pub(super) fn pairs_number(digits: &[u8]) -> Option<(u8, u32)>
+    ensures { MatchOption result (ArePairs digits.now → ⊥)
+        (λ first. ArePairs digits.now × (first.0 ≡ length (hex_value digits.now))
+        × (first.1 ≡ big_endian (hex_value digits.now))) }
+{
+    let len = digits.len();
+    if len == 0 || len > 8 || len % 2 != 0 {
+        return None;
+    }
+    let mut number: u32 = 0;
+    for byte in digits {
+        let digit = digit_value(*byte);
+        if digit >= 16 {
+            return None;
+        }
+        number = number * 16 + u32::from(digit);
+    }
+    Some((len as u8 / 2, number))
+}
+
+// Appends the bytes of hexadecimal digits, white space among them.
+pub(super) fn decode_hex(digits: &[u8], out: &mut Vec<u8>)
+    requires { vec_len out.old + length digits.now ≤ vec_capacity out.old }
+    ensures { out.new.items ≡ out.old.items ++ hex_value digits.now }
+{
+    let mut rest = digits;
+    while let [first, second, after @ ..] = rest {
+        let (high, low) = (digit_value(*first), digit_value(*second));
+        if high >= 16 || low >= 16 {
+            break;
+        }
+        out.push_reserved(16 * high + low);
+        rest = after;
+    }
+    decode_spaced_hex(rest, out);
+}
+
+// The same, where white space may stand anywhere.
+fn decode_spaced_hex(digits: &[u8], out: &mut Vec<u8>)
+    requires { vec_len out.old + length digits.now ≤ vec_capacity out.old }
+    ensures { out.new.items ≡ out.old.items ++ hex_value digits.now }
+{
+    let mut high = None;
+    for byte in digits {
+        if let Some(digit) = char::from(*byte).to_digit(16) {
+            match high {
+                None => high = Some(digit),
+                Some(first) => {
+                    out.push_reserved((16 * first + digit) as u8);
+                    high = None;
+                }
+            }
+        }
+    }
+    if let Some(first) = high {
+        out.push_reserved((16 * first) as u8);
+    }
+}
+
+// Appends the bytes that the body of a string in parentheses stands for.
+pub(super) fn decode_text(body: &[u8], out: &mut Vec<u8>)
+    requires room { vec_len out.old + length body.now ≤ vec_capacity out.old }
+    requires paired { reading.is_paired false body.now ≡ true }
+    ensures found { (value : List ℕ)
+        × HasCut body.now value × (out.new.items ≡ out.old.items ++ value) }
+    ensures only { (value : List ℕ)
+        → HasCut body.now value → out.new.items ≡ out.old.items ++ value }
+{
+    let mut rest = body;
+    while !rest.is_empty() {
+        let (byte, len) = first_part(rest);
+        if let Some(byte) = byte {
+            out.push_reserved(byte);
+        }
+        rest = &rest[len..];
+    }
+}
+
+// The byte that the first part of a body stands for, if any, and how many bytes the part takes.
+#[tactic(auto, unfolding(crate::specs::TokenReading::first_part))]
+fn first_part(body: &[u8]) -> (Option<u8>, usize)
+    requires { 0 < length body.now }
+    ensures exact { result ≡ reading.first_part body.now }
+    ensures moves { 0 < result.1 }
+    ensures within { result.1 ≤ length body.now }
+{
+    match body {
+        [b'\\', rest @ ..] => {
+            let (byte, len) = escape(rest);
+            (byte, 1 + len)
+        }
+        [b'\r', b'\n', ..] => (Some(b'\n'), 2),
+        [b'\r', ..] => (Some(b'\n'), 1),
+        [byte, ..] => (Some(*byte), 1),
+        [] => unreachable!(),
+    }
+}
+
+// The same of what stands behind a backslash.
+#[tactic(auto, unfolding(crate::specs::TokenReading::escape))]
+fn escape(text: &[u8]) -> (Option<u8>, usize)
+    ensures exact { result ≡ reading.escape text.now }
+    ensures within { result.1 ≤ length text.now }
+{
+    match text {
+        [b'\r', b'\n', ..] => (None, 2),
+        [b'\r' | b'\n', ..] => (None, 1),
+        [first, ..] if is_digit(*first, 8) => {
+            let (byte, len) = octal(text);
+            (Some(byte), len)
+        }
+        [first, ..] => (Some(escaped_byte(*first)), 1),
+        [] => (None, 0),
+    }
+}
+
+// The value of up to three octal digits, modulo 256, and how many there are.
+fn octal(text: &[u8]) -> (u8, usize)
+    ensures exact { result ≡ reading.octal text.now }
+    ensures within { result.1 ≤ length text.now }
+{
+    let len = octal_len(text);
+    let value = digits_number(8, &text[..len]).unwrap_or(0);
+    ((value % 256) as u8, len)
+}
+
+fn octal_len(text: &[u8]) -> usize
+    ensures exact { result ≡ reading.octal_len text.now }
+    ensures within { result ≤ length text.now }
+{
+    text.iter()
+        .take(3)
+        .take_while(|byte| is_digit(**byte, 8))
+        .count()
+}
+
+fn escaped_byte(byte: u8) -> u8
+    ensures { result ≡ unwrap_or (escape_value byte) byte }
+{
+    match byte {
+        b'n' => b'\n',
+        b'r' => b'\r',
+        b't' => b'\t',
+        b'b' => BACKSPACE,
+        b'f' => FORM_FEED,
+        _ => byte,
+    }
+}

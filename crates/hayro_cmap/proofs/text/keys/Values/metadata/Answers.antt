@@ -1,6 +1,0 @@
-use Rattle.hayro_cmap.specs.TextSeen.{values_seen}
-use Rattle.hayro_cmap.proofs.ValuesRead.{metadata_is}
-use Rattle.hayro_cmap.proofs.text.keys.Values.metadata.Goals as goal
-
-pub returns : goal.returns
-returns c = metadata_is (values_seen c.args.self.now) _ _ _ c.in_ok-character_collection.ensures c.in_ok-name_of.ensures c.mode_of.ensures

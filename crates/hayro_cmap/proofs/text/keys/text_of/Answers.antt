@@ -1,8 +1,0 @@
-use Rattle.std.proofs.Common.{ap}
-use Rattle.cmap_parts.specs.TokenSeen.{token_seen}
-use Rattle.hayro_cmap.proofs.ValuesRead.{text_given}
-use Rattle.hayro_cmap.proofs.text.keys.text_of.Goals as goal
-
-pub returns-in_ok-decode_into-in-String : goal.returns-in_ok-decode_into-in-String
-returns-in_ok-decode_into-in-String c =
-    rw c.in-Some.is (text_given _ _ _ (ap token_seen c.in-String.is) c.in_ok-decode_into-in-String.ensures.value c.in_ok-decode_into-in-String.ensures.only)
