@@ -1,4 +1,3 @@
 pub mod CodeWordParts
-pub mod InputPieces
 pub mod OneMore
 pub mod OptionFronts

@@ -22,7 +22,7 @@ abbrev pub name_of : Asked → List ℕ
 name_of (Cid byte_len) = (zero_digit + byte_len) ∷ []
 name_of Text = codes "bf"
 
--- how many digits stand behind the colon: two for each byte, or one to eight
+-- how many digits stand after the colon: two for each byte, or one to eight
 abbrev pub HasDigits : Asked → ℕ → Type 0
 HasDigits (Cid byte_len) count = count ≡ 2 * byte_len
 HasDigits Text count = (1 ≤ count) × (count ≤ 8)

@@ -1,21 +1,18 @@
--- How the words of the command line begin with options: the name of each, and behind it a number.
-use Rattle.std.specs.Prelude.{◌≡◌, ℕ, ◌<◌, ◌^◌, List, ◌∷◌, ◌⊎◌, codes, Option, Some, None}
-use Rattle.std.specs.Str.Parse.{IsNumeral, digits_value}
-
--- decimal digits of a number of 64 bits
-abbrev pub SpellsNumber : List ℕ → Type 0
-SpellsNumber digits = IsNumeral 10 digits × (digits_value 10 digits < 2 ^ 64)
+-- How the words of the command line begin with options: the name of each, and after it a number.
+use Rattle.std.specs.Prelude.{◌≡◌, ℕ, List, ◌∷◌, ◌⊎◌, codes, Option, Some, None}
+use Rattle.std.specs.Str.Parse.{digits_value}
+use Rattle.cmap_programs.specs.Decimals.{SpellsNumber}
 
 -- the words are the option's name, this word, and these others
 abbrev pub BeginWith : List ℕ → List (List ℕ) → List ℕ → List (List ℕ) → Type 0
 BeginWith name words value others = words ≡ name ∷ value ∷ others
 
--- the words begin with the option and its number, and these stand behind; or they don't begin with the option, and all of them are left
+-- the words begin with the option and its number, and these follow; or they don't begin with the option, and all of them are left
 abbrev pub SpellsOption : List ℕ → List (List ℕ) → Option ℕ → List (List ℕ) → Type 0
 SpellsOption name words (Some number) rest = (digits : List ℕ) × BeginWith name words digits rest × SpellsNumber digits × (number ≡ digits_value 10 digits)
 SpellsOption name words None rest = (rest ≡ words) × ((value : List ℕ) (others : List (List ℕ)) → BeginWith name words value others → ⊥)
 
--- the words begin with the option, and the word behind its name spells no number
+-- the words begin with the option, and the word after its name spells no number
 abbrev pub SpellsNoNumber : List ℕ → List (List ℕ) → Type 0
 SpellsNoNumber name words = (value : List ℕ) × (others : List (List ℕ)) × BeginWith name words value others × (SpellsNumber value → ⊥)
 

@@ -1,12 +1,11 @@
 //! What the words of the command line ask of the whole run, before the queries.
 
-ghost use Rattle.std.specs.Prelude.{◌≡◌, ◌^◌, ◌<◌, MatchResult, map, string_bytes};
-ghost use Rattle.std.specs.Option.{SomeIff};
-ghost use Rattle.std.specs.Str.Parse.{IsNumeral, digits_value};
+ghost use Rattle.std.specs.Prelude.{◌≡◌, MatchResult, map, string_bytes};
 ghost use Rattle.cmap_answers.specs.OptionWords.{SpellsNoNumber, SpellsNoOptions};
 ghost use Rattle.cmap_answers.specs.OptionWords.{SpellsOption, SpellsOptions};
 
-use crate::failure::Failure;
+use cmap_programs::failure::Failure;
+use cmap_programs::words::decimal;
 
 /// What is asked of the whole run.
 #[derive(Clone, Copy, Debug)]
@@ -18,7 +17,7 @@ pub struct Options {
 }
 
 impl Options {
-    /// The options that the words begin with, and the words behind them: `--bundle N`, then
+    /// The options that the words begin with, and the words after them: `--bundle N`, then
     /// `--budget N`, where N has decimal digits. Each of them may be absent.
     pub fn parse(words: &[String]) -> Result<(Options, &[String]), Failure>
         ensures { MatchResult result
@@ -26,13 +25,13 @@ impl Options {
             (map string_bytes found.1.now))
             (λ failure. (failure ≡ Failure.Usage) × SpellsNoOptions (map string_bytes words.now)) }
     {
-        let (bundle, behind) = parse_option("--bundle", words)?;
-        let (budget, queries) = parse_option("--budget", behind)?;
+        let (bundle, rest) = parse_option("--bundle", words)?;
+        let (budget, queries) = parse_option("--budget", rest)?;
         Ok((Options { bundle, budget }, queries))
     }
 }
 
-/// The number of the option of this name, where the words begin with it, and the words behind.
+/// The number of the option of this name, where the words begin with it, and the words after it.
 fn parse_option<'w>(name: &str, words: &'w [String]) -> Result<(Option<u64>, &'w [String]), Failure>
     ensures { MatchResult result
         (λ found. SpellsOption name.now (map string_bytes words.now) found.0
@@ -50,15 +49,4 @@ fn parse_option<'w>(name: &str, words: &'w [String]) -> Result<(Option<u64>, &'w
         Some(number) => Ok((Some(number), rest)),
         None => Err(Failure::Usage),
     }
-}
-
-/// The number that decimal digits spell, where it fits.
-fn decimal(digits: &str) -> Option<u64>
-    ensures { SomeIff result (IsNumeral 10 digits.now × (digits_value 10 digits.now < 2 ^ 64))
-        (digits_value 10 digits.now) }
-{
-    if digits.starts_with('+') {
-        return None;
-    }
-    u64::from_str_radix(digits, 10).ok()
 }

@@ -4,7 +4,7 @@ ghost use Rattle.std.specs.Prelude.{◌≡◌, ◌≢◌, ◌^◌, ◌<◌, [], 
 ghost use Rattle.std.specs.Option.{SomeIff};
 ghost use Rattle.std.specs.Str.Parse.{IsNumeral, digits_value};
 
-use crate::failure::Failure;
+use cmap_programs::failure::Failure;
 use hayro_cmap::{BfString, CMap};
 use std::alloc::{AllocError, Global};
 
@@ -115,7 +115,7 @@ impl<'a> Query<'a> {
 /// What is asked of a code.
 #[derive(Clone, Copy, Debug)]
 pub enum Asked {
-    /// The CID of a code of so many bytes, 1 to 4.
+    /// The CID of a code of this many bytes, 1 to 4.
     Cid { byte_len: u8 },
     /// The text of a code.
     Text,
@@ -140,7 +140,7 @@ impl Asked {
         }
     }
 
-    /// Whether a word that asks this has so many digits.
+    /// Whether a word that asks this has this many digits.
     fn has_digits(self, count: usize) -> bool
         ensures { IsTrue result ↔ HasDigits self count }
     {

@@ -1,15 +1,16 @@
 //! A whole run, from the words and the input to the exit status.
 
-use crate::failure::Failure;
-use crate::input::{read_all, split_bundle};
 use crate::options::Options;
 use crate::query::{Query, Request};
+use cmap_programs::failure::Failure;
+use cmap_programs::input::{read_all, split_bundle};
+use cmap_programs::output::{report, send};
 use hayro_cmap::bcmap::{Bundle, load_embedded};
 use hayro_cmap::{CMap, CMapName};
 use std::alloc::{AllocError, Global};
-use std::io::{self, Read, Write};
+use std::io::{Read, Write};
 
-/// Answers the words from the CMap file that `input` gives, perhaps behind a bundle, one line each
+/// Answers the words from the CMap file that `input` gives, perhaps after a bundle, one line each
 /// on `out`, and returns the exit status: 0, or that of a failure, which `err` then names in one
 /// line.
 ///
@@ -28,12 +29,6 @@ pub fn run<R: Read, W: Write, E: Write>(
     }
 }
 
-/// Writes the failure's line, and returns its status, also where the line can't be written.
-pub fn report<E: Write>(failure: Failure, err: &mut E) -> u8 {
-    let _ = writeln!(err, "{failure}");
-    failure.status()
-}
-
 fn answer<R: Read, W: Write>(
     alloc: Global,
     words: &[String],
@@ -48,7 +43,7 @@ fn answer<R: Read, W: Write>(
     Ok(send(out, lines.as_str())?)
 }
 
-/// The map of the input: of all its bytes, or of those behind the bundle.
+/// The map of the input: of all its bytes, or of those after the bundle.
 fn map_of(alloc: Global, options: Options, input: &[u8]) -> Result<CMap, Failure> {
     let Some(bundle_len) = options.bundle else {
         return map_over(alloc, options.budget, input, None);
@@ -67,12 +62,6 @@ fn map_over(
 ) -> Result<CMap, Failure> {
     let get_cmap = |name: CMapName<'_>| load_embedded(bundle, name);
     CMap::parse_within(alloc, budget, file, bundle, &get_cmap)?.ok_or(Failure::Refused)
-}
-
-/// Writes the lines, and sees that they are out.
-fn send<W: Write>(out: &mut W, lines: &str) -> io::Result<()> {
-    out.write_all(lines.as_bytes())?;
-    out.flush()
 }
 
 /// The lines that answer the queries.

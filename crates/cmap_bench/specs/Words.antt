@@ -1,6 +1,7 @@
 -- How the words of the command line spell a request.
-use Rattle.std.specs.Prelude.{◌≡◌, ℕ, ◌<◌, ◌^◌, List, [], ◌∷◌, codes}
-use Rattle.std.specs.Str.Parse.{IsNumeral, digits_value}
+use Rattle.std.specs.Prelude.{◌≡◌, ℕ, List, [], ◌∷◌, codes}
+use Rattle.std.specs.Str.Parse.{digits_value}
+use Rattle.cmap_programs.specs.Decimals.{SpellsNumber}
 use Rattle.cmap_bench.specs.declared.request.Mode.{Mode}
 use Rattle.cmap_bench.specs.declared.request.Mode.TheVariants.{Parse, Lookup, Bf}
 
@@ -14,9 +15,8 @@ mode_word Bf = codes "bf"
 pub record Spells (mode : Mode) (path : List ℕ) (rounds : ℕ) (words : List (List ℕ)) : Type 0 where
   pub digits : List ℕ
   pub three : words ≡ mode_word mode ∷ path ∷ digits ∷ []
-  pub decimal : IsNumeral 10 digits
+  pub decimal : SpellsNumber digits
   pub value : rounds ≡ digits_value 10 digits
-  pub fits : rounds < 2 ^ 64
 
 -- the words spell no request
 abbrev pub SpellsNone : List (List ℕ) → Type 0

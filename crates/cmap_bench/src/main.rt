@@ -2,16 +2,16 @@
 //! `cmap_bench parse|lookup|bf FILE N`.
 #![tactic(auto)]
 
-mod failure;
 mod request;
 mod rounds;
 mod run;
 
+use cmap_programs::output::report;
 use std::process::ExitCode;
 
 fn main(rt: HostRuntime) -> ExitCode {
     match run::run(&rt) {
         Ok(()) => ExitCode::SUCCESS,
-        Err(failure) => run::report(failure, &mut rt.stderr()),
+        Err(failure) => ExitCode::from(report(failure, &mut rt.stderr())),
     }
 }

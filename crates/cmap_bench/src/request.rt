@@ -1,9 +1,9 @@
 //! The words of the command line.
 
-ghost use Rattle.std.specs.Prelude.{◌≡◌, ◌≢◌, ◌^◌, ◌<◌, ℕ, MatchOption, map, string_bytes};
-ghost use Rattle.std.specs.Option.{SomeIff};
-ghost use Rattle.std.specs.Str.Parse.{IsNumeral, digits_value};
+ghost use Rattle.std.specs.Prelude.{◌≡◌, ◌≢◌, ℕ, MatchOption, map, string_bytes};
 ghost use Rattle.cmap_bench.specs.Words.{SpellsNone, Spells, mode_word};
+
+use cmap_programs::words::decimal;
 
 /// What the rounds do.
 #[derive(Clone, Copy, Debug, PartialEq, Eq)]
@@ -58,17 +58,6 @@ impl<'a> Request<'a> {
             rounds: decimal(rounds.as_str())?,
         })
     }
-}
-
-/// The number that decimal digits spell, where it fits.
-fn decimal(digits: &str) -> Option<u64>
-    ensures { SomeIff result (IsNumeral 10 digits.now × (digits_value 10 digits.now < 2 ^ 64))
-        (digits_value 10 digits.now) }
-{
-    if digits.starts_with('+') {
-        return None;
-    }
-    u64::from_str_radix(digits, 10).ok()
 }
 
 #[cfg(test)]

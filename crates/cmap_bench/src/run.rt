@@ -1,10 +1,9 @@
 //! A whole run, from the words to the line that is written.
 
-use crate::failure::Failure;
 use crate::request::Request;
 use crate::rounds::Work;
-use std::io::{self, ErrorKind, Write};
-use std::process::ExitCode;
+use cmap_programs::failure::Failure;
+use cmap_programs::output::send;
 use std::{env, fs};
 
 /// Measures what the words ask for, and writes one line on the standard output: the nanoseconds and
@@ -16,17 +15,5 @@ pub fn run(rt: &HostRuntime) -> Result<(), Failure> {
     let work = Work::new(rt.alloc(), request.mode, &data)?;
     let measured = work.measure(rt, rt.alloc(), request.rounds)?;
     let line = format!(in rt.alloc(); "{} {}\n", measured.nanos, measured.checksum)?;
-    send(&mut rt.stdout(), line.as_str()).map_err(|_| Failure::Unreadable)
-}
-
-/// Writes the failure's line, and returns its status, also where the line can't be written.
-pub fn report<E: Write>(failure: Failure, err: &mut E) -> ExitCode {
-    let _ = writeln!(err, "{failure}");
-    ExitCode::from(failure.status())
-}
-
-/// Writes the line, and sees that it is out.
-fn send<W: Write>(out: &mut W, line: &str) -> io::Result<()> {
-    out.write_all(line.as_bytes())?;
-    out.flush()
+    Ok(send(&mut rt.stdout(), line.as_str())?)
 }

@@ -19,7 +19,7 @@ pub struct CidRange {
 }
 
 impl CidRange {
-    /// The same range again. It takes no memory.
+    /// A copy of the range. It takes no memory.
     pub fn clone(&self) -> CidRange
         ensures { result ≡ self.now }
     {
@@ -49,7 +49,7 @@ pub struct BfRange {
 }
 
 impl BfRange {
-    /// The same range again.
+    /// A copy of the range.
     pub fn clone(&self, alloc: Global) -> Result<BfRange, AllocError>
         ensures { IfOk result (λ copy. bf_entry_seen copy ≡ bf_entry_seen self.now) }
     {

@@ -108,7 +108,7 @@ impl CidFamily {
         }
     }
 
-    /// The same family again.
+    /// A copy of the family.
     ///
     /// It fails only where there is no memory. Only a `Custom` takes some.
     pub fn clone(&self, alloc: Global) -> Result<CidFamily, AllocError>
@@ -146,7 +146,7 @@ pub struct CharacterCollection {
 }
 
 impl CharacterCollection {
-    /// The same collection again.
+    /// A copy of the collection.
     ///
     /// It fails only where there is no memory. Only one of a `Custom` family takes some.
     pub fn clone(&self, alloc: Global) -> Result<CharacterCollection, AllocError>
@@ -193,7 +193,7 @@ pub struct Metadata {
 }
 
 impl Metadata {
-    /// The same again.
+    /// A copy of the metadata.
     ///
     /// It fails only where there is no memory. Only a name and a `Custom` family take some.
     pub fn clone(&self, alloc: Global) -> Result<Metadata, AllocError>

@@ -2,8 +2,9 @@
 //! CMap file on the standard input.
 #![tactic(auto)]
 
-use cmap_answers::failure::Failure;
-use cmap_answers::run::{report, run};
+use cmap_answers::run::run;
+use cmap_programs::failure::Failure;
+use cmap_programs::output::report;
 use std::env;
 use std::process::ExitCode;
 

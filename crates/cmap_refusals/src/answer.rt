@@ -35,7 +35,7 @@ impl<T> Answer<T> {
         }
     }
 
-    /// The same, and what the call answered as a reference.
+    /// The same as above, and what the call answered as a reference.
     pub fn as_ref(&self) -> Answer<&T> {
         match self {
             Answer::Given(answer) => Answer::Given(answer),

@@ -18,7 +18,7 @@ const BYTES: [(&str, &[u8], bool); 5] = [
         true,
     ),
     (
-        "nine bytes behind the tables",
+        "nine bytes after the tables",
         &[
             0, 0, 0, 16, 0, 2, 1, 0, 2, 0, 0, 0, 0x20, 0, 0, 0, 0, 0, 0, 0, 0, 0, 0, 0, 0, 0, 0, 0,
             0,

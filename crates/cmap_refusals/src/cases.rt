@@ -2,14 +2,14 @@
 
 use crate::lookups::Asked;
 
-/// What a file is read with, beside the files that stand behind some names.
+/// What a file is read with, beside the files that some names have.
 #[derive(Clone, Copy)]
 pub enum With {
     /// Nothing.
     Nothing,
-    /// A budget of so many bytes.
+    /// A budget of bytes.
     Budget(u64),
-    /// The bundle, whose files stand behind their names.
+    /// The bundle, whose files answer to their names.
     Bundle,
 }
 
@@ -32,7 +32,7 @@ pub const BUNDLE: &[u8] = &[
 /// A binary file of the codes 0x20 and 0x21 of two bytes, with the CIDs 5 and 6.
 pub const FILE: &[u8] = b"bcmap\x01\0\0\0\x1A\x04\0\0\0\x10\0\x02\0\0\0\x01\x40\0\x05\0\0";
 
-/// The same without its last byte.
+/// That input without its last byte.
 pub const CUT_FILE: &[u8] = b"bcmap\x01\0\0\0\x1A\x04\0\0\0\x10\0\x02\0\0\0\x01\x40\0\x05\0";
 
 /// Files that are accepted.

@@ -84,7 +84,7 @@ fn read(alloc: Global, file: &[u8], with: With) -> Result<Outcome, AllocError> {
     }
 }
 
-/// Reads a file over those that stand behind names, and over those of a bundle.
+/// Reads a file over those that names have, and over those of a bundle.
 fn read_over(
     alloc: Global,
     file: &[u8],

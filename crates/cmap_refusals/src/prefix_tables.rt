@@ -8,7 +8,7 @@ use std::{fmt, io};
 /// Bytes that a reader hands out.
 const BYTES: &[u8] = &[1, 2, 3, 4, 5, 6, 7, 8, 9, 10];
 
-/// Tables of deltas behind a byte, and the bits that are read by them.
+/// Tables of deltas after a byte, and the bits that are read by them.
 const DELTAS: [(&str, &[u8], &[u8]); 3] = [
     (
         "words of one and two bits",
@@ -27,7 +27,7 @@ const DELTAS: [(&str, &[u8], &[u8]); 3] = [
     ),
 ];
 
-/// The same of counts.
+/// Tables of counts after a byte, and the bits that are read by them.
 const COUNTS: [(&str, &[u8], &[u8]); 3] = [
     (
         "words of two and three bits",
@@ -64,7 +64,7 @@ pub fn tell_all(rt: &(impl Print + AllocGlobal)) -> io::Result<()> {
     Ok(())
 }
 
-/// The table behind the first byte; `Changed` where the reader moves without one.
+/// The table after the first byte; `Changed` where the reader moves without one.
 fn table_of(alloc: Global, symbols: Symbols, bytes: &[u8]) -> Answer<Found> {
     let mut reader = Reader::new(bytes);
     let _first = reader.read_u8();
@@ -94,7 +94,7 @@ fn table_of(alloc: Global, symbols: Symbols, bytes: &[u8]) -> Answer<Found> {
     Answer::NoMemory
 }
 
-/// What stands behind a byte, and where it ends.
+/// What stands after a byte, and where it ends.
 #[derive(Drop)]
 struct Found {
     table: Option<PrefixTable>,

@@ -13,7 +13,7 @@ const DESTINATIONS: [(&str, &[u8]); 3] = [
     ("no byte", &[]),
 ];
 
-/// Numbers of so many bytes, that destinations write.
+/// Numbers of one to four bytes, that destinations write.
 const NUMBERS: [(&str, u8, u32); 3] = [
     ("two bytes", 2, 0x0041),
     ("three bytes", 3, 0x00D8_3DDE),

@@ -113,7 +113,7 @@ impl fmt::Display for Tokens<'_> {
     }
 }
 
-/// A token as it is written, behind its kind.
+/// A token as it is written, after its kind.
 fn write_token<W: fmt::Write>(token: Token<'_>, f: &mut fmt::Formatter<W>) -> fmt::Result {
     match token {
         Token::Name(name) if name.is_literal() => write!(f, " literal:{}", Text(name.as_bytes())),

@@ -19,7 +19,7 @@ fn a_file_past_the_budget_is_not_read(rt: HostRuntime) -> Result<(), Fail> {
         },
     );
     assert!(rt; map.err() == Some(ParseError::OverBudget));
-    // the file of ten bytes is read, and that behind its use; the third, which would use a fourth,
+    // the file of ten bytes is read, and the one that it uses; the third, which would use a fourth,
     // isn't
     assert_eq!(rt; count.get(), 2);
     Ok(())

@@ -1,7 +1,8 @@
 //! Runs of `cmap_query` over readers and writers that fail or are slow.
 
-use cmap_answers::failure::Failure;
-use cmap_answers::run::{report, run};
+use cmap_answers::run::run;
+use cmap_programs::failure::Failure;
+use cmap_programs::output::report;
 use std::alloc::{AllocError, Global};
 use std::io::{self, ErrorKind, Read, Write};
 use std::test::Fail;

@@ -9,7 +9,7 @@ use Rattle.cmap_text.specs.TextReading.{Declares, HasNoFront, Behind, IsClosedBo
 use Rattle.cmap_tokens.specs.TokensLeft.{Left}
 use Rattle.cmap_files.specs.declared.declarations.Lists.{Lists}
 
--- behind its first token comes one entry of the section, and what it declares is added
+-- after its first token comes the rest of one entry of the section, and what it declares is added
 abbrev pub AddsEntry : Section → Token → Left → Left → Lists → Lists → Type 0
 AddsEntry section first old new before after = Declares (Behind (IsEntry section) (token_seen first)) old new (lists_seen before) (lists_seen after)
 

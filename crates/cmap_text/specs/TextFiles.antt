@@ -135,7 +135,7 @@ literal_head (other (Token.Name false bytes)) = None
 literal_head (other (Token.String piece)) = None
 literal_head (other (Token.Numeral x)) = None
 
--- the names that the items use, where each use comes right behind an item that begins with a literal name
+-- the names that the items use, where each use comes right after an item that begins with a literal name
 abbrev pub names_used : Option (List ℕ) → List Item → Option (List (List ℕ))
 names_used before [] = Some []
 names_used before (use_of_base ∷ items) = option_and_then (λ name. option_map (λ names. name ∷ names) (names_used None items)) before
@@ -160,7 +160,7 @@ value_under name (other t) = None
 abbrev pub last_value : List ℕ → List Item → Option Token
 last_value name items = option_and_then (λ value. value) (last_or None (filter_map (value_under name) items))
 
--- what stands behind the keys of a file, where it does
+-- the values of the keys of a file, where it has them
 pub record Values : Type 0 where
   pub registry : Option Token
   pub ordering : Option Token

@@ -35,7 +35,7 @@ declared_from start texts = map (λ p. declares_bf p.0 p.0 p.1) (enumerate_from 
 abbrev pub closing_bracket : Token
 closing_bracket = Token.Name false (codes "]")
 
--- so many destinations and the ] behind them
+-- as many destinations as count says, and the ] after them
 abbrev pub IsList : ℕ → ℕ → List Token → List Declaration → Type 0
 IsList start count tokens declared = (ds : List Token) × (texts : List (List ℕ)) × (tokens ≡ ds ++ closing_bracket ∷ []) × AllZip IsDestination ds texts × (length texts ≡ count) × (declared ≡ declared_from start texts)
 
@@ -47,7 +47,7 @@ Begins Is old declared new = (front : List Token) × (old ≡ with_front front n
 abbrev pub HasNoFront : (List Token → List Declaration → Type 0) → List Token → Type 0
 HasNoFront Is tokens = (front rest : List Token) (declared : List Declaration) → tokens ≡ front ++ rest → Is front declared → ⊥
 
--- behind the first token of an entry
+-- after the first token of an entry
 abbrev pub Behind : (List Token → List Declaration → Type 0) → Token → List Token → List Declaration → Type 0
 Behind Is first tokens declared = Is (first ∷ tokens) declared
 
@@ -55,7 +55,7 @@ Behind Is first tokens declared = Is (first ∷ tokens) declared
 abbrev pub IsClosedBody : Section → List Token → List Declaration → Type 0
 IsClosedBody section tokens declared = (body : List Token) × (tokens ≡ body ++ Token.Name false (closer section) ∷ []) × IsBody section body declared
 
--- behind the first token of an item
+-- after the first token of an item
 abbrev pub BeginsItem : Token → Left → Item → Left → Type 0
 BeginsItem first old item new = (more : List Token) × (old ≡ with_front more new) × IsItem (first ∷ more) item × MayEnd item new.tokens
 

@@ -3,23 +3,37 @@ use Rattle.std.specs.Prelude.{ℕ, ◌≤◌, List, codes, length, option_map}
 use Rattle.std.specs.Option.{option_copied}
 use Rattle.cmap_tokens.specs.TokenSeen.{token_seen}
 use Rattle.cmap_files.specs.DeclarationsSeen.{lists_seen}
+use Rattle.cmap_files.specs.Files.{CidEntry, Declaration}
+use Rattle.cmap_tokens.specs.Tokens.{Token}
 use Rattle.cmap_files.specs.FilesSeen.{names_seen}
 use Rattle.cmap_text.specs.TextFiles as files
 use Rattle.cmap_text.specs.TextReading as reading
+use Rattle.cmap_text.specs.declared.entries.CidKind.{CidKind}
+use Rattle.cmap_text.specs.declared.entries.CidKind.TheVariants.{Cid, Notdef}
+use Rattle.cmap_text.specs.declared.entries.Shape.{Shape}
+use Rattle.cmap_text.specs.declared.entries.Shape.TheVariants.{Range, Single}
 use Rattle.cmap_text.specs.declared.sections.Section.{Section}
-use Rattle.cmap_text.specs.declared.sections.Section.TheVariants.{CodespaceRange, CidRange, CidChar, NotdefRange, NotdefChar, BfRange, BfChar}
+use Rattle.cmap_text.specs.declared.sections.Section.TheVariants.{Codespaces, Cids, BfRange, BfChar}
 use Rattle.cmap_text.specs.declared.items.Said.{Said}
 use Rattle.cmap_text.specs.declared.keys.Key.{Key}
 use Rattle.cmap_text.specs.declared.keys.Key.TheVariants.{Registry, Ordering, Supplement, CMapName, WMode}
 use Rattle.cmap_text.specs.declared.keys.Values.{Values}
 use Rattle.cmap_text.specs.declared.tokens.Code.{Code}
 
+abbrev pub cids_section : CidKind → Shape → files.Section
+cids_section Cid Range = files.cid_range
+cids_section Cid Single = files.cid_char
+cids_section Notdef Range = files.notdef_range
+cids_section Notdef Single = files.notdef_char
+
+-- an entry of this shape, which declares so
+abbrev pub IsCidEntry : Shape → (ℕ → CidEntry → Declaration) → List Token → List Declaration → Type 0
+IsCidEntry Range kind tokens declared = files.IsCidRange kind tokens declared
+IsCidEntry Single kind tokens declared = files.IsCidChar kind tokens declared
+
 abbrev pub section_seen : Section → files.Section
-section_seen CodespaceRange = files.codespace_range
-section_seen CidRange = files.cid_range
-section_seen CidChar = files.cid_char
-section_seen NotdefRange = files.notdef_range
-section_seen NotdefChar = files.notdef_char
+section_seen Codespaces = files.codespace_range
+section_seen (Cids kind shape) = cids_section kind shape
 section_seen BfRange = files.bf_range
 section_seen BfChar = files.bf_char
 

@@ -8,6 +8,7 @@ ghost use Rattle.cmap_text.specs.EntriesSeen.{AddsEntry, HasNoEntry};
 ghost use Rattle.cmap_files.specs.Files.{CidEntry, Declaration};
 ghost use Rattle.cmap_text.specs.TextFiles as files;
 ghost use Rattle.cmap_text.specs.TextFiles.{IsCidRange, IsCidChar};
+ghost use Rattle.cmap_text.specs.TextSeen.{IsCidEntry, cids_section};
 ghost use Rattle.cmap_text.specs.TextReading.{Declares, Begins, Behind, HasNoFront, IsList};
 ghost use Rattle.cmap_files.specs.declared.fault.Fault.TheVariants.{Refused};
 
@@ -16,6 +17,20 @@ use cmap_files::declarations::{BfRange, CidRange, Codespace, Lists};
 use cmap_files::fault::Fault;
 use cmap_runs::runs::Range;
 use cmap_tokens::token::{Token, one_value_for_a_string};
+
+/// Which CIDs an entry declares: those of its codes, or the one of all codes that have no other.
+#[derive(Clone, Copy)]
+pub(crate) enum CidKind {
+    Cid,
+    Notdef,
+}
+
+/// Whether an entry is for the codes of a range or for a single code.
+#[derive(Clone, Copy)]
+pub(crate) enum Shape {
+    Range,
+    Single,
+}
 
 /// code, code of the same length
 pub(crate) fn add_codespace_range(
@@ -42,67 +57,24 @@ pub(crate) fn add_codespace_range(
     Ok(())
 }
 
-/// code, code, CID
-pub(crate) fn add_cid_range(
+/// One entry of CIDs or of notdef CIDs.
+pub(crate) fn add_cids(
     reader: &mut TokenReader<'_>,
     first: &Token<'_>,
+    kind: CidKind,
+    shape: Shape,
     lists: &mut Lists,
 ) -> Result<(), Fault>
     ensures entry { OnOk result
-        (AddsEntry files.cid_range first.now reader.old reader.new lists.old lists.new) }
+        (AddsEntry (cids_section kind shape) first.now reader.old reader.new lists.old lists.new) }
     ensures refused { IsErrOf result Refused
-        → HasNoEntry files.cid_range first.now reader.old.tokens }
+        → HasNoEntry (cids_section kind shape) first.now reader.old.tokens }
 {
-    let filed = read_cid_range(reader, first)?;
-    lists.add_cid(filed.len, filed.range)?;
-    Ok(())
-}
-
-/// code, CID
-pub(crate) fn add_cid_char(
-    reader: &mut TokenReader<'_>,
-    first: &Token<'_>,
-    lists: &mut Lists,
-) -> Result<(), Fault>
-    ensures entry { OnOk result
-        (AddsEntry files.cid_char first.now reader.old reader.new lists.old lists.new) }
-    ensures refused { IsErrOf result Refused
-        → HasNoEntry files.cid_char first.now reader.old.tokens }
-{
-    let filed = read_cid_char(reader, first)?;
-    lists.add_cid(filed.len, filed.range)?;
-    Ok(())
-}
-
-/// code, code, CID
-pub(crate) fn add_notdef_range(
-    reader: &mut TokenReader<'_>,
-    first: &Token<'_>,
-    lists: &mut Lists,
-) -> Result<(), Fault>
-    ensures entry { OnOk result
-        (AddsEntry files.notdef_range first.now reader.old reader.new lists.old lists.new) }
-    ensures refused { IsErrOf result Refused
-        → HasNoEntry files.notdef_range first.now reader.old.tokens }
-{
-    let filed = read_cid_range(reader, first)?;
-    lists.add_notdef(filed.len, filed.range)?;
-    Ok(())
-}
-
-/// code, CID
-pub(crate) fn add_notdef_char(
-    reader: &mut TokenReader<'_>,
-    first: &Token<'_>,
-    lists: &mut Lists,
-) -> Result<(), Fault>
-    ensures entry { OnOk result
-        (AddsEntry files.notdef_char first.now reader.old reader.new lists.old lists.new) }
-    ensures refused { IsErrOf result Refused
-        → HasNoEntry files.notdef_char first.now reader.old.tokens }
-{
-    let filed = read_cid_char(reader, first)?;
-    lists.add_notdef(filed.len, filed.range)?;
+    let filed = read_cids(reader, first, shape)?;
+    match kind {
+        CidKind::Cid => lists.add_cid(filed.len, filed.range)?,
+        CidKind::Notdef => lists.add_notdef(filed.len, filed.range)?,
+    }
     Ok(())
 }
 
@@ -190,6 +162,20 @@ fn add_list(
 struct Filed {
     len: u8,
     range: CidRange,
+}
+
+/// What an entry of CIDs of this shape declares.
+fn read_cids(reader: &mut TokenReader<'_>, first: &Token<'_>, shape: Shape) -> Result<Filed, Fault>
+    ensures entry { (kind : ℕ → CidEntry → Declaration) → IfOk result
+        (λ filed. Begins (Behind (IsCidEntry shape kind) (token_seen first.now)) reader.old
+        (kind filed.len (cid_entry_seen filed.range) ∷ []) reader.new) }
+    ensures refused { (kind : ℕ → CidEntry → Declaration) → IsErrOf result Refused
+        → HasNoFront (Behind (IsCidEntry shape kind) (token_seen first.now)) reader.old.tokens }
+{
+    match shape {
+        Shape::Range => read_cid_range(reader, first),
+        Shape::Single => read_cid_char(reader, first),
+    }
 }
 
 /// code, code, CID: filed by the length of the first code.

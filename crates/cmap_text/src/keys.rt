@@ -58,7 +58,7 @@ impl Key {
     }
 }
 
-/// The last value of each key; it is absent where there is no key, and behind a key that ends the file.
+/// The last value of each key; it is absent where there is no key, and after a key that ends the file.
 #[derive(Clone, Copy)]
 pub(crate) struct Values<'d> {
     registry: Option<Token<'d>>,

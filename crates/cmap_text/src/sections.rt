@@ -9,10 +9,7 @@ ghost use Rattle.cmap_text.specs.TextReading.{HasNoFront, IsClosedBody};
 ghost use Rattle.cmap_text.specs.TextSeen.{section_seen};
 ghost use Rattle.cmap_files.specs.declared.fault.Fault.TheVariants.{Refused};
 
-use crate::entries::{
-    add_bf_char, add_bf_range, add_cid_char, add_cid_range, add_codespace_range, add_notdef_char,
-    add_notdef_range,
-};
+use crate::entries::{CidKind, Shape, add_bf_char, add_bf_range, add_cids, add_codespace_range};
 use crate::tokens::{TokenReader, is_executable};
 use cmap_files::declarations::Lists;
 use cmap_files::fault::Fault;
@@ -21,11 +18,8 @@ use cmap_tokens::token::Token;
 /// The kinds of sections.
 #[derive(Clone, Copy)]
 pub(crate) enum Section {
-    CodespaceRange,
-    CidRange,
-    CidChar,
-    NotdefRange,
-    NotdefChar,
+    Codespaces,
+    Cids(CidKind, Shape),
     BfRange,
     BfChar,
 }
@@ -40,19 +34,19 @@ impl Section {
             token_seen token.now ≡ tokens.Name false (files.opener (section_seen section))) }
     {
         if is_executable(token, b"begincidrange") {
-            Some(Section::CidRange)
+            Some(Section::Cids(CidKind::Cid, Shape::Range))
         } else if is_executable(token, b"begincidchar") {
-            Some(Section::CidChar)
+            Some(Section::Cids(CidKind::Cid, Shape::Single))
         } else if is_executable(token, b"beginbfrange") {
             Some(Section::BfRange)
         } else if is_executable(token, b"beginbfchar") {
             Some(Section::BfChar)
         } else if is_executable(token, b"beginnotdefrange") {
-            Some(Section::NotdefRange)
+            Some(Section::Cids(CidKind::Notdef, Shape::Range))
         } else if is_executable(token, b"beginnotdefchar") {
-            Some(Section::NotdefChar)
+            Some(Section::Cids(CidKind::Notdef, Shape::Single))
         } else if is_executable(token, b"begincodespacerange") {
-            Some(Section::CodespaceRange)
+            Some(Section::Codespaces)
         } else {
             None
         }
@@ -63,11 +57,11 @@ impl Section {
         ensures { result.now ≡ files.closer (section_seen self) }
     {
         match self {
-            Section::CodespaceRange => b"endcodespacerange",
-            Section::CidRange => b"endcidrange",
-            Section::CidChar => b"endcidchar",
-            Section::NotdefRange => b"endnotdefrange",
-            Section::NotdefChar => b"endnotdefchar",
+            Section::Codespaces => b"endcodespacerange",
+            Section::Cids(CidKind::Cid, Shape::Range) => b"endcidrange",
+            Section::Cids(CidKind::Cid, Shape::Single) => b"endcidchar",
+            Section::Cids(CidKind::Notdef, Shape::Range) => b"endnotdefrange",
+            Section::Cids(CidKind::Notdef, Shape::Single) => b"endnotdefchar",
             Section::BfRange => b"endbfrange",
             Section::BfChar => b"endbfchar",
         }
@@ -107,11 +101,8 @@ fn read_entry(
         → HasNoEntry (section_seen section) first.now reader.old.tokens }
 {
     match section {
-        Section::CodespaceRange => add_codespace_range(reader, first, lists),
-        Section::CidRange => add_cid_range(reader, first, lists),
-        Section::CidChar => add_cid_char(reader, first, lists),
-        Section::NotdefRange => add_notdef_range(reader, first, lists),
-        Section::NotdefChar => add_notdef_char(reader, first, lists),
+        Section::Codespaces => add_codespace_range(reader, first, lists),
+        Section::Cids(kind, shape) => add_cids(reader, first, kind, shape, lists),
         Section::BfRange => add_bf_range(reader, first, lists),
         Section::BfChar => add_bf_char(reader, first, lists),
     }

@@ -12,7 +12,7 @@ use hayro_cmap::{CMap, CMapName, ParseError};
 use std::alloc::{AllocError, Global};
 use std::cell::Cell;
 
-/// A name and the file that stands behind it.
+/// A name and its file.
 pub type NamedFile<'a> = (&'a [u8], &'a [u8]);
 
 /// What comes of a file.
@@ -45,7 +45,7 @@ impl Outcome {
 pub struct Around<'a> {
     /// The bytes of a bundle.
     pub bundle: Option<&'a [u8]>,
-    /// Files behind names. Where there are any, those of the bundle stand behind none.
+    /// Files by their names. Where there are any, those of the bundle have none.
     pub bases: Vec<NamedFile<'a>>,
     /// How many bytes the files may have together.
     pub budget: Option<u64>,
@@ -64,7 +64,7 @@ impl Around<'_> {
         }
     }
 
-    /// Reads a file where the files of the bundle stand behind their names.
+    /// Reads a file where the files of the bundle answer to their names.
     fn read_over_bundle(
         &self,
         alloc: Global,
@@ -80,7 +80,7 @@ impl Around<'_> {
         Ok((outcome_of(map)?, count.get()))
     }
 
-    /// Reads a file where the bases stand behind their names.
+    /// Reads a file where the bases answer to their names.
     fn read_over_bases(
         &self,
         alloc: Global,

@@ -84,7 +84,7 @@ pub fn addition_of(
     Ok(Some(Addition::Bytes(bytes)))
 }
 
-/// The text after a number, so many times.
+/// The text after a number, as many times as the number says.
 fn repeated(alloc: Global, rest: &str) -> Result<Vec<u8>, Fault> {
     let (digits, text) = split_word(rest);
     let once = unescaped(alloc, text)?;

@@ -4,7 +4,7 @@ use Rattle.hayro_cmap.specs.Budgets.{Trail}
 use Rattle.cmap_files.specs.Files.{File}
 use Rattle.cmap_files.specs.Only.{IsOnly}
 
--- so many bytes leave this of the budget; where there is none, none is left
+-- what count bytes leave of the budget; where there is none, none is left
 abbrev pub Leaves : Option ℕ → ℕ → Option ℕ → Type 0
 Leaves None count left = left ≡ None
 Leaves (Some budget) count None = ⊥

@@ -44,7 +44,7 @@ impl Layer {
         })
     }
 
-    /// The same layer again.
+    /// A copy of the layer.
     pub(crate) fn clone(&self, alloc: Global) -> Result<Layer, AllocError>
         ensures { IfOk result (λ copy. layer_seen copy ≡ layer_seen self.now) }
     {
@@ -82,7 +82,7 @@ fn build_tables(
     })
 }
 
-/// The same tables again.
+/// A copy of the tables.
 fn clone_tables(
     alloc: Global,
     tables: &ByLength<Table<CidRange>>,

@@ -84,11 +84,11 @@ impl CMap {
         }
     }
 
-    /// The same map, where all files that are opened have no more bytes than `budget`; `None` is no
+    /// The map that `parse` gives, where all files that are opened have no more bytes than `budget`; `None` is no
     /// budget.
     ///
     /// Files count in the order in which they are opened, each before those that it uses, and a file
-    /// that is used twice counts twice. Nothing is opened behind a file outside the grammar or a use
+    /// that is used twice counts twice. Nothing is opened after a file outside the grammar or a use
     /// without its file. A file that would pass the budget isn't read.
     pub fn parse_within<'a, F>(
         alloc: Global,
@@ -139,7 +139,7 @@ impl CMap {
         CMap::identity(alloc, b"Identity-H", WritingMode::Horizontal)
     }
 
-    /// The predefined CMap Identity-V, the same for vertical text. ISO 32000-1, 9.7.5.2.
+    /// The predefined CMap Identity-V: codes of two bytes are CIDs, of vertical text. ISO 32000-1, 9.7.5.2.
     pub fn identity_v(alloc: Global) -> Result<CMap, AllocError>
         ensures { IfOk result
             (λ map. map ≡ identity_layer (codes "Identity-V") files.vertical ∷ []) }
@@ -165,7 +165,7 @@ impl CMap {
         lookup::cid_of(&self.layers, code, byte_len, &mut Looks::new())
     }
 
-    /// The same answer, and what is looked at is counted.
+    /// The answer of `lookup_cid_code`, and what is looked at is counted.
     pub fn lookup_cid_counted(&self, code: u32, byte_len: u8, looks: &mut Looks) -> Option<Cid>
         ensures value { result ≡ cid_of self.now code byte_len }
 
@@ -187,7 +187,7 @@ impl CMap {
         lookup::cid_of(&self.layers, code, byte_len, looks)
     }
 
-    /// The same answer as that of `lookup_cid_code`, where the code lies in a codespace range of
+    /// The answer of `lookup_cid_code`, where the code lies in a codespace range of
     /// some layer; else `None`.
     ///
     /// A code lies in a range of its own length where each of its bytes lies between those of the
@@ -218,7 +218,7 @@ impl CMap {
         lookup::bf_of(alloc, &self.layers, code, &mut Looks::new())
     }
 
-    /// The same answer, and what is looked at is counted.
+    /// The answer of `lookup_bf_string`, and what is looked at is counted.
     pub fn lookup_bf_counted(
         &self,
         alloc: Global,
@@ -244,7 +244,7 @@ impl CMap {
         lookup::bf_of(alloc, &self.layers, code, looks)
     }
 
-    /// The same map again.
+    /// A copy of the map.
     pub fn clone(&self, alloc: Global) -> Result<CMap, AllocError>
         ensures { IfOk result (λ copy. copy ≡ self.now) }
     {

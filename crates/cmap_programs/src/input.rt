@@ -1,4 +1,4 @@
-//! Reading an input to its end, and splitting a bundle from the file behind it.
+//! Reading an input to its end, and splitting a bundle from the file after it.
 
 ghost use Rattle.std.specs.Prelude.{◌≡◌, ◌<◌, ◌++◌, IfOk, IfSome, MatchOption, length};
 
@@ -26,7 +26,7 @@ pub fn read_all<R: Read>(alloc: Global, input: &mut R) -> Result<Vec<u8>, Failur
     Err(Failure::Unreadable)
 }
 
-/// The first `len` bytes, and those behind them; `None` where there are fewer.
+/// The first `len` bytes, and those after them; `None` where there are fewer.
 pub fn split_bundle(bytes: &[u8], len: u64) -> Option<(&[u8], &[u8])>
     ensures { MatchOption result (length bytes.now < len)
         (λ parts. (bytes.now ≡ parts.0.now ++ parts.1.now) × (length parts.0.now ≡ len)) }

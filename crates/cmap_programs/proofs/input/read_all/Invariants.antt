@@ -1,6 +1,6 @@
 use Rattle.std.specs.Prelude.{◌≡◌, vec_len, vec_items}
 use Rattle.std.specs.Io.KnownBytes.{Consumes}
-use Rattle.cmap_answers.proofs.input.read_all.Given as goal
+use Rattle.cmap_programs.proofs.input.read_all.Given as goal
 
 -- What is kept so far is what the reads took from the front, and the buffer has room.
 abbrev pub invariant-loop : goal.invariant-loop

@@ -1,17 +1,17 @@
-//! Why a run measures nothing.
+//! Why a run gives no answers.
 
 ghost use Rattle.std.specs.Prelude.{◌≡◌};
-ghost use Rattle.cmap_bench.specs.declared.failure.Failure.TheVariants.{NoMemory};
+ghost use Rattle.cmap_programs.specs.declared.failure.Failure.TheVariants.{NoMemory};
 
+use hayro_cmap::ParseError;
 use std::alloc::{AllocError, AllocFailed};
 use std::fmt;
 use std::io::{self, ErrorKind};
 
-/// Why a run measures nothing. Its number is the exit status, and its text the line on the standard
-/// error.
+/// Why a run gives no answers. Its number is the exit status, and its text the line on the standard error.
 #[derive(Clone, Copy, Debug, PartialEq, Eq)]
 pub enum Failure {
-    /// The input is no CMap file, or builds on another one.
+    /// The input is no CMap file, or uses one that isn't known, or has no such bundle in front.
     Refused = 1,
     /// The words of the command line are wrong.
     Usage = 2,
@@ -19,6 +19,8 @@ pub enum Failure {
     NoMemory = 3,
     /// The words or the input could not be read, or the answers not written.
     Unreadable = 4,
+    /// The files have more bytes than the budget.
+    OverBudget = 5,
 }
 
 impl Failure {
@@ -35,6 +37,7 @@ impl fmt::Display for Failure {
             Failure::Usage => "usage",
             Failure::NoMemory => "no memory",
             Failure::Unreadable => "unreadable",
+            Failure::OverBudget => "over budget",
         })
     }
 }
@@ -52,6 +55,15 @@ impl<T: Drop> From<AllocFailed<T>> for Failure {
 
     fn from(_error: AllocFailed<T>) -> Failure {
         Failure::NoMemory
+    }
+}
+
+impl From<ParseError> for Failure {
+    fn from(error: ParseError) -> Failure {
+        match error {
+            ParseError::Memory => Failure::NoMemory,
+            ParseError::OverBudget => Failure::OverBudget,
+        }
     }
 }
 

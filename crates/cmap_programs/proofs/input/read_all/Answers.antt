@@ -1,9 +1,9 @@
 use Rattle.std.proofs.Common.{◌<◌, arith, length, take, sym, ap, ◌∙◌, subst}
 use Rattle.std.specs.Io.KnownBytes.{Consumes, ReadConsumes}
 use Rattle.std.proofs.KnownBytes.{Consumes-nil}
-use Rattle.cmap_answers.proofs.InputPieces.{overwritten, Consumes-piece, Consumes-nothing, Consumes-end}
-use Rattle.cmap_answers.proofs.input.read_all.Goals as goal
-use Rattle.cmap_answers.proofs.input.read_all.Goals.{in-Ok+in_ok-extend_from_slice-in-Ok, in-Err}
+use Rattle.cmap_programs.proofs.InputPieces.{overwritten, Consumes-piece, Consumes-nothing, Consumes-end}
+use Rattle.cmap_programs.proofs.input.read_all.Goals as goal
+use Rattle.cmap_programs.proofs.input.read_all.Goals.{in-Ok+in_ok-extend_from_slice-in-Ok, in-Err}
 
 pub loop-init : goal.loop-init
 loop-init g c = (c.in_ok-piece.ensures.len, subst (Consumes _ _) (sym c.new-bytes.ensures.items) (Consumes-nil _))
