@@ -1,6 +1,6 @@
 //! Destinations: their units, and the texts that these stand for.
 
-use cmap_files::fault::Fault;
+use crate::fault::Fault;
 use crate::maps::push_text;
 use cmap_tokens::utf16::{number_units, one_char, text, units};
 use hayro_cmap::BfString;

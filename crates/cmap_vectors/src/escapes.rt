@@ -1,6 +1,6 @@
 //! Bytes as rows write them: as text with escapes, or in hexadecimal digits.
 
-use cmap_files::fault::Fault;
+use crate::fault::Fault;
 use std::alloc::{AllocError, Global};
 
 /// The bytes of a text, in which `\n`, `\r`, `\t`, `\f`, `\0`, `\\` and `\x41` are escapes.

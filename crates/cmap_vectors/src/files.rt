@@ -5,7 +5,7 @@ ghost use Rattle.std.specs.Option.{option_copied};
 ghost use Rattle.cmap_vectors.specs.NamedFiles.{file_in};
 
 use crate::escapes::{push_escaped, unescaped};
-use cmap_files::fault::Fault;
+use crate::fault::Fault;
 use crate::spelled::number;
 use hayro_cmap::bcmap::{Bundle, load_embedded};
 use hayro_cmap::{CMap, CMapName, ParseError};

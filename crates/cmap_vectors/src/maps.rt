@@ -1,7 +1,7 @@
 //! What is asked of a map.
 
 use crate::escapes::push_escaped;
-use cmap_files::fault::Fault;
+use crate::fault::Fault;
 use crate::ranges::code_of;
 use hayro_cmap::runs::Looks;
 use hayro_cmap::{BfString, CMap, CMapName, CidFamily, WritingMode};

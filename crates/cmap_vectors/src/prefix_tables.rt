@@ -1,7 +1,7 @@
 //! Prefix tables: the bytes that they take, and the symbols that bits spell.
 
 use crate::escapes::hexadecimal;
-use cmap_files::fault::Fault;
+use crate::fault::Fault;
 use hayro_cmap::bcmap::{PrefixTable, Reader};
 use std::alloc::{AllocError, Global};
 

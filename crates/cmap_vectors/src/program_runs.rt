@@ -1,7 +1,7 @@
 //! Whole runs of `cmap_query`, over an input and writers in memory.
 
 use crate::escapes::unescaped;
-use cmap_files::fault::Fault;
+use crate::fault::Fault;
 use cmap_answers::run::run;
 use std::alloc::{AllocError, Global};
 

@@ -1,6 +1,6 @@
 //! Tables of declarations: the maximal runs of their ranges, and what is found.
 
-use cmap_files::fault::Fault;
+use crate::fault::Fault;
 use hayro_cmap::runs::{HasRange, Looks, Range, Table};
 use std::alloc::{AllocError, Global};
 

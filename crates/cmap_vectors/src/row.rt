@@ -1,6 +1,6 @@
 //! A row: an input with what stands beside it, and what comes of it.
 
-use cmap_files::fault::Fault;
+use crate::fault::Fault;
 use crate::files::{self, Around, Outcome};
 use crate::prefix_tables::Symbols;
 use crate::spelled::{Addition, Spelled};

@@ -1,7 +1,7 @@
 //! The lines of a file of rows, one after another.
 
 use crate::escapes::canonical;
-use cmap_files::fault::Fault;
+use crate::fault::Fault;
 use crate::row::{Begun, Kind, Named, Row};
 use crate::spelled::{Spelled, addition_of, number, split_word};
 use std::alloc::{AllocError, Global};

@@ -1,7 +1,7 @@
 //! Bytes that rows spell, a line after another.
 
 use crate::escapes::{hexadecimal, unescaped};
-use cmap_files::fault::Fault;
+use crate::fault::Fault;
 use std::alloc::Global;
 
 /// Bytes, and whether they are a binary file, whose head tells its length.

@@ -1,7 +1,7 @@
 //! The tokens of a text.
 
 use crate::escapes::push_escaped;
-use cmap_files::fault::Fault;
+use crate::fault::Fault;
 use hayro_cmap::token::{Number, Scanner, StringToken, Token};
 use std::alloc::{AllocError, Global};
 
