@@ -6,7 +6,7 @@ use Rattle.std.proofs.lemmas.Option.{none-some, same_Some}
 use Rattle.cmap_tokens.specs.Strings.{HaveOneValue}
 use Rattle.cmap_tokens.specs.Tokens.{Token}
 use Rattle.cmap_files.specs.Files.{Declaration}
-use Rattle.cmap_text.specs.TextFiles.{Section, codespace_range, cid_range, cid_char, notdef_range, notdef_char, bf_range, bf_char, keys, opener, closer, use_word, Item, key, entries, use_of_base, other, IsPlain, IsItem, MayEnd, AreItems}
+use Rattle.cmap_text.specs.TextFiles.{Section, codespace_range, cid_range, cid_char, notdef_range, notdef_char, bf_range, bf_char, keys, opener, closer, use_word, Item, key, entries, use_of_base, other, IsOtherToken, IsItem, MayEnd, AreItems}
 use Rattle.cmap_text.specs.TextReading.{IsClosedBody}
 use Rattle.cmap_text.proofs.OneReading.{body_only}
 
@@ -55,7 +55,7 @@ section_parts t more (entries declared) section opens (kind, body, shape, is_bod
     let tail : more ≡ body ++ Token.Name false (closer kind) ∷ [] = cc in
     (declared, subst (λ s. IsClosedBody s more declared) same (body, tail, is_body), refl)
 section_parts t more use_of_base section opens shape = absurd (opener_no_use section cc)
-section_parts t more (other u) section opens (plain, shape) = let same : u ≡ opening section = cc in absurd ((subst IsPlain same plain).1 section refl)
+section_parts t more (other u) section opens (plain, shape) = let same : u ≡ opening section = cc in absurd ((subst IsOtherToken same plain).1 section refl)
 
 -- a key, with a value or without one
 pub key_parts : (t : Token) (more : List Token) (item : Item) (k : List ℕ) → Contains keys k → t ≡ Token.Name true k → IsItem (t ∷ more) item
@@ -64,27 +64,27 @@ key_parts t more (key j None) k known is (is_key, shape) = let same : j ≡ k = 
 key_parts t more (key j (Some value)) k known is (is_key, shape) = let same : j ≡ k = cc in inr (value, cc, ap (λ n. key n (Some value)) same)
 key_parts t more (entries declared) k known is (kind, body, shape, is_body) = let no : ⊥ = cc in absurd no
 key_parts t more use_of_base k known is shape = let no : ⊥ = cc in absurd no
-key_parts t more (other u) k known is (plain, shape) = let same : u ≡ Token.Name true k = cc in absurd (subst IsPlain same plain known)
+key_parts t more (other u) k known is (plain, shape) = let same : u ≡ Token.Name true k = cc in absurd (subst IsOtherToken same plain known)
 
 pub use_only : (t : Token) (more : List Token) (item : Item) → t ≡ Token.Name false use_word → IsItem (t ∷ more) item → (more ≡ []) × (item ≡ use_of_base)
 use_only t more (key k None) uses (is_key, shape) = let no : ⊥ = cc in absurd no
 use_only t more (key k (Some value)) uses (is_key, shape) = let no : ⊥ = cc in absurd no
 use_only t more (entries declared) uses (kind, body, shape, is_body) = absurd (opener_no_use kind cc)
 use_only t more use_of_base uses shape = (cc, refl)
-use_only t more (other u) uses (plain, shape) = let same : u ≡ Token.Name false use_word = cc in absurd ((subst IsPlain same plain).0 refl)
+use_only t more (other u) uses (plain, shape) = let same : u ≡ Token.Name false use_word = cc in absurd ((subst IsOtherToken same plain).0 refl)
 
 -- every other token
-pub is_plain : (t : Token) → ((section : Section) → t ≡ opening section → ⊥) → t ≢ Token.Name false use_word → ((k : List ℕ) → Contains keys k → t ≡ Token.Name true k → ⊥) → IsPlain t
+pub is_plain : (t : Token) → ((section : Section) → t ≡ opening section → ⊥) → t ≢ Token.Name false use_word → ((k : List ℕ) → Contains keys k → t ≡ Token.Name true k → ⊥) → IsOtherToken t
 is_plain (Token.Name true bytes) opens uses known = λ is_key. known bytes is_key refl
 is_plain (Token.Name false bytes) opens uses known = (λ e. uses (ap (Token.Name false) e), λ section e. opens section (ap (Token.Name false) e))
 is_plain (Token.String piece) opens uses known = tt
 is_plain (Token.Numeral x) opens uses known = tt
 
-plain_only : (t : Token) (more : List Token) (item : Item) → IsPlain t → IsItem (t ∷ more) item → (more ≡ []) × (item ≡ other t)
-plain_only t more (key k None) plain (is_key, shape) = let same : t ≡ Token.Name true k = cc in absurd (subst IsPlain same plain is_key)
-plain_only t more (key k (Some value)) plain (is_key, shape) = let same : t ≡ Token.Name true k = cc in absurd (subst IsPlain same plain is_key)
-plain_only t more (entries declared) plain (kind, body, shape, is_body) = let same : t ≡ opening kind = cc in absurd ((subst IsPlain same plain).1 kind refl)
-plain_only t more use_of_base plain shape = let same : t ≡ Token.Name false use_word = cc in absurd ((subst IsPlain same plain).0 refl)
+plain_only : (t : Token) (more : List Token) (item : Item) → IsOtherToken t → IsItem (t ∷ more) item → (more ≡ []) × (item ≡ other t)
+plain_only t more (key k None) plain (is_key, shape) = let same : t ≡ Token.Name true k = cc in absurd (subst IsOtherToken same plain is_key)
+plain_only t more (key k (Some value)) plain (is_key, shape) = let same : t ≡ Token.Name true k = cc in absurd (subst IsOtherToken same plain is_key)
+plain_only t more (entries declared) plain (kind, body, shape, is_body) = let same : t ≡ opening kind = cc in absurd ((subst IsOtherToken same plain).1 kind refl)
+plain_only t more use_of_base plain shape = let same : t ≡ Token.Name false use_word = cc in absurd ((subst IsOtherToken same plain).0 refl)
 plain_only t more (other u) plain (is_other, shape) = let same : u ≡ t = cc in (cc, ap other same)
 
 pub item_begins : (tokens : List Token) (item : Item) → IsItem tokens item → (t : Token) × (more : List Token) × (tokens ≡ t ∷ more)
@@ -121,7 +121,7 @@ item_same one_value t more others rest left (entries declared) item (section, bo
 item_same one_value t more others rest left use_of_base item shape may is ends same = let only = use_only t others item (cc) is in (let mine : more ≡ [] = cc in mine ∙ sym only.0, sym only.1)
 item_same one_value t more others rest left (other u) item (plain, shape) may is ends same =
     let token : u ≡ t = cc in
-    let only = plain_only t others item (subst IsPlain token plain) is in
+    let only = plain_only t others item (subst IsOtherToken token plain) is in
     (let mine : more ≡ [] = cc in mine ∙ sym only.0, ap other token ∙ sym only.1)
 
 -- From the start of some tokens to here they have these items.

@@ -98,11 +98,11 @@ pub data Item : Type 0 where
   other : Token → Item
 
 -- a token that is an item by itself: no key, no opener and no use
-abbrev pub IsPlain : Token → Type 0
-IsPlain (Token.Name true bytes) = Contains keys bytes → ⊥
-IsPlain (Token.Name false bytes) = (bytes ≢ use_word) × ((section : Section) → bytes ≢ opener section)
-IsPlain (Token.String piece) = Unit {0}
-IsPlain (Token.Numeral x) = Unit {0}
+abbrev pub IsOtherToken : Token → Type 0
+IsOtherToken (Token.Name true bytes) = Contains keys bytes → ⊥
+IsOtherToken (Token.Name false bytes) = (bytes ≢ use_word) × ((section : Section) → bytes ≢ opener section)
+IsOtherToken (Token.String piece) = Unit {0}
+IsOtherToken (Token.Numeral x) = Unit {0}
 
 -- the tokens of one item
 abbrev pub IsItem : List Token → Item → Type 0
@@ -110,7 +110,7 @@ IsItem tokens (key k None) = Contains keys k × (tokens ≡ Token.Name true k �
 IsItem tokens (key k (Some value)) = Contains keys k × (tokens ≡ Token.Name true k ∷ value ∷ [])
 IsItem tokens (entries declared) = (section : Section) × (body : List Token) × (tokens ≡ Token.Name false (opener section) ∷ body ++ Token.Name false (closer section) ∷ []) × IsBody section body declared
 IsItem tokens use_of_base = tokens ≡ Token.Name false use_word ∷ []
-IsItem tokens (other t) = IsPlain t × (tokens ≡ t ∷ [])
+IsItem tokens (other t) = IsOtherToken t × (tokens ≡ t ∷ [])
 
 -- only the last item may be a key without a value
 abbrev pub MayEnd : Item → List Token → Type 0

@@ -9,15 +9,15 @@ use Rattle.cmap_files.specs.declared.declarations.CidRange.{CidRange}
 use Rattle.hayro_cmap.specs.declared.layers.Layer.{Layer}
 
 -- a table is seen as its list
-abbrev pub tables_seen : ByLength (List CidRange) → files.ByLength
-tables_seen tables = record { one = entries_seen tables.one; two = entries_seen tables.two; three = entries_seen tables.three; four = entries_seen tables.four }
+abbrev pub by_length_seen : ByLength (List CidRange) → files.ByLength
+by_length_seen tables = record { one = entries_seen tables.one; two = entries_seen tables.two; three = entries_seen tables.three; four = entries_seen tables.four }
 
 abbrev pub layer_seen : Layer → layers.Layer
 layer_seen layer = record {
   metadata = metadata_seen layer.metadata;
   lists = record {
-    cids = tables_seen layer.cids;
-    notdefs = tables_seen layer.notdefs;
+    cids = by_length_seen layer.cids;
+    notdefs = by_length_seen layer.notdefs;
     bfs = map bf_entry_seen layer.bfs;
     spaces = map codespace_seen layer.spaces.items;
   };

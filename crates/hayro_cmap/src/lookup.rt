@@ -6,7 +6,7 @@ ghost use Rattle.cmap_tokens.specs.Texts.{only_character, text_of};
 ghost use Rattle.cmap_tokens.specs.TextSeen.{text_seen};
 ghost use Rattle.cmap_files.specs.DeclarationsSeen.{bf_entry_seen, cid_entry_seen};
 ghost use Rattle.cmap_files.specs.Files.{of_length};
-ghost use Rattle.hayro_cmap.specs.LayersSeen.{layer_seen, layers_seen, tables_seen};
+ghost use Rattle.hayro_cmap.specs.LayersSeen.{layer_seen, layers_seen, by_length_seen};
 ghost use Rattle.hayro_cmap.specs.Lookups.{bf_at, bf_of, bf_span, cid_of, cid_span, last_bf, last_cid};
 ghost use Rattle.hayro_cmap.specs.LayersDecide.{deciding_bf, layer_cid};
 ghost use Rattle.hayro_cmap.specs.Searches.{bf_looks, cid_looks, layer_looks, search_looks};
@@ -147,10 +147,10 @@ fn find_cid<'t>(
     looks: &mut Looks,
 ) -> Option<&'t CidRange>
     ensures found { option_map cid_entry_seen (option_copied result)
-        ≡ last_cid (of_length (tables_seen tables.now) byte_len) code }
+        ≡ last_cid (of_length (by_length_seen tables.now) byte_len) code }
     ensures start { IfSome result (λ found. found.now.range.start ≤ code) }
     ensures runs { looks.new.runs ≤ looks.old.runs
-        + search_looks (map cid_span (of_length (tables_seen tables.now) byte_len)) }
+        + search_looks (map cid_span (of_length (by_length_seen tables.now) byte_len)) }
     ensures runs_grow { looks.old.runs ≤ looks.new.runs }
     ensures declarations { looks.new.declarations ≤ looks.old.declarations + 1 }
     ensures declarations_grow { looks.old.declarations ≤ looks.new.declarations }

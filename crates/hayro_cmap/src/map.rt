@@ -19,7 +19,7 @@ ghost use Rattle.hayro_cmap.specs.declared.budget.ParseError.TheVariants.{OverBu
 use crate::budget::ParseError;
 use crate::chain::{MOST_BELOW, find_layers};
 use crate::layers::Layer;
-use crate::source::Asked;
+use crate::source::FilesByName;
 use crate::{codespaces, lookup};
 use cmap_binary::Bundle;
 use cmap_files::declarations::{CidRange, Codespace, Lists};
@@ -120,7 +120,7 @@ impl CMap {
             (Answers F.Fn get_cmap.now) 16 «data».now budget }
     {
         one_name_for_a_text();
-        let source = Asked {
+        let source = FilesByName {
             get_cmap,
             of: PhantomData,
         };

@@ -26,18 +26,18 @@ pub(crate) trait Source {
 /// Files are read by a function that calls itself. Such a function can't have the bound that
 /// `get_cmap` has, since that names a lifetime, but it can take a `Source`.
 #[derive(Drop)]
-pub(crate) struct Asked<'f, 'a, F> {
+pub(crate) struct FilesByName<'f, 'a, F> {
     pub(crate) get_cmap: &'f F,
     pub(crate) of: PhantomData<&'a [u8]>,
 }
 
-impl<'f, 'a, F> Source for Asked<'f, 'a, F>
+impl<'f, 'a, F> Source for FilesByName<'f, 'a, F>
 where
     F: Fn(CMapName<'_>) -> Option<&'a [u8]>,
 {
-    ghost can_ask = { λ asked. F.IsAlwaysCallable asked.get_cmap.now };
+    ghost can_ask = { λ files. F.IsAlwaysCallable files.get_cmap.now };
 
-    ghost answers = { λ asked. Answers F.Fn asked.get_cmap.now };
+    ghost answers = { λ files. Answers F.Fn files.get_cmap.now };
 
     fn file(&self, name: &[u8]) -> Option<&[u8]> {
         let answer: Option<&'a [u8]> = (self.get_cmap)(CMapName::from_bytes(name));
