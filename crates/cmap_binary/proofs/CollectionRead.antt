@@ -7,7 +7,7 @@ use Rattle.std.proofs.lemmas.List.{take-append-drop}
 use Rattle.std.proofs.lemmas.List.Folds.{list_any-append}
 use Rattle.cmap_binary.specs.BinaryFiles.{nul}
 use Rattle.cmap_files.specs.Only.{IsOnly, HoldsOfNone}
-use Rattle.cmap_names.specs.Names.{Family, family_of}
+use Rattle.cmap_files.specs.Names.{Family, family_of}
 use Rattle.cmap_files.specs.Files.{Collection}
 use Rattle.cmap_binary.specs.EntryReading.{FieldAt}
 use Rattle.cmap_binary.specs.RowReading.{CollectionIn, TerminatedAt}

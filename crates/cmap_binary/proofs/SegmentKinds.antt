@@ -7,7 +7,7 @@ use Rattle.cmap_files.specs.Only.{IsOnly, HoldsOfNone}
 use Rattle.cmap_files.specs.Files.{File}
 use Rattle.cmap_binary.specs.Bundles.{PrefixTables}
 use Rattle.cmap_binary.specs.BinaryEntries.{Shape, ranges, singles}
-use Rattle.cmap_names.specs.Names.{family_of}
+use Rattle.cmap_files.specs.Names.{family_of}
 use Rattle.cmap_binary.specs.BinaryFiles.{Content, sets_collection, IsCodeLength, IsCidType, IsBfType, IsSegment, cid_segment, bf_segment, use_segment, notdef_segment, mode_segment, codespace_segment, name_segment, collection_segment, nul}
 use Rattle.cmap_binary.specs.BinaryReading.{Kind, cids, texts, base, notdefs, mode, codespaces, name, collection, kinds, kind_of, SaysAs, SaysContent}
 

@@ -1,7 +1,7 @@
 -- CMap files in the binary form bcmap: segments, each of which says one thing.
 use Rattle.std.specs.Prelude.{◌≡◌, ℕ, pos, ◌+◌, ◌*◌, ◌<◌, ◌≤◌, ◌==◌, List, [], ◌∷◌, ◌++◌, length, map, flat_map, filter_map, codes, Option, Some, None, IsFalse, option_and_then}
 use Rattle.std.specs.List.{list_any, AllZip, last_or}
-use Rattle.cmap_names.specs.Names.{family_of}
+use Rattle.cmap_files.specs.Names.{family_of}
 use Rattle.cmap_files.specs.Files.{CidEntry, BfEntry, Codespace, Declaration, Mode, Collection, File, lists_of, mode_numbered}
 use Rattle.cmap_binary.specs.Bundles.{PrefixTables, IsField}
 use Rattle.cmap_binary.specs.BinaryEntries.{Shape, ranges, singles, AreCidEntries, AreBfEntries}

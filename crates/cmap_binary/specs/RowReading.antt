@@ -1,7 +1,7 @@
 -- Private aid: the payloads of notdef rows, of codespaces and of a collection, and their parts, each with the bytes behind it, as the code reads them.
 use Rattle.std.specs.Prelude.{◌≡◌, ℕ, pos, ◌<◌, ◌==◌, List, ◌∷◌, ◌++◌, length, flat_map, IsFalse}
 use Rattle.std.specs.List.{list_any, AllZip}
-use Rattle.cmap_names.specs.Names.{family_of}
+use Rattle.cmap_files.specs.Names.{family_of}
 use Rattle.cmap_files.specs.Files.{CidEntry, Codespace, Collection}
 use Rattle.cmap_binary.specs.Bundles.{IsField}
 use Rattle.cmap_binary.specs.BinaryFiles.{IsCodeLength, IsNotdefRow, IsCodespaceRow, nul}

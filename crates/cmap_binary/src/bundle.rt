@@ -5,14 +5,14 @@ ghost use Rattle.std.specs.Option.{option_copied};
 ghost use Rattle.cmap_binary.specs.BundleReading.{AreFiles, SizedAt, both_seen};
 ghost use Rattle.cmap_binary.specs.BundleSeen.{bundle_seen, tables_seen};
 ghost use Rattle.cmap_binary.specs.Bundles.{HoldsTables, IsBundle};
-ghost use Rattle.cmap_names.specs.CMapNames.{place};
+ghost use Rattle.cmap_files.specs.CMapNames.{place};
 ghost use Rattle.cmap_files.specs.FilesSeen.{names_seen};
 ghost use Rattle.cmap_files.specs.Only.{IsOnly, HoldsOfNone};
 
 use crate::frames::split_framed;
 use cmap_bits::bits::Reader;
 use cmap_bits::prefix::PrefixTable;
-use cmap_names::names::CMapName;
+use cmap_files::names::CMapName;
 use std::alloc::{AllocError, Global};
 
 /// Prefix tables of binary CMap files, and such files by their places. The files are slices of the

@@ -3,7 +3,7 @@
 ghost use Rattle.std.specs.Prelude.{IfOk, IsErrOf, MatchOption, map};
 ghost use Rattle.cmap_binary.specs.BinaryFiles.{IsCodespaceRow};
 ghost use Rattle.cmap_files.specs.DeclarationsSeen.{cid_entry_seen, codespace_seen, entries_seen};
-ghost use Rattle.cmap_names.specs.MetadataSeen.{collection_seen};
+ghost use Rattle.cmap_files.specs.MetadataSeen.{collection_seen};
 ghost use Rattle.cmap_files.specs.Only.{IsOnly, HoldsOfNone};
 ghost use Rattle.cmap_binary.specs.RowReading.{AreRowsAt, CodeAt, CodespacesIn, CollectionIn};
 ghost use Rattle.cmap_binary.specs.RowReading.{IsCodedNotdef, NotdefRowsAt, NotdefsIn, RowAt};
@@ -14,7 +14,7 @@ use crate::columns::split_u16;
 use cmap_bits::bits::Reader;
 use cmap_files::declarations::{CidRange, Codespace};
 use cmap_files::fault::Fault;
-use cmap_names::metadata::{CharacterCollection, CidFamily};
+use cmap_files::metadata::{CharacterCollection, CidFamily};
 use cmap_runs::runs::Range;
 use std::alloc::Global;
 

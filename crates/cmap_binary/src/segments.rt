@@ -18,7 +18,7 @@ use crate::kinds::Kind;
 use crate::rows::{read_codespaces, read_collection, read_notdefs};
 use cmap_files::fault::Fault;
 use cmap_files::file::File;
-use cmap_names::metadata::WritingMode;
+use cmap_files::metadata::WritingMode;
 use std::alloc::Global;
 
 /// Reads a segment, and adds what it says to the file.

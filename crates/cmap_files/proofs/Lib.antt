@@ -2,3 +2,4 @@ pub mod ListsFiled
 pub mod ListsMade
 pub mod Outcomes
 pub mod LastOfLists
+pub mod OneName

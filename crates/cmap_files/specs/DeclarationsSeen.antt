@@ -1,7 +1,10 @@
 -- What contracts see of declarations.
-use Rattle.std.specs.Prelude.{ℕ, ◌==◌, List, map, Option, Some, None, if◌then◌else◌}
+use Rattle.std.specs.Prelude.{List, map}
 use Rattle.cmap_runs.specs.Ranges.{Span}
+use Rattle.cmap_files.specs.CodeLengths.{length_of}
 use Rattle.cmap_files.specs.Files as files
+use Rattle.cmap_files.specs.declared.code_length.CodeLength.{CodeLength}
+use Rattle.cmap_files.specs.declared.code_length.CodeLength.TheVariants.{One, Two, Three, Four}
 use Rattle.cmap_files.specs.declared.declarations.ByLength.{ByLength}
 use Rattle.cmap_files.specs.declared.declarations.CidRange.{CidRange}
 use Rattle.cmap_files.specs.declared.declarations.BfRange.{BfRange}
@@ -21,7 +24,7 @@ abbrev pub bf_entry_seen : BfRange → files.BfEntry
 bf_entry_seen declaration = record { start = declaration.range.start; end = declaration.range.end; units = declaration.units.items }
 
 abbrev pub codespace_seen : Codespace → files.Codespace
-codespace_seen space = record { len = space.len; low = space.low; high = space.high }
+codespace_seen space = record { len = length_of space.len; low = space.low; high = space.high }
 
 abbrev pub entries_seen : List CidRange → List files.CidEntry
 entries_seen declarations = map cid_entry_seen declarations
@@ -35,10 +38,8 @@ lists_seen lists = record {
 }
 
 -- the one for codes of a length
-abbrev pub slot : {T : Type 0} → ByLength T → ℕ → Option T
-slot lists len =
-    if len == 1 then Some lists.one
-    else if len == 2 then Some lists.two
-    else if len == 3 then Some lists.three
-    else if len == 4 then Some lists.four
-    else None
+abbrev pub slot : {T : Type 0} → ByLength T → CodeLength → T
+slot lists One = lists.one
+slot lists Two = lists.two
+slot lists Three = lists.three
+slot lists Four = lists.four

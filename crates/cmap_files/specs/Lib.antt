@@ -3,3 +3,8 @@ pub mod Files
 pub mod DeclarationsSeen
 pub mod FilesSeen
 pub mod ListsAppended
+pub mod CodeLengths
+pub mod Names
+pub mod CMapNames
+pub mod Metadata
+pub mod MetadataSeen

@@ -1,12 +1,13 @@
 //! What a CMap declares for its codes.
 
 ghost use Rattle.std.specs.Prelude.{◌≡◌, ◌==◌, [], ◌∷◌, ◌++◌, IfOk, OnOk, if◌then◌else◌, map};
+ghost use Rattle.cmap_files.specs.CodeLengths.{length_of};
 ghost use Rattle.cmap_files.specs.Files.{Declaration, lists_of};
 ghost use Rattle.cmap_files.specs.DeclarationsSeen.{bf_entry_seen, cid_entry_seen, codespace_seen, entries_seen, lists_seen, slot};
-ghost use Rattle.std.specs.Option.{option_copied};
 ghost use Rattle.cmap_files.specs.ListsAppended.{no_lists, append_lists};
 
-use cmap_names::names::Cid;
+use crate::code_length::CodeLength;
+use crate::names::Cid;
 use cmap_runs::runs::{HasRange, Range};
 use std::alloc::{AllocError, Global};
 
@@ -70,10 +71,10 @@ impl HasRange for BfRange {
     }
 }
 
-/// Codes of `len` bytes, each byte between those of `low` and `high`.
+/// Codes of one length, each byte between those of `low` and `high`.
 #[derive(Clone, Copy, Debug)]
 pub struct Codespace {
-    pub len: u8,
+    pub len: CodeLength,
     pub low: u32,
     pub high: u32,
 }
@@ -88,16 +89,15 @@ pub struct ByLength<T> {
 }
 
 impl<T> ByLength<T> {
-    /// The one for codes of `len` bytes; `None` unless `len` is 1 to 4.
-    pub fn get(&self, len: u8) -> Option<&T>
-        ensures { option_copied result ≡ slot self.now len }
+    /// The one for codes of this length.
+    pub fn get(&self, len: CodeLength) -> &T
+        ensures { result.now ≡ slot self.now len }
     {
         match len {
-            1 => Some(&self.one),
-            2 => Some(&self.two),
-            3 => Some(&self.three),
-            4 => Some(&self.four),
-            _ => None,
+            CodeLength::One => &self.one,
+            CodeLength::Two => &self.two,
+            CodeLength::Three => &self.three,
+            CodeLength::Four => &self.four,
         }
     }
 }
@@ -123,18 +123,18 @@ impl Lists {
         }
     }
 
-    /// Adds a declaration of CIDs for codes of `len` bytes.
-    pub fn add_cid(&mut self, len: u8, range: CidRange) -> Result<(), AllocError>
+    /// Adds a declaration of CIDs for codes of this length.
+    pub fn add_cid(&mut self, len: CodeLength, range: CidRange) -> Result<(), AllocError>
         ensures { OnOk result (lists_seen self.new ≡ append_lists (lists_seen self.old)
-            (lists_of (Declaration.cid len (cid_entry_seen range) ∷ []))) }
+            (lists_of (Declaration.cid (length_of len) (cid_entry_seen range) ∷ []))) }
     {
         push_filed(&mut self.cids, len, range)
     }
 
-    /// Adds a notdef declaration for codes of `len` bytes.
-    pub fn add_notdef(&mut self, len: u8, range: CidRange) -> Result<(), AllocError>
+    /// Adds a notdef declaration for codes of this length.
+    pub fn add_notdef(&mut self, len: CodeLength, range: CidRange) -> Result<(), AllocError>
         ensures { OnOk result (lists_seen self.new ≡ append_lists (lists_seen self.old)
-            (lists_of (Declaration.notdef len (cid_entry_seen range) ∷ []))) }
+            (lists_of (Declaration.notdef (length_of len) (cid_entry_seen range) ∷ []))) }
     {
         push_filed(&mut self.notdefs, len, range)
     }
@@ -157,19 +157,19 @@ impl Lists {
         Ok(())
     }
 
-    /// Adds declarations of CIDs for codes of `len` bytes, in their order.
-    pub fn add_cids(&mut self, len: u8, ranges: Vec<CidRange>) -> Result<(), AllocError>
+    /// Adds declarations of CIDs for codes of this length, in their order.
+    pub fn add_cids(&mut self, len: CodeLength, ranges: Vec<CidRange>) -> Result<(), AllocError>
         ensures { OnOk result (lists_seen self.new ≡ append_lists (lists_seen self.old)
-            (lists_of (map (Declaration.cid len) (entries_seen ranges.items)))) }
+            (lists_of (map (Declaration.cid (length_of len)) (entries_seen ranges.items)))) }
     {
         append_filed(&mut self.cids, len, ranges)?;
         Ok(())
     }
 
-    /// Adds notdef declarations for codes of `len` bytes, in their order.
-    pub fn add_notdefs(&mut self, len: u8, ranges: Vec<CidRange>) -> Result<(), AllocError>
+    /// Adds notdef declarations for codes of this length, in their order.
+    pub fn add_notdefs(&mut self, len: CodeLength, ranges: Vec<CidRange>) -> Result<(), AllocError>
         ensures { OnOk result (lists_seen self.new ≡ append_lists (lists_seen self.old)
-            (lists_of (map (Declaration.notdef len) (entries_seen ranges.items)))) }
+            (lists_of (map (Declaration.notdef (length_of len)) (entries_seen ranges.items)))) }
     {
         append_filed(&mut self.notdefs, len, ranges)?;
         Ok(())
@@ -194,52 +194,50 @@ impl Lists {
     }
 }
 
-/// Adds a declaration to the list for codes of `len` bytes, if there is one.
+/// Adds a declaration to the list for codes of this length.
 fn push_filed(
     lists: &mut ByLength<Vec<CidRange>>,
-    len: u8,
+    len: CodeLength,
     range: CidRange,
 ) -> Result<(), AllocError>
     ensures one { OnOk result (lists.new.one.items
-        ≡ lists.old.one.items ++ (if len == 1 then range ∷ [] else [])) }
+        ≡ lists.old.one.items ++ (if length_of len == 1 then range ∷ [] else [])) }
     ensures two { OnOk result (lists.new.two.items
-        ≡ lists.old.two.items ++ (if len == 2 then range ∷ [] else [])) }
+        ≡ lists.old.two.items ++ (if length_of len == 2 then range ∷ [] else [])) }
     ensures three { OnOk result (lists.new.three.items
-        ≡ lists.old.three.items ++ (if len == 3 then range ∷ [] else [])) }
+        ≡ lists.old.three.items ++ (if length_of len == 3 then range ∷ [] else [])) }
     ensures four { OnOk result (lists.new.four.items
-        ≡ lists.old.four.items ++ (if len == 4 then range ∷ [] else [])) }
+        ≡ lists.old.four.items ++ (if length_of len == 4 then range ∷ [] else [])) }
 {
     match len {
-        1 => lists.one.push(range)?,
-        2 => lists.two.push(range)?,
-        3 => lists.three.push(range)?,
-        4 => lists.four.push(range)?,
-        _ => {}
+        CodeLength::One => lists.one.push(range)?,
+        CodeLength::Two => lists.two.push(range)?,
+        CodeLength::Three => lists.three.push(range)?,
+        CodeLength::Four => lists.four.push(range)?,
     }
     Ok(())
 }
 
-/// Adds declarations to the list for codes of `len` bytes, if there is one.
+/// Adds declarations to the list for codes of this length.
 fn append_filed(
     lists: &mut ByLength<Vec<CidRange>>,
-    len: u8,
+    len: CodeLength,
     mut ranges: Vec<CidRange>,
 ) -> Result<(), AllocError>
     ensures one { OnOk result (lists.new.one.items
-        ≡ lists.old.one.items ++ (if len == 1 then ranges.items else [])) }
+        ≡ lists.old.one.items ++ (if length_of len == 1 then ranges.items else [])) }
     ensures two { OnOk result (lists.new.two.items
-        ≡ lists.old.two.items ++ (if len == 2 then ranges.items else [])) }
+        ≡ lists.old.two.items ++ (if length_of len == 2 then ranges.items else [])) }
     ensures three { OnOk result (lists.new.three.items
-        ≡ lists.old.three.items ++ (if len == 3 then ranges.items else [])) }
+        ≡ lists.old.three.items ++ (if length_of len == 3 then ranges.items else [])) }
     ensures four { OnOk result (lists.new.four.items
-        ≡ lists.old.four.items ++ (if len == 4 then ranges.items else [])) }
+        ≡ lists.old.four.items ++ (if length_of len == 4 then ranges.items else [])) }
 {
     match len {
-        1 => lists.one.append(&mut ranges),
-        2 => lists.two.append(&mut ranges),
-        3 => lists.three.append(&mut ranges),
-        4 => lists.four.append(&mut ranges),
-        _ => Ok(()),
+        CodeLength::One => lists.one.append(&mut ranges),
+        CodeLength::Two => lists.two.append(&mut ranges),
+        CodeLength::Three => lists.three.append(&mut ranges),
+        CodeLength::Four => lists.four.append(&mut ranges),
     }
 }
 

@@ -5,7 +5,7 @@ ghost use Rattle.cmap_files.specs.ListsAppended.{no_file};
 ghost use Rattle.cmap_files.specs.FilesSeen.{file_seen};
 
 use crate::declarations::Lists;
-use cmap_names::metadata::Metadata;
+use crate::metadata::Metadata;
 use std::alloc::Global;
 
 /// What one file says, and the names of the files that it uses, in order.

@@ -1,6 +1,9 @@
 //! What one CMap file says: its metadata, what it declares for its codes, and the files that it uses.
 #![tactic(auto)]
 
+pub mod code_length;
 pub mod declarations;
 pub mod fault;
 pub mod file;
+pub mod metadata;
+pub mod names;

@@ -6,7 +6,7 @@ use Rattle.cmap_tokens.specs.Numbers.{Number}
 use Rattle.cmap_tokens.specs.Tokens.{Token, Tokens}
 use Rattle.cmap_tokens.specs.Strings.{IsValue}
 use Rattle.cmap_tokens.specs.Texts.{units_of}
-use Rattle.cmap_names.specs.Names.{family_of}
+use Rattle.cmap_files.specs.Names.{family_of}
 use Rattle.cmap_files.specs.Files.{CidEntry, Declaration, Mode, Collection, FileMetadata, File, lists_of, mode_numbered}
 
 -- the names that take the next token as their value

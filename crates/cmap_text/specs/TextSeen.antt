@@ -1,7 +1,8 @@
 -- Private aid: what contracts see of what the code reads from a text.
-use Rattle.std.specs.Prelude.{ℕ, ◌≤◌, List, codes, length, option_map}
+use Rattle.std.specs.Prelude.{ℕ, List, codes, length, option_map}
 use Rattle.std.specs.Option.{option_copied}
 use Rattle.cmap_tokens.specs.TokenSeen.{token_seen}
+use Rattle.cmap_files.specs.CodeLengths.{IsCodeLength, length_of}
 use Rattle.cmap_files.specs.DeclarationsSeen.{lists_seen}
 use Rattle.cmap_files.specs.Files.{CidEntry, Declaration}
 use Rattle.cmap_tokens.specs.Tokens.{Token}
@@ -38,11 +39,11 @@ section_seen BfRange = files.bf_range
 section_seen BfChar = files.bf_char
 
 abbrev pub code_seen : Code → reading.Code
-code_seen code = record { len = code.len; number = code.number }
+code_seen code = record { len = length_of code.len; number = code.number }
 
 -- one to four bytes
 abbrev pub IsCodeBytes : List ℕ → Type 0
-IsCodeBytes bytes = (1 ≤ length bytes) × (length bytes ≤ 4)
+IsCodeBytes bytes = IsCodeLength (length bytes)
 
 abbrev pub key_name : Key → List ℕ
 key_name Registry = codes "Registry"

@@ -3,6 +3,7 @@
 
 ghost use Rattle.std.specs.Prelude.{◌+◌, ◌-◌, ℕ, [], ◌∷◌, IfOk, IsErrOf, OnOk};
 ghost use Rattle.cmap_tokens.specs.TokenSeen.{token_seen};
+ghost use Rattle.cmap_files.specs.CodeLengths.{length_of};
 ghost use Rattle.cmap_files.specs.DeclarationsSeen.{cid_entry_seen, lists_seen};
 ghost use Rattle.cmap_text.specs.EntriesSeen.{AddsEntry, HasNoEntry};
 ghost use Rattle.cmap_files.specs.Files.{CidEntry, Declaration};
@@ -13,6 +14,7 @@ ghost use Rattle.cmap_text.specs.TextReading.{Declares, Begins, Behind, HasNoFro
 ghost use Rattle.cmap_files.specs.declared.fault.Fault.TheVariants.{Refused};
 
 use crate::tokens::{TokenReader, is_executable};
+use cmap_files::code_length::CodeLength;
 use cmap_files::declarations::{BfRange, CidRange, Codespace, Lists};
 use cmap_files::fault::Fault;
 use cmap_runs::runs::Range;
@@ -46,7 +48,7 @@ pub(crate) fn add_codespace_range(
     one_value_for_a_string();
     let low = reader.code(first)?;
     let high = reader.next_code()?;
-    if low.len != high.len {
+    if low.len.count() != high.len.count() {
         return Err(Fault::Refused);
     }
     lists.add_codespace(Codespace {
@@ -160,7 +162,7 @@ fn add_list(
 /// A declaration of CIDs, and the length of the codes that it is filed by.
 #[derive(Drop)]
 struct Filed {
-    len: u8,
+    len: CodeLength,
     range: CidRange,
 }
 
@@ -168,7 +170,7 @@ struct Filed {
 fn read_cids(reader: &mut TokenReader<'_>, first: &Token<'_>, shape: Shape) -> Result<Filed, Fault>
     ensures entry { (kind : ℕ → CidEntry → Declaration) → IfOk result
         (λ filed. Begins (Behind (IsCidEntry shape kind) (token_seen first.now)) reader.old
-        (kind filed.len (cid_entry_seen filed.range) ∷ []) reader.new) }
+        (kind (length_of filed.len) (cid_entry_seen filed.range) ∷ []) reader.new) }
     ensures refused { (kind : ℕ → CidEntry → Declaration) → IsErrOf result Refused
         → HasNoFront (Behind (IsCidEntry shape kind) (token_seen first.now)) reader.old.tokens }
 {
@@ -182,7 +184,7 @@ fn read_cids(reader: &mut TokenReader<'_>, first: &Token<'_>, shape: Shape) -> R
 fn read_cid_range(reader: &mut TokenReader<'_>, first: &Token<'_>) -> Result<Filed, Fault>
     ensures entry { (kind : ℕ → CidEntry → Declaration) → IfOk result
         (λ filed. Begins (Behind (IsCidRange kind) (token_seen first.now)) reader.old
-        (kind filed.len (cid_entry_seen filed.range) ∷ []) reader.new) }
+        (kind (length_of filed.len) (cid_entry_seen filed.range) ∷ []) reader.new) }
     ensures refused { (kind : ℕ → CidEntry → Declaration) → IsErrOf result Refused
         → HasNoFront (Behind (IsCidRange kind) (token_seen first.now)) reader.old.tokens }
 {
@@ -203,7 +205,7 @@ fn read_cid_range(reader: &mut TokenReader<'_>, first: &Token<'_>) -> Result<Fil
 fn read_cid_char(reader: &mut TokenReader<'_>, first: &Token<'_>) -> Result<Filed, Fault>
     ensures entry { (kind : ℕ → CidEntry → Declaration) → IfOk result
         (λ filed. Begins (Behind (IsCidChar kind) (token_seen first.now)) reader.old
-        (kind filed.len (cid_entry_seen filed.range) ∷ []) reader.new) }
+        (kind (length_of filed.len) (cid_entry_seen filed.range) ∷ []) reader.new) }
     ensures refused { (kind : ℕ → CidEntry → Declaration) → IsErrOf result Refused
         → HasNoFront (Behind (IsCidChar kind) (token_seen first.now)) reader.old.tokens }
 {

@@ -3,14 +3,14 @@
 ghost use Rattle.std.specs.Prelude.{◌≡◌, true, IfOk, MatchOption, option_map};
 ghost use Rattle.cmap_tokens.specs.TokenSeen.{token_seen};
 ghost use Rattle.cmap_tokens.specs.Tokens as tokens;
-ghost use Rattle.cmap_names.specs.MetadataSeen.{collection_seen, metadata_seen, mode_seen};
+ghost use Rattle.cmap_files.specs.MetadataSeen.{collection_seen, metadata_seen, mode_seen};
 ghost use Rattle.cmap_files.specs.Only.{IsOnly};
 ghost use Rattle.cmap_text.specs.TextFiles.{GivesText, IsCollection, IsMetadata, mode_in, name_in, supplement_in};
 ghost use Rattle.cmap_text.specs.TextReading.{no_values, with_value};
 ghost use Rattle.cmap_text.specs.TextSeen.{key_name, values_seen};
 
 use crate::tokens::literal_name;
-use cmap_names::metadata::{CharacterCollection, CidFamily, Metadata, WritingMode};
+use cmap_files::metadata::{CharacterCollection, CidFamily, Metadata, WritingMode};
 use cmap_tokens::token::{Number, Token};
 use std::alloc::{AllocError, Global};
 

@@ -12,8 +12,9 @@ ghost use Rattle.cmap_tokens.specs.TokensLeft.{HasTokens, ended, malformed, with
 ghost use Rattle.cmap_files.specs.declared.fault.Fault.TheVariants.{Refused};
 
 use cmap_bits::bits::Reader;
+use cmap_files::code_length::CodeLength;
 use cmap_files::fault::Fault;
-use cmap_names::names::Cid;
+use cmap_files::names::Cid;
 use cmap_tokens::token::{Number, Scanner, Token};
 use cmap_tokens::utf16::{number_units, units};
 use std::alloc::Global;
@@ -22,7 +23,7 @@ use std::marker::Model;
 /// A code, and how many bytes it has.
 #[derive(Clone, Copy)]
 pub(crate) struct Code {
-    pub(crate) len: u8,
+    pub(crate) len: CodeLength,
     pub(crate) number: u32,
 }
 
@@ -84,7 +85,8 @@ impl<'d> TokenReader<'d> {
         let Token::String(string) = token else {
             return Err(Fault::Refused);
         };
-        if let Some((len, number)) = string.plain_number() {
+        if let Some((count, number)) = string.plain_number() {
+            let len = CodeLength::of(count).ok_or(Fault::Refused)?;
             return Ok(Code { len, number });
         }
         string.decode_into(&mut self.string)?;
@@ -145,8 +147,8 @@ fn code_of(bytes: &[u8]) -> Option<Code>
     ensures { MatchOption result (IsCodeBytes bytes.now → ⊥)
         (λ code. IsCodeBytes bytes.now × (code_seen code ≡ code_of bytes.now)) }
 {
-    let len = u8::try_from(bytes.len()).ok()?;
-    let number = Reader::new(bytes).read_n_bytes(len)?;
+    let len = CodeLength::of(u8::try_from(bytes.len()).ok()?)?;
+    let number = Reader::new(bytes).read_n_bytes(len.count())?;
     Some(Code { len, number })
 }
 

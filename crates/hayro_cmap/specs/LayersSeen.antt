@@ -1,6 +1,6 @@
 -- What contracts see of layers.
 use Rattle.std.specs.Prelude.{◌≡◌, List, [], ◌∷◌, map}
-pub use Rattle.cmap_names.specs.MetadataSeen.{family_seen, collection_seen, mode_seen, metadata_seen, HoldsTexts}
+pub use Rattle.cmap_files.specs.MetadataSeen.{family_seen, collection_seen, mode_seen, metadata_seen, HoldsTexts}
 use Rattle.cmap_files.specs.Files as files
 use Rattle.hayro_cmap.specs.Layers as layers
 use Rattle.cmap_files.specs.DeclarationsSeen.{entries_seen, bf_entry_seen, codespace_seen}

@@ -5,7 +5,7 @@ ghost use Rattle.cmap_files.specs.DeclarationsSeen.{bf_entry_seen, lists_seen};
 ghost use Rattle.hayro_cmap.specs.LayersSeen.{layer_seen, metadata_seen};
 
 use cmap_files::declarations::{BfRange, ByLength, CidRange, Codespace, Lists};
-use cmap_names::metadata::Metadata;
+use cmap_files::metadata::Metadata;
 use cmap_runs::runs::{Looks, Table};
 use std::alloc::{AllocError, Global};
 

@@ -4,6 +4,7 @@ ghost use Rattle.std.specs.Prelude.{◌≡◌, ◌+◌, ◌*◌, ◌<◌, ◌≤
 ghost use Rattle.std.specs.Option.{option_copied};
 ghost use Rattle.cmap_tokens.specs.Texts.{only_character, text_of};
 ghost use Rattle.cmap_tokens.specs.TextSeen.{text_seen};
+ghost use Rattle.cmap_files.specs.CodeLengths.{length_of};
 ghost use Rattle.cmap_files.specs.DeclarationsSeen.{bf_entry_seen, cid_entry_seen};
 ghost use Rattle.cmap_files.specs.Files.{of_length};
 ghost use Rattle.hayro_cmap.specs.LayersSeen.{layer_seen, layers_seen, by_length_seen};
@@ -12,8 +13,9 @@ ghost use Rattle.hayro_cmap.specs.LayersDecide.{deciding_bf, layer_cid};
 ghost use Rattle.hayro_cmap.specs.Searches.{bf_looks, cid_looks, layer_looks, search_looks};
 
 use crate::layers::Layer;
+use cmap_files::code_length::CodeLength;
 use cmap_files::declarations::{BfRange, ByLength, CidRange};
-use cmap_names::names::Cid;
+use cmap_files::names::Cid;
 use cmap_runs::runs::{Looks, Table};
 use cmap_tokens::utf16::{BfString, one_char, text};
 use std::alloc::{AllocError, Global};
@@ -29,11 +31,9 @@ pub(crate) fn cid_of(layers: &[Layer], code: u32, byte_len: u8, looks: &mut Look
     ensures some_run { OnSome result (looks.old.runs + 1 ≤ looks.new.runs) }
     ensures some_declaration { OnSome result (looks.old.declarations + 1 ≤ looks.new.declarations) }
 {
-    if !(1..=4).contains(&byte_len) {
-        return None;
-    }
+    let len = CodeLength::of(byte_len)?;
     for layer in layers {
-        if let Some(decided) = decided_by(layer, code, byte_len, looks) {
+        if let Some(decided) = decided_by(layer, code, len, looks) {
             return decided;
         }
     }
@@ -104,19 +104,19 @@ fn last_bf<'t>(table: &'t Table<BfRange>, code: u32, looks: &mut Looks) -> Optio
 }
 
 /// What a layer decides for a code, if it does: its CID, or that it has none.
-fn decided_by(layer: &Layer, code: u32, byte_len: u8, looks: &mut Looks) -> Option<Option<Cid>>
-    ensures value { result ≡ layer_cid (layer_seen layer.now) code byte_len }
-    ensures runs { looks.new.runs ≤ looks.old.runs + layer_looks (layer_seen layer.now) byte_len }
+fn decided_by(layer: &Layer, code: u32, len: CodeLength, looks: &mut Looks) -> Option<Option<Cid>>
+    ensures value { result ≡ layer_cid (layer_seen layer.now) code (length_of len) }
+    ensures runs { looks.new.runs ≤ looks.old.runs + layer_looks (layer_seen layer.now) (length_of len) }
     ensures runs_grow { looks.old.runs ≤ looks.new.runs }
     ensures declarations { looks.new.declarations ≤ looks.old.declarations + 3 }
     ensures declarations_grow { looks.old.declarations ≤ looks.new.declarations }
     ensures some_run { OnSome result (looks.old.runs + 1 ≤ looks.new.runs) }
     ensures some_declaration { OnSome result (looks.old.declarations + 1 ≤ looks.new.declarations) }
 {
-    if let Some(found) = find_cid(&layer.cids, code, byte_len, looks) {
+    if let Some(found) = find_cid(&layer.cids, code, len, looks) {
         return Some(found.cid.checked_add(code - found.range.start));
     }
-    if let Some(found) = find_cid(&layer.notdefs, code, byte_len, looks) {
+    if let Some(found) = find_cid(&layer.notdefs, code, len, looks) {
         return Some(Some(found.cid));
     }
     let character = character_of(&layer.bfs, code, looks)?;
@@ -139,23 +139,23 @@ fn character_of(table: &Table<BfRange>, code: u32, looks: &mut Looks) -> Option<
     one_char(&found.units, code - found.range.start)
 }
 
-/// The last declaration of CIDs for codes of `byte_len` bytes that contains the code.
+/// The last declaration of CIDs for codes of this length that contains the code.
 fn find_cid<'t>(
     tables: &'t ByLength<Table<CidRange>>,
     code: u32,
-    byte_len: u8,
+    len: CodeLength,
     looks: &mut Looks,
 ) -> Option<&'t CidRange>
     ensures found { option_map cid_entry_seen (option_copied result)
-        ≡ last_cid (of_length (by_length_seen tables.now) byte_len) code }
+        ≡ last_cid (of_length (by_length_seen tables.now) (length_of len)) code }
     ensures start { IfSome result (λ found. found.now.range.start ≤ code) }
     ensures runs { looks.new.runs ≤ looks.old.runs
-        + search_looks (map cid_span (of_length (by_length_seen tables.now) byte_len)) }
+        + search_looks (map cid_span (of_length (by_length_seen tables.now) (length_of len))) }
     ensures runs_grow { looks.old.runs ≤ looks.new.runs }
     ensures declarations { looks.new.declarations ≤ looks.old.declarations + 1 }
     ensures declarations_grow { looks.old.declarations ≤ looks.new.declarations }
     ensures some_run { OnSome result (looks.old.runs + 1 ≤ looks.new.runs) }
     ensures some_declaration { OnSome result (looks.old.declarations + 1 ≤ looks.new.declarations) }
 {
-    tables.get(byte_len)?.find(code, looks)
+    tables.get(len).find(code, looks)
 }

@@ -22,9 +22,10 @@ use crate::layers::Layer;
 use crate::source::FilesByName;
 use crate::{codespaces, lookup};
 use cmap_binary::Bundle;
+use cmap_files::code_length::CodeLength;
 use cmap_files::declarations::{CidRange, Codespace, Lists};
-use cmap_names::metadata::{CharacterCollection, CidFamily, Metadata, WritingMode};
-use cmap_names::names::{CMapName, Cid, one_name_for_a_text};
+use cmap_files::metadata::{CharacterCollection, CidFamily, Metadata, WritingMode};
+use cmap_files::names::{CMapName, Cid, one_name_for_a_text};
 use cmap_runs::runs::{Looks, Range};
 use cmap_tokens::utf16::BfString;
 use std::alloc::{AllocError, Global};
@@ -263,9 +264,9 @@ impl CMap {
             start: 0,
             end: 0xFFFF,
         };
-        lists.add_cid(2, CidRange { range, cid: 0 })?;
+        lists.add_cid(CodeLength::Two, CidRange { range, cid: 0 })?;
         lists.spaces.push(Codespace {
-            len: 2,
+            len: CodeLength::Two,
             low: 0,
             high: 0xFFFF,
         })?;

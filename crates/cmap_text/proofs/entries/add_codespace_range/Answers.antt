@@ -10,12 +10,12 @@ returns-in_err-high-clause-refused c =
     let refused = rw c.code.ensures.stays at c.in_err-high.ensures.refused in
     passed_on c.from_residual-in_err-high.result _ _ _ c.from_residual-in_err-high.ensures.1 (λ e. no_codespace-high _ _ (refused e))
 
-pub returns-then-low-high-clause-refused : goal.returns-then-low-high-clause-refused
-returns-then-low-high-clause-refused c =
+pub returns-then-count-clause-refused : goal.returns-then-count-clause-refused
+returns-then-count-clause-refused c =
     let high = rw c.code.ensures.stays at c.in_ok-high.ensures.code in
-    λ e. no_codespace-length _ c.one_value_for_a_string.ensures _ _ _ _ c.in_ok-low.ensures.code high c.if-low-high.true
+    λ e. no_codespace-length _ c.one_value_for_a_string.ensures _ _ _ _ c.in_ok-low.ensures.code high (rw (← c.count.ensures, ← c.count-2.ensures) c.if-count.true)
 
 pub returns-clause-entry : goal.returns-clause-entry
 returns-clause-entry c =
     let high = rw c.code.ensures.stays at c.in_ok-high.ensures.code in
-    record { declared = _; begins = codespace_read _ _ _ _ _ c.in_ok-low.ensures.code high c.if-low-high.false; added = c.in_ok-add_codespace.ensures }
+    record { declared = _; begins = codespace_read _ _ _ _ _ c.in_ok-low.ensures.code high (rw (← c.count.ensures, ← c.count-2.ensures) c.if-count.false); added = c.in_ok-add_codespace.ensures }

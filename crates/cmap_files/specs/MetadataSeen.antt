@@ -1,13 +1,13 @@
 -- What contracts see of what files say of themselves.
 use Rattle.std.specs.Prelude.{option_map, IsSome, IsSomeAnd, ◌⊎◌}
-use Rattle.cmap_names.specs.Names as names
-use Rattle.cmap_names.specs.Metadata as said
-use Rattle.cmap_names.specs.declared.metadata.CidFamily.{CidFamily}
-use Rattle.cmap_names.specs.declared.metadata.CidFamily.TheVariants.{AdobeJapan1, AdobeGB1, AdobeCNS1, AdobeKorea1, AdobeIdentity, Custom}
-use Rattle.cmap_names.specs.declared.metadata.CharacterCollection.{CharacterCollection}
-use Rattle.cmap_names.specs.declared.metadata.WritingMode.{WritingMode}
-use Rattle.cmap_names.specs.declared.metadata.WritingMode.TheVariants.{Horizontal, Vertical}
-use Rattle.cmap_names.specs.declared.metadata.Metadata.{Metadata}
+use Rattle.cmap_files.specs.Names as names
+use Rattle.cmap_files.specs.Metadata as said
+use Rattle.cmap_files.specs.declared.metadata.CidFamily.{CidFamily}
+use Rattle.cmap_files.specs.declared.metadata.CidFamily.TheVariants.{AdobeJapan1, AdobeGB1, AdobeCNS1, AdobeKorea1, AdobeIdentity, Custom}
+use Rattle.cmap_files.specs.declared.metadata.CharacterCollection.{CharacterCollection}
+use Rattle.cmap_files.specs.declared.metadata.WritingMode.{WritingMode}
+use Rattle.cmap_files.specs.declared.metadata.WritingMode.TheVariants.{Horizontal, Vertical}
+use Rattle.cmap_files.specs.declared.metadata.Metadata.{Metadata}
 
 abbrev pub family_seen : CidFamily → names.Family
 family_seen AdobeJapan1 = names.adobe_japan1

@@ -1,10 +1,10 @@
 //! What a CMap says of itself.
 
 ghost use Rattle.std.specs.Prelude.{◌≡◌, IfOk, IfSome, OnErr, option_map};
-ghost use Rattle.cmap_names.specs.CMapNames.{IsNameOf, name_bytes};
-ghost use Rattle.cmap_names.specs.Metadata.{mode_numbered};
-ghost use Rattle.cmap_names.specs.MetadataSeen.{family_seen, collection_seen, metadata_seen, mode_seen, HoldsTexts};
-ghost use Rattle.cmap_names.specs.Names.{IsCustom, custom, family_of, unicode_cmap_of, ucs2_cmap_of};
+ghost use Rattle.cmap_files.specs.CMapNames.{IsNameOf, name_bytes};
+ghost use Rattle.cmap_files.specs.Metadata.{mode_numbered};
+ghost use Rattle.cmap_files.specs.MetadataSeen.{family_seen, collection_seen, metadata_seen, mode_seen, HoldsTexts};
+ghost use Rattle.cmap_files.specs.Names.{IsCustom, custom, family_of, unicode_cmap_of, ucs2_cmap_of};
 
 use crate::names::CMapName;
 use std::alloc::{AllocError, Global};

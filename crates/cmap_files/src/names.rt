@@ -1,9 +1,9 @@
 //! Names of CMaps.
 
 ghost use Rattle.std.specs.Prelude.{◌≡◌, ℕ, List, ◌<◌, [], Some, IfSome, slice_index_or};
-ghost use Rattle.cmap_names.specs.CMapNames.{IsNameOf, IsSameName, name_bytes, place};
-ghost use Rattle.cmap_names.specs.Names.{known_names, place_of};
-ghost use Rattle.cmap_names.specs.declared.names.CMapName.{CMapName};
+ghost use Rattle.cmap_files.specs.CMapNames.{IsNameOf, IsSameName, name_bytes, place};
+ghost use Rattle.cmap_files.specs.Names.{known_names, place_of};
+ghost use Rattle.cmap_files.specs.declared.names.CMapName.{CMapName};
 
 /// The number of a character in a character collection. Adobe Technical Note 5014.
 pub type Cid = u32;

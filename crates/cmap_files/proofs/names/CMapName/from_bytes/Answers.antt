@@ -1,9 +1,9 @@
 use Rattle.std.proofs.Common.{refl, ◌∙◌}
-use Rattle.cmap_names.specs.CMapNames.{IsNameOf}
-use Rattle.cmap_names.specs.declared.names.CMapName.{CMapName}
-use Rattle.cmap_names.specs.declared.names.CMapName.TheVariants.{Custom}
-use Rattle.cmap_names.proofs.OneName.{IsSameName-from_text}
-use Rattle.cmap_names.proofs.names.CMapName.from_bytes.Goals as goal
+use Rattle.cmap_files.specs.CMapNames.{IsNameOf}
+use Rattle.cmap_files.specs.declared.names.CMapName.{CMapName}
+use Rattle.cmap_files.specs.declared.names.CMapName.TheVariants.{Custom}
+use Rattle.cmap_files.proofs.OneName.{IsSameName-from_text}
+use Rattle.cmap_files.proofs.names.CMapName.from_bytes.Goals as goal
 
 pub returns-in-Some : goal.returns-in-Some
 returns-in-Some c =

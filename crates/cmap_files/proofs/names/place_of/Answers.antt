@@ -1,8 +1,8 @@
 use Rattle.std.proofs.Common.{rules, ◌≡◌, ℕ, ◌<◌, ◌≤◌, List, [], get_or, false, true, cond, nat_lt, Some, None, sym, ap, ◌∙◌, arith, below_more}
 use Rattle.std.specs.Prelude.{bytes_eq}
 use Rattle.std.proofs.lemmas.List.Sums.{position_or_len_is}
-use Rattle.cmap_names.specs.Names.{known_names, place_of}
-use Rattle.cmap_names.proofs.names.place_of.Goals as goal
+use Rattle.cmap_files.specs.Names.{known_names, place_of}
+use Rattle.cmap_files.proofs.names.place_of.Goals as goal
 
 -- the place is the first with this text
 place_of-first : (text : List ℕ) (at : ℕ) → at < 65 → ((k : ℕ) → k < at → bytes_eq (get_or known_names k []) text ≡ false) → bytes_eq (get_or known_names at []) text ≡ true

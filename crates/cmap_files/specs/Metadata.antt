@@ -1,6 +1,6 @@
 -- What a CMap file says of itself.
 use Rattle.std.specs.Prelude.{ℕ, ℤ, List, ◌==◌, Option, Some, None, if◌then◌else◌}
-use Rattle.cmap_names.specs.Names.{Family}
+use Rattle.cmap_files.specs.Names.{Family}
 
 -- the writing mode
 pub data Mode : Type 0 where

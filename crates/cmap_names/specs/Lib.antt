@@ -1,4 +1,0 @@
-pub mod Names
-pub mod CMapNames
-pub mod Metadata
-pub mod MetadataSeen
