@@ -21,8 +21,4 @@ AreBlocks-push runs blocks count are is = record {
 -- the runs from one on that doesn't end before the code
 pub none_before : (runs : List Run) (code place : ℕ) → IsInOrder runs → place < length runs
     → ((d : Run) → code ≤ (get_or runs place d).high) → AllWithin (λ run. code ≤ run.high) runs place (length runs)
-none_before runs code place order lt from = λ k d le within.
-    elim (cases_lt place k) [
-      | inl later ↦ omega (arith, from d, order.apart place k d later within, order.filled k d within)
-      | inr same ↦ subst (λ n. code ≤ (get_or runs n d).high) (let e : place ≡ k = omega arith in e) (from d)
-    ]
+none_before runs code place order lt from = λ k d le within. grind (arith, from d, order.apart place k d, order.filled k d)

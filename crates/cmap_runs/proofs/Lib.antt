@@ -1,10 +1,8 @@
 pub mod BinaryDigits
 pub mod BlocksMade
-pub mod EdgesTellSpans
-pub mod GreatestPlace
-pub mod HowManyRuns
-pub mod RunsApart
-pub mod RunsBelowALimit
+pub mod FoundPlace
+pub mod LastPlace
+pub mod MaximalRuns
+pub mod OpenDecide
+pub mod RangesDecide
 pub mod RunsInOrder
-pub mod SweepSteps
-pub mod TheOnlyRuns

@@ -1,5 +1,6 @@
 pub mod Ranges
 pub mod Order
-pub mod Edges
-pub mod RangesApart
+pub mod DeclaredRanges
+pub mod OpenRanges
 pub mod Blocks
+pub mod SearchLooks

@@ -3,10 +3,10 @@
 ghost use Rattle.std.specs.Prelude.{◌≡◌};
 ghost use Rattle.cmap_runs.specs.Ranges.{Span};
 
-mod apart;
 mod blocks;
 mod held;
 mod looks;
+mod ranges;
 mod search;
 mod sweep;
 mod table;

@@ -1,5 +1,5 @@
 -- How many runs the search of a list of declarations may look at, and a lookup over layers.
-use Rattle.std.specs.Prelude.{ℕ, ◌+◌, ◌&&◌, nat_le, List, map, length, sum_by, if◌then◌else◌}
+use Rattle.std.specs.Prelude.{ℕ, ◌+◌, ◌&&◌, nat_le, List, map, length, sum_by, if◌then◌else◌, Bool, true, false, Option, Some, None, Result, Ok, Err}
 use Rattle.cmap_runs.specs.Ranges.{Span, digits, runs_of}
 use Rattle.cmap_files.specs.Files.{of_length}
 use Rattle.hayro_cmap.specs.Layers.{Layer}
@@ -20,3 +20,9 @@ cid_looks layers len = if nat_le 1 len && nat_le len 4 then sum_by (λ layer. la
 -- what a search for the text of a code may look at, over all layers
 abbrev pub bf_looks : List Layer → ℕ
 bf_looks layers = sum_by (λ layer. search_looks (map bf_span layer.lists.bfs)) layers
+
+-- whether a lookup that may want memory finds a text
+abbrev pub finds_text : {A E : Type 0} → Result (Option A) E → Bool
+finds_text (Ok (Some text)) = true
+finds_text (Ok None) = false
+finds_text (Err e) = false

@@ -1,16 +1,17 @@
 //! What a code stands for: the first layer that decides, from the top one on.
 
-ghost use Rattle.std.specs.Prelude.{◌≡◌, ◌+◌, ◌*◌, ◌<◌, ◌≤◌, length, map, option_and_then, option_map, IfOk, IfSome, IsSomeAnd, OnErr, OnSome};
+ghost use Rattle.std.specs.Prelude.{◌≡◌, ◌*◌, ◌<◌, ◌≤◌, length, map, option_and_then, option_map, is_some, IfOk, IfSome, IsSomeAnd, OnErr};
 ghost use Rattle.std.specs.Option.{option_copied};
+ghost use Rattle.cmap_runs.specs.SearchLooks.{LooksAtMost};
 ghost use Rattle.cmap_tokens.specs.Texts.{only_character, text_of};
 ghost use Rattle.cmap_tokens.specs.TextSeen.{text_seen};
-ghost use Rattle.cmap_files.specs.CodeLengths.{length_of};
+ghost use Rattle.cmap_files.specs.CodeLengths.{IsCodeLength, length_of};
 ghost use Rattle.cmap_files.specs.DeclarationsSeen.{bf_entry_seen, cid_entry_seen};
 ghost use Rattle.cmap_files.specs.Files.{of_length};
-ghost use Rattle.hayro_cmap.specs.LayersSeen.{layer_seen, layers_seen, by_length_seen};
+ghost use Rattle.hayro_cmap.specs.LayersSeen.{by_length_seen, layer_seen, layers_seen};
 ghost use Rattle.hayro_cmap.specs.Lookups.{bf_at, bf_of, bf_span, cid_of, cid_span, last_bf, last_cid};
 ghost use Rattle.hayro_cmap.specs.LayersDecide.{deciding_bf, layer_cid};
-ghost use Rattle.hayro_cmap.specs.Searches.{bf_looks, cid_looks, layer_looks, search_looks};
+ghost use Rattle.hayro_cmap.specs.Searches.{bf_looks, cid_looks, finds_text, layer_looks, search_looks};
 
 use crate::layers::Layer;
 use cmap_files::code_length::CodeLength;
@@ -23,13 +24,9 @@ use std::alloc::{AllocError, Global};
 /// The CID of a code of `byte_len` bytes.
 pub(crate) fn cid_of(layers: &[Layer], code: u32, byte_len: u8, looks: &mut Looks) -> Option<Cid>
     ensures value { result ≡ cid_of (layers_seen layers.now) code byte_len }
-    ensures runs { looks.new.runs ≤ looks.old.runs + cid_looks (layers_seen layers.now) byte_len }
-    ensures runs_grow { looks.old.runs ≤ looks.new.runs }
-    ensures declarations { looks.new.declarations ≤ looks.old.declarations + 3 * length layers.now }
-    ensures outside { (1 ≤ byte_len → byte_len ≤ 4 → ⊥) → looks.new ≡ looks.old }
-    ensures declarations_grow { looks.old.declarations ≤ looks.new.declarations }
-    ensures some_run { OnSome result (looks.old.runs + 1 ≤ looks.new.runs) }
-    ensures some_declaration { OnSome result (looks.old.declarations + 1 ≤ looks.new.declarations) }
+    ensures looks { LooksAtMost looks.old looks.new (cid_looks (layers_seen layers.now) byte_len)
+        (3 * length layers.now) (is_some result) }
+    ensures outside { (IsCodeLength byte_len → ⊥) → looks.new ≡ looks.old }
 {
     let len = CodeLength::of(byte_len)?;
     for layer in layers {
@@ -53,13 +50,8 @@ pub(crate) fn bf_of(
         ≡ option_map text_of (bf_of (layers_seen layers.now) code)) }
     ensures err { OnErr result (IsSomeAnd (bf_of (layers_seen layers.now) code)
         (λ characters. 1 < length characters)) }
-    ensures runs { looks.new.runs ≤ looks.old.runs + bf_looks (layers_seen layers.now) }
-    ensures runs_grow { looks.old.runs ≤ looks.new.runs }
-    ensures declarations { looks.new.declarations ≤ looks.old.declarations + length layers.now }
-    ensures declarations_grow { looks.old.declarations ≤ looks.new.declarations }
-    ensures some_run { IfOk result (λ text. OnSome text (looks.old.runs + 1 ≤ looks.new.runs)) }
-    ensures some_declaration { IfOk result
-        (λ text. OnSome text (looks.old.declarations + 1 ≤ looks.new.declarations)) }
+    ensures looks { LooksAtMost looks.old looks.new (bf_looks (layers_seen layers.now))
+        (length layers.now) (finds_text result) }
 {
     let Some(found) = find_bf(layers, code, looks) else {
         return Ok(None);
@@ -72,12 +64,8 @@ fn find_bf<'l>(layers: &'l [Layer], code: u32, looks: &mut Looks) -> Option<&'l 
     ensures found { option_map bf_entry_seen (option_copied result)
         ≡ deciding_bf (layers_seen layers.now) code }
     ensures start { IfSome result (λ found. found.now.range.start ≤ code) }
-    ensures runs { looks.new.runs ≤ looks.old.runs + bf_looks (layers_seen layers.now) }
-    ensures runs_grow { looks.old.runs ≤ looks.new.runs }
-    ensures declarations { looks.new.declarations ≤ looks.old.declarations + length layers.now }
-    ensures declarations_grow { looks.old.declarations ≤ looks.new.declarations }
-    ensures some_run { OnSome result (looks.old.runs + 1 ≤ looks.new.runs) }
-    ensures some_declaration { OnSome result (looks.old.declarations + 1 ≤ looks.new.declarations) }
+    ensures looks { LooksAtMost looks.old looks.new (bf_looks (layers_seen layers.now))
+        (length layers.now) (is_some result) }
 {
     for layer in layers {
         if let Some(found) = last_bf(&layer.bfs, code, looks) {
@@ -92,26 +80,22 @@ fn last_bf<'t>(table: &'t Table<BfRange>, code: u32, looks: &mut Looks) -> Optio
     ensures found { option_map bf_entry_seen (option_copied result)
         ≡ last_bf (map bf_entry_seen table.now) code }
     ensures start { IfSome result (λ found. found.now.range.start ≤ code) }
-    ensures runs { looks.new.runs
-        ≤ looks.old.runs + search_looks (map bf_span (map bf_entry_seen table.now)) }
-    ensures runs_grow { looks.old.runs ≤ looks.new.runs }
-    ensures declarations { looks.new.declarations ≤ looks.old.declarations + 1 }
-    ensures declarations_grow { looks.old.declarations ≤ looks.new.declarations }
-    ensures some_run { OnSome result (looks.old.runs + 1 ≤ looks.new.runs) }
-    ensures some_declaration { OnSome result (looks.old.declarations + 1 ≤ looks.new.declarations) }
+    ensures looks { LooksAtMost looks.old looks.new
+        (search_looks (map bf_span (map bf_entry_seen table.now))) 1 (is_some result) }
 {
     table.find(code, looks)
 }
 
 /// What a layer decides for a code, if it does: its CID, or that it has none.
-fn decided_by(layer: &Layer, code: u32, len: CodeLength, looks: &mut Looks) -> Option<Option<Cid>>
+fn decided_by(
+    layer: &Layer,
+    code: u32,
+    len: CodeLength,
+    looks: &mut Looks,
+) -> Option<Option<Cid>>
     ensures value { result ≡ layer_cid (layer_seen layer.now) code (length_of len) }
-    ensures runs { looks.new.runs ≤ looks.old.runs + layer_looks (layer_seen layer.now) (length_of len) }
-    ensures runs_grow { looks.old.runs ≤ looks.new.runs }
-    ensures declarations { looks.new.declarations ≤ looks.old.declarations + 3 }
-    ensures declarations_grow { looks.old.declarations ≤ looks.new.declarations }
-    ensures some_run { OnSome result (looks.old.runs + 1 ≤ looks.new.runs) }
-    ensures some_declaration { OnSome result (looks.old.declarations + 1 ≤ looks.new.declarations) }
+    ensures looks { LooksAtMost looks.old looks.new
+        (layer_looks (layer_seen layer.now) (length_of len)) 3 (is_some result) }
 {
     if let Some(found) = find_cid(&layer.cids, code, len, looks) {
         return Some(found.cid.checked_add(code - found.range.start));
@@ -127,13 +111,8 @@ fn decided_by(layer: &Layer, code: u32, len: CodeLength, looks: &mut Looks) -> O
 fn character_of(table: &Table<BfRange>, code: u32, looks: &mut Looks) -> Option<char>
     ensures value { result ≡ only_character (option_and_then
         (λ entry. bf_at entry code) (last_bf (map bf_entry_seen table.now) code)) }
-    ensures runs { looks.new.runs
-        ≤ looks.old.runs + search_looks (map bf_span (map bf_entry_seen table.now)) }
-    ensures runs_grow { looks.old.runs ≤ looks.new.runs }
-    ensures declarations { looks.new.declarations ≤ looks.old.declarations + 1 }
-    ensures declarations_grow { looks.old.declarations ≤ looks.new.declarations }
-    ensures some_run { OnSome result (looks.old.runs + 1 ≤ looks.new.runs) }
-    ensures some_declaration { OnSome result (looks.old.declarations + 1 ≤ looks.new.declarations) }
+    ensures looks { LooksAtMost looks.old looks.new
+        (search_looks (map bf_span (map bf_entry_seen table.now))) 1 (is_some result) }
 {
     let found = last_bf(table, code, looks)?;
     one_char(&found.units, code - found.range.start)
@@ -149,13 +128,9 @@ fn find_cid<'t>(
     ensures found { option_map cid_entry_seen (option_copied result)
         ≡ last_cid (of_length (by_length_seen tables.now) (length_of len)) code }
     ensures start { IfSome result (λ found. found.now.range.start ≤ code) }
-    ensures runs { looks.new.runs ≤ looks.old.runs
-        + search_looks (map cid_span (of_length (by_length_seen tables.now) (length_of len))) }
-    ensures runs_grow { looks.old.runs ≤ looks.new.runs }
-    ensures declarations { looks.new.declarations ≤ looks.old.declarations + 1 }
-    ensures declarations_grow { looks.old.declarations ≤ looks.new.declarations }
-    ensures some_run { OnSome result (looks.old.runs + 1 ≤ looks.new.runs) }
-    ensures some_declaration { OnSome result (looks.old.declarations + 1 ≤ looks.new.declarations) }
+    ensures looks { LooksAtMost looks.old looks.new
+        (search_looks (map cid_span (of_length (by_length_seen tables.now) (length_of len)))) 1
+        (is_some result) }
 {
     tables.get(len).find(code, looks)
 }

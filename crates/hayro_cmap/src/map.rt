@@ -1,6 +1,8 @@
 //! Maps: what the codes of a CMap file stand for.
 
-ghost use Rattle.std.specs.Prelude.{◌≡◌, ◌+◌, ◌*◌, ◌≤◌, [], ◌∷◌, ◌<◌, IfOk, IfSome, IfNone, IsErrOf, IsSome, IsSomeAnd, OnErr, OnOk, OnSome, codes, length, option_map};
+ghost use Rattle.std.specs.Prelude.{◌≡◌, ◌*◌, [], ◌∷◌, ◌≤◌, ◌<◌, IfOk, IfSome, IfNone, IsErrOf, IsSome, IsSomeAnd, OnErr, OnOk, codes, is_some, length, option_map};
+ghost use Rattle.cmap_files.specs.CodeLengths.{IsCodeLength};
+ghost use Rattle.cmap_runs.specs.SearchLooks.{LooksAtMost};
 ghost use Rattle.cmap_tokens.specs.TextSeen.{text_seen};
 ghost use Rattle.cmap_tokens.specs.Texts.{text_of};
 ghost use Rattle.hayro_cmap.specs.Answers.{Answers, AnswersByName};
@@ -13,7 +15,7 @@ ghost use Rattle.hayro_cmap.specs.Layers.{AreLayers, Means};
 ghost use Rattle.hayro_cmap.specs.LayersSeen.{IsMetadataOf, metadata_seen, mode_seen};
 ghost use Rattle.hayro_cmap.specs.Lookups.{InCodespace, bf_of, cid_of};
 ghost use Rattle.cmap_files.specs.Only.{IsOnly, HoldsOfNone};
-ghost use Rattle.hayro_cmap.specs.Searches.{bf_looks, cid_looks};
+ghost use Rattle.hayro_cmap.specs.Searches.{bf_looks, cid_looks, finds_text};
 ghost use Rattle.hayro_cmap.specs.declared.budget.ParseError.TheVariants.{OverBudget};
 
 use crate::budget::ParseError;
@@ -170,20 +172,14 @@ impl CMap {
     pub fn lookup_cid_counted(&self, code: u32, byte_len: u8, looks: &mut Looks) -> Option<Cid>
         ensures value { result ≡ cid_of self.now code byte_len }
 
-        // For each list that may be searched, no more runs than their number has binary digits.
-        ensures runs { looks.new.runs ≤ looks.old.runs + cid_looks self.now byte_len }
-        ensures runs_grow { looks.old.runs ≤ looks.new.runs }
-
-        // And one declaration for each of a layer's three lists: CIDs, notdef CIDs, texts.
-        ensures declarations { looks.new.declarations ≤ looks.old.declarations + 3 * length self.now }
+        // For each list that may be searched, no more runs than their number has binary digits, and
+        // one declaration for each of a layer's three lists: CIDs, notdef CIDs, texts. An answer
+        // comes from a run and from a declaration.
+        ensures looks { LooksAtMost looks.old looks.new (cid_looks self.now byte_len)
+            (3 * length self.now) (is_some result) }
 
         // Nothing is looked at for a length that no code has.
-        ensures outside { (1 ≤ byte_len → byte_len ≤ 4 → ⊥) → looks.new ≡ looks.old }
-        ensures declarations_grow { looks.old.declarations ≤ looks.new.declarations }
-
-        // An answer comes from a run and from a declaration.
-        ensures some_run { OnSome result (looks.old.runs + 1 ≤ looks.new.runs) }
-        ensures some_declaration { OnSome result (looks.old.declarations + 1 ≤ looks.new.declarations) }
+        ensures outside { (IsCodeLength byte_len → ⊥) → looks.new ≡ looks.old }
     {
         lookup::cid_of(&self.layers, code, byte_len, looks)
     }
@@ -231,16 +227,10 @@ impl CMap {
         ensures err { OnErr result
             (IsSomeAnd (bf_of self.now code) (λ characters. 1 < length characters)) }
 
-        // For each layer, no more runs than their number has binary digits, and one declaration.
-        ensures runs { looks.new.runs ≤ looks.old.runs + bf_looks self.now }
-        ensures runs_grow { looks.old.runs ≤ looks.new.runs }
-        ensures declarations { looks.new.declarations ≤ looks.old.declarations + length self.now }
-        ensures declarations_grow { looks.old.declarations ≤ looks.new.declarations }
-
-        // An answer comes from a run and from a declaration.
-        ensures some_run { IfOk result (λ text. OnSome text (looks.old.runs + 1 ≤ looks.new.runs)) }
-        ensures some_declaration { IfOk result
-            (λ text. OnSome text (looks.old.declarations + 1 ≤ looks.new.declarations)) }
+        // For each layer, no more runs than their number has binary digits, and one declaration. An
+        // answer comes from a run and from a declaration.
+        ensures looks { LooksAtMost looks.old looks.new (bf_looks self.now) (length self.now)
+            (finds_text result) }
     {
         lookup::bf_of(alloc, &self.layers, code, looks)
     }

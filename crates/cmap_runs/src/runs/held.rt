@@ -1,10 +1,9 @@
 //! What a table holds: runs and declarations. Outside of this module each look at one is counted.
 
-ghost use Rattle.std.specs.Prelude.{◌≡◌, ◌+◌, ◌<◌, [], List, true, Some, IfOk, IfSome, OnOk, OnErr, length, slice_get};
+ghost use Rattle.std.specs.Prelude.{◌≡◌, ◌+◌, ◌-◌, ◌<◌, ◌≤◌, true, [], Some, IfOk, OnOk, OnErr, length, slice_get};
 ghost use Rattle.cmap_runs.specs.Blocks.{AreBlocks};
 ghost use Rattle.cmap_runs.specs.Order.{IsInOrder};
-ghost use Rattle.cmap_runs.specs.Ranges.{Span, joined, runs_of};
-ghost use Rattle.cmap_runs.specs.RangesApart.{AreApart, AreRanges};
+ghost use Rattle.cmap_runs.specs.Ranges.{goes_on, joined};
 
 use super::HasRange;
 use super::blocks::{BLOCK_COUNT, BLOCK_LEN};
@@ -15,9 +14,9 @@ use std::marker::Model;
 // The codes from `low` to `high`, which the declaration at `place` decides.
 #[derive(Debug, Drop)]
 pub(super) struct Run {
-    low: u32,
-    high: u32,
-    place: usize,
+    pub(super) low: u32,
+    pub(super) high: u32,
+    pub(super) place: usize,
 }
 
 impl Model for Run {
@@ -59,18 +58,10 @@ impl Runs {
         }
     }
 
-    // The runs that the ranges of declarations are, where no two of them share a code.
-    pub(super) fn from_ranges(mut ranges: Vec<Run>) -> Result<Option<Runs>, AllocError>
-        ensures { IfOk result
-            (λ found. IfSome found
-            (λ runs. (spans : List Span) → AreRanges spans ranges.items → runs ≡ runs_of spans)) }
+    pub(super) fn from_ranges(ranges: Vec<Run>) -> Runs
+        ensures { result ≡ ranges.items }
     {
-        ranges.sort_by_key(|range| range.low)?;
-        if are_apart(&ranges) {
-            Ok(Some(Runs { list: ranges }))
-        } else {
-            Ok(None)
-        }
+        Runs { list: ranges }
     }
 
     pub(super) fn len(&self) -> usize
@@ -83,18 +74,30 @@ impl Runs {
     pub(super) fn add(&mut self, low: u32, high: u32, place: usize) -> Result<(), AllocError>
         ensures added { OnOk result
             (self.new ≡ joined self.old (record { low = low; high = high; place = place })) }
+        ensures few { OnOk result (length self.new ≤ length self.old + 1) }
         ensures err { OnErr result (self.new ≡ self.old) }
     {
-        let count = self.list.len();
-        if count > 0 {
-            let last = &mut self.list[count - 1];
-            if last.place == place && u64::from(last.high) + 1 == u64::from(low) {
-                last.high = high;
-                return Ok(());
-            }
+        let run = Run { low, high, place };
+        if self.is_continued_by(&run) {
+            let end = self.list.len() - 1;
+            self.list[end].high = high;
+            return Ok(());
         }
-        self.list.push(Run { low, high, place })?;
+        self.list.push(run)?;
         Ok(())
+    }
+
+    // Whether the run begins just after the last one, with its place.
+    fn is_continued_by(&self, run: &Run) -> bool
+        ensures answer { result ≡ goes_on (slice_get self.now (length self.now - 1)) run.now }
+        ensures some { result ≡ true → 0 < length self.now }
+    {
+        match self.list.last() {
+            Some(last) => {
+                last.place == run.place && u64::from(last.high) + 1 == u64::from(run.low)
+            }
+            None => false,
+        }
     }
 
     // The run at `i`: its first code, its last code and its place.
@@ -128,21 +131,6 @@ impl Runs {
         }
         Ok(counts)
     }
-}
-
-// Whether each range ends before the next one begins.
-fn are_apart(ranges: &[Run]) -> bool
-    ensures { result ≡ true → AreApart ranges.now }
-{
-    let mut i = 1;
-    while i < ranges.len() {
-        let (range, next) = (&ranges[i - 1], &ranges[i]);
-        if range.high >= next.low {
-            return false;
-        }
-        i += 1;
-    }
-    true
 }
 
 // Declarations, each at its place.

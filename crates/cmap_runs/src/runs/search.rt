@@ -2,8 +2,8 @@
 
 ghost use Rattle.std.specs.Prelude.{◌≡◌, ◌+◌, ◌<◌, ◌≤◌, All, Any, IfNone, IfSome, OnSome, length};
 ghost use Rattle.std.specs.List.{AllWithin};
-ghost use Rattle.cmap_runs.specs.Order.{Holds, IsInOrder};
-ghost use Rattle.cmap_runs.specs.Ranges.{digits};
+ghost use Rattle.cmap_runs.specs.Order.{IsInOrder};
+ghost use Rattle.cmap_runs.specs.Ranges.{Holds, digits};
 
 use super::held::Runs;
 use super::looks::Looks;

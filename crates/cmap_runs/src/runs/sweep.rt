@@ -1,84 +1,88 @@
 //! The runs of declarations, by one sweep over the codes.
 
-ghost use Rattle.std.specs.Prelude.{◌≡◌, List, All, IfOk, map};
+ghost use Rattle.std.specs.Prelude.{◌≡◌, ℕ, ◌+◌, ◌-◌, ◌*◌, ◌<◌, ◌≤◌, ◌^◌, List, Option, IfOk, OnOk, length, map};
+ghost use Rattle.std.specs.BTreeMap.{btree_map_len, get};
 ghost use Rattle.std.specs.List.Sorted.{IsNonDecreasingBy};
-ghost use Rattle.cmap_runs.specs.Edges.{AreEdges, IsInCodes};
-ghost use Rattle.cmap_runs.specs.Ranges.{Span, runs_of};
+ghost use Rattle.std.specs.Ordering.{nat_cmp};
+ghost use Rattle.cmap_runs.specs.DeclaredRanges.{AreRanges};
+ghost use Rattle.cmap_runs.specs.OpenRanges.{IsGreatest, StayOpen};
+ghost use Rattle.cmap_runs.specs.Ranges.{AreRunsBelow, Span, runs_of};
 
 use super::HasRange;
-use super::apart::runs_apart;
-use super::held::Runs;
+use super::held::{Run, Runs};
+use super::ranges::{are_apart, ranges_of};
 use std::alloc::{AllocError, Global};
-use std::collections::BTreeSet;
+use std::collections::BTreeMap;
 
-// Where the declaration at a place opens, at its first code, or closes, one past its last code.
-#[derive(Drop)]
-struct Edge {
-    code: u64,
-    place: usize,
-    opens: bool,
-}
+// How many codes there are.
+const CODE_COUNT: u64 = 1 << 32;
 
 // The runs of the declarations.
 pub(super) fn runs_of<T: HasRange>(alloc: Global, declarations: &[T]) -> Result<Runs, AllocError>
-    ensures { IfOk result (λ runs. runs ≡ runs_of (map T.span declarations.now)) }
+    ensures runs { IfOk result (λ runs. runs ≡ runs_of (map T.span declarations.now)) }
+    ensures few { IfOk result (λ runs. length runs ≤ 2 * length declarations.now - 1) }
 {
-    if let Some(runs) = runs_apart(alloc, declarations)? {
-        return Ok(runs);
+    let mut ranges = ranges_of(alloc, declarations)?;
+    ranges.sort_by_key(|range| range.low)?;
+    if are_apart(&ranges) {
+        return Ok(Runs::from_ranges(ranges));
     }
-    let mut edges = edges_of(alloc, declarations)?;
-    edges.sort_by_key(|edge| edge.code)?;
-    sweep(alloc, edges.as_slice())
+    sweep(alloc, ranges.as_slice())
 }
 
-// Both edges of each range that isn't empty.
-fn edges_of<T: HasRange>(alloc: Global, declarations: &[T]) -> Result<Vec<Edge>, AllocError>
-    ensures edges { IfOk result (λ edges. AreEdges (map T.span declarations.now) edges.items) }
-    ensures codes { IfOk result (λ edges. All IsInCodes edges.items) }
-{
-    let mut edges = Vec::new(alloc);
-    for (place, declaration) in declarations.iter().enumerate() {
-        let range = declaration.range();
-        let start = u64::from(range.start);
-        let end = u64::from(range.end);
-        if start <= end {
-            edges.push(Edge {
-                code: start,
-                place,
-                opens: true,
-            })?;
-            edges.push(Edge {
-                code: end + 1,
-                place,
-                opens: false,
-            })?;
-        }
-    }
-    Ok(edges)
-}
-
-// Between two edges the greatest open place decides.
-fn sweep(alloc: Global, edges: &[Edge]) -> Result<Runs, AllocError>
-    requires sorted { IsNonDecreasingBy (λ edge. edge.code) edges.now }
-    requires codes { All IsInCodes edges.now }
-    ensures { IfOk result
-        (λ runs. (spans : List Span) → AreEdges spans edges.now → runs ≡ runs_of spans) }
+// The runs of the declarations that the ranges belong to.
+fn sweep(alloc: Global, ranges: &[Run]) -> Result<Runs, AllocError>
+    requires { IsNonDecreasingBy (λ range. range.low) ranges.now }
+    ensures runs { IfOk result
+        (λ runs. (spans : List Span) → AreRanges spans (length spans) ranges.now → runs ≡ runs_of spans) }
+    ensures few { IfOk result (λ runs. length runs ≤ 2 * length ranges.now - 1) }
 {
     let mut runs = Runs::new(alloc);
-    let mut open = BTreeSet::new(alloc);
+    let mut ends = BTreeMap::new(alloc);
     let mut from = 0;
-    for edge in edges {
-        if from < edge.code {
-            if let Some(place) = open.last() {
-                runs.add(from as u32, (edge.code - 1) as u32, *place)?;
-            }
-        }
-        from = edge.code;
-        if edge.opens {
-            open.insert(edge.place)?;
-        } else {
-            open.remove(&edge.place);
-        }
+    for range in ranges {
+        let next = u64::from(range.low);
+        add_runs(&mut runs, &mut ends, from, next)?;
+        ends.insert(range.place, range.high)?;
+        from = next;
     }
+    add_runs(&mut runs, &mut ends, from, CODE_COUNT)?;
     Ok(runs)
+}
+
+// Adds the runs of the codes from `from` on and before `to`. The greatest open place decides a
+// code. `ends` has the last code of each, and those whose ranges have ended are closed on the way.
+fn add_runs(
+    runs: &mut Runs,
+    ends: &mut BTreeMap<usize, u32>,
+    from: u64,
+    to: u64,
+) -> Result<(), AllocError>
+    requires order { from ≤ to }
+    requires codes { to ≤ 2 ^ 32 }
+    ensures runs { OnOk result ((decides : ℕ → Option ℕ)
+        → ((code : ℕ) → from ≤ code → code < to
+        → IsGreatest (get nat_cmp ends.old) code (decides code))
+        → AreRunsBelow decides from runs.old → AreRunsBelow decides to runs.new) }
+    ensures open { OnOk result (StayOpen (get nat_cmp ends.old) (get nat_cmp ends.new) to) }
+    ensures fewer { OnOk result (btree_map_len ends.new ≤ btree_map_len ends.old) }
+    ensures few { OnOk result (length runs.new + (btree_map_len ends.new - 1)
+        ≤ length runs.old + btree_map_len ends.old) }
+{
+    let mut from = from;
+    while from < to {
+        let Some((place, last)) = ends.last_key_value() else {
+            return Ok(());
+        };
+        let (place, last) = (*place, u64::from(*last));
+        if last >= to {
+            return runs.add(from as u32, (to - 1) as u32, place);
+        }
+        if from <= last {
+            runs.add(from as u32, last as u32, place)?;
+            from = last + 1;
+        }
+        ends.remove(&place);
+    }
+    Ok(())
 }

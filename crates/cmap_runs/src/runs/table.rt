@@ -1,8 +1,9 @@
 //! Declarations with their runs.
 
-ghost use Rattle.std.specs.Prelude.{◌≡◌, ◌+◌, ◌-◌, ◌*◌, ◌<◌, ◌≤◌, Some, IfOk, IfNone, IfSome, OnSome, IsTrue, length, map, slice_get};
+ghost use Rattle.std.specs.Prelude.{◌≡◌, ◌+◌, ◌-◌, ◌*◌, ◌<◌, ◌≤◌, Some, IfOk, IfNone, IfSome, IsTrue, is_some, length, map, slice_get};
 ghost use Rattle.std.specs.Option.{option_copied};
 ghost use Rattle.cmap_runs.specs.Ranges.{AreTheRuns, HasDigits, contains, digits, last_of, runs_of};
+ghost use Rattle.cmap_runs.specs.SearchLooks.{LooksAtMost};
 
 use super::HasRange;
 use super::blocks::Blocks;
@@ -24,7 +25,7 @@ pub struct Table<T: HasRange> {
 }
 
 impl<T: HasRange> Model for Table<T> {
-    ghost use Rattle.std.specs.Prelude.{◌≡◌, List, map};
+    ghost use Rattle.std.specs.Prelude.{◌≡◌, ◌-◌, ◌*◌, ◌≤◌, List, length, map};
     ghost use Rattle.cmap_runs.specs.Blocks.{AreBlocks};
     ghost use Rattle.cmap_runs.specs.Ranges.{runs_of};
 
@@ -33,7 +34,8 @@ impl<T: HasRange> Model for Table<T> {
     ghost view = { λ table. table.declarations };
 
     ghost invariant = { λ table. (table.runs ≡ runs_of (map T.span table.declarations))
-        × AreBlocks table.runs table.blocks };
+        × AreBlocks table.runs table.blocks
+        × (length table.runs ≤ 2 * length table.declarations - 1) };
 }
 
 impl<T: HasRange> Table<T> {
@@ -59,19 +61,12 @@ impl<T: HasRange> Table<T> {
         ensures contains { IfSome result
             (λ declaration. IsTrue (contains (T.span declaration.now) code)) }
 
-        // It looks at no more runs than their number has binary digits.
-        ensures runs { looks.new.runs
-            ≤ looks.old.runs + digits (length (runs_of (map T.span self.now))) }
-        ensures runs_grow { looks.old.runs ≤ looks.new.runs }
-        ensures some_run { OnSome result (looks.old.runs + 1 ≤ looks.new.runs) }
-
-        // It looks at a declaration only to answer it.
-        ensures declarations { looks.new.declarations ≤ looks.old.declarations + 1 }
-        ensures declarations_grow { looks.old.declarations ≤ looks.new.declarations }
+        // It looks at no more runs than their number has binary digits, and at a declaration only
+        // to answer it.
+        ensures looks { LooksAtMost looks.old looks.new
+            (digits (length (runs_of (map T.span self.now)))) 1 (is_some result) }
         ensures no_declaration { IfNone result
             (looks.new.declarations ≡ looks.old.declarations) }
-        ensures one_declaration { OnSome result
-            (looks.new.declarations ≡ looks.old.declarations + 1) }
     {
         let window = self.blocks.window(&self.runs, code);
         let place = find_place(&self.runs, code, window, looks)?;

@@ -1,29 +1,31 @@
-use Rattle.std.proofs.Common.{rules, ◌≡◌, List, All, map, sym, subst}
+use Rattle.std.proofs.Common.{rules, ◌≡◌, List, length, map, sym, ◌∙◌, subst}
 use Rattle.std.specs.List.Sorted.{IsNonDecreasingBy}
-use Rattle.std.proofs.lemmas.List.Sorted.{All-permutation, IsNonDecreasingBy-from_sort, answers_always}
+use Rattle.std.proofs.lemmas.List.Sorted.{IsNonDecreasingBy-from_sort_by_key}
 use Rattle.std.proofs.lemmas.Result.{IfOk-weaker}
-use Rattle.cmap_runs.specs.declared.runs.sweep.Edge.{Edge}
-use Rattle.cmap_runs.specs.Edges.{AreEdges, IsInCodes}
-use Rattle.cmap_runs.specs.Ranges.{Span, runs_of}
-use Rattle.cmap_runs.proofs.EdgesTellSpans.{AreEdges-IsPermutation}
+use Rattle.cmap_runs.specs.DeclaredRanges.{AreApart, AreRanges}
+use Rattle.cmap_runs.specs.Ranges.{Run, Span, runs_of}
+use Rattle.cmap_runs.proofs.MaximalRuns.{runs_of-unique}
+use Rattle.cmap_runs.proofs.RangesDecide.{all_ranges, runs_are_ranges}
 use Rattle.cmap_runs.proofs.runs.sweep.runs_of.Goals as goal
 
-pub sweep-requires-clause-sorted : goal.sweep-requires-clause-sorted
-sweep-requires-clause-sorted g c =
-    subst (IsNonDecreasingBy (λ (edge : Edge). edge.code)) (sym c.as_slice.ensures.value)
-    (IsNonDecreasingBy-from_sort (λ (edge : Edge). edge.code) _
-    (c.in_ok-sort_by_key.ensures.sorted (λ (edge : Edge). edge.code) (answers_always _ _ _ (λ f a r g h. search rules))))
+pub sweep-requires : goal.sweep-requires
+sweep-requires g c =
+    subst (IsNonDecreasingBy (λ (range : Run). range.low)) (sym c.as_slice.ensures.value)
+    (IsNonDecreasingBy-from_sort_by_key (λ (range : Run). range.low) _ c.in_ok-sort_by_key.ensures.sorted (λ a r q k. search rules))
 
-pub sweep-requires-clause-codes : goal.sweep-requires-clause-codes
-sweep-requires-clause-codes g c =
-    subst (All IsInCodes) (sym c.as_slice.ensures.value)
-    (All-permutation IsInCodes _ _ c.sort_by_key.ensures.permutation c.in_ok-edges.ensures.codes)
+pub returns-then-are_apart-clause-runs : goal.returns-then-are_apart-clause-runs
+returns-then-are_apart-clause-runs g c =
+    let list = c.args.declarations.now in let span = g.T.HasRange.span in let ranges = c.sort_by_key.new.self.items in
+    c.from_ranges.ensures
+    ∙ runs_of-unique (map span list) ranges
+    (runs_are_ranges (map span list) ranges (all_ranges span list _ ranges c.sort_by_key.ensures.permutation c.in_ok-ranges.ensures)
+    (IsNonDecreasingBy-from_sort_by_key (λ (range : Run). range.low) _ c.in_ok-sort_by_key.ensures.sorted (λ a r q k. search rules))
+    (subst AreApart c.deref.ensures.value (c.are_apart.ensures c.if-are_apart.true)))
 
-pub returns : goal.returns
-returns g c =
-    let spans = map g.T.HasRange.span c.args.declarations.now in
-    let are : AreEdges spans c.as_slice.result.now =
-    subst (AreEdges spans) (sym c.as_slice.ensures.value) (AreEdges-IsPermutation spans _ _ c.sort_by_key.ensures.permutation c.in_ok-edges.ensures.edges)
-    in
-    IfOk-weaker c.sweep.result (λ runs. (spans : List Span) → AreEdges spans c.as_slice.result.now → runs ≡ runs_of spans) (λ runs. runs ≡ runs_of spans)
-    (λ runs all. all spans are) c.sweep.ensures
+pub returns-clause-runs : goal.returns-clause-runs
+returns-clause-runs g c =
+    let list = c.args.declarations.now in let span = g.T.HasRange.span in
+    IfOk-weaker c.sweep.result (λ runs. (spans : List Span) → AreRanges spans (length spans) c.as_slice.result.now → runs ≡ runs_of spans) (λ runs. runs ≡ runs_of (map span list))
+    (λ runs all. all (map span list) (subst (AreRanges (map span list) (length (map span list))) (sym c.as_slice.ensures.value)
+    (all_ranges span list _ c.sort_by_key.new.self.items c.sort_by_key.ensures.permutation c.in_ok-ranges.ensures)))
+    c.sweep.ensures.runs

@@ -1,64 +1,42 @@
-use Rattle.std.proofs.Common.{◌≡◌, ◌≤◌, false, All, get_or, nat_cmp, sym, ap, ◌∙◌, subst, arith}
-use Rattle.std.specs.BTreeSet.{contains}
-use Rattle.std.proofs.lemmas.List.{take_all}
-use Rattle.std.proofs.lemmas.Map.Keys.{ge_from_not_lt}
-use Rattle.cmap_runs.specs.declared.runs.sweep.Edge.{Edge}
-use Rattle.std.specs.List.{list_any}
-use Rattle.std.specs.BTreeMap.{is_at}
-use Rattle.cmap_runs.specs.Ranges.{last_place, runs_below}
-use Rattle.cmap_runs.proofs.RunsBelowALimit.{runs_below-zero}
-use Rattle.cmap_runs.proofs.SweepSteps.{contains-empty, before_more, after_more, le_next, opened_more_closing, opened_more_opening, runs_more_gap, runs_more_run, runs_at_end}
+use Rattle.std.proofs.Common.{◌≡◌, ℕ, ◌≤◌, ◌<◌, ◌^◌, [], ◌∷◌, ◌++◌, get_or, length, nat_cmp, take, sym, ap, ◌∙◌, subst, arith}
+use Rattle.std.specs.BTreeMap.{get}
+use Rattle.std.proofs.lemmas.List.{get_or_read, take_more}
+use Rattle.cmap_runs.specs.DeclaredRanges.{IsRange}
+use Rattle.cmap_runs.specs.OpenRanges.{AreOpen}
+use Rattle.cmap_runs.specs.Ranges.{Run, last_place}
+use Rattle.cmap_runs.proofs.LastPlace.{is_last}
+use Rattle.cmap_runs.proofs.MaximalRuns.{runs_of-unique}
+use Rattle.cmap_runs.proofs.OpenDecide.{AreOpen-push, greatest_open, one_more}
 use Rattle.cmap_runs.proofs.runs.sweep.sweep.Goals as goal
-use Rattle.cmap_runs.proofs.runs.sweep.sweep.Goals.{then-from-edge+in-Some+in_ok-add, then-from-edge+in_default, else-from-edge, then-edge+in_ok-insert, else-edge}
 
-pub loop-edge-init : goal.loop-edge-init
-loop-edge-init c = record {
-  before = λ k d lt. absurd (omega arith);
-  after = λ k d lt. omega arith;
-  limit = omega arith;
-  opened = λ spans are place. ap (list_any (is_at (nat_cmp place))) c.new-open.ensures.empty;
-  runs = λ spans are. c.new-runs.ensures ∙ sym (runs_below-zero (last_place spans));
-}
-
-pub loop-edge-preserved : goal.loop-edge-preserved
-loop-edge-preserved c =
-    let edges = c.args.edges.now in let i = c.loop-edge.edge-index in let from = c.loop-edge.from in let runs = c.loop-edge.runs in
-    let sorted = c.requires.sorted in let old = c.loop-edge.invariant in
-    let none : Edge = record { code = 0; place = 0; opens = false } in
+pub loop-range-preserved : goal.loop-range-preserved
+loop-range-preserved c =
+    let ranges = c.args.ranges.now in let i = c.loop-range.range-index in let from = c.loop-range.from in let next = c.from-next.result in
+    let range : Run = record { low = c.range.inside.low; high = c.range.inside.high; place = c.range.inside.place } in
+    let lt : i < length ranges = omega arith in
+    let is : (d : Run) → range ≡ get_or ranges i d = λ d. c.range.view_is ∙ get_or_read ranges i c.range-item.result lt c.range-item.is d in
+    let low : (d : Run) → next ≡ (get_or ranges i d).low = λ d. c.from-next.ensures ∙ ap (λ (r : Run). r.low) (is d) in
+    let le : from ≤ next = omega (arith, c.loop-range.invariant.later i range (omega arith) lt, low range) in
+    let later : (k : ℕ) (d : Run) → i ≤ k → k < length ranges → next ≤ (get_or ranges k d).low = λ k d behind within. omega (arith, low d, c.requires i k d behind within) in
     record {
-      before = before_more edges i none sorted (omega arith);
-      after = after_more edges i none sorted (omega arith);
-      limit = c.requires.codes i none (omega arith);
-      opened = λ spans are place.
-          elim c.if-edge.branch [
-            | then-edge+in_ok-insert w ↦
-                opened_more_opening spans edges i place none _ _ are sorted (omega arith) w.if-edge.true (old.opened spans are place)
-                (ap (λ opened. contains nat_cmp opened place) w.open-is ∙ w.in_ok-insert.ensures.updates.0 place)
-            | else-edge w ↦
-                opened_more_closing edges i place none _ _ (omega arith) w.if-edge.false (old.opened spans are place)
-                (ap (λ opened. contains nat_cmp opened place) w.open-is ∙ w.remove.ensures.updates.0 place)
-          ];
-      runs = λ spans are.
-          elim c.if-from-edge.branch [
-            | then-from-edge+in-Some+in_ok-add w ↦
-                let place = w.in-Some.place.now in
-                runs_more_run spans edges i from place none runs c.if-from-edge.runs are sorted (omega arith) old.before w.if-from-edge.true
-                (sym (old.opened spans are place) ∙ w.in-Some.ensures.member)
-                (λ other opened. ge_from_not_lt place other (w.in-Some.ensures.greatest other (old.opened spans are other ∙ opened)))
-                (old.runs spans are) (w.runs-is ∙ w.in_ok-add.ensures.added)
-            | then-from-edge+in_default w ↦
-                w.runs-is
-                ∙ runs_more_gap spans edges i from none runs are sorted (omega arith) old.before (omega (arith, w.if-from-edge.true))
-                (λ place. sym (old.opened spans are place) ∙ contains-empty c.loop-edge.open place w.in_default.ensures.variant.1) (old.runs spans are)
-            | else-from-edge w ↦
-                w.runs-is ∙ old.runs spans are
-                ∙ ap (runs_below (last_place spans)) (let e : from ≡ (get_or edges i none).code = omega (arith, le_next edges i from none old.after (omega arith), w.if-from-edge.false) in e)
-          ];
+      later = λ k d behind within. later k d (omega arith) within;
+      limit = omega arith;
+      are = λ spans are.
+          let old = c.loop-range.invariant.are spans are in (
+            subst (λ begun. AreOpen spans begun (get nat_cmp c.insert.new.self) next) (sym (take_more ranges i range lt ∙ ap (λ r. take i ranges ++ r ∷ []) (sym (is range))))
+                (AreOpen-push spans (take i ranges) range (get nat_cmp c.loop-range.ends) (get nat_cmp c.add_runs.new.ends) (get nat_cmp c.insert.new.self) from next old.0 le
+                c.in_ok-add_runs.ensures.open (subst (IsRange spans) (sym (is range)) (are.each i range lt)) (omega arith) c.in_ok-insert.ensures.updates.0),
+            c.in_ok-add_runs.ensures.runs (last_place spans) (λ code start end.
+                greatest_open spans ranges i from next code (get nat_cmp c.loop-range.ends) (last_place spans code) are old.0 later start end (is_last spans code))
+                old.1,
+          );
+      few = omega (arith, one_more _ _ _ c.in_ok-insert.ensures.len, c.in_ok-add_runs.ensures.few, c.in_ok-add_runs.ensures.fewer);
     }
 
-pub returns : goal.returns
-returns c = λ spans are.
-    let old = c.loop-edge.invariant in
-    runs_at_end spans c.args.edges.now c.loop-edge.from c.loop-edge.runs are
-    (subst (All (λ (edge : Edge). edge.code ≤ c.loop-edge.from)) (take_all c.loop-edge.edge-index c.args.edges.now c.loop-edge-test.false) old.before)
-    old.limit (old.runs spans are)
+pub returns-clause-runs : goal.returns-clause-runs
+returns-clause-runs c = λ spans are.
+    let ranges = c.args.ranges.now in let i = c.loop-range.range-index in let old = c.loop-range.invariant.are spans are in
+    runs_of-unique spans c.add_runs-2.new.runs
+    (c.in_ok-add_runs-2.ensures.runs (last_place spans) (λ code start end.
+    greatest_open spans ranges i c.loop-range.from (2 ^ 32) code (get nat_cmp c.loop-range.ends) (last_place spans code) are old.0
+    (λ k d behind within. absurd (omega arith)) start end (is_last spans code)) old.1)

@@ -1,14 +1,14 @@
-use Rattle.std.proofs.Common.{◌≡◌, ℕ, ◌≤◌, ◌^◌, List, All, drop, nat_cmp, take}
-use Rattle.std.specs.BTreeSet.{contains}
-use Rattle.cmap_runs.specs.Edges.{AreEdges, is_open}
-use Rattle.cmap_runs.specs.Ranges.{Span, last_place, runs_below}
+use Rattle.std.proofs.Common.{ℕ, ◌+◌, ◌-◌, ◌*◌, ◌≤◌, ◌<◌, ◌^◌, List, get_or, length, nat_cmp, take}
+use Rattle.std.specs.BTreeMap.{btree_map_len, get}
+use Rattle.cmap_runs.specs.DeclaredRanges.{AreRanges}
+use Rattle.cmap_runs.specs.OpenRanges.{AreOpen}
+use Rattle.cmap_runs.specs.Ranges.{AreRunsBelow, Run, Span, last_place}
 use Rattle.cmap_runs.proofs.runs.sweep.sweep.Given as goal
 
-abbrev pub invariant-loop-edge : goal.invariant-loop-edge
-invariant-loop-edge l = record {
-  before : All (λ edge. edge.code ≤ l.from) (take l.edge-index l.edges);
-  after : All (λ edge. l.from ≤ edge.code) (drop l.edge-index l.edges);
+abbrev pub invariant-loop-range : goal.invariant-loop-range
+invariant-loop-range l = record {
+  later : (k : ℕ) (d : Run) → l.range-index ≤ k → k < length l.ranges → l.from ≤ (get_or l.ranges k d).low;
   limit : l.from ≤ 2 ^ 32;
-  opened : (spans : List Span) → AreEdges spans l.edges → (place : ℕ) → contains nat_cmp l.open place ≡ is_open (take l.edge-index l.edges) place;
-  runs : (spans : List Span) → AreEdges spans l.edges → l.runs ≡ runs_below (last_place spans) l.from;
+  are : (spans : List Span) → AreRanges spans (length spans) l.ranges → AreOpen spans (take l.range-index l.ranges) (get nat_cmp l.ends) l.from × AreRunsBelow (last_place spans) l.from l.runs;
+  few : length l.runs + btree_map_len l.ends ≤ 2 * l.range-index - 1;
 }

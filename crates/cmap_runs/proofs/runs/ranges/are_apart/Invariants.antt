@@ -1,6 +1,6 @@
 use Rattle.std.proofs.Common.{ℕ, ◌+◌, ◌-◌, ◌<◌, ◌≤◌, length, get_or}
 use Rattle.cmap_runs.specs.Ranges.{Run}
-use Rattle.cmap_runs.proofs.runs.held.are_apart.Given as goal
+use Rattle.cmap_runs.proofs.runs.ranges.are_apart.Given as goal
 
 -- so far each ends before the next one begins
 abbrev pub invariant-loop-i : goal.invariant-loop-i

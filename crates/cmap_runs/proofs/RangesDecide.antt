@@ -1,0 +1,118 @@
+-- The ranges of declarations tell which one decides a code; ranges that lie apart are the runs.
+use Rattle.std.proofs.Common.{◌≡◌, ℕ, ◌+◌, ◌<◌, ◌≤◌, ◌^◌, List, [], ◌∷◌, ◌++◌, length, get_or, Option, refl, sym, ap, ◌∙◌, subst, inl, inr, arith}
+use Rattle.std.specs.Prelude.{Some, None, IsSome, Any, map, slice_get}
+use Rattle.std.specs.List.{Contains}
+use Rattle.std.specs.List.Sorted.{IsPermutation, IsNonDecreasingBy}
+use Rattle.std.proofs.lemmas.Bool.Decides.{nat_tests}
+use Rattle.std.proofs.lemmas.Bool.{cases_lt}
+use Rattle.std.proofs.lemmas.List.{length-map, length_push, get_or_default}
+use Rattle.std.proofs.lemmas.List.Elements.{All-push, Contains-append_left, Contains-push}
+use Rattle.std.proofs.lemmas.List.Sorted.{All-permutation, Contains-permutation, length_permutation}
+use Rattle.std.proofs.lemmas.Option.{slice_get_within, slice_get-map, slice_get-get_or}
+use Rattle.cmap_runs.specs.DeclaredRanges.{IsRange, AreRanges, AreApart}
+use Rattle.cmap_runs.specs.Ranges.{Span, Run, Holds, AreRunsBelow, last_place}
+use Rattle.cmap_runs.proofs.LastPlace.{ContainsAt, IsLast, is_last}
+
+-- ---- one more declaration
+pub span_at : {T : Type 0} (span_of : T → Span) (list : List T) (i : ℕ) (d : T) (start end : ℕ)
+    → i < length list → d ≡ get_or list i d → start ≡ (span_of d).start → end ≡ (span_of d).end → slice_get (map span_of list) i ≡ Some (record { start = start; end = end })
+span_at span_of list i d start end lt is start_is end_is =
+    grind (arith, slice_get-map span_of list i, slice_get-get_or list i d lt)
+
+pub AreRanges-skip : (spans : List Span) (i start end : ℕ) (ranges : List Run)
+    → AreRanges spans i ranges → slice_get spans i ≡ Some (record { start = start; end = end }) → end < start → AreRanges spans (i + 1) ranges
+AreRanges-skip spans i start end ranges are at empty = record {
+  each = are.each;
+  every = λ place span lt at_place filled.
+      elim (cases_lt place i) [
+        | inl old ↦ are.every place span old at_place filled
+        | inr new ↦ absurd (grind arith)
+      ];
+  few = omega (arith, are.few);
+}
+
+pub AreRanges-push : (spans : List Span) (i start end : ℕ) (ranges : List Run)
+    → AreRanges spans i ranges → slice_get spans i ≡ Some (record { start = start; end = end }) → start ≤ end → end < 2 ^ 32
+    → AreRanges spans (i + 1) (ranges ++ record { low = start; high = end; place = i } ∷ [])
+AreRanges-push spans i start end ranges are at filled fits =
+    let range : Run = record { low = start; high = end; place = i } in
+    record {
+      each = All-push (IsRange spans) ranges range are.each (record { at_place = at; filled = filled; fits = fits });
+      every = λ place span lt at_place span_filled.
+          elim (cases_lt place i) [
+            | inl old ↦ Contains-append_left ranges (range ∷ []) _ (are.every place span old at_place span_filled)
+            | inr new ↦
+                let here : i ≡ place = omega arith in
+                let is : range ≡ record { low = span.start; high = span.end; place = place } = grind arith in
+                subst (Contains (ranges ++ range ∷ [])) is (Contains-push ranges range)
+          ];
+      few = omega (arith, are.few, length_push ranges range);
+    }
+
+AreRanges-IsPermutation : (spans : List Span) (count : ℕ) (ranges others : List Run) → IsPermutation ranges others → AreRanges spans count ranges → AreRanges spans count others
+AreRanges-IsPermutation spans count ranges others moved are = record {
+  each = All-permutation (IsRange spans) ranges others moved are.each;
+  every = λ place span lt at filled. Contains-permutation ranges others _ moved (are.every place span lt at filled);
+  few = omega (arith, are.few, length_permutation ranges others moved);
+}
+
+pub all_ranges : {T : Type 0} (span_of : T → Span) (list : List T) (ranges others : List Run)
+    → IsPermutation ranges others → AreRanges (map span_of list) (length list) ranges → AreRanges (map span_of list) (length (map span_of list)) others
+all_ranges span_of list ranges others moved are =
+    subst (λ n. AreRanges (map span_of list) n others) (sym (length-map list span_of)) (AreRanges-IsPermutation (map span_of list) (length list) ranges others moved are)
+
+-- ---- a declaration contains a code, and its range holds it
+contains_its : (spans : List Span) (range : Run) (code : ℕ) → IsRange spans range → Holds code range → ContainsAt spans code range.place
+contains_its spans range code is holds = (record { start = range.low; end = range.high }, is.at_place, grind (arith, nat_tests))
+
+-- the one range at a place
+holds_its : (spans : List Span) (range : Run) (code : ℕ) → IsRange spans range → ContainsAt spans code range.place → Holds code range
+holds_its spans range code is at = (grind (arith, nat_tests, is.at_place, at.1, at.2), grind (arith, nat_tests, is.at_place, at.1, at.2))
+
+pub range_at : (spans : List Span) (ranges : List Run) (code place : ℕ)
+    → AreRanges spans (length spans) ranges → ContainsAt spans code place → Any (λ range. Holds code range × (range.place ≡ place)) ranges
+range_at spans ranges code place are at =
+    let span = at.0 in
+    let within : Holds code (record { low = span.start; high = span.end; place = place }) = (grind (arith, nat_tests, at.2), grind (arith, nat_tests, at.2)) in
+    let found = are.every place span (slice_get_within spans place span at.1) at.1 (omega (arith, within.0, within.1)) in
+    (found.0, record { low = span.start; high = span.end; place = place }, found.1, found.2, (within, refl))
+
+-- ---- ranges that lie apart
+apart_later : (ranges : List Run) (i j : ℕ) (d : Run)
+    → IsNonDecreasingBy (λ range. range.low) ranges → AreApart ranges → i < j → j < length ranges → (get_or ranges i d).high < (get_or ranges j d).low
+apart_later ranges i j d sorted apart before within = omega (arith, apart i d (omega arith), sorted (i + 1) j d (omega arith) within)
+
+decided : (spans : List Span) (ranges : List Run) (i code : ℕ) (d : Run) (o : Option ℕ)
+    → AreRanges spans (length spans) ranges → IsNonDecreasingBy (λ range. range.low) ranges → AreApart ranges → i < length ranges
+    → Holds code (get_or ranges i d) → IsLast spans code o → o ≡ Some (get_or ranges i d).place
+decided spans ranges i code d None are sorted apart within holds last = absurd (last _ (contains_its spans (get_or ranges i d) code (are.each i d within) holds))
+decided spans ranges i code d (Some place) are sorted apart within holds last =
+    let found = range_at spans ranges code place are last.0 in
+    let is : get_or ranges found.0 d ≡ found.1 = get_or_default ranges found.0 d found.1 found.2 ∙ found.3 in
+    let same : i ≡ found.0 = grind (arith, is, found.2, found.4.0, apart_later ranges i found.0 d sorted apart, apart_later ranges found.0 i d sorted apart) in
+    ap Some (sym found.4.1 ∙ sym (ap (λ (r : Run). r.place) is) ∙ ap (λ n. (get_or ranges n d).place) (sym same))
+
+found_some : (spans : List Span) (ranges : List Run) (code : ℕ) (o : Option ℕ)
+    → AreRanges spans (length spans) ranges → IsLast spans code o → IsSome o → Any (Holds code) ranges
+found_some spans ranges code None are last some = absurd (let e = some in cc)
+found_some spans ranges code (Some place) are last some =
+    let found = range_at spans ranges code place are last.0 in (found.0, found.1, found.2, found.3, found.4.0)
+
+pub runs_are_ranges : (spans : List Span) (ranges : List Run)
+    → AreRanges spans (length spans) ranges → IsNonDecreasingBy (λ range. range.low) ranges → AreApart ranges → AreRunsBelow (last_place spans) (2 ^ 32) ranges
+runs_are_ranges spans ranges are sorted apart = record {
+  each = λ i d within.
+      let range = get_or ranges i d in let is = are.each i d within in
+      let its : (code : ℕ) → last_place spans code ≡ Some range.place → Holds code range =
+      λ code same. holds_its spans range code is (subst (IsLast spans code) same (is_last spans code)).0
+      in
+      record {
+        filled = is.filled;
+        below = is.fits;
+        right = λ code low high. decided spans ranges i code d (last_place spans code) are sorted apart within (low, high) (is_last spans code);
+        begins = λ code before same. omega (arith, (its code same).0);
+        ends = λ below same. omega (arith, (its (range.high + 1) same).1);
+      };
+  ordered = λ i j d before within. apart_later ranges i j d sorted apart before within;
+  complete = λ code below some. found_some spans ranges code (last_place spans code) are (is_last spans code) some;
+}

@@ -1,0 +1,20 @@
+use Rattle.std.proofs.Common.{◌≡◌, ◌+◌, [], ◌∷◌, ◌++◌, map, sym, ap, ◌∙◌, subst, arith}
+use Rattle.cmap_runs.specs.DeclaredRanges.{AreRanges}
+use Rattle.cmap_runs.specs.Ranges.{Run}
+use Rattle.cmap_runs.proofs.RangesDecide.{AreRanges-push, AreRanges-skip, span_at}
+use Rattle.cmap_runs.proofs.runs.ranges.ranges_of.Goals as goal
+use Rattle.cmap_runs.proofs.runs.ranges.ranges_of.Goals.{then-range+in_ok-push, else-range}
+
+pub loop-place-preserved : goal.loop-place-preserved
+loop-place-preserved g c =
+    let list = c.args.declarations.now in let place = c.loop-place.place in let spans = map g.T.HasRange.span list in
+    let range = c.range-range.result.now in let old = c.loop-place.ranges.items in
+    let at = span_at g.T.HasRange.span list place c.index-declarations-place.result range.start range.end (omega arith) c.index-declarations-place.is c.range-range.ensures.start c.range-range.ensures.end in
+    elim c.if-range.branch [
+      | then-range+in_ok-push w ↦
+          let run : Run = record { low = range.start; high = range.end; place = place } in
+          let items_are : c.if-range.ranges.items ≡ old ++ run ∷ [] = ap (λ ranges. ranges.items) w.ranges-is ∙ subst (λ run. w.push.new.self.items ≡ old ++ run ∷ []) w.new.ensures w.in_ok-push.ensures.items in
+          subst (AreRanges spans (place + 1)) (sym items_are) (AreRanges-push spans place range.start range.end old c.loop-place.invariant at w.if-range.true (omega arith))
+      | else-range w ↦
+          subst (AreRanges spans (place + 1)) (sym (ap (λ ranges. ranges.items) w.ranges-is)) (AreRanges-skip spans place range.start range.end old c.loop-place.invariant at (omega arith))
+    ]

@@ -1,0 +1,20 @@
+-- Private aid: the ranges of declarations.
+use Rattle.std.specs.Prelude.{◌≡◌, ℕ, ◌+◌, ◌<◌, ◌≤◌, ◌^◌, List, All, Some, slice_get, length, get_or}
+use Rattle.std.specs.List.{Contains}
+use Rattle.cmap_runs.specs.Ranges.{Span, Run}
+
+-- the run is the whole range of the declaration at its place
+pub record IsRange (spans : List Span) (run : Run) : Type 0 where
+  pub at_place : slice_get spans run.place ≡ Some (record { start = run.low; end = run.high })
+  pub filled : run.low ≤ run.high
+  pub fits : run.high < 2 ^ 32
+
+-- the range of each of the first `count` declarations that isn't empty
+pub record AreRanges (spans : List Span) (count : ℕ) (ranges : List Run) : Type 0 where
+  pub each : All (IsRange spans) ranges
+  pub every : (place : ℕ) (span : Span) → place < count → slice_get spans place ≡ Some span → span.start ≤ span.end → Contains ranges (record { low = span.start; high = span.end; place = place })
+  pub few : length ranges ≤ count
+
+-- each ends before the next one begins
+abbrev pub AreApart : List Run → Type 0
+AreApart ranges = (i : ℕ) (d : Run) → i + 1 < length ranges → (get_or ranges i d).high < (get_or ranges (i + 1) d).low
