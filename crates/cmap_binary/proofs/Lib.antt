@@ -1,14 +1,3 @@
-pub mod BfEntriesMade
-pub mod BinaryFronts
-pub mod BundleFronts
-pub mod CidEntriesMade
-pub mod CollectionRead
-pub mod ColumnsRead
-pub mod EntryRows
-pub mod OnlyPairs
-pub mod PiecesBehind
-pub mod PiecesInRow
-pub mod RowsRead
-pub mod SegmentFronts
-pub mod SegmentKinds
+pub mod Fronts
+pub mod Reading
 pub mod SegmentsSaid

@@ -1,66 +1,88 @@
--- The entries of a segment of a binary file, by the columns of their deltas, their widths (end less start) and their raw CIDs or destinations.
-use Rattle.std.specs.Prelude.{◌≡◌, ℕ, zero, suc, ◌+◌, ◌<◌, ◌^◌, not, ◌==◌, List, [], ◌∷◌, ◌++◌, length, map, replicate, reverse, take, drop, sum, sum_by, find, flat_map, slice_index, Option, Some, None}
-use Rattle.std.specs.List.{AllByRecursion, AllZip, enumerate_from, range_with_len}
-use Rattle.cmap_bits.specs.BigEndian.{big_endian}
-use Rattle.cmap_bits.specs.PrefixWords.{Place, Spells, bits}
-use Rattle.cmap_binary.specs.Bundles.{IsSized, PrefixTables}
+-- The entries of a segment of a binary file, each by what the one before leaves.
+use Rattle.std.specs.Prelude.{ℕ, zero, suc, ◌+◌, ◌-◌, ◌<◌, ◌^◌, List, [], Option, Some, None}
+use Rattle.cmap_bits.specs.PrefixWords.{Place, Decodes, bits}
+use Rattle.cmap_runs.specs.Ranges.{Span}
 use Rattle.cmap_files.specs.Files.{CidEntry, BfEntry}
-
--- pieces of so many bytes each, in a row
-abbrev pub AreRows : ℕ → List (List ℕ) → List ℕ → Type 0
-AreRows width rows text = AllByRecursion (λ row. length row ≡ width) rows × (text ≡ flat_map (λ row. row) rows)
-
--- behind the end of an entry so many codes are left out as the delta of the next one says
-abbrev pub start_at : List ℕ → List ℕ → ℕ → ℕ
-start_at deltas widths i = sum (take (i + 1) deltas) + sum_by (λ w. w + 1) (take i widths)
-
-abbrev pub end_at : List ℕ → List ℕ → ℕ → ℕ
-end_at deltas widths i = start_at deltas widths i + slice_index widths i
-
--- the last raw CID up to entry i that isn't 0, behind its place
-abbrev pub last_raw : List ℕ → ℕ → Option (ℕ × ℕ)
-last_raw raws i = find (λ p. not (p.1 == 0)) (reverse (take (i + 1) (enumerate_from 0 raws)))
-
--- raw CID 0 goes on where the entry before ended
-abbrev pub continued_cid : Option (ℕ × ℕ) → List ℕ → ℕ → ℕ
-continued_cid None widths i = sum_by (λ w. w + 1) (take i widths)
-continued_cid (Some p) widths i = p.1 + sum_by (λ w. w + 1) (drop p.0 (take i widths))
-
-abbrev pub segment_cid : List ℕ → List ℕ → ℕ → ℕ
-segment_cid raws widths i = continued_cid (last_raw raws i) widths i
-
--- a column of n values: a sized piece whose bits begin with their code words
-abbrev pub IsColumn : List Place → ℕ → List ℕ → List ℕ → Type 0
-IsColumn table n text values = (bytes : List ℕ) × IsSized text bytes × (length values ≡ n) × Spells table values (bits bytes)
+use Rattle.cmap_binary.specs.Bundles.{PrefixTables}
+use Rattle.cmap_binary.specs.Fronts.{Then, Gives, GivesIf, RowOf, ListOf, ByteAt, FieldAt, SizedAt}
 
 -- whether the entries of a segment are ranges, or single codes
 pub data Shape : Type 0 where
   ranges : Shape
   singles : Shape
 
--- the columns of n entries: their deltas, and of ranges their counts, each one less than the width
-abbrev pub AreColumns : PrefixTables → Shape → ℕ → List ℕ → List ℕ → List ℕ → Type 0
-AreColumns tables ranges n text deltas widths = (first second counts : List ℕ) × (text ≡ first ++ second) × IsColumn tables.delta n first deltas × IsColumn tables.count n second counts × (widths ≡ map (λ c. c + 1) counts)
-AreColumns tables singles n text deltas widths = IsColumn tables.delta n text deltas × (widths ≡ replicate n 0)
+-- What the columns have for the entries that are left: the bits of the deltas, and of ranges those of the counts. `base` is the code after the entry before.
+pub record Columns : Type 0 where
+  pub deltas : List ℕ
+  pub counts : Option (List ℕ)
+  pub base : ℕ
 
-abbrev pub cid_rows : List ℕ → List ℕ → List ℕ → ℕ → List CidEntry
-cid_rows deltas widths raws n = map (λ i. record { start = start_at deltas widths i; end = end_at deltas widths i; cid = segment_cid raws widths i }) (range_with_len 0 n)
+-- the bits of the counts, where there are counts
+abbrev pub CountsAt : Shape → List ℕ → Option (List ℕ) × List ℕ → Type 0
+CountsAt ranges text = Then (SizedAt text) (λ counts rest. Gives (Some (bits counts), rest))
+CountsAt singles text = Gives (None, text)
 
--- what follows n in a CID segment, and the entries that it gives; of no entries nothing is read
-abbrev pub AreCidEntries : PrefixTables → Shape → ℕ → List ℕ → List CidEntry → Type 0
-AreCidEntries tables shape zero text entries = entries ≡ []
-AreCidEntries tables shape (suc m) text entries = (columns raw_text ignored deltas widths : List ℕ) × (raws : List (List ℕ)) × (text ≡ columns ++ raw_text ++ ignored)
-    × AreColumns tables shape (suc m) columns deltas widths × AreRows 2 raws raw_text × (length raws ≡ suc m)
-    × (entries ≡ cid_rows deltas widths (map big_endian raws) (suc m)) × AllByRecursion (λ e. (e.end < 2 ^ 32) × (e.cid < 2 ^ 32)) entries
+-- the columns of a segment, each in a sized piece
+abbrev pub ColumnsAt : Shape → List ℕ → Columns × List ℕ → Type 0
+ColumnsAt shape text = Then (SizedAt text) (λ deltas mid. Then (CountsAt shape mid) (λ counts rest. Gives (record { deltas = bits deltas; counts = counts; base = 0 }, rest)))
 
--- a destination: its units, behind their number where the segment doesn't fix it
-abbrev pub IsDestination : Option ℕ → List ℕ → List ℕ → Type 0
-IsDestination (Some n) text units = (rows : List (List ℕ)) × AreRows 2 rows text × (length rows ≡ n) × (units ≡ map big_endian rows)
-IsDestination None text units = (n : ℕ) × (rest : List ℕ) × (rows : List (List ℕ)) × (text ≡ n ∷ rest) × AreRows 2 rows rest × (length rows ≡ n) × (units ≡ map big_endian rows)
+-- the symbol of the code word that the bits begin with
+abbrev pub SymbolAt : List Place → List ℕ → ℕ × List ℕ → Type 0
+SymbolAt table stream r = (len : ℕ) × Decodes table stream r.0 len r.1
 
--- what follows n in a bf segment, and the entries that it gives; the columns are read also of no entries
-abbrev pub AreBfEntries : PrefixTables → Shape → Option ℕ → ℕ → List ℕ → List BfEntry → Type 0
-AreBfEntries tables shape fixed n text entries = (columns ignored deltas widths : List ℕ) × (texts destinations : List (List ℕ)) × (text ≡ columns ++ flat_map (λ t. t) texts ++ ignored)
-    × AreColumns tables shape n columns deltas widths × (length texts ≡ n) × AllZip (IsDestination fixed) texts destinations
-    × (entries ≡ map (λ p. record { start = start_at deltas widths p.0; end = end_at deltas widths p.0; units = p.1 }) (enumerate_from 0 destinations))
-    × AllByRecursion (λ e. e.end < 2 ^ 32) entries
+-- how far an entry ends after its start: a range one more than its count, a single code there
+abbrev pub WidthAt : List Place → Option (List ℕ) → ℕ × Option (List ℕ) → Type 0
+WidthAt table None = Gives (0, None)
+WidthAt table (Some counts) = Then (SymbolAt table counts) (λ count rest. Gives (count + 1, Some rest))
+
+-- an entry leaves out as many codes after the one before as its delta says
+abbrev pub SpanAt : PrefixTables → Columns → Span × Columns → Type 0
+SpanAt tables columns =
+    Then (SymbolAt tables.delta columns.deltas) (λ delta deltas. Then (WidthAt tables.count columns.counts) (λ width counts.
+    let start = columns.base + delta in
+    GivesIf (start + width < 2 ^ 32) (record { start = start; end = start + width }, record { deltas = deltas; counts = counts; base = start + width + 1 })))
+
+-- the columns and the raw CIDs that are left, and the CID after those of the entry before
+pub record CidColumns : Type 0 where
+  pub columns : Columns
+  pub raws : List ℕ
+  pub next : ℕ
+
+-- raw CID 0 is the next one
+abbrev pub cid_from : ℕ → ℕ → ℕ
+cid_from zero next = next
+cid_from (suc n) next = suc n
+
+-- raw CID 0 goes on after the CIDs of the entry before
+abbrev pub CidEntryAt : PrefixTables → CidColumns → CidEntry × CidColumns → Type 0
+CidEntryAt tables left =
+    Then (SpanAt tables left.columns) (λ span columns. Then (FieldAt 2 left.raws) (λ raw raws.
+    let cid = cid_from raw left.next in
+    GivesIf (cid < 2 ^ 32) (record { start = span.start; end = span.end; cid = cid }, record { columns = columns; raws = raws; next = cid + (span.end - span.start) + 1 })))
+
+-- n entries of CIDs, after their columns
+abbrev pub CidsOf : PrefixTables → Shape → ℕ → List ℕ → List CidEntry → Type 0
+CidsOf tables shape n text = Then (ColumnsAt shape text) (λ columns raws. ListOf (CidEntryAt tables) n (record { columns = columns; raws = raws; next = 0 }))
+
+-- what follows n in a CID segment; of no entries nothing is read
+abbrev pub CidEntriesOf : PrefixTables → Shape → ℕ → List ℕ → List CidEntry → Type 0
+CidEntriesOf tables shape zero text = Gives []
+CidEntriesOf tables shape (suc m) text = CidsOf tables shape (suc m) text
+
+-- the entries of a CID segment, after their number
+abbrev pub CidEntriesIn : PrefixTables → Shape → List ℕ → List CidEntry → Type 0
+CidEntriesIn tables shape payload = Then (FieldAt 2 payload) (CidEntriesOf tables shape)
+
+-- the units of a destination, after their number where the segment doesn't fix it
+abbrev pub DestinationAt : Option ℕ → List ℕ → List ℕ × List ℕ → Type 0
+DestinationAt (Some n) text = RowOf (FieldAt 2) n text
+DestinationAt None text = Then (ByteAt text) (RowOf (FieldAt 2))
+
+-- of the columns and the destinations that are left
+abbrev pub BfEntryAt : PrefixTables → Option ℕ → Columns × List ℕ → BfEntry × (Columns × List ℕ) → Type 0
+BfEntryAt tables fixed left =
+    Then (SpanAt tables left.0) (λ span columns. Then (DestinationAt fixed left.1) (λ units rest. Gives (record { start = span.start; end = span.end; units = units }, (columns, rest))))
+
+-- the entries of a segment of texts, after their number
+abbrev pub BfEntriesIn : PrefixTables → Shape → Option ℕ → List ℕ → List BfEntry → Type 0
+BfEntriesIn tables shape fixed payload = Then (FieldAt 2 payload) (λ n text. Then (ColumnsAt shape text) (λ columns rest. ListOf (BfEntryAt tables fixed) n (columns, rest)))

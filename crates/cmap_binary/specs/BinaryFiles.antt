@@ -1,14 +1,11 @@
 -- CMap files in the binary form bcmap: segments, each of which says one thing.
-use Rattle.std.specs.Prelude.{◌≡◌, ℕ, pos, ◌+◌, ◌*◌, ◌<◌, ◌≤◌, ◌==◌, List, [], ◌∷◌, ◌++◌, length, map, flat_map, filter_map, codes, Option, Some, None, IsFalse, option_and_then}
-use Rattle.std.specs.List.{list_any, AllZip, last_or}
+use Rattle.std.specs.Prelude.{◌≡◌, ℕ, zero, suc, pos, List, [], ◌∷◌, ◌++◌, map, flat_map, filter_map, take, drop, codes, slice_get, slice_index, Option, Some, None, option_and_then}
+use Rattle.std.specs.List.{last_or}
 use Rattle.cmap_files.specs.Names.{family_of}
-use Rattle.cmap_files.specs.Files.{CidEntry, BfEntry, Codespace, Declaration, Mode, Collection, File, lists_of, mode_numbered}
-use Rattle.cmap_binary.specs.Bundles.{PrefixTables, IsField}
-use Rattle.cmap_binary.specs.BinaryEntries.{Shape, ranges, singles, AreCidEntries, AreBfEntries}
-
--- the byte that ends each text of a collection
-abbrev pub nul : ℕ
-nul = 0
+use Rattle.cmap_files.specs.Files.{CidEntry, Codespace, Declaration, Mode, Collection, File, lists_of, mode_numbered}
+use Rattle.cmap_binary.specs.Bundles.{PrefixTables}
+use Rattle.cmap_binary.specs.BinaryEntries.{Shape, ranges, singles, CidEntriesIn, BfEntriesIn}
+use Rattle.cmap_binary.specs.Fronts.{Then, Gives, GivesIf, ListOf, RowOf, AllOf, ByteAt, FieldAt, CodeAt, FramedAt, TerminatedAt}
 
 -- what a segment says
 pub data Content : Type 0 where
@@ -18,100 +15,99 @@ pub data Content : Type 0 where
   sets_name : List ℕ → Content
   sets_collection : Collection → Content
 
--- codes have one to four bytes
-abbrev pub IsCodeLength : ℕ → Type 0
-IsCodeLength len = (1 ≤ len) × (len ≤ 4)
+-- the types of segments
+pub data Kind : Type 0 where
+  -- for codes of this length
+  cids : Shape → ℕ → Kind
+  -- with this number of units to each destination, or with their number before each
+  texts : Shape → Option ℕ → Kind
+  base : Kind
+  notdefs : Kind
+  mode : Kind
+  codespaces : Kind
+  name : Kind
+  collection : Kind
+
+-- from type 1 on
+abbrev pub kinds : List Kind
+kinds =
+    cids ranges 1 ∷ cids singles 1 ∷ cids ranges 2 ∷ cids singles 2 ∷ cids ranges 3 ∷ cids singles 3 ∷ cids ranges 4 ∷ cids singles 4
+    ∷ base ∷ notdefs ∷ mode ∷ codespaces ∷ name ∷ collection
+    ∷ texts ranges None ∷ texts singles None ∷ texts singles (Some 1) ∷ texts singles (Some 2) ∷ texts singles (Some 3) ∷ texts singles (Some 4) ∷ texts ranges (Some 1) ∷ texts ranges (Some 2) ∷ []
+
+abbrev pub kind_of : ℕ → Option Kind
+kind_of zero = None
+kind_of (suc n) = slice_get kinds n
 
 -- start, end, a CID of two bytes
-abbrev pub IsNotdefRow : ℕ → List ℕ → CidEntry → Type 0
-IsNotdefRow width text entry = (start end cid : List ℕ) × (text ≡ start ++ end ++ cid) × IsField width entry.start start × IsField width entry.end end × IsField 2 entry.cid cid
+abbrev pub NotdefAt : ℕ → List ℕ → CidEntry × List ℕ → Type 0
+NotdefAt width text =
+    Then (CodeAt width text) (λ start mid. Then (CodeAt width mid) (λ end tail. Then (FieldAt 2 tail) (λ cid rest. Gives (record { start = start; end = end; cid = cid }, rest))))
+
+-- the width of the codes, the number of the entries, and the entries
+abbrev pub NotdefsIn : List ℕ → ℕ × List CidEntry → Type 0
+NotdefsIn payload = Then (ByteAt payload) (λ width mid. Then (FieldAt 2 mid) (λ n text. Then (RowOf (NotdefAt width) n text) (λ entries ignored. Gives (width, entries))))
 
 -- the length of the codes, low, high
-abbrev pub IsCodespaceRow : List ℕ → Codespace → Type 0
-IsCodespaceRow text space = (low high : List ℕ) × (text ≡ space.len ∷ low ++ high) × IsCodeLength space.len × IsField space.len space.low low × IsField space.len space.high high
+abbrev pub CodespaceAt : List ℕ → Codespace × List ℕ → Type 0
+CodespaceAt text =
+    Then (ByteAt text) (λ len mid. Then (CodeAt len mid) (λ low tail. Then (CodeAt len tail) (λ high rest. Gives (record { len = len; low = low; high = high }, rest))))
 
--- The types of segments.
--- CIDs: 1, 3, 5, 7 for ranges of codes of one to four bytes, 2, 4, 6, 8 for single codes.
-abbrev pub IsCidType : ℕ → Shape → ℕ → Type 0
-IsCidType len ranges kind = kind + 1 ≡ 2 * len
-IsCidType len singles kind = kind ≡ 2 * len
+abbrev pub CodespacesIn : List ℕ → List Codespace → Type 0
+CodespacesIn payload = Then (ByteAt payload) (ListOf CodespaceAt)
 
--- bf: with the number of units before each destination, or with a fixed number of them
-abbrev pub IsBfType : Shape → Option ℕ → ℕ → Type 0
-IsBfType ranges None kind = kind ≡ 0x0F
-IsBfType singles None kind = kind ≡ 0x10
-IsBfType singles (Some units) kind = (1 ≤ units) × (units ≤ 4) × (kind ≡ 0x10 + units)
-IsBfType ranges (Some units) kind = (1 ≤ units) × (units ≤ 2) × (kind ≡ 0x14 + units)
+-- registry and ordering each end at the first nul
+abbrev pub CollectionIn : List ℕ → Collection → Type 0
+CollectionIn payload =
+    Then (TerminatedAt payload) (λ registry mid. Then (TerminatedAt mid) (λ ordering tail. Then (FieldAt 2 tail) (λ supplement ignored. Gives (record { family = family_of registry ordering; supplement = pos supplement }))))
 
--- a segment of this type with this payload says this; payload behind what is read is ignored
-pub data IsSegment (tables : PrefixTables) (kind : ℕ) (payload : List ℕ) (content : Content) : Type 0 where
-  cid_segment : (shape : Shape) (len n : ℕ) (count rest : List ℕ) (entries : List CidEntry)
-      → IsCodeLength len → IsCidType len shape kind
-      → payload ≡ count ++ rest → IsField 2 n count → AreCidEntries tables shape n rest entries
-      → content ≡ declares (map (λ e. Declaration.cid len e) entries)
-      → IsSegment tables kind payload content
-  bf_segment : (shape : Shape) (fixed : Option ℕ) (n : ℕ) (count rest : List ℕ) (entries : List BfEntry)
-      → IsBfType shape fixed kind
-      → payload ≡ count ++ rest → IsField 2 n count → AreBfEntries tables shape fixed n rest entries
-      → content ≡ declares (map Declaration.bf entries)
-      → IsSegment tables kind payload content
-  use_segment : kind ≡ 0x09 → content ≡ uses payload → IsSegment tables kind payload content
-  -- where there are entries their width is that of codes
-  notdef_segment : (width n : ℕ) (count ignored : List ℕ) (texts : List (List ℕ)) (entries : List CidEntry)
-      → kind ≡ 0x0A → payload ≡ width ∷ count ++ flat_map (λ t. t) texts ++ ignored → IsField 2 n count → length texts ≡ n → (0 < n → IsCodeLength width)
-      → AllZip (IsNotdefRow width) texts entries → content ≡ declares (map (λ e. Declaration.notdef width e) entries)
-      → IsSegment tables kind payload content
-  mode_segment : (b : ℕ) (ignored : List ℕ)
-      → kind ≡ 0x0B → payload ≡ b ∷ ignored → content ≡ sets_mode (mode_numbered b) → IsSegment tables kind payload content
-  codespace_segment : (ignored : List ℕ) (texts : List (List ℕ)) (spaces : List Codespace)
-      → kind ≡ 0x0C → payload ≡ length texts ∷ flat_map (λ t. t) texts ++ ignored → AllZip IsCodespaceRow texts spaces
-      → content ≡ declares (map Declaration.codespace spaces) → IsSegment tables kind payload content
-  name_segment : kind ≡ 0x0D → content ≡ sets_name payload → IsSegment tables kind payload content
-  -- registry and ordering each end at the first 0
-  collection_segment : (registry ordering field ignored : List ℕ) (supplement : ℕ)
-      → kind ≡ 0x0E → payload ≡ registry ++ nul ∷ ordering ++ nul ∷ field ++ ignored → IsField 2 supplement field
-      → IsFalse (list_any (λ b. b == nul) registry) → IsFalse (list_any (λ b. b == nul) ordering)
-      → content ≡ sets_collection (record { family = family_of registry ordering; supplement = pos supplement })
-      → IsSegment tables kind payload content
+-- what is made of a value that the bytes give
+abbrev pub Made : {A : Type 0} → (A → Type 0) → (A → Content) → Content → Type 0
+Made reads make content = (value : _) × reads value × (content ≡ make value)
 
--- a segment of a file: its type, its whole length, its payload
-abbrev pub IsSegmentText : PrefixTables → List ℕ → Content → Type 0
-IsSegmentText tables text content = (kind : ℕ) × (size payload : List ℕ) × (text ≡ kind ∷ size ++ payload) × IsField 4 (length text) size × IsSegment tables kind payload content
+-- what a payload of this type says; payload after what is read is ignored
+abbrev pub SaysAs : PrefixTables → Kind → List ℕ → Content → Type 0
+SaysAs tables (cids shape len) payload = Made (CidEntriesIn tables shape payload) (λ entries. declares (map (Declaration.cid len) entries))
+SaysAs tables (texts shape fixed) payload = Made (BfEntriesIn tables shape fixed payload) (λ entries. declares (map Declaration.bf entries))
+SaysAs tables base payload = Gives (uses payload)
+SaysAs tables notdefs payload = Made (NotdefsIn payload) (λ r. declares (map (Declaration.notdef r.0) r.1))
+SaysAs tables mode payload = Made (ByteAt payload) (λ r. sets_mode (mode_numbered r.0))
+SaysAs tables codespaces payload = Made (CodespacesIn payload) (λ spaces. declares (map Declaration.codespace spaces))
+SaysAs tables name payload = Gives (sets_name payload)
+SaysAs tables collection payload = Made (CollectionIn payload) sets_collection
+
+-- what a payload says, where its type is one
+abbrev pub SaysIfKind : PrefixTables → Option Kind → List ℕ → Content → Type 0
+SaysIfKind tables None payload content = ⊥
+SaysIfKind tables (Some kind) payload content = SaysAs tables kind payload content
+
+-- a segment of this type with this payload says this
+abbrev pub IsSegment : PrefixTables → ℕ → List ℕ → Content → Type 0
+IsSegment tables number payload = SaysIfKind tables (kind_of number) payload
+
+-- a segment of a file: a byte for its type, its whole length, its payload
+abbrev pub SegmentAt : PrefixTables → List ℕ → Content × List ℕ → Type 0
+SegmentAt tables bytes r = Then (FramedAt 1 bytes) (λ segment rest said. IsSegment tables (slice_index segment 0) (drop 5 segment) said.0 × (said.1 ≡ rest)) r
 
 abbrev pub declared_in : Content → List Declaration
 declared_in (declares ds) = ds
-declared_in (uses name) = []
-declared_in (sets_mode m) = []
-declared_in (sets_name name) = []
-declared_in (sets_collection c) = []
+declared_in _ = []
 
 abbrev pub name_used : Content → Option (List ℕ)
-name_used (declares ds) = None
-name_used (uses name) = Some name
-name_used (sets_mode m) = None
-name_used (sets_name name) = None
-name_used (sets_collection c) = None
+name_used (uses used) = Some used
+name_used _ = None
 
 abbrev pub mode_set : Content → Option (Option Mode)
-mode_set (declares ds) = None
-mode_set (uses name) = None
-mode_set (sets_mode m) = Some m
-mode_set (sets_name name) = None
-mode_set (sets_collection c) = None
+mode_set (sets_mode set) = Some set
+mode_set _ = None
 
 abbrev pub name_set : Content → Option (List ℕ)
-name_set (declares ds) = None
-name_set (uses used) = None
-name_set (sets_mode m) = None
-name_set (sets_name name) = Some name
-name_set (sets_collection c) = None
+name_set (sets_name set) = Some set
+name_set _ = None
 
 abbrev pub collection_set : Content → Option Collection
-collection_set (declares ds) = None
-collection_set (uses name) = None
-collection_set (sets_mode m) = None
-collection_set (sets_name name) = None
-collection_set (sets_collection c) = Some c
+collection_set (sets_collection set) = Some set
+collection_set _ = None
 
 -- what the segments say together: a later one replaces the former
 abbrev pub file_of : List Content → File
@@ -132,8 +128,10 @@ magic = codes "bcmap"
 abbrev pub IsMarkedBinary : List ℕ → Type 0
 IsMarkedBinary bytes = (rest : List ℕ) × (bytes ≡ magic ++ rest)
 
--- the bytes are a binary file of version 1 that says what the file says; bytes behind its length are ignored
+-- the segments of a file of version 1, after the ten bytes of its header; bytes after its length are ignored
+abbrev pub BodyOf : List ℕ → List ℕ → Type 0
+BodyOf bytes = Then (FramedAt 6 bytes) (λ file ignored. GivesIf (take 6 file ≡ magic ++ 1 ∷ []) (drop 10 file))
+
+-- the bytes are a binary file that says what the file says
 unfoldable pub IsBinaryFile : PrefixTables → List ℕ → File → Type 0
-IsBinaryFile tables bytes file = (size ignored : List ℕ) × (texts : List (List ℕ)) × (contents : List Content)
-    × (bytes ≡ magic ++ 1 ∷ size ++ flat_map (λ t. t) texts ++ ignored) × IsField 4 (10 + length (flat_map (λ t. t) texts)) size
-    × AllZip (IsSegmentText tables) texts contents × (file ≡ file_of contents)
+IsBinaryFile tables bytes file = (body : List ℕ) × (contents : List Content) × BodyOf bytes body × AllOf (SegmentAt tables) body contents × (file ≡ file_of contents)

@@ -1,15 +1,55 @@
--- Private aid: what contracts see of the types of segments.
-use Rattle.cmap_binary.specs.BinaryReading as reading
+-- Private aid: what contracts see of the types of segments, and of a file to which one is added.
+use Rattle.std.specs.Prelude.{◌≡◌, ℕ, List, [], ◌∷◌, ◌++◌, Some, IsErrOf, OnOk, Result}
+use Rattle.cmap_files.specs.CodeLengths.{length_of}
+use Rattle.cmap_files.specs.Files.{File, lists_of}
+use Rattle.cmap_files.specs.ListsAppended.{append_lists}
+use Rattle.cmap_files.specs.Only.{IsOnly, HoldsOfNone}
+use Rattle.cmap_files.specs.declared.fault.Fault.{Fault}
+use Rattle.cmap_files.specs.declared.fault.Fault.TheVariants.{Refused}
+use Rattle.cmap_binary.specs.Bundles.{PrefixTables}
+use Rattle.cmap_binary.specs.BinaryFiles as files
+use Rattle.cmap_binary.specs.BinaryFiles.{Content, declares, uses, sets_mode, sets_name, sets_collection, SegmentAt}
+use Rattle.cmap_binary.specs.Fronts.{AllOf}
 use Rattle.cmap_binary.specs.declared.kinds.Kind.{Kind}
 use Rattle.cmap_binary.specs.declared.kinds.Kind.TheVariants.{Cids, Texts, Base, Notdefs, Mode, Codespaces, Name, Collection}
 use Rattle.cmap_binary.specs.ColumnsSeen.{shape_seen}
 
-abbrev pub kind_seen : Kind → reading.Kind
-kind_seen (Cids shape len) = reading.cids (shape_seen shape) len
-kind_seen (Texts shape units) = reading.texts (shape_seen shape) units
-kind_seen Base = reading.base
-kind_seen Notdefs = reading.notdefs
-kind_seen Mode = reading.mode
-kind_seen Codespaces = reading.codespaces
-kind_seen Name = reading.name
-kind_seen Collection = reading.collection
+abbrev pub kind_seen : Kind → files.Kind
+kind_seen (Cids shape len) = files.cids (shape_seen shape) (length_of len)
+kind_seen (Texts shape units) = files.texts (shape_seen shape) units
+kind_seen Base = files.base
+kind_seen Notdefs = files.notdefs
+kind_seen Mode = files.mode
+kind_seen Codespaces = files.codespaces
+kind_seen Name = files.name
+kind_seen Collection = files.collection
+
+-- what a file says with one segment more
+abbrev pub with_content : File → Content → File
+with_content file (declares ds) = record { metadata = file.metadata; lists = append_lists file.lists (lists_of ds); uses = file.uses }
+with_content file (uses text) = record { metadata = file.metadata; lists = file.lists; uses = file.uses ++ text ∷ [] }
+with_content file (sets_mode set) = record { metadata = record { collection = file.metadata.collection; name = file.metadata.name; mode = set }; lists = file.lists; uses = file.uses }
+with_content file (sets_name text) = record { metadata = record { collection = file.metadata.collection; name = Some text; mode = file.metadata.mode }; lists = file.lists; uses = file.uses }
+with_content file (sets_collection set) = record { metadata = record { collection = Some set; name = file.metadata.name; mode = file.metadata.mode }; lists = file.lists; uses = file.uses }
+
+-- one thing is read and no other, and the file says it
+pub record SaysContent (reads : Content → Type 0) (old new : File) : Type 0 where
+  pub content : Content
+  pub only : IsOnly reads content
+  pub says : new ≡ with_content old content
+
+-- a call that adds what it reads to a file
+abbrev pub Adds : (Content → Type 0) → File → File → Result Unit Fault → Type 0
+Adds reads old new result = OnOk result (SaysContent reads old new) × (IsErrOf result Refused → HoldsOfNone reads)
+
+abbrev pub with_contents : File → List Content → File
+with_contents file [] = file
+with_contents file (content ∷ contents) = with_contents (with_content file content) contents
+
+-- the bytes are segments in a row, with which a file that says the one says the other
+abbrev pub SegmentsSay : PrefixTables → File → List ℕ → File → Type 0
+SegmentsSay tables before bytes file = (contents : List Content) × AllOf (SegmentAt tables) bytes contents × (file ≡ with_contents before contents)
+
+-- for what says the same whatever the tables are
+abbrev pub no_tables : PrefixTables
+no_tables = record { delta = []; count = [] }

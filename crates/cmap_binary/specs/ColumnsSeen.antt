@@ -1,13 +1,23 @@
 -- Private aid: what contracts see of the columns of a segment.
+use Rattle.std.specs.Prelude.{option_map}
+use Rattle.cmap_bits.specs.Reader.{bits_left}
+use Rattle.cmap_runs.specs.Ranges.{Span}
+use Rattle.cmap_runs.specs.declared.runs.Range.{Range}
 use Rattle.cmap_binary.specs.BinaryEntries as entries
-use Rattle.cmap_binary.specs.EntryReading as reading
 use Rattle.cmap_binary.specs.declared.columns.Columns.{Columns}
 use Rattle.cmap_binary.specs.declared.columns.Shape.{Shape}
 use Rattle.cmap_binary.specs.declared.columns.Shape.TheVariants.{Ranges, Singles}
+use Rattle.cmap_binary.specs.declared.entries.CidColumns.{CidColumns}
 
 abbrev pub shape_seen : Shape → entries.Shape
 shape_seen Ranges = entries.ranges
 shape_seen Singles = entries.singles
 
-abbrev pub columns_seen : Columns → reading.Columns
-columns_seen columns = record { deltas = columns.deltas.items; widths = columns.widths.items; rest = columns.rest.now }
+abbrev pub columns_seen : Columns → entries.Columns
+columns_seen columns = record { deltas = bits_left columns.deltas; counts = option_map bits_left columns.counts; base = columns.base }
+
+abbrev pub cid_columns_seen : CidColumns → entries.CidColumns
+cid_columns_seen left = record { columns = columns_seen left.columns; raws = left.raws.now; next = left.next }
+
+abbrev pub span_seen : Range → Span
+span_seen range = record { start = range.start; end = range.end }

@@ -1,10 +1,8 @@
 pub mod BinaryEntries
 pub mod BinaryFiles
-pub mod BinaryReading
 pub mod BinarySeen
-pub mod BundleReading
 pub mod BundleSeen
 pub mod Bundles
 pub mod ColumnsSeen
-pub mod EntryReading
-pub mod RowReading
+pub mod Fronts
+pub mod Reads

@@ -1,15 +1,14 @@
 //! Bundles of CMap files in binary form.
 
-ghost use Rattle.std.specs.Prelude.{◌≡◌, IfOk, MatchOption, option_and_then, slice_get};
+ghost use Rattle.std.specs.Prelude.{◌≡◌, IfOk, option_and_then, slice_get};
 ghost use Rattle.std.specs.Option.{option_copied};
-ghost use Rattle.cmap_binary.specs.BundleReading.{AreFiles, SizedAt, both_seen};
 ghost use Rattle.cmap_binary.specs.BundleSeen.{bundle_seen, tables_seen};
-ghost use Rattle.cmap_binary.specs.Bundles.{HoldsTables, IsBundle};
+ghost use Rattle.cmap_binary.specs.Bundles.{AreFiles, HoldsTables, IsBundle};
+ghost use Rattle.cmap_binary.specs.Reads.{Finds};
 ghost use Rattle.cmap_files.specs.CMapNames.{place};
 ghost use Rattle.cmap_files.specs.FilesSeen.{names_seen};
-ghost use Rattle.cmap_files.specs.Only.{IsOnly, HoldsOfNone};
 
-use crate::frames::split_framed;
+use crate::pieces::{split_framed, split_sized};
 use cmap_bits::bits::Reader;
 use cmap_bits::prefix::PrefixTable;
 use cmap_files::names::CMapName;
@@ -26,7 +25,7 @@ pub struct Bundle<'b> {
 /// The prefix tables that all binary files share.
 #[derive(Debug, Drop)]
 pub(crate) struct Tables {
-    /// How far a code lies behind the one before.
+    /// How many codes an entry leaves out after the one before.
     pub(crate) delta: PrefixTable,
     /// How many codes more than two a range has.
     pub(crate) count: PrefixTable,
@@ -38,8 +37,7 @@ impl<'b> Bundle<'b> {
     ///
     /// It fails only where there is no memory.
     pub fn parse(alloc: Global, bytes: &'b [u8]) -> Result<Option<Bundle<'b>>, AllocError>
-        ensures { IfOk result (λ found. MatchOption found (HoldsOfNone (IsBundle bytes.now))
-            (λ bundle. IsOnly (IsBundle bytes.now) (bundle_seen bundle))) }
+        ensures { IfOk result (Finds (IsBundle bytes.now) bundle_seen) }
     {
         let Some((text, rest)) = split_sized(bytes) else {
             return Ok(None);
@@ -57,8 +55,7 @@ impl<'b> Bundle<'b> {
 impl Tables {
     /// The tables that the text begins with.
     fn parse(alloc: Global, text: &[u8]) -> Result<Option<Tables>, AllocError>
-        ensures { IfOk result (λ found. MatchOption found (HoldsOfNone (HoldsTables text.now))
-            (λ tables. IsOnly (HoldsTables text.now) (tables_seen tables))) }
+        ensures { IfOk result (Finds (HoldsTables text.now) tables_seen) }
     {
         let mut reader = Reader::new(text);
         let Some(delta) = PrefixTable::parse_delta(alloc, &mut reader)? else {
@@ -71,31 +68,21 @@ impl Tables {
     }
 }
 
-/// The piece that the bytes begin with, behind its length in four bytes, and the bytes behind it.
-pub(crate) fn split_sized(bytes: &[u8]) -> Option<(&[u8], &[u8])>
-    ensures { MatchOption result (HoldsOfNone (SizedAt bytes.now))
-        (λ r. IsOnly (SizedAt bytes.now) (both_seen r)) }
-{
-    let size = Reader::new(bytes).read_u32()?;
-    bytes[4..].split_at_checked(size as usize)
-}
-
 /// How many bytes of a file, which aren't checked, stand before its length.
 const UNCHECKED: usize = 6;
 
 /// All the files that the bytes are.
 fn split_files<'b>(alloc: Global, bytes: &'b [u8]) -> Result<Option<Vec<&'b [u8]>>, AllocError>
-    ensures { IfOk result (λ found. MatchOption found (HoldsOfNone (AreFiles bytes.now))
-        (λ files. IsOnly (AreFiles bytes.now) (names_seen files.items))) }
+    ensures { IfOk result (Finds (AreFiles bytes.now) (λ files. names_seen files.items)) }
 {
     let mut files = Vec::new(alloc);
     let mut rest = bytes;
     while !rest.is_empty() {
-        let Some((file, behind)) = split_framed(rest, UNCHECKED) else {
+        let Some((file, after)) = split_framed(rest, UNCHECKED) else {
             return Ok(None);
         };
         files.push(file)?;
-        rest = behind;
+        rest = after;
     }
     Ok(Some(files))
 }

@@ -1,17 +1,17 @@
-//! Columns of the segments of a binary file: numbers of all entries in a row.
+//! Columns of the segments of a binary file: where the codes of the entries lie.
 
-ghost use Rattle.std.specs.Prelude.{◌≡◌, ◌+◌, IfOk, IsErrOf, MatchOption, map};
+ghost use Rattle.std.specs.Prelude.{◌≡◌, ◌+◌, ◌<◌, ◌≤◌, ◌^◌, IfSome, MatchOption, option_map};
+ghost use Rattle.cmap_bits.specs.Reader.{bits_left};
+ghost use Rattle.cmap_binary.specs.BinaryEntries.{ColumnsAt, CountsAt, SpanAt, SymbolAt, WidthAt};
 ghost use Rattle.cmap_binary.specs.BundleSeen.{tables_seen};
-ghost use Rattle.cmap_binary.specs.ColumnsSeen.{columns_seen, shape_seen};
-ghost use Rattle.cmap_binary.specs.EntryReading.{ColumnAt, ColumnsAt, FieldAt, SymbolsIn, UnitsAt};
-ghost use Rattle.cmap_files.specs.Only.{IsOnly, HoldsOfNone};
-ghost use Rattle.cmap_files.specs.declared.fault.Fault.TheVariants.{Refused};
+ghost use Rattle.cmap_binary.specs.ColumnsSeen.{columns_seen, shape_seen, span_seen};
+ghost use Rattle.cmap_binary.specs.Reads.{Finds};
 
-use crate::bundle::{Tables, split_sized};
+use crate::bundle::Tables;
+use crate::pieces::split_sized;
 use cmap_bits::bits::Reader;
 use cmap_bits::prefix::PrefixTable;
-use cmap_files::fault::Fault;
-use std::alloc::{AllocError, Global};
+use cmap_runs::runs::Range;
 
 /// Whether the entries of a segment are ranges, or single codes.
 #[derive(Clone, Copy)]
@@ -20,124 +20,92 @@ pub(crate) enum Shape {
     Singles,
 }
 
-/// Where the codes of all entries lie, and the bytes behind these columns.
+/// What the columns have for the entries that are left.
 #[derive(Drop)]
 pub(crate) struct Columns<'b> {
-    /// How many codes each entry leaves out behind the end of the one before.
-    pub(crate) deltas: Vec<u32>,
-    /// The end of each entry less its start.
-    pub(crate) widths: Vec<u64>,
-    pub(crate) rest: &'b [u8],
+    /// How many codes each entry leaves out after the end of the one before.
+    deltas: Reader<'b>,
+    /// How many codes more than two each entry has, where the entries are ranges.
+    counts: Option<Reader<'b>>,
+    /// The first code after the entry before.
+    base: u64,
 }
 
-/// The columns of so many entries that the text begins with.
-pub(crate) fn read_columns<'b>(
-    alloc: Global,
-    tables: &Tables,
-    shape: Shape,
-    count: u16,
-    text: &'b [u8],
-) -> Result<Columns<'b>, Fault>
-    ensures columns { IfOk result (λ c.
-        IsOnly (ColumnsAt (tables_seen tables.now) (shape_seen shape) count text.now)
-        (columns_seen c)) }
-    ensures refused { IsErrOf result Refused
-        → HoldsOfNone (ColumnsAt (tables_seen tables.now) (shape_seen shape) count text.now) }
+/// The columns that the text begins with, and the bytes after them.
+pub(crate) fn split_columns(shape: Shape, text: &[u8]) -> Option<(Columns<'_>, &[u8])>
+    ensures { Finds (ColumnsAt (shape_seen shape) text.now)
+        (λ r. (columns_seen r.0, r.1.now)) result }
 {
-    let (deltas, rest) = read_column(alloc, &tables.delta, count, text)?;
+    let (deltas, rest) = split_sized(text)?;
+    let deltas = Reader::new(deltas);
+    let (counts, rest) = split_counts(shape, rest)?;
+    Some((
+        Columns {
+            deltas,
+            counts,
+            base: 0,
+        },
+        rest,
+    ))
+}
+
+/// The column of counts that the text begins with, where there is one, and the bytes after it.
+fn split_counts(shape: Shape, text: &[u8]) -> Option<(Option<Reader<'_>>, &[u8])>
+    ensures { Finds (CountsAt (shape_seen shape) text.now)
+        (λ r. (option_map bits_left r.0, r.1.now)) result }
+{
     match shape {
         Shape::Ranges => {
-            let (counts, rest) = read_column(alloc, &tables.count, count, rest)?;
-            let widths = widths_of(alloc, &counts)?;
-            Ok(Columns {
-                deltas,
-                widths,
-                rest,
-            })
+            let (counts, rest) = split_sized(text)?;
+            Some((Some(Reader::new(counts)), rest))
         }
-        Shape::Singles => {
-            let widths = vec![in alloc; 0; usize::from(count)]?;
-            Ok(Columns {
-                deltas,
-                widths,
-                rest,
-            })
-        }
+        Shape::Singles => Some((None, text)),
     }
 }
 
-/// The widths of ranges, each one more than its count.
-fn widths_of(alloc: Global, counts: &[u32]) -> Result<Vec<u64>, AllocError>
-    ensures { IfOk result (λ widths. widths.items ≡ map (λ c. c + 1) counts.now) }
-{
-    counts.iter().map(|c| u64::from(*c) + 1).collect(alloc)
-}
-
-/// The column of so many symbols that the text begins with, and the bytes behind it.
-fn read_column<'b>(
-    alloc: Global,
-    table: &PrefixTable,
-    count: u16,
-    text: &'b [u8],
-) -> Result<(Vec<u32>, &'b [u8]), Fault>
-    ensures column { IfOk result
-        (λ r. IsOnly (ColumnAt table.now count text.now) (r.0.items, r.1.now)) }
-    ensures refused { IsErrOf result Refused → HoldsOfNone (ColumnAt table.now count text.now) }
-{
-    let Some((bytes, rest)) = split_sized(text) else {
-        return Err(Fault::Refused);
-    };
-    let symbols = read_symbols(alloc, table, count, bytes)?;
-    Ok((symbols, rest))
-}
-
-/// So many symbols, whose words the bits of the bytes begin with.
-fn read_symbols(
-    alloc: Global,
-    table: &PrefixTable,
-    count: u16,
-    bytes: &[u8],
-) -> Result<Vec<u32>, Fault>
-    ensures symbols { IfOk result (λ v. IsOnly (SymbolsIn table.now count bytes.now) v.items) }
-    ensures refused { IsErrOf result Refused → HoldsOfNone (SymbolsIn table.now count bytes.now) }
-{
-    let mut reader = Reader::new(bytes);
-    let mut symbols = Vec::new(alloc);
-    for index in 0..count {
-        let Some(symbol) = table.decode(&mut reader) else {
-            return Err(Fault::Refused);
-        };
-        symbols.push(symbol)?;
+impl Columns<'_> {
+    /// The codes of the next entry.
+    pub(crate) fn next_range(&mut self, tables: &Tables) -> Option<Range>
+        ensures next { Finds (SpanAt (tables_seen tables.now) (columns_seen self.old))
+            (λ range. (span_seen range, columns_seen self.new)) result }
+        ensures order { IfSome result (λ range. range.start ≤ range.end) }
+    {
+        let delta = next_symbol(&tables.delta, &mut self.deltas)?;
+        let width = next_width(&tables.count, &mut self.counts)?;
+        let range = range_after(self.base, delta, width)?;
+        self.base = u64::from(range.end) + 1;
+        Some(range)
     }
-    Ok(symbols)
 }
 
-/// So many numbers of two bytes each that the text begins with, and the bytes behind them.
-pub(crate) fn read_units<'b>(
-    alloc: Global,
-    count: u16,
-    text: &'b [u8],
-) -> Result<(Vec<u16>, &'b [u8]), Fault>
-    ensures units { IfOk result (λ r. IsOnly (UnitsAt count text.now) (r.0.items, r.1.now)) }
-    ensures refused { IsErrOf result Refused → HoldsOfNone (UnitsAt count text.now) }
+/// How far the next entry ends after its start.
+fn next_width(table: &PrefixTable, counts: &mut Option<Reader<'_>>) -> Option<u64>
+    ensures { Finds (WidthAt table.now (option_map bits_left counts.old))
+        (λ width. (width, option_map bits_left counts.new)) result }
 {
-    let mut units = Vec::new(alloc);
-    let mut rest = text;
-    for index in 0..count {
-        let Some((unit, behind)) = split_u16(rest) else {
-            return Err(Fault::Refused);
-        };
-        units.push(unit)?;
-        rest = behind;
+    match counts {
+        Some(counts) => Some(u64::from(next_symbol(table, counts)?) + 1),
+        None => Some(0),
     }
-    Ok((units, rest))
 }
 
-/// The number of two bytes that the text begins with, and the bytes behind it.
-pub(crate) fn split_u16(text: &[u8]) -> Option<(u16, &[u8])>
-    ensures { MatchOption result (HoldsOfNone (FieldAt 2 text.now))
-        (λ r. IsOnly (FieldAt 2 text.now) (r.0, r.1.now)) }
+/// The symbol of the code word that comes next.
+fn next_symbol(table: &PrefixTable, reader: &mut Reader<'_>) -> Option<u32>
+    ensures { Finds (SymbolAt table.now (bits_left reader.old))
+        (λ symbol. (symbol, bits_left reader.new)) result }
 {
-    let number = Reader::new(text).read_u16()?;
-    Some((number, &text[2..]))
+    table.decode(reader)
+}
+
+/// The codes that start so far after the base; `None` where their end passes 32 bits.
+fn range_after(base: u64, delta: u32, width: u64) -> Option<Range>
+    ensures { MatchOption result (2 ^ 32 ≤ base + delta + width)
+        (λ r. (r.start ≡ base + delta) × (r.end ≡ base + delta + width) × (r.end < 2 ^ 32)) }
+{
+    let start = base.checked_add(u64::from(delta))?;
+    let end = start.checked_add(width)?;
+    Some(Range {
+        start: u32::try_from(start).ok()?,
+        end: u32::try_from(end).ok()?,
+    })
 }

@@ -1,83 +1,84 @@
 //! The entries of segments of a binary file.
 
-ghost use Rattle.std.specs.Prelude.{◌≡◌, ◌+◌, ◌<◌, ◌≤◌, ◌^◌};
-ghost use Rattle.std.specs.Prelude.{IfOk, IsErrOf, MatchOption, length, map};
-ghost use Rattle.std.specs.List.{AllByRecursion};
+ghost use Rattle.std.specs.Prelude.{map};
+ghost use Rattle.cmap_binary.specs.BinaryEntries.{BfEntriesIn, CidEntriesIn, CidEntryAt};
+ghost use Rattle.cmap_binary.specs.BinaryEntries.{DestinationAt};
 ghost use Rattle.cmap_binary.specs.BundleSeen.{tables_seen};
-ghost use Rattle.cmap_binary.specs.ColumnsSeen.{shape_seen};
-ghost use Rattle.cmap_files.specs.DeclarationsSeen.{bf_entry_seen, entries_seen};
-ghost use Rattle.cmap_binary.specs.EntryReading.{BfEntriesIn, BfRangesAt, DestinationAt};
-ghost use Rattle.cmap_binary.specs.EntryReading.{CidEntriesIn, CidFits, cids_from};
-ghost use Rattle.cmap_files.specs.Only.{IsOnly, HoldsOfNone};
-ghost use Rattle.cmap_files.specs.declared.fault.Fault.TheVariants.{Refused};
+ghost use Rattle.cmap_binary.specs.ColumnsSeen.{cid_columns_seen, shape_seen};
+ghost use Rattle.cmap_binary.specs.Fronts.{FieldAt, RowOf};
+ghost use Rattle.cmap_binary.specs.Reads.{Finds, Reads};
+ghost use Rattle.cmap_files.specs.DeclarationsSeen.{bf_entry_seen, cid_entry_seen, entries_seen};
 
 use crate::bundle::Tables;
-use crate::columns::{Shape, read_columns, read_units, split_u16};
+use crate::columns::{Columns, Shape, split_columns};
+use crate::pieces::{split_byte, split_u16};
 use cmap_files::declarations::{BfRange, CidRange};
 use cmap_files::fault::Fault;
-use cmap_runs::runs::Range;
 use std::alloc::Global;
 
-/// The entries of a segment of CIDs with this payload. Payload behind them is ignored.
+/// What is left of the columns of a segment of CIDs.
+#[derive(Drop)]
+struct CidColumns<'b> {
+    columns: Columns<'b>,
+    raws: &'b [u8],
+    /// The CID after those of the entry before.
+    next: u64,
+}
+
+impl CidColumns<'_> {
+    /// The next entry: raw CID 0 goes on after the CIDs of the entry before.
+    fn next_entry(&mut self, tables: &Tables) -> Option<CidRange>
+        ensures { Finds (CidEntryAt (tables_seen tables.now) (cid_columns_seen self.old))
+            (λ entry. (cid_entry_seen entry, cid_columns_seen self.new)) result }
+    {
+        let range = self.columns.next_range(tables)?;
+        let (raw, rest) = split_u16(self.raws)?;
+        let cid = if raw == 0 { self.next } else { u64::from(raw) };
+        let Ok(cid) = u32::try_from(cid) else {
+            return None;
+        };
+        self.raws = rest;
+        self.next = u64::from(cid) + u64::from(range.end - range.start) + 1;
+        Some(CidRange { range, cid })
+    }
+}
+
+/// The entries of a segment of CIDs with this payload. Payload after them is ignored.
 pub(crate) fn read_cid_entries(
     alloc: Global,
     tables: &Tables,
     shape: Shape,
     payload: &[u8],
 ) -> Result<Vec<CidRange>, Fault>
-    ensures entries { IfOk result (λ v.
-        IsOnly (CidEntriesIn (tables_seen tables.now) (shape_seen shape) payload.now)
-        (entries_seen v.items)) }
-    ensures refused { IsErrOf result Refused
-        → HoldsOfNone (CidEntriesIn (tables_seen tables.now) (shape_seen shape) payload.now) }
+    ensures { Reads (CidEntriesIn (tables_seen tables.now) (shape_seen shape) payload.now)
+        (λ v. entries_seen v.items) result }
 {
+    let mut ranges = Vec::new(alloc);
     let Some((count, rest)) = split_u16(payload) else {
         return Err(Fault::Refused);
     };
     if count == 0 {
-        return Ok(Vec::new(alloc));
+        return Ok(ranges);
     }
-    let columns = read_columns(alloc, tables, shape, count, rest)?;
-    let (raws, _ignored) = read_units(alloc, count, columns.rest)?;
-    make_cid_ranges(alloc, &columns.deltas, &columns.widths, &raws)
-}
-
-/// The ranges of a segment, by the columns of their deltas, their widths and their raw CIDs.
-fn make_cid_ranges(
-    alloc: Global,
-    deltas: &[u32],
-    widths: &[u64],
-    raws: &[u16],
-) -> Result<Vec<CidRange>, Fault>
-    requires deltas { length deltas.now ≡ length raws.now }
-    requires widths { length widths.now ≡ length raws.now }
-    ensures ranges { IfOk result (λ v.
-        entries_seen v.items ≡ cids_from 0 0 deltas.now widths.now raws.now) }
-    ensures fit { IfOk result (λ v. AllByRecursion CidFits (entries_seen v.items)) }
-    ensures refused { IsErrOf result Refused
-        → AllByRecursion CidFits (cids_from 0 0 deltas.now widths.now raws.now) → ⊥ }
-{
-    let mut ranges = Vec::new(alloc);
-    // the first code and the CID behind the range before
-    let mut base = 0;
-    let mut next_cid = 0;
-    for (i, raw) in raws.iter().enumerate() {
-        let Some(range) = next_range(base, deltas[i], widths[i]) else {
+    let Some((columns, raws)) = split_columns(shape, rest) else {
+        return Err(Fault::Refused);
+    };
+    let mut left = CidColumns {
+        columns,
+        raws,
+        next: 0,
+    };
+    for index in 0..count {
+        let Some(range) = left.next_entry(tables) else {
             return Err(Fault::Refused);
         };
-        let cid = if *raw == 0 { next_cid } else { u64::from(*raw) };
-        let Ok(cid) = u32::try_from(cid) else {
-            return Err(Fault::Refused);
-        };
-        base = u64::from(range.end) + 1;
-        next_cid = u64::from(cid) + widths[i] + 1;
-        ranges.push(CidRange { range, cid })?;
+        ranges.push(range)?;
     }
     Ok(ranges)
 }
 
-/// The entries of a segment of texts with this payload, where each destination has so many units,
-/// or says itself how many. Payload behind them is ignored.
+/// The entries of a segment of texts with this payload, where each destination has `fixed`
+/// units, or says itself how many. Payload after them is ignored.
 pub(crate) fn read_bf_entries(
     alloc: Global,
     tables: &Tables,
@@ -85,80 +86,58 @@ pub(crate) fn read_bf_entries(
     fixed: Option<u8>,
     payload: &[u8],
 ) -> Result<Vec<BfRange>, Fault>
-    ensures entries { IfOk result (λ v.
-        IsOnly (BfEntriesIn (tables_seen tables.now) (shape_seen shape) fixed payload.now)
-        (map bf_entry_seen v.items)) }
-    ensures refused { IsErrOf result Refused → HoldsOfNone
-        (BfEntriesIn (tables_seen tables.now) (shape_seen shape) fixed payload.now) }
+    ensures { Reads (BfEntriesIn (tables_seen tables.now) (shape_seen shape) fixed payload.now)
+        (λ v. map bf_entry_seen v.items) result }
 {
     let Some((count, rest)) = split_u16(payload) else {
         return Err(Fault::Refused);
     };
-    let columns = read_columns(alloc, tables, shape, count, rest)?;
-    read_bf_ranges(alloc, fixed, &columns.deltas, &columns.widths, columns.rest)
-}
-
-/// The ranges of a segment, by the columns of their deltas and their widths, with the destinations
-/// that the text begins with.
-fn read_bf_ranges(
-    alloc: Global,
-    fixed: Option<u8>,
-    deltas: &[u32],
-    widths: &[u64],
-    text: &[u8],
-) -> Result<Vec<BfRange>, Fault>
-    requires { length widths.now ≡ length deltas.now }
-    ensures ranges { IfOk result (λ v.
-        IsOnly (BfRangesAt fixed deltas.now widths.now text.now) (map bf_entry_seen v.items)) }
-    ensures refused { IsErrOf result Refused
-        → HoldsOfNone (BfRangesAt fixed deltas.now widths.now text.now) }
-{
+    let Some((mut columns, mut rest)) = split_columns(shape, rest) else {
+        return Err(Fault::Refused);
+    };
     let mut ranges = Vec::new(alloc);
-    // the first code behind the range before
-    let mut base = 0;
-    let mut rest = text;
-    for (i, delta) in deltas.iter().enumerate() {
-        let (units, behind) = read_destination(alloc, fixed, rest)?;
-        let Some(range) = next_range(base, *delta, widths[i]) else {
+    for index in 0..count {
+        let Some(range) = columns.next_range(tables) else {
             return Err(Fault::Refused);
         };
-        base = u64::from(range.end) + 1;
-        rest = behind;
+        let (units, after) = read_destination(alloc, fixed, rest)?;
         ranges.push(BfRange { range, units })?;
+        rest = after;
     }
     Ok(ranges)
 }
 
-/// The units of the destination that the text begins with, and the bytes behind it.
+/// The units of the destination that the text begins with, and the bytes after it.
 fn read_destination<'b>(
     alloc: Global,
     fixed: Option<u8>,
     text: &'b [u8],
 ) -> Result<(Vec<u16>, &'b [u8]), Fault>
-    ensures destination { IfOk result
-        (λ r. IsOnly (DestinationAt fixed text.now) (r.0.items, r.1.now)) }
-    ensures refused { IsErrOf result Refused → HoldsOfNone (DestinationAt fixed text.now) }
+    ensures { Reads (DestinationAt fixed text.now) (λ r. (r.0.items, r.1.now)) result }
 {
     match fixed {
-        Some(count) => read_units(alloc, u16::from(count), text),
+        Some(count) => read_units(alloc, count, text),
         None => {
-            let Some((count, rest)) = text.split_first() else {
+            let Some((count, rest)) = split_byte(text) else {
                 return Err(Fault::Refused);
             };
-            read_units(alloc, u16::from(*count), rest)
+            read_units(alloc, count, rest)
         }
     }
 }
 
-/// The codes that start so far behind the base; `None` where their end passes 32 bits.
-fn next_range(base: u64, delta: u32, width: u64) -> Option<Range>
-    ensures { MatchOption result (2 ^ 32 ≤ base + delta + width)
-        (λ r. (r.start ≡ base + delta) × (r.end ≡ base + delta + width) × (r.end < 2 ^ 32)) }
+/// The `count` units that the text begins with, and the bytes after them.
+fn read_units(alloc: Global, count: u8, text: &[u8]) -> Result<(Vec<u16>, &[u8]), Fault>
+    ensures { Reads (RowOf (FieldAt 2) count text.now) (λ r. (r.0.items, r.1.now)) result }
 {
-    let start = base.checked_add(u64::from(delta))?;
-    let end = start.checked_add(width)?;
-    Some(Range {
-        start: u32::try_from(start).ok()?,
-        end: u32::try_from(end).ok()?,
-    })
+    let mut units = Vec::new(alloc);
+    let mut rest = text;
+    for index in 0..count {
+        let Some((unit, after)) = split_u16(rest) else {
+            return Err(Fault::Refused);
+        };
+        units.push(unit)?;
+        rest = after;
+    }
+    Ok((units, rest))
 }

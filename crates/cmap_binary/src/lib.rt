@@ -4,10 +4,10 @@
 mod bundle;
 mod columns;
 mod entries;
+mod fields;
 mod file;
-mod frames;
 mod kinds;
-mod rows;
+mod pieces;
 mod segments;
 
 pub use bundle::{Bundle, load_embedded};

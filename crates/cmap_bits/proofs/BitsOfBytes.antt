@@ -1,9 +1,9 @@
 -- The bits of bytes: how many there are, and which one stands at a place.
-use Rattle.std.proofs.Common.{◌≡◌, ℕ, zero, suc, ◌+◌, ◌-◌, ◌*◌, ◌/◌, ◌%◌, ◌^◌, ◌<◌, ◌≤◌, List, [], ◌∷◌, length, get_or, drop, Some, None, inl, inr, refl, ap, ◌∙◌, sym, arith}
+use Rattle.std.proofs.Common.{◌≡◌, ℕ, zero, suc, ◌+◌, ◌-◌, ◌*◌, ◌/◌, ◌%◌, ◌^◌, ◌<◌, ◌≤◌, List, [], ◌∷◌, length, get_or, take, drop, Some, None, refl, ap, ◌∙◌, sym, arith}
 use Rattle.std.specs.List.{slice_get}
-use Rattle.std.proofs.lemmas.List.{get_or_append_left, get_or-append_right, drop_all, drop_more, length-drop}
-use Rattle.std.proofs.lemmas.Bool.{cases_lt}
-use Rattle.std.proofs.lemmas.Option.{slice_get-get_or, slice_get_past, slice_get_within, get_or_from_slice_get}
+use Rattle.std.proofs.lemmas.List.{drop_all, length-drop, length-take-le}
+use Rattle.std.proofs.lemmas.List.Concat.{get_or-flat_map}
+use Rattle.std.proofs.lemmas.Option.{slice_get-get_or, slice_get_past}
 use Rattle.cmap_bits.specs.PrefixWords.{bits_of, bits}
 
 pub length-bits_of : (count n : ℕ) → length (bits_of count n) ≡ count
@@ -22,18 +22,10 @@ get_or-bits_of (suc count) n (suc k) h =
     rw e (get_or-bits_of count n k (omega arith))
 
 -- the bit at a place is one of the byte that it lies in
-pub get_or-bits : (bytes : List ℕ) (byte bit : ℕ) → byte < length bytes → bit < 8 → get_or (bits bytes) (8 * byte + bit) 0 ≡ get_or bytes byte 0 / 2 ^ (7 - bit) % 2
-get_or-bits [] byte bit h k = absurd (omega arith)
-get_or-bits (b ∷ bytes) zero bit h k =
-    let e : 8 * 0 + bit ≡ bit = omega arith in
-    ap (λ i. get_or (bits (b ∷ bytes)) i 0) e
-    ∙ get_or_append_left (bits_of 8 b) (bits bytes) 0 bit k
-    ∙ get_or-bits_of 8 b bit k
-get_or-bits (b ∷ bytes) (suc byte) bit h k =
-    let e : 8 * suc byte + bit - 8 ≡ 8 * byte + bit = omega arith in
-    get_or-append_right (bits_of 8 b) (bits bytes) 8 (8 * suc byte + bit) 0 refl (omega arith)
-    ∙ ap (λ i. get_or (bits bytes) i 0) e
-    ∙ get_or-bits bytes byte bit (omega arith) k
+get_or-bits : (bytes : List ℕ) (byte bit : ℕ) → byte < length bytes → bit < 8 → get_or (bits bytes) (8 * byte + bit) 0 ≡ get_or bytes byte 0 / 2 ^ (7 - bit) % 2
+get_or-bits bytes byte bit h k =
+    let e : 8 * byte + bit ≡ length (bits (take byte bytes)) + bit = omega (arith, length-bits (take byte bytes), length-take-le byte bytes (omega arith)) in
+    ap (λ i. get_or (bits bytes) i 0) e ∙ get_or-flat_map (bits_of 8) bytes byte bit 0 0 h k ∙ get_or-bits_of 8 (get_or bytes byte 0) bit k
 
 pub slice_get-bits : (bytes : List ℕ) (byte bit x : ℕ) → byte < length bytes → bit < 8 → x ≡ get_or bytes byte 0 → Some (x / 2 ^ (7 - bit) % 2) ≡ slice_get (bits bytes) (8 * byte + bit)
 slice_get-bits bytes byte bit x h k e =
@@ -50,16 +42,3 @@ bits_left-at_end bytes taken h = drop_all taken (bits bytes) (omega (arith, leng
 
 pub at_end-from_bits_left : (bytes : List ℕ) (taken : ℕ) → drop taken (bits bytes) ≡ [] → 8 * length bytes ≤ taken
 at_end-from_bits_left bytes taken e = omega (arith, length-bits bytes, length-drop taken (bits bytes), ap length e)
-
--- ---- the bits that are left, one bit on
-pub bits_left-next : (bytes : List ℕ) (taken bit : ℕ) → Some bit ≡ slice_get (bits bytes) taken → drop taken (bits bytes) ≡ bit ∷ drop (taken + 1) (bits bytes)
-bits_left-next bytes taken bit e =
-    let within = slice_get_within (bits bytes) taken bit (sym e) in
-    drop_more (bits bytes) taken 0 within ∙ ap (λ b. b ∷ drop (taken + 1) (bits bytes)) (get_or_from_slice_get (bits bytes) taken bit 0 (sym e))
-
-pub bits_left-none : (bytes : List ℕ) (taken : ℕ) → None ≡ slice_get (bits bytes) taken → drop taken (bits bytes) ≡ []
-bits_left-none bytes taken e =
-    elim (cases_lt taken (length (bits bytes))) [
-      | inl within ↦ let both : None ≡ Some (get_or (bits bytes) taken 0) = e ∙ slice_get-get_or (bits bytes) taken 0 within in absurd (cc)
-      | inr past ↦ drop_all taken (bits bytes) past
-    ]

@@ -2,11 +2,9 @@ pub mod BitsOfBytes
 pub mod BitsTaken
 pub mod BytesTaken
 pub mod BytesWritten
+pub mod Lengths
 pub mod NumbersOfBits
-pub mod PlacesFound
 pub mod PlacesZipped
-pub mod TableFronts
 pub mod TablesDecoded
-pub mod TablesSound
-pub mod WordValues
-pub mod WordsMade
+pub mod TablesTaken
+pub mod WordsBegun

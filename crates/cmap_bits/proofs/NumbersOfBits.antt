@@ -1,9 +1,12 @@
 -- Bits and the numbers that they write.
-use Rattle.std.proofs.Common.{◌≡◌, ℕ, zero, suc, ◌+◌, ◌*◌, ◌/◌, ◌%◌, ◌^◌, ◌<◌, List, [], ◌∷◌, ◌++◌, length, drop, refl, ap, ◌∙◌, sym, arith}
+use Rattle.std.proofs.Common.{◌≡◌, ℕ, zero, suc, ◌+◌, ◌*◌, ◌/◌, ◌%◌, ◌^◌, ◌<◌, List, [], ◌∷◌, length, refl, ap, ◌∙◌, sym, arith}
 use Rattle.std.specs.Int.Digits.{number_from_digits, number_from_digits_after, AllBelowBase}
-use Rattle.std.proofs.lemmas.Int.Digits.{number_after_lt}
+use Rattle.std.proofs.lemmas.Int.Digits.{number_lt}
 use Rattle.std.proofs.lemmas.Nat.{mod-pow-add, mod_below, div-mul-add}
 use Rattle.std.proofs.Math.Nat.{pow-suc, mod-eq_of_lt, add-mul, mul_assoc, mul_comm}
+use Rattle.std.specs.List.{All}
+use Rattle.std.proofs.lemmas.List.Elements.{All-append, All-cons, All-drop, All-nil}
+use Rattle.cmap_bits.specs.Reader.{Reading, bits_left}
 use Rattle.cmap_bits.specs.PrefixWords.{bits_of, bits}
 
 doubled : (n d p r : ℕ) → (n * 2 + d) * p + r ≡ n * (p * 2) + (d * p + r)
@@ -20,16 +23,13 @@ number_after-sum n (d ∷ ds) =
     ∙ ap (λ q. n * q + (d * p + r)) (sym (pow-suc 2 (length ds)))
     ∙ ap (λ s. n * 2 ^ suc (length ds) + s) (sym (number_after-sum d ds) ∙ ap (λ m. number_from_digits_after 2 m ds) (omega arith))
 
-number_bound : (ds : List ℕ) → AllBelowBase 2 ds → number_from_digits 2 ds < 2 ^ length ds
-number_bound ds h = omega (arith, number_after_lt 2 0 ds h)
-
 -- the bits of the number that bits write
 pub bits_of-number_after : (n : ℕ) (ds : List ℕ) → AllBelowBase 2 ds → bits_of (length ds) (number_from_digits_after 2 n ds) ≡ ds
 bits_of-number_after n [] h = refl
 bits_of-number_after n (d ∷ ds) h =
     let whole = number_from_digits_after 2 (n * 2 + d) ds in
     let high : whole / 2 ^ length ds ≡ n * 2 + d =
-    ap (λ x. x / 2 ^ length ds) (number_after-sum (n * 2 + d) ds) ∙ div-mul-add (n * 2 + d) (2 ^ length ds) (number_from_digits 2 ds) (number_bound ds h.1) in
+    ap (λ x. x / 2 ^ length ds) (number_after-sum (n * 2 + d) ds) ∙ div-mul-add (n * 2 + d) (2 ^ length ds) (number_from_digits 2 ds) (number_lt 2 ds h.1) in
     let low : (n * 2 + d) % 2 ≡ d = omega arith in
     ap (λ x. x % 2 ∷ bits_of (length ds) whole) high ∙ ap (λ x. x ∷ bits_of (length ds) whole) low ∙ ap (λ xs. d ∷ xs) (bits_of-number_after (n * 2 + d) ds h.1)
 
@@ -49,18 +49,16 @@ pub number-bits_of : (count n : ℕ) → n < 2 ^ count → number_from_digits 2 
 number-bits_of count n h = omega (arith, number_after-bits_of 0 count n, mod-eq_of_lt h)
 
 -- ---- bits are below 2
-pub AllBelowBase-bits_of : (count n : ℕ) (rest : List ℕ) → AllBelowBase 2 rest → AllBelowBase 2 (bits_of count n ++ rest)
-AllBelowBase-bits_of zero n rest h = h
-AllBelowBase-bits_of (suc count) n rest h = (mod_below (n / 2 ^ count) 2 (omega arith), AllBelowBase-bits_of count n rest h)
+abbrev pub AreBits : List ℕ → Type 0
+AreBits ds = All (λ d. d < 2) ds
 
-AllBelowBase-bits : (bytes : List ℕ) → AllBelowBase 2 (bits bytes)
-AllBelowBase-bits [] = tt
-AllBelowBase-bits (b ∷ bytes) = AllBelowBase-bits_of 8 b (bits bytes) (AllBelowBase-bits bytes)
+pub AreBits-bits_of : (count n : ℕ) → AreBits (bits_of count n)
+AreBits-bits_of zero n = All-nil (λ d. d < 2)
+AreBits-bits_of (suc count) n = All-cons (λ d. d < 2) _ _ (mod_below (n / 2 ^ count) 2 (omega arith)) (AreBits-bits_of count n)
 
-AllBelowBase-drop : (n : ℕ) (ds : List ℕ) → AllBelowBase 2 ds → AllBelowBase 2 (drop n ds)
-AllBelowBase-drop zero ds h = h
-AllBelowBase-drop (suc n) [] h = h
-AllBelowBase-drop (suc n) (d ∷ ds) h = AllBelowBase-drop n ds h.1
+AreBits-bits : (bytes : List ℕ) → AreBits (bits bytes)
+AreBits-bits [] = All-nil (λ d. d < 2)
+AreBits-bits (b ∷ bytes) = All-append (λ d. d < 2) (bits_of 8 b) (bits bytes) (AreBits-bits_of 8 b) (AreBits-bits bytes)
 
-pub AllBelowBase-bits_left : (bytes : List ℕ) (taken : ℕ) → AllBelowBase 2 (drop taken (bits bytes))
-AllBelowBase-bits_left bytes taken = AllBelowBase-drop taken (bits bytes) (AllBelowBase-bits bytes)
+pub AreBits-left : (r : Reading) → AreBits (bits_left r)
+AreBits-left r = All-drop (λ d. d < 2) r.taken (bits r.source) (AreBits-bits r.source)

@@ -1,11 +1,15 @@
 -- Bytes, and the number that they write.
-use Rattle.std.specs.Prelude.{◌<◌, ◌^◌, ℕ, List}
-use Rattle.std.specs.List.{AllByRecursion}
+use Rattle.std.specs.Prelude.{◌*◌, ◌<◌, ◌^◌, ℕ, List, map, take, drop}
+use Rattle.std.specs.List.{AllByRecursion, range_with_len}
 use Rattle.std.specs.Int.Digits.{number_from_digits}
 
 -- the number that bytes write, the high one first
 abbrev pub big_endian : List ℕ → ℕ
 big_endian bytes = number_from_digits 256 bytes
+
+-- so many numbers of this many bytes each, one after another
+abbrev pub numbers : ℕ → ℕ → List ℕ → List ℕ
+numbers width count bytes = map (λ i. big_endian (take width (drop (width * i) bytes))) (range_with_len 0 count)
 
 -- numbers of eight bits each
 abbrev pub AreBytes : List ℕ → Type 0

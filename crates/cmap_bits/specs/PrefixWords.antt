@@ -1,8 +1,7 @@
 -- Prefix tables: code words by their lengths alone, and the symbols that bits spell.
-use Rattle.std.specs.Prelude.{◌≡◌, ℕ, zero, suc, ◌+◌, ◌-◌, ◌/◌, ◌%◌, ◌<◌, ◌≤◌, ◌^◌, List, [], ◌∷◌, ◌++◌, length, map, take, sum_by, flat_map, zip, replicate, Some, slice_get, All}
+use Rattle.std.specs.Prelude.{◌≡◌, ℕ, zero, suc, ◌+◌, ◌-◌, ◌*◌, ◌/◌, ◌%◌, ◌≤◌, ◌^◌, ◌==◌, List, [], ◌∷◌, ◌++◌, length, get_or, map, take, drop, sum_by, flat_map, zip, replicate, Some, slice_get, All, if◌then◌else◌}
 use Rattle.std.specs.List.Sorted.{IsNonDecreasing}
-use Rattle.std.specs.List.{AllByRecursion}
-use Rattle.cmap_bits.specs.BigEndian.{big_endian}
+use Rattle.cmap_bits.specs.BigEndian.{big_endian, numbers}
 
 -- a number as so many bits, the high one first
 abbrev pub bits_of : ℕ → ℕ → List ℕ
@@ -18,7 +17,7 @@ pub record Place : Type 0 where
   pub len : ℕ
   pub symbol : ℕ
 
--- the code word behind these earlier ones, none of them longer: len bits, whose value is the sum of 2 ^ (len - shorter)
+-- the code word after these earlier ones, none of them longer: len bits, whose value is the sum of 2 ^ (len - shorter)
 abbrev pub word_behind : List Place → ℕ → List ℕ
 word_behind before len = bits_of len (sum_by (λ p. 2 ^ (len - p.len)) before)
 
@@ -26,11 +25,14 @@ word_behind before len = bits_of len (sum_by (λ p. 2 ^ (len - p.len)) before)
 abbrev pub IsWordAt : List Place → ℕ → List ℕ → Type 0
 IsWordAt table i word = (place : Place) × (slice_get table i ≡ Some place) × (word ≡ word_behind (take i table) place.len)
 
--- code words of 1 to 32 bits, in rising order of length, with room for each of them
-pub record IsSound (table : List Place) : Type 0 where
-  pub lengths : All (λ p. (1 ≤ p.len) × (p.len ≤ 32)) table
-  pub rising : IsNonDecreasing (map (λ p. p.len) table)
-  pub room : sum_by (λ p. 2 ^ (32 - p.len)) table ≤ 2 ^ 32
+-- lengths of code words: 1 to 32 bits, in rising order, with room for each word
+pub record AreWordLengths (lens : List ℕ) : Type 0 where
+  pub lengths : All (λ l. (1 ≤ l) × (l ≤ 32)) lens
+  pub rising : IsNonDecreasing lens
+  pub room : sum_by (λ l. 2 ^ (32 - l)) lens ≤ 2 ^ 32
+
+abbrev pub IsSound : List Place → Type 0
+IsSound table = AreWordLengths (map (λ p. p.len) table)
 
 -- the code word at this place begins the bits
 abbrev pub BeginsAt : List Place → List ℕ → ℕ → Type 0
@@ -62,12 +64,29 @@ abbrev pub lengths_from : ℕ → List ℕ → List ℕ
 lengths_from len [] = []
 lengths_from len (count ∷ counts) = replicate count len ++ lengths_from (len + 1) counts
 
+-- how many lengths are counted by a table that begins a text: none where its first two bytes are 0, else as many as the third says
+abbrev pub counted : List ℕ → ℕ
+counted text = if big_endian (take 2 text) == 0 then 0 else get_or text 2 0
+
+-- the lengths of its words, from the counts of two bytes each
+abbrev pub word_lengths : List ℕ → List ℕ
+word_lengths text = lengths_from 1 (numbers 2 (counted text) (drop 3 text))
+
+-- where its symbols begin, and where those end that have this many bytes each
+abbrev pub symbols_start : List ℕ → ℕ
+symbols_start text = 3 + 2 * counted text
+
+abbrev pub table_end : ℕ → List ℕ → ℕ
+table_end width text = symbols_start text + width * length (word_lengths text)
+
+abbrev pub table_in : ℕ → List ℕ → List Place
+table_in width text = zip_places (word_lengths text) (numbers width (length (word_lengths text)) (drop (symbols_start text) text))
+
 -- a text begins with a table whose symbols have this many bytes each, and the rest follows
-pub data TableFront (width : ℕ) : List ℕ → List Place → List ℕ → Type 0 where
-  empty : (high low most : ℕ) (rest : List ℕ) → big_endian (high ∷ low ∷ []) ≡ 0 → TableFront width (high ∷ low ∷ most ∷ rest) [] rest
-  filled : (high low most : ℕ) (counts symbols : List (List ℕ)) (rest : List ℕ) → 0 < big_endian (high ∷ low ∷ []) → length counts ≡ most
-      → AllByRecursion (λ c. length c ≡ 2) counts → AllByRecursion (λ s. length s ≡ width) symbols
-      → length symbols ≡ length (lengths_from 1 (map big_endian counts))
-      → IsSound (zip_places (lengths_from 1 (map big_endian counts)) (map big_endian symbols))
-      → TableFront width (high ∷ low ∷ most ∷ flat_map (λ c. c) counts ++ flat_map (λ s. s) symbols ++ rest)
-      (zip_places (lengths_from 1 (map big_endian counts)) (map big_endian symbols)) rest
+unfoldable pub TableFront : ℕ → List ℕ → List Place → List ℕ → Type 0
+TableFront width text table rest = record {
+  enough : table_end width text ≤ length text;
+  sound : AreWordLengths (word_lengths text);
+  table_is : table ≡ table_in width text;
+  rest_is : rest ≡ drop (table_end width text) text;
+}

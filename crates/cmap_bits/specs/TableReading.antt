@@ -1,47 +1,26 @@
--- Private aid: prefix tables as the code reads them, as functions on lists.
-use Rattle.std.specs.Prelude.{◌≡◌, ℕ, zero, suc, ◌+◌, ◌*◌, ◌^◌, Bool, ◌&&◌, ◌==◌, nat_le, List, [], ◌∷◌, length, take, drop, sum, Option, Some, None, option_and_then, if◌then◌else◌}
-use Rattle.std.specs.List.{list_all}
-use Rattle.cmap_bits.specs.BigEndian.{big_endian}
-use Rattle.cmap_bits.specs.Reader.{Reading, after_bits, bits_left}
-use Rattle.cmap_bits.specs.PrefixWords.{Place, lengths_from, zip_places}
-use Rattle.cmap_bits.specs.WordsByLength.{after_words}
+-- Private aid: the parts of a prefix table, as the code reads them.
+use Rattle.std.specs.Prelude.{◌≡◌, ℕ, ◌*◌, ◌≤◌, List, length}
+use Rattle.cmap_bits.specs.BigEndian.{numbers}
+use Rattle.cmap_bits.specs.Reader.{Reading, after_bytes, bytes_left}
+use Rattle.cmap_bits.specs.PrefixWords.{Place, TableFront, counted, lengths_from, symbols_start, word_lengths}
 
-infixl 10 ◌>>=◌
-abbrev pub ◌>>=◌ : {A B : Type 0} → Option A → (A → Option B) → Option B
-o >>= f = option_and_then f o
+-- a reader has taken how many lengths are counted
+pub record TakesMost (old : Reading) (most : ℕ) (new : Reading) : Type 0 where
+  pub enough : 3 ≤ length (bytes_left old)
+  pub most_is : most ≡ counted (bytes_left old)
+  pub moves : new ≡ after_bytes old 3
 
--- the first bytes and those after them
-abbrev pub cut_at : ℕ → List ℕ → Option (List ℕ × List ℕ)
-cut_at count bytes = if nat_le count (length bytes) then Some (take count bytes, drop count bytes) else None
+-- a reader has taken so many numbers of this many bytes each
+pub record TakesNumbers (width count : ℕ) (old : Reading) (taken : List ℕ) (new : Reading) : Type 0 where
+  pub enough : width * count ≤ length (bytes_left old)
+  pub taken_is : taken ≡ numbers width count (bytes_left old)
+  pub moves : new ≡ after_bytes old (width * count)
 
--- so many numbers of so many bytes each, and the bytes after them
-abbrev pub numbers_at : ℕ → ℕ → List ℕ → Option (List ℕ × List ℕ)
-numbers_at width zero bytes = Some ([], bytes)
-numbers_at width (suc count) bytes = cut_at width bytes >>= λ first. numbers_at width count first.1 >>= λ more. Some (big_endian first.0 ∷ more.0, more.1)
+-- a reader has taken what stands before the symbols of a table: the counts give the lengths of its words
+pub record TakesCounts (old : Reading) (counts : List ℕ) (new : Reading) : Type 0 where
+  pub enough : symbols_start (bytes_left old) ≤ length (bytes_left old)
+  pub lengths : lengths_from 1 counts ≡ word_lengths (bytes_left old)
+  pub moves : new ≡ after_bytes old (symbols_start (bytes_left old))
 
--- the bytes of the counts, of which a table without symbols has none, and the bytes after them
-abbrev pub counts_at : List ℕ → Option (List ℕ × List ℕ)
-counts_at [] = None
-counts_at (high ∷ []) = None
-counts_at (high ∷ low ∷ []) = None
-counts_at (high ∷ low ∷ most ∷ bytes) = cut_at (if big_endian (high ∷ low ∷ []) == 0 then 0 else 2 * most) bytes
-
--- so many counts: 0 past the end
-abbrev pub padded_counts : ℕ → List ℕ → List ℕ
-padded_counts zero bytes = []
-padded_counts (suc count) [] = 0 ∷ padded_counts count []
-padded_counts (suc count) (high ∷ []) = 0 ∷ padded_counts count []
-padded_counts (suc count) (high ∷ low ∷ bytes) = big_endian (high ∷ low ∷ []) ∷ padded_counts count bytes
-
--- no word is longer than 32 bits, and there is room for each
-abbrev pub have_room : List ℕ → Bool
-have_room counts = nat_le (after_words 0 (padded_counts 32 counts)) (2 ^ 33) && list_all (λ b. b == 0) (drop 64 counts)
-
-unfoldable pub table_at : ℕ → List ℕ → Option (List Place × List ℕ)
-table_at width bytes = counts_at bytes >>= λ counts.
-    if have_room counts.0 then (numbers_at width (sum (padded_counts 32 counts.0)) counts.1 >>= λ symbols. Some (zip_places (lengths_from 1 (padded_counts 32 counts.0)) symbols.0, symbols.1))
-    else None
-
--- so many bits, which were left, have been taken more
-abbrev pub MovesBy : Reading → ℕ → Reading → Type 0
-MovesBy old count new = (new ≡ after_bits old count) × (length (bits_left old) ≡ count + length (bits_left new))
+abbrev pub BeginsWithNoTable : List ℕ → Type 0
+BeginsWithNoTable text = (width : ℕ) (table : List Place) (rest : List ℕ) → TableFront width text table rest → ⊥

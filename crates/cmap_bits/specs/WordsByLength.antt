@@ -1,41 +1,25 @@
--- Private aid: code words by their lengths. The words of one length are numbers in a row.
-use Rattle.std.specs.Prelude.{◌≡◌, ℕ, ◌+◌, ◌-◌, ◌*◌, ◌≤◌, ◌&&◌, nat_le, nat_lt, List, [], ◌∷◌, length, map, All, Option, Some, None, if◌then◌else◌}
-use Rattle.cmap_bits.specs.PrefixWords.{Place, IsSound, lengths_from, zip_places}
-use Rattle.cmap_bits.specs.declared.prefix.words.Words.{Words}
+-- Private aid: code words by how many there are of each length.
+use Rattle.std.specs.Prelude.{◌≡◌, ℕ, ◌-◌, ◌*◌, ◌^◌, ◌<◌, ◌≤◌, List, length, get_or, take, sum_by}
+use Rattle.std.specs.Int.Digits.{number_from_digits}
+use Rattle.cmap_bits.specs.PrefixWords.{Place, AreWordLengths, lengths_from, zip_places}
 
--- the words of each length, for so many words of each, from these first ones on
-abbrev pub words_from : ℕ → ℕ → List ℕ → List Words
-words_from first place [] = []
-words_from first place (count ∷ counts) = record { first = first; count = count; place = place } ∷ words_from (2 * (first + count)) (place + count) counts
+abbrev pub places_of : List ℕ → List ℕ → List Place
+places_of counts symbols = zip_places (lengths_from 1 counts) symbols
 
--- the first word of the next length
-abbrev pub after_words : ℕ → List ℕ → ℕ
-after_words first [] = first
-after_words first (count ∷ counts) = after_words (2 * (first + count)) counts
+pub record IsTable (counts symbols : List ℕ) : Type 0 where
+  pub a_symbol_each : length symbols ≡ length (lengths_from 1 counts)
+  pub sound : AreWordLengths (lengths_from 1 counts)
 
--- how many words there are of each length
-abbrev pub counts_of : List Words → List ℕ
-counts_of words = map (λ w. w.count) words
+-- what room the words of these lengths take
+abbrev pub room_of : List ℕ → ℕ
+room_of lens = sum_by (λ l. 2 ^ (32 - l)) lens
 
-abbrev pub places_of : List Words → List ℕ → List Place
-places_of words symbols = zip_places (lengths_from 1 (counts_of words)) symbols
+-- the number that the first n bits write, with room for 32
+abbrev pub value_of : ℕ → List ℕ → ℕ
+value_of n stream = number_from_digits 2 (take n stream) * 2 ^ (32 - n)
 
-pub record IsTable (words : List Words) (symbols : List ℕ) : Type 0 where
-  pub words_are : words ≡ words_from 0 0 (counts_of words)
-  pub a_symbol_each : length symbols ≡ length (lengths_from 1 (counts_of words))
-  pub within : All (λ w. w.place + w.count ≤ length symbols) words
-  pub sound : IsSound (places_of words symbols)
-
--- the place of this word, where it is one of these
-abbrev pub place_of : Words → ℕ → Option ℕ
-place_of words word = if nat_le words.first word && nat_lt (word - words.first) words.count then Some (words.place + (word - words.first)) else None
-
-abbrev pub found_or : Option ℕ → List ℕ → Option (ℕ × List ℕ) → Option (ℕ × List ℕ)
-found_or (Some place) stream later = Some (place, stream)
-found_or None stream later = later
-
--- the place of the word that these bits before the stream begin, and the bits after it
-abbrev pub place_behind : ℕ → List Words → List ℕ → Option (ℕ × List ℕ)
-place_behind bits [] stream = None
-place_behind bits (words ∷ longer) [] = None
-place_behind bits (words ∷ longer) (bit ∷ stream) = found_or (place_of words (bits * 2 + bit)) stream (place_behind (bits * 2 + bit) longer stream)
+-- the word at a place begins the bits: a word comes after the room that those before it take
+pub record IsBegun (lens stream : List ℕ) (place : ℕ) : Type 0 where
+  pub within : place < length lens
+  pub enough : get_or lens place 0 ≤ length stream
+  pub value_is : value_of (get_or lens place 0) stream ≡ room_of (take place lens)

@@ -1,4 +1,4 @@
-//! Bits and big-endian numbers, read from bytes in order.
+//! Bits, and big-endian numbers of one to four bytes, read from bytes in order.
 
 ghost use Rattle.std.specs.Prelude.{◌≡◌, ℕ, ◌/◌, ◌≤◌, ◌↔◌, Bool, [], length, option_map, is_some, slice_get, IsTrue, if◌then◌else◌, nat_le, ◌&&◌};
 ghost use Rattle.std.specs.List.{before_first};
@@ -50,12 +50,9 @@ impl<'a> Reader<'a> {
     {
         let byte = *self.bytes.get(self.byte)?;
         let bit = byte >> (7 - self.bit) & 1;
-        if self.bit == 7 {
-            self.byte += 1;
-            self.bit = 0;
-        } else {
-            self.bit += 1;
-        }
+        let next = self.bit + 1;
+        self.byte += usize::from(next / 8);
+        self.bit = next % 8;
         Some(bit)
     }
 

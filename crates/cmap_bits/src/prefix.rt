@@ -9,7 +9,7 @@ mod reading;
 mod words;
 
 use self::reading::parse;
-use self::words::{LONGEST, Words, find};
+use self::words::find;
 use crate::bits::Reader;
 use std::alloc::{AllocError, Global};
 use std::marker::Model;
@@ -19,8 +19,8 @@ use std::marker::Model;
 /// each with the length of its word in bits.
 #[derive(Debug, Drop)]
 pub struct PrefixTable {
-    // the words of each length, from 1 on
-    words: [Words; LONGEST],
+    // how many words there are of each length, from 1 on
+    counts: Vec<u32>,
     symbols: Vec<u32>,
 }
 
@@ -32,9 +32,9 @@ impl Model for PrefixTable {
 
     ghost use Rattle.cmap_bits.specs.WordsByLength.{places_of, IsTable};
 
-    ghost view = { λ t. places_of t.words t.symbols.items };
+    ghost view = { λ t. places_of t.counts.items t.symbols.items };
 
-    ghost invariant = { λ t. IsTable t.words t.symbols.items };
+    ghost invariant = { λ t. IsTable t.counts.items t.symbols.items };
 }
 
 impl PrefixTable {
@@ -43,7 +43,7 @@ impl PrefixTable {
     /// each from length 1 on, and the symbols, all big-endian. `None` where none stands there:
     /// where bytes are missing, a word is longer than 32 bits, or there are more words than fit.
     ///
-    /// It fails only where there is no memory. Only a table moves the reader, to the byte behind
+    /// It fails only where there is no memory. Only a table moves the reader, to the byte after
     /// it.
     pub fn parse_delta(
         alloc: Global,
@@ -79,7 +79,7 @@ impl PrefixTable {
         parse(alloc, reader, 1)
     }
 
-    /// The symbol whose word comes next, and the reader moves behind that word; `None` where no
+    /// The symbol whose word comes next, and the reader moves past that word; `None` where no
     /// word of the table does, and then the reader stays. It takes no memory.
     pub fn decode(&self, reader: &mut Reader<'_>) -> Option<u32>
         ensures found { IfSome result (λ symbol. (len : ℕ)
@@ -90,7 +90,7 @@ impl PrefixTable {
             → BeginsAt self.now (bits_left reader.old) j → i ≡ j }
         ensures unmoved { IfNone result (reader.new ≡ reader.old) }
     {
-        let place = find(&self.words, reader)?;
+        let place = find(&self.counts, reader)?;
         Some(self.symbols[place])
     }
 }

@@ -11,12 +11,12 @@ use Rattle.cmap_runs.proofs.MaximalRuns.{AreRuns-runs_of, in_order}
 are_runs : (spans : List Span) (runs : List Run) → runs ≡ runs_of spans → AreRuns spans runs
 are_runs spans runs is = subst (AreRuns spans) (sym is) (AreRuns-runs_of spans)
 
-pub runs_in_order : (spans : List Span) (runs : List Run) → runs ≡ runs_of spans → IsInOrder runs
-runs_in_order spans runs is = in_order (last_place spans) (2 ^ 32) runs (are_runs spans runs is)
+pub runs_in_order : (spans : List Span) {runs : List Run} → runs ≡ runs_of spans → IsInOrder runs
+runs_in_order spans {runs} is = in_order (last_place spans) (2 ^ 32) runs (are_runs spans runs is)
 
-pub found_place : (spans : List Span) (runs : List Run) (code place : ℕ)
+pub found_place : (spans : List Span) {runs : List Run} (code place : ℕ)
     → runs ≡ runs_of spans → Any (λ run. Holds code run × (run.place ≡ place)) runs → last_place spans code ≡ Some place
-found_place spans runs code place is found =
+found_place spans {runs} code place is found =
     let run = subst (IsRun (last_place spans) (2 ^ 32)) found.3 ((are_runs spans runs is).each found.0 found.1 found.2) in
     run.right code found.4.0.0 found.4.0.1 ∙ ap Some found.4.1
 
@@ -24,8 +24,8 @@ none_found : (runs : List Run) (code : ℕ) (o : Option ℕ) → (IsSome o → A
 none_found runs code None complete none = refl
 none_found runs code (Some place) complete none = let found = complete refl in absurd (subst (λ (run : Run). ¬ (Holds code run)) found.3 (none found.0 found.1 found.2) found.4)
 
-pub no_place : (spans : List Span) (runs : List Run) (code : ℕ) → runs ≡ runs_of spans → code < 2 ^ 32 → All (λ run. ¬ (Holds code run)) runs → last_place spans code ≡ None
-no_place spans runs code is below none = none_found runs code (last_place spans code) ((are_runs spans runs is).complete code below) none
+pub no_place : (spans : List Span) {runs : List Run} (code : ℕ) → runs ≡ runs_of spans → code < 2 ^ 32 → All (λ run. ¬ (Holds code run)) runs → last_place spans code ≡ None
+no_place spans {runs} code is below none = none_found runs code (last_place spans code) ((are_runs spans runs is).complete code below) none
 
 found_at : {T : Type 0} (span_of : T → Span) (list : List T) (code place : ℕ) → last_place (map span_of list) code ≡ Some place → ContainsAt (map span_of list) code place
 found_at span_of list code place is = (subst (IsLast (map span_of list) code) is (is_last (map span_of list) code)).0

@@ -159,7 +159,7 @@ with_code_one : (decides : ℕ → Option ℕ) (code : ℕ) (runs : List Run) (o
     → AreRunsBelow decides code runs → decides code ≡ o → AreRunsBelow decides (suc code) (with_code runs code o)
 with_code_one decides code runs None are is = AreRunsBelow-gap decides code (suc code) runs are (omega arith) (λ other low high. grind arith)
 with_code_one decides code runs (Some place) are is =
-    rw (← add-one) (AreRunsBelow-joined decides runs (record { low = code; high = code; place = place }) are (omega arith) (λ other low high. grind arith))
+    rw (← add-one code) (AreRunsBelow-joined decides runs (record { low = code; high = code; place = place }) are (omega arith) (λ other low high. grind arith))
 
 AreRunsBelow-runs_below : (decides : ℕ → Option ℕ) (limit : ℕ) → AreRunsBelow decides limit (runs_below decides limit)
 unfolding runs_below

@@ -11,8 +11,8 @@ use Rattle.std.proofs.lemmas.List.{get_or-take, length-take}
 use Rattle.std.proofs.lemmas.Option.{none-some}
 use Rattle.cmap_runs.specs.DeclaredRanges.{IsRange, AreRanges}
 use Rattle.cmap_runs.specs.OpenRanges.{IsGreatest, StayOpen, AreOpen}
-use Rattle.cmap_runs.specs.Ranges.{Span, Run, AreRunsBelow, joined}
-use Rattle.cmap_runs.proofs.LastPlace.{ContainsAt, IsLast}
+use Rattle.cmap_runs.specs.Ranges.{Span, Run, AreRunsBelow, joined, last_place}
+use Rattle.cmap_runs.proofs.LastPlace.{ContainsAt, IsLast, is_last}
 use Rattle.cmap_runs.proofs.MaximalRuns.{AreRunsBelow-gap, AreRunsBelow-joined}
 use Rattle.cmap_runs.proofs.RangesDecide.{range_at}
 
@@ -30,19 +30,19 @@ none_decides before now from code None greatest stay low none = refl
 none_decides before now from code (Some decided) greatest stay low none = absurd (grind (arith, greatest.0, stay.kept decided greatest.0.0, none decided greatest.0.0))
 
 -- so codes that one place decides make one run
-pub AreRunsBelow-greatest : (before now : ℕ → Option ℕ) (decides : ℕ → Option ℕ) (start from to end place last : ℕ) (runs : List Run)
+pub AreRunsBelow-greatest : {before now decides : ℕ → Option ℕ} {from : ℕ} {runs : List Run} (start to end place last : ℕ)
     → ((code : ℕ) → start ≤ code → code < to → IsGreatest before code (decides code)) → StayOpen before now from → start ≤ from
     → now place ≡ Some last → ((other : ℕ) → IsSome (now other) → is_lt (nat_cmp place other) ≡ false)
     → from ≤ end → end < to → end ≤ last → AreRunsBelow decides from runs
     → AreRunsBelow decides (end + 1) (joined runs (record { low = from; high = end; place = place }))
-AreRunsBelow-greatest before now decides start from to end place last runs greatest stay begun is above filled below reaches are =
+AreRunsBelow-greatest {before} {now} {decides} {from} {runs} start to end place last greatest stay begun is above filled below reaches are =
     AreRunsBelow-joined decides runs (record { low = from; high = end; place = place }) are filled (λ code low high.
     greatest_decides before now from code place last (decides code) (greatest code (omega arith) (omega arith)) stay low (omega arith) is above)
 
-pub AreRunsBelow-none_open : (before now : ℕ → Option ℕ) (decides : ℕ → Option ℕ) (start from to : ℕ) (runs : List Run)
+pub AreRunsBelow-none_open : {before now decides : ℕ → Option ℕ} {from : ℕ} {runs : List Run} (start to : ℕ)
     → ((code : ℕ) → start ≤ code → code < to → IsGreatest before code (decides code)) → StayOpen before now from → start ≤ from → from ≤ to
     → ((place last : ℕ) → now place ≡ Some last → ⊥) → AreRunsBelow decides from runs → AreRunsBelow decides to runs
-AreRunsBelow-none_open before now decides start from to runs greatest stay begun le none are =
+AreRunsBelow-none_open {before} {now} {decides} {from} {runs} start to greatest stay begun le none are =
     AreRunsBelow-gap decides from to runs are le (λ code low high. none_decides before now from code (decides code) (greatest code (omega arith) high) stay low none)
 
 -- ---- a place is closed, or opened
@@ -53,10 +53,10 @@ none_in_empty (entry ∷ entries) some place last at = true≢false (sym (some (
 pub one_fewer : (removed : Option ℕ) (last now before : ℕ) → removed ≡ Some last → now + (if is_some removed then 1 else 0) ≡ before → now + 1 ≡ before
 one_fewer removed last now before is len = rw is at len
 
-pub StayOpen-close : (before now after : ℕ → Option ℕ) (from to place last : ℕ)
+pub StayOpen-close : {before now after : ℕ → Option ℕ} {from : ℕ} (to place last : ℕ)
     → StayOpen before now from → now place ≡ Some last → last < to → from ≤ to
     → ((other : ℕ) → after other ≡ cond (is_at (nat_cmp place) other) None (now other)) → StayOpen before after to
-StayOpen-close before now after from to place last stay is ended le closed = record {
+StayOpen-close to place last stay is ended le closed = record {
   kept = λ other reaches at. grind (arith, nat_tests, stay.kept other reaches at, closed other);
   no_more = λ other reaches at. grind (arith, nat_tests, stay.no_more other reaches, closed other);
 }
@@ -67,7 +67,7 @@ contains_open : (spans : List Span) (begun : List Run) (last_code : ℕ → Opti
 contains_open spans begun last_code from code place last opened low high is =
     let at = opened.no_more place last is in (record { start = at.0; end = last }, at.2, grind (arith, nat_tests, at.1))
 
-pub greatest_open : (spans : List Span) (ranges : List Run) (i from to code : ℕ) (last_code : ℕ → Option ℕ) (o : Option ℕ)
+greatest_open : (spans : List Span) (ranges : List Run) (i from to code : ℕ) (last_code : ℕ → Option ℕ) (o : Option ℕ)
     → AreRanges spans (length spans) ranges → AreOpen spans (take i ranges) last_code from
     → ((k : ℕ) (d : Run) → i ≤ k → k < length ranges → to ≤ (get_or ranges k d).low)
     → from ≤ code → code < to → IsLast spans code o → IsGreatest last_code code o
@@ -87,11 +87,18 @@ greatest_open spans ranges i from to code last_code (Some place) are opened late
       λ other reaches is to_code. last.1 other (contains_open spans (take i ranges) last_code from code other reaches opened low to_code is),
     )
 
+pub decides_open : {spans : List Span} {ranges : List Run} {from : ℕ} {last_code : ℕ → Option ℕ} (i to : ℕ)
+    → AreRanges spans (length spans) ranges → AreOpen spans (take i ranges) last_code from
+    → ((k : ℕ) (d : Run) → i ≤ k → k < length ranges → to ≤ (get_or ranges k d).low)
+    → (code : ℕ) → from ≤ code → code < to → IsGreatest last_code code (last_place spans code)
+decides_open {spans} {ranges} {from} {last_code} i to are opened later code low high =
+    greatest_open spans ranges i from to code last_code (last_place spans code) are opened later low high (is_last spans code)
+
 -- ---- one more range has begun
-pub AreOpen-push : (spans : List Span) (begun : List Run) (range : Run) (before now after : ℕ → Option ℕ) (from code : ℕ)
+pub AreOpen-push : {spans : List Span} {begun : List Run} {before now after : ℕ → Option ℕ} {from : ℕ} (range : Run) (code : ℕ)
     → AreOpen spans begun before from → from ≤ code → StayOpen before now code → IsRange spans range → range.low ≤ code
     → ((place : ℕ) → after place ≡ cond (is_at (nat_cmp range.place) place) (Some range.high) (now place)) → AreOpen spans (begun ++ range ∷ []) after code
-AreOpen-push spans begun range before now after from code opened le stay is low opens = record {
+AreOpen-push {spans} {begun} {before} {now} {after} range code opened le stay is low opens = record {
   kept = All-push (λ (r : Run). (r.high < code) ⊎ (after r.place ≡ Some r.high)) begun range
       (λ k d lt.
       let old = get_or begun k d in

@@ -7,7 +7,7 @@ use Rattle.cmap_runs.specs.Ranges.{Run}
 pub record IsSplit (runs : List Run) (code count : ℕ) : Type 0 where
   pub within : count ≤ length runs
   pub before : AllWithin (λ run. run.high < code) runs 0 count
-  pub behind : AllWithin (λ run. code ≤ run.high) runs count (length runs)
+  pub after : AllWithin (λ run. code ≤ run.high) runs count (length runs)
 
 -- the number for each of the first blocks, which have 256 codes each
 pub record AreBlocks (runs : List Run) (blocks : List ℕ) : Type 0 where

@@ -1,34 +1,30 @@
 -- A table of all bytes is held against a definition at each of them, by computing.
-use Rattle.std.proofs.Common.{◌≡◌, ℕ, zero, suc, ◌<◌, Bool, true, false, ◌&&◌, nat_eq, refl, arith, inl, inr}
+use Rattle.std.proofs.Common.{◌≡◌, ℕ, zero, suc, ◌<◌, Bool, true, false, not, ◌&&◌, nat_eq, bit_and, get_or, List, refl, arith, inl, inr}
 use Rattle.std.specs.Bool.{beq}
 use Rattle.std.proofs.lemmas.Bool.{cases_eq, eqb-true, and_parts}
 
--- the two tests agree below n
-unfoldable pub agree_below : (ℕ → Bool) → (ℕ → Bool) → ℕ → Bool
-agree_below f g zero = true
-agree_below f g (suc n) = beq (f n) (g n) && agree_below f g n
+-- the two agree below n, as eq tells
+unfoldable pub agree_below : {A : Type 0} → (A → A → Bool) → (ℕ → A) → (ℕ → A) → ℕ → Bool
+agree_below eq f g zero = true
+agree_below eq f g (suc n) = eq (f n) (g n) && agree_below eq f g n
 
-both_of : (x y rest : Bool) → (beq x y && rest) ≡ true → (x ≡ y) × (rest ≡ true)
-both_of true true rest h = (refl, h)
-both_of true false rest h = cc
-both_of false true rest h = cc
-both_of false false rest h = (refl, h)
-
-pub agree_at : (f g : ℕ → Bool) (n : ℕ) → agree_below f g n ≡ true → (b : ℕ) → b < n → f b ≡ g b
+agree_at : {A : Type 0} (eq : A → A → Bool) → ((x y : A) → eq x y ≡ true → x ≡ y) → (f g : ℕ → A) (n : ℕ) → agree_below eq f g n ≡ true → (b : ℕ) → b < n → f b ≡ g b
 unfolding agree_below
-agree_at f g zero h b lt = absurd (omega arith)
-agree_at f g (suc n) h b lt =
-    let both = both_of (f n) (g n) (agree_below f g n) h in
-    elim (cases_eq b n) [ inl same ↦ rw same both.0 | inr other ↦ agree_at f g n both.1 b (omega arith) ]
+agree_at eq same f g zero h b lt = absurd (omega arith)
+agree_at eq same f g (suc n) h b lt =
+    let (here, below) = and_parts (eq (f n) (g n)) (agree_below eq f g n) h in
+    elim (cases_eq b n) [ inl is ↦ rw is (same (f n) (g n) here) | inr other ↦ agree_at eq same f g n below b (omega arith) ]
 
--- the two functions agree below n
-unfoldable pub same_below : (ℕ → ℕ) → (ℕ → ℕ) → ℕ → Bool
-same_below f g zero = true
-same_below f g (suc n) = nat_eq (f n) (g n) && same_below f g n
+beq-true : (x y : Bool) → beq x y ≡ true → x ≡ y
+beq-true true true e = refl
+beq-true true false e = cc
+beq-true false true e = cc
+beq-true false false e = refl
 
-pub same_at : (f g : ℕ → ℕ) (n : ℕ) → same_below f g n ≡ true → (b : ℕ) → b < n → f b ≡ g b
-unfolding same_below
-same_at f g zero h b lt = absurd (omega arith)
-same_at f g (suc n) h b lt =
-    let (here, below) = and_parts (nat_eq (f n) (g n)) (same_below f g n) h in
-    elim (cases_eq b n) [ inl same ↦ rw same (eqb-true (f n) (g n) here) | inr other ↦ same_at f g n below b (omega arith) ]
+-- the class of a byte in a table of masks
+pub class_at : (table : List ℕ) (mask : ℕ) (class : ℕ → Bool) (b : ℕ) → b < 256
+    → agree_below beq (λ k. not (nat_eq (bit_and (get_or table k 0) mask) 0)) class 256 ≡ true → not (nat_eq (bit_and (get_or table b 0) mask) 0) ≡ class b
+class_at table mask class b lt h = agree_at beq beq-true _ class 256 h b lt
+
+pub value_at : (table : List ℕ) (value : ℕ → ℕ) (b : ℕ) → b < 256 → agree_below nat_eq (λ k. get_or table k 0) value 256 ≡ true → get_or table b 0 ≡ value b
+value_at table value b lt h = agree_at nat_eq eqb-true _ value 256 h b lt

@@ -1,7 +1,7 @@
 -- What a test of bytes tells of a byte, and of the bytes that a text begins with.
 use Rattle.std.proofs.Common.{◌≡◌, ℕ, ◌+◌, Bool, true, false, ◌==◌, List, [], ◌∷◌, ◌++◌, length, take, suc, refl, ap, subst, inl, inr, arith}
-use Rattle.std.specs.List.{list_all, prefix_len}
-use Rattle.std.proofs.lemmas.Bool.{both_ways, cases_Bool, eqb-true, false≢true, and_from, and_parts}
+use Rattle.std.specs.List.{list_any, list_all, prefix_len}
+use Rattle.std.proofs.lemmas.Bool.{both_ways, cases_Bool, eqb-true, false≢true, and_from, and_parts, or_from, or_parts}
 use Rattle.cmap_tokens.specs.Strings.{begins_with}
 
 -- a byte that passes is none that fails
@@ -31,3 +31,23 @@ prefix_len-append_all p (b ∷ front) rest all =
     let (passes, more) = and_parts _ _ all in
     let first : p b ≡ true = passes in
     rw first (omega (arith, prefix_len-append_all p front rest more))
+
+-- nor one of several that fail
+pub none_of : (p : ℕ → Bool) (c : ℕ) (bytes : List ℕ) → list_any p bytes ≡ false → p c ≡ true → list_any (λ k. c == k) bytes ≡ false
+none_of p c [] fail passes = refl
+none_of p c (k ∷ bytes) fail passes =
+    let (here, later) = or_parts (p k) (list_any p bytes) fail in
+    or_from _ _ (other_byte p k c here passes) (none_of p c bytes later passes)
+
+pub one_of : (p : ℕ → Bool) (c : ℕ) (bytes : List ℕ) → list_any p bytes ≡ false → list_any (λ k. c == k) bytes ≡ true → p c ≡ false
+one_of p c bytes fail is =
+    elim (cases_Bool (p c)) [
+      | inl passes ↦ absurd (both_ways _ (none_of p c bytes fail passes) is)
+      | inr fails ↦ fails
+    ]
+
+pub all_weaker : (p q : ℕ → Bool) (text : List ℕ) → ((c : ℕ) → p c ≡ true → q c ≡ true) → list_all p text ≡ true → list_all q text ≡ true
+all_weaker p q [] weaker all = refl
+all_weaker p q (b ∷ text) weaker all =
+    let (first, more) = and_parts (p b) (list_all p text) all in
+    and_from _ _ (weaker b first) (all_weaker p q text weaker more)

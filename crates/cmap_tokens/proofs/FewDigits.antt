@@ -13,7 +13,7 @@ use Rattle.cmap_tokens.specs.Bytes.{is_regular}
 use Rattle.cmap_tokens.specs.Numbers.{digits_number}
 use Rattle.cmap_tokens.specs.Tokens.{begins_regular}
 use Rattle.cmap_tokens.specs.TokenReading.{EndsDigits}
-use Rattle.cmap_tokens.proofs.FirstPieces.{digit_regular}
+use Rattle.cmap_tokens.proofs.DecimalRuns.{digit_regular}
 
 -- each of the first n bytes is a digit
 pub digit_at : (text : List ℕ) (n j : ℕ) → j < n → n ≤ length text → list_all (λ c. is_digit c 10) (take n text) ≡ true → is_digit (get_or text j 0) 10 ≡ true

@@ -19,38 +19,30 @@ all_digits digits = list_all (λ c. is_digit c 16) digits ≡ true
 value_more : (a b : ℕ) (more : List ℕ) → is_digit a 16 ≡ true → is_digit b 16 ≡ true → hex_value (a ∷ b ∷ more) ≡ (16 * digit_value a + digit_value b) ∷ hex_value more
 value_more a b more first second = rw (first, second) refl
 
--- behind bytes that write n
-after : (n : ℕ) (digits : List ℕ) → all_digits digits → length digits % 2 ≡ 0
-    → number_from_digits_after 16 n (map digit_value digits) ≡ number_from_digits_after 256 n (hex_value digits)
-after n [] all even = refl
-after n (a ∷ []) all even = absurd (omega (arith, even))
-after n (a ∷ b ∷ more) all even =
-    let (first, behind) = and_parts (is_digit a 16) _ all in
-    let (second, others) = and_parts (is_digit b 16) (list_all (λ c. is_digit c 16) more) behind in
-    let same : (n * 16 + digit_value a) * 16 + digit_value b ≡ n * 256 + (16 * digit_value a + digit_value b) = omega arith in
-    ap (λ k. number_from_digits_after 16 k (map digit_value more)) same
-    ∙ after (n * 256 + (16 * digit_value a + digit_value b)) more others (omega (arith, even))
-    ∙ ap (number_from_digits_after 256 n) (sym (value_more a b more first second))
+-- digits in pairs, and the bytes that they stand for
+pub record Paired (digits : List ℕ) : Type 0 where
+  pub number : (n : ℕ) → number_from_digits_after 16 n (map digit_value digits) ≡ number_from_digits_after 256 n (hex_value digits)
+  pub long : 2 * length (hex_value digits) ≡ length digits
+  pub bytes : AreBytes (hex_value digits)
 
-pub pairs_number : (digits : List ℕ) → all_digits digits → length digits % 2 ≡ 0 → digits_number 16 digits ≡ big_endian (hex_value digits)
-pairs_number digits all even = after 0 digits all even
-
-pub pairs_length : (digits : List ℕ) → all_digits digits → length digits % 2 ≡ 0 → 2 * length (hex_value digits) ≡ length digits
-pairs_length [] all even = refl
-pairs_length (a ∷ []) all even = absurd (omega (arith, even))
-pairs_length (a ∷ b ∷ more) all even =
-    let (first, behind) = and_parts (is_digit a 16) _ all in
-    let (second, others) = and_parts (is_digit b 16) (list_all (λ c. is_digit c 16) more) behind in
-    omega (arith, ap length (value_more a b more first second), pairs_length more others (omega (arith, even)))
-
-pub pairs_bytes : (digits : List ℕ) → all_digits digits → length digits % 2 ≡ 0 → AreBytes (hex_value digits)
-pairs_bytes [] all even = tt
-pairs_bytes (a ∷ []) all even = absurd (omega (arith, even))
-pairs_bytes (a ∷ b ∷ more) all even =
-    let (first, behind) = and_parts (is_digit a 16) _ all in
-    let (second, others) = and_parts (is_digit b 16) (list_all (λ c. is_digit c 16) more) behind in
+pub paired : (digits : List ℕ) → all_digits digits → length digits % 2 ≡ 0 → Paired digits
+paired [] all even = record { number = λ n. refl; long = refl; bytes = tt }
+paired (a ∷ []) all even = absurd (omega (arith, even))
+paired (a ∷ b ∷ more) all even =
+    let (first, later) = and_parts (is_digit a 16) _ all in
+    let (second, others) = and_parts (is_digit b 16) (list_all (λ c. is_digit c 16) more) later in
+    let rest = paired more others (omega (arith, even)) in
+    let value = value_more a b more first second in
     let byte : 16 * digit_value a + digit_value b < 2 ^ 8 = omega (arith, ltb-true (digit_value a) 16 first, ltb-true (digit_value b) 16 second) in
-    subst AreBytes (sym (value_more a b more first second)) (byte, pairs_bytes more others (omega (arith, even)))
+    record {
+      number = λ n.
+          let same : (n * 16 + digit_value a) * 16 + digit_value b ≡ n * 256 + (16 * digit_value a + digit_value b) = omega arith in
+          ap (λ k. number_from_digits_after 16 k (map digit_value more)) same
+          ∙ rest.number (n * 256 + (16 * digit_value a + digit_value b))
+          ∙ ap (number_from_digits_after 256 n) (sym value);
+      long = omega (arith, ap length value, rest.long);
+      bytes = subst AreBytes (sym value) (byte, rest.bytes);
+    }
 
 -- one digit more of at most eight
 pub next_digit_fits : (i n : ℕ) → i < 8 → n < 16 ^ i → n * 16 + 15 < 2 ^ 32
@@ -79,8 +71,9 @@ pub all_read : (digits : List ℕ) (i n : ℕ) → length digits ≤ i → all_d
     → ArePairs digits × (length digits / 2 ≡ length (hex_value digits)) × (n ≡ big_endian (hex_value digits))
 all_read digits i n ends all value some few even =
     let whole : take i digits ≡ digits = take_all i digits ends in
-    let digits_are : all_digits digits = subst all_digits whole all in (
+    let digits_are : all_digits digits = subst all_digits whole all in
+    let are = paired digits digits_are even in (
       (digits_are, even, some, few),
-      omega (arith, pairs_length digits digits_are even),
-      value ∙ ap (digits_number 16) whole ∙ pairs_number digits digits_are even,
+      omega (arith, are.long),
+      value ∙ ap (digits_number 16) whole ∙ are.number 0,
     )

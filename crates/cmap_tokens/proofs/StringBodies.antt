@@ -1,116 +1,101 @@
 -- A whole string is its brackets and its body.
-use Rattle.std.proofs.Common.{◌≡◌, ℕ, ◌+◌, ◌-◌, true, false, ◌==◌, List, [], ◌∷◌, ◌++◌, ◌⊎◌, length, take, drop, get_or, Some, refl, sym, ap, ◌∙◌, subst, inl, inr, arith, length-append, append-nil}
-use Rattle.std.proofs.lemmas.Bool.{and_parts, cases_Bool, eqb-true}
-use Rattle.std.proofs.lemmas.List.{take_at, nil_from_length, same_from_push}
-use Rattle.cmap_tokens.specs.Tokens.{closes_at_end}
-use Rattle.cmap_tokens.specs.Strings.{IsCut, IsValue}
-use Rattle.cmap_tokens.specs.TokenReading.{one_more, hex_len, text_len, string_len, is_paired, HasCut}
-use Rattle.cmap_tokens.proofs.StringLengths.{one_more_some, has_hex, has_closing}
+use Rattle.std.proofs.Common.{◌≡◌, ℕ, ◌-◌, ◌<◌, ◌≤◌, true, false, ◌&&◌, ◌==◌, zero, suc, List, [], ◌∷◌, ◌++◌, length, take, drop, get_or, Option, Some, refl, sym, ap, ◌∙◌, subst, inl, inr, arith, append_assoc, length-append, length-drop}
+use Rattle.std.specs.Prelude.{IsTrue, is_some, nat_le}
+use Rattle.std.proofs.lemmas.Bool.{and_from, and_parts, cases_Bool, eq-eqb, eqb-true, le-leb, leb-true, ne_eqb}
+use Rattle.std.proofs.Math.Seq.{get_or-append_seam}
+use Rattle.std.proofs.lemmas.List.{take_at, take_rest}
+use Rattle.cmap_tokens.specs.Tokens.{opened}
+use Rattle.std.specs.Option.{option_to_list}
+use Rattle.cmap_tokens.specs.Strings.{hex_value, inside, is_between}
+use Rattle.cmap_tokens.specs.TokenReading.{first_part, parts_value, is_paired, text_value, value_of}
+use Rattle.cmap_tokens.specs.TokenReading.{one_more, hex_len, text_len, string_len}
+use Rattle.cmap_tokens.proofs.StringLengths.{one_more_some, has_hex, has_text, ends_from}
 
--- what closes ends with ), and its backslashes are paired before it
-record Ends (bytes body : List ℕ) : Type 0 where
-  whole : bytes ≡ body ++ 41 ∷ []
-  paired : is_paired false body ≡ true
+record Between (first last : ℕ) (body : List ℕ) : Type 0 where
+  whole : is_between first last (first ∷ body ++ last ∷ []) ≡ true
+  body_is : inside (first ∷ body ++ last ∷ []) ≡ body
 
-ends_more : (b : ℕ) (bytes body : List ℕ) → (b == 92) ≡ false → Ends bytes body → Ends (b ∷ bytes) (b ∷ body)
-ends_more b bytes body plain ends = record { whole = ap (λ t. b ∷ t) ends.whole; paired = ap (λ t. is_paired t body) plain ∙ ends.paired }
+between : (first last : ℕ) (body : List ℕ) → Between first last body
+between first last body =
+    let long : length (first ∷ body ++ last ∷ []) ≡ suc (suc (length body)) = omega (arith, length-append body (last ∷ [])) in
+    let end : length (first ∷ body ++ last ∷ []) - 1 ≡ suc (length body) = omega (arith, long) in
+    record {
+      whole = and_from _ _ (and_from _ _ (eq-eqb first first refl) (le-leb 2 _ (omega (arith, long)))) (eq-eqb _ last (ap (λ n. get_or (first ∷ body ++ last ∷ []) n 0) end ∙ get_or-append_seam body last [] 0));
+      body_is = ap (λ n. drop 1 (take n (first ∷ body ++ last ∷ []))) end ∙ take_at body (last ∷ []) (length body) refl;
+    }
 
-closes_ends : (depth : ℕ) (bytes : List ℕ) → closes_at_end depth bytes ≡ true → (body : List ℕ) × Ends bytes body
-closes_ends depth [] closes = cc
-closes_ends depth (b ∷ []) closes = ([], record { whole = ap (λ c. c ∷ []) (eqb-true b 41 (and_parts (b == 41) _ closes).0); paired = refl })
-closes_ends depth (b ∷ c ∷ bytes) closes =
-    elim (cases_Bool (b == 92)) [
-      | inl backslash ↦
-          let (body, ends) = closes_ends depth bytes (rw backslash at closes) in
-          (b ∷ c ∷ body, record { whole = ap (λ t. b ∷ c ∷ t) ends.whole; paired = ap (λ t. is_paired t (c ∷ body)) backslash ∙ ends.paired })
-      | inr plain ↦
-          elim (cases_Bool (b == 40)) [
-            | inl opens ↦
-                let (body, ends) = closes_ends (depth + 1) (c ∷ bytes) (rw (plain, opens) at closes) in
-                (b ∷ body, ends_more b (c ∷ bytes) body plain ends)
-            | inr not_open ↦
-                elim (cases_Bool (b == 41)) [
-                  | inl close ↦
-                      elim (cases_Bool (depth == 1)) [
-                        | inl last ↦ let at = rw (plain, not_open, close, last) at closes in cc
-                        | inr deeper ↦
-                            let (body, ends) = closes_ends (depth - 1) (c ∷ bytes) (rw (plain, not_open, close, deeper) at closes) in
-                            (b ∷ body, ends_more b (c ∷ bytes) body plain ends)
-                      ]
-                  | inr not_close ↦
-                      let (body, ends) = closes_ends depth (c ∷ bytes) (rw (plain, not_open, not_close) at closes) in
-                      (b ∷ body, ends_more b (c ∷ bytes) body plain ends)
-                ]
-          ]
-    ]
+-- what is measured stands for a value
+hex_has_value : (text : List ℕ) (n : ℕ) → one_more (hex_len text) ≡ Some n → IsTrue (is_some (value_of (take n (60 ∷ text))))
+unfolding value_of
+hex_has_value text n e =
+    let (k, is, more) = one_more_some (hex_len text) n e in
+    let (body, found) = has_hex text k is in
+    ap (λ m. is_some (value_of (take m (60 ∷ text)))) more ∙ rw (found.front, (between 60 62 body).whole) refl
 
--- a string token: hexadecimal, or in parentheses
-abbrev pub IsShape : List ℕ → Type 0
-IsShape raw = ((body : List ℕ) × (raw ≡ 60 ∷ body ++ 62 ∷ [])) ⊎ ((body : List ℕ) × (raw ≡ 40 ∷ body ++ 41 ∷ []) × (is_paired false body ≡ true))
+text_has_value : (text : List ℕ) (n : ℕ) → one_more (text_len opened text) ≡ Some n → IsTrue (is_some (value_of (take n (40 ∷ text))))
+unfolding value_of
+text_has_value text n e =
+    let (k, is, more) = one_more_some (text_len opened text) n e in
+    let (body, whole, paired) = ends_from opened (take k text) (has_text opened text k is).0 in
+    let parts = between 40 41 body in
+    let body_paired : is_paired false (inside (40 ∷ body ++ 41 ∷ [])) ≡ true = ap (is_paired false) parts.body_is ∙ paired in
+    ap (λ t. is_some (value_of t)) (ap (λ m. take m (40 ∷ text)) more ∙ ap (λ t. 40 ∷ t) whole) ∙ rw (parts.whole, body_paired) refl
 
-hex_shape : (text : List ℕ) → one_more (hex_len text) ≡ Some (length (60 ∷ text)) → IsShape (60 ∷ text)
-hex_shape text e =
-    let (k, is, more) = one_more_some (hex_len text) (length (60 ∷ text)) e in
-    let (body, rest, found) = has_hex text k is in
-    let none : rest ≡ [] = nil_from_length rest (omega (arith, more, found.measured, ap length found.whole, length-append body (62 ∷ rest))) in
-    inl (body, ap (λ t. 60 ∷ t) (found.whole ∙ ap (λ r. body ++ 62 ∷ r) none))
-
-text_shape : (text : List ℕ) → one_more (text_len false 1 text) ≡ Some (length (40 ∷ text)) → IsShape (40 ∷ text)
-text_shape text e =
-    let (k, is, more) = one_more_some (text_len false 1 text) (length (40 ∷ text)) e in
-    let (bytes, rest, found) = has_closing 1 text k is in
-    let none : rest ≡ [] = nil_from_length rest (omega (arith, more, found.measured, ap length found.whole, length-append bytes rest)) in
-    let (body, ends) = closes_ends 1 bytes found.closes in
-    inr (body, ap (λ t. 40 ∷ t) (found.whole ∙ ap (λ r. bytes ++ r) none ∙ append-nil bytes ∙ ends.whole), ends.paired)
-
-pub string_shape : (raw : List ℕ) → string_len raw ≡ Some (length raw) → IsShape raw
-string_shape [] e = cc
-string_shape (b ∷ text) e =
+pub has_value : (text : List ℕ) (n : ℕ) → Some n ≡ string_len text → IsTrue (is_some (value_of (take n text)))
+has_value [] n e = cc
+has_value (b ∷ text) n e =
     elim (cases_Bool (b == 60)) [
-      | inl less ↦ subst (λ c. IsShape (c ∷ text)) (sym (eqb-true b 60 less)) (hex_shape text (rw less at e))
+      | inl less ↦ subst (λ c. IsTrue (is_some (value_of (take n (c ∷ text))))) (sym (eqb-true b 60 less)) (hex_has_value text n (sym (rw less at e)))
       | inr not_less ↦
           elim (cases_Bool (b == 40)) [
-            | inl opens ↦ subst (λ c. IsShape (c ∷ text)) (sym (eqb-true b 40 opens)) (text_shape text (rw (not_less, opens) at e))
+            | inl opens ↦ subst (λ c. IsTrue (is_some (value_of (take n (c ∷ text))))) (sym (eqb-true b 40 opens)) (text_has_value text n (sym (rw (not_less, opens) at e)))
             | inr not_open ↦ let at = rw (not_less, not_open) at e in cc
           ]
     ]
 
--- the body between the brackets
-pub body_between : (first last : ℕ) (body raw : List ℕ) → raw ≡ first ∷ body ++ last ∷ [] → take (length raw - 1 - 1) (drop 1 raw) ≡ body
-body_between first last body raw e =
-    let long : length raw - 1 - 1 ≡ length body = omega (arith, ap length e, length-append body (last ∷ [])) in
-    ap (λ r. take (length raw - 1 - 1) (drop 1 r)) e ∙ ap (λ n. take n (body ++ last ∷ [])) long ∙ take_at body (last ∷ []) (length body) refl
+-- the value of a string is that of its body, by the first bracket
+pub hex_body : (raw : List ℕ) → is_between 60 62 raw ≡ true → value_of raw ≡ Some (hex_value (inside raw))
+unfolding value_of
+hex_body raw is = rw is refl
 
-pub same_body : (first last : ℕ) (body other : List ℕ) → first ∷ body ++ last ∷ [] ≡ first ∷ other ++ last ∷ [] → body ≡ other
-same_body first last body other e = let inner : body ++ last ∷ [] ≡ other ++ last ∷ [] = ap (drop 1) e in (same_from_push body other last last inner).0
-
-pub brackets_differ : (a b : List ℕ) → 60 ∷ a ≡ 40 ∷ b → ⊥
-brackets_differ a b e = let heads : 60 ≡ 40 = ap (λ l. get_or l 0 0) e in omega (arith, heads)
-
--- a string in parentheses has the values of its body alone
-pub text_only : (raw body value : List ℕ) → raw ≡ 40 ∷ body ++ 41 ∷ [] → IsValue raw value → HasCut body value
-text_only raw body value whole is =
-    elim is [
-      | inl (other, other_whole, value_is) ↦ absurd (brackets_differ _ _ (sym other_whole ∙ whole))
-      | inr (other, parts, other_whole, cut) ↦ (parts, subst (λ b. IsCut parts b value) (same_body 40 41 other body (sym other_whole ∙ whole)) cut)
+pub text_body : (raw : List ℕ) → IsTrue (is_some (value_of raw)) → is_between 60 62 raw ≡ false → (is_between 40 41 raw ≡ true) × (value_of raw ≡ Some (text_value (inside raw)))
+unfolding value_of
+text_body raw some not_hex =
+    elim (cases_Bool (is_between 40 41 raw && is_paired false (inside raw))) [
+      | inl is ↦ ((and_parts (is_between 40 41 raw) _ is).0, rw (not_hex, is) refl)
+      | inr is_not ↦ let at = rw (not_hex, is_not) at some in cc
     ]
 
--- `&raw[1..raw.len() - 1]`
-abbrev pub inside : List ℕ → List ℕ
-inside raw = take (length raw - 1 - 1) (drop 1 raw)
+parts : (first last : ℕ) (raw : List ℕ) → is_between first last raw ≡ true → (get_or raw 0 0 ≡ first) × (2 ≤ length raw)
+parts first last raw is =
+    let (head, long) = and_parts (get_or raw 0 0 == first) (nat_le 2 (length raw)) (and_parts (get_or raw 0 0 == first && nat_le 2 (length raw)) _ is).0 in
+    (eqb-true (get_or raw 0 0) first head, leb-true 2 (length raw) long)
 
-pub hex_body : (raw : List ℕ) → string_len raw ≡ Some (length raw) → get_or raw 0 0 ≡ 60 → raw ≡ 60 ∷ inside raw ++ 62 ∷ []
-hex_body raw whole head =
-    elim (string_shape raw whole) [
-      | inl (body, is) ↦ is ∙ ap (λ b. 60 ∷ b ++ 62 ∷ []) (sym (body_between 60 62 body raw is))
-      | inr (body, is, paired) ↦ let other : get_or raw 0 0 ≡ 40 = ap (λ r. get_or r 0 0) is in absurd (omega (arith, head, other))
+-- there are two brackets, and the first tells which
+pub brackets : (raw : List ℕ) → IsTrue (is_some (value_of raw)) → (2 ≤ length raw) × ((get_or raw 0 0 == 60) ≡ is_between 60 62 raw)
+brackets raw some =
+    elim (cases_Bool (is_between 60 62 raw)) [
+      | inl is ↦ let (head, long) = parts 60 62 raw is in (long, eq-eqb _ 60 head ∙ sym is)
+      | inr is_not ↦ let (head, long) = parts 40 41 raw (text_body raw some is_not).0 in (long, ne_eqb _ 60 (λ e. absurd (omega (arith, e, head))) ∙ sym is_not)
     ]
 
-pub text_body : (raw : List ℕ) → string_len raw ≡ Some (length raw) → (get_or raw 0 0 ≡ 60 → ⊥) → (raw ≡ 40 ∷ inside raw ++ 41 ∷ []) × (is_paired false (inside raw) ≡ true)
-text_body raw whole other =
-    elim (string_shape raw whole) [
-      | inl (body, is) ↦ absurd (other (ap (λ r. get_or r 0 0) is))
-      | inr (body, is, paired) ↦
-          let same = body_between 40 41 body raw is in
-          (is ∙ ap (λ b. 40 ∷ b ++ 41 ∷ []) (sym same), ap (is_paired false) same ∙ paired)
-    ]
+-- the loop over the parts of a body, of which at most n are left
+pub value_step : (n : ℕ) (rest now out all : List ℕ) (part : Option ℕ × ℕ) → 0 < length rest → length rest ≤ n → part ≡ first_part rest → 0 < part.1 → out ≡ now ++ option_to_list part.0 → now ++ parts_value n rest ≡ all
+    → (m : ℕ) × (length (take (length rest - part.1) (drop part.1 rest)) ≤ m) × (out ++ parts_value m (take (length rest - part.1) (drop part.1 rest)) ≡ all)
+value_step zero rest now out all part more few is moves grown so_far = absurd (omega (arith, more, few))
+value_step (suc n) rest now out all part more few is moves grown so_far =
+    let next = take_rest rest part.1 in (
+      n,
+      omega (arith, few, moves, more, ap length next, length-drop part.1 rest),
+      ap (λ r. out ++ parts_value n r) next
+          ∙ ap (λ o. o ++ parts_value n (drop part.1 rest)) grown
+          ∙ append_assoc now (option_to_list part.0) (parts_value n (drop part.1 rest))
+          ∙ ap (λ (p : Option ℕ × ℕ). now ++ (option_to_list p.0 ++ parts_value n (drop p.1 rest))) is
+          ∙ so_far,
+    )
+
+pub value_end : (n : ℕ) (rest : List ℕ) → length rest ≡ 0 → parts_value n rest ≡ []
+unfolding first_part
+value_end zero rest none = refl
+value_end (suc n) [] none = value_end n [] none
+value_end (suc n) (b ∷ rest) none = absurd (omega (arith, none))

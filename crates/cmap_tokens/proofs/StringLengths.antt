@@ -1,32 +1,36 @@
 -- How far strings reach: what the code measures is what the grammar says, both ways.
-use Rattle.std.proofs.Common.{◌≡◌, ℕ, ◌+◌, ◌-◌, Bool, true, false, ◌==◌, List, [], ◌∷◌, ◌++◌, length, Option, Some, None, refl, sym, ap, ◌∙◌, subst, inl, inr, arith}
-use Rattle.std.specs.Prelude.{IsTrue}
+use Rattle.std.proofs.Common.{◌≡◌, ℕ, ◌+◌, ◌<◌, ◌≤◌, Bool, true, false, ◌==◌, List, [], ◌∷◌, ◌++◌, length, get_or, take, drop, suc, Option, Some, None, one-add, refl, sym, ap, ◌∙◌, inl, inr, arith}
+use Rattle.std.specs.Prelude.{IsTrue, option_map}
 use Rattle.std.specs.List.{list_all}
 use Rattle.std.proofs.lemmas.Bool.{and_from, and_parts, cases_Bool, eqb-true}
-use Rattle.cmap_tokens.specs.Tokens.{closes_at_end}
-use Rattle.cmap_tokens.specs.TokenReading.{one_more, is_hex_body, hex_len, text_len}
+use Rattle.std.proofs.lemmas.List.{at_drop_more, nil_from_length}
+use Rattle.cmap_tokens.specs.Tokens.{Inside, after_byte, closes_at_end, is_hex_body}
+use Rattle.cmap_tokens.specs.TokenReading.{is_paired}
+use Rattle.cmap_tokens.specs.TokenReading.{one_more, hex_len, text_len}
 
-pub one_more_some : (count : Option ℕ) (m : ℕ) → one_more count ≡ Some m → (k : ℕ) × (count ≡ Some k) × (m ≡ 1 + k)
+pub one_more_some : (count : Option ℕ) (m : ℕ) → one_more count ≡ Some m → (k : ℕ) × (count ≡ Some k) × (m ≡ suc k)
 one_more_some None m e = cc
-one_more_some (Some k) m e = (k, refl, cc)
+one_more_some (Some k) m e = (k, refl, let next = one-add k in cc)
 
--- the text begins with digits and >, m bytes in all
-pub record HasHex (text : List ℕ) (m : ℕ) (body rest : List ℕ) : Type 0 where
-  pub whole : text ≡ body ++ 62 ∷ rest
+-- the first m bytes are digits and >
+pub record HasHex (text : List ℕ) (m : ℕ) (body : List ℕ) : Type 0 where
+  pub front : take m text ≡ body ++ 62 ∷ []
   pub is_body : IsTrue (list_all is_hex_body body)
-  pub measured : m ≡ 1 + length body
+  pub within : m ≤ length text
 
-pub has_hex : (text : List ℕ) (m : ℕ) → hex_len text ≡ Some m → (body rest : List ℕ) × HasHex text m body rest
+pub has_hex : (text : List ℕ) (m : ℕ) → hex_len text ≡ Some m → (body : List ℕ) × HasHex text m body
 has_hex [] m e = cc
 has_hex (b ∷ text) m e =
     elim (cases_Bool (is_hex_body b)) [
       | inl is_hex ↦
-          let less = one_more_some (hex_len text) m (rw is_hex at e) in
-          let (body, rest, found) = has_hex text less.0 less.1 in
-          (b ∷ body, rest, record { whole = ap (λ t. b ∷ t) found.whole; is_body = and_from _ _ is_hex found.is_body; measured = omega (arith, less.2, found.measured) })
+          let (k, less, more) = one_more_some (hex_len text) m (rw is_hex at e) in
+          let (body, found) = has_hex text k less in
+          (b ∷ body, record { front = ap (λ n. take n (b ∷ text)) more ∙ ap (λ t. b ∷ t) found.front; is_body = and_from _ _ is_hex found.is_body; within = omega (arith, more, found.within) })
       | inr not_hex ↦
           elim (cases_Bool (b == 62)) [
-            | inl ends ↦ ([], text, record { whole = ap (λ c. c ∷ text) (eqb-true b 62 ends); is_body = refl; measured = let at = rw (not_hex, ends) at e in cc })
+            | inl ends ↦
+                let one : m ≡ 1 = let at = rw (not_hex, ends) at e in cc in
+                ([], record { front = ap (λ n. take n (b ∷ text)) one ∙ ap (λ c. c ∷ []) (eqb-true b 62 ends); is_body = refl; within = omega (arith, one) })
             | inr other ↦ let at = rw (not_hex, other) at e in cc
           ]
     ]
@@ -34,136 +38,70 @@ has_hex (b ∷ text) m e =
 pub hex_len-append : (body rest : List ℕ) → IsTrue (list_all is_hex_body body) → hex_len (body ++ 62 ∷ rest) ≡ Some (1 + length body)
 hex_len-append [] rest is_body = refl
 hex_len-append (b ∷ body) rest is_body =
-    let parts = and_parts _ _ is_body in
-    let is_hex : is_hex_body b ≡ true = parts.0 in
+    let (first, more) = and_parts (is_hex_body b) (list_all is_hex_body body) is_body in
+    let is_hex : is_hex_body b ≡ true = first in
     let longer : 1 + (1 + length body) ≡ 1 + length (b ∷ body) = omega arith in
-    rw is_hex (ap one_more (hex_len-append body rest parts.1) ∙ ap Some longer)
+    rw is_hex (ap one_more (hex_len-append body rest more) ∙ ap Some longer)
 
--- behind depth open parentheses the text begins with bytes that close them, m in all
-pub record HasClosing (depth : ℕ) (text : List ℕ) (m : ℕ) (bytes rest : List ℕ) : Type 0 where
-  pub whole : text ≡ bytes ++ rest
-  pub closes : closes_at_end depth bytes ≡ true
-  pub measured : m ≡ length bytes
+pub has_text : (place : Option Inside) (text : List ℕ) (m : ℕ) → text_len place text ≡ Some m → (closes_at_end place (take m text) ≡ true) × (m ≤ length text)
+has_text None text m e = let none : m ≡ 0 = cc in (rw none refl, omega (arith, none))
+has_text (Some place) [] m e = cc
+has_text (Some place) (b ∷ text) m e =
+    let (k, less, more) = one_more_some (text_len (after_byte place b) text) m e in
+    let found = has_text (after_byte place b) text k less in
+    (rw more found.0, omega (arith, more, found.1))
 
--- the same behind a backslash
-record HasEscaped (depth : ℕ) (text : List ℕ) (m : ℕ) (c : ℕ) (bytes rest : List ℕ) : Type 0 where
-  whole : text ≡ c ∷ bytes ++ rest
-  closes : closes_at_end depth bytes ≡ true
-  measured : m ≡ 1 + length bytes
+pub text_len-append : (place : Option Inside) (bytes rest : List ℕ) → closes_at_end place bytes ≡ true → text_len place (bytes ++ rest) ≡ Some (length bytes)
+text_len-append None bytes rest closes = ap Some (sym (eqb-true (length bytes) 0 closes))
+text_len-append (Some place) [] rest closes = cc
+text_len-append (Some place) (b ∷ bytes) rest closes =
+    let longer : 1 + length bytes ≡ length (b ∷ bytes) = omega arith in
+    ap one_more (text_len-append (after_byte place b) bytes rest closes) ∙ ap Some longer
 
-abbrev Reaches : Bool → ℕ → List ℕ → ℕ → Type 0
-Reaches false depth text m = (bytes rest : List ℕ) × HasClosing depth text m bytes rest
-Reaches true depth text m = (c : ℕ) × (bytes rest : List ℕ) × HasEscaped depth text m c bytes rest
+-- a step over one byte
+one_more_from : (i : ℕ) (count : Option ℕ) → option_map (λ n. i + n) (one_more count) ≡ option_map (λ n. i + 1 + n) count
+one_more_from i None = refl
+one_more_from i (Some n) = let e : i + (1 + n) ≡ i + 1 + n = omega arith in ap Some e
 
-closes_open : (depth : ℕ) (bytes : List ℕ) → closes_at_end (depth + 1) bytes ≡ true → closes_at_end depth (40 ∷ bytes) ≡ true
-closes_open depth [] closes = cc
-closes_open depth (c ∷ bytes) closes = closes
+pub text_len-step : (place next : Inside) (text : List ℕ) (i : ℕ) → i < length text → after_byte place (get_or text i 0) ≡ Some next
+    → option_map (λ n. i + 1 + n) (text_len (Some next) (drop (i + 1) text)) ≡ option_map (λ n. i + n) (text_len (Some place) (drop i text))
+text_len-step place next text i within is =
+    sym (ap (option_map (λ n. i + n)) (at_drop_more (text_len (Some place)) text i 0 within ∙ ap (λ o. one_more (text_len o (drop (i + 1) text))) is) ∙ one_more_from i (text_len (Some next) (drop (i + 1) text)))
 
-closes_close : (depth : ℕ) (bytes : List ℕ) → (depth == 1) ≡ false → closes_at_end (depth - 1) bytes ≡ true → closes_at_end depth (41 ∷ bytes) ≡ true
-closes_close depth [] deeper closes = cc
-closes_close depth (c ∷ bytes) deeper closes = rw deeper closes
+-- what closes ends with ), and each backslash before it has a byte after it
+abbrev pub EndsFrom : Option Inside → List ℕ → Type 0
+EndsFrom None bytes = bytes ≡ []
+EndsFrom (Some place) bytes = (body : List ℕ) × (bytes ≡ body ++ 41 ∷ []) × (is_paired place.escaped body ≡ true)
 
--- neither backslash nor parenthesis
-record IsPlain (b : ℕ) : Type 0 where
-  not_escape : (b == 92) ≡ false
-  not_open : (b == 40) ≡ false
-  not_close : (b == 41) ≡ false
+abbrev Follows : Inside → ℕ → Option Inside → Type 0
+Follows place b None = (b ≡ 41) × (place.escaped ≡ false)
+Follows place b (Some next) = (text : List ℕ) → is_paired place.escaped (b ∷ text) ≡ is_paired next.escaped text
 
-closes_plain : (depth b : ℕ) (bytes : List ℕ) → IsPlain b → closes_at_end depth bytes ≡ true → closes_at_end depth (b ∷ bytes) ≡ true
-closes_plain depth b [] plain closes = cc
-closes_plain depth b (c ∷ bytes) plain closes = rw (plain.not_escape, plain.not_open, plain.not_close) closes
-
--- a first byte before what closes
-reaches_more : (depth inner b : ℕ) (text : List ℕ) (m k : ℕ) → m ≡ 1 + k → ((bytes : List ℕ) → closes_at_end inner bytes ≡ true → closes_at_end depth (b ∷ bytes) ≡ true) → Reaches false inner text k → Reaches false depth (b ∷ text) m
-reaches_more depth inner b text m k more step found = (
-  b ∷ found.0,
-  found.1,
-  record {
-    whole = ap (λ t. b ∷ t) found.2.whole;
-    closes = step found.0 found.2.closes;
-    measured = omega (arith, found.2.measured);
-  },
-)
-
-reaches_escape : (depth : ℕ) (text : List ℕ) (m k : ℕ) → m ≡ 1 + k → Reaches true depth text k → Reaches false depth (92 ∷ text) m
-reaches_escape depth text m k more found = (
-  92 ∷ found.0 ∷ found.1,
-  found.2,
-  record {
-    whole = ap (λ t. 92 ∷ t) found.3.whole;
-    closes = found.3.closes;
-    measured = omega (arith, found.3.measured);
-  },
-)
-
-reaches : (escaped : Bool) (depth : ℕ) (text : List ℕ) (m : ℕ) → text_len escaped depth text ≡ Some m → Reaches escaped depth text m
-reaches false depth [] m e = cc
-reaches true depth [] m e = cc
-reaches true depth (c ∷ text) m e =
-    let less = one_more_some (text_len false depth text) m e in
-    let found = reaches false depth text less.0 less.1 in
-    (c, found.0, found.1, record { whole = ap (λ t. c ∷ t) found.2.whole; closes = found.2.closes; measured = omega (arith, less.2, found.2.measured) })
-reaches false depth (b ∷ text) m e =
+follows : (escaped : Bool) (depth b : ℕ) → let place : Inside = record { escaped = escaped; depth = depth } in Follows place b (after_byte place b)
+follows true depth b = λ text. refl
+follows false depth b =
     elim (cases_Bool (b == 92)) [
-      | inl is_escape ↦
-          let less = one_more_some (text_len true depth text) m (rw is_escape at e) in
-          subst (λ c. Reaches false depth (c ∷ text) m) (sym (eqb-true b 92 is_escape)) (reaches_escape depth text m less.0 less.2 (reaches true depth text less.0 less.1))
-      | inr not_escape ↦
+      | inl escape ↦ rw escape (λ text. ap (λ t. is_paired t text) escape)
+      | inr plain ↦
           elim (cases_Bool (b == 40)) [
-            | inl is_open ↦
-                let less = one_more_some (text_len false (depth + 1) text) m (rw (not_escape, is_open) at e) in
-                subst (λ c. Reaches false depth (c ∷ text) m) (sym (eqb-true b 40 is_open)) (reaches_more depth (depth + 1) 40 text m less.0 less.2 (closes_open depth) (reaches false (depth + 1) text less.0 less.1))
+            | inl opens ↦ rw (plain, opens) (λ text. ap (λ t. is_paired t text) plain)
             | inr not_open ↦
                 elim (cases_Bool (b == 41)) [
-                  | inl is_close ↦
+                  | inl close ↦
                       elim (cases_Bool (depth == 1)) [
-                        | inl last ↦ (
-                          41 ∷ [],
-                          text,
-                          record {
-                            whole = ap (λ c. c ∷ text) (eqb-true b 41 is_close);
-                            closes = last;
-                            measured = let at = rw (not_escape, not_open, is_close, last) at e in cc;
-                          },
-                        )
-                        | inr deeper ↦
-                            let less = one_more_some (text_len false (depth - 1) text) m (rw (not_escape, not_open, is_close, deeper) at e) in
-                            subst (λ c. Reaches false depth (c ∷ text) m) (sym (eqb-true b 41 is_close)) (reaches_more depth (depth - 1) 41 text m less.0 less.2 (λ bytes. closes_close depth bytes deeper) (reaches false (depth - 1) text less.0 less.1))
+                        | inl last ↦ rw (plain, not_open, close, last) (eqb-true b 41 close, refl)
+                        | inr deeper ↦ rw (plain, not_open, close, deeper) (λ text. ap (λ t. is_paired t text) plain)
                       ]
-                  | inr not_close ↦
-                      let less = one_more_some (text_len false depth text) m (rw (not_escape, not_open, not_close) at e) in
-                      reaches_more depth depth b text m less.0 less.2 (λ bytes. closes_plain depth b bytes (record { not_escape = not_escape; not_open = not_open; not_close = not_close })) (reaches false depth text less.0 less.1)
+                  | inr other ↦ rw (plain, not_open, other) (λ text. ap (λ t. is_paired t text) plain)
                 ]
           ]
     ]
 
--- one more than a length
-some_longer : (b : ℕ) (bytes : List ℕ) → Some (1 + length bytes) ≡ Some (length (b ∷ bytes))
-some_longer b bytes = let longer : 1 + length bytes ≡ length (b ∷ bytes) = omega arith in ap Some longer
+ends_more : (place : Inside) (b : ℕ) (bytes : List ℕ) (next : Option Inside) → Follows place b next → EndsFrom next bytes → EndsFrom (Some place) (b ∷ bytes)
+ends_more place b bytes None (close, plain) none = ([], rw (close, none) refl, ap (λ e. is_paired e []) plain)
+ends_more place b bytes (Some next) same (body, whole, paired) = (b ∷ body, ap (λ t. b ∷ t) whole, same body ∙ paired)
 
-pub text_len-append : (depth : ℕ) (bytes rest : List ℕ) → closes_at_end depth bytes ≡ true → text_len false depth (bytes ++ rest) ≡ Some (length bytes)
-text_len-append depth [] rest closes = cc
-text_len-append depth (b ∷ []) rest closes =
-    let parts = and_parts _ _ closes in
-    let last : (depth == 1) ≡ true = parts.1 in
-    subst (λ c. text_len false depth (c ∷ rest) ≡ Some 1) (sym (eqb-true b 41 parts.0)) (rw last refl)
-text_len-append depth (b ∷ c ∷ bytes) rest closes =
-    elim (cases_Bool (b == 92)) [
-      | inl is_escape ↦ rw is_escape (ap (λ n. one_more (one_more n)) (text_len-append depth bytes rest (rw is_escape at closes)) ∙ ap one_more (some_longer c bytes) ∙ some_longer b (c ∷ bytes))
-      | inr not_escape ↦
-          elim (cases_Bool (b == 40)) [
-            | inl is_open ↦ rw (not_escape, is_open) (ap one_more (text_len-append (depth + 1) (c ∷ bytes) rest (rw (not_escape, is_open) at closes)) ∙ some_longer b (c ∷ bytes))
-            | inr not_open ↦
-                elim (cases_Bool (b == 41)) [
-                  | inl is_close ↦
-                      elim (cases_Bool (depth == 1)) [
-                        | inl last ↦ let at = rw (not_escape, not_open, is_close, last) at closes in cc
-                        | inr deeper ↦ rw (not_escape, not_open, is_close, deeper) (ap one_more (text_len-append (depth - 1) (c ∷ bytes) rest (rw (not_escape, not_open, is_close, deeper) at closes)) ∙ some_longer b (c ∷ bytes))
-                      ]
-                  | inr not_close ↦ rw (not_escape, not_open, not_close) (ap one_more (text_len-append depth (c ∷ bytes) rest (rw (not_escape, not_open, not_close) at closes)) ∙ some_longer b (c ∷ bytes))
-                ]
-          ]
-    ]
-
-pub has_closing : (depth : ℕ) (text : List ℕ) (m : ℕ) → text_len false depth text ≡ Some m → (bytes rest : List ℕ) × HasClosing depth text m bytes rest
-has_closing depth text m e = reaches false depth text m e
+pub ends_from : (place : Option Inside) (bytes : List ℕ) → closes_at_end place bytes ≡ true → EndsFrom place bytes
+ends_from None bytes closes = nil_from_length bytes (eqb-true (length bytes) 0 closes)
+ends_from (Some place) [] closes = cc
+ends_from (Some place) (b ∷ bytes) closes = ends_more place b bytes (after_byte place b) (follows place.escaped place.depth b) (ends_from (after_byte place b) bytes closes)

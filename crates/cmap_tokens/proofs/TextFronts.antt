@@ -1,106 +1,73 @@
 -- The front of a text: what the code reads is the one front, and there is none where it reads none.
-use Rattle.std.proofs.Common.{◌≡◌, ℕ, ◌<◌, ◌≤◌, false, List, [], ◌∷◌, ◌++◌, length, take, drop, Some, None, refl, sym, ap, ◌∙◌, subst, inl, inr, arith, length-append, append_assoc}
-use Rattle.std.proofs.lemmas.List.{take_at, drop_at, drop_all}
-use Rattle.cmap_tokens.specs.Bytes.{IsBlank}
+use Rattle.std.proofs.Common.{◌≡◌, ℕ, ◌<◌, false, List, ◌++◌, length, take, drop, None, Some, inl, inr, refl, sym, ap, ◌∙◌, subst, arith, append_assoc}
+use Rattle.std.specs.Prelude.{IfSome}
+use Rattle.std.proofs.lemmas.Bool.{cases_lt}
+use Rattle.std.proofs.lemmas.List.{take_at, drop_at, drop_all, take-append-drop}
+use Rattle.cmap_tokens.specs.Gaps.{IsBlank}
 use Rattle.cmap_tokens.specs.Tokens.{Token, Front, IsMalformed}
 use Rattle.cmap_tokens.specs.Scanner.{OnlyFront}
-use Rattle.cmap_tokens.specs.TokenReading.{gap_len, piece_len, token_of}
-use Rattle.cmap_tokens.proofs.GapLengths.{begins, gap_len-append, gap_len-blank, gap_len-solid}
-use Rattle.cmap_tokens.proofs.TokenPieces.{has_piece, is_read}
+use Rattle.cmap_tokens.specs.TokenReading.{gap_len, first_piece}
+use Rattle.cmap_tokens.specs.TokensLeft.{after_gap}
+use Rattle.cmap_tokens.proofs.Gaps.{measured, gap_len-append, gap_len-blank}
+use Rattle.cmap_tokens.proofs.TokenPieces.{IsFirst, first_is, is_read}
 
--- where a front's parts stand
-record Measures (text gap piece : List ℕ) (token : Token) (rest : List ℕ) : Type 0 where
-  gap_measured : gap_len false text ≡ length gap
-  behind_gap : drop (length gap) text ≡ piece ++ rest
-  piece_measured : piece_len (piece ++ rest) ≡ Some (length piece)
-  read : token ≡ token_of piece
+-- a front is read as it is
+pub record ReadsFront (text gap piece : List ℕ) (token : Token) (rest : List ℕ) : Type 0 where
+  pub first : first_piece (after_gap text) ≡ Some (token, length piece)
+  pub gap_is : gap ≡ take (gap_len false text) text
+  pub piece_is : piece ≡ take (length piece) (after_gap text)
+  pub rest_is : rest ≡ drop (length piece) (after_gap text)
+  pub filled : 0 < length piece
 
-measures : (text gap piece : List ℕ) (token : Token) (rest : List ℕ) → Front text gap piece token rest → Measures text gap piece token rest
-measures text gap piece token rest front =
-    let is = is_read piece token rest front.piece_is front.longest in
-    let (b, more, shape, solid) = is.begins_solid in
+pub reads_front : (text gap piece : List ℕ) (token : Token) (rest : List ℕ) → Front text gap piece token rest → ReadsFront text gap piece token rest
+reads_front text gap piece token rest front =
+    let read = is_read piece token rest front.piece_is front.longest in
     let whole : text ≡ gap ++ (piece ++ rest) = front.whole ∙ append_assoc gap piece rest in
-    let none : gap_len false (piece ++ rest) ≡ 0 = ap (λ p. gap_len false (p ++ rest)) shape ∙ gap_len-solid b (more ++ rest) solid in
+    let long : length gap ≡ gap_len false text = sym (ap (gap_len false) whole ∙ gap_len-append false false gap (piece ++ rest) front.gap_is ∙ omega (arith, read.no_gap)) in
+    let after : after_gap text ≡ piece ++ rest = ap (drop (gap_len false text)) whole ∙ drop_at gap (piece ++ rest) (gap_len false text) long in
     record {
-      gap_measured = ap (gap_len false) whole ∙ gap_len-append gap (piece ++ rest) front.gap_is ∙ omega (arith, none);
-      behind_gap = ap (drop (length gap)) whole ∙ drop_at gap (piece ++ rest) (length gap) refl;
-      piece_measured = is.measured;
-      read = is.read;
+      first = ap first_piece after ∙ read.first;
+      gap_is = sym (ap (take (gap_len false text)) whole ∙ take_at gap (piece ++ rest) (gap_len false text) long);
+      piece_is = sym (ap (take (length piece)) after ∙ take_at piece rest (length piece) refl);
+      rest_is = sym (ap (drop (length piece)) after ∙ drop_at piece rest (length piece) refl);
+      filled = read.filled;
     }
 
--- the parts of a front are those that the code cuts
-front_is : (text gap piece : List ℕ) (token : Token) (rest : List ℕ) (m : ℕ) → Front text gap piece token rest → piece_len (drop (gap_len false text) text) ≡ Some m
-    → (gap ≡ take (gap_len false text) text) × (piece ≡ take m (drop (gap_len false text) text)) × (token ≡ token_of (take m (drop (gap_len false text) text))) × (rest ≡ drop m (drop (gap_len false text) text))
-front_is text gap piece token rest m front e =
-    let at = measures text gap piece token rest front in
-    let behind : drop (gap_len false text) text ≡ piece ++ rest = ap (λ n. drop n text) at.gap_measured ∙ at.behind_gap in
-    let long : Some m ≡ Some (length piece) = sym e ∙ ap piece_len behind ∙ at.piece_measured in
-    let same : length piece ≡ m = cc in
-    let cut : take m (drop (gap_len false text) text) ≡ piece = ap (take m) behind ∙ take_at piece rest m same in (
-      sym (ap (λ n. take n text) at.gap_measured ∙ ap (take (length gap)) (front.whole ∙ append_assoc gap piece rest) ∙ take_at gap (piece ++ rest) (length gap) refl),
-      sym cut,
-      at.read ∙ ap token_of (sym cut),
-      sym (ap (drop m) behind ∙ drop_at piece rest m same),
-    )
-
--- a front that the code reads
-has_front : (text : List ℕ) (m : ℕ) → piece_len (drop (gap_len false text) text) ≡ Some m → (gap piece rest : List ℕ) × Front text gap piece (token_of piece) rest
-unfolding piece_len
-has_front text m e =
-    elim (begins text) [
-      | inl (gap, b, rest, found) ↦
-          let behind : drop (gap_len false text) text ≡ b ∷ rest = ap (λ n. drop n text) found.measured ∙ ap (drop (length gap)) found.whole ∙ drop_at gap (b ∷ rest) (length gap) refl in
-          let (piece, after, cut) = has_piece (b ∷ rest) m (sym (ap piece_len behind) ∙ e) in (
-            gap,
-            piece,
-            after,
-            record {
-              whole = found.whole ∙ ap (λ t. gap ++ t) cut.whole ∙ sym (append_assoc gap piece after);
-              gap_is = found.is_gap;
-              piece_is = cut.is_token;
-              longest = cut.longest;
-            },
-          )
-      | inr (blank, measured) ↦
-          let none : drop (gap_len false text) text ≡ [] = drop_all (gap_len false text) text (omega (arith, measured)) in
-          let at : None ≡ Some m = sym (ap piece_len none) ∙ e in
-          cc
+-- a token is read only before the end of the text
+before_end : (text : List ℕ) (first : Token × ℕ) → first_piece (after_gap text) ≡ Some first → gap_len false text < length text
+unfolding first_piece
+before_end text first e =
+    elim (cases_lt (gap_len false text) (length text)) [
+      | inl before ↦ before
+      | inr past ↦ let none : None ≡ Some first = ap first_piece (sym (drop_all (gap_len false text) text past)) ∙ e in cc
     ]
 
-same_front : (text g g' p p' : List ℕ) (t t' : Token) (r r' : List ℕ) → g ≡ g' → p ≡ p' → t ≡ t' → r ≡ r' → Front text g p t r → Front text g' p' t' r'
-same_front text g g' p p' t t' r r' same_gap same_piece same_token same_rest front =
-    subst (λ x. Front text x p' t' r') same_gap (subst (λ x. Front text g x t' r') same_piece (subst (λ x. Front text g p x r') same_token (subst (λ x. Front text g p t x) same_rest front)))
-
-pub only_front : (text : List ℕ) (m : ℕ) → piece_len (drop (gap_len false text) text) ≡ Some m
-    → OnlyFront text (take (gap_len false text) text) (take m (drop (gap_len false text) text)) (token_of (take m (drop (gap_len false text) text))) (drop m (drop (gap_len false text) text))
-only_front text m e =
-    let n = gap_len false text in
-    let (gap, piece, rest, front) = has_front text m e in
-    let (same_gap, same_piece, same_token, same_rest) = front_is text gap piece (token_of piece) rest m front e in
+pub only_front : (text : List ℕ) (first : Token × ℕ) → first_piece (after_gap text) ≡ Some first
+    → OnlyFront text (take (gap_len false text) text) (take first.1 (after_gap text)) first.0 (drop first.1 (after_gap text))
+only_front text first e =
+    let is : IsFirst (after_gap text) first = subst (λ o. IfSome o (IsFirst (after_gap text))) e (first_is (after_gap text)) in
     record {
-      front = same_front text gap (take n text) piece (take m (drop n text)) (token_of piece) (token_of (take m (drop n text))) rest (drop m (drop n text)) same_gap same_piece same_token same_rest front;
-      only = λ g p r t other. front_is text g p t r m other e;
+      front = record {
+        whole = sym (append_assoc (take (gap_len false text) text) _ _ ∙ ap (λ r. take (gap_len false text) text ++ r) (take-append-drop first.1 (after_gap text)) ∙ take-append-drop (gap_len false text) text);
+        gap_is = (measured false text).gap (before_end text first e);
+        piece_is = is.is_token;
+        longest = is.longest;
+      };
+      only = λ gap piece rest token other.
+          let read = reads_front text gap piece token rest other in
+          let same : Some (token, length piece) ≡ Some first = sym read.first ∙ e in
+          let long : length piece ≡ first.1 = cc in
+          let is_token : token ≡ first.0 = cc in
+          (read.gap_is, read.piece_is ∙ ap (λ n. take n (after_gap text)) long, is_token, read.rest_is ∙ ap (λ n. drop n (after_gap text)) long);
     }
-
--- blank texts
-pub blank_from : (text : List ℕ) → length text ≤ gap_len false text → IsBlank text
-blank_from text long =
-    elim (begins text) [
-      | inl (gap, b, rest, found) ↦ absurd (omega (arith, long, found.measured, ap length found.whole, length-append gap (b ∷ rest)))
-      | inr (blank, measured) ↦ blank
-    ]
 
 pub front_not_blank : (text gap piece : List ℕ) (token : Token) (rest : List ℕ) → Front text gap piece token rest → IsBlank text → ⊥
 front_not_blank text gap piece token rest front blank =
-    let at = measures text gap piece token rest front in
-    let (b, more, shape, solid) = (is_read piece token rest front.piece_is front.longest).begins_solid in
-    omega (arith, at.gap_measured, gap_len-blank text blank, ap length (front.whole ∙ append_assoc gap piece rest), length-append gap (piece ++ rest), length-append piece rest, ap length shape)
+    let before = before_end text (token, length piece) (reads_front text gap piece token rest front).first in
+    omega (arith, before, gap_len-blank text blank)
 
-pub malformed_from : (text : List ℕ) → gap_len false text < length text → piece_len (drop (gap_len false text) text) ≡ None → IsMalformed text
+pub malformed_from : (text : List ℕ) → gap_len false text < length text → first_piece (after_gap text) ≡ None → IsMalformed text
 malformed_from text short e = (
-  λ blank. absurd (omega (arith, short, gap_len-blank text blank)),
-  λ gap piece rest token front.
-      let at = measures text gap piece token rest front in
-      let some : Some (length piece) ≡ None = sym at.piece_measured ∙ ap piece_len (sym (ap (λ n. drop n text) at.gap_measured ∙ at.behind_gap)) ∙ e in
-      cc,
+  λ blank. omega (arith, short, gap_len-blank text blank),
+  λ gap piece rest token front. let some : Some (token, length piece) ≡ None = sym (reads_front text gap piece token rest front).first ∙ e in cc,
 )

@@ -1,5 +1,6 @@
 pub mod Ascii
 pub mod Bytes
+pub mod Gaps
 pub mod Numbers
 pub mod Tokens
 pub mod Strings

@@ -1,9 +1,10 @@
 -- How numbers are spelled. PostScript Language Reference, third edition, 3.2.2, over whole runs of regular bytes.
-use Rattle.std.specs.Prelude.{◌≡◌, ℕ, ℤ, pos, neg_ℤ, ◌-◌, ◌<◌, ◌≤◌, ◌^◌, ◌||◌, ◌&&◌, ◌==◌, List, [], ◌∷◌, ◌++◌, ◌⊎◌, length, map, count_by, codes, Contains, IsTrue, int_le, if◌then◌else◌}
-use Rattle.std.specs.List.{list_any, list_all}
+use Rattle.std.specs.Prelude.{ℕ, ℤ, pos, neg_ℤ, ◌+◌, ◌-◌, ◌^◌, ◌||◌, ◌&&◌, ◌==◌, nat_lt, nat_le, Bool, false, List, [], ◌∷◌, length, drop, map, Option, Some, None, option_map, option_and_then, int_le, if◌then◌else◌}
+use Rattle.std.specs.List.{list_all, prefix_len}
+use Rattle.std.specs.Option.{option_or}
 use Rattle.std.specs.Char.{digit_value, is_digit}
 use Rattle.std.specs.Int.Digits.{number_from_digits}
-use Rattle.cmap_tokens.specs.Ascii.{hash, plus, minus, dot}
+use Rattle.cmap_tokens.specs.Ascii.{hash, plus, minus, dot, letter_e, capital_e}
 
 -- the value of a number token
 pub data Number : Type 0 where
@@ -14,42 +15,66 @@ pub data Number : Type 0 where
 abbrev pub number_of : ℤ → Number
 number_of n = if int_le (neg_ℤ (pos (2 ^ 63))) n && int_le n (pos (2 ^ 63 - 1)) then Integer n else Real
 
--- + or - or nothing
-abbrev pub IsSign : List ℕ → Type 0
-IsSign sign = (sign ≡ []) ⊎ ((sign ≡ plus ∷ []) ⊎ (sign ≡ minus ∷ []))
-
 -- one or more digits of a base
-abbrev pub AreDigits : ℕ → List ℕ → Type 0
-AreDigits base digits = (0 < length digits) × IsTrue (list_all (λ c. is_digit c base) digits)
+abbrev pub are_digits : ℕ → List ℕ → Bool
+are_digits base text = nat_lt 0 (length text) && list_all (λ c. is_digit c base) text
 
 -- the number that they write
 abbrev pub digits_number : ℕ → List ℕ → ℕ
 digits_number base digits = number_from_digits base (map digit_value digits)
 
--- -17, +4, 08
-abbrev pub IsInteger : List ℕ → ℤ → Type 0
-IsInteger text n = (digits : List ℕ) × AreDigits 10 digits
-    × (((text ≡ digits) ⊎ (text ≡ plus ∷ digits)) × (n ≡ pos (digits_number 10 digits))
-    ⊎ ((text ≡ minus ∷ digits) × (n ≡ neg_ℤ (pos (digits_number 10 digits)))))
+-- the number that a text writes, if it is digits
+abbrev pub digits_value : ℕ → List ℕ → Option ℕ
+digits_value base text = if are_digits base text then Some (digits_number base text) else None
 
--- digits, one dot at the most among them
-abbrev pub IsMantissa : List ℕ → Type 0
-IsMantissa text = IsTrue (list_all (λ c. is_digit c 10 || c == dot) text) × (count_by (λ c. c == dot) text ≤ 1) × IsTrue (list_any (λ c. is_digit c 10) text)
+-- -17, +4, 08
+unfoldable pub integer : List ℕ → Option Number
+integer [] = None
+integer (b ∷ text) =
+    if b == minus then option_map (λ n. number_of (neg_ℤ (pos n))) (digits_value 10 text)
+    else if b == plus then option_map (λ n. number_of (pos n)) (digits_value 10 text)
+    else option_map (λ n. number_of (pos n)) (digits_value 10 (b ∷ text))
+
+-- digits in a base from 2 to 36, which is itself spelled in digits
+unfoldable pub integer_in_base : List ℕ → List ℕ → Option Number
+integer_in_base base digits =
+    option_and_then (λ b. if nat_le 2 b && nat_le b 36 then option_map (λ n. number_of (pos n)) (digits_value b digits) else None) (digits_value 10 base)
+
+-- 16#1F: a base of one or two digits, and digits of that base
+unfoldable pub radix_integer : List ℕ → Option Number
+radix_integer [] = None
+radix_integer (a ∷ []) = None
+radix_integer (a ∷ b ∷ []) = if b == hash then integer_in_base (a ∷ []) [] else None
+radix_integer (a ∷ b ∷ c ∷ text) =
+    if b == hash then integer_in_base (a ∷ []) (c ∷ text)
+    else if c == hash then integer_in_base (a ∷ b ∷ []) text
+    else None
+
+-- the text after its sign, if it has one
+abbrev pub without_sign : List ℕ → List ℕ
+without_sign [] = []
+without_sign (b ∷ text) = if b == plus || b == minus then text else b ∷ text
+
+-- how many digits of a base a text begins with
+abbrev pub digits_len : ℕ → List ℕ → ℕ
+digits_len base text = prefix_len (λ c. is_digit c base) text
 
 -- e or E, a sign, digits
-abbrev pub IsExponent : List ℕ → Type 0
-IsExponent text = (letter : ℕ) × (sign digits : List ℕ) × (text ≡ letter ∷ sign ++ digits) × Contains (codes "eE") letter × IsSign sign × AreDigits 10 digits
+abbrev pub is_exponent : List ℕ → Bool
+is_exponent [] = false
+is_exponent (b ∷ text) = (b == letter_e || b == capital_e) && are_digits 10 (without_sign text)
 
--- 4.5, .5e3, 1E9: with a dot or an exponent
-abbrev pub IsReal : List ℕ → Type 0
-IsReal text = (sign mantissa exponent : List ℕ) × (text ≡ sign ++ mantissa ++ exponent) × IsSign sign × IsMantissa mantissa
-    × (IsExponent exponent ⊎ ((exponent ≡ []) × IsTrue (list_any (λ c. c == dot) mantissa)))
+-- what stands after the first len digits of a real: a dot, digits, and perhaps an exponent, or else an exponent. A digit stands before or after the dot
+abbrev pub ends_real : ℕ → List ℕ → Bool
+ends_real len [] = false
+ends_real len (b ∷ text) =
+    if b == dot then nat_lt 0 (len + digits_len 10 text) && (length (drop (digits_len 10 text) text) == 0 || is_exponent (drop (digits_len 10 text) text))
+    else nat_lt 0 len && is_exponent (b ∷ text)
 
--- 16#1F: a base of one or two digits, from 2 to 36, and digits of that base
-abbrev pub IsRadix : List ℕ → ℕ → Type 0
-IsRadix text n = (base digits : List ℕ) × (text ≡ base ++ hash ∷ digits) × AreDigits 10 base × (length base ≤ 2) × (2 ≤ digits_number 10 base) × (digits_number 10 base ≤ 36)
-    × AreDigits (digits_number 10 base) digits × (n ≡ digits_number (digits_number 10 base) digits)
+-- 4.5, -.5e3, 1E9
+unfoldable pub is_real : List ℕ → Bool
+is_real text = ends_real (digits_len 10 (without_sign text)) (drop (digits_len 10 (without_sign text)) (without_sign text))
 
--- the text is spelled as a number, which is this one
-abbrev pub IsNumeral : List ℕ → Number → Type 0
-IsNumeral text x = ((n : ℤ) × IsInteger text n × (x ≡ number_of n)) ⊎ ((IsReal text × (x ≡ Real)) ⊎ ((n : ℕ) × IsRadix text n × (x ≡ number_of (pos n))))
+-- the number that a text is spelled as: an integer, else an integer with its base, else a real
+unfoldable pub numeral : List ℕ → Option Number
+numeral text = option_or (integer text) (option_or (radix_integer text) (if is_real text then Some Real else None))

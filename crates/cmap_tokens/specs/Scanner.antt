@@ -20,7 +20,7 @@ pub record OnlyFront (text gap piece : List ℕ) (token : Token) (rest : List �
 abbrev pub FirstToken : List ℕ → Token → ℕ → Type 0
 FirstToken text token len = (gap piece : List ℕ) × OnlyFront text gap piece token (drop len text) × (len ≡ length gap + length piece)
 
--- the token is that of the one front of what is left, and the new place is behind its piece
+-- the token is that of the one front of what is left, and the new place is after its piece
 abbrev pub ReadsToken : Place → Token → Place → Type 0
 ReadsToken old token new =
     (gap piece : List ℕ) × OnlyFront (rest_of old) gap piece token (rest_of new) × (new ≡ record { source = old.source; passed = old.passed + (length gap + length piece) })

@@ -1,11 +1,11 @@
 -- The bytes that a string token stands for. PostScript Language Reference, third edition, 3.2.2.
-use Rattle.std.specs.Prelude.{◌≡◌, ℕ, ◌+◌, ◌*◌, ◌%◌, ◌<◌, ◌≤◌, ◌||◌, ◌==◌, Bool, false, List, [], ◌∷◌, ◌++◌, ◌⊎◌, length, map, filter, Option, Some, None, is_some, IsTrue, if◌then◌else◌}
+use Rattle.std.specs.Prelude.{◌≡◌, ℕ, ◌+◌, ◌-◌, ◌*◌, ◌%◌, ◌<◌, ◌≤◌, ◌||◌, ◌==◌, ◌&&◌, ◌⊎◌, nat_le, Bool, false, List, [], ◌∷◌, ◌++◌, length, get_or, take, drop, map, filter, IsTrue, if◌then◌else◌}
 use Rattle.std.specs.List.{list_all}
 use Rattle.std.specs.Char.{digit_value, is_digit}
 use Rattle.cmap_tokens.specs.Ascii.{backspace, tab, line_feed, form_feed, carriage_return, open_parenthesis, close_parenthesis, less, greater, backslash, letter_b, letter_f, letter_n, letter_r, letter_t}
-use Rattle.cmap_tokens.specs.Numbers.{AreDigits, digits_number}
+use Rattle.cmap_tokens.specs.Numbers.{are_digits, digits_number}
 
--- two digits make a byte, and behind an odd last digit stands 0
+-- two digits make a byte, and after an odd last digit stands 0
 abbrev pub digit_pairs : List ℕ → List ℕ
 digit_pairs [] = []
 digit_pairs (high ∷ []) = 16 * high ∷ []
@@ -15,16 +15,15 @@ digit_pairs (high ∷ low ∷ digits) = (16 * high + low) ∷ digit_pairs digits
 abbrev pub hex_value : List ℕ → List ℕ
 hex_value body = digit_pairs (map digit_value (filter (λ b. is_digit b 16) body))
 
--- \n \r \t \b \f, and \\ \( \) for the byte itself
-abbrev pub escape_value : ℕ → Option ℕ
+-- after a backslash: \n \r \t \b \f, and any other byte is itself
+abbrev pub escape_value : ℕ → ℕ
 escape_value c =
-    if c == letter_n then Some line_feed
-    else if c == letter_r then Some carriage_return
-    else if c == letter_t then Some tab
-    else if c == letter_b then Some backspace
-    else if c == letter_f then Some form_feed
-    else if c == backslash || c == open_parenthesis || c == close_parenthesis then Some c
-    else None
+    if c == letter_n then line_feed
+    else if c == letter_r then carriage_return
+    else if c == letter_t then tab
+    else if c == letter_b then backspace
+    else if c == letter_f then form_feed
+    else c
 
 -- the text begins with this byte
 abbrev pub begins_with : ℕ → List ℕ → Bool
@@ -46,24 +45,30 @@ is_line_byte b = b == line_feed || b == carriage_return
 pub data IsPart : List ℕ → List ℕ → List ℕ → Type 0 where
   plain : (b : ℕ) (next : List ℕ) → b == backslash || is_line_byte b ≡ false → IsPart (b ∷ []) (b ∷ []) next
   line_end : (text next : List ℕ) → IsLineEnd text next → IsPart text (line_feed ∷ []) next
-  escape : (c b : ℕ) (next : List ℕ) → escape_value c ≡ Some b → IsPart (backslash ∷ c ∷ []) (b ∷ []) next
+  escaped : (c : ℕ) (next : List ℕ) → is_digit c 8 || is_line_byte c ≡ false → IsPart (backslash ∷ c ∷ []) (escape_value c ∷ []) next
   -- three octal digits, or fewer where no further one follows
-  octal : (digits next : List ℕ) → AreDigits 8 digits → length digits ≤ 3 → (length digits ≡ 3) ⊎ (begins_octal next ≡ false) → IsPart (backslash ∷ digits) (digits_number 8 digits % 256 ∷ []) next
+  octal : (digits next : List ℕ) → IsTrue (are_digits 8 digits) → length digits ≤ 3 → (length digits ≡ 3) ⊎ (begins_octal next ≡ false) → IsPart (backslash ∷ digits) (digits_number 8 digits % 256 ∷ []) next
   -- a backslash before the end of a line takes it away
   continued : (text next : List ℕ) → IsLineEnd text next → IsPart (backslash ∷ text) [] next
-  -- and before any other byte it is dropped
-  dropped : (c : ℕ) (next : List ℕ) → is_some (escape_value c) || is_digit c 8 || is_line_byte c ≡ false → IsPart (backslash ∷ c ∷ []) (c ∷ []) next
 
 -- the body of ( .. ) is these parts, each with its bytes, and stands for all their bytes
 abbrev pub IsCut : List (List ℕ × List ℕ) → List ℕ → List ℕ → Type 0
 IsCut [] body value = (body ≡ []) × (value ≡ [])
 IsCut (part ∷ parts) body value = (next more : List ℕ) × (body ≡ part.0 ++ next) × (value ≡ part.1 ++ more) × IsPart part.0 part.1 next × IsCut parts next more
 
+-- the piece stands between these two bytes
+abbrev pub is_between : ℕ → ℕ → List ℕ → Bool
+is_between first last piece = get_or piece 0 0 == first && nat_le 2 (length piece) && get_or piece (length piece - 1) 0 == last
+
+-- what stands between its first and its last byte
+abbrev pub inside : List ℕ → List ℕ
+inside piece = drop 1 (take (length piece - 1) piece)
+
 -- the bytes that a string token stands for
 abbrev pub IsValue : List ℕ → List ℕ → Type 0
 IsValue piece value =
-    ((body : List ℕ) × (piece ≡ less ∷ body ++ greater ∷ []) × (value ≡ hex_value body))
-    ⊎ ((body : List ℕ) × (parts : List (List ℕ × List ℕ)) × (piece ≡ open_parenthesis ∷ body ++ close_parenthesis ∷ []) × IsCut parts body value)
+    (IsTrue (is_between less greater piece) × (value ≡ hex_value (inside piece)))
+    ⊎ (IsTrue (is_between open_parenthesis close_parenthesis piece) × (parts : List (List ℕ × List ℕ)) × IsCut parts (inside piece) value)
 
 -- a piece stands for one value, if it stands for any
 abbrev pub HaveOneValue : Type 0
@@ -75,7 +80,7 @@ ArePairs digits = IsTrue (list_all (λ c. is_digit c 16) digits) × (length digi
 
 -- < such digits >
 abbrev pub IsPlain : List ℕ → Type 0
-IsPlain piece = (digits : List ℕ) × (piece ≡ less ∷ digits ++ greater ∷ []) × ArePairs digits
+IsPlain piece = IsTrue (is_between less greater piece) × ArePairs (inside piece)
 
 -- the piece stands for these bytes alone
 pub record IsOnlyValue (piece value : List ℕ) : Type 0 where

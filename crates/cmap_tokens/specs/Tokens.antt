@@ -1,12 +1,14 @@
 -- Tokens, and the tokens of a text. PostScript Language Reference, third edition, 3.2, without base-85 strings, # escapes and immediately evaluated names.
-use Rattle.std.specs.Prelude.{◌≡◌, ℕ, ◌+◌, ◌-◌, ◌<◌, ◌||◌, ◌&&◌, ◌==◌, Bool, true, false, List, [], ◌∷◌, ◌++◌, ◌⊎◌, length, codes, Contains, IsTrue, if◌then◌else◌}
-use Rattle.std.specs.List.{list_all}
+use Rattle.std.specs.Prelude.{◌≡◌, ℕ, ◌+◌, ◌-◌, ◌<◌, ◌||◌, ◌==◌, Bool, true, false, List, [], ◌∷◌, ◌++◌, ◌⊎◌, length, codes, Option, Some, None, IsTrue, if◌then◌else◌}
+use Rattle.std.specs.List.{list_any, list_all}
+use Rattle.std.specs.Option.{option_map_or}
 use Rattle.std.specs.Char.{is_digit}
 use Rattle.cmap_tokens.specs.Ascii.{open_parenthesis, close_parenthesis, slash, less, greater, backslash}
-use Rattle.cmap_tokens.specs.Bytes.{is_white, is_regular, IsGap, IsBlank}
-use Rattle.cmap_tokens.specs.Numbers.{Number, IsNumeral}
+use Rattle.cmap_tokens.specs.Bytes.{is_white, is_regular}
+use Rattle.cmap_tokens.specs.Gaps.{IsGap, IsBlank}
+use Rattle.cmap_tokens.specs.Numbers.{Number, numeral}
 
--- a token: a name, literal or executable, with its bytes behind the slash; a string, with its brackets; a number
+-- a token: a name, literal or executable, with its bytes after the slash; a string, with its brackets; a number
 pub data Token : Type 0 where
   Name : Bool → List ℕ → Token
   String : List ℕ → Token
@@ -16,35 +18,61 @@ pub data Token : Type 0 where
 abbrev pub IsRun : List ℕ → Type 0
 IsRun text = (0 < length text) × IsTrue (list_all is_regular text)
 
-abbrev pub brackets : List (List ℕ)
-brackets = codes "[" ∷ codes "]" ∷ codes "{" ∷ codes "}" ∷ codes "<<" ∷ codes ">>" ∷ []
+-- a run that is spelled as a number is that number, and else a name
+abbrev pub name_or_number : List ℕ → Token
+name_or_number run = option_map_or Numeral (numeral run) (Name false run)
+
+-- [ ] { }
+abbrev pub is_bracket : ℕ → Bool
+is_bracket b = list_any (λ c. b == c) (codes "[]{}")
+
+-- these, << and >>
+abbrev pub IsBracket : List ℕ → Type 0
+IsBracket piece = ((b : ℕ) × (piece ≡ b ∷ []) × IsTrue (is_bracket b)) ⊎ ((piece ≡ codes "<<") ⊎ (piece ≡ codes ">>"))
+
+-- digits and white bytes
+abbrev pub is_hex_body : ℕ → Bool
+is_hex_body b = is_white b || is_digit b 16
 
 -- < digits >, white bytes among them
 abbrev pub IsHexString : List ℕ → Type 0
-IsHexString piece = (body : List ℕ) × (piece ≡ less ∷ body ++ greater ∷ []) × IsTrue (list_all (λ b. is_white b || is_digit b 16) body)
+IsHexString piece = (body : List ℕ) × (piece ≡ less ∷ body ++ greater ∷ []) × IsTrue (list_all is_hex_body body)
 
--- behind depth open parentheses the last one closes at the last byte, and not before; a byte behind a backslash doesn't count
-abbrev pub closes_at_end : ℕ → List ℕ → Bool
-closes_at_end depth [] = false
-closes_at_end depth (b ∷ []) = b == close_parenthesis && depth == 1
-closes_at_end depth (b ∷ c ∷ bytes) =
-    if b == backslash then closes_at_end depth bytes
-    else if b == open_parenthesis then closes_at_end (depth + 1) (c ∷ bytes)
-    else if b == close_parenthesis then (if depth == 1 then false else closes_at_end (depth - 1) (c ∷ bytes))
-    else closes_at_end depth (c ∷ bytes)
+-- a place in ( .. ): whether it stands after a backslash, so that the next byte doesn't count, and how many parentheses are open
+pub record Inside : Type 0 where
+  pub escaped : Bool
+  pub depth : ℕ
+
+-- the place after one more byte; none after the ) that closes the first parenthesis
+abbrev pub after_byte : Inside → ℕ → Option Inside
+after_byte place b =
+    if place.escaped then Some (record { escaped = false; depth = place.depth })
+    else if b == backslash then Some (record { escaped = true; depth = place.depth })
+    else if b == open_parenthesis then Some (record { escaped = false; depth = place.depth + 1 })
+    else if b == close_parenthesis then (if place.depth == 1 then None else Some (record { escaped = false; depth = place.depth - 1 }))
+    else Some (record { escaped = false; depth = place.depth })
+
+-- from this place the first parenthesis is closed by the last byte, and not before
+abbrev pub closes_at_end : Option Inside → List ℕ → Bool
+closes_at_end None bytes = length bytes == 0
+closes_at_end (Some place) [] = false
+closes_at_end (Some place) (b ∷ bytes) = closes_at_end (after_byte place b) bytes
+
+-- after the (
+abbrev pub opened : Option Inside
+opened = Some (record { escaped = false; depth = 1 })
 
 -- ( .. ), balanced at its last byte
 abbrev pub IsTextString : List ℕ → Type 0
-IsTextString piece = (bytes : List ℕ) × (piece ≡ open_parenthesis ∷ bytes) × IsTrue (closes_at_end 1 bytes)
+IsTextString piece = (bytes : List ℕ) × (piece ≡ open_parenthesis ∷ bytes) × IsTrue (closes_at_end opened bytes)
 
 -- a whole piece of text is this token
 abbrev pub IsToken : List ℕ → Token → Type 0
 IsToken piece token =
-    (IsRun piece × (x : Number) × IsNumeral piece x × (token ≡ Numeral x))
-    ⊎ ((IsRun piece × ((x : Number) → IsNumeral piece x → ⊥) × (token ≡ Name false piece))
+    (IsRun piece × (token ≡ name_or_number piece))
     ⊎ (((name : List ℕ) × (piece ≡ slash ∷ name) × IsTrue (list_all is_regular name) × (token ≡ Name true name))
-    ⊎ ((Contains brackets piece × (token ≡ Name false piece))
-    ⊎ ((IsHexString piece ⊎ IsTextString piece) × (token ≡ String piece)))))
+    ⊎ ((IsBracket piece × (token ≡ Name false piece))
+    ⊎ ((IsHexString piece ⊎ IsTextString piece) × (token ≡ String piece))))
 
 -- a regular byte comes next
 abbrev pub begins_regular : List ℕ → Bool

@@ -1,7 +1,7 @@
 -- The tokens that are left of a text, and whether the text ends after them.
-use Rattle.std.specs.Prelude.{◌≡◌, ◌↔◌, ℕ, zero, suc, nat_le, Bool, true, false, List, [], ◌∷◌, ◌++◌, length, take, drop, Some, None}
+use Rattle.std.specs.Prelude.{◌≡◌, ◌↔◌, ℕ, zero, suc, nat_le, Bool, true, false, List, [], ◌∷◌, ◌++◌, length, drop, Some, None}
 use Rattle.cmap_tokens.specs.Tokens.{Token, Tokens}
-use Rattle.cmap_tokens.specs.TokenReading.{gap_len, piece_len, token_of}
+use Rattle.cmap_tokens.specs.TokenReading.{gap_len, first_piece}
 
 -- the tokens up to the end of the text, or up to the first place where no token stands
 pub record Left : Type 0 where
@@ -14,21 +14,21 @@ ended = record { tokens = []; ends = true }
 abbrev pub malformed : Left
 malformed = record { tokens = []; ends = false }
 
--- these tokens, and what is left behind them
+-- these tokens, and what is left after them
 abbrev pub with_front : List Token → Left → Left
 with_front front left = record { tokens = front ++ left.tokens; ends = left.ends }
 
--- the text behind its first gap
-abbrev pub behind_gap : List ℕ → List ℕ
-behind_gap text = drop (gap_len false text) text
+-- the text after its first gap
+abbrev pub after_gap : List ℕ → List ℕ
+after_gap text = drop (gap_len false text) text
 
--- a text of at most so many bytes
+-- what is left of a text of at most n bytes
 unfoldable pub tokens_within : ℕ → List ℕ → Left
 tokens_within zero text = record { tokens = []; ends = nat_le (length text) (gap_len false text) }
 tokens_within (suc n) text =
-    elim (piece_len (behind_gap text)) [
+    elim (first_piece (after_gap text)) [
       | None ↦ record { tokens = []; ends = nat_le (length text) (gap_len false text) }
-      | Some len ↦ with_front (token_of (take len (behind_gap text)) ∷ []) (tokens_within n (drop len (behind_gap text)))
+      | Some first ↦ with_front (first.0 ∷ []) (tokens_within n (drop first.1 (after_gap text)))
     ]
 
 unfoldable pub tokens_of : List ℕ → Left

@@ -1,10 +1,11 @@
 //! Tokens of PostScript text, one after another: names, strings and numbers.
 
-ghost use Rattle.std.specs.Prelude.{◌≡◌, length, Some};
+ghost use Rattle.std.specs.Prelude.{IsTrue, is_some};
 ghost use Rattle.cmap_tokens.specs.Strings.{HaveOneValue};
-ghost use Rattle.cmap_tokens.specs.TokenReading.{string_len};
+ghost use Rattle.cmap_tokens.specs.TokenReading.{value_of};
 
 mod byte_class;
+mod gaps;
 mod lengths;
 mod numerals;
 mod pieces;
@@ -27,7 +28,7 @@ pub enum Token<'a> {
     Number(Number),
 }
 
-/// A name: literal behind a slash, else executable. The brackets `[`, `]`, `{`, `}`, `<<` and `>>`
+/// A name: literal after a slash, else executable. The brackets `[`, `]`, `{`, `}`, `<<` and `>>`
 /// are executable names too.
 #[derive(Clone, Copy, Debug)]
 pub struct Name<'a> {
@@ -58,13 +59,14 @@ impl<'a> Name<'a> {
 #[derive(Clone, Copy, Debug)]
 pub struct StringToken<'a> {
     raw: &'a [u8],
-    ghost whole: { string_len raw.now ≡ Some (length raw.now) },
+    ghost whole: { IsTrue (is_some (value_of raw.now)) },
 }
 
 impl<'a> StringToken<'a> {
     ghost use Rattle.std.specs.Prelude.{◌≡◌, ◌↔◌, ◌≤◌, ℕ, List, length, vec_capacity, is_some, IfSome, IsTrue, IsOk, OnOk, OnErr};
     ghost use Rattle.cmap_bits.specs.BigEndian.{AreBytes, big_endian};
-    ghost use Rattle.cmap_tokens.specs.Strings.{IsValue, IsOnlyValue, IsPlain};
+    ghost use Rattle.cmap_tokens.specs.Ascii.{less, greater};
+    ghost use Rattle.cmap_tokens.specs.Strings.{IsValue, IsOnlyValue, IsPlain, inside, is_between};
     ghost use Rattle.cmap_tokens.specs.TokenSeen.{string_raw};
 
     /// The bytes of the string in the text, with its brackets.
@@ -85,10 +87,11 @@ impl<'a> StringToken<'a> {
         ensures some { IfSome result (λ first. 1 ≤ first.0) }
         ensures few { IfSome result (λ first. first.0 ≤ 4) }
     {
-        if self.raw[0] != b'<' {
-            return None;
+        if self.is_hexadecimal() {
+            pairs_number(self.body())
+        } else {
+            None
         }
-        pairs_number(&self.raw[1..self.raw.len() - 1])
     }
 
     /// Replaces the content of `out` by the bytes that the string stands for, as the PostScript
@@ -106,13 +109,26 @@ impl<'a> StringToken<'a> {
     {
         out.reserve(self.raw.len().saturating_sub(out.len()))?;
         out.clear();
-        let body = &self.raw[1..self.raw.len() - 1];
-        if self.raw[0] == b'<' {
-            decode_hex(body, out);
+        if self.is_hexadecimal() {
+            decode_hex(self.body(), out);
         } else {
-            decode_text(body, out);
+            decode_text(self.body(), out);
         }
         Ok(())
+    }
+
+    // Whether it stands between `<` and `>`, and not in parentheses.
+    fn is_hexadecimal(&self) -> bool
+        ensures { result ≡ is_between less greater (string_raw self.now) }
+    {
+        matches!(self.raw, [b'<', ..])
+    }
+
+    // What stands between the brackets.
+    fn body(&self) -> &'a [u8]
+        ensures { result.now ≡ inside (string_raw self.now) }
+    {
+        &self.raw[1..self.raw.len() - 1]
     }
 }
 
@@ -152,7 +168,7 @@ impl<'a> Model for Scanner<'a> {
 
 impl<'a> Scanner<'a> {
     ghost use Rattle.std.specs.Prelude.{◌≡◌, ◌↔◌, [], ◌∷◌, None, Ok, IfOk, IfSome, IsErr, MatchOption, MatchResult, OnErr};
-    ghost use Rattle.cmap_tokens.specs.Bytes.{IsBlank};
+    ghost use Rattle.cmap_tokens.specs.Gaps.{IsBlank};
     ghost use Rattle.cmap_tokens.specs.Tokens.{IsMalformed};
     ghost use Rattle.cmap_tokens.specs.TokensLeft.{HasTokens, ended, malformed, tokens_of, with_front};
     ghost use Rattle.cmap_tokens.specs.Scanner.{ReadsToken, rest_of};
@@ -171,7 +187,7 @@ impl<'a> Scanner<'a> {
     /// The next token, whose slices are those of the text; `None` where only white space and
     /// comments are left.
     ///
-    /// Only a token moves the scanner, to the byte behind it. So after `Malformed` each later call
+    /// Only a token moves the scanner, to the byte after it. So after `Malformed` each later call
     /// answers `Malformed` again.
     pub fn next_token(&mut self) -> Result<Option<Token<'a>>, Malformed>
         // The token that is read is the one that the text begins with, and there is no other.
@@ -183,7 +199,7 @@ impl<'a> Scanner<'a> {
         ensures end_stays { result ≡ Ok None → self.new ≡ self.old }
         ensures err_stays { OnErr result (self.new ≡ self.old) }
 
-        // The same, of the tokens that are left and how they end.
+        // What this says of the tokens that are left, and of how they end.
         ensures left { MatchResult result (λ found. MatchOption found
             ((tokens_of (rest_of self.old) ≡ ended) × (tokens_of (rest_of self.new) ≡ ended))
             (λ token. tokens_of (rest_of self.old)

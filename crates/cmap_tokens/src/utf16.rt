@@ -28,7 +28,7 @@ impl BfString {
     ghost use Rattle.cmap_tokens.specs.Texts.{more};
     ghost use Rattle.cmap_tokens.specs.TextSeen.{text_seen};
 
-    /// The same text again.
+    /// Another text with the characters of this one.
     ///
     /// It fails only where there is no memory. Only a `String` takes some.
     pub fn clone(&self, alloc: Global) -> Result<BfString, AllocError>
@@ -140,22 +140,12 @@ fn next_char(units: &[u16], last: u16) -> Option<(char, &[u16])>
     ensures scalar { IfSome result (λ x. IsScalar x.0) }
 {
     let (first, rest) = first_unit(units, last)?;
-    if let Some(found) = pair_from(first, rest, last) {
-        return Some(found);
+    if let Some((second, after)) = first_unit(rest, last) {
+        if let Some(c) = pair(first, second) {
+            return Some((c, after));
+        }
     }
     Some((char::from_u32(u32::from(first))?, rest))
-}
-
-// The character of the surrogate pair that `first` and the next unit are, and the units after it.
-fn pair_from(first: u16, rest: &[u16], last: u16) -> Option<(char, &[u16])>
-    ensures value { let next = with_last rest.now last in
-        MatchOption result (utf16_chars (first ∷ next) ≡ lone_unit_char first ∷ utf16_chars next)
-        (λ x. utf16_chars (first ∷ next) ≡ Some x.0 ∷ utf16_chars (with_last x.1.now last)) }
-    ensures shorter { IfSome result (λ x. length x.1.now < length rest.now) }
-    ensures scalar { IfSome result (λ x. IsScalar x.0) }
-{
-    let (second, after) = first_unit(rest, last)?;
-    Some((pair(first, second)?, after))
 }
 
 // The first unit, `last` in the place of the last one, and the units after it.

@@ -1,6 +1,8 @@
 -- The layers of a map, searched for the CID of a code from the top one on.
-use Rattle.std.proofs.Common.{◌≡◌, ℕ, ◌+◌, ◌*◌, ◌≤◌, ◌<◌, suc, get_or, drop, drop-cons, true, List, [], ◌∷◌, length, map, Option, Some, None, refl, sym, ap, ◌∙◌, arith}
-use Rattle.std.specs.Prelude.{unwrap_or, sum_by, ◌&&◌, nat_le, option_and_then}
+use Rattle.std.proofs.Common.{◌≡◌, ℕ, ◌+◌, ◌*◌, ◌≤◌, ◌<◌, suc, get_or, drop, drop-cons, Bool, true, false, List, [], ◌∷◌, length, map, Option, Some, None, refl, sym, ap, ◌∙◌, arith}
+use Rattle.std.specs.Prelude.{unwrap_or, sum_by, ◌&&◌, nat_le, option_and_then, is_some, if◌then◌else◌}
+use Rattle.cmap_runs.specs.SearchLooks.{LooksAtMost}
+use Rattle.cmap_runs.specs.declared.runs.looks.Looks.{Looks}
 use Rattle.std.specs.Option.{option_or}
 use Rattle.std.proofs.lemmas.List.Sums.{sum_by-cons}
 use Rattle.std.proofs.lemmas.Bool.{cond-true}
@@ -15,37 +17,69 @@ use Rattle.hayro_cmap.proofs.LastFound.{decided_cid-decided_in}
 pub drop_next : {A : Type 0} (xs : List A) (i : ℕ) (x : A) → i < length xs → x ≡ get_or xs i x → drop i xs ≡ x ∷ drop (i + 1) xs
 drop_next xs i x within is = let next : i + 1 ≡ suc i = omega arith in drop-cons xs i x within ∙ ap (λ y. y ∷ drop (suc i) xs) (sym is) ∙ ap (λ k. x ∷ drop k xs) (sym next)
 
--- how much was looked at
-pub record Looked : Type 0 where
-  pub runs : ℕ
-  pub declarations : ℕ
-
--- no layer above these decides, and so much was looked at in those above
-pub record IsSearched (layers rest : List Layer) (code len : ℕ) (before now : Looked) : Type 0 where
-  pub value : cid_in layers code len ≡ cid_in rest code len
-  pub runs : now.runs + sum_by (λ layer. layer_looks layer len) rest ≤ before.runs + sum_by (λ layer. layer_looks layer len) layers
+-- what is looked at in the layers that are left, and in those above them, is within what may be looked at in all
+record IsLooked (before now : Looks) (runs runs_left declarations declarations_left : ℕ) : Type 0 where
+  pub runs : now.runs + runs_left ≤ before.runs + runs
   pub runs_grow : before.runs ≤ now.runs
-  pub declarations : now.declarations + 3 * length rest ≤ before.declarations + 3 * length layers
+  pub declarations : now.declarations + declarations_left ≤ before.declarations + declarations
   pub declarations_grow : before.declarations ≤ now.declarations
 
-pub IsSearched-none : (layers : List Layer) (code len : ℕ) (before : Looked) → IsSearched layers layers code len before before
-IsSearched-none layers code len before = record { value = refl; runs = omega arith; runs_grow = omega arith; declarations = omega arith; declarations_grow = omega arith }
+looked_none : (before : Looks) (runs declarations : ℕ) → IsLooked before before runs runs declarations declarations
+looked_none before runs declarations = record { runs = omega arith; runs_grow = omega arith; declarations = omega arith; declarations_grow = omega arith }
 
--- what searching one more layer may look at
-pub record LooksIn (layer : Layer) (len : ℕ) (old new : Looked) : Type 0 where
-  pub runs : new.runs ≤ old.runs + layer_looks layer len
-  pub runs_grow : old.runs ≤ new.runs
-  pub declarations : new.declarations ≤ old.declarations + 3
-  pub declarations_grow : old.declarations ≤ new.declarations
+looked_more : (before now after : Looks) (runs here runs_left declarations more declarations_left : ℕ) (found : Bool) → IsLooked before now runs (here + runs_left) declarations (more + declarations_left) → LooksAtMost now after here more found
+    → IsLooked before after runs runs_left declarations declarations_left
+looked_more before now after runs here runs_left declarations more declarations_left found looked looks = record {
+  runs = omega (arith, looked.runs, looks.most_runs);
+  runs_grow = omega (arith, looked.runs_grow, looks.some_run);
+  declarations = omega (arith, looked.declarations, looks.most_declarations);
+  declarations_grow = omega (arith, looked.declarations_grow, looks.some_declaration);
+}
 
-pub IsSearched-more : (layers : List Layer) (layer : Layer) (below : List Layer) (code len : ℕ) (before now after : Looked) → IsSearched layers (layer ∷ below) code len before now → None ≡ layer_cid layer code len → LooksIn layer len now after
-    → IsSearched layers below code len before after
-IsSearched-more layers layer below code len before now after searched none looks = record {
+-- the last layer that is searched
+looked_last : (before now after : Looks) (runs here runs_left declarations more declarations_left : ℕ) (found : Bool) → IsLooked before now runs (here + runs_left) declarations (more + declarations_left) → LooksAtMost now after here more true
+    → LooksAtMost before after runs declarations found
+looked_last before now after runs here runs_left declarations more declarations_left found looked looks = record {
+  most_runs = omega (arith, looked.runs, looks.most_runs);
+  some_run = at_least_one found (omega (arith, looked.runs_grow, looks.some_run));
+  most_declarations = omega (arith, looked.declarations, looks.most_declarations);
+  some_declaration = at_least_one found (omega (arith, looked.declarations_grow, looks.some_declaration));
+}
+  where
+    at_least_one : (b : Bool) {n k : ℕ} → n + 1 ≤ k → n + (if b then 1 else 0) ≤ k
+    at_least_one true one = one
+    at_least_one false one = omega (arith, one)
+
+looked_all : (before now : Looks) (runs runs_left declarations declarations_left : ℕ) → IsLooked before now runs runs_left declarations declarations_left → LooksAtMost before now runs declarations false
+looked_all before now runs runs_left declarations declarations_left looked = record {
+  most_runs = omega (arith, looked.runs);
+  some_run = omega (arith, looked.runs_grow);
+  most_declarations = omega (arith, looked.declarations);
+  some_declaration = omega (arith, looked.declarations_grow);
+}
+
+-- no layer above these decides
+pub record IsSearched (layers rest : List Layer) (code len : ℕ) (before now : Looks) : Type 0 where
+  pub value : cid_in layers code len ≡ cid_in rest code len
+  pub looked : IsLooked before now (sum_by (λ layer. layer_looks layer len) layers) (sum_by (λ layer. layer_looks layer len) rest) (3 * length layers) (3 * length rest)
+
+pub IsSearched-none : (layers : List Layer) (code len : ℕ) (before : Looks) → IsSearched layers layers code len before before
+IsSearched-none layers code len before = record { value = refl; looked = looked_none before _ _ }
+
+next_looked : (layers : List Layer) (layer : Layer) (below : List Layer) (code len : ℕ) (before now : Looks) → IsSearched layers (layer ∷ below) code len before now
+    → IsLooked before now (sum_by (λ l. layer_looks l len) layers) (layer_looks layer len + sum_by (λ l. layer_looks l len) below) (3 * length layers) (3 + 3 * length below)
+next_looked layers layer below code len before now searched = record {
+  runs = omega (arith, searched.looked.runs, sum_by-cons (λ l. layer_looks l len) layer below);
+  runs_grow = searched.looked.runs_grow;
+  declarations = omega (arith, searched.looked.declarations);
+  declarations_grow = searched.looked.declarations_grow;
+}
+
+pub IsSearched-more : (layers : List Layer) (layer : Layer) (below : List Layer) (code len : ℕ) (before now after : Looks) (found : Bool) → IsSearched layers (layer ∷ below) code len before now → None ≡ layer_cid layer code len
+    → LooksAtMost now after (layer_looks layer len) 3 found → IsSearched layers below code len before after
+IsSearched-more layers layer below code len before now after found searched none looks = record {
   value = searched.value ∙ decided_cid-decided_in code _ _ _ (cid_in below code len) ∙ ap (λ decided. unwrap_or decided (cid_in below code len)) (sym none);
-  runs = omega (arith, searched.runs, looks.runs, sum_by-cons (λ l. layer_looks l len) layer below);
-  runs_grow = omega (arith, searched.runs_grow, looks.runs_grow);
-  declarations = omega (arith, searched.declarations, looks.declarations);
-  declarations_grow = omega (arith, searched.declarations_grow, looks.declarations_grow);
+  looked = looked_more before now after _ _ _ _ _ _ found (next_looked layers layer below code len before now searched) looks;
 }
 
 -- a code of one to four bytes
@@ -55,33 +89,24 @@ has_length layers code len within = cond-true _ (cid_in layers code len) None wi
 pub has_looks : (layers : List Layer) (len : ℕ) → nat_le 1 len && nat_le len 4 ≡ true → cid_looks layers len ≡ sum_by (λ layer. layer_looks layer len) layers
 has_looks layers len within = cond-true _ (sum_by (λ layer. layer_looks layer len) layers) 0 within
 
--- what a lookup answers, and what it may look at
-pub record Answers (layers : List Layer) (code len : ℕ) (answer : Option ℕ) (before after : Looked) : Type 0 where
+-- what a lookup answers, and what it looks at
+pub record Answers (layers : List Layer) (code len : ℕ) (answer : Option ℕ) (before after : Looks) : Type 0 where
   pub value : answer ≡ cid_of layers code len
-  pub runs : after.runs ≤ before.runs + cid_looks layers len
-  pub runs_grow : before.runs ≤ after.runs
-  pub declarations : after.declarations ≤ before.declarations + 3 * length layers
-  pub declarations_grow : before.declarations ≤ after.declarations
+  pub looks : LooksAtMost before after (cid_looks layers len) (3 * length layers) (is_some answer)
 
-pub IsSearched-decided : (layers : List Layer) (layer : Layer) (below : List Layer) (code len : ℕ) (answer : Option ℕ) (before now after : Looked) → nat_le 1 len && nat_le len 4 ≡ true → IsSearched layers (layer ∷ below) code len before now
-    → Some answer ≡ layer_cid layer code len → LooksIn layer len now after → Answers layers code len answer before after
+pub IsSearched-decided : (layers : List Layer) (layer : Layer) (below : List Layer) (code len : ℕ) (answer : Option ℕ) (before now after : Looks) → nat_le 1 len && nat_le len 4 ≡ true → IsSearched layers (layer ∷ below) code len before now
+    → Some answer ≡ layer_cid layer code len → LooksAtMost now after (layer_looks layer len) 3 true → Answers layers code len answer before after
 IsSearched-decided layers layer below code len answer before now after within searched decided looks = record {
   value =
       sym (has_length layers code len within ∙ searched.value ∙ decided_cid-decided_in code _ _ _ (cid_in below code len)
       ∙ ap (λ decision. unwrap_or decision (cid_in below code len)) (sym decided));
-  runs = omega (arith, searched.runs, looks.runs, sum_by-cons (λ l. layer_looks l len) layer below, has_looks layers len within);
-  runs_grow = omega (arith, searched.runs_grow, looks.runs_grow);
-  declarations = omega (arith, searched.declarations, looks.declarations);
-  declarations_grow = omega (arith, searched.declarations_grow, looks.declarations_grow);
+  looks = rw (has_looks layers len within) (looked_last before now after _ _ _ _ _ _ (is_some answer) (next_looked layers layer below code len before now searched) looks);
 }
 
-pub IsSearched-all : (layers rest : List Layer) (code len : ℕ) (before now : Looked) → nat_le 1 len && nat_le len 4 ≡ true → IsSearched layers rest code len before now → rest ≡ [] → Answers layers code len None before now
+pub IsSearched-all : (layers rest : List Layer) (code len : ℕ) (before now : Looks) → nat_le 1 len && nat_le len 4 ≡ true → IsSearched layers rest code len before now → rest ≡ [] → Answers layers code len None before now
 IsSearched-all layers rest code len before now within searched none = record {
   value = sym (has_length layers code len within ∙ searched.value ∙ ap (λ l. cid_in l code len) none);
-  runs = omega (arith, searched.runs, has_looks layers len within);
-  runs_grow = searched.runs_grow;
-  declarations = omega (arith, searched.declarations);
-  declarations_grow = searched.declarations_grow;
+  looks = rw (has_looks layers len within) (looked_all before now _ _ _ _ searched.looked);
 }
 
 -- ---- the text of a code
@@ -93,48 +118,38 @@ pub bf_of-deciding_bf : (layers : List Layer) (code : ℕ) → bf_of layers code
 bf_of-deciding_bf [] code = refl
 bf_of-deciding_bf (layer ∷ layers) code = decided_text-option_or code (last_bf layer.lists.bfs code) (deciding_bf layers code) (bf_of layers code) (bf_of-deciding_bf layers code)
 
--- no layer above these has a declaration for the code, and so much was looked at in those above
-pub record IsBfSearched (layers rest : List Layer) (code : ℕ) (before now : Looked) : Type 0 where
+-- no layer above these has a declaration for the code
+pub record IsBfSearched (layers rest : List Layer) (code : ℕ) (before now : Looks) : Type 0 where
   pub value : deciding_bf layers code ≡ deciding_bf rest code
-  pub runs : now.runs + bf_looks rest ≤ before.runs + bf_looks layers
-  pub runs_grow : before.runs ≤ now.runs
-  pub declarations : now.declarations + length rest ≤ before.declarations + length layers
-  pub declarations_grow : before.declarations ≤ now.declarations
+  pub looked : IsLooked before now (bf_looks layers) (bf_looks rest) (length layers) (length rest)
 
-pub IsBfSearched-none : (layers : List Layer) (code : ℕ) (before : Looked) → IsBfSearched layers layers code before before
-IsBfSearched-none layers code before = record { value = refl; runs = omega arith; runs_grow = omega arith; declarations = omega arith; declarations_grow = omega arith }
+pub IsBfSearched-none : (layers : List Layer) (code : ℕ) (before : Looks) → IsBfSearched layers layers code before before
+IsBfSearched-none layers code before = record { value = refl; looked = looked_none before _ _ }
 
--- what searching one more layer may look at
-pub record LooksForBf (layer : Layer) (old new : Looked) : Type 0 where
-  pub runs : new.runs ≤ old.runs + search_looks (map bf_span layer.lists.bfs)
-  pub runs_grow : old.runs ≤ new.runs
-  pub declarations : new.declarations ≤ old.declarations + 1
-  pub declarations_grow : old.declarations ≤ new.declarations
-
-pub IsBfSearched-more : (layers : List Layer) (layer : Layer) (below : List Layer) (code : ℕ) (before now after : Looked) → IsBfSearched layers (layer ∷ below) code before now → None ≡ last_bf layer.lists.bfs code → LooksForBf layer now after
-    → IsBfSearched layers below code before after
-IsBfSearched-more layers layer below code before now after searched none looks = record {
-  value = searched.value ∙ ap (λ o. option_or o (deciding_bf below code)) (sym none);
-  runs = omega (arith, searched.runs, looks.runs, sum_by-cons (λ l. search_looks (map bf_span l.lists.bfs)) layer below);
-  runs_grow = omega (arith, searched.runs_grow, looks.runs_grow);
-  declarations = omega (arith, searched.declarations, looks.declarations);
-  declarations_grow = omega (arith, searched.declarations_grow, looks.declarations_grow);
+next_bf_looked : (layers : List Layer) (layer : Layer) (below : List Layer) (code : ℕ) (before now : Looks) → IsBfSearched layers (layer ∷ below) code before now
+    → IsLooked before now (bf_looks layers) (search_looks (map bf_span layer.lists.bfs) + bf_looks below) (length layers) (1 + length below)
+next_bf_looked layers layer below code before now searched = record {
+  runs = omega (arith, searched.looked.runs, sum_by-cons (λ l. search_looks (map bf_span l.lists.bfs)) layer below);
+  runs_grow = searched.looked.runs_grow;
+  declarations = omega (arith, searched.looked.declarations);
+  declarations_grow = searched.looked.declarations_grow;
 }
 
--- what a search for a text finds, and what it may look at
-pub record FindsBf (layers : List Layer) (code : ℕ) (found : Option BfEntry) (before after : Looked) : Type 0 where
-  pub value : found ≡ deciding_bf layers code
-  pub runs : after.runs ≤ before.runs + bf_looks layers
-  pub runs_grow : before.runs ≤ after.runs
-  pub declarations : after.declarations ≤ before.declarations + length layers
-  pub declarations_grow : before.declarations ≤ after.declarations
+pub IsBfSearched-more : (layers : List Layer) (layer : Layer) (below : List Layer) (code : ℕ) (before now after : Looks) (found : Bool) → IsBfSearched layers (layer ∷ below) code before now → None ≡ last_bf layer.lists.bfs code
+    → LooksAtMost now after (search_looks (map bf_span layer.lists.bfs)) 1 found → IsBfSearched layers below code before after
+IsBfSearched-more layers layer below code before now after found searched none looks = record {
+  value = searched.value ∙ ap (λ o. option_or o (deciding_bf below code)) (sym none);
+  looked = looked_more before now after _ _ _ _ _ _ found (next_bf_looked layers layer below code before now searched) looks;
+}
 
-pub IsBfSearched-found : (layers : List Layer) (layer : Layer) (below : List Layer) (code : ℕ) (entry : BfEntry) (before now after : Looked) → IsBfSearched layers (layer ∷ below) code before now → Some entry ≡ last_bf layer.lists.bfs code
-    → LooksForBf layer now after → FindsBf layers code (Some entry) before after
+-- what a search for a text finds, and what it looks at
+pub record FindsBf (layers : List Layer) (code : ℕ) (found : Option BfEntry) (before after : Looks) : Type 0 where
+  pub value : found ≡ deciding_bf layers code
+  pub looks : LooksAtMost before after (bf_looks layers) (length layers) (is_some found)
+
+pub IsBfSearched-found : (layers : List Layer) (layer : Layer) (below : List Layer) (code : ℕ) (entry : BfEntry) (before now after : Looks) → IsBfSearched layers (layer ∷ below) code before now → Some entry ≡ last_bf layer.lists.bfs code
+    → LooksAtMost now after (search_looks (map bf_span layer.lists.bfs)) 1 true → FindsBf layers code (Some entry) before after
 IsBfSearched-found layers layer below code entry before now after searched found looks = record {
   value = sym (searched.value ∙ ap (λ o. option_or o (deciding_bf below code)) (sym found));
-  runs = omega (arith, searched.runs, looks.runs, sum_by-cons (λ l. search_looks (map bf_span l.lists.bfs)) layer below);
-  runs_grow = omega (arith, searched.runs_grow, looks.runs_grow);
-  declarations = omega (arith, searched.declarations, looks.declarations);
-  declarations_grow = omega (arith, searched.declarations_grow, looks.declarations_grow);
+  looks = looked_last before now after _ _ _ _ _ _ true (next_bf_looked layers layer below code before now searched) looks;
 }

@@ -1,13 +1,13 @@
 //! The table that comes next in bytes.
 
-ghost use Rattle.std.specs.Prelude.{◌≡◌, ℕ, ◌≤◌, List, None, Some, IfOk, IfSome, IfNone, OnErr, MatchOption};
-ghost use Rattle.cmap_bits.specs.PrefixWords.{Place, TableFront, IsSound, IsPrefixFree};
+ghost use Rattle.std.specs.Prelude.{◌≡◌, ℕ, ◌+◌, ◌*◌, ◌<◌, ◌≤◌, List, length, None, Some, IfOk, IfSome, IfNone, OnErr, MatchOption};
+ghost use Rattle.cmap_bits.specs.PrefixWords.{Place, TableFront};
 ghost use Rattle.cmap_bits.specs.Reader.{bytes_left, IsAtByte};
-ghost use Rattle.cmap_bits.specs.TableReading.{numbers_at, counts_at, table_at};
-ghost use Rattle.cmap_bits.specs.TableTaken.{StaysAtByte, TakesTable};
+ghost use Rattle.cmap_bits.specs.TableReading.{TakesMost, TakesNumbers, TakesCounts, BeginsWithNoTable};
+ghost use Rattle.cmap_bits.specs.TableTaken.{TakesTable};
 
 use super::PrefixTable;
-use super::words::words_of;
+use super::words::count_words;
 use crate::bits::Reader;
 use std::alloc::{AllocError, Global};
 
@@ -35,7 +35,7 @@ pub(super) fn parse(
     Ok(Some(table))
 }
 
-// The same, where the reader need not stay.
+// The table that comes next, where the reader need not stay.
 fn read_table(
     alloc: Global,
     reader: &mut Reader<'_>,
@@ -43,44 +43,51 @@ fn read_table(
 ) -> Result<Option<PrefixTable>, AllocError>
     requires at_byte { IsAtByte reader.old }
     requires width { (1 ≤ width) × (width ≤ 4) }
-    ensures value { IfOk result (λ o. MatchOption o (table_at width (bytes_left reader.old) ≡ None)
-        (λ table. table_at width (bytes_left reader.old) ≡ Some (table, bytes_left reader.new))) }
-    ensures sound { IfOk result (λ o. IfSome o IsSound) }
-    ensures prefix_free { IfOk result (λ o. IfSome o IsPrefixFree) }
-    ensures moves { IfOk result (λ o. IfSome o (λ _. StaysAtByte reader.old reader.new)) }
+    ensures { IfOk result (λ o. MatchOption o
+        ((table : List Place) (rest : List ℕ) → TableFront width (bytes_left reader.old) table rest → ⊥)
+        (λ table. TakesTable width reader.old table reader.new)) }
 {
-    let Some(counts) = read_counts(reader) else {
+    let Some(counts) = read_counts(alloc, reader)? else {
         return Ok(None);
     };
-    let Some(made) = words_of(counts) else {
+    let Some(count) = count_words(&counts) else {
         return Ok(None);
     };
-    let (words, count) = made;
-    let Some(symbols) = read_symbols(alloc, reader, count, width)? else {
+    let Some(symbols) = read_numbers(alloc, reader, count, width)? else {
         return Ok(None);
     };
-    Ok(Some(PrefixTable { words, symbols }))
+    Ok(Some(PrefixTable { counts, symbols }))
 }
 
-// The bytes that say how many words there are of each length: none where the table has no symbols.
-fn read_counts<'a>(reader: &mut Reader<'a>) -> Option<&'a [u8]>
+// How many words there are of each length.
+#[tactic(auto, unfolding(crate::specs::PrefixWords::TableFront))]
+fn read_counts(alloc: Global, reader: &mut Reader<'_>) -> Result<Option<Vec<u32>>, AllocError>
     requires { IsAtByte reader.old }
-    ensures value { MatchOption result (counts_at (bytes_left reader.old) ≡ None)
-        (λ counts. counts_at (bytes_left reader.old) ≡ Some (counts.now, bytes_left reader.new)) }
-    ensures moves { IfSome result (λ _. StaysAtByte reader.old reader.new) }
+    ensures { IfOk result (λ o. MatchOption o (BeginsWithNoTable (bytes_left reader.old))
+        (λ counts. TakesCounts reader.old counts.items reader.new)) }
+{
+    let Some(most) = read_most(reader) else {
+        return Ok(None);
+    };
+    let Some(counts) = read_numbers(alloc, reader, most, 2)? else {
+        return Ok(None);
+    };
+    Ok(Some(counts))
+}
+
+// How many lengths are counted: none where the table has no symbols.
+fn read_most(reader: &mut Reader<'_>) -> Option<usize>
+    requires { IsAtByte reader.old }
+    ensures { MatchOption result (length (bytes_left reader.old) < 3)
+        (λ most. TakesMost reader.old most reader.new) }
 {
     let filled = reader.read_u16()?;
     let most = reader.read_u8()?;
-    let len = if filled == 0 {
-        0
-    } else {
-        2 * usize::from(most)
-    };
-    reader.read_bytes(len)
+    Some(if filled == 0 { 0 } else { usize::from(most) })
 }
 
-// So many symbols of this many bytes each.
-fn read_symbols(
+// So many numbers of `width` bytes each.
+fn read_numbers(
     alloc: Global,
     reader: &mut Reader<'_>,
     count: usize,
@@ -88,17 +95,15 @@ fn read_symbols(
 ) -> Result<Option<Vec<u32>>, AllocError>
     requires at_byte { IsAtByte reader.old }
     requires width { (1 ≤ width) × (width ≤ 4) }
-    ensures value { IfOk result (λ o. let read = numbers_at width count (bytes_left reader.old) in
-        MatchOption o (read ≡ None)
-        (λ symbols. read ≡ Some (symbols.items, bytes_left reader.new))) }
-    ensures moves { IfOk result (λ o. IfSome o (λ _. StaysAtByte reader.old reader.new)) }
+    ensures { IfOk result (λ o. MatchOption o (length (bytes_left reader.old) < width * count)
+        (λ numbers. TakesNumbers width count reader.old numbers.items reader.new)) }
 {
-    let mut symbols = Vec::new(alloc);
+    let mut numbers = Vec::new(alloc);
     for _ in 0..count {
-        let Some(symbol) = reader.read_n_bytes(width) else {
+        let Some(number) = reader.read_n_bytes(width) else {
             return Ok(None);
         };
-        symbols.push(symbol)?;
+        numbers.push(number)?;
     }
-    Ok(Some(symbols))
+    Ok(Some(numbers))
 }

@@ -1,110 +1,58 @@
-//! The words of a table, by their lengths.
+//! The words of a table, by how many there are of each length.
 
-ghost use Rattle.std.specs.Prelude.{◌≡◌, ℕ, ◌∷◌, [], ◌+◌, ◌<◌, ◌^◌, ◌==◌, true, false, drop, None, Some, sum, All, IfSome, IfNone, MatchOption};
-ghost use Rattle.std.specs.List.{list_all};
-ghost use Rattle.cmap_bits.specs.Reader.{bits_left};
-ghost use Rattle.cmap_bits.specs.TableReading.{MovesBy, padded_counts, have_room};
-ghost use Rattle.cmap_bits.specs.WordsByLength.{words_from, place_of, place_behind};
+ghost use Rattle.std.specs.Prelude.{◌≡◌, ℕ, ◌<◌, ◌≤◌, ◌^◌, get_or, length, IfSome, IfNone, MatchOption};
+ghost use Rattle.cmap_bits.specs.PrefixWords.{AreWordLengths, lengths_from};
+ghost use Rattle.cmap_bits.specs.Reader.{bits_left, after_bits};
+ghost use Rattle.cmap_bits.specs.WordsByLength.{IsBegun};
 
 use crate::bits::Reader;
 
 // The most bits that a word has.
 pub(super) const LONGEST: usize = 32;
 
-// The words of one length. As numbers they follow one another.
-#[derive(Clone, Copy, Debug)]
-pub(super) struct Words {
-    // the first one
-    first: u64,
-    // how many there are
-    count: usize,
-    // the place of the first one's symbol
-    place: usize,
-}
-
-impl Words {
-    // The place of the symbol that this word spells.
-    fn place_of(&self, word: u64) -> Option<usize>
-        requires { self.now.place + self.now.count < 2 ^ 64 }
-        ensures { result ≡ place_of self.now word }
-    {
-        let index = word.checked_sub(self.first)?;
-        if index >= self.count as u64 {
-            return None;
-        }
-        Some(self.place + index as usize)
-    }
-}
-
-// The place whose word comes next. Where no word does, the reader stays.
-pub(super) fn find(words: &[Words; LONGEST], reader: &mut Reader<'_>) -> Option<usize>
-    requires { All (λ w. w.place + w.count < 2 ^ 64) words.now }
-    ensures found { IfSome result (λ place.
-        place_behind 0 words.now (bits_left reader.old) ≡ Some (place, bits_left reader.new)) }
-    ensures moves { IfSome result (λ _. (count : ℕ) × MovesBy reader.old count reader.new) }
-    ensures none { IfNone result (place_behind 0 words.now (bits_left reader.old) ≡ None) }
+// The place whose word comes next. Where no word does, the reader stays. Words of one length are
+// numbers in a row, and after the last one comes twice its follower among the longer words.
+pub(super) fn find(counts: &[u32], reader: &mut Reader<'_>) -> Option<usize>
+    requires { AreWordLengths (lengths_from 1 counts.now) }
+    ensures found { IfSome result (λ place. let lens = lengths_from 1 counts.now in
+        IsBegun lens (bits_left reader.old) place
+        × (reader.new ≡ after_bits reader.old (get_or lens place 0))) }
+    ensures none { IfNone result
+        ((i : ℕ) → IsBegun (lengths_from 1 counts.now) (bits_left reader.old) i → ⊥) }
     ensures unmoved { IfNone result (reader.new ≡ reader.old) }
 {
     let mut ahead = reader.fork();
-    let mut word = 0;
-    for words in words {
-        word = word * 2 + u64::from(ahead.read_bit()?);
-        if let Some(place) = words.place_of(word) {
+    // the place of the first word of a length, and how far the bits are past that word
+    let mut place = 0;
+    let mut past = 0;
+    for i in 0..LONGEST {
+        let count = *counts.get(i)? as usize;
+        past = past * 2 + usize::from(ahead.read_bit()?);
+        if past < count {
             *reader = ahead;
-            return Some(place);
+            return Some(place + past);
         }
+        past -= count;
+        place += count;
     }
     None
 }
 
-// The words of each length, and how many there are, where none is too long and each has room.
-pub(super) fn words_of(counts: &[u8]) -> Option<([Words; LONGEST], usize)>
-    ensures { MatchOption result (have_room counts.now ≡ false) (λ made.
-        let all = padded_counts 32 counts.now in
-        (have_room counts.now ≡ true) × (made.0 ≡ words_from 0 0 all) × (made.1 ≡ sum all)) }
+// How many words there are, where none is longer than `LONGEST`, and there is room for each: a word
+// of one bit takes half of it.
+pub(super) fn count_words(counts: &[u32]) -> Option<usize>
+    ensures { let lens = lengths_from 1 counts.now in MatchOption result (AreWordLengths lens → ⊥)
+        (λ total. (total ≡ length lens) × AreWordLengths lens) }
 {
-    let mut words = [Words {
-        first: 0,
-        count: 0,
-        place: 0,
-    }; LONGEST];
-    let mut left = counts;
-    let mut first = 0;
-    let mut place = 0;
-    for i in 0..LONGEST {
-        let (count, rest) = next_count(left);
-        words[i] = Words {
-            first,
-            count,
-            place,
-        };
-        first = 2 * (first + count as u64);
-        place += count;
-        left = rest;
+    let mut room: u64 = 1 << LONGEST;
+    let mut total = 0;
+    for i in 0..counts.len() {
+        let count = counts[i];
+        if count != 0 && i >= LONGEST {
+            return None;
+        }
+        room = room.checked_sub(u64::from(count) << LONGEST.saturating_sub(i + 1))?;
+        total += count as usize;
     }
-    if first > 1 << (LONGEST + 1) {
-        return None;
-    }
-    if !are_zero(left) {
-        return None;
-    }
-    Some((words, place))
-}
-
-fn are_zero(bytes: &[u8]) -> bool
-    ensures { result ≡ list_all (λ b. b == 0) bytes.now }
-{
-    bytes.iter().all(|byte| *byte == 0)
-}
-
-// The next count, and 0 at the end.
-fn next_count(counts: &[u8]) -> (usize, &[u8])
-    ensures value { padded_counts 1 counts.now ≡ result.0 ∷ [] }
-    ensures small { result.0 < 2 ^ 16 }
-    ensures rest { result.1.now ≡ drop 2 counts.now }
-{
-    match counts {
-        [high, low, rest @ ..] => (usize::from(u16::from_be_bytes([*high, *low])), rest),
-        _ => (0, &[]),
-    }
+    Some(total)
 }

@@ -12,7 +12,7 @@ use std::marker::Model;
 // How many codes a block has.
 pub(super) const BLOCK_LEN: u32 = 256;
 
-// The blocks of the codes of two bytes, and the one behind them.
+// The blocks of the codes of two bytes, and the one after them.
 pub(super) const BLOCK_COUNT: u32 = 257;
 
 // A shorter list of runs is searched without blocks.
@@ -66,7 +66,7 @@ impl Blocks {
             return (self.counts[block_count - 1], run_count);
         }
         let next = self.counts[block + 1];
-        // The run that ends behind the block may begin in it.
+        // The run that ends after the block may begin in it.
         let end = if next < run_count { next + 1 } else { next };
         (self.counts[block], end)
     }

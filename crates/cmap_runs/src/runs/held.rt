@@ -58,6 +58,7 @@ impl Runs {
         }
     }
 
+    // The ranges as runs.
     pub(super) fn from_ranges(ranges: Vec<Run>) -> Runs
         ensures { result ≡ ranges.items }
     {

@@ -1,15 +1,11 @@
 //! The classes of bytes: white, delimiter, regular, digit.
 
-ghost use Rattle.std.specs.Prelude.{◌≡◌, ◌≤◌};
-ghost use Rattle.std.specs.Char.{digit_value, is_digit};
+ghost use Rattle.std.specs.Prelude.{◌≡◌};
+ghost use Rattle.std.specs.Char.{digit_value};
 ghost use Rattle.cmap_tokens.specs.Bytes as bytes;
-ghost use Rattle.cmap_tokens.specs.TokenReading as reading;
-
-pub(super) const NUL: u8 = 0;
+ghost use Rattle.cmap_tokens.specs.Tokens as tokens;
 
 pub(super) const BACKSPACE: u8 = 8;
-
-pub(super) const FORM_FEED: u8 = 12;
 
 const WHITE: u8 = 1;
 
@@ -59,15 +55,9 @@ pub(super) fn is_regular(byte: u8) -> bool
 
 // Whether a byte may stand between `<` and `>`.
 pub(super) fn is_hex_body(byte: u8) -> bool
-    ensures { result ≡ reading.is_hex_body byte }
+    ensures { result ≡ tokens.is_hex_body byte }
 {
     CLASSES[byte as usize] & HEX_BODY != 0
-}
-
-pub(super) fn ends_comment(byte: u8) -> bool
-    ensures { result ≡ bytes.ends_comment byte }
-{
-    matches!(byte, b'\n' | FORM_FEED | b'\r')
 }
 
 // The value of a digit or letter, from 0 to 35, and 36 for any other byte.
@@ -75,12 +65,4 @@ pub(super) fn digit_value(byte: u8) -> u8
     ensures { result ≡ digit_value byte }
 {
     DIGITS[byte as usize]
-}
-
-pub(super) fn is_digit(byte: u8, base: u32) -> bool
-    requires low { 2 ≤ base }
-    requires high { base ≤ 36 }
-    ensures { result ≡ is_digit byte base }
-{
-    char::from(byte).is_digit(base)
 }

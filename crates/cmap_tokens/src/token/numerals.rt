@@ -1,24 +1,21 @@
 //! The numbers that runs of regular bytes are spelled as.
 
-ghost use Rattle.std.specs.Prelude.{◌≡◌, ℕ, ◌-◌, ◌≤◌, ◌^◌, ◌==◌, min, count_by, length, IfSome, IsSome, option_map, pos, neg_ℤ};
-ghost use Rattle.std.specs.List.{list_any, prefix_len};
-ghost use Rattle.std.specs.Char.{is_digit};
-ghost use Rattle.cmap_tokens.specs.Ascii.{dot};
+ghost use Rattle.std.specs.Prelude.{◌≡◌, ℕ, ◌-◌, ◌≤◌, ◌^◌, min, length, take, IfSome, IsSome, Some, option_map, pos, neg_ℤ, if◌then◌else◌};
+ghost use Rattle.std.specs.List.{prefix_len};
 ghost use Rattle.cmap_tokens.specs.Numbers as numbers;
-ghost use Rattle.cmap_tokens.specs.Tokens.{Numeral};
-ghost use Rattle.cmap_tokens.specs.TokenReading as reading;
-ghost use Rattle.cmap_tokens.specs.TokenReading.{EndsDigits, IsPiece};
+ghost use Rattle.cmap_tokens.specs.Bytes.{is_regular};
 ghost use Rattle.cmap_tokens.specs.NumberSeen.{number_seen};
+ghost use Rattle.cmap_tokens.specs.TokenReading.{EndsDigits};
 
 use super::Number;
-use super::byte_class::{digit_value, is_digit, is_regular};
+use super::byte_class::{digit_value, is_regular};
 
-// The number in decimal digits that a text begins with, and how many digits it has. `None` where
-// there is no digit, where after them the text ends or the run goes on, and where they are more
-// than 18.
+// The number of a run of decimal digits that a text begins with, and how many digits these are.
+// `None` where the run is no digits alone, where the text ends with it, and where it has more than
+// 18.
 pub(super) fn decimal(text: &[u8]) -> Option<(Number, usize)>
-    ensures piece { IfSome result
-        (λ first. IsPiece text.now (Numeral (number_seen first.0)) first.1) }
+    ensures piece { IfSome result (λ first. (first.1 ≡ prefix_len is_regular text.now)
+        × (numbers.numeral (take first.1 text.now) ≡ Some (number_seen first.0))) }
     ensures few { (n : ℕ) → 1 ≤ n → n ≤ 18 → EndsDigits text.now n → IsSome result }
 {
     let mut number: u64 = 0;
@@ -39,9 +36,9 @@ pub(super) fn decimal(text: &[u8]) -> Option<(Number, usize)>
 }
 
 // The number that a run of regular bytes is spelled as.
-#[tactic(auto, unfolding(crate::specs::TokenReading::numeral))]
+#[tactic(auto, unfolding(crate::specs::Numbers::numeral))]
 pub(super) fn number_of(run: &[u8]) -> Option<Number>
-    ensures { option_map number_seen result ≡ reading.numeral run.now }
+    ensures { option_map number_seen result ≡ numbers.numeral run.now }
 {
     if let Some(number) = integer_of(run) {
         Some(number)
@@ -55,21 +52,21 @@ pub(super) fn number_of(run: &[u8]) -> Option<Number>
 }
 
 // `-17`, `+4`, `08`
-#[tactic(auto, unfolding(crate::specs::TokenReading::integer))]
+#[tactic(auto, unfolding(crate::specs::Numbers::integer))]
 fn integer_of(run: &[u8]) -> Option<Number>
-    ensures { option_map number_seen result ≡ reading.integer run.now }
+    ensures { option_map number_seen result ≡ numbers.integer run.now }
 {
     match run {
-        [b'-', digits @ ..] => Some(negative_number(digits_number(10, digits)?)),
-        [b'+', digits @ ..] => Some(positive_number(digits_number(10, digits)?)),
-        digits => Some(positive_number(digits_number(10, digits)?)),
+        [b'-', digits @ ..] => Some(number(true, digits_number(10, digits)?)),
+        [b'+', digits @ ..] => Some(number(false, digits_number(10, digits)?)),
+        digits => Some(number(false, digits_number(10, digits)?)),
     }
 }
 
 // `16#1F`: a base of one or two digits.
-#[tactic(auto, unfolding(crate::specs::TokenReading::radix_integer))]
+#[tactic(auto, unfolding(crate::specs::Numbers::radix_integer))]
 fn radix_integer_of(run: &[u8]) -> Option<Number>
-    ensures { option_map number_seen result ≡ reading.radix_integer run.now }
+    ensures { option_map number_seen result ≡ numbers.radix_integer run.now }
 {
     match run {
         [_, b'#', digits @ ..] => integer_in_base(&run[..1], digits),
@@ -79,56 +76,50 @@ fn radix_integer_of(run: &[u8]) -> Option<Number>
 }
 
 // The integer that digits write in a base from 2 to 36.
-#[tactic(auto, unfolding(crate::specs::TokenReading::integer_in_base))]
+#[tactic(auto, unfolding(crate::specs::Numbers::integer_in_base))]
 fn integer_in_base(base: &[u8], digits: &[u8]) -> Option<Number>
-    ensures { option_map number_seen result ≡ reading.integer_in_base base.now digits.now }
+    ensures { option_map number_seen result ≡ numbers.integer_in_base base.now digits.now }
 {
     let base = digits_number(10, base)?;
     if base < 2 || base > 36 {
         return None;
     }
-    Some(positive_number(digits_number(base as u32, digits)?))
+    Some(number(false, digits_number(base as u32, digits)?))
 }
 
-// `4.5`, `.5e3`, `1E9`: with a dot or an exponent.
-#[tactic(auto, unfolding(crate::specs::TokenReading::is_real))]
+// `4.5`, `-.5e3`, `1E9`: with a dot or an exponent.
+#[tactic(auto, unfolding(crate::specs::Numbers::is_real))]
 fn is_real(run: &[u8]) -> bool
-    ensures { result ≡ reading.is_real run.now }
+    ensures { result ≡ numbers.is_real run.now }
 {
     let unsigned = without_sign(run);
-    let (mantissa, exponent) = unsigned.split_at(mantissa_len(unsigned));
-    if exponent.is_empty() {
-        has_digit(mantissa) && count_dots(mantissa) == 1
-    } else {
-        has_digit(mantissa) && count_dots(mantissa) <= 1 && is_exponent(exponent)
+    let len = digits_len(10, unsigned);
+    match &unsigned[len..] {
+        [b'.', fraction @ ..] => {
+            let fraction_len = digits_len(10, fraction);
+            let exponent = &fraction[fraction_len..];
+            len + fraction_len > 0 && (exponent.is_empty() || is_exponent(exponent))
+        }
+        exponent => len > 0 && is_exponent(exponent),
     }
 }
 
-// How many digits and dots a text begins with.
-fn mantissa_len(text: &[u8]) -> usize
-    ensures exact { result ≡ prefix_len reading.is_mantissa_byte text.now }
+// How many digits of a base a text begins with.
+pub(super) fn digits_len(base: u8, text: &[u8]) -> usize
+    ensures exact { result ≡ numbers.digits_len base text.now }
     ensures within { result ≤ length text.now }
 {
-    text.iter()
-        .take_while(|byte| is_digit(**byte, 10) || **byte == b'.')
-        .count()
-}
-
-fn has_digit(text: &[u8]) -> bool
-    ensures { result ≡ list_any (λ b. is_digit b 10) text.now }
-{
-    text.iter().any(|byte| is_digit(*byte, 10))
-}
-
-fn count_dots(text: &[u8]) -> usize
-    ensures { result ≡ count_by (λ b. b == dot) text.now }
-{
-    text.iter().filter(|byte| **byte == b'.').count()
+    for (i, byte) in text.iter().enumerate() {
+        if digit_value(*byte) >= base {
+            return i;
+        }
+    }
+    text.len()
 }
 
 // `e5`, `E-12`
 fn is_exponent(text: &[u8]) -> bool
-    ensures { result ≡ reading.is_exponent text.now }
+    ensures { result ≡ numbers.is_exponent text.now }
 {
     match text {
         [b'e' | b'E', rest @ ..] => digits_number(10, without_sign(rest)).is_some(),
@@ -137,7 +128,7 @@ fn is_exponent(text: &[u8]) -> bool
 }
 
 fn without_sign(text: &[u8]) -> &[u8]
-    ensures { result.now ≡ reading.without_sign text.now }
+    ensures { result.now ≡ numbers.without_sign text.now }
 {
     match text {
         [b'+' | b'-', rest @ ..] => rest,
@@ -152,7 +143,7 @@ const SMALL: u64 = 1 << 58;
 pub(super) fn digits_number(base: u32, text: &[u8]) -> Option<u64>
     requires low { 2 ≤ base }
     requires high { base ≤ 36 }
-    ensures { result ≡ option_map (λ n. min n (2 ^ 64 - 1)) (reading.digits_value base text.now) }
+    ensures { result ≡ option_map (λ n. min n (2 ^ 64 - 1)) (numbers.digits_value base text.now) }
 {
     if text.is_empty() {
         return None;
@@ -169,22 +160,14 @@ pub(super) fn digits_number(base: u32, text: &[u8]) -> Option<u64>
     Some(number)
 }
 
-fn positive_number(magnitude: u64) -> Number
-    ensures { number_seen result ≡ numbers.number_of (pos magnitude) }
+fn number(is_negative: bool, magnitude: u64) -> Number
+    ensures { number_seen result ≡ numbers.number_of
+        (if is_negative then neg_ℤ (pos magnitude) else pos magnitude) }
 {
     if magnitude <= i64::MAX as u64 {
-        Number::Integer(magnitude as i64)
-    } else {
-        Number::Real
-    }
-}
-
-fn negative_number(magnitude: u64) -> Number
-    ensures { number_seen result ≡ numbers.number_of (neg_ℤ (pos magnitude)) }
-{
-    if magnitude <= i64::MAX as u64 {
-        Number::Integer(-(magnitude as i64))
-    } else if magnitude == 1 << 63 {
+        let value = magnitude as i64;
+        Number::Integer(if is_negative { -value } else { value })
+    } else if is_negative && magnitude == 1 << 63 {
         Number::Integer(i64::MIN)
     } else {
         Number::Real

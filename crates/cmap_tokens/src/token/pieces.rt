@@ -1,25 +1,25 @@
 //! The token that a text begins with.
 
-ghost use Rattle.std.specs.Prelude.{◌≡◌, ◌↔◌, ◌<◌, ◌≤◌, false, length, drop, get_or, Some, None, Ok, IfOk, IfSome, IsErr, MatchOption};
-ghost use Rattle.cmap_tokens.specs.Ascii.{less};
-ghost use Rattle.cmap_tokens.specs.Bytes.{IsBlank};
-ghost use Rattle.cmap_tokens.specs.Strings.{begins_with};
-ghost use Rattle.cmap_tokens.specs.Tokens.{IsMalformed};
+ghost use Rattle.std.specs.Prelude.{◌≡◌, ◌≤◌, false, length, take, option_map, IfOk, IfSome, MatchOption, MatchResult};
+ghost use Rattle.std.specs.List.{prefix_len};
+ghost use Rattle.cmap_tokens.specs.Bytes.{is_regular};
+ghost use Rattle.cmap_tokens.specs.Gaps.{IsBlank};
+ghost use Rattle.cmap_tokens.specs.Tokens as tokens;
+ghost use Rattle.cmap_tokens.specs.Tokens.{IsMalformed, name_or_number};
 ghost use Rattle.cmap_tokens.specs.Scanner.{FirstToken};
 ghost use Rattle.cmap_tokens.specs.TokenReading as reading;
-ghost use Rattle.cmap_tokens.specs.TokenReading.{IsPiece};
 ghost use Rattle.cmap_tokens.specs.TokenSeen.{token_seen};
 
-use super::lengths::{gap_len, hex_len, piece_len};
+use super::byte_class::is_regular;
+use super::gaps::gap_len;
+use super::lengths::{run_len, string_len};
 use super::numerals::{decimal, number_of};
 use super::{Malformed, Name, StringToken, Token};
 
 // The token that a text begins with, and how many bytes it takes with the gap before it.
 pub(super) fn first_token(text: &[u8]) -> Result<Option<(Token<'_>, usize)>, Malformed>
-    ensures token { IfOk result
-        (λ found. IfSome found (λ first. FirstToken text.now (token_seen first.0) first.1)) }
-    ensures end { (result ≡ Ok None) ↔ IsBlank text.now }
-    ensures malformed { IsErr result ↔ IsMalformed text.now }
+    ensures outcome { MatchResult result (λ found. MatchOption found (IsBlank text.now)
+        (λ first. FirstToken text.now (token_seen first.0) first.1)) (λ _. IsMalformed text.now) }
     ensures within { IfOk result (λ found. IfSome found (λ first. first.1 ≤ length text.now)) }
 {
     let gap = gap_len(text);
@@ -32,64 +32,62 @@ pub(super) fn first_token(text: &[u8]) -> Result<Option<(Token<'_>, usize)>, Mal
 }
 
 // The token that a text begins with, with no gap before it, and how many bytes it takes.
-// Hexadecimal strings and decimal numbers, of which files are full, are read in one pass.
-#[tactic(auto, unfolding(crate::specs::TokenReading::piece_len))]
+#[tactic(auto, unfolding(crate::specs::TokenReading::first_piece))]
 fn first_piece(text: &[u8]) -> Option<(Token<'_>, usize)>
-    ensures { MatchOption result (reading.piece_len text.now ≡ None)
-        (λ first. IsPiece text.now (token_seen first.0) first.1) }
+    ensures exact { option_map (λ first. (token_seen first.0, first.1)) result
+        ≡ reading.first_piece text.now }
+    ensures within { IfSome result (λ first. first.1 ≤ length text.now) }
 {
     match text {
-        [b'<', second, ..] if *second != b'<' => hex_piece(text),
-        _ => match decimal(text) {
-            Some((number, len)) => Some((Token::Number(number), len)),
-            None => other_piece(text),
-        },
+        [b'[' | b']' | b'{' | b'}', ..] => Some((executable_name(&text[..1]), 1)),
+        [b'<', b'<', ..] | [b'>', b'>', ..] => Some((executable_name(&text[..2]), 2)),
+        [b'<' | b'(', ..] => string_piece(text),
+        [b'/', rest @ ..] => {
+            let len = run_len(rest);
+            let name = Name {
+                literal: true,
+                bytes: &rest[..len],
+            };
+            Some((Token::Name(name), 1 + len))
+        }
+        [first, ..] if is_regular(*first) => Some(run_piece(text)),
+        _ => None,
     }
 }
 
-// The hexadecimal string that a text begins with, as `first_piece` gives it.
-fn hex_piece(text: &[u8]) -> Option<(Token<'_>, usize)>
-    requires some { 0 < length text.now }
-    requires opens { get_or text.now 0 0 ≡ less }
-    requires once { begins_with less (drop 1 text.now) ≡ false }
-    ensures { MatchOption result (reading.piece_len text.now ≡ None)
-        (λ first. IsPiece text.now (token_seen first.0) first.1) }
+// The string that a text begins with, and how many bytes it takes.
+fn string_piece(text: &[u8]) -> Option<(Token<'_>, usize)>
+    ensures exact { option_map (λ first. (token_seen first.0, first.1)) result
+        ≡ reading.string_of text.now (reading.string_len text.now) }
+    ensures within { IfSome result (λ first. first.1 ≤ length text.now) }
 {
-    let len = 1 + hex_len(&text[1..])?;
+    let len = string_len(text)?;
     Some((Token::String(StringToken { raw: &text[..len] }), len))
 }
 
-// Any token that a text begins with, in two passes: its length, and what it is.
-fn other_piece(text: &[u8]) -> Option<(Token<'_>, usize)>
-    ensures { MatchOption result (reading.piece_len text.now ≡ None)
-        (λ first. IsPiece text.now (token_seen first.0) first.1) }
+// The number or the name that a run is, which a text begins with, and how many bytes it takes.
+// Decimal numbers, of which files are full, are read in one pass.
+fn run_piece(text: &[u8]) -> (Token<'_>, usize)
+    ensures token { token_seen result.0
+        ≡ name_or_number (take (prefix_len is_regular text.now) text.now) }
+    ensures len { result.1 ≡ prefix_len is_regular text.now }
+    ensures within { result.1 ≤ length text.now }
 {
-    let len = piece_len(text)?;
-    Some((token_of(&text[..len]), len))
+    if let Some((number, len)) = decimal(text) {
+        return (Token::Number(number), len);
+    }
+    let run = &text[..run_len(text)];
+    match number_of(run) {
+        Some(number) => (Token::Number(number), run.len()),
+        None => (executable_name(run), run.len()),
+    }
 }
 
-// The token that a whole piece is.
-#[tactic(auto, unfolding(crate::specs::TokenReading::token_of, crate::specs::TokenReading::piece_len))]
-fn token_of(piece: &[u8]) -> Token<'_>
-    requires { reading.piece_len piece.now ≡ Some (length piece.now) }
-    ensures { token_seen result ≡ reading.token_of piece.now }
+fn executable_name(bytes: &[u8]) -> Token<'_>
+    ensures { token_seen result ≡ tokens.Name false bytes.now }
 {
-    match piece {
-        [b'/', bytes @ ..] => Token::Name(Name {
-            literal: true,
-            bytes,
-        }),
-        [b'<', b'<', ..] => Token::Name(Name {
-            literal: false,
-            bytes: piece,
-        }),
-        [b'(' | b'<', ..] => Token::String(StringToken { raw: piece }),
-        _ => match number_of(piece) {
-            Some(number) => Token::Number(number),
-            None => Token::Name(Name {
-                literal: false,
-                bytes: piece,
-            }),
-        },
-    }
+    Token::Name(Name {
+        literal: false,
+        bytes,
+    })
 }

@@ -1,13 +1,14 @@
 //! The bytes that strings stand for.
 
-ghost use Rattle.std.specs.Prelude.{◌≡◌, ◌+◌, ◌≤◌, ◌<◌, ◌++◌, List, ℕ, false, true, length, unwrap_or, vec_len, vec_capacity, MatchOption};
+ghost use Rattle.std.specs.Prelude.{◌≡◌, ◌+◌, ◌≤◌, ◌<◌, ◌++◌, length, vec_len, vec_capacity, MatchOption};
 ghost use Rattle.cmap_tokens.specs.TokenReading as reading;
-ghost use Rattle.cmap_tokens.specs.TokenReading.{HasCut};
 ghost use Rattle.cmap_bits.specs.BigEndian.{big_endian};
-ghost use Rattle.cmap_tokens.specs.Strings.{ArePairs, hex_value, escape_value};
+ghost use Rattle.cmap_tokens.specs.Strings.{ArePairs, hex_value};
+ghost use Rattle.cmap_tokens.specs.TokenReading.{text_value};
 
-use super::byte_class::{BACKSPACE, FORM_FEED, digit_value, is_digit};
-use super::numerals::digits_number;
+use super::byte_class::{BACKSPACE, digit_value};
+use super::gaps::FORM_FEED;
+use super::numerals::{digits_len, digits_number};
 
 // How many bytes digits in pairs stand for, one to four, and the number that the bytes write, the
 // high one first.
@@ -31,7 +32,7 @@ pub(super) fn pairs_number(digits: &[u8]) -> Option<(u8, u32)>
     Some((len as u8 / 2, number))
 }
 
-// Appends the bytes of hexadecimal digits, white space among them.
+// Appends the bytes of hexadecimal digits, white space among them. Two bytes are looked at in a turn.
 pub(super) fn decode_hex(digits: &[u8], out: &mut Vec<u8>)
     requires { vec_len out.old + length digits.now ≤ vec_capacity out.old }
     ensures { out.new.items ≡ out.old.items ++ hex_value digits.now }
@@ -48,7 +49,7 @@ pub(super) fn decode_hex(digits: &[u8], out: &mut Vec<u8>)
     decode_spaced_hex(rest, out);
 }
 
-// The same, where white space may stand anywhere.
+// Appends the bytes of hexadecimal digits, digit by digit.
 fn decode_spaced_hex(digits: &[u8], out: &mut Vec<u8>)
     requires { vec_len out.old + length digits.now ≤ vec_capacity out.old }
     ensures { out.new.items ≡ out.old.items ++ hex_value digits.now }
@@ -72,12 +73,8 @@ fn decode_spaced_hex(digits: &[u8], out: &mut Vec<u8>)
 
 // Appends the bytes that the body of a string in parentheses stands for.
 pub(super) fn decode_text(body: &[u8], out: &mut Vec<u8>)
-    requires room { vec_len out.old + length body.now ≤ vec_capacity out.old }
-    requires paired { reading.is_paired false body.now ≡ true }
-    ensures found { (value : List ℕ)
-        × HasCut body.now value × (out.new.items ≡ out.old.items ++ value) }
-    ensures only { (value : List ℕ)
-        → HasCut body.now value → out.new.items ≡ out.old.items ++ value }
+    requires { vec_len out.old + length body.now ≤ vec_capacity out.old }
+    ensures { out.new.items ≡ out.old.items ++ text_value body.now }
 {
     let mut rest = body;
     while !rest.is_empty() {
@@ -109,7 +106,7 @@ fn first_part(body: &[u8]) -> (Option<u8>, usize)
     }
 }
 
-// The same of what stands behind a backslash.
+// The byte that is meant after a backslash, if any, and how many bytes tell it.
 #[tactic(auto, unfolding(crate::specs::TokenReading::escape))]
 fn escape(text: &[u8]) -> (Option<u8>, usize)
     ensures exact { result ≡ reading.escape text.now }
@@ -118,11 +115,16 @@ fn escape(text: &[u8]) -> (Option<u8>, usize)
     match text {
         [b'\r', b'\n', ..] => (None, 2),
         [b'\r' | b'\n', ..] => (None, 1),
-        [first, ..] if is_digit(*first, 8) => {
+        [first, ..] if digit_value(*first) < 8 => {
             let (byte, len) = octal(text);
             (Some(byte), len)
         }
-        [first, ..] => (Some(escaped_byte(*first)), 1),
+        [b'n', ..] => (Some(b'\n'), 1),
+        [b'r', ..] => (Some(b'\r'), 1),
+        [b't', ..] => (Some(b'\t'), 1),
+        [b'b', ..] => (Some(BACKSPACE), 1),
+        [b'f', ..] => (Some(FORM_FEED), 1),
+        [first, ..] => (Some(*first), 1),
         [] => (None, 0),
     }
 }
@@ -132,30 +134,7 @@ fn octal(text: &[u8]) -> (u8, usize)
     ensures exact { result ≡ reading.octal text.now }
     ensures within { result.1 ≤ length text.now }
 {
-    let len = octal_len(text);
+    let len = digits_len(8, &text[..text.len().min(3)]);
     let value = digits_number(8, &text[..len]).unwrap_or(0);
     ((value % 256) as u8, len)
-}
-
-fn octal_len(text: &[u8]) -> usize
-    ensures exact { result ≡ reading.octal_len text.now }
-    ensures within { result ≤ length text.now }
-{
-    text.iter()
-        .take(3)
-        .take_while(|byte| is_digit(**byte, 8))
-        .count()
-}
-
-fn escaped_byte(byte: u8) -> u8
-    ensures { result ≡ unwrap_or (escape_value byte) byte }
-{
-    match byte {
-        b'n' => b'\n',
-        b'r' => b'\r',
-        b't' => b'\t',
-        b'b' => BACKSPACE,
-        b'f' => FORM_FEED,
-        _ => byte,
-    }
 }

@@ -1,17 +1,19 @@
-use Rattle.std.proofs.Common.{ap, ◌∙◌, sym, arith}
-use Rattle.std.proofs.lemmas.Bool.{eqb-true, eqb-false}
-use Rattle.std.proofs.lemmas.List.{map-append, nil_from_length}
+use Rattle.std.proofs.Common.{ap, ◌∙◌, append-nil}
+use Rattle.std.proofs.lemmas.List.{map-append}
 use Rattle.cmap_files.specs.FilesSeen.{names_seen}
-use Rattle.cmap_binary.proofs.BundleFronts.{HasSplit-more, HasSplit-all, HasSplit-wrong}
+use Rattle.cmap_binary.specs.Fronts.{FramedAt}
+use Rattle.cmap_binary.proofs.Fronts.{all_end, all_more, all_wrong, continues_none, continues_only, emptied, filled, no_frame}
 use Rattle.cmap_binary.proofs.bundle.split_files.Goals as goal
 
 pub returns-in_default : goal.returns-in_default
-returns-in_default c = HasSplit-wrong _ _ _ c.loop-rest.invariant (omega (arith, eqb-false _ 0 (sym c.loop-rest-test.ensures))) c.in_default.ensures
+returns-in_default c = continues_none c.loop-rest.invariant (all_wrong (FramedAt 6) _ (filled c.loop-rest-test.ensures) c.in_default.ensures)
 
 pub loop-rest-preserved : goal.loop-rest-preserved
 loop-rest-preserved c =
     let pushed = ap names_seen c.in_ok-push.ensures.items ∙ map-append (λ b. b.now) c.loop-rest.files.items _ in
-    rw pushed (HasSplit-more _ _ _ _ _ c.loop-rest.invariant (omega (arith, eqb-false _ 0 (sym c.loop-rest-test.ensures))) c.in-Some.ensures)
+    rw pushed (all_more (FramedAt 6) _ c.loop-rest.rest.now _ _ _ c.loop-rest.invariant (filled c.loop-rest-test.ensures) c.in-Some.ensures)
 
 pub returns : goal.returns
-returns c = HasSplit-all _ _ _ c.loop-rest.invariant (nil_from_length _ (eqb-true _ 0 (sym c.loop-rest-test.ensures)))
+returns c =
+    let only = continues_only c.loop-rest.invariant (all_end (FramedAt 6) _ (emptied c.loop-rest-test.ensures) (no_frame 6)) in
+    rw append-nil at only

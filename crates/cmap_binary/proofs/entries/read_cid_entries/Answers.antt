@@ -1,33 +1,38 @@
-use Rattle.std.proofs.Common.{arith}
-use Rattle.std.proofs.lemmas.Result.{err_from_is_err_and, IfOk-weaker}
-use Rattle.cmap_files.proofs.Outcomes.{if_ok_both}
-use Rattle.cmap_binary.proofs.CidEntriesMade.{no_cids-count, cids_only-none, no_cids-columns, no_cids-raws, cids_only, no_cids-fit}
+use Rattle.std.proofs.Common.{ℕ, zero, suc, ◌<◌, ap, ◌∙◌, List, arith}
+use Rattle.std.proofs.lemmas.List.{map-append}
+use Rattle.cmap_files.specs.DeclarationsSeen.{cid_entry_seen, entries_seen}
+use Rattle.cmap_files.specs.Files.{CidEntry}
+use Rattle.cmap_files.specs.Only.{IsOnly, HoldsOfNone}
+use Rattle.cmap_binary.specs.Bundles.{PrefixTables}
+use Rattle.cmap_binary.specs.BinaryEntries.{Shape, CidsOf, CidEntriesOf}
+use Rattle.cmap_binary.proofs.Fronts.{gives, then_none, then_next, then_only, row_more, row_wrong, row_end}
 use Rattle.cmap_binary.proofs.entries.read_cid_entries.Goals as goal
 
-pub returns-in_default-clause-refused : goal.returns-in_default-clause-refused
-returns-in_default-clause-refused c = λ e. no_cids-count _ _ _ c.in_default.ensures
+no_cids : (tables : PrefixTables) (shape : Shape) (n : ℕ) (text : List ℕ) → 0 < n → HoldsOfNone (CidsOf tables shape n text) → HoldsOfNone (CidEntriesOf tables shape n text)
+no_cids tables shape zero text some none = absurd (omega (arith, some))
+no_cids tables shape (suc m) text some none = none
 
-pub returns-then-count-eq0-clause-entries : goal.returns-then-count-eq0-clause-entries
-returns-then-count-eq0-clause-entries c = rw c.new.ensures.items (cids_only-none _ _ _ _ _ c.in-Some.ensures c.if-count-eq0.true)
+cids_only : (tables : PrefixTables) (shape : Shape) (n : ℕ) (text : List ℕ) (entries : List CidEntry) → 0 < n → IsOnly (CidsOf tables shape n text) entries → IsOnly (CidEntriesOf tables shape n text) entries
+cids_only tables shape zero text entries some only = absurd (omega (arith, some))
+cids_only tables shape (suc m) text entries some only = only
 
-pub returns-in_err-columns-clause-refused : goal.returns-in_err-columns-clause-refused
-returns-in_err-columns-clause-refused c =
-    let p = err_from_is_err_and c.from_residual.result c.from_residual.ensures.1 in
-    rw (p.1, p.2) (λ e. no_cids-columns _ _ _ _ _ c.in-Some.ensures (omega arith) (c.in_err-columns.ensures.refused cc))
+pub returns-in_default : goal.returns-in_default
+returns-in_default c = (tt, λ e. then_none _ _ c.in_default.ensures)
 
-pub returns-in_err-raws-clause-refused : goal.returns-in_err-raws-clause-refused
-returns-in_err-raws-clause-refused c =
-    let p = err_from_is_err_and c.from_residual-in_err-raws.result c.from_residual-in_err-raws.ensures.1 in
-    rw (p.1, p.2) (λ e. no_cids-raws _ _ _ _ _ _ c.in-Some.ensures (omega arith) c.in_ok-columns.ensures.columns (c.in_err-raws.ensures.refused cc))
+pub returns-in_default-split_columns : goal.returns-in_default-split_columns
+returns-in_default-split_columns c = (tt, λ e. then_next _ _ _ _ c.in-Some.ensures (no_cids _ _ _ _ (omega arith) (then_none _ _ c.in_default-split_columns.ensures)))
 
-pub returns-clause-entries : goal.returns-clause-entries
-returns-clause-entries c =
-    let ranges = rw (c.deref.ensures.value, c.deref-2.ensures.value, c.deref-3.ensures.value) at c.make_cid_ranges.ensures.ranges in
-    IfOk-weaker c.make_cid_ranges.result _ _
-    (λ v both. cids_only _ _ _ _ _ _ _ _ _ c.in-Some.ensures (omega arith) c.in_ok-columns.ensures.columns c.in_ok-raws.ensures.units both.0 both.1)
-    (if_ok_both c.make_cid_ranges.result _ _ ranges c.make_cid_ranges.ensures.fit)
+pub returns-in_default-next_entry : goal.returns-in_default-next_entry
+returns-in_default-next_entry c =
+    let none = row_wrong _ _ _ _ _ _ c.loop-index.invariant (omega arith) c.in_default-next_entry.ensures in
+    (tt, λ e. then_next _ _ _ _ c.in-Some.ensures (no_cids _ _ _ _ (omega arith) (then_next _ _ _ _ c.in-Some-split_columns.ensures (then_none _ _ none))))
 
-pub returns-clause-refused : goal.returns-clause-refused
-returns-clause-refused c =
-    let refused = rw (c.deref.ensures.value, c.deref-2.ensures.value, c.deref-3.ensures.value) at c.make_cid_ranges.ensures.refused in
-    λ e. no_cids-fit _ _ _ _ _ _ _ _ c.in-Some.ensures (omega arith) c.in_ok-columns.ensures.columns c.in_ok-raws.ensures.units (refused e)
+pub loop-index-preserved : goal.loop-index-preserved
+loop-index-preserved c =
+    let pushed = ap entries_seen c.in_ok-push.ensures.items ∙ map-append cid_entry_seen c.loop-index.ranges.items _ in
+    rw pushed (row_more _ _ _ _ _ _ _ _ c.loop-index.invariant (omega arith) c.in-Some-next_entry.ensures)
+
+pub returns : goal.returns
+returns c =
+    let only = then_only _ _ _ _ _ c.in-Some-split_columns.ensures (then_only _ _ _ _ _ (row_end _ _ _ _ _ _ c.loop-index.invariant (omega arith)) gives) in
+    (then_only _ _ _ _ _ c.in-Some.ensures (cids_only _ _ _ _ _ (omega arith) only), λ e. cc)

@@ -1,12 +1,9 @@
 use Rattle.std.proofs.Common.{refl}
-use Rattle.std.proofs.lemmas.Result.{err_from_is_err_and}
-use Rattle.cmap_binary.proofs.SegmentsSaid.{made_only, made_none}
+use Rattle.cmap_binary.proofs.Reading.{made_none, made_only, passed}
 use Rattle.cmap_binary.proofs.segments.add_texts.Goals as goal
 
-pub returns-in_err-ranges-clause-refused : goal.returns-in_err-ranges-clause-refused
-returns-in_err-ranges-clause-refused c =
-    let p = err_from_is_err_and c.from_residual.result c.from_residual.ensures.1 in
-    rw (p.1, p.2) (λ e. made_none _ _ (c.in_err-ranges.ensures.refused cc))
+pub returns-in_err-ranges : goal.returns-in_err-ranges
+returns-in_err-ranges c = passed _ _ _ c.from_residual.ensures.1 c.in_err-ranges.ensures.1 (λ none. made_none none)
 
-pub returns-clause-says : goal.returns-clause-says
-returns-clause-says c = record { content = _; only = made_only _ _ _ c.in_ok-ranges.ensures.entries; says = rw c.in_ok-add_bfs.ensures refl }
+pub returns : goal.returns
+returns c = (record { content = _; only = made_only c.in_ok-ranges.ensures.0; says = rw c.in_ok-add_bfs.ensures refl }, λ e. cc)

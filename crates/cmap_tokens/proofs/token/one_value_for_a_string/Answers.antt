@@ -1,5 +1,5 @@
-use Rattle.cmap_tokens.proofs.OneValue.{IsValue-only}
+use Rattle.cmap_tokens.proofs.OneValue.{one_value}
 use Rattle.cmap_tokens.proofs.token.one_value_for_a_string.Goals as goal
 
 pub returns : goal.returns
-returns c = IsValue-only
+returns c = one_value

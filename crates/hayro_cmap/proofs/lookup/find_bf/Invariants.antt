@@ -4,7 +4,4 @@ use Rattle.hayro_cmap.proofs.LayersSearched.{IsBfSearched}
 use Rattle.hayro_cmap.proofs.lookup.find_bf.Given as goal
 
 abbrev pub invariant-loop-layer : goal.invariant-loop-layer
-invariant-loop-layer l =
-    IsBfSearched (layers_seen l.layers) (layers_seen (drop l.layer-index l.layers)) l.code
-    (record { runs = l.initial.looks.runs; declarations = l.initial.looks.declarations })
-    (record { runs = l.looks.runs; declarations = l.looks.declarations })
+invariant-loop-layer l = IsBfSearched (layers_seen l.layers) (layers_seen (drop l.layer-index l.layers)) l.code l.initial.looks l.looks

@@ -1,35 +1,30 @@
 use Rattle.cmap_bits.specs.Reader.{bytes_left}
-use Rattle.cmap_bits.proofs.TableFronts.{table_at-no_counts, table_at-no_room, table_at-unread, table_at-read, IsTable-read}
-use Rattle.cmap_bits.proofs.TablesDecoded.{IsPrefixFree-table}
+use Rattle.cmap_bits.specs.TableReading.{BeginsWithNoTable}
+use Rattle.cmap_bits.proofs.TablesTaken.{unsound, no_symbols, IsTable-taken, TakesTable-taken}
 use Rattle.cmap_bits.proofs.prefix.reading.read_table.Goals as goal
 
-pub returns-in_default-clause-value : goal.returns-in_default-clause-value
-returns-in_default-clause-value c = table_at-no_counts c.args.width (bytes_left c.args.reader.now) c.in_default.ensures.value
+pub returns-in_default : goal.returns-in_default
+returns-in_default c =
+    let none : BeginsWithNoTable (bytes_left c.args.reader.now) = rw c.in_default.is at c.in_ok-counts.ensures in
+    none c.args.width
 
-pub returns-in_default-words_of-clause-value : goal.returns-in_default-words_of-clause-value
-returns-in_default-words_of-clause-value c = table_at-no_room c.args.width (bytes_left c.args.reader.now) c.in-Some.counts.now _ c.in-Some.ensures.value c.in_default-words_of.ensures
+pub returns-in_default-count_words : goal.returns-in_default-count_words
+returns-in_default-count_words c =
+    unsound _ _ _ _ (rw c.in-Some.is at c.in_ok-counts.ensures) (rw c.deref.ensures.value at c.in_default-count_words.ensures)
 
-pub returns-in_default-2-clause-value : goal.returns-in_default-2-clause-value
-returns-in_default-2-clause-value c =
-    table_at-unread c.args.width (bytes_left c.args.reader.now) c.in-Some.counts.now _ _ _ c.in-Some.ensures.value c.in-Some-words_of.ensures (rw c.in_default-2.is at c.in_ok-symbols.ensures.value)
+pub returns-in_default-2 : goal.returns-in_default-2
+returns-in_default-2 c =
+    let made = rw c.deref.ensures.value at c.in-Some-count_words.ensures in
+    no_symbols _ _ _ _ c.requires.at_byte (rw c.in-Some.is at c.in_ok-counts.ensures) (rw made.0 at (rw c.in_default-2.is at c.in_ok-symbols.ensures))
 
 pub invariant_of-result : goal.invariant_of-result
 invariant_of-result c =
-    IsTable-read c.args.width (bytes_left c.args.reader.now) c.in-Some.counts.now _ (bytes_left c.read_symbols.new.reader) _ _ c.in-Some-words_of.made.1
-    (record { counts_are = c.in-Some.ensures.value; made = c.in-Some-words_of.ensures; symbols_are = rw c.in-Some-2.is at c.in_ok-symbols.ensures.value })
+    let made = rw c.deref.ensures.value at c.in-Some-count_words.ensures in
+    IsTable-taken _ _ _ _ _ _ (rw c.in-Some.is at c.in_ok-counts.ensures) made.1
+    (rw made.0 at (rw c.in-Some-2.is at c.in_ok-symbols.ensures))
 
-pub returns-clause-value : goal.returns-clause-value
-returns-clause-value c =
-    table_at-read c.args.width (bytes_left c.args.reader.now) c.in-Some.counts.now _ (bytes_left c.read_symbols.new.reader) _ _ c.in-Some-words_of.made.1
-    (record { counts_are = c.in-Some.ensures.value; made = c.in-Some-words_of.ensures; symbols_are = rw c.in-Some-2.is at c.in_ok-symbols.ensures.value })
-
-pub returns-clause-sound : goal.returns-clause-sound
-returns-clause-sound c =
-    (IsTable-read c.args.width (bytes_left c.args.reader.now) c.in-Some.counts.now _ (bytes_left c.read_symbols.new.reader) c.in-Some-words_of.made.0 c.in-Some-2.symbols.items c.in-Some-words_of.made.1
-    (record { counts_are = c.in-Some.ensures.value; made = c.in-Some-words_of.ensures; symbols_are = rw c.in-Some-2.is at c.in_ok-symbols.ensures.value })).sound
-
-pub returns-clause-prefix_free : goal.returns-clause-prefix_free
-returns-clause-prefix_free c =
-    IsPrefixFree-table c.in-Some-words_of.made.0 c.in-Some-2.symbols.items
-    (IsTable-read c.args.width (bytes_left c.args.reader.now) c.in-Some.counts.now _ (bytes_left c.read_symbols.new.reader) _ _ c.in-Some-words_of.made.1
-    (record { counts_are = c.in-Some.ensures.value; made = c.in-Some-words_of.ensures; symbols_are = rw c.in-Some-2.is at c.in_ok-symbols.ensures.value }))
+pub returns : goal.returns
+returns c =
+    let made = rw c.deref.ensures.value at c.in-Some-count_words.ensures in
+    TakesTable-taken _ _ _ _ _ _ c.requires.at_byte (rw c.in-Some.is at c.in_ok-counts.ensures) made.1
+    (rw made.0 at (rw c.in-Some-2.is at c.in_ok-symbols.ensures))

@@ -1,32 +1,37 @@
-use Rattle.std.proofs.Common.{◌+◌, ◌∙◌, ap, sym, arith}
-use Rattle.cmap_bits.specs.Reader.{bits_left}
-use Rattle.cmap_bits.specs.WordsByLength.{place_behind}
-use Rattle.cmap_bits.proofs.BitsTaken.{BitTaken, MovesBy-more, place_behind-next, place_behind-end, word_more}
+use Rattle.std.proofs.Common.{rules, refl, ◌≡◌, ◌<◌, length, get_or, ◌∙◌, Some, ap, arith}
+use Rattle.std.proofs.Math.Nat.{pow-suc}
+use Rattle.std.proofs.Math.Numerals.{add-one}
+use Rattle.cmap_bits.proofs.BitsTaken.{BitTaken, BitTaken-read, no_bit_left, moved_on}
+use Rattle.cmap_bits.proofs.WordsBegun.{Looked-first, Looked-hit, Looked-more, Looked-end}
 use Rattle.cmap_bits.proofs.prefix.words.find.Goals as goal
+
+pub loop-i-init : goal.loop-i-init
+loop-i-init c = record { unmoved = refl; moves = search rules; counted = omega arith; looked = Looked-first _ _; small = omega arith; few = omega arith }
 
 pub returns-in_err-read_bit-clause-none : goal.returns-in_err-read_bit-clause-none
 returns-in_err-read_bit-clause-none c =
-    let found = place_behind-end _ c.loop-words.ahead c.loop-words.word c.in_err-read_bit.ensures.value in
-    rw c.from_residual.ensures (ap (λ r. place_behind 0 c.args.words.now (bits_left r)) (sym c.loop-words.invariant.unmoved) ∙ sym c.loop-words.invariant.on ∙ found)
+    let short = no_bit_left c.args.reader.now _ _ c.loop-i.invariant.moves c.in_err-read_bit.ensures.value in
+    rw c.from_residual-in_err-read_bit.ensures (λ k begun. Looked-end _ _ _ _ _ c.loop-i.invariant.looked c.loop-i.invariant.counted k (omega (arith, begun.enough)) begun)
 
-pub returns-in-Some-clause-found : goal.returns-in-Some-clause-found
-returns-in-Some-clause-found c =
-    let taken : BitTaken c.loop-words.ahead c.read_bit.new.self c.in_ok-read_bit.field-0 = record { value = c.in_ok-read_bit.ensures.value; moves = c.in_ok-read_bit.ensures.moves } in
-    ap (λ r. place_behind 0 c.args.words.now (bits_left r)) (sym c.loop-words.invariant.unmoved)
-    ∙ sym c.loop-words.invariant.on
-    ∙ place_behind-next c.args.words.now _ _ _ _ _ _ _ _ (omega arith) taken c.from.ensures c.in-Some.ensures
+pub returns-then-past-count-clause-found : goal.returns-then-past-count-clause-found
+returns-then-past-count-clause-found c =
+    let taken : BitTaken c.args.reader.now c.loop-i.i c.from.result = BitTaken-read _ _ _ _ c.loop-i.invariant.moves (ap Some c.from.ensures ∙ c.in_ok-read_bit.ensures.value) in
+    let count : (c.loop-i.i < length c.args.counts.now) × (c.in_ok-count.field-0.now ≡ get_or c.args.counts.now c.loop-i.i 0) = grind (arith, c.in_ok-count.ensures) in
+    let hit = Looked-hit _ _ _ _ _ c.loop-i.invariant.looked c.loop-i-test.true taken.within count.0 (rw (taken.bit_is, count.1) at c.if-past-count.true) in
+    rw taken.bit_is (hit.0, rw hit.1 (moved_on _ _ _ _ c.loop-i.invariant.moves c.in_ok-read_bit.ensures.moves))
 
-pub returns-in-Some-clause-moves : goal.returns-in-Some-clause-moves
-returns-in-Some-clause-moves c =
-    let taken : BitTaken c.loop-words.ahead c.read_bit.new.self c.in_ok-read_bit.field-0 = record { value = c.in_ok-read_bit.ensures.value; moves = c.in_ok-read_bit.ensures.moves } in
-    rw (← c.loop-words.invariant.unmoved) (c.loop-words.words-index + 1, MovesBy-more _ _ _ _ _ c.loop-words.invariant.moved taken)
-
-pub loop-words-preserved : goal.loop-words-preserved
-loop-words-preserved c =
-    let taken : BitTaken c.loop-words.ahead c.read_bit.new.self c.in_ok-read_bit.field-0 = record { value = c.in_ok-read_bit.ensures.value; moves = c.in_ok-read_bit.ensures.moves } in
+pub loop-i-preserved : goal.loop-i-preserved
+loop-i-preserved c =
+    let taken : BitTaken c.args.reader.now c.loop-i.i c.from.result = BitTaken-read _ _ _ _ c.loop-i.invariant.moves (ap Some c.from.ensures ∙ c.in_ok-read_bit.ensures.value) in
+    let count : (c.loop-i.i < length c.args.counts.now) × (c.in_ok-count.field-0.now ≡ get_or c.args.counts.now c.loop-i.i 0) = grind (arith, c.in_ok-count.ensures) in
     record {
-      unmoved = c.loop-words.invariant.unmoved;
-      on = sym (place_behind-next c.args.words.now _ _ _ _ _ _ _ _ (omega arith) taken c.from.ensures c.in_default.ensures) ∙ c.loop-words.invariant.on;
-      moved = MovesBy-more _ _ _ _ _ c.loop-words.invariant.moved taken;
-      small = word_more c.loop-words.ahead c.read_bit.new.self _ _ _ _ c.loop-words.invariant.small taken c.from.ensures;
+      unmoved = c.loop-i.invariant.unmoved;
+      moves = moved_on _ _ _ _ c.loop-i.invariant.moves c.in_ok-read_bit.ensures.moves;
+      counted = omega arith;
+      looked = rw (taken.bit_is, count.1) (Looked-more _ _ _ _ _ c.loop-i.invariant.looked c.loop-i-test.true taken.within count.0 (rw (taken.bit_is, count.1) at c.if-past-count.false));
+      small = rw (add-one, pow-suc) (omega (arith, taken.small));
+      few = omega (arith, c.type_inv.counts c.loop-i.i);
     }
+
+pub returns-clause-none : goal.returns-clause-none
+returns-clause-none c = λ k begun. Looked-end _ _ _ _ _ c.loop-i.invariant.looked c.loop-i.invariant.counted k (omega (arith, c.requires.lengths k 0 begun.within)) begun

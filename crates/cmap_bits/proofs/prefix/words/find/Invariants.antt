@@ -1,13 +1,14 @@
-use Rattle.std.proofs.Common.{◌≡◌, ◌^◌, ◌<◌, drop}
-use Rattle.cmap_bits.specs.Reader.{bits_left}
-use Rattle.cmap_bits.specs.TableReading.{MovesBy}
-use Rattle.cmap_bits.specs.WordsByLength.{place_behind}
+use Rattle.std.proofs.Common.{◌≡◌, ◌*◌, ◌^◌, ◌<◌, ◌≤◌, length}
+use Rattle.cmap_bits.specs.Reader.{bits_left, after_bits}
+use Rattle.cmap_bits.proofs.WordsBegun.{Looked}
 use Rattle.cmap_bits.proofs.prefix.words.find.Given as goal
 
-abbrev pub invariant-loop-words : goal.invariant-loop-words
-invariant-loop-words l = record {
+abbrev pub invariant-loop-i : goal.invariant-loop-i
+invariant-loop-i l = record {
   unmoved : l.reader ≡ l.fn.reader;
-  on : place_behind l.word (drop l.words-index l.words) (bits_left l.ahead) ≡ place_behind 0 l.words (bits_left l.reader);
-  moved : MovesBy l.reader l.words-index l.ahead;
-  small : l.word < 2 ^ l.words-index;
+  moves : l.ahead ≡ after_bits l.fn.reader l.i;
+  counted : l.i ≤ length l.counts;
+  looked : Looked l.counts (bits_left l.fn.reader) l.i l.place l.past;
+  small : l.past < 2 ^ l.i;
+  few : l.place ≤ 4294967295 * l.i;
 }

@@ -4,9 +4,8 @@ use Rattle.std.proofs.lemmas.List.{get_or_read, take_more}
 use Rattle.cmap_runs.specs.DeclaredRanges.{IsRange}
 use Rattle.cmap_runs.specs.OpenRanges.{AreOpen}
 use Rattle.cmap_runs.specs.Ranges.{Run, last_place}
-use Rattle.cmap_runs.proofs.LastPlace.{is_last}
 use Rattle.cmap_runs.proofs.MaximalRuns.{runs_of-unique}
-use Rattle.cmap_runs.proofs.OpenDecide.{AreOpen-push, greatest_open, one_more}
+use Rattle.cmap_runs.proofs.OpenDecide.{AreOpen-push, decides_open, one_more}
 use Rattle.cmap_runs.proofs.runs.sweep.sweep.Goals as goal
 
 pub loop-range-preserved : goal.loop-range-preserved
@@ -17,18 +16,15 @@ loop-range-preserved c =
     let is : (d : Run) → range ≡ get_or ranges i d = λ d. c.range.view_is ∙ get_or_read ranges i c.range-item.result lt c.range-item.is d in
     let low : (d : Run) → next ≡ (get_or ranges i d).low = λ d. c.from-next.ensures ∙ ap (λ (r : Run). r.low) (is d) in
     let le : from ≤ next = omega (arith, c.loop-range.invariant.later i range (omega arith) lt, low range) in
-    let later : (k : ℕ) (d : Run) → i ≤ k → k < length ranges → next ≤ (get_or ranges k d).low = λ k d behind within. omega (arith, low d, c.requires i k d behind within) in
+    let later : (k : ℕ) (d : Run) → i ≤ k → k < length ranges → next ≤ (get_or ranges k d).low = λ k d from_here within. omega (arith, low d, c.requires i k d from_here within) in
     record {
-      later = λ k d behind within. later k d (omega arith) within;
+      later = λ k d from_here within. later k d (omega arith) within;
       limit = omega arith;
       are = λ spans are.
           let old = c.loop-range.invariant.are spans are in (
             subst (λ begun. AreOpen spans begun (get nat_cmp c.insert.new.self) next) (sym (take_more ranges i range lt ∙ ap (λ r. take i ranges ++ r ∷ []) (sym (is range))))
-                (AreOpen-push spans (take i ranges) range (get nat_cmp c.loop-range.ends) (get nat_cmp c.add_runs.new.ends) (get nat_cmp c.insert.new.self) from next old.0 le
-                c.in_ok-add_runs.ensures.open (subst (IsRange spans) (sym (is range)) (are.each i range lt)) (omega arith) c.in_ok-insert.ensures.updates.0),
-            c.in_ok-add_runs.ensures.runs (last_place spans) (λ code start end.
-                greatest_open spans ranges i from next code (get nat_cmp c.loop-range.ends) (last_place spans code) are old.0 later start end (is_last spans code))
-                old.1,
+                (AreOpen-push range next old.0 le c.in_ok-add_runs.ensures.open (subst (IsRange spans) (sym (is range)) (are.each i range lt)) (omega arith) c.in_ok-insert.ensures.updates.0),
+            c.in_ok-add_runs.ensures.runs (last_place spans) (decides_open i next are old.0 later) old.1,
           );
       few = omega (arith, one_more _ _ _ c.in_ok-insert.ensures.len, c.in_ok-add_runs.ensures.few, c.in_ok-add_runs.ensures.fewer);
     }
@@ -37,6 +33,4 @@ pub returns-clause-runs : goal.returns-clause-runs
 returns-clause-runs c = λ spans are.
     let ranges = c.args.ranges.now in let i = c.loop-range.range-index in let old = c.loop-range.invariant.are spans are in
     runs_of-unique spans c.add_runs-2.new.runs
-    (c.in_ok-add_runs-2.ensures.runs (last_place spans) (λ code start end.
-    greatest_open spans ranges i c.loop-range.from (2 ^ 32) code (get nat_cmp c.loop-range.ends) (last_place spans code) are old.0
-    (λ k d behind within. absurd (omega arith)) start end (is_last spans code)) old.1)
+    (c.in_ok-add_runs-2.ensures.runs (last_place spans) (decides_open i (2 ^ 32) are old.0 (λ k d from_here within. absurd (omega arith))) old.1)

@@ -1,20 +1,12 @@
-use Rattle.std.proofs.Common.{◌≡◌, get_or, arith}
-use Rattle.cmap_tokens.proofs.PlainStrings.{plain_value, some_plain, plain_some, few_bytes}
-use Rattle.cmap_tokens.proofs.StringBodies.{inside}
+use Rattle.std.proofs.Common.{sym, ◌∙◌, subst}
+use Rattle.cmap_tokens.proofs.PlainStrings.{Answers, plain_value, few_bytes}
+use Rattle.cmap_tokens.proofs.StringBodies.{hex_body}
 use Rattle.cmap_tokens.proofs.token.StringToken.plain_number.Goals as goal
 
-pub returns-clause-value : goal.returns-clause-value
-returns-clause-value c =
-    let raw = c.args.self.now.raw.now in
-    let head : get_or raw 0 0 ≡ 60 = omega (arith, c.if-self-ne60.false) in
-    plain_value raw c.args.self.now.whole head c.pairs_number.result c.pairs_number.ensures
+pub returns-then-is_hexadecimal-clause-value : goal.returns-then-is_hexadecimal-clause-value
+returns-then-is_hexadecimal-clause-value c =
+    let found = c.pairs_number.result in
+    plain_value c.args.self.now.raw.now found (hex_body _ (sym c.is_hexadecimal.ensures ∙ c.if-is_hexadecimal.true)) (subst (λ digits. Answers digits found) c.body.ensures c.pairs_number.ensures)
 
-pub returns-clause-plain : goal.returns-clause-plain
-returns-clause-plain c =
-    let raw = c.args.self.now.raw.now in
-    let head : get_or raw 0 0 ≡ 60 = omega (arith, c.if-self-ne60.false) in
-    let whole = c.args.self.now.whole in
-    (λ e. some_plain raw whole head c.pairs_number.result c.pairs_number.ensures e, λ plain. plain_some raw whole head c.pairs_number.result c.pairs_number.ensures plain)
-
-pub returns-clause-few : goal.returns-clause-few
-returns-clause-few c = few_bytes (inside c.args.self.now.raw.now) c.pairs_number.result c.pairs_number.ensures
+pub returns-then-is_hexadecimal-clause-few : goal.returns-then-is_hexadecimal-clause-few
+returns-then-is_hexadecimal-clause-few c = few_bytes c.body.result.now c.pairs_number.result c.pairs_number.ensures

@@ -1,5 +1,6 @@
-use Rattle.std.proofs.Common.{◌≡◌, ◌+◌, ◌<◌, ◌≤◌, false, drop}
+use Rattle.std.proofs.Common.{◌≡◌, ◌+◌, ◌<◌, ◌≤◌, drop, Some}
 use Rattle.std.specs.Prelude.{option_map}
+use Rattle.cmap_tokens.specs.Tokens.{opened}
 use Rattle.cmap_tokens.specs.TokenReading.{text_len}
 use Rattle.cmap_tokens.proofs.token.lengths.text_len.Given as goal
 
@@ -7,5 +8,5 @@ abbrev pub invariant-loop-i : goal.invariant-loop-i
 invariant-loop-i l = record {
   inside : 0 < l.depth;
   within : l.depth ≤ 1 + l.i;
-  rest : option_map (λ n. l.i + n) (text_len l.escaped l.depth (drop l.i l.text)) ≡ text_len false 1 l.text;
+  rest : option_map (λ n. l.i + n) (text_len (Some (record { escaped = l.escaped; depth = l.depth })) (drop l.i l.text)) ≡ text_len opened l.text;
 }

@@ -1,12 +1,10 @@
-use Rattle.std.proofs.Common.{◌≡◌, ◌+◌, ◌*◌, ◌<◌, ◌≤◌, ◌^◌, w64, true, false, length, get_or, take, sym, ◌∙◌, subst, arith}
+use Rattle.std.proofs.Common.{◌≡◌, ◌+◌, ◌*◌, ◌<◌, ◌≤◌, ◌^◌, w64, true, false, length, get_or, take, Some, sym, ap, ◌∙◌, arith}
 use Rattle.std.proofs.lemmas.Bool.{and_from, both_ways, le-ltb, lt-ltb}
 use Rattle.std.proofs.lemmas.Int.{to_z_pos}
 use Rattle.std.proofs.lemmas.List.Folds.{list_all_more}
 use Rattle.std.specs.Char.{digit_value, is_digit}
 use Rattle.cmap_tokens.specs.Numbers.{Integer, digits_number}
-use Rattle.cmap_tokens.specs.Tokens.{Numeral}
-use Rattle.cmap_tokens.specs.TokenReading.{IsPiece}
-use Rattle.cmap_tokens.proofs.FirstPieces.{decimal_piece}
+use Rattle.cmap_tokens.proofs.DecimalRuns.{decimal_run}
 use Rattle.cmap_tokens.proofs.FewDigits.{digit_before, few_small, not_passed, other_ends}
 use Rattle.cmap_tokens.proofs.SaturatingDigits.{digits_number_more}
 use Rattle.cmap_tokens.proofs.token.numerals.decimal.Goals as goal
@@ -14,10 +12,9 @@ use Rattle.cmap_tokens.proofs.token.numerals.decimal.Goals.{then-i-eq0-via-then-
 
 pub returns-then-digit-ge10-clause-piece : goal.returns-then-digit-ge10-clause-piece
 returns-then-digit-ge10-clause-piece c =
-    let text = c.args.text.now in
     let small : c.loop-i.number < 2 ^ 63 = omega (arith, c.loop-i.invariant.small) in
-    subst (λ z. IsPiece text (Numeral (Integer z)) c.loop-i.i) (sym (to_z_pos w64 c.loop-i.number small))
-    (decimal_piece text c.loop-i.i c.loop-i.number (omega (arith, c.if-i-eq0.false)) c.loop-i-test.true c.loop-i.invariant.digits c.loop-i.invariant.value (sym c.if-is_regular.ensures) small)
+    let (len, value) = decimal_run c.args.text.now c.loop-i.i c.loop-i.number (omega (arith, c.if-i-eq0.false)) c.loop-i-test.true c.loop-i.invariant.digits c.loop-i.invariant.value (sym c.if-is_regular.ensures) small in
+    (len, value ∙ ap (λ z. Some (Integer z)) (sym (to_z_pos w64 c.loop-i.number small)))
 
 pub loop-i-preserved : goal.loop-i-preserved
 loop-i-preserved c =

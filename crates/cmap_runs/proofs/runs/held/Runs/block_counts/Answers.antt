@@ -11,7 +11,7 @@ use Rattle.cmap_runs.proofs.runs.held.Runs.block_counts.Goals.{then-loop-place-t
 pub loop-block-preserved : goal.loop-block-preserved
 loop-block-preserved c =
     let runs = c.self.inside.list.items in let block = c.loop-block.block in let place = c.loop-place.place in let old = c.loop-block.invariant in
-    let behind : AllWithin (λ run. 256 * block ≤ run.high) runs place (length runs) =
+    let after : AllWithin (λ run. 256 * block ≤ run.high) runs place (length runs) =
     elim c.loop-place-test.branch [
       | then-loop-place-test+else-index-block w ↦
           let lt : place < length runs = omega (arith, w.loop-place-test.true) in
@@ -20,7 +20,7 @@ loop-block-preserved c =
       | else-loop-place-test w ↦ λ k d le within. absurd (omega (arith, w.loop-place-test.false))
     ]
     in
-    let is : IsSplit runs (256 * block) place = record { within = c.loop-place.invariant.within; before = c.loop-place.invariant.before; behind = behind } in
+    let is : IsSplit runs (256 * block) place = record { within = c.loop-place.invariant.within; before = c.loop-place.invariant.before; after = after } in
     record {
       blocks =
           subst (AreBlocks runs) (sym c.in_ok-push.ensures.items)

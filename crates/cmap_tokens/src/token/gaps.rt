@@ -1,0 +1,49 @@
+//! Gaps, which separate tokens: white space and comments. A comment goes from `%` to the end of the
+//! line, which a form feed ends too.
+
+ghost use Rattle.std.specs.Prelude.{◌≡◌, ◌+◌, ◌≤◌, false, true, drop, length};
+ghost use Rattle.cmap_tokens.specs.Gaps as gaps;
+ghost use Rattle.cmap_tokens.specs.TokenReading as reading;
+
+use super::byte_class::is_white;
+
+pub(super) const FORM_FEED: u8 = 12;
+
+// How many bytes of white space and comments a text begins with.
+pub(super) fn gap_len(text: &[u8]) -> usize
+    ensures exact { result ≡ reading.gap_len false text.now }
+    ensures within { result ≤ length text.now }
+{
+    let mut i = 0;
+    while i < text.len() {
+        let byte = text[i];
+        if is_white(byte) {
+            i += 1;
+        } else if byte == b'%' {
+            i += 1 + comment_len(&text[i + 1..]);
+        } else {
+            return i;
+        }
+    }
+    i
+}
+
+// How many bytes are left of a comment, with the byte that ends it.
+fn comment_len(text: &[u8]) -> usize
+    ensures exact { reading.gap_len true text.now
+        ≡ result + reading.gap_len false (drop result text.now) }
+    ensures within { result ≤ length text.now }
+{
+    for (i, byte) in text.iter().enumerate() {
+        if ends_comment(*byte) {
+            return i + 1;
+        }
+    }
+    text.len()
+}
+
+fn ends_comment(byte: u8) -> bool
+    ensures { result ≡ gaps.ends_comment byte }
+{
+    matches!(byte, b'\n' | FORM_FEED | b'\r')
+}
