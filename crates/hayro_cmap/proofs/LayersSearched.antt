@@ -18,10 +18,10 @@ pub drop_next : {A : Type 0} (xs : List A) (i : ℕ) (x : A) → i < length xs �
 drop_next xs i x within is = let next : i + 1 ≡ suc i = omega arith in drop-cons xs i x within ∙ ap (λ y. y ∷ drop (suc i) xs) (sym is) ∙ ap (λ k. x ∷ drop k xs) (sym next)
 
 -- what is looked at in the layers that are left, and in those above them, is within what may be looked at in all
-record IsLooked (before now : Looks) (runs runs_left declarations declarations_left : ℕ) : Type 0 where
-  pub runs : now.runs + runs_left ≤ before.runs + runs
+pub record IsLooked (before now : Looks) (all_runs runs_left all_declarations declarations_left : ℕ) : Type 0 where
+  pub runs : now.runs + runs_left ≤ before.runs + all_runs
   pub runs_grow : before.runs ≤ now.runs
-  pub declarations : now.declarations + declarations_left ≤ before.declarations + declarations
+  pub declarations : now.declarations + declarations_left ≤ before.declarations + all_declarations
   pub declarations_grow : before.declarations ≤ now.declarations
 
 looked_none : (before : Looks) (runs declarations : ℕ) → IsLooked before before runs runs declarations declarations
@@ -36,19 +36,19 @@ looked_more before now after runs here runs_left declarations more declarations_
   declarations_grow = omega (arith, looked.declarations_grow, looks.some_declaration);
 }
 
+at_least_one : (b : Bool) (n k : ℕ) → n + 1 ≤ k → n + (if b then 1 else 0) ≤ k
+at_least_one true n k one = one
+at_least_one false n k one = omega (arith, one)
+
 -- the last layer that is searched
 looked_last : (before now after : Looks) (runs here runs_left declarations more declarations_left : ℕ) (found : Bool) → IsLooked before now runs (here + runs_left) declarations (more + declarations_left) → LooksAtMost now after here more true
     → LooksAtMost before after runs declarations found
 looked_last before now after runs here runs_left declarations more declarations_left found looked looks = record {
   most_runs = omega (arith, looked.runs, looks.most_runs);
-  some_run = at_least_one found (omega (arith, looked.runs_grow, looks.some_run));
+  some_run = at_least_one found _ _ (omega (arith, looked.runs_grow, looks.some_run));
   most_declarations = omega (arith, looked.declarations, looks.most_declarations);
-  some_declaration = at_least_one found (omega (arith, looked.declarations_grow, looks.some_declaration));
+  some_declaration = at_least_one found _ _ (omega (arith, looked.declarations_grow, looks.some_declaration));
 }
-  where
-    at_least_one : (b : Bool) {n k : ℕ} → n + 1 ≤ k → n + (if b then 1 else 0) ≤ k
-    at_least_one true one = one
-    at_least_one false one = omega (arith, one)
 
 looked_all : (before now : Looks) (runs runs_left declarations declarations_left : ℕ) → IsLooked before now runs runs_left declarations declarations_left → LooksAtMost before now runs declarations false
 looked_all before now runs runs_left declarations declarations_left looked = record {

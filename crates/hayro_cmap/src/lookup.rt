@@ -87,12 +87,7 @@ fn last_bf<'t>(table: &'t Table<BfRange>, code: u32, looks: &mut Looks) -> Optio
 }
 
 /// What a layer decides for a code, if it does: its CID, or that it has none.
-fn decided_by(
-    layer: &Layer,
-    code: u32,
-    len: CodeLength,
-    looks: &mut Looks,
-) -> Option<Option<Cid>>
+fn decided_by(layer: &Layer, code: u32, len: CodeLength, looks: &mut Looks) -> Option<Option<Cid>>
     ensures value { result ≡ layer_cid (layer_seen layer.now) code (length_of len) }
     ensures looks { LooksAtMost looks.old looks.new
         (layer_looks (layer_seen layer.now) (length_of len)) 3 (is_some result) }

@@ -1,7 +1,8 @@
-use Rattle.std.proofs.Common.{◌≤◌, ◌<◌, ◌^◌, rules}
+use Rattle.std.proofs.Common.{rules}
 use borrow.Author.Tests.{tests}
 use Rattle.std.specs.Prelude.{Any}
 use Rattle.std.proofs.lemmas.Iterator.{YieldsList-from_slice, cases_from_any}
+use Rattle.cmap_files.specs.CodeLengths.{length_of}
 use Rattle.hayro_cmap.specs.Layers as layers
 use Rattle.hayro_cmap.specs.LayersSeen.{layer_seen}
 use Rattle.hayro_cmap.specs.Lookups.{IsWithin}
@@ -11,9 +12,10 @@ use Rattle.hayro_cmap.proofs.codespaces.contains.Goals as goal
 
 pub returns-then-fits_in : goal.returns-then-fits_in
 returns-then-fits_in c =
-    let InLayer = λ (layer : layers.Layer). Any (λ space. IsWithin space c.args.code c.args.byte_len) layer.lists.spaces in
+    let InLayer = λ (layer : layers.Layer). Any (λ space. IsWithin space c.args.code (length_of c.in-Some.len)) layer.lists.spaces in
     let InSeen = λ (layer : Layer). InLayer (layer_seen layer) in
     let answer = cases_from_any _ _ _ InSeen (λ layer. InSeen layer → ⊥) c.any.ensures.ran (YieldsList-from_slice c.args.layers.now cc) (λ x q k. search (rules, tests)) (λ x q k. search (rules, tests)) in
     let found = any_seen layer_seen InLayer c.args.layers.now c.any.result answer in
-    let fits : (1 ≤ c.args.byte_len) × (c.args.byte_len ≤ 4) × (c.args.code < 256 ^ c.args.byte_len) = c.fits_in.ensures.0 c.if-fits_in.true in
-    (λ yes. (fits.0, fits.1, fits.2, found.0 yes), λ within. found.1 within.3)
+    let fits = c.fits_in.ensures.0 c.if-fits_in.true in
+    let (few, same) = c.in-Some.ensures in
+    rw (← same) (λ yes. (rw same few.0, rw same few.1, fits, found.0 yes), λ within. found.1 within.3)
