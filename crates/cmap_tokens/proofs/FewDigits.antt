@@ -1,11 +1,10 @@
 -- Up to 18 decimal digits, ended by a byte that is not regular, write a number that is read in one pass.
-use Rattle.std.proofs.Common.{◌≡◌, ℕ, ◌^◌, ◌<◌, ◌≤◌, true, false, List, [], ◌∷◌, length, take, get_or, inl, inr, sym, ap, ◌∙◌, subst, arith, map, length-take-le}
+use Rattle.std.proofs.Common.{◌≡◌, ℕ, ◌^◌, ◌<◌, ◌≤◌, true, false, List, length, take, get_or, inl, inr, sym, ap, ◌∙◌, subst, arith, map, length-take-le}
 use Rattle.std.proofs.Math.Nat.{pow-le-pow_right}
 use Rattle.std.proofs.Math.Seq.{drop-cons}
 use Rattle.std.specs.List.{list_all}
 use Rattle.std.specs.Char.{digit_value, is_digit}
-use Rattle.std.specs.Int.Digits.{AllBelowBase}
-use Rattle.std.proofs.lemmas.Bool.{and_parts, both_ways, cases_Bool, cases_lt, ltb-true}
+use Rattle.std.proofs.lemmas.Bool.{both_ways, cases_Bool, cases_lt}
 use Rattle.std.proofs.lemmas.Int.Digits.{number_lt}
 use Rattle.std.proofs.lemmas.List.{get_or-take, length-map}
 use Rattle.std.proofs.lemmas.List.Folds.{list_all_at}
@@ -13,6 +12,7 @@ use Rattle.cmap_tokens.specs.Bytes.{is_regular}
 use Rattle.cmap_tokens.specs.Numbers.{digits_number}
 use Rattle.cmap_tokens.specs.Tokens.{begins_regular}
 use Rattle.cmap_tokens.specs.TokenReading.{EndsDigits}
+use Rattle.cmap_tokens.proofs.OctalEscapes.{below_base}
 use Rattle.cmap_tokens.proofs.DecimalRuns.{digit_regular}
 
 -- each of the first n bytes is a digit
@@ -26,17 +26,11 @@ digit_at text n j within long digits =
           absurd (both_ways (list_all (λ c. is_digit c 10) (take n text)) (list_all_at (λ c. is_digit c 10) (take n text) j 0 longer fails) digits)
     ]
 
-digits_below : (digits : List ℕ) → list_all (λ c. is_digit c 10) digits ≡ true → AllBelowBase 10 (map digit_value digits)
-digits_below [] all = tt
-digits_below (b ∷ digits) all =
-    let parts = and_parts (is_digit b 10) (list_all (λ c. is_digit c 10) digits) all in
-    (ltb-true (digit_value b) 10 parts.0, digits_below digits parts.1)
-
 -- 17 digits write a small number
 pub few_small : (text : List ℕ) (i : ℕ) → i ≤ 17 → i ≤ length text → list_all (λ c. is_digit c 10) (take i text) ≡ true → digits_number 10 (take i text) < 2 ^ 58
 few_small text i few long digits =
     let size : length (map digit_value (take i text)) ≡ i = length-map (take i text) digit_value ∙ length-take-le i text long in
-    let below : digits_number 10 (take i text) < 10 ^ i = subst (λ n. digits_number 10 (take i text) < 10 ^ n) size (number_lt 10 (map digit_value (take i text)) (digits_below (take i text) digits)) in
+    let below : digits_number 10 (take i text) < 10 ^ i = subst (λ n. digits_number 10 (take i text) < 10 ^ n) size (number_lt 10 (map digit_value (take i text)) (below_base 10 (take i text) digits)) in
     let ten : 0 < 10 = omega arith in
     let most : 10 ^ i ≤ 10 ^ 17 = pow-le-pow_right ten few in
     omega (arith, below, most)

@@ -13,7 +13,7 @@ use Rattle.cmap_tokens.specs.Numbers.{are_digits, digits_number, digits_value}
 use Rattle.cmap_tokens.specs.TokenReading.{octal_len}
 use Rattle.cmap_tokens.proofs.ByteTests.{all_prefix}
 
-below_base : (base : ℕ) (digits : List ℕ) → list_all (λ c. is_digit c base) digits ≡ true → AllBelowBase base (map digit_value digits)
+pub below_base : (base : ℕ) (digits : List ℕ) → list_all (λ c. is_digit c base) digits ≡ true → AllBelowBase base (map digit_value digits)
 below_base base [] all = tt
 below_base base (c ∷ digits) all =
     let (first, more) = and_parts (is_digit c base) (list_all (λ k. is_digit k base) digits) all in
@@ -28,8 +28,11 @@ capped_value (c ∷ digits) few all =
     let most : 8 ^ length (map digit_value (c ∷ digits)) ≤ 8 ^ 3 = pow-le-pow_right {n = 8} (omega arith) {i = length (map digit_value (c ∷ digits))} {j = 3} (omega (arith, size, few)) in
     rw is (omega (arith, most, number_lt 8 (map digit_value (c ∷ digits)) (below_base 8 (c ∷ digits) all)))
 
+pub octal_few : (text : List ℕ) → octal_len text ≤ 3
+octal_few text = omega (arith, prefix_len-le-length (λ c. is_digit c 8) (take 3 text), length-take 3 text)
+
+pub octal_all : (text : List ℕ) → list_all (λ c. is_digit c 8) (take (octal_len text) text) ≡ true
+octal_all text = ap (list_all (λ c. is_digit c 8)) (sym (take-take (octal_len text) 3 text (octal_few text))) ∙ all_prefix (λ c. is_digit c 8) (take 3 text)
+
 pub octal_value : (text : List ℕ) → unwrap_or (option_map (λ n. min n (2 ^ 64 - 1)) (digits_value 8 (take (octal_len text) text))) 0 ≡ digits_number 8 (take (octal_len text) text)
-octal_value text =
-    let few : octal_len text ≤ 3 = omega (arith, prefix_len-le-length (λ c. is_digit c 8) (take 3 text), length-take 3 text) in
-    capped_value (take (octal_len text) text) (omega (arith, length-take (octal_len text) text, few))
-    (ap (list_all (λ c. is_digit c 8)) (sym (take-take (octal_len text) 3 text few)) ∙ all_prefix (λ c. is_digit c 8) (take 3 text))
+octal_value text = capped_value (take (octal_len text) text) (omega (arith, length-take (octal_len text) text, octal_few text)) (octal_all text)

@@ -11,6 +11,7 @@ use Rattle.cmap_tokens.specs.Strings.{escape_value, begins_with, begins_octal, I
 use Rattle.cmap_tokens.specs.TokenReading as reading
 use Rattle.cmap_tokens.specs.TokenReading.{octal_len, first_part, parts_value, is_paired}
 use Rattle.cmap_tokens.proofs.ByteTests.{other_byte, begins_with_is, prefix_len-append_all}
+use Rattle.cmap_tokens.proofs.OctalEscapes.{octal_all, octal_few}
 
 -- a part is read as it is, with its backslashes whole
 pub record IsReadPart (part value next : List ℕ) : Type 0 where
@@ -156,26 +157,15 @@ octal_ends (suc n) (c ∷ text) =
           inr (ap (λ k. begins_octal (drop k (c ∷ text))) none ∙ other)
     ]
 
-octal_all : (n : ℕ) (text : List ℕ) → list_all (λ c. is_digit c 8) (take (prefix_len (λ c. is_digit c 8) (take n text)) text) ≡ true
-octal_all zero text = refl
-octal_all (suc n) [] = refl
-octal_all (suc n) (c ∷ text) =
-    elim (cases_Bool (is_digit c 8)) [
-      | inl digit ↦
-          let longer : prefix_len (λ k. is_digit k 8) (take (suc n) (c ∷ text)) ≡ suc (prefix_len (λ k. is_digit k 8) (take n text)) = rw digit (omega arith) in
-          rw longer (and_from _ _ digit (octal_all n text))
-      | inr other ↦ rw other refl
-    ]
-
 found_octal : (c : ℕ) (text : List ℕ) → is_digit c 8 ≡ true → Found (92 ∷ c ∷ text)
 found_octal c text digit =
     let body = c ∷ text in
     let len = octal_len body in
-    let few : len ≤ 3 = omega (arith, prefix_len-le-length (λ k. is_digit k 8) (take 3 body), length-take 3 body) in
+    let few = octal_few body in
     let within : len ≤ length body = omega (arith, prefix_len-le-length (λ k. is_digit k 8) (take 3 body), length-take 3 body) in
     let some : len ≡ 1 + prefix_len (λ k. is_digit k 8) (take 2 text) = rw digit refl in
     let long : length (take len body) ≡ len = omega (arith, within, length-take len body) in
-    let are : are_digits 8 (take len body) ≡ true = and_from _ _ (lt-ltb 0 _ (omega (arith, long, some))) (octal_all 3 body) in
+    let are : are_digits 8 (take len body) ≡ true = and_from _ _ (lt-ltb 0 _ (omega (arith, long, some))) (octal_all body) in
     let ends : (length (take len body) ≡ 3) ⊎ (begins_octal (drop len body) ≡ false) = ⊎_elim (λ full. inl (long ∙ full)) (λ stops. inr stops) (octal_ends 3 body) in
     (92 ∷ take len body, _, drop len body, ap (λ t. 92 ∷ t) (sym (take-append-drop len body)), octal (take len body) (drop len body) are (omega (arith, long, few)) ends)
 
