@@ -7,6 +7,9 @@ use Rattle.cmap_tokens.specs.Tokens.{Token}
 use Rattle.cmap_files.specs.Only.{HoldsOfNone}
 use Rattle.cmap_files.specs.Files.{CidEntry, Declaration, Lists}
 use Rattle.cmap_text.specs.TextFiles.{IsCode, IsCid, IsDestination, IsCidRange, IsCidChar, IsEntry, codespace_range, bf_char, bf_range, declares_bf}
+use Rattle.cmap_text.specs.TextSeen.{IsCidEntry}
+use Rattle.cmap_text.specs.declared.entries.Shape.{Shape}
+use Rattle.cmap_text.specs.declared.entries.Shape.TheVariants.{Range, Single}
 use Rattle.cmap_text.specs.TextReading.{Code, code_of, GivesCode, Begins, HasNoFront, Behind, IsList, Declares, closing_bracket, Takes, HasNoHead}
 use Rattle.cmap_tokens.specs.TokensLeft.{Left, with_front}
 use Rattle.cmap_text.proofs.HeadsRead.{IsCode-only}
@@ -42,10 +45,6 @@ module _ (kind : ℕ → CidEntry → Declaration) (first : Token) where
   no_cid_range-end left none more rest declared at (a, b, c, s, e, cid, shape, is_s, is_e, is_c, declares) =
       let (head, tail) = tail_is first a left more rest (b ∷ c ∷ []) at shape in none b (c ∷ rest) (code_of e) tail (e, is_e, refl)
 
-  pub no_cid_range-cid : (left mid : Left) (end : Code) → Takes GivesCode left end mid → HasNoHead IsCid mid.tokens → HasNoFront (Behind (IsCidRange kind) first) left.tokens
-  no_cid_range-cid left mid end (t, second, gives) none more rest declared at (a, b, c, s, e, cid, shape, is_s, is_e, is_c, declares) =
-      let (head, tail) = tail_is first a left.tokens more rest (b ∷ c ∷ []) at shape in none c rest cid (head_is left mid t b (c ∷ rest) second tail).1 is_c
-
   -- code, CID
   pub cid_char_read : (old new : Left) (code : Code) (cid : ℕ) → GivesCode first code → Takes IsCid old cid new → Begins (Behind (IsCidChar kind) first) old (filed code code.number cid) new
   cid_char_read old new code cid (s, is_s, code_is) (c, second, is_c) = (c ∷ [], second, (first, c, s, cid, refl, is_s, is_c, ap (λ k. filed k k.number cid) code_is))
@@ -54,9 +53,9 @@ module _ (kind : ℕ → CidEntry → Declaration) (first : Token) where
   no_cid_char-code left none more rest declared at (a, c, s, cid, shape, is_s, is_c, declares) =
       let (head, tail) = tail_is first a left more rest (c ∷ []) at shape in none (code_of s) (s, subst (λ t. IsCode t s) head is_s, refl)
 
-  pub no_cid_char-cid : (left : List Token) → HasNoHead IsCid left → HasNoFront (Behind (IsCidChar kind) first) left
-  no_cid_char-cid left none more rest declared at (a, c, s, cid, shape, is_s, is_c, declares) =
-      let (head, tail) = tail_is first a left more rest (c ∷ []) at shape in none c rest cid tail is_c
+  pub no_cids-start : (shape : Shape) (left : List Token) → HoldsOfNone (GivesCode first) → HasNoFront (Behind (IsCidEntry shape kind) first) left
+  no_cids-start Range = no_cid_range-start
+  no_cids-start Single = no_cid_char-code
 
 module _ (first : Token) where
   -- code, code of the same length

@@ -8,7 +8,6 @@ ghost use Rattle.cmap_files.specs.DeclarationsSeen.{cid_entry_seen, lists_seen};
 ghost use Rattle.cmap_text.specs.EntriesSeen.{AddsEntry, HasNoEntry};
 ghost use Rattle.cmap_files.specs.Files.{CidEntry, Declaration};
 ghost use Rattle.cmap_text.specs.TextFiles as files;
-ghost use Rattle.cmap_text.specs.TextFiles.{IsCidRange, IsCidChar};
 ghost use Rattle.cmap_text.specs.TextSeen.{IsCidEntry, cids_section};
 ghost use Rattle.cmap_text.specs.TextReading.{Declares, Begins, Behind, HasNoFront, IsList};
 ghost use Rattle.cmap_files.specs.declared.fault.Fault.TheVariants.{Refused};
@@ -166,7 +165,8 @@ struct Filed {
     range: CidRange,
 }
 
-/// What an entry of CIDs of this shape declares.
+/// What an entry of CIDs declares: code, code, CID for a range and code, CID for a single code,
+/// filed by the length of the first code.
 fn read_cids(reader: &mut TokenReader<'_>, first: &Token<'_>, shape: Shape) -> Result<Filed, Fault>
     ensures entry { (kind : ℕ → CidEntry → Declaration) → IfOk result
         (λ filed. Begins (Behind (IsCidEntry shape kind) (token_seen first.now)) reader.old
@@ -174,22 +174,11 @@ fn read_cids(reader: &mut TokenReader<'_>, first: &Token<'_>, shape: Shape) -> R
     ensures refused { (kind : ℕ → CidEntry → Declaration) → IsErrOf result Refused
         → HasNoFront (Behind (IsCidEntry shape kind) (token_seen first.now)) reader.old.tokens }
 {
-    match shape {
-        Shape::Range => read_cid_range(reader, first),
-        Shape::Single => read_cid_char(reader, first),
-    }
-}
-
-/// code, code, CID: filed by the length of the first code.
-fn read_cid_range(reader: &mut TokenReader<'_>, first: &Token<'_>) -> Result<Filed, Fault>
-    ensures entry { (kind : ℕ → CidEntry → Declaration) → IfOk result
-        (λ filed. Begins (Behind (IsCidRange kind) (token_seen first.now)) reader.old
-        (kind (length_of filed.len) (cid_entry_seen filed.range) ∷ []) reader.new) }
-    ensures refused { (kind : ℕ → CidEntry → Declaration) → IsErrOf result Refused
-        → HasNoFront (Behind (IsCidRange kind) (token_seen first.now)) reader.old.tokens }
-{
     let start = reader.code(first)?;
-    let end = reader.next_code()?;
+    let end = match shape {
+        Shape::Range => reader.next_code()?,
+        Shape::Single => start,
+    };
     let cid = reader.next_cid()?;
     let range = Range {
         start: start.number,
@@ -197,26 +186,6 @@ fn read_cid_range(reader: &mut TokenReader<'_>, first: &Token<'_>) -> Result<Fil
     };
     Ok(Filed {
         len: start.len,
-        range: CidRange { range, cid },
-    })
-}
-
-/// code, CID
-fn read_cid_char(reader: &mut TokenReader<'_>, first: &Token<'_>) -> Result<Filed, Fault>
-    ensures entry { (kind : ℕ → CidEntry → Declaration) → IfOk result
-        (λ filed. Begins (Behind (IsCidChar kind) (token_seen first.now)) reader.old
-        (kind (length_of filed.len) (cid_entry_seen filed.range) ∷ []) reader.new) }
-    ensures refused { (kind : ℕ → CidEntry → Declaration) → IsErrOf result Refused
-        → HasNoFront (Behind (IsCidChar kind) (token_seen first.now)) reader.old.tokens }
-{
-    let code = reader.code(first)?;
-    let cid = reader.next_cid()?;
-    let range = Range {
-        start: code.number,
-        end: code.number,
-    };
-    Ok(Filed {
-        len: code.len,
         range: CidRange { range, cid },
     })
 }
