@@ -1,5 +1,6 @@
 -- What contracts see of layers.
 use Rattle.std.specs.Prelude.{◌≡◌, List, [], ◌∷◌, map}
+use Rattle.std.specs.Global.{Vec}
 pub use Rattle.cmap_files.specs.MetadataSeen.{family_seen, collection_seen, mode_seen, metadata_seen, HoldsTexts}
 use Rattle.cmap_files.specs.Files as files
 use Rattle.hayro_cmap.specs.Layers as layers
@@ -11,6 +12,10 @@ use Rattle.hayro_cmap.specs.declared.layers.Layer.{Layer}
 -- a table is seen as its list
 abbrev pub by_length_seen : ByLength (List CidRange) → files.ByLength
 by_length_seen tables = record { one = entries_seen tables.one; two = entries_seen tables.two; three = entries_seen tables.three; four = entries_seen tables.four }
+
+-- the lists for codes of each length, as tables see them
+abbrev pub lists_held : ByLength (Vec CidRange) → ByLength (List CidRange)
+lists_held lists = record { one = lists.one.items; two = lists.two.items; three = lists.three.items; four = lists.four.items }
 
 abbrev pub layer_seen : Layer → layers.Layer
 layer_seen layer = record {

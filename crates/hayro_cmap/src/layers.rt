@@ -2,7 +2,7 @@
 
 ghost use Rattle.std.specs.Prelude.{◌≡◌, IfOk, map};
 ghost use Rattle.cmap_files.specs.DeclarationsSeen.{bf_entry_seen, lists_seen};
-ghost use Rattle.hayro_cmap.specs.LayersSeen.{layer_seen, metadata_seen};
+ghost use Rattle.hayro_cmap.specs.LayersSeen.{layer_seen, lists_held, metadata_seen};
 
 use cmap_files::declarations::{BfRange, ByLength, CidRange, Codespace, Lists};
 use cmap_files::metadata::Metadata;
@@ -35,11 +35,13 @@ impl Layer {
             bfs,
             spaces,
         } = lists;
+        let bfs = Table::build(alloc, bfs)?;
+        let (cids, notdefs) = build_both(alloc, cids, notdefs)?;
         Ok(Layer {
             metadata,
-            cids: build_tables(alloc, cids)?,
-            notdefs: build_tables(alloc, notdefs)?,
-            bfs: Table::build(alloc, bfs)?,
+            cids,
+            notdefs,
+            bfs,
             spaces,
         })
     }
@@ -48,14 +50,42 @@ impl Layer {
     pub(crate) fn clone(&self, alloc: Global) -> Result<Layer, AllocError>
         ensures { IfOk result (λ copy. layer_seen copy ≡ layer_seen self.now) }
     {
-        Ok(Layer {
-            metadata: self.metadata.clone(alloc)?,
-            cids: clone_tables(alloc, &self.cids)?,
-            notdefs: clone_tables(alloc, &self.notdefs)?,
-            bfs: clone_bfs(alloc, &self.bfs)?,
-            spaces: Vec::from_slice(alloc, &self.spaces)?,
+        let metadata = self.metadata.clone(alloc)?;
+        let lists = self.lists(alloc)?;
+        Layer::build(alloc, metadata, lists)
+    }
+
+    /// A copy of the declarations.
+    fn lists(&self, alloc: Global) -> Result<Lists, AllocError>
+        ensures { IfOk result (λ lists. record { metadata = metadata_seen self.now.metadata; lists = lists_seen lists }
+            ≡ layer_seen self.now) }
+    {
+        let [cids, notdefs] = [&self.cids, &self.notdefs].try_map(|tables| copied_lists(
+            alloc, tables,
+        ))?;
+        let bfs = copied_bfs(alloc, &self.bfs)?;
+        let spaces = Vec::from_slice(alloc, &self.spaces)?;
+        Ok(Lists {
+            cids,
+            notdefs,
+            bfs,
+            spaces,
         })
     }
+}
+
+/// The tables of the CIDs and of the notdefs.
+fn build_both(
+    alloc: Global,
+    cids: ByLength<Vec<CidRange>>,
+    notdefs: ByLength<Vec<CidRange>>,
+) -> Result<(ByLength<Table<CidRange>>, ByLength<Table<CidRange>>), AllocError>
+    ensures { IfOk result
+        (λ tables. (tables.0 ≡ lists_held cids) × (tables.1 ≡ lists_held notdefs)) }
+{
+    let cids = build_tables(alloc, cids)?;
+    let notdefs = build_tables(alloc, notdefs)?;
+    Ok((cids, notdefs))
 }
 
 /// A table of each list.
@@ -63,10 +93,7 @@ fn build_tables(
     alloc: Global,
     lists: ByLength<Vec<CidRange>>,
 ) -> Result<ByLength<Table<CidRange>>, AllocError>
-    ensures one { IfOk result (λ tables. tables.one ≡ lists.one.items) }
-    ensures two { IfOk result (λ tables. tables.two ≡ lists.two.items) }
-    ensures three { IfOk result (λ tables. tables.three ≡ lists.three.items) }
-    ensures four { IfOk result (λ tables. tables.four ≡ lists.four.items) }
+    ensures { IfOk result (λ tables. tables ≡ lists_held lists) }
 {
     let ByLength {
         one,
@@ -74,49 +101,55 @@ fn build_tables(
         three,
         four,
     } = lists;
+    let [one, two, three, four] = [one, two, three, four].try_map(|list| Table::build(
+        alloc, list,
+    ))?;
     Ok(ByLength {
-        one: Table::build(alloc, one)?,
-        two: Table::build(alloc, two)?,
-        three: Table::build(alloc, three)?,
-        four: Table::build(alloc, four)?,
+        one,
+        two,
+        three,
+        four,
     })
 }
 
-/// A copy of the tables.
-fn clone_tables(
+/// A copy of the declarations of each table.
+fn copied_lists(
     alloc: Global,
     tables: &ByLength<Table<CidRange>>,
-) -> Result<ByLength<Table<CidRange>>, AllocError>
-    ensures { IfOk result (λ copy. copy ≡ tables.now) }
+) -> Result<ByLength<Vec<CidRange>>, AllocError>
+    ensures { IfOk result (λ lists. lists_held lists ≡ tables.now) }
 {
+    let [one, two, three, four] = [&tables.one, &tables.two, &tables.three, &tables.four].try_map(
+        |table| copied_cids(alloc, table),
+    )?;
     Ok(ByLength {
-        one: clone_cids(alloc, &tables.one)?,
-        two: clone_cids(alloc, &tables.two)?,
-        three: clone_cids(alloc, &tables.three)?,
-        four: clone_cids(alloc, &tables.four)?,
+        one,
+        two,
+        three,
+        four,
     })
 }
 
-/// A table of the same declarations.
-fn clone_cids(alloc: Global, table: &Table<CidRange>) -> Result<Table<CidRange>, AllocError>
-    ensures { IfOk result (λ copy. copy ≡ table.now) }
+/// A copy of the declarations of a table.
+fn copied_cids(alloc: Global, table: &Table<CidRange>) -> Result<Vec<CidRange>, AllocError>
+    ensures { IfOk result (λ list. list.items ≡ table.now) }
 {
     let mut looks = Looks::new();
     let mut list = Vec::with_capacity(alloc, table.decl_count())?;
     for place in 0..table.decl_count() {
         list.push(table.decl(place, &mut looks).clone())?;
     }
-    Table::build(alloc, list)
+    Ok(list)
 }
 
-/// A table of the same declarations.
-fn clone_bfs(alloc: Global, table: &Table<BfRange>) -> Result<Table<BfRange>, AllocError>
-    ensures { IfOk result (λ copy. map bf_entry_seen copy ≡ map bf_entry_seen table.now) }
+/// A copy of the declarations of a table.
+fn copied_bfs(alloc: Global, table: &Table<BfRange>) -> Result<Vec<BfRange>, AllocError>
+    ensures { IfOk result (λ list. map bf_entry_seen list.items ≡ map bf_entry_seen table.now) }
 {
     let mut looks = Looks::new();
     let mut list = Vec::with_capacity(alloc, table.decl_count())?;
     for place in 0..table.decl_count() {
         list.push(table.decl(place, &mut looks).clone(alloc)?)?;
     }
-    Table::build(alloc, list)
+    Ok(list)
 }

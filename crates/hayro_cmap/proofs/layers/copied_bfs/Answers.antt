@@ -2,7 +2,7 @@ use Rattle.std.proofs.Common.{sym, ap, ◌∙◌, [], ◌∷◌, ◌++◌, map}
 use Rattle.std.proofs.lemmas.List.{map-append}
 use Rattle.cmap_files.specs.DeclarationsSeen.{bf_entry_seen}
 use Rattle.hayro_cmap.proofs.TablesCopied.{take_next-map}
-use Rattle.hayro_cmap.proofs.layers.clone_bfs.Goals as goal
+use Rattle.hayro_cmap.proofs.layers.copied_bfs.Goals as goal
 
 pub loop-place-preserved : goal.loop-place-preserved
 loop-place-preserved c =

@@ -1,6 +1,6 @@
 use Rattle.std.proofs.Common.{sym, ◌∙◌, [], ◌∷◌, ◌++◌}
 use Rattle.hayro_cmap.proofs.TablesCopied.{take_next}
-use Rattle.hayro_cmap.proofs.layers.clone_cids.Goals as goal
+use Rattle.hayro_cmap.proofs.layers.copied_cids.Goals as goal
 
 pub loop-place-preserved : goal.loop-place-preserved
 loop-place-preserved c =
