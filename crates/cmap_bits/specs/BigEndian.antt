@@ -7,7 +7,7 @@ use Rattle.std.specs.Int.Digits.{number_from_digits}
 abbrev pub big_endian : List ℕ → ℕ
 big_endian bytes = number_from_digits 256 bytes
 
--- so many numbers of this many bytes each, one after another
+-- count numbers of width bytes each, one after another
 abbrev pub numbers : ℕ → ℕ → List ℕ → List ℕ
 numbers width count bytes = map (λ i. big_endian (take width (drop (width * i) bytes))) (range_with_len 0 count)
 

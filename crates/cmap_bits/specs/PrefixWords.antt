@@ -3,7 +3,7 @@ use Rattle.std.specs.Prelude.{◌≡◌, ℕ, zero, suc, ◌+◌, ◌-◌, ◌*�
 use Rattle.std.specs.List.Sorted.{IsNonDecreasing}
 use Rattle.cmap_bits.specs.BigEndian.{big_endian, numbers}
 
--- a number as so many bits, the high one first
+-- the last count bits of a number, the high one first
 abbrev pub bits_of : ℕ → ℕ → List ℕ
 bits_of zero n = []
 bits_of (suc count) n = n / 2 ^ count % 2 ∷ bits_of count n

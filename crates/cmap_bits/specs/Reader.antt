@@ -19,18 +19,18 @@ bytes_left r = drop (r.taken / 8) r.source
 abbrev pub IsAtByte : Reading → Type 0
 IsAtByte r = r.taken % 8 ≡ 0
 
--- with so many bits more taken
+-- with count bits more taken
 abbrev pub after_bits : Reading → ℕ → Reading
 after_bits r count = record { source = r.source; taken = r.taken + count }
 
 abbrev pub after_bytes : Reading → ℕ → Reading
 after_bytes r count = after_bits r (8 * count)
 
--- the first bytes, where there are so many
+-- the first count bytes, where there are as many
 abbrev pub front : ℕ → List ℕ → Option (List ℕ)
 front count bytes = if nat_le count (length bytes) then Some (take count bytes) else None
 
--- the number that the first bytes write, where there are so many
+-- the number that the first count bytes write, where there are as many
 abbrev pub number_at : ℕ → List ℕ → Option ℕ
 number_at count bytes = option_map big_endian (front count bytes)
 

@@ -10,7 +10,7 @@ pub record TakesMost (old : Reading) (most : ℕ) (new : Reading) : Type 0 where
   pub most_is : most ≡ counted (bytes_left old)
   pub moves : new ≡ after_bytes old 3
 
--- a reader has taken so many numbers of this many bytes each
+-- a reader has taken count numbers of width bytes each
 pub record TakesNumbers (width count : ℕ) (old : Reading) (taken : List ℕ) (new : Reading) : Type 0 where
   pub enough : width * count ≤ length (bytes_left old)
   pub taken_is : taken ≡ numbers width count (bytes_left old)

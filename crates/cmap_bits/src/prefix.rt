@@ -1,9 +1,9 @@
 //! Prefix tables: symbols that are spelled by words of bits, none of which begins another one.
 
-ghost use Rattle.std.specs.Prelude.{◌≡◌, ℕ, List, IfOk, IfSome, IfNone, OnErr};
-ghost use Rattle.cmap_bits.specs.PrefixWords.{Place, TableFront, BeginsAt, Decodes};
-ghost use Rattle.cmap_bits.specs.Reader.{bits_left, bytes_left, IsAtByte, after_bits};
-ghost use Rattle.cmap_bits.specs.TableTaken.{TakesTable};
+ghost use Rattle.std.specs.Prelude.{◌≡◌, ℕ, IfSome, IfNone};
+ghost use Rattle.cmap_bits.specs.PrefixWords.{BeginsAt, Decodes};
+ghost use Rattle.cmap_bits.specs.Reader.{bits_left, IsAtByte, after_bits};
+ghost use Rattle.cmap_bits.specs.TableTaken.{ParsesTable};
 
 mod reading;
 mod words;
@@ -50,13 +50,7 @@ impl PrefixTable {
         reader: &mut Reader<'_>,
     ) -> Result<Option<PrefixTable>, AllocError>
         requires { IsAtByte reader.old }
-        ensures some { IfOk result
-            (λ o. IfSome o (λ table. TakesTable 4 reader.old table reader.new)) }
-        ensures only { (table : List Place) (rest : List ℕ)
-            → TableFront 4 (bytes_left reader.old) table rest
-            → IfOk result (λ o. (o ≡ Some table) × (bytes_left reader.new ≡ rest)) }
-        ensures none { IfOk result (λ o. IfNone o (reader.new ≡ reader.old)) }
-        ensures err { OnErr result (reader.new ≡ reader.old) }
+        ensures { ParsesTable 4 reader.old reader.new result }
     {
         parse(alloc, reader, 4)
     }
@@ -68,13 +62,7 @@ impl PrefixTable {
         reader: &mut Reader<'_>,
     ) -> Result<Option<PrefixTable>, AllocError>
         requires { IsAtByte reader.old }
-        ensures some { IfOk result
-            (λ o. IfSome o (λ table. TakesTable 1 reader.old table reader.new)) }
-        ensures only { (table : List Place) (rest : List ℕ)
-            → TableFront 1 (bytes_left reader.old) table rest
-            → IfOk result (λ o. (o ≡ Some table) × (bytes_left reader.new ≡ rest)) }
-        ensures none { IfOk result (λ o. IfNone o (reader.new ≡ reader.old)) }
-        ensures err { OnErr result (reader.new ≡ reader.old) }
+        ensures { ParsesTable 1 reader.old reader.new result }
     {
         parse(alloc, reader, 1)
     }

@@ -35,7 +35,7 @@ impl<T> Answer<T> {
         }
     }
 
-    /// The same as above, and what the call answered as a reference.
+    /// This answer, with a reference to what the call gave.
     pub fn as_ref(&self) -> Answer<&T> {
         match self {
             Answer::Given(answer) => Answer::Given(answer),

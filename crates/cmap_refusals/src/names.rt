@@ -71,7 +71,7 @@ fn collection_of(
     }))
 }
 
-/// The same supplement of a copy of the family.
+/// A copy of the collection: its family copied, with the supplement as it is.
 fn copy_by_family(
     alloc: Global,
     collection: &CharacterCollection,

@@ -1,10 +1,10 @@
 //! The table that comes next in bytes.
 
-ghost use Rattle.std.specs.Prelude.{◌≡◌, ℕ, ◌+◌, ◌*◌, ◌<◌, ◌≤◌, List, length, None, Some, IfOk, IfSome, IfNone, OnErr, MatchOption};
+ghost use Rattle.std.specs.Prelude.{◌≡◌, ℕ, ◌+◌, ◌*◌, ◌<◌, ◌≤◌, List, length, IfOk, MatchOption};
 ghost use Rattle.cmap_bits.specs.PrefixWords.{Place, TableFront};
 ghost use Rattle.cmap_bits.specs.Reader.{bytes_left, IsAtByte};
 ghost use Rattle.cmap_bits.specs.TableReading.{TakesMost, TakesNumbers, TakesCounts, BeginsWithNoTable};
-ghost use Rattle.cmap_bits.specs.TableTaken.{TakesTable};
+ghost use Rattle.cmap_bits.specs.TableTaken.{ParsesTable, TakesTable};
 
 use super::PrefixTable;
 use super::words::count_words;
@@ -19,13 +19,7 @@ pub(super) fn parse(
 ) -> Result<Option<PrefixTable>, AllocError>
     requires at_byte { IsAtByte reader.old }
     requires width { (1 ≤ width) × (width ≤ 4) }
-    ensures some { IfOk result
-        (λ o. IfSome o (λ table. TakesTable width reader.old table reader.new)) }
-    ensures only { (table : List Place) (rest : List ℕ)
-        → TableFront width (bytes_left reader.old) table rest
-        → IfOk result (λ o. (o ≡ Some table) × (bytes_left reader.new ≡ rest)) }
-    ensures none { IfOk result (λ o. IfNone o (reader.new ≡ reader.old)) }
-    ensures err { OnErr result (reader.new ≡ reader.old) }
+    ensures { ParsesTable width reader.old reader.new result }
 {
     let mut ahead = reader.fork();
     let Some(table) = read_table(alloc, &mut ahead, width)? else {
@@ -86,7 +80,7 @@ fn read_most(reader: &mut Reader<'_>) -> Option<usize>
     Some(if filled == 0 { 0 } else { usize::from(most) })
 }
 
-// So many numbers of `width` bytes each.
+// `count` numbers of `width` bytes each.
 fn read_numbers(
     alloc: Global,
     reader: &mut Reader<'_>,
