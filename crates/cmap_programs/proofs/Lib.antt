@@ -1,1 +1,3 @@
-pub mod InputPieces
+pub mod CodeWordParts
+pub mod OneMore
+pub mod OptionFronts

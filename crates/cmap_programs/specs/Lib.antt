@@ -1,1 +1,4 @@
+pub mod CodeWords
 pub mod Decimals
+pub mod OptionWords
+pub mod Queries

@@ -1,10 +1,14 @@
-//! A whole run, from the words and the input to the exit status.
+//! What the program `cmap_query` does, as a call: words are answered over a CMap file, perhaps one
+//! after a bundle.
 
-use crate::options::Options;
-use crate::query::{Query, Request};
-use cmap_programs::failure::Failure;
-use cmap_programs::input::{read_all, split_bundle};
-use cmap_programs::output::{report, send};
+mod options;
+mod query;
+
+use self::options::Options;
+use self::query::{Query, Request};
+use crate::failure::Failure;
+use crate::input::{read_all, split_bundle};
+use crate::output::{report, send};
 use hayro_cmap::bcmap::{Bundle, load_embedded};
 use hayro_cmap::{CMap, CMapName};
 use std::alloc::{AllocError, Global};

@@ -3,7 +3,7 @@ use Rattle.std.proofs.Common.{◌≡◌, ◌≤◌, ◌-◌, ap, ◌∙◌, sym,
 use Rattle.std.specs.Cmp.Lexicographic.{pointwise, same_text}
 use Rattle.std.proofs.lemmas.Bool.{not-false}
 use Rattle.std.proofs.lemmas.List.{take_rest}
-use Rattle.cmap_answers.specs.OptionWords.{BeginWith}
+use Rattle.cmap_programs.specs.OptionWords.{BeginWith}
 
 -- a list of two items at least, by these and the others
 list_of_two : {X : Type 0} (xs : List X) (first second : X) → 2 ≤ length xs → first ≡ get_or xs 0 first → second ≡ get_or xs 1 second → xs ≡ first ∷ second ∷ take (length xs - 2) (drop 2 xs)

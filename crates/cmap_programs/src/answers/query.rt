@@ -4,20 +4,20 @@ ghost use Rattle.std.specs.Prelude.{◌≡◌, ◌≢◌, ◌^◌, ◌<◌, [], 
 ghost use Rattle.std.specs.Option.{SomeIff};
 ghost use Rattle.std.specs.Str.Parse.{IsNumeral, digits_value};
 
-use cmap_programs::failure::Failure;
+use crate::failure::Failure;
 use hayro_cmap::{BfString, CMap};
 use std::alloc::{AllocError, Global};
 
 /// What the words of the command line ask for.
-#[derive(Debug, Drop)]
+#[derive(Drop)]
 pub struct Request<'a> {
     /// What to look up, in the order of the words. There is at least one.
     pub queries: Vec<Query<'a>>,
 }
 
 impl<'a> Request<'a> {
-    ghost use Rattle.cmap_answers.specs.CodeWords.{SpellsNone};
-    ghost use Rattle.cmap_answers.specs.Queries.{word_of, IsSpelled};
+    ghost use Rattle.cmap_programs.specs.CodeWords.{SpellsNone};
+    ghost use Rattle.cmap_programs.specs.Queries.{word_of, IsSpelled};
 
     /// The request that the words spell; a fault of usage where one of them is wrong, or none is
     /// there.
@@ -44,7 +44,7 @@ impl<'a> Request<'a> {
 }
 
 /// A character code, and what is asked of it.
-#[derive(Clone, Copy, Debug)]
+#[derive(Clone, Copy)]
 pub struct Query<'a> {
     /// What is asked.
     pub asked: Asked,
@@ -55,8 +55,8 @@ pub struct Query<'a> {
 }
 
 impl<'a> Query<'a> {
-    ghost use Rattle.cmap_answers.specs.CodeWords.{SpellsNone};
-    ghost use Rattle.cmap_answers.specs.Queries.{word_of, IsSpelled};
+    ghost use Rattle.cmap_programs.specs.CodeWords.{SpellsNone};
+    ghost use Rattle.cmap_programs.specs.Queries.{word_of, IsSpelled};
 
     /// The query that a word spells. The word `L:HEX` asks for the CID of a code of L bytes, 1 to
     /// 4, in 2L hexadecimal digits, and `bf:HEX` for the text of a code, in 1 to 8 of them. The
@@ -113,7 +113,7 @@ impl<'a> Query<'a> {
 }
 
 /// What is asked of a code.
-#[derive(Clone, Copy, Debug)]
+#[derive(Clone, Copy)]
 pub enum Asked {
     /// The CID of a code of this many bytes, 1 to 4.
     Cid { byte_len: u8 },
@@ -122,7 +122,7 @@ pub enum Asked {
 }
 
 impl Asked {
-    ghost use Rattle.cmap_answers.specs.CodeWords.{name_of, HasDigits, IsKnown};
+    ghost use Rattle.cmap_programs.specs.CodeWords.{name_of, HasDigits, IsKnown};
 
     /// What is asked by the part of a word before its colon.
     fn named(name: &str) -> Option<Asked>

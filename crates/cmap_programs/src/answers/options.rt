@@ -1,14 +1,14 @@
 //! What the words of the command line ask of the whole run, before the queries.
 
 ghost use Rattle.std.specs.Prelude.{◌≡◌, MatchResult, map, string_bytes};
-ghost use Rattle.cmap_answers.specs.OptionWords.{SpellsNoNumber, SpellsNoOptions};
-ghost use Rattle.cmap_answers.specs.OptionWords.{SpellsOption, SpellsOptions};
+ghost use Rattle.cmap_programs.specs.OptionWords.{SpellsNoNumber, SpellsNoOptions};
+ghost use Rattle.cmap_programs.specs.OptionWords.{SpellsOption, SpellsOptions};
 
-use cmap_programs::failure::Failure;
-use cmap_programs::words::decimal;
+use crate::failure::Failure;
+use crate::words::decimal;
 
 /// What is asked of the whole run.
-#[derive(Clone, Copy, Debug)]
+#[derive(Clone, Copy)]
 pub struct Options {
     /// How many bytes, at the front of the input, are a bundle.
     pub bundle: Option<u64>,

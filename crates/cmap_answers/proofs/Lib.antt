@@ -1,3 +1,0 @@
-pub mod CodeWordParts
-pub mod OneMore
-pub mod OptionFronts

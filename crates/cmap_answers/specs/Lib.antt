@@ -1,3 +1,0 @@
-pub mod CodeWords
-pub mod Queries
-pub mod OptionWords
