@@ -1,3 +1,4 @@
 pub mod CodeWordParts
+pub mod InputPieces
 pub mod OneMore
 pub mod OptionFronts

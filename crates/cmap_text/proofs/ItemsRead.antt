@@ -7,22 +7,12 @@ use Rattle.cmap_tokens.specs.Strings.{HaveOneValue}
 use Rattle.cmap_tokens.specs.Tokens.{Token}
 use Rattle.cmap_files.specs.Only.{IsOnly, HoldsOfNone}
 use Rattle.cmap_files.specs.Files.{FileMetadata, Lists, File, lists_of}
+use Rattle.cmap_files.specs.ListsAppended.{append_lists}
 use Rattle.cmap_text.specs.TextFiles.{Section, keys, use_word, Item, key, entries, use_of_base, other, literal_head, names_used, declared_by, Values, last_values, IsMetadata, IsTextFile, AreItems}
 use Rattle.cmap_text.specs.TextReading.{IsClosedBody, HasNoFront, Declares, Said, nothing_said, with_value, Says, SaysAll, SaysItem, NoItemSays, SaysItems, NoItemsSay}
 use Rattle.cmap_tokens.specs.TokensLeft.{HasTokens, Left, ended, malformed, with_front}
 use Rattle.cmap_text.proofs.FileItems.{opening, section_parts, use_only, is_plain, HasRead, HasRead-none, HasRead-item, HasRead-all, item_next, items_only}
 use Rattle.cmap_text.proofs.ItemsSaid.{SaysAll-more, SaysAll-parts, SaysAll-only, lists_said, uses_said, all_say, values_said}
-
--- the kinds of items
-pub says_section : (t : Token) (left rest : Left) (section : Section) (old new : Said) → t ≡ opening section → Declares (IsClosedBody section) left rest old.lists new.lists
-    → new ≡ record { values = old.values; lists = new.lists; uses = old.uses; operand = None } → SaysItem t left rest old new
-says_section t left rest section old new opens read is =
-    let (front, begins, (body, shape, is_body)) = read.begins in
-    record {
-      item = entries read.declared;
-      begins = (front, begins, (section, body, ap (λ u. u ∷ front) opens ∙ ap (λ f. opening section ∷ f) shape, is_body), tt);
-      says = is ∙ ap (λ lists. let s : Said = record { values = old.values; lists = lists; uses = old.uses; operand = None } in s) read.added;
-    }
 
 -- a state is that of its parts
 said_of : (said : Said) (values : Values) (lists : Lists) (uses : List (List ℕ)) (operand : Option (List ℕ)) → said.values ≡ values → said.lists ≡ lists → said.uses ≡ uses → said.operand ≡ operand
@@ -32,6 +22,17 @@ said_of said values lists uses operand values_are lists_are uses_are operand_is 
     ∙ ap (λ l. let s : Said = record { values = values; lists = l; uses = said.uses; operand = said.operand } in s) lists_are
     ∙ ap (λ u. let s : Said = record { values = values; lists = lists; uses = u; operand = said.operand } in s) uses_are
     ∙ ap (λ o. let s : Said = record { values = values; lists = lists; uses = uses; operand = o } in s) operand_is
+
+-- the kinds of items
+pub says_section : (t : Token) (left rest : Left) (section : Section) (old new : Said) → t ≡ opening section → Declares (IsClosedBody section) left rest old.lists new.lists
+    → new.values ≡ old.values → new.uses ≡ old.uses → new.operand ≡ None → SaysItem t left rest old new
+says_section t left rest section old new opens read values uses operand =
+    let (front, begins, (body, shape, is_body)) = read.begins in
+    record {
+      item = entries read.declared;
+      begins = (front, begins, (section, body, ap (λ u. u ∷ front) opens ∙ ap (λ f. opening section ∷ f) shape, is_body), tt);
+      says = said_of new old.values (append_lists old.lists (lists_of read.declared)) old.uses None values read.added uses operand;
+    }
 
 -- a key, with the token behind it if there is one
 pub says_key : {X : Type 0} (seen : X → Token) (t : Token) (left rest : Left) (k : List ℕ) (found : Option X) (old new : Said) → Contains keys k → t ≡ Token.Name true k

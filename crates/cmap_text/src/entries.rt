@@ -1,12 +1,13 @@
 //! The entries of sections. Each call here has the first token of an entry, reads the others, and adds
 //! what the entry declares.
 
-ghost use Rattle.std.specs.Prelude.{◌+◌, ◌-◌, ℕ, [], ◌∷◌, IfOk, IsErrOf, OnOk};
+ghost use Rattle.std.specs.Prelude.{◌≡◌, ◌+◌, ◌-◌, ℕ, [], ◌∷◌, IfOk, IsErrOf, OnOk};
 ghost use Rattle.cmap_tokens.specs.TokenSeen.{token_seen};
 ghost use Rattle.cmap_files.specs.CodeLengths.{length_of};
 ghost use Rattle.cmap_files.specs.DeclarationsSeen.{cid_entry_seen, lists_seen};
 ghost use Rattle.cmap_text.specs.EntriesSeen.{AddsEntry, HasNoEntry};
-ghost use Rattle.cmap_files.specs.Files.{CidEntry, Declaration};
+ghost use Rattle.cmap_files.specs.Files.{CidEntry, Declaration, lists_of};
+ghost use Rattle.cmap_files.specs.ListsAppended.{append_lists};
 ghost use Rattle.cmap_text.specs.TextFiles as files;
 ghost use Rattle.cmap_text.specs.TextSeen.{IsCidEntry, cids_section};
 ghost use Rattle.cmap_text.specs.TextReading.{Declares, Begins, Behind, HasNoFront, IsList};
@@ -92,14 +93,7 @@ pub(crate) fn add_bf_char(
 {
     let code = reader.code(first)?;
     let units = reader.next_destination()?;
-    lists.add_bf(BfRange {
-        range: Range {
-            start: code.number,
-            end: code.number,
-        },
-        units,
-    })?;
-    Ok(())
+    add_text(lists, code.number, code.number, units)
 }
 
 /// code, code, and one destination or a list of them
@@ -116,19 +110,14 @@ pub(crate) fn add_bf_range(
     one_value_for_a_string();
     let start = reader.code(first)?;
     let end = reader.next_code()?;
-    let token = reader.required_token()?;
+    let Some(token) = reader.required_token() else {
+        return Err(Fault::Refused);
+    };
     if is_executable(&token, b"[") {
         return add_list(reader, start.number, end.number, lists);
     }
     let units = reader.destination(&token)?;
-    lists.add_bf(BfRange {
-        range: Range {
-            start: start.number,
-            end: end.number,
-        },
-        units,
-    })?;
-    Ok(())
+    add_text(lists, start.number, end.number, units)
 }
 
 /// One destination for each code from `start` to `end`, and the closing bracket.
@@ -145,17 +134,25 @@ fn add_list(
 {
     for code in u64::from(start)..u64::from(end) + 1 {
         let units = reader.next_destination()?;
-        let range = Range {
-            start: code as u32,
-            end: code as u32,
-        };
-        lists.add_bf(BfRange { range, units })?;
+        add_text(lists, code as u32, code as u32, units)?;
     }
-    let token = reader.required_token()?;
+    let Some(token) = reader.required_token() else {
+        return Err(Fault::Refused);
+    };
     if !is_executable(&token, b"]") {
         return Err(Fault::Refused);
     }
     Ok(())
+}
+
+/// Adds the units of the text of the code `start`, of a range that ends with the code `end`.
+fn add_text(lists: &mut Lists, start: u32, end: u32, units: Vec<u16>) -> Result<(), Fault>
+    ensures added { OnOk result (lists_seen lists.new ≡ append_lists (lists_seen lists.old)
+        (lists_of (files.declares_bf start end units.items ∷ []))) }
+    ensures refused { IsErrOf result Refused → ⊥ }
+{
+    let range = Range { start, end };
+    lists.add_bf(BfRange { range, units }).map_err(Fault::from)
 }
 
 /// A declaration of CIDs, and the length of the codes that it is filed by.
@@ -179,7 +176,9 @@ fn read_cids(reader: &mut TokenReader<'_>, first: &Token<'_>, shape: Shape) -> R
         Shape::Range => reader.next_code()?,
         Shape::Single => start,
     };
-    let cid = reader.next_cid()?;
+    let Some(cid) = reader.next_cid() else {
+        return Err(Fault::Refused);
+    };
     let range = Range {
         start: start.number,
         end: end.number,

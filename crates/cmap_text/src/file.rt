@@ -3,13 +3,18 @@
 ghost use Rattle.std.specs.Prelude.{IfOk, IsErrOf};
 ghost use Rattle.cmap_files.specs.FilesSeen.{file_seen};
 ghost use Rattle.cmap_files.specs.Only.{IsOnly, HoldsOfNone};
-ghost use Rattle.cmap_text.specs.TextFiles.{IsTextFile};
+ghost use Rattle.cmap_files.specs.MetadataSeen.{metadata_seen};
+ghost use Rattle.cmap_tokens.specs.TokensLeft.{HasTokens, Left};
+ghost use Rattle.cmap_text.specs.TextFiles.{IsMetadata, IsTextFile};
+ghost use Rattle.cmap_text.specs.TextReading.{NoItemsSay, SaysItems};
+ghost use Rattle.cmap_text.specs.TextSeen.{said_seen, values_seen};
 ghost use Rattle.cmap_files.specs.declared.fault.Fault.TheVariants.{Refused};
 
 use crate::items::{Said, read_items};
 use crate::tokens::TokenReader;
 use cmap_files::fault::Fault;
 use cmap_files::file::File;
+use cmap_files::metadata::Metadata;
 use cmap_tokens::token::one_value_for_a_string;
 use std::alloc::Global;
 
@@ -20,10 +25,22 @@ pub fn read_text<'d>(alloc: Global, text: &'d [u8]) -> Result<File<'d>, Fault>
 {
     one_value_for_a_string();
     let mut said = Said::new(alloc);
-    read_items(&mut TokenReader::new(alloc, text), &mut said)?;
+    let metadata = read_said(alloc, text, &mut said)?;
     Ok(File {
-        metadata: said.values.metadata(alloc)?,
+        metadata,
         lists: said.lists,
         uses: said.uses,
     })
+}
+
+/// Reads all that a text says, and gives what its keys say of the file.
+fn read_said<'d>(alloc: Global, text: &'d [u8], said: &mut Said<'d>) -> Result<Metadata, Fault>
+    ensures said { IfOk result (λ metadata. (left : Left) × HasTokens text.now left
+        × SaysItems left (said_seen said.old) (said_seen said.new)
+        × IsOnly (IsMetadata (values_seen said.new.values)) (metadata_seen metadata)) }
+    ensures refused { IsErrOf result Refused
+        → (left : Left) × HasTokens text.now left × NoItemsSay left (said_seen said.old) }
+{
+    read_items(&mut TokenReader::new(alloc, text), said)?;
+    said.values.metadata(alloc).map_err(Fault::from)
 }

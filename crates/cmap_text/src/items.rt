@@ -1,10 +1,10 @@
 //! The items of a text: keys with their values, sections, uses of other files, and tokens by themselves.
 
-ghost use Rattle.std.specs.Prelude.{◌≡◌, None, IsErrOf, OnOk};
+ghost use Rattle.std.specs.Prelude.{◌≡◌, ◌++◌, ℕ, List, [], ◌∷◌, None, Some, IsErrOf, OnOk};
+ghost use Rattle.std.specs.Borrow.{Bor};
 ghost use Rattle.std.specs.Option.{option_copied};
 ghost use Rattle.cmap_tokens.specs.TokenSeen.{token_seen};
-ghost use Rattle.cmap_text.specs.TextFiles.{use_of_base};
-ghost use Rattle.cmap_text.specs.TextReading.{NoItemSays, NoItemsSay, Says, SaysItem, SaysItems, nothing_said};
+ghost use Rattle.cmap_text.specs.TextReading.{NoItemSays, NoItemsSay, SaysItem, SaysItems, nothing_said};
 ghost use Rattle.cmap_text.specs.TextSeen.{said_seen};
 ghost use Rattle.cmap_files.specs.declared.fault.Fault.TheVariants.{Refused};
 
@@ -38,16 +38,18 @@ impl<'d> Said<'d> {
             operand: None,
         }
     }
+}
 
-    /// Adds a use of the file that the last item names.
-    fn add_use(&mut self) -> Result<(), Fault>
-        ensures says { OnOk result (Says (said_seen self.old) use_of_base (said_seen self.new)) }
-        ensures refused { IsErrOf result Refused → option_copied self.old.operand ≡ None }
-    {
-        let name = self.operand.take().ok_or(Fault::Refused)?;
-        self.uses.push(name)?;
-        Ok(())
-    }
+/// Adds a use of the file that the last item names.
+fn add_use<'d>(uses: &mut Vec<&'d [u8]>, operand: Option<&'d [u8]>) -> Result<(), Fault>
+    ensures uses { OnOk result ((name : Bor (List ℕ)) × (operand.entry ≡ Some name)
+        × (uses.new.items ≡ uses.old.items ++ name ∷ [])) }
+    ensures refused { IsErrOf result Refused → option_copied operand.entry ≡ None }
+{
+    let Some(name) = operand else {
+        return Err(Fault::Refused);
+    };
+    uses.push(name).map_err(Fault::from)
 }
 
 /// Reads all the items of a text.
@@ -75,16 +77,16 @@ fn read_item<'d>(
     ensures refused { IsErrOf result Refused
         → NoItemSays (token_seen first.now) reader.old (said_seen said.old) }
 {
+    let operand = said.operand;
+    said.operand = literal_name(first);
     if let Some(section) = Section::opened_by(first) {
-        said.operand = None;
         return read_section(reader, section, &mut said.lists);
     }
     if is_executable(first, b"usecmap") {
-        return said.add_use();
+        return add_use(&mut said.uses, operand);
     }
     if let Some(key) = Key::of(first) {
         said.values.set(key, reader.next_token()?);
     }
-    said.operand = literal_name(first);
     Ok(())
 }

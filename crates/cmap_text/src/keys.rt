@@ -9,20 +9,10 @@ ghost use Rattle.cmap_text.specs.TextFiles.{GivesText, IsCollection, IsMetadata,
 ghost use Rattle.cmap_text.specs.TextReading.{no_values, with_value};
 ghost use Rattle.cmap_text.specs.TextSeen.{key_name, values_seen};
 
-use crate::tokens::literal_name;
+use crate::tokens::is_literal;
 use cmap_files::metadata::{CharacterCollection, CidFamily, Metadata, WritingMode};
 use cmap_tokens::token::{Number, Token};
 use std::alloc::{AllocError, Global};
-
-const REGISTRY: &[u8] = b"Registry";
-
-const ORDERING: &[u8] = b"Ordering";
-
-const SUPPLEMENT: &[u8] = b"Supplement";
-
-const CMAP_NAME: &[u8] = b"CMapName";
-
-const WMODE: &[u8] = b"WMode";
 
 /// The keys of what a file says of itself.
 #[derive(Clone, Copy)]
@@ -41,16 +31,15 @@ impl Key {
             ((key : Key) → token_seen token.now ≡ tokens.Name true (key_name key) → ⊥)
             (λ key. token_seen token.now ≡ tokens.Name true (key_name key)) }
     {
-        let name = literal_name(token)?;
-        if name == REGISTRY {
+        if is_literal(token, b"Registry") {
             Some(Key::Registry)
-        } else if name == ORDERING {
+        } else if is_literal(token, b"Ordering") {
             Some(Key::Ordering)
-        } else if name == SUPPLEMENT {
+        } else if is_literal(token, b"Supplement") {
             Some(Key::Supplement)
-        } else if name == CMAP_NAME {
+        } else if is_literal(token, b"CMapName") {
             Some(Key::CMapName)
-        } else if name == WMODE {
+        } else if is_literal(token, b"WMode") {
             Some(Key::WMode)
         } else {
             None
@@ -131,17 +120,13 @@ fn text_of(alloc: Global, value: Option<Token<'_>>) -> Result<Option<Vec<u8>>, A
     ensures { IfOk result (λ text. IsOnly (GivesText (option_map token_seen value.entry))
         (option_map (λ bytes. bytes.items) text)) }
 {
-    let Some(token) = value else {
-        return Ok(None);
-    };
-    match token {
-        Token::Name(name) => Ok(Some(Vec::from_slice(alloc, name.as_bytes())?)),
-        Token::String(string) => {
+    match value {
+        Some(Token::String(string)) => {
             let mut text = Vec::new(alloc);
             string.decode_into(&mut text)?;
             Ok(Some(text))
         }
-        Token::Number(_) => Ok(None),
+        _ => name_of(alloc, value),
     }
 }
 

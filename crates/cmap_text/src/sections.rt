@@ -80,7 +80,9 @@ pub(crate) fn read_section(
         → HasNoFront (IsClosedBody (section_seen section)) reader.old.tokens }
 {
     loop {
-        let token = reader.required_token()?;
+        let Some(token) = reader.required_token() else {
+            return Err(Fault::Refused);
+        };
         if is_executable(&token, section.closer()) {
             return Ok(());
         }

@@ -1,6 +1,6 @@
 //! The tokens of a text in order, and what single tokens stand for.
 
-ghost use Rattle.std.specs.Prelude.{◌≡◌, ◌↔◌, [], ◌∷◌, false, IfOk, IsErrOf, IsTrue, MatchOption, MatchResult};
+ghost use Rattle.std.specs.Prelude.{◌≡◌, ◌↔◌, [], ◌∷◌, false, true, IfOk, IsErrOf, IsTrue, MatchOption, MatchResult};
 ghost use Rattle.std.specs.Option.{option_copied};
 ghost use Rattle.cmap_tokens.specs.TokenSeen.{token_seen};
 ghost use Rattle.cmap_tokens.specs.Tokens as tokens;
@@ -68,12 +68,12 @@ impl<'d> TokenReader<'d> {
         Ok(found)
     }
 
-    /// The next token, which a section needs.
-    pub(crate) fn required_token(&mut self) -> Result<Token<'d>, Fault>
-        ensures { MatchResult result (λ token. self.old ≡ with_front (token_seen token ∷ []) self.new)
-            (λ _. self.old.tokens ≡ []) }
+    /// The next token, which a section needs; `None` where no token comes.
+    pub(crate) fn required_token(&mut self) -> Option<Token<'d>>
+        ensures { MatchOption result (self.old.tokens ≡ [])
+            (λ token. self.old ≡ with_front (token_seen token ∷ []) self.new) }
     {
-        self.next_token()?.ok_or(Fault::Refused)
+        self.scanner.next_token().unwrap_or(None)
     }
 
     /// The code that a token is: a string of one to four bytes.
@@ -86,7 +86,9 @@ impl<'d> TokenReader<'d> {
             return Err(Fault::Refused);
         };
         if let Some((count, number)) = string.plain_number() {
-            let len = CodeLength::of(count).ok_or(Fault::Refused)?;
+            let Some(len) = CodeLength::of(count) else {
+                return Err(Fault::Refused);
+            };
             return Ok(Code { len, number });
         }
         string.decode_into(&mut self.string)?;
@@ -98,7 +100,9 @@ impl<'d> TokenReader<'d> {
         ensures code { IfOk result (λ code. Takes GivesCode self.old (code_seen code) self.new) }
         ensures refused { IsErrOf result Refused → HasNoHead GivesCode self.old.tokens }
     {
-        let token = self.required_token()?;
+        let Some(token) = self.required_token() else {
+            return Err(Fault::Refused);
+        };
         self.code(&token)
     }
 
@@ -114,13 +118,13 @@ impl<'d> TokenReader<'d> {
             return Err(Fault::Refused);
         };
         if let Some((len, number)) = string.plain_number() {
-            return Ok(number_units(self.alloc, len, number)?);
+            return number_units(self.alloc, len, number).map_err(Fault::from);
         }
         string.decode_into(&mut self.string)?;
         if self.string.is_empty() {
             return Err(Fault::Refused);
         }
-        Ok(units(self.alloc, &self.string)?)
+        units(self.alloc, &self.string).map_err(Fault::from)
     }
 
     /// The units of the destination that comes next.
@@ -128,17 +132,18 @@ impl<'d> TokenReader<'d> {
         ensures destination { IfOk result (λ units. Takes IsDestination self.old units.items self.new) }
         ensures refused { IsErrOf result Refused → HasNoHead IsDestination self.old.tokens }
     {
-        let token = self.required_token()?;
+        let Some(token) = self.required_token() else {
+            return Err(Fault::Refused);
+        };
         self.destination(&token)
     }
 
     /// The CID that comes next: an integer of 32 bits without sign.
-    pub(crate) fn next_cid(&mut self) -> Result<Cid, Fault>
-        ensures cid { IfOk result (λ cid. Takes IsCid self.old cid self.new) }
-        ensures refused { IsErrOf result Refused → HasNoHead IsCid self.old.tokens }
+    pub(crate) fn next_cid(&mut self) -> Option<Cid>
+        ensures { MatchOption result (HasNoHead IsCid self.old.tokens)
+            (λ cid. Takes IsCid self.old cid self.new) }
     {
-        let token = self.required_token()?;
-        cid_of(&token).ok_or(Fault::Refused)
+        cid_of(&self.required_token()?)
     }
 }
 
@@ -169,6 +174,16 @@ pub(crate) fn is_executable(token: &Token<'_>, name: &[u8]) -> bool
 {
     match token {
         Token::Name(found) => !found.is_literal() && found.as_bytes() == name,
+        _ => false,
+    }
+}
+
+/// Whether a token is this literal name.
+pub(crate) fn is_literal(token: &Token<'_>, name: &[u8]) -> bool
+    ensures { IsTrue result ↔ (token_seen token.now ≡ tokens.Name true name.now) }
+{
+    match token {
+        Token::Name(found) => found.is_literal() && found.as_bytes() == name,
         _ => false,
     }
 }

@@ -1,3 +1,4 @@
+use Rattle.std.proofs.lemmas.Result.{on_ok_weaker}
 use Rattle.cmap_text.proofs.EntriesRead.{bf_char_read, no_bf_char-code, no_bf_char-destination}
 use Rattle.cmap_files.proofs.Outcomes.{passed_on}
 use Rattle.cmap_text.proofs.entries.add_bf_char.Goals as goal
@@ -13,4 +14,4 @@ returns-in_err-units-clause-refused c =
 pub returns-clause-entry : goal.returns-clause-entry
 returns-clause-entry c =
     let units = rw c.code.ensures.stays at c.in_ok-units.ensures.destination in
-    record { declared = _; begins = bf_char_read _ _ _ _ _ c.in_ok-code.ensures.code units; added = c.in_ok-add_bf.ensures }
+    on_ok_weaker c.add_text.result (λ added. record { declared = _; begins = bf_char_read _ _ _ _ _ c.in_ok-code.ensures.code units; added = added }) c.add_text.ensures.added

@@ -14,19 +14,18 @@ loop-code-init c = record { listing = IsListing-none _ _ _ _ (omega arith); with
 
 pub loop-code-preserved : goal.loop-code-preserved
 loop-code-preserved c = record {
-  listing = IsListing-more _ _ _ _ _ _ _ _ _ c.loop-code.code _ c.loop-code.invariant.listing c.in_ok-units.ensures.destination c.in_ok-add_bf.ensures (omega arith) (omega arith);
+  listing = IsListing-more _ _ _ _ _ _ _ _ _ c.loop-code.code _ c.loop-code.invariant.listing c.in_ok-units.ensures.destination c.in_ok-add_text.ensures.added (omega arith) (omega arith);
   within = omega arith;
 }
 
-pub returns-in_err-token-clause-refused : goal.returns-in_err-token-clause-refused
-returns-in_err-token-clause-refused c =
-    passed_on {U = Unit {0}} c.from_residual-in_err-token.result _ _ _ c.from_residual-in_err-token.ensures.1
-    (λ e. IsListing-open _ _ _ _ _ _ _ c.loop-code.invariant.listing (omega arith) (λ rest closes. cc (c.in_err-token.ensures)))
+pub returns-in_default-clause-refused : goal.returns-in_default-clause-refused
+returns-in_default-clause-refused c =
+    λ e. IsListing-open _ _ _ _ _ _ _ c.loop-code.invariant.listing (omega arith) (λ rest closes. cc (c.in_default.ensures))
 
 pub returns-then-not-is_executable-clause-refused : goal.returns-then-not-is_executable-clause-refused
 returns-then-not-is_executable-clause-refused c =
     λ e. IsListing-open _ _ _ _ _ _ _ c.loop-code.invariant.listing (omega arith)
-    (λ rest closes. false≢true (c.if-not-is_executable.ensures.1 (sym (head_is _ _ _ _ _ c.in_ok-token.ensures closes).0)))
+    (λ rest closes. false≢true (c.if-not-is_executable.ensures.1 (sym (head_is _ _ _ _ _ c.in-Some.ensures closes).0)))
 
 pub returns-clause-list : goal.returns-clause-list
-returns-clause-list c = IsListing-closed _ _ _ _ _ _ _ _ _ c.loop-code.invariant.listing (omega arith) c.in_ok-token.ensures (c.if-not-is_executable.ensures.0 refl)
+returns-clause-list c = IsListing-closed _ _ _ _ _ _ _ _ _ c.loop-code.invariant.listing (omega arith) c.in-Some.ensures (c.if-not-is_executable.ensures.0 refl)

@@ -11,6 +11,6 @@ returns-in_err-end-in-Range-clause-refused c = λ kind. rw c.in-Range.is (passed
 
 pub returns-clause-entry : goal.returns-clause-entry
 returns-clause-entry c = λ kind. elim c.match-shape.branch [
-  | in-Range+in_ok-end-in-Range w ↦ rw w.in-Range.is (rw w.end-is (cid_range_read kind _ _ _ _ _ _ _ c.in_ok-start.ensures.code (rw c.code.ensures.stays at w.in_ok-end-in-Range.ensures.code) (rw w.reader-is at c.in_ok-cid.ensures.cid)))
-  | in-Single w ↦ rw w.in-Single.is (rw w.end-is (cid_char_read kind _ _ _ _ _ c.in_ok-start.ensures.code (rw c.code.ensures.stays at (rw w.reader-is at c.in_ok-cid.ensures.cid))))
+  | in-Range+in_ok-end-in-Range w ↦ rw w.in-Range.is (rw w.end-is (cid_range_read kind _ _ _ _ _ _ _ c.in_ok-start.ensures.code (rw c.code.ensures.stays at w.in_ok-end-in-Range.ensures.code) (rw w.reader-is at c.in-Some.ensures)))
+  | in-Single w ↦ rw w.in-Single.is (rw w.end-is (cid_char_read kind _ _ _ _ _ c.in_ok-start.ensures.code (rw c.code.ensures.stays at (rw w.reader-is at c.in-Some.ensures))))
 ]
