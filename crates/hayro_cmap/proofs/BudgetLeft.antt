@@ -1,16 +1,11 @@
 -- What is left of a budget.
-use Rattle.std.proofs.Common.{◌≡◌, refl, ap, subst, ℕ, ◌+◌, ◌≤◌, List, [], ◌∷◌, ◌++◌, Option, Some, None, arith, sum}
+use Rattle.std.proofs.Common.{◌≡◌, refl, sym, subst, ℕ, ◌+◌, ◌≤◌, List, [], ◌∷◌, ◌++◌, Option, Some, None, arith, sum, zero-add}
 use Rattle.std.proofs.lemmas.List.Sums.{sum_by-append}
 use Rattle.hayro_cmap.specs.Budgets.{IsOver}
 use Rattle.hayro_cmap.specs.BytesSpent.{Leaves}
 
-pub sum-cons : (x : ℕ) (xs : List ℕ) → sum (x ∷ xs) ≡ x + sum xs
-sum-cons x xs = omega (arith, sum_by-append (λ x. x) (x ∷ []) xs)
-
-pub sum-parts : (x : ℕ) (front back rest lengths : List ℕ) → lengths ≡ x ∷ rest → rest ≡ front ++ back → (x + sum front) + sum back ≡ sum lengths
-sum-parts x front back rest lengths e f =
-    let g : sum lengths ≡ sum (x ∷ rest) = ap (λ l. sum l) e in let h : sum rest ≡ sum (front ++ back) = ap (λ l. sum l) f in
-    omega (arith, g, h, sum-cons x rest, sum_by-append (λ x. x) front back)
+pub sum-append : (front back : List ℕ) → sum (front ++ back) ≡ sum front + sum back
+sum-append front back = sum_by-append (λ x. x) front back
 
 pub IsOver-more : (budget : Option ℕ) (few many : ℕ) → few ≤ many → IsOver budget few → IsOver budget many
 IsOver-more None few many le h = h
@@ -20,8 +15,8 @@ pub Leaves-none : (budget : Option ℕ) → Leaves budget 0 budget
 Leaves-none None = refl
 Leaves-none (Some budget) = omega arith
 
-pub Leaves-same : (budget left : Option ℕ) (count same : ℕ) → count ≡ same → Leaves budget count left → Leaves budget same left
-Leaves-same budget left count same e h = subst (λ (n : ℕ). Leaves budget n left) e h
+pub Leaves-one : (budget left : Option ℕ) (count : ℕ) → Leaves budget count left → Leaves budget (sum (count ∷ [])) left
+Leaves-one budget left count h = subst (λ n. Leaves budget n left) (sym (zero-add count)) h
 
 pub Leaves-more : (budget left last : Option ℕ) (first second : ℕ) → Leaves budget first left → Leaves left second last → Leaves budget (first + second) last
 Leaves-more None None last first second h k = k
@@ -30,11 +25,18 @@ Leaves-more (Some budget) None last first second h k = absurd h
 Leaves-more (Some budget) (Some left) None first second h k = absurd k
 Leaves-more (Some budget) (Some left) (Some last) first second h k = omega arith
 
+-- the same of two lists of lengths
+pub Leaves-append : (budget left last : Option ℕ) (front back : List ℕ) → Leaves budget (sum front) left → Leaves left (sum back) last → Leaves budget (sum (front ++ back)) last
+Leaves-append budget left last front back h k = subst (λ n. Leaves budget n last) (sym (sum-append front back)) (Leaves-more budget left last (sum front) (sum back) h k)
+
 pub Leaves-over : (budget left : Option ℕ) (first second : ℕ) → Leaves budget first left → IsOver left second → IsOver budget (first + second)
 Leaves-over None None first second h k = k
 Leaves-over None (Some left) first second h k = absurd (cc)
 Leaves-over (Some budget) None first second h k = absurd h
 Leaves-over (Some budget) (Some left) first second h k = omega arith
+
+pub Leaves-over_append : (budget left : Option ℕ) (front back : List ℕ) → Leaves budget (sum front) left → IsOver left (sum back) → IsOver budget (sum (front ++ back))
+Leaves-over_append budget left front back h k = subst (λ n. IsOver budget n) (sym (sum-append front back)) (Leaves-over budget left (sum front) (sum back) h k)
 
 pub not_over : (budget left : Option ℕ) (count : ℕ) → Leaves budget count left → IsOver budget count → ⊥
 not_over None left count h k = k

@@ -1,9 +1,12 @@
-pub mod BasesResolved
 pub mod BudgetLeft
 pub mod BytesWithin
 pub mod FilesMeant
-pub mod FilesOpened
 pub mod LastFound
+pub mod LayersFit
 pub mod LayersSearched
 pub mod OneName
+pub mod OneUse
+pub mod RefusalOf
 pub mod TablesCopied
+pub mod UsesInOrder
+pub mod WholeFile

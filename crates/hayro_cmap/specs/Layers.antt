@@ -19,10 +19,17 @@ abbrev pub Means : Option PrefixTables → List ℕ → File → Type 0
 Means None bytes file = IsTextFile bytes file
 Means (Some tables) bytes file = (IsMarkedBinary bytes × IsBinaryFile tables bytes file) ⊎ ((IsMarkedBinary bytes → ⊥) × IsTextFile bytes file)
 
+-- a name is answered by bytes of which P holds
+abbrev pub OfAnswer : {A : Type 0} → (List ℕ → Option (List ℕ) → Type 0) → (List ℕ → A → Type 0) → List ℕ → A → Type 0
+OfAnswer answer P name x = (bytes : List ℕ) × answer name (Some bytes) × P bytes x
+
+-- each of these names has layers, and those of the last one are the base; without a name it is empty
+abbrev pub IsBase : (List ℕ → List Layer → Type 0) → List (List ℕ) → List Layer → Type 0
+IsBase are_layers names base = (each : List (List Layer)) × AllZip are_layers names each × (base ≡ unwrap_or (last_or None each) [])
+
 module _ (means : List ℕ → File → Type 0) (answer : List ℕ → Option (List ℕ) → Type 0) where
   -- the file of these bytes, over the layers of the last file that it uses; each file that it uses has layers, and no chain is longer than this
   abbrev pub AreLayers : ℕ → List ℕ → List Layer → Type 0
   AreLayers zero bytes layers = ⊥
-  AreLayers (suc most) bytes layers = (file : File) × (bases : List (List Layer)) × means bytes file
-      × AllZip (λ name base. (base_bytes : List ℕ) × answer name (Some base_bytes) × AreLayers most base_bytes base) file.uses bases
-      × (layers ≡ layer_of file ∷ unwrap_or (last_or None bases) [])
+  AreLayers (suc most) bytes layers = (file : File) × (base : List Layer) × means bytes file
+      × IsBase (OfAnswer answer (AreLayers most)) file.uses base × (layers ≡ layer_of file ∷ base)

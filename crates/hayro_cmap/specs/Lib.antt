@@ -7,3 +7,4 @@ pub mod Identity
 pub mod Answers
 pub mod LayersSeen
 pub mod BytesSpent
+pub mod Refusals

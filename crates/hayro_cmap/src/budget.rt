@@ -3,8 +3,9 @@
 ghost use Rattle.std.specs.Prelude.{◌≡◌, OnOk, IfErr};
 ghost use Rattle.hayro_cmap.specs.Budgets.{IsOver};
 ghost use Rattle.hayro_cmap.specs.BytesSpent.{Leaves};
-ghost use Rattle.hayro_cmap.specs.declared.budget.ParseError.TheVariants.{OverBudget};
+ghost use Rattle.hayro_cmap.specs.declared.refusal.Refusal.TheVariants.{OverBudget};
 
+use crate::refusal::Refusal;
 use std::alloc::{AllocError, AllocFailed};
 
 /// Why a map couldn't be read within a budget.
@@ -39,14 +40,14 @@ impl<T: Drop> From<AllocFailed<T>> for ParseError {
 }
 
 /// Takes `count` bytes from what is left of a budget, if there is one.
-pub(crate) fn spend(left: &mut Option<u64>, count: usize) -> Result<(), ParseError>
+pub(crate) fn spend(left: &mut Option<u64>, count: usize) -> Result<(), Refusal>
     ensures spent { OnOk result (Leaves left.old count left.new) }
     ensures over { IfErr result (λ error. (error ≡ OverBudget) × IsOver left.old count) }
 {
     if let Some(budget) = *left {
         let count = count as u64;
         if budget < count {
-            return Err(ParseError::OverBudget);
+            return Err(Refusal::OverBudget);
         }
         *left = Some(budget - count);
     }

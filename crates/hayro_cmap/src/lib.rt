@@ -8,6 +8,7 @@ mod codespaces;
 mod layers;
 mod lookup;
 mod map;
+mod refusal;
 mod source;
 
 pub use budget::ParseError;

@@ -21,6 +21,7 @@ ghost use Rattle.hayro_cmap.specs.declared.budget.ParseError.TheVariants.{OverBu
 use crate::budget::ParseError;
 use crate::chain::{MOST_BELOW, find_layers};
 use crate::layers::Layer;
+use crate::refusal::Refusal;
 use crate::source::FilesByName;
 use crate::{codespaces, lookup};
 use cmap_binary::Bundle;
@@ -128,9 +129,11 @@ impl CMap {
             of: PhantomData,
         };
         let mut left = budget;
-        match find_layers(alloc, data, bundle, &source, MOST_BELOW, &mut left)? {
-            Some(layers) => Ok(Some(CMap { layers })),
-            None => Ok(None),
+        match find_layers(alloc, data, bundle, &source, MOST_BELOW, &mut left) {
+            Ok(layers) => Ok(Some(CMap { layers })),
+            Err(Refusal::Refused) => Ok(None),
+            Err(Refusal::Memory) => Err(ParseError::Memory),
+            Err(Refusal::OverBudget) => Err(ParseError::OverBudget),
         }
     }
 

@@ -1,6 +1,6 @@
 use Rattle.std.proofs.lemmas.Result.{IfOk-weaker}
 use Rattle.hayro_cmap.proofs.FilesMeant.{means_binary}
-use Rattle.hayro_cmap.proofs.chain.read_form.Goals as goal
+use Rattle.hayro_cmap.proofs.chain.read_file.Goals as goal
 
 pub returns-in-Some-clause-file : goal.returns-in-Some-clause-file
 returns-in-Some-clause-file c =

@@ -1,0 +1,19 @@
+use Rattle.std.proofs.Common.{drop, ◌+◌}
+use Rattle.cmap_binary.specs.BundleSeen.{tables_given}
+use Rattle.cmap_files.specs.FilesSeen.{names_seen}
+use Rattle.hayro_cmap.specs.BytesSpent.{of_use}
+use Rattle.hayro_cmap.specs.Layers.{Means}
+use Rattle.hayro_cmap.specs.LayersSeen.{layers_seen}
+use Rattle.hayro_cmap.proofs.UsesInOrder.{AreUsed}
+use Rattle.hayro_cmap.proofs.chain.+layers.Given as goal
+
+abbrev pub decreases-find_layers : goal.decreases-find_layers
+decreases-find_layers g l = l.below + (l.below + 1)
+
+abbrev pub decreases-find_used : goal.decreases-find_used
+decreases-find_used g l = l.below + l.below
+
+abbrev pub invariant-find_layers-loop-name : goal.invariant-find_layers-loop-name
+invariant-find_layers-loop-name g l =
+    let names = names_seen l.name-items in
+    AreUsed (of_use (Means (tables_given l.bundle)) (g.S.Source.answers l.source) l.below) names (drop l.name-index names) (layers_seen l.base.items) l.initial.left l.left
