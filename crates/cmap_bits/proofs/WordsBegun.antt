@@ -4,7 +4,7 @@ use Rattle.std.specs.List.{sum_by}
 use Rattle.std.specs.Int.Digits.{number_from_digits}
 use Rattle.std.proofs.lemmas.Bool.{cases_lt}
 use Rattle.std.proofs.lemmas.Int.Digits.{number_push}
-use Rattle.std.proofs.lemmas.List.{take_all, take_more, take-append-le, take-replicate, length-replicate, length-append, length-take-le, take-append-drop, drop_more, get_or-take, get_or-append_right}
+use Rattle.std.proofs.lemmas.List.{take_more, take-append-le, take-replicate, length-replicate, length-append, length-take-le, take-append-drop, drop_more, get_or-take, get_or-append_right}
 use Rattle.std.proofs.lemmas.List.Folds.{sum_by-replicate}
 use Rattle.std.proofs.lemmas.List.Sums.{sum_by-append, sum_by_more_le}
 use Rattle.std.proofs.lemmas.Nat.{pow_pos}
@@ -162,6 +162,3 @@ Looked-end counts s i place past h counted k short begun =
           let least = lengths_from-within (i + 1) (drop i counts) (k - length before) (omega (arith, begun.within, ap length whole, length-append before later, h.place_is)) in
           absurd (omega (arith, there, least))
     ]
-
-pub Looked-all : (counts s : List ℕ) (i place past : ℕ) → Looked counts s i place past → length counts ≤ i → (k : ℕ) → IsBegun (lengths_from 1 counts) s k → ⊥
-Looked-all counts s i place past h all k begun = h.none k (omega (arith, begun.within, h.place_is, ap (λ cs. length (lengths_from 1 cs)) (take_all i counts all))) begun

@@ -2,7 +2,7 @@
 use Rattle.std.proofs.Common.{◌≡◌, ◌≢◌, ℕ, true, false, refl, sym, ap, ◌∙◌, subst, List, [], ◌∷◌, ◌++◌}
 use Rattle.std.proofs.lemmas.Bool.{false≢true}
 use Rattle.std.specs.Prelude.{Contains, flat_map, MatchOption, Option, Some, None, option_map}
-use Rattle.std.proofs.lemmas.Option.{none-some, same_Some}
+use Rattle.std.proofs.lemmas.Option.{same_Some}
 use Rattle.cmap_tokens.specs.Strings.{HaveOneValue}
 use Rattle.cmap_tokens.specs.Tokens.{Token}
 use Rattle.cmap_files.specs.Only.{IsOnly, HoldsOfNone}
@@ -11,7 +11,7 @@ use Rattle.cmap_files.specs.ListsAppended.{append_lists}
 use Rattle.cmap_text.specs.TextFiles.{Section, keys, use_word, Item, key, entries, use_of_base, other, literal_head, names_used, declared_by, Values, last_values, IsMetadata, IsTextFile, AreItems}
 use Rattle.cmap_text.specs.TextReading.{IsClosedBody, HasNoFront, Declares, Said, nothing_said, with_value, Says, SaysAll, SaysItem, NoItemSays, SaysItems, NoItemsSay}
 use Rattle.cmap_tokens.specs.TokensLeft.{HasTokens, Left, ended, malformed, with_front}
-use Rattle.cmap_text.proofs.FileItems.{opening, section_parts, use_only, is_plain, HasRead, HasRead-none, HasRead-item, HasRead-all, item_next, items_only}
+use Rattle.cmap_text.proofs.FileItems.{opening, section_parts, is_plain, HasRead, HasRead-item, HasRead-all, item_next, items_only}
 use Rattle.cmap_text.proofs.ItemsSaid.{SaysAll-more, SaysAll-parts, SaysAll-only, lists_said, uses_said, all_say, values_said}
 
 -- a state is that of its parts
@@ -68,21 +68,11 @@ no_section_says t left section old opens none more rest item new at ends is may 
 pub none_says-malformed : (t : Token) (left : Left) (old : Said) → left ≡ malformed → NoItemSays t left old
 none_says-malformed t left old none more rest item new at ends is may says = false≢true (ap (λ l. l.ends) (sym none) ∙ ends)
 
--- a use without an operand says nothing
-pub no_use_says : (t : Token) (left : Left) (old : Said) → t ≡ Token.Name false use_word → old.operand ≡ None → NoItemSays t left old
-no_use_says t left old uses none more rest item new at ends is may says =
-    let only = use_only t more item uses is in
-    let (name, operand, same) = subst (λ i. Says old i new) only.1 says in
-    none-some name (sym none ∙ operand)
-
 pub record IsItemized (start here : Left) (old now : Said) : Type 0 where
   pub items : List Item
   pub ends : start.ends ≡ here.ends
   pub read : HasRead start.tokens here.tokens items
   pub says : SaysAll old items now
-
-pub IsItemized-none : (start : Left) (said : Said) → IsItemized start start said said
-IsItemized-none start said = record { items = []; ends = refl; read = HasRead-none start.tokens; says = refl }
 
 pub IsItemized-more : HaveOneValue → (start here next mid : Left) (t : Token) (old now new : Said) → IsItemized start here old now → here ≡ with_front (t ∷ []) next → SaysItem t next mid now new → IsItemized start mid old new
 IsItemized-more one_value start here next mid t old now new itemized token said =

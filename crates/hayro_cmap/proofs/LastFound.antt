@@ -1,9 +1,8 @@
 -- What a search finds in lists of declarations, as clauses see these.
-use Rattle.std.proofs.Common.{◌≡◌, ℕ, ◌≤◌, List, [], ◌∷◌, Option, Some, None, map, refl, ap, ◌∙◌, true}
-use Rattle.std.specs.Prelude.{option_map, option_and_then, slice_get, unwrap_or, nat_le}
+use Rattle.std.proofs.Common.{◌≡◌, ℕ, List, [], ◌∷◌, Option, Some, None, map, refl, ap, ◌∙◌}
+use Rattle.std.specs.Prelude.{option_map, option_and_then, slice_get, unwrap_or}
 use Rattle.std.proofs.lemmas.Option.{slice_get-map}
-use Rattle.std.proofs.lemmas.Bool.{and_parts, leb-true}
-use Rattle.cmap_runs.specs.Ranges.{Span, contains, last_place, last_of}
+use Rattle.cmap_runs.specs.Ranges.{Span, last_place, last_of}
 use Rattle.cmap_files.specs.Files.{CidEntry}
 use Rattle.hayro_cmap.specs.Lookups.{decided_cid}
 use Rattle.hayro_cmap.specs.LayersDecide.{decided_in}
@@ -21,9 +20,6 @@ last_of-map span g xs code = ap (λ spans. option_and_then (slice_get (map g xs)
 
 pub spans-map : {A B : Type 0} (span : B → Span) (g : A → B) (xs : List A) → map span (map g xs) ≡ map (λ x. span (g x)) xs
 spans-map span g xs = map-of-map span g xs
-
-pub start_within : (span : Span) (code : ℕ) → contains span code ≡ true → span.start ≤ code
-start_within span code holds = leb-true span.start code (and_parts (nat_le span.start code) (nat_le code span.end) holds).0
 
 -- a layer decides, or those below it do
 pub decided_cid-decided_in : (code : ℕ) (cid notdef : Option CidEntry) (character below : Option ℕ) → decided_cid code cid notdef character below ≡ unwrap_or (decided_in code cid notdef character) below

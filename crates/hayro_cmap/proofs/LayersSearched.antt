@@ -1,5 +1,5 @@
 -- The layers of a map, searched for the CID of a code from the top one on.
-use Rattle.std.proofs.Common.{◌≡◌, ℕ, ◌+◌, ◌*◌, ◌≤◌, ◌<◌, suc, get_or, drop, drop-cons, Bool, true, false, List, [], ◌∷◌, length, map, Option, Some, None, refl, sym, ap, ◌∙◌, arith}
+use Rattle.std.proofs.Common.{◌≡◌, ℕ, ◌+◌, ◌*◌, ◌≤◌, ◌<◌, suc, get_or, drop, drop-cons, Bool, true, false, List, [], ◌∷◌, length, Option, Some, None, refl, sym, ap, ◌∙◌, arith}
 use Rattle.std.specs.Prelude.{unwrap_or, sum_by, ◌&&◌, nat_le, option_and_then, is_some, if◌then◌else◌}
 use Rattle.cmap_runs.specs.SearchLooks.{LooksAtMost}
 use Rattle.cmap_runs.specs.declared.runs.looks.Looks.{Looks}
@@ -8,9 +8,9 @@ use Rattle.std.proofs.lemmas.List.Sums.{sum_by-cons}
 use Rattle.std.proofs.lemmas.Bool.{cond-true}
 use Rattle.cmap_files.specs.Files.{BfEntry}
 use Rattle.hayro_cmap.specs.Layers.{Layer}
-use Rattle.hayro_cmap.specs.Lookups.{cid_in, cid_of, bf_span, bf_at, last_bf, bf_of, decided_text}
+use Rattle.hayro_cmap.specs.Lookups.{cid_in, cid_of, bf_at, last_bf, bf_of, decided_text}
 use Rattle.hayro_cmap.specs.LayersDecide.{layer_cid, deciding_bf}
-use Rattle.hayro_cmap.specs.Searches.{layer_looks, cid_looks, search_looks, bf_looks}
+use Rattle.hayro_cmap.specs.Searches.{layer_looks, cid_looks, bf_looks}
 use Rattle.hayro_cmap.proofs.LastFound.{decided_cid-decided_in}
 
 -- the element that stands next
@@ -23,9 +23,6 @@ pub record IsLooked (before now : Looks) (all_runs runs_left all_declarations de
   pub runs_grow : before.runs ≤ now.runs
   pub declarations : now.declarations + declarations_left ≤ before.declarations + all_declarations
   pub declarations_grow : before.declarations ≤ now.declarations
-
-looked_none : (before : Looks) (runs declarations : ℕ) → IsLooked before before runs runs declarations declarations
-looked_none before runs declarations = record { runs = omega arith; runs_grow = omega arith; declarations = omega arith; declarations_grow = omega arith }
 
 looked_more : (before now after : Looks) (runs here runs_left declarations more declarations_left : ℕ) (found : Bool) → IsLooked before now runs (here + runs_left) declarations (more + declarations_left) → LooksAtMost now after here more found
     → IsLooked before after runs runs_left declarations declarations_left
@@ -50,21 +47,10 @@ looked_last before now after runs here runs_left declarations more declarations_
   some_declaration = at_least_one found _ _ (omega (arith, looked.declarations_grow, looks.some_declaration));
 }
 
-looked_all : (before now : Looks) (runs runs_left declarations declarations_left : ℕ) → IsLooked before now runs runs_left declarations declarations_left → LooksAtMost before now runs declarations false
-looked_all before now runs runs_left declarations declarations_left looked = record {
-  most_runs = omega (arith, looked.runs);
-  some_run = omega (arith, looked.runs_grow);
-  most_declarations = omega (arith, looked.declarations);
-  some_declaration = omega (arith, looked.declarations_grow);
-}
-
 -- no layer above these decides
 pub record IsSearched (layers rest : List Layer) (code len : ℕ) (before now : Looks) : Type 0 where
   pub value : cid_in layers code len ≡ cid_in rest code len
   pub looked : IsLooked before now (sum_by (λ layer. layer_looks layer len) layers) (sum_by (λ layer. layer_looks layer len) rest) (3 * length layers) (3 * length rest)
-
-pub IsSearched-none : (layers : List Layer) (code len : ℕ) (before : Looks) → IsSearched layers layers code len before before
-IsSearched-none layers code len before = record { value = refl; looked = looked_none before _ _ }
 
 next_looked : (layers : List Layer) (layer : Layer) (below : List Layer) (code len : ℕ) (before now : Looks) → IsSearched layers (layer ∷ below) code len before now
     → IsLooked before now (sum_by (λ l. layer_looks l len) layers) (layer_looks layer len + sum_by (λ l. layer_looks l len) below) (3 * length layers) (3 + 3 * length below)
@@ -103,12 +89,6 @@ IsSearched-decided layers layer below code len answer before now after within se
   looks = rw (has_looks layers len within) (looked_last before now after _ _ _ _ _ _ (is_some answer) (next_looked layers layer below code len before now searched) looks);
 }
 
-pub IsSearched-all : (layers rest : List Layer) (code len : ℕ) (before now : Looks) → nat_le 1 len && nat_le len 4 ≡ true → IsSearched layers rest code len before now → rest ≡ [] → Answers layers code len None before now
-IsSearched-all layers rest code len before now within searched none = record {
-  value = sym (has_length layers code len within ∙ searched.value ∙ ap (λ l. cid_in l code len) none);
-  looks = rw (has_looks layers len within) (looked_all before now _ _ _ _ searched.looked);
-}
-
 -- ---- the text of a code
 decided_text-option_or : (code : ℕ) (o deciding : Option BfEntry) (below : Option (List ℕ)) → below ≡ option_and_then (λ e. bf_at e code) deciding → decided_text code o below ≡ option_and_then (λ e. bf_at e code) (option_or o deciding)
 decided_text-option_or code None deciding below is = is
@@ -122,34 +102,3 @@ bf_of-deciding_bf (layer ∷ layers) code = decided_text-option_or code (last_bf
 pub record IsBfSearched (layers rest : List Layer) (code : ℕ) (before now : Looks) : Type 0 where
   pub value : deciding_bf layers code ≡ deciding_bf rest code
   pub looked : IsLooked before now (bf_looks layers) (bf_looks rest) (length layers) (length rest)
-
-pub IsBfSearched-none : (layers : List Layer) (code : ℕ) (before : Looks) → IsBfSearched layers layers code before before
-IsBfSearched-none layers code before = record { value = refl; looked = looked_none before _ _ }
-
-next_bf_looked : (layers : List Layer) (layer : Layer) (below : List Layer) (code : ℕ) (before now : Looks) → IsBfSearched layers (layer ∷ below) code before now
-    → IsLooked before now (bf_looks layers) (search_looks (map bf_span layer.lists.bfs) + bf_looks below) (length layers) (1 + length below)
-next_bf_looked layers layer below code before now searched = record {
-  runs = omega (arith, searched.looked.runs, sum_by-cons (λ l. search_looks (map bf_span l.lists.bfs)) layer below);
-  runs_grow = searched.looked.runs_grow;
-  declarations = omega (arith, searched.looked.declarations);
-  declarations_grow = searched.looked.declarations_grow;
-}
-
-pub IsBfSearched-more : (layers : List Layer) (layer : Layer) (below : List Layer) (code : ℕ) (before now after : Looks) (found : Bool) → IsBfSearched layers (layer ∷ below) code before now → None ≡ last_bf layer.lists.bfs code
-    → LooksAtMost now after (search_looks (map bf_span layer.lists.bfs)) 1 found → IsBfSearched layers below code before after
-IsBfSearched-more layers layer below code before now after found searched none looks = record {
-  value = searched.value ∙ ap (λ o. option_or o (deciding_bf below code)) (sym none);
-  looked = looked_more before now after _ _ _ _ _ _ found (next_bf_looked layers layer below code before now searched) looks;
-}
-
--- what a search for a text finds, and what it looks at
-pub record FindsBf (layers : List Layer) (code : ℕ) (found : Option BfEntry) (before after : Looks) : Type 0 where
-  pub value : found ≡ deciding_bf layers code
-  pub looks : LooksAtMost before after (bf_looks layers) (length layers) (is_some found)
-
-pub IsBfSearched-found : (layers : List Layer) (layer : Layer) (below : List Layer) (code : ℕ) (entry : BfEntry) (before now after : Looks) → IsBfSearched layers (layer ∷ below) code before now → Some entry ≡ last_bf layer.lists.bfs code
-    → LooksAtMost now after (search_looks (map bf_span layer.lists.bfs)) 1 true → FindsBf layers code (Some entry) before after
-IsBfSearched-found layers layer below code entry before now after searched found looks = record {
-  value = sym (searched.value ∙ ap (λ o. option_or o (deciding_bf below code)) (sym found));
-  looks = looked_last before now after _ _ _ _ _ _ true (next_bf_looked layers layer below code before now searched) looks;
-}
