@@ -1,5 +1,5 @@
 -- What a test of bytes tells of a byte, and of the bytes that a text begins with.
-use Rattle.std.proofs.Common.{◌≡◌, ℕ, ◌+◌, Bool, true, false, ◌==◌, List, [], ◌∷◌, ◌++◌, length, take, suc, refl, ap, subst, inl, inr, arith}
+use Rattle.std.proofs.Common.{◌≡◌, ℕ, ◌+◌, Bool, true, false, ◌==◌, List, [], ◌∷◌, ◌++◌, length, take, suc, refl, sym, ap, subst, inl, inr, arith}
 use Rattle.std.specs.List.{list_any, list_all, prefix_len}
 use Rattle.std.proofs.lemmas.Bool.{both_ways, cases_Bool, eqb-true, false≢true, and_from, and_parts, or_from, or_parts}
 use Rattle.cmap_tokens.specs.Strings.{begins_with}
@@ -11,6 +11,10 @@ other_byte p k c fails passes =
       | inl same ↦ absurd (both_ways (p k) fails (subst (λ b. p b ≡ true) (eqb-true c k same) passes))
       | inr other ↦ other
     ]
+
+-- by whether a byte is this one
+pub by_byte : (b k : ℕ) (P : ℕ → Type 0) → P k → ((b == k) ≡ false → P b) → P b
+by_byte b k P is other = elim (cases_Bool (b == k)) [ inl same ↦ subst P (sym (eqb-true b k same)) is | inr fails ↦ other fails ]
 
 pub begins_with_is : (c : ℕ) (text : List ℕ) → begins_with c text ≡ true → (rest : List ℕ) × (text ≡ c ∷ rest)
 begins_with_is c [] e = absurd (false≢true e)

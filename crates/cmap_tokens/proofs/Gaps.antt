@@ -1,5 +1,5 @@
 -- Gaps, and the function that measures them.
-use Rattle.std.proofs.Common.{◌≡◌, ℕ, ◌+◌, ◌<◌, ◌≤◌, Bool, true, false, not, ◌==◌, List, [], ◌∷◌, ◌++◌, inl, inr, length, take, Option, Some, None, one-add, refl, sym, ap, ◌∙◌, arith, append-nil}
+use Rattle.std.proofs.Common.{◌≡◌, ℕ, ◌+◌, ◌<◌, ◌≤◌, Bool, true, false, not, ◌==◌, List, [], ◌∷◌, ◌++◌, inl, inr, length, take, Option, Some, None, one-add, refl, sym, ap, ◌∙◌, subst, arith, append-nil}
 use Rattle.std.specs.Prelude.{IsTrue, is_some}
 use Rattle.std.proofs.lemmas.Bool.{cases_Bool}
 use Rattle.cmap_tokens.specs.Bytes.{is_white}
@@ -25,33 +25,23 @@ pub record Measured (in_comment : Bool) (text : List ℕ) : Type 0 where
   pub blank : length text ≤ gap_len in_comment text → IsTrue (is_some (comment_after in_comment text))
   pub gap : gap_len in_comment text < length text → comment_after in_comment (take (gap_len in_comment text) text) ≡ Some false
 
+-- a byte of a gap is passed
+passed : (in_comment after : Bool) (b : ℕ) (text : List ℕ) → gap_len in_comment (b ∷ text) ≡ 1 + gap_len after text → ((t : List ℕ) → comment_after in_comment (b ∷ t) ≡ comment_after after t) → Measured after text → Measured in_comment (b ∷ text)
+passed in_comment after b text len follows more = record {
+  within = omega (arith, len, more.within);
+  blank = λ h. subst (λ o. IsTrue (is_some o)) (sym (follows text)) (more.blank (omega (arith, len, h)));
+  gap = λ h. ap (λ n. comment_after in_comment (take n (b ∷ text))) (len ∙ one-add _) ∙ follows (take (gap_len after text) text) ∙ more.gap (omega (arith, len, h));
+}
+
 pub measured : (in_comment : Bool) (text : List ℕ) → Measured in_comment text
 measured in_comment [] = record { within = omega arith; blank = λ h. refl; gap = λ h. absurd (omega (arith, h)) }
-measured true (b ∷ text) =
-    let more = measured (not (ends_comment b)) text in
-    record {
-      within = omega (arith, more.within);
-      blank = λ h. more.blank (omega (arith, h));
-      gap = λ h. rw (one-add (gap_len (not (ends_comment b)) text)) (more.gap (omega (arith, h)));
-    }
+measured true (b ∷ text) = passed true _ b text refl (λ t. refl) (measured (not (ends_comment b)) text)
 measured false (b ∷ text) =
     elim (cases_Bool (b == 37)) [
-      | inl percent ↦
-          let more = measured true text in
-          record {
-            within = rw percent (omega (arith, more.within));
-            blank = rw percent (λ h. more.blank (omega (arith, h)));
-            gap = rw percent (λ h. rw (one-add (gap_len true text), percent) (more.gap (omega (arith, h))));
-          }
+      | inl percent ↦ passed false true b text (rw percent refl) (λ t. rw percent refl) (measured true text)
       | inr other ↦
           elim (cases_Bool (is_white b)) [
-            | inl white ↦
-                let more = measured false text in
-                record {
-                  within = rw (other, white) (omega (arith, more.within));
-                  blank = rw (other, white) (λ h. more.blank (omega (arith, h)));
-                  gap = rw (other, white) (λ h. rw (one-add (gap_len false text), other, white) (more.gap (omega (arith, h))));
-                }
+            | inl white ↦ passed false false b text (rw (other, white) refl) (λ t. rw (other, white) refl) (measured false text)
             | inr solid ↦ record {
               within = rw (other, solid) (omega arith);
               blank = rw (other, solid) (λ h. absurd (omega (arith, h)));

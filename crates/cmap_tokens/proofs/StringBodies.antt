@@ -1,5 +1,5 @@
 -- A whole string is its brackets and its body.
-use Rattle.std.proofs.Common.{◌≡◌, ℕ, ◌-◌, ◌<◌, ◌≤◌, true, false, ◌&&◌, ◌==◌, zero, suc, List, [], ◌∷◌, ◌++◌, length, take, drop, get_or, Option, Some, refl, sym, ap, ◌∙◌, subst, inl, inr, arith, append_assoc, length-append, length-drop}
+use Rattle.std.proofs.Common.{◌≡◌, ℕ, ◌-◌, ◌<◌, ◌≤◌, true, false, ◌&&◌, ◌==◌, zero, suc, List, [], ◌∷◌, ◌++◌, length, take, drop, get_or, Option, Some, refl, sym, ap, ◌∙◌, inl, inr, arith, append_assoc, length-append, length-drop}
 use Rattle.std.specs.Prelude.{IsTrue, is_some, nat_le}
 use Rattle.std.proofs.lemmas.Bool.{and_from, and_parts, cases_Bool, eq-eqb, eqb-true, le-leb, leb-true, ne_eqb}
 use Rattle.std.proofs.Math.Seq.{get_or-append_seam}
@@ -9,6 +9,7 @@ use Rattle.std.specs.Option.{option_to_list}
 use Rattle.cmap_tokens.specs.Strings.{hex_value, inside, is_between}
 use Rattle.cmap_tokens.specs.TokenReading.{first_part, parts_value, is_paired, text_value, value_of}
 use Rattle.cmap_tokens.specs.TokenReading.{one_more, hex_len, text_len, string_len}
+use Rattle.cmap_tokens.proofs.ByteTests.{by_byte}
 use Rattle.cmap_tokens.proofs.StringLengths.{one_more_some, has_hex, has_text, ends_from}
 
 record Between (first last : ℕ) (body : List ℕ) : Type 0 where
@@ -44,14 +45,8 @@ text_has_value text n e =
 pub has_value : (text : List ℕ) (n : ℕ) → Some n ≡ string_len text → IsTrue (is_some (value_of (take n text)))
 has_value [] n e = cc
 has_value (b ∷ text) n e =
-    elim (cases_Bool (b == 60)) [
-      | inl less ↦ subst (λ c. IsTrue (is_some (value_of (take n (c ∷ text))))) (sym (eqb-true b 60 less)) (hex_has_value text n (sym (rw less at e)))
-      | inr not_less ↦
-          elim (cases_Bool (b == 40)) [
-            | inl opens ↦ subst (λ c. IsTrue (is_some (value_of (take n (c ∷ text))))) (sym (eqb-true b 40 opens)) (text_has_value text n (sym (rw (not_less, opens) at e)))
-            | inr not_open ↦ let at = rw (not_less, not_open) at e in cc
-          ]
-    ]
+    let P : ℕ → Type 0 = λ c. Some n ≡ string_len (c ∷ text) → IsTrue (is_some (value_of (take n (c ∷ text)))) in
+    by_byte b 60 P (λ e. hex_has_value text n (sym e)) (λ not_less. by_byte b 40 P (λ e. text_has_value text n (sym e)) (λ not_open e. let at = rw (not_less, not_open) at e in cc)) e
 
 -- the value of a string is that of its body, by the first bracket
 pub hex_body : (raw : List ℕ) → is_between 60 62 raw ≡ true → value_of raw ≡ Some (hex_value (inside raw))
@@ -66,8 +61,8 @@ text_body raw some not_hex =
       | inr is_not ↦ let at = rw (not_hex, is_not) at some in cc
     ]
 
-parts : (first last : ℕ) (raw : List ℕ) → is_between first last raw ≡ true → (get_or raw 0 0 ≡ first) × (2 ≤ length raw)
-parts first last raw is =
+pub first_bracket : (first last : ℕ) (raw : List ℕ) → is_between first last raw ≡ true → (get_or raw 0 0 ≡ first) × (2 ≤ length raw)
+first_bracket first last raw is =
     let (head, long) = and_parts (get_or raw 0 0 == first) (nat_le 2 (length raw)) (and_parts (get_or raw 0 0 == first && nat_le 2 (length raw)) _ is).0 in
     (eqb-true (get_or raw 0 0) first head, leb-true 2 (length raw) long)
 
@@ -75,8 +70,8 @@ parts first last raw is =
 pub brackets : (raw : List ℕ) → IsTrue (is_some (value_of raw)) → (2 ≤ length raw) × ((get_or raw 0 0 == 60) ≡ is_between 60 62 raw)
 brackets raw some =
     elim (cases_Bool (is_between 60 62 raw)) [
-      | inl is ↦ let (head, long) = parts 60 62 raw is in (long, eq-eqb _ 60 head ∙ sym is)
-      | inr is_not ↦ let (head, long) = parts 40 41 raw (text_body raw some is_not).0 in (long, ne_eqb _ 60 (λ e. absurd (omega (arith, e, head))) ∙ sym is_not)
+      | inl is ↦ let (head, long) = first_bracket 60 62 raw is in (long, eq-eqb _ 60 head ∙ sym is)
+      | inr is_not ↦ let (head, long) = first_bracket 40 41 raw (text_body raw some is_not).0 in (long, ne_eqb _ 60 (λ e. absurd (omega (arith, e, head))) ∙ sym is_not)
     ]
 
 -- the loop over the parts of a body, of which at most n are left

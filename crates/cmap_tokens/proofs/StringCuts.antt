@@ -1,17 +1,17 @@
 -- The body of ( .. ), cut into its parts: what reading it part by part gives is what they stand for, both ways.
-use Rattle.std.proofs.Common.{◌≡◌, ℕ, ◌+◌, ◌%◌, ◌<◌, ◌≤◌, min, Bool, true, false, ◌||◌, ◌==◌, List, [], ◌∷◌, ◌++◌, ◌⊎◌, length, take, drop, Option, Some, zero, suc, refl, sym, ap, ◌∙◌, subst, inl, inr, arith, ⊎_elim, length-append}
+use Rattle.std.proofs.Common.{◌≡◌, ℕ, ◌+◌, ◌%◌, ◌<◌, ◌≤◌, min, Bool, true, false, ◌||◌, ◌==◌, List, [], ◌∷◌, ◌++◌, ◌⊎◌, length, take, drop, Option, Some, zero, suc, refl, sym, ap, ◌∙◌, subst, inl, inr, arith, rules, ⊎_elim, length-append}
 use Rattle.std.specs.Option.{option_to_list}
 use Rattle.std.specs.List.{list_all, prefix_len}
 use Rattle.std.specs.Char.{is_digit}
-use Rattle.std.proofs.lemmas.Bool.{and_parts, and_from, or_from, or_parts, cases_Bool, cond-true, cond-false, eqb-true, false≢true, lt-ltb}
+use Rattle.std.proofs.lemmas.Bool.{and_parts, and_from, or_from, or_parts, cases_Bool, cond-true, cond-false, false≢true, lt-ltb}
 use Rattle.std.proofs.lemmas.List.{take_at, drop_at, take-append-drop, length-take}
 use Rattle.std.proofs.lemmas.List.Sums.{prefix_len-le-length}
 use Rattle.cmap_tokens.specs.Numbers.{are_digits, digits_number}
 use Rattle.cmap_tokens.specs.Strings.{escape_value, begins_with, begins_octal, IsLineEnd, is_line_byte, IsPart, plain, line_end, escaped, octal, continued, IsCut}
 use Rattle.cmap_tokens.specs.TokenReading as reading
 use Rattle.cmap_tokens.specs.TokenReading.{octal_len, first_part, parts_value, is_paired}
-use Rattle.cmap_tokens.proofs.ByteTests.{other_byte, begins_with_is, prefix_len-append_all}
-use Rattle.cmap_tokens.proofs.OctalEscapes.{octal_all, octal_few}
+use Rattle.cmap_tokens.proofs.ByteTests.{by_byte, other_byte, begins_with_is, prefix_len-append_all}
+use Rattle.cmap_tokens.proofs.Digits.{octal_all, octal_few}
 
 -- a part is read as it is, with its backslashes whole
 pub record IsReadPart (part value next : List ℕ) : Type 0 where
@@ -28,13 +28,13 @@ by_line_end P both feed return text next (inr (inr (is, other))) = subst (λ t. 
 
 read_line_end : (text next : List ℕ) → IsLineEnd text next → IsReadPart text (10 ∷ []) next
 unfolding first_part
-read_line_end = by_line_end (λ text next. IsReadPart text (10 ∷ []) next) (λ next. record { measured = refl; read = refl; paired = refl; filled = omega arith })
-    (λ next. record { measured = refl; read = refl; paired = refl; filled = omega arith }) (λ next other. record { measured = rw other refl; read = refl; paired = refl; filled = omega arith })
+read_line_end = by_line_end (λ text next. IsReadPart text (10 ∷ []) next) (λ next. search rules)
+    (λ next. search rules) (λ next other. grind (arith, other))
 
 read_continued : (text next : List ℕ) → IsLineEnd text next → IsReadPart (92 ∷ text) [] next
 unfolding first_part reading.escape
-read_continued = by_line_end (λ text next. IsReadPart (92 ∷ text) [] next) (λ next. record { measured = refl; read = refl; paired = refl; filled = omega arith })
-    (λ next. record { measured = refl; read = refl; paired = refl; filled = omega arith }) (λ next other. record { measured = rw other refl; read = refl; paired = refl; filled = omega arith })
+read_continued = by_line_end (λ text next. IsReadPart (92 ∷ text) [] next) (λ next. search rules)
+    (λ next. search rules) (λ next other. grind (arith, other))
 
 read_plain : (b : ℕ) (next : List ℕ) → (b == 92 || is_line_byte b) ≡ false → IsReadPart (b ∷ []) (b ∷ []) next
 unfolding first_part
@@ -172,37 +172,21 @@ found_octal c text digit =
 found_escape : (text : List ℕ) → is_paired true text ≡ true → Found (92 ∷ text)
 found_escape [] paired = absurd (false≢true paired)
 found_escape (c ∷ text) paired =
-    elim (cases_Bool (c == 13)) [
-      | inl return ↦
-          let (part, rest, whole, is) = found_return text in
-          (92 ∷ part, [], rest, ap (λ k. 92 ∷ k ∷ text) (eqb-true c 13 return) ∙ ap (λ t. 92 ∷ t) whole, continued part rest is)
-      | inr not_return ↦
-          elim (cases_Bool (c == 10)) [
-            | inl feed ↦ (92 ∷ 10 ∷ [], [], text, ap (λ k. 92 ∷ k ∷ text) (eqb-true c 10 feed), continued (10 ∷ []) text (inr (inl refl)))
-            | inr not_feed ↦
-                elim (cases_Bool (is_digit c 8)) [
-                  | inl digit ↦ found_octal c text digit
-                  | inr not_digit ↦ (92 ∷ c ∷ [], escape_value c ∷ [], text, refl, escaped c text (or_from _ _ not_digit (or_from _ _ not_feed not_return)))
-                ]
-          ]
-    ]
+    let P : ℕ → Type 0 = λ k. Found (92 ∷ k ∷ text) in
+    by_byte c 13 P (let (part, rest, whole, is) = found_return text in (92 ∷ part, [], rest, ap (λ t. 92 ∷ t) whole, continued part rest is)) (λ not_return.
+    by_byte c 10 P (92 ∷ 10 ∷ [], [], text, refl, continued (10 ∷ []) text (inr (inl refl))) (λ not_feed.
+    elim (cases_Bool (is_digit c 8)) [
+      | inl digit ↦ found_octal c text digit
+      | inr not_digit ↦ (92 ∷ c ∷ [], escape_value c ∷ [], text, refl, escaped c text (or_from _ _ not_digit (or_from _ _ not_feed not_return)))
+    ]))
 
 found : (b : ℕ) (text : List ℕ) → is_paired false (b ∷ text) ≡ true → Found (b ∷ text)
-found b text paired =
-    elim (cases_Bool (b == 92)) [
-      | inl backslash ↦ subst (λ k. Found (k ∷ text)) (sym (eqb-true b 92 backslash)) (found_escape text (rw backslash at paired))
-      | inr not_backslash ↦
-          elim (cases_Bool (b == 13)) [
-            | inl return ↦
-                let (part, rest, whole, is) = found_return text in
-                (part, 10 ∷ [], rest, ap (λ k. k ∷ text) (eqb-true b 13 return) ∙ whole, line_end part rest is)
-            | inr not_return ↦
-                elim (cases_Bool (b == 10)) [
-                  | inl feed ↦ (10 ∷ [], 10 ∷ [], text, ap (λ k. k ∷ text) (eqb-true b 10 feed), line_end (10 ∷ []) text (inr (inl refl)))
-                  | inr not_feed ↦ (b ∷ [], b ∷ [], text, refl, plain b text (or_from _ _ not_backslash (or_from _ _ not_feed not_return)))
-                ]
-          ]
-    ]
+found b text =
+    let P : ℕ → Type 0 = λ c. is_paired false (c ∷ text) ≡ true → Found (c ∷ text) in
+    by_byte b 92 P (found_escape text) (λ not_backslash.
+    by_byte b 13 P (λ _. let (part, rest, whole, is) = found_return text in (part, 10 ∷ [], rest, whole, line_end part rest is)) (λ not_return.
+    by_byte b 10 P (λ _. (10 ∷ [], 10 ∷ [], text, refl, line_end (10 ∷ []) text (inr (inl refl)))) (λ not_feed _.
+    (b ∷ [], b ∷ [], text, refl, plain b text (or_from _ _ not_backslash (or_from _ _ not_feed not_return))))))
 
 -- and a body whose backslashes are whole has parts, which stand for what is read
 pub has_cut : (n : ℕ) (body : List ℕ) → length body ≤ n → is_paired false body ≡ true → (parts : List (List ℕ × List ℕ)) × IsCut parts body (parts_value n body)

@@ -2,7 +2,7 @@
 use Rattle.std.proofs.Common.{◌≡◌, ℕ, ◌+◌, ◌<◌, ◌≤◌, Bool, true, false, ◌==◌, List, [], ◌∷◌, ◌++◌, length, get_or, take, drop, suc, Option, Some, None, one-add, refl, sym, ap, ◌∙◌, inl, inr, arith}
 use Rattle.std.specs.Prelude.{IsTrue, option_map}
 use Rattle.std.specs.List.{list_all}
-use Rattle.std.proofs.lemmas.Bool.{and_from, and_parts, cases_Bool, eqb-true}
+use Rattle.std.proofs.lemmas.Bool.{and_from, and_parts, cases_Bool, cond_both, eqb-true}
 use Rattle.std.proofs.lemmas.List.{at_drop_more, nil_from_length}
 use Rattle.cmap_tokens.specs.Tokens.{Inside, after_byte, closes_at_end, is_hex_body}
 use Rattle.cmap_tokens.specs.TokenReading.{is_paired}
@@ -63,10 +63,9 @@ one_more_from : (i : ℕ) (count : Option ℕ) → option_map (λ n. i + n) (one
 one_more_from i None = refl
 one_more_from i (Some n) = let e : i + (1 + n) ≡ i + 1 + n = omega arith in ap Some e
 
-pub text_len-step : (place next : Inside) (text : List ℕ) (i : ℕ) → i < length text → after_byte place (get_or text i 0) ≡ Some next
-    → option_map (λ n. i + 1 + n) (text_len (Some next) (drop (i + 1) text)) ≡ option_map (λ n. i + n) (text_len (Some place) (drop i text))
-text_len-step place next text i within is =
-    sym (ap (option_map (λ n. i + n)) (at_drop_more (text_len (Some place)) text i 0 within ∙ ap (λ o. one_more (text_len o (drop (i + 1) text))) is) ∙ one_more_from i (text_len (Some next) (drop (i + 1) text)))
+pub count_step : (f : List ℕ → Option ℕ) (text : List ℕ) (i : ℕ) (rest : Option ℕ) → i < length text → f (get_or text i 0 ∷ drop (i + 1) text) ≡ one_more rest
+    → option_map (λ n. i + 1 + n) rest ≡ option_map (λ n. i + n) (f (drop i text))
+count_step f text i rest within is = sym (ap (option_map (λ n. i + n)) (at_drop_more f text i 0 within ∙ is) ∙ one_more_from i rest)
 
 -- what closes ends with ), and each backslash before it has a byte after it
 abbrev pub EndsFrom : Option Inside → List ℕ → Type 0
@@ -80,22 +79,11 @@ Follows place b (Some next) = (text : List ℕ) → is_paired place.escaped (b �
 follows : (escaped : Bool) (depth b : ℕ) → let place : Inside = record { escaped = escaped; depth = depth } in Follows place b (after_byte place b)
 follows true depth b = λ text. refl
 follows false depth b =
-    elim (cases_Bool (b == 92)) [
-      | inl escape ↦ rw escape (λ text. ap (λ t. is_paired t text) escape)
-      | inr plain ↦
-          elim (cases_Bool (b == 40)) [
-            | inl opens ↦ rw (plain, opens) (λ text. ap (λ t. is_paired t text) plain)
-            | inr not_open ↦
-                elim (cases_Bool (b == 41)) [
-                  | inl close ↦
-                      elim (cases_Bool (depth == 1)) [
-                        | inl last ↦ rw (plain, not_open, close, last) (eqb-true b 41 close, refl)
-                        | inr deeper ↦ rw (plain, not_open, close, deeper) (λ text. ap (λ t. is_paired t text) plain)
-                      ]
-                  | inr other ↦ rw (plain, not_open, other) (λ text. ap (λ t. is_paired t text) plain)
-                ]
-          ]
-    ]
+    let place : Inside = record { escaped = false; depth = depth } in
+    let P : Option Inside → Type 0 = Follows place b in
+    cond_both (b == 92) _ _ P (λ escape text. ap (λ t. is_paired t text) escape)
+    (λ plain. let same = λ (text : List ℕ). ap (λ t. is_paired t text) plain in
+    cond_both (b == 40) _ _ P (λ _. same) (λ _. cond_both (b == 41) _ _ P (λ close. cond_both (depth == 1) _ _ P (λ _. (eqb-true b 41 close, refl)) (λ _. same)) (λ _. same)))
 
 ends_more : (place : Inside) (b : ℕ) (bytes : List ℕ) (next : Option Inside) → Follows place b next → EndsFrom next bytes → EndsFrom (Some place) (b ∷ bytes)
 ends_more place b bytes None (close, plain) none = ([], rw (close, none) refl, ap (λ e. is_paired e []) plain)

@@ -1,39 +1,21 @@
 -- Texts in UTF-16, character by character, and the offset of the last unit.
-use Rattle.std.proofs.Common.{◌≡◌, ℕ, suc, ◌+◌, ◌-◌, ◌^◌, ◌<◌, Bool, true, false, cond, ◌&&◌, eqb, ltb, List, [], ◌∷◌, ◌++◌, inl, inr, length, get_or, Option, Some, None, Result, Ok, Err, is_some, option_map, option_and_then, MatchOption, refl, ap, ◌∙◌, sym, subst, arith}
+use Rattle.std.proofs.Common.{◌≡◌, ℕ, suc, ◌+◌, ◌-◌, ◌^◌, ◌<◌, Bool, true, false, cond, ◌&&◌, eqb, ltb, List, [], ◌∷◌, ◌++◌, inl, inr, length, get_or, Option, Some, None, Result, Ok, Err, is_some, option_map, option_and_then, refl, ap, ◌∙◌, sym, subst, arith}
 use Rattle.std.specs.List.{list_all, filter_map, slice_get}
 use Rattle.std.specs.Option.{IsSomeAnd}
 use Rattle.std.specs.Result.{OnErr}
 use Rattle.std.specs.Bool.{then_some}
 use Rattle.std.specs.Char.{IsScalar, encode_utf8}
 use Rattle.std.specs.Char.Utf16.{utf16_chars, lone_unit_char, surrogate_pair_char, is_high_surrogate, is_low_surrogate}
-use Rattle.std.proofs.lemmas.Bool.{cond-true, cond-false, ltb-true, lt-ltb, le-ltb, eqb-true, ne_eqb}
+use Rattle.std.proofs.lemmas.Bool.{cases_Bool, cond_both, cond-true, cond-false, ltb-true, lt-ltb, le-ltb, eqb-true, ne_eqb}
 use Rattle.std.proofs.lemmas.List.{append-nil, append_assoc}
 use Rattle.std.proofs.lemmas.Str.{utf16_chars-nil, chars-append, chars-encodes}
 use Rattle.std.specs.Str.{chars, IsUtf8}
 use Rattle.cmap_tokens.specs.Texts.{shifted, characters, text_at, only_character, text_of, more}
-use Rattle.cmap_tokens.specs.LastUnits.{with_last, moved_last, pair_char, IsStuck}
+use Rattle.cmap_tokens.specs.LastUnits.{with_last, moved_last, IsStuck}
 
-utf16_chars-two : (u v : ℕ) (us : List ℕ) → utf16_chars (u ∷ v ∷ us) ≡ cond (is_high_surrogate u && is_low_surrogate v) (Some (surrogate_pair_char u v) ∷ utf16_chars us) (lone_unit_char u ∷ utf16_chars (v ∷ us))
-unfolding utf16_chars
-utf16_chars-two u v us = refl
-
--- what two units in a row spell, by whether they are a pair
-pair_char-cases : (u v : ℕ) (us : List ℕ) (b : Bool) → b ≡ (is_high_surrogate u && is_low_surrogate v) → MatchOption (pair_char u v)
-    (utf16_chars (u ∷ v ∷ us) ≡ lone_unit_char u ∷ utf16_chars (v ∷ us))
-    (λ c. utf16_chars (u ∷ v ∷ us) ≡ Some c ∷ utf16_chars us)
-pair_char-cases u v us true e = rw (utf16_chars-two u v us, ← e) refl
-pair_char-cases u v us false e = rw (utf16_chars-two u v us, ← e) refl
-
-pub utf16_chars-pair : (us vs : List ℕ) (u v c : ℕ) → us ≡ v ∷ vs → pair_char u v ≡ Some c → utf16_chars (u ∷ us) ≡ Some c ∷ utf16_chars vs
-utf16_chars-pair us vs u v c e f = ap (λ xs. utf16_chars (u ∷ xs)) e ∙ (rw f at (pair_char-cases u v vs _ refl))
-
-pub utf16_chars-no_pair : (us vs : List ℕ) (u v : ℕ) → us ≡ v ∷ vs → pair_char u v ≡ None → utf16_chars (u ∷ us) ≡ lone_unit_char u ∷ utf16_chars us
-utf16_chars-no_pair us vs u v e f =
-    ap (λ xs. utf16_chars (u ∷ xs)) e ∙ (rw f at (pair_char-cases u v vs _ refl)) ∙ ap (λ xs. lone_unit_char u ∷ utf16_chars xs) (sym e)
-
-pub utf16_chars-last : (us : List ℕ) (u : ℕ) → us ≡ [] → utf16_chars (u ∷ us) ≡ lone_unit_char u ∷ utf16_chars us
-unfolding utf16_chars
-utf16_chars-last us u e = rw e refl
+-- the units of a text
+abbrev pub Units : List ℕ → Type 0
+Units us = (i : ℕ) → get_or us i 0 < 2 ^ 16
 
 -- ---- the last unit
 moved_last-more : (u v : ℕ) (us : List ℕ) (offset : ℕ) → moved_last (u ∷ v ∷ us) offset ≡ moved_last (v ∷ us) offset
@@ -41,9 +23,9 @@ moved_last-more u v us offset =
     let e : suc (suc (length us)) - 1 ≡ suc (suc (length us) - 1) = omega arith in
     ap (λ i. option_and_then (λ u. cond (ltb (u + offset) (2 ^ 16)) (Some (u + offset)) None) (slice_get (u ∷ v ∷ us) i)) e
 
-one_shifted : (us : List ℕ) (last : ℕ) (b : Bool) → cond b (Some (last ∷ [])) None ≡ option_map (λ last. last ∷ []) (cond b (Some last) None)
-one_shifted us last true = refl
-one_shifted us last false = refl
+one_shifted : (last : ℕ) (b : Bool) → cond b (Some (last ∷ [])) None ≡ option_map (λ last. last ∷ []) (cond b (Some last) None)
+one_shifted last true = refl
+one_shifted last false = refl
 
 onto_shifted : (u v : ℕ) (us : List ℕ) (o : Option ℕ) → option_map (λ rest. u ∷ rest) (option_map (λ last. with_last (v ∷ us) last) o) ≡ option_map (λ last. with_last (u ∷ v ∷ us) last) o
 onto_shifted u v us None = refl
@@ -51,13 +33,13 @@ onto_shifted u v us (Some last) = refl
 
 shifted-with_last : (us : List ℕ) (offset : ℕ) → shifted us offset ≡ option_map (λ last. with_last us last) (moved_last us offset)
 shifted-with_last [] offset = refl
-shifted-with_last (u ∷ []) offset = one_shifted [] (u + offset) (ltb (u + offset) (2 ^ 16))
+shifted-with_last (u ∷ []) offset = one_shifted (u + offset) (ltb (u + offset) (2 ^ 16))
 shifted-with_last (u ∷ v ∷ us) offset =
     ap (option_map (λ rest. u ∷ rest)) (shifted-with_last (v ∷ us) offset)
     ∙ onto_shifted u v us (moved_last (v ∷ us) offset)
     ∙ ap (option_map (λ last. with_last (u ∷ v ∷ us) last)) (sym (moved_last-more u v us offset))
 
-shifted-zero : (u : ℕ) (us : List ℕ) → ((i : ℕ) → get_or (u ∷ us) i 0 < 2 ^ 16) → shifted (u ∷ us) 0 ≡ Some (u ∷ us)
+shifted-zero : (u : ℕ) (us : List ℕ) → Units (u ∷ us) → shifted (u ∷ us) 0 ≡ Some (u ∷ us)
 shifted-zero u [] units =
     let e : u + 0 ≡ u = omega arith in
     rw e (cond-true (ltb u (2 ^ 16)) (Some (u ∷ [])) None (lt-ltb u (2 ^ 16) (units 0)))
@@ -80,17 +62,16 @@ spelled-shifted us (Some last) = refl
 spelled-moved_last : (us : List ℕ) (offset : ℕ) → option_and_then characters (shifted us offset) ≡ spelled us (moved_last us offset)
 spelled-moved_last us offset = ap (option_and_then characters) (shifted-with_last us offset) ∙ spelled-shifted us (moved_last us offset)
 
-text_at-by_tests : (us : List ℕ) (offset : ℕ) (b d : Bool) → b ≡ eqb offset 0 → d ≡ ltb 65535 offset → ((i : ℕ) → get_or us i 0 < 2 ^ 16) → cond b (characters us) (cond d None (option_and_then characters (shifted us offset))) ≡ spelled us (moved_last us offset)
-text_at-by_tests [] offset true d e f units = refl
-text_at-by_tests (u ∷ us) offset true d e f units =
-    let zero_offset : offset ≡ 0 = eqb-true offset 0 (sym e) in
-    ap (option_and_then characters) (sym (shifted-zero u us units) ∙ ap (shifted (u ∷ us)) (sym zero_offset)) ∙ spelled-moved_last (u ∷ us) offset
-text_at-by_tests us offset false true e f units =
-    ap (option_and_then characters) (sym (shifted-past us offset (ltb-true 65535 offset (sym f)))) ∙ spelled-moved_last us offset
-text_at-by_tests us offset false false e f units = spelled-moved_last us offset
+shifted-none : (us : List ℕ) → Units us → characters us ≡ option_and_then characters (shifted us 0)
+shifted-none [] units = refl
+shifted-none (u ∷ us) units = ap (option_and_then characters) (sym (shifted-zero u us units))
 
-pub text_at-spelled : (us : List ℕ) (offset : ℕ) → ((i : ℕ) → get_or us i 0 < 2 ^ 16) → text_at us offset ≡ spelled us (moved_last us offset)
-text_at-spelled us offset units = text_at-by_tests us offset (eqb offset 0) (ltb 65535 offset) refl refl units
+text_at-spelled : (us : List ℕ) (offset : ℕ) → Units us → text_at us offset ≡ spelled us (moved_last us offset)
+text_at-spelled us offset units =
+    let by_last = spelled-moved_last us offset in
+    cond_both (eqb offset 0) _ _ (λ t. t ≡ spelled us (moved_last us offset))
+    (λ zero. shifted-none us units ∙ ap (λ k. option_and_then characters (shifted us k)) (sym (eqb-true offset 0 zero)) ∙ by_last)
+    (λ _. cond_both (ltb 65535 offset) _ _ (λ t. t ≡ spelled us (moved_last us offset)) (λ past. ap (option_and_then characters) (sym (shifted-past us offset (ltb-true 65535 offset past))) ∙ by_last) (λ _. by_last))
 
 -- ---- the characters of units, as the code finds them
 length-with_last : (us : List ℕ) (last : ℕ) → length (with_last us last) ≡ length us
@@ -98,13 +79,14 @@ length-with_last [] last = refl
 length-with_last (u ∷ []) last = refl
 length-with_last (u ∷ v ∷ us) last = ap suc (length-with_last (v ∷ us) last)
 
-utf16_chars-cons_by : (u v : ℕ) (us : List ℕ) (p : Option ℕ) → MatchOption p (utf16_chars (u ∷ v ∷ us) ≡ lone_unit_char u ∷ utf16_chars (v ∷ us)) (λ c. utf16_chars (u ∷ v ∷ us) ≡ Some c ∷ utf16_chars us) → (o : Option ℕ) × (os : List (Option ℕ)) × (utf16_chars (u ∷ v ∷ us) ≡ o ∷ os)
-utf16_chars-cons_by u v us None h = (lone_unit_char u, utf16_chars (v ∷ us), h)
-utf16_chars-cons_by u v us (Some c) h = (Some c, utf16_chars us, h)
-
 utf16_chars-cons : (u : ℕ) (us : List ℕ) → (o : Option ℕ) × (os : List (Option ℕ)) × (utf16_chars (u ∷ us) ≡ o ∷ os)
-utf16_chars-cons u [] = (lone_unit_char u, [], utf16_chars-last [] u refl ∙ ap (λ os. lone_unit_char u ∷ os) utf16_chars-nil)
-utf16_chars-cons u (v ∷ us) = utf16_chars-cons_by u v us (pair_char u v) (pair_char-cases u v us _ refl)
+unfolding utf16_chars
+utf16_chars-cons u [] = (lone_unit_char u, [], refl)
+utf16_chars-cons u (v ∷ us) =
+    elim (cases_Bool (is_high_surrogate u && is_low_surrogate v)) [
+      | inl is ↦ (Some (surrogate_pair_char u v), utf16_chars us, rw is refl)
+      | inr is_not ↦ (lone_unit_char u, utf16_chars (v ∷ us), rw is_not refl)
+    ]
 
 -- the characters that these are, where each is one
 abbrev pub all_chars : List (Option ℕ) → Option (List ℕ)
@@ -125,14 +107,20 @@ only_character-more c (Some d) os true e = rw (← e) refl
 only_character-more c (Some d) os false e = rw (← e) refl
 
 -- ---- the text at an offset, by what the code finds
-text_at-last : (us : List ℕ) (offset : ℕ) (o : Option ℕ) → ((i : ℕ) → get_or us i 0 < 2 ^ 16) → o ≡ moved_last us offset → text_at us offset ≡ spelled us o
-text_at-last us offset o units e = text_at-spelled us offset units ∙ ap (spelled us) (sym e)
+pub text_at-no_last : (us : List ℕ) (offset : ℕ) → Units us → None ≡ moved_last us offset → None ≡ text_at us offset
+text_at-no_last us offset units e = sym (text_at-spelled us offset units ∙ ap (spelled us) (sym e))
 
-pub text_at-no_last : (us : List ℕ) (offset : ℕ) → ((i : ℕ) → get_or us i 0 < 2 ^ 16) → None ≡ moved_last us offset → None ≡ text_at us offset
-text_at-no_last us offset units e = sym (text_at-last us offset None units e)
+-- the text at an offset is that of one or more units, of which this is the last one
+pub record IsAt (us : List ℕ) (offset last : ℕ) : Type 0 where
+  pub text_is : text_at us offset ≡ characters (with_last us last)
+  pub some : 0 < length us
 
-pub text_at-stuck : (us : List ℕ) (offset last : ℕ) → ((i : ℕ) → get_or us i 0 < 2 ^ 16) → Some last ≡ moved_last us offset → IsStuck (with_last us last) → None ≡ text_at us offset
-text_at-stuck us offset last units e h = sym (text_at-last us offset (Some last) units e ∙ characters-stuck (with_last us last) h)
+pub text_at-last : (us : List ℕ) (offset last : ℕ) → Units us → Some last ≡ moved_last us offset → IsAt us offset last
+text_at-last [] offset last units e = absurd (cc)
+text_at-last (u ∷ us) offset last units e = record { text_is = text_at-spelled (u ∷ us) offset units ∙ ap (spelled (u ∷ us)) (sym e); some = omega arith }
+
+pub text_at-stuck : (us : List ℕ) (offset last : ℕ) → IsAt us offset last → IsStuck (with_last us last) → None ≡ text_at us offset
+text_at-stuck us offset last at h = sym (at.text_is ∙ characters-stuck (with_last us last) h)
 
 pub only_character-stuck : (us : List ℕ) → IsStuck us → None ≡ only_character (characters us)
 only_character-stuck us h = ap only_character (sym (characters-stuck us h))
@@ -152,17 +140,14 @@ only_character-begun us rest last c e =
     ∙ sym (only_character-rest c (with_last rest last))
     ∙ ap only_character (sym (characters-begun us _ _ e))
 
-pub one_char-last : (us : List ℕ) (offset last : ℕ) → ((i : ℕ) → get_or us i 0 < 2 ^ 16) → Some last ≡ moved_last us offset → only_character (characters (with_last us last)) ≡ only_character (text_at us offset)
-one_char-last us offset last units e = ap only_character (sym (text_at-last us offset (Some last) units e))
-
 only_character-some : (o : Option (List ℕ)) (c : ℕ) → Some c ≡ only_character o → o ≡ Some (c ∷ [])
 only_character-some None c e = absurd (cc)
 only_character-some (Some []) c e = absurd (cc)
 only_character-some (Some (d ∷ [])) c e = let same : c ≡ d = cc in rw same refl
 only_character-some (Some (d ∷ f ∷ cs)) c e = absurd (cc)
 
-pub text_at-one : (us : List ℕ) (offset last c : ℕ) → ((i : ℕ) → get_or us i 0 < 2 ^ 16) → Some last ≡ moved_last us offset → Some c ≡ only_character (characters (with_last us last)) → Some (c ∷ []) ≡ text_at us offset
-text_at-one us offset last c units e f = sym (text_at-last us offset (Some last) units e ∙ only_character-some _ c f)
+pub text_at-one : (us : List ℕ) (offset last c : ℕ) → IsAt us offset last → Some c ≡ only_character (characters (with_last us last)) → Some (c ∷ []) ≡ text_at us offset
+text_at-one us offset last c at f = sym (at.text_is ∙ only_character-some _ c f)
 
 -- a text of more characters
 pub record IsLong (us : List ℕ) (offset last : ℕ) : Type 0 where
@@ -185,18 +170,10 @@ characters-well (u ∷ us) h e =
     let P : List (Option ℕ) → Type 0 = λ os. 0 < length (filter_map (λ c. c) os) in
     (cond-true _ _ _ e, subst P (sym begun.2) (length-all begun.0 begun.1 (ap (list_all is_some) (sym begun.2) ∙ e)))
 
-length-moved_last : (us : List ℕ) (offset last : ℕ) → Some last ≡ moved_last us offset → 0 < length us
-length-moved_last [] offset last e = absurd (cc)
-length-moved_last (u ∷ us) offset last e = omega arith
-
-pub IsLong-from_well_formed : (us : List ℕ) (offset last : ℕ) → ((i : ℕ) → get_or us i 0 < 2 ^ 16) → Some last ≡ moved_last us offset → true ≡ list_all is_some (utf16_chars (with_last us last))
-    → None ≡ only_character (characters (with_last us last)) → IsLong us offset last
-IsLong-from_well_formed us offset last units e well f =
-    let h = characters-well (with_last us last) (omega (arith, length-with_last us last, length-moved_last us offset last e)) (sym well) in
-    record {
-      text_is = text_at-last us offset (Some last) units e ∙ h.0;
-      long = length-only _ h.1 (f ∙ ap only_character h.0);
-    }
+pub IsLong-from_well_formed : (us : List ℕ) (offset last : ℕ) → IsAt us offset last → true ≡ list_all is_some (utf16_chars (with_last us last)) → None ≡ only_character (characters (with_last us last)) → IsLong us offset last
+IsLong-from_well_formed us offset last at well f =
+    let h = characters-well (with_last us last) (omega (arith, length-with_last us last, at.some)) (sym well) in
+    record { text_is = at.text_is ∙ h.0; long = length-only _ h.1 (f ∙ ap only_character h.0) }
 
 text_of-more : (cs : List ℕ) → 1 < length cs → text_of cs ≡ more cs
 text_of-more [] h = absurd (omega arith)

@@ -2,7 +2,7 @@
 use Rattle.std.proofs.Common.{◌≡◌, ℕ, ◌+◌, ◌<◌, ◌≤◌, true, false, not, ◌||◌, ◌==◌, List, [], ◌∷◌, ◌++◌, length, take, drop, Option, Some, None, suc, one-add, refl, sym, ap, ◌∙◌, subst, inl, inr, arith, length-append, append_assoc}
 use Rattle.std.specs.Prelude.{IfSome, IsTrue, codes}
 use Rattle.std.specs.List.{list_all, prefix_len}
-use Rattle.std.proofs.lemmas.Bool.{and_parts, or_left, both_ways, cases_Bool, eqb-true, not-true, false≢true}
+use Rattle.std.proofs.lemmas.Bool.{and_parts, or_left, both_ways, cases_Bool, not-true}
 use Rattle.std.proofs.lemmas.List.{take_at}
 use Rattle.std.proofs.lemmas.List.Folds.{length-prefix_len}
 use Rattle.std.proofs.lemmas.List.Sums.{prefix_len-le-length}
@@ -10,7 +10,7 @@ use Rattle.cmap_tokens.specs.Bytes.{is_white, is_regular}
 use Rattle.cmap_tokens.specs.Tokens.{Token, Name, String, IsToken, is_bracket, begins_regular, begins_name, closes_at_end, is_hex_body, name_or_number, opened}
 use Rattle.cmap_tokens.specs.Strings.{begins_with}
 use Rattle.cmap_tokens.specs.TokenReading.{one_more, hex_len, text_len, string_of, gap_len, first_piece}
-use Rattle.cmap_tokens.proofs.ByteTests.{other_byte, none_of, one_of, begins_with_is, all_prefix, prefix_len-append_all}
+use Rattle.cmap_tokens.proofs.ByteTests.{by_byte, other_byte, none_of, one_of, begins_with_is, all_prefix, prefix_len-append_all}
 use Rattle.cmap_tokens.proofs.StringLengths.{has_hex, hex_len-append, has_text, text_len-append}
 
 -- a run is read to its end
@@ -63,27 +63,21 @@ pub record IsFirst (text : List ℕ) (first : Token × ℕ) : Type 0 where
 abbrev First : ℕ → List ℕ → Type 0
 First b text = IfSome (first_piece (b ∷ text)) (IsFirst (b ∷ text))
 
+-- a piece that is no name may have any byte after it
+no_name : (text : List ℕ) (first : Token × ℕ) → first.1 ≤ length text → IsToken (take first.1 text) first.0 → begins_name (take first.1 text) ≡ false → IsFirst text first
+no_name text first within is_token other = record { within = within; is_token = is_token; longest = λ h. absurd (both_ways _ other h) }
+
 hex_is : (text : List ℕ) (o : Option ℕ) → hex_len text ≡ o → IfSome (string_of (60 ∷ text) (one_more o)) (IsFirst (60 ∷ text))
 hex_is text None e = tt
 hex_is text (Some k) e =
     let (body, found) = has_hex text k e in
-    rw (one-add k)
-    (record {
-      within = omega (arith, found.within);
-      is_token = inr (inr (inr (inl (body, ap (λ t. 60 ∷ t) found.front, found.is_body), refl)));
-      longest = λ h. absurd (false≢true h);
-    })
+    rw (one-add k) (no_name _ _ (omega (arith, found.within)) (inr (inr (inr (inl (body, ap (λ t. 60 ∷ t) found.front, found.is_body), refl)))) refl)
 
 text_is : (text : List ℕ) (o : Option ℕ) → text_len opened text ≡ o → IfSome (string_of (40 ∷ text) (one_more o)) (IsFirst (40 ∷ text))
 text_is text None e = tt
 text_is text (Some k) e =
     let (closes, within) = has_text opened text k e in
-    rw (one-add k)
-    (record {
-      within = omega (arith, within);
-      is_token = inr (inr (inr (inr (take k text, refl, closes), refl)));
-      longest = λ h. absurd (false≢true h);
-    })
+    rw (one-add k) (no_name _ _ (omega (arith, within)) (inr (inr (inr (inr (take k text, refl, closes), refl)))) refl)
 
 less_is : (text : List ℕ) → First 60 text
 unfolding first_piece
@@ -91,7 +85,7 @@ less_is text =
     elim (cases_Bool (begins_with 60 text)) [
       | inl again ↦
           let (rest, is) = begins_with_is 60 text again in
-          subst (First 60) (sym is) (record { within = omega arith; is_token = inr (inr (inl (inr (inl refl), refl))); longest = λ h. absurd (false≢true h) })
+          subst (First 60) (sym is) (no_name _ _ (omega arith) (inr (inr (inl (inr (inl refl), refl)))) refl)
       | inr single ↦ rw single (hex_is text (hex_len text) refl)
     ]
 
@@ -101,7 +95,7 @@ greater_is text =
     elim (cases_Bool (begins_with 62 text)) [
       | inl again ↦
           let (rest, is) = begins_with_is 62 text again in
-          subst (First 62) (sym is) (record { within = omega arith; is_token = inr (inr (inl (inr (inr refl), refl))); longest = λ h. absurd (false≢true h) })
+          subst (First 62) (sym is) (no_name _ _ (omega arith) (inr (inr (inl (inr (inr refl), refl)))) refl)
       | inr single ↦ rw single tt
     ]
 
@@ -129,41 +123,23 @@ run_is b text regular =
 
 bracket_is : (b : ℕ) (text : List ℕ) → is_bracket b ≡ true → First b text
 bracket_is b text bracket =
-    let (first, gap, no_name) = bracket_first b text bracket in
-    subst (λ o. IfSome o (IsFirst (b ∷ text))) (sym first)
-    (record {
-      within = omega arith;
-      is_token = inr (inr (inl (inl (b, refl, bracket), refl)));
-      longest = λ h. absurd (both_ways (begins_name (b ∷ [])) no_name h);
-    })
+    let (first, gap, special) = bracket_first b text bracket in
+    subst (λ o. IfSome o (IsFirst (b ∷ text))) (sym first) (no_name _ _ (omega arith) (inr (inr (inl (inl (b, refl, bracket), refl)))) special)
 
 pub first_is : (text : List ℕ) → IfSome (first_piece text) (IsFirst text)
 unfolding first_piece
 first_is [] = tt
 first_is (b ∷ text) =
+    let P : ℕ → Type 0 = λ c. First c text in
     elim (cases_Bool (is_bracket b)) [
       | inl bracket ↦ bracket_is b text bracket
       | inr not_bracket ↦
-          elim (cases_Bool (b == 60)) [
-            | inl less ↦ subst (λ c. First c text) (sym (eqb-true b 60 less)) (less_is text)
-            | inr not_less ↦
-                elim (cases_Bool (b == 62)) [
-                  | inl greater ↦ subst (λ c. First c text) (sym (eqb-true b 62 greater)) (greater_is text)
-                  | inr not_greater ↦
-                      elim (cases_Bool (b == 40)) [
-                        | inl opens ↦ subst (λ c. First c text) (sym (eqb-true b 40 opens)) (text_is text (text_len opened text) refl)
-                        | inr not_open ↦
-                            elim (cases_Bool (b == 47)) [
-                              | inl slash ↦ subst (λ c. First c text) (sym (eqb-true b 47 slash)) (name_is text)
-                              | inr not_slash ↦
-                                  elim (cases_Bool (is_regular b)) [
-                                    | inl regular ↦ run_is b text regular
-                                    | inr special ↦ rw (special, not_bracket, not_less, not_greater, not_open, not_slash) tt
-                                  ]
-                            ]
-                      ]
-                ]
-          ]
+          by_byte b 60 P (less_is text) (λ not_less. by_byte b 62 P (greater_is text) (λ not_greater.
+          by_byte b 40 P (text_is text (text_len opened text) refl) (λ not_open. by_byte b 47 P (name_is text) (λ not_slash.
+          elim (cases_Bool (is_regular b)) [
+            | inl regular ↦ run_is b text regular
+            | inr special ↦ rw (special, not_bracket, not_less, not_greater, not_open, not_slash) tt
+          ]))))
     ]
 
 -- the other way: a token is read, where what follows doesn't make it longer
@@ -193,7 +169,7 @@ read_name name rest all stops = record {
 }
 
 read_bracket : (b : ℕ) (rest : List ℕ) → is_bracket b ≡ true → IsRead (b ∷ []) (Name false (b ∷ [])) rest
-read_bracket b rest bracket = let (first, no_gap, no_name) = bracket_first b rest bracket in record { first = first; no_gap = no_gap; filled = omega arith }
+read_bracket b rest bracket = let (first, no_gap, special) = bracket_first b rest bracket in record { first = first; no_gap = no_gap; filled = omega arith }
 
 read_string : (piece rest : List ℕ) (o : Option ℕ) → o ≡ Some (length piece) → string_of (piece ++ rest) o ≡ Some (String piece, length piece)
 read_string piece rest o e = ap (string_of (piece ++ rest)) e ∙ ap (λ p. Some (String p, length piece)) (take_at piece rest (length piece) refl)
@@ -223,22 +199,18 @@ read_text bytes rest closes = record {
   filled = omega arith;
 }
 
-read_as : (piece shape rest : List ℕ) (token : Token) → piece ≡ shape → IsRead shape token rest → IsRead piece token rest
-read_as piece shape rest token same read = subst (λ p. IsRead p token rest) (sym same) read
+read_as : (piece shape rest : List ℕ) (token other : Token) → piece ≡ shape → token ≡ other → IsRead shape other rest → IsRead piece token rest
+read_as piece shape rest token other same is read = subst (λ p. IsRead p token rest) (sym same) (subst (λ t. IsRead shape t rest) (sym is) read)
 
 pub is_read : (piece : List ℕ) (token : Token) (rest : List ℕ) → IsToken piece token → (IsTrue (begins_name piece) → begins_regular rest ≡ false) → IsRead piece token rest
 unfolding first_piece
 is_read piece token rest is longest =
     elim is [
-      | inl (is_run, same) ↦ subst (λ t. IsRead piece t rest) (sym same) (read_run piece rest is_run.0 is_run.1 longest)
-      | inr (inl (name, shape, all, same)) ↦ subst (λ t. IsRead piece t rest) (sym same) (read_as piece _ rest _ shape (read_name name rest all (longest (rw shape refl))))
-      | inr (inr (inl (bracket, same))) ↦
-          subst (λ t. IsRead piece t rest) (sym same)
-          (elim bracket [
-            | inl (b, shape, is_one) ↦ subst (λ p. IsRead p (Name false p) rest) (sym shape) (read_bracket b rest is_one)
-            | inr (inl shape) ↦ subst (λ p. IsRead p (Name false p) rest) (sym shape) (record { first = refl; no_gap = refl; filled = omega arith })
-            | inr (inr shape) ↦ subst (λ p. IsRead p (Name false p) rest) (sym shape) (record { first = refl; no_gap = refl; filled = omega arith })
-          ])
-      | inr (inr (inr (inl (body, shape, all), same))) ↦ subst (λ t. IsRead piece t rest) (sym same) (subst (λ p. IsRead p (String p) rest) (sym shape) (read_hex body rest all))
-      | inr (inr (inr (inr (bytes, shape, closes), same))) ↦ subst (λ t. IsRead piece t rest) (sym same) (subst (λ p. IsRead p (String p) rest) (sym shape) (read_text bytes rest closes))
+      | inl (is_run, same) ↦ read_as _ _ rest _ _ refl same (read_run piece rest is_run.0 is_run.1 longest)
+      | inr (inl (name, shape, all, same)) ↦ read_as _ _ rest _ _ shape same (read_name name rest all (longest (rw shape refl)))
+      | inr (inr (inl (inl (b, shape, is_one), same))) ↦ read_as _ _ rest _ _ shape (same ∙ ap (Name false) shape) (read_bracket b rest is_one)
+      | inr (inr (inl (inr (inl shape), same))) ↦ read_as _ _ rest _ _ shape (same ∙ ap (Name false) shape) (record { first = refl; no_gap = refl; filled = omega arith })
+      | inr (inr (inl (inr (inr shape), same))) ↦ read_as _ _ rest _ _ shape (same ∙ ap (Name false) shape) (record { first = refl; no_gap = refl; filled = omega arith })
+      | inr (inr (inr (inl (body, shape, all), same))) ↦ read_as _ _ rest _ _ shape (same ∙ ap String shape) (read_hex body rest all)
+      | inr (inr (inr (inr (bytes, shape, closes), same))) ↦ read_as _ _ rest _ _ shape (same ∙ ap String shape) (read_text bytes rest closes)
     ]

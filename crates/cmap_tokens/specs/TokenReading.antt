@@ -1,12 +1,12 @@
 -- Private aid: what the code reads, as functions on lists. Public contracts speak of Tokens, Numbers and Strings alone.
-use Rattle.std.specs.Prelude.{◌≡◌, ◌<◌, zero, suc, ◌%◌, ◌&&◌, ◌++◌, length, drop, ℕ, ◌+◌, ◌==◌, Bool, true, false, not, List, [], ◌∷◌, take, map, option_map, filter, Option, Some, None, codes, if◌then◌else◌}
-use Rattle.std.specs.List.{list_all, prefix_len}
+use Rattle.std.specs.Prelude.{◌≡◌, ◌<◌, zero, suc, ◌%◌, ◌&&◌, ◌++◌, length, get_or, drop, ℕ, ◌+◌, ◌==◌, Bool, true, false, not, List, [], ◌∷◌, take, map, option_map, filter, Option, Some, None, codes, if◌then◌else◌}
+use Rattle.std.specs.List.{prefix_len}
 use Rattle.std.specs.Option.{option_to_list}
 use Rattle.std.specs.Char.{digit_value, is_digit}
 use Rattle.cmap_tokens.specs.Ascii.{line_feed, carriage_return, close_parenthesis, backslash, percent, open_parenthesis, slash, less, greater}
 use Rattle.cmap_tokens.specs.Bytes.{is_white, is_regular}
 use Rattle.cmap_tokens.specs.Gaps.{ends_comment}
-use Rattle.cmap_tokens.specs.Tokens.{begins_regular, Token, Name, String, Inside, after_byte, opened, is_bracket, is_hex_body, name_or_number}
+use Rattle.cmap_tokens.specs.Tokens.{Token, Name, String, Inside, after_byte, opened, is_bracket, is_hex_body, name_or_number}
 use Rattle.cmap_tokens.specs.Numbers.{digits_len, digits_number}
 use Rattle.cmap_tokens.specs.Strings.{begins_with, digit_pairs, escape_value, hex_value, inside, is_between}
 
@@ -116,6 +116,6 @@ value_of piece =
 
 -- the text begins with len decimal digits, and after them stands a byte that is not regular
 pub record EndsDigits (text : List ℕ) (len : ℕ) : Type 0 where
+  pub digits : digits_len 10 text ≡ len
   pub within : len < length text
-  pub digits : list_all (λ c. is_digit c 10) (take len text) ≡ true
-  pub special : begins_regular (drop len text) ≡ false
+  pub special : is_regular (get_or text len 0) ≡ false

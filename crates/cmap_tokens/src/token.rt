@@ -63,8 +63,9 @@ pub struct StringToken<'a> {
 }
 
 impl<'a> StringToken<'a> {
-    ghost use Rattle.std.specs.Prelude.{◌≡◌, ◌↔◌, ◌≤◌, ℕ, List, length, vec_capacity, is_some, IfSome, IsTrue, IsOk, OnOk, OnErr};
-    ghost use Rattle.cmap_bits.specs.BigEndian.{AreBytes, big_endian};
+    ghost use Rattle.std.specs.Prelude.{◌≡◌, ◌↔◌, ◌<◌, ◌≤◌, ◌^◌, ℕ, List, length, vec_capacity, is_some, IfSome, IsTrue, IsOk, OnOk, OnErr};
+    ghost use Rattle.std.specs.Int.Digits.{number_from_digits};
+    ghost use Rattle.std.specs.List.{AllByRecursion};
     ghost use Rattle.cmap_tokens.specs.Ascii.{less, greater};
     ghost use Rattle.cmap_tokens.specs.Strings.{IsValue, IsOnlyValue, IsPlain, inside, is_between};
     ghost use Rattle.cmap_tokens.specs.TokenSeen.{string_raw};
@@ -81,8 +82,8 @@ impl<'a> StringToken<'a> {
     /// `None` of any other string. It takes no memory.
     pub fn plain_number(&self) -> Option<(u8, u32)>
         ensures value { IfSome result (λ first. (value : List ℕ)
-            × IsOnlyValue (string_raw self.now) value × AreBytes value
-            × (first.0 ≡ length value) × (first.1 ≡ big_endian value)) }
+            × IsOnlyValue (string_raw self.now) value × AllByRecursion (λ b. b < 2 ^ 8) value
+            × (first.0 ≡ length value) × (first.1 ≡ number_from_digits 256 value)) }
         ensures plain { IsTrue (is_some result) ↔ IsPlain (string_raw self.now) }
         ensures some { IfSome result (λ first. 1 ≤ first.0) }
         ensures few { IfSome result (λ first. first.0 ≤ 4) }
@@ -109,10 +110,11 @@ impl<'a> StringToken<'a> {
     {
         out.reserve(self.raw.len().saturating_sub(out.len()))?;
         out.clear();
+        let body = self.body();
         if self.is_hexadecimal() {
-            decode_hex(self.body(), out);
+            decode_hex(body, out);
         } else {
-            decode_text(self.body(), out);
+            decode_text(body, out);
         }
         Ok(())
     }
@@ -206,12 +208,14 @@ impl<'a> Scanner<'a> {
             ≡ with_front (token_seen token ∷ []) (tokens_of (rest_of self.new))))
             (λ _. tokens_of (rest_of self.old) ≡ malformed) }
     {
-        let rest = &self.source[self.place..];
-        let Some((token, len)) = first_token(rest)? else {
-            return Ok(None);
-        };
-        self.place += len;
-        Ok(Some(token))
+        match first_token(&self.source[self.place..]) {
+            Ok(Some((token, len))) => {
+                self.place += len;
+                Ok(Some(token))
+            }
+            Ok(None) => Ok(None),
+            Err(malformed) => Err(malformed),
+        }
     }
 }
 

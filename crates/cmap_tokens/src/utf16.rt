@@ -1,14 +1,14 @@
 //! Texts in UTF-16, as The Unicode Standard, 3.9, D91 defines it.
 
-ghost use Rattle.std.specs.Prelude.{◌≡◌, ℕ, ◌/◌, ◌%◌, ◌^◌, List, [], ◌∷◌, ◌<◌, ◌≤◌, true, length, Some, IfOk, OnErr, IfSome, IsSomeAnd, MatchOption, option_map, is_some};
+ghost use Rattle.std.specs.Prelude.{◌≡◌, ℕ, ◌/◌, ◌%◌, ◌^◌, List, [], ◌∷◌, ◌<◌, ◌≤◌, true, length, drop, Some, IfOk, OnErr, IfSome, IsSomeAnd, MatchOption, option_map, is_some};
 ghost use Rattle.std.specs.Char.{IsScalar};
-ghost use Rattle.std.specs.Char.Utf16.{utf16_chars, lone_unit_char};
-ghost use Rattle.std.specs.List.{filter_map, list_all};
+ghost use Rattle.std.specs.Char.Utf16.{utf16_chars, surrogate_pair_char};
+ghost use Rattle.std.specs.Int.Digits.{number_from_digits};
+ghost use Rattle.std.specs.List.{AllByRecursion, filter_map, list_all};
 ghost use Rattle.std.specs.Str.{chars};
 ghost use Rattle.std.specs.String.{string_bytes};
-ghost use Rattle.cmap_bits.specs.BigEndian.{AreBytes, big_endian};
 ghost use Rattle.cmap_tokens.specs.Texts.{units_of, text_at, text_of, characters, only_character};
-ghost use Rattle.cmap_tokens.specs.LastUnits.{with_last, moved_last, pair_char, IsStuck};
+ghost use Rattle.cmap_tokens.specs.LastUnits.{with_last, moved_last, IsPair, IsStuck};
 ghost use Rattle.cmap_tokens.specs.TextSeen.{text_seen};
 
 use std::alloc::{AllocError, Global};
@@ -53,10 +53,10 @@ pub fn units(alloc: Global, bytes: &[u8]) -> Result<Vec<u16>, AllocError>
     let (first, mut pairs) = bytes.split_at(bytes.len() % 2);
     let mut units = Vec::with_capacity(alloc, first.len() + pairs.len() / 2)?;
     if let [byte] = first {
-        units.push(u16::from(*byte))?;
+        units.push_reserved(u16::from(*byte));
     }
     while let [high, low, rest @ ..] = pairs {
-        units.push(u16::from_be_bytes([*high, *low]))?;
+        units.push_reserved(u16::from_be_bytes([*high, *low]));
         pairs = rest;
     }
     Ok(units)
@@ -67,23 +67,19 @@ pub fn units(alloc: Global, bytes: &[u8]) -> Result<Vec<u16>, AllocError>
 ///
 /// It fails only where there is no memory.
 pub fn number_units(alloc: Global, len: u8, number: u32) -> Result<Vec<u16>, AllocError>
-    ensures value { (bytes : List ℕ) → AreBytes bytes → 1 ≤ len → len ≤ 4 → len ≡ length bytes
-        → number ≡ big_endian bytes → IfOk result (λ v. v.items ≡ units_of bytes) }
+    ensures value { (bytes : List ℕ) → AllByRecursion (λ b. b < 2 ^ 8) bytes → 1 ≤ len → len ≤ 4 → len ≡ length bytes
+        → number ≡ number_from_digits 256 bytes → IfOk result (λ v. v.items ≡ units_of bytes) }
     ensures one { len ≤ 2 → IfOk result (λ v. v.items ≡ number % 2 ^ 16 ∷ []) }
     ensures two { 2 < len
         → IfOk result (λ v. v.items ≡ number / 2 ^ 16 ∷ number % 2 ^ 16 ∷ []) }
 {
     let (high, low) = ((number / 0x1_0000) as u16, (number % 0x1_0000) as u16);
-    if len <= 2 {
-        let mut units = Vec::with_capacity(alloc, 1)?;
-        units.push_reserved(low);
-        Ok(units)
-    } else {
-        let mut units = Vec::with_capacity(alloc, 2)?;
+    let mut units = Vec::with_capacity(alloc, if len <= 2 { 1 } else { 2 })?;
+    if len > 2 {
         units.push_reserved(high);
-        units.push_reserved(low);
-        Ok(units)
     }
+    units.push_reserved(low);
+    Ok(units)
 }
 
 /// The text of the code at this offset from the first code of a declaration, whose 16-bit units
@@ -119,7 +115,7 @@ pub fn one_char(units: &[u16], offset: u32) -> Option<char>
 fn last_unit(units: &[u16], offset: u32) -> Option<u16>
     ensures { result ≡ moved_last units.now offset }
 {
-    let last = u32::from(*units.last()?).checked_add(offset)?;
+    let last = u64::from(*units.last()?) + u64::from(offset);
     u16::try_from(last).ok()
 }
 
@@ -139,28 +135,33 @@ fn next_char(units: &[u16], last: u16) -> Option<(char, &[u16])>
     ensures shorter { IfSome result (λ x. length x.1.now < length units.now) }
     ensures scalar { IfSome result (λ x. IsScalar x.0) }
 {
-    let (first, rest) = first_unit(units, last)?;
-    if let Some((second, after)) = first_unit(rest, last) {
-        if let Some(c) = pair(first, second) {
+    let [_, rest @ ..] = units else {
+        return None;
+    };
+    let first = first_unit(units, last);
+    if let [_, after @ ..] = rest {
+        if let Some(c) = pair(first, first_unit(rest, last)) {
             return Some((c, after));
         }
     }
     Some((char::from_u32(u32::from(first))?, rest))
 }
 
-// The first unit, `last` in the place of the last one, and the units after it.
-fn first_unit(units: &[u16], last: u16) -> Option<(u16, &[u16])>
-    ensures value { MatchOption result (units.now ≡ [])
-        (λ x. with_last units.now last ≡ x.0 ∷ with_last x.1.now last) }
-    ensures shorter { IfSome result (λ x. length x.1.now < length units.now) }
+// The first of one or more units, `last` in the place of the last one.
+fn first_unit(units: &[u16], last: u16) -> u16
+    requires { 0 < length units.now }
+    ensures { with_last units.now last ≡ result ∷ with_last (drop 1 units.now) last }
 {
-    let (first, rest) = units.split_first()?;
-    Some((if rest.is_empty() { last } else { *first }, rest))
+    match units {
+        [first, _, ..] => *first,
+        _ => last,
+    }
 }
 
 // The character of a surrogate pair.
 fn pair(high: u16, low: u16) -> Option<char>
-    ensures value { result ≡ pair_char high low }
+    ensures value { MatchOption result (IsPair high low → ⊥)
+        (λ c. IsPair high low × (c ≡ surrogate_pair_char high low)) }
     ensures scalar { IfSome result IsScalar }
 {
     if (0xD800..0xDC00).contains(&high) && (0xDC00..0xE000).contains(&low) {

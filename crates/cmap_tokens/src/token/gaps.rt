@@ -35,15 +35,9 @@ fn comment_len(text: &[u8]) -> usize
     ensures within { result ≤ length text.now }
 {
     for (i, byte) in text.iter().enumerate() {
-        if ends_comment(*byte) {
+        if matches!(*byte, b'\n' | FORM_FEED | b'\r') {
             return i + 1;
         }
     }
     text.len()
-}
-
-fn ends_comment(byte: u8) -> bool
-    ensures { result ≡ gaps.ends_comment byte }
-{
-    matches!(byte, b'\n' | FORM_FEED | b'\r')
 }

@@ -1,6 +1,6 @@
 //! The numbers that runs of regular bytes are spelled as.
 
-ghost use Rattle.std.specs.Prelude.{◌≡◌, ℕ, ◌-◌, ◌≤◌, ◌^◌, min, length, take, IfSome, IsSome, Some, option_map, pos, neg_ℤ, if◌then◌else◌};
+ghost use Rattle.std.specs.Prelude.{◌≡◌, ℕ, ◌+◌, ◌-◌, ◌<◌, ◌≤◌, ◌^◌, min, length, take, IfSome, IsSome, Some, option_map, pos, neg_ℤ, if◌then◌else◌};
 ghost use Rattle.std.specs.List.{prefix_len};
 ghost use Rattle.cmap_tokens.specs.Numbers as numbers;
 ghost use Rattle.cmap_tokens.specs.Bytes.{is_regular};
@@ -57,9 +57,9 @@ fn integer_of(run: &[u8]) -> Option<Number>
     ensures { option_map number_seen result ≡ numbers.integer run.now }
 {
     match run {
-        [b'-', digits @ ..] => Some(number(true, digits_number(10, digits)?)),
-        [b'+', digits @ ..] => Some(number(false, digits_number(10, digits)?)),
-        digits => Some(number(false, digits_number(10, digits)?)),
+        [b'-', digits @ ..] => integer(true, 10, digits),
+        [b'+', digits @ ..] => integer(false, 10, digits),
+        digits => integer(false, 10, digits),
     }
 }
 
@@ -84,7 +84,7 @@ fn integer_in_base(base: &[u8], digits: &[u8]) -> Option<Number>
     if base < 2 || base > 36 {
         return None;
     }
-    Some(number(false, digits_number(base as u32, digits)?))
+    integer(false, base, digits)
 }
 
 // `4.5`, `-.5e3`, `1E9`: with a dot or an exponent.
@@ -94,13 +94,21 @@ fn is_real(run: &[u8]) -> bool
 {
     let unsigned = without_sign(run);
     let len = digits_len(10, unsigned);
-    match &unsigned[len..] {
+    ends_real(len, &unsigned[len..])
+}
+
+// Whether a real may end so after `len` digits.
+fn ends_real(len: usize, text: &[u8]) -> bool
+    requires { len + length text.now < 2 ^ 64 }
+    ensures { result ≡ numbers.ends_real len text.now }
+{
+    match text {
         [b'.', fraction @ ..] => {
             let fraction_len = digits_len(10, fraction);
             let exponent = &fraction[fraction_len..];
             len + fraction_len > 0 && (exponent.is_empty() || is_exponent(exponent))
         }
-        exponent => len > 0 && is_exponent(exponent),
+        _ => len > 0 && is_exponent(text),
     }
 }
 
@@ -140,7 +148,7 @@ fn without_sign(text: &[u8]) -> &[u8]
 const SMALL: u64 = 1 << 58;
 
 // The number that one or more digits of a base write, or `u64::MAX` where it is larger.
-pub(super) fn digits_number(base: u32, text: &[u8]) -> Option<u64>
+pub(super) fn digits_number(base: u64, text: &[u8]) -> Option<u64>
     requires low { 2 ≤ base }
     requires high { base ≤ 36 }
     ensures { result ≡ option_map (λ n. min n (2 ^ 64 - 1)) (numbers.digits_value base text.now) }
@@ -150,26 +158,34 @@ pub(super) fn digits_number(base: u32, text: &[u8]) -> Option<u64>
     }
     let mut number: u64 = 0;
     for byte in text {
-        let digit = u64::from(char::from(*byte).to_digit(base)?);
+        let digit = u64::from(digit_value(*byte));
+        if digit >= base {
+            return None;
+        }
         number = if number < SMALL {
-            number * u64::from(base) + digit
+            number * base + digit
         } else {
-            number.saturating_mul(u64::from(base)).saturating_add(digit)
+            number.saturating_mul(base).saturating_add(digit)
         };
     }
     Some(number)
 }
 
-fn number(is_negative: bool, magnitude: u64) -> Number
-    ensures { number_seen result ≡ numbers.number_of
-        (if is_negative then neg_ℤ (pos magnitude) else pos magnitude) }
+// The integer that digits of a base write after a sign.
+fn integer(is_negative: bool, base: u64, digits: &[u8]) -> Option<Number>
+    requires low { 2 ≤ base }
+    requires high { base ≤ 36 }
+    ensures { option_map number_seen result ≡ option_map
+        (λ n. numbers.number_of (if is_negative then neg_ℤ (pos n) else pos n))
+        (numbers.digits_value base digits.now) }
 {
-    if magnitude <= i64::MAX as u64 {
+    let magnitude = digits_number(base, digits)?;
+    Some(if magnitude <= i64::MAX as u64 {
         let value = magnitude as i64;
         Number::Integer(if is_negative { -value } else { value })
     } else if is_negative && magnitude == 1 << 63 {
         Number::Integer(i64::MIN)
     } else {
         Number::Real
-    }
+    })
 }

@@ -2,8 +2,8 @@
 
 ghost use Rattle.std.specs.Prelude.{◌≡◌, ◌+◌, ◌≤◌, ◌<◌, ◌++◌, length, vec_len, vec_capacity, MatchOption};
 ghost use Rattle.cmap_tokens.specs.TokenReading as reading;
-ghost use Rattle.cmap_bits.specs.BigEndian.{big_endian};
-ghost use Rattle.cmap_tokens.specs.Strings.{ArePairs, hex_value};
+ghost use Rattle.std.specs.Int.Digits.{number_from_digits};
+ghost use Rattle.cmap_tokens.specs.Strings.{ArePairs, escape_value, hex_value};
 ghost use Rattle.cmap_tokens.specs.TokenReading.{text_value};
 
 use super::byte_class::{BACKSPACE, digit_value};
@@ -15,7 +15,7 @@ use super::numerals::{digits_len, digits_number};
 pub(super) fn pairs_number(digits: &[u8]) -> Option<(u8, u32)>
     ensures { MatchOption result (ArePairs digits.now → ⊥)
         (λ first. ArePairs digits.now × (first.0 ≡ length (hex_value digits.now))
-        × (first.1 ≡ big_endian (hex_value digits.now))) }
+        × (first.1 ≡ number_from_digits 256 (hex_value digits.now))) }
 {
     let len = digits.len();
     if len == 0 || len > 8 || len % 2 != 0 {
@@ -56,18 +56,19 @@ fn decode_spaced_hex(digits: &[u8], out: &mut Vec<u8>)
 {
     let mut high = None;
     for byte in digits {
-        if let Some(digit) = char::from(*byte).to_digit(16) {
+        let digit = digit_value(*byte);
+        if digit < 16 {
             match high {
                 None => high = Some(digit),
                 Some(first) => {
-                    out.push_reserved((16 * first + digit) as u8);
+                    out.push_reserved(16 * first + digit);
                     high = None;
                 }
             }
         }
     }
     if let Some(first) = high {
-        out.push_reserved((16 * first) as u8);
+        out.push_reserved(16 * first);
     }
 }
 
@@ -94,15 +95,16 @@ fn first_part(body: &[u8]) -> (Option<u8>, usize)
     ensures moves { 0 < result.1 }
     ensures within { result.1 ≤ length body.now }
 {
-    match body {
-        [b'\\', rest @ ..] => {
+    let [first, rest @ ..] = body else {
+        unreachable!();
+    };
+    match *first {
+        b'\\' => {
             let (byte, len) = escape(rest);
             (byte, 1 + len)
         }
-        [b'\r', b'\n', ..] => (Some(b'\n'), 2),
-        [b'\r', ..] => (Some(b'\n'), 1),
-        [byte, ..] => (Some(*byte), 1),
-        [] => unreachable!(),
+        b'\r' => (Some(b'\n'), return_len(rest)),
+        byte => (Some(byte), 1),
     }
 }
 
@@ -112,20 +114,42 @@ fn escape(text: &[u8]) -> (Option<u8>, usize)
     ensures exact { result ≡ reading.escape text.now }
     ensures within { result.1 ≤ length text.now }
 {
-    match text {
-        [b'\r', b'\n', ..] => (None, 2),
-        [b'\r' | b'\n', ..] => (None, 1),
-        [first, ..] if digit_value(*first) < 8 => {
+    let [first, rest @ ..] = text else {
+        return (None, 0);
+    };
+    match *first {
+        b'\r' => (None, return_len(rest)),
+        b'\n' => (None, 1),
+        b'0'..=b'7' => {
             let (byte, len) = octal(text);
             (Some(byte), len)
         }
-        [b'n', ..] => (Some(b'\n'), 1),
-        [b'r', ..] => (Some(b'\r'), 1),
-        [b't', ..] => (Some(b'\t'), 1),
-        [b'b', ..] => (Some(BACKSPACE), 1),
-        [b'f', ..] => (Some(FORM_FEED), 1),
-        [first, ..] => (Some(*first), 1),
-        [] => (None, 0),
+        byte => (Some(escaped_byte(byte)), 1),
+    }
+}
+
+// How many bytes the end of a line takes, by what follows its carriage return.
+fn return_len(text: &[u8]) -> usize
+    ensures exact { result ≡ reading.return_len text.now }
+    ensures within { result ≤ 1 + length text.now }
+{
+    match text {
+        [b'\n', ..] => 2,
+        _ => 1,
+    }
+}
+
+// The byte that a letter means after a backslash. Any other byte means itself.
+fn escaped_byte(byte: u8) -> u8
+    ensures { result ≡ escape_value byte }
+{
+    match byte {
+        b'n' => b'\n',
+        b'r' => b'\r',
+        b't' => b'\t',
+        b'b' => BACKSPACE,
+        b'f' => FORM_FEED,
+        _ => byte,
     }
 }
 

@@ -1,4 +1,4 @@
-use Rattle.cmap_tokens.proofs.OneValue.{one_value}
+use Rattle.cmap_tokens.proofs.StringValues.{one_value}
 use Rattle.cmap_tokens.proofs.token.one_value_for_a_string.Goals as goal
 
 pub returns : goal.returns

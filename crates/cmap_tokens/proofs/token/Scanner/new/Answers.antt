@@ -1,4 +1,4 @@
-use Rattle.cmap_tokens.proofs.TokensRead.{has_tokens}
+use Rattle.cmap_tokens.proofs.Fronts.{has_tokens}
 use Rattle.cmap_tokens.proofs.token.Scanner.new.Goals as goal
 
 pub returns-clause-tokens : goal.returns-clause-tokens

@@ -1,5 +1,5 @@
 use Rattle.std.proofs.Common.{sym, ◌∙◌, subst}
-use Rattle.cmap_tokens.proofs.PlainStrings.{Answers, plain_value, few_bytes}
+use Rattle.cmap_tokens.proofs.StringValues.{Answers, plain_value, few_bytes}
 use Rattle.cmap_tokens.proofs.StringBodies.{hex_body}
 use Rattle.cmap_tokens.proofs.token.StringToken.plain_number.Goals as goal
 

@@ -1,9 +1,8 @@
-use Rattle.std.proofs.Common.{refl, arith}
+use Rattle.std.proofs.Common.{true, nat_eq, get_or, refl, arith}
+use Rattle.std.proofs.lemmas.Bool.{agree_below_at, eqb-true}
 use Rattle.std.specs.Char.{digit_value}
 use Rattle.cmap_tokens.specs.declared.token.byte_class.TheConstants.{DIGITS}
-use Rattle.cmap_tokens.proofs.ByteTables.{agree_below, value_at}
 use Rattle.cmap_tokens.proofs.token.byte_class.digit_value.Goals as goal
 
 pub returns : goal.returns
-unfolding agree_below
-returns c = value_at DIGITS digit_value c.args.byte (omega arith) refl
+returns c = eqb-true _ _ (agree_below_at (λ b. nat_eq (get_or DIGITS b 0) (digit_value b)) (λ _. true) 256 c.args.byte refl (omega arith))

@@ -1,9 +1,8 @@
-use Rattle.std.proofs.Common.{refl, arith}
+use Rattle.std.proofs.Common.{not, nat_eq, bit_and, get_or, refl, arith}
+use Rattle.std.proofs.lemmas.Bool.{agree_below_at}
 use Rattle.cmap_tokens.specs.declared.token.byte_class.TheConstants.{CLASSES}
 use Rattle.cmap_tokens.specs.Bytes.{is_regular}
-use Rattle.cmap_tokens.proofs.ByteTables.{agree_below, class_at}
 use Rattle.cmap_tokens.proofs.token.byte_class.is_regular.Goals as goal
 
 pub returns : goal.returns
-unfolding agree_below
-returns c = class_at CLASSES 2 is_regular c.args.byte (omega arith) refl
+returns c = agree_below_at (λ b. not (nat_eq (bit_and (get_or CLASSES b 0) 2) 0)) is_regular 256 c.args.byte refl (omega arith)

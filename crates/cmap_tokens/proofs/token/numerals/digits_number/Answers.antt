@@ -1,18 +1,23 @@
-use Rattle.std.proofs.Common.{◌≡◌, ◌+◌, ◌*◌, ◌-◌, ◌^◌, min, ap, ◌∙◌, arith}
-use Rattle.std.specs.Char.{digit_value}
-use Rattle.cmap_tokens.proofs.SaturatingDigits.{digit_more, small_more}
+use Rattle.std.proofs.Common.{◌≡◌, ◌+◌, ◌*◌, ◌-◌, ◌^◌, min, take, sym, ap, ◌∙◌, arith}
+use Rattle.std.specs.Char.{is_digit}
+use Rattle.std.proofs.lemmas.Bool.{and_from, lt-ltb}
+use Rattle.std.proofs.lemmas.List.Folds.{list_all_more}
+use Rattle.cmap_tokens.specs.Numbers.{digits_number}
+use Rattle.cmap_tokens.proofs.Digits.{digits_number_more, min_step, small_more}
 use Rattle.cmap_tokens.proofs.token.numerals.digits_number.Goals as goal
 use Rattle.cmap_tokens.proofs.token.numerals.digits_number.Goals.{then-number-lt-SMALL, else-number-lt-SMALL}
 
 pub loop-byte-preserved : goal.loop-byte-preserved
 loop-byte-preserved c =
-    let digit = c.in_ok-to_digit.ensures.value in let number = c.loop-byte.number in let base = c.args.base in let d = c.from-digit.result in
-    let is = c.from-digit.ensures ∙ digit.1 in
-    let step = digit_more base c.args.text.now c.loop-byte.byte-index number d (2 ^ 64 - 1) (omega arith) (omega arith) c.loop-byte.invariant.digits c.loop-byte.invariant.capped (is ∙ ap digit_value c.from.ensures) (omega (arith, is, digit.0)) in
+    let number = c.loop-byte.number in let base = c.args.base in let d = c.from-digit.result in
+    let text = c.args.text.now in let i = c.loop-byte.byte-index in
     let next : c.if-number-lt-SMALL.number ≡ min (min (number * base) (2 ^ 64 - 1) + d) (2 ^ 64 - 1) =
     elim c.if-number-lt-SMALL.branch [
-      | then-number-lt-SMALL w ↦ w.number-is ∙ ap (λ n. number * n + d) w.from-then-number-lt-SMALL.ensures ∙ small_more number base d w.if-number-lt-SMALL.true (omega arith) (omega (arith, is, digit.0))
+      | then-number-lt-SMALL w ↦ w.number-is ∙ small_more number base d w.if-number-lt-SMALL.true (omega arith) (omega arith)
       | else-number-lt-SMALL w ↦ w.number-is ∙ cc
-    ]
-    in
-    record { digits = step.0; capped = next ∙ step.1 }
+    ] in
+    let more : digits_number base (take (i + 1) text) ≡ digits_number base (take i text) * base + d = digits_number_more base text i c.loop-byte-test.true ∙ ap (λ k. digits_number base (take i text) * base + k) (sym (c.from-digit.ensures ∙ c.digit_value.ensures)) in
+    record {
+      digits = list_all_more (λ b. is_digit b base) text i 0 c.loop-byte-test.true ∙ and_from _ _ c.loop-byte.invariant.digits (lt-ltb _ base (omega arith));
+      capped = next ∙ ap (λ n. min (min (n * base) (2 ^ 64 - 1) + d) (2 ^ 64 - 1)) c.loop-byte.invariant.capped ∙ min_step _ base d (2 ^ 64 - 1) (omega arith) ∙ ap (λ n. min n (2 ^ 64 - 1)) (sym more);
+    }

@@ -1,6 +1,6 @@
 use Rattle.std.proofs.Common.{sym, ◌∙◌, arith}
 use Rattle.std.proofs.lemmas.Bool.{eqb-true, eqb-false}
-use Rattle.cmap_tokens.proofs.FirstTokens.{first_token_is, blank_is, malformed_is}
+use Rattle.cmap_tokens.proofs.Fronts.{first_token_is, blank_is, malformed_is}
 use Rattle.cmap_tokens.proofs.token.pieces.first_token.Goals as goal
 
 pub returns-in-Some-clause-outcome : goal.returns-in-Some-clause-outcome

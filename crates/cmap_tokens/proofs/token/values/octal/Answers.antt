@@ -3,7 +3,7 @@ use Rattle.std.specs.Prelude.{option_map, unwrap_or}
 use Rattle.std.proofs.lemmas.List.{take_min}
 use Rattle.cmap_tokens.specs.Numbers.{digits_len, digits_value}
 use Rattle.cmap_tokens.specs.TokenReading.{octal_len}
-use Rattle.cmap_tokens.proofs.OctalEscapes.{octal_value}
+use Rattle.cmap_tokens.proofs.Digits.{octal_value}
 use Rattle.cmap_tokens.proofs.token.values.octal.Goals as goal
 
 pub returns-clause-exact : goal.returns-clause-exact
