@@ -1,10 +1,15 @@
 -- What bytes begin with, one thing after another: the parts have one value each, and so has the whole; or a part has none, and so has the whole.
-use Rattle.std.proofs.Common.{◌≡◌, true, false, ℕ, zero, suc, ◌<◌, ◌≤◌, ◌+◌, refl, sym, ap, ◌∙◌, subst, List, [], ◌∷◌, ◌++◌, length, arith, append_assoc, append-nil}
-use Rattle.std.specs.Prelude.{◌==◌}
+use Rattle.std.proofs.Common.{◌≡◌, true, false, ℕ, zero, suc, ◌<◌, ◌≤◌, ◌+◌, refl, sym, ap, ◌∙◌, subst, List, [], ◌∷◌, ◌++◌, length, drop, arith, append_assoc, append-nil}
+use Rattle.std.specs.Prelude.{◌==◌, ◌↔◌, IsSome, MatchOption, Option, Some, None}
+use Rattle.std.specs.Borrow.{Bor}
+use Rattle.std.specs.List.{IsSplitAt}
 use Rattle.std.proofs.lemmas.Bool.{eqb-true, eqb-false}
 use Rattle.std.proofs.lemmas.List.{nil_from_length}
+use Rattle.std.proofs.lemmas.Option.{none-some}
+use Rattle.cmap_bits.specs.Reader.{number_at}
 use Rattle.cmap_files.specs.Only.{IsOnly, HoldsOfNone}
-use Rattle.cmap_binary.specs.Fronts.{Then, Gives, GivesIf, RowOf, AllOf, FramedAt}
+use Rattle.cmap_binary.specs.Fronts.{Then, Gives, GivesIf, RowOf, AllOf, BytesAt, FieldAt, FramedAt}
+use Rattle.cmap_files.specs.Outcomes.{Finds}
 
 abbrev pub pair : {A B : Type 0} → A → B → A × B
 pair a b = (a, b)
@@ -21,18 +26,36 @@ gives_if holds = record { holds = (holds, refl); alone = λ other is. is.1 }
 pub gives_none : {A : Type 0} {C : Type 0} {x : A} → (C → ⊥) → HoldsOfNone (GivesIf C x)
 gives_none wrong other is = wrong is.0
 
-module _ {A S B : Type 0} (P : A × S → Type 0) (Q : A → S → B → Type 0) where
-  pub then_none : HoldsOfNone P → HoldsOfNone (Then P Q)
-  then_none none other (x, rest, at, later) = none (x, rest) at
+pub then_none : {A S B : Type 0} (P : A × S → Type 0) (Q : A → S → B → Type 0) → HoldsOfNone P → HoldsOfNone (Then P Q)
+then_none P Q none other (x, rest, at, later) = none (x, rest) at
 
-  at_one : (x : A) (rest : S) → IsOnly P (x, rest) → (other : B) → Then P Q other → Q x rest other
-  at_one x rest first other (y, mid, at, later) = subst (λ p. Q p.0 p.1 other) (first.alone (y, mid) at) later
+module _ {A S B : Type 0} {P : A × S → Type 0} {x : A} {rest : S} (Q : A → S → B → Type 0) (first : IsOnly P (x, rest)) where
+  at_one : (other : B) → Then P Q other → Q x rest other
+  at_one other (y, mid, at, later) = subst (λ p. Q p.0 p.1 other) (first.alone (y, mid) at) later
 
-  pub then_next : (x : A) (rest : S) → IsOnly P (x, rest) → HoldsOfNone (Q x rest) → HoldsOfNone (Then P Q)
-  then_next x rest first none other is = none other (at_one x rest first other is)
+  pub then_next : HoldsOfNone (Q x rest) → HoldsOfNone (Then P Q)
+  then_next none other is = none other (at_one other is)
 
-  pub then_only : (x : A) (rest : S) (y : B) → IsOnly P (x, rest) → IsOnly (Q x rest) y → IsOnly (Then P Q) y
-  then_only x rest y first only = record { holds = (x, rest, first.holds, only.holds); alone = λ other is. only.alone other (at_one x rest first other is) }
+  pub then_only : {y : B} → IsOnly (Q x rest) y → IsOnly (Then P Q) y
+  then_only only = record { holds = (x, rest, first.holds, only.holds); alone = λ other is. only.alone other (at_one other is) }
+
+  pub then_finds : {V : Type 0} (seen : V → B) (o : Option V) → Finds (Q x rest) seen o → Finds (Then P Q) seen o
+  then_finds seen None none = then_next none
+  then_finds seen (Some y) only = then_only only
+
+pub finds_under : {A B C : Type 0} (P : B → Type 0) (seen : A → B) (o : Option A) → C → Finds P seen o → Finds (λ y. C × P y) seen o
+finds_under P seen None holds none = λ other is. none other is.1
+finds_under P seen (Some y) holds only = record { holds = (holds, only.holds); alone = λ other is. only.alone other is.1 }
+
+pub field_only : (width n : ℕ) (bytes : List ℕ) → Some n ≡ number_at width bytes → IsOnly (FieldAt width bytes) (n, drop width bytes)
+field_only width n bytes is = record { holds = (sym is, refl); alone = λ other (other_is, rest). let same : other.0 ≡ n = cc in pair_is other (n, drop width bytes) same rest }
+
+pub no_field : (width : ℕ) (bytes : List ℕ) → None ≡ number_at width bytes → HoldsOfNone (FieldAt width bytes)
+no_field width bytes none other is = none-some other.0 (none ∙ is.0)
+
+pub bytes_found : (Kept : Type 0) (o : Option (Bor (List ℕ))) (after : List ℕ) (size : ℕ) (bytes : List ℕ) → MatchOption o Kept (λ piece. IsSplitAt bytes size piece.now after) → IsSome o ↔ (size ≤ length bytes) → Finds (BytesAt size bytes) (λ piece. (piece.now, after)) o
+bytes_found Kept None after size bytes kept fits = λ other is. let e : false ≡ true = fits.1 is.0 in cc
+bytes_found Kept (Some piece) after size bytes split fits = record { holds = split; alone = λ other is. pair_is other (piece.now, after) (is.1 ∙ sym split.1) (is.2 ∙ sym split.2) }
 
 -- what holds of the values that are made of those of which this holds, and of no others
 pub record Continues {A B : Type 0} (P : A → Type 0) (f : B → A) (Q : B → Type 0) : Type 0 where

@@ -1,3 +1,4 @@
 pub mod Fronts
 pub mod Reading
+pub mod RowsAdded
 pub mod SegmentsSaid

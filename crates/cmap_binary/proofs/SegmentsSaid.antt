@@ -1,16 +1,19 @@
 -- What segments say together, added one after another.
-use Rattle.std.proofs.Common.{◌≡◌, ℕ, refl, sym, ap, ◌∙◌, List, [], ◌∷◌, ◌++◌, append_assoc, append-nil}
+use Rattle.std.proofs.Common.{◌≡◌, ℕ, refl, ap, ◌∙◌, List, [], ◌∷◌, ◌++◌, append-nil}
 use Rattle.std.specs.Prelude.{Option, Some, None, option_and_then, flat_map, filter_map}
 use Rattle.std.specs.List.{last_or}
 use Rattle.std.specs.Option.{option_or}
 use Rattle.std.proofs.lemmas.List.Concat.{flat_map-append}
 use Rattle.std.proofs.lemmas.List.Elements.{filter_map-append}
-use Rattle.cmap_files.specs.Files.{Lists, lists_of}
+use Rattle.cmap_files.specs.Files.{File, Lists, lists_of}
 use Rattle.cmap_files.specs.ListsAppended.{append_lists}
 use Rattle.cmap_files.proofs.LastOfLists.{last_or-push}
 use Rattle.cmap_files.proofs.ListsMade.{append_lists-none, lists_of-append}
-use Rattle.cmap_binary.specs.BinaryFiles.{Content, declares, uses, sets_mode, sets_name, sets_collection, declared_in, name_used, mode_set, name_set, collection_set, file_of}
-use Rattle.cmap_binary.specs.BinarySeen.{with_content, with_contents}
+use Rattle.cmap_binary.specs.BinaryFiles.{Content, declares, uses, sets_mode, sets_name, sets_collection, declared_in, name_used, mode_set, name_set, collection_set, SegmentAt, file_of}
+use Rattle.cmap_binary.specs.BinarySeen.{with_content}
+use Rattle.cmap_binary.specs.Bundles.{PrefixTables}
+use Rattle.cmap_binary.specs.Fronts.{AllOf}
+use Rattle.cmap_binary.proofs.Fronts.{Continues}
 
 module _ (contents : List Content) (content : Content) where
   last_at : {A : Type 0} (f : Content → Option A) (o : Option A) → f content ≡ o → last_or None (filter_map f (contents ++ content ∷ [])) ≡ option_or o (last_or None (filter_map f contents))
@@ -39,14 +42,15 @@ module _ (contents : List Content) (content : Content) where
   more_parts lists names lists_are names_are =
       rw (last_at collection_set (collection_set content) refl, last_at name_set (name_set content) refl, last_at mode_set (mode_set content) refl, more_lists, lists_are, filter_map-append name_used contents (content ∷ []), names_are) refl
 
-file_more : (contents : List Content) (content : Content) → file_of (contents ++ content ∷ []) ≡ with_content (file_of contents) content
+pub file_more : (contents : List Content) (content : Content) → file_of (contents ++ content ∷ []) ≡ with_content (file_of contents) content
 file_more contents (declares ds) = more_parts contents (declares ds) _ _ refl (append-nil _)
 file_more contents (uses text) = more_parts contents (uses text) _ _ (append_lists-none _) refl
 file_more contents (sets_mode set) = more_parts contents (sets_mode set) _ _ (append_lists-none _) (append-nil _)
 file_more contents (sets_name text) = more_parts contents (sets_name text) _ _ (append_lists-none _) (append-nil _)
 file_more contents (sets_collection set) = more_parts contents (sets_collection set) _ _ (append_lists-none _) (append-nil _)
 
-pub contents_say : (first contents : List Content) → with_contents (file_of first) contents ≡ file_of (first ++ contents)
-contents_say first [] = ap file_of (sym (append-nil first))
-contents_say first (content ∷ contents) =
-    ap (λ f. with_contents f contents) (sym (file_more first content)) ∙ contents_say (first ++ content ∷ []) contents ∙ ap file_of (append_assoc first (content ∷ []) contents)
+-- these segments are read, and the file says what they say together
+pub record SaidSoFar (tables : PrefixTables) (start here : List ℕ) (now : File) : Type 0 where
+  pub contents : List Content
+  pub row : Continues (AllOf (SegmentAt tables) start) (λ more. contents ++ more) (AllOf (SegmentAt tables) here)
+  pub says : now ≡ file_of contents

@@ -1,14 +1,14 @@
 -- Private aid: what contracts see of the types of segments, and of a file to which one is added.
-use Rattle.std.specs.Prelude.{◌≡◌, ℕ, List, [], ◌∷◌, ◌++◌, Some, IsErrOf, OnOk, Result}
+use Rattle.std.specs.Prelude.{◌≡◌, ℕ, List, [], ◌∷◌, ◌++◌, Some, Result}
 use Rattle.cmap_files.specs.CodeLengths.{length_of}
 use Rattle.cmap_files.specs.Files.{File, lists_of}
 use Rattle.cmap_files.specs.ListsAppended.{append_lists}
 use Rattle.cmap_files.specs.Only.{IsOnly, HoldsOfNone}
+use Rattle.cmap_files.specs.Outcomes.{Succeeds}
 use Rattle.cmap_files.specs.declared.fault.Fault.{Fault}
-use Rattle.cmap_files.specs.declared.fault.Fault.TheVariants.{Refused}
 use Rattle.cmap_binary.specs.Bundles.{PrefixTables}
 use Rattle.cmap_binary.specs.BinaryFiles as files
-use Rattle.cmap_binary.specs.BinaryFiles.{Content, declares, uses, sets_mode, sets_name, sets_collection, SegmentAt}
+use Rattle.cmap_binary.specs.BinaryFiles.{Content, declares, uses, sets_mode, sets_name, sets_collection, SegmentAt, file_of}
 use Rattle.cmap_binary.specs.Fronts.{AllOf}
 use Rattle.cmap_binary.specs.declared.kinds.Kind.{Kind}
 use Rattle.cmap_binary.specs.declared.kinds.Kind.TheVariants.{Cids, Texts, Base, Notdefs, Mode, Codespaces, Name, Collection}
@@ -40,15 +40,11 @@ pub record SaysContent (reads : Content → Type 0) (old new : File) : Type 0 wh
 
 -- a call that adds what it reads to a file
 abbrev pub Adds : (Content → Type 0) → File → File → Result Unit Fault → Type 0
-Adds reads old new result = OnOk result (SaysContent reads old new) × (IsErrOf result Refused → HoldsOfNone reads)
+Adds reads old new = Succeeds (SaysContent reads old new) (HoldsOfNone reads)
 
-abbrev pub with_contents : File → List Content → File
-with_contents file [] = file
-with_contents file (content ∷ contents) = with_contents (with_content file content) contents
-
--- the bytes are segments in a row, with which a file that says the one says the other
-abbrev pub SegmentsSay : PrefixTables → File → List ℕ → File → Type 0
-SegmentsSay tables before bytes file = (contents : List Content) × AllOf (SegmentAt tables) bytes contents × (file ≡ with_contents before contents)
+-- the bytes are segments in a row, which say together what the file says
+abbrev pub SegmentsSay : PrefixTables → List ℕ → File → Type 0
+SegmentsSay tables bytes file = (contents : List Content) × AllOf (SegmentAt tables) bytes contents × (file ≡ file_of contents)
 
 -- for what says the same whatever the tables are
 abbrev pub no_tables : PrefixTables

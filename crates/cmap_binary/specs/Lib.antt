@@ -5,4 +5,3 @@ pub mod BundleSeen
 pub mod Bundles
 pub mod ColumnsSeen
 pub mod Fronts
-pub mod Reads

@@ -4,11 +4,11 @@ ghost use Rattle.std.specs.Prelude.{◌≡◌, IfOk, option_and_then, slice_get}
 ghost use Rattle.std.specs.Option.{option_copied};
 ghost use Rattle.cmap_binary.specs.BundleSeen.{bundle_seen, tables_seen};
 ghost use Rattle.cmap_binary.specs.Bundles.{AreFiles, HoldsTables, IsBundle};
-ghost use Rattle.cmap_binary.specs.Reads.{Finds};
+ghost use Rattle.cmap_files.specs.Outcomes.{Finds};
 ghost use Rattle.cmap_files.specs.CMapNames.{place};
 ghost use Rattle.cmap_files.specs.FilesSeen.{names_seen};
 
-use crate::pieces::{split_framed, split_sized};
+use crate::pieces::{take_framed, take_sized};
 use cmap_bits::bits::Reader;
 use cmap_bits::prefix::PrefixTable;
 use cmap_files::names::CMapName;
@@ -36,16 +36,16 @@ impl<'b> Bundle<'b> {
     /// tables is, that piece, and files up to the end. `None` where they are no bundle.
     ///
     /// It fails only where there is no memory.
-    pub fn parse(alloc: Global, bytes: &'b [u8]) -> Result<Option<Bundle<'b>>, AllocError>
+    pub fn parse(alloc: Global, mut bytes: &'b [u8]) -> Result<Option<Bundle<'b>>, AllocError>
         ensures { IfOk result (Finds (IsBundle bytes.now) bundle_seen) }
     {
-        let Some((text, rest)) = split_sized(bytes) else {
+        let Some(text) = take_sized(&mut bytes) else {
             return Ok(None);
         };
         let Some(tables) = Tables::parse(alloc, text)? else {
             return Ok(None);
         };
-        let Some(files) = split_files(alloc, rest)? else {
+        let Some(files) = split_files(alloc, bytes)? else {
             return Ok(None);
         };
         Ok(Some(Bundle { tables, files }))
@@ -72,17 +72,15 @@ impl Tables {
 const UNCHECKED: usize = 6;
 
 /// All the files that the bytes are.
-fn split_files<'b>(alloc: Global, bytes: &'b [u8]) -> Result<Option<Vec<&'b [u8]>>, AllocError>
+fn split_files<'b>(alloc: Global, mut bytes: &'b [u8]) -> Result<Option<Vec<&'b [u8]>>, AllocError>
     ensures { IfOk result (Finds (AreFiles bytes.now) (λ files. names_seen files.items)) }
 {
     let mut files = Vec::new(alloc);
-    let mut rest = bytes;
-    while !rest.is_empty() {
-        let Some((file, after)) = split_framed(rest, UNCHECKED) else {
+    while !bytes.is_empty() {
+        let Some(file) = take_framed(&mut bytes, UNCHECKED) else {
             return Ok(None);
         };
         files.push(file)?;
-        rest = after;
     }
     Ok(Some(files))
 }

@@ -5,10 +5,10 @@ ghost use Rattle.cmap_bits.specs.Reader.{bits_left};
 ghost use Rattle.cmap_binary.specs.BinaryEntries.{ColumnsAt, CountsAt, SpanAt, SymbolAt, WidthAt};
 ghost use Rattle.cmap_binary.specs.BundleSeen.{tables_seen};
 ghost use Rattle.cmap_binary.specs.ColumnsSeen.{columns_seen, shape_seen, span_seen};
-ghost use Rattle.cmap_binary.specs.Reads.{Finds};
+ghost use Rattle.cmap_files.specs.Outcomes.{Finds};
 
 use crate::bundle::Tables;
-use crate::pieces::split_sized;
+use crate::pieces::take_sized;
 use cmap_bits::bits::Reader;
 use cmap_bits::prefix::PrefixTable;
 use cmap_runs::runs::Range;
@@ -31,35 +31,28 @@ pub(crate) struct Columns<'b> {
     base: u64,
 }
 
-/// The columns that the text begins with, and the bytes after them.
-pub(crate) fn split_columns(shape: Shape, text: &[u8]) -> Option<(Columns<'_>, &[u8])>
-    ensures { Finds (ColumnsAt (shape_seen shape) text.now)
-        (λ r. (columns_seen r.0, r.1.now)) result }
+/// The columns that the text begins with.
+pub(crate) fn take_columns<'b>(text: &mut &'b [u8], shape: Shape) -> Option<Columns<'b>>
+    ensures { Finds (ColumnsAt (shape_seen shape) text.old.now)
+        (λ columns. (columns_seen columns, text.new.now)) result }
 {
-    let (deltas, rest) = split_sized(text)?;
-    let deltas = Reader::new(deltas);
-    let (counts, rest) = split_counts(shape, rest)?;
-    Some((
-        Columns {
-            deltas,
-            counts,
-            base: 0,
-        },
-        rest,
-    ))
+    let deltas = Reader::new(take_sized(text)?);
+    let counts = take_counts(text, shape)?;
+    Some(Columns {
+        deltas,
+        counts,
+        base: 0,
+    })
 }
 
-/// The column of counts that the text begins with, where there is one, and the bytes after it.
-fn split_counts(shape: Shape, text: &[u8]) -> Option<(Option<Reader<'_>>, &[u8])>
-    ensures { Finds (CountsAt (shape_seen shape) text.now)
-        (λ r. (option_map bits_left r.0, r.1.now)) result }
+/// The column of counts that the text begins with, where there is one.
+fn take_counts<'b>(text: &mut &'b [u8], shape: Shape) -> Option<Option<Reader<'b>>>
+    ensures { Finds (CountsAt (shape_seen shape) text.old.now)
+        (λ counts. (option_map bits_left counts, text.new.now)) result }
 {
     match shape {
-        Shape::Ranges => {
-            let (counts, rest) = split_sized(text)?;
-            Some((Some(Reader::new(counts)), rest))
-        }
-        Shape::Singles => Some((None, text)),
+        Shape::Ranges => Some(Some(Reader::new(take_sized(text)?))),
+        Shape::Singles => Some(None),
     }
 }
 

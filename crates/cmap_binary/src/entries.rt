@@ -1,19 +1,24 @@
 //! The entries of segments of a binary file.
 
-ghost use Rattle.std.specs.Prelude.{map};
-ghost use Rattle.cmap_binary.specs.BinaryEntries.{BfEntriesIn, CidEntriesIn, CidEntryAt};
-ghost use Rattle.cmap_binary.specs.BinaryEntries.{DestinationAt};
+ghost use Rattle.cmap_binary.specs.BinaryEntries.{CidEntryAt, DestinationAt};
+ghost use Rattle.cmap_binary.specs.BinaryFiles as files;
+ghost use Rattle.cmap_binary.specs.BinaryFiles.{SaysAs};
+ghost use Rattle.cmap_binary.specs.BinarySeen.{Adds};
 ghost use Rattle.cmap_binary.specs.BundleSeen.{tables_seen};
 ghost use Rattle.cmap_binary.specs.ColumnsSeen.{cid_columns_seen, shape_seen};
 ghost use Rattle.cmap_binary.specs.Fronts.{FieldAt, RowOf};
-ghost use Rattle.cmap_binary.specs.Reads.{Finds, Reads};
-ghost use Rattle.cmap_files.specs.DeclarationsSeen.{bf_entry_seen, cid_entry_seen, entries_seen};
+ghost use Rattle.cmap_files.specs.Outcomes.{Finds, Reads};
+ghost use Rattle.cmap_files.specs.CodeLengths.{length_of};
+ghost use Rattle.cmap_files.specs.DeclarationsSeen.{cid_entry_seen};
+ghost use Rattle.cmap_files.specs.FilesSeen.{file_seen};
 
 use crate::bundle::Tables;
-use crate::columns::{Columns, Shape, split_columns};
-use crate::pieces::{split_byte, split_u16};
+use crate::columns::{Columns, Shape, take_columns};
+use crate::pieces::{take_byte, take_u16};
+use cmap_files::code_length::CodeLength;
 use cmap_files::declarations::{BfRange, CidRange};
 use cmap_files::fault::Fault;
+use cmap_files::file::File;
 use std::alloc::Global;
 
 /// What is left of the columns of a segment of CIDs.
@@ -32,112 +37,105 @@ impl CidColumns<'_> {
             (λ entry. (cid_entry_seen entry, cid_columns_seen self.new)) result }
     {
         let range = self.columns.next_range(tables)?;
-        let (raw, rest) = split_u16(self.raws)?;
+        let raw = take_u16(&mut self.raws)?;
         let cid = if raw == 0 { self.next } else { u64::from(raw) };
         let Ok(cid) = u32::try_from(cid) else {
             return None;
         };
-        self.raws = rest;
         self.next = u64::from(cid) + u64::from(range.end - range.start) + 1;
         Some(CidRange { range, cid })
     }
 }
 
-/// The entries of a segment of CIDs with this payload. Payload after them is ignored.
-pub(crate) fn read_cid_entries(
-    alloc: Global,
+/// Adds the CIDs of a segment with this payload, for codes of this length. Payload after its entries
+/// is ignored.
+pub(crate) fn add_cids(
     tables: &Tables,
     shape: Shape,
-    payload: &[u8],
-) -> Result<Vec<CidRange>, Fault>
-    ensures { Reads (CidEntriesIn (tables_seen tables.now) (shape_seen shape) payload.now)
-        (λ v. entries_seen v.items) result }
+    len: CodeLength,
+    mut payload: &[u8],
+    file: &mut File<'_>,
+) -> Result<(), Fault>
+    ensures { Adds (SaysAs (tables_seen tables.now) (files.cids (shape_seen shape) (length_of len)) payload.now)
+        (file_seen file.old) (file_seen file.new) result }
 {
-    let mut ranges = Vec::new(alloc);
-    let Some((count, rest)) = split_u16(payload) else {
+    let Some(count) = take_u16(&mut payload) else {
         return Err(Fault::Refused);
     };
     if count == 0 {
-        return Ok(ranges);
+        return Ok(());
     }
-    let Some((columns, raws)) = split_columns(shape, rest) else {
+    let Some(columns) = take_columns(&mut payload, shape) else {
         return Err(Fault::Refused);
     };
     let mut left = CidColumns {
         columns,
-        raws,
+        raws: payload,
         next: 0,
     };
     for index in 0..count {
         let Some(range) = left.next_entry(tables) else {
             return Err(Fault::Refused);
         };
-        ranges.push(range)?;
+        file.lists.add_cid(len, range)?;
     }
-    Ok(ranges)
+    Ok(())
 }
 
-/// The entries of a segment of texts with this payload, where each destination has `fixed`
-/// units, or says itself how many. Payload after them is ignored.
-pub(crate) fn read_bf_entries(
+/// Adds the texts of a segment with this payload, where each destination has `fixed` units, or says
+/// itself how many. Payload after its entries is ignored.
+pub(crate) fn add_texts(
     alloc: Global,
     tables: &Tables,
     shape: Shape,
     fixed: Option<u8>,
-    payload: &[u8],
-) -> Result<Vec<BfRange>, Fault>
-    ensures { Reads (BfEntriesIn (tables_seen tables.now) (shape_seen shape) fixed payload.now)
-        (λ v. map bf_entry_seen v.items) result }
+    mut payload: &[u8],
+    file: &mut File<'_>,
+) -> Result<(), Fault>
+    ensures { Adds (SaysAs (tables_seen tables.now) (files.texts (shape_seen shape) fixed) payload.now)
+        (file_seen file.old) (file_seen file.new) result }
 {
-    let Some((count, rest)) = split_u16(payload) else {
+    let Some(count) = take_u16(&mut payload) else {
         return Err(Fault::Refused);
     };
-    let Some((mut columns, mut rest)) = split_columns(shape, rest) else {
+    let Some(mut columns) = take_columns(&mut payload, shape) else {
         return Err(Fault::Refused);
     };
-    let mut ranges = Vec::new(alloc);
     for index in 0..count {
         let Some(range) = columns.next_range(tables) else {
             return Err(Fault::Refused);
         };
-        let (units, after) = read_destination(alloc, fixed, rest)?;
-        ranges.push(BfRange { range, units })?;
-        rest = after;
+        let units = read_destination(alloc, &mut payload, fixed)?;
+        file.lists.add_bf(BfRange { range, units })?;
     }
-    Ok(ranges)
+    Ok(())
 }
 
-/// The units of the destination that the text begins with, and the bytes after it.
-fn read_destination<'b>(
-    alloc: Global,
-    fixed: Option<u8>,
-    text: &'b [u8],
-) -> Result<(Vec<u16>, &'b [u8]), Fault>
-    ensures { Reads (DestinationAt fixed text.now) (λ r. (r.0.items, r.1.now)) result }
+/// The units of the destination that the text begins with.
+fn read_destination(alloc: Global, text: &mut &[u8], fixed: Option<u8>) -> Result<Vec<u16>, Fault>
+    ensures { Reads (DestinationAt fixed text.old.now) (λ units. (units.items, text.new.now)) result }
 {
     match fixed {
-        Some(count) => read_units(alloc, count, text),
+        Some(count) => read_units(alloc, text, count),
         None => {
-            let Some((count, rest)) = split_byte(text) else {
+            let Some(count) = take_byte(text) else {
                 return Err(Fault::Refused);
             };
-            read_units(alloc, count, rest)
+            read_units(alloc, text, count)
         }
     }
 }
 
-/// The `count` units that the text begins with, and the bytes after them.
-fn read_units(alloc: Global, count: u8, text: &[u8]) -> Result<(Vec<u16>, &[u8]), Fault>
-    ensures { Reads (RowOf (FieldAt 2) count text.now) (λ r. (r.0.items, r.1.now)) result }
+/// The `count` units that the text begins with.
+fn read_units(alloc: Global, text: &mut &[u8], count: u8) -> Result<Vec<u16>, Fault>
+    ensures { Reads (RowOf (FieldAt 2) count text.old.now) (λ units. (units.items, text.new.now)) result }
 {
     let mut units = Vec::new(alloc);
-    let mut rest = text;
     for index in 0..count {
-        let Some((unit, after)) = split_u16(rest) else {
+        let Some(unit) = take_u16(text) else {
             return Err(Fault::Refused);
         };
         units.push(unit)?;
-        rest = after;
     }
-    Ok((units, rest))
+    Ok(units)
 }

@@ -1,15 +1,15 @@
 //! CMap files in the binary form bcmap: a header, and segments up to the end that it tells.
 
-ghost use Rattle.std.specs.Prelude.{◌↔◌, IsTrue};
+ghost use Rattle.std.specs.Prelude.{◌≡◌, ◌↔◌, IsTrue};
 ghost use Rattle.cmap_binary.specs.BinaryFiles.{BodyOf, IsBinaryFile, IsMarkedBinary};
 ghost use Rattle.cmap_binary.specs.BinarySeen.{SegmentsSay};
 ghost use Rattle.cmap_binary.specs.BundleSeen.{bundle_seen, tables_seen};
-ghost use Rattle.cmap_binary.specs.Reads.{Finds, Reads};
+ghost use Rattle.cmap_files.specs.Outcomes.{Finds, Reads};
 ghost use Rattle.cmap_files.specs.FilesSeen.{file_seen};
 ghost use Rattle.cmap_files.specs.ListsAppended.{no_file};
 
 use crate::bundle::{Bundle, Tables};
-use crate::pieces::split_framed;
+use crate::pieces::take_framed;
 use crate::segments::read_segment;
 use cmap_files::fault::Fault;
 use cmap_files::file::File;
@@ -48,38 +48,37 @@ pub fn read_binary<'d>(
     let Some(body) = split_body(bytes) else {
         return Err(Fault::Refused);
     };
-    read_segments(alloc, &bundle.tables, body)
+    let mut file = File::new(alloc);
+    read_segments(alloc, &bundle.tables, body, &mut file)?;
+    Ok(file)
 }
 
 /// The segments of a file, which stand after its header; bytes after its length are ignored.
-fn split_body(bytes: &[u8]) -> Option<&[u8]>
+fn split_body(mut bytes: &[u8]) -> Option<&[u8]>
     ensures { Finds (BodyOf bytes.now) (λ body. body.now) result }
 {
-    let (file, _ignored) = split_framed(bytes, HEAD.len())?;
+    let file = take_framed(&mut bytes, HEAD.len())?;
     if !file.starts_with(HEAD) {
         return None;
     }
     Some(&file[HEADER_LEN..])
 }
 
-/// What all the segments say.
-fn read_segments<'d>(alloc: Global, tables: &Tables, segments: &'d [u8]) -> Result<File<'d>, Fault>
-    ensures { Reads (SegmentsSay (tables_seen tables.now) no_file segments.now) file_seen result }
+/// Reads all the segments, and adds what they say to a file that says nothing.
+fn read_segments<'d>(
+    alloc: Global,
+    tables: &Tables,
+    mut segments: &'d [u8],
+    file: &mut File<'d>,
+) -> Result<(), Fault>
+    requires { file_seen file.old ≡ no_file }
+    ensures { Reads (SegmentsSay (tables_seen tables.now) segments.now) (λ _. file_seen file.new) result }
 {
-    let mut file = File::new(alloc);
-    let mut rest = segments;
-    while !rest.is_empty() {
-        let Some((segment, after)) = split_framed(rest, TYPE_LEN) else {
+    while !segments.is_empty() {
+        let Some(segment) = take_framed(&mut segments, TYPE_LEN) else {
             return Err(Fault::Refused);
         };
-        read_segment(
-            alloc,
-            tables,
-            segment[0],
-            &segment[SEGMENT_HEAD..],
-            &mut file,
-        )?;
-        rest = after;
+        read_segment(alloc, tables, segment[0], &segment[SEGMENT_HEAD..], file)?;
     }
-    Ok(file)
+    Ok(())
 }

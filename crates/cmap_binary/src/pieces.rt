@@ -1,64 +1,67 @@
-//! What bytes begin with: numbers, codes, and pieces that tell their own length.
+//! What a text begins with: numbers, codes, and pieces that tell their own length. Each call takes
+//! off the text what it finds.
 
 ghost use Rattle.std.specs.Prelude.{◌<◌, ◌^◌};
 ghost use Rattle.cmap_binary.specs.Fronts.{ByteAt, CodeAt, FieldAt, FramedAt, SizedAt, TerminatedAt};
-ghost use Rattle.cmap_binary.specs.Reads.{Finds, both_seen, with_rest};
+ghost use Rattle.cmap_files.specs.Outcomes.{Finds};
 
 use cmap_bits::bits::Reader;
 
 /// How many bytes the length of a piece has.
 const SIZE: usize = 4;
 
-/// The byte that the text begins with, and the bytes after it.
-pub(crate) fn split_byte(text: &[u8]) -> Option<(u8, &[u8])>
-    ensures { Finds (ByteAt text.now) with_rest result }
+/// The byte that the text begins with.
+pub(crate) fn take_byte(text: &mut &[u8]) -> Option<u8>
+    ensures { Finds (ByteAt text.old.now) (λ byte. (byte, text.new.now)) result }
 {
-    let (byte, rest) = text.split_first()?;
-    Some((*byte, rest))
+    text.split_off_first().copied()
 }
 
-/// The number of two bytes that the text begins with, and the bytes after it.
-pub(crate) fn split_u16(text: &[u8]) -> Option<(u16, &[u8])>
-    ensures { Finds (FieldAt 2 text.now) with_rest result }
+/// The number of two bytes that the text begins with.
+pub(crate) fn take_u16(text: &mut &[u8]) -> Option<u16>
+    ensures { Finds (FieldAt 2 text.old.now) (λ number. (number, text.new.now)) result }
 {
     let number = Reader::new(text).read_u16()?;
-    Some((number, &text[2..]))
+    *text = &text[2..];
+    Some(number)
 }
 
-/// The code of this width that the text begins with, and the bytes after it. Codes have one to
-/// four bytes.
-pub(crate) fn split_code(width: u8, text: &[u8]) -> Option<(u32, &[u8])>
-    ensures { Finds (CodeAt width text.now) with_rest result }
+/// The code of this width that the text begins with. Codes have one to four bytes.
+pub(crate) fn take_code(text: &mut &[u8], width: u8) -> Option<u32>
+    ensures { Finds (CodeAt width text.old.now) (λ code. (code, text.new.now)) result }
 {
     let code = Reader::new(text).read_n_bytes(width)?;
-    Some((code, &text[usize::from(width)..]))
+    *text = &text[usize::from(width)..];
+    Some(code)
 }
 
-/// The piece after its length in four bytes, and the bytes after it.
-pub(crate) fn split_sized(bytes: &[u8]) -> Option<(&[u8], &[u8])>
-    ensures { Finds (SizedAt bytes.now) both_seen result }
+/// The piece after its length in four bytes.
+pub(crate) fn take_sized<'b>(text: &mut &'b [u8]) -> Option<&'b [u8]>
+    ensures { Finds (SizedAt text.old.now) (λ piece. (piece.now, text.new.now)) result }
 {
-    let size = Reader::new(bytes).read_u32()?;
-    bytes[SIZE..].split_at_checked(size as usize)
+    let size = Reader::new(text).read_u32()?;
+    *text = &text[SIZE..];
+    text.split_off(..size as usize)
 }
 
-/// The piece that tells its whole length in the four bytes after its first `before` ones,
-/// and the bytes after it.
-pub(crate) fn split_framed(bytes: &[u8], before: usize) -> Option<(&[u8], &[u8])>
+/// The piece that tells its whole length in the four bytes after its first `before` ones.
+pub(crate) fn take_framed<'b>(text: &mut &'b [u8], before: usize) -> Option<&'b [u8]>
     requires { before < 2 ^ 32 }
-    ensures { Finds (FramedAt before bytes.now) both_seen result }
+    ensures { Finds (FramedAt before text.old.now) (λ piece. (piece.now, text.new.now)) result }
 {
-    let size = Reader::new(bytes.get(before..)?).read_u32()? as usize;
+    let size = Reader::new(text.get(before..)?).read_u32()? as usize;
     if size < before + SIZE {
         return None;
     }
-    bytes.split_at_checked(size)
+    text.split_off(..size)
 }
 
-/// The bytes up to the first zero byte, and those after it.
-pub(crate) fn split_terminated(text: &[u8]) -> Option<(&[u8], &[u8])>
-    ensures { Finds (TerminatedAt text.now) both_seen result }
+/// The bytes up to the first zero byte, which is taken too.
+pub(crate) fn take_terminated<'b>(text: &mut &'b [u8]) -> Option<&'b [u8]>
+    ensures { Finds (TerminatedAt text.old.now) (λ piece. (piece.now, text.new.now)) result }
 {
     let end = text.iter().position(|byte| *byte == 0)?;
-    Some((&text[..end], &text[end + 1..]))
+    let piece = &text[..end];
+    *text = &text[end + 1..];
+    Some(piece)
 }

@@ -1,4 +1,3 @@
-pub mod ListsFiled
 pub mod ListsMade
 pub mod Outcomes
 pub mod LastOfLists

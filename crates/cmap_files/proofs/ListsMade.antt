@@ -5,45 +5,32 @@ use Rattle.std.proofs.lemmas.Bool.{cases_Bool}
 use Rattle.cmap_files.specs.Files.{Declaration, ByLength, Lists, cid, notdef, bf, codespace, cids_of, notdefs_of, bfs_of, spaces_of, lists_of}
 use Rattle.cmap_files.specs.ListsAppended.{append_by_length, append_lists}
 
-cids_of-append : (len : ℕ) (a b : List Declaration) → cids_of len (a ++ b) ≡ cids_of len a ++ cids_of len b
-cids_of-append len [] b = refl
-cids_of-append len (cid n e ∷ a) b =
-    elim (cases_Bool (n == len)) [
-      | inl same ↦ rw same (ap (λ l. e ∷ l) (cids_of-append len a b))
-      | inr other ↦ rw other (cids_of-append len a b)
-    ]
-cids_of-append len (notdef n e ∷ a) b = cids_of-append len a b
-cids_of-append len (bf e ∷ a) b = cids_of-append len a b
-cids_of-append len (codespace e ∷ a) b = cids_of-append len a b
+-- a list of what each declaration gives
+of_both : {A : Type 0} (f : List Declaration → List A) → f [] ≡ [] → ((d : Declaration) (ds : List Declaration) → f (d ∷ ds) ≡ f (d ∷ []) ++ f ds) → (a b : List Declaration) → f (a ++ b) ≡ f a ++ f b
+of_both f none each [] b = rw none refl
+of_both f none each (d ∷ a) b = each d (a ++ b) ∙ ap (λ l. f (d ∷ []) ++ l) (of_both f none each a b) ∙ sym (append_assoc (f (d ∷ [])) (f a) (f b)) ∙ ap (λ l. l ++ f b) (sym (each d a))
 
-notdefs_of-append : (len : ℕ) (a b : List Declaration) → notdefs_of len (a ++ b) ≡ notdefs_of len a ++ notdefs_of len b
-notdefs_of-append len [] b = refl
-notdefs_of-append len (cid n e ∷ a) b = notdefs_of-append len a b
-notdefs_of-append len (notdef n e ∷ a) b =
-    elim (cases_Bool (n == len)) [
-      | inl same ↦ rw same (ap (λ l. e ∷ l) (notdefs_of-append len a b))
-      | inr other ↦ rw other (notdefs_of-append len a b)
-    ]
-notdefs_of-append len (bf e ∷ a) b = notdefs_of-append len a b
-notdefs_of-append len (codespace e ∷ a) b = notdefs_of-append len a b
+cids_of-each : (len : ℕ) (d : Declaration) (ds : List Declaration) → cids_of len (d ∷ ds) ≡ cids_of len (d ∷ []) ++ cids_of len ds
+cids_of-each len (cid n e) ds = elim (cases_Bool (n == len)) [ inl same ↦ rw same refl | inr other ↦ rw other refl ]
+cids_of-each len d ds = refl
 
-bfs_of-append : (a b : List Declaration) → bfs_of (a ++ b) ≡ bfs_of a ++ bfs_of b
-bfs_of-append [] b = refl
-bfs_of-append (cid n e ∷ a) b = bfs_of-append a b
-bfs_of-append (notdef n e ∷ a) b = bfs_of-append a b
-bfs_of-append (bf e ∷ a) b = ap (λ l. e ∷ l) (bfs_of-append a b)
-bfs_of-append (codespace e ∷ a) b = bfs_of-append a b
+notdefs_of-each : (len : ℕ) (d : Declaration) (ds : List Declaration) → notdefs_of len (d ∷ ds) ≡ notdefs_of len (d ∷ []) ++ notdefs_of len ds
+notdefs_of-each len (notdef n e) ds = elim (cases_Bool (n == len)) [ inl same ↦ rw same refl | inr other ↦ rw other refl ]
+notdefs_of-each len d ds = refl
 
-spaces_of-append : (a b : List Declaration) → spaces_of (a ++ b) ≡ spaces_of a ++ spaces_of b
-spaces_of-append [] b = refl
-spaces_of-append (cid n e ∷ a) b = spaces_of-append a b
-spaces_of-append (notdef n e ∷ a) b = spaces_of-append a b
-spaces_of-append (bf e ∷ a) b = spaces_of-append a b
-spaces_of-append (codespace e ∷ a) b = ap (λ l. e ∷ l) (spaces_of-append a b)
+bfs_of-each : (d : Declaration) (ds : List Declaration) → bfs_of (d ∷ ds) ≡ bfs_of (d ∷ []) ++ bfs_of ds
+bfs_of-each (bf e) ds = refl
+bfs_of-each d ds = refl
+
+spaces_of-each : (d : Declaration) (ds : List Declaration) → spaces_of (d ∷ ds) ≡ spaces_of (d ∷ []) ++ spaces_of ds
+spaces_of-each (codespace e) ds = refl
+spaces_of-each d ds = refl
 
 pub lists_of-append : (a b : List Declaration) → lists_of (a ++ b) ≡ append_lists (lists_of a) (lists_of b)
 lists_of-append a b =
-    rw (cids_of-append 1 a b, cids_of-append 2 a b, cids_of-append 3 a b, cids_of-append 4 a b, notdefs_of-append 1 a b, notdefs_of-append 2 a b, notdefs_of-append 3 a b, notdefs_of-append 4 a b, bfs_of-append a b, spaces_of-append a b) refl
+    let cids : (len : ℕ) → cids_of len (a ++ b) ≡ cids_of len a ++ cids_of len b = λ len. of_both (cids_of len) refl (cids_of-each len) a b in
+    let notdefs : (len : ℕ) → notdefs_of len (a ++ b) ≡ notdefs_of len a ++ notdefs_of len b = λ len. of_both (notdefs_of len) refl (notdefs_of-each len) a b in
+    rw (cids 1, cids 2, cids 3, cids 4, notdefs 1, notdefs 2, notdefs 3, notdefs 4, of_both bfs_of refl bfs_of-each a b, of_both spaces_of refl spaces_of-each a b) refl
 
 pub append_lists-none : (a : Lists) → append_lists a (lists_of []) ≡ a
 append_lists-none a = rw (append-nil a.cids.one, append-nil a.cids.two, append-nil a.cids.three, append-nil a.cids.four, append-nil a.notdefs.one, append-nil a.notdefs.two, append-nil a.notdefs.three, append-nil a.notdefs.four, append-nil a.bfs, append-nil a.spaces) refl

@@ -1,4 +1,5 @@
 pub mod Only
+pub mod Outcomes
 pub mod Files
 pub mod DeclarationsSeen
 pub mod FilesSeen

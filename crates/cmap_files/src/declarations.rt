@@ -1,9 +1,9 @@
 //! What a CMap declares for its codes.
 
-ghost use Rattle.std.specs.Prelude.{◌≡◌, ◌==◌, [], ◌∷◌, ◌++◌, IfOk, OnOk, if◌then◌else◌, map};
+ghost use Rattle.std.specs.Prelude.{◌≡◌, ◌==◌, [], ◌∷◌, ◌++◌, IfOk, OnOk, if◌then◌else◌};
 ghost use Rattle.cmap_files.specs.CodeLengths.{length_of};
 ghost use Rattle.cmap_files.specs.Files.{Declaration, lists_of};
-ghost use Rattle.cmap_files.specs.DeclarationsSeen.{bf_entry_seen, cid_entry_seen, codespace_seen, entries_seen, lists_seen, slot};
+ghost use Rattle.cmap_files.specs.DeclarationsSeen.{bf_entry_seen, cid_entry_seen, codespace_seen, lists_seen, slot};
 ghost use Rattle.cmap_files.specs.ListsAppended.{no_lists, append_lists};
 
 use crate::code_length::CodeLength;
@@ -156,42 +156,6 @@ impl Lists {
         self.spaces.push(space)?;
         Ok(())
     }
-
-    /// Adds declarations of CIDs for codes of this length, in their order.
-    pub fn add_cids(&mut self, len: CodeLength, ranges: Vec<CidRange>) -> Result<(), AllocError>
-        ensures { OnOk result (lists_seen self.new ≡ append_lists (lists_seen self.old)
-            (lists_of (map (Declaration.cid (length_of len)) (entries_seen ranges.items)))) }
-    {
-        append_filed(&mut self.cids, len, ranges)?;
-        Ok(())
-    }
-
-    /// Adds notdef declarations for codes of this length, in their order.
-    pub fn add_notdefs(&mut self, len: CodeLength, ranges: Vec<CidRange>) -> Result<(), AllocError>
-        ensures { OnOk result (lists_seen self.new ≡ append_lists (lists_seen self.old)
-            (lists_of (map (Declaration.notdef (length_of len)) (entries_seen ranges.items)))) }
-    {
-        append_filed(&mut self.notdefs, len, ranges)?;
-        Ok(())
-    }
-
-    /// Adds declarations of texts, in their order.
-    pub fn add_bfs(&mut self, mut ranges: Vec<BfRange>) -> Result<(), AllocError>
-        ensures { OnOk result (lists_seen self.new ≡ append_lists (lists_seen self.old)
-            (lists_of (map Declaration.bf (map bf_entry_seen ranges.items)))) }
-    {
-        self.bfs.append(&mut ranges)?;
-        Ok(())
-    }
-
-    /// Adds codespace ranges, in their order.
-    pub fn add_codespaces(&mut self, mut spaces: Vec<Codespace>) -> Result<(), AllocError>
-        ensures { OnOk result (lists_seen self.new ≡ append_lists (lists_seen self.old)
-            (lists_of (map Declaration.codespace (map codespace_seen spaces.items)))) }
-    {
-        self.spaces.append(&mut spaces)?;
-        Ok(())
-    }
 }
 
 /// Adds a declaration to the list for codes of this length.
@@ -209,36 +173,14 @@ fn push_filed(
     ensures four { OnOk result (lists.new.four.items
         ≡ lists.old.four.items ++ (if length_of len == 4 then range ∷ [] else [])) }
 {
-    match len {
-        CodeLength::One => lists.one.push(range)?,
-        CodeLength::Two => lists.two.push(range)?,
-        CodeLength::Three => lists.three.push(range)?,
-        CodeLength::Four => lists.four.push(range)?,
-    }
+    let pushed = match len {
+        CodeLength::One => lists.one.push(range),
+        CodeLength::Two => lists.two.push(range),
+        CodeLength::Three => lists.three.push(range),
+        CodeLength::Four => lists.four.push(range),
+    };
+    pushed?;
     Ok(())
-}
-
-/// Adds declarations to the list for codes of this length.
-fn append_filed(
-    lists: &mut ByLength<Vec<CidRange>>,
-    len: CodeLength,
-    mut ranges: Vec<CidRange>,
-) -> Result<(), AllocError>
-    ensures one { OnOk result (lists.new.one.items
-        ≡ lists.old.one.items ++ (if length_of len == 1 then ranges.items else [])) }
-    ensures two { OnOk result (lists.new.two.items
-        ≡ lists.old.two.items ++ (if length_of len == 2 then ranges.items else [])) }
-    ensures three { OnOk result (lists.new.three.items
-        ≡ lists.old.three.items ++ (if length_of len == 3 then ranges.items else [])) }
-    ensures four { OnOk result (lists.new.four.items
-        ≡ lists.old.four.items ++ (if length_of len == 4 then ranges.items else [])) }
-{
-    match len {
-        CodeLength::One => lists.one.append(&mut ranges),
-        CodeLength::Two => lists.two.append(&mut ranges),
-        CodeLength::Three => lists.three.append(&mut ranges),
-        CodeLength::Four => lists.four.append(&mut ranges),
-    }
 }
 
 fn empty_lists(alloc: Global) -> ByLength<Vec<CidRange>>

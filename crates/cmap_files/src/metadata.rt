@@ -1,6 +1,6 @@
 //! What a CMap says of itself.
 
-ghost use Rattle.std.specs.Prelude.{◌≡◌, IfOk, IfSome, OnErr, option_map};
+ghost use Rattle.std.specs.Prelude.{◌≡◌, IfOk, IfSome, MatchOption, OnErr, codes, option_map};
 ghost use Rattle.cmap_files.specs.CMapNames.{IsNameOf, name_bytes};
 ghost use Rattle.cmap_files.specs.Metadata.{mode_numbered};
 ghost use Rattle.cmap_files.specs.MetadataSeen.{family_seen, collection_seen, metadata_seen, mode_seen, HoldsTexts};
@@ -58,21 +58,32 @@ impl CidFamily {
             (λ family. family_seen family ≡ family_of registry.now ordering.now) }
         ensures err { OnErr result (IsCustom (family_of registry.now ordering.now)) }
     {
-        if registry != ADOBE {
-            return CidFamily::custom(alloc, registry, ordering);
+        if registry == ADOBE
+            && let Some(family) = CidFamily::of_adobe(ordering)
+        {
+            return Ok(family);
         }
+        CidFamily::custom(alloc, registry, ordering)
+    }
+
+    /// The family of Adobe with this ordering, where it has a name.
+    fn of_adobe(ordering: &[u8]) -> Option<CidFamily>
+        ensures { MatchOption result
+            (family_of (codes "Adobe") ordering.now ≡ custom (codes "Adobe") ordering.now)
+            (λ family. family_seen family ≡ family_of (codes "Adobe") ordering.now) }
+    {
         if ordering == JAPAN1 {
-            Ok(CidFamily::AdobeJapan1)
+            Some(CidFamily::AdobeJapan1)
         } else if ordering == GB1 {
-            Ok(CidFamily::AdobeGB1)
+            Some(CidFamily::AdobeGB1)
         } else if ordering == CNS1 {
-            Ok(CidFamily::AdobeCNS1)
+            Some(CidFamily::AdobeCNS1)
         } else if ordering == KOREA1 {
-            Ok(CidFamily::AdobeKorea1)
+            Some(CidFamily::AdobeKorea1)
         } else if ordering == IDENTITY {
-            Ok(CidFamily::AdobeIdentity)
+            Some(CidFamily::AdobeIdentity)
         } else {
-            CidFamily::custom(alloc, registry, ordering)
+            None
         }
     }
 

@@ -275,10 +275,9 @@ fn place_of(text: &[u8]) -> Option<usize>
 }
 
 /// The known name at a place, in the order of their texts.
-fn known_name(at: usize) -> CMapName<'static>
+fn known_name<'a>(at: usize) -> CMapName<'a>
     requires { at < KNOWN_COUNT }
-    ensures place { place result ≡ Some at }
-    ensures text { name_bytes result ≡ slice_index_or known_names at [] }
+    ensures { place result ≡ Some at }
 {
     match at {
         0 => CMapName::N83pvRksjH,

@@ -11,7 +11,7 @@ use Rattle.cmap_files.specs.ListsAppended.{append_lists}
 use Rattle.cmap_text.specs.TextFiles.{Section, keys, use_word, Item, key, entries, use_of_base, other, literal_head, names_used, declared_by, Values, last_values, IsMetadata, IsTextFile, AreItems}
 use Rattle.cmap_text.specs.TextReading.{IsClosedBody, HasNoFront, Declares, Said, nothing_said, with_value, Says, SaysAll, SaysItem, NoItemSays, SaysItems, NoItemsSay}
 use Rattle.cmap_tokens.specs.TokensLeft.{HasTokens, Left, ended, malformed, with_front}
-use Rattle.cmap_text.proofs.FileItems.{opening, section_parts, is_plain, HasRead, HasRead-item, HasRead-all, item_next, items_only}
+use Rattle.cmap_text.proofs.FileItems.{opening, section_parts, use_only, is_plain, HasRead, HasRead-item, HasRead-all, item_next, items_only}
 use Rattle.cmap_text.proofs.ItemsSaid.{SaysAll-more, SaysAll-parts, SaysAll-only, lists_said, uses_said, all_say, values_said}
 
 -- a state is that of its parts
@@ -64,6 +64,11 @@ says_plain t left old new opens no_use known values lists uses operand = record 
 pub no_section_says : (t : Token) (left : Left) (section : Section) (old : Said) → t ≡ opening section → HasNoFront (IsClosedBody section) left.tokens → NoItemSays t left old
 no_section_says t left section old opens none more rest item new at ends is may says =
     let (declared, closes, item_is) = section_parts t more item section opens is in none more rest declared at closes
+
+pub no_use_says : (t : Token) (left : Left) (old : Said) → t ≡ Token.Name false use_word → old.operand ≡ None → NoItemSays t left old
+no_use_says t left old uses none more rest item new at ends is may says =
+    let (name, taken, new_is) = subst (λ i. Says old i new) (use_only t more item uses is).1 says in
+    let both : Some name ≡ None = sym taken ∙ none in cc
 
 pub none_says-malformed : (t : Token) (left : Left) (old : Said) → left ≡ malformed → NoItemSays t left old
 none_says-malformed t left old none more rest item new at ends is may says = false≢true (ap (λ l. l.ends) (sym none) ∙ ends)

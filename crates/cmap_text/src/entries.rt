@@ -1,17 +1,17 @@
 //! The entries of sections. Each call here has the first token of an entry, reads the others, and adds
 //! what the entry declares.
 
-ghost use Rattle.std.specs.Prelude.{◌≡◌, ◌+◌, ◌-◌, ℕ, [], ◌∷◌, IfOk, IsErrOf, OnOk};
+ghost use Rattle.std.specs.Prelude.{◌≡◌, ◌+◌, ◌-◌, ℕ, [], ◌∷◌};
 ghost use Rattle.cmap_tokens.specs.TokenSeen.{token_seen};
 ghost use Rattle.cmap_files.specs.CodeLengths.{length_of};
 ghost use Rattle.cmap_files.specs.DeclarationsSeen.{cid_entry_seen, lists_seen};
-ghost use Rattle.cmap_text.specs.EntriesSeen.{AddsEntry, HasNoEntry};
+ghost use Rattle.cmap_text.specs.EntriesSeen.{Adds, AddsEntry};
 ghost use Rattle.cmap_files.specs.Files.{CidEntry, Declaration, lists_of};
 ghost use Rattle.cmap_files.specs.ListsAppended.{append_lists};
+ghost use Rattle.cmap_files.specs.Outcomes.{Outcome, Succeeds};
 ghost use Rattle.cmap_text.specs.TextFiles as files;
 ghost use Rattle.cmap_text.specs.TextSeen.{IsCidEntry, cids_section};
-ghost use Rattle.cmap_text.specs.TextReading.{Declares, Begins, Behind, HasNoFront, IsList};
-ghost use Rattle.cmap_files.specs.declared.fault.Fault.TheVariants.{Refused};
+ghost use Rattle.cmap_text.specs.TextReading.{Begins, Behind, HasNoFront, IsList};
 
 use crate::tokens::{TokenReader, is_executable};
 use cmap_files::code_length::CodeLength;
@@ -40,10 +40,8 @@ pub(crate) fn add_codespace_range(
     first: &Token<'_>,
     lists: &mut Lists,
 ) -> Result<(), Fault>
-    ensures entry { OnOk result
-        (AddsEntry files.codespace_range first.now reader.old reader.new lists.old lists.new) }
-    ensures refused { IsErrOf result Refused
-        → HasNoEntry files.codespace_range first.now reader.old.tokens }
+    ensures { AddsEntry files.codespace_range first.now reader.old reader.new
+        lists.old lists.new result }
 {
     one_value_for_a_string();
     let low = reader.code(first)?;
@@ -67,10 +65,8 @@ pub(crate) fn add_cids(
     shape: Shape,
     lists: &mut Lists,
 ) -> Result<(), Fault>
-    ensures entry { OnOk result
-        (AddsEntry (cids_section kind shape) first.now reader.old reader.new lists.old lists.new) }
-    ensures refused { IsErrOf result Refused
-        → HasNoEntry (cids_section kind shape) first.now reader.old.tokens }
+    ensures { AddsEntry (cids_section kind shape) first.now reader.old reader.new
+        lists.old lists.new result }
 {
     let filed = read_cids(reader, first, shape)?;
     match kind {
@@ -86,10 +82,8 @@ pub(crate) fn add_bf_char(
     first: &Token<'_>,
     lists: &mut Lists,
 ) -> Result<(), Fault>
-    ensures entry { OnOk result
-        (AddsEntry files.bf_char first.now reader.old reader.new lists.old lists.new) }
-    ensures refused { IsErrOf result Refused
-        → HasNoEntry files.bf_char first.now reader.old.tokens }
+    ensures { AddsEntry files.bf_char first.now reader.old reader.new
+        lists.old lists.new result }
 {
     let code = reader.code(first)?;
     let units = reader.next_destination()?;
@@ -102,10 +96,8 @@ pub(crate) fn add_bf_range(
     first: &Token<'_>,
     lists: &mut Lists,
 ) -> Result<(), Fault>
-    ensures entry { OnOk result
-        (AddsEntry files.bf_range first.now reader.old reader.new lists.old lists.new) }
-    ensures refused { IsErrOf result Refused
-        → HasNoEntry files.bf_range first.now reader.old.tokens }
+    ensures { AddsEntry files.bf_range first.now reader.old reader.new
+        lists.old lists.new result }
 {
     one_value_for_a_string();
     let start = reader.code(first)?;
@@ -127,10 +119,8 @@ fn add_list(
     end: u32,
     lists: &mut Lists,
 ) -> Result<(), Fault>
-    ensures list { OnOk result (Declares (IsList start (end + 1 - start)) reader.old reader.new
-        (lists_seen lists.old) (lists_seen lists.new)) }
-    ensures refused { IsErrOf result Refused
-        → HasNoFront (IsList start (end + 1 - start)) reader.old.tokens }
+    ensures { Adds (IsList start (end + 1 - start)) reader.old reader.new
+        lists.old lists.new result }
 {
     for code in u64::from(start)..u64::from(end) + 1 {
         let units = reader.next_destination()?;
@@ -147,9 +137,8 @@ fn add_list(
 
 /// Adds the units of the text of the code `start`, of a range that ends with the code `end`.
 fn add_text(lists: &mut Lists, start: u32, end: u32, units: Vec<u16>) -> Result<(), Fault>
-    ensures added { OnOk result (lists_seen lists.new ≡ append_lists (lists_seen lists.old)
-        (lists_of (files.declares_bf start end units.items ∷ []))) }
-    ensures refused { IsErrOf result Refused → ⊥ }
+    ensures { Succeeds (lists_seen lists.new ≡ append_lists (lists_seen lists.old)
+        (lists_of (files.declares_bf start end units.items ∷ []))) ⊥ result }
 {
     let range = Range { start, end };
     lists.add_bf(BfRange { range, units }).map_err(Fault::from)
@@ -165,11 +154,11 @@ struct Filed {
 /// What an entry of CIDs declares: code, code, CID for a range and code, CID for a single code,
 /// filed by the length of the first code.
 fn read_cids(reader: &mut TokenReader<'_>, first: &Token<'_>, shape: Shape) -> Result<Filed, Fault>
-    ensures entry { (kind : ℕ → CidEntry → Declaration) → IfOk result
-        (λ filed. Begins (Behind (IsCidEntry shape kind) (token_seen first.now)) reader.old
-        (kind (length_of filed.len) (cid_entry_seen filed.range) ∷ []) reader.new) }
-    ensures refused { (kind : ℕ → CidEntry → Declaration) → IsErrOf result Refused
-        → HasNoFront (Behind (IsCidEntry shape kind) (token_seen first.now)) reader.old.tokens }
+    ensures { (kind : ℕ → CidEntry → Declaration) →
+        let IsRest = Behind (IsCidEntry shape kind) (token_seen first.now) in Outcome
+        (λ filed. Begins IsRest reader.old
+        (kind (length_of filed.len) (cid_entry_seen filed.range) ∷ []) reader.new)
+        (HasNoFront IsRest reader.old.tokens) result }
 {
     let start = reader.code(first)?;
     let end = match shape {

@@ -1,14 +1,13 @@
 //! CMap files as text.
 
-ghost use Rattle.std.specs.Prelude.{IfOk, IsErrOf};
 ghost use Rattle.cmap_files.specs.FilesSeen.{file_seen};
-ghost use Rattle.cmap_files.specs.Only.{IsOnly, HoldsOfNone};
+ghost use Rattle.cmap_files.specs.Only.{IsOnly};
+ghost use Rattle.cmap_files.specs.Outcomes.{Outcome, Reads};
 ghost use Rattle.cmap_files.specs.MetadataSeen.{metadata_seen};
 ghost use Rattle.cmap_tokens.specs.TokensLeft.{HasTokens, Left};
 ghost use Rattle.cmap_text.specs.TextFiles.{IsMetadata, IsTextFile};
 ghost use Rattle.cmap_text.specs.TextReading.{NoItemsSay, SaysItems};
 ghost use Rattle.cmap_text.specs.TextSeen.{said_seen, values_seen};
-ghost use Rattle.cmap_files.specs.declared.fault.Fault.TheVariants.{Refused};
 
 use crate::items::{Said, read_items};
 use crate::tokens::TokenReader;
@@ -20,8 +19,7 @@ use std::alloc::Global;
 
 /// What a text file says.
 pub fn read_text<'d>(alloc: Global, text: &'d [u8]) -> Result<File<'d>, Fault>
-    ensures file { IfOk result (λ file. IsOnly (IsTextFile text.now) (file_seen file)) }
-    ensures refused { IsErrOf result Refused → HoldsOfNone (IsTextFile text.now) }
+    ensures { Reads (IsTextFile text.now) file_seen result }
 {
     one_value_for_a_string();
     let mut said = Said::new(alloc);
@@ -35,11 +33,10 @@ pub fn read_text<'d>(alloc: Global, text: &'d [u8]) -> Result<File<'d>, Fault>
 
 /// Reads all that a text says, and gives what its keys say of the file.
 fn read_said<'d>(alloc: Global, text: &'d [u8], said: &mut Said<'d>) -> Result<Metadata, Fault>
-    ensures said { IfOk result (λ metadata. (left : Left) × HasTokens text.now left
+    ensures { Outcome (λ metadata. (left : Left) × HasTokens text.now left
         × SaysItems left (said_seen said.old) (said_seen said.new)
-        × IsOnly (IsMetadata (values_seen said.new.values)) (metadata_seen metadata)) }
-    ensures refused { IsErrOf result Refused
-        → (left : Left) × HasTokens text.now left × NoItemsSay left (said_seen said.old) }
+        × IsOnly (IsMetadata (values_seen said.new.values)) (metadata_seen metadata))
+        ((left : Left) × HasTokens text.now left × NoItemsSay left (said_seen said.old)) result }
 {
     read_items(&mut TokenReader::new(alloc, text), said)?;
     said.values.metadata(alloc).map_err(Fault::from)

@@ -1,12 +1,12 @@
 //! The items of a text: keys with their values, sections, uses of other files, and tokens by themselves.
 
-ghost use Rattle.std.specs.Prelude.{◌≡◌, ◌++◌, ℕ, List, [], ◌∷◌, None, Some, IsErrOf, OnOk};
+ghost use Rattle.std.specs.Prelude.{◌≡◌, ◌++◌, ℕ, List, [], ◌∷◌, None, Some};
 ghost use Rattle.std.specs.Borrow.{Bor};
 ghost use Rattle.std.specs.Option.{option_copied};
 ghost use Rattle.cmap_tokens.specs.TokenSeen.{token_seen};
 ghost use Rattle.cmap_text.specs.TextReading.{NoItemSays, NoItemsSay, SaysItem, SaysItems, nothing_said};
 ghost use Rattle.cmap_text.specs.TextSeen.{said_seen};
-ghost use Rattle.cmap_files.specs.declared.fault.Fault.TheVariants.{Refused};
+ghost use Rattle.cmap_files.specs.Outcomes.{Succeeds};
 
 use crate::keys::{Key, Values};
 use crate::sections::{Section, read_section};
@@ -42,9 +42,9 @@ impl<'d> Said<'d> {
 
 /// Adds a use of the file that the last item names.
 fn add_use<'d>(uses: &mut Vec<&'d [u8]>, operand: Option<&'d [u8]>) -> Result<(), Fault>
-    ensures uses { OnOk result ((name : Bor (List ℕ)) × (operand.entry ≡ Some name)
-        × (uses.new.items ≡ uses.old.items ++ name ∷ [])) }
-    ensures refused { IsErrOf result Refused → option_copied operand.entry ≡ None }
+    ensures { Succeeds ((name : Bor (List ℕ)) × (operand.entry ≡ Some name)
+        × (uses.new.items ≡ uses.old.items ++ name ∷ []))
+        (option_copied operand.entry ≡ None) result }
 {
     let Some(name) = operand else {
         return Err(Fault::Refused);
@@ -54,9 +54,8 @@ fn add_use<'d>(uses: &mut Vec<&'d [u8]>, operand: Option<&'d [u8]>) -> Result<()
 
 /// Reads all the items of a text.
 pub(crate) fn read_items<'d>(reader: &mut TokenReader<'d>, said: &mut Said<'d>) -> Result<(), Fault>
-    ensures items { OnOk result
-        (SaysItems reader.old (said_seen said.old) (said_seen said.new)) }
-    ensures refused { IsErrOf result Refused → NoItemsSay reader.old (said_seen said.old) }
+    ensures { Succeeds (SaysItems reader.old (said_seen said.old) (said_seen said.new))
+        (NoItemsSay reader.old (said_seen said.old)) result }
 {
     one_value_for_a_string();
     while let Some(token) = reader.next_token()? {
@@ -71,11 +70,9 @@ fn read_item<'d>(
     first: &Token<'d>,
     said: &mut Said<'d>,
 ) -> Result<(), Fault>
-    ensures item { OnOk result
-        (SaysItem (token_seen first.now) reader.old reader.new
-        (said_seen said.old) (said_seen said.new)) }
-    ensures refused { IsErrOf result Refused
-        → NoItemSays (token_seen first.now) reader.old (said_seen said.old) }
+    ensures { Succeeds (SaysItem (token_seen first.now) reader.old reader.new
+        (said_seen said.old) (said_seen said.new))
+        (NoItemSays (token_seen first.now) reader.old (said_seen said.old)) result }
 {
     let operand = said.operand;
     said.operand = literal_name(first);

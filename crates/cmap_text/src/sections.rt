@@ -1,13 +1,12 @@
 //! Sections: an opener, entries, a closer.
 
-ghost use Rattle.std.specs.Prelude.{◌≡◌, false, IsErrOf, OnOk, MatchOption};
+ghost use Rattle.std.specs.Prelude.{◌≡◌, false, MatchOption};
 ghost use Rattle.cmap_tokens.specs.TokenSeen.{token_seen};
 ghost use Rattle.cmap_tokens.specs.Tokens as tokens;
-ghost use Rattle.cmap_text.specs.EntriesSeen.{AddsBody, AddsEntry, HasNoEntry};
+ghost use Rattle.cmap_text.specs.EntriesSeen.{Adds, AddsEntry};
 ghost use Rattle.cmap_text.specs.TextFiles as files;
-ghost use Rattle.cmap_text.specs.TextReading.{HasNoFront, IsClosedBody};
+ghost use Rattle.cmap_text.specs.TextReading.{IsClosedBody};
 ghost use Rattle.cmap_text.specs.TextSeen.{section_seen};
-ghost use Rattle.cmap_files.specs.declared.fault.Fault.TheVariants.{Refused};
 
 use crate::entries::{CidKind, Shape, add_bf_char, add_bf_range, add_cids, add_codespace_range};
 use crate::tokens::{TokenReader, is_executable};
@@ -74,10 +73,8 @@ pub(crate) fn read_section(
     section: Section,
     lists: &mut Lists,
 ) -> Result<(), Fault>
-    ensures body { OnOk result
-        (AddsBody (section_seen section) reader.old reader.new lists.old lists.new) }
-    ensures refused { IsErrOf result Refused
-        → HasNoFront (IsClosedBody (section_seen section)) reader.old.tokens }
+    ensures { Adds (IsClosedBody (section_seen section)) reader.old reader.new
+        lists.old lists.new result }
 {
     loop {
         let Some(token) = reader.required_token() else {
@@ -97,10 +94,8 @@ fn read_entry(
     first: &Token<'_>,
     lists: &mut Lists,
 ) -> Result<(), Fault>
-    ensures entry { OnOk result
-        (AddsEntry (section_seen section) first.now reader.old reader.new lists.old lists.new) }
-    ensures refused { IsErrOf result Refused
-        → HasNoEntry (section_seen section) first.now reader.old.tokens }
+    ensures { AddsEntry (section_seen section) first.now reader.old reader.new
+        lists.old lists.new result }
 {
     match section {
         Section::Codespaces => add_codespace_range(reader, first, lists),

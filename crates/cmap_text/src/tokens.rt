@@ -1,10 +1,11 @@
 //! The tokens of a text in order, and what single tokens stand for.
 
-ghost use Rattle.std.specs.Prelude.{◌≡◌, ◌↔◌, [], ◌∷◌, false, true, IfOk, IsErrOf, IsTrue, MatchOption, MatchResult};
+ghost use Rattle.std.specs.Prelude.{◌≡◌, ◌↔◌, [], ◌∷◌, false, true, IsTrue, MatchOption, MatchResult};
 ghost use Rattle.std.specs.Option.{option_copied};
 ghost use Rattle.cmap_tokens.specs.TokenSeen.{token_seen};
 ghost use Rattle.cmap_tokens.specs.Tokens as tokens;
 ghost use Rattle.cmap_files.specs.Only.{HoldsOfNone};
+ghost use Rattle.cmap_files.specs.Outcomes.{Outcome};
 ghost use Rattle.cmap_text.specs.TextFiles.{IsCid, IsDestination, literal_head, other};
 ghost use Rattle.cmap_text.specs.TextReading.{GivesCode, code_of, Takes, HasNoHead};
 ghost use Rattle.cmap_text.specs.TextSeen.{code_seen, IsCodeBytes};
@@ -78,8 +79,8 @@ impl<'d> TokenReader<'d> {
 
     /// The code that a token is: a string of one to four bytes.
     pub(crate) fn code(&mut self, token: &Token<'_>) -> Result<Code, Fault>
-        ensures code { IfOk result (λ code. GivesCode (token_seen token.now) (code_seen code)) }
-        ensures refused { IsErrOf result Refused → HoldsOfNone (GivesCode (token_seen token.now)) }
+        ensures code { Outcome (λ code. GivesCode (token_seen token.now) (code_seen code))
+            (HoldsOfNone (GivesCode (token_seen token.now))) result }
         ensures stays { self.new ≡ self.old }
     {
         let Token::String(string) = token else {
@@ -97,8 +98,8 @@ impl<'d> TokenReader<'d> {
 
     /// The code that comes next.
     pub(crate) fn next_code(&mut self) -> Result<Code, Fault>
-        ensures code { IfOk result (λ code. Takes GivesCode self.old (code_seen code) self.new) }
-        ensures refused { IsErrOf result Refused → HasNoHead GivesCode self.old.tokens }
+        ensures { Outcome (λ code. Takes GivesCode self.old (code_seen code) self.new)
+            (HasNoHead GivesCode self.old.tokens) result }
     {
         let Some(token) = self.required_token() else {
             return Err(Fault::Refused);
@@ -108,10 +109,8 @@ impl<'d> TokenReader<'d> {
 
     /// The units of the destination that a token is: a string that isn't empty.
     pub(crate) fn destination(&mut self, token: &Token<'_>) -> Result<Vec<u16>, Fault>
-        ensures destination { IfOk result
-            (λ units. IsDestination (token_seen token.now) units.items) }
-        ensures refused { IsErrOf result Refused
-            → HoldsOfNone (IsDestination (token_seen token.now)) }
+        ensures destination { Outcome (λ units. IsDestination (token_seen token.now) units.items)
+            (HoldsOfNone (IsDestination (token_seen token.now))) result }
         ensures stays { self.new ≡ self.old }
     {
         let Token::String(string) = token else {
@@ -129,8 +128,8 @@ impl<'d> TokenReader<'d> {
 
     /// The units of the destination that comes next.
     pub(crate) fn next_destination(&mut self) -> Result<Vec<u16>, Fault>
-        ensures destination { IfOk result (λ units. Takes IsDestination self.old units.items self.new) }
-        ensures refused { IsErrOf result Refused → HasNoHead IsDestination self.old.tokens }
+        ensures { Outcome (λ units. Takes IsDestination self.old units.items self.new)
+            (HasNoHead IsDestination self.old.tokens) result }
     {
         let Some(token) = self.required_token() else {
             return Err(Fault::Refused);

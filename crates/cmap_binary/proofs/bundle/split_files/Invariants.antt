@@ -4,8 +4,8 @@ use Rattle.cmap_binary.specs.Bundles.{AreFiles}
 use Rattle.cmap_binary.proofs.Fronts.{Continues}
 use Rattle.cmap_binary.proofs.bundle.split_files.Given as goal
 
-abbrev pub invariant-loop-rest : goal.invariant-loop-rest
-invariant-loop-rest l = Continues (AreFiles l.bytes) (λ more. names_seen l.files.items ++ more) (AreFiles l.rest)
+abbrev pub invariant-loop-bytes : goal.invariant-loop-bytes
+invariant-loop-bytes l = Continues (AreFiles l.initial.bytes) (λ more. names_seen l.files.items ++ more) (AreFiles l.bytes)
 
-abbrev pub decreases-loop-rest : goal.decreases-loop-rest
-decreases-loop-rest l = length l.rest
+abbrev pub decreases-loop-bytes : goal.decreases-loop-bytes
+decreases-loop-bytes l = length l.bytes

@@ -5,4 +5,4 @@ pub returns-in_err-next_symbol-in-Some : goal.returns-in_err-next_symbol-in-Some
 returns-in_err-next_symbol-in-Some c = rw (c.from_residual.ensures, c.in-Some.is) (then_none _ _ c.in_err-next_symbol-in-Some.ensures)
 
 pub returns-in_ok-next_symbol-in-Some : goal.returns-in_ok-next_symbol-in-Some
-returns-in_ok-next_symbol-in-Some c = rw (c.in-Some.is, c.from.ensures) (then_only _ _ _ _ _ c.in_ok-next_symbol-in-Some.ensures gives)
+returns-in_ok-next_symbol-in-Some c = rw (c.in-Some.is, c.from.ensures) (then_only _ c.in_ok-next_symbol-in-Some.ensures gives)

@@ -10,4 +10,4 @@ returns-in_err-file c = rw c.from_residual.ensures (then_none _ _ c.in_err-file.
 pub returns : goal.returns
 returns c =
     let head : take 6 c.in_ok-file.file.now ≡ magic ++ 1 ∷ [] = search rules in
-    rw (take_rest c.in_ok-file.file.now 10) (then_only _ _ _ _ _ c.in_ok-file.ensures (gives_if head))
+    rw (take_rest c.in_ok-file.file.now 10) (then_only _ c.in_ok-file.ensures (gives_if head))

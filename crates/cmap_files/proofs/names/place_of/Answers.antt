@@ -2,6 +2,7 @@ use Rattle.std.proofs.Common.{rules, ◌≡◌, ℕ, ◌<◌, ◌≤◌, List, [
 use Rattle.std.specs.Prelude.{bytes_eq}
 use Rattle.std.proofs.lemmas.List.Sums.{position_or_len_is}
 use Rattle.cmap_files.specs.Names.{known_names, place_of}
+use Rattle.cmap_files.proofs.OneName.{known_text}
 use Rattle.cmap_files.proofs.names.place_of.Goals as goal
 
 -- the place is the first with this text
@@ -21,11 +22,11 @@ place_of-none text differs =
     sym (ap (λ (n : ℕ). cond (nat_lt n 65) (Some n) None) (position_or_len_is (λ known. bytes_eq known text) known_names 65 [] within differs (λ lt. let below : 65 < 65 = lt in absurd (omega arith))))
 
 pub loop-place-preserved : goal.loop-place-preserved
-loop-place-preserved c = below_more _ _ c.loop-place.invariant (rw (← c.known_name.ensures.text, ← c.to_bytes.ensures) (search (rules, c.if-eq.ensures, c.eq.ensures)))
+loop-place-preserved c = below_more _ _ c.loop-place.invariant (rw (← known_text _ _ c.known_name.ensures, ← c.to_bytes.ensures) (search (rules, c.if-eq.ensures, c.eq.ensures)))
 
 pub returns-then-eq-clause-place : goal.returns-then-eq-clause-place
 returns-then-eq-clause-place c =
-    let same : bytes_eq (get_or known_names c.loop-place.place []) c.args.text.now ≡ true = rw (← c.known_name.ensures.text, ← c.to_bytes.ensures) (search (rules, c.if-eq.ensures, c.eq.ensures)) in
+    let same : bytes_eq (get_or known_names c.loop-place.place []) c.args.text.now ≡ true = rw (← known_text _ _ c.known_name.ensures, ← c.to_bytes.ensures) (search (rules, c.if-eq.ensures, c.eq.ensures)) in
     place_of-first _ _ (omega arith) c.loop-place.invariant same
 
 pub returns-clause-place : goal.returns-clause-place

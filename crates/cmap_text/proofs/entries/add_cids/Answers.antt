@@ -26,15 +26,17 @@ entry_is Notdef Single = refl
 added : (kind : CidKind) (shape : Shape) (first : Token) (old new : Left) (lists more : Lists) → Declares (Behind (IsCidEntry shape (declared_as kind)) first) old new lists more → Declares (Behind (IsEntry (cids_section kind shape)) first) old new lists more
 added kind shape first old new lists more = subst (λ Is. Declares (Behind Is first) old new lists more) (entry_is kind shape)
 
-pub returns-in_err-filed-clause-refused : goal.returns-in_err-filed-clause-refused
-returns-in_err-filed-clause-refused c =
-    let refused = c.in_err-filed.ensures.refused (declared_as c.args.kind) in
-    passed_on c.from_residual.result _ _ _ c.from_residual.ensures.1 (λ e. subst (λ Is. HasNoFront (Behind Is (token_seen c.args.first.now)) c.args.reader.now.tokens) (entry_is c.args.kind c.args.shape) (refused e))
+pub returns-in_err-filed : goal.returns-in_err-filed
+returns-in_err-filed c =
+    let filed = c.in_err-filed.ensures (declared_as c.args.kind) in
+    passed_on c.from_residual.result _ _ _ c.from_residual.ensures.1 (λ e. subst (λ Is. HasNoFront (Behind Is (token_seen c.args.first.now)) c.args.reader.now.tokens) (entry_is c.args.kind c.args.shape) (filed.1 e))
 
-pub returns-in_ok-add_cid-in-Cid-clause-entry : goal.returns-in_ok-add_cid-in-Cid-clause-entry
-returns-in_ok-add_cid-in-Cid-clause-entry c =
-    rw c.in-Cid.is (added Cid c.args.shape _ _ _ _ _ (record { begins = c.in_ok-filed.ensures.entry Declaration.cid; added = c.in_ok-add_cid-in-Cid.ensures; declared = _ }))
+pub returns-in_ok-add_cid-in-Cid : goal.returns-in_ok-add_cid-in-Cid
+returns-in_ok-add_cid-in-Cid c =
+    let filed = c.in_ok-filed.ensures Declaration.cid in
+    (rw c.in-Cid.is (added Cid c.args.shape _ _ _ _ _ (record { begins = filed.0; added = c.in_ok-add_cid-in-Cid.ensures; declared = _ })), λ e. cc)
 
-pub returns-in_ok-add_notdef-in-Notdef-clause-entry : goal.returns-in_ok-add_notdef-in-Notdef-clause-entry
-returns-in_ok-add_notdef-in-Notdef-clause-entry c =
-    rw c.in-Notdef.is (added Notdef c.args.shape _ _ _ _ _ (record { begins = c.in_ok-filed.ensures.entry Declaration.notdef; added = c.in_ok-add_notdef-in-Notdef.ensures; declared = _ }))
+pub returns-in_ok-add_notdef-in-Notdef : goal.returns-in_ok-add_notdef-in-Notdef
+returns-in_ok-add_notdef-in-Notdef c =
+    let filed = c.in_ok-filed.ensures Declaration.notdef in
+    (rw c.in-Notdef.is (added Notdef c.args.shape _ _ _ _ _ (record { begins = filed.0; added = c.in_ok-add_notdef-in-Notdef.ensures; declared = _ })), λ e. cc)

@@ -5,27 +5,29 @@ use Rattle.cmap_text.proofs.ListsOfDestinations.{IsListing-none, IsListing-more,
 use Rattle.cmap_files.proofs.Outcomes.{passed_on}
 use Rattle.cmap_text.proofs.entries.add_list.Goals as goal
 
-pub returns-in_err-units-clause-refused : goal.returns-in_err-units-clause-refused
-returns-in_err-units-clause-refused c =
-    passed_on c.from_residual.result _ _ _ c.from_residual.ensures.1 (λ e. IsListing-short _ _ _ _ _ _ _ c.loop-code.invariant.listing (omega arith) (c.in_err-units.ensures.refused e))
+pub returns-in_err-units : goal.returns-in_err-units
+returns-in_err-units c =
+    passed_on c.from_residual.result _ _ _ c.from_residual.ensures.1 (λ e. IsListing-short _ _ _ _ _ _ _ c.loop-code.invariant.listing (omega arith) (c.in_err-units.ensures.1 e))
 
 pub loop-code-init : goal.loop-code-init
 loop-code-init c = record { listing = IsListing-none _ _ _ _ (omega arith); within = omega arith }
 
 pub loop-code-preserved : goal.loop-code-preserved
 loop-code-preserved c = record {
-  listing = IsListing-more _ _ _ _ _ _ _ _ _ c.loop-code.code _ c.loop-code.invariant.listing c.in_ok-units.ensures.destination c.in_ok-add_text.ensures.added (omega arith) (omega arith);
+  listing = IsListing-more _ _ _ _ _ _ _ _ _ c.loop-code.code _ c.loop-code.invariant.listing c.in_ok-units.ensures.0 c.in_ok-add_text.ensures.0 (omega arith) (omega arith);
   within = omega arith;
 }
 
-pub returns-in_default-clause-refused : goal.returns-in_default-clause-refused
-returns-in_default-clause-refused c =
-    λ e. IsListing-open _ _ _ _ _ _ _ c.loop-code.invariant.listing (omega arith) (λ rest closes. cc (c.in_default.ensures))
+pub returns-in_default : goal.returns-in_default
+returns-in_default c =
+    (tt, λ e. IsListing-open _ _ _ _ _ _ _ c.loop-code.invariant.listing (omega arith) (λ rest closes. cc (c.in_default.ensures)))
 
-pub returns-then-not-is_executable-clause-refused : goal.returns-then-not-is_executable-clause-refused
-returns-then-not-is_executable-clause-refused c =
-    λ e. IsListing-open _ _ _ _ _ _ _ c.loop-code.invariant.listing (omega arith)
-    (λ rest closes. false≢true (c.if-not-is_executable.ensures.1 (sym (head_is _ _ _ _ _ c.in-Some.ensures closes).0)))
+pub returns-then-not-is_executable : goal.returns-then-not-is_executable
+returns-then-not-is_executable c = (
+  tt,
+  λ e. IsListing-open _ _ _ _ _ _ _ c.loop-code.invariant.listing (omega arith)
+      (λ rest closes. false≢true (c.if-not-is_executable.ensures.1 (sym (head_is _ _ _ _ _ c.in-Some.ensures closes).0))),
+)
 
-pub returns-clause-list : goal.returns-clause-list
-returns-clause-list c = IsListing-closed _ _ _ _ _ _ _ _ _ c.loop-code.invariant.listing (omega arith) c.in-Some.ensures (c.if-not-is_executable.ensures.0 refl)
+pub returns : goal.returns
+returns c = (IsListing-closed _ _ _ _ _ _ _ _ _ c.loop-code.invariant.listing (omega arith) c.in-Some.ensures (c.if-not-is_executable.ensures.0 refl), λ e. cc)

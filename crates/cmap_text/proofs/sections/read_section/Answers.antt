@@ -10,20 +10,20 @@ use Rattle.cmap_text.proofs.sections.read_section.Goals as goal
 pub loop-token-init : goal.loop-token-init
 loop-token-init c = IsReading-none _ _ _
 
-pub returns-in_default-clause-refused : goal.returns-in_default-clause-refused
-returns-in_default-clause-refused c = λ e. IsReading-end _ _ _ _ _ c.loop-token.invariant c.in_default.ensures
+pub returns-in_default : goal.returns-in_default
+returns-in_default c = (tt, λ e. IsReading-end _ _ _ _ _ c.loop-token.invariant c.in_default.ensures)
 
-pub returns-then-is_executable-clause-body : goal.returns-then-is_executable-clause-body
-returns-then-is_executable-clause-body c =
-    IsReading-closed _ _ _ _ _ _ _ c.loop-token.invariant c.in-Some.ensures (c.if-is_executable.ensures.0 refl ∙ ap (tokens.Name false) c.closer.ensures)
+pub returns-then-is_executable : goal.returns-then-is_executable
+returns-then-is_executable c =
+    (IsReading-closed _ _ _ _ _ _ _ c.loop-token.invariant c.in-Some.ensures (c.if-is_executable.ensures.0 refl ∙ ap (tokens.Name false) c.closer.ensures), λ e. cc)
 
 pub loop-token-smaller : goal.loop-token-smaller
-loop-token-smaller c = shorter_entry _ _ _ _ _ _ _ c.in-Some.ensures c.in_ok-read_entry.ensures.entry
+loop-token-smaller c = shorter_entry _ _ _ _ _ _ _ c.in-Some.ensures c.in_ok-read_entry.ensures.0
 
 pub loop-token-preserved : goal.loop-token-preserved
-loop-token-preserved c = IsReading-more _ _ _ _ _ _ _ _ _ c.loop-token.invariant c.in-Some.ensures c.in_ok-read_entry.ensures.entry
+loop-token-preserved c = IsReading-more _ _ _ _ _ _ _ _ _ c.loop-token.invariant c.in-Some.ensures c.in_ok-read_entry.ensures.0
 
-pub returns-in_err-read_entry-clause-refused : goal.returns-in_err-read_entry-clause-refused
-returns-in_err-read_entry-clause-refused c =
+pub returns-in_err-read_entry : goal.returns-in_err-read_entry
+returns-in_err-read_entry c =
     let stays : token_seen c.in-Some.token ≢ closing (section_seen c.args.section) = λ e. false≢true (c.if-is_executable.ensures.1 (e ∙ sym (ap (tokens.Name false) c.closer.ensures))) in
-    passed_on c.from_residual.result _ _ _ c.from_residual.ensures.1 (λ e. IsReading-wrong _ _ _ _ _ _ _ c.loop-token.invariant c.in-Some.ensures stays (c.in_err-read_entry.ensures.refused e))
+    passed_on c.from_residual.result _ _ _ c.from_residual.ensures.1 (λ e. IsReading-wrong _ _ _ _ _ _ _ c.loop-token.invariant c.in-Some.ensures stays (c.in_err-read_entry.ensures.1 e))

@@ -12,15 +12,15 @@ no_bundle bytes none = then_none _ _ none
 module _ (bytes text rest : List ℕ) (sized : IsOnly (SizedAt bytes) (text, rest)) where
   no_tables : HoldsOfNone (HoldsTables text) → HoldsOfNone (IsBundle bytes)
   unfolding IsBundle
-  no_tables none = then_next _ _ _ _ sized (λ bundle is. none bundle.tables is.0)
+  no_tables none = then_next _ sized (λ bundle is. none bundle.tables is.0)
 
   no_files : HoldsOfNone (AreFiles rest) → HoldsOfNone (IsBundle bytes)
   unfolding IsBundle
-  no_files none = then_next _ _ _ _ sized (λ bundle is. none bundle.files is.1)
+  no_files none = then_next _ sized (λ bundle is. none bundle.files is.1)
 
   bundle_only : (tables : PrefixTables) (files : List (List ℕ)) → IsOnly (HoldsTables text) tables → IsOnly (AreFiles rest) files → IsOnly (IsBundle bytes) (record { tables = tables; files = files })
   unfolding IsBundle
-  bundle_only tables files holds are = then_only _ _ _ _ _ sized (record {
+  bundle_only tables files holds are = then_only _ sized (record {
     holds = (holds.holds, are.holds);
     alone = λ other is.
         ap (λ t. let b : Bundle = record { tables = t; files = other.files } in b) (holds.alone other.tables is.0)

@@ -8,9 +8,9 @@ returns-in_err-delta-clause-next c = rw c.from_residual.ensures (then_none _ _ c
 pub returns-in_err-range-clause-next : goal.returns-in_err-range-clause-next
 returns-in_err-range-clause-next c =
     rw c.from_residual-in_err-range.ensures
-    (then_next _ _ _ _ c.in_ok-delta.ensures (then_next _ _ _ _ c.in_ok-width.ensures (gives_none (λ small. omega (arith, c.in_err-range.ensures, small)))))
+    (then_next _ c.in_ok-delta.ensures (then_next _ c.in_ok-width.ensures (gives_none (λ small. omega (arith, c.in_err-range.ensures, small)))))
 
 pub returns-clause-next : goal.returns-clause-next
 returns-clause-next c =
     rw (c.from.ensures, c.in_ok-range.ensures.0, c.in_ok-range.ensures.1)
-    (then_only _ _ _ _ _ c.in_ok-delta.ensures (then_only _ _ _ _ _ c.in_ok-width.ensures (gives_if (omega (arith, c.in_ok-range.ensures.1, c.in_ok-range.ensures.2)))))
+    (then_only _ c.in_ok-delta.ensures (then_only _ c.in_ok-width.ensures (gives_if (omega (arith, c.in_ok-range.ensures.1, c.in_ok-range.ensures.2)))))

@@ -8,7 +8,7 @@ pub returns-in_err-range : goal.returns-in_err-range
 returns-in_err-range c = rw c.from_residual.ensures (then_none _ _ c.in_err-range.ensures.next)
 
 pub returns-in_err-raw : goal.returns-in_err-raw
-returns-in_err-raw c = rw c.from_residual-in_err-raw.ensures (then_next _ _ _ _ c.in_ok-range.ensures.next (then_none _ _ c.in_err-raw.ensures))
+returns-in_err-raw c = rw c.from_residual-in_err-raw.ensures (then_next _ c.in_ok-range.ensures.next (then_none _ _ c.in_err-raw.ensures))
 
 own : (raw next : ℕ) → raw ≢ 0 → raw ≡ cid_from raw next
 own zero next other = absurd (other refl)
@@ -21,7 +21,7 @@ returns-in_default c =
       | then-raw-eq0 w ↦ rw w.if-raw-eq0.true w.cid-is
       | else-raw-eq0 w ↦ w.cid-is ∙ w.from-cid.ensures ∙ own _ _ w.if-raw-eq0.false
     ] in
-    then_next _ _ _ _ c.in_ok-range.ensures.next (then_next _ _ _ _ c.in_ok-raw.ensures (gives_none (λ fits. c.in_default.ensures (rw chosen fits))))
+    then_next _ c.in_ok-range.ensures.next (then_next _ c.in_ok-raw.ensures (gives_none (λ fits. c.in_default.ensures (rw chosen fits))))
 
 pub returns : goal.returns
 returns c =
@@ -31,4 +31,4 @@ returns c =
       | else-raw-eq0 w ↦ w.cid-is ∙ w.from-cid.ensures ∙ own _ _ w.if-raw-eq0.false
     ] in
     rw (c.from.ensures, c.from-2.ensures, c.in-Ok.ensures.1, chosen)
-    (then_only _ _ _ _ _ c.in_ok-range.ensures.next (then_only _ _ _ _ _ c.in_ok-raw.ensures (gives_if (rw chosen at c.in-Ok.ensures.0))))
+    (then_only _ c.in_ok-range.ensures.next (then_only _ c.in_ok-raw.ensures (gives_if (rw chosen at c.in-Ok.ensures.0))))

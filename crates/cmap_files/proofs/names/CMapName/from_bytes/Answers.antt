@@ -2,13 +2,13 @@ use Rattle.std.proofs.Common.{refl, ◌∙◌}
 use Rattle.cmap_files.specs.CMapNames.{IsNameOf}
 use Rattle.cmap_files.specs.declared.names.CMapName.{CMapName}
 use Rattle.cmap_files.specs.declared.names.CMapName.TheVariants.{Custom}
-use Rattle.cmap_files.proofs.OneName.{IsSameName-from_text}
+use Rattle.cmap_files.proofs.OneName.{IsSameName-from_text, known_text}
 use Rattle.cmap_files.proofs.names.CMapName.from_bytes.Goals as goal
 
 pub returns-in-Some : goal.returns-in-Some
 returns-in-Some c =
     let known = c.known_name in
-    let is : IsNameOf c.args.bytes.now known.result = (known.ensures.text ∙ c.in-Some.ensures.known.1, known.ensures.place ∙ c.in-Some.ensures.place) in
+    let is : IsNameOf c.args.bytes.now known.result = (known_text _ _ known.ensures ∙ c.in-Some.ensures.known.1, known.ensures ∙ c.in-Some.ensures.place) in
     record { name = is; only = λ other named. IsSameName-from_text _ other _ named is }
 
 pub returns-in-None : goal.returns-in-None

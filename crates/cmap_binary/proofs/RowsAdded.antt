@@ -1,0 +1,43 @@
+-- Declarations in a row, each added to a file.
+use Rattle.std.proofs.Common.{◌≡◌, ℕ, ◌+◌, ◌<◌, ◌≤◌, refl, sym, ap, ◌∙◌, List, [], ◌∷◌, ◌++◌, map}
+use Rattle.std.proofs.lemmas.List.{map-append}
+use Rattle.cmap_files.specs.Files.{Declaration, File, Lists, lists_of}
+use Rattle.cmap_files.specs.ListsAppended.{append_lists}
+use Rattle.cmap_files.specs.Only.{IsOnly, HoldsOfNone}
+use Rattle.cmap_files.proofs.ListsMade.{added_more, append_lists-none}
+use Rattle.cmap_binary.specs.BinaryFiles.{declares}
+use Rattle.cmap_binary.specs.BinarySeen.{with_content}
+use Rattle.cmap_binary.specs.Fronts.{RowOf}
+use Rattle.cmap_binary.proofs.Fronts.{HasRow, row_start, row_more, row_wrong, row_end}
+
+abbrev with_lists : File → Lists → File
+with_lists file lists = record { metadata = file.metadata; lists = lists; uses = file.uses }
+
+-- n things in a row: those before place i are added to the file, as declarations of this kind
+pub record AddsRow {A S : Type 0} (item : S → A × S → Type 0) (kind : A → Declaration) (n : ℕ) (start : S) (old : File) (i : ℕ) (here : S) (now : File) : Type 0 where
+  pub entries : List A
+  pub row : HasRow item n start i here entries
+  pub says : now ≡ with_content old (declares (map kind entries))
+
+pub adds_none : (file : File) → file ≡ with_content file (declares [])
+adds_none file = ap (with_lists file) (sym (append_lists-none file.lists))
+
+module _ {A S : Type 0} {item : S → A × S → Type 0} {kind : A → Declaration} {n : ℕ} {start : S} {old : File} {i : ℕ} {here : S} {now : File} (has : AddsRow item kind n start old i here now) where
+  pub adds_more : {next : S} {x : A} (new : File) → i < n → IsOnly (item here) (x, next) → new ≡ with_content now (declares (kind x ∷ [])) → AddsRow item kind n start old (i + 1) next new
+  adds_more {next} {x} new below only says = record {
+    entries = has.entries ++ x ∷ [];
+    row = row_more item n start i here next has.entries x has.row below only;
+    says =
+        says ∙ ap (λ file. with_content file (declares (kind x ∷ []))) has.says
+        ∙ ap (with_lists old) (added_more old.lists (append_lists old.lists (lists_of (map kind has.entries))) _ (map kind has.entries) (kind x ∷ []) refl refl)
+        ∙ ap (λ ds. with_content old (declares ds)) (sym (map-append kind has.entries (x ∷ [])));
+  }
+
+  pub adds_wrong : i < n → HoldsOfNone (item here) → HoldsOfNone (RowOf item n start)
+  adds_wrong = row_wrong item n start i here has.entries has.row
+
+  pub adds_end : n ≤ i → IsOnly (RowOf item n start) (has.entries, here)
+  adds_end = row_end item n start i here has.entries has.row
+
+pub adds_start : {A S : Type 0} (item : S → A × S → Type 0) (kind : A → Declaration) (n : ℕ) (start : S) (old : File) → AddsRow item kind n start old 0 start old
+adds_start item kind n start old = record { entries = []; row = row_start item n start; says = adds_none old }

@@ -1,0 +1,40 @@
+use Rattle.std.proofs.Common.{◌≡◌, ℕ, zero, suc, ◌<◌, List, arith, refl}
+use Rattle.cmap_binary.specs.Bundles.{PrefixTables}
+use Rattle.cmap_binary.specs.BinaryEntries.{Shape, CidsOf, CidEntriesOf}
+use Rattle.cmap_binary.specs.BundleSeen.{tables_seen}
+use Rattle.cmap_binary.specs.ColumnsSeen.{shape_seen}
+use Rattle.cmap_binary.proofs.Fronts.{gives, then_none, then_next, then_only}
+use Rattle.cmap_binary.proofs.Reading.{made_none, made_only}
+use Rattle.cmap_binary.proofs.RowsAdded.{adds_none, adds_start, adds_more, adds_wrong, adds_end}
+use Rattle.cmap_binary.proofs.entries.add_cids.Goals as goal
+
+-- of some entries the columns are read
+some_cids : (tables : PrefixTables) (shape : Shape) (n : ℕ) (text : List ℕ) → 0 < n → CidEntriesOf tables shape n text ≡ CidsOf tables shape n text
+some_cids tables shape zero text some = absurd (omega (arith, some))
+some_cids tables shape (suc m) text some = refl
+
+pub returns-in_default : goal.returns-in_default
+returns-in_default c = (tt, λ e. made_none (then_none _ _ c.in_default.ensures))
+
+pub returns-then-count-eq0 : goal.returns-then-count-eq0
+returns-then-count-eq0 c = (record { content = _; only = made_only (then_only _ (rw c.if-count-eq0.true at c.in-Some.ensures) gives); says = adds_none _ }, λ e. cc)
+
+pub returns-in_default-take_columns : goal.returns-in_default-take_columns
+returns-in_default-take_columns c = (tt, λ e. made_none (then_next _ c.in-Some.ensures (rw (some_cids _ _ c.in-Some.count _ (omega arith)) (then_none _ _ c.in_default-take_columns.ensures))))
+
+pub loop-index-init : goal.loop-index-init
+loop-index-init c = adds_start _ _ _ _ _
+
+pub returns-in_default-next_entry : goal.returns-in_default-next_entry
+returns-in_default-next_entry c =
+    let none = adds_wrong c.loop-index.invariant (omega arith) c.in_default-next_entry.ensures in
+    (tt, λ e. made_none (then_next _ c.in-Some.ensures (rw (some_cids _ _ c.in-Some.count _ (omega arith)) (then_next _ c.in-Some-take_columns.ensures (then_none _ _ none)))))
+
+pub loop-index-preserved : goal.loop-index-preserved
+loop-index-preserved c = adds_more c.loop-index.invariant _ (omega arith) c.in-Some-next_entry.ensures (rw c.in_ok-add_cid.ensures refl)
+
+pub returns : goal.returns
+returns c =
+    let has = c.loop-index.invariant in
+    let only = then_only _ c.in-Some-take_columns.ensures (then_only _ (adds_end has (omega arith)) gives) in
+    (record { content = _; only = made_only (then_only _ c.in-Some.ensures (rw (some_cids (tables_seen c.args.tables.now) (shape_seen c.args.shape) c.in-Some.count c.take_u16.new.text.now (omega arith)) only)); says = has.says }, λ e. cc)

@@ -1,0 +1,11 @@
+use Rattle.cmap_files.specs.CodeLengths.{length_of}
+use Rattle.cmap_files.specs.Files.{cid}
+use Rattle.cmap_files.specs.FilesSeen.{file_seen}
+use Rattle.cmap_binary.specs.BinaryEntries.{CidEntryAt}
+use Rattle.cmap_binary.specs.BundleSeen.{tables_seen}
+use Rattle.cmap_binary.specs.ColumnsSeen.{cid_columns_seen}
+use Rattle.cmap_binary.proofs.RowsAdded.{AddsRow}
+use Rattle.cmap_binary.proofs.entries.add_cids.Given as goal
+
+abbrev pub invariant-loop-index : goal.invariant-loop-index
+invariant-loop-index l = AddsRow (CidEntryAt (tables_seen l.tables)) (cid (length_of l.len)) l.count (cid_columns_seen l.initial.left) (file_seen l.initial.file) l.index (cid_columns_seen l.left) (file_seen l.file)

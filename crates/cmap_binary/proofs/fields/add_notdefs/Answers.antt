@@ -1,0 +1,38 @@
+use Rattle.std.proofs.Common.{arith, refl}
+use Rattle.cmap_binary.specs.BinaryFiles.{NotdefAt}
+use Rattle.cmap_binary.proofs.Fronts.{gives, row_start, row_wrong, then_none, then_next, then_only}
+use Rattle.cmap_binary.proofs.Reading.{made_none, made_only}
+use Rattle.cmap_binary.proofs.RowsAdded.{adds_none, adds_start, adds_more, adds_wrong, adds_end}
+use Rattle.cmap_binary.proofs.fields.add_notdefs.Goals as goal
+
+pub returns-in_default : goal.returns-in_default
+returns-in_default c = (tt, λ e. made_none (then_none _ _ c.in_default.ensures))
+
+pub returns-in_default-take_u16 : goal.returns-in_default-take_u16
+returns-in_default-take_u16 c = (tt, λ e. made_none (then_next _ c.in-Some.ensures (then_none _ _ c.in_default-take_u16.ensures)))
+
+pub returns-then-count-eq0 : goal.returns-then-count-eq0
+returns-then-count-eq0 c =
+    let count = rw c.if-count-eq0.true at c.in-Some-take_u16.ensures in
+    (record { content = _; only = made_only (then_only _ c.in-Some.ensures (then_only _ count (then_only _ gives gives))); says = adds_none _ }, λ e. cc)
+
+pub returns-in_default-of : goal.returns-in_default-of
+returns-in_default-of c =
+    let none = row_wrong (NotdefAt c.in-Some.width) _ c.take_u16.new.text.now _ _ _ (row_start _ _ _) (omega arith) (λ other (start, mid, code, more). c.in_default-of.ensures code.0) in
+    (tt, λ e. made_none (then_next _ c.in-Some.ensures (then_next _ c.in-Some-take_u16.ensures (then_none _ _ none))))
+
+pub loop-index-init : goal.loop-index-init
+loop-index-init c = adds_start _ _ _ _ _
+
+pub returns-in_default-take_notdef : goal.returns-in_default-take_notdef
+returns-in_default-take_notdef c =
+    let none = adds_wrong c.loop-index.invariant (omega arith) c.in_default-take_notdef.ensures in
+    (tt, λ e. made_none (then_next _ c.in-Some.ensures (then_next _ c.in-Some-take_u16.ensures (then_none _ _ none))))
+
+pub loop-index-preserved : goal.loop-index-preserved
+loop-index-preserved c = adds_more c.loop-index.invariant _ (omega arith) c.in-Some-take_notdef.ensures (rw (c.in_ok-add_notdef.ensures, c.in-Some-of.ensures.1) refl)
+
+pub returns : goal.returns
+returns c =
+    let has = c.loop-index.invariant in
+    (record { content = _; only = made_only (then_only _ c.in-Some.ensures (then_only _ c.in-Some-take_u16.ensures (then_only _ (adds_end has (omega arith)) gives))); says = has.says }, λ e. cc)
