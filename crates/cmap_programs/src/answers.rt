@@ -53,7 +53,9 @@ fn map_of(alloc: Global, options: Options, input: &[u8]) -> Result<CMap, Failure
         return map_over(alloc, options.budget, input, None);
     };
     let (front, file) = split_bundle(input, bundle_len).ok_or(Failure::Refused)?;
-    let bundle = Bundle::parse(alloc, front)?.ok_or(Failure::Refused)?;
+    let Some(bundle) = Bundle::parse(alloc, front)? else {
+        return Err(Failure::Refused);
+    };
     map_over(alloc, options.budget, file, Some(&bundle))
 }
 
@@ -64,7 +66,7 @@ fn map_over(
     file: &[u8],
     bundle: Option<&Bundle<'_>>,
 ) -> Result<CMap, Failure> {
-    let get_cmap = |name: CMapName<'_>| load_embedded(bundle, name);
+    let get_cmap = move |name: CMapName<'_>| load_embedded(bundle, name);
     CMap::parse_within(alloc, budget, file, bundle, &get_cmap)?.ok_or(Failure::Refused)
 }
 

@@ -36,7 +36,7 @@ impl Layer {
             spaces,
         } = lists;
         let bfs = Table::build(alloc, bfs)?;
-        let (cids, notdefs) = build_both(alloc, cids, notdefs)?;
+        let (cids, notdefs) = build_tables(alloc, cids, notdefs)?;
         Ok(Layer {
             metadata,
             cids,
@@ -57,12 +57,10 @@ impl Layer {
 
     /// A copy of the declarations.
     fn lists(&self, alloc: Global) -> Result<Lists, AllocError>
-        ensures { IfOk result (λ lists. record { metadata = metadata_seen self.now.metadata; lists = lists_seen lists }
-            ≡ layer_seen self.now) }
+        ensures { IfOk result (λ lists. lists_seen lists ≡ (layer_seen self.now).lists) }
     {
-        let [cids, notdefs] = [&self.cids, &self.notdefs].try_map(|tables| copied_lists(
-            alloc, tables,
-        ))?;
+        let copied = |tables| copied_lists(alloc, tables);
+        let [cids, notdefs] = [&self.cids, &self.notdefs].try_map(copied)?;
         let bfs = copied_bfs(alloc, &self.bfs)?;
         let spaces = Vec::from_slice(alloc, &self.spaces)?;
         Ok(Lists {
@@ -75,7 +73,7 @@ impl Layer {
 }
 
 /// The tables of the CIDs and of the notdefs.
-fn build_both(
+fn build_tables(
     alloc: Global,
     cids: ByLength<Vec<CidRange>>,
     notdefs: ByLength<Vec<CidRange>>,
@@ -83,33 +81,31 @@ fn build_both(
     ensures { IfOk result
         (λ tables. (tables.0 ≡ lists_held cids) × (tables.1 ≡ lists_held notdefs)) }
 {
-    let cids = build_tables(alloc, cids)?;
-    let notdefs = build_tables(alloc, notdefs)?;
+    let lists = [
+        cids.one,
+        cids.two,
+        cids.three,
+        cids.four,
+        notdefs.one,
+        notdefs.two,
+        notdefs.three,
+        notdefs.four,
+    ];
+    let table = |list| Table::build(alloc, list);
+    let [one, two, three, four, first, second, third, fourth] = lists.try_map(table)?;
+    let cids = ByLength {
+        one,
+        two,
+        three,
+        four,
+    };
+    let notdefs = ByLength {
+        one: first,
+        two: second,
+        three: third,
+        four: fourth,
+    };
     Ok((cids, notdefs))
-}
-
-/// A table of each list.
-fn build_tables(
-    alloc: Global,
-    lists: ByLength<Vec<CidRange>>,
-) -> Result<ByLength<Table<CidRange>>, AllocError>
-    ensures { IfOk result (λ tables. tables ≡ lists_held lists) }
-{
-    let ByLength {
-        one,
-        two,
-        three,
-        four,
-    } = lists;
-    let [one, two, three, four] = [one, two, three, four].try_map(|list| Table::build(
-        alloc, list,
-    ))?;
-    Ok(ByLength {
-        one,
-        two,
-        three,
-        four,
-    })
 }
 
 /// A copy of the declarations of each table.
@@ -119,9 +115,9 @@ fn copied_lists(
 ) -> Result<ByLength<Vec<CidRange>>, AllocError>
     ensures { IfOk result (λ lists. lists_held lists ≡ tables.now) }
 {
-    let [one, two, three, four] = [&tables.one, &tables.two, &tables.three, &tables.four].try_map(
-        |table| copied_cids(alloc, table),
-    )?;
+    let each = [&tables.one, &tables.two, &tables.three, &tables.four];
+    let copied = |table| copied_cids(alloc, table);
+    let [one, two, three, four] = each.try_map(copied)?;
     Ok(ByLength {
         one,
         two,

@@ -36,8 +36,10 @@ impl<'a> Request<'a> {
         }
         let mut queries = Vec::with_capacity(alloc, words.len())?;
         for word in words {
-            let query = Query::parse(word.as_str()).ok_or(Failure::Usage)?;
-            queries.push(query)?;
+            match Query::parse(word.as_str()) {
+                Some(query) => queries.push(query)?,
+                None => return Err(Failure::Usage),
+            }
         }
         Ok(Request { queries })
     }
@@ -104,10 +106,10 @@ impl<'a> Query<'a> {
         let digits = self.digits;
         write!(lines, "bf {digits}")?;
         match map.lookup_bf_string(alloc, self.code)? {
-            Some(BfString::Char(character)) => write_character(character, lines)?,
-            Some(BfString::String(text)) => write_characters(text.as_str(), lines)?,
-            None => lines.push_str(" none")?,
-        }
+            Some(BfString::Char(character)) => write_character(character, lines),
+            Some(BfString::String(text)) => write_characters(text.as_str(), lines),
+            None => lines.push_str(" none"),
+        }?;
         lines.push('\n')
     }
 }

@@ -1,4 +1,4 @@
-use Rattle.std.proofs.Common.{◌≡◌, All, map, take, string_bytes}
+use Rattle.std.proofs.Common.{◌≡◌, All, length, map, take, string_bytes}
 use Rattle.cmap_programs.specs.Queries.{word_of, IsSpelled}
 use Rattle.cmap_programs.proofs.answers.query.Request.parse.Given as goal
 
@@ -6,3 +6,4 @@ use Rattle.cmap_programs.proofs.answers.query.Request.parse.Given as goal
 abbrev pub invariant-loop-word : goal.invariant-loop-word
 invariant-loop-word l = (map word_of l.queries.items ≡ map string_bytes (take l.word-index l.words))
     × All IsSpelled l.queries.items
+    × (length l.queries.items ≡ l.word-index)
