@@ -8,7 +8,7 @@ use std::alloc::{AllocError, Global};
 use std::{fmt, io};
 
 /// Bytes that may be a bundle, and whether they are one.
-const BYTES: [(&str, &[u8], bool); 5] = [
+const BYTES: &[(&str, &[u8], bool)] = &[
     ("tables and a file", BUNDLE, true),
     (
         "tables alone",
@@ -40,14 +40,14 @@ const BYTES: [(&str, &[u8], bool); 5] = [
 ];
 
 /// Names that a bundle is asked for.
-const NAMES: [(&str, CMapName<'static>); 3] = [
+const NAMES: &[(&str, CMapName<'static>)] = &[
     ("83pv-RKSJ-H", CMapName::N83pvRksjH),
     ("90ms-RKSJ-H", CMapName::N90msRksjH),
     ("X", CMapName::Custom(b"X")),
 ];
 
 pub fn tell_all(rt: &(impl Print + AllocGlobal)) -> io::Result<()> {
-    for (title, bytes, is_bundle) in BYTES {
+    for &(title, bytes, is_bundle) in BYTES {
         let found = again!(Bundle::parse(rt.alloc(), bytes) => Parsed);
         tell(rt, "Bundle::parse", title, &found)?;
         if is_bundle {
@@ -58,7 +58,7 @@ pub fn tell_all(rt: &(impl Print + AllocGlobal)) -> io::Result<()> {
 }
 
 fn tell_files(rt: &impl Print, found: &Answer<Parsed<'_>>) -> io::Result<()> {
-    for (title, name) in NAMES {
+    for &(title, name) in NAMES {
         let file = match found {
             Answer::Given(Parsed(bundle)) => Answer::Given(File(load_embedded(
                 bundle.as_ref(),

@@ -36,7 +36,7 @@ pub const FILE: &[u8] = b"bcmap\x01\0\0\0\x1A\x04\0\0\0\x10\0\x02\0\0\0\x01\x40\
 pub const CUT_FILE: &[u8] = b"bcmap\x01\0\0\0\x1A\x04\0\0\0\x10\0\x02\0\0\0\x01\x40\0\x05\0";
 
 /// Files that are accepted.
-pub const ACCEPTED: [Accepted; 16] = [
+pub const ACCEPTED: &[Accepted] = &[
     Accepted {
         title: "ranges within ranges",
         bytes: b"begincidrange <0000> <00FF> 0 <0010> <0020> 1000 <0018> <0018> 5 endcidrange",
@@ -199,7 +199,7 @@ begincidrange <8140> <9FFC> 100 endcidrange",
 ];
 
 /// Files that are refused, or over their budgets.
-pub const REFUSED: [(&str, &[u8], With); 11] = [
+pub const REFUSED: &[(&str, &[u8], With)] = &[
     (
         "a text that is refused at its end",
         b"begincidrange <0000> <00FF> 0 <0010> <0020> 1000 endcidrange )",

@@ -25,7 +25,7 @@ enum Lookup {
 }
 
 /// Their names.
-const LOOKUPS: [(&str, Lookup); 3] = [
+const LOOKUPS: &[(&str, Lookup)] = &[
     ("  lookup_cid_code", Lookup::Plain),
     ("  lookup_cid_counted", Lookup::Counted),
     ("  lookup_cid_code_strict", Lookup::Strict),
@@ -43,7 +43,7 @@ pub fn tell_lookups(
         None => Answer::NotMade,
     };
     tell(rt, "  metadata", title, &Said { metadata })?;
-    for (call, lookup) in LOOKUPS {
+    for &(call, lookup) in LOOKUPS {
         let cids = Cids {
             map: match map {
                 Some(map) => Answer::Given(map),

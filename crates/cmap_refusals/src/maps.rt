@@ -15,17 +15,26 @@ const OF_IDENTITY: Asked = Asked {
 };
 
 pub fn tell_all(rt: &(impl Print + AllocGlobal)) -> io::Result<()> {
-    let alloc = rt.alloc();
     for case in ACCEPTED {
-        let found = again!(read(alloc, case.bytes, case.with));
+        let found = again!(read(rt.alloc(), case.bytes, case.with));
         tell_map(rt, call_of(case.with), case.title, &found, case.asked)?;
     }
-    for (title, bytes, with) in REFUSED {
-        tell(rt, call_of(with), title, &again!(read(alloc, bytes, with)))?;
+    tell_refused(rt)?;
+    tell_identities(rt)
+}
+
+fn tell_refused(rt: &(impl Print + AllocGlobal)) -> io::Result<()> {
+    for &(title, bytes, with) in REFUSED {
+        let found = again!(read(rt.alloc(), bytes, with));
+        tell(rt, call_of(with), title, &found)?;
     }
-    let found = again!(CMap::identity_h(alloc) => Outcome::Map);
+    Ok(())
+}
+
+fn tell_identities(rt: &(impl Print + AllocGlobal)) -> io::Result<()> {
+    let found = again!(CMap::identity_h(rt.alloc()) => Outcome::Map);
     tell_map(rt, "CMap::identity_h", "no file", &found, OF_IDENTITY)?;
-    let found = again!(CMap::identity_v(alloc) => Outcome::Map);
+    let found = again!(CMap::identity_v(rt.alloc()) => Outcome::Map);
     tell_map(rt, "CMap::identity_v", "no file", &found, OF_IDENTITY)
 }
 

@@ -6,10 +6,10 @@ use std::alloc::{AllocError, Global};
 use std::{fmt, io};
 
 /// Names.
-const NAMES: [(&str, &[u8]); 3] = [("H", b"H"), ("Identity-V", b"Identity-V"), ("h", b"h")];
+const NAMES: &[(&str, &[u8])] = &[("H", b"H"), ("Identity-V", b"Identity-V"), ("h", b"h")];
 
 /// Registries and orderings.
-const FAMILIES: [(&str, &[u8], &[u8]); 7] = [
+const FAMILIES: &[(&str, &[u8], &[u8])] = &[
     ("Adobe Japan1", b"Adobe", b"Japan1"),
     ("Adobe GB1", b"Adobe", b"GB1"),
     ("Adobe CNS1", b"Adobe", b"CNS1"),
@@ -20,11 +20,15 @@ const FAMILIES: [(&str, &[u8], &[u8]); 7] = [
 ];
 
 pub fn tell_all(rt: &(impl Print + AllocGlobal)) -> io::Result<()> {
-    for (title, text) in NAMES {
+    for &(title, text) in NAMES {
         let name = Name(Some(CMapName::from_bytes(text)));
         tell(rt, "CMapName::from_bytes", title, &name)?;
     }
-    for (title, registry, ordering) in FAMILIES {
+    tell_families(rt)
+}
+
+fn tell_families(rt: &(impl Print + AllocGlobal)) -> io::Result<()> {
+    for &(title, registry, ordering) in FAMILIES {
         let made = again!(collection_of(rt.alloc(), registry, ordering));
         tell(rt, "CidFamily::from_registry_ordering", title, &made)?;
         tell_family(rt, title, &made)?;

@@ -9,7 +9,7 @@ use std::{fmt, io};
 const BYTES: &[u8] = &[1, 2, 3, 4, 5, 6, 7, 8, 9, 10];
 
 /// Tables of deltas after a byte, and the bits that are read by them.
-const DELTAS: [(&str, &[u8], &[u8]); 3] = [
+const DELTAS: &[(&str, &[u8], &[u8])] = &[
     (
         "words of one and two bits",
         b"\xFF\0\x03\x02\0\x01\0\x02\0\0\0\x05\0\0\0\x06\xFF\xFF\xFF\xFF",
@@ -28,7 +28,7 @@ const DELTAS: [(&str, &[u8], &[u8]); 3] = [
 ];
 
 /// Tables of counts after a byte, and the bits that are read by them.
-const COUNTS: [(&str, &[u8], &[u8]); 3] = [
+const COUNTS: &[(&str, &[u8], &[u8])] = &[
     (
         "words of two and three bits",
         b"\xFF\0\x01\x03\0\0\0\x01\0\x02\x05\x06\x07",
@@ -51,14 +51,19 @@ enum Symbols {
 
 pub fn tell_all(rt: &(impl Print + AllocGlobal)) -> io::Result<()> {
     tell(rt, "Reader", "ten bytes", &Calls(BYTES))?;
-    for (title, bytes, bits) in DELTAS {
-        let found = table_of(rt.alloc(), Symbols::FourBytes, bytes);
-        tell(rt, "PrefixTable::parse_delta", title, &found)?;
-        tell_symbols(rt, title, &found, bits)?;
-    }
-    for (title, bytes, bits) in COUNTS {
-        let found = table_of(rt.alloc(), Symbols::OneByte, bytes);
-        tell(rt, "PrefixTable::parse_count", title, &found)?;
+    tell_tables(rt, "PrefixTable::parse_delta", Symbols::FourBytes, DELTAS)?;
+    tell_tables(rt, "PrefixTable::parse_count", Symbols::OneByte, COUNTS)
+}
+
+fn tell_tables(
+    rt: &(impl Print + AllocGlobal),
+    call: &str,
+    symbols: Symbols,
+    tables: &[(&str, &[u8], &[u8])],
+) -> io::Result<()> {
+    for &(title, bytes, bits) in tables {
+        let found = table_of(rt.alloc(), symbols, bytes);
+        tell(rt, call, title, &found)?;
         tell_symbols(rt, title, &found, bits)?;
     }
     Ok(())

@@ -6,7 +6,7 @@ use std::alloc::{AllocError, Global};
 use std::{fmt, io};
 
 /// Declarations from a first code to a last one.
-const TABLES: [(&str, &[(u32, u32)]); 3] = [
+const TABLES: &[(&str, &[(u32, u32)])] = &[
     (
         "ranges within ranges",
         &[(0, 0xFF), (0x10, 0x20), (0x18, 0x18)],
@@ -16,7 +16,7 @@ const TABLES: [(&str, &[(u32, u32)]); 3] = [
 ];
 
 /// Codes that are looked for.
-const CODES: [u32; 4] = [0x10, 0x18, 0x21, 0x100];
+const CODES: &[u32] = &[0x10, 0x18, 0x21, 0x100];
 
 /// A declaration.
 #[derive(Drop)]
@@ -33,22 +33,11 @@ impl HasRange for Declared {
 }
 
 pub fn tell_all(rt: &(impl Print + AllocGlobal)) -> io::Result<()> {
-    for (title, ranges) in TABLES {
+    for &(title, ranges) in TABLES {
         let table = again!(table_of(rt.alloc(), ranges));
-        tell(
-            rt,
-            "Table::build",
-            title,
-            &question_on(&table, Asked::Count),
-        )?;
-        tell(
-            rt,
-            "  decl",
-            title,
-            &question_on(&table, Asked::Declarations),
-        )?;
-        tell(rt, "  run", title, &question_on(&table, Asked::Runs))?;
-        tell(rt, "  find", title, &question_on(&table, Asked::Codes))?;
+        for &(call, asked) in QUESTIONS {
+            tell(rt, call, title, &question_on(&table, asked))?;
+        }
     }
     Ok(())
 }
@@ -77,6 +66,14 @@ enum Asked {
     /// The declarations of some codes.
     Codes,
 }
+
+/// The calls that tell it.
+const QUESTIONS: &[(&str, Asked)] = &[
+    ("Table::build", Asked::Count),
+    ("  decl", Asked::Declarations),
+    ("  run", Asked::Runs),
+    ("  find", Asked::Codes),
+];
 
 /// A table, and what it is asked.
 #[derive(Clone, Copy)]
@@ -112,7 +109,7 @@ impl fmt::Display for Question<'_> {
                 }
             }
             Asked::Codes => {
-                for code in CODES {
+                for &code in CODES {
                     write!(f, " {code:X}:")?;
                     match table.find(code, &mut looks) {
                         Some(found) => write_range(found.range(), f)?,

@@ -7,21 +7,21 @@ use std::alloc::{AllocError, Global};
 use std::{fmt, io};
 
 /// The bytes of destinations.
-const DESTINATIONS: [(&str, &[u8]); 3] = [
+const DESTINATIONS: &[(&str, &[u8])] = &[
     ("two characters", &[0, 0x66, 0, 0x66]),
     ("three bytes", &[0xD8, 0x3D, 0xDE]),
     ("no byte", &[]),
 ];
 
 /// Numbers of one to four bytes, that destinations write.
-const NUMBERS: [(&str, u8, u32); 3] = [
+const NUMBERS: &[(&str, u8, u32)] = &[
     ("two bytes", 2, 0x0041),
     ("three bytes", 3, 0x00D8_3DDE),
     ("four bytes", 4, 0xD83D_DFFE),
 ];
 
 /// Units, and the offset of a code.
-const UNITS: [(&str, &[u16], u32); 8] = [
+const UNITS: &[(&str, &[u16], u32)] = &[
     ("two characters", &[0x66, 0x66], 0),
     ("two characters, one code on", &[0x66, 0x66], 1),
     ("one character", &[0x41], 0),
@@ -33,25 +33,26 @@ const UNITS: [(&str, &[u16], u32); 8] = [
 ];
 
 pub fn tell_all(rt: &(impl Print + AllocGlobal)) -> io::Result<()> {
-    let alloc = rt.alloc();
-    for (title, bytes) in DESTINATIONS {
-        tell(
-            rt,
-            "units",
-            title,
-            &again!(units(alloc, bytes) => DestinationUnits),
-        )?;
-    }
-    for (title, len, number) in NUMBERS {
-        tell(
-            rt,
-            "number_units",
-            title,
-            &again!(number_units(alloc, len, number) => DestinationUnits),
-        )?;
-    }
-    for (title, units, offset) in UNITS {
+    tell_units(rt)?;
+    tell_numbers(rt)?;
+    for &(title, units, offset) in UNITS {
         tell_text(rt, title, units, offset)?;
+    }
+    Ok(())
+}
+
+fn tell_units(rt: &(impl Print + AllocGlobal)) -> io::Result<()> {
+    for &(title, bytes) in DESTINATIONS {
+        let found = again!(units(rt.alloc(), bytes) => DestinationUnits);
+        tell(rt, "units", title, &found)?;
+    }
+    Ok(())
+}
+
+fn tell_numbers(rt: &(impl Print + AllocGlobal)) -> io::Result<()> {
+    for &(title, len, number) in NUMBERS {
+        let found = again!(number_units(rt.alloc(), len, number) => DestinationUnits);
+        tell(rt, "number_units", title, &found)?;
     }
     Ok(())
 }

@@ -6,7 +6,7 @@ use std::alloc::Global;
 use std::{fmt, io};
 
 /// Texts.
-const TEXTS: [(&str, &[u8]); 2] = [
+const TEXTS: &[(&str, &[u8])] = &[
     (
         "of each kind",
         b"/Name (a\\)b) <8140> 17 4.5 16#1F dup [ % only",
@@ -15,7 +15,7 @@ const TEXTS: [(&str, &[u8]); 2] = [
 ];
 
 /// Strings.
-const STRINGS: [(&str, &[u8]); 4] = [
+const STRINGS: &[(&str, &[u8])] = &[
     ("in parentheses", b"(a\\)b(c)\\1234\\q)"),
     ("of five bytes", b"<81 40 82 41 83>"),
     ("of digits apart", b"<0 04 1 8>"),
@@ -26,10 +26,14 @@ const STRINGS: [(&str, &[u8]); 4] = [
 const BEFORE: &[u8] = b"before";
 
 pub fn tell_all(rt: &(impl Print + AllocGlobal)) -> io::Result<()> {
-    for (title, text) in TEXTS {
+    for &(title, text) in TEXTS {
         tell(rt, "Scanner::next_token", title, &Tokens(text))?;
     }
-    for (title, text) in STRINGS {
+    tell_strings(rt)
+}
+
+fn tell_strings(rt: &(impl Print + AllocGlobal)) -> io::Result<()> {
+    for &(title, text) in STRINGS {
         if let Ok(Some(Token::String(string))) = Scanner::new(text).next_token() {
             tell_string(rt, title, string)?;
         }
