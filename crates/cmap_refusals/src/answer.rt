@@ -4,7 +4,7 @@ use std::{fmt, io};
 
 /// What came of a call. The text of an answer begins with a blank.
 #[derive(Drop)]
-pub enum Answer<T> {
+pub(crate) enum Answer<T> {
     /// What the call answered.
     Given(T),
     /// There was no memory, also when the call was made again.
@@ -26,7 +26,7 @@ impl<T: fmt::Display> fmt::Display for Answer<T> {
 
 impl<T> Answer<T> {
     /// What is told of a call that gave no answer.
-    pub fn words(&self) -> &'static str {
+    pub(crate) fn words(&self) -> &'static str {
         match self {
             Answer::Given(_) => "",
             Answer::NoMemory => " no memory",
@@ -36,7 +36,7 @@ impl<T> Answer<T> {
     }
 
     /// This answer, with a reference to what the call gave.
-    pub fn as_ref(&self) -> Answer<&T> {
+    pub(crate) fn as_ref(&self) -> Answer<&T> {
         match self {
             Answer::Given(answer) => Answer::Given(answer),
             Answer::NoMemory => Answer::NoMemory,
@@ -72,7 +72,7 @@ macro_rules! again {
 pub(crate) use again;
 
 /// Prints the line of a call.
-pub fn tell(
+pub(crate) fn tell(
     rt: &impl Print,
     call: &str,
     input: impl fmt::Display + Drop,
@@ -83,7 +83,7 @@ pub fn tell(
 
 /// Bytes as hexadecimal digits.
 #[derive(Clone, Copy)]
-pub struct Digits<'a>(pub &'a [u8]);
+pub(crate) struct Digits<'a>(pub(crate) &'a [u8]);
 
 impl fmt::Display for Digits<'_> {
     fn fmt<W: fmt::Write>(&self, f: &mut fmt::Formatter<W>) -> fmt::Result {
@@ -96,7 +96,7 @@ impl fmt::Display for Digits<'_> {
 
 /// Bytes as text.
 #[derive(Clone, Copy)]
-pub struct Text<'a>(pub &'a [u8]);
+pub(crate) struct Text<'a>(pub(crate) &'a [u8]);
 
 impl fmt::Display for Text<'_> {
     fn fmt<W: fmt::Write>(&self, f: &mut fmt::Formatter<W>) -> fmt::Result {

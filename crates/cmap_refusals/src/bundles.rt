@@ -46,7 +46,7 @@ const NAMES: &[(&str, CMapName<'static>)] = &[
     ("X", CMapName::Custom(b"X")),
 ];
 
-pub fn tell_all(rt: &(impl Print + AllocGlobal)) -> io::Result<()> {
+pub(crate) fn tell_all(rt: &(impl Print + AllocGlobal)) -> io::Result<()> {
     for &(title, bytes, is_bundle) in BYTES {
         let found = again!(Bundle::parse(rt.alloc(), bytes) => Parsed);
         tell(rt, "Bundle::parse", title, &found)?;

@@ -4,7 +4,7 @@ use crate::lookups::Asked;
 
 /// What a file is read with, beside the files that some names have.
 #[derive(Clone, Copy)]
-pub enum With {
+pub(crate) enum With {
     /// Nothing.
     Nothing,
     /// A budget of bytes.
@@ -15,28 +15,28 @@ pub enum With {
 
 /// A file that is accepted, and what its map is asked.
 #[derive(Clone, Copy)]
-pub struct Accepted {
+pub(crate) struct Accepted {
     /// What the file is, in a few words.
-    pub title: &'static str,
-    pub bytes: &'static [u8],
-    pub with: With,
-    pub asked: Asked,
+    pub(crate) title: &'static str,
+    pub(crate) bytes: &'static [u8],
+    pub(crate) with: With,
+    pub(crate) asked: Asked,
 }
 
 /// Two tables, and the file of the codes 0x20 and 0x21 at the place of the first name.
-pub const BUNDLE: &[u8] = &[
+pub(crate) const BUNDLE: &[u8] = &[
     0, 0, 0, 19, 0, 2, 1, 0, 2, 0, 0, 0, 0x20, 0, 0, 0, 0, 0, 1, 1, 0, 1, 4, 0x62, 0x63, 0x6D,
     0x61, 0x70, 1, 0, 0, 0, 26, 4, 0, 0, 0, 16, 0, 2, 0, 0, 0, 1, 0x40, 0, 5, 0, 0,
 ];
 
 /// A binary file of the codes 0x20 and 0x21 of two bytes, with the CIDs 5 and 6.
-pub const FILE: &[u8] = b"bcmap\x01\0\0\0\x1A\x04\0\0\0\x10\0\x02\0\0\0\x01\x40\0\x05\0\0";
+pub(crate) const FILE: &[u8] = b"bcmap\x01\0\0\0\x1A\x04\0\0\0\x10\0\x02\0\0\0\x01\x40\0\x05\0\0";
 
 /// That input without its last byte.
-pub const CUT_FILE: &[u8] = b"bcmap\x01\0\0\0\x1A\x04\0\0\0\x10\0\x02\0\0\0\x01\x40\0\x05\0";
+pub(crate) const CUT_FILE: &[u8] = b"bcmap\x01\0\0\0\x1A\x04\0\0\0\x10\0\x02\0\0\0\x01\x40\0\x05\0";
 
 /// Files that are accepted.
-pub const ACCEPTED: &[Accepted] = &[
+pub(crate) const ACCEPTED: &[Accepted] = &[
     Accepted {
         title: "ranges within ranges",
         bytes: b"begincidrange <0000> <00FF> 0 <0010> <0020> 1000 <0018> <0018> 5 endcidrange",
@@ -199,7 +199,7 @@ begincidrange <8140> <9FFC> 100 endcidrange",
 ];
 
 /// Files that are refused, or over their budgets.
-pub const REFUSED: &[(&str, &[u8], With)] = &[
+pub(crate) const REFUSED: &[(&str, &[u8], With)] = &[
     (
         "a text that is refused at its end",
         b"begincidrange <0000> <00FF> 0 <0010> <0020> 1000 endcidrange )",

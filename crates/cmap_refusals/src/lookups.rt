@@ -9,11 +9,11 @@ use std::{fmt, io};
 
 /// What a map is asked.
 #[derive(Clone, Copy)]
-pub struct Asked {
+pub(crate) struct Asked {
     /// Codes with their numbers of bytes, whose CIDs are asked.
-    pub codes: &'static [(u8, u32)],
+    pub(crate) codes: &'static [(u8, u32)],
     /// Codes whose texts are asked.
-    pub texts: &'static [u32],
+    pub(crate) texts: &'static [u32],
 }
 
 /// The calls that look a CID up.
@@ -32,7 +32,7 @@ const LOOKUPS: &[(&str, Lookup)] = &[
 ];
 
 /// Tells what a map answers, where there is one.
-pub fn tell_lookups(
+pub(crate) fn tell_lookups(
     rt: &(impl Print + AllocGlobal),
     title: &str,
     map: Option<&CMap>,

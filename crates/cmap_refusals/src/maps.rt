@@ -14,7 +14,7 @@ const OF_IDENTITY: Asked = Asked {
     texts: &[0x41],
 };
 
-pub fn tell_all(rt: &(impl Print + AllocGlobal)) -> io::Result<()> {
+pub(crate) fn tell_all(rt: &(impl Print + AllocGlobal)) -> io::Result<()> {
     for case in ACCEPTED {
         let found = again!(read(rt.alloc(), case.bytes, case.with));
         tell_map(rt, call_of(case.with), case.title, &found, case.asked)?;

@@ -19,7 +19,7 @@ const FAMILIES: &[(&str, &[u8], &[u8])] = &[
     ("ABC x", b"ABC", b"x"),
 ];
 
-pub fn tell_all(rt: &(impl Print + AllocGlobal)) -> io::Result<()> {
+pub(crate) fn tell_all(rt: &(impl Print + AllocGlobal)) -> io::Result<()> {
     for &(title, text) in NAMES {
         let name = Name(Some(CMapName::from_bytes(text)));
         tell(rt, "CMapName::from_bytes", title, &name)?;
@@ -111,7 +111,7 @@ impl fmt::Display for Collection {
 }
 
 /// The family of a collection, and its supplement.
-pub fn write_collection<W: fmt::Write>(
+pub(crate) fn write_collection<W: fmt::Write>(
     collection: &CharacterCollection,
     f: &mut fmt::Formatter<W>,
 ) -> fmt::Result {

@@ -49,7 +49,7 @@ enum Symbols {
     FourBytes,
 }
 
-pub fn tell_all(rt: &(impl Print + AllocGlobal)) -> io::Result<()> {
+pub(crate) fn tell_all(rt: &(impl Print + AllocGlobal)) -> io::Result<()> {
     tell(rt, "Reader", "ten bytes", &Calls(BYTES))?;
     tell_tables(rt, "PrefixTable::parse_delta", Symbols::FourBytes, DELTAS)?;
     tell_tables(rt, "PrefixTable::parse_count", Symbols::OneByte, COUNTS)

@@ -32,7 +32,7 @@ impl HasRange for Declared {
     }
 }
 
-pub fn tell_all(rt: &(impl Print + AllocGlobal)) -> io::Result<()> {
+pub(crate) fn tell_all(rt: &(impl Print + AllocGlobal)) -> io::Result<()> {
     for &(title, ranges) in TABLES {
         let table = again!(table_of(rt.alloc(), ranges));
         for &(call, asked) in QUESTIONS {

@@ -32,7 +32,7 @@ const UNITS: &[(&str, &[u16], u32)] = &[
     ("no unit", &[], 0),
 ];
 
-pub fn tell_all(rt: &(impl Print + AllocGlobal)) -> io::Result<()> {
+pub(crate) fn tell_all(rt: &(impl Print + AllocGlobal)) -> io::Result<()> {
     tell_units(rt)?;
     tell_numbers(rt)?;
     for &(title, units, offset) in UNITS {
@@ -100,7 +100,7 @@ impl fmt::Display for DestinationUnits {
 
 /// The text of a code.
 #[derive(Drop)]
-pub struct Characters(pub Option<BfString>);
+pub(crate) struct Characters(pub(crate) Option<BfString>);
 
 impl fmt::Display for Characters {
     fn fmt<W: fmt::Write>(&self, f: &mut fmt::Formatter<W>) -> fmt::Result {

@@ -25,7 +25,7 @@ const STRINGS: &[(&str, &[u8])] = &[
 /// What vectors hold before a string is put in its place.
 const BEFORE: &[u8] = b"before";
 
-pub fn tell_all(rt: &(impl Print + AllocGlobal)) -> io::Result<()> {
+pub(crate) fn tell_all(rt: &(impl Print + AllocGlobal)) -> io::Result<()> {
     for &(title, text) in TEXTS {
         tell(rt, "Scanner::next_token", title, &Tokens(text))?;
     }

@@ -1,193 +1,180 @@
--- The entries of sections, by the tokens that are read, and where there is none.
-use Rattle.std.proofs.Common.{◌≡◌, ◌≢◌, ℕ, ◌+◌, ◌-◌, false, refl, sym, ap, ◌∙◌, subst, List, [], ◌∷◌, ◌++◌, ◌⊎◌, inl, inr, length}
-use Rattle.std.specs.Prelude.{codes}
+-- The entries of sections: what is read is an entry, and each entry is read.
+use Rattle.std.proofs.Common.{◌≡◌, Bool, ℕ, zero, suc, ◌+◌, ◌-◌, false, refl, sym, ap, ◌∙◌, subst, List, [], ◌∷◌, ◌++◌, inl, inr, length}
+use Rattle.std.proofs.lemmas.Bool.{cases_Bool, eqb-true, eq-eqb}
+use Rattle.std.proofs.lemmas.Option.{none-some}
+use Rattle.std.specs.List.{AllZip, enumerate_from}
+use Rattle.std.specs.Prelude.{codes, map, Option, Some, None, ◌==◌, option_and_then, if◌then◌else◌}
 use Rattle.cmap_bits.specs.BigEndian.{big_endian}
-use Rattle.cmap_tokens.specs.Strings.{HaveOneValue}
+use Rattle.cmap_tokens.specs.TokenReading.{HaveValuesRead}
 use Rattle.cmap_tokens.specs.Tokens.{Token}
-use Rattle.cmap_files.specs.Only.{HoldsOfNone}
-use Rattle.cmap_files.specs.Files.{CidEntry, Declaration, Lists}
-use Rattle.cmap_text.specs.TextFiles.{IsCode, IsCid, IsDestination, IsCidRange, IsCidChar, IsEntry, codespace_range, bf_char, bf_range, declares_bf}
-use Rattle.cmap_text.specs.TextSeen.{IsCidEntry}
-use Rattle.cmap_text.specs.declared.entries.Shape.{Shape}
-use Rattle.cmap_text.specs.declared.entries.Shape.TheVariants.{Range, Single}
-use Rattle.cmap_text.specs.TextReading.{Code, code_of, GivesCode, Begins, HasNoFront, Behind, IsList, Declares, closing_bracket, Takes, HasNoHead}
 use Rattle.cmap_tokens.specs.TokensLeft.{Left, with_front}
-use Rattle.cmap_text.proofs.HeadsRead.{IsCode-only}
+use Rattle.cmap_files.specs.Files.{CidEntry, Declaration, Lists, lists_of}
+use Rattle.cmap_files.specs.ListsAppended.{append_lists}
+use Rattle.cmap_files.proofs.ListsMade.{added_more}
+use Rattle.cmap_text.specs.TextFiles.{Section, codespace_range, cid_range, cid_char, notdef_range, notdef_char, bf_range, bf_char, declares_bf, IsCode, IsDestination, IsCidRange, IsCidChar, IsEntry}
+use Rattle.cmap_text.specs.TextReading.{Code, Declared, added, code_in, cid_in, cid_range_after, cid_char_after, declared_as, destination_in, entry_after, entry_in, is_executable, head_in, before, list_in, one_text, texts_in}
+use Rattle.cmap_text.proofs.TokensRead.{bound, mapped, tested, written, code_is, code_found, cid_is, cid_found, destination_is, destination_found, is_executable-found, head_found}
+
+-- what is left begins with tokens that are this
+abbrev pub Begins : {A : Type 0} → (List Token → A → Type 0) → Left → A × Left → Type 0
+Begins Is left found = (front : List Token) × (left ≡ with_front front found.1) × Is front found.0
 
 abbrev pub opening_bracket : Token
 opening_bracket = Token.Name false (codes "[")
 
--- the tokens of an entry behind its first one
-tail_is : (first a : Token) (tokens more rest tail : List Token) → tokens ≡ more ++ rest → first ∷ more ≡ a ∷ tail → (a ≡ first) × (tokens ≡ tail ++ rest)
-tail_is first a tokens more rest tail at shape = let same : more ≡ tail = cc in (cc, at ∙ ap (λ m. m ++ rest) same)
+abbrev pub closing_bracket : Token
+closing_bracket = Token.Name false (codes "]")
 
--- the head of what is left, and what is left behind it
-pub head_is : (old new : Left) (t u : Token) (rest : List Token) → old ≡ with_front (t ∷ []) new → old.tokens ≡ u ∷ rest → (u ≡ t) × (new.tokens ≡ rest)
-head_is old new t u rest whole shape = let both : t ∷ new.tokens ≡ u ∷ rest = sym (ap (λ l. l.tokens) whole) ∙ shape in (cc, cc)
+-- one declaration for each destination, from this code on
+abbrev pub declared_from : ℕ → List (List ℕ) → List Declaration
+declared_from start texts = map (λ p. declares_bf p.0 p.0 p.1) (enumerate_from start texts)
 
--- code, code, CID
-module _ (kind : ℕ → CidEntry → Declaration) (first : Token) where
-  abbrev filed : Code → ℕ → ℕ → List Declaration
-  filed start end cid = kind start.len (record { start = start.number; end = end; cid = cid }) ∷ []
+-- destinations for count codes, and ]
+abbrev pub IsList : ℕ → ℕ → List Token → List Declaration → Type 0
+IsList count start tokens declared = (ds : List Token) × (texts : List (List ℕ)) × (tokens ≡ ds ++ closing_bracket ∷ []) × AllZip IsDestination ds texts × (length texts ≡ count) × (declared ≡ declared_from start texts)
 
-  pub cid_range_read : (old mid new : Left) (start end : Code) (cid : ℕ) → GivesCode first start → Takes GivesCode old end mid → Takes IsCid mid cid new → Begins (Behind (IsCidRange kind) first) old (filed start end.number cid) new
-  cid_range_read old mid new start end cid (s, is_s, start_is) (b, second, (e, is_e, end_is)) (c, third, is_c) = (
-    b ∷ c ∷ [],
-    second ∙ ap (with_front (b ∷ [])) third,
-    (first, b, c, s, e, cid, refl, is_s, is_e, is_c, ap (λ k. filed k end.number cid) start_is ∙ ap (λ k. filed (code_of s) k.number cid) end_is),
-  )
+module _ (strings : HaveValuesRead) where
+  -- ---- what is read is an entry
+  head_code : (left : Left) (p : Code × Left) → head_in code_in left ≡ Some p → (t : Token) × (bytes : List ℕ) × (left ≡ with_front (t ∷ []) p.1) × IsCode t bytes × (written bytes ≡ p.0)
+  head_code left p is =
+      let (t, whole, gives) = head_found code_in left p is in
+      let (bytes, code, same) = code_found strings t p.0 gives in
+      (t, bytes, whole, code, same)
 
-  pub no_cid_range-start : (left : List Token) → HoldsOfNone (GivesCode first) → HasNoFront (Behind (IsCidRange kind) first) left
-  no_cid_range-start left none more rest declared at (a, b, c, s, e, cid, shape, is_s, is_e, is_c, declares) =
-      let (head, tail) = tail_is first a left more rest (b ∷ c ∷ []) at shape in none (code_of s) (s, subst (λ t. IsCode t s) head is_s, refl)
+  range_found : (kind : ℕ → CidEntry → Declaration) (t : Token) (bytes : List ℕ) (left : Left) (found : Declared) → IsCode t bytes → declared_as kind (cid_range_after (written bytes) left) ≡ Some found → Begins (λ more. IsCidRange kind (t ∷ more)) left found
+  range_found kind t bytes left found is_start is =
+      let (filed_at, reads, same) = mapped _ (cid_range_after (written bytes) left) found is in
+      let (end, second, last) = bound _ (head_in code_in left) filed_at reads in
+      let (c, third, cid_same) = mapped _ (head_in cid_in end.1) filed_at last in
+      let (b, end_bytes, whole, is_end, end_same) = head_code left end second in
+      let (d, rest, gives) = head_found cid_in end.1 c third in
+      subst (Begins (λ more. IsCidRange kind (t ∷ more)) left) (ap (λ p. (kind p.0.0 p.0.1 ∷ [], p.1)) cid_same ∙ same) (
+        b ∷ d ∷ [],
+        whole ∙ ap (with_front (b ∷ [])) rest,
+        (t, b, d, bytes, end_bytes, c.0, refl, is_start, is_end, cid_found d c.0 gives, ap (λ k. kind (length bytes) (record { start = big_endian bytes; end = k.number; cid = c.0 }) ∷ []) (sym end_same)),
+      )
 
-  pub no_cid_range-end : (left : List Token) → HasNoHead GivesCode left → HasNoFront (Behind (IsCidRange kind) first) left
-  no_cid_range-end left none more rest declared at (a, b, c, s, e, cid, shape, is_s, is_e, is_c, declares) =
-      let (head, tail) = tail_is first a left more rest (b ∷ c ∷ []) at shape in none b (c ∷ rest) (code_of e) tail (e, is_e, refl)
+  char_found : (kind : ℕ → CidEntry → Declaration) (t : Token) (bytes : List ℕ) (left : Left) (found : Declared) → IsCode t bytes → declared_as kind (cid_char_after (written bytes) left) ≡ Some found → Begins (λ more. IsCidChar kind (t ∷ more)) left found
+  char_found kind t bytes left found is_code is =
+      let (filed_at, reads, same) = mapped _ (cid_char_after (written bytes) left) found is in
+      let (c, second, cid_same) = mapped _ (head_in cid_in left) filed_at reads in
+      let (d, whole, gives) = head_found cid_in left c second in
+      subst (Begins (λ more. IsCidChar kind (t ∷ more)) left) (ap (λ p. (kind p.0.0 p.0.1 ∷ [], p.1)) cid_same ∙ same) (
+        d ∷ [],
+        whole,
+        (t, d, bytes, c.0, refl, is_code, cid_found d c.0 gives, refl),
+      )
 
-  -- code, CID
-  pub cid_char_read : (old new : Left) (code : Code) (cid : ℕ) → GivesCode first code → Takes IsCid old cid new → Begins (Behind (IsCidChar kind) first) old (filed code code.number cid) new
-  cid_char_read old new code cid (s, is_s, code_is) (c, second, is_c) = (c ∷ [], second, (first, c, s, cid, refl, is_s, is_c, ap (λ k. filed k k.number cid) code_is))
+  list_found : (count start : ℕ) (left : Left) (found : Declared) → list_in count start left ≡ Some found → Begins (IsList count start) left found
+  unfolding list_in
+  list_found zero start left found is =
+      let (t, whole, gives) = head_found (λ t. if is_executable (codes "]") t then Some [] else None) left found is in
+      let (closes, none) = tested (is_executable (codes "]") t) [] found.0 gives in
+      (t ∷ [], whole, ([], [], ap (λ u. u ∷ []) (is_executable-found (codes "]") t closes), tt, refl, sym none))
+  list_found (suc count) start left found is =
+      let (d, head, more) = bound _ (head_in destination_in left) found is in
+      let (t, whole, gives) = head_found destination_in left d head in
+      let (p, rest, same) = mapped _ (list_in count (start + 1) d.1) found more in
+      let (front, tail, (ds, texts, shape, all, counted, declares)) = list_found count (start + 1) d.1 p rest in
+      subst (Begins (IsList (suc count) start) left) same (
+        t ∷ front,
+        whole ∙ ap (with_front (t ∷ [])) tail,
+        (t ∷ ds, d.0 ∷ texts, ap (λ ts. t ∷ ts) shape, (destination_found strings t d.0 gives, all), ap suc counted, ap (λ ds. declares_bf start start d.0 ∷ ds) declares),
+      )
 
-  pub no_cid_char-code : (left : List Token) → HoldsOfNone (GivesCode first) → HasNoFront (Behind (IsCidChar kind) first) left
-  no_cid_char-code left none more rest declared at (a, c, s, cid, shape, is_s, is_c, declares) =
-      let (head, tail) = tail_is first a left more rest (c ∷ []) at shape in none (code_of s) (s, subst (λ t. IsCode t s) head is_s, refl)
+  text_found : (start end : ℕ) (left : Left) (found : Declared) → one_text start end left ≡ Some found → (d : Token) × (units : List ℕ) × (left ≡ with_front (d ∷ []) found.1) × IsDestination d units × (found.0 ≡ declares_bf start end units ∷ [])
+  text_found start end left found is =
+      let (d, head, same) = mapped _ (head_in destination_in left) found is in
+      let (t, whole, gives) = head_found destination_in left d head in
+      (t, d.0, whole ∙ ap (λ p. with_front (t ∷ []) p.1) same, destination_found strings t d.0 gives, ap (λ p. p.0) (sym same))
 
-  pub no_cids-start : (shape : Shape) (left : List Token) → HoldsOfNone (GivesCode first) → HasNoFront (Behind (IsCidEntry shape kind) first) left
-  no_cids-start Range = no_cid_range-start
-  no_cids-start Single = no_cid_char-code
+  -- after two codes
+  texts_found : (a b : Token) (s e : List ℕ) (left : Left) (found : Declared) → IsCode a s → IsCode b e → texts_in (big_endian s) (big_endian e) left ≡ Some found → Begins (λ more. IsEntry bf_range (a ∷ b ∷ more)) left found
+  texts_found a b s e left found is_start is_end is = at left.tokens left.ends is
+    where
+      at : (tokens : List Token) (ends : Bool) → texts_in (big_endian s) (big_endian e) (record { tokens = tokens; ends = ends }) ≡ Some found → Begins (λ more. IsEntry bf_range (a ∷ b ∷ more)) (record { tokens = tokens; ends = ends }) found
+      at [] ends none = absurd (none-some found none)
+      at (t ∷ rest) ends reads =
+          elim (cases_Bool (is_executable (codes "[") t)) [
+            | inl opens ↦
+                let bracket : t ≡ opening_bracket = is_executable-found (codes "[") t opens in
+                let (front, tail, (ds, texts, shape, all, counted, declares)) = list_found (big_endian e + 1 - big_endian s) (big_endian s) (record { tokens = rest; ends = ends }) found (rw opens at reads) in
+                (t ∷ front, ap (with_front (t ∷ [])) tail, (a, b, s, e, is_start, is_end, inr (ds, texts, ap (λ u. a ∷ b ∷ u ∷ front) bracket ∙ ap (λ f. a ∷ b ∷ opening_bracket ∷ f) shape, all, counted, declares)))
+            | inr other ↦
+                let (d, units, whole, is_d, declares) = text_found (big_endian s) (big_endian e) (record { tokens = t ∷ rest; ends = ends }) found (rw other at reads) in
+                (d ∷ [], whole, (a, b, s, e, is_start, is_end, inl (d, units, refl, is_d, declares)))
+          ]
 
-module _ (first : Token) where
-  -- code, code of the same length
-  abbrev spaced : Code → Code → List Declaration
-  spaced low high = Declaration.codespace (record { len = low.len; low = low.number; high = high.number }) ∷ []
+  after_found : (section : Section) (t : Token) (bytes : List ℕ) (left : Left) (found : Declared) → IsCode t bytes → entry_after section (written bytes) left ≡ Some found → Begins (λ more. IsEntry section (t ∷ more)) left found
+  after_found codespace_range t low left found is_low is =
+      let (h, head, rest) = bound _ (head_in code_in left) found is in
+      let (b, high, whole, is_high, high_same) = head_code left h head in
+      let (same, declares) = tested (length low == h.0.len) _ found rest in
+      subst (Begins (λ more. IsEntry codespace_range (t ∷ more)) left) declares (
+        b ∷ [],
+        whole,
+        (t, b, low, high, refl, is_low, is_high, eqb-true (length low) h.0.len same ∙ ap (λ k. k.len) (sym high_same), ap (λ k. Declaration.codespace (record { len = length low; low = big_endian low; high = k.number }) ∷ []) (sym high_same)),
+      )
+  after_found cid_range t bytes left found is_code is = range_found Declaration.cid t bytes left found is_code is
+  after_found cid_char t bytes left found is_code is = char_found Declaration.cid t bytes left found is_code is
+  after_found notdef_range t bytes left found is_code is = range_found Declaration.notdef t bytes left found is_code is
+  after_found notdef_char t bytes left found is_code is = char_found Declaration.notdef t bytes left found is_code is
+  after_found bf_char t bytes left found is_code is =
+      let (d, units, whole, is_d, declares) = text_found (big_endian bytes) (big_endian bytes) left found is in
+      (d ∷ [], whole, (t, d, bytes, units, refl, is_code, is_d, declares))
+  after_found bf_range t bytes left found is_code is =
+      let (h, head, rest) = bound _ (head_in code_in left) found is in
+      let (b, end, whole, is_end, end_same) = head_code left h head in
+      let (front, tail, entry) = texts_found t b bytes end h.1 found is_code is_end (ap (λ k. texts_in (big_endian bytes) k.number h.1) end_same ∙ rest) in
+      (b ∷ front, whole ∙ ap (with_front (b ∷ [])) tail, entry)
 
-  pub codespace_read : (old new : Left) (low high : Code) → GivesCode first low → Takes GivesCode old high new → low.len ≡ high.len → Begins (Behind (IsEntry codespace_range) first) old (spaced low high) new
-  codespace_read old new low high (l, is_l, low_is) (b, second, (h, is_h, high_is)) same = (
-    b ∷ [],
-    second,
-    (first, b, l, h, refl, is_l, is_h, sym (ap (λ k. k.len) low_is) ∙ same ∙ ap (λ k. k.len) high_is, ap (λ k. spaced k high) low_is ∙ ap (spaced (code_of l)) high_is),
-  )
+  pub entry_found : (section : Section) (left : Left) (found : Declared) → entry_in section left ≡ Some found → Begins (IsEntry section) left found
+  entry_found section left found is =
+      let (s, head, rest) = bound _ (head_in code_in left) found is in
+      let (t, bytes, whole, code, same) = head_code left s head in
+      let (more, tail, entry) = after_found section t bytes s.1 found code (ap (λ k. entry_after section k s.1) same ∙ rest) in
+      (t ∷ more, whole ∙ ap (with_front (t ∷ [])) tail, entry)
 
-  pub no_codespace-low : (left : List Token) → HoldsOfNone (GivesCode first) → HasNoFront (Behind (IsEntry codespace_range) first) left
-  no_codespace-low left none more rest declared at (a, b, l, h, shape, is_l, is_h, same, declares) =
-      let (head, tail) = tail_is first a left more rest (b ∷ []) at shape in none (code_of l) (l, subst (λ t. IsCode t l) head is_l, refl)
+  -- ---- each entry is read
+  list_is : (ds : List Token) (texts : List (List ℕ)) (start : ℕ) (new : Left) → AllZip IsDestination ds texts → list_in (length texts) start (with_front (ds ++ closing_bracket ∷ []) new) ≡ Some (declared_from start texts, new)
+  unfolding list_in
+  list_is [] [] start new all = refl
+  list_is [] (u ∷ texts) start new all = absurd all
+  list_is (d ∷ ds) [] start new all = absurd all
+  list_is (d ∷ ds) (u ∷ texts) start new all = rw (destination_is strings d u all.0, list_is ds texts (start + 1) new all.1) refl
 
-  pub no_codespace-high : (left : List Token) → HasNoHead GivesCode left → HasNoFront (Behind (IsEntry codespace_range) first) left
-  no_codespace-high left none more rest declared at (a, b, l, h, shape, is_l, is_h, same, declares) =
-      let (head, tail) = tail_is first a left more rest (b ∷ []) at shape in none b rest (code_of h) tail (h, is_h, refl)
+  range_is : (kind : ℕ → CidEntry → Declaration) (tokens : List Token) (declared : List Declaration) (new : Left) → IsCidRange kind tokens declared → option_and_then (λ s. declared_as kind (cid_range_after s.0 s.1)) (head_in code_in (with_front tokens new)) ≡ Some (declared, new)
+  range_is kind tokens declared new (a, b, c, start, end, cid, shape, is_start, is_end, is_cid, declares) = rw (shape, code_is strings a start is_start, code_is strings b end is_end, cid_is c cid is_cid, declares) refl
 
-  pub no_codespace-length : HaveOneValue → (left new : Left) (low high : Code) → GivesCode first low → Takes GivesCode left high new → low.len ≢ high.len → HasNoFront (Behind (IsEntry codespace_range) first) left.tokens
-  no_codespace-length one_value left new low high (l', is_l', low_is) (t, second, (h', is_h', high_is)) differ more rest declared at (a, b, l, h, shape, is_l, is_h, same, declares) =
-      let (head, tail) = tail_is first a left.tokens more rest (b ∷ []) at shape in
-      let low_same : l' ≡ l = IsCode-only one_value first l' l is_l' (subst (λ t. IsCode t l) head is_l) in
-      let high_same : h ≡ h' = IsCode-only one_value t h h' (subst (λ u. IsCode u h) (head_is left new t b rest second tail).0 is_h) is_h' in
-      differ (ap (λ k. k.len) low_is ∙ ap length low_same ∙ same ∙ ap length high_same ∙ sym (ap (λ k. k.len) high_is))
+  char_is : (kind : ℕ → CidEntry → Declaration) (tokens : List Token) (declared : List Declaration) (new : Left) → IsCidChar kind tokens declared → option_and_then (λ s. declared_as kind (cid_char_after s.0 s.1)) (head_in code_in (with_front tokens new)) ≡ Some (declared, new)
+  char_is kind tokens declared new (a, c, code, cid, shape, is_code, is_cid, declares) = rw (shape, code_is strings a code is_code, cid_is c cid is_cid, declares) refl
 
-  -- code, destination
-  pub bf_char_read : (old new : Left) (code : Code) (units : List ℕ) → GivesCode first code → Takes IsDestination old units new → Begins (Behind (IsEntry bf_char) first) old (declares_bf code.number code.number units ∷ []) new
-  bf_char_read old new code units (s, is_s, code_is) (d, second, is_d) = (d ∷ [], second, (first, d, s, units, refl, is_s, is_d, ap (λ k. declares_bf k.number k.number units ∷ []) code_is))
+  pub entry_is : (section : Section) (tokens : List Token) (declared : List Declaration) (new : Left) → IsEntry section tokens declared → entry_in section (with_front tokens new) ≡ Some (declared, new)
+  entry_is codespace_range tokens declared new (a, b, low, high, shape, is_low, is_high, same, declares) =
+      rw (shape, code_is strings a low is_low, code_is strings b high is_high, eq-eqb (length low) (length high) same, declares) refl
+  entry_is cid_range tokens declared new entry = range_is Declaration.cid tokens declared new entry
+  entry_is cid_char tokens declared new entry = char_is Declaration.cid tokens declared new entry
+  entry_is notdef_range tokens declared new entry = range_is Declaration.notdef tokens declared new entry
+  entry_is notdef_char tokens declared new entry = char_is Declaration.notdef tokens declared new entry
+  entry_is bf_char tokens declared new (a, d, code, units, shape, is_code, is_d, declares) = rw (shape, code_is strings a code is_code, destination_is strings d units is_d, declares) refl
+  entry_is bf_range tokens declared new (a, b, start, end, is_start, is_end, inl (d, units, shape, (piece, bytes, string, value, filled, units_are), declares)) =
+      rw (shape, code_is strings a start is_start, code_is strings b end is_end, declares, string, destination_is strings (Token.String piece) units (piece, bytes, refl, value, filled, units_are)) refl
+  entry_is bf_range tokens declared new (a, b, start, end, is_start, is_end, inr (ds, texts, shape, all, count, declares)) =
+      rw (shape, code_is strings a start is_start, code_is strings b end is_end, declares, ← count, list_is ds texts (big_endian start) new all) refl
 
-  pub no_bf_char-code : (left : List Token) → HoldsOfNone (GivesCode first) → HasNoFront (Behind (IsEntry bf_char) first) left
-  no_bf_char-code left none more rest declared at (a, d, s, units, shape, is_s, is_d, declares) =
-      let (head, tail) = tail_is first a left more rest (d ∷ []) at shape in none (code_of s) (s, subst (λ t. IsCode t s) head is_s, refl)
+-- ---- declarations as they are added to the lists of a file
+pub added_before : (lists : Lists) (declared : List Declaration) (more : Option Declared) → added lists (before declared more) ≡ added (append_lists lists (lists_of declared)) more
+added_before lists declared None = refl
+added_before lists declared (Some p) = ap (λ l. Some (l, p.1)) (sym (added_more lists (append_lists lists (lists_of declared)) _ declared p.0 refl refl))
 
-  pub no_bf_char-destination : (left : List Token) → HasNoHead IsDestination left → HasNoFront (Behind (IsEntry bf_char) first) left
-  no_bf_char-destination left none more rest declared at (a, d, s, units, shape, is_s, is_d, declares) =
-      let (head, tail) = tail_is first a left more rest (d ∷ []) at shape in none d rest units tail is_d
+pub list_more : (lists : Lists) (count after code : ℕ) (here mid : Left) (units : List ℕ) → count ≡ suc after → head_in destination_in here ≡ Some (units, mid) → added lists (list_in count code here) ≡ added (append_lists lists (lists_of (declares_bf code code units ∷ []))) (list_in after (code + 1) mid)
+unfolding list_in
+list_more lists count after code here mid units more head = rw (more, head) (added_before lists (declares_bf code code units ∷ []) (list_in after (code + 1) mid))
 
-  -- code, code, and one destination or a list of them
-  record BfRangeParts (left rest : List Token) (declared : List Declaration) : Type 0 where
-    start : List ℕ
-    end : List ℕ
-    second : Token
-    behind : List Token
-    start_is : IsCode first start
-    end_is : IsCode second end
-    at : left ≡ second ∷ behind
-    last : ((d : Token) × (units : List ℕ) × (behind ≡ d ∷ rest) × IsDestination d units)
-        ⊎ ((tokens : List Token) × (behind ≡ opening_bracket ∷ tokens ++ rest) × IsList (big_endian start) (big_endian end + 1 - big_endian start) tokens declared)
+pub list_short : (lists : Lists) (count after code : ℕ) (here : Left) → count ≡ suc after → head_in destination_in here ≡ None → added lists (list_in count code here) ≡ None
+unfolding list_in
+list_short lists count after code here more none = rw (more, none) refl
 
-  parts : (left more rest : List Token) (declared : List Declaration) → left ≡ more ++ rest → IsEntry bf_range (first ∷ more) declared → BfRangeParts left rest declared
-  parts left more rest declared at (a, b, start, end, is_start, is_end, inl (d, units, shape, is, declares)) =
-      let (head, tail) = tail_is first a left more rest (b ∷ d ∷ []) at shape in
-      record { start = start; end = end; second = b; behind = d ∷ rest; start_is = subst (λ t. IsCode t start) head is_start; end_is = is_end; at = tail; last = inl (d, units, refl, is) }
-  parts left more rest declared at (a, b, start, end, is_start, is_end, inr (ds, texts, shape, all, count, declares)) =
-      let list = ds ++ closing_bracket ∷ [] in
-      let (head, tail) = tail_is first a left more rest (b ∷ opening_bracket ∷ list) at shape in
-      record { start = start; end = end; second = b; behind = opening_bracket ∷ list ++ rest; start_is = subst (λ t. IsCode t start) head is_start; end_is = is_end; at = tail; last = inr (list, refl, (ds, texts, refl, all, count, declares)) }
-
-  -- [ is no destination
-  no_bracket : (units : List ℕ) → IsDestination opening_bracket units → ⊥
-  no_bracket units (piece, bytes, is, value, filled, units_are) = cc
-
-  pub no_bf_range-start : (left : List Token) → HoldsOfNone (GivesCode first) → HasNoFront (Behind (IsEntry bf_range) first) left
-  no_bf_range-start left none more rest declared at is = let p = parts left more rest declared at is in none (code_of p.start) (p.start, p.start_is, refl)
-
-  pub no_bf_range-end : (left : List Token) → HasNoHead GivesCode left → HasNoFront (Behind (IsEntry bf_range) first) left
-  no_bf_range-end left none more rest declared at is = let p = parts left more rest declared at is in none p.second p.behind (code_of p.end) p.at (p.end, p.end_is, refl)
-
-  module _ (left next : Left) (start end : Code) (gives_start : GivesCode first start) (takes_end : Takes GivesCode left end next) where
-    pub bf_range_read : (new : Left) (t : Token) (units : List ℕ) → next ≡ with_front (t ∷ []) new → IsDestination t units → Begins (Behind (IsEntry bf_range) first) left (declares_bf start.number end.number units ∷ []) new
-    bf_range_read new t units third is =
-        let (s, is_s, start_is) = gives_start in
-        let (b, second, (e, is_e, end_is)) = takes_end in (
-          b ∷ t ∷ [],
-          second ∙ ap (with_front (b ∷ [])) third,
-          (first, b, s, e, is_s, is_e, inl (t, units, refl, is, ap (λ k. declares_bf k.number end.number units ∷ []) start_is ∙ ap (λ k. declares_bf (big_endian s) k.number units ∷ []) end_is)),
-        )
-
-    pub bf_range_list : (mid new : Left) (t : Token) (old now : Lists) → next ≡ with_front (t ∷ []) mid → t ≡ opening_bracket → Declares (IsList start.number (end.number + 1 - start.number)) mid new old now → Declares (Behind (IsEntry bf_range) first) left new old now
-    bf_range_list mid new t old now third opens list =
-        let (s, is_s, start_is) = gives_start in
-        let (b, second, (e, is_e, end_is)) = takes_end in
-        let (front, fourth, is) = list.begins in
-        let (ds, texts, shape, all, count, declares) = subst (λ k. IsList k.number (end.number + 1 - k.number) front list.declared) start_is is in
-        record {
-          declared = list.declared;
-          begins = (
-            b ∷ t ∷ front,
-            second ∙ ap (with_front (b ∷ [])) (third ∙ ap (with_front (t ∷ [])) fourth),
-            (first, b, s, e, is_s, is_e, inr (ds, texts, ap (λ u. first ∷ b ∷ u ∷ front) opens ∙ ap (λ f. first ∷ b ∷ opening_bracket ∷ f) shape, all, count ∙ ap (λ k. k.number + 1 - big_endian s) end_is, declares)),
-          );
-          added = list.added;
-        }
-
-    -- what stands behind the second code of an entry
-    third_is : HaveOneValue → (more rest : List Token) (declared : List Declaration) → left.tokens ≡ more ++ rest → IsEntry bf_range (first ∷ more) declared
-        → ((d : Token) × (units : List ℕ) × (next.tokens ≡ d ∷ rest) × IsDestination d units)
-        ⊎ ((tokens : List Token) × (next.tokens ≡ opening_bracket ∷ tokens ++ rest) × IsList start.number (end.number + 1 - start.number) tokens declared)
-    third_is one_value more rest declared at is =
-        let p = parts left.tokens more rest declared at is in
-        let (s, is_s, start_is) = gives_start in
-        let (b, second, (e, is_e, end_is)) = takes_end in
-        let (same, behind) = head_is left next b p.second p.behind second p.at in
-        let start_same : p.start ≡ s = IsCode-only one_value first p.start s p.start_is is_s in
-        let end_same : p.end ≡ e = IsCode-only one_value b p.end e (subst (λ t. IsCode t p.end) same p.end_is) is_e in
-        let from_start : big_endian p.start ≡ start.number = ap big_endian start_same ∙ sym (ap (λ k. k.number) start_is) in
-        let to_end : big_endian p.end ≡ end.number = ap big_endian end_same ∙ sym (ap (λ k. k.number) end_is) in
-        elim p.last [
-          | inl (d, units, shape, is_d) ↦ inl (d, units, behind ∙ shape, is_d)
-          | inr (tokens, shape, list) ↦ inr (tokens, behind ∙ shape, rw (← from_start, ← to_end) list)
-        ]
-
-    pub no_bf_range-token : HaveOneValue → next.tokens ≡ [] → HasNoFront (Behind (IsEntry bf_range) first) left.tokens
-    no_bf_range-token one_value none more rest declared at is =
-        elim (third_is one_value more rest declared at is) [
-          | inl (d, units, shape, is_d) ↦ cc
-          | inr (tokens, shape, list) ↦ cc
-        ]
-
-    pub no_bf_range-one : HaveOneValue → (t : Token) (mid : Left) → next ≡ with_front (t ∷ []) mid → t ≢ opening_bracket → HoldsOfNone (IsDestination t) → HasNoFront (Behind (IsEntry bf_range) first) left.tokens
-    no_bf_range-one one_value t mid third other none more rest declared at is =
-        elim (third_is one_value more rest declared at is) [
-          | inl (d, units, shape, is_d) ↦ none units (subst (λ u. IsDestination u units) (head_is next mid t d rest third shape).0 is_d)
-          | inr (tokens, shape, list) ↦ other (sym (head_is next mid t opening_bracket (tokens ++ rest) third shape).0)
-        ]
-
-    pub no_bf_range-list : HaveOneValue → (t : Token) (mid : Left) → next ≡ with_front (t ∷ []) mid → t ≡ opening_bracket → HasNoFront (IsList start.number (end.number + 1 - start.number)) mid.tokens → HasNoFront (Behind (IsEntry bf_range) first) left.tokens
-    no_bf_range-list one_value t mid third opens none more rest declared at is =
-        elim (third_is one_value more rest declared at is) [
-          | inl (d, units, shape, is_d) ↦ no_bracket units (subst (λ u. IsDestination u units) ((head_is next mid t d rest third shape).0 ∙ opens) is_d)
-          | inr (tokens, shape, list) ↦ none tokens rest declared (head_is next mid t opening_bracket (tokens ++ rest) third shape).1 list
-        ]
+pub list_closed : (lists : Lists) (count code : ℕ) (here : Left) → count ≡ 0 → added lists (list_in count code here) ≡ added lists (head_in (λ t. if is_executable (codes "]") t then Some [] else None) here)
+unfolding list_in
+list_closed lists count code here done = rw done refl

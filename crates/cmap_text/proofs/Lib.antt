@@ -1,9 +1,7 @@
+pub mod TokensRead
 pub mod EntriesRead
-pub mod OneReading
-pub mod FileItems
+pub mod SectionsRead
 pub mod ItemsRead
 pub mod ItemsSaid
-pub mod ListsOfDestinations
-pub mod SectionsRead
+pub mod TextRead
 pub mod ValuesRead
-pub mod HeadsRead

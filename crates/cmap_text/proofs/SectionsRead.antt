@@ -1,168 +1,137 @@
--- A section, as far as it is read, with what it has added to the lists of a file.
-use Rattle.std.proofs.Common.{◌≡◌, ◌≢◌, ℕ, ◌<◌, false, refl, sym, ap, ◌∙◌, subst, List, [], ◌∷◌, ◌++◌, ◌⊎◌, inl, inr, length, take, arith, length-append, append_assoc, append-nil}
-use Rattle.std.proofs.lemmas.List.{take_at, append_cancel_left}
-use Rattle.std.specs.Prelude.{flat_map}
-use Rattle.std.specs.List.{AllZip, AllByRecursion}
+-- Sections: what is read is a body with its closer, and each such body is read. And a section as far as it is read, with what it has added to the lists of a file.
+use Rattle.std.proofs.Common.{◌≡◌, ℕ, zero, suc, Bool, true, false, refl, sym, ap, ◌∙◌, subst, List, [], ◌∷◌, ◌++◌, ◌≤◌, ◌<◌, length, arith, length-append, append_assoc, append-nil, inl, inr}
+use Rattle.std.proofs.lemmas.Bool.{cases_Bool}
+use Rattle.std.proofs.lemmas.Option.{none-some, same_Some}
+use Rattle.std.specs.List.{AllByRecursion}
+use Rattle.std.specs.Prelude.{flat_map, Option, Some, None}
+use Rattle.cmap_tokens.specs.TokenReading.{HaveValuesRead}
 use Rattle.cmap_tokens.specs.Tokens.{Token}
-use Rattle.cmap_files.specs.Files.{Declaration, Lists, lists_of}
-use Rattle.cmap_files.specs.ListsAppended.{append_lists}
-use Rattle.cmap_text.specs.TextFiles.{Section, codespace_range, cid_range, cid_char, notdef_range, notdef_char, bf_range, bf_char, closer, IsEntry, IsDestination}
-use Rattle.cmap_text.specs.TextReading.{closing_bracket, Behind, HasNoFront, IsClosedBody, Declares}
-use Rattle.cmap_tokens.specs.TokensLeft.{Left, with_front}
-use Rattle.cmap_text.proofs.EntriesRead.{opening_bracket}
-use Rattle.cmap_files.proofs.ListsMade.{append_lists-none, added_more}
+use Rattle.cmap_tokens.specs.TokensLeft.{Left, ended, with_front}
+use Rattle.cmap_files.specs.Files.{Declaration, Lists}
+use Rattle.cmap_text.specs.TextFiles.{Section, closer, IsEntry, IsBody}
+use Rattle.cmap_text.specs.TextReading.{Declared, added, before, body_in, body_within, code_in, entry_after, entry_in, is_executable, head_in}
+use Rattle.cmap_files.proofs.ListsMade.{append_lists-none}
+use Rattle.cmap_text.proofs.TokensRead.{bound, mapped, code_found, is_executable-found, is_executable-own, head_found}
+use Rattle.cmap_text.proofs.EntriesRead.{Begins, entry_found, entry_is, added_before}
 
 abbrev pub closing : Section → Token
 closing section = Token.Name false (closer section)
 
--- each entry begins with a string
-pub entry_begins : (section : Section) (tokens : List Token) (declared : List Declaration) → IsEntry section tokens declared → (piece : List ℕ) × (more : List Token) × (tokens ≡ Token.String piece ∷ more)
-entry_begins codespace_range tokens declared (a, b, low, high, shape, (piece, is, value, least, most), is_high, same, declares) = (piece, b ∷ [], shape ∙ ap (λ t. t ∷ b ∷ []) is)
-entry_begins cid_range tokens declared (a, b, c, start, end, cid, shape, (piece, is, value, least, most), is_end, is_cid, declares) = (piece, b ∷ c ∷ [], shape ∙ ap (λ t. t ∷ b ∷ c ∷ []) is)
-entry_begins cid_char tokens declared (a, c, code, cid, shape, (piece, is, value, least, most), is_cid, declares) = (piece, c ∷ [], shape ∙ ap (λ t. t ∷ c ∷ []) is)
-entry_begins notdef_range tokens declared (a, b, c, start, end, cid, shape, (piece, is, value, least, most), is_end, is_cid, declares) = (piece, b ∷ c ∷ [], shape ∙ ap (λ t. t ∷ b ∷ c ∷ []) is)
-entry_begins notdef_char tokens declared (a, c, code, cid, shape, (piece, is, value, least, most), is_cid, declares) = (piece, c ∷ [], shape ∙ ap (λ t. t ∷ c ∷ []) is)
-entry_begins bf_char tokens declared (a, d, code, units, shape, (piece, is, value, least, most), is_destination, declares) = (piece, d ∷ [], shape ∙ ap (λ t. t ∷ d ∷ []) is)
-entry_begins bf_range tokens declared (a, b, start, end, (piece, is, value, least, most), is_end, inl (d, units, shape, is_destination, declares)) = (piece, b ∷ d ∷ [], shape ∙ ap (λ t. t ∷ b ∷ d ∷ []) is)
-entry_begins bf_range tokens declared (a, b, start, end, (piece, is, value, least, most), is_end, inr (ds, texts, shape, all, count, declares)) =
-    (piece, b ∷ opening_bracket ∷ ds ++ closing_bracket ∷ [], shape ∙ ap (λ t. t ∷ b ∷ opening_bracket ∷ ds ++ closing_bracket ∷ []) is)
+abbrev pub left : List Token → Bool → Left
+left tokens ends = record { tokens = tokens; ends = ends }
 
--- an entry ends at the same place in every reading
-same_front : (a b r s : List Token) → a ++ r ≡ b ++ s → length a ≡ length b → a ≡ b
-same_front a b r s same long = sym (take_at a r (length b) long) ∙ ap (take (length b)) same ∙ take_at b s (length b) refl
-
-same_list : (ds others : List Token) (texts all : List (List ℕ)) (r s : List Token) → AllZip IsDestination ds texts → AllZip IsDestination others all → ds ++ (closing_bracket ∷ r) ≡ others ++ (closing_bracket ∷ s) → length ds ≡ length others
-same_list [] [] texts all r s a b same = refl
-same_list [] (t ∷ others) texts [] r s a b same = absurd b
-same_list [] (t ∷ others) texts (u ∷ all) r s a ((piece, bytes, is, value, filled, units_are), more) same = cc
-same_list (t ∷ ds) [] [] all r s a b same = absurd a
-same_list (t ∷ ds) [] (u ∷ texts) all r s ((piece, bytes, is, value, filled, units_are), more) b same = cc
-same_list (t ∷ ds) (d ∷ others) [] all r s a b same = absurd a
-same_list (t ∷ ds) (d ∷ others) (u ∷ texts) [] r s a b same = absurd b
-same_list (t ∷ ds) (d ∷ others) (u ∷ texts) (v ∷ all) r s a b same = let tail : ds ++ (closing_bracket ∷ r) ≡ others ++ (closing_bracket ∷ s) = cc in let long = same_list ds others texts all r s a.1 b.1 tail in omega (arith, long)
-
-pub entry_front : (section : Section) (x y r s : List Token) (d e : List Declaration) → IsEntry section x d → IsEntry section y e → x ++ r ≡ y ++ s → x ≡ y
-entry_front codespace_range x y r s d e p q same = same_front x y r s same (ap length p.4 ∙ sym (ap length q.4))
-entry_front cid_range x y r s d e p q same = same_front x y r s same (ap length p.6 ∙ sym (ap length q.6))
-entry_front cid_char x y r s d e p q same = same_front x y r s same (ap length p.4 ∙ sym (ap length q.4))
-entry_front notdef_range x y r s d e p q same = same_front x y r s same (ap length p.6 ∙ sym (ap length q.6))
-entry_front notdef_char x y r s d e p q same = same_front x y r s same (ap length p.4 ∙ sym (ap length q.4))
-entry_front bf_char x y r s d e p q same = same_front x y r s same (ap length p.4 ∙ sym (ap length q.4))
-entry_front bf_range x y r s d e (a, b, start, end, is_start, is_end, inl (t, units, shape, is, declares)) (a', b', start', end', is_start', is_end', inl (t', units', shape', is', declares')) same = same_front x y r s same (ap length shape ∙ sym (ap length shape'))
-entry_front bf_range x y r s d e (a, b, start, end, is_start, is_end, inl (t, units, shape, (piece, bytes, is, value, filled, units_are), declares)) (a', b', start', end', is_start', is_end', inr (ds', texts', shape', all', count', declares')) same =
-    let both : a ∷ b ∷ t ∷ r ≡ a' ∷ b' ∷ opening_bracket ∷ ((ds' ++ closing_bracket ∷ []) ++ s) = sym (ap (λ l. l ++ r) shape) ∙ same ∙ ap (λ l. l ++ s) shape' in cc
-entry_front bf_range x y r s d e (a, b, start, end, is_start, is_end, inr (ds, texts, shape, all, count, declares)) (a', b', start', end', is_start', is_end', inl (t, units, shape', (piece, bytes, is, value, filled, units_are), declares')) same =
-    let both : a ∷ b ∷ opening_bracket ∷ ((ds ++ closing_bracket ∷ []) ++ r) ≡ a' ∷ b' ∷ t ∷ s = sym (ap (λ l. l ++ r) shape) ∙ same ∙ ap (λ l. l ++ s) shape' in cc
-entry_front bf_range x y r s d e (a, b, start, end, is_start, is_end, inr (ds, texts, shape, all, count, declares)) (a', b', start', end', is_start', is_end', inr (ds', texts', shape', all', count', declares')) same =
-    let both : a ∷ b ∷ opening_bracket ∷ ((ds ++ closing_bracket ∷ []) ++ r) ≡ a' ∷ b' ∷ opening_bracket ∷ ((ds' ++ closing_bracket ∷ []) ++ s) = sym (ap (λ l. l ++ r) shape) ∙ same ∙ ap (λ l. l ++ s) shape' in
-    let tails : (ds ++ closing_bracket ∷ []) ++ r ≡ (ds' ++ closing_bracket ∷ []) ++ s = cc in
-    let long = same_list ds ds' texts texts' r s all all' (sym (append_assoc ds (closing_bracket ∷ []) r) ∙ tails ∙ append_assoc ds' (closing_bracket ∷ []) s) in
-    same_front x y r s same (omega (arith, long, ap length shape, ap length shape', length-append ds (closing_bracket ∷ []), length-append ds' (closing_bracket ∷ [])))
-
-abbrev pub Entry : Type 0
+abbrev Entry : Type 0
 Entry = List Token × List Declaration
 
-abbrev pub tokens_in : List Entry → List Token
-tokens_in es = flat_map (λ e. e.0) es
+-- the entries and the closer of a section
+abbrev pub IsClosedBody : Section → List Token → List Declaration → Type 0
+IsClosedBody section tokens declared = (body : List Token) × (tokens ≡ body ++ closing section ∷ []) × IsBody section body declared
 
--- a body begins with the closer, or with an entry
-pub body_parts : (section : Section) (front : List Token) (declared : List Declaration) → IsClosedBody section front declared → ((front ≡ closing section ∷ []) × (declared ≡ []))
-    ⊎ ((e : Entry) × (later : List Token) × (rest : List Declaration) × (front ≡ e.0 ++ later) × (declared ≡ e.1 ++ rest) × IsEntry section e.0 e.1 × IsClosedBody section later rest)
-body_parts section front declared (body, shape, ([], each, is, declares)) = inl (shape ∙ ap (λ b. b ++ closing section ∷ []) is, declares)
-body_parts section front declared (body, shape, (e ∷ es, each, is, declares)) = inr (
-  e,
-  tokens_in es ++ closing section ∷ [],
-  flat_map (λ x. x.1) es,
-  shape ∙ ap (λ b. b ++ closing section ∷ []) is ∙ append_assoc e.0 (tokens_in es) (closing section ∷ []),
-  declares,
-  each.0,
-  (tokens_in es, refl, (es, each.1, refl, refl)),
-)
+-- an entry that doesn't close the section comes first
+body_next : (count : ℕ) (section : Section) (t : Token) (next : Left) (e : Declared) → is_executable (closer section) t ≡ false → entry_in section (with_front (t ∷ []) next) ≡ Some e
+    → body_within (suc count) section (with_front (t ∷ []) next) ≡ before e.0 (body_within count section e.1)
+unfolding body_within
+body_next count section t next e other entry = rw (other, entry) refl
 
--- behind entries that are read, a body goes on with a body
-body_behind : (section : Section) (es : List Entry) (here front rest : List Token) (declared : List Declaration) → AllByRecursion (λ e. IsEntry section e.0 e.1) es → tokens_in es ++ here ≡ front ++ rest → IsClosedBody section front declared
-    → (later : List Token) × (more : List Declaration) × (here ≡ later ++ rest) × IsClosedBody section later more
-body_behind section [] here front rest declared each same body = (front, declared, same, body)
-body_behind section (e ∷ es) here front rest declared each same body =
-    let (piece, more, begins) = entry_begins section e.0 e.1 each.0 in
-    let split : e.0 ++ (tokens_in es ++ here) ≡ front ++ rest = sym (append_assoc e.0 (tokens_in es) here) ∙ same in
-    elim (body_parts section front declared body) [
-      | inl (closed, none) ↦
-          let clash : Token.String piece ∷ (more ++ (tokens_in es ++ here)) ≡ closing section ∷ rest = sym (ap (λ l. l ++ (tokens_in es ++ here)) begins) ∙ split ∙ ap (λ f. f ++ rest) closed in cc
-      | inr (f, later, left, shape, declares, is, closes) ↦
-          let both : e.0 ++ (tokens_in es ++ here) ≡ f.0 ++ (later ++ rest) = split ∙ ap (λ l. l ++ rest) shape ∙ append_assoc f.0 later rest in
-          let same_tokens = entry_front section e.0 f.0 (tokens_in es ++ here) (later ++ rest) e.1 f.1 each.0 is both in
-          let behind : tokens_in es ++ here ≡ later ++ rest = append_cancel_left e.0 (tokens_in es ++ here) (later ++ rest) (both ∙ ap (λ x. x ++ (later ++ rest)) (sym same_tokens)) in
-          body_behind section es here later rest left each.1 behind closes
-    ]
+module _ (strings : HaveValuesRead) where
+  pub body_found : (count : ℕ) (section : Section) (tokens : List Token) (ends : Bool) (found : Declared) → body_within count section (left tokens ends) ≡ Some found → Begins (IsClosedBody section) (left tokens ends) found
+  unfolding body_within
+  body_found zero section tokens ends found is = absurd (none-some found is)
+  body_found (suc count) section [] ends found is = absurd (none-some found is)
+  body_found (suc count) section (t ∷ rest) ends found is =
+      elim (cases_Bool (is_executable (closer section) t)) [
+        | inl closes ↦
+            let same = same_Some ([], left rest ends) found (rw closes at is) in
+            let shape : t ∷ [] ≡ closing section ∷ [] = ap (λ u. u ∷ []) (is_executable-found (closer section) t closes) in
+            subst (Begins (IsClosedBody section) (left (t ∷ rest) ends)) same (t ∷ [], refl, ([], shape, ([], tt, refl, refl)))
+        | inr other ↦
+            let (e, entry, more) = bound _ (entry_in section (left (t ∷ rest) ends)) found (rw other at is) in
+            let (p, later, same) = mapped _ (body_within count section e.1) found more in
+            let (front, whole, is_entry) = entry_found strings section (left (t ∷ rest) ends) e entry in
+            let (tail, after, (body, shape, (es, each, tokens, declares))) = body_found count section e.1.tokens e.1.ends p later in
+            subst (Begins (IsClosedBody section) (left (t ∷ rest) ends)) same (
+              front ++ tail,
+              whole ∙ ap (with_front front) after ∙ ap (λ ts. left ts p.1.ends) (sym (append_assoc front tail p.1.tokens)),
+              (front ++ body, ap (λ l. front ++ l) shape ∙ sym (append_assoc front body (closing section ∷ [])), ((front, e.0) ∷ es, (is_entry, each), ap (λ l. front ++ l) tokens, ap (λ l. e.0 ++ l) declares)),
+            )
+      ]
 
-pub record IsReading (section : Section) (start here : Left) (old new : Lists) : Type 0 where
-  pub es : List Entry
-  pub each : AllByRecursion (λ e. IsEntry section e.0 e.1) es
-  pub read : start ≡ with_front (tokens_in es) here
-  pub added : new ≡ append_lists old (lists_of (flat_map (λ e. e.1) es))
+  -- each entry begins with a string
+  entry_begins : (section : Section) (tokens : List Token) (declared : List Declaration) → IsEntry section tokens declared → (t : Token) × (more : List Token) × (tokens ≡ t ∷ more) × (is_executable (closer section) t ≡ false)
+  entry_begins section tokens declared entry =
+      let (s, head, rest) = bound (λ s. entry_after section s.0 s.1) (head_in code_in (with_front tokens ended)) (declared, ended) (entry_is strings section tokens declared ended entry) in
+      let (t, whole, gives) = head_found code_in (with_front tokens ended) s head in
+      let (bytes, (piece, string, value, least, most), same) = code_found strings t s.0 gives in
+      (t, s.1.tokens, sym (append-nil tokens) ∙ ap (λ l. l.tokens) whole, ap (is_executable (closer section)) string)
+
+  pub entries_are : (count : ℕ) (section : Section) (es : List Entry) (new : Left) → AllByRecursion (λ e. IsEntry section e.0 e.1) es → length (flat_map (λ e. e.0) es) < count → body_within count section (with_front (flat_map (λ e. e.0) es ++ closing section ∷ []) new) ≡ Some (flat_map (λ e. e.1) es, new)
+  unfolding body_within
+  entries_are zero section es new each long = absurd (omega (arith, long))
+  entries_are (suc count) section [] new each long = rw (is_executable-own (closer section)) refl
+  entries_are (suc count) section (e ∷ es) new each long =
+      let body = flat_map (λ e. e.0) es in
+      let later = body ++ closing section ∷ [] in
+      let next = with_front later new in
+      let (t, more, shape, other) = entry_begins section e.0 e.1 each.0 in
+      let long_after : length (flat_map (λ e. e.0) es) < count = omega (arith, long, ap length shape, length-append e.0 body) in
+      let whole : with_front (flat_map (λ e. e.0) (e ∷ es) ++ closing section ∷ []) new ≡ with_front (t ∷ []) (with_front more next) =
+      ap (λ ts. left (ts ++ new.tokens) new.ends) (append_assoc e.0 body (closing section ∷ [])) ∙ ap (λ ts. left ts new.ends) (append_assoc e.0 later new.tokens ∙ ap (λ ts. ts ++ next.tokens) shape) in
+      ap (body_within (suc count) section) whole ∙ body_next count section t (with_front more next) (e.1, next) other (ap (λ ts. entry_in section (with_front ts next)) (sym shape) ∙ entry_is strings section e.0 e.1 next each.0)
+      ∙ ap (before e.1) (entries_are count section es new each.1 long_after)
+
+  -- what is left after an entry is shorter
+  pub shorter_entry : (section : Section) (t : Token) (next mid : Left) (now new : Lists) → added now (entry_in section (with_front (t ∷ []) next)) ≡ Some (new, mid) → length mid.tokens ≤ length next.tokens
+  shorter_entry section t next mid now new is =
+      let (e, entry, same) = mapped _ (entry_in section (with_front (t ∷ []) next)) (new, mid) is in
+      let (front, whole, is_entry) = entry_found strings section (with_front (t ∷ []) next) e entry in
+      let (first, more, shape, other) = entry_begins section front e.0 is_entry in
+      omega (arith, ap (λ l. length l.tokens) whole, ap length shape, length-append front e.1.tokens, ap (λ p. length p.1.tokens) same)
+
+-- a section as far as it is read: at most count tokens are left, and they decide what is added in all
+pub record IsReading (section : Section) (start here : Left) (old now : Lists) : Type 0 where
+  pub count : ℕ
+  pub long : length here.tokens ≤ count
+  pub same : added old (body_in section start) ≡ added now (body_within count section here)
 
 pub IsReading-none : (section : Section) (start : Left) (lists : Lists) → IsReading section start start lists lists
-IsReading-none section start lists = record { es = []; each = tt; read = refl; added = sym (append_lists-none lists) }
+unfolding body_in
+IsReading-none section start lists = record { count = length start.tokens; long = omega arith; same = refl }
 
-all_more : (section : Section) (es : List Entry) (e : Entry) → AllByRecursion (λ e. IsEntry section e.0 e.1) es → IsEntry section e.0 e.1 → AllByRecursion (λ e. IsEntry section e.0 e.1) (es ++ e ∷ [])
-all_more section [] e each is = (is, tt)
-all_more section (f ∷ es) e each is = (each.0, all_more section es e each.1 is)
+pub IsReading-end : (section : Section) (start here : Left) (old now : Lists) → IsReading section start here old now → here.tokens ≡ [] → added old (body_in section start) ≡ None
+unfolding body_within
+IsReading-end section start here old now reading none = reading.same ∙ ap (added now) (at reading.count)
+  where
+    at : (count : ℕ) → body_within count section here ≡ None
+    at zero = refl
+    at (suc count) = rw none refl
 
-flat_more : {A : Type 0} (f : Entry → List A) (es : List Entry) (e : Entry) → flat_map f (es ++ e ∷ []) ≡ flat_map f es ++ f e
-flat_more f [] e = append-nil (f e)
-flat_more f (x ∷ es) e = ap (λ l. f x ++ l) (flat_more f es e) ∙ sym (append_assoc (f x) (flat_map f es) (f e))
+module _ (section : Section) (start here next : Left) (t : Token) (old now : Lists) (reading : IsReading section start here old now) (token : here ≡ with_front (t ∷ []) next) where
+  -- with a token more
+  one_more : (count : ℕ) × (length next.tokens ≤ count) × (added old (body_in section start) ≡ added now (body_within (suc count) section (with_front (t ∷ []) next)))
+  one_more = at reading.count reading.long reading.same
+    where
+      at : (count : ℕ) → length here.tokens ≤ count → added old (body_in section start) ≡ added now (body_within count section here) → (count : ℕ) × (length next.tokens ≤ count) × (added old (body_in section start) ≡ added now (body_within (suc count) section (with_front (t ∷ []) next)))
+      at zero long same = absurd (omega (arith, long, ap (λ l. length l.tokens) token))
+      at (suc count) long same = (count, omega (arith, long, ap (λ l. length l.tokens) token), same ∙ ap (λ l. added now (body_within (suc count) section l)) token)
 
-pub IsReading-more : (section : Section) (start here next mid : Left) (t : Token) (old lists new : Lists) → IsReading section start here old lists → here ≡ with_front (t ∷ []) next → Declares (Behind (IsEntry section) t) next mid lists new → IsReading section start mid old new
-IsReading-more section start here next mid t old lists new reading token entry =
-    let (front, begins, is) = entry.begins in
-    let e : Entry = (t ∷ front, entry.declared) in
-    record {
-      es = reading.es ++ e ∷ [];
-      each = all_more section reading.es e reading.each is;
-      read =
-          reading.read ∙ ap (with_front (tokens_in reading.es)) (token ∙ ap (with_front (t ∷ [])) begins)
-          ∙ ap (λ ts. let l : Left = record { tokens = ts; ends = mid.ends } in l) (sym (ap (λ l. l ++ mid.tokens) (flat_more (λ x. x.0) reading.es e) ∙ append_assoc (tokens_in reading.es) (t ∷ front) mid.tokens));
-      added = added_more old lists new (flat_map (λ x. x.1) reading.es) entry.declared reading.added entry.added ∙ sym (ap (λ ds. append_lists old (lists_of ds)) (flat_more (λ x. x.1) reading.es e));
-    }
+  pub IsReading-closed : is_executable (closer section) t ≡ true → added old (body_in section start) ≡ Some (now, next)
+  unfolding body_within
+  IsReading-closed closes = let (count, long, same) = one_more in same ∙ rw closes (ap (λ l. Some (l, next)) (append_lists-none now))
 
-pub IsReading-closed : (section : Section) (start here next : Left) (t : Token) (old lists : Lists) → IsReading section start here old lists → here ≡ with_front (t ∷ []) next → t ≡ closing section → Declares (IsClosedBody section) start next old lists
-IsReading-closed section start here next t old lists reading token closes = record {
-  declared = flat_map (λ e. e.1) reading.es;
-  begins = (
-    tokens_in reading.es ++ t ∷ [],
-    reading.read ∙ ap (with_front (tokens_in reading.es)) token ∙ ap (λ ts. let l : Left = record { tokens = ts; ends = next.ends } in l) (sym (append_assoc (tokens_in reading.es) (t ∷ []) next.tokens)),
-    (tokens_in reading.es, ap (λ u. tokens_in reading.es ++ u ∷ []) closes, (reading.es, reading.each, refl, refl)),
-  );
-  added = reading.added;
-}
+  pub IsReading-wrong : is_executable (closer section) t ≡ false → added now (entry_in section (with_front (t ∷ []) next)) ≡ None → added old (body_in section start) ≡ None
+  unfolding body_within
+  IsReading-wrong other none = let (count, long, same) = one_more in same ∙ rw (other, unmapped (entry_in section (with_front (t ∷ []) next)) none) refl
+    where
+      unmapped : (found : Option Declared) → added now found ≡ None → found ≡ None
+      unmapped None e = refl
+      unmapped (Some p) e = absurd (none-some _ (sym e))
 
-no_body : (section : Section) (start here : Left) (old lists : Lists) → IsReading section start here old lists → HasNoFront (IsClosedBody section) here.tokens → HasNoFront (IsClosedBody section) start.tokens
-no_body section start here old lists reading none front rest declared at body =
-    let (later, more, is, closes) = body_behind section reading.es here.tokens front rest declared reading.each (sym (ap (λ l. l.tokens) reading.read) ∙ at) body in
-    none later rest more is closes
-
-pub IsReading-end : (section : Section) (start here : Left) (old lists : Lists) → IsReading section start here old lists → here.tokens ≡ [] → HasNoFront (IsClosedBody section) start.tokens
-IsReading-end section start here old lists reading none =
-    no_body section start here old lists reading (λ front rest declared at (body, shape, is).
-    omega (arith, ap length (sym none ∙ at), ap length shape, length-append front rest, length-append body (closing section ∷ [])))
-
-pub IsReading-wrong : (section : Section) (start here next : Left) (t : Token) (old lists : Lists) → IsReading section start here old lists → here ≡ with_front (t ∷ []) next → t ≢ closing section → HasNoFront (Behind (IsEntry section) t) next.tokens → HasNoFront (IsClosedBody section) start.tokens
-IsReading-wrong section start here next t old lists reading token stays none =
-    no_body section start here old lists reading (λ front rest declared at body.
-    let head : t ∷ next.tokens ≡ front ++ rest = sym (ap (λ l. l.tokens) token) ∙ at in
-    elim (body_parts section front declared body) [
-      | inl (closed, nothing) ↦ let both : t ∷ next.tokens ≡ closing section ∷ rest = head ∙ ap (λ f. f ++ rest) closed in stays cc
-      | inr (e, later, left, shape, declares, is, closes) ↦
-          let (piece, more, begins) = entry_begins section e.0 e.1 is in
-          let both : t ∷ next.tokens ≡ Token.String piece ∷ (more ++ (later ++ rest)) = head ∙ ap (λ f. f ++ rest) shape ∙ append_assoc e.0 later rest ∙ ap (λ f. f ++ (later ++ rest)) begins in
-          let same : Token.String piece ≡ t = cc in
-          let tail : next.tokens ≡ more ++ (later ++ rest) = cc in
-          none more (later ++ rest) e.1 tail (subst (λ ts. IsEntry section ts e.1) (begins ∙ ap (λ u. u ∷ more) same) is)
-    ])
-
--- what is left gets shorter
-pub shorter_entry : (section : Section) (t : Token) (here next mid : Left) (old new : Lists) → here ≡ with_front (t ∷ []) next → Declares (Behind (IsEntry section) t) next mid old new → length mid.tokens < length here.tokens
-shorter_entry section t here next mid old new token entry =
-    let (front, begins, is) = entry.begins in
-    omega (arith, ap (λ l. length l.tokens) token, ap (λ l. length l.tokens) begins, length-append front mid.tokens)
+  pub IsReading-more : HaveValuesRead → (mid : Left) (new : Lists) → is_executable (closer section) t ≡ false → added now (entry_in section (with_front (t ∷ []) next)) ≡ Some (new, mid) → IsReading section start mid old new
+  IsReading-more strings mid new other is =
+      let (count, long, same) = one_more in
+      let (e, entry, both) = mapped _ (entry_in section (with_front (t ∷ []) next)) (new, mid) is in
+      record {
+        count = count;
+        long = omega (arith, long, shorter_entry strings section t next mid now new is);
+        same = same ∙ ap (added now) (body_next count section t next e other entry) ∙ added_before now e.0 (body_within count section e.1) ∙ ap (λ p. added p.0 (body_within count section p.1)) both;
+      }

@@ -1,21 +1,22 @@
 -- Private aid: what the clauses of calls that read entries and sections say.
-use Rattle.std.specs.Prelude.{List, Result}
-use Rattle.cmap_tokens.specs.Tokens as tokens
+use Rattle.std.specs.Prelude.{◌≡◌, [], ◌∷◌, Option, Some, None, Result}
 use Rattle.cmap_tokens.specs.TokenSeen.{token_seen}
+use Rattle.cmap_tokens.specs.TokensLeft.{Left, with_front}
 use Rattle.cmap_tokens.specs.declared.token.Token.{Token}
 use Rattle.cmap_files.specs.DeclarationsSeen.{lists_seen}
-use Rattle.cmap_files.specs.Files.{Declaration}
-use Rattle.cmap_files.specs.Outcomes.{Succeeds}
-use Rattle.cmap_files.specs.declared.fault.Fault.{Fault}
-use Rattle.cmap_text.specs.TextFiles.{Section, IsEntry}
-use Rattle.cmap_text.specs.TextReading.{Declares, HasNoFront, Behind}
-use Rattle.cmap_tokens.specs.TokensLeft.{Left}
+use Rattle.cmap_files.specs.Outcomes.{Outcome}
 use Rattle.cmap_files.specs.declared.declarations.Lists.{Lists}
+use Rattle.cmap_files.specs.declared.fault.Fault.{Fault}
+use Rattle.cmap_text.specs.TextReading.{Declared, added}
 
--- such tokens come, and what they declare is added; it refuses only where none come
-abbrev pub Adds : {A : Type 0} → (List tokens.Token → List Declaration → Type 0) → Left → Left → Lists → Lists → Result A Fault → Type 0
-Adds Is old new before after = Succeeds (Declares Is old new (lists_seen before) (lists_seen after)) (HasNoFront Is old.tokens)
+-- the answer is what is found, as a clause sees it, and it refuses only where nothing is
+abbrev pub Gives : {A B : Type 0} → Option B → (A → B) → Result A Fault → Type 0
+Gives found seen = Outcome (λ x. found ≡ Some (seen x)) (found ≡ None)
 
--- the rest of one entry of the section comes, after its first token
-abbrev pub AddsEntry : {A : Type 0} → Section → Token → Left → Left → Lists → Lists → Result A Fault → Type 0
-AddsEntry section first = Adds (Behind (IsEntry section) (token_seen first))
+-- what is left, and this token before it
+abbrev pub after_token : Token → Left → Left
+after_token first left = with_front (token_seen first ∷ []) left
+
+-- what is found is added to the lists
+abbrev pub Adds : {A : Type 0} → Option Declared → Lists → Lists → Left → Result A Fault → Type 0
+Adds found before after new = Gives (added (lists_seen before) found) (λ done. (lists_seen after, new))

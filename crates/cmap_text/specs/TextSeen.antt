@@ -1,11 +1,11 @@
 -- Private aid: what contracts see of what the code reads from a text.
-use Rattle.std.specs.Prelude.{ℕ, List, codes, length, option_map}
+use Rattle.std.specs.Prelude.{ℕ, List, codes, Option, option_and_then, option_map}
 use Rattle.std.specs.Option.{option_copied}
 use Rattle.cmap_tokens.specs.TokenSeen.{token_seen}
-use Rattle.cmap_files.specs.CodeLengths.{IsCodeLength, length_of}
+use Rattle.cmap_files.specs.CodeLengths.{length_of}
 use Rattle.cmap_files.specs.DeclarationsSeen.{lists_seen}
-use Rattle.cmap_files.specs.Files.{CidEntry, Declaration}
-use Rattle.cmap_tokens.specs.Tokens.{Token}
+use Rattle.cmap_files.specs.Files.{CidEntry}
+use Rattle.cmap_tokens.specs.TokensLeft.{Left}
 use Rattle.cmap_files.specs.FilesSeen.{names_seen}
 use Rattle.cmap_text.specs.TextFiles as files
 use Rattle.cmap_text.specs.TextReading as reading
@@ -27,10 +27,13 @@ cids_section Cid Single = files.cid_char
 cids_section Notdef Range = files.notdef_range
 cids_section Notdef Single = files.notdef_char
 
--- an entry of this shape, which declares so
-abbrev pub IsCidEntry : Shape → (ℕ → CidEntry → Declaration) → List Token → List Declaration → Type 0
-IsCidEntry Range kind tokens declared = files.IsCidRange kind tokens declared
-IsCidEntry Single kind tokens declared = files.IsCidChar kind tokens declared
+-- the CIDs of an entry of this shape
+abbrev pub cids_after : Shape → reading.Code → Left → Option ((ℕ × CidEntry) × Left)
+cids_after Range start left = reading.cid_range_after start left
+cids_after Single start left = reading.cid_char_after start left
+
+abbrev pub cids_in : Shape → Left → Option ((ℕ × CidEntry) × Left)
+cids_in shape left = option_and_then (λ s. cids_after shape s.0 s.1) (reading.head_in reading.code_in left)
 
 abbrev pub section_seen : Section → files.Section
 section_seen Codespaces = files.codespace_range
@@ -40,10 +43,6 @@ section_seen BfChar = files.bf_char
 
 abbrev pub code_seen : Code → reading.Code
 code_seen code = record { len = length_of code.len; number = code.number }
-
--- one to four bytes
-abbrev pub IsCodeBytes : List ℕ → Type 0
-IsCodeBytes bytes = IsCodeLength (length bytes)
 
 abbrev pub key_name : Key → List ℕ
 key_name Registry = codes "Registry"

@@ -1,24 +1,23 @@
 //! The entries of sections. Each call here has the first token of an entry, reads the others, and adds
 //! what the entry declares.
 
-ghost use Rattle.std.specs.Prelude.{◌≡◌, ◌+◌, ◌-◌, ℕ, [], ◌∷◌};
-ghost use Rattle.cmap_tokens.specs.TokenSeen.{token_seen};
+ghost use Rattle.std.specs.Prelude.{◌≡◌, ◌+◌, ◌-◌, [], ◌∷◌};
 ghost use Rattle.cmap_files.specs.CodeLengths.{length_of};
 ghost use Rattle.cmap_files.specs.DeclarationsSeen.{cid_entry_seen, lists_seen};
-ghost use Rattle.cmap_text.specs.EntriesSeen.{Adds, AddsEntry};
-ghost use Rattle.cmap_files.specs.Files.{CidEntry, Declaration, lists_of};
+ghost use Rattle.cmap_text.specs.EntriesSeen.{Adds, Gives, after_token};
+ghost use Rattle.cmap_files.specs.Files.{lists_of};
 ghost use Rattle.cmap_files.specs.ListsAppended.{append_lists};
-ghost use Rattle.cmap_files.specs.Outcomes.{Outcome, Succeeds};
+ghost use Rattle.cmap_files.specs.Outcomes.{Succeeds};
 ghost use Rattle.cmap_text.specs.TextFiles as files;
-ghost use Rattle.cmap_text.specs.TextSeen.{IsCidEntry, cids_section};
-ghost use Rattle.cmap_text.specs.TextReading.{Begins, Behind, HasNoFront, IsList};
+ghost use Rattle.cmap_text.specs.TextSeen.{cids_in, cids_section};
+ghost use Rattle.cmap_text.specs.TextReading.{entry_in, list_in};
 
 use crate::tokens::{TokenReader, is_executable};
 use cmap_files::code_length::CodeLength;
 use cmap_files::declarations::{BfRange, CidRange, Codespace, Lists};
 use cmap_files::fault::Fault;
 use cmap_runs::runs::Range;
-use cmap_tokens::token::{Token, one_value_for_a_string};
+use cmap_tokens::token::Token;
 
 /// Which CIDs an entry declares: those of its codes, or the one of all codes that have no other.
 #[derive(Clone, Copy)]
@@ -40,10 +39,9 @@ pub(crate) fn add_codespace_range(
     first: &Token<'_>,
     lists: &mut Lists,
 ) -> Result<(), Fault>
-    ensures { AddsEntry files.codespace_range first.now reader.old reader.new
-        lists.old lists.new result }
+    ensures { Adds (entry_in files.codespace_range (after_token first.now reader.old))
+        lists.old lists.new reader.new result }
 {
-    one_value_for_a_string();
     let low = reader.code(first)?;
     let high = reader.next_code()?;
     if low.len.count() != high.len.count() {
@@ -65,8 +63,8 @@ pub(crate) fn add_cids(
     shape: Shape,
     lists: &mut Lists,
 ) -> Result<(), Fault>
-    ensures { AddsEntry (cids_section kind shape) first.now reader.old reader.new
-        lists.old lists.new result }
+    ensures { Adds (entry_in (cids_section kind shape) (after_token first.now reader.old))
+        lists.old lists.new reader.new result }
 {
     let filed = read_cids(reader, first, shape)?;
     match kind {
@@ -82,8 +80,8 @@ pub(crate) fn add_bf_char(
     first: &Token<'_>,
     lists: &mut Lists,
 ) -> Result<(), Fault>
-    ensures { AddsEntry files.bf_char first.now reader.old reader.new
-        lists.old lists.new result }
+    ensures { Adds (entry_in files.bf_char (after_token first.now reader.old))
+        lists.old lists.new reader.new result }
 {
     let code = reader.code(first)?;
     let units = reader.next_destination()?;
@@ -96,10 +94,9 @@ pub(crate) fn add_bf_range(
     first: &Token<'_>,
     lists: &mut Lists,
 ) -> Result<(), Fault>
-    ensures { AddsEntry files.bf_range first.now reader.old reader.new
-        lists.old lists.new result }
+    ensures { Adds (entry_in files.bf_range (after_token first.now reader.old))
+        lists.old lists.new reader.new result }
 {
-    one_value_for_a_string();
     let start = reader.code(first)?;
     let end = reader.next_code()?;
     let Some(token) = reader.required_token() else {
@@ -119,8 +116,7 @@ fn add_list(
     end: u32,
     lists: &mut Lists,
 ) -> Result<(), Fault>
-    ensures { Adds (IsList start (end + 1 - start)) reader.old reader.new
-        lists.old lists.new result }
+    ensures { Adds (list_in (end + 1 - start) start reader.old) lists.old lists.new reader.new result }
 {
     for code in u64::from(start)..u64::from(end) + 1 {
         let units = reader.next_destination()?;
@@ -154,11 +150,8 @@ struct Filed {
 /// What an entry of CIDs declares: code, code, CID for a range and code, CID for a single code,
 /// filed by the length of the first code.
 fn read_cids(reader: &mut TokenReader<'_>, first: &Token<'_>, shape: Shape) -> Result<Filed, Fault>
-    ensures { (kind : ℕ → CidEntry → Declaration) →
-        let IsRest = Behind (IsCidEntry shape kind) (token_seen first.now) in Outcome
-        (λ filed. Begins IsRest reader.old
-        (kind (length_of filed.len) (cid_entry_seen filed.range) ∷ []) reader.new)
-        (HasNoFront IsRest reader.old.tokens) result }
+    ensures { Gives (cids_in shape (after_token first.now reader.old))
+        (λ filed. ((length_of filed.len, cid_entry_seen filed.range), reader.new)) result }
 {
     let start = reader.code(first)?;
     let end = match shape {

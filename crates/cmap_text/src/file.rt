@@ -1,12 +1,13 @@
 //! CMap files as text.
 
+ghost use Rattle.std.specs.Prelude.{◌≡◌, None, Some};
 ghost use Rattle.cmap_files.specs.FilesSeen.{file_seen};
 ghost use Rattle.cmap_files.specs.Only.{IsOnly};
 ghost use Rattle.cmap_files.specs.Outcomes.{Outcome, Reads};
 ghost use Rattle.cmap_files.specs.MetadataSeen.{metadata_seen};
 ghost use Rattle.cmap_tokens.specs.TokensLeft.{HasTokens, Left};
 ghost use Rattle.cmap_text.specs.TextFiles.{IsMetadata, IsTextFile};
-ghost use Rattle.cmap_text.specs.TextReading.{NoItemsSay, SaysItems};
+ghost use Rattle.cmap_text.specs.TextReading.{all_said};
 ghost use Rattle.cmap_text.specs.TextSeen.{said_seen, values_seen};
 
 use crate::items::{Said, read_items};
@@ -33,10 +34,10 @@ pub fn read_text<'d>(alloc: Global, text: &'d [u8]) -> Result<File<'d>, Fault>
 
 /// Reads all that a text says, and gives what its keys say of the file.
 fn read_said<'d>(alloc: Global, text: &'d [u8], said: &mut Said<'d>) -> Result<Metadata, Fault>
-    ensures { Outcome (λ metadata. (left : Left) × HasTokens text.now left
-        × SaysItems left (said_seen said.old) (said_seen said.new)
+    ensures { (left : Left) × HasTokens text.now left × Outcome
+        (λ metadata. (all_said (said_seen said.old) left ≡ Some (said_seen said.new))
         × IsOnly (IsMetadata (values_seen said.new.values)) (metadata_seen metadata))
-        ((left : Left) × HasTokens text.now left × NoItemsSay left (said_seen said.old)) result }
+        (all_said (said_seen said.old) left ≡ None) result }
 {
     read_items(&mut TokenReader::new(alloc, text), said)?;
     said.values.metadata(alloc).map_err(Fault::from)

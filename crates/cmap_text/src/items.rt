@@ -4,7 +4,8 @@ ghost use Rattle.std.specs.Prelude.{◌≡◌, ◌++◌, ℕ, List, [], ◌∷�
 ghost use Rattle.std.specs.Borrow.{Bor};
 ghost use Rattle.std.specs.Option.{option_copied};
 ghost use Rattle.cmap_tokens.specs.TokenSeen.{token_seen};
-ghost use Rattle.cmap_text.specs.TextReading.{NoItemSays, NoItemsSay, SaysItem, SaysItems, nothing_said};
+ghost use Rattle.cmap_text.specs.EntriesSeen.{Gives};
+ghost use Rattle.cmap_text.specs.TextReading.{all_said, item_after, item_said, nothing_said};
 ghost use Rattle.cmap_text.specs.TextSeen.{said_seen};
 ghost use Rattle.cmap_files.specs.Outcomes.{Succeeds};
 
@@ -54,8 +55,7 @@ fn add_use<'d>(uses: &mut Vec<&'d [u8]>, operand: Option<&'d [u8]>) -> Result<()
 
 /// Reads all the items of a text.
 pub(crate) fn read_items<'d>(reader: &mut TokenReader<'d>, said: &mut Said<'d>) -> Result<(), Fault>
-    ensures { Succeeds (SaysItems reader.old (said_seen said.old) (said_seen said.new))
-        (NoItemsSay reader.old (said_seen said.old)) result }
+    ensures { Gives (all_said (said_seen said.old) reader.old) (λ done. said_seen said.new) result }
 {
     one_value_for_a_string();
     while let Some(token) = reader.next_token()? {
@@ -70,9 +70,8 @@ fn read_item<'d>(
     first: &Token<'d>,
     said: &mut Said<'d>,
 ) -> Result<(), Fault>
-    ensures { Succeeds (SaysItem (token_seen first.now) reader.old reader.new
-        (said_seen said.old) (said_seen said.new))
-        (NoItemSays (token_seen first.now) reader.old (said_seen said.old)) result }
+    ensures { Gives (item_said (said_seen said.old) (item_after (token_seen first.now) reader.old))
+        (λ done. (said_seen said.new, reader.new)) result }
 {
     let operand = said.operand;
     said.operand = literal_name(first);

@@ -1,12 +1,11 @@
 //! Keys: literal names that take the next token as their value.
 
-ghost use Rattle.std.specs.Prelude.{◌≡◌, true, IfOk, MatchOption, option_map};
+ghost use Rattle.std.specs.Prelude.{◌≡◌, IfOk, option_map};
 ghost use Rattle.cmap_tokens.specs.TokenSeen.{token_seen};
-ghost use Rattle.cmap_tokens.specs.Tokens as tokens;
 ghost use Rattle.cmap_files.specs.MetadataSeen.{collection_seen, metadata_seen, mode_seen};
 ghost use Rattle.cmap_files.specs.Only.{IsOnly};
 ghost use Rattle.cmap_text.specs.TextFiles.{GivesText, IsCollection, IsMetadata, mode_in, name_in, supplement_in};
-ghost use Rattle.cmap_text.specs.TextReading.{no_values, with_value};
+ghost use Rattle.cmap_text.specs.TextReading.{key_in, no_values, with_value};
 ghost use Rattle.cmap_text.specs.TextSeen.{key_name, values_seen};
 
 use crate::tokens::is_literal;
@@ -27,9 +26,7 @@ pub(crate) enum Key {
 impl Key {
     /// The key that a token is.
     pub(crate) fn of(token: &Token<'_>) -> Option<Key>
-        ensures { MatchOption result
-            ((key : Key) → token_seen token.now ≡ tokens.Name true (key_name key) → ⊥)
-            (λ key. token_seen token.now ≡ tokens.Name true (key_name key)) }
+        ensures { option_map key_name result ≡ key_in (token_seen token.now) }
     {
         if is_literal(token, b"Registry") {
             Some(Key::Registry)

@@ -1,18 +1,17 @@
 //! Sections: an opener, entries, a closer.
 
-ghost use Rattle.std.specs.Prelude.{◌≡◌, false, MatchOption};
+ghost use Rattle.std.specs.Prelude.{◌≡◌, option_map};
 ghost use Rattle.cmap_tokens.specs.TokenSeen.{token_seen};
-ghost use Rattle.cmap_tokens.specs.Tokens as tokens;
-ghost use Rattle.cmap_text.specs.EntriesSeen.{Adds, AddsEntry};
+ghost use Rattle.cmap_text.specs.EntriesSeen.{Adds, after_token};
 ghost use Rattle.cmap_text.specs.TextFiles as files;
-ghost use Rattle.cmap_text.specs.TextReading.{IsClosedBody};
+ghost use Rattle.cmap_text.specs.TextReading.{body_in, entry_in, opened_by};
 ghost use Rattle.cmap_text.specs.TextSeen.{section_seen};
 
 use crate::entries::{CidKind, Shape, add_bf_char, add_bf_range, add_cids, add_codespace_range};
 use crate::tokens::{TokenReader, is_executable};
 use cmap_files::declarations::Lists;
 use cmap_files::fault::Fault;
-use cmap_tokens::token::Token;
+use cmap_tokens::token::{Token, one_value_for_a_string};
 
 /// The kinds of sections.
 #[derive(Clone, Copy)]
@@ -26,11 +25,7 @@ pub(crate) enum Section {
 impl Section {
     /// The section that a token opens.
     pub(crate) fn opened_by(token: &Token<'_>) -> Option<Section>
-        ensures { MatchOption result
-            ((section : files.Section)
-            → token_seen token.now ≡ tokens.Name false (files.opener section) → ⊥)
-            (λ section.
-            token_seen token.now ≡ tokens.Name false (files.opener (section_seen section))) }
+        ensures { option_map section_seen result ≡ opened_by (token_seen token.now) }
     {
         if is_executable(token, b"begincidrange") {
             Some(Section::Cids(CidKind::Cid, Shape::Range))
@@ -73,9 +68,9 @@ pub(crate) fn read_section(
     section: Section,
     lists: &mut Lists,
 ) -> Result<(), Fault>
-    ensures { Adds (IsClosedBody (section_seen section)) reader.old reader.new
-        lists.old lists.new result }
+    ensures { Adds (body_in (section_seen section) reader.old) lists.old lists.new reader.new result }
 {
+    one_value_for_a_string();
     loop {
         let Some(token) = reader.required_token() else {
             return Err(Fault::Refused);
@@ -94,8 +89,8 @@ fn read_entry(
     first: &Token<'_>,
     lists: &mut Lists,
 ) -> Result<(), Fault>
-    ensures { AddsEntry (section_seen section) first.now reader.old reader.new
-        lists.old lists.new result }
+    ensures { Adds (entry_in (section_seen section) (after_token first.now reader.old))
+        lists.old lists.new reader.new result }
 {
     match section {
         Section::Codespaces => add_codespace_range(reader, first, lists),

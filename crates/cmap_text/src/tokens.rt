@@ -1,14 +1,12 @@
 //! The tokens of a text in order, and what single tokens stand for.
 
-ghost use Rattle.std.specs.Prelude.{◌≡◌, ◌↔◌, [], ◌∷◌, false, true, IsTrue, MatchOption, MatchResult};
+ghost use Rattle.std.specs.Prelude.{◌≡◌, [], ◌∷◌, None, Some, MatchOption, MatchResult, option_map};
 ghost use Rattle.std.specs.Option.{option_copied};
 ghost use Rattle.cmap_tokens.specs.TokenSeen.{token_seen};
-ghost use Rattle.cmap_tokens.specs.Tokens as tokens;
-ghost use Rattle.cmap_files.specs.Only.{HoldsOfNone};
-ghost use Rattle.cmap_files.specs.Outcomes.{Outcome};
-ghost use Rattle.cmap_text.specs.TextFiles.{IsCid, IsDestination, literal_head, other};
-ghost use Rattle.cmap_text.specs.TextReading.{GivesCode, code_of, Takes, HasNoHead};
-ghost use Rattle.cmap_text.specs.TextSeen.{code_seen, IsCodeBytes};
+ghost use Rattle.cmap_text.specs.EntriesSeen.{Gives};
+ghost use Rattle.cmap_text.specs.TextFiles.{literal_head, other};
+ghost use Rattle.cmap_text.specs.TextReading.{cid_in, code_in, code_of, destination_in, head_in, is_executable, is_literal};
+ghost use Rattle.cmap_text.specs.TextSeen.{code_seen};
 ghost use Rattle.cmap_tokens.specs.TokensLeft.{HasTokens, ended, malformed, with_front};
 ghost use Rattle.cmap_files.specs.declared.fault.Fault.TheVariants.{Refused};
 
@@ -16,7 +14,7 @@ use cmap_bits::bits::Reader;
 use cmap_files::code_length::CodeLength;
 use cmap_files::fault::Fault;
 use cmap_files::names::Cid;
-use cmap_tokens::token::{Number, Scanner, Token};
+use cmap_tokens::token::{Number, Scanner, Token, one_value_for_a_string};
 use cmap_tokens::utf16::{number_units, units};
 use std::alloc::Global;
 use std::marker::Model;
@@ -79,10 +77,10 @@ impl<'d> TokenReader<'d> {
 
     /// The code that a token is: a string of one to four bytes.
     pub(crate) fn code(&mut self, token: &Token<'_>) -> Result<Code, Fault>
-        ensures code { Outcome (λ code. GivesCode (token_seen token.now) (code_seen code))
-            (HoldsOfNone (GivesCode (token_seen token.now))) result }
+        ensures code { Gives (code_in (token_seen token.now)) code_seen result }
         ensures stays { self.new ≡ self.old }
     {
+        one_value_for_a_string();
         let Token::String(string) = token else {
             return Err(Fault::Refused);
         };
@@ -98,8 +96,7 @@ impl<'d> TokenReader<'d> {
 
     /// The code that comes next.
     pub(crate) fn next_code(&mut self) -> Result<Code, Fault>
-        ensures { Outcome (λ code. Takes GivesCode self.old (code_seen code) self.new)
-            (HasNoHead GivesCode self.old.tokens) result }
+        ensures { Gives (head_in code_in self.old) (λ code. (code_seen code, self.new)) result }
     {
         let Some(token) = self.required_token() else {
             return Err(Fault::Refused);
@@ -109,10 +106,11 @@ impl<'d> TokenReader<'d> {
 
     /// The units of the destination that a token is: a string that isn't empty.
     pub(crate) fn destination(&mut self, token: &Token<'_>) -> Result<Vec<u16>, Fault>
-        ensures destination { Outcome (λ units. IsDestination (token_seen token.now) units.items)
-            (HoldsOfNone (IsDestination (token_seen token.now))) result }
+        ensures destination { Gives (destination_in (token_seen token.now))
+            (λ units. units.items) result }
         ensures stays { self.new ≡ self.old }
     {
+        one_value_for_a_string();
         let Token::String(string) = token else {
             return Err(Fault::Refused);
         };
@@ -128,8 +126,8 @@ impl<'d> TokenReader<'d> {
 
     /// The units of the destination that comes next.
     pub(crate) fn next_destination(&mut self) -> Result<Vec<u16>, Fault>
-        ensures { Outcome (λ units. Takes IsDestination self.old units.items self.new)
-            (HasNoHead IsDestination self.old.tokens) result }
+        ensures { Gives (head_in destination_in self.old)
+            (λ units. (units.items, self.new)) result }
     {
         let Some(token) = self.required_token() else {
             return Err(Fault::Refused);
@@ -139,8 +137,8 @@ impl<'d> TokenReader<'d> {
 
     /// The CID that comes next: an integer of 32 bits without sign.
     pub(crate) fn next_cid(&mut self) -> Option<Cid>
-        ensures { MatchOption result (HasNoHead IsCid self.old.tokens)
-            (λ cid. Takes IsCid self.old cid self.new) }
+        ensures { MatchOption result (head_in cid_in self.old ≡ None)
+            (λ cid. head_in cid_in self.old ≡ Some (cid, self.new)) }
     {
         cid_of(&self.required_token()?)
     }
@@ -148,8 +146,7 @@ impl<'d> TokenReader<'d> {
 
 /// The code of one to four bytes.
 fn code_of(bytes: &[u8]) -> Option<Code>
-    ensures { MatchOption result (IsCodeBytes bytes.now → ⊥)
-        (λ code. IsCodeBytes bytes.now × (code_seen code ≡ code_of bytes.now)) }
+    ensures { option_map code_seen result ≡ code_of bytes.now }
 {
     let len = CodeLength::of(u8::try_from(bytes.len()).ok()?)?;
     let number = Reader::new(bytes).read_n_bytes(len.count())?;
@@ -158,8 +155,7 @@ fn code_of(bytes: &[u8]) -> Option<Code>
 
 /// The CID that a token is.
 fn cid_of(token: &Token<'_>) -> Option<Cid>
-    ensures { MatchOption result (HoldsOfNone (IsCid (token_seen token.now)))
-        (λ cid. IsCid (token_seen token.now) cid) }
+    ensures { result ≡ cid_in (token_seen token.now) }
 {
     match token {
         Token::Number(Number::Integer(n)) => u32::try_from(*n).ok(),
@@ -169,7 +165,7 @@ fn cid_of(token: &Token<'_>) -> Option<Cid>
 
 /// Whether a token is this executable name.
 pub(crate) fn is_executable(token: &Token<'_>, name: &[u8]) -> bool
-    ensures { IsTrue result ↔ (token_seen token.now ≡ tokens.Name false name.now) }
+    ensures { result ≡ is_executable name.now (token_seen token.now) }
 {
     match token {
         Token::Name(found) => !found.is_literal() && found.as_bytes() == name,
@@ -179,7 +175,7 @@ pub(crate) fn is_executable(token: &Token<'_>, name: &[u8]) -> bool
 
 /// Whether a token is this literal name.
 pub(crate) fn is_literal(token: &Token<'_>, name: &[u8]) -> bool
-    ensures { IsTrue result ↔ (token_seen token.now ≡ tokens.Name true name.now) }
+    ensures { result ≡ is_literal name.now (token_seen token.now) }
 {
     match token {
         Token::Name(found) => found.is_literal() && found.as_bytes() == name,

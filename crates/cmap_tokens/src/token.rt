@@ -2,7 +2,7 @@
 
 ghost use Rattle.std.specs.Prelude.{IsTrue, is_some};
 ghost use Rattle.cmap_tokens.specs.Strings.{HaveOneValue};
-ghost use Rattle.cmap_tokens.specs.TokenReading.{value_of};
+ghost use Rattle.cmap_tokens.specs.TokenReading.{HaveValuesRead, value_of};
 
 mod byte_class;
 mod gaps;
@@ -208,19 +208,18 @@ impl<'a> Scanner<'a> {
             ≡ with_front (token_seen token ∷ []) (tokens_of (rest_of self.new))))
             (λ _. tokens_of (rest_of self.old) ≡ malformed) }
     {
-        match first_token(&self.source[self.place..]) {
-            Ok(Some((token, len))) => {
-                self.place += len;
-                Ok(Some(token))
-            }
-            Ok(None) => Ok(None),
-            Err(malformed) => Err(malformed),
-        }
+        let rest = &self.source[self.place..];
+        let Some((token, len)) = first_token(rest)? else {
+            return Ok(None);
+        };
+        self.place += len;
+        Ok(Some(token))
     }
 }
 
-/// A string stands for one value. Nothing is done here: the contract is a law for callers to stand
-/// on.
+/// A string stands for one value, the one that is read of it. Nothing is done here: the contract is a
+/// law for callers to stand on.
 pub fn one_value_for_a_string()
-    ensures { HaveOneValue }
+    ensures one { HaveOneValue }
+    ensures value { HaveValuesRead }
 {}

@@ -1,33 +1,25 @@
-use Rattle.std.proofs.Common.{refl, sym, arith}
-use Rattle.std.proofs.lemmas.Bool.{false≢true}
-use Rattle.cmap_text.proofs.EntriesRead.{head_is}
-use Rattle.cmap_text.proofs.ListsOfDestinations.{IsListing-none, IsListing-more, IsListing-closed, IsListing-short, IsListing-open}
+use Rattle.std.proofs.Common.{◌+◌, ◌-◌, ◌∙◌, Some, refl, sym, ap, arith}
+use Rattle.cmap_files.specs.DeclarationsSeen.{lists_seen}
+use Rattle.cmap_files.proofs.ListsMade.{append_lists-none}
 use Rattle.cmap_files.proofs.Outcomes.{passed_on}
+use Rattle.cmap_text.specs.TextReading.{added, list_in}
+use Rattle.cmap_text.proofs.EntriesRead.{list_more, list_short, list_closed}
 use Rattle.cmap_text.proofs.entries.add_list.Goals as goal
 
 pub returns-in_err-units : goal.returns-in_err-units
 returns-in_err-units c =
-    passed_on c.from_residual.result _ _ _ c.from_residual.ensures.1 (λ e. IsListing-short _ _ _ _ _ _ _ c.loop-code.invariant.listing (omega arith) (c.in_err-units.ensures.1 e))
-
-pub loop-code-init : goal.loop-code-init
-loop-code-init c = record { listing = IsListing-none _ _ _ _ (omega arith); within = omega arith }
+    passed_on c.from_residual.result _ _ _ c.from_residual.ensures.1 (λ e. c.loop-code.invariant ∙ list_short _ _ (c.args.end + 1 - (c.loop-code.code + 1)) _ _ (omega arith) (c.in_err-units.ensures.1 e))
 
 pub loop-code-preserved : goal.loop-code-preserved
-loop-code-preserved c = record {
-  listing = IsListing-more _ _ _ _ _ _ _ _ _ c.loop-code.code _ c.loop-code.invariant.listing c.in_ok-units.ensures.0 c.in_ok-add_text.ensures.0 (omega arith) (omega arith);
-  within = omega arith;
-}
+loop-code-preserved c =
+    c.loop-code.invariant ∙ list_more _ _ (c.args.end + 1 - (c.loop-code.code + 1)) _ _ _ _ (omega arith) c.in_ok-units.ensures.0
+    ∙ ap (λ l. added l (list_in (c.args.end + 1 - (c.loop-code.code + 1)) (c.loop-code.code + 1) c.next_destination.new.self)) (sym c.in_ok-add_text.ensures.0)
 
 pub returns-in_default : goal.returns-in_default
-returns-in_default c =
-    (tt, λ e. IsListing-open _ _ _ _ _ _ _ c.loop-code.invariant.listing (omega arith) (λ rest closes. cc (c.in_default.ensures)))
+returns-in_default c = (tt, λ e. c.loop-code.invariant ∙ list_closed _ _ _ _ (omega arith) ∙ rw c.in_default.ensures refl)
 
 pub returns-then-not-is_executable : goal.returns-then-not-is_executable
-returns-then-not-is_executable c = (
-  tt,
-  λ e. IsListing-open _ _ _ _ _ _ _ c.loop-code.invariant.listing (omega arith)
-      (λ rest closes. false≢true (c.if-not-is_executable.ensures.1 (sym (head_is _ _ _ _ _ c.in-Some.ensures closes).0))),
-)
+returns-then-not-is_executable c = (tt, λ e. c.loop-code.invariant ∙ list_closed _ _ _ _ (omega arith) ∙ rw (c.in-Some.ensures, ← c.if-not-is_executable.ensures) refl)
 
 pub returns : goal.returns
-returns c = (IsListing-closed _ _ _ _ _ _ _ _ _ c.loop-code.invariant.listing (omega arith) c.in-Some.ensures (c.if-not-is_executable.ensures.0 refl), λ e. cc)
+returns c = (c.loop-code.invariant ∙ list_closed _ _ _ _ (omega arith) ∙ rw (c.in-Some.ensures, ← c.if-not-is_executable.ensures) (ap (λ l. Some (l, c.required_token.new.self)) (append_lists-none (lists_seen c.loop-code.lists))), λ e. cc)

@@ -1,13 +1,18 @@
-use Rattle.std.proofs.Common.{◌≡◌, ℕ, List, ap}
-use Rattle.cmap_tokens.specs.Strings.{IsValue}
-use Rattle.cmap_tokens.specs.TokenSeen.{token_seen, string_raw}
-use Rattle.cmap_text.proofs.HeadsRead.{gives_code, no_code}
-use Rattle.cmap_files.proofs.Outcomes.{or_refused, weaker}
+use Rattle.std.proofs.Common.{ap, ◌∙◌, refl, arith}
+use Rattle.cmap_tokens.specs.TokenSeen.{token_seen}
+use Rattle.cmap_text.specs.TextReading.{code_of}
+use Rattle.cmap_text.specs.TextSeen.{code_seen}
+use Rattle.cmap_text.proofs.TokensRead.{read_value, code_of-is, given}
 use Rattle.cmap_text.proofs.tokens.TokenReader.code.Goals as goal
+
+pub returns-in-Some-clause-code : goal.returns-in-Some-clause-code
+returns-in-Some-clause-code c =
+    let (bytes, only, are, count, number) = c.in-Some.ensures.value in
+    let read = read_value c.one_value_for_a_string.ensures.value code_of _ _ bytes (ap token_seen c.in-String.is) only.holds in
+    let ((least, most), len) = c.in-Some-of.ensures in
+    (read ∙ code_of-is bytes (omega (arith, count, least)) (omega (arith, count, most)) ∙ rw (← count, ← number, len) refl, λ e. cc)
 
 pub returns-clause-code : goal.returns-clause-code
 returns-clause-code c =
-    let value : IsValue (string_raw c.in-String.string) c.deref.result.now = rw c.deref.ensures.value c.in_ok-decode_into.ensures.value in
-    let alone : (other : List ℕ) → IsValue (string_raw c.in-String.string) other → other ≡ c.deref.result.now = rw c.deref.ensures.value c.in_ok-decode_into.ensures.only in
-    let is = ap token_seen c.in-String.is in
-    rw c.ok_or.ensures.value (weaker _ _ _ _ _ (λ code read. gives_code _ _ _ _ is value read.0 read.1) (no_code _ _ _ is alone) (or_refused c.code_of.result _ _ c.code_of.ensures))
+    let read = read_value c.one_value_for_a_string.ensures.value code_of _ _ _ (ap token_seen c.in-String.is) c.in_ok-decode_into.ensures.value in
+    rw (c.ok_or.ensures.value, read) (given code_seen c.code_of.result _ (rw c.deref.ensures.value at c.code_of.ensures))

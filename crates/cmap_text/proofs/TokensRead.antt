@@ -1,0 +1,121 @@
+-- What options tell of what they are made of, and what single tokens are read as.
+use Rattle.std.proofs.Common.{◌≡◌, ℕ, ◌≤◌, ◌<◌, ◌^◌, ◌&&◌, Bool, true, false, refl, sym, ap, ◌∙◌, List, [], ◌∷◌, length, arith}
+use Rattle.std.proofs.lemmas.Bool.{and_parts, le-leb, leb-true, lt-ltb, ltb-true}
+use Rattle.std.proofs.lemmas.Option.{none-some, same_Some}
+use Rattle.std.proofs.lemmas.Slice.Eq.{bytes_eq-Decides}
+use Rattle.std.specs.Prelude.{pos, negsuc, nat_le, nat_lt, Option, Some, None, option_map, option_and_then, if◌then◌else◌}
+use Rattle.cmap_bits.specs.BigEndian.{big_endian}
+use Rattle.std.specs.Option.{ok_or}
+use Rattle.cmap_files.specs.Outcomes.{Outcome}
+use Rattle.cmap_files.specs.declared.fault.Fault.TheVariants.{Refused}
+use Rattle.cmap_tokens.specs.Numbers.{Number}
+use Rattle.cmap_tokens.specs.Strings.{IsValue}
+use Rattle.cmap_tokens.specs.Texts.{units_of}
+use Rattle.cmap_tokens.specs.TokenReading.{HaveValuesRead}
+use Rattle.cmap_tokens.specs.Tokens.{Token}
+use Rattle.cmap_tokens.specs.TokensLeft.{Left, with_front}
+use Rattle.cmap_text.specs.TextFiles.{IsCode, IsCid, IsDestination}
+use Rattle.cmap_text.specs.TextReading.{Code, code_of, code_in, cid_in, destination_of, destination_in, head_in, is_executable, is_literal, value_in}
+
+pub bound : {A B : Type 0} (f : A → Option B) (o : Option A) (y : B) → option_and_then f o ≡ Some y → (x : A) × (o ≡ Some x) × (f x ≡ Some y)
+bound f None y is = absurd (none-some y is)
+bound f (Some x) y is = (x, refl, is)
+
+pub mapped : {A B : Type 0} (f : A → B) (o : Option A) (y : B) → option_map f o ≡ Some y → (x : A) × (o ≡ Some x) × (f x ≡ y)
+mapped f None y is = absurd (none-some y is)
+mapped f (Some x) y is = (x, refl, same_Some (f x) y is)
+
+pub tested : {A : Type 0} (b : Bool) (x y : A) → (if b then Some x else None) ≡ Some y → (b ≡ true) × (x ≡ y)
+tested true x y is = (refl, same_Some x y is)
+tested false x y is = absurd (none-some y is)
+
+-- what is found in an option, or a refusal in its place
+pub given : {A B : Type 0} (seen : A → B) (o : Option A) (found : Option B) → option_map seen o ≡ found → Outcome (λ x. found ≡ Some (seen x)) (found ≡ None) (ok_or o Refused)
+given seen None found is = (tt, λ e. sym is)
+given seen (Some x) found is = (sym is, λ e. cc)
+
+-- ---- names
+pub is_executable-found : (name : List ℕ) (t : Token) → is_executable name t ≡ true → t ≡ Token.Name false name
+is_executable-found name (Token.Name true bytes) is = let no : ⊥ = cc in absurd no
+is_executable-found name (Token.Name false bytes) is = ap (Token.Name false) ((bytes_eq-Decides bytes name).0 is)
+is_executable-found name (Token.String piece) is = let no : ⊥ = cc in absurd no
+is_executable-found name (Token.Numeral x) is = let no : ⊥ = cc in absurd no
+
+pub is_executable-own : (name : List ℕ) → is_executable name (Token.Name false name) ≡ true
+is_executable-own name = (bytes_eq-Decides name name).1 refl
+
+pub is_literal-found : (name : List ℕ) (t : Token) → is_literal name t ≡ true → t ≡ Token.Name true name
+is_literal-found name (Token.Name true bytes) is = ap (Token.Name true) ((bytes_eq-Decides bytes name).0 is)
+is_literal-found name (Token.Name false bytes) is = let no : ⊥ = cc in absurd no
+is_literal-found name (Token.String piece) is = let no : ⊥ = cc in absurd no
+is_literal-found name (Token.Numeral x) is = let no : ⊥ = cc in absurd no
+
+-- ---- codes, CIDs and destinations
+-- a code of these bytes
+abbrev pub written : List ℕ → Code
+written bytes = record { len = length bytes; number = big_endian bytes }
+
+pub code_of-is : (bytes : List ℕ) → 1 ≤ length bytes → length bytes ≤ 4 → code_of bytes ≡ Some (written bytes)
+code_of-is bytes least most = rw (le-leb 1 (length bytes) least, le-leb (length bytes) 4 most) refl
+
+code_of-found : (bytes : List ℕ) (code : Code) → code_of bytes ≡ Some code → (1 ≤ length bytes) × (length bytes ≤ 4) × (written bytes ≡ code)
+code_of-found bytes code is =
+    let (within, same) = tested (nat_le 1 (length bytes) && nat_le (length bytes) 4) (written bytes) code is in
+    let (least, most) = and_parts (nat_le 1 (length bytes)) (nat_le (length bytes) 4) within in
+    (leb-true 1 (length bytes) least, leb-true (length bytes) 4 most, same)
+
+pub destination_of-is : (bytes : List ℕ) → 0 < length bytes → destination_of bytes ≡ Some (units_of bytes)
+destination_of-is bytes filled = rw (lt-ltb 0 (length bytes) filled) refl
+
+pub destination_of-none : (bytes : List ℕ) → length bytes ≡ 0 → destination_of bytes ≡ None
+destination_of-none bytes empty = rw empty refl
+
+pub cid_found : (t : Token) (cid : ℕ) → cid_in t ≡ Some cid → IsCid t cid
+cid_found (Token.Name literal bytes) cid is = absurd (none-some cid is)
+cid_found (Token.String piece) cid is = absurd (none-some cid is)
+cid_found (Token.Numeral Number.Real) cid is = absurd (none-some cid is)
+cid_found (Token.Numeral (Number.Integer (negsuc n))) cid is = absurd (none-some cid is)
+cid_found (Token.Numeral (Number.Integer (pos n))) cid is =
+    let (within, same) = tested (nat_lt n (2 ^ 32)) n cid is in
+    (ap (λ m. Token.Numeral (Number.Integer (pos m))) same, omega (arith, ltb-true n (2 ^ 32) within, same))
+
+pub cid_is : (t : Token) (cid : ℕ) → IsCid t cid → cid_in t ≡ Some cid
+cid_is t cid (is, within) = rw (is, lt-ltb cid (2 ^ 32) within) refl
+
+module _ (strings : HaveValuesRead) where
+  -- a string is read by its value
+  pub read_value : {A : Type 0} (read : List ℕ → Option A) (t : Token) (piece value : List ℕ) → t ≡ Token.String piece → IsValue piece value → option_and_then read (value_in t) ≡ read value
+  read_value read t piece value is holds = rw (is, (strings piece value).0 holds) refl
+
+  found_value : {A : Type 0} (read : List ℕ → Option A) (t : Token) (x : A) → option_and_then read (value_in t) ≡ Some x → (piece value : List ℕ) × (t ≡ Token.String piece) × IsValue piece value × (read value ≡ Some x)
+  found_value read (Token.Name literal bytes) x is = absurd (none-some x is)
+  found_value read (Token.String piece) x is = let (value, read_is, gives) = bound read (value_in (Token.String piece)) x is in (piece, value, refl, (strings piece value).1 read_is, gives)
+  found_value read (Token.Numeral n) x is = absurd (none-some x is)
+
+  pub code_is : (t : Token) (bytes : List ℕ) → IsCode t bytes → code_in t ≡ Some (written bytes)
+  code_is t bytes (piece, is, value, least, most) = read_value code_of t piece bytes is value ∙ code_of-is bytes least most
+
+  pub code_found : (t : Token) (code : Code) → code_in t ≡ Some code → (bytes : List ℕ) × IsCode t bytes × (written bytes ≡ code)
+  code_found t code is =
+      let (piece, bytes, string, value, gives) = found_value code_of t code is in
+      let (least, most, same) = code_of-found bytes code gives in
+      (bytes, (piece, string, value, least, most), same)
+
+  pub destination_is : (t : Token) (units : List ℕ) → IsDestination t units → destination_in t ≡ Some units
+  destination_is t units (piece, bytes, is, value, filled, units_are) = read_value destination_of t piece bytes is value ∙ destination_of-is bytes filled ∙ ap Some (sym units_are)
+
+  pub destination_found : (t : Token) (units : List ℕ) → destination_in t ≡ Some units → IsDestination t units
+  destination_found t units is =
+      let (piece, bytes, string, value, gives) = found_value destination_of t units is in
+      let (filled, same) = tested (nat_lt 0 (length bytes)) (units_of bytes) units gives in
+      (piece, bytes, string, value, ltb-true 0 (length bytes) filled, sym same)
+
+-- the token that is read, and what is left after it
+pub head_found : {A : Type 0} (read : Token → Option A) (left : Left) (p : A × Left) → head_in read left ≡ Some p → (t : Token) × (left ≡ with_front (t ∷ []) p.1) × (read t ≡ Some p.0)
+head_found {A} read left p is = at left.tokens left.ends is
+  where
+    at : (tokens : List Token) (ends : Bool) → head_in read (record { tokens = tokens; ends = ends }) ≡ Some p → (t : Token) × (◌≡◌ {A = Left} (record { tokens = tokens; ends = ends }) (with_front (t ∷ []) p.1)) × (read t ≡ Some p.0)
+    at [] ends e = absurd (none-some p e)
+    at (t ∷ rest) ends e =
+        let (x, gives, same) = mapped _ (read t) p e in
+        (t, ap (λ q. with_front (t ∷ []) q.1) same, gives ∙ ap (λ q. Some q.0) same)
