@@ -1,4 +1,4 @@
--- The lists of declarations, one part of a file behind another.
+-- The lists of declarations, one part of a file after another.
 use Rattle.std.proofs.Common.{◌≡◌, ℕ, ◌++◌, List, [], ◌∷◌, refl, sym, ap, ◌∙◌, append_assoc, append-nil, inl, inr}
 use Rattle.std.specs.Prelude.{◌==◌}
 use Rattle.std.proofs.lemmas.Bool.{cases_Bool}
@@ -41,7 +41,7 @@ append_by_length-assoc a b c = rw (append_assoc a.one b.one c.one, append_assoc 
 pub append_lists-assoc : (a b c : Lists) → append_lists (append_lists a b) c ≡ append_lists a (append_lists b c)
 append_lists-assoc a b c = rw (append_assoc a.bfs b.bfs c.bfs, append_assoc a.spaces b.spaces c.spaces, append_by_length-assoc a.cids b.cids c.cids, append_by_length-assoc a.notdefs b.notdefs c.notdefs) refl
 
--- what is added, and what is added behind it
+-- what is added, and what is added after it
 pub added_more : (old here new : Lists) (a b : List Declaration) → here ≡ append_lists old (lists_of a) → new ≡ append_lists here (lists_of b) → new ≡ append_lists old (lists_of (a ++ b))
 added_more old here new a b first second =
     second ∙ ap (λ l. append_lists l (lists_of b)) first ∙ append_lists-assoc old (lists_of a) (lists_of b) ∙ sym (ap (append_lists old) (lists_of-append a b))

@@ -18,9 +18,9 @@ SpellsNoNumber name words = (value : List ℕ) × (others : List (List ℕ)) × 
 
 -- how many bytes of the input are a bundle, then how many bytes the files may have, then these words
 abbrev pub SpellsOptions : List (List ℕ) → Option ℕ → Option ℕ → List (List ℕ) → Type 0
-SpellsOptions words bundle budget rest = (behind : List (List ℕ)) × SpellsOption (codes "--bundle") words bundle behind × SpellsOption (codes "--budget") behind budget rest
+SpellsOptions words bundle budget rest = (after : List (List ℕ)) × SpellsOption (codes "--bundle") words bundle after × SpellsOption (codes "--budget") after budget rest
 
 -- one of these options has a word that spells no number
 abbrev pub SpellsNoOptions : List (List ℕ) → Type 0
 SpellsNoOptions words = SpellsNoNumber (codes "--bundle") words
-    ⊎ ((bundle : Option ℕ) × (behind : List (List ℕ)) × SpellsOption (codes "--bundle") words bundle behind × SpellsNoNumber (codes "--budget") behind)
+    ⊎ ((bundle : Option ℕ) × (after : List (List ℕ)) × SpellsOption (codes "--bundle") words bundle after × SpellsNoNumber (codes "--budget") after)

@@ -126,8 +126,8 @@ cut_read (part ∷ parts) body value zero (next, more, whole, value_is, is, cut)
 cut_read (part ∷ parts) body value (suc n) (next, more, whole, value_is, is, cut) few =
     let at = part_read part.0 part.1 next is in
     let (paired, rest) = cut_read parts next more n cut (omega (arith, few, at.filled, ap length whole, length-append part.0 next)) in
-    let behind : drop (first_part body).1 body ≡ next = ap (λ b. drop (first_part b).1 b) whole ∙ drop_at part.0 next _ (sym at.measured) in
-    (ap (is_paired false) whole ∙ at.paired ∙ paired, value_is ∙ ap (λ v. v ++ more) (at.read ∙ ap (λ b. option_to_list (first_part b).0) (sym whole)) ∙ ap (λ m. option_to_list (first_part body).0 ++ m) (rest ∙ ap (parts_value n) (sym behind)))
+    let tail : drop (first_part body).1 body ≡ next = ap (λ b. drop (first_part b).1 b) whole ∙ drop_at part.0 next _ (sym at.measured) in
+    (ap (is_paired false) whole ∙ at.paired ∙ paired, value_is ∙ ap (λ v. v ++ more) (at.read ∙ ap (λ b. option_to_list (first_part b).0) (sym whole)) ∙ ap (λ m. option_to_list (first_part body).0 ++ m) (rest ∙ ap (parts_value n) (sym tail)))
 
 -- what is read is a part
 abbrev Found : List ℕ → Type 0
@@ -196,7 +196,7 @@ has_cut (suc n) (b ∷ text) few paired =
     let (part, value, rest, whole, is) = found b text paired in
     let at = part_read part value rest is in
     let body = b ∷ text in
-    let behind : drop (first_part body).1 body ≡ rest = ap (λ t. drop (first_part t).1 t) whole ∙ drop_at part rest _ (sym at.measured) in
+    let tail : drop (first_part body).1 body ≡ rest = ap (λ t. drop (first_part t).1 t) whole ∙ drop_at part rest _ (sym at.measured) in
     let (parts, cut) = has_cut n rest (omega (arith, few, at.filled, ap length whole, length-append part rest)) (sym at.paired ∙ ap (is_paired false) (sym whole) ∙ paired) in
     let read : option_to_list (first_part body).0 ≡ value = ap (λ t. option_to_list (first_part t).0) whole ∙ sym at.read in
-    ((part, value) ∷ parts, (rest, parts_value n rest, whole, ap (λ v. v ++ parts_value n (drop (first_part body).1 body)) read ∙ ap (λ t. value ++ parts_value n t) behind, is, cut))
+    ((part, value) ∷ parts, (rest, parts_value n rest, whole, ap (λ v. v ++ parts_value n (drop (first_part body).1 body)) read ∙ ap (λ t. value ++ parts_value n t) tail, is, cut))

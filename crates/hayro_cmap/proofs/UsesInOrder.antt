@@ -12,9 +12,9 @@ use Rattle.hayro_cmap.specs.BytesSpent.{About, Leaves, Spends, Resolves, Refuses
 use Rattle.hayro_cmap.specs.Layers.{Layer}
 use Rattle.hayro_cmap.proofs.BudgetLeft.{sum-append, IsOver-more, Leaves-none, Leaves-append, Leaves-over_append}
 
--- a trail behind files of these lengths
-abbrev behind : List ℕ → Trail → Trail
-behind lengths trail = (lengths ++ trail.0, trail.1)
+-- a trail after files of these lengths
+abbrev trail_after : List ℕ → Trail → Trail
+trail_after lengths trail = (lengths ++ trail.0, trail.1)
 
 module _ (use_of : About (List ℕ)) where
   -- the base, where these layers came before the names
@@ -34,10 +34,10 @@ module _ (use_of : About (List ℕ)) where
   IsBaseAfter-end last base (layers ∷ each, h, e) = absurd h
 
   opens-next : (name : List ℕ) (names : List (List ℕ)) (first : List ℕ) (trail : Trail) → IsOnly (use_of.opens name) (first, false) → (of_uses use_of).opens (name ∷ names) trail
-      → (rest : Trail) × (of_uses use_of).opens names rest × (trail ≡ behind first rest)
+      → (rest : Trail) × (of_uses use_of).opens names rest × (trail ≡ trail_after first rest)
   opens-next name names first trail only o = elim o [
     | inl x ↦ (let b : trail.1 ≡ false = ap (λ (t : Trail). t.1) (only.alone trail x.0) in let c = x.1 in absurd (cc))
-    | inr y ↦ (y.1, y.3, y.4 ∙ ap (λ (t : Trail). behind t.0 y.1) (only.alone (y.0, false) y.2))
+    | inr y ↦ (y.1, y.3, y.4 ∙ ap (λ (t : Trail). trail_after t.0 y.1) (only.alone (y.0, false) y.2))
   ]
 
   -- between two uses: of all names but the rest each has layers alone, the last of them the base, and what they open is spent
@@ -47,8 +47,8 @@ module _ (use_of : About (List ℕ)) where
     pub base_of_names : (whole : List Layer) → IsBaseAfter last rest whole → IsBaseAfter None names whole
     pub base_of_rest : (whole : List Layer) → IsBaseAfter None names whole → IsBaseAfter last rest whole
     pub lengths : List ℕ
-    pub names_open : (trail : Trail) → (of_uses use_of).opens rest trail → (of_uses use_of).opens names (behind lengths trail)
-    pub rest_opens : (trail : Trail) → (of_uses use_of).opens names trail → (more : Trail) × (of_uses use_of).opens rest more × (trail ≡ behind lengths more)
+    pub names_open : (trail : Trail) → (of_uses use_of).opens rest trail → (of_uses use_of).opens names (trail_after lengths trail)
+    pub rest_opens : (trail : Trail) → (of_uses use_of).opens names trail → (more : Trail) × (of_uses use_of).opens rest more × (trail ≡ trail_after lengths more)
     pub names_open_first : (more : List ℕ) → (of_uses use_of).opens_first rest more → (of_uses use_of).opens_first names (lengths ++ more)
     pub leaves : Leaves budget (sum lengths) left
 
@@ -72,7 +72,7 @@ module _ {use_of : About (List ℕ)} where
       lengths = used.lengths ++ s.lengths;
       opened = record {
         holds = used.names_open (s.lengths, broken) s.opened.holds;
-        alone = λ other o. let more = used.rest_opens other o in more.2 ∙ ap (λ (t : Trail). behind used.lengths t) (s.opened.alone more.0 more.1);
+        alone = λ other o. let more = used.rest_opens other o in more.2 ∙ ap (λ (t : Trail). trail_after used.lengths t) (s.opened.alone more.0 more.1);
       };
       leaves = Leaves-append budget left after used.lengths s.lengths used.leaves s.leaves;
     }
@@ -97,9 +97,9 @@ module _ {use_of : About (List ℕ)} where
       base_of_rest = λ whole h. IsBaseAfter-next use_of used.last name rest next whole found.only (used.base_of_rest whole h);
       lengths = used.lengths ++ first;
       names_open = λ trail o. subst (λ (l : List ℕ). (of_uses use_of).opens names (l, trail.1)) (sym (append_assoc used.lengths first trail.0))
-          (used.names_open (behind first trail) (inr (first, trail, found.spent.opened.holds, o, refl)));
+          (used.names_open (trail_after first trail) (inr (first, trail, found.spent.opened.holds, o, refl)));
       rest_opens = λ trail o. let more = used.rest_opens trail o in let next = opens-next use_of name rest first more.0 found.spent.opened more.1 in
-          (next.0, next.1, more.2 ∙ ap (λ (t : Trail). behind used.lengths t) next.2 ∙ ap (λ (l : List ℕ). (l, next.0.1)) (sym (append_assoc used.lengths first next.0.0)));
+          (next.0, next.1, more.2 ∙ ap (λ (t : Trail). trail_after used.lengths t) next.2 ∙ ap (λ (l : List ℕ). (l, next.0.1)) (sym (append_assoc used.lengths first next.0.0)));
       names_open_first = λ more o. subst (λ (l : List ℕ). (of_uses use_of).opens_first names l) (sym (append_assoc used.lengths first more))
           (used.names_open_first (first ++ more) (inr (first, more, found.spent.opened.holds, o, refl)));
       leaves = Leaves-append budget left after used.lengths first used.leaves found.spent.leaves;

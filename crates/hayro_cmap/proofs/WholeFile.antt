@@ -40,8 +40,8 @@ module _ (means : List ℕ → File → Type 0) (answer : List ℕ → Option (L
     leaves : Leaves budget (sum (length bytes ∷ [])) rest
     leaves = Leaves-one budget rest (length bytes) spent
 
-    behind_file : (trail : Trail) → Opens means answer (suc most) bytes trail → (more : Trail) × under.opens file.uses more × (trail ≡ (length bytes ∷ more.0, more.1))
-    behind_file trail o = elim o [
+    after_file : (trail : Trail) → Opens means answer (suc most) bytes trail → (more : Trail) × under.opens file.uses more × (trail ≡ (length bytes ∷ more.0, more.1))
+    after_file trail o = elim o [
       | inl x ↦ absurd (x.0 file only.holds)
       | inr y ↦ (y.1, subst (λ (f : File). under.opens f.uses y.1) (only.alone y.0 y.2) y.3, y.4)
     ]
@@ -51,7 +51,7 @@ module _ (means : List ℕ → File → Type 0) (answer : List ℕ → Option (L
       lengths = length bytes ∷ s.lengths;
       opened = record {
         holds = inr (file, (s.lengths, broken), only.holds, s.opened.holds, refl);
-        alone = λ other o. let more = behind_file other o in more.2 ∙ ap (λ (t : Trail). (length bytes ∷ t.0, t.1)) (s.opened.alone more.0 more.1);
+        alone = λ other o. let more = after_file other o in more.2 ∙ ap (λ (t : Trail). (length bytes ∷ t.0, t.1)) (s.opened.alone more.0 more.1);
       };
       leaves = Leaves-append budget rest left (length bytes ∷ []) s.lengths leaves s.leaves;
     }
@@ -79,5 +79,5 @@ module _ (means : List ℕ → File → Type 0) (answer : List ℕ → Option (L
         let more : (lengths : List ℕ) → IsOver rest (sum lengths) → IsOver budget (sum (length bytes ∷ lengths)) = λ lengths o. Leaves-over_append budget rest (length bytes ∷ []) lengths leaves o in
         record {
           first = (length bytes ∷ past.first.0, inr (file, past.first.0, only.holds, past.first.1, refl), more past.first.0 past.first.2);
-          all = λ trail o. let behind = behind_file trail o in subst (λ (t : Trail). IsOver budget (sum t.0)) (sym behind.2) (more behind.0.0 (past.all behind.0 behind.1));
+          all = λ trail o. let whole = after_file trail o in subst (λ (t : Trail). IsOver budget (sum t.0)) (sym whole.2) (more whole.0.0 (past.all whole.0 whole.1));
         }
