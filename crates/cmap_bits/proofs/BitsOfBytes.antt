@@ -1,8 +1,8 @@
 -- The bits of bytes: how many there are, and which one stands at a place.
-use Rattle.std.proofs.Common.{◌≡◌, ℕ, zero, suc, ◌+◌, ◌-◌, ◌*◌, ◌/◌, ◌%◌, ◌^◌, ◌<◌, ◌≤◌, List, [], ◌∷◌, length, get_or, take, drop, Some, None, refl, ap, ◌∙◌, sym, arith}
+use Rattle.std.proofs.Common.{◌≡◌, ℕ, zero, suc, ◌+◌, ◌-◌, ◌*◌, ◌/◌, ◌%◌, ◌^◌, ◌<◌, ◌≤◌, List, [], ◌∷◌, ◌++◌, length, get_or, take, drop, Some, None, refl, ap, ◌∙◌, sym, arith}
 use Rattle.std.specs.List.{slice_get}
-use Rattle.std.proofs.lemmas.List.{drop_all, length-drop, length-take-le}
-use Rattle.std.proofs.lemmas.List.Concat.{get_or-flat_map}
+use Rattle.std.proofs.lemmas.List.{drop_all, drop_at, drop_more, length-drop, length-take-le, take-append-drop}
+use Rattle.std.proofs.lemmas.List.Concat.{flat_map-append, get_or-flat_map}
 use Rattle.std.proofs.lemmas.Option.{slice_get-get_or, slice_get_past}
 use Rattle.cmap_bits.specs.PrefixWords.{bits_of, bits}
 
@@ -42,3 +42,17 @@ bits_left-at_end bytes taken h = drop_all taken (bits bytes) (omega (arith, leng
 
 pub at_end-from_bits_left : (bytes : List ℕ) (taken : ℕ) → drop taken (bits bytes) ≡ [] → 8 * length bytes ≤ taken
 at_end-from_bits_left bytes taken e = omega (arith, length-bits bytes, length-drop taken (bits bytes), ap length e)
+
+-- ---- the bits that are left
+pub left-within : (bytes : List ℕ) (taken count : ℕ) → taken ≤ 8 * length bytes → count ≤ length (drop taken (bits bytes)) → taken + count ≤ 8 * length bytes
+left-within bytes taken count within h = omega (arith, length-bits bytes, length-drop taken (bits bytes))
+
+-- those of two bytes, and of what follows them
+pub bits-at : (bytes : List ℕ) (i : ℕ) → i + 1 < length bytes → drop (8 * i) (bits bytes) ≡ bits (get_or bytes i 0 ∷ get_or bytes (i + 1) 0 ∷ []) ++ bits (drop (i + 2) bytes)
+bits-at bytes i h =
+    let size : length (bits (take i bytes)) ≡ 8 * i = omega (arith, length-bits (take i bytes), length-take-le i bytes (omega arith)) in
+    let past : i + 1 + 1 ≡ i + 2 = omega arith in
+    ap (λ bs. drop (8 * i) (bits bs)) (sym (take-append-drop i bytes))
+    ∙ ap (drop (8 * i)) (flat_map-append (bits_of 8) (take i bytes) (drop i bytes))
+    ∙ drop_at (bits (take i bytes)) (bits (drop i bytes)) (8 * i) size
+    ∙ ap bits (drop_more bytes i 0 (omega arith) ∙ ap (λ bs. get_or bytes i 0 ∷ bs) (drop_more bytes (i + 1) 0 h ∙ ap (λ n. get_or bytes (i + 1) 0 ∷ drop n bytes) past))

@@ -1,4 +1,5 @@
 pub mod BitsOfBytes
+pub mod BitsPeeked
 pub mod BitsTaken
 pub mod BytesTaken
 pub mod BytesWritten

@@ -33,7 +33,7 @@ bits_of-number_after n (d ∷ ds) h =
     let low : (n * 2 + d) % 2 ≡ d = omega arith in
     ap (λ x. x % 2 ∷ bits_of (length ds) whole) high ∙ ap (λ x. x ∷ bits_of (length ds) whole) low ∙ ap (λ xs. d ∷ xs) (bits_of-number_after (n * 2 + d) ds h.1)
 
-number_after-bits_of : (n count m : ℕ) → number_from_digits_after 2 n (bits_of count m) ≡ n * 2 ^ count + m % 2 ^ count
+pub number_after-bits_of : (n count m : ℕ) → number_from_digits_after 2 n (bits_of count m) ≡ n * 2 ^ count + m % 2 ^ count
 number_after-bits_of n zero m = omega arith
 number_after-bits_of n (suc count) m =
     let step = number_after-bits_of (n * 2 + m / 2 ^ count % 2) count m in
@@ -56,7 +56,7 @@ pub AreBits-bits_of : (count n : ℕ) → AreBits (bits_of count n)
 AreBits-bits_of zero n = All-nil (λ d. d < 2)
 AreBits-bits_of (suc count) n = All-cons (λ d. d < 2) _ _ (mod_below (n / 2 ^ count) 2 (omega arith)) (AreBits-bits_of count n)
 
-AreBits-bits : (bytes : List ℕ) → AreBits (bits bytes)
+pub AreBits-bits : (bytes : List ℕ) → AreBits (bits bytes)
 AreBits-bits [] = All-nil (λ d. d < 2)
 AreBits-bits (b ∷ bytes) = All-append (λ d. d < 2) (bits_of 8 b) (bits bytes) (AreBits-bits_of 8 b) (AreBits-bits bytes)
 

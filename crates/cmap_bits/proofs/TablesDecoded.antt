@@ -1,16 +1,16 @@
 -- A table of places, and what is found by how many words there are of each length.
-use Rattle.std.proofs.Common.{◌≡◌, ℕ, suc, ◌+◌, ◌-◌, ◌*◌, ◌^◌, ◌<◌, ◌≤◌, List, [], inl, inr, ◌∷◌, ◌++◌, length, get_or, take, map, Some, refl, ap, ◌∙◌, sym, subst, arith}
-use Rattle.std.specs.List.{sum_by, slice_get}
+use Rattle.std.proofs.Common.{◌≡◌, ℕ, suc, ◌+◌, ◌-◌, ◌*◌, ◌^◌, ◌<◌, ◌≤◌, List, [], inl, inr, ◌∷◌, ◌++◌, length, get_or, take, drop, map, refl, ap, ◌∙◌, sym, subst, arith}
+use Rattle.std.specs.List.{sum_by}
 use Rattle.std.specs.Int.Digits.{number_from_digits}
 use Rattle.std.proofs.lemmas.Bool.{cases_lt}
-use Rattle.std.proofs.lemmas.List.{append-nil, get_or-take, get_or_read, drop-drop, length-append, length-take-le, take-append-drop, take-map, take_at}
+use Rattle.std.proofs.lemmas.List.{append-nil, append_assoc, get_or-take, drop-append-le, length-append, length-take-le, take-append-drop, take-map, take_at}
 use Rattle.std.proofs.lemmas.List.Sums.{sum_by-cons, sum_by_more_le}
 use Rattle.std.proofs.lemmas.Nat.{pow-add, pow_pos}
 use Rattle.std.proofs.lemmas.Option.{slice_get_within, same_Some}
 use Rattle.std.proofs.Math.Nat.{add-mul, mul-le-mul_right}
-use Rattle.cmap_bits.specs.PrefixWords.{Place, AreWordLengths, BeginsAt, Decodes, IsPrefixFree, bits, bits_of, word_behind, lengths_from, zip_places}
-use Rattle.cmap_bits.specs.WordsByLength.{IsBegun, IsTable, places_of, room_of}
-use Rattle.cmap_bits.specs.Reader.{Reading, bits_left, after_bits}
+use Rattle.cmap_bits.specs.PrefixWords.{Place, AreWordLengths, BeginsAt, IsPrefixFree, bits, bits_of, word_behind, lengths_from, zip_places}
+use Rattle.cmap_bits.specs.WordsByLength.{IsBegun, IsNext, IsTable, places_of, room_of}
+use Rattle.cmap_bits.specs.Reader.{Reading, bits_left}
 use Rattle.cmap_bits.proofs.BitsOfBytes.{length-bits_of}
 use Rattle.cmap_bits.proofs.NumbersOfBits.{AreBits, AreBits-bits_of, AreBits-left, bits_of-number_after, number-bits_of}
 use Rattle.std.proofs.lemmas.List.Elements.{All-take, recursion_from_All}
@@ -93,29 +93,41 @@ IsPrefixFree-table counts symbols t i j word rest p q =
     BeginsAt-bits counts symbols (word ++ rest) t bits i j (word, rest, p, refl) (word ++ rest, [], q, sym (append-nil (word ++ rest)))
 
 -- ---- what is found is decoded
-pub Decodes-begun : (counts symbols : List ℕ) (old new : Reading) (place symbol : ℕ) → IsTable counts symbols → IsBegun (lengths_from 1 counts) (bits_left old) place → new ≡ after_bits old (get_or (lengths_from 1 counts) place 0)
-    → symbol ≡ get_or symbols place symbol → (len : ℕ) × Decodes (places_of counts symbols) (bits_left old) symbol len (bits_left new) × (new ≡ after_bits old len)
-Decodes-begun counts symbols old new place symbol t begun moves at =
+pub IsNext-begun : (counts symbols stream : List ℕ) (place : ℕ) → IsTable counts symbols → AreBits stream → IsBegun (lengths_from 1 counts) stream place
+    → IsNext (places_of counts symbols) stream (get_or symbols place 0) (get_or (lengths_from 1 counts) place 0)
+IsNext-begun counts symbols stream place t are begun =
     let lens = lengths_from 1 counts in
-    let stream = bits_left old in
     let len = get_or lens place 0 in
     let word = take len stream in
-    let same : get_or symbols place 0 ≡ symbol = sym (get_or_read symbols place symbol (omega (arith, begun.within, t.a_symbol_each)) at 0) in
-    let here : slice_get (places_of counts symbols) place ≡ Some (record { len = len; symbol = symbol }) =
-    slice_get-zip_places lens symbols place t.a_symbol_each begun.within ∙ ap (λ s. Some (record { len = len; symbol = s })) same in
+    let here = slice_get-zip_places lens symbols place t.a_symbol_each begun.within in
     let number : number_from_digits 2 word ≡ worth len (take place lens) = same_factor _ _ (2 ^ (32 - len)) (pow_pos (32 - len)) (begun.value_is ∙ room_before lens place t.sound begun.within) in
     let spelled : word ≡ word_behind (take place (places_of counts symbols)) len =
-    sym (bits_of-number_after 0 word (recursion_from_All (λ d. d < 2) word (All-take (λ d. d < 2) len stream (AreBits-left old))))
+    sym (bits_of-number_after 0 word (recursion_from_All (λ d. d < 2) word (All-take (λ d. d < 2) len stream are)))
     ∙ ap (λ n. bits_of n (number_from_digits 2 word)) (length-take-le len stream begun.enough)
     ∙ ap (bits_of len) number
-    ∙ sym (word_behind-lengths lens symbols place len t.a_symbol_each) in (
-      len,
-      record {
+    ∙ sym (word_behind-lengths lens symbols place len t.a_symbol_each) in
+    record {
+      enough = begun.enough;
+      decodes = record {
         place = place;
         word = word;
         place_is = here;
-        word_is = (record { len = len; symbol = symbol }, here, spelled);
-        bits_are = sym (take-append-drop len stream) ∙ ap (λ xs. word ++ xs) (drop-drop len old.taken (bits old.source) ∙ ap bits_left (sym moves));
-      },
-      moves,
-    )
+        word_is = (record { len = len; symbol = get_or symbols place 0 }, here, spelled);
+        bits_are = sym (take-append-drop len stream);
+      };
+    }
+
+-- whether a word begins bits, its own bits alone decide
+pub IsNext-more : (table : List Place) (front more : List ℕ) (symbol len : ℕ) → IsNext table front symbol len → IsNext table (front ++ more) symbol len
+IsNext-more table front more symbol len next =
+    let d = next.decodes in
+    record {
+      enough = omega (arith, next.enough, length-append front more);
+      decodes = record {
+        place = d.place;
+        word = d.word;
+        place_is = d.place_is;
+        word_is = d.word_is;
+        bits_are = ap (λ bs. bs ++ more) d.bits_are ∙ append_assoc d.word (drop len front) more ∙ ap (λ bs. d.word ++ bs) (sym (drop-append-le len front more next.enough));
+      };
+    }

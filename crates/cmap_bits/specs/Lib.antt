@@ -4,3 +4,4 @@ pub mod Reader
 pub mod TableTaken
 pub mod TableReading
 pub mod WordsByLength
+pub mod WordsFound

@@ -1,7 +1,7 @@
 -- Private aid: code words by how many there are of each length.
-use Rattle.std.specs.Prelude.{◌≡◌, ℕ, ◌-◌, ◌*◌, ◌^◌, ◌<◌, ◌≤◌, List, length, get_or, take, sum_by}
+use Rattle.std.specs.Prelude.{◌≡◌, ℕ, ◌-◌, ◌*◌, ◌^◌, ◌<◌, ◌≤◌, List, length, get_or, take, drop, sum_by}
 use Rattle.std.specs.Int.Digits.{number_from_digits}
-use Rattle.cmap_bits.specs.PrefixWords.{Place, AreWordLengths, lengths_from, zip_places}
+use Rattle.cmap_bits.specs.PrefixWords.{Place, AreWordLengths, Decodes, lengths_from, zip_places}
 
 abbrev pub places_of : List ℕ → List ℕ → List Place
 places_of counts symbols = zip_places (lengths_from 1 counts) symbols
@@ -23,3 +23,8 @@ pub record IsBegun (lens stream : List ℕ) (place : ℕ) : Type 0 where
   pub within : place < length lens
   pub enough : get_or lens place 0 ≤ length stream
   pub value_is : value_of (get_or lens place 0) stream ≡ room_of (take place lens)
+
+-- the code word of len bits that this symbol has begins the bits
+pub record IsNext (table : List Place) (stream : List ℕ) (symbol len : ℕ) : Type 0 where
+  pub enough : len ≤ length stream
+  pub decodes : Decodes table stream symbol len (drop len stream)

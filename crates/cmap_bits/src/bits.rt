@@ -1,6 +1,6 @@
 //! Bits, and big-endian numbers of one to four bytes, read from bytes in order.
 
-ghost use Rattle.std.specs.Prelude.{◌≡◌, ℕ, ◌/◌, ◌≤◌, ◌↔◌, Bool, [], length, option_map, is_some, slice_get, IsTrue, if◌then◌else◌, nat_le, ◌&&◌};
+ghost use Rattle.std.specs.Prelude.{◌≡◌, ℕ, ◌/◌, ◌≤◌, ◌↔◌, Bool, [], ◌∷◌, length, option_map, is_some, slice_get, take, IsTrue, IfSome, if◌then◌else◌, nat_le, ◌&&◌};
 ghost use Rattle.std.specs.List.{before_first};
 ghost use Rattle.cmap_bits.specs.BigEndian.{big_endian};
 ghost use Rattle.cmap_bits.specs.Reader.{bits_left, bytes_left, IsAtByte, after_bits, after_bytes, front, number_at, AnswersByByte, AnswersBy};
@@ -158,6 +158,25 @@ impl<'a> Reader<'a> {
         ensures { IsTrue result ↔ IsAtByte self.now }
     {
         self.bit == 0
+    }
+
+    // The next eight bits as a byte, where two bytes have them and the bits that go before.
+    pub(crate) fn peek_u8(&self) -> Option<u8>
+        ensures { IfSome result (λ byte. take 8 (bits_left self.now) ≡ bits (byte ∷ [])) }
+    {
+        let low = *self.bytes.get(self.byte + 1)?;
+        let pair = u16::from_be_bytes([self.bytes[self.byte], low]);
+        Some((pair >> (8 - self.bit) & 0xFF) as u8)
+    }
+
+    // Moves past `count` bits.
+    pub(crate) fn skip_bits(&mut self, count: u8)
+        requires { count ≤ length (bits_left self.old) }
+        ensures { self.new ≡ after_bits self.old count }
+    {
+        let bit = usize::from(self.bit) + usize::from(count);
+        self.byte += bit / 8;
+        self.bit = (bit % 8) as u8;
     }
 
     // A reader at the same place, to try what may fail.

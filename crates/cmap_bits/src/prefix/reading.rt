@@ -7,7 +7,7 @@ ghost use Rattle.cmap_bits.specs.TableReading.{TakesMost, TakesNumbers, TakesCou
 ghost use Rattle.cmap_bits.specs.TableTaken.{ParsesTable, TakesTable};
 
 use super::PrefixTable;
-use super::words::count_words;
+use super::words::{count_words, words_of_bytes};
 use crate::bits::Reader;
 use std::alloc::{AllocError, Global};
 
@@ -50,7 +50,12 @@ fn read_table(
     let Some(symbols) = read_numbers(alloc, reader, count, width)? else {
         return Ok(None);
     };
-    Ok(Some(PrefixTable { counts, symbols }))
+    let words_of_bytes = words_of_bytes(alloc, &counts, &symbols)?;
+    Ok(Some(PrefixTable {
+        counts,
+        symbols,
+        words_of_bytes,
+    }))
 }
 
 // How many words there are of each length.

@@ -1,25 +1,32 @@
 //! The words of a table, by how many there are of each length.
 
-ghost use Rattle.std.specs.Prelude.{◌≡◌, ℕ, ◌<◌, ◌≤◌, ◌^◌, get_or, length, IfSome, IfNone, MatchOption};
+ghost use Rattle.std.specs.Prelude.{◌≡◌, length, IfOk, MatchOption};
 ghost use Rattle.cmap_bits.specs.PrefixWords.{AreWordLengths, lengths_from};
-ghost use Rattle.cmap_bits.specs.Reader.{bits_left, after_bits};
-ghost use Rattle.cmap_bits.specs.WordsByLength.{IsBegun};
+ghost use Rattle.cmap_bits.specs.Reader.{bits_left};
+ghost use Rattle.cmap_bits.specs.WordsByLength.{IsTable, places_of};
+ghost use Rattle.cmap_bits.specs.WordsFound.{BeginBytes, FindsNext};
 
 use crate::bits::Reader;
+use std::alloc::{AllocError, Global};
 
 // The most bits that a word has.
 pub(super) const LONGEST: usize = 32;
 
-// The place whose word comes next. Where no word does, the reader stays. Words of one length are
-// numbers in a row, and after the last one comes twice its follower among the longer words.
-pub(super) fn find(counts: &[u32], reader: &mut Reader<'_>) -> Option<usize>
-    requires { AreWordLengths (lengths_from 1 counts.now) }
-    ensures found { IfSome result (λ place. let lens = lengths_from 1 counts.now in
-        IsBegun lens (bits_left reader.old) place
-        × (reader.new ≡ after_bits reader.old (get_or lens place 0))) }
-    ensures none { IfNone result
-        ((i : ℕ) → IsBegun (lengths_from 1 counts.now) (bits_left reader.old) i → ⊥) }
-    ensures unmoved { IfNone result (reader.new ≡ reader.old) }
+// How many bytes there are.
+const BYTES: usize = 256;
+
+// A symbol whose word begins bits, and how many bits that word has.
+#[derive(Clone, Copy, Debug)]
+pub(super) struct Word {
+    pub(super) symbol: u32,
+    pub(super) len: u8,
+}
+
+// The word that comes next. Words of one length are numbers in a row, and after the last one comes
+// twice its follower among the longer words.
+pub(super) fn find(counts: &[u32], symbols: &[u32], reader: &Reader<'_>) -> Option<Word>
+    requires { IsTable counts.now symbols.now }
+    ensures { FindsNext (places_of counts.now symbols.now) (bits_left reader.now) result }
 {
     let mut ahead = reader.fork();
     // the place of the first word of a length, and how far the bits are past that word
@@ -29,13 +36,30 @@ pub(super) fn find(counts: &[u32], reader: &mut Reader<'_>) -> Option<usize>
         let count = *counts.get(i)? as usize;
         past = past * 2 + usize::from(ahead.read_bit()?);
         if past < count {
-            *reader = ahead;
-            return Some(place + past);
+            let symbol = symbols[place + past];
+            let len = (i + 1) as u8;
+            return Some(Word { symbol, len });
         }
         past -= count;
         place += count;
     }
     None
+}
+
+// For each byte the word that its bits begin with, where they begin with one.
+pub(super) fn words_of_bytes(
+    alloc: Global,
+    counts: &[u32],
+    symbols: &[u32],
+) -> Result<Vec<Option<Word>>, AllocError>
+    requires { IsTable counts.now symbols.now }
+    ensures { IfOk result (λ words. BeginBytes (places_of counts.now symbols.now) words.items) }
+{
+    let mut words = Vec::with_capacity(alloc, BYTES)?;
+    for byte in 0..BYTES {
+        words.push(find(counts, symbols, &Reader::new(&[byte as u8])))?;
+    }
+    Ok(words)
 }
 
 // How many words there are, where none is longer than `LONGEST`, and there is room for each: a word
