@@ -130,7 +130,7 @@ fn read_destination(alloc: Global, text: &mut &[u8], fixed: Option<u8>) -> Resul
 fn read_units(alloc: Global, text: &mut &[u8], count: u8) -> Result<Vec<u16>, Fault>
     ensures { Reads (RowOf (FieldAt 2) count text.old.now) (λ units. (units.items, text.new.now)) result }
 {
-    let mut units = Vec::new(alloc);
+    let mut units = Vec::with_capacity(alloc, usize::from(count))?;
     for index in 0..count {
         let Some(unit) = take_u16(text) else {
             return Err(Fault::Refused);

@@ -76,6 +76,7 @@ impl PrefixTable {
 
     /// The symbol whose word comes next, and the reader moves past that word; `None` where no
     /// word of the table does, and then the reader stays. It takes no memory.
+    #[inline(always)]
     pub fn decode(&self, reader: &mut Reader<'_>) -> Option<u32>
         ensures found { IfSome result (λ symbol. (len : ℕ)
             × Decodes self.now (bits_left reader.old) symbol len (bits_left reader.new)
@@ -87,7 +88,7 @@ impl PrefixTable {
     {
         let word = match self.short_word(reader) {
             Some(word) => word,
-            None => find(&self.counts, &self.symbols, reader)?,
+            None => find(&self.counts, &self.symbols, reader.fork())?,
         };
         reader.skip_bits(word.len);
         Some(word.symbol)

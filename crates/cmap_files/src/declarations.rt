@@ -124,6 +124,7 @@ impl Lists {
     }
 
     /// Adds a declaration of CIDs for codes of this length.
+    #[inline(always)]
     pub fn add_cid(&mut self, len: CodeLength, range: CidRange) -> Result<(), AllocError>
         ensures { OnOk result (lists_seen self.new ≡ append_lists (lists_seen self.old)
             (lists_of (Declaration.cid (length_of len) (cid_entry_seen range) ∷ []))) }
@@ -159,6 +160,7 @@ impl Lists {
 }
 
 /// Adds a declaration to the list for codes of this length.
+#[inline(always)]
 fn push_filed(
     lists: &mut ByLength<Vec<CidRange>>,
     len: CodeLength,

@@ -24,17 +24,17 @@ pub(super) struct Word {
 
 // The word that comes next. Words of one length are numbers in a row, and after the last one comes
 // twice its follower among the longer words.
-pub(super) fn find(counts: &[u32], symbols: &[u32], reader: &Reader<'_>) -> Option<Word>
+#[inline(never)]
+pub(super) fn find(counts: &[u32], symbols: &[u32], mut reader: Reader<'_>) -> Option<Word>
     requires { IsTable counts.now symbols.now }
-    ensures { FindsNext (places_of counts.now symbols.now) (bits_left reader.now) result }
+    ensures { FindsNext (places_of counts.now symbols.now) (bits_left reader.entry) result }
 {
-    let mut ahead = reader.fork();
     // the place of the first word of a length, and how far the bits are past that word
     let mut place = 0;
     let mut past = 0;
     for i in 0..LONGEST {
         let count = *counts.get(i)? as usize;
-        past = past * 2 + usize::from(ahead.read_bit()?);
+        past = past * 2 + usize::from(reader.read_bit()?);
         if past < count {
             let symbol = symbols[place + past];
             let len = (i + 1) as u8;
@@ -57,7 +57,7 @@ pub(super) fn words_of_bytes(
 {
     let mut words = Vec::with_capacity(alloc, BYTES)?;
     for byte in 0..BYTES {
-        words.push(find(counts, symbols, &Reader::new(&[byte as u8])))?;
+        words.push(find(counts, symbols, Reader::new(&[byte as u8])))?;
     }
     Ok(words)
 }

@@ -18,27 +18,27 @@ returns-in_err-count c =
 
 pub returns-in_err-read_bit : goal.returns-in_err-read_bit
 returns-in_err-read_bit c =
-    let short = no_bit_left c.args.reader.now _ _ c.loop-i.invariant.moves c.in_err-read_bit.ensures.value in
+    let short = no_bit_left c.args.reader _ _ c.loop-i.invariant.moves c.in_err-read_bit.ensures.value in
     rw c.from_residual-in_err-read_bit.ensures
     (BeginsAt-none _ _ _ c.requires (λ k begun. Looked-end _ _ _ _ _ c.loop-i.invariant.looked c.loop-i.invariant.counted k (omega (arith, begun.enough)) begun))
 
 pub bounds-symbols-place : goal.bounds-symbols-place
 bounds-symbols-place c =
-    let taken : BitTaken c.args.reader.now c.loop-i.i c.from.result = BitTaken-read _ _ _ _ c.loop-i.invariant.moves (ap Some c.from.ensures ∙ c.in_ok-read_bit.ensures.value) in
+    let taken : BitTaken c.args.reader c.loop-i.i c.from.result = BitTaken-read _ _ _ _ c.loop-i.invariant.moves (ap Some c.from.ensures ∙ c.in_ok-read_bit.ensures.value) in
     let count : (c.loop-i.i < length c.args.counts.now) × (c.in_ok-count.field-0.now ≡ get_or c.args.counts.now c.loop-i.i 0) = grind (arith, c.in_ok-count.ensures) in
     let hit = Looked-hit _ _ _ _ _ c.loop-i.invariant.looked c.loop-i-test.true taken.within count.0 (rw (taken.bit_is, count.1) at c.if-past-count.true) in
     omega (arith, hit.0.within, c.requires.a_symbol_each, taken.bit_is)
 
 pub returns-then-past-count : goal.returns-then-past-count
 returns-then-past-count c =
-    let taken : BitTaken c.args.reader.now c.loop-i.i c.from.result = BitTaken-read _ _ _ _ c.loop-i.invariant.moves (ap Some c.from.ensures ∙ c.in_ok-read_bit.ensures.value) in
+    let taken : BitTaken c.args.reader c.loop-i.i c.from.result = BitTaken-read _ _ _ _ c.loop-i.invariant.moves (ap Some c.from.ensures ∙ c.in_ok-read_bit.ensures.value) in
     let count : (c.loop-i.i < length c.args.counts.now) × (c.in_ok-count.field-0.now ≡ get_or c.args.counts.now c.loop-i.i 0) = grind (arith, c.in_ok-count.ensures) in
     let hit = Looked-hit _ _ _ _ _ c.loop-i.invariant.looked c.loop-i-test.true taken.within count.0 (rw (taken.bit_is, count.1) at c.if-past-count.true) in
-    rw taken.bit_is (rw hit.1 at (IsNext-begun _ _ _ _ c.requires (AreBits-left c.args.reader.now) hit.0))
+    rw taken.bit_is (rw hit.1 at (IsNext-begun _ _ _ _ c.requires (AreBits-left c.args.reader) hit.0))
 
 pub loop-i-preserved : goal.loop-i-preserved
 loop-i-preserved c =
-    let taken : BitTaken c.args.reader.now c.loop-i.i c.from.result = BitTaken-read _ _ _ _ c.loop-i.invariant.moves (ap Some c.from.ensures ∙ c.in_ok-read_bit.ensures.value) in
+    let taken : BitTaken c.args.reader c.loop-i.i c.from.result = BitTaken-read _ _ _ _ c.loop-i.invariant.moves (ap Some c.from.ensures ∙ c.in_ok-read_bit.ensures.value) in
     let count : (c.loop-i.i < length c.args.counts.now) × (c.in_ok-count.field-0.now ≡ get_or c.args.counts.now c.loop-i.i 0) = grind (arith, c.in_ok-count.ensures) in
     record {
       moves = moved_on _ _ _ _ c.loop-i.invariant.moves c.in_ok-read_bit.ensures.moves;

@@ -5,9 +5,9 @@ use Rattle.cmap_bits.proofs.prefix.words.find.Given as goal
 
 abbrev pub invariant-loop-i : goal.invariant-loop-i
 invariant-loop-i l = record {
-  moves : l.ahead ≡ after_bits l.reader l.i;
+  moves : l.reader ≡ after_bits l.fn.reader l.i;
   counted : l.i ≤ length l.counts;
-  looked : Looked l.counts (bits_left l.reader) l.i l.place l.past;
+  looked : Looked l.counts (bits_left l.fn.reader) l.i l.place l.past;
   small : l.past < 2 ^ l.i;
   few : l.place ≤ 4294967295 * l.i;
 }
