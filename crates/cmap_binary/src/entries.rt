@@ -11,6 +11,7 @@ ghost use Rattle.cmap_files.specs.Outcomes.{Finds, Reads};
 ghost use Rattle.cmap_files.specs.CodeLengths.{length_of};
 ghost use Rattle.cmap_files.specs.DeclarationsSeen.{cid_entry_seen};
 ghost use Rattle.cmap_files.specs.FilesSeen.{file_seen};
+ghost use Rattle.cmap_files.specs.UnitsSeen.{units_seen};
 
 use crate::bundle::Tables;
 use crate::columns::{Columns, Shape, take_columns};
@@ -19,6 +20,7 @@ use cmap_files::code_length::CodeLength;
 use cmap_files::declarations::{BfRange, CidRange};
 use cmap_files::fault::Fault;
 use cmap_files::file::File;
+use cmap_files::units::Units;
 use std::alloc::Global;
 
 /// What is left of the columns of a segment of CIDs.
@@ -101,41 +103,52 @@ pub(crate) fn add_texts(
     let Some(mut columns) = take_columns(&mut payload, shape) else {
         return Err(Fault::Refused);
     };
+    let mut buffer = Vec::new(alloc);
     for index in 0..count {
         let Some(range) = columns.next_range(tables) else {
             return Err(Fault::Refused);
         };
-        let units = read_destination(alloc, &mut payload, fixed)?;
+        let units = read_destination(alloc, &mut payload, fixed, &mut buffer)?;
         file.lists.add_bf(BfRange { range, units })?;
     }
     Ok(())
 }
 
 /// The units of the destination that the text begins with.
-fn read_destination(alloc: Global, text: &mut &[u8], fixed: Option<u8>) -> Result<Vec<u16>, Fault>
-    ensures { Reads (DestinationAt fixed text.old.now) (λ units. (units.items, text.new.now)) result }
+fn read_destination(
+    alloc: Global,
+    text: &mut &[u8],
+    fixed: Option<u8>,
+    buffer: &mut Vec<u16>,
+) -> Result<Units, Fault>
+    ensures { Reads (DestinationAt fixed text.old.now) (λ units. (units_seen units, text.new.now)) result }
 {
     match fixed {
-        Some(count) => read_units(alloc, text, count),
+        Some(count) => read_units(alloc, text, count, buffer),
         None => {
             let Some(count) = take_byte(text) else {
                 return Err(Fault::Refused);
             };
-            read_units(alloc, text, count)
+            read_units(alloc, text, count, buffer)
         }
     }
 }
 
-/// The `count` units that the text begins with.
-fn read_units(alloc: Global, text: &mut &[u8], count: u8) -> Result<Vec<u16>, Fault>
-    ensures { Reads (RowOf (FieldAt 2) count text.old.now) (λ units. (units.items, text.new.now)) result }
+/// The `count` units that the text begins with. They are gathered in the buffer.
+fn read_units(
+    alloc: Global,
+    text: &mut &[u8],
+    count: u8,
+    buffer: &mut Vec<u16>,
+) -> Result<Units, Fault>
+    ensures { Reads (RowOf (FieldAt 2) count text.old.now) (λ units. (units_seen units, text.new.now)) result }
 {
-    let mut units = Vec::with_capacity(alloc, usize::from(count))?;
+    buffer.clear();
     for index in 0..count {
         let Some(unit) = take_u16(text) else {
             return Err(Fault::Refused);
         };
-        units.push(unit)?;
+        buffer.push(unit)?;
     }
-    Ok(units)
+    Ok(Units::from_slice(alloc, buffer)?)
 }

@@ -10,6 +10,7 @@ use Rattle.cmap_files.specs.declared.declarations.CidRange.{CidRange}
 use Rattle.cmap_files.specs.declared.declarations.BfRange.{BfRange}
 use Rattle.cmap_files.specs.declared.declarations.Codespace.{Codespace}
 use Rattle.cmap_files.specs.declared.declarations.Lists.{Lists}
+use Rattle.cmap_files.specs.UnitsSeen.{units_seen}
 
 abbrev pub cid_range_span : CidRange → Span
 cid_range_span declaration = record { start = declaration.range.start; end = declaration.range.end }
@@ -21,7 +22,7 @@ abbrev pub cid_entry_seen : CidRange → files.CidEntry
 cid_entry_seen declaration = record { start = declaration.range.start; end = declaration.range.end; cid = declaration.cid }
 
 abbrev pub bf_entry_seen : BfRange → files.BfEntry
-bf_entry_seen declaration = record { start = declaration.range.start; end = declaration.range.end; units = declaration.units.items }
+bf_entry_seen declaration = record { start = declaration.range.start; end = declaration.range.end; units = units_seen declaration.units }
 
 abbrev pub codespace_seen : Codespace → files.Codespace
 codespace_seen space = record { len = length_of space.len; low = space.low; high = space.high }

@@ -1,6 +1,7 @@
 pub mod Only
 pub mod Outcomes
 pub mod Files
+pub mod UnitsSeen
 pub mod DeclarationsSeen
 pub mod FilesSeen
 pub mod ListsAppended

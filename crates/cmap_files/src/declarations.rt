@@ -8,6 +8,7 @@ ghost use Rattle.cmap_files.specs.ListsAppended.{no_lists, append_lists};
 
 use crate::code_length::CodeLength;
 use crate::names::Cid;
+use crate::units::Units;
 use cmap_runs::runs::{HasRange, Range};
 use std::alloc::{AllocError, Global};
 
@@ -45,8 +46,8 @@ impl HasRange for CidRange {
 #[derive(Debug, Drop)]
 pub struct BfRange {
     pub range: Range,
-    /// The units of the text of the first code, in UTF-16.
-    pub units: Vec<u16>,
+    /// The units of the text of the first code.
+    pub units: Units,
 }
 
 impl BfRange {
@@ -56,7 +57,7 @@ impl BfRange {
     {
         Ok(BfRange {
             range: self.range,
-            units: Vec::from_slice(alloc, &self.units)?,
+            units: self.units.clone(alloc)?,
         })
     }
 }

@@ -7,3 +7,4 @@ pub mod fault;
 pub mod file;
 pub mod metadata;
 pub mod names;
+pub mod units;

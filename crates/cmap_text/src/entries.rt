@@ -8,6 +8,7 @@ ghost use Rattle.cmap_text.specs.EntriesSeen.{Adds, Gives, after_token};
 ghost use Rattle.cmap_files.specs.Files.{lists_of};
 ghost use Rattle.cmap_files.specs.ListsAppended.{append_lists};
 ghost use Rattle.cmap_files.specs.Outcomes.{Succeeds};
+ghost use Rattle.cmap_files.specs.UnitsSeen.{units_seen};
 ghost use Rattle.cmap_text.specs.TextFiles as files;
 ghost use Rattle.cmap_text.specs.TextSeen.{cids_in, cids_section};
 ghost use Rattle.cmap_text.specs.TextReading.{entry_in, list_in};
@@ -16,6 +17,7 @@ use crate::tokens::{TokenReader, is_executable};
 use cmap_files::code_length::CodeLength;
 use cmap_files::declarations::{BfRange, CidRange, Codespace, Lists};
 use cmap_files::fault::Fault;
+use cmap_files::units::Units;
 use cmap_runs::runs::Range;
 use cmap_tokens::token::Token;
 
@@ -132,9 +134,9 @@ fn add_list(
 }
 
 /// Adds the units of the text of the code `start`, of a range that ends with the code `end`.
-fn add_text(lists: &mut Lists, start: u32, end: u32, units: Vec<u16>) -> Result<(), Fault>
+fn add_text(lists: &mut Lists, start: u32, end: u32, units: Units) -> Result<(), Fault>
     ensures { Succeeds (lists_seen lists.new ≡ append_lists (lists_seen lists.old)
-        (lists_of (files.declares_bf start end units.items ∷ []))) ⊥ result }
+        (lists_of (files.declares_bf start end (units_seen units) ∷ []))) ⊥ result }
 {
     let range = Range { start, end };
     lists.add_bf(BfRange { range, units }).map_err(Fault::from)

@@ -1,7 +1,11 @@
 //! The tokens of a text in order, and what single tokens stand for.
 
-ghost use Rattle.std.specs.Prelude.{◌≡◌, [], ◌∷◌, None, Some, MatchOption, MatchResult, option_map};
+ghost use Rattle.std.specs.Prelude.{◌≡◌, ◌<◌, ◌≤◌, ◌^◌, ℕ, List, [], ◌∷◌, length, None, Some, MatchOption, MatchResult, option_map};
+ghost use Rattle.std.specs.Int.Digits.{number_from_digits};
+ghost use Rattle.std.specs.List.{AllByRecursion};
 ghost use Rattle.std.specs.Option.{option_copied};
+ghost use Rattle.cmap_files.specs.UnitsSeen.{units_seen};
+ghost use Rattle.cmap_tokens.specs.Texts.{units_of};
 ghost use Rattle.cmap_tokens.specs.TokenSeen.{token_seen};
 ghost use Rattle.cmap_text.specs.EntriesSeen.{Gives};
 ghost use Rattle.cmap_text.specs.TextFiles.{literal_head, other};
@@ -14,8 +18,9 @@ use cmap_bits::bits::Reader;
 use cmap_files::code_length::CodeLength;
 use cmap_files::fault::Fault;
 use cmap_files::names::Cid;
+use cmap_files::units::Units;
 use cmap_tokens::token::{Number, Scanner, Token, one_value_for_a_string};
-use cmap_tokens::utf16::{number_units, units};
+use cmap_tokens::utf16::units;
 use std::alloc::Global;
 use std::marker::Model;
 
@@ -105,9 +110,8 @@ impl<'d> TokenReader<'d> {
     }
 
     /// The units of the destination that a token is: a string that isn't empty.
-    pub(crate) fn destination(&mut self, token: &Token<'_>) -> Result<Vec<u16>, Fault>
-        ensures destination { Gives (destination_in (token_seen token.now))
-            (λ units. units.items) result }
+    pub(crate) fn destination(&mut self, token: &Token<'_>) -> Result<Units, Fault>
+        ensures destination { Gives (destination_in (token_seen token.now)) units_seen result }
         ensures stays { self.new ≡ self.old }
     {
         one_value_for_a_string();
@@ -115,19 +119,20 @@ impl<'d> TokenReader<'d> {
             return Err(Fault::Refused);
         };
         if let Some((len, number)) = string.plain_number() {
-            return number_units(self.alloc, len, number).map_err(Fault::from);
+            return Ok(units_of_number(len, number));
         }
         string.decode_into(&mut self.string)?;
         if self.string.is_empty() {
             return Err(Fault::Refused);
         }
-        units(self.alloc, &self.string).map_err(Fault::from)
+        let units = units(self.alloc, &self.string)?;
+        Ok(Units::from_slice(self.alloc, &units)?)
     }
 
     /// The units of the destination that comes next.
-    pub(crate) fn next_destination(&mut self) -> Result<Vec<u16>, Fault>
+    pub(crate) fn next_destination(&mut self) -> Result<Units, Fault>
         ensures { Gives (head_in destination_in self.old)
-            (λ units. (units.items, self.new)) result }
+            (λ units. (units_seen units, self.new)) result }
     {
         let Some(token) = self.required_token() else {
             return Err(Fault::Refused);
@@ -151,6 +156,19 @@ fn code_of(bytes: &[u8]) -> Option<Code>
     let len = CodeLength::of(u8::try_from(bytes.len()).ok()?)?;
     let number = Reader::new(bytes).read_n_bytes(len.count())?;
     Some(Code { len, number })
+}
+
+/// The units of a destination of `len` bytes, one to four, where `number` is what these write.
+fn units_of_number(len: u8, number: u32) -> Units
+    ensures { (bytes : List ℕ) → AllByRecursion (λ b. b < 2 ^ 8) bytes → 1 ≤ len → len ≤ 4 → len ≡ length bytes
+        → number ≡ number_from_digits 256 bytes → units_seen result ≡ units_of bytes }
+{
+    let (high, low) = ((number / 0x1_0000) as u16, (number % 0x1_0000) as u16);
+    if len <= 2 {
+        Units::One([low])
+    } else {
+        Units::Two([high, low])
+    }
 }
 
 /// The CID that a token is.

@@ -16,6 +16,7 @@ pub use cmap_binary::{Bundle, load_embedded};
 pub use cmap_files::declarations::{BfRange, CidRange};
 pub use cmap_files::metadata::{CharacterCollection, CidFamily, Metadata, WritingMode};
 pub use cmap_files::names::{CMapName, Cid};
+pub use cmap_files::units::Units;
 pub use cmap_runs::runs;
 pub use cmap_tokens::token;
 pub use cmap_tokens::utf16::BfString;

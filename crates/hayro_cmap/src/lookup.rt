@@ -56,7 +56,7 @@ pub(crate) fn bf_of(
     let Some(found) = find_bf(layers, code, looks) else {
         return Ok(None);
     };
-    text(alloc, &found.units, code - found.range.start)
+    text(alloc, found.units.as_slice(), code - found.range.start)
 }
 
 /// The declaration that decides the text of a code.
@@ -110,7 +110,7 @@ fn character_of(table: &Table<BfRange>, code: u32, looks: &mut Looks) -> Option<
         (search_looks (map bf_span (map bf_entry_seen table.now))) 1 (is_some result) }
 {
     let found = last_bf(table, code, looks)?;
-    one_char(&found.units, code - found.range.start)
+    one_char(found.units.as_slice(), code - found.range.start)
 }
 
 /// The last declaration of CIDs for codes of this length that contains the code.

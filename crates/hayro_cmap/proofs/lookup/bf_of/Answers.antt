@@ -14,10 +14,10 @@ returns-in_default-clause-value c =
     sym (ap (option_map text_of) (bf_of-deciding_bf layers c.args.code ∙ ap (option_and_then (λ entry. bf_at entry c.args.code)) (sym c.in_default.ensures.found)))
 
 -- the text is that of the declaration that decides
-decided : (c : After-text) → bf_of (layers_seen c.args.layers.now) c.args.code ≡ text_at c.deref.result.now (c.args.code - c.in-Some.found.now.range.start)
+decided : (c : After-text) → bf_of (layers_seen c.args.layers.now) c.args.code ≡ text_at c.as_slice.result.now (c.args.code - c.in-Some.found.now.range.start)
 decided c =
     bf_of-deciding_bf (layers_seen c.args.layers.now) c.args.code ∙ ap (option_and_then (λ entry. bf_at entry c.args.code)) (sym c.in-Some.ensures.found)
-    ∙ ap (λ units. text_at units (c.args.code - c.in-Some.found.now.range.start)) (sym c.deref.ensures.value)
+    ∙ ap (λ units. text_at units (c.args.code - c.in-Some.found.now.range.start)) (sym c.as_slice.ensures)
 
 pub returns-clause-value : goal.returns-clause-value
 returns-clause-value c = subst (λ characters. IfOk c.text.result (λ text. option_map text_seen text ≡ option_map text_of characters)) (sym (decided c)) c.text.ensures.value

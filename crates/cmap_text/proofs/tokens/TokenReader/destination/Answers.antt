@@ -9,7 +9,7 @@ pub returns-in-Some-clause-destination : goal.returns-in-Some-clause-destination
 returns-in-Some-clause-destination c =
     let (bytes, only, are, count, number) = c.in-Some.ensures.value in
     let read = read_value c.one_value_for_a_string.ensures.value destination_of _ _ bytes (ap token_seen c.in-String.is) only.holds in
-    let units = c.number_units.ensures.value bytes are c.in-Some.ensures.some c.in-Some.ensures.few count number in
+    let units = c.units_of_number.ensures bytes are c.in-Some.ensures.some c.in-Some.ensures.few count number in
     rw (read, destination_of-is bytes (omega (arith, count, c.in-Some.ensures.some))) (search rules)
 
 pub returns-then-is_empty-clause-destination : goal.returns-then-is_empty-clause-destination
