@@ -134,7 +134,7 @@ fn read_destination(
     }
 }
 
-/// The `count` units that the text begins with. They are gathered in the buffer.
+/// The `count` units that the text begins with. More than one are gathered in the buffer.
 fn read_units(
     alloc: Global,
     text: &mut &[u8],
@@ -143,6 +143,12 @@ fn read_units(
 ) -> Result<Units, Fault>
     ensures { Reads (RowOf (FieldAt 2) count text.old.now) (λ units. (units_seen units, text.new.now)) result }
 {
+    if count == 1 {
+        let Some(unit) = take_u16(text) else {
+            return Err(Fault::Refused);
+        };
+        return Ok(Units::One([unit]));
+    }
     buffer.clear();
     for index in 0..count {
         let Some(unit) = take_u16(text) else {

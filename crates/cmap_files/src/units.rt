@@ -1,31 +1,35 @@
-//! The units of texts, of which nearly each text has one or two.
+//! The units of texts, of which nearly each text has one or two, and few have more than four.
 
 ghost use Rattle.std.specs.Prelude.{◌≡◌, IfOk};
 ghost use Rattle.cmap_files.specs.UnitsSeen.{units_seen};
 
 use std::alloc::{AllocError, Global};
 
-/// The units of a text in UTF-16. One or two lie in the value itself; more lie in memory of their own,
-/// behind one pointer, so that a value stays small.
+/// The units of a text in UTF-16. Up to four lie in the value itself; more lie in memory of their own,
+/// over one pointer, so that a value has no more than 16 bytes.
 #[derive(Debug, Drop)]
 pub enum Units {
     Empty,
     One([u16; 1]),
     Two([u16; 2]),
+    Three([u16; 3]),
+    Four([u16; 4]),
     More(Box<Vec<u16>>),
 }
 
 impl Units {
     /// These units.
     ///
-    /// It fails only where there is no memory. Up to two units take none.
+    /// It fails only where there is no memory. Up to four units take none.
     pub fn from_slice(alloc: Global, units: &[u16]) -> Result<Units, AllocError>
         ensures { IfOk result (λ made. units_seen made ≡ units.now) }
     {
         match units {
             [] => Ok(Units::Empty),
-            [unit] => Ok(Units::One([*unit])),
-            [first, second] => Ok(Units::Two([*first, *second])),
+            [a] => Ok(Units::One([*a])),
+            [a, b] => Ok(Units::Two([*a, *b])),
+            [a, b, c] => Ok(Units::Three([*a, *b, *c])),
+            [a, b, c, d] => Ok(Units::Four([*a, *b, *c, *d])),
             _ => {
                 let units = Vec::from_slice(alloc, units)?;
                 Ok(Units::More(Box::new(alloc, units)?))
@@ -41,6 +45,8 @@ impl Units {
             Units::Empty => &[],
             Units::One(units) => units,
             Units::Two(units) => units,
+            Units::Three(units) => units,
+            Units::Four(units) => units,
             Units::More(units) => units.as_slice(),
         }
     }

@@ -1,15 +1,19 @@
 use Rattle.std.proofs.Common.{arith}
+use Rattle.cmap_binary.specs.Fronts.{FieldAt}
 use Rattle.cmap_binary.proofs.Fronts.{row_start, row_more, row_wrong, row_end}
 use Rattle.cmap_binary.proofs.entries.read_units.Goals as goal
 
 pub loop-index-init : goal.loop-index-init
 loop-index-init c = rw c.clear.ensures.items (row_start _ _ _)
 
-pub returns-in_default : goal.returns-in_default
-returns-in_default c = (tt, λ e. row_wrong _ _ _ _ _ _ c.loop-index.invariant (omega arith) c.in_default.ensures)
-
 pub loop-index-preserved : goal.loop-index-preserved
-loop-index-preserved c = rw c.in_ok-push.ensures.items (row_more _ _ _ _ _ _ _ _ c.loop-index.invariant (omega arith) c.in-Some.ensures)
+loop-index-preserved c = rw c.in_ok-push.ensures.items (row_more _ _ _ _ _ _ _ _ c.loop-index.invariant (omega arith) c.in-Some-take_u16.ensures)
 
 pub returns : goal.returns
 returns c = (rw (c.in_ok-from_slice.ensures, c.deref.ensures.value) (row_end _ _ _ _ _ _ c.loop-index.invariant (omega arith)), λ e. cc)
+
+pub returns-in_default : goal.returns-in_default
+returns-in_default c = (tt, λ e. row_wrong (FieldAt 2) c.args.count c.args.text.now.now 0 _ _ (row_start _ _ _) (omega arith) c.in_default.ensures)
+
+pub returns-in_default-take_u16 : goal.returns-in_default-take_u16
+returns-in_default-take_u16 c = (tt, λ e. row_wrong _ _ _ _ _ _ c.loop-index.invariant (omega arith) c.in_default-take_u16.ensures)
