@@ -2,7 +2,7 @@
 
 use crate::answer::{Answer, again, tell};
 use cmap_tokens::utf16::{number_units, one_char, text, units};
-use hayro_cmap::BfString;
+use hayro_cmap::{BfString, Units};
 use std::alloc::{AllocError, Global};
 use std::{fmt, io};
 
@@ -20,6 +20,13 @@ const NUMBERS: &[(&str, u8, u32)] = &[
     ("four bytes", 4, 0xD83D_DFFE),
 ];
 
+/// Units that a declaration keeps.
+const KEPT: &[(&str, &[u16])] = &[
+    ("no unit", &[]),
+    ("four units", &[0x66, 0x66, 0x69, 0x20]),
+    ("five units", &[0x66, 0x66, 0x69, 0x20, 0x2F]),
+];
+
 /// Units, and the offset of a code.
 const UNITS: &[(&str, &[u16], u32)] = &[
     ("two characters", &[0x66, 0x66], 0),
@@ -35,6 +42,7 @@ const UNITS: &[(&str, &[u16], u32)] = &[
 pub(crate) fn tell_all(rt: &(impl Print + AllocGlobal)) -> io::Result<()> {
     tell_units(rt)?;
     tell_numbers(rt)?;
+    tell_kept(rt)?;
     for &(title, units, offset) in UNITS {
         tell_text(rt, title, units, offset)?;
     }
@@ -53,6 +61,19 @@ fn tell_numbers(rt: &(impl Print + AllocGlobal)) -> io::Result<()> {
     for &(title, len, number) in NUMBERS {
         let found = again!(number_units(rt.alloc(), len, number) => DestinationUnits);
         tell(rt, "number_units", title, &found)?;
+    }
+    Ok(())
+}
+
+fn tell_kept(rt: &(impl Print + AllocGlobal)) -> io::Result<()> {
+    for &(title, units) in KEPT {
+        let kept = again!(Units::from_slice(rt.alloc(), units) => KeptUnits);
+        tell(rt, "Units::from_slice", title, &kept)?;
+        let copy = match &kept {
+            Answer::Given(KeptUnits(kept)) => again!(kept.clone(rt.alloc()) => KeptUnits),
+            _ => Answer::NotMade,
+        };
+        tell(rt, "  Units::clone", title, &copy)?;
     }
     Ok(())
 }
@@ -88,14 +109,28 @@ struct DestinationUnits(Vec<u16>);
 
 impl fmt::Display for DestinationUnits {
     fn fmt<W: fmt::Write>(&self, f: &mut fmt::Formatter<W>) -> fmt::Result {
-        if self.0.is_empty() {
-            return write!(f, " none");
-        }
-        for unit in &self.0 {
-            write!(f, " {unit:04X}")?;
-        }
-        Ok(())
+        write_units(&self.0, f)
     }
+}
+
+/// The units of a declaration.
+#[derive(Drop)]
+struct KeptUnits(Units);
+
+impl fmt::Display for KeptUnits {
+    fn fmt<W: fmt::Write>(&self, f: &mut fmt::Formatter<W>) -> fmt::Result {
+        write_units(self.0.as_slice(), f)
+    }
+}
+
+fn write_units<W: fmt::Write>(units: &[u16], f: &mut fmt::Formatter<W>) -> fmt::Result {
+    if units.is_empty() {
+        return write!(f, " none");
+    }
+    for unit in units {
+        write!(f, " {unit:04X}")?;
+    }
+    Ok(())
 }
 
 /// The text of a code.
