@@ -58,6 +58,7 @@ fn take_counts<'b>(text: &mut &'b [u8], shape: Shape) -> Option<Option<Reader<'b
 
 impl Columns<'_> {
     /// The codes of the next entry.
+    #[inline(always)]
     pub(crate) fn next_range(&mut self, tables: &Tables) -> Option<Range>
         ensures next { Finds (SpanAt (tables_seen tables.now) (columns_seen self.old))
             (λ range. (span_seen range, columns_seen self.new)) result }
@@ -72,6 +73,7 @@ impl Columns<'_> {
 }
 
 /// How far the next entry ends after its start.
+#[inline(always)]
 fn next_width(table: &PrefixTable, counts: &mut Option<Reader<'_>>) -> Option<u64>
     ensures { Finds (WidthAt table.now (option_map bits_left counts.old))
         (λ width. (width, option_map bits_left counts.new)) result }
@@ -83,6 +85,7 @@ fn next_width(table: &PrefixTable, counts: &mut Option<Reader<'_>>) -> Option<u6
 }
 
 /// The symbol of the code word that comes next.
+#[inline(always)]
 fn next_symbol(table: &PrefixTable, reader: &mut Reader<'_>) -> Option<u32>
     ensures { Finds (SymbolAt table.now (bits_left reader.old))
         (λ symbol. (symbol, bits_left reader.new)) result }

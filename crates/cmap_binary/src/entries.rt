@@ -34,6 +34,7 @@ struct CidColumns<'b> {
 
 impl CidColumns<'_> {
     /// The next entry: raw CID 0 goes on after the CIDs of the entry before.
+    #[inline(always)]
     fn next_entry(&mut self, tables: &Tables) -> Option<CidRange>
         ensures { Finds (CidEntryAt (tables_seen tables.now) (cid_columns_seen self.old))
             (λ entry. (cid_entry_seen entry, cid_columns_seen self.new)) result }
@@ -51,6 +52,7 @@ impl CidColumns<'_> {
 
 /// Adds the CIDs of a segment with this payload, for codes of this length. Payload after its entries
 /// is ignored.
+#[inline(never)]
 pub(crate) fn add_cids(
     tables: &Tables,
     shape: Shape,
@@ -86,6 +88,7 @@ pub(crate) fn add_cids(
 
 /// Adds the texts of a segment with this payload, where each destination has `fixed` units, or says
 /// itself how many. Payload after its entries is ignored.
+#[inline(never)]
 pub(crate) fn add_texts(
     alloc: Global,
     tables: &Tables,

@@ -8,7 +8,7 @@ use Rattle.std.proofs.lemmas.List.Sorted.{IsNonDecreasingBy-from_default}
 use Rattle.std.proofs.lemmas.List.Sums.{sum_by-append}
 use Rattle.std.proofs.lemmas.List.Folds.{sum_by-replicate}
 use Rattle.cmap_bits.specs.PrefixWords.{AreWordLengths, lengths_from}
-use Rattle.cmap_bits.specs.WordsByLength.{room_of}
+use Rattle.cmap_bits.specs.WordsByLength.{lengths_to, room_of}
 
 pub length-lengths : (len count : ℕ) (later : List ℕ) → length (replicate count len ++ later) ≡ count + length later
 length-lengths len count later = simp (length-append, length-replicate)
@@ -59,10 +59,6 @@ lengths_from-append len (count ∷ counts) more =
     let e : len + 1 + length counts ≡ len + suc (length counts) = omega arith in
     ap (λ ls. replicate count len ++ ls) (lengths_from-append (len + 1) counts more ∙ ap (λ l. lengths_from (len + 1) counts ++ lengths_from l more) e)
     ∙ sym (append_assoc (replicate count len) (lengths_from (len + 1) counts) (lengths_from (len + suc (length counts)) more))
-
--- the lengths up to i
-abbrev pub lengths_to : ℕ → List ℕ → List ℕ
-lengths_to i counts = lengths_from 1 (take i counts)
 
 pub lengths_from-split : (i : ℕ) (counts : List ℕ) → i ≤ length counts → lengths_from 1 counts ≡ lengths_to i counts ++ lengths_from (i + 1) (drop i counts)
 lengths_from-split i counts h =

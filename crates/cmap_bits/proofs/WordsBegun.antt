@@ -4,16 +4,19 @@ use Rattle.std.specs.List.{sum_by}
 use Rattle.std.specs.Int.Digits.{number_from_digits}
 use Rattle.std.proofs.lemmas.Bool.{cases_lt}
 use Rattle.std.proofs.lemmas.Int.Digits.{number_push}
-use Rattle.std.proofs.lemmas.List.{take_more, take-append-le, take-replicate, length-replicate, length-append, length-take-le, take-append-drop, drop_more, get_or-take, get_or-append_right}
+use Rattle.std.proofs.lemmas.List.{take_more, take-append-le, take-replicate, length-replicate, length-append, length-take-le, take-append-drop, drop_more, get_or-take, get_or-append_right, get_or_append_left}
 use Rattle.std.proofs.lemmas.List.Folds.{sum_by-replicate}
 use Rattle.std.proofs.lemmas.List.Sums.{sum_by-append, sum_by_more_le}
 use Rattle.std.proofs.lemmas.Nat.{pow_pos}
 use Rattle.std.proofs.Math.Nat.{pow-suc, add-mul, mul_assoc, mul_comm, mul-le-mul_right, mul-div_cancel}
+use Rattle.std.proofs.Math.Numerals.{add-one}
 use Rattle.std.proofs.Math.Seq.{take-append-add}
 use Rattle.cmap_bits.specs.PrefixWords.{AreWordLengths, lengths_from}
-use Rattle.cmap_bits.specs.WordsByLength.{room_of, value_of, IsBegun}
+use Rattle.cmap_bits.specs.Reader.{Reading, bits_left}
+use Rattle.cmap_bits.specs.WordsByLength.{lengths_to, room_of, value_of, IsBegun, IsSearched, Looked}
+use Rattle.cmap_bits.proofs.BitsTaken.{BitTaken}
 use Rattle.cmap_bits.proofs.NumbersOfBits.{AreBits}
-use Rattle.cmap_bits.proofs.Lengths.{lengths_to, lengths_from-within, lengths_from-split, length-lengths, length-lengths_to, room-lengths_to, get_or-front}
+use Rattle.cmap_bits.proofs.Lengths.{lengths_from-within, lengths_from-split, length-lengths, length-lengths_to, room-lengths_to, get_or-front}
 
 pub same_factor : (a b p : ℕ) → 0 < p → a * p ≡ b * p → a ≡ b
 same_factor a b p h e = sym (mul-div_cancel a h) ∙ ap (λ n. n / p) e ∙ mul-div_cancel b h
@@ -96,13 +99,7 @@ too_long counts i h some long sound =
     let word = WordAt-here counts i 0 h some in
     absurd (omega (arith, word.length_is, sound.lengths (length (lengths_to i counts) + 0) 0 word.within))
 
--- words that are no longer than i bits, and begin the bits, have been looked for
-pub record Looked (counts s : List ℕ) (i place past : ℕ) : Type 0 where
-  pub place_is : place ≡ length (lengths_to i counts)
-  pub value_is : value_of i s ≡ past * 2 ^ (32 - i) + room_of (lengths_to i counts)
-  pub none : (k : ℕ) → k < place → IsBegun (lengths_from 1 counts) s k → ⊥
-
-pub Looked-first : (counts s : List ℕ) → Looked counts s 0 0 0
+Looked-first : (counts s : List ℕ) → Looked counts s 0 0 0
 Looked-first counts s = record { place_is = refl; value_is = refl; none = λ k h. absurd (omega arith) }
 
 value_here : (counts s : List ℕ) (i place past : ℕ) → Looked counts s i place past → i < 32 → i < length s → value_of (i + 1) s ≡ (past * 2 + get_or s i 0) * 2 ^ (32 - (i + 1)) + room_of (lengths_to i counts)
@@ -111,7 +108,7 @@ value_here counts s i place past h room within =
     let turned : past * 2 ^ (32 - i) ≡ past * 2 * p = ap (λ q. past * q) (halved i room ∙ mul_comm p 2) ∙ sym (mul_assoc past 2 p) in
     omega (arith, value_of-next i s within room, h.value_is, turned, add-mul (past * 2) (get_or s i 0) p)
 
-pub Looked-hit : (counts s : List ℕ) (i place past : ℕ) → Looked counts s i place past → i < 32 → i < length s → i < length counts → past * 2 + get_or s i 0 < get_or counts i 0
+Looked-hit : (counts s : List ℕ) (i place past : ℕ) → Looked counts s i place past → i < 32 → i < length s → i < length counts → past * 2 + get_or s i 0 < get_or counts i 0
     → IsBegun (lengths_from 1 counts) s (place + (past * 2 + get_or s i 0)) × (get_or (lengths_from 1 counts) (place + (past * 2 + get_or s i 0)) 0 ≡ i + 1)
 Looked-hit counts s i place past h room within counted below =
     let x = past * 2 + get_or s i 0 in
@@ -126,7 +123,7 @@ Looked-hit counts s i place past h room within counted below =
       size,
     )
 
-pub Looked-more : (counts s : List ℕ) (i place past : ℕ) → Looked counts s i place past → i < 32 → i < length s → i < length counts → get_or counts i 0 ≤ past * 2 + get_or s i 0
+Looked-more : (counts s : List ℕ) (i place past : ℕ) → Looked counts s i place past → i < 32 → i < length s → i < length counts → get_or counts i 0 ≤ past * 2 + get_or s i 0
     → Looked counts s (i + 1) (place + get_or counts i 0) (past * 2 + get_or s i 0 - get_or counts i 0)
 Looked-more counts s i place past h room within counted above =
     let x = past * 2 + get_or s i 0 in
@@ -162,3 +159,42 @@ Looked-end counts s i place past h counted k short begun =
           let least = lengths_from-within (i + 1) (drop i counts) (k - length before) (omega (arith, begun.within, ap length whole, length-append before later, h.place_is)) in
           absurd (omega (arith, there, least))
     ]
+
+-- what follows the bits doesn't matter
+pub IsSearched-more : (counts front more : List ℕ) (i place past : ℕ) → IsSearched counts front i place past → IsSearched counts (front ++ more) i place past
+IsSearched-more counts front more i place past h =
+    let lens = lengths_from 1 counts in
+    let same : (n : ℕ) → n ≤ length front → value_of n (front ++ more) ≡ value_of n front = λ n short. ap (λ ds. number_from_digits 2 ds * 2 ^ (32 - n)) (take-append-le n front more short) in
+    record {
+      looked = record {
+        place_is = h.looked.place_is;
+        value_is = same i h.enough ∙ h.looked.value_is;
+        none = λ k below begun.
+            let inside : k < length (lengths_to i counts) = omega (arith, h.looked.place_is) in
+            let here = ap (λ ls. get_or ls k 0) (lengths_from-split i counts h.counted) ∙ get_or_append_left (lengths_to i counts) (lengths_from (i + 1) (drop i counts)) 0 k inside in
+            let short : get_or lens k 0 ≤ length front = omega (arith, here, (lengths_from-within 1 (take i counts) k inside).1, length-take-le i counts h.counted, h.enough) in
+            h.looked.none k below (record { within = begun.within; enough = short; value_is = sym (same (get_or lens k 0) short) ∙ begun.value_is });
+      };
+      counted = h.counted;
+      enough = omega (arith, h.enough, length-append front more);
+      most = h.most;
+      small = h.small;
+      few = h.few;
+    }
+
+pub IsSearched-first : (counts s : List ℕ) → IsSearched counts s 0 0 0
+IsSearched-first counts s = record { looked = Looked-first counts s; counted = omega arith; enough = omega arith; most = omega arith; small = omega arith; few = omega arith }
+
+module _ {counts : List ℕ} {r : Reading} {i place past bit count : ℕ} (h : IsSearched counts (bits_left r) i place past) (room : i < 32) (taken : BitTaken r i bit) (counted : (i < length counts) × (count ≡ get_or counts i 0)) where
+  pub searched-hit : past * 2 + bit < count → IsBegun (lengths_from 1 counts) (bits_left r) (place + (past * 2 + bit)) × (get_or (lengths_from 1 counts) (place + (past * 2 + bit)) 0 ≡ i + 1)
+  searched-hit below = rw taken.bit_is (Looked-hit counts (bits_left r) i place past h.looked room taken.within counted.0 (rw (taken.bit_is, counted.1) at below))
+
+  pub searched-next : count < 2 ^ 32 → count ≤ past * 2 + bit → IsSearched counts (bits_left r) (i + 1) (place + count) (past * 2 + bit - count)
+  searched-next fits above = record {
+    looked = rw (taken.bit_is, counted.1) (Looked-more counts (bits_left r) i place past h.looked room taken.within counted.0 (rw (taken.bit_is, counted.1) at above));
+    counted = omega (arith, counted.0);
+    enough = omega (arith, taken.within);
+    most = omega arith;
+    small = rw (add-one, pow-suc) (omega (arith, taken.small, h.small));
+    few = omega (arith, h.few);
+  }

@@ -1,13 +1,15 @@
 -- Private aid: the code words that are found at the front of bits.
-use Rattle.std.specs.Prelude.{◌≡◌, ℕ, List, [], ◌∷◌, Option, Some, MatchOption, slice_get}
-use Rattle.cmap_bits.specs.PrefixWords.{Place, BeginsAt, bits}
-use Rattle.cmap_bits.specs.WordsByLength.{IsNext}
+use Rattle.std.specs.Prelude.{◌≡◌, ℕ, List, [], ◌∷◌, Result, Some, MatchResult, slice_get}
+use Rattle.cmap_bits.specs.PrefixWords.{bits}
+use Rattle.cmap_bits.specs.WordsByLength.{IsNext, IsSearched, places_of}
+use Rattle.cmap_bits.specs.declared.prefix.words.Search.{Search}
 use Rattle.cmap_bits.specs.declared.prefix.words.Word.{Word}
 
--- the word that begins the bits is found, or none does
-abbrev pub FindsNext : List Place → List ℕ → Option Word → Type 0
-FindsNext table stream found = MatchOption found ((i : ℕ) → BeginsAt table stream i → ⊥) (λ word. IsNext table stream word.symbol word.len)
+-- the word that begins the bits, or how far it has been looked for
+abbrev pub IsKnown : List ℕ → List ℕ → List ℕ → Result Word Search → Type 0
+IsKnown counts symbols stream known =
+    MatchResult known (λ word. IsNext (places_of counts symbols) stream word.symbol word.len) (λ search. IsSearched counts stream search.len search.place search.past)
 
--- the words that stand here for bytes begin their bits
-abbrev pub BeginBytes : List Place → List (Option Word) → Type 0
-BeginBytes table words = (byte : ℕ) (word : Word) → slice_get words byte ≡ Some (Some word) → IsNext table (bits (byte ∷ [])) word.symbol word.len
+-- what is known of the bits of each byte
+abbrev pub KnowBytes : List ℕ → List ℕ → List (Result Word Search) → Type 0
+KnowBytes counts symbols known = (byte : ℕ) (found : Result Word Search) → slice_get known byte ≡ Some found → IsKnown counts symbols (bits (byte ∷ [])) found

@@ -4,13 +4,12 @@ ghost use Rattle.std.specs.Prelude.{◌≡◌, ℕ, IfSome, IfNone};
 ghost use Rattle.cmap_bits.specs.PrefixWords.{BeginsAt, Decodes};
 ghost use Rattle.cmap_bits.specs.Reader.{bits_left, IsAtByte, after_bits};
 ghost use Rattle.cmap_bits.specs.TableTaken.{ParsesTable};
-ghost use Rattle.cmap_bits.specs.WordsByLength.{IsNext};
 
 mod reading;
 mod words;
 
 use self::reading::parse;
-use self::words::{Word, find};
+use self::words::{Search, Word, find, look_up};
 use crate::bits::Reader;
 use std::alloc::{AllocError, Global};
 use std::marker::Model;
@@ -23,24 +22,25 @@ pub struct PrefixTable {
     // how many words there are of each length, from 1 on
     counts: Vec<u32>,
     symbols: Vec<u32>,
-    // for each byte the word that its bits begin with, where they begin with one
-    words_of_bytes: Vec<Option<Word>>,
+    // what is known of the word that comes next by each byte
+    known: Vec<Result<Word, Search>>,
 }
 
 impl Model for PrefixTable {
-    ghost use Rattle.std.specs.Prelude.{List};
+    ghost use Rattle.std.specs.Prelude.{◌≡◌, List, length};
     ghost use Rattle.cmap_bits.specs.PrefixWords.{Place};
 
     ghost Value = { List Place };
 
     ghost use Rattle.cmap_bits.specs.WordsByLength.{places_of, IsTable};
-    ghost use Rattle.cmap_bits.specs.WordsFound.{BeginBytes};
+    ghost use Rattle.cmap_bits.specs.WordsFound.{KnowBytes};
 
     ghost view = { λ t. places_of t.counts.items t.symbols.items };
 
     ghost invariant = { λ t. record {
       table : IsTable t.counts.items t.symbols.items;
-      of_bytes : BeginBytes (places_of t.counts.items t.symbols.items) t.words_of_bytes.items;
+      bytes : length t.known.items ≡ 256;
+      knows : KnowBytes t.counts.items t.symbols.items t.known.items;
     } };
 }
 
@@ -86,19 +86,16 @@ impl PrefixTable {
             → BeginsAt self.now (bits_left reader.old) j → i ≡ j }
         ensures unmoved { IfNone result (reader.new ≡ reader.old) }
     {
-        let word = match self.short_word(reader) {
-            Some(word) => word,
-            None => find(&self.counts, &self.symbols, reader.fork())?,
+        let word = match look_up(&self.known, reader) {
+            Ok(word) => word,
+            Err(search) => {
+                let Ok(word) = find(&self.counts, &self.symbols, reader.fork(), search) else {
+                    return None;
+                };
+                word
+            }
         };
         reader.skip_bits(word.len);
         Some(word.symbol)
-    }
-
-    // The word that the next eight bits begin with, if any.
-    fn short_word(&self, reader: &Reader<'_>) -> Option<Word>
-        ensures { IfSome result
-            (λ word. IsNext self.now (bits_left reader.now) word.symbol word.len) }
-    {
-        *self.words_of_bytes.get(usize::from(reader.peek_u8()?))?
     }
 }

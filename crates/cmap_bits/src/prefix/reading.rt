@@ -7,7 +7,7 @@ ghost use Rattle.cmap_bits.specs.TableReading.{TakesMost, TakesNumbers, TakesCou
 ghost use Rattle.cmap_bits.specs.TableTaken.{ParsesTable, TakesTable};
 
 use super::PrefixTable;
-use super::words::{count_words, words_of_bytes};
+use super::words::{count_words, search_bytes};
 use crate::bits::Reader;
 use std::alloc::{AllocError, Global};
 
@@ -50,11 +50,11 @@ fn read_table(
     let Some(symbols) = read_numbers(alloc, reader, count, width)? else {
         return Ok(None);
     };
-    let words_of_bytes = words_of_bytes(alloc, &counts, &symbols)?;
+    let known = search_bytes(alloc, &counts, &symbols)?;
     Ok(Some(PrefixTable {
         counts,
         symbols,
-        words_of_bytes,
+        known,
     }))
 }
 

@@ -1,10 +1,10 @@
 //! The words of a table, by how many there are of each length.
 
-ghost use Rattle.std.specs.Prelude.{◌≡◌, length, IfOk, MatchOption};
-ghost use Rattle.cmap_bits.specs.PrefixWords.{AreWordLengths, lengths_from};
+ghost use Rattle.std.specs.Prelude.{◌≡◌, ℕ, List, length, IfErr, IfOk, MatchOption};
+ghost use Rattle.cmap_bits.specs.PrefixWords.{AreWordLengths, BeginsAt, lengths_from};
 ghost use Rattle.cmap_bits.specs.Reader.{bits_left};
-ghost use Rattle.cmap_bits.specs.WordsByLength.{IsTable, places_of};
-ghost use Rattle.cmap_bits.specs.WordsFound.{BeginBytes, FindsNext};
+ghost use Rattle.cmap_bits.specs.WordsByLength.{IsSearched, IsTable, places_of};
+ghost use Rattle.cmap_bits.specs.WordsFound.{IsKnown, KnowBytes};
 
 use crate::bits::Reader;
 use std::alloc::{AllocError, Global};
@@ -13,7 +13,7 @@ use std::alloc::{AllocError, Global};
 pub(super) const LONGEST: usize = 32;
 
 // How many bytes there are.
-const BYTES: usize = 256;
+pub(super) const BYTES: usize = 256;
 
 // A symbol whose word begins bits, and how many bits that word has.
 #[derive(Clone, Copy, Debug)]
@@ -22,44 +22,94 @@ pub(super) struct Word {
     pub(super) len: u8,
 }
 
-// The word that comes next. Words of one length are numbers in a row, and after the last one comes
-// twice its follower among the longer words.
+// How far the word that begins bits has been looked for: it has more than `len` bits. The words with
+// so few are `place`, and the bits are `past` further than they.
+#[derive(Clone, Copy, Debug)]
+pub(super) struct Search {
+    len: u8,
+    place: usize,
+    past: usize,
+}
+
+// Nothing has been looked at.
+const START: Search = Search {
+    len: 0,
+    place: 0,
+    past: 0,
+};
+
+// The word that comes next, which is looked for from there on; or how far it has been looked for,
+// where none does. Words of one length are numbers in a row, and after the last one comes twice its
+// follower among the longer words.
 #[inline(never)]
-pub(super) fn find(counts: &[u32], symbols: &[u32], mut reader: Reader<'_>) -> Option<Word>
-    requires { IsTable counts.now symbols.now }
-    ensures { FindsNext (places_of counts.now symbols.now) (bits_left reader.entry) result }
+pub(super) fn find(
+    counts: &[u32],
+    symbols: &[u32],
+    mut reader: Reader<'_>,
+    start: Search,
+) -> Result<Word, Search>
+    requires table { IsTable counts.now symbols.now }
+    requires start { IsSearched counts.now (bits_left reader) start.len start.place start.past }
+    ensures known { IsKnown counts.now symbols.now (bits_left reader.entry) result }
+    ensures none { IfErr result (λ _. (i : ℕ) →
+        BeginsAt (places_of counts.now symbols.now) (bits_left reader.entry) i → ⊥) }
 {
-    // the place of the first word of a length, and how far the bits are past that word
-    let mut place = 0;
-    let mut past = 0;
-    for i in 0..LONGEST {
-        let count = *counts.get(i)? as usize;
-        past = past * 2 + usize::from(reader.read_bit()?);
+    reader.skip_bits(start.len);
+    let mut place = start.place;
+    let mut past = start.past;
+    for i in usize::from(start.len)..LONGEST {
+        let len = i as u8;
+        let Some(count) = counts.get(i) else {
+            return Err(Search { len, place, past });
+        };
+        let Some(bit) = reader.read_bit() else {
+            return Err(Search { len, place, past });
+        };
+        let count = *count as usize;
+        past = past * 2 + usize::from(bit);
         if past < count {
             let symbol = symbols[place + past];
-            let len = (i + 1) as u8;
-            return Some(Word { symbol, len });
+            return Ok(Word {
+                symbol,
+                len: len + 1,
+            });
         }
         past -= count;
         place += count;
     }
-    None
+    Err(Search {
+        len: LONGEST as u8,
+        place,
+        past,
+    })
 }
 
-// For each byte the word that its bits begin with, where they begin with one.
-pub(super) fn words_of_bytes(
+// What is known of the word that comes next by each byte.
+pub(super) fn search_bytes(
     alloc: Global,
     counts: &[u32],
     symbols: &[u32],
-) -> Result<Vec<Option<Word>>, AllocError>
+) -> Result<Vec<Result<Word, Search>>, AllocError>
     requires { IsTable counts.now symbols.now }
-    ensures { IfOk result (λ words. BeginBytes (places_of counts.now symbols.now) words.items) }
+    ensures { IfOk result (λ known. (length known.items ≡ 256) × KnowBytes counts.now symbols.now known.items) }
 {
-    let mut words = Vec::with_capacity(alloc, BYTES)?;
+    let mut known = Vec::with_capacity(alloc, BYTES)?;
     for byte in 0..BYTES {
-        words.push(find(counts, symbols, Reader::new(&[byte as u8])))?;
+        known.push(find(counts, symbols, Reader::new(&[byte as u8]), START))?;
     }
-    Ok(words)
+    Ok(known)
+}
+
+// What is known of the word that comes next by the next eight bits.
+pub(super) fn look_up(known: &[Result<Word, Search>], reader: &Reader<'_>) -> Result<Word, Search>
+    requires { length known.now ≡ 256 }
+    ensures { (counts symbols : List ℕ) → KnowBytes counts symbols known.now
+        → IsKnown counts symbols (bits_left reader.now) result }
+{
+    match reader.peek_u8() {
+        Some(byte) => known[usize::from(byte)],
+        None => Err(START),
+    }
 }
 
 // How many words there are, where none is longer than `LONGEST`, and there is room for each: a word

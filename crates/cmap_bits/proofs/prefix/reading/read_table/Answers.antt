@@ -17,8 +17,8 @@ returns-in_default-2 c =
     let made = rw c.deref.ensures.value at c.in-Some-count_words.ensures in
     no_symbols _ _ _ _ c.requires.at_byte (rw c.in-Some.is at c.in_ok-counts.ensures) (rw made.0 at (rw c.in_default-2.is at c.in_ok-symbols.ensures))
 
-pub words_of_bytes-requires : goal.words_of_bytes-requires
-words_of_bytes-requires c =
+pub search_bytes-requires : goal.search_bytes-requires
+search_bytes-requires c =
     let made = rw c.deref.ensures.value at c.in-Some-count_words.ensures in
     rw (c.deref-2.ensures.value, c.deref-3.ensures.value)
     (IsTable-taken _ _ _ _ _ _ (rw c.in-Some.is at c.in_ok-counts.ensures) made.1 (rw made.0 at (rw c.in-Some-2.is at c.in_ok-symbols.ensures)))
@@ -28,7 +28,8 @@ invariant_of-result c =
     let made = rw c.deref.ensures.value at c.in-Some-count_words.ensures in
     record {
       table = IsTable-taken _ _ _ _ _ _ (rw c.in-Some.is at c.in_ok-counts.ensures) made.1 (rw made.0 at (rw c.in-Some-2.is at c.in_ok-symbols.ensures));
-      of_bytes = rw (c.deref-2.ensures.value, c.deref-3.ensures.value) at c.in_ok-words_of_bytes.ensures;
+      bytes = c.in_ok-known.ensures.0;
+      knows = rw (c.deref-2.ensures.value, c.deref-3.ensures.value) at c.in_ok-known.ensures.1;
     }
 
 pub returns : goal.returns

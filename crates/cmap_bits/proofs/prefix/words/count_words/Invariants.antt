@@ -1,6 +1,6 @@
 use Rattle.std.proofs.Common.{◌≡◌, ◌+◌, ◌^◌, ◌≤◌, length}
-use Rattle.cmap_bits.specs.WordsByLength.{room_of}
-use Rattle.cmap_bits.proofs.Lengths.{AreShort, lengths_to}
+use Rattle.cmap_bits.specs.WordsByLength.{lengths_to, room_of}
+use Rattle.cmap_bits.proofs.Lengths.{AreShort}
 use Rattle.cmap_bits.proofs.prefix.words.count_words.Given as goal
 
 abbrev pub invariant-loop-i : goal.invariant-loop-i
