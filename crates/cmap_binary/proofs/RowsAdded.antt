@@ -10,7 +10,7 @@ use Rattle.cmap_binary.specs.BinarySeen.{with_content}
 use Rattle.cmap_binary.specs.Fronts.{RowOf}
 use Rattle.cmap_binary.proofs.Fronts.{HasRow, row_start, row_more, row_wrong, row_end}
 
-abbrev with_lists : File → Lists → File
+abbrev pub with_lists : File → Lists → File
 with_lists file lists = record { metadata = file.metadata; lists = lists; uses = file.uses }
 
 -- n things in a row: those before place i are added to the file, as declarations of this kind

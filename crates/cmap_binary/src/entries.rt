@@ -72,6 +72,8 @@ pub(crate) fn add_cids(
     let Some(columns) = take_columns(&mut payload, shape) else {
         return Err(Fault::Refused);
     };
+    file.lists
+        .reserve_cids(len, usize::from(count).min(payload.len()))?;
     let mut left = CidColumns {
         columns,
         raws: payload,
@@ -106,6 +108,9 @@ pub(crate) fn add_texts(
     let Some(mut columns) = take_columns(&mut payload, shape) else {
         return Err(Fault::Refused);
     };
+    file.lists
+        .bfs
+        .reserve(usize::from(count).min(payload.len()))?;
     let mut buffer = Vec::new(alloc);
     for index in 0..count {
         let Some(range) = columns.next_range(tables) else {

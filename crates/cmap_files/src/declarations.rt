@@ -133,6 +133,18 @@ impl Lists {
         push_filed(&mut self.cids, len, range)
     }
 
+    /// Makes room for so many more declarations of CIDs for codes of this length.
+    pub fn reserve_cids(&mut self, len: CodeLength, additional: usize) -> Result<(), AllocError>
+        ensures { lists_seen self.new ≡ lists_seen self.old }
+    {
+        match len {
+            CodeLength::One => self.cids.one.reserve(additional),
+            CodeLength::Two => self.cids.two.reserve(additional),
+            CodeLength::Three => self.cids.three.reserve(additional),
+            CodeLength::Four => self.cids.four.reserve(additional),
+        }
+    }
+
     /// Adds a notdef declaration for codes of this length.
     pub fn add_notdef(&mut self, len: CodeLength, range: CidRange) -> Result<(), AllocError>
         ensures { OnOk result (lists_seen self.new ≡ append_lists (lists_seen self.old)

@@ -1,11 +1,16 @@
-use Rattle.std.proofs.Common.{◌≡◌, ℕ, zero, suc, ◌<◌, List, arith, refl}
+use Rattle.std.proofs.Common.{◌≡◌, ℕ, zero, suc, ◌<◌, List, map, arith, refl, ap, ◌∙◌}
+use Rattle.cmap_files.specs.CodeLengths.{length_of}
+use Rattle.cmap_files.specs.Files.{cid}
+use Rattle.cmap_files.specs.FilesSeen.{file_seen}
+use Rattle.cmap_binary.specs.BinaryFiles.{declares}
+use Rattle.cmap_binary.specs.BinarySeen.{with_content}
 use Rattle.cmap_binary.specs.Bundles.{PrefixTables}
 use Rattle.cmap_binary.specs.BinaryEntries.{Shape, CidsOf, CidEntriesOf}
 use Rattle.cmap_binary.specs.BundleSeen.{tables_seen}
 use Rattle.cmap_binary.specs.ColumnsSeen.{shape_seen}
 use Rattle.cmap_binary.proofs.Fronts.{gives, then_none, then_next, then_only}
 use Rattle.cmap_binary.proofs.Reading.{made_none, made_only}
-use Rattle.cmap_binary.proofs.RowsAdded.{adds_none, adds_start, adds_more, adds_wrong, adds_end}
+use Rattle.cmap_binary.proofs.RowsAdded.{with_lists, adds_none, adds_start, adds_more, adds_wrong, adds_end}
 use Rattle.cmap_binary.proofs.entries.add_cids.Goals as goal
 
 -- of some entries the columns are read
@@ -37,4 +42,4 @@ pub returns : goal.returns
 returns c =
     let has = c.loop-index.invariant in
     let only = then_only _ c.in-Some-take_columns.ensures (then_only _ (adds_end has (omega arith)) gives) in
-    (record { content = _; only = made_only (then_only _ c.in-Some.ensures (rw (some_cids (tables_seen c.args.tables.now) (shape_seen c.args.shape) c.in-Some.count c.take_u16.new.text.now (omega arith)) only)); says = has.says }, λ e. cc)
+    (record { content = _; only = made_only (then_only _ c.in-Some.ensures (rw (some_cids (tables_seen c.args.tables.now) (shape_seen c.args.shape) c.in-Some.count c.take_u16.new.text.now (omega arith)) only)); says = has.says ∙ ap (λ lists. with_content (with_lists (file_seen c.args.file.now) lists) (declares (map (cid (length_of c.args.len)) has.entries))) c.reserve_cids.ensures }, λ e. cc)

@@ -20,7 +20,7 @@ returns-in_default-next_range c =
 
 pub returns-in_err-units : goal.returns-in_err-units
 returns-in_err-units c =
-    passed _ _ _ c.from_residual.ensures.1 c.in_err-units.ensures.1
+    passed _ _ _ c.from_residual-in_err-units.ensures.1 c.in_err-units.ensures.1
     (λ none. made_none (then_next _ c.in-Some.ensures (then_next _ c.in-Some-take_columns.ensures (then_none _ _
     (adds_wrong c.loop-index.invariant (omega arith) (then_next _ c.in-Some-next_range.ensures.next (then_none _ _ none)))))))
 
@@ -32,4 +32,4 @@ loop-index-preserved c =
 pub returns : goal.returns
 returns c =
     let has = c.loop-index.invariant in
-    (record { content = _; only = made_only (then_only _ c.in-Some.ensures (then_only _ c.in-Some-take_columns.ensures (then_only _ (adds_end has (omega arith)) gives))); says = has.says }, λ e. cc)
+    (record { content = _; only = made_only (then_only _ c.in-Some.ensures (then_only _ c.in-Some-take_columns.ensures (then_only _ (adds_end has (omega arith)) gives))); says = rw c.reserve.ensures.items at has.says }, λ e. cc)
