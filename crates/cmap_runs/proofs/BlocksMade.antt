@@ -7,14 +7,14 @@ use Rattle.cmap_runs.specs.Blocks.{IsSplit, AreBlocks}
 use Rattle.cmap_runs.specs.Order.{IsInOrder}
 use Rattle.cmap_runs.specs.Ranges.{Run}
 
-pub AreBlocks-push : (runs : List Run) (blocks : List ℕ) (count : ℕ) → AreBlocks runs blocks → IsSplit runs (256 * length blocks) count → AreBlocks runs (blocks ++ count ∷ [])
+pub AreBlocks-push : (runs : List Run) (blocks : List ℕ) (count : ℕ) → AreBlocks runs blocks → IsSplit runs (32 * length blocks) count → AreBlocks runs (blocks ++ count ∷ [])
 AreBlocks-push runs blocks count are is = record {
   each = λ block d lt.
       elim (cases_lt block (length blocks)) [
-        | inl old ↦ subst (IsSplit runs (256 * block)) (sym (get_or_append_left blocks (count ∷ []) d block old)) (are.each block d old)
+        | inl old ↦ subst (IsSplit runs (32 * block)) (sym (get_or_append_left blocks (count ∷ []) d block old)) (are.each block d old)
         | inr new ↦
             let here : length blocks ≡ block = omega (arith, length-append blocks (count ∷ [])) in
-            subst (IsSplit runs (256 * block)) (sym (get_or_push blocks count d block here)) (subst (λ n. IsSplit runs (256 * n) count) here is)
+            subst (IsSplit runs (32 * block)) (sym (get_or_push blocks count d block here)) (subst (λ n. IsSplit runs (32 * n) count) here is)
       ];
 }
 

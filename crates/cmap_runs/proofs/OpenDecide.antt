@@ -14,7 +14,7 @@ use Rattle.cmap_runs.specs.OpenRanges.{IsGreatest, StayOpen, AreOpen}
 use Rattle.cmap_runs.specs.Ranges.{Span, Run, AreRunsBelow, joined, last_place}
 use Rattle.cmap_runs.proofs.LastPlace.{ContainsAt, IsLast, is_last}
 use Rattle.cmap_runs.proofs.MaximalRuns.{AreRunsBelow-gap, AreRunsBelow-joined}
-use Rattle.cmap_runs.proofs.RangesDecide.{range_at}
+use Rattle.cmap_runs.proofs.RangesDecide.{holding_range}
 
 -- the greatest open place of all decides, where its range doesn't end before the code
 greatest_decides : (before now : ℕ → Option ℕ) (from code place last : ℕ) (o : Option ℕ)
@@ -74,7 +74,7 @@ greatest_open : (spans : List Span) (ranges : List Run) (i from to code : ℕ) (
 greatest_open spans ranges i from to code last_code None are opened later low high last = λ place reaches is.
     elim (cases_lt reaches code) [ inl ended ↦ ended | inr holds ↦ absurd (last place (contains_open spans (take i ranges) last_code from code place reaches opened low holds is)) ]
 greatest_open spans ranges i from to code last_code (Some place) are opened later low high last =
-    let found = range_at spans ranges code place are last.0 in let range = found.1 in
+    let found = holding_range spans ranges code place are last.0 in let range = found.1 in
     let is_begun : found.0 < i =
     elim (cases_lt found.0 i) [
       | inl lt ↦ lt

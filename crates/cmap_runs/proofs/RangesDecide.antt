@@ -1,15 +1,15 @@
 -- The ranges of declarations tell which one decides a code; ranges that lie apart are the runs.
 use Rattle.std.proofs.Common.{◌≡◌, ℕ, ◌+◌, ◌<◌, ◌≤◌, ◌^◌, List, [], ◌∷◌, ◌++◌, length, get_or, Option, refl, sym, ap, ◌∙◌, subst, inl, inr, arith}
-use Rattle.std.specs.Prelude.{Some, None, IsSome, Any, map, slice_get}
+use Rattle.std.specs.Prelude.{Some, None, IsSome, All, Any, map, slice_get}
 use Rattle.std.specs.List.{Contains}
 use Rattle.std.specs.List.Sorted.{IsPermutation, IsNonDecreasingBy}
 use Rattle.std.proofs.lemmas.Bool.Decides.{nat_tests}
 use Rattle.std.proofs.lemmas.Bool.{cases_lt}
-use Rattle.std.proofs.lemmas.List.{length-map, length_push, get_or_default}
+use Rattle.std.proofs.lemmas.List.{get_or-map, get_or_default, length-map, length_push, map-append}
 use Rattle.std.proofs.lemmas.List.Elements.{All-push, Contains-append_left, Contains-push}
-use Rattle.std.proofs.lemmas.List.Sorted.{All-permutation, Contains-permutation, length_permutation}
-use Rattle.std.proofs.lemmas.Option.{slice_get_within, slice_get-map, slice_get-get_or}
-use Rattle.cmap_runs.specs.DeclaredRanges.{IsRange, AreRanges, AreApart}
+use Rattle.std.proofs.lemmas.List.Sorted.{All-permutation, Contains-permutation, IsPermutation-map, length_permutation}
+use Rattle.std.proofs.lemmas.Option.{get_or_from_slice_get, slice_get_within, slice_get-map, slice_get-get_or}
+use Rattle.cmap_runs.specs.DeclaredRanges.{IsRange, AreRanges, AreApart, range_at}
 use Rattle.cmap_runs.specs.Ranges.{Span, Run, Holds, AreRunsBelow, last_place}
 use Rattle.cmap_runs.proofs.LastPlace.{ContainsAt, IsLast, is_last}
 
@@ -49,6 +49,16 @@ AreRanges-push spans i start end ranges are at filled fits =
       few = omega (arith, are.few, length_push ranges range);
     }
 
+range_at_is : (spans : List Span) (place start end : ℕ) → slice_get spans place ≡ Some (record { start = start; end = end }) → range_at spans place ≡ record { low = start; high = end; place = place }
+range_at_is spans place start end at = ap (λ (s : Span). record { low = s.start; high = s.end; place = place }) (get_or_from_slice_get spans place _ (record { start = 1; end = 0 }) at)
+
+pub AreRanges-push_place : (spans : List Span) (i start end : ℕ) (places : List ℕ)
+    → AreRanges spans i (map (range_at spans) places) → slice_get spans i ≡ Some (record { start = start; end = end }) → start ≤ end → end < 2 ^ 32
+    → AreRanges spans (i + 1) (map (range_at spans) (places ++ i ∷ []))
+AreRanges-push_place spans i start end places are at filled fits =
+    subst (AreRanges spans (i + 1)) (sym (map-append (range_at spans) places (i ∷ []) ∙ ap (λ r. map (range_at spans) places ++ r ∷ []) (range_at_is spans i start end at)))
+    (AreRanges-push spans i start end (map (range_at spans) places) are at filled fits)
+
 AreRanges-IsPermutation : (spans : List Span) (count : ℕ) (ranges others : List Run) → IsPermutation ranges others → AreRanges spans count ranges → AreRanges spans count others
 AreRanges-IsPermutation spans count ranges others moved are = record {
   each = All-permutation (IsRange spans) ranges others moved are.each;
@@ -69,9 +79,9 @@ contains_its spans range code is holds = (record { start = range.low; end = rang
 holds_its : (spans : List Span) (range : Run) (code : ℕ) → IsRange spans range → ContainsAt spans code range.place → Holds code range
 holds_its spans range code is at = (grind (arith, nat_tests, is.at_place, at.1, at.2), grind (arith, nat_tests, is.at_place, at.1, at.2))
 
-pub range_at : (spans : List Span) (ranges : List Run) (code place : ℕ)
+pub holding_range : (spans : List Span) (ranges : List Run) (code place : ℕ)
     → AreRanges spans (length spans) ranges → ContainsAt spans code place → Any (λ range. Holds code range × (range.place ≡ place)) ranges
-range_at spans ranges code place are at =
+holding_range spans ranges code place are at =
     let span = at.0 in
     let within : Holds code (record { low = span.start; high = span.end; place = place }) = (grind (arith, nat_tests, at.2), grind (arith, nat_tests, at.2)) in
     let found = are.every place span (slice_get_within spans place span at.1) at.1 (omega (arith, within.0, within.1)) in
@@ -87,7 +97,7 @@ decided : (spans : List Span) (ranges : List Run) (i code : ℕ) (d : Run) (o : 
     → Holds code (get_or ranges i d) → IsLast spans code o → o ≡ Some (get_or ranges i d).place
 decided spans ranges i code d None are sorted apart within holds last = absurd (last _ (contains_its spans (get_or ranges i d) code (are.each i d within) holds))
 decided spans ranges i code d (Some place) are sorted apart within holds last =
-    let found = range_at spans ranges code place are last.0 in
+    let found = holding_range spans ranges code place are last.0 in
     let is : get_or ranges found.0 d ≡ found.1 = get_or_default ranges found.0 d found.1 found.2 ∙ found.3 in
     let same : i ≡ found.0 = grind (arith, is, found.2, found.4.0, apart_later ranges i found.0 d sorted apart, apart_later ranges found.0 i d sorted apart) in
     ap Some (sym found.4.1 ∙ sym (ap (λ (r : Run). r.place) is) ∙ ap (λ n. (get_or ranges n d).place) (sym same))
@@ -96,7 +106,7 @@ found_some : (spans : List Span) (ranges : List Run) (code : ℕ) (o : Option �
     → AreRanges spans (length spans) ranges → IsLast spans code o → IsSome o → Any (Holds code) ranges
 found_some spans ranges code None are last some = absurd (let e = some in cc)
 found_some spans ranges code (Some place) are last some =
-    let found = range_at spans ranges code place are last.0 in (found.0, found.1, found.2, found.3, found.4.0)
+    let found = holding_range spans ranges code place are last.0 in (found.0, found.1, found.2, found.3, found.4.0)
 
 pub runs_are_ranges : (spans : List Span) (ranges : List Run)
     → AreRanges spans (length spans) ranges → IsNonDecreasingBy (λ range. range.low) ranges → AreApart ranges → AreRunsBelow (last_place spans) (2 ^ 32) ranges
@@ -116,3 +126,43 @@ runs_are_ranges spans ranges are sorted apart = record {
   ordered = λ i j d before within. apart_later ranges i j d sorted apart before within;
   complete = λ code below some. found_some spans ranges code (last_place spans code) are (is_last spans code) some;
 }
+
+-- ---- ranges at places
+places_of_spans : (spans : List Span) (count : ℕ) (places : List ℕ) → AreRanges spans count (map (range_at spans) places) → All (λ place. place < length spans) places
+places_of_spans spans count places are = λ k d lt.
+    let range = are.each k (range_at spans d) (omega (arith, length-map places (range_at spans))) in
+    slice_get_within spans (get_or places k d) _
+    (subst (λ (r : Run). slice_get spans r.place ≡ Some (record { start = r.low; end = r.high })) (get_or-map (range_at spans) places k d (range_at spans d) lt) range.at_place)
+
+-- a declaration is at each of them
+pub places_within : {T : Type 0} (span_of : T → Span) (list : List T) (places sorted : List ℕ)
+    → IsPermutation places sorted → AreRanges (map span_of list) (length list) (map (range_at (map span_of list)) places) → All (λ place. place < length list) sorted
+places_within span_of list places sorted moved are =
+    All-permutation (λ place. place < length list) places sorted moved
+    (subst (λ n. All (λ place. place < n) places) (length-map list span_of) (places_of_spans (map span_of list) (length list) places are))
+
+places_in_order : (spans : List Span) (places : List ℕ)
+    → IsNonDecreasingBy (λ place. (range_at spans place).low) places → IsNonDecreasingBy (λ range. range.low) (map (range_at spans) places)
+places_in_order spans places sorted = λ i j d le lt.
+    let within : j < length places = omega (arith, length-map places (range_at spans)) in
+    let first = get_or-map (range_at spans) places i 0 d (omega arith) in
+    let later = get_or-map (range_at spans) places j 0 d within in
+    omega (arith, ap (λ (r : Run). r.low) first, ap (λ (r : Run). r.low) later, sorted i j 0 le within)
+
+pub places_apart : (spans : List Span) (places : List ℕ)
+    → ((k d : ℕ) → k + 1 < length places → (range_at spans (get_or places k d)).high < (range_at spans (get_or places (k + 1) d)).low) → AreApart (map (range_at spans) places)
+places_apart spans places apart = λ i d lt.
+    let within : i + 1 < length places = omega (arith, length-map places (range_at spans)) in
+    let first = get_or-map (range_at spans) places i 0 d (omega arith) in
+    let later = get_or-map (range_at spans) places (i + 1) 0 d within in
+    omega (arith, ap (λ (r : Run). r.high) first, ap (λ (r : Run). r.low) later, apart i 0 within)
+
+-- places that were put in order
+pub runs_at_places : {T : Type 0} (span_of : T → Span) (list : List T) (places sorted : List ℕ)
+    → IsPermutation places sorted → AreRanges (map span_of list) (length list) (map (range_at (map span_of list)) places)
+    → IsNonDecreasingBy (λ place. (range_at (map span_of list) place).low) sorted → AreApart (map (range_at (map span_of list)) sorted)
+    → AreRunsBelow (last_place (map span_of list)) (2 ^ 32) (map (range_at (map span_of list)) sorted)
+runs_at_places span_of list places sorted moved are order apart =
+    let at = range_at (map span_of list) in
+    runs_are_ranges (map span_of list) (map at sorted) (all_ranges span_of list (map at places) (map at sorted) (IsPermutation-map at places sorted moved) are)
+    (places_in_order (map span_of list) sorted order) apart

@@ -9,6 +9,6 @@ pub record IsSplit (runs : List Run) (code count : ℕ) : Type 0 where
   pub before : AllWithin (λ run. run.high < code) runs 0 count
   pub after : AllWithin (λ run. code ≤ run.high) runs count (length runs)
 
--- the number for each of the first blocks, which have 256 codes each
+-- the number for each of the first blocks, which have 32 codes each
 pub record AreBlocks (runs : List Run) (blocks : List ℕ) : Type 0 where
-  pub each : (block d : ℕ) → block < length blocks → IsSplit runs (256 * block) (get_or blocks block d)
+  pub each : (block d : ℕ) → block < length blocks → IsSplit runs (32 * block) (get_or blocks block d)

@@ -18,3 +18,12 @@ pub record AreRanges (spans : List Span) (count : ℕ) (ranges : List Run) : Typ
 -- each ends before the next one begins
 abbrev pub AreApart : List Run → Type 0
 AreApart ranges = (i : ℕ) (d : Run) → i + 1 < length ranges → (get_or ranges i d).high < (get_or ranges (i + 1) d).low
+
+-- the range of the declaration at the place, which is empty where there is none
+abbrev pub range_at : List Span → ℕ → Run
+range_at spans place = let span = get_or spans place (record { start = 1; end = 0 }) in record { low = span.start; high = span.end; place = place }
+
+-- declarations, and the runs of codes that each decides
+pub record DecidedRuns (T : Type 0) : Type 0 where
+  pub declarations : List T
+  pub runs : List Run

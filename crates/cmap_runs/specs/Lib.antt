@@ -4,3 +4,4 @@ pub mod DeclaredRanges
 pub mod OpenRanges
 pub mod Blocks
 pub mod SearchLooks
+pub mod HeldRuns

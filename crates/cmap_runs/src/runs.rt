@@ -6,6 +6,7 @@ ghost use Rattle.cmap_runs.specs.Ranges.{Span};
 mod blocks;
 mod held;
 mod looks;
+mod places;
 mod ranges;
 mod search;
 mod sweep;

@@ -5,18 +5,19 @@ ghost use Rattle.std.specs.List.{AllWithin};
 ghost use Rattle.cmap_runs.specs.Blocks.{AreBlocks};
 ghost use Rattle.cmap_runs.specs.Order.{IsInOrder};
 
-use super::held::Runs;
+use super::HasRange;
+use super::held::Held;
 use std::alloc::{AllocError, Global};
 use std::marker::Model;
 
 // How many codes a block has.
-pub(super) const BLOCK_LEN: u32 = 256;
+pub(super) const BLOCK_LEN: u32 = 32;
 
 // The blocks of the codes of two bytes, and the one after them.
-pub(super) const BLOCK_COUNT: u32 = 257;
+pub(super) const BLOCK_COUNT: u32 = 2049;
 
 // A shorter list of runs is searched without blocks.
-const FEWEST_RUNS: usize = 256;
+const FEWEST_RUNS: usize = 512;
 
 // For each block, how many runs end before its first code.
 #[derive(Debug, Drop)]
@@ -33,30 +34,31 @@ impl Model for Blocks {
 }
 
 impl Blocks {
-    pub(super) fn of(alloc: Global, runs: &mut Runs) -> Result<Blocks, AllocError>
-        requires { IsInOrder runs.old }
-        ensures blocks { IfOk result (λ blocks. AreBlocks runs.old blocks) }
-        ensures runs { runs.new ≡ runs.old }
+    pub(super) fn of<T: HasRange>(alloc: Global, held: &mut Held<T>) -> Result<Blocks, AllocError>
+        requires { IsInOrder held.old.runs }
+        ensures blocks { IfOk result (λ blocks. AreBlocks held.old.runs blocks) }
+        ensures same { held.new ≡ held.old }
     {
-        if runs.len() < FEWEST_RUNS {
+        if held.run_count() < FEWEST_RUNS {
             return Ok(Blocks {
                 counts: Vec::new(alloc),
             });
         }
         Ok(Blocks {
-            counts: runs.block_counts(alloc)?,
+            counts: held.block_counts(alloc)?,
         })
     }
 
     // The places from the first of which up to the second a run that holds `code` stands.
-    pub(super) fn window(&self, runs: &Runs, code: u32) -> (usize, usize)
-        requires order { IsInOrder runs.now }
-        requires blocks { AreBlocks runs.now self.now }
-        ensures within { result.1 ≤ length runs.now }
-        ensures below { AllWithin (λ run. run.high < code) runs.now 0 result.0 }
-        ensures above { AllWithin (λ run. code < run.low) runs.now result.1 (length runs.now) }
+    pub(super) fn window<T: HasRange>(&self, held: &Held<T>, code: u32) -> (usize, usize)
+        requires order { IsInOrder held.now.runs }
+        requires blocks { AreBlocks held.now.runs self.now }
+        ensures within { result.1 ≤ length held.now.runs }
+        ensures below { AllWithin (λ run. run.high < code) held.now.runs 0 result.0 }
+        ensures above { AllWithin (λ run. code < run.low) held.now.runs result.1
+            (length held.now.runs) }
     {
-        let run_count = runs.len();
+        let run_count = held.run_count();
         let block_count = self.counts.len();
         if block_count == 0 {
             return (0, run_count);

@@ -1,13 +1,15 @@
 //! What a table holds: runs and declarations. Outside of this module each look at one is counted.
 
-ghost use Rattle.std.specs.Prelude.{◌≡◌, ◌+◌, ◌-◌, ◌<◌, ◌≤◌, true, [], Some, IfOk, OnOk, OnErr, length, slice_get};
+ghost use Rattle.std.specs.Prelude.{◌≡◌, ◌+◌, ◌-◌, ◌<◌, ◌≤◌, true, [], All, Some, IfOk, OnOk, OnErr, length, map, slice_get};
 ghost use Rattle.cmap_runs.specs.Blocks.{AreBlocks};
+ghost use Rattle.cmap_runs.specs.DeclaredRanges.{range_at};
 ghost use Rattle.cmap_runs.specs.Order.{IsInOrder};
 ghost use Rattle.cmap_runs.specs.Ranges.{goes_on, joined};
 
 use super::HasRange;
 use super::blocks::{BLOCK_COUNT, BLOCK_LEN};
 use super::looks::Looks;
+use super::ranges::range_at;
 use std::alloc::{AllocError, Global};
 use std::marker::Model;
 
@@ -58,19 +60,6 @@ impl Runs {
         }
     }
 
-    // The ranges as runs.
-    pub(super) fn from_ranges(ranges: Vec<Run>) -> Runs
-        ensures { result ≡ ranges.items }
-    {
-        Runs { list: ranges }
-    }
-
-    pub(super) fn len(&self) -> usize
-        ensures { result ≡ length self.now }
-    {
-        self.list.len()
-    }
-
     // Adds a run at the end. Where it goes on from the last one, with its place, the two are one.
     pub(super) fn add(&mut self, low: u32, high: u32, place: usize) -> Result<(), AllocError>
         ensures added { OnOk result
@@ -100,75 +89,129 @@ impl Runs {
             None => false,
         }
     }
+}
 
-    // The run at `i`: its first code, its last code and its place.
-    pub(super) fn get(&self, i: usize, looks: &mut Looks) -> (u32, u32, usize)
-        requires { i < length self.now }
-        ensures run { slice_get self.now i
-            ≡ Some (record { low = result.0; high = result.1; place = result.2 }) }
+// The runs of declarations.
+#[derive(Debug, Drop)]
+enum RunList {
+    // The places of declarations whose ranges are the runs.
+    Ranges(Vec<u32>),
+    Swept(Runs),
+}
+
+// Declarations, each at its place, with their runs.
+#[derive(Debug, Drop)]
+pub(super) struct Held<T: HasRange> {
+    declarations: Vec<T>,
+    runs: RunList,
+}
+
+impl<T: HasRange> Model for Held<T> {
+    ghost use Rattle.std.specs.Prelude.{length, map};
+    ghost use Rattle.cmap_runs.specs.DeclaredRanges.{DecidedRuns};
+
+    ghost Value = { DecidedRuns T };
+
+    ghost use Rattle.cmap_runs.specs.HeldRuns.{places_within, runs_held};
+
+    ghost view = { λ held. record {
+      declarations = held.declarations.items;
+      runs = runs_held (map T.span held.declarations.items) held.runs;
+    } };
+
+    ghost invariant = { λ held. places_within (length held.declarations.items) held.runs };
+}
+
+impl<T: HasRange> Held<T> {
+    // The declarations with the ranges of those at the places as runs.
+    pub(super) fn with_ranges(declarations: Vec<T>, places: Vec<u32>) -> Held<T>
+        requires { All (λ place. place < length declarations.items) places.items }
+        ensures declarations { result.declarations ≡ declarations.items }
+        ensures runs { result.runs
+            ≡ map (range_at (map T.span declarations.items)) places.items }
+    {
+        Held {
+            declarations,
+            runs: RunList::Ranges(places),
+        }
+    }
+
+    pub(super) fn with_runs(declarations: Vec<T>, runs: Runs) -> Held<T>
+        ensures declarations { result.declarations ≡ declarations.items }
+        ensures runs { result.runs ≡ runs }
+    {
+        Held {
+            declarations,
+            runs: RunList::Swept(runs),
+        }
+    }
+
+    pub(super) fn run_count(&self) -> usize
+        ensures { result ≡ length self.now.runs }
+    {
+        match &self.runs {
+            RunList::Ranges(places) => places.len(),
+            RunList::Swept(runs) => runs.list.len(),
+        }
+    }
+
+    // The run at `i`.
+    pub(super) fn run(&self, i: usize, looks: &mut Looks) -> Run
+        requires { i < length self.now.runs }
+        ensures run { slice_get self.now.runs i ≡ Some result }
         ensures runs { looks.new.runs ≡ looks.old.runs + 1 }
         ensures declarations { looks.new.declarations ≡ looks.old.declarations }
     {
         looks.look_at_run();
-        let run = &self.list[i];
-        (run.low, run.high, run.place)
+        self.run_at(i)
+    }
+
+    fn run_at(&self, i: usize) -> Run
+        requires { i < length self.now.runs }
+        ensures { slice_get self.now.runs i ≡ Some result }
+    {
+        match &self.runs {
+            RunList::Ranges(places) => range_at(&self.declarations, places[i]),
+            RunList::Swept(runs) => {
+                let run = &runs.list[i];
+                Run::new(run.low, run.high, run.place)
+            }
+        }
     }
 
     // For each block, how many runs end before its first code. It counts no look, and takes
     // `&mut self` so that no search, which has `&self`, can call it.
     pub(super) fn block_counts(&mut self, alloc: Global) -> Result<Vec<usize>, AllocError>
-        requires { IsInOrder self.old }
-        ensures counts { IfOk result (λ counts. AreBlocks self.old counts.items) }
-        ensures runs { self.new ≡ self.old }
+        requires { IsInOrder self.old.runs }
+        ensures counts { IfOk result (λ counts. AreBlocks self.old.runs counts.items) }
+        ensures same { self.new ≡ self.old }
     {
-        let mut counts = Vec::new(alloc);
-        let run_count = self.list.len();
+        let mut counts = Vec::with_capacity(alloc, BLOCK_COUNT as usize)?;
+        let run_count = self.run_count();
         let mut place = 0;
         for block in 0..BLOCK_COUNT {
-            while place < run_count && self.list[place].high < BLOCK_LEN * block {
+            while place < run_count && self.run_at(place).high < BLOCK_LEN * block {
                 place += 1;
             }
             counts.push(place)?;
         }
         Ok(counts)
     }
-}
 
-// Declarations, each at its place.
-#[derive(Debug, Drop)]
-pub(super) struct Declarations<T: HasRange> {
-    list: Vec<T>,
-}
-
-impl<T: HasRange> Model for Declarations<T> {
-    ghost use Rattle.std.specs.Prelude.{List};
-
-    ghost Value = { List T };
-
-    ghost view = { λ declarations. declarations.list.items };
-}
-
-impl<T: HasRange> Declarations<T> {
-    pub(super) fn new(list: Vec<T>) -> Declarations<T>
-        ensures { result ≡ list.items }
+    pub(super) fn declaration_count(&self) -> usize
+        ensures { result ≡ length self.now.declarations }
     {
-        Declarations { list }
-    }
-
-    pub(super) fn len(&self) -> usize
-        ensures { result ≡ length self.now }
-    {
-        self.list.len()
+        self.declarations.len()
     }
 
     // The declaration at `place`.
-    pub(super) fn get(&self, place: usize, looks: &mut Looks) -> &T
-        requires { place < length self.now }
-        ensures declaration { slice_get self.now place ≡ Some result.now }
+    pub(super) fn declaration(&self, place: usize, looks: &mut Looks) -> &T
+        requires { place < length self.now.declarations }
+        ensures declaration { slice_get self.now.declarations place ≡ Some result.now }
         ensures runs { looks.new.runs ≡ looks.old.runs }
         ensures declarations { looks.new.declarations ≡ looks.old.declarations + 1 }
     {
         looks.look_at_declaration();
-        &self.list[place]
+        &self.declarations[place]
     }
 }

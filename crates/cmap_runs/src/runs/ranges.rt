@@ -1,7 +1,7 @@
 //! The ranges of declarations, each with the place of its declaration.
 
-ghost use Rattle.std.specs.Prelude.{◌≡◌, true, IfOk, length, map};
-ghost use Rattle.cmap_runs.specs.DeclaredRanges.{AreApart, AreRanges};
+ghost use Rattle.std.specs.Prelude.{◌≡◌, ◌<◌, IfOk, length, map};
+ghost use Rattle.cmap_runs.specs.DeclaredRanges.{AreRanges, range_at};
 
 use super::HasRange;
 use super::held::Run;
@@ -25,17 +25,22 @@ pub(super) fn ranges_of<T: HasRange>(
     Ok(ranges)
 }
 
-// Whether each range ends before the next one begins.
-pub(super) fn are_apart(ranges: &[Run]) -> bool
-    ensures { result ≡ true → AreApart ranges.now }
+// The range of the declaration at the place.
+pub(super) fn range_at<T: HasRange>(declarations: &[T], place: u32) -> Run
+    requires { place < length declarations.now }
+    ensures { result ≡ range_at (map T.span declarations.now) place }
 {
-    let mut i = 1;
-    while i < ranges.len() {
-        let (range, next) = (&ranges[i - 1], &ranges[i]);
-        if range.high >= next.low {
-            return false;
-        }
-        i += 1;
+    let place = place as usize;
+    let range = declarations[place].range();
+    Run::new(range.start, range.end, place)
+}
+
+// The first code of the range of the declaration at the place, and 1 where there is none.
+pub(super) fn start_at<T: HasRange>(declarations: &[T], place: u32) -> u32
+    ensures { result ≡ (range_at (map T.span declarations.now) place).low }
+{
+    match declarations.get(place as usize) {
+        Some(declaration) => declaration.range().start,
+        None => 1,
     }
-    true
 }

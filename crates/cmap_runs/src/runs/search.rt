@@ -5,25 +5,26 @@ ghost use Rattle.std.specs.List.{AllWithin};
 ghost use Rattle.cmap_runs.specs.Order.{IsInOrder};
 ghost use Rattle.cmap_runs.specs.Ranges.{Holds, digits};
 
-use super::held::Runs;
+use super::HasRange;
+use super::held::Held;
 use super::looks::Looks;
 
 // The place of the run that holds `code`. Only the runs from `window.0` on and before `window.1`
 // may hold it.
-pub(super) fn find_place(
-    runs: &Runs,
+pub(super) fn find_place<T: HasRange>(
+    held: &Held<T>,
     code: u32,
     window: (usize, usize),
     looks: &mut Looks,
 ) -> Option<usize>
-    requires order { IsInOrder runs.now }
-    requires within { window.1 ≤ length runs.now }
-    requires below { AllWithin (λ run. run.high < code) runs.now 0 window.0 }
-    requires above { AllWithin (λ run. code < run.low) runs.now window.1 (length runs.now) }
-    ensures none { IfNone result (All (λ run. ¬ (Holds code run)) runs.now) }
+    requires order { IsInOrder held.now.runs }
+    requires within { window.1 ≤ length held.now.runs }
+    requires below { AllWithin (λ run. run.high < code) held.now.runs 0 window.0 }
+    requires above { AllWithin (λ run. code < run.low) held.now.runs window.1 (length held.now.runs) }
+    ensures none { IfNone result (All (λ run. ¬ (Holds code run)) held.now.runs) }
     ensures found { IfSome result
-        (λ place. Any (λ run. Holds code run × (run.place ≡ place)) runs.now) }
-    ensures bound { looks.new.runs ≤ looks.old.runs + digits (length runs.now) }
+        (λ place. Any (λ run. Holds code run × (run.place ≡ place)) held.now.runs) }
+    ensures bound { looks.new.runs ≤ looks.old.runs + digits (length held.now.runs) }
     ensures grows { looks.old.runs ≤ looks.new.runs }
     ensures looked { OnSome result (looks.old.runs + 1 ≤ looks.new.runs) }
     ensures declarations { looks.new.declarations ≡ looks.old.declarations }
@@ -31,13 +32,13 @@ pub(super) fn find_place(
     let (mut low, mut high) = window;
     while low < high {
         let middle = low + (high - low) / 2;
-        let (first, last, place) = runs.get(middle, looks);
-        if code < first {
+        let candidate = held.run(middle, looks);
+        if code < candidate.low {
             high = middle;
-        } else if last < code {
+        } else if candidate.high < code {
             low = middle + 1;
         } else {
-            return Some(place);
+            return Some(candidate.place);
         }
     }
     None

@@ -9,24 +9,38 @@ ghost use Rattle.cmap_runs.specs.OpenRanges.{IsGreatest, StayOpen};
 ghost use Rattle.cmap_runs.specs.Ranges.{AreRunsBelow, Span, runs_of};
 
 use super::HasRange;
-use super::held::{Run, Runs};
-use super::ranges::{are_apart, ranges_of};
+use super::held::{Held, Run, Runs};
+use super::places::apart_places;
+use super::ranges::ranges_of;
 use std::alloc::{AllocError, Global};
 use std::collections::BTreeMap;
 
 // How many codes there are.
 const CODE_COUNT: u64 = 1 << 32;
 
+// The declarations with their runs.
+pub(super) fn held_of<T: HasRange>(
+    alloc: Global,
+    declarations: Vec<T>,
+) -> Result<Held<T>, AllocError>
+    ensures declarations { IfOk result (λ held. held.declarations ≡ declarations.items) }
+    ensures runs { IfOk result (λ held. held.runs ≡ runs_of (map T.span declarations.items)) }
+    ensures few { IfOk result (λ held. length held.runs ≤ 2 * length declarations.items - 1) }
+{
+    if let Some(places) = apart_places(alloc, declarations.as_slice())? {
+        return Ok(Held::with_ranges(declarations, places));
+    }
+    let runs = runs_of(alloc, declarations.as_slice())?;
+    Ok(Held::with_runs(declarations, runs))
+}
+
 // The runs of the declarations.
-pub(super) fn runs_of<T: HasRange>(alloc: Global, declarations: &[T]) -> Result<Runs, AllocError>
+fn runs_of<T: HasRange>(alloc: Global, declarations: &[T]) -> Result<Runs, AllocError>
     ensures runs { IfOk result (λ runs. runs ≡ runs_of (map T.span declarations.now)) }
     ensures few { IfOk result (λ runs. length runs ≤ 2 * length declarations.now - 1) }
 {
     let mut ranges = ranges_of(alloc, declarations)?;
     ranges.sort_by_key(|range| range.low)?;
-    if are_apart(&ranges) {
-        return Ok(Runs::from_ranges(ranges));
-    }
     sweep(alloc, ranges.as_slice())
 }
 

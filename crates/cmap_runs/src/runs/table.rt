@@ -7,10 +7,10 @@ ghost use Rattle.cmap_runs.specs.SearchLooks.{LooksAtMost};
 
 use super::HasRange;
 use super::blocks::Blocks;
-use super::held::{Declarations, Runs};
+use super::held::Held;
 use super::looks::Looks;
 use super::search::find_place;
-use super::sweep::runs_of;
+use super::sweep::held_of;
 use std::alloc::{AllocError, Global};
 use std::marker::Model;
 
@@ -19,9 +19,8 @@ use std::marker::Model;
 /// sees the list. Places count from 0, and codes are numbers of 32 bits.
 #[derive(Debug, Drop)]
 pub struct Table<T: HasRange> {
-    runs: Runs,
+    held: Held<T>,
     blocks: Blocks,
-    declarations: Declarations<T>,
 }
 
 impl<T: HasRange> Model for Table<T> {
@@ -31,11 +30,11 @@ impl<T: HasRange> Model for Table<T> {
 
     ghost Value = { List T };
 
-    ghost view = { λ table. table.declarations };
+    ghost view = { λ table. table.held.declarations };
 
-    ghost invariant = { λ table. (table.runs ≡ runs_of (map T.span table.declarations))
-        × AreBlocks table.runs table.blocks
-        × (length table.runs ≤ 2 * length table.declarations - 1) };
+    ghost invariant = { λ table. (table.held.runs ≡ runs_of (map T.span table.held.declarations))
+        × AreBlocks table.held.runs table.blocks
+        × (length table.held.runs ≤ 2 * length table.held.declarations - 1) };
 }
 
 impl<T: HasRange> Table<T> {
@@ -46,13 +45,11 @@ impl<T: HasRange> Table<T> {
     pub fn build(alloc: Global, list: Vec<T>) -> Result<Table<T>, AllocError>
         ensures { IfOk result (λ table. table ≡ list.items) }
     {
-        let mut runs = runs_of(alloc, list.as_slice())?;
-        let blocks = Blocks::of(alloc, &mut runs)?;
-        Ok(Table {
-            runs,
-            blocks,
-            declarations: Declarations::new(list),
-        })
+        let mut list = list;
+        list.shrink_to_fit();
+        let mut held = held_of(alloc, list)?;
+        let blocks = Blocks::of(alloc, &mut held)?;
+        Ok(Table { held, blocks })
     }
 
     /// The last declaration of the list that contains `code`; `None` where there is none.
@@ -68,16 +65,16 @@ impl<T: HasRange> Table<T> {
         ensures no_declaration { IfNone result
             (looks.new.declarations ≡ looks.old.declarations) }
     {
-        let window = self.blocks.window(&self.runs, code);
-        let place = find_place(&self.runs, code, window, looks)?;
-        Some(self.declarations.get(place, looks))
+        let window = self.blocks.window(&self.held, code);
+        let place = find_place(&self.held, code, window, looks)?;
+        Some(self.held.declaration(place, looks))
     }
 
     /// How many declarations the table has.
     pub fn decl_count(&self) -> usize
         ensures { result ≡ length self.now }
     {
-        self.declarations.len()
+        self.held.declaration_count()
     }
 
     /// How many runs the table has. They come in the order of their codes.
@@ -91,7 +88,7 @@ impl<T: HasRange> Table<T> {
         // What `find` is bounded by.
         ensures digits { HasDigits result (digits result) }
     {
-        self.runs.len()
+        self.held.run_count()
     }
 
     /// The first code of the run at `i`, its last code and the place of the declaration that
@@ -103,7 +100,8 @@ impl<T: HasRange> Table<T> {
         ensures runs { looks.new.runs ≡ looks.old.runs + 1 }
         ensures declarations { looks.new.declarations ≡ looks.old.declarations }
     {
-        self.runs.get(i, looks)
+        let run = self.held.run(i, looks);
+        (run.low, run.high, run.place)
     }
 
     /// The declaration at place `i`.
@@ -113,6 +111,6 @@ impl<T: HasRange> Table<T> {
         ensures runs { looks.new.runs ≡ looks.old.runs }
         ensures declarations { looks.new.declarations ≡ looks.old.declarations + 1 }
     {
-        self.declarations.get(i, looks)
+        self.held.declaration(i, looks)
     }
 }

@@ -4,14 +4,14 @@ use Rattle.cmap_runs.specs.Ranges.{digits}
 use Rattle.cmap_runs.proofs.runs.search.find_place.Given as goal
 
 abbrev pub invariant-loop-low : goal.invariant-loop-low
-invariant-loop-low l = record {
-  within : l.high ≤ length l.runs;
-  below : AllWithin (λ run. run.high < l.code) l.runs 0 l.low;
-  above : AllWithin (λ run. l.code < run.low) l.runs l.high (length l.runs);
-  bound : l.looks.runs + digits (l.high - l.low) ≤ l.fn.looks.runs + digits (length l.runs);
+invariant-loop-low g l = record {
+  within : l.high ≤ length l.held.runs;
+  below : AllWithin (λ run. run.high < l.code) l.held.runs 0 l.low;
+  above : AllWithin (λ run. l.code < run.low) l.held.runs l.high (length l.held.runs);
+  bound : l.looks.runs + digits (l.high - l.low) ≤ l.fn.looks.runs + digits (length l.held.runs);
   grows : l.fn.looks.runs ≤ l.looks.runs;
   declarations : l.looks.declarations ≡ l.fn.looks.declarations;
 }
 
 abbrev pub decreases-loop-low : goal.decreases-loop-low
-decreases-loop-low l = l.high - l.low
+decreases-loop-low g l = l.high - l.low

@@ -1,26 +1,16 @@
-use Rattle.std.proofs.Common.{rules, ◌≡◌, List, length, map, sym, ◌∙◌, subst}
+use Rattle.std.proofs.Common.{rules, ◌≡◌, List, length, map, sym, subst}
 use Rattle.std.specs.List.Sorted.{IsNonDecreasingBy}
 use Rattle.std.proofs.lemmas.List.Sorted.{IsNonDecreasingBy-from_sort_by_key}
 use Rattle.std.proofs.lemmas.Result.{IfOk-weaker}
-use Rattle.cmap_runs.specs.DeclaredRanges.{AreApart, AreRanges}
+use Rattle.cmap_runs.specs.DeclaredRanges.{AreRanges}
 use Rattle.cmap_runs.specs.Ranges.{Run, Span, runs_of}
-use Rattle.cmap_runs.proofs.MaximalRuns.{runs_of-unique}
-use Rattle.cmap_runs.proofs.RangesDecide.{all_ranges, runs_are_ranges}
+use Rattle.cmap_runs.proofs.RangesDecide.{all_ranges}
 use Rattle.cmap_runs.proofs.runs.sweep.runs_of.Goals as goal
 
 pub sweep-requires : goal.sweep-requires
 sweep-requires g c =
     subst (IsNonDecreasingBy (λ (range : Run). range.low)) (sym c.as_slice.ensures.value)
     (IsNonDecreasingBy-from_sort_by_key (λ (range : Run). range.low) _ c.in_ok-sort_by_key.ensures.sorted (λ a r q k. search rules))
-
-pub returns-then-are_apart-clause-runs : goal.returns-then-are_apart-clause-runs
-returns-then-are_apart-clause-runs g c =
-    let list = c.args.declarations.now in let span = g.T.HasRange.span in let ranges = c.sort_by_key.new.self.items in
-    c.from_ranges.ensures
-    ∙ runs_of-unique (map span list) ranges
-    (runs_are_ranges (map span list) ranges (all_ranges span list _ ranges c.sort_by_key.ensures.permutation c.in_ok-ranges.ensures)
-    (IsNonDecreasingBy-from_sort_by_key (λ (range : Run). range.low) _ c.in_ok-sort_by_key.ensures.sorted (λ a r q k. search rules))
-    (subst AreApart c.deref.ensures.value (c.are_apart.ensures c.if-are_apart.true)))
 
 pub returns-clause-runs : goal.returns-clause-runs
 returns-clause-runs g c =

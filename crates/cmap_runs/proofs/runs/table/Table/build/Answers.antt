@@ -3,4 +3,4 @@ use Rattle.cmap_runs.proofs.FoundPlace.{runs_in_order}
 use Rattle.cmap_runs.proofs.runs.table.Table.build.Goals as goal
 
 pub of-requires : goal.of-requires
-of-requires g c = runs_in_order (map g.T.HasRange.span c.as_slice.result.now) c.in_ok-runs.ensures.runs
+of-requires g c = runs_in_order (map g.T.HasRange.span c.shrink_to_fit.new.self.items) c.in_ok-held.ensures.runs

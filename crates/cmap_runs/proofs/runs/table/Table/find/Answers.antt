@@ -3,27 +3,27 @@ use Rattle.cmap_runs.proofs.FoundPlace.{found_contains, found_last, found_place,
 use Rattle.cmap_runs.proofs.runs.table.Table.find.Goals as goal
 
 pub window-window-requires-clause-order : goal.window-window-requires-clause-order
-window-window-requires-clause-order g c = runs_in_order (map g.T.HasRange.span c.self.inside.declarations) c.self.invariant.0
+window-window-requires-clause-order g c = runs_in_order (map g.T.HasRange.span c.self.inside.held.declarations) c.self.invariant.0
 
 pub find_place-requires-clause-order : goal.find_place-requires-clause-order
-find_place-requires-clause-order g c = runs_in_order (map g.T.HasRange.span c.self.inside.declarations) c.self.invariant.0
+find_place-requires-clause-order g c = runs_in_order (map g.T.HasRange.span c.self.inside.held.declarations) c.self.invariant.0
 
 pub returns-in_err-place-clause-found : goal.returns-in_err-place-clause-found
 returns-in_err-place-clause-found g c =
-    let none = no_place (map g.T.HasRange.span c.self.inside.declarations) c.args.code c.self.invariant.0 (omega (arith, c.ranges.code.fits)) c.in_err-place.ensures.none in
-    rw c.from_residual.ensures (none_last g.T.HasRange.span c.self.inside.declarations c.args.self.now c.args.code none c.self.view_is)
+    let none = no_place (map g.T.HasRange.span c.self.inside.held.declarations) c.args.code c.self.invariant.0 (omega (arith, c.ranges.code.fits)) c.in_err-place.ensures.none in
+    rw c.from_residual.ensures (none_last g.T.HasRange.span c.self.inside.held.declarations c.args.self.now c.args.code none c.self.view_is)
 
-pub get-requires : goal.get-requires
-get-requires g c =
-    let list = c.self.inside.declarations in let span = g.T.HasRange.span in let place = c.in_ok-place.place in
+pub declaration-requires : goal.declaration-requires
+declaration-requires g c =
+    let list = c.self.inside.held.declarations in let span = g.T.HasRange.span in let place = c.in_ok-place.place in
     found_within span list c.args.code place (found_place (map span list) c.args.code place c.self.invariant.0 c.in_ok-place.ensures.found)
 
 pub returns-clause-found : goal.returns-clause-found
 returns-clause-found g c =
-    let last = found_place (map g.T.HasRange.span c.self.inside.declarations) c.args.code c.in_ok-place.place c.self.invariant.0 c.in_ok-place.ensures.found in
-    found_last g.T.HasRange.span c.self.inside.declarations c.args.self.now c.args.code c.in_ok-place.place c.get.result.now last c.get.ensures.declaration c.self.view_is
+    let last = found_place (map g.T.HasRange.span c.self.inside.held.declarations) c.args.code c.in_ok-place.place c.self.invariant.0 c.in_ok-place.ensures.found in
+    found_last g.T.HasRange.span c.self.inside.held.declarations c.args.self.now c.args.code c.in_ok-place.place c.declaration.result.now last c.declaration.ensures.declaration c.self.view_is
 
 pub returns-clause-contains : goal.returns-clause-contains
 returns-clause-contains g c =
-    let list = c.self.inside.declarations in let span = g.T.HasRange.span in let place = c.in_ok-place.place in
-    found_contains span list c.args.code place c.get.result.now (found_place (map span list) c.args.code place c.self.invariant.0 c.in_ok-place.ensures.found) c.get.ensures.declaration
+    let list = c.self.inside.held.declarations in let span = g.T.HasRange.span in let place = c.in_ok-place.place in
+    found_contains span list c.args.code place c.declaration.result.now (found_place (map span list) c.args.code place c.self.invariant.0 c.in_ok-place.ensures.found) c.declaration.ensures.declaration

@@ -7,4 +7,4 @@ pub returns-clause-runs : goal.returns-clause-runs
 returns-clause-runs g c = let spans = map g.T.HasRange.span c.args.self.now in (AreRuns-runs_of spans, runs_of-unique spans)
 
 pub returns-clause-digits : goal.returns-clause-digits
-returns-clause-digits g c = HasDigits-digits c.len.result
+returns-clause-digits g c = HasDigits-digits c.run_count.result
