@@ -1,19 +1,26 @@
--- Private aid: open places, those of ranges that have begun. `last_code` gives the last code of each.
+-- Private aid: open ranges, those that have begun. Each is the place of its declaration with its last code.
 use Rattle.std.specs.Prelude.{◌≡◌, ℕ, ◌<◌, ◌≤◌, ◌⊎◌, List, All, Option, Some, None, slice_get}
+use Rattle.std.specs.BinaryHeap.{IsHeap}
+use Rattle.std.specs.List.{Contains}
+use Rattle.std.specs.Ordering.{nat_cmp, ordering_then}
 use Rattle.cmap_runs.specs.Ranges.{Run, Span}
 
--- the greatest open place whose range doesn't end before the code, or none
-abbrev pub IsGreatest : (ℕ → Option ℕ) → ℕ → Option ℕ → Type 0
-IsGreatest last_code code None = (place last : ℕ) → last_code place ≡ Some last → last < code
-IsGreatest last_code code (Some place) = ((last : ℕ) × (last_code place ≡ Some last) × (code ≤ last))
-    × ((other last : ℕ) → last_code other ≡ Some last → code ≤ last → other ≤ place)
+-- the greatest place of an open range that doesn't end before the code, or none
+abbrev pub IsGreatest : List (ℕ × ℕ) → ℕ → Option ℕ → Type 0
+IsGreatest ends code None = (place last : ℕ) → Contains ends (place, last) → last < code
+IsGreatest ends code (Some place) = ((last : ℕ) × Contains ends (place, last) × (code ≤ last))
+    × ((other last : ℕ) → Contains ends (other, last) → code ≤ last → other ≤ place)
 
--- after some were closed: their ranges end before the code
-pub record StayOpen (before after : ℕ → Option ℕ) (code : ℕ) : Type 0 where
-  pub kept : (place last : ℕ) → before place ≡ Some last → (last < code) ⊎ (after place ≡ Some last)
-  pub no_more : (place last : ℕ) → after place ≡ Some last → before place ≡ Some last
+-- after some were closed: they end before the code
+pub record StayOpen (before after : List (ℕ × ℕ)) (code : ℕ) : Type 0 where
+  pub kept : (place last : ℕ) → Contains before (place, last) → (last < code) ⊎ Contains after (place, last)
+  pub no_more : (place last : ℕ) → Contains after (place, last) → Contains before (place, last)
 
--- open are those of ranges that have begun by the code, all but some whose ranges end before it
-pub record AreOpen (spans : List Span) (begun : List Run) (last_code : ℕ → Option ℕ) (code : ℕ) : Type 0 where
-  pub kept : All (λ range. (range.high < code) ⊎ (last_code range.place ≡ Some range.high)) begun
-  pub no_more : (place last : ℕ) → last_code place ≡ Some last → (start : ℕ) × (start ≤ code) × (slice_get spans place ≡ Some (record { start = start; end = last }))
+-- open are the ranges that have begun by the code, all but some that end before it
+pub record AreOpen (spans : List Span) (begun : List Run) (ends : List (ℕ × ℕ)) (code : ℕ) : Type 0 where
+  pub kept : All (λ range. (range.high < code) ⊎ Contains ends (range.place, range.high)) begun
+  pub no_more : (place last : ℕ) → Contains ends (place, last) → (start : ℕ) × (start ≤ code) × (slice_get spans place ≡ Some (record { start = start; end = last }))
+
+-- a heap with the greatest place on top
+abbrev pub HasGreatestOnTop : List (ℕ × ℕ) → Type 0
+HasGreatestOnTop ends = IsHeap (λ x y. ordering_then (nat_cmp x.0 y.0) (nat_cmp x.1 y.1)) ends

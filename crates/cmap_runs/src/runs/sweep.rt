@@ -1,11 +1,10 @@
 //! The runs of declarations, by one sweep over the codes.
 
 ghost use Rattle.std.specs.Prelude.{◌≡◌, ℕ, ◌+◌, ◌-◌, ◌*◌, ◌<◌, ◌≤◌, ◌^◌, List, Option, IfOk, OnOk, length, map};
-ghost use Rattle.std.specs.BTreeMap.{btree_map_len, get};
+ghost use Rattle.std.specs.BinaryHeap.{heap_items, heap_len};
 ghost use Rattle.std.specs.List.Sorted.{IsNonDecreasingBy};
-ghost use Rattle.std.specs.Ordering.{nat_cmp};
 ghost use Rattle.cmap_runs.specs.DeclaredRanges.{AreRanges};
-ghost use Rattle.cmap_runs.specs.OpenRanges.{IsGreatest, StayOpen};
+ghost use Rattle.cmap_runs.specs.OpenRanges.{HasGreatestOnTop, IsGreatest, StayOpen};
 ghost use Rattle.cmap_runs.specs.Ranges.{AreRunsBelow, Span, runs_of};
 
 use super::HasRange;
@@ -13,7 +12,7 @@ use super::held::{Held, Run, Runs};
 use super::places::apart_places;
 use super::ranges::ranges_of;
 use std::alloc::{AllocError, Global};
-use std::collections::BTreeMap;
+use std::collections::BinaryHeap;
 
 // How many codes there are.
 const CODE_COUNT: u64 = 1 << 32;
@@ -52,40 +51,43 @@ fn sweep(alloc: Global, ranges: &[Run]) -> Result<Runs, AllocError>
     ensures few { IfOk result (λ runs. length runs ≤ 2 * length ranges.now - 1) }
 {
     let mut runs = Runs::new(alloc);
-    let mut ends = BTreeMap::new(alloc);
+    let mut ends = BinaryHeap::new(alloc);
     let mut from = 0;
     for range in ranges {
         let next = u64::from(range.low);
         add_runs(&mut runs, &mut ends, from, next)?;
-        ends.insert(range.place, range.high)?;
+        ends.push((range.place, range.high))?;
         from = next;
     }
     add_runs(&mut runs, &mut ends, from, CODE_COUNT)?;
     Ok(runs)
 }
 
-// Adds the runs of the codes from `from` on and before `to`. The greatest open place decides a
-// code. `ends` has the last code of each, and those whose ranges have ended are closed on the way.
+// Adds the runs of the codes from `from` on and before `to`. The greatest place of an open range
+// decides a code. `ends` has each with its last code, and those that have ended are closed on the
+// way.
 fn add_runs(
     runs: &mut Runs,
-    ends: &mut BTreeMap<usize, u32>,
+    ends: &mut BinaryHeap<(usize, u32)>,
     from: u64,
     to: u64,
 ) -> Result<(), AllocError>
     requires order { from ≤ to }
     requires codes { to ≤ 2 ^ 32 }
+    requires heap { HasGreatestOnTop (heap_items ends.old) }
     ensures runs { OnOk result ((decides : ℕ → Option ℕ)
         → ((code : ℕ) → from ≤ code → code < to
-        → IsGreatest (get nat_cmp ends.old) code (decides code))
+        → IsGreatest (heap_items ends.old) code (decides code))
         → AreRunsBelow decides from runs.old → AreRunsBelow decides to runs.new) }
-    ensures open { OnOk result (StayOpen (get nat_cmp ends.old) (get nat_cmp ends.new) to) }
-    ensures fewer { OnOk result (btree_map_len ends.new ≤ btree_map_len ends.old) }
-    ensures few { OnOk result (length runs.new + (btree_map_len ends.new - 1)
-        ≤ length runs.old + btree_map_len ends.old) }
+    ensures heap { OnOk result (HasGreatestOnTop (heap_items ends.new)) }
+    ensures stay { OnOk result (StayOpen (heap_items ends.old) (heap_items ends.new) to) }
+    ensures fewer { OnOk result (heap_len ends.new ≤ heap_len ends.old) }
+    ensures few { OnOk result (length runs.new + (heap_len ends.new - 1)
+        ≤ length runs.old + heap_len ends.old) }
 {
     let mut from = from;
     while from < to {
-        let Some((place, last)) = ends.last_key_value() else {
+        let Some((place, last)) = ends.peek() else {
             return Ok(());
         };
         let (place, last) = (*place, u64::from(*last));
@@ -96,7 +98,7 @@ fn add_runs(
             runs.add(from as u32, last as u32, place)?;
             from = last + 1;
         }
-        ends.remove(&place);
+        let _ = ends.pop();
     }
     Ok(())
 }

@@ -1,7 +1,7 @@
-use Rattle.std.proofs.Common.{ℕ, ◌+◌, ◌-◌, ◌*◌, ◌≤◌, ◌<◌, ◌^◌, List, get_or, length, nat_cmp, take}
-use Rattle.std.specs.BTreeMap.{btree_map_len, get}
+use Rattle.std.proofs.Common.{ℕ, ◌+◌, ◌-◌, ◌*◌, ◌≤◌, ◌<◌, ◌^◌, List, get_or, length, take}
+use Rattle.std.specs.BinaryHeap.{heap_items, heap_len}
 use Rattle.cmap_runs.specs.DeclaredRanges.{AreRanges}
-use Rattle.cmap_runs.specs.OpenRanges.{AreOpen}
+use Rattle.cmap_runs.specs.OpenRanges.{AreOpen, HasGreatestOnTop}
 use Rattle.cmap_runs.specs.Ranges.{AreRunsBelow, Run, Span, last_place}
 use Rattle.cmap_runs.proofs.runs.sweep.sweep.Given as goal
 
@@ -9,6 +9,7 @@ abbrev pub invariant-loop-range : goal.invariant-loop-range
 invariant-loop-range l = record {
   later : (k : ℕ) (d : Run) → l.range-index ≤ k → k < length l.ranges → l.from ≤ (get_or l.ranges k d).low;
   limit : l.from ≤ 2 ^ 32;
-  are : (spans : List Span) → AreRanges spans (length spans) l.ranges → AreOpen spans (take l.range-index l.ranges) (get nat_cmp l.ends) l.from × AreRunsBelow (last_place spans) l.from l.runs;
-  few : length l.runs + btree_map_len l.ends ≤ 2 * l.range-index - 1;
+  are : (spans : List Span) → AreRanges spans (length spans) l.ranges → AreOpen spans (take l.range-index l.ranges) (heap_items l.ends) l.from × AreRunsBelow (last_place spans) l.from l.runs;
+  heap : HasGreatestOnTop (heap_items l.ends);
+  few : length l.runs + heap_len l.ends ≤ 2 * l.range-index - 1;
 }
