@@ -9,7 +9,7 @@ use Rattle.std.proofs.lemmas.List.Elements.{All-contains, All-push, Contains-app
 use Rattle.std.proofs.lemmas.List.Sorted.{Contains-permutation, IsPermutation-sym}
 use Rattle.std.proofs.lemmas.List.{get_or_default, get_or-take, length-take}
 use Rattle.cmap_runs.specs.DeclaredRanges.{IsRange, AreRanges}
-use Rattle.cmap_runs.specs.OpenRanges.{IsGreatest, StayOpen, AreOpen}
+use Rattle.cmap_runs.specs.OpenRanges.{IsCovered, IsGreatest, Opens, StayOpen, AreOpen}
 use Rattle.cmap_runs.specs.Ranges.{Span, Run, AreRunsBelow, joined, last_place}
 use Rattle.cmap_runs.proofs.LastPlace.{ContainsAt, IsLast, is_last}
 use Rattle.cmap_runs.proofs.MaximalRuns.{AreRunsBelow-gap, AreRunsBelow-joined}
@@ -112,11 +112,17 @@ greatest_open spans ranges i from to code ends (Some place) are opened later low
       | inr after ↦ absurd (omega (arith, later found.0 range after found.2, found.4.0.0, ap (λ (r : Run). r.low) found.3))
     ]
     in
-    let kept = subst (λ (r : Run). (r.high < from) ⊎ Contains ends (r.place, r.high)) (get_or-take i ranges found.0 range is_begun ∙ found.3) (opened.kept found.0 range (omega (arith, length-take i ranges, found.2))) in
-    let is_open : Contains ends (place, range.high) = grind (arith, found.4) in (
-      (range.high, is_open, found.4.0.1),
-      λ other reaches is to_code. last.1 other (contains_open spans (take i ranges) ends from code other reaches opened low to_code is),
-    )
+    let kept = subst (λ (r : Run). (r.high < from) ⊎ IsCovered ends r) (get_or-take i ranges found.0 range is_begun ∙ found.3) (opened.kept found.0 range (omega (arith, length-take i ranges, found.2))) in
+    elim kept [
+      | inl ended ↦ absurd (omega (arith, found.4.0.1))
+      | inr covered ↦
+          let over = covered.0 in let reaches = covered.1 in
+          let to_code : code ≤ reaches = omega (arith, covered.4, found.4.0.1) in
+          let same : over ≡ place = omega (arith, found.4.1, covered.3, last.1 over (contains_open spans (take i ranges) ends from code over reaches opened low to_code covered.2)) in (
+            (reaches, subst (λ n. Contains ends (n, reaches)) same covered.2, to_code),
+            λ other reaches is to_code. last.1 other (contains_open spans (take i ranges) ends from code other reaches opened low to_code is),
+          )
+    ]
 
 pub decides_open : {spans : List Span} {ranges : List Run} {from : ℕ} {ends : List (ℕ × ℕ)} (i to : ℕ)
     → AreRanges spans (length spans) ranges → AreOpen spans (take i ranges) ends from
@@ -126,27 +132,36 @@ decides_open {spans} {ranges} {from} {ends} i to are opened later code low high 
     greatest_open spans ranges i from to code ends (last_place spans code) are opened later low high (is_last spans code)
 
 -- ---- one more range has begun
+covered_more : (before after : List (ℕ × ℕ)) (range old : Run) → Opens before after range → IsCovered before old → IsCovered after old
+covered_more before after range old opens covered = (covered.0, covered.1, opens.kept covered.0 covered.1 covered.2, covered.3, covered.4)
+
+covered_still : (before now : List (ℕ × ℕ)) (code : ℕ) (old : Run) → StayOpen before now code → IsCovered before old → (old.high < code) ⊎ IsCovered now old
+covered_still before now code old stay covered =
+    elim (stay.kept covered.0 covered.1 covered.2) [ inl ended ↦ inl (omega (arith, covered.4)) | inr open_still ↦ inr (covered.0, covered.1, open_still, covered.3, covered.4) ]
+
 pub AreOpen-push : {spans : List Span} {begun : List Run} {before now after : List (ℕ × ℕ)} {from : ℕ} (range : Run) (code : ℕ)
     → AreOpen spans begun before from → from ≤ code → StayOpen before now code → IsRange spans range → range.low ≤ code
-    → IsPermutation ((range.place, range.high) ∷ now) after → AreOpen spans (begun ++ range ∷ []) after code
-AreOpen-push {spans} {begun} {before} {now} {after} range code opened le stay is low opens =
+    → Opens now after range → AreOpen spans (begun ++ range ∷ []) after code
+AreOpen-push {spans} {begun} {before} {now} {after} range code opened le stay is low opens = record {
+  kept = All-push (λ (r : Run). (r.high < code) ⊎ IsCovered after r) begun range
+      (λ k d lt.
+      elim (opened.kept k d lt) [
+        | inl ended ↦ inl (omega arith)
+        | inr was ↦ elim (covered_still before now code (get_or begun k d) stay was) [ inl ended ↦ inl ended | inr covered ↦ inr (covered_more now after range (get_or begun k d) opens covered) ]
+      ])
+      (inr opens.covered);
+  no_more = λ place last at.
+      elim (opens.no_more place last at) [
+        | inl same ↦ (range.low, low, subst (λ (o : ℕ × ℕ). slice_get spans o.0 ≡ Some (record { start = range.low; end = o.1 })) same is.at_place)
+        | inr was ↦ let old = opened.no_more place last (stay.no_more place last was) in (old.0, omega (arith, old.1), old.2)
+      ];
+}
+
+pub Opens-push : (before after : List (ℕ × ℕ)) (range : Run) → IsPermutation ((range.place, range.high) ∷ before) after → Opens before after range
+Opens-push before after range moved =
     let first : ℕ × ℕ = (range.place, range.high) in
     record {
-      kept = All-push (λ (r : Run). (r.high < code) ⊎ Contains after (r.place, r.high)) begun range
-          (λ k d lt.
-          let old = get_or begun k d in
-          elim (opened.kept k d lt) [
-            | inl ended ↦ inl (omega arith)
-            | inr was ↦
-                elim (stay.kept old.place old.high was) [
-                  | inl ended ↦ inl ended
-                  | inr ends ↦ inr (Contains-permutation (first ∷ now) after (old.place, old.high) opens (Contains-append_right (first ∷ []) now (old.place, old.high) ends))
-                ]
-          ])
-          (inr (Contains-permutation (first ∷ now) after first opens (0, omega arith, refl)));
-      no_more = λ place last at.
-          elim (first_or_later first (place, last) now (Contains-permutation after (first ∷ now) (place, last) (IsPermutation-sym (first ∷ now) after opens) at)) [
-            | inl same ↦ (range.low, low, subst (λ (o : ℕ × ℕ). slice_get spans o.0 ≡ Some (record { start = range.low; end = o.1 })) same is.at_place)
-            | inr ends ↦ let old = opened.no_more place last (stay.no_more place last ends) in (old.0, omega (arith, old.1), old.2)
-          ];
+      covered = (range.place, range.high, Contains-permutation (first ∷ before) after first moved (0, omega arith, refl), omega arith, omega arith);
+      kept = λ place last at. Contains-permutation (first ∷ before) after (place, last) moved (Contains-append_right (first ∷ []) before (place, last) at);
+      no_more = λ place last at. first_or_later first (place, last) before (Contains-permutation after (first ∷ before) (place, last) (IsPermutation-sym (first ∷ before) after moved) at);
     }

@@ -16,9 +16,22 @@ pub record StayOpen (before after : List (ℕ × ℕ)) (code : ℕ) : Type 0 whe
   pub kept : (place last : ℕ) → Contains before (place, last) → (last < code) ⊎ Contains after (place, last)
   pub no_more : (place last : ℕ) → Contains after (place, last) → Contains before (place, last)
 
--- open are the ranges that have begun by the code, all but some that end before it
+abbrev pub entry_of : Run → ℕ × ℕ
+entry_of range = (range.place, range.high)
+
+-- an open range with the place of this one, or a greater one, ends no earlier
+abbrev pub IsCovered : List (ℕ × ℕ) → Run → Type 0
+IsCovered ends range = (place last : ℕ) × Contains ends (place, last) × (range.place ≤ place) × (range.high ≤ last)
+
+-- after a range was opened, or is covered without
+pub record Opens (before after : List (ℕ × ℕ)) (range : Run) : Type 0 where
+  pub covered : IsCovered after range
+  pub kept : (place last : ℕ) → Contains before (place, last) → Contains after (place, last)
+  pub no_more : (place last : ℕ) → Contains after (place, last) → (entry_of range ≡ (place, last)) ⊎ Contains before (place, last)
+
+-- open are ranges that have begun by the code; each that has begun is covered, or ends before it
 pub record AreOpen (spans : List Span) (begun : List Run) (ends : List (ℕ × ℕ)) (code : ℕ) : Type 0 where
-  pub kept : All (λ range. (range.high < code) ⊎ Contains ends (range.place, range.high)) begun
+  pub kept : All (λ range. (range.high < code) ⊎ IsCovered ends range) begun
   pub no_more : (place last : ℕ) → Contains ends (place, last) → (start : ℕ) × (start ≤ code) × (slice_get spans place ≡ Some (record { start = start; end = last }))
 
 -- a heap with the greatest place on top

@@ -4,7 +4,7 @@ ghost use Rattle.std.specs.Prelude.{◌≡◌, ℕ, ◌+◌, ◌-◌, ◌*◌, �
 ghost use Rattle.std.specs.BinaryHeap.{heap_items, heap_len};
 ghost use Rattle.std.specs.List.Sorted.{IsNonDecreasingBy};
 ghost use Rattle.cmap_runs.specs.DeclaredRanges.{AreRanges};
-ghost use Rattle.cmap_runs.specs.OpenRanges.{HasGreatestOnTop, IsGreatest, StayOpen};
+ghost use Rattle.cmap_runs.specs.OpenRanges.{HasGreatestOnTop, IsGreatest, Opens, StayOpen};
 ghost use Rattle.cmap_runs.specs.Ranges.{AreRunsBelow, Span, runs_of};
 
 use super::HasRange;
@@ -56,11 +56,29 @@ fn sweep(alloc: Global, ranges: &[Run]) -> Result<Runs, AllocError>
     for range in ranges {
         let next = u64::from(range.low);
         add_runs(&mut runs, &mut ends, from, next)?;
-        ends.push((range.place, range.high))?;
+        open_range(&mut ends, range)?;
         from = next;
     }
     add_runs(&mut runs, &mut ends, from, CODE_COUNT)?;
     Ok(runs)
+}
+
+// Opens the range, unless one with a greater place that ends no earlier is open, so that this one
+// decides no code.
+fn open_range(ends: &mut BinaryHeap<(usize, u32)>, range: &Run) -> Result<(), AllocError>
+    requires { HasGreatestOnTop (heap_items ends.old) }
+    ensures heap { OnOk result (HasGreatestOnTop (heap_items ends.new)) }
+    ensures opens { OnOk result (Opens (heap_items ends.old) (heap_items ends.new) range.now) }
+    ensures few { OnOk result (heap_len ends.new ≤ heap_len ends.old + 1) }
+{
+    let is_hidden = match ends.peek() {
+        Some((place, last)) => range.place < *place && range.high <= *last,
+        None => false,
+    };
+    if !is_hidden {
+        ends.push((range.place, range.high))?;
+    }
+    Ok(())
 }
 
 // Adds the runs of the codes from `from` on and before `to`. The greatest place of an open range

@@ -2,7 +2,7 @@ use Rattle.std.proofs.Common.{◌≡◌, ℕ, ◌≤◌, ◌<◌, ◌^◌, [], �
 use Rattle.std.specs.BinaryHeap.{heap_items}
 use Rattle.std.proofs.lemmas.List.{get_or_read, take_more}
 use Rattle.cmap_runs.specs.DeclaredRanges.{IsRange}
-use Rattle.cmap_runs.specs.OpenRanges.{AreOpen}
+use Rattle.cmap_runs.specs.OpenRanges.{AreOpen, Opens}
 use Rattle.cmap_runs.specs.Ranges.{Run, last_place}
 use Rattle.cmap_runs.proofs.MaximalRuns.{runs_of-unique}
 use Rattle.cmap_runs.proofs.OpenDecide.{AreOpen-push, decides_open}
@@ -22,12 +22,12 @@ loop-range-preserved c =
       limit = omega arith;
       are = λ spans are.
           let old = c.loop-range.invariant.are spans are in (
-            subst (λ begun. AreOpen spans begun (heap_items c.push.new.self) next) (sym (take_more ranges i range lt ∙ ap (λ r. take i ranges ++ r ∷ []) (sym (is range))))
-                (AreOpen-push range next old.0 le c.in_ok-add_runs.ensures.stay (subst (IsRange spans) (sym (is range)) (are.each i range lt)) (omega arith) c.in_ok-push.ensures.permutation),
+            subst (λ begun. AreOpen spans begun (heap_items c.open_range.new.ends) next) (sym (take_more ranges i range lt ∙ ap (λ r. take i ranges ++ r ∷ []) (sym (is range))))
+                (AreOpen-push range next old.0 le c.in_ok-add_runs.ensures.stay (subst (IsRange spans) (sym (is range)) (are.each i range lt)) (omega arith) (subst (Opens (heap_items c.add_runs.new.ends) (heap_items c.open_range.new.ends)) (sym c.range.view_is) c.in_ok-open_range.ensures.opens)),
             c.in_ok-add_runs.ensures.runs (last_place spans) (decides_open i next are old.0 later) old.1,
           );
-      heap = c.in_ok-push.ensures.heap_order c.in_ok-add_runs.ensures.heap;
-      few = omega (arith, c.in_ok-push.ensures.len, c.in_ok-add_runs.ensures.few, c.in_ok-add_runs.ensures.fewer);
+      heap = c.in_ok-open_range.ensures.heap;
+      few = omega (arith, c.in_ok-open_range.ensures.few, c.in_ok-add_runs.ensures.few, c.in_ok-add_runs.ensures.fewer);
     }
 
 pub returns-clause-runs : goal.returns-clause-runs
