@@ -1,15 +1,16 @@
 -- The ranges of declarations tell which one decides a code; ranges that lie apart are the runs.
 use Rattle.std.proofs.Common.{◌≡◌, ℕ, ◌+◌, ◌<◌, ◌≤◌, ◌^◌, List, [], ◌∷◌, ◌++◌, length, get_or, Option, refl, sym, ap, ◌∙◌, subst, inl, inr, arith}
 use Rattle.std.specs.Prelude.{Some, None, IsSome, All, Any, map, slice_get}
-use Rattle.std.specs.List.{Contains}
+use Rattle.std.specs.List.{Contains, range_with_len}
 use Rattle.std.specs.List.Sorted.{IsPermutation, IsNonDecreasingBy}
 use Rattle.std.proofs.lemmas.Bool.Decides.{nat_tests}
 use Rattle.std.proofs.lemmas.Bool.{cases_lt}
-use Rattle.std.proofs.lemmas.List.{get_or-map, get_or_default, length-map, length_push, map-append}
+use Rattle.std.proofs.lemmas.List.FromFn.{get_or-range_with_len, length-range_with_len}
+use Rattle.std.proofs.lemmas.List.{get_or-map, get_or_default, length-map, length_push}
 use Rattle.std.proofs.lemmas.List.Elements.{All-push, Contains-append_left, Contains-push}
-use Rattle.std.proofs.lemmas.List.Sorted.{All-permutation, Contains-permutation, IsPermutation-map, length_permutation}
+use Rattle.std.proofs.lemmas.List.Sorted.{All-permutation, Contains-permutation, length_permutation}
 use Rattle.std.proofs.lemmas.Option.{get_or_from_slice_get, slice_get_within, slice_get-map, slice_get-get_or}
-use Rattle.cmap_runs.specs.DeclaredRanges.{IsRange, AreRanges, AreApart, range_at}
+use Rattle.cmap_runs.specs.DeclaredRanges.{IsRange, AreRanges, AreApart, LieApart, range_at}
 use Rattle.cmap_runs.specs.Ranges.{Span, Run, Holds, AreRunsBelow, last_place}
 use Rattle.cmap_runs.proofs.LastPlace.{ContainsAt, IsLast, is_last}
 
@@ -49,27 +50,12 @@ AreRanges-push spans i start end ranges are at filled fits =
       few = omega (arith, are.few, length_push ranges range);
     }
 
-range_at_is : (spans : List Span) (place start end : ℕ) → slice_get spans place ≡ Some (record { start = start; end = end }) → range_at spans place ≡ record { low = start; high = end; place = place }
-range_at_is spans place start end at = ap (λ (s : Span). record { low = s.start; high = s.end; place = place }) (get_or_from_slice_get spans place _ (record { start = 1; end = 0 }) at)
-
-pub AreRanges-push_place : (spans : List Span) (i start end : ℕ) (places : List ℕ)
-    → AreRanges spans i (map (range_at spans) places) → slice_get spans i ≡ Some (record { start = start; end = end }) → start ≤ end → end < 2 ^ 32
-    → AreRanges spans (i + 1) (map (range_at spans) (places ++ i ∷ []))
-AreRanges-push_place spans i start end places are at filled fits =
-    subst (AreRanges spans (i + 1)) (sym (map-append (range_at spans) places (i ∷ []) ∙ ap (λ r. map (range_at spans) places ++ r ∷ []) (range_at_is spans i start end at)))
-    (AreRanges-push spans i start end (map (range_at spans) places) are at filled fits)
-
-AreRanges-IsPermutation : (spans : List Span) (count : ℕ) (ranges others : List Run) → IsPermutation ranges others → AreRanges spans count ranges → AreRanges spans count others
+pub AreRanges-IsPermutation : (spans : List Span) (count : ℕ) (ranges others : List Run) → IsPermutation ranges others → AreRanges spans count ranges → AreRanges spans count others
 AreRanges-IsPermutation spans count ranges others moved are = record {
   each = All-permutation (IsRange spans) ranges others moved are.each;
   every = λ place span lt at filled. Contains-permutation ranges others _ moved (are.every place span lt at filled);
   few = omega (arith, are.few, length_permutation ranges others moved);
 }
-
-pub all_ranges : {T : Type 0} (span_of : T → Span) (list : List T) (ranges others : List Run)
-    → IsPermutation ranges others → AreRanges (map span_of list) (length list) ranges → AreRanges (map span_of list) (length (map span_of list)) others
-all_ranges span_of list ranges others moved are =
-    subst (λ n. AreRanges (map span_of list) n others) (sym (length-map list span_of)) (AreRanges-IsPermutation (map span_of list) (length list) ranges others moved are)
 
 -- ---- a declaration contains a code, and its range holds it
 contains_its : (spans : List Span) (range : Run) (code : ℕ) → IsRange spans range → Holds code range → ContainsAt spans code range.place
@@ -128,18 +114,86 @@ runs_are_ranges spans ranges are sorted apart = record {
 }
 
 -- ---- ranges at places
-places_of_spans : (spans : List Span) (count : ℕ) (places : List ℕ) → AreRanges spans count (map (range_at spans) places) → All (λ place. place < length spans) places
-places_of_spans spans count places are = λ k d lt.
-    let range = are.each k (range_at spans d) (omega (arith, length-map places (range_at spans))) in
-    slice_get_within spans (get_or places k d) _
-    (subst (λ (r : Run). slice_get spans r.place ≡ Some (record { start = r.low; end = r.high })) (get_or-map (range_at spans) places k d (range_at spans d) lt) range.at_place)
+pub is_place : (count : ℕ) (places : List ℕ) → IsPermutation (range_with_len 0 count) places → All (λ place. place < count) places
+is_place count places all =
+    All-permutation (λ place. place < count) (range_with_len 0 count) places all
+    (λ k d lt. omega (arith, get_or-range_with_len 0 count k d (omega (arith, length-range_with_len 0 count)), length-range_with_len 0 count))
 
--- a declaration is at each of them
-pub places_within : {T : Type 0} (span_of : T → Span) (list : List T) (places sorted : List ℕ)
-    → IsPermutation places sorted → AreRanges (map span_of list) (length list) (map (range_at (map span_of list)) places) → All (λ place. place < length list) sorted
-places_within span_of list places sorted moved are =
-    All-permutation (λ place. place < length list) places sorted moved
-    (subst (λ n. All (λ place. place < n) places) (length-map list span_of) (places_of_spans (map span_of list) (length list) places are))
+every_place : (count place : ℕ) (places : List ℕ) → IsPermutation (range_with_len 0 count) places → place < count → Contains places place
+every_place count place places all lt =
+    Contains-permutation (range_with_len 0 count) places place all (place, omega (arith, length-range_with_len 0 count), omega (arith, get_or-range_with_len 0 count place place lt))
+
+-- the range at a place
+pub IsRange-at : (spans : List Span) (place : ℕ) → place < length spans → (range_at spans place).low ≤ (range_at spans place).high → (range_at spans place).high < 2 ^ 32 → IsRange spans (range_at spans place)
+IsRange-at spans place lt filled fits = record { at_place = slice_get-get_or spans place (record { start = 1; end = 0 }) lt; filled = filled; fits = fits }
+
+range_at_is : (spans : List Span) (place : ℕ) (span : Span) → slice_get spans place ≡ Some span → range_at spans place ≡ record { low = span.start; high = span.end; place = place }
+range_at_is spans place span at = ap (λ (s : Span). record { low = s.start; high = s.end; place = place }) (get_or_from_slice_get spans place span (record { start = 1; end = 0 }) at)
+
+-- the ranges at the first places that aren't empty
+pub record RangesAt (spans : List Span) (places : List ℕ) (count : ℕ) (ranges : List Run) : Type 0 where
+  pub each : All (IsRange spans) ranges
+  pub every : (k d : ℕ) → k < count → (range_at spans (get_or places k d)).low ≤ (range_at spans (get_or places k d)).high → Contains ranges (range_at spans (get_or places k d))
+  pub few : length ranges ≤ count
+
+pub RangesAt-push : (spans : List Span) (places : List ℕ) (i d : ℕ) (ranges : List Run)
+    → i < length places → RangesAt spans places i ranges → IsRange spans (range_at spans (get_or places i d))
+    → RangesAt spans places (i + 1) (ranges ++ range_at spans (get_or places i d) ∷ [])
+RangesAt-push spans places i d ranges lt are is = let range = range_at spans (get_or places i d) in record {
+  each = All-push (IsRange spans) ranges range are.each is;
+  every = λ k e within filled.
+      elim (cases_lt k i) [
+        | inl old ↦ Contains-append_left ranges (range ∷ []) (range_at spans (get_or places k e)) (are.every k e old filled)
+        | inr new ↦
+            let here : i ≡ k = omega arith in
+            subst (λ n. Contains (ranges ++ range ∷ []) (range_at spans n)) (get_or_default places i d e lt ∙ ap (λ n. get_or places n e) here) (Contains-push ranges range)
+      ];
+  few = omega (arith, are.few, length_push ranges range);
+}
+
+pub RangesAt-skip : (spans : List Span) (places : List ℕ) (i d : ℕ) (ranges : List Run)
+    → i < length places → RangesAt spans places i ranges → (range_at spans (get_or places i d)).high < (range_at spans (get_or places i d)).low → RangesAt spans places (i + 1) ranges
+RangesAt-skip spans places i d ranges lt are empty = record {
+  each = are.each;
+  every = λ k e within filled.
+      elim (cases_lt k i) [
+        | inl old ↦ are.every k e old filled
+        | inr new ↦
+            let here : i ≡ k = omega arith in
+            let same = ap (range_at spans) (get_or_default places i d e lt ∙ ap (λ n. get_or places n e) here) in
+            absurd (omega (arith, ap (λ (r : Run). r.low) same, ap (λ (r : Run). r.high) same))
+      ];
+  few = omega (arith, are.few);
+}
+
+-- all places were gone through
+pub AreRanges-from_places : (spans : List Span) (count : ℕ) (places : List ℕ) (ranges : List Run)
+    → IsPermutation (range_with_len 0 count) places → All (IsRange spans) ranges
+    → ((k d : ℕ) → k < length places → (range_at spans (get_or places k d)).low ≤ (range_at spans (get_or places k d)).high → Contains ranges (range_at spans (get_or places k d)))
+    → length ranges ≤ length places → AreRanges spans count ranges
+AreRanges-from_places spans count places ranges all each every few = record {
+  each = each;
+  every = λ place span lt at filled.
+      let found = every_place count place places all lt in
+      let is = ap (range_at spans) found.2 ∙ range_at_is spans place span at in
+      subst (Contains ranges) is (every found.0 place found.1 (omega (arith, ap (λ (r : Run). r.low) is, ap (λ (r : Run). r.high) is)));
+  few = omega (arith, few, length_permutation (range_with_len 0 count) places all, length-range_with_len 0 count);
+}
+
+ranges_of_places : (spans : List Span) (places : List ℕ)
+    → IsPermutation (range_with_len 0 (length spans)) places → LieApart (map (range_at spans) places) → AreRanges spans (length spans) (map (range_at spans) places)
+ranges_of_places spans places all lie =
+    let at : (k d : ℕ) → k < length places → get_or (map (range_at spans) places) k (range_at spans d) ≡ range_at spans (get_or places k d) = λ k d lt. get_or-map (range_at spans) places k d (range_at spans d) lt in
+    AreRanges-from_places spans (length spans) places (map (range_at spans) places) all
+    (λ k d lt.
+    let within : k < length places = omega (arith, length-map places (range_at spans)) in
+    let is = get_or-map (range_at spans) places k 0 d within in
+    let filled = lie.filled k d lt in
+    subst (IsRange spans) (sym is)
+    (IsRange-at spans (get_or places k 0) (is_place (length spans) places all k 0 within)
+    (omega (arith, filled.0, ap (λ (r : Run). r.low) is, ap (λ (r : Run). r.high) is)) (omega (arith, filled.1, ap (λ (r : Run). r.high) is))))
+    (λ k d lt filled. (k, omega (arith, length-map places (range_at spans)), get_or-map (range_at spans) places k d (range_at spans (get_or places k d)) lt))
+    (omega (arith, length-map places (range_at spans)))
 
 places_in_order : (spans : List Span) (places : List ℕ)
     → IsNonDecreasingBy (λ place. (range_at spans place).low) places → IsNonDecreasingBy (λ range. range.low) (map (range_at spans) places)
@@ -150,19 +204,22 @@ places_in_order spans places sorted = λ i j d le lt.
     omega (arith, ap (λ (r : Run). r.low) first, ap (λ (r : Run). r.low) later, sorted i j 0 le within)
 
 pub places_apart : (spans : List Span) (places : List ℕ)
-    → ((k d : ℕ) → k + 1 < length places → (range_at spans (get_or places k d)).high < (range_at spans (get_or places (k + 1) d)).low) → AreApart (map (range_at spans) places)
-places_apart spans places apart = λ i d lt.
-    let within : i + 1 < length places = omega (arith, length-map places (range_at spans)) in
-    let first = get_or-map (range_at spans) places i 0 d (omega arith) in
-    let later = get_or-map (range_at spans) places (i + 1) 0 d within in
-    omega (arith, ap (λ (r : Run). r.high) first, ap (λ (r : Run). r.low) later, apart i 0 within)
+    → ((k d : ℕ) → k < length places → ((range_at spans (get_or places k d)).low ≤ (range_at spans (get_or places k d)).high) × ((range_at spans (get_or places k d)).high < 2 ^ 32))
+    → ((k d : ℕ) → k + 1 < length places → (range_at spans (get_or places k d)).high < (range_at spans (get_or places (k + 1) d)).low) → LieApart (map (range_at spans) places)
+places_apart spans places filled apart = record {
+  filled = λ k d lt.
+      let within : k < length places = omega (arith, length-map places (range_at spans)) in
+      let is = get_or-map (range_at spans) places k 0 d within in let its = filled k 0 within in
+      (omega (arith, its.0, ap (λ (r : Run). r.low) is, ap (λ (r : Run). r.high) is), omega (arith, its.1, ap (λ (r : Run). r.high) is));
+  apart = λ i d lt.
+      let within : i + 1 < length places = omega (arith, length-map places (range_at spans)) in
+      let first = get_or-map (range_at spans) places i 0 d (omega arith) in
+      let later = get_or-map (range_at spans) places (i + 1) 0 d within in
+      omega (arith, ap (λ (r : Run). r.high) first, ap (λ (r : Run). r.low) later, apart i 0 within);
+}
 
--- places that were put in order
-pub runs_at_places : {T : Type 0} (span_of : T → Span) (list : List T) (places sorted : List ℕ)
-    → IsPermutation places sorted → AreRanges (map span_of list) (length list) (map (range_at (map span_of list)) places)
-    → IsNonDecreasingBy (λ place. (range_at (map span_of list) place).low) sorted → AreApart (map (range_at (map span_of list)) sorted)
-    → AreRunsBelow (last_place (map span_of list)) (2 ^ 32) (map (range_at (map span_of list)) sorted)
-runs_at_places span_of list places sorted moved are order apart =
-    let at = range_at (map span_of list) in
-    runs_are_ranges (map span_of list) (map at sorted) (all_ranges span_of list (map at places) (map at sorted) (IsPermutation-map at places sorted moved) are)
-    (places_in_order (map span_of list) sorted order) apart
+pub runs_at_places : (spans : List Span) (places : List ℕ)
+    → IsPermutation (range_with_len 0 (length spans)) places → IsNonDecreasingBy (λ place. (range_at spans place).low) places
+    → LieApart (map (range_at spans) places) → AreRunsBelow (last_place spans) (2 ^ 32) (map (range_at spans) places)
+runs_at_places spans places all order lie =
+    runs_are_ranges spans (map (range_at spans) places) (ranges_of_places spans places all lie) (places_in_order spans places order) lie.apart

@@ -19,6 +19,11 @@ pub record AreRanges (spans : List Span) (count : ℕ) (ranges : List Run) : Typ
 abbrev pub AreApart : List Run → Type 0
 AreApart ranges = (i : ℕ) (d : Run) → i + 1 < length ranges → (get_or ranges i d).high < (get_or ranges (i + 1) d).low
 
+-- and none is empty
+pub record LieApart (ranges : List Run) : Type 0 where
+  pub filled : All (λ range. (range.low ≤ range.high) × (range.high < 2 ^ 32)) ranges
+  pub apart : AreApart ranges
+
 -- the range of the declaration at the place, which is empty where there is none
 abbrev pub range_at : List Span → ℕ → Run
 range_at spans place = let span = get_or spans place (record { start = 1; end = 0 }) in record { low = span.start; high = span.end; place = place }

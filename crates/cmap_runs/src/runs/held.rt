@@ -1,8 +1,8 @@
 //! What a table holds: runs and declarations. Outside of this module each look at one is counted.
 
-ghost use Rattle.std.specs.Prelude.{◌≡◌, ◌+◌, ◌-◌, ◌<◌, ◌≤◌, true, [], All, Some, IfOk, OnOk, OnErr, length, map, slice_get};
+ghost use Rattle.std.specs.Prelude.{◌≡◌, ◌+◌, ◌-◌, ◌<◌, ◌≤◌, true, [], Some, IfOk, OnOk, OnErr, length, map, slice_get};
 ghost use Rattle.cmap_runs.specs.Blocks.{AreBlocks};
-ghost use Rattle.cmap_runs.specs.DeclaredRanges.{range_at};
+ghost use Rattle.cmap_runs.specs.HeldRuns.{places_within, runs_held};
 ghost use Rattle.cmap_runs.specs.Order.{IsInOrder};
 ghost use Rattle.cmap_runs.specs.Ranges.{goes_on, joined};
 
@@ -93,7 +93,7 @@ impl Runs {
 
 // The runs of declarations.
 #[derive(Debug, Drop)]
-enum RunList {
+pub(super) enum RunList {
     // The places of declarations whose ranges are the runs.
     Ranges(Vec<u32>),
     Swept(Runs),
@@ -123,27 +123,12 @@ impl<T: HasRange> Model for Held<T> {
 }
 
 impl<T: HasRange> Held<T> {
-    // The declarations with the ranges of those at the places as runs.
-    pub(super) fn with_ranges(declarations: Vec<T>, places: Vec<u32>) -> Held<T>
-        requires { All (λ place. place < length declarations.items) places.items }
+    pub(super) fn new(declarations: Vec<T>, runs: RunList) -> Held<T>
+        requires { places_within (length declarations.items) runs }
         ensures declarations { result.declarations ≡ declarations.items }
-        ensures runs { result.runs
-            ≡ map (range_at (map T.span declarations.items)) places.items }
+        ensures runs { result.runs ≡ runs_held (map T.span declarations.items) runs }
     {
-        Held {
-            declarations,
-            runs: RunList::Ranges(places),
-        }
-    }
-
-    pub(super) fn with_runs(declarations: Vec<T>, runs: Runs) -> Held<T>
-        ensures declarations { result.declarations ≡ declarations.items }
-        ensures runs { result.runs ≡ runs }
-    {
-        Held {
-            declarations,
-            runs: RunList::Swept(runs),
-        }
+        Held { declarations, runs }
     }
 
     pub(super) fn run_count(&self) -> usize

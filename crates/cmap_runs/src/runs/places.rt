@@ -1,65 +1,41 @@
-//! The places of declarations whose ranges lie apart, in the order of their codes.
+//! The places of declarations, and whether their ranges lie apart.
 
-ghost use Rattle.std.specs.Prelude.{◌≡◌, ◌<◌, ◌≤◌, ◌^◌, true, All, IfOk, IfSome, length, map};
-ghost use Rattle.std.specs.List.Sorted.{IsNonDecreasingBy};
-ghost use Rattle.cmap_runs.specs.DeclaredRanges.{AreApart, AreRanges, range_at};
-ghost use Rattle.cmap_runs.specs.Ranges.{runs_of};
+ghost use Rattle.std.specs.Prelude.{◌≡◌, ◌<◌, true, All, IfOk, length, map};
+ghost use Rattle.std.specs.List.{range_with_len};
+ghost use Rattle.std.specs.List.Sorted.{IsNonDecreasingBy, IsPermutation};
+ghost use Rattle.cmap_runs.specs.DeclaredRanges.{LieApart, range_at};
 
 use super::HasRange;
 use super::ranges::{range_at, start_at};
 use std::alloc::{AllocError, Global};
 
-// The places of the ranges that aren't empty, where each ends before the next one begins. `None`
-// where some don't, or where there are more declarations than codes.
-pub(super) fn apart_places<T: HasRange>(
+// The places of the declarations, in the order of the first codes of their ranges.
+pub(super) fn places_in_order<T: HasRange>(
     alloc: Global,
     declarations: &[T],
-) -> Result<Option<Vec<u32>>, AllocError>
-    ensures runs { IfOk result (λ found. IfSome found
-        (λ places. map (range_at (map T.span declarations.now)) places.items
-        ≡ runs_of (map T.span declarations.now))) }
-    ensures within { IfOk result (λ found. IfSome found
-        (λ places. All (λ place. place < length declarations.now) places.items)) }
-    ensures few { IfOk result (λ found. IfSome found
-        (λ places. length places.items ≤ length declarations.now)) }
+    count: u32,
+) -> Result<Vec<u32>, AllocError>
+    requires { count ≡ length declarations.now }
+    ensures places { IfOk result
+        (λ places. IsPermutation (range_with_len 0 (length declarations.now)) places.items) }
+    ensures order { IfOk result (λ places. IsNonDecreasingBy
+        (λ place. (range_at (map T.span declarations.now) place).low) places.items) }
 {
-    if u32::try_from(declarations.len()).is_err() {
-        return Ok(None);
-    }
-    let mut places = places_of(alloc, declarations)?;
+    let mut places: Vec<u32> = (0..count).collect(alloc)?;
     places.sort_by_key(|place| start_at(declarations, *place))?;
-    if are_apart(declarations, &places) {
-        return Ok(Some(places));
-    }
-    Ok(None)
-}
-
-// The places of the ranges that aren't empty.
-fn places_of<T: HasRange>(alloc: Global, declarations: &[T]) -> Result<Vec<u32>, AllocError>
-    requires { length declarations.now ≤ 2 ^ 32 }
-    ensures { IfOk result (λ places. AreRanges (map T.span declarations.now)
-        (length declarations.now) (map (range_at (map T.span declarations.now)) places.items)) }
-{
-    let mut places = Vec::with_capacity(alloc, declarations.len())?;
-    for (place, declaration) in declarations.iter().enumerate() {
-        let range = declaration.range();
-        if range.start <= range.end {
-            places.push(place as u32)?;
-        }
-    }
     Ok(places)
 }
 
-// Whether each range ends before the next one begins.
-fn are_apart<T: HasRange>(declarations: &[T], places: &[u32]) -> bool
+// Whether no range is empty, and each ends before the next one begins.
+pub(super) fn are_apart<T: HasRange>(declarations: &[T], places: &[u32]) -> bool
     requires { All (λ place. place < length declarations.now) places.now }
     ensures { result ≡ true
-        → AreApart (map (range_at (map T.span declarations.now)) places.now) }
+        → LieApart (map (range_at (map T.span declarations.now)) places.now) }
 {
     let mut from = 0;
     for place in places {
         let range = range_at(declarations, *place);
-        if u64::from(range.low) < from {
+        if u64::from(range.low) < from || range.high < range.low {
             return false;
         }
         from = u64::from(range.high) + 1;

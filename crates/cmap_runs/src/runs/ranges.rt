@@ -1,6 +1,8 @@
 //! The ranges of declarations, each with the place of its declaration.
 
 ghost use Rattle.std.specs.Prelude.{◌≡◌, ◌<◌, IfOk, length, map};
+ghost use Rattle.std.specs.List.{range_with_len};
+ghost use Rattle.std.specs.List.Sorted.{IsPermutation};
 ghost use Rattle.cmap_runs.specs.DeclaredRanges.{AreRanges, range_at};
 
 use super::HasRange;
@@ -20,6 +22,26 @@ pub(super) fn ranges_of<T: HasRange>(
         let range = declaration.range();
         if range.start <= range.end {
             ranges.push(Run::new(range.start, range.end, place))?;
+        }
+    }
+    Ok(ranges)
+}
+
+// The ranges of the declarations at the places, but for empty ones.
+pub(super) fn ranges_at<T: HasRange>(
+    alloc: Global,
+    declarations: &[T],
+    places: Vec<u32>,
+) -> Result<Vec<Run>, AllocError>
+    requires { IsPermutation (range_with_len 0 (length declarations.now)) places.items }
+    ensures { IfOk result
+        (λ ranges. AreRanges (map T.span declarations.now) (length declarations.now) ranges.items) }
+{
+    let mut ranges = Vec::with_capacity(alloc, places.len())?;
+    for place in &places {
+        let range = range_at(declarations, *place);
+        if range.low <= range.high {
+            ranges.push(range)?;
         }
     }
     Ok(ranges)

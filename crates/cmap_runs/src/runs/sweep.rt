@@ -4,46 +4,52 @@ ghost use Rattle.std.specs.Prelude.{◌≡◌, ℕ, ◌+◌, ◌-◌, ◌*◌, �
 ghost use Rattle.std.specs.BinaryHeap.{heap_items, heap_len};
 ghost use Rattle.std.specs.List.Sorted.{IsNonDecreasingBy};
 ghost use Rattle.cmap_runs.specs.DeclaredRanges.{AreRanges};
+ghost use Rattle.cmap_runs.specs.HeldRuns.{places_within, runs_held};
 ghost use Rattle.cmap_runs.specs.OpenRanges.{HasGreatestOnTop, IsGreatest, Opens, StayOpen};
 ghost use Rattle.cmap_runs.specs.Ranges.{AreRunsBelow, Span, runs_of};
 
 use super::HasRange;
-use super::held::{Held, Run, Runs};
-use super::places::apart_places;
-use super::ranges::ranges_of;
+use super::held::{Run, RunList, Runs};
+use super::places::{are_apart, places_in_order};
+use super::ranges::{ranges_at, ranges_of};
 use std::alloc::{AllocError, Global};
 use std::collections::BinaryHeap;
 
 // How many codes there are.
 const CODE_COUNT: u64 = 1 << 32;
 
-// The declarations with their runs.
-pub(super) fn held_of<T: HasRange>(
-    alloc: Global,
-    declarations: Vec<T>,
-) -> Result<Held<T>, AllocError>
-    ensures declarations { IfOk result (λ held. held.declarations ≡ declarations.items) }
-    ensures runs { IfOk result (λ held. held.runs ≡ runs_of (map T.span declarations.items)) }
-    ensures few { IfOk result (λ held. length held.runs ≤ 2 * length declarations.items - 1) }
+// The runs of the declarations.
+pub(super) fn runs_of<T: HasRange>(alloc: Global, declarations: &[T]) -> Result<RunList, AllocError>
+    ensures runs { IfOk result (λ runs. runs_held (map T.span declarations.now) runs
+        ≡ runs_of (map T.span declarations.now)) }
+    ensures within { IfOk result (λ runs. places_within (length declarations.now) runs) }
+    ensures few { IfOk result (λ runs. length (runs_held (map T.span declarations.now) runs)
+        ≤ 2 * length declarations.now - 1) }
 {
-    if let Some(places) = apart_places(alloc, declarations.as_slice())? {
-        return Ok(Held::with_ranges(declarations, places));
+    let Ok(count) = u32::try_from(declarations.len()) else {
+        let ranges = ranges_of(alloc, declarations)?;
+        return Ok(RunList::Swept(sorted_and_swept(alloc, ranges)?));
+    };
+    let places = places_in_order(alloc, declarations, count)?;
+    if are_apart(declarations, &places) {
+        return Ok(RunList::Ranges(places));
     }
-    let runs = runs_of(alloc, declarations.as_slice())?;
-    Ok(Held::with_runs(declarations, runs))
+    let ranges = ranges_at(alloc, declarations, places)?;
+    Ok(RunList::Swept(sorted_and_swept(alloc, ranges)?))
 }
 
-// The runs of the declarations.
-fn runs_of<T: HasRange>(alloc: Global, declarations: &[T]) -> Result<Runs, AllocError>
-    ensures runs { IfOk result (λ runs. runs ≡ runs_of (map T.span declarations.now)) }
-    ensures few { IfOk result (λ runs. length runs ≤ 2 * length declarations.now - 1) }
+// The runs of the declarations that the ranges belong to.
+fn sorted_and_swept(alloc: Global, ranges: Vec<Run>) -> Result<Runs, AllocError>
+    ensures runs { IfOk result (λ runs. (spans : List Span)
+        → AreRanges spans (length spans) ranges.items → runs ≡ runs_of spans) }
+    ensures few { IfOk result (λ runs. length runs ≤ 2 * length ranges.items - 1) }
 {
-    let mut ranges = ranges_of(alloc, declarations)?;
+    let mut ranges = ranges;
     ranges.sort_by_key(|range| range.low)?;
     sweep(alloc, ranges.as_slice())
 }
 
-// The runs of the declarations that the ranges belong to.
+// The runs, where the ranges come in order.
 fn sweep(alloc: Global, ranges: &[Run]) -> Result<Runs, AllocError>
     requires { IsNonDecreasingBy (λ range. range.low) ranges.now }
     ensures runs { IfOk result
@@ -104,13 +110,13 @@ fn add_runs(
         ≤ length runs.old + heap_len ends.old) }
 {
     let mut from = from;
-    while from < to {
-        let Some((place, last)) = ends.peek() else {
-            return Ok(());
-        };
+    while let Some((place, last)) = ends.peek() {
         let (place, last) = (*place, u64::from(*last));
         if last >= to {
-            return runs.add(from as u32, (to - 1) as u32, place);
+            if from < to {
+                runs.add(from as u32, (to - 1) as u32, place)?;
+            }
+            return Ok(());
         }
         if from <= last {
             runs.add(from as u32, last as u32, place)?;

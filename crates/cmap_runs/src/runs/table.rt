@@ -10,7 +10,7 @@ use super::blocks::Blocks;
 use super::held::Held;
 use super::looks::Looks;
 use super::search::find_place;
-use super::sweep::held_of;
+use super::sweep::runs_of;
 use std::alloc::{AllocError, Global};
 use std::marker::Model;
 
@@ -47,7 +47,8 @@ impl<T: HasRange> Table<T> {
     {
         let mut list = list;
         list.shrink_to_fit();
-        let mut held = held_of(alloc, list)?;
+        let runs = runs_of(alloc, list.as_slice())?;
+        let mut held = Held::new(list, runs);
         let blocks = Blocks::of(alloc, &mut held)?;
         Ok(Table { held, blocks })
     }

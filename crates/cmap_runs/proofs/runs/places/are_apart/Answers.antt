@@ -13,6 +13,11 @@ loop-place-preserved g c =
     let is : (k d : ℕ) → k ≡ i → range_at spans (get_or places k d) ≡ record { low = c.range.inside.low; high = c.range.inside.high; place = c.range.inside.place } =
     λ k d here. ap (λ k. range_at spans (get_or places k d)) here ∙ ap (range_at spans) (get_or_default places i d 0 lt) ∙ sym c.range_at-range.ensures ∙ sym c.range.view_is in
     record {
+      filled = λ k d within.
+          elim (cases_lt k i) [
+            | inl old ↦ c.loop-place.invariant.filled k d old
+            | inr new ↦ (omega (arith, ap (λ (r : Run). r.low) (is k d (omega arith)), ap (λ (r : Run). r.high) (is k d (omega arith))), omega (arith, ap (λ (r : Run). r.high) (is k d (omega arith))))
+          ];
       apart = λ k d within.
           elim (cases_lt (k + 1) i) [
             | inl old ↦ c.loop-place.invariant.apart k d old
@@ -22,4 +27,4 @@ loop-place-preserved g c =
     }
 
 pub returns : goal.returns
-returns g c = λ _. places_apart (map g.T.HasRange.span c.args.declarations.now) c.args.places.now (λ k d lt. c.loop-place.invariant.apart k d (omega arith))
+returns g c = λ _. places_apart (map g.T.HasRange.span c.args.declarations.now) c.args.places.now (λ k d lt. c.loop-place.invariant.filled k d (omega arith)) (λ k d lt. c.loop-place.invariant.apart k d (omega arith))
