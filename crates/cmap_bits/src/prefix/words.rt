@@ -13,7 +13,7 @@ use std::alloc::{AllocError, Global};
 pub(super) const LONGEST: usize = 32;
 
 // How many bytes there are.
-pub(super) const BYTES: usize = 256;
+const BYTES: usize = 256;
 
 // A symbol whose word begins bits, and how many bits that word has.
 #[derive(Clone, Copy, Debug)]
@@ -22,8 +22,8 @@ pub(super) struct Word {
     pub(super) len: u8,
 }
 
-// How far the word that begins bits has been looked for: it has more than `len` bits. The words with
-// so few are `place`, and the bits are `past` further than they.
+// How far the word that begins bits has been looked for: it has more than `len` bits. `place` words
+// have no more than those, and the bits are `past` words of that length further than the last one.
 #[derive(Clone, Copy, Debug)]
 pub(super) struct Search {
     len: u8,
@@ -31,7 +31,7 @@ pub(super) struct Search {
     past: usize,
 }
 
-// Nothing has been looked at.
+// No bit has been looked at.
 const START: Search = Search {
     len: 0,
     place: 0,
