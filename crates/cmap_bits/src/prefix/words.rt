@@ -23,7 +23,7 @@ pub(super) struct Word {
 }
 
 // How far the word that begins bits has been looked for: it has more than `len` bits. `place` words
-// have no more than those, and the bits are `past` words of that length further than the last one.
+// have no more, and `past` is how far the first `len` bits, as a number, are past these words.
 #[derive(Clone, Copy, Debug)]
 pub(super) struct Search {
     len: u8,
