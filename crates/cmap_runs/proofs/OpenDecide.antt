@@ -69,6 +69,9 @@ pub popped : (P : ℕ × ℕ → Type 0) (result : Option (ℕ × ℕ)) (top : �
 popped P None top ends some at first same holds = absurd (let e = some in cc)
 popped P (Some x) top ends some at first same holds = subst P (same ∙ sym (get_or_default ends 0 top x (omega (arith, at.1))) ∙ sym first) holds
 
+pub StayOpen-same : (ends : List (ℕ × ℕ)) (code : ℕ) → StayOpen ends ends code
+StayOpen-same ends code = record { kept = λ place last at. inr at; no_more = λ place last at. at }
+
 pub StayOpen-later : {before now : List (ℕ × ℕ)} {from to : ℕ} → StayOpen before now from → from ≤ to → StayOpen before now to
 StayOpen-later stay le = record {
   kept = λ place last at. elim (stay.kept place last at) [ inl ended ↦ inl (omega arith) | inr left ↦ inr left ];

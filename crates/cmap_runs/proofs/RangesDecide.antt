@@ -1,5 +1,5 @@
 -- The ranges of declarations tell which one decides a code; ranges that lie apart are the runs.
-use Rattle.std.proofs.Common.{◌≡◌, ℕ, ◌+◌, ◌<◌, ◌≤◌, ◌^◌, List, [], ◌∷◌, ◌++◌, length, get_or, Option, refl, sym, ap, ◌∙◌, subst, inl, inr, arith}
+use Rattle.std.proofs.Common.{◌≡◌, ℕ, ◌+◌, ◌-◌, ◌<◌, ◌≤◌, ◌^◌, List, [], ◌∷◌, ◌++◌, length, get_or, Option, refl, sym, ap, ◌∙◌, subst, inl, inr, arith}
 use Rattle.std.specs.Prelude.{Some, None, IsSome, All, Any, map, slice_get}
 use Rattle.std.specs.List.{Contains, range_with_len}
 use Rattle.std.specs.List.Sorted.{IsPermutation, IsNonDecreasingBy}
@@ -8,7 +8,7 @@ use Rattle.std.proofs.lemmas.Bool.{cases_lt}
 use Rattle.std.proofs.lemmas.List.FromFn.{get_or-range_with_len, length-range_with_len}
 use Rattle.std.proofs.lemmas.List.{get_or-map, get_or_default, length-map, length_push}
 use Rattle.std.proofs.lemmas.List.Elements.{All-push, Contains-append_left, Contains-push}
-use Rattle.std.proofs.lemmas.List.Sorted.{All-permutation, Contains-permutation, length_permutation}
+use Rattle.std.proofs.lemmas.List.Sorted.{All-permutation, Contains-permutation, IsNonDecreasingBy-push, length_permutation}
 use Rattle.std.proofs.lemmas.Option.{get_or_from_slice_get, slice_get_within, slice_get-map, slice_get-get_or}
 use Rattle.cmap_runs.specs.DeclaredRanges.{IsRange, AreRanges, AreApart, LieApart, range_at}
 use Rattle.cmap_runs.specs.Ranges.{Span, Run, Holds, AreRunsBelow, last_place}
@@ -135,11 +135,13 @@ pub record RangesAt (spans : List Span) (places : List ℕ) (count : ℕ) (range
   pub each : All (IsRange spans) ranges
   pub every : (k d : ℕ) → k < count → (range_at spans (get_or places k d)).low ≤ (range_at spans (get_or places k d)).high → Contains ranges (range_at spans (get_or places k d))
   pub few : length ranges ≤ count
+  pub order : IsNonDecreasingBy (λ range. range.low) ranges
+  pub below : All (λ range. (k d : ℕ) → count ≤ k → k < length places → range.low ≤ (range_at spans (get_or places k d)).low) ranges
 
 pub RangesAt-push : (spans : List Span) (places : List ℕ) (i d : ℕ) (ranges : List Run)
-    → i < length places → RangesAt spans places i ranges → IsRange spans (range_at spans (get_or places i d))
+    → IsNonDecreasingBy (λ place. (range_at spans place).low) places → i < length places → RangesAt spans places i ranges → IsRange spans (range_at spans (get_or places i d))
     → RangesAt spans places (i + 1) (ranges ++ range_at spans (get_or places i d) ∷ [])
-RangesAt-push spans places i d ranges lt are is = let range = range_at spans (get_or places i d) in record {
+RangesAt-push spans places i d ranges sorted lt are is = let range = range_at spans (get_or places i d) in record {
   each = All-push (IsRange spans) ranges range are.each is;
   every = λ k e within filled.
       elim (cases_lt k i) [
@@ -149,6 +151,10 @@ RangesAt-push spans places i d ranges lt are is = let range = range_at spans (ge
             subst (λ n. Contains (ranges ++ range ∷ []) (range_at spans n)) (get_or_default places i d e lt ∙ ap (λ n. get_or places n e) here) (Contains-push ranges range)
       ];
   few = omega (arith, are.few, length_push ranges range);
+  order = IsNonDecreasingBy-push (λ range. range.low) ranges range are.order (λ e some. are.below (length ranges - 1) e (omega arith) i d (omega arith) lt);
+  below = All-push (λ range. (k e : ℕ) → i + 1 ≤ k → k < length places → range.low ≤ (range_at spans (get_or places k e)).low) ranges range
+      (λ n r within k e le lt_k. are.below n r within k e (omega arith) lt_k)
+      (λ k e le lt_k. omega (arith, sorted i k e (omega arith) lt_k, ap (λ n. (range_at spans n).low) (get_or_default places i d e lt)));
 }
 
 pub RangesAt-skip : (spans : List Span) (places : List ℕ) (i d : ℕ) (ranges : List Run)
@@ -164,6 +170,8 @@ RangesAt-skip spans places i d ranges lt are empty = record {
             absurd (omega (arith, ap (λ (r : Run). r.low) same, ap (λ (r : Run). r.high) same))
       ];
   few = omega (arith, are.few);
+  order = are.order;
+  below = λ n r within k e le lt_k. are.below n r within k e (omega arith) lt_k;
 }
 
 -- all places were gone through

@@ -2,7 +2,7 @@
 
 ghost use Rattle.std.specs.Prelude.{◌≡◌, ◌<◌, IfOk, length, map};
 ghost use Rattle.std.specs.List.{range_with_len};
-ghost use Rattle.std.specs.List.Sorted.{IsPermutation};
+ghost use Rattle.std.specs.List.Sorted.{IsNonDecreasingBy, IsPermutation};
 ghost use Rattle.cmap_runs.specs.DeclaredRanges.{AreRanges, range_at};
 
 use super::HasRange;
@@ -27,15 +27,18 @@ pub(super) fn ranges_of<T: HasRange>(
     Ok(ranges)
 }
 
-// The ranges of the declarations at the places, but for empty ones.
+// The ranges of the declarations at the places, in this order, but for empty ones.
 pub(super) fn ranges_at<T: HasRange>(
     alloc: Global,
     declarations: &[T],
     places: Vec<u32>,
 ) -> Result<Vec<Run>, AllocError>
-    requires { IsPermutation (range_with_len 0 (length declarations.now)) places.items }
-    ensures { IfOk result
+    requires places { IsPermutation (range_with_len 0 (length declarations.now)) places.items }
+    requires order { IsNonDecreasingBy
+        (λ place. (range_at (map T.span declarations.now) place).low) places.items }
+    ensures ranges { IfOk result
         (λ ranges. AreRanges (map T.span declarations.now) (length declarations.now) ranges.items) }
+    ensures order { IfOk result (λ ranges. IsNonDecreasingBy (λ range. range.low) ranges.items) }
 {
     let mut ranges = Vec::with_capacity(alloc, places.len())?;
     for place in &places {

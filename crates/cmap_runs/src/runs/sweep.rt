@@ -35,7 +35,7 @@ pub(super) fn runs_of<T: HasRange>(alloc: Global, declarations: &[T]) -> Result<
         return Ok(RunList::Ranges(places));
     }
     let ranges = ranges_at(alloc, declarations, places)?;
-    Ok(RunList::Swept(sorted_and_swept(alloc, ranges)?))
+    Ok(RunList::Swept(sweep(alloc, ranges.as_slice())?))
 }
 
 // The runs of the declarations that the ranges belong to.
@@ -61,7 +61,9 @@ fn sweep(alloc: Global, ranges: &[Run]) -> Result<Runs, AllocError>
     let mut from = 0;
     for range in ranges {
         let next = u64::from(range.low);
-        add_runs(&mut runs, &mut ends, from, next)?;
+        if from < next {
+            add_runs(&mut runs, &mut ends, from, next)?;
+        }
         open_range(&mut ends, range)?;
         from = next;
     }

@@ -17,6 +17,10 @@ use std::marker::Model;
 /// A list of declarations, in which the last one that contains a code is found by halving a list
 /// of runs. A run is a row of codes that one declaration decides, as long as can be. A clause
 /// sees the list. Places count from 0, and codes are numbers of 32 bits.
+///
+/// Where the ranges lie apart, they are the runs, and nothing but their order is held beside the
+/// declarations. A look at such a run reads the range of its declaration, and counts as a look at
+/// a run alone.
 #[derive(Debug, Drop)]
 pub struct Table<T: HasRange> {
     held: Held<T>,
@@ -45,6 +49,7 @@ impl<T: HasRange> Table<T> {
     pub fn build(alloc: Global, list: Vec<T>) -> Result<Table<T>, AllocError>
         ensures { IfOk result (λ table. table ≡ list.items) }
     {
+        // Gives back the room that growth left over.
         let mut list = list;
         list.shrink_to_fit();
         let runs = runs_of(alloc, list.as_slice())?;

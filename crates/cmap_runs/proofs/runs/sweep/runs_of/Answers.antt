@@ -2,9 +2,10 @@ use Rattle.std.proofs.Common.{◌<◌, All, length, map, sym, subst, arith}
 use Rattle.std.proofs.lemmas.List.FromFn.{length-range_with_len}
 use Rattle.std.proofs.lemmas.List.Sorted.{length_permutation}
 use Rattle.std.specs.List.{range_with_len}
-use Rattle.std.specs.List.Sorted.{IsPermutation}
+use Rattle.std.specs.List.Sorted.{IsNonDecreasingBy, IsPermutation}
 use Rattle.std.proofs.lemmas.List.{length-map}
-use Rattle.cmap_runs.specs.DeclaredRanges.{LieApart, range_at}
+use Rattle.cmap_runs.specs.DeclaredRanges.{AreRanges, LieApart, range_at}
+use Rattle.cmap_runs.specs.Ranges.{Run}
 use Rattle.cmap_runs.proofs.MaximalRuns.{runs_of-unique}
 use Rattle.cmap_runs.proofs.RangesDecide.{is_place, runs_at_places}
 use Rattle.cmap_runs.proofs.runs.sweep.runs_of.Goals as goal
@@ -29,3 +30,13 @@ pub returns-then-are_apart-clause-few : goal.returns-then-are_apart-clause-few
 returns-then-are_apart-clause-few g c =
     let list = c.args.declarations.now in let places = c.in_ok-places.places.items in
     omega (arith, length-map places (range_at (map g.T.HasRange.span list)), length_permutation _ places c.in_ok-places.ensures.places, length-range_with_len 0 (length list))
+
+pub sweep-requires : goal.sweep-requires
+sweep-requires g c = subst (IsNonDecreasingBy (λ (range : Run). range.low)) (sym c.as_slice.ensures.value) c.in_ok-ranges-2.ensures.order
+
+pub returns-clause-runs : goal.returns-clause-runs
+returns-clause-runs g c =
+    let list = c.args.declarations.now in let spans = map g.T.HasRange.span list in
+    c.in_ok-sweep.ensures.runs spans
+    (subst (AreRanges spans (length spans)) (sym c.as_slice.ensures.value)
+    (subst (λ n. AreRanges spans n c.in_ok-ranges-2.ranges.items) (sym (length-map list g.T.HasRange.span)) c.in_ok-ranges-2.ensures.ranges))
