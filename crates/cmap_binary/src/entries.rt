@@ -143,6 +143,7 @@ fn read_destination(
 }
 
 /// The `count` units that the text begins with. More than one are gathered in the buffer.
+#[inline(always)]
 fn read_units(
     alloc: Global,
     text: &mut &[u8],
