@@ -12,7 +12,7 @@ use Rattle.cmap_bits.specs.PrefixWords.{bits_of, bits}
 doubled : (n d p r : ℕ) → (n * 2 + d) * p + r ≡ n * (p * 2) + (d * p + r)
 doubled n d p r = omega (arith, add-mul (n * 2) d p, mul_assoc n 2 p, mul_comm 2 p)
 
--- the number behind another one is the sum of both, with room for the digits
+-- the number after another one is the sum of both, with room for the digits
 pub number_after-sum : (n : ℕ) (ds : List ℕ) → number_from_digits_after 2 n ds ≡ n * 2 ^ length ds + number_from_digits 2 ds
 number_after-sum n [] = omega arith
 number_after-sum n (d ∷ ds) =

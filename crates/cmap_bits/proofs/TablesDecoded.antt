@@ -8,7 +8,7 @@ use Rattle.std.proofs.lemmas.List.Sums.{sum_by-cons, sum_by_more_le}
 use Rattle.std.proofs.lemmas.Nat.{pow-add, pow_pos}
 use Rattle.std.proofs.lemmas.Option.{slice_get_within, same_Some}
 use Rattle.std.proofs.Math.Nat.{add-mul, mul-le-mul_right}
-use Rattle.cmap_bits.specs.PrefixWords.{Place, AreWordLengths, BeginsAt, IsPrefixFree, bits, bits_of, word_behind, lengths_from, zip_places}
+use Rattle.cmap_bits.specs.PrefixWords.{Place, AreWordLengths, BeginsAt, IsPrefixFree, bits, bits_of, word_after, lengths_from, zip_places}
 use Rattle.cmap_bits.specs.WordsByLength.{IsBegun, IsNext, IsTable, places_of, room_of}
 use Rattle.cmap_bits.specs.Reader.{Reading, bits_left}
 use Rattle.cmap_bits.proofs.BitsOfBytes.{length-bits_of}
@@ -54,8 +54,8 @@ sum_by-map : {X : Type 0} (f : ℕ → ℕ) (g : X → ℕ) (xs : List X) → su
 sum_by-map f g [] = refl
 sum_by-map f g (x ∷ xs) = rw (sum_by-cons f (g x) (map g xs), sum_by-cons (λ x. f (g x)) x xs, sum_by-map f g xs) refl
 
-word_behind-lengths : (lens symbols : List ℕ) (i l : ℕ) → length symbols ≡ length lens → word_behind (take i (zip_places lens symbols)) l ≡ bits_of l (worth l (take i lens))
-word_behind-lengths lens symbols i l e =
+word_after-lengths : (lens symbols : List ℕ) (i l : ℕ) → length symbols ≡ length lens → word_after (take i (zip_places lens symbols)) l ≡ bits_of l (worth l (take i lens))
+word_after-lengths lens symbols i l e =
     ap (bits_of l) (
     sym (sum_by-map (λ j. 2 ^ (l - j)) (λ (p : Place). p.len) (take i (zip_places lens symbols)))
     ∙ ap (sum_by (λ j. 2 ^ (l - j))) (sym (take-map (λ (p : Place). p.len) i (zip_places lens symbols)) ∙ ap (take i) (map-len-zip_places lens symbols e)))
@@ -69,7 +69,7 @@ IsBegun-begins counts symbols stream i t begins =
     let l = get_or lens i 0 in
     let v = worth l (take i lens) in
     let same : place ≡ record { len = l; symbol = get_or symbols i 0 } = same_Some _ _ (sym begins.2.1 ∙ slice_get-zip_places lens symbols i t.a_symbol_each h) in
-    let spelled : begins.0 ≡ bits_of l v = begins.2.2 ∙ ap (λ (p : Place). word_behind (take i (places_of counts symbols)) p.len) same ∙ word_behind-lengths lens symbols i l t.a_symbol_each in
+    let spelled : begins.0 ≡ bits_of l v = begins.2.2 ∙ ap (λ (p : Place). word_after (take i (places_of counts symbols)) p.len) same ∙ word_after-lengths lens symbols i l t.a_symbol_each in
     let cut : stream ≡ bits_of l v ++ begins.1 = begins.3 ∙ ap (λ w. w ++ begins.1) spelled in
     let front : take l stream ≡ bits_of l v = ap (take l) cut ∙ take_at (bits_of l v) begins.1 l (length-bits_of l v) in
     record {
@@ -101,11 +101,11 @@ IsNext-begun counts symbols stream place t are begun =
     let word = take len stream in
     let here = slice_get-zip_places lens symbols place t.a_symbol_each begun.within in
     let number : number_from_digits 2 word ≡ worth len (take place lens) = same_factor _ _ (2 ^ (32 - len)) (pow_pos (32 - len)) (begun.value_is ∙ room_before lens place t.sound begun.within) in
-    let spelled : word ≡ word_behind (take place (places_of counts symbols)) len =
+    let spelled : word ≡ word_after (take place (places_of counts symbols)) len =
     sym (bits_of-number_after 0 word (recursion_from_All (λ d. d < 2) word (All-take (λ d. d < 2) len stream are)))
     ∙ ap (λ n. bits_of n (number_from_digits 2 word)) (length-take-le len stream begun.enough)
     ∙ ap (bits_of len) number
-    ∙ sym (word_behind-lengths lens symbols place len t.a_symbol_each) in
+    ∙ sym (word_after-lengths lens symbols place len t.a_symbol_each) in
     record {
       enough = begun.enough;
       decodes = record {

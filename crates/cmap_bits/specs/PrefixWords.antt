@@ -18,12 +18,12 @@ pub record Place : Type 0 where
   pub symbol : ℕ
 
 -- the code word after these earlier ones, none of them longer: len bits, whose value is the sum of 2 ^ (len - shorter)
-abbrev pub word_behind : List Place → ℕ → List ℕ
-word_behind before len = bits_of len (sum_by (λ p. 2 ^ (len - p.len)) before)
+abbrev pub word_after : List Place → ℕ → List ℕ
+word_after before len = bits_of len (sum_by (λ p. 2 ^ (len - p.len)) before)
 
 -- the code word at a place
 abbrev pub IsWordAt : List Place → ℕ → List ℕ → Type 0
-IsWordAt table i word = (place : Place) × (slice_get table i ≡ Some place) × (word ≡ word_behind (take i table) place.len)
+IsWordAt table i word = (place : Place) × (slice_get table i ≡ Some place) × (word ≡ word_after (take i table) place.len)
 
 -- lengths of code words: 1 to 32 bits, in rising order, with room for each word
 pub record AreWordLengths (lens : List ℕ) : Type 0 where

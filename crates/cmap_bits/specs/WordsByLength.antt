@@ -34,7 +34,7 @@ pub record Looked (counts s : List ℕ) (i place past : ℕ) : Type 0 where
   pub value_is : value_of i s ≡ past * 2 ^ (32 - i) + room_of (lengths_to i counts)
   pub none : (k : ℕ) → k < place → IsBegun (lengths_from 1 counts) s k → ⊥
 
--- the same of bits that have been read, by numbers that fit
+-- the search after i bits, where there are i or more, in numbers that fit
 pub record IsSearched (counts s : List ℕ) (i place past : ℕ) : Type 0 where
   pub looked : Looked counts s i place past
   pub counted : i ≤ length counts

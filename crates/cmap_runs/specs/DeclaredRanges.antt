@@ -19,7 +19,7 @@ pub record AreRanges (spans : List Span) (count : ℕ) (ranges : List Run) : Typ
 abbrev pub AreApart : List Run → Type 0
 AreApart ranges = (i : ℕ) (d : Run) → i + 1 < length ranges → (get_or ranges i d).high < (get_or ranges (i + 1) d).low
 
--- and none is empty
+-- ranges that lie apart, and none is empty
 pub record LieApart (ranges : List Run) : Type 0 where
   pub filled : All (λ range. (range.low ≤ range.high) × (range.high < 2 ^ 32)) ranges
   pub apart : AreApart ranges

@@ -2,7 +2,7 @@ use Rattle.std.proofs.Common.{◌≡◌, ℕ, sym, ap, ◌∙◌, List, ◌++◌
 use Rattle.std.specs.Prelude.{Option, Some, None, IfSome, IfNone, MatchOption, slice_get}
 use Rattle.std.proofs.lemmas.List.{append_cancel_left}
 use Rattle.std.proofs.lemmas.Option.{same_Some}
-use Rattle.cmap_bits.specs.PrefixWords.{Place, word_behind, BeginsAt, Decodes}
+use Rattle.cmap_bits.specs.PrefixWords.{Place, word_after, BeginsAt, Decodes}
 use Rattle.cmap_files.specs.Only.{IsOnly, HoldsOfNone}
 use Rattle.cmap_binary.specs.BinaryEntries.{SymbolAt}
 use Rattle.cmap_binary.proofs.Fronts.{pair_is}
@@ -21,7 +21,7 @@ symbol_found (Some symbol) table stream rest Moves (len, d, moves) none only = r
       let one : Place = record { len = size; symbol = other.0 } in
       let two : Place = record { len = len; symbol = symbol } in
       let symbols : one ≡ two = same_Some one two (sym e.place_is ∙ ap (slice_get table) places ∙ d.place_is) in
-      let words : e.word ≡ d.word = word ∙ ap (λ r. word_behind (take e.place table) r.len) same ∙ ap (λ i. word_behind (take i table) q.len) places ∙ sym here in
+      let words : e.word ≡ d.word = word ∙ ap (λ r. word_after (take e.place table) r.len) same ∙ ap (λ i. word_after (take i table) q.len) places ∙ sym here in
       pair_is other (symbol, rest) (ap (λ r. r.symbol) symbols) (append_cancel_left d.word other.1 rest (ap (λ w. w ++ other.1) (sym words) ∙ sym e.bits_are ∙ d.bits_are));
 }
 
