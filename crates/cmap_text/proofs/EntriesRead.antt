@@ -19,6 +19,9 @@ use Rattle.cmap_text.proofs.TokensRead.{bound, mapped, tested, written, code_is,
 abbrev pub Begins : {A : Type 0} → (List Token → A → Type 0) → Left → A × Left → Type 0
 Begins Is left found = (front : List Token) × (left ≡ with_front front found.1) × Is front found.0
 
+abbrev pub left : List Token → Bool → Left
+left tokens ends = record { tokens = tokens; ends = ends }
+
 abbrev pub opening_bracket : Token
 opening_bracket = Token.Name false (codes "[")
 
@@ -89,21 +92,18 @@ module _ (strings : HaveValuesRead) where
       (t, d.0, whole ∙ ap (λ p. with_front (t ∷ []) p.1) same, destination_found strings t d.0 gives, ap (λ p. p.0) (sym same))
 
   -- after two codes
-  texts_found : (a b : Token) (s e : List ℕ) (left : Left) (found : Declared) → IsCode a s → IsCode b e → texts_in (big_endian s) (big_endian e) left ≡ Some found → Begins (λ more. IsEntry bf_range (a ∷ b ∷ more)) left found
-  texts_found a b s e left found is_start is_end is = at left.tokens left.ends is
-    where
-      at : (tokens : List Token) (ends : Bool) → texts_in (big_endian s) (big_endian e) (record { tokens = tokens; ends = ends }) ≡ Some found → Begins (λ more. IsEntry bf_range (a ∷ b ∷ more)) (record { tokens = tokens; ends = ends }) found
-      at [] ends none = absurd (none-some found none)
-      at (t ∷ rest) ends reads =
-          elim (cases_Bool (is_executable (codes "[") t)) [
-            | inl opens ↦
-                let bracket : t ≡ opening_bracket = is_executable-found (codes "[") t opens in
-                let (front, tail, (ds, texts, shape, all, counted, declares)) = list_found (big_endian e + 1 - big_endian s) (big_endian s) (record { tokens = rest; ends = ends }) found (rw opens at reads) in
-                (t ∷ front, ap (with_front (t ∷ [])) tail, (a, b, s, e, is_start, is_end, inr (ds, texts, ap (λ u. a ∷ b ∷ u ∷ front) bracket ∙ ap (λ f. a ∷ b ∷ opening_bracket ∷ f) shape, all, counted, declares)))
-            | inr other ↦
-                let (d, units, whole, is_d, declares) = text_found (big_endian s) (big_endian e) (record { tokens = t ∷ rest; ends = ends }) found (rw other at reads) in
-                (d ∷ [], whole, (a, b, s, e, is_start, is_end, inl (d, units, refl, is_d, declares)))
-          ]
+  texts_found : (a b : Token) (s e : List ℕ) (tokens : List Token) (ends : Bool) (found : Declared) → IsCode a s → IsCode b e → texts_in (big_endian s) (big_endian e) (left tokens ends) ≡ Some found → Begins (λ more. IsEntry bf_range (a ∷ b ∷ more)) (left tokens ends) found
+  texts_found a b s e [] ends found is_start is_end is = absurd (none-some found is)
+  texts_found a b s e (t ∷ rest) ends found is_start is_end is =
+      elim (cases_Bool (is_executable (codes "[") t)) [
+        | inl opens ↦
+            let bracket : t ≡ opening_bracket = is_executable-found (codes "[") t opens in
+            let (front, tail, (ds, texts, shape, all, counted, declares)) = list_found (big_endian e + 1 - big_endian s) (big_endian s) (left rest ends) found (rw opens at is) in
+            (t ∷ front, ap (with_front (t ∷ [])) tail, (a, b, s, e, is_start, is_end, inr (ds, texts, ap (λ u. a ∷ b ∷ u ∷ front) bracket ∙ ap (λ f. a ∷ b ∷ opening_bracket ∷ f) shape, all, counted, declares)))
+        | inr other ↦
+            let (d, units, whole, is_d, declares) = text_found (big_endian s) (big_endian e) (left (t ∷ rest) ends) found (rw other at is) in
+            (d ∷ [], whole, (a, b, s, e, is_start, is_end, inl (d, units, refl, is_d, declares)))
+      ]
 
   after_found : (section : Section) (t : Token) (bytes : List ℕ) (left : Left) (found : Declared) → IsCode t bytes → entry_after section (written bytes) left ≡ Some found → Begins (λ more. IsEntry section (t ∷ more)) left found
   after_found codespace_range t low left found is_low is =
@@ -125,7 +125,7 @@ module _ (strings : HaveValuesRead) where
   after_found bf_range t bytes left found is_code is =
       let (h, head, rest) = bound _ (head_in code_in left) found is in
       let (b, end, whole, is_end, end_same) = head_code left h head in
-      let (front, tail, entry) = texts_found t b bytes end h.1 found is_code is_end (ap (λ k. texts_in (big_endian bytes) k.number h.1) end_same ∙ rest) in
+      let (front, tail, entry) = texts_found t b bytes end h.1.tokens h.1.ends found is_code is_end (ap (λ k. texts_in (big_endian bytes) k.number h.1) end_same ∙ rest) in
       (b ∷ front, whole ∙ ap (with_front (b ∷ [])) tail, entry)
 
   pub entry_found : (section : Section) (left : Left) (found : Declared) → entry_in section left ≡ Some found → Begins (IsEntry section) left found

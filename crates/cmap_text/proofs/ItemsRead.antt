@@ -3,14 +3,15 @@ use Rattle.std.proofs.Common.{◌≡◌, ℕ, zero, suc, ◌+◌, ◌<◌, ◌�
 use Rattle.std.proofs.lemmas.Bool.{cases_Bool}
 use Rattle.std.proofs.lemmas.Option.{none-some, same_Some}
 use Rattle.std.proofs.lemmas.Slice.Eq.{bytes_eq-Decides}
-use Rattle.std.specs.Prelude.{bytes_eq, Contains, find, flat_map, MatchOption, Option, Some, None, option_map, option_and_then, if◌then◌else◌}
+use Rattle.std.specs.Prelude.{bytes_eq, Contains, find, MatchOption, Option, Some, None, option_map, option_and_then, if◌then◌else◌}
 use Rattle.cmap_tokens.specs.TokenReading.{HaveValuesRead}
 use Rattle.cmap_tokens.specs.Tokens.{Token}
 use Rattle.cmap_tokens.specs.TokensLeft.{Left, ended, with_front}
 use Rattle.cmap_text.specs.TextFiles.{Section, codespace_range, cid_range, cid_char, notdef_range, notdef_char, bf_range, bf_char, keys, opener, use_word, Item, key, entries, use_of_base, other, IsOtherToken, IsItem, MayEnd, AreItems}
 use Rattle.cmap_text.specs.TextReading.{body_in, is_executable, is_literal, opened_by, sections, key_in, next_value, item_after, items_in, items_within, Said, says, says_all, item_said, all_said}
 use Rattle.cmap_text.proofs.TokensRead.{bound, mapped, is_executable-found, is_literal-found}
-use Rattle.cmap_text.proofs.SectionsRead.{closing, left, body_found, entries_are}
+use Rattle.cmap_text.proofs.SectionsRead.{closing, tokens_in, body_found, entries_are}
+use Rattle.cmap_text.proofs.EntriesRead.{left}
 
 abbrev pub opening : Section → Token
 opening section = Token.Name false (opener section)
@@ -71,21 +72,19 @@ other_is (Token.Name false bytes) rest (no_use, opens) =
 other_is (Token.String piece) rest plain = refl
 other_is (Token.Numeral x) rest plain = refl
 
+-- what comes after the first token of an item
+abbrev IsRest : Token → Left → Item × Left → Type 0
+IsRest t rest p = (more : List Token) × (rest ≡ with_front more p.1) × IsItem (t ∷ more) p.0 × MayEnd p.0 p.1.tokens
+
 -- the value of a key
-value_found : (k : List ℕ) (tokens : List Token) (ends : Bool) (found : Option Token × Left) → Contains keys k → next_value (left tokens ends) ≡ Some found → (more : List Token) × (left tokens ends ≡ with_front more found.1) × IsItem (Token.Name true k ∷ more) (key k found.0) × MayEnd (key k found.0) found.1.tokens
-value_found k [] true found known is = let same = same_Some (None, left [] true) found is in subst (λ f. (more : List Token) × (left [] true ≡ with_front more f.1) × IsItem (Token.Name true k ∷ more) (key k f.0) × MayEnd (key k f.0) f.1.tokens) same ([], refl, (known, refl), refl)
+value_found : (k : List ℕ) (tokens : List Token) (ends : Bool) (found : Option Token × Left) → Contains keys k → next_value (left tokens ends) ≡ Some found → IsRest (Token.Name true k) (left tokens ends) (key k found.0, found.1)
+value_found k [] true found known is = subst (λ f. IsRest (Token.Name true k) (left [] true) (key k f.0, f.1)) (same_Some (None, left [] true) found is) ([], refl, (known, refl), refl)
 value_found k [] false found known is = absurd (none-some found is)
-value_found k (t ∷ rest) ends found known is =
-    let same = same_Some (Some t, left rest ends) found is in
-    subst (λ f. (more : List Token) × (left (t ∷ rest) ends ≡ with_front more f.1) × IsItem (Token.Name true k ∷ more) (key k f.0) × MayEnd (key k f.0) f.1.tokens) same (t ∷ [], refl, (known, refl), tt)
+value_found k (t ∷ rest) ends found known is = subst (λ f. IsRest (Token.Name true k) (left (t ∷ rest) ends) (key k f.0, f.1)) (same_Some (Some t, left rest ends) found is) (t ∷ [], refl, (known, refl), tt)
 
 pub next_value-is : {X : Type 0} (seen : X → Token) (found : Option X) (old new : Left) → MatchOption found ((old ≡ ended) × (new ≡ ended)) (λ value. old ≡ with_front (seen value ∷ []) new) → next_value old ≡ Some (option_map seen found, new)
 next_value-is seen None old new is = rw (is.0, is.1) refl
 next_value-is seen (Some value) old new is = rw is refl
-
--- what comes after the first token of an item
-abbrev IsRest : Token → Left → Item × Left → Type 0
-IsRest t rest p = (more : List Token) × (rest ≡ with_front more p.1) × IsItem (t ∷ more) p.0 × MayEnd p.0 p.1.tokens
 
 module _ (strings : HaveValuesRead) where
   item_found : (t : Token) (rest : Left) (p : Item × Left) → item_after t rest ≡ Some p → IsRest t rest p
@@ -126,7 +125,7 @@ module _ (strings : HaveValuesRead) where
     opening section,
     body ++ closing section ∷ [],
     shape,
-    rw (opened_by-own section, body_is, declares, item_after) (ap (option_map (λ p. (entries p.0, p.1))) (entries_are strings _ section es new each (omega (arith, length-append (flat_map (λ e. e.0) es ++ closing section ∷ []) new.tokens, length-append (flat_map (λ e. e.0) es) (closing section ∷ []))))),
+    rw (opened_by-own section, body_is, declares, item_after) (ap (option_map (λ p. (entries p.0, p.1))) (entries_are strings _ section es new each (omega (arith, length-append (tokens_in es ++ closing section ∷ []) new.tokens, length-append (tokens_in es) (closing section ∷ []))))),
   )
   item_is tokens use_of_base new shape may ends = (Token.Name false use_word, [], shape, refl)
   item_is tokens (other t) new (plain, shape) may ends = (t, [], shape, other_is t new plain)
@@ -193,10 +192,13 @@ module _ (now : Said) (count : ℕ) where
       at (Some p) = with_item p (says now p.0) (items_within count p.1) refl refl
 
 module _ (start here next : Left) (t : Token) (old now : Said) (reading : IsSaying start here old now) (token : here ≡ with_front (t ∷ []) next) where
-  one_more : (count : ℕ) × (length next.tokens < count) × (all_said old start ≡ said_from count (item_said now (item_after t next)))
+  abbrev OneMore : Type 0
+  OneMore = (count : ℕ) × (length next.tokens < count) × (all_said old start ≡ said_from count (item_said now (item_after t next)))
+
+  one_more : OneMore
   one_more = at reading.count reading.long reading.same
     where
-      at : (count : ℕ) → length here.tokens < count → all_said old start ≡ option_and_then (says_all now) (items_within count here) → (count : ℕ) × (length next.tokens < count) × (all_said old start ≡ said_from count (item_said now (item_after t next)))
+      at : (count : ℕ) → length here.tokens < count → all_said old start ≡ option_and_then (says_all now) (items_within count here) → OneMore
       at zero long same = absurd (omega (arith, long))
       at (suc count) long same = (count, omega (arith, long, ap (λ l. length l.tokens) token), same ∙ ap (λ l. option_and_then (says_all now) (items_within (suc count) l)) token ∙ says_next now count t next)
 

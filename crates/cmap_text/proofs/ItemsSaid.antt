@@ -1,14 +1,10 @@
 -- What items say, one after another, is what the file of all of them says.
 use Rattle.std.proofs.Common.{◌≡◌, ℕ, refl, sym, ap, ◌∙◌, List, [], ◌∷◌, ◌++◌, inl, inr, append_assoc, append-nil}
 use Rattle.std.specs.Prelude.{flat_map, filter_map, bytes_eq, codes, Option, Some, None, option_map, option_and_then, if◌then◌else◌}
-use Rattle.std.specs.Borrow.{Bor}
 use Rattle.std.specs.List.{last_or}
-use Rattle.std.specs.Option.{option_copied}
 use Rattle.std.proofs.lemmas.Bool.{cases_Bool}
-use Rattle.std.proofs.lemmas.List.{map-append}
 use Rattle.cmap_tokens.specs.Tokens.{Token}
 use Rattle.cmap_files.specs.Files.{Lists, lists_of}
-use Rattle.cmap_files.specs.FilesSeen.{names_seen}
 use Rattle.cmap_files.specs.ListsAppended.{append_lists}
 use Rattle.cmap_text.specs.TextFiles.{Item, key, entries, use_of_base, other, declared_by, literal_head, names_used, value_under, last_value, Values, last_values}
 use Rattle.cmap_text.specs.TextReading.{Said, no_values, with_value, says_all}
@@ -53,13 +49,18 @@ all_says (other t ∷ items) values lists uses operand = all_says items values l
 
 -- the last value of a key
 module _ (name : List ℕ) (value_of : Values → Option Token) (is_set : (values : Values) (k : List ℕ) (value : Option Token) → value_of (with_value values k value) ≡ (if bytes_eq k name then value else value_of values)) where
-  last_said : (items : List Item) (values : Values) → last_or (Some (value_of values)) (filter_map (value_under name) items) ≡ Some (value_of (values_after values items))
-  unfolding values_after
+  last_after : Option Token → List Item → Option (Option Token)
+  last_after value items = last_or (Some value) (filter_map (value_under name) items)
+
+  last_said : (items : List Item) (values : Values) → last_after (value_of values) items ≡ Some (value_of (values_after values items))
+  unfolding values_after last_after
   last_said [] values = refl
   last_said (key k value ∷ items) values =
+      let set = is_set values k value in
+      let later = last_said items (with_value values k value) in
       elim (cases_Bool (bytes_eq k name)) [
-        | inl same ↦ rw same (ap (λ v. last_or (Some v) (filter_map (value_under name) items)) (sym (is_set values k value ∙ ap (λ b. if b then value else value_of values) same)) ∙ last_said items (with_value values k value))
-        | inr differs ↦ rw differs (ap (λ v. last_or (Some v) (filter_map (value_under name) items)) (sym (is_set values k value ∙ ap (λ b. if b then value else value_of values) differs)) ∙ last_said items (with_value values k value))
+        | inl same ↦ rw same (ap (λ v. last_after v items) (sym (set ∙ ap (λ b. if b then value else value_of values) same)) ∙ later)
+        | inr differs ↦ rw differs (ap (λ v. last_after v items) (sym (set ∙ ap (λ b. if b then value else value_of values) differs)) ∙ later)
       ]
   last_said (entries declared ∷ items) values = last_said items values
   last_said (use_of_base ∷ items) values = last_said items values
@@ -70,8 +71,8 @@ module _ (name : List ℕ) (value_of : Values → Option Token) (is_set : (value
   from_none (value ∷ values) = refl
 
   value_said : (items : List Item) → value_of no_values ≡ None → last_value name items ≡ value_of (values_after no_values items)
-  value_said items none =
-      from_none (filter_map (value_under name) items) ∙ ap (λ v. option_and_then (λ w. w) (last_or (Some v) (filter_map (value_under name) items))) (sym none) ∙ ap (option_and_then (λ w. w)) (last_said items no_values)
+  unfolding last_after
+  value_said items none = from_none (filter_map (value_under name) items) ∙ ap (λ v. option_and_then (λ w. w) (last_after v items)) (sym none) ∙ ap (option_and_then (λ w. w)) (last_said items no_values)
 
 pub values_said : (items : List Item) → last_values items ≡ values_after no_values items
 values_said items =
@@ -81,10 +82,3 @@ values_said items =
     let name = value_said (codes "CMapName") (λ v. v.name) (λ values k value. refl) items refl in
     let mode = value_said (codes "WMode") (λ v. v.mode) (λ values k value. refl) items refl in
     rw (registry, ordering, supplement, name, mode) refl
-
--- what is said after a use
-pub used_after : (values : Values) (lists : Lists) (old new : List (Bor (List ℕ))) (operand : Option (Bor (List ℕ))) (name : Bor (List ℕ)) → new ≡ old ++ name ∷ [] → option_copied operand ≡ None
-    → ◌≡◌ {A = Said} (record { values = values; lists = lists; uses = names_seen new; operand = option_copied operand }) (record { values = values; lists = lists; uses = names_seen old ++ name.now ∷ []; operand = None })
-used_after values lists old new operand name pushed none =
-    let uses : names_seen new ≡ names_seen old ++ name.now ∷ [] = ap names_seen pushed ∙ map-append (λ b. b.now) old (name ∷ []) in
-    rw (uses, none) refl

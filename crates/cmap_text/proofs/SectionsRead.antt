@@ -12,16 +12,16 @@ use Rattle.cmap_text.specs.TextFiles.{Section, closer, IsEntry, IsBody}
 use Rattle.cmap_text.specs.TextReading.{Declared, added, before, body_in, body_within, code_in, entry_after, entry_in, is_executable, head_in}
 use Rattle.cmap_files.proofs.ListsMade.{append_lists-none}
 use Rattle.cmap_text.proofs.TokensRead.{bound, mapped, code_found, is_executable-found, is_executable-own, head_found}
-use Rattle.cmap_text.proofs.EntriesRead.{Begins, entry_found, entry_is, added_before}
+use Rattle.cmap_text.proofs.EntriesRead.{Begins, left, entry_found, entry_is, added_before}
 
 abbrev pub closing : Section → Token
 closing section = Token.Name false (closer section)
 
-abbrev pub left : List Token → Bool → Left
-left tokens ends = record { tokens = tokens; ends = ends }
-
 abbrev Entry : Type 0
 Entry = List Token × List Declaration
+
+abbrev pub tokens_in : List Entry → List Token
+tokens_in es = flat_map (λ e. e.0) es
 
 -- the entries and the closer of a section
 abbrev pub IsClosedBody : Section → List Token → List Declaration → Type 0
@@ -64,17 +64,17 @@ module _ (strings : HaveValuesRead) where
       let (bytes, (piece, string, value, least, most), same) = code_found strings t s.0 gives in
       (t, s.1.tokens, sym (append-nil tokens) ∙ ap (λ l. l.tokens) whole, ap (is_executable (closer section)) string)
 
-  pub entries_are : (count : ℕ) (section : Section) (es : List Entry) (new : Left) → AllByRecursion (λ e. IsEntry section e.0 e.1) es → length (flat_map (λ e. e.0) es) < count → body_within count section (with_front (flat_map (λ e. e.0) es ++ closing section ∷ []) new) ≡ Some (flat_map (λ e. e.1) es, new)
+  pub entries_are : (count : ℕ) (section : Section) (es : List Entry) (new : Left) → AllByRecursion (λ e. IsEntry section e.0 e.1) es → length (tokens_in es) < count → body_within count section (with_front (tokens_in es ++ closing section ∷ []) new) ≡ Some (flat_map (λ e. e.1) es, new)
   unfolding body_within
   entries_are zero section es new each long = absurd (omega (arith, long))
   entries_are (suc count) section [] new each long = rw (is_executable-own (closer section)) refl
   entries_are (suc count) section (e ∷ es) new each long =
-      let body = flat_map (λ e. e.0) es in
+      let body = tokens_in es in
       let later = body ++ closing section ∷ [] in
       let next = with_front later new in
       let (t, more, shape, other) = entry_begins section e.0 e.1 each.0 in
-      let long_after : length (flat_map (λ e. e.0) es) < count = omega (arith, long, ap length shape, length-append e.0 body) in
-      let whole : with_front (flat_map (λ e. e.0) (e ∷ es) ++ closing section ∷ []) new ≡ with_front (t ∷ []) (with_front more next) =
+      let long_after : length (tokens_in es) < count = omega (arith, long, ap length shape, length-append e.0 body) in
+      let whole : with_front (tokens_in (e ∷ es) ++ closing section ∷ []) new ≡ with_front (t ∷ []) (with_front more next) =
       ap (λ ts. left (ts ++ new.tokens) new.ends) (append_assoc e.0 body (closing section ∷ [])) ∙ ap (λ ts. left ts new.ends) (append_assoc e.0 later new.tokens ∙ ap (λ ts. ts ++ next.tokens) shape) in
       ap (body_within (suc count) section) whole ∙ body_next count section t (with_front more next) (e.1, next) other (ap (λ ts. entry_in section (with_front ts next)) (sym shape) ∙ entry_is strings section e.0 e.1 next each.0)
       ∙ ap (before e.1) (entries_are count section es new each.1 long_after)
@@ -107,10 +107,13 @@ IsReading-end section start here old now reading none = reading.same ∙ ap (add
 
 module _ (section : Section) (start here next : Left) (t : Token) (old now : Lists) (reading : IsReading section start here old now) (token : here ≡ with_front (t ∷ []) next) where
   -- with a token more
-  one_more : (count : ℕ) × (length next.tokens ≤ count) × (added old (body_in section start) ≡ added now (body_within (suc count) section (with_front (t ∷ []) next)))
+  abbrev OneMore : Type 0
+  OneMore = (count : ℕ) × (length next.tokens ≤ count) × (added old (body_in section start) ≡ added now (body_within (suc count) section (with_front (t ∷ []) next)))
+
+  one_more : OneMore
   one_more = at reading.count reading.long reading.same
     where
-      at : (count : ℕ) → length here.tokens ≤ count → added old (body_in section start) ≡ added now (body_within count section here) → (count : ℕ) × (length next.tokens ≤ count) × (added old (body_in section start) ≡ added now (body_within (suc count) section (with_front (t ∷ []) next)))
+      at : (count : ℕ) → length here.tokens ≤ count → added old (body_in section start) ≡ added now (body_within count section here) → OneMore
       at zero long same = absurd (omega (arith, long, ap (λ l. length l.tokens) token))
       at (suc count) long same = (count, omega (arith, long, ap (λ l. length l.tokens) token), same ∙ ap (λ l. added now (body_within (suc count) section l)) token)
 

@@ -36,19 +36,19 @@ given seen (Some x) found is = (sym is, λ e. cc)
 
 -- ---- names
 pub is_executable-found : (name : List ℕ) (t : Token) → is_executable name t ≡ true → t ≡ Token.Name false name
-is_executable-found name (Token.Name true bytes) is = let no : ⊥ = cc in absurd no
+is_executable-found name (Token.Name true bytes) is = cc
 is_executable-found name (Token.Name false bytes) is = ap (Token.Name false) ((bytes_eq-Decides bytes name).0 is)
-is_executable-found name (Token.String piece) is = let no : ⊥ = cc in absurd no
-is_executable-found name (Token.Numeral x) is = let no : ⊥ = cc in absurd no
+is_executable-found name (Token.String piece) is = cc
+is_executable-found name (Token.Numeral x) is = cc
 
 pub is_executable-own : (name : List ℕ) → is_executable name (Token.Name false name) ≡ true
 is_executable-own name = (bytes_eq-Decides name name).1 refl
 
 pub is_literal-found : (name : List ℕ) (t : Token) → is_literal name t ≡ true → t ≡ Token.Name true name
 is_literal-found name (Token.Name true bytes) is = ap (Token.Name true) ((bytes_eq-Decides bytes name).0 is)
-is_literal-found name (Token.Name false bytes) is = let no : ⊥ = cc in absurd no
-is_literal-found name (Token.String piece) is = let no : ⊥ = cc in absurd no
-is_literal-found name (Token.Numeral x) is = let no : ⊥ = cc in absurd no
+is_literal-found name (Token.Name false bytes) is = cc
+is_literal-found name (Token.String piece) is = cc
+is_literal-found name (Token.Numeral x) is = cc
 
 -- ---- codes, CIDs and destinations
 -- a code of these bytes

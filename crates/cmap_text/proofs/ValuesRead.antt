@@ -1,30 +1,11 @@
 -- What the values of keys say of a file.
-use Rattle.std.proofs.Common.{◌≡◌, ℕ, zero, suc, refl, sym, ap, subst, ◌∙◌, List, lit<, arith}
-use Rattle.std.specs.Prelude.{Contains, Option, Some}
+use Rattle.std.proofs.Common.{◌≡◌, ℕ, refl, sym, ap, subst, ◌∙◌, List}
+use Rattle.std.specs.Prelude.{Option, Some}
 use Rattle.cmap_tokens.specs.Strings.{IsValue}
 use Rattle.cmap_tokens.specs.Tokens.{Token}
 use Rattle.cmap_files.specs.Only.{IsOnly}
 use Rattle.cmap_files.specs.Files.{Collection, FileMetadata, Mode}
-use Rattle.cmap_text.specs.TextFiles.{keys, GivesText, IsCollection, IsMetadata, mode_in, name_in, Values}
-use Rattle.cmap_text.specs.TextSeen.{key_name}
-use Rattle.cmap_text.specs.declared.keys.Key.{Key}
-use Rattle.cmap_text.specs.declared.keys.Key.TheVariants.{Registry, Ordering, Supplement, CMapName, WMode}
-
--- the keys are those of the list
-pub is_key : (key : Key) → Contains keys (key_name key)
-is_key Registry = (0, lit< tt, refl)
-is_key Ordering = (1, lit< tt, refl)
-is_key Supplement = (2, lit< tt, refl)
-is_key CMapName = (3, lit< tt, refl)
-is_key WMode = (4, lit< tt, refl)
-
-pub key_named : (name : List ℕ) → Contains keys name → (key : Key) × (name ≡ key_name key)
-key_named name (zero, less, is) = (Registry, sym is)
-key_named name (suc zero, less, is) = (Ordering, sym is)
-key_named name (suc (suc zero), less, is) = (Supplement, sym is)
-key_named name (suc (suc (suc zero)), less, is) = (CMapName, sym is)
-key_named name (suc (suc (suc (suc zero))), less, is) = (WMode, sym is)
-key_named name (suc (suc (suc (suc (suc k)))), less, is) = absurd (omega arith)
+use Rattle.cmap_text.specs.TextFiles.{GivesText, IsCollection, IsMetadata, mode_in, name_in, Values}
 
 -- the text of a string
 string_given : (piece bytes : List ℕ) → IsValue piece bytes → ((value : List ℕ) → IsValue piece value → value ≡ bytes) → IsOnly (GivesText (Some (Token.String piece))) (Some bytes)
