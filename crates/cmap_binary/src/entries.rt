@@ -72,6 +72,7 @@ pub(crate) fn add_cids(
     let Some(columns) = take_columns(&mut payload, shape) else {
         return Err(Fault::Refused);
     };
+    // A count that is too great gets no more room than there are bytes.
     file.lists
         .reserve_cids(len, usize::from(count).min(payload.len()))?;
     let mut left = CidColumns {

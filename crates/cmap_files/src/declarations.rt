@@ -1,6 +1,6 @@
 //! What a CMap declares for its codes.
 
-ghost use Rattle.std.specs.Prelude.{◌≡◌, ◌==◌, [], ◌∷◌, ◌++◌, IfOk, OnOk, if◌then◌else◌};
+ghost use Rattle.std.specs.Prelude.{◌≡◌, ◌==◌, ◌+◌, ◌≤◌, [], ◌∷◌, ◌++◌, IfOk, OnOk, if◌then◌else◌, vec_capacity, vec_len};
 ghost use Rattle.cmap_files.specs.CodeLengths.{length_of};
 ghost use Rattle.cmap_files.specs.Files.{Declaration, lists_of};
 ghost use Rattle.cmap_files.specs.DeclarationsSeen.{bf_entry_seen, cid_entry_seen, codespace_seen, lists_seen, slot};
@@ -133,9 +133,13 @@ impl Lists {
         push_filed(&mut self.cids, len, range)
     }
 
-    /// Makes room for so many more declarations of CIDs for codes of this length.
+    /// Makes room for this number of further declarations of CIDs for codes of this length.
+    ///
+    /// It fails only where there is no memory.
     pub fn reserve_cids(&mut self, len: CodeLength, additional: usize) -> Result<(), AllocError>
-        ensures { lists_seen self.new ≡ lists_seen self.old }
+        ensures same { lists_seen self.new ≡ lists_seen self.old }
+        ensures room { OnOk result (let list = slot self.new.cids len in
+            vec_len list + additional ≤ vec_capacity list) }
     {
         match len {
             CodeLength::One => self.cids.one.reserve(additional),

@@ -1,12 +1,12 @@
 //! The units of texts, of which nearly each text has one or two, and few have more than four.
 
-ghost use Rattle.std.specs.Prelude.{◌≡◌, IfOk};
+ghost use Rattle.std.specs.Prelude.{◌≡◌, ◌≤◌, IfOk, IsOk, length};
 ghost use Rattle.cmap_files.specs.UnitsSeen.{units_seen};
 
 use std::alloc::{AllocError, Global};
 
 /// The units of a text in UTF-16. Up to four lie in the value itself; more lie in memory of their own,
-/// over one pointer, so that a value has no more than 16 bytes.
+/// over one pointer, so that a value stays small.
 #[derive(Debug, Drop)]
 pub enum Units {
     Empty,
@@ -22,7 +22,8 @@ impl Units {
     ///
     /// It fails only where there is no memory. Up to four units take none.
     pub fn from_slice(alloc: Global, units: &[u16]) -> Result<Units, AllocError>
-        ensures { IfOk result (λ made. units_seen made ≡ units.now) }
+        ensures units { IfOk result (λ made. units_seen made ≡ units.now) }
+        ensures few { length units.now ≤ 4 → IsOk result }
     {
         match units {
             [] => Ok(Units::Empty),
@@ -53,9 +54,10 @@ impl Units {
 
     /// A copy of the units.
     ///
-    /// It fails only where there is no memory.
+    /// It fails only where there is no memory. A copy of up to four units takes none.
     pub fn clone(&self, alloc: Global) -> Result<Units, AllocError>
-        ensures { IfOk result (λ copy. units_seen copy ≡ units_seen self.now) }
+        ensures units { IfOk result (λ copy. units_seen copy ≡ units_seen self.now) }
+        ensures few { length (units_seen self.now) ≤ 4 → IsOk result }
     {
         Units::from_slice(alloc, self.as_slice())
     }

@@ -42,4 +42,4 @@ pub returns : goal.returns
 returns c =
     let has = c.loop-index.invariant in
     let only = then_only _ c.in-Some-take_columns.ensures (then_only _ (adds_end has (omega arith)) gives) in
-    (record { content = _; only = made_only (then_only _ c.in-Some.ensures (rw (some_cids (tables_seen c.args.tables.now) (shape_seen c.args.shape) c.in-Some.count c.take_u16.new.text.now (omega arith)) only)); says = has.says ∙ ap (λ lists. with_content (with_lists (file_seen c.args.file.now) lists) (declares (map (cid (length_of c.args.len)) has.entries))) c.reserve_cids.ensures }, λ e. cc)
+    (record { content = _; only = made_only (then_only _ c.in-Some.ensures (rw (some_cids (tables_seen c.args.tables.now) (shape_seen c.args.shape) c.in-Some.count c.take_u16.new.text.now (omega arith)) only)); says = has.says ∙ ap (λ lists. with_content (with_lists (file_seen c.args.file.now) lists) (declares (map (cid (length_of c.args.len)) has.entries))) c.reserve_cids.ensures.same }, λ e. cc)
