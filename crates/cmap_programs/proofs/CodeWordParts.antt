@@ -6,8 +6,8 @@ use Rattle.std.specs.Option.{MatchOption}
 use Rattle.std.specs.Str.Parse.{IsNumeral, digits_value}
 use Rattle.std.proofs.lemmas.Str.Pattern.{IsSplitOnceResult, split_after}
 use Rattle.std.proofs.lemmas.Int.Digits.{digits_value-lt}
-use Rattle.cmap_programs.specs.declared.answers.query.Asked.{Asked}
-use Rattle.cmap_programs.specs.declared.answers.query.Asked.TheVariants.{Cid, Text}
+use Rattle.cmap_programs.specs.declared.query.Asked.{Asked}
+use Rattle.cmap_programs.specs.declared.query.Asked.TheVariants.{Cid, Text}
 use Rattle.cmap_programs.specs.CodeWords.{colon, name_of, HasDigits, IsKnown, Spells}
 
 -- no colon stands in front of the colon

@@ -1,8 +1,8 @@
 -- How a word of the command line spells a character code, and what is asked of it.
 use Rattle.std.specs.Prelude.{◌≡◌, ℕ, ◌+◌, ◌*◌, ◌≤◌, List, [], ◌∷◌, ◌++◌, codes, length}
 use Rattle.std.specs.Str.Parse.{AllDigits, digits_value}
-use Rattle.cmap_programs.specs.declared.answers.query.Asked.{Asked}
-use Rattle.cmap_programs.specs.declared.answers.query.Asked.TheVariants.{Cid, Text}
+use Rattle.cmap_programs.specs.declared.query.Asked.{Asked}
+use Rattle.cmap_programs.specs.declared.query.Asked.TheVariants.{Cid, Text}
 
 -- the character `0`
 abbrev pub zero_digit : ℕ

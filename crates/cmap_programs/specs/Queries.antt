@@ -1,7 +1,7 @@
 -- What a query says of its word.
 use Rattle.std.specs.Prelude.{ℕ, List, ◌∷◌, ◌++◌}
 use Rattle.cmap_programs.specs.CodeWords.{colon, name_of, Spells}
-use Rattle.cmap_programs.specs.declared.answers.query.Query.{Query}
+use Rattle.cmap_programs.specs.declared.query.Query.{Query}
 
 -- the word that it was read from
 abbrev pub word_of : Query → List ℕ

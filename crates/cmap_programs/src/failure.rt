@@ -3,7 +3,6 @@
 ghost use Rattle.std.specs.Prelude.{◌≡◌};
 ghost use Rattle.cmap_programs.specs.declared.failure.Failure.TheVariants.{NoMemory};
 
-use hayro_cmap::ParseError;
 use std::alloc::{AllocError, AllocFailed};
 use std::fmt;
 use std::io::{self, ErrorKind};
@@ -55,15 +54,6 @@ impl<T: Drop> From<AllocFailed<T>> for Failure {
 
     fn from(_error: AllocFailed<T>) -> Failure {
         Failure::NoMemory
-    }
-}
-
-impl From<ParseError> for Failure {
-    fn from(error: ParseError) -> Failure {
-        match error {
-            ParseError::Memory => Failure::NoMemory,
-            ParseError::OverBudget => Failure::OverBudget,
-        }
     }
 }
 

@@ -1,9 +1,10 @@
-//! What the programs share: why a run ends without answers, decimal words, reading and writing. And
-//! what the program `cmap_query` does.
+//! What the programs share, apart from the library: why a run ends without answers, what words ask,
+//! reading and writing.
 #![tactic(auto)]
 
-pub mod answers;
 pub mod failure;
 pub mod input;
+pub mod options;
 pub mod output;
+pub mod query;
 pub mod words;

@@ -1,6 +1,6 @@
 use Rattle.std.proofs.Common.{refl, string_bytes}
 use Rattle.cmap_programs.proofs.OptionFronts.{begin}
-use Rattle.cmap_programs.proofs.answers.options.parse_option.Goals as goal
+use Rattle.cmap_programs.proofs.options.parse_option.Goals as goal
 
 pub returns-in-Some : goal.returns-in-Some
 returns-in-Some c =

@@ -1,5 +1,5 @@
 use Rattle.cmap_programs.proofs.CodeWordParts.{split_of, numeral_fits}
-use Rattle.cmap_programs.proofs.answers.query.Query.parse.Goals as goal
+use Rattle.cmap_programs.proofs.query.Query.parse.Goals as goal
 
 pub returns-in_err-code-clause-none : goal.returns-in_err-code-clause-none
 returns-in_err-code-clause-none c _ asked code spells =

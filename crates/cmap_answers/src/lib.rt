@@ -1,17 +1,18 @@
 //! What the program `cmap_query` does, as a call: words are answered over a CMap file, perhaps one
 //! after a bundle.
+#![tactic(auto)]
 
-mod options;
-mod query;
+mod lines;
 
-use self::options::Options;
-use self::query::{Query, Request};
-use crate::failure::Failure;
-use crate::input::{read_all, split_bundle};
-use crate::output::{report, send};
+use self::lines::lines_of;
+use cmap_programs::failure::Failure;
+use cmap_programs::input::{read_all, split_bundle};
+use cmap_programs::options::Options;
+use cmap_programs::output::{report, send};
+use cmap_programs::query::Request;
 use hayro_cmap::bcmap::{Bundle, load_embedded};
-use hayro_cmap::{CMap, CMapName};
-use std::alloc::{AllocError, Global};
+use hayro_cmap::{CMap, CMapName, ParseError};
+use std::alloc::Global;
 use std::io::{Read, Write};
 
 /// Answers the words from the CMap file that `input` gives, perhaps after a bundle, one line each
@@ -43,7 +44,7 @@ fn answer<R: Read, W: Write>(
     let request = Request::parse(alloc, words)?;
     let bytes = read_all(alloc, input)?;
     let map = map_of(alloc, options, &bytes)?;
-    let lines = answers(alloc, &map, &request.queries)?;
+    let lines = lines_of(alloc, &map, &request.queries)?;
     Ok(send(out, lines.as_str())?)
 }
 
@@ -67,14 +68,15 @@ fn map_over(
     bundle: Option<&Bundle<'_>>,
 ) -> Result<CMap, Failure> {
     let get_cmap = move |name: CMapName<'_>| load_embedded(bundle, name);
-    CMap::parse_within(alloc, budget, file, bundle, &get_cmap)?.ok_or(Failure::Refused)
+    CMap::parse_within(alloc, budget, file, bundle, &get_cmap)
+        .map_err(failure_of)?
+        .ok_or(Failure::Refused)
 }
 
-/// The lines that answer the queries.
-fn answers(alloc: Global, map: &CMap, queries: &[Query<'_>]) -> Result<String, AllocError> {
-    let mut lines = String::new(alloc);
-    for query in queries {
-        query.write_answer(alloc, map, &mut lines)?;
+/// Why a file gives no map.
+fn failure_of(error: ParseError) -> Failure {
+    match error {
+        ParseError::Memory => Failure::NoMemory,
+        ParseError::OverBudget => Failure::OverBudget,
     }
-    Ok(lines)
 }

@@ -3,7 +3,7 @@ use Rattle.std.proofs.lemmas.List.Elements.{All-push}
 use Rattle.cmap_programs.specs.CodeWords.{SpellsNone}
 use Rattle.cmap_programs.specs.Queries.{word_of, IsSpelled}
 use Rattle.cmap_programs.proofs.OneMore.{map-one_more}
-use Rattle.cmap_programs.proofs.answers.query.Request.parse.Goals as goal
+use Rattle.cmap_programs.proofs.query.Request.parse.Goals as goal
 
 pub loop-word-preserved : goal.loop-word-preserved
 loop-word-preserved c =

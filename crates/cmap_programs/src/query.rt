@@ -1,12 +1,11 @@
-//! The words of the command line.
+//! The words of the command line that ask for codes.
 
 ghost use Rattle.std.specs.Prelude.{◌≡◌, ◌≢◌, ◌^◌, ◌<◌, [], ◌⊎◌, ◌↔◌, IsNone, IsTrue, IfSome, IfOk, IfErr, IsErrOf, All, Any, length, map, string_bytes};
 ghost use Rattle.std.specs.Option.{SomeIff};
 ghost use Rattle.std.specs.Str.Parse.{IsNumeral, digits_value};
 
 use crate::failure::Failure;
-use hayro_cmap::{BfString, CMap};
-use std::alloc::{AllocError, Global};
+use std::alloc::Global;
 
 /// What the words of the command line ask for.
 #[derive(Drop)]
@@ -80,38 +79,6 @@ impl<'a> Query<'a> {
             digits,
         })
     }
-
-    /// Adds the line that answers the query to `lines`.
-    pub fn write_answer(
-        &self,
-        alloc: Global,
-        map: &CMap,
-        lines: &mut String,
-    ) -> Result<(), AllocError> {
-        match self.asked {
-            Asked::Cid { byte_len } => self.write_cid(byte_len, map, lines),
-            Asked::Text => self.write_text(alloc, map, lines),
-        }
-    }
-
-    fn write_cid(&self, byte_len: u8, map: &CMap, lines: &mut String) -> Result<(), AllocError> {
-        let digits = self.digits;
-        match map.lookup_cid_code(self.code, byte_len) {
-            Some(cid) => writeln!(lines, "cid {byte_len}:{digits} {cid}"),
-            None => writeln!(lines, "cid {byte_len}:{digits} none"),
-        }
-    }
-
-    fn write_text(&self, alloc: Global, map: &CMap, lines: &mut String) -> Result<(), AllocError> {
-        let digits = self.digits;
-        write!(lines, "bf {digits}")?;
-        match map.lookup_bf_string(alloc, self.code)? {
-            Some(BfString::Char(character)) => write_character(character, lines),
-            Some(BfString::String(text)) => write_characters(text.as_str(), lines),
-            None => lines.push_str(" none"),
-        }?;
-        lines.push('\n')
-    }
 }
 
 /// What is asked of a code.
@@ -162,17 +129,4 @@ fn hexadecimal(digits: &str) -> Option<u32>
         return None;
     }
     u32::from_str_radix(digits, 16).ok()
-}
-
-/// Adds the characters of a text to `lines`.
-fn write_characters(text: &str, lines: &mut String) -> Result<(), AllocError> {
-    for character in text.chars() {
-        write_character(character, lines)?;
-    }
-    Ok(())
-}
-
-/// Adds a character to `lines` by its number, in four hexadecimal digits or more.
-fn write_character(character: char, lines: &mut String) -> Result<(), AllocError> {
-    write!(lines, " U+{:04X}", u32::from(character))
 }

@@ -1,6 +1,6 @@
 use Rattle.std.proofs.Common.{◌≡◌, All, length, map, take, string_bytes}
 use Rattle.cmap_programs.specs.Queries.{word_of, IsSpelled}
-use Rattle.cmap_programs.proofs.answers.query.Request.parse.Given as goal
+use Rattle.cmap_programs.proofs.query.Request.parse.Given as goal
 
 -- the queries so far are those of the words so far
 abbrev pub invariant-loop-word : goal.invariant-loop-word
