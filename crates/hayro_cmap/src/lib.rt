@@ -21,6 +21,7 @@ pub use cmap_runs::runs;
 pub use cmap_tokens::token;
 pub use cmap_tokens::utf16::BfString;
 pub use map::CMap;
+pub use source::Source;
 
 /// The parts of the binary form of CMap files: bits and numbers, prefix tables, bundles.
 pub mod bcmap {

@@ -5,7 +5,7 @@ ghost use Rattle.cmap_files.specs.CodeLengths.{IsCodeLength};
 ghost use Rattle.cmap_runs.specs.SearchLooks.{LooksAtMost};
 ghost use Rattle.cmap_tokens.specs.TextSeen.{text_seen};
 ghost use Rattle.cmap_tokens.specs.Texts.{text_of};
-ghost use Rattle.hayro_cmap.specs.Answers.{Answers, AnswersByName};
+ghost use Rattle.hayro_cmap.specs.Answers.{Answers, AnswersByName, IsByName};
 ghost use Rattle.hayro_cmap.specs.Budgets.{PassesBudget, StaysWithin};
 ghost use Rattle.cmap_files.specs.DeclarationsSeen.{lists_seen};
 ghost use Rattle.cmap_files.specs.Files as files;
@@ -22,7 +22,7 @@ use crate::budget::ParseError;
 use crate::chain::{MOST_BELOW, find_layers};
 use crate::layers::Layer;
 use crate::refusal::Refusal;
-use crate::source::FilesByName;
+use crate::source::{FilesByName, Source};
 use crate::{codespaces, lookup};
 use cmap_binary::Bundle;
 use cmap_files::code_length::CodeLength;
@@ -128,8 +128,41 @@ impl CMap {
             get_cmap,
             of: PhantomData,
         };
+        CMap::parse_from(alloc, budget, data, bundle, &source)
+    }
+
+    /// The map that `parse_within` gives, where the files that others use come from a `Source`.
+    ///
+    /// A caller whose `Source` says what it answers to each name meets both premises.
+    pub fn parse_from<S: Source>(
+        alloc: Global,
+        budget: Option<u64>,
+        data: &[u8],
+        bundle: Option<&Bundle<'_>>,
+        source: &S,
+    ) -> Result<Option<CMap>, ParseError>
+        requires can_ask { S.can_ask source.now }
+        requires by_name { IsByName (S.answers source.now) }
+        ensures accepts { IfOk result (λ found. IfSome found
+            (λ map. IsOnly (AreLayers (Means (tables_given bundle.entry))
+            (S.answers source.now) 16 «data».now) map)) }
+        ensures refuses { IfOk result (λ found. IfNone found
+            (HoldsOfNone (AreLayers (Means (tables_given bundle.entry))
+            (S.answers source.now) 16 «data».now))) }
+
+        // With an answer, all that is opened is within the budget.
+        ensures within { OnOk result
+            (StaysWithin (Means (tables_given bundle.entry))
+            (S.answers source.now) 16 «data».now budget) }
+
+        // There is a budget, and all that would be opened passes it.
+        ensures some { IsErrOf result OverBudget → IsSome budget }
+        ensures over { IsErrOf result OverBudget
+            → PassesBudget (Means (tables_given bundle.entry))
+            (S.answers source.now) 16 «data».now budget }
+    {
         let mut left = budget;
-        match find_layers(alloc, data, bundle, &source, MOST_BELOW, &mut left) {
+        match find_layers(alloc, data, bundle, source, MOST_BELOW, &mut left) {
             Ok(layers) => Ok(Some(CMap { layers })),
             Err(Refusal::Refused) => Ok(None),
             Err(Refusal::Memory) => Err(ParseError::Memory),

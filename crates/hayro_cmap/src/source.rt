@@ -8,7 +8,10 @@ use cmap_files::names::CMapName;
 use std::marker::PhantomData;
 
 /// What finds the bytes of a file by the text of its name.
-pub(crate) trait Source {
+///
+/// What its files answer is stated by `answers`, so that a caller's own contract can name it. That of
+/// a function, as `CMap::parse` takes one, has no name.
+pub trait Source {
     /// It may be asked any text.
     ghost can_ask: { Self → Type 0 };
 

@@ -1,29 +1,5 @@
-use Rattle.std.specs.Prelude.{true, false}
-use Rattle.hayro_cmap.specs.Answers.{Answers}
-use Rattle.cmap_binary.specs.BundleSeen.{tables_given}
-use Rattle.hayro_cmap.specs.Layers.{Means}
-use Rattle.hayro_cmap.proofs.LayersFit.{layers-fit}
 use Rattle.hayro_cmap.proofs.OneName.{IsByName-from_answers}
-use Rattle.hayro_cmap.proofs.WholeFile.{StaysWithin-from_spent}
 use Rattle.hayro_cmap.proofs.map.CMap.parse_within.Goals as goal
 
-pub find_layers-requires-clause-by_name : goal.find_layers-requires-clause-by_name
-find_layers-requires-clause-by_name g c = IsByName-from_answers g.F.Fn c.args.get_cmap.now c.one_name_for_a_text.ensures c.requires.by_name
-
-pub invariant_of-result : goal.invariant_of-result
-invariant_of-result g c =
-    layers-fit (Means (tables_given c.args.bundle)) (Answers g.F.Fn c.args.get_cmap.now) c.args.«data».now c.in-Ok.layers.items c.in-Ok.ensures.found.only.holds
-
-pub returns-in-Ok-clause-within : goal.returns-in-Ok-clause-within
-returns-in-Ok-clause-within g c =
-    StaysWithin-from_spent (Means (tables_given c.args.bundle)) (Answers g.F.Fn c.args.get_cmap.now) 16 c.args.«data».now c.args.budget false c.find_layers.new.left c.in-Ok.ensures.found.spent
-
-pub returns-in-Err-Refused-clause-refuses : goal.returns-in-Err-Refused-clause-refuses
-returns-in-Err-Refused-clause-refuses g c =
-    let is = c.in-Err-Refused.is in let refused = c.in-Err-Refused.field-0-is in
-    (c.find_layers.ensures.refused (cc (is, refused))).none
-
-pub returns-in-Err-Refused-clause-within : goal.returns-in-Err-Refused-clause-within
-returns-in-Err-Refused-clause-within g c =
-    let is = c.in-Err-Refused.is in let refused = c.in-Err-Refused.field-0-is in
-    StaysWithin-from_spent (Means (tables_given c.args.bundle)) (Answers g.F.Fn c.args.get_cmap.now) 16 c.args.«data».now c.args.budget true c.find_layers.new.left (c.find_layers.ensures.refused (cc (is, refused))).spent
+pub parse_from-requires-clause-by_name : goal.parse_from-requires-clause-by_name
+parse_from-requires-clause-by_name g c = IsByName-from_answers g.F.Fn c.args.get_cmap.now c.one_name_for_a_text.ensures c.requires.by_name
