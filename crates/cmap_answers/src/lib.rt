@@ -68,15 +68,10 @@ fn map_over(
     bundle: Option<&Bundle<'_>>,
 ) -> Result<CMap, Failure> {
     let get_cmap = move |name: CMapName<'_>| load_embedded(bundle, name);
-    CMap::parse_within(alloc, budget, file, bundle, &get_cmap)
-        .map_err(failure_of)?
-        .ok_or(Failure::Refused)
-}
-
-/// Why a file gives no map.
-fn failure_of(error: ParseError) -> Failure {
-    match error {
-        ParseError::Memory => Failure::NoMemory,
-        ParseError::OverBudget => Failure::OverBudget,
+    match CMap::parse_within(alloc, budget, file, bundle, &get_cmap) {
+        Ok(Some(map)) => Ok(map),
+        Ok(None) => Err(Failure::Refused),
+        Err(ParseError::Memory) => Err(Failure::NoMemory),
+        Err(ParseError::OverBudget) => Err(Failure::OverBudget),
     }
 }

@@ -4,12 +4,13 @@ use crate::request::Request;
 use crate::rounds::Work;
 use cmap_programs::failure::Failure;
 use cmap_programs::output::send;
-use std::{env, fs};
+use cmap_programs::words::words;
+use std::fs;
 
 /// Measures what the words ask for, and writes one line on the standard output: the nanoseconds and
 /// the checksum.
 pub fn run(rt: &HostRuntime) -> Result<(), Failure> {
-    let words = env::args(rt)?.skip(1).collect::<Vec<String>>(rt.alloc())?;
+    let words = words(rt)?;
     let request = Request::parse(&words).ok_or(Failure::Usage)?;
     let data = fs::read(rt, request.path)?;
     let work = Work::new(rt.alloc(), request.mode, &data)?;

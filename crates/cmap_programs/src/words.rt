@@ -1,8 +1,21 @@
-//! Words that spell numbers.
+//! The words of the command line, and those that spell numbers.
 
 ghost use Rattle.std.specs.Option.{SomeIff};
 ghost use Rattle.std.specs.Str.Parse.{digits_value};
 ghost use Rattle.cmap_programs.specs.Decimals.{SpellsNumber};
+
+use crate::failure::Failure;
+use std::env;
+
+/// The words of the command line, without the program's name. Words that can't be gathered are
+/// unreadable, whatever the cause.
+pub fn words(rt: &HostRuntime) -> Result<Vec<String>, Failure> {
+    gathered(rt).ok_or(Failure::Unreadable)
+}
+
+fn gathered(rt: &HostRuntime) -> Option<Vec<String>> {
+    env::args(rt).ok()?.skip(1).collect(rt.alloc()).ok()
+}
 
 /// The number that decimal digits spell, where it fits.
 pub fn decimal(digits: &str) -> Option<u64>
