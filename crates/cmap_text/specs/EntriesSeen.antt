@@ -1,8 +1,6 @@
 -- Private aid: what the clauses of calls that read entries and sections say.
-use Rattle.std.specs.Prelude.{◌≡◌, [], ◌∷◌, Option, Some, None, Result}
-use Rattle.cmap_tokens.specs.TokenSeen.{token_seen}
-use Rattle.cmap_tokens.specs.TokensLeft.{Left, with_front}
-use Rattle.cmap_tokens.specs.declared.token.Token.{Token}
+use Rattle.std.specs.Prelude.{◌≡◌, Option, Some, None, Result}
+use Rattle.cmap_tokens.specs.TokensLeft.{Left}
 use Rattle.cmap_files.specs.DeclarationsSeen.{lists_seen}
 use Rattle.cmap_files.specs.Outcomes.{Outcome}
 use Rattle.cmap_files.specs.declared.declarations.Lists.{Lists}
@@ -12,10 +10,6 @@ use Rattle.cmap_text.specs.TextReading.{Declared, added}
 -- the answer is what is found, as a clause sees it, and it refuses only where nothing is
 abbrev pub Gives : {A B : Type 0} → Option B → (A → B) → Result A Fault → Type 0
 Gives found seen = Outcome (λ x. found ≡ Some (seen x)) (found ≡ None)
-
--- what is left, and this token before it
-abbrev pub after_token : Token → Left → Left
-after_token first left = with_front (token_seen first ∷ []) left
 
 -- what is found is added to the lists
 abbrev pub Adds : {A : Type 0} → Option Declared → Lists → Lists → Left → Result A Fault → Type 0

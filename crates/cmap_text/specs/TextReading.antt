@@ -119,6 +119,14 @@ entry_after bf_char start left = one_text start.number start.number left
 abbrev pub entry_in : Section → Left → Option Declared
 entry_in section left = option_and_then (λ s. entry_after section s.0 s.1) (head_in code_in left)
 
+-- the code that the next entry of a section begins with, or none at the closer
+abbrev pub start_in : Section → Left → Option (Option Code × Left)
+start_in section left = elim left.tokens [
+  | [] ↦ None
+  | t ∷ rest ↦ let next : Left = record { tokens = rest; ends = left.ends } in
+      if is_executable (closer section) t then (let s : Option Code × Left = (None, next) in Some s) else option_map (λ c. let s : Option Code × Left = (Some c, next) in s) (code_in t)
+]
+
 -- the entries of a section and its closer, at most count tokens
 unfoldable pub body_within : ℕ → Section → Left → Option Declared
 body_within zero section left = None

@@ -1,5 +1,5 @@
 -- Private aid: what contracts see of what the code reads from a text.
-use Rattle.std.specs.Prelude.{ℕ, List, codes, Option, option_and_then, option_map}
+use Rattle.std.specs.Prelude.{ℕ, List, codes, Option, option_map}
 use Rattle.std.specs.Option.{option_copied}
 use Rattle.cmap_tokens.specs.TokenSeen.{token_seen}
 use Rattle.cmap_files.specs.CodeLengths.{length_of}
@@ -31,9 +31,6 @@ cids_section Notdef Single = files.notdef_char
 abbrev pub cids_after : Shape → reading.Code → Left → Option ((ℕ × CidEntry) × Left)
 cids_after Range start left = reading.cid_range_after start left
 cids_after Single start left = reading.cid_char_after start left
-
-abbrev pub cids_in : Shape → Left → Option ((ℕ × CidEntry) × Left)
-cids_in shape left = option_and_then (λ s. cids_after shape s.0 s.1) (reading.head_in reading.code_in left)
 
 abbrev pub section_seen : Section → files.Section
 section_seen Codespaces = files.codespace_range

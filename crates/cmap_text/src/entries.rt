@@ -1,25 +1,24 @@
-//! The entries of sections. Each call here has the first token of an entry, reads the others, and adds
-//! what the entry declares.
+//! The entries of sections. Each call here has the first code of an entry, reads what follows it, and
+//! adds what the entry declares.
 
 ghost use Rattle.std.specs.Prelude.{◌≡◌, ◌+◌, ◌-◌, [], ◌∷◌};
 ghost use Rattle.cmap_files.specs.CodeLengths.{length_of};
 ghost use Rattle.cmap_files.specs.DeclarationsSeen.{cid_entry_seen, lists_seen};
-ghost use Rattle.cmap_text.specs.EntriesSeen.{Adds, Gives, after_token};
+ghost use Rattle.cmap_text.specs.EntriesSeen.{Adds, Gives};
 ghost use Rattle.cmap_files.specs.Files.{lists_of};
 ghost use Rattle.cmap_files.specs.ListsAppended.{append_lists};
 ghost use Rattle.cmap_files.specs.Outcomes.{Succeeds};
 ghost use Rattle.cmap_files.specs.UnitsSeen.{units_seen};
 ghost use Rattle.cmap_text.specs.TextFiles as files;
-ghost use Rattle.cmap_text.specs.TextSeen.{cids_in, cids_section};
-ghost use Rattle.cmap_text.specs.TextReading.{entry_in, list_in};
+ghost use Rattle.cmap_text.specs.TextSeen.{cids_after, cids_section, code_seen};
+ghost use Rattle.cmap_text.specs.TextReading.{entry_after, list_in};
 
-use crate::tokens::{TokenReader, is_executable};
+use crate::tokens::{Code, TokenReader, is_executable};
 use cmap_files::code_length::CodeLength;
 use cmap_files::declarations::{BfRange, CidRange, Codespace, Lists};
 use cmap_files::fault::Fault;
 use cmap_files::units::Units;
 use cmap_runs::runs::Range;
-use cmap_tokens::token::Token;
 
 /// Which CIDs an entry declares: those of its codes, or the one of all codes that have no other.
 #[derive(Clone, Copy)]
@@ -38,13 +37,12 @@ pub(crate) enum Shape {
 /// code, code of the same length
 pub(crate) fn add_codespace_range(
     reader: &mut TokenReader<'_>,
-    first: &Token<'_>,
+    low: Code,
     lists: &mut Lists,
 ) -> Result<(), Fault>
-    ensures { Adds (entry_in files.codespace_range (after_token first.now reader.old))
+    ensures { Adds (entry_after files.codespace_range (code_seen low) reader.old)
         lists.old lists.new reader.new result }
 {
-    let low = reader.code(first)?;
     let high = reader.next_code()?;
     if low.len.count() != high.len.count() {
         return Err(Fault::Refused);
@@ -60,15 +58,15 @@ pub(crate) fn add_codespace_range(
 /// One entry of CIDs or of notdef CIDs.
 pub(crate) fn add_cids(
     reader: &mut TokenReader<'_>,
-    first: &Token<'_>,
+    start: Code,
     kind: CidKind,
     shape: Shape,
     lists: &mut Lists,
 ) -> Result<(), Fault>
-    ensures { Adds (entry_in (cids_section kind shape) (after_token first.now reader.old))
+    ensures { Adds (entry_after (cids_section kind shape) (code_seen start) reader.old)
         lists.old lists.new reader.new result }
 {
-    let filed = read_cids(reader, first, shape)?;
+    let filed = read_cids(reader, start, shape)?;
     match kind {
         CidKind::Cid => lists.add_cid(filed.len, filed.range)?,
         CidKind::Notdef => lists.add_notdef(filed.len, filed.range)?,
@@ -79,13 +77,12 @@ pub(crate) fn add_cids(
 /// code, destination
 pub(crate) fn add_bf_char(
     reader: &mut TokenReader<'_>,
-    first: &Token<'_>,
+    code: Code,
     lists: &mut Lists,
 ) -> Result<(), Fault>
-    ensures { Adds (entry_in files.bf_char (after_token first.now reader.old))
+    ensures { Adds (entry_after files.bf_char (code_seen code) reader.old)
         lists.old lists.new reader.new result }
 {
-    let code = reader.code(first)?;
     let units = reader.next_destination()?;
     add_text(lists, code.number, code.number, units)
 }
@@ -93,13 +90,12 @@ pub(crate) fn add_bf_char(
 /// code, code, and one destination or a list of them
 pub(crate) fn add_bf_range(
     reader: &mut TokenReader<'_>,
-    first: &Token<'_>,
+    start: Code,
     lists: &mut Lists,
 ) -> Result<(), Fault>
-    ensures { Adds (entry_in files.bf_range (after_token first.now reader.old))
+    ensures { Adds (entry_after files.bf_range (code_seen start) reader.old)
         lists.old lists.new reader.new result }
 {
-    let start = reader.code(first)?;
     let end = reader.next_code()?;
     let Some(token) = reader.required_token() else {
         return Err(Fault::Refused);
@@ -151,11 +147,10 @@ struct Filed {
 
 /// What an entry of CIDs declares: code, code, CID for a range and code, CID for a single code,
 /// filed by the length of the first code.
-fn read_cids(reader: &mut TokenReader<'_>, first: &Token<'_>, shape: Shape) -> Result<Filed, Fault>
-    ensures { Gives (cids_in shape (after_token first.now reader.old))
+fn read_cids(reader: &mut TokenReader<'_>, start: Code, shape: Shape) -> Result<Filed, Fault>
+    ensures { Gives (cids_after shape (code_seen start) reader.old)
         (λ filed. ((length_of filed.len, cid_entry_seen filed.range), reader.new)) result }
 {
-    let start = reader.code(first)?;
     let end = match shape {
         Shape::Range => reader.next_code()?,
         Shape::Single => start,

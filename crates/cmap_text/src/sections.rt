@@ -2,13 +2,13 @@
 
 ghost use Rattle.std.specs.Prelude.{◌≡◌, option_map};
 ghost use Rattle.cmap_tokens.specs.TokenSeen.{token_seen};
-ghost use Rattle.cmap_text.specs.EntriesSeen.{Adds, after_token};
+ghost use Rattle.cmap_text.specs.EntriesSeen.{Adds, Gives};
 ghost use Rattle.cmap_text.specs.TextFiles as files;
-ghost use Rattle.cmap_text.specs.TextReading.{body_in, entry_in, opened_by};
-ghost use Rattle.cmap_text.specs.TextSeen.{section_seen};
+ghost use Rattle.cmap_text.specs.TextReading.{body_in, entry_after, opened_by, start_in};
+ghost use Rattle.cmap_text.specs.TextSeen.{code_seen, section_seen};
 
 use crate::entries::{CidKind, Shape, add_bf_char, add_bf_range, add_cids, add_codespace_range};
-use crate::tokens::{TokenReader, is_executable};
+use crate::tokens::{Code, TokenReader, is_executable};
 use cmap_files::declarations::Lists;
 use cmap_files::fault::Fault;
 use cmap_tokens::token::{Token, one_value_for_a_string};
@@ -71,31 +71,43 @@ pub(crate) fn read_section(
     ensures { Adds (body_in (section_seen section) reader.old) lists.old lists.new reader.new result }
 {
     one_value_for_a_string();
-    loop {
-        let Some(token) = reader.required_token() else {
-            return Err(Fault::Refused);
-        };
-        if is_executable(&token, section.closer()) {
-            return Ok(());
-        }
-        read_entry(reader, section, &token, lists)?;
+    while let Some(start) = next_start(reader, section)? {
+        read_entry(reader, section, start, lists)?;
     }
+    Ok(())
 }
 
-/// Reads what follows the first token of an entry, and adds what the entry declares.
+/// The code that the next entry of a section begins with; `None` at the closer.
+fn next_start(reader: &mut TokenReader<'_>, section: Section) -> Result<Option<Code>, Fault>
+    ensures { Gives (start_in (section_seen section) reader.old)
+        (λ start. (option_map code_seen start, reader.new)) result }
+{
+    if let Some(code) = reader.plain_code() {
+        return Ok(Some(code));
+    }
+    let Some(token) = reader.required_token() else {
+        return Err(Fault::Refused);
+    };
+    if is_executable(&token, section.closer()) {
+        return Ok(None);
+    }
+    Ok(Some(reader.code(&token)?))
+}
+
+/// Reads what follows the first code of an entry, and adds what the entry declares.
 fn read_entry(
     reader: &mut TokenReader<'_>,
     section: Section,
-    first: &Token<'_>,
+    start: Code,
     lists: &mut Lists,
 ) -> Result<(), Fault>
-    ensures { Adds (entry_in (section_seen section) (after_token first.now reader.old))
+    ensures { Adds (entry_after (section_seen section) (code_seen start) reader.old)
         lists.old lists.new reader.new result }
 {
     match section {
-        Section::Codespaces => add_codespace_range(reader, first, lists),
-        Section::Cids(kind, shape) => add_cids(reader, first, kind, shape, lists),
-        Section::BfRange => add_bf_range(reader, first, lists),
-        Section::BfChar => add_bf_char(reader, first, lists),
+        Section::Codespaces => add_codespace_range(reader, start, lists),
+        Section::Cids(kind, shape) => add_cids(reader, start, kind, shape, lists),
+        Section::BfRange => add_bf_range(reader, start, lists),
+        Section::BfChar => add_bf_char(reader, start, lists),
     }
 }

@@ -6,6 +6,7 @@ ghost use Rattle.std.specs.List.{AllByRecursion};
 ghost use Rattle.std.specs.Option.{option_copied};
 ghost use Rattle.cmap_files.specs.UnitsSeen.{units_seen};
 ghost use Rattle.cmap_tokens.specs.Texts.{units_of};
+ghost use Rattle.cmap_tokens.specs.Tokens.{String};
 ghost use Rattle.cmap_tokens.specs.TokenSeen.{token_seen};
 ghost use Rattle.cmap_text.specs.EntriesSeen.{Gives};
 ghost use Rattle.cmap_text.specs.TextFiles.{literal_head, other};
@@ -99,10 +100,25 @@ impl<'d> TokenReader<'d> {
         code_of(&self.string).ok_or(Fault::Refused)
     }
 
+    /// The code of two bytes that comes next, where it stands as most do; `None` of any other token.
+    pub(crate) fn plain_code(&mut self) -> Option<Code>
+        ensures { MatchOption result (self.new ≡ self.old) (λ code. (piece : List ℕ)
+            × (self.old ≡ with_front (String piece ∷ []) self.new)
+            × (code_in (String piece) ≡ Some (code_seen code))) }
+    {
+        one_value_for_a_string();
+        let number = u32::from(self.scanner.next_two_bytes()?);
+        let len = CodeLength::Two;
+        Some(Code { len, number })
+    }
+
     /// The code that comes next.
     pub(crate) fn next_code(&mut self) -> Result<Code, Fault>
         ensures { Gives (head_in code_in self.old) (λ code. (code_seen code, self.new)) result }
     {
+        if let Some(code) = self.plain_code() {
+            return Ok(code);
+        }
         let Some(token) = self.required_token() else {
             return Err(Fault::Refused);
         };
@@ -134,6 +150,10 @@ impl<'d> TokenReader<'d> {
         ensures { Gives (head_in destination_in self.old)
             (λ units. (units_seen units, self.new)) result }
     {
+        one_value_for_a_string();
+        if let Some(number) = self.scanner.next_two_bytes() {
+            return Ok(units_of_number(2, u32::from(number)));
+        }
         let Some(token) = self.required_token() else {
             return Err(Fault::Refused);
         };
@@ -145,6 +165,9 @@ impl<'d> TokenReader<'d> {
         ensures { MatchOption result (head_in cid_in self.old ≡ None)
             (λ cid. head_in cid_in self.old ≡ Some (cid, self.new)) }
     {
+        if let Some(number) = self.scanner.next_decimal() {
+            return u32::try_from(number).ok();
+        }
         cid_of(&self.required_token()?)
     }
 }

@@ -4,7 +4,7 @@ use Rattle.std.specs.Char.{digit_value, is_digit}
 use Rattle.std.specs.List.{list_all, prefix_len}
 use Rattle.std.proofs.lemmas.Bool.{and_from, lt-ltb, cases_lt, and_parts, ltb-true, le-leb, not_from_false}
 use Rattle.std.proofs.lemmas.Int.Digits.{digits_value_is, digits_value_more, number_lt}
-use Rattle.std.proofs.Math.Nat.{mul-le-mul_left, mul-le-mul_right, pow-le-pow_right}
+use Rattle.std.proofs.Math.Nat.{mul-le-mul_left, pow-le-pow_right}
 use Rattle.cmap_tokens.specs.Numbers.{digits_number, are_digits, digits_value, Integer, digits_len, integer, numeral}
 use Rattle.std.specs.Prelude.{option_map, unwrap_or, codes, nat_le}
 use Rattle.std.specs.Int.Digits.{AllBelowBase, number_from_digits_after}
@@ -37,12 +37,6 @@ min_step n base d m h =
 pub digits_number_more : (base : ℕ) (text : List ℕ) (i : ℕ) → i < length text → digits_number base (take (i + 1) text) ≡ digits_number base (take i text) * base + digit_value (get_or text i 0)
 digits_number_more base text i h =
     sym (digits_value_is base (take (i + 1) text)) ∙ digits_value_more base text i h ∙ ap (λ n. n * base + digit_value (get_or text i 0)) (digits_value_is base (take i text))
-
--- a small number has room for one more digit
-pub small_more : (number base digit : ℕ) → number < 2 ^ 58 → base ≤ 36 → digit < base
-    → number * base + digit ≡ min (min (number * base) (2 ^ 64 - 1) + digit) (2 ^ 64 - 1)
-small_more number base digit small low within =
-    omega (arith, mul-le-mul_right base (let le : number ≤ 2 ^ 58 = omega arith in le), mul-le-mul_left (2 ^ 58) low)
 
 -- ---- up to three octal digits
 pub below_base : (base : ℕ) (digits : List ℕ) → list_all (λ c. is_digit c base) digits ≡ true → AllBelowBase base (map digit_value digits)

@@ -1,3 +1,4 @@
+pub mod AfterBlank
 pub mod ByteTests
 pub mod Digits
 pub mod Fronts

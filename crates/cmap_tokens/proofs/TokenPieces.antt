@@ -36,7 +36,7 @@ bracket_first b text bracket =
     (rw bracket refl, rw (not_percent, not_white) refl, one_of (λ c. is_regular c || c == 47) b (codes "[]{}") refl bracket)
 
 -- no regular byte follows a run
-run_stops : (text : List ℕ) → begins_regular (drop (prefix_len is_regular text) text) ≡ false
+pub run_stops : (text : List ℕ) → begins_regular (drop (prefix_len is_regular text) text) ≡ false
 run_stops [] = refl
 run_stops (b ∷ text) =
     elim (cases_Bool (is_regular b)) [

@@ -1,9 +1,10 @@
 -- How numbers are spelled. PostScript Language Reference, third edition, 3.2.2, over whole runs of regular bytes.
-use Rattle.std.specs.Prelude.{ℕ, ℤ, pos, neg_ℤ, ◌+◌, ◌-◌, ◌^◌, ◌||◌, ◌&&◌, ◌==◌, nat_lt, nat_le, Bool, false, List, [], ◌∷◌, length, drop, map, Option, Some, None, option_map, option_and_then, int_le, if◌then◌else◌}
+use Rattle.std.specs.Prelude.{◌≡◌, ℕ, ℤ, pos, neg_ℤ, ◌+◌, ◌-◌, ◌^◌, ◌<◌, get_or, ◌||◌, ◌&&◌, ◌==◌, nat_lt, nat_le, Bool, false, List, [], ◌∷◌, length, drop, map, Option, Some, None, option_map, option_and_then, int_le, if◌then◌else◌}
 use Rattle.std.specs.List.{list_all, prefix_len}
 use Rattle.std.specs.Option.{option_or}
 use Rattle.std.specs.Char.{digit_value, is_digit}
 use Rattle.std.specs.Int.Digits.{number_from_digits}
+use Rattle.cmap_tokens.specs.Bytes.{is_regular}
 use Rattle.cmap_tokens.specs.Ascii.{hash, plus, minus, dot, letter_e, capital_e}
 
 -- the value of a number token
@@ -78,3 +79,9 @@ is_real text = ends_real (digits_len 10 (without_sign text)) (drop (digits_len 1
 -- the number that a text is spelled as: an integer, else an integer with its base, else a real
 unfoldable pub numeral : List ℕ → Option Number
 numeral text = option_or (integer text) (option_or (radix_integer text) (if is_real text then Some Real else None))
+
+-- the text begins with len decimal digits, and after them stands a byte that is not regular
+pub record EndsDigits (text : List ℕ) (len : ℕ) : Type 0 where
+  pub digits : digits_len 10 text ≡ len
+  pub within : len < length text
+  pub special : is_regular (get_or text len 0) ≡ false

@@ -1,5 +1,8 @@
 -- What contracts see of a scanner.
-use Rattle.std.specs.Prelude.{◌≡◌, ℕ, ◌+◌, List, length, drop}
+use Rattle.std.specs.Prelude.{◌≡◌, ℕ, ◌+◌, ◌≤◌, List, ◌∷◌, ◌++◌, length, drop, IsTrue}
+use Rattle.cmap_tokens.specs.Bytes.{is_white}
+use Rattle.cmap_tokens.specs.Numbers.{EndsDigits}
+use Rattle.cmap_tokens.specs.Strings.{IsPlain}
 use Rattle.cmap_tokens.specs.Tokens.{Token, Front}
 
 -- the source, and how far the scanner has come in it
@@ -24,3 +27,11 @@ FirstToken text token len = (gap piece : List ℕ) × OnlyFront text gap piece t
 abbrev pub ReadsToken : Place → Token → Place → Type 0
 ReadsToken old token new =
     (gap piece : List ℕ) × OnlyFront (rest_of old) gap piece token (rest_of new) × (new ≡ record { source = old.source; passed = old.passed + (length gap + length piece) })
+
+-- one white byte, < four digits >, and more
+abbrev pub BeginsTwoBytes : List ℕ → Type 0
+BeginsTwoBytes text = (blank : ℕ) × (piece rest : List ℕ) × (text ≡ blank ∷ piece ++ rest) × IsTrue (is_white blank) × IsPlain piece × (length piece ≡ 6)
+
+-- one white byte, and then one to 18 decimal digits that no regular byte follows
+abbrev pub BeginsDecimal : List ℕ → Type 0
+BeginsDecimal text = (blank : ℕ) × (rest : List ℕ) × (text ≡ blank ∷ rest) × IsTrue (is_white blank) × (len : ℕ) × (1 ≤ len) × (len ≤ 18) × EndsDigits rest len

@@ -1,6 +1,7 @@
 -- The bytes that a string token stands for. PostScript Language Reference, third edition, 3.2.2.
-use Rattle.std.specs.Prelude.{◌≡◌, ℕ, ◌+◌, ◌-◌, ◌*◌, ◌%◌, ◌<◌, ◌≤◌, ◌||◌, ◌==◌, ◌&&◌, ◌⊎◌, nat_le, Bool, false, List, [], ◌∷◌, ◌++◌, length, get_or, take, drop, map, filter, IsTrue, if◌then◌else◌}
-use Rattle.std.specs.List.{list_all}
+use Rattle.std.specs.Prelude.{◌≡◌, ℕ, ◌+◌, ◌-◌, ◌*◌, ◌%◌, ◌^◌, ◌<◌, ◌≤◌, ◌||◌, ◌==◌, ◌&&◌, ◌⊎◌, nat_le, Bool, false, List, [], ◌∷◌, ◌++◌, length, get_or, take, drop, map, filter, IsTrue, if◌then◌else◌}
+use Rattle.std.specs.Int.Digits.{number_from_digits}
+use Rattle.std.specs.List.{AllByRecursion, list_all}
 use Rattle.std.specs.Char.{digit_value, is_digit}
 use Rattle.cmap_tokens.specs.Ascii.{backspace, tab, line_feed, form_feed, carriage_return, open_parenthesis, close_parenthesis, less, greater, backslash, letter_b, letter_f, letter_n, letter_r, letter_t}
 use Rattle.cmap_tokens.specs.Numbers.{are_digits, digits_number}
@@ -86,3 +87,7 @@ IsPlain piece = IsTrue (is_between less greater piece) × ArePairs (inside piece
 pub record IsOnlyValue (piece value : List ℕ) : Type 0 where
   pub holds : IsValue piece value
   pub alone : (other : List ℕ) → IsValue piece other → other ≡ value
+
+-- the piece stands for two bytes alone, and they write this number, the high one first
+abbrev pub WritesTwoBytes : List ℕ → ℕ → Type 0
+WritesTwoBytes piece number = (value : List ℕ) × IsOnlyValue piece value × AllByRecursion (λ b. b < 2 ^ 8) value × (length value ≡ 2) × (number ≡ number_from_digits 256 value)

@@ -1,5 +1,5 @@
 -- Private aid: what the code reads, as functions on lists. Public contracts speak of Tokens, Numbers and Strings alone.
-use Rattle.std.specs.Prelude.{◌≡◌, ◌↔◌, ◌<◌, zero, suc, ◌%◌, ◌&&◌, ◌++◌, length, get_or, drop, ℕ, ◌+◌, ◌==◌, Bool, true, false, not, List, [], ◌∷◌, take, map, option_map, filter, Option, Some, None, codes, if◌then◌else◌}
+use Rattle.std.specs.Prelude.{◌≡◌, ◌↔◌, zero, suc, ◌%◌, ◌&&◌, ◌++◌, length, drop, ℕ, ◌+◌, ◌==◌, Bool, true, false, not, List, [], ◌∷◌, take, map, option_map, filter, Option, Some, None, codes, if◌then◌else◌}
 use Rattle.std.specs.List.{prefix_len}
 use Rattle.std.specs.Option.{option_to_list}
 use Rattle.std.specs.Char.{digit_value, is_digit}
@@ -117,9 +117,3 @@ value_of piece =
 -- a piece stands for the value that is read of it, and for no other
 abbrev pub HaveValuesRead : Type 0
 HaveValuesRead = (piece value : List ℕ) → IsValue piece value ↔ (value_of piece ≡ Some value)
-
--- the text begins with len decimal digits, and after them stands a byte that is not regular
-pub record EndsDigits (text : List ℕ) (len : ℕ) : Type 0 where
-  pub digits : digits_len 10 text ≡ len
-  pub within : len < length text
-  pub special : is_regular (get_or text len 0) ≡ false

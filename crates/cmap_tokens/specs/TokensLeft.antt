@@ -1,5 +1,6 @@
 -- The tokens that are left of a text, and whether the text ends after them.
 use Rattle.std.specs.Prelude.{◌≡◌, ◌↔◌, ℕ, zero, suc, nat_le, Bool, true, false, List, [], ◌∷◌, ◌++◌, length, drop, Some, None}
+use Rattle.cmap_tokens.specs.Scanner.{Place, rest_of}
 use Rattle.cmap_tokens.specs.Tokens.{Token, Tokens}
 use Rattle.cmap_tokens.specs.TokenReading.{gap_len, first_piece}
 
@@ -37,3 +38,7 @@ tokens_of text = tokens_within (length text) text
 -- the tokens of the text are those that are left, if it ends after them
 abbrev pub HasTokens : List ℕ → Left → Type 0
 HasTokens text left = (tokens : List Token) → Tokens text tokens ↔ ((left.tokens ≡ tokens) × (left.ends ≡ true))
+
+-- the token comes first of those that are left in the old place, and then those of the new one
+abbrev pub LeavesAfter : Token → Place → Place → Type 0
+LeavesAfter token old new = tokens_of (rest_of old) ≡ with_front (token ∷ []) (tokens_of (rest_of new))

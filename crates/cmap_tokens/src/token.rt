@@ -11,7 +11,8 @@ mod numerals;
 mod pieces;
 mod values;
 
-use self::pieces::first_token;
+use self::numerals::blank_decimal;
+use self::pieces::{TWO_BYTES_LEN, first_token, two_bytes};
 use self::values::{decode_hex, decode_text, pairs_number};
 use std::alloc::AllocError;
 use std::marker::Model;
@@ -169,11 +170,14 @@ impl<'a> Model for Scanner<'a> {
 }
 
 impl<'a> Scanner<'a> {
-    ghost use Rattle.std.specs.Prelude.{◌≡◌, ◌↔◌, [], ◌∷◌, None, Ok, IfOk, IfSome, IsErr, MatchOption, MatchResult, OnErr};
+    ghost use Rattle.std.specs.Prelude.{◌≡◌, ℕ, ◌↔◌, List, [], ◌∷◌, None, Ok, pos, IfOk, IfSome, IsSome, IsErr, MatchOption, MatchResult, OnErr};
     ghost use Rattle.cmap_tokens.specs.Gaps.{IsBlank};
     ghost use Rattle.cmap_tokens.specs.Tokens.{IsMalformed};
-    ghost use Rattle.cmap_tokens.specs.TokensLeft.{HasTokens, ended, malformed, tokens_of, with_front};
-    ghost use Rattle.cmap_tokens.specs.Scanner.{ReadsToken, rest_of};
+    ghost use Rattle.cmap_tokens.specs.TokensLeft.{HasTokens, LeavesAfter, ended, malformed, tokens_of, with_front};
+    ghost use Rattle.cmap_tokens.specs.Numbers.{Integer};
+    ghost use Rattle.cmap_tokens.specs.Scanner.{BeginsDecimal, BeginsTwoBytes, ReadsToken, rest_of};
+    ghost use Rattle.cmap_tokens.specs.Strings.{WritesTwoBytes};
+    ghost use Rattle.cmap_tokens.specs.Tokens as tokens;
     ghost use Rattle.cmap_tokens.specs.TokenSeen.{token_seen};
 
     /// A scanner before the first byte of a text.
@@ -184,6 +188,35 @@ impl<'a> Scanner<'a> {
         ensures tokens { HasTokens source.now (tokens_of source.now) }
     {
         Scanner { source, place: 0 }
+    }
+
+    /// The number that the two bytes of the next string write, the high one first, where one white
+    /// byte and then `<`, four digits and `>` come next, as in most codes. The scanner is moved past
+    /// the string. `None` of any other text, and then nothing moves.
+    pub fn next_two_bytes(&mut self) -> Option<u16>
+        ensures token { IfSome result (λ number. (piece : List ℕ)
+            × ReadsToken self.old (tokens.String piece) self.new × WritesTwoBytes piece number
+            × LeavesAfter (tokens.String piece) self.old self.new) }
+        ensures some { BeginsTwoBytes (rest_of self.old) → IsSome result }
+        ensures stays { result ≡ None → self.new ≡ self.old }
+    {
+        let number = two_bytes(&self.source[self.place..])?;
+        self.place += TWO_BYTES_LEN;
+        Some(number)
+    }
+
+    /// The next number, where one white byte and then one to 18 decimal digits come next. The scanner
+    /// is moved past it. `None` of any other text, and then nothing moves.
+    pub fn next_decimal(&mut self) -> Option<u64>
+        ensures token { IfSome result (λ number.
+            ReadsToken self.old (tokens.Numeral (Integer (pos number))) self.new
+            × LeavesAfter (tokens.Numeral (Integer (pos number))) self.old self.new) }
+        ensures some { BeginsDecimal (rest_of self.old) → IsSome result }
+        ensures stays { result ≡ None → self.new ≡ self.old }
+    {
+        let (number, len) = blank_decimal(&self.source[self.place..])?;
+        self.place += len;
+        Some(number)
     }
 
     /// The next token, whose slices are those of the text; `None` where only white space and

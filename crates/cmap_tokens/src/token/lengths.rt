@@ -6,7 +6,7 @@ ghost use Rattle.cmap_tokens.specs.Bytes.{is_regular};
 ghost use Rattle.cmap_tokens.specs.Tokens.{opened};
 ghost use Rattle.cmap_tokens.specs.TokenReading as reading;
 
-use super::byte_class::{is_hex_body, is_regular};
+use super::byte_class::{digit_value, is_regular, is_white};
 
 // How many regular bytes a text begins with.
 pub(super) fn run_len(text: &[u8]) -> usize
@@ -33,28 +33,13 @@ pub(super) fn string_len(text: &[u8]) -> Option<usize>
     }
 }
 
-// How many bytes a hexadecimal string takes after its `<`. Two bytes are looked at in a turn.
+// How many bytes a hexadecimal string takes after its `<`.
 fn hex_len(text: &[u8]) -> Option<usize>
     ensures exact { result ≡ reading.hex_len text.now }
     ensures within { IfSome result (λ len. len ≤ length text.now) }
 {
-    let mut rest = text;
-    while let [first, second, after @ ..] = rest {
-        if !is_hex_body(*first) || !is_hex_body(*second) {
-            break;
-        }
-        rest = after;
-    }
-    Some(text.len() - rest.len() + hex_rest_len(rest)?)
-}
-
-// As `hex_len`, byte by byte.
-fn hex_rest_len(text: &[u8]) -> Option<usize>
-    ensures exact { result ≡ reading.hex_len text.now }
-    ensures within { IfSome result (λ len. len ≤ length text.now) }
-{
     for (i, byte) in text.iter().enumerate() {
-        if !is_hex_body(*byte) {
+        if digit_value(*byte) >= 16 && !is_white(*byte) {
             return if *byte == b'>' { Some(i + 1) } else { None };
         }
     }

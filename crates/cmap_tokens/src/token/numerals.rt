@@ -1,21 +1,45 @@
 //! The numbers that runs of regular bytes are spelled as.
 
-ghost use Rattle.std.specs.Prelude.{◌≡◌, ℕ, ◌+◌, ◌-◌, ◌<◌, ◌≤◌, ◌^◌, min, length, take, IfSome, IsSome, Some, option_map, pos, neg_ℤ, if◌then◌else◌};
+ghost use Rattle.std.specs.Prelude.{◌≡◌, ℕ, ◌+◌, ◌-◌, ◌<◌, ◌≤◌, ◌^◌, false, List, ◌∷◌, ◌++◌, min, length, take, IfSome, IsSome, IsTrue, Some, option_map, pos, neg_ℤ, if◌then◌else◌};
 ghost use Rattle.std.specs.List.{prefix_len};
 ghost use Rattle.cmap_tokens.specs.Numbers as numbers;
-ghost use Rattle.cmap_tokens.specs.Bytes.{is_regular};
+ghost use Rattle.cmap_tokens.specs.Numbers.{EndsDigits};
+ghost use Rattle.cmap_tokens.specs.Bytes.{is_regular, is_white};
+ghost use Rattle.cmap_tokens.specs.Scanner.{BeginsDecimal};
+ghost use Rattle.cmap_tokens.specs.Tokens.{IsRun, begins_regular};
 ghost use Rattle.cmap_tokens.specs.NumberSeen.{number_seen};
-ghost use Rattle.cmap_tokens.specs.TokenReading.{EndsDigits};
 
 use super::Number;
-use super::byte_class::{digit_value, is_regular};
+use super::byte_class::{digit_value, is_regular, is_white};
+
+// The decimal number that a text begins with after one white byte, and how many bytes both take.
+pub(super) fn blank_decimal(text: &[u8]) -> Option<(u64, usize)>
+    ensures found { IfSome result (λ first. (blank : ℕ) × (piece rest : List ℕ)
+        × (text.now ≡ blank ∷ piece ++ rest) × IsTrue (is_white blank) × IsRun piece
+        × (begins_regular rest ≡ false) × (first.1 ≡ 1 + length piece)
+        × (numbers.numeral piece ≡ Some (numbers.Integer (pos first.0)))) }
+    ensures within { IfSome result (λ first. first.1 ≤ length text.now) }
+    ensures some { BeginsDecimal text.now → IsSome result }
+{
+    match text {
+        [blank, rest @ ..] if is_white(*blank) => {
+            let (number, len) = decimal(rest)?;
+            Some((number, 1 + len))
+        }
+        _ => None,
+    }
+}
+
+// A smaller number has room for one more digit.
+const SMALL: u64 = 1 << 58;
 
 // The number of a run of decimal digits that a text begins with, and how many digits these are.
 // `None` where the run is no digits alone, where the text ends with it, and where it has more than
 // 18.
-pub(super) fn decimal(text: &[u8]) -> Option<(Number, usize)>
-    ensures piece { IfSome result (λ first. (first.1 ≡ prefix_len is_regular text.now)
-        × (numbers.numeral (take first.1 text.now) ≡ Some (number_seen first.0))) }
+fn decimal(text: &[u8]) -> Option<(u64, usize)>
+    ensures piece { IfSome result (λ first. (0 < first.1) × (first.1 ≡ prefix_len is_regular text.now)
+        × (numbers.numeral (take first.1 text.now) ≡ Some (numbers.Integer (pos first.0)))) }
+    ensures within { IfSome result (λ first. first.1 ≤ length text.now) }
     ensures few { (n : ℕ) → 1 ≤ n → n ≤ 18 → EndsDigits text.now n → IsSome result }
 {
     let mut number: u64 = 0;
@@ -25,7 +49,7 @@ pub(super) fn decimal(text: &[u8]) -> Option<(Number, usize)>
             if i == 0 || is_regular(*byte) {
                 return None;
             }
-            return Some((Number::Integer(number as i64), i));
+            return Some((number, i));
         }
         if number >= SMALL {
             return None;
@@ -144,9 +168,6 @@ fn without_sign(text: &[u8]) -> &[u8]
     }
 }
 
-// A smaller number has room for one more digit of any base.
-const SMALL: u64 = 1 << 58;
-
 // The number that one or more digits of a base write, or `u64::MAX` where it is larger.
 pub(super) fn digits_number(base: u64, text: &[u8]) -> Option<u64>
     requires low { 2 ≤ base }
@@ -162,11 +183,7 @@ pub(super) fn digits_number(base: u64, text: &[u8]) -> Option<u64>
         if digit >= base {
             return None;
         }
-        number = if number < SMALL {
-            number * base + digit
-        } else {
-            number.saturating_mul(base).saturating_add(digit)
-        };
+        number = number.saturating_mul(base).saturating_add(digit);
     }
     Some(number)
 }

@@ -1,19 +1,21 @@
 //! The token that a text begins with.
 
-ghost use Rattle.std.specs.Prelude.{◌≡◌, ◌≤◌, false, length, take, option_map, IfOk, IfSome, MatchOption, MatchResult};
+ghost use Rattle.std.specs.Prelude.{◌≡◌, ℕ, ◌≤◌, false, List, ◌∷◌, ◌++◌, length, take, option_map, IfOk, IfSome, IsSome, IsTrue, MatchOption, MatchResult};
 ghost use Rattle.std.specs.List.{prefix_len};
-ghost use Rattle.cmap_tokens.specs.Bytes.{is_regular};
+ghost use Rattle.cmap_tokens.specs.Bytes.{is_regular, is_white};
 ghost use Rattle.cmap_tokens.specs.Gaps.{IsBlank};
 ghost use Rattle.cmap_tokens.specs.Tokens as tokens;
-ghost use Rattle.cmap_tokens.specs.Tokens.{IsMalformed, name_or_number};
-ghost use Rattle.cmap_tokens.specs.Scanner.{FirstToken};
+ghost use Rattle.cmap_tokens.specs.Tokens.{IsHexString, IsMalformed, name_or_number};
+ghost use Rattle.cmap_tokens.specs.Scanner.{BeginsTwoBytes, FirstToken};
+ghost use Rattle.cmap_tokens.specs.Strings.{WritesTwoBytes};
 ghost use Rattle.cmap_tokens.specs.TokenReading as reading;
 ghost use Rattle.cmap_tokens.specs.TokenSeen.{token_seen};
 
-use super::byte_class::is_regular;
+use super::byte_class::{is_regular, is_white};
 use super::gaps::gap_len;
 use super::lengths::{run_len, string_len};
-use super::numerals::{decimal, number_of};
+use super::numerals::number_of;
+use super::values::pairs_number;
 use super::{Malformed, Name, StringToken, Token};
 
 // The token that a text begins with, and how many bytes it takes with the gap before it.
@@ -66,16 +68,12 @@ fn string_piece(text: &[u8]) -> Option<(Token<'_>, usize)>
 }
 
 // The number or the name that a run is, which a text begins with, and how many bytes it takes.
-// Decimal numbers, of which files are full, are read in one pass.
 fn run_piece(text: &[u8]) -> (Token<'_>, usize)
     ensures token { token_seen result.0
         ≡ name_or_number (take (prefix_len is_regular text.now) text.now) }
     ensures len { result.1 ≡ prefix_len is_regular text.now }
     ensures within { result.1 ≤ length text.now }
 {
-    if let Some((number, len)) = decimal(text) {
-        return (Token::Number(number), len);
-    }
     let run = &text[..run_len(text)];
     match number_of(run) {
         Some(number) => (Token::Number(number), run.len()),
@@ -90,4 +88,24 @@ fn executable_name(bytes: &[u8]) -> Token<'_>
         literal: false,
         bytes,
     })
+}
+
+// How many bytes one white byte and a string of two bytes take, whose digits stand in pairs.
+pub(super) const TWO_BYTES_LEN: usize = 7;
+
+// The number that two bytes write, whose string, such as `<8140>`, a text begins with after one white
+// byte.
+pub(super) fn two_bytes(text: &[u8]) -> Option<u16>
+    ensures found { IfSome result (λ number. (blank : ℕ) × (piece rest : List ℕ)
+        × (text.now ≡ blank ∷ piece ++ rest) × IsTrue (is_white blank) × IsHexString piece
+        × (length piece ≡ 6) × WritesTwoBytes piece number) }
+    ensures some { BeginsTwoBytes text.now → IsSome result }
+{
+    match text {
+        [blank, b'<', _, _, _, _, b'>', ..] if is_white(*blank) => {
+            let (_, number) = pairs_number(&text[2..6])?;
+            Some(number as u16)
+        }
+        _ => None,
+    }
 }

@@ -32,25 +32,8 @@ pub(super) fn pairs_number(digits: &[u8]) -> Option<(u8, u32)>
     Some((len as u8 / 2, number))
 }
 
-// Appends the bytes of hexadecimal digits, white space among them. Two bytes are looked at in a turn.
+// Appends the bytes of hexadecimal digits, white space among them.
 pub(super) fn decode_hex(digits: &[u8], out: &mut Vec<u8>)
-    requires { vec_len out.old + length digits.now ≤ vec_capacity out.old }
-    ensures { out.new.items ≡ out.old.items ++ hex_value digits.now }
-{
-    let mut rest = digits;
-    while let [first, second, after @ ..] = rest {
-        let (high, low) = (digit_value(*first), digit_value(*second));
-        if high >= 16 || low >= 16 {
-            break;
-        }
-        out.push_reserved(16 * high + low);
-        rest = after;
-    }
-    decode_spaced_hex(rest, out);
-}
-
-// Appends the bytes of hexadecimal digits, digit by digit.
-fn decode_spaced_hex(digits: &[u8], out: &mut Vec<u8>)
     requires { vec_len out.old + length digits.now ≤ vec_capacity out.old }
     ensures { out.new.items ≡ out.old.items ++ hex_value digits.now }
 {

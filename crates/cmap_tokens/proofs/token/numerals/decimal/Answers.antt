@@ -1,12 +1,11 @@
-use Rattle.std.proofs.Common.{◌≡◌, ◌+◌, ◌^◌, ◌<◌, ◌≤◌, w64, get_or, drop, Some, sym, ap, ◌∙◌, arith}
+use Rattle.std.proofs.Common.{◌≡◌, ◌+◌, ◌<◌, ◌≤◌, get_or, drop, sym, ap, ◌∙◌, arith}
 use Rattle.std.proofs.lemmas.Bool.{both_ways, le-ltb, lt-ltb}
 use Rattle.std.proofs.lemmas.Grind.{pow_more}
-use Rattle.std.proofs.lemmas.Int.{to_z_pos}
 use Rattle.std.proofs.lemmas.List.Sums.{prefix_len-drop_all, prefix_len-drop_no, prefix_len-drop_yes}
 use Rattle.std.proofs.Math.Nat.{pow-le-pow_right}
 use Rattle.std.specs.Char.{is_digit}
 use Rattle.cmap_tokens.specs.Bytes.{is_regular}
-use Rattle.cmap_tokens.specs.Numbers.{Integer, digits_len}
+use Rattle.cmap_tokens.specs.Numbers.{digits_len}
 use Rattle.cmap_tokens.proofs.Digits.{decimal_run, digits_number_more}
 use Rattle.cmap_tokens.proofs.token.numerals.decimal.Goals as goal
 use Rattle.cmap_tokens.proofs.token.numerals.decimal.Goals.{After-digit_value-digit, then-i-eq0-via-then-i-eq0, then-i-eq0-via-else-i-eq0+then-is_regular}
@@ -22,9 +21,9 @@ goes_on c digit = omega (arith, c.loop-i.invariant.digits, prefix_len-drop_yes (
 pub returns-then-digit-ge10-clause-piece : goal.returns-then-digit-ge10-clause-piece
 returns-then-digit-ge10-clause-piece c =
     let len = ends (goal.at.returns-then-digit-ge10-clause-piece c).After-digit_value-digit c.if-digit-ge10.true in
-    let small : c.loop-i.number < 2 ^ 63 = omega (arith, c.loop-i.invariant.small) in
-    let (run, value) = decimal_run c.args.text.now c.loop-i.i c.loop-i.number (omega (arith, c.if-i-eq0.false)) c.loop-i-test.true len c.loop-i.invariant.value (sym c.if-is_regular.ensures) small in
-    (run, value ∙ ap (λ z. Some (Integer z)) (sym (to_z_pos w64 c.loop-i.number small)))
+    let some : 0 < c.loop-i.i = omega (arith, c.if-i-eq0.false) in
+    let (run, spelled) = decimal_run c.args.text.now c.loop-i.i c.loop-i.number some c.loop-i-test.true len c.loop-i.invariant.value (sym c.if-is_regular.ensures) (omega (arith, c.loop-i.invariant.small)) in
+    (some, run, spelled)
 
 pub loop-i-preserved : goal.loop-i-preserved
 loop-i-preserved c =

@@ -1,0 +1,8 @@
+use Rattle.std.proofs.Common.{sym, ◌∙◌}
+use Rattle.cmap_tokens.proofs.AfterBlank.{decimal_found}
+use Rattle.cmap_tokens.proofs.token.numerals.blank_decimal.Goals as goal
+
+pub returns-in_ok-number-in-len1-up-clause-found : goal.returns-in_ok-number-in-len1-up-clause-found
+returns-in_ok-number-in-len1-up-clause-found c =
+    let (some, is, spelled) = c.in_ok-number-in-len1-up.ensures.piece in
+    decimal_found c.args.text.now c.in_ok-number-in-len1-up.len _ c.in-len1-up.len_at_least (sym c.is_white.ensures ∙ c.if-is_white.true) some is c.in_ok-number-in-len1-up.ensures.within spelled
