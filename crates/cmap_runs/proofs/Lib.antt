@@ -2,6 +2,7 @@ pub mod BinaryDigits
 pub mod BlocksMade
 pub mod FoundPlace
 pub mod LastPlace
+pub mod LieApart
 pub mod MaximalRuns
 pub mod OpenDecide
 pub mod RangesDecide

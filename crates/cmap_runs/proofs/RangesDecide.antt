@@ -1,5 +1,5 @@
 -- The ranges of declarations tell which one decides a code; ranges that lie apart are the runs.
-use Rattle.std.proofs.Common.{◌≡◌, ℕ, ◌+◌, ◌-◌, ◌<◌, ◌≤◌, ◌^◌, List, [], ◌∷◌, ◌++◌, length, get_or, Option, refl, sym, ap, ◌∙◌, subst, inl, inr, arith}
+use Rattle.std.proofs.Common.{◌≡◌, ℕ, ◌+◌, ◌-◌, ◌*◌, ◌<◌, ◌≤◌, ◌^◌, List, [], ◌∷◌, ◌++◌, length, get_or, Option, refl, sym, ap, ◌∙◌, subst, inl, inr, arith}
 use Rattle.std.specs.Prelude.{Some, None, IsSome, All, Any, map, slice_get}
 use Rattle.std.specs.List.{Contains, range_with_len}
 use Rattle.std.specs.List.Sorted.{IsPermutation, IsNonDecreasingBy}
@@ -10,8 +10,10 @@ use Rattle.std.proofs.lemmas.List.{get_or-map, get_or_default, length-map, lengt
 use Rattle.std.proofs.lemmas.List.Elements.{All-push, Contains-append_left, Contains-push}
 use Rattle.std.proofs.lemmas.List.Sorted.{All-permutation, Contains-permutation, IsNonDecreasingBy-push, length_permutation}
 use Rattle.std.proofs.lemmas.Option.{get_or_from_slice_get, slice_get_within, slice_get-map, slice_get-get_or}
-use Rattle.cmap_runs.specs.DeclaredRanges.{IsRange, AreRanges, AreApart, LieApart, range_at}
-use Rattle.cmap_runs.specs.Ranges.{Span, Run, Holds, AreRunsBelow, last_place}
+use Rattle.cmap_runs.specs.DeclaredRanges.{IsRange, AreRanges, AreApart, ArePlacesApart, LieApart, range_at}
+use Rattle.cmap_runs.specs.Ranges.{Span, Run, Holds, last_place, runs_of, AreRunsBelow}
+use Rattle.cmap_runs.proofs.MaximalRuns.{runs_of-unique}
+use Rattle.cmap_runs.proofs.LieApart.{LieApart-ascend}
 use Rattle.cmap_runs.proofs.LastPlace.{ContainsAt, IsLast, is_last}
 
 -- ---- one more declaration
@@ -203,14 +205,6 @@ ranges_of_places spans places all lie =
     (λ k d lt filled. (k, omega (arith, length-map places (range_at spans)), get_or-map (range_at spans) places k d (range_at spans (get_or places k d)) lt))
     (omega (arith, length-map places (range_at spans)))
 
-places_in_order : (spans : List Span) (places : List ℕ)
-    → IsNonDecreasingBy (λ place. (range_at spans place).low) places → IsNonDecreasingBy (λ range. range.low) (map (range_at spans) places)
-places_in_order spans places sorted = λ i j d le lt.
-    let within : j < length places = omega (arith, length-map places (range_at spans)) in
-    let first = get_or-map (range_at spans) places i 0 d (omega arith) in
-    let later = get_or-map (range_at spans) places j 0 d within in
-    omega (arith, ap (λ (r : Run). r.low) first, ap (λ (r : Run). r.low) later, sorted i j 0 le within)
-
 pub places_apart : (spans : List Span) (places : List ℕ)
     → ((k d : ℕ) → k < length places → ((range_at spans (get_or places k d)).low ≤ (range_at spans (get_or places k d)).high) × ((range_at spans (get_or places k d)).high < 2 ^ 32))
     → ((k d : ℕ) → k + 1 < length places → (range_at spans (get_or places k d)).high < (range_at spans (get_or places (k + 1) d)).low) → LieApart (map (range_at spans) places)
@@ -226,8 +220,15 @@ places_apart spans places filled apart = record {
       omega (arith, ap (λ (r : Run). r.high) first, ap (λ (r : Run). r.low) later, apart i 0 within);
 }
 
-pub runs_at_places : (spans : List Span) (places : List ℕ)
-    → IsPermutation (range_with_len 0 (length spans)) places → IsNonDecreasingBy (λ place. (range_at spans place).low) places
-    → LieApart (map (range_at spans) places) → AreRunsBelow (last_place spans) (2 ^ 32) (map (range_at spans) places)
-runs_at_places spans places all order lie =
-    runs_are_ranges spans (map (range_at spans) places) (ranges_of_places spans places all lie) (places_in_order spans places order) lie.apart
+pub runs_at_places : (spans : List Span) (places : List ℕ) → ArePlacesApart spans places → map (range_at spans) places ≡ runs_of spans
+runs_at_places spans places are =
+    runs_of-unique spans (map (range_at spans) places)
+    (runs_are_ranges spans (map (range_at spans) places) (ranges_of_places spans places are.every are.apart) (LieApart-ascend (map (range_at spans) places) are.apart) are.apart.apart)
+
+pub places_within_list : {T : Type 0} (span_of : T → Span) (list : List T) (places : List ℕ) → ArePlacesApart (map span_of list) places → All (λ place. place < length list) places
+places_within_list span_of list places are = subst (λ n. All (λ place. place < n) places) (length-map list span_of) (is_place (length (map span_of list)) places are.every)
+
+pub few_places : {T : Type 0} (span_of : T → Span) (list : List T) (places : List ℕ) → ArePlacesApart (map span_of list) places → length (map (range_at (map span_of list)) places) ≤ 2 * length list - 1
+few_places span_of list places are =
+    let spans = map span_of list in
+    omega (arith, length-map list span_of, length-map places (range_at spans), length_permutation (range_with_len 0 (length spans)) places are.every, length-range_with_len 0 (length spans))

@@ -1,6 +1,7 @@
 -- Private aid: the ranges of declarations.
-use Rattle.std.specs.Prelude.{◌≡◌, ℕ, ◌+◌, ◌<◌, ◌≤◌, ◌^◌, List, All, Some, slice_get, length, get_or}
-use Rattle.std.specs.List.{Contains}
+use Rattle.std.specs.Prelude.{◌≡◌, ℕ, ◌+◌, ◌<◌, ◌≤◌, ◌^◌, List, All, Some, slice_get, length, get_or, map}
+use Rattle.std.specs.List.{Contains, range_with_len}
+use Rattle.std.specs.List.Sorted.{IsPermutation}
 use Rattle.cmap_runs.specs.Ranges.{Span, Run}
 
 -- the run is the whole range of the declaration at its place
@@ -27,6 +28,11 @@ pub record LieApart (ranges : List Run) : Type 0 where
 -- the range of the declaration at the place, which is empty where there is none
 abbrev pub range_at : List Span → ℕ → Run
 range_at spans place = let span = get_or spans place (record { start = 1; end = 0 }) in record { low = span.start; high = span.end; place = place }
+
+-- the place of each declaration, in an order in which their ranges lie apart
+pub record ArePlacesApart (spans : List Span) (places : List ℕ) : Type 0 where
+  pub every : IsPermutation (range_with_len 0 (length spans)) places
+  pub apart : LieApart (map (range_at spans) places)
 
 -- declarations, and the runs of codes that each decides
 pub record DecidedRuns (T : Type 0) : Type 0 where

@@ -10,7 +10,7 @@ ghost use Rattle.cmap_runs.specs.Ranges.{AreRunsBelow, Span, runs_of};
 
 use super::HasRange;
 use super::held::{Run, RunList, Runs};
-use super::places::{are_apart, places_in_order};
+use super::places::{are_apart, places_in_order, places_of_parts};
 use super::ranges::{ranges_at, ranges_of};
 use std::alloc::{AllocError, Global};
 use std::collections::BinaryHeap;
@@ -30,11 +30,14 @@ pub(super) fn runs_of<T: HasRange>(alloc: Global, declarations: &[T]) -> Result<
         let ranges = ranges_of(alloc, declarations)?;
         return Ok(RunList::Swept(sorted_and_swept(alloc, ranges)?));
     };
-    let places = places_in_order(alloc, declarations, count)?;
-    if are_apart(declarations, &places) {
+    if let Some(places) = places_of_parts(alloc, declarations, count)? {
         return Ok(RunList::Ranges(places));
     }
-    let ranges = ranges_at(alloc, declarations, places)?;
+    let ordered = places_in_order(alloc, declarations, count)?;
+    if are_apart(declarations, &ordered) {
+        return Ok(RunList::Ranges(ordered));
+    }
+    let ranges = ranges_at(alloc, declarations, ordered)?;
     Ok(RunList::Swept(sweep(alloc, ranges.as_slice())?))
 }
 
