@@ -34,6 +34,11 @@ pub record ArePlacesApart (spans : List Span) (places : List ℕ) : Type 0 where
   pub every : IsPermutation (range_with_len 0 (length spans)) places
   pub apart : LieApart (map (range_at spans) places)
 
+-- the ranges at the places lie apart in this order, before the code
+pub record LieApartBefore (spans : List Span) (places : List ℕ) (code : ℕ) : Type 0 where
+  pub apart : LieApart (map (range_at spans) places)
+  pub before : All (λ range. range.high < code) (map (range_at spans) places)
+
 -- declarations, and the runs of codes that each decides
 pub record DecidedRuns (T : Type 0) : Type 0 where
   pub declarations : List T
