@@ -1,5 +1,5 @@
 -- `digits m` is the least d with m < 2 ^ d, and so a half has fewer digits.
-use Rattle.std.proofs.Common.{ℕ, zero, suc, ◌+◌, ◌/◌, ◌^◌, ◌<◌, ◌≤◌, arith}
+use Rattle.std.proofs.Common.{ℕ, zero, suc, ◌+◌, ◌-◌, ◌/◌, ◌^◌, ◌<◌, ◌≤◌, arith}
 use Rattle.std.proofs.Math.Nat.{pow-suc}
 use Rattle.cmap_runs.specs.Ranges.{HasDigits, digits, digits_within}
 
@@ -32,6 +32,14 @@ half_of_power m n (suc d) pos half lt = omega (arith, digits_least n d (omega (a
 -- after a look at one of m, at most half of them are left
 pub digits_half : (m n : ℕ) → 0 < m → n ≤ m / 2 → digits n + 1 ≤ digits m
 digits_half m n pos half = half_of_power m n (digits m) pos half (digits_room m)
+
+-- a look at the middle, and what may be looked at in what it leaves
+pub looks_half : (low high looks most : ℕ) → low < high → looks + digits (high - low) ≤ most
+    → (looks + 1 + digits (low + (high - low) / 2 - low) ≤ most) × (looks + 1 + digits (high - (low + (high - low) / 2 + 1)) ≤ most)
+looks_half low high looks most lt left = (
+  omega (arith, digits_half (high - low) (low + (high - low) / 2 - low) (omega arith) (omega arith)),
+  omega (arith, digits_half (high - low) (high - (low + (high - low) / 2 + 1)) (omega arith) (omega arith)),
+)
 
 pub HasDigits-digits : (n : ℕ) → HasDigits n (digits n)
 HasDigits-digits n = (digits_room n, digits_least n)

@@ -1,24 +1,40 @@
--- How many runs end before each block of codes.
-use Rattle.std.proofs.Common.{◌≡◌, ℕ, ◌*◌, ◌<◌, ◌≤◌, List, [], ◌∷◌, ◌++◌, length, get_or, sym, subst, inl, inr, arith, length-append}
+-- The runs of each block of codes.
+use Rattle.std.proofs.Common.{◌≡◌, ℕ, zero, suc, ◌+◌, ◌*◌, ◌<◌, ◌≤◌, List, [], ◌∷◌, ◌++◌, length, get_or, sym, subst, inl, inr, arith, length-append}
 use Rattle.std.specs.List.{AllWithin}
 use Rattle.std.proofs.lemmas.Bool.{cases_lt}
 use Rattle.std.proofs.lemmas.List.{get_or_push, get_or_append_left}
-use Rattle.cmap_runs.specs.Blocks.{IsSplit, AreBlocks}
+use Rattle.cmap_runs.specs.Blocks.{AreAllBetween}
 use Rattle.cmap_runs.specs.Order.{IsInOrder}
 use Rattle.cmap_runs.specs.Ranges.{Run}
+use Rattle.cmap_runs.specs.declared.runs.blocks.Block.{Block}
 
-pub AreBlocks-push : (runs : List Run) (blocks : List ℕ) (count : ℕ) → AreBlocks runs blocks → IsSplit runs (32 * length blocks) count → AreBlocks runs (blocks ++ count ∷ [])
-AreBlocks-push runs blocks count are is = record {
-  each = λ block d lt.
-      elim (cases_lt block (length blocks)) [
-        | inl old ↦ subst (IsSplit runs (32 * block)) (sym (get_or_append_left blocks (count ∷ []) d block old)) (are.each block d old)
-        | inr new ↦
-            let here : length blocks ≡ block = omega (arith, length-append blocks (count ∷ [])) in
-            subst (IsSplit runs (32 * block)) (sym (get_or_push blocks count d block here)) (subst (λ n. IsSplit runs (32 * n) count) here is)
-      ];
-}
+-- the blocks so far
+abbrev pub AreFirstBlocks : List Run → List Block → Type 0
+AreFirstBlocks runs list = (i : ℕ) (d : Block) → i < length list → AreAllBetween runs (16 * i) (16 * i + 16) (get_or list i d).ended (get_or list i d).begun
 
--- the runs from one on that doesn't end before the code
-pub none_before : (runs : List Run) (code place : ℕ) → IsInOrder runs → place < length runs
-    → ((d : Run) → code ≤ (get_or runs place d).high) → AllWithin (λ run. code ≤ run.high) runs place (length runs)
-none_before runs code place order lt from = λ k d le within. grind (arith, from d, order.apart place k d, order.filled k d)
+pub AreFirstBlocks-push : (runs : List Run) (list : List Block) (block : Block)
+    → AreFirstBlocks runs list → AreAllBetween runs (16 * length list) (16 * length list + 16) block.ended block.begun → AreFirstBlocks runs (list ++ block ∷ [])
+AreFirstBlocks-push runs list block are is i d lt =
+    elim (cases_lt i (length list)) [
+      | inl old ↦ subst (λ (made : Block). AreAllBetween runs (16 * i) (16 * i + 16) made.ended made.begun) (sym (get_or_append_left list (block ∷ []) d i old)) (are i d old)
+      | inr new ↦
+          let here : length list ≡ i = omega (arith, length-append list (block ∷ [])) in
+          subst (λ (made : Block). AreAllBetween runs (16 * i) (16 * i + 16) made.ended made.begun) (sym (get_or_push list block d i here))
+          (subst (λ n. AreAllBetween runs (16 * n) (16 * n + 16) block.ended block.begun) here is)
+    ]
+
+low_at_least : (runs : List Run) → IsInOrder runs → (k : ℕ) (d : Run) → k < length runs → k ≤ (get_or runs k d).low
+low_at_least runs order zero d lt = omega arith
+low_at_least runs order (suc k) d lt = omega (arith, low_at_least runs order k d (omega arith), order.filled k d (omega arith), order.apart k (suc k) d (omega arith) lt)
+
+-- each run begins at a code of its own
+pub few_begun : (runs : List Run) (code count : ℕ) → IsInOrder runs → count ≤ length runs → AllWithin (λ run. run.low < code) runs 0 count → count ≤ code
+few_begun runs code zero order within begun = omega arith
+few_begun runs code (suc k) order within begun =
+    let d : Run = record { low = 0; high = 0; place = 0 } in
+    omega (arith, low_at_least runs order k d (omega arith), begun k d (omega arith) (omega arith))
+
+-- the runs from one on that doesn't begin before the code
+pub none_begun : (runs : List Run) (code place : ℕ) → IsInOrder runs → place < length runs
+    → ((d : Run) → code ≤ (get_or runs place d).low) → AllWithin (λ run. code ≤ run.low) runs place (length runs)
+none_begun runs code place order lt from = λ k d le within. grind (arith, from d, order.apart place k d, order.filled place d)

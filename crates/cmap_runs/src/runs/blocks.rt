@@ -1,75 +1,68 @@
 //! For blocks of codes, where in a list of runs a search begins and ends.
 
-ghost use Rattle.std.specs.Prelude.{◌≡◌, ◌<◌, ◌≤◌, IfOk, length};
-ghost use Rattle.std.specs.List.{AllWithin};
-ghost use Rattle.cmap_runs.specs.Blocks.{AreBlocks};
+ghost use Rattle.std.specs.Prelude.{◌≡◌, ◌+◌, ◌-◌, ◌/◌, ◌≤◌};
+ghost use Rattle.cmap_runs.specs.Blocks.{AreBlocks, IsWindow};
 ghost use Rattle.cmap_runs.specs.Order.{IsInOrder};
 
 use super::HasRange;
 use super::held::Held;
-use std::alloc::{AllocError, Global};
-use std::marker::Model;
 
 // How many codes a block has.
-pub(super) const BLOCK_LEN: u32 = 32;
+pub(super) const BLOCK_LEN: u32 = 16;
 
-// The blocks of the codes of two bytes, and the one after them.
-pub(super) const BLOCK_COUNT: u32 = 2049;
-
-// A shorter list of runs is searched without blocks.
-const FEWEST_RUNS: usize = 512;
-
-// For each block, how many runs end before its first code.
-#[derive(Debug, Drop)]
-pub(super) struct Blocks {
-    counts: Vec<usize>,
+// The runs from the place `ended` on and before `begun` are all that hold a code of the block.
+#[derive(Clone, Copy, Debug)]
+pub(super) struct Block {
+    pub(super) ended: u32,
+    pub(super) begun: u32,
 }
 
-impl Model for Blocks {
-    ghost use Rattle.std.specs.Prelude.{List, ℕ};
+// The first blocks of codes.
+#[derive(Debug, Drop)]
+pub(super) struct Blocks {
+    pub(super) list: Vec<Block>,
+    // How many runs end before the first code after the blocks.
+    pub(super) ended: usize,
+}
 
-    ghost Value = { List ℕ };
-
-    ghost view = { λ blocks. blocks.counts.items };
+// A search looks at places from `low` on and before `high`, at `first` first.
+#[derive(Clone, Copy, Debug)]
+pub(super) struct Window {
+    pub(super) low: usize,
+    pub(super) first: usize,
+    pub(super) high: usize,
 }
 
 impl Blocks {
-    pub(super) fn of<T: HasRange>(alloc: Global, held: &mut Held<T>) -> Result<Blocks, AllocError>
-        requires { IsInOrder held.old.runs }
-        ensures blocks { IfOk result (λ blocks. AreBlocks held.old.runs blocks) }
-        ensures same { held.new ≡ held.old }
-    {
-        if held.run_count() < FEWEST_RUNS {
-            return Ok(Blocks {
-                counts: Vec::new(alloc),
-            });
-        }
-        Ok(Blocks {
-            counts: held.block_counts(alloc)?,
-        })
-    }
-
-    // The places from the first of which up to the second a run that holds `code` stands.
-    pub(super) fn window<T: HasRange>(&self, held: &Held<T>, code: u32) -> (usize, usize)
-        requires order { IsInOrder held.now.runs }
-        requires blocks { AreBlocks held.now.runs self.now }
-        ensures within { result.1 ≤ length held.now.runs }
-        ensures below { AllWithin (λ run. run.high < code) held.now.runs 0 result.0 }
-        ensures above { AllWithin (λ run. code < run.low) held.now.runs result.1
-            (length held.now.runs) }
+    // Where a search for the run that holds `code` looks.
+    pub(super) fn window<T: HasRange>(&self, held: &Held<T>, code: u32) -> Window
+        requires { AreBlocks held.now.runs self.now }
+        ensures { IsWindow held.now.runs code result }
     {
         let run_count = held.run_count();
-        let block_count = self.counts.len();
-        if block_count == 0 {
-            return (0, run_count);
+        let Some(block) = self.list.get((code / BLOCK_LEN) as usize) else {
+            return halved(self.ended, run_count);
+        };
+        let (low, high) = (block.ended as usize, block.begun as usize);
+        if high - low > run_count / 2 {
+            return halved(low, high);
         }
-        let block = (code / BLOCK_LEN) as usize;
-        if block + 1 >= block_count {
-            return (self.counts[block_count - 1], run_count);
-        }
-        let next = self.counts[block + 1];
-        // The run that ends after the block may begin in it.
-        let end = if next < run_count { next + 1 } else { next };
-        (self.counts[block], end)
+        // As far between the two as the code is in the block.
+        let first = low + (high - low) * (code % BLOCK_LEN) as usize / BLOCK_LEN as usize;
+        Window { low, first, high }
+    }
+}
+
+// The window with its middle first.
+fn halved(low: usize, high: usize) -> Window
+    requires { low ≤ high }
+    ensures low { result.low ≡ low }
+    ensures first { result.first ≡ low + (high - low) / 2 }
+    ensures high { result.high ≡ high }
+{
+    Window {
+        low,
+        first: low + (high - low) / 2,
+        high,
     }
 }

@@ -1,13 +1,14 @@
 //! What a table holds: runs and declarations. Outside of this module each look at one is counted.
 
 ghost use Rattle.std.specs.Prelude.{◌≡◌, ◌+◌, ◌-◌, ◌<◌, ◌≤◌, true, [], Some, IfOk, OnOk, OnErr, length, map, slice_get};
+ghost use Rattle.std.specs.List.{AllWithin};
 ghost use Rattle.cmap_runs.specs.Blocks.{AreBlocks};
 ghost use Rattle.cmap_runs.specs.HeldRuns.{places_within, runs_held};
 ghost use Rattle.cmap_runs.specs.Order.{IsInOrder};
 ghost use Rattle.cmap_runs.specs.Ranges.{goes_on, joined};
 
 use super::HasRange;
-use super::blocks::{BLOCK_COUNT, BLOCK_LEN};
+use super::blocks::{BLOCK_LEN, Block, Blocks};
 use super::looks::Looks;
 use super::ranges::range_at;
 use std::alloc::{AllocError, Global};
@@ -164,23 +165,62 @@ impl<T: HasRange> Held<T> {
         }
     }
 
-    // For each block, how many runs end before its first code. It counts no look, and takes
-    // `&mut self` so that no search, which has `&self`, can call it.
-    pub(super) fn block_counts(&mut self, alloc: Global) -> Result<Vec<usize>, AllocError>
+    // The blocks of the first codes, four for each run, at most those of the codes of two bytes.
+    // It counts no look, and takes `&mut self` so that no search, which has `&self`, can call it.
+    pub(super) fn blocks(&mut self, alloc: Global) -> Result<Blocks, AllocError>
         requires { IsInOrder self.old.runs }
-        ensures counts { IfOk result (λ counts. AreBlocks self.old.runs counts.items) }
+        ensures blocks { IfOk result (λ blocks. AreBlocks self.old.runs blocks) }
         ensures same { self.new ≡ self.old }
     {
-        let mut counts = Vec::with_capacity(alloc, BLOCK_COUNT as usize)?;
-        let run_count = self.run_count();
-        let mut place = 0;
-        for block in 0..BLOCK_COUNT {
-            while place < run_count && self.run_at(place).high < BLOCK_LEN * block {
-                place += 1;
-            }
-            counts.push(place)?;
+        let block_count = 4 * self.run_count().min(1024);
+        let mut list = Vec::with_capacity(alloc, block_count)?;
+        let mut begun = 0;
+        let mut code = 0;
+        for block in 0..block_count {
+            let ended = self.ended_before(begun, code);
+            code += BLOCK_LEN;
+            begun = self.begun_before(begun, code);
+            list.push(Block {
+                ended: ended as u32,
+                begun: begun as u32,
+            })?;
         }
-        Ok(counts)
+        let ended = self.ended_before(begun, code);
+        Ok(Blocks { list, ended })
+    }
+
+    // How many runs begin before the code. The first `begun` are known to.
+    fn begun_before(&self, begun: usize, code: u32) -> usize
+        requires order { IsInOrder self.now.runs }
+        requires within { begun ≤ length self.now.runs }
+        requires begun { AllWithin (λ run. run.low < code) self.now.runs 0 begun }
+        ensures within { result ≤ length self.now.runs }
+        ensures more { begun ≤ result }
+        ensures before { AllWithin (λ run. run.low < code) self.now.runs 0 result }
+        ensures after { AllWithin (λ run. code ≤ run.low) self.now.runs result (length self.now.runs) }
+        ensures few { result ≤ code }
+    {
+        let run_count = self.run_count();
+        let mut place = begun;
+        while place < run_count && self.run_at(place).low < code {
+            place += 1;
+        }
+        place
+    }
+
+    // How many runs end before the code, before which the first `begun` begin.
+    fn ended_before(&self, begun: usize, code: u32) -> usize
+        requires order { IsInOrder self.now.runs }
+        requires within { begun ≤ length self.now.runs }
+        requires begun { AllWithin (λ run. run.low < code) self.now.runs 0 begun }
+        ensures within { result ≤ begun }
+        ensures before { AllWithin (λ run. run.high < code) self.now.runs 0 result }
+    {
+        if begun > 0 && self.run_at(begun - 1).high >= code {
+            begun - 1
+        } else {
+            begun
+        }
     }
 
     pub(super) fn declaration_count(&self) -> usize

@@ -1,26 +1,24 @@
 //! The search for the run that holds a code, by halving.
 
-ghost use Rattle.std.specs.Prelude.{◌≡◌, ◌+◌, ◌<◌, ◌≤◌, All, Any, IfNone, IfSome, OnSome, length};
-ghost use Rattle.std.specs.List.{AllWithin};
+ghost use Rattle.std.specs.Prelude.{◌≡◌, ◌+◌, ◌≤◌, All, Any, IfNone, IfSome, OnSome, length};
+ghost use Rattle.cmap_runs.specs.Blocks.{IsWindow};
 ghost use Rattle.cmap_runs.specs.Order.{IsInOrder};
 ghost use Rattle.cmap_runs.specs.Ranges.{Holds, digits};
 
 use super::HasRange;
+use super::blocks::Window;
 use super::held::Held;
 use super::looks::Looks;
 
-// The place of the run that holds `code`. Only the runs from `window.0` on and before `window.1`
-// may hold it.
+// The place of the declaration of the run that holds `code`. Only the runs in the window may.
 pub(super) fn find_place<T: HasRange>(
     held: &Held<T>,
     code: u32,
-    window: (usize, usize),
+    window: Window,
     looks: &mut Looks,
 ) -> Option<usize>
     requires order { IsInOrder held.now.runs }
-    requires within { window.1 ≤ length held.now.runs }
-    requires below { AllWithin (λ run. run.high < code) held.now.runs 0 window.0 }
-    requires above { AllWithin (λ run. code < run.low) held.now.runs window.1 (length held.now.runs) }
+    requires window { IsWindow held.now.runs code window }
     ensures none { IfNone result (All (λ run. ¬ (Holds code run)) held.now.runs) }
     ensures found { IfSome result
         (λ place. Any (λ run. Holds code run × (run.place ≡ place)) held.now.runs) }
@@ -29,9 +27,12 @@ pub(super) fn find_place<T: HasRange>(
     ensures looked { OnSome result (looks.old.runs + 1 ≤ looks.new.runs) }
     ensures declarations { looks.new.declarations ≡ looks.old.declarations }
 {
-    let (mut low, mut high) = window;
+    let Window {
+        mut low,
+        first: mut middle,
+        mut high,
+    } = window;
     while low < high {
-        let middle = low + (high - low) / 2;
         let candidate = held.run(middle, looks);
         if code < candidate.low {
             high = middle;
@@ -40,6 +41,7 @@ pub(super) fn find_place<T: HasRange>(
         } else {
             return Some(candidate.place);
         }
+        middle = low + (high - low) / 2;
     }
     None
 }

@@ -54,7 +54,7 @@ impl<T: HasRange> Table<T> {
         list.shrink_to_fit();
         let runs = runs_of(alloc, list.as_slice())?;
         let mut held = Held::new(list, runs);
-        let blocks = Blocks::of(alloc, &mut held)?;
+        let blocks = held.blocks(alloc)?;
         Ok(Table { held, blocks })
     }
 

@@ -3,8 +3,8 @@ use Rattle.cmap_runs.specs.HeldRuns.{runs_held}
 use Rattle.cmap_runs.proofs.FoundPlace.{runs_in_order}
 use Rattle.cmap_runs.proofs.runs.table.Table.build.Goals as goal
 
-pub of-requires : goal.of-requires
-of-requires g c =
+pub blocks-requires : goal.blocks-requires
+blocks-requires g c =
     let span = g.T.HasRange.span in
     runs_in_order (map span c.as_slice.result.now)
     (c.new-held.ensures.runs ∙ ap (λ items. runs_held (map span items) c.in_ok-runs.runs) (sym c.as_slice.ensures.value) ∙ c.in_ok-runs.ensures.runs)

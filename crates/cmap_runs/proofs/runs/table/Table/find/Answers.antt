@@ -2,9 +2,6 @@ use Rattle.std.proofs.Common.{map, arith}
 use Rattle.cmap_runs.proofs.FoundPlace.{found_contains, found_last, found_place, found_within, no_place, none_last, runs_in_order}
 use Rattle.cmap_runs.proofs.runs.table.Table.find.Goals as goal
 
-pub window-window-requires-clause-order : goal.window-window-requires-clause-order
-window-window-requires-clause-order g c = runs_in_order (map g.T.HasRange.span c.self.inside.held.declarations) c.self.invariant.0
-
 pub find_place-requires-clause-order : goal.find_place-requires-clause-order
 find_place-requires-clause-order g c = runs_in_order (map g.T.HasRange.span c.self.inside.held.declarations) c.self.invariant.0
 
