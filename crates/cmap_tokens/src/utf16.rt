@@ -95,11 +95,11 @@ pub fn text(alloc: Global, units: &[u16], offset: u32) -> Result<Option<BfString
     let Some(last) = last_unit(units, offset) else {
         return Ok(None);
     };
-    if !is_well_formed(units, last) {
-        return Ok(None);
-    }
     if let Some(c) = only_char(units, last) {
         return Ok(Some(BfString::Char(c)));
+    }
+    if !is_well_formed(units, last) {
+        return Ok(None);
     }
     Ok(Some(BfString::String(string(alloc, units, last)?)))
 }
