@@ -1,0 +1,6 @@
+pub mod Collections
+pub mod Handles
+pub mod Held
+pub mod NamedFiles
+pub mod Rooms
+pub mod Statuses

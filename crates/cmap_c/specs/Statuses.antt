@@ -1,0 +1,19 @@
+-- The numbers by which calls say how they end.
+use Rattle.std.specs.Prelude.{ℕ}
+use Rattle.cmap_c.specs.declared.status.Status.{Status}
+use Rattle.cmap_c.specs.declared.status.Status.TheVariants.{Done, Refused, NoMemory, OverBudget, NotABundle, Absent, NoRoom}
+use Rattle.hayro_cmap.specs.declared.budget.ParseError.{ParseError}
+use Rattle.hayro_cmap.specs.declared.budget.ParseError.TheVariants as fault
+
+abbrev pub number : Status → ℕ
+number Done = 0
+number Refused = 1
+number NoMemory = 2
+number OverBudget = 3
+number NotABundle = 4
+number Absent = 5
+number NoRoom = 6
+
+abbrev pub status_of : ParseError → Status
+status_of fault.Memory = NoMemory
+status_of fault.OverBudget = OverBudget

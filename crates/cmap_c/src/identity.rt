@@ -1,0 +1,35 @@
+//! The predefined identity maps, for C.
+
+ghost use Rattle.std.specs.Prelude.{◌≡◌, ◌⊎◌, None, Some, [], ◌∷◌, codes, true, false};
+ghost use Rattle.cmap_files.specs.Files as files;
+ghost use Rattle.hayro_cmap.specs.Identity.{identity_layer};
+ghost use Rattle.cmap_c.specs.Statuses.{number};
+ghost use Rattle.cmap_c.specs.declared.status.Status.TheVariants.{Done, NoMemory};
+
+use crate::handle::MapHandle;
+use crate::status::Status;
+use hayro_cmap::CMap;
+use std::alloc::Global;
+
+/// The predefined CMap Identity-H, or Identity-V where it is `vertical`. A map that the handle has is
+/// freed.
+#[unsafe(no_mangle)]
+pub extern "C" fn hayro_cmap_identity(map: &mut MapHandle, alloc: Global, vertical: bool) -> u32
+    ensures horizontal { result ≡ number Done → vertical ≡ false → map.new.slot.map
+        ≡ Some (identity_layer (codes "Identity-H") files.horizontal ∷ []) }
+    ensures vertical { result ≡ number Done → vertical ≡ true → map.new.slot.map
+        ≡ Some (identity_layer (codes "Identity-V") files.vertical ∷ []) }
+    ensures failed { (result ≡ number Done)
+        ⊎ ((result ≡ number NoMemory) × (map.new.slot.map ≡ None)) }
+{
+    let _old = map.take(alloc);
+    let made = if vertical {
+        CMap::identity_v(alloc)
+    } else {
+        CMap::identity_h(alloc)
+    };
+    match made {
+        Ok(made) => map.keep(alloc, made),
+        Err(_) => Status::NoMemory.number(),
+    }
+}

@@ -1,0 +1,16 @@
+//! The maps of `hayro_cmap` for C, and for what calls C: the functions of `include/hayro_cmap.h`.
+#![tactic(auto)]
+
+mod files;
+mod handle;
+mod identity;
+mod lookups;
+mod loose;
+mod metadata;
+mod parse;
+mod room;
+mod slot;
+mod status;
+#[cfg(test)]
+mod tests;
+mod version;

@@ -1,0 +1,113 @@
+//! What the codes of a map stand for, for C.
+
+ghost use Rattle.std.specs.Prelude.{◌≡◌, MatchOption, encode_utf8_all, true, false};
+ghost use Rattle.cmap_c.specs.Handles.{InHandle, handle_cid, handle_text, utf8_of};
+ghost use Rattle.cmap_c.specs.Rooms.{IsPut};
+ghost use Rattle.cmap_c.specs.Statuses.{number};
+ghost use Rattle.cmap_c.specs.declared.status.Status.TheVariants.{Absent, NoMemory};
+
+use crate::handle::MapHandle;
+use crate::room::put_bytes;
+use crate::status::Status;
+use hayro_cmap::BfString;
+use std::alloc::Global;
+
+/// The CID of a code of `byte_len` bytes, big-endian: whether there is one, and which.
+#[unsafe(no_mangle)]
+pub extern "C" fn hayro_cmap_cid(
+    map: &mut MapHandle,
+    alloc: Global,
+    code: u32,
+    byte_len: u8,
+    cid: &mut u32,
+) -> bool
+    ensures same { map.new.slot.map ≡ map.old.slot.map }
+    ensures value { MatchOption (handle_cid map.old.slot.map code byte_len)
+        ((result ≡ false) × (cid.new ≡ cid.old))
+        (λ c. (result ≡ true) × (cid.new ≡ c)) }
+{
+    let Some(found) = map.take(alloc) else {
+        return false;
+    };
+    let answer = found.lookup_cid_code(code, byte_len);
+    map.put(found);
+    put_cid(answer, cid)
+}
+
+/// The same, where the code lies in a codespace range of some layer.
+#[unsafe(no_mangle)]
+pub extern "C" fn hayro_cmap_cid_strict(
+    map: &mut MapHandle,
+    alloc: Global,
+    code: u32,
+    byte_len: u8,
+    cid: &mut u32,
+) -> bool
+    ensures same { map.new.slot.map ≡ map.old.slot.map }
+    ensures within { InHandle map.old.slot.map code byte_len
+        → MatchOption (handle_cid map.old.slot.map code byte_len)
+        ((result ≡ false) × (cid.new ≡ cid.old))
+        (λ c. (result ≡ true) × (cid.new ≡ c)) }
+    ensures outside { (InHandle map.old.slot.map code byte_len → ⊥)
+        → (result ≡ false) × (cid.new ≡ cid.old) }
+{
+    let Some(found) = map.take(alloc) else {
+        return false;
+    };
+    let answer = found.lookup_cid_code_strict(code, byte_len);
+    map.put(found);
+    put_cid(answer, cid)
+}
+
+/// Writes a CID, if there is one: whether there is.
+fn put_cid(answer: Option<u32>, cid: &mut u32) -> bool
+    ensures { MatchOption answer
+        ((result ≡ false) × (cid.new ≡ cid.old))
+        (λ c. (result ≡ true) × (cid.new ≡ c)) }
+{
+    match answer {
+        Some(found) => {
+            *cid = found;
+            true
+        }
+        None => false,
+    }
+}
+
+/// The text of a code in UTF-8.
+#[unsafe(no_mangle)]
+pub extern "C" fn hayro_cmap_text(
+    map: &mut MapHandle,
+    alloc: Global,
+    code: u32,
+    room: &mut [u8],
+    needed: &mut usize,
+) -> u32
+    ensures same { map.new.slot.map ≡ map.old.slot.map }
+    ensures text { (result ≡ number NoMemory → ⊥)
+        → MatchOption (handle_text map.old.slot.map code)
+        ((result ≡ number Absent) × (room.new ≡ room.old) × (needed.new ≡ needed.old))
+        (λ text. IsPut (encode_utf8_all text) room.old room.new needed.new result) }
+{
+    let Some(found) = map.take(alloc) else {
+        return Status::Absent.number();
+    };
+    let answer = found.lookup_bf_string(alloc, code);
+    map.put(found);
+    match answer {
+        Ok(Some(text)) => put_text(&text, room, needed),
+        Ok(None) => Status::Absent.number(),
+        Err(_) => Status::NoMemory.number(),
+    }
+}
+
+/// Writes a text in UTF-8.
+#[tactic(auto, using(crate::proofs::TextsOfBytes::encode_one))]
+fn put_text(text: &BfString, room: &mut [u8], needed: &mut usize) -> u32
+    ensures { IsPut (utf8_of text.now) room.old room.new needed.new result }
+{
+    match text {
+        BfString::Char(c) => put_bytes(c.encode_utf8(&mut [0; 4]).as_bytes(), room, needed),
+        BfString::String(text) => put_bytes(text.as_bytes(), room, needed),
+    }
+}

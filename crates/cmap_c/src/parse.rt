@@ -1,0 +1,120 @@
+//! Maps of files, for C.
+
+ghost use Rattle.std.specs.Prelude.{◌≡◌, ◌⊎◌, ◌≤◌, None, Some, IfErr, IfOk, IsErrOf, IsOk, IsSomeAnd};
+ghost use Rattle.cmap_binary.specs.BundleSeen.{tables_given};
+ghost use Rattle.cmap_binary.specs.Bundles.{IsBundle};
+ghost use Rattle.cmap_files.specs.Only.{IsOnly, HoldsOfNone};
+ghost use Rattle.hayro_cmap.specs.Answers.{IsByName};
+ghost use Rattle.hayro_cmap.specs.Budgets.{PassesBudget, StaysWithin};
+ghost use Rattle.hayro_cmap.specs.Layers.{AreLayers, Means};
+ghost use Rattle.cmap_c.specs.NamedFiles.{IsMapOver, HasNoMapOver, PassesBudgetOver, StaysWithinBudget, budget_of};
+ghost use Rattle.cmap_c.specs.Statuses.{number};
+ghost use Rattle.cmap_c.specs.declared.status.Status.TheVariants.{Done, Refused, OverBudget, NotABundle};
+
+use crate::files::{File, Files, FilesOverBundle};
+use crate::handle::MapHandle;
+use crate::status::Status;
+use hayro_cmap::bcmap::Bundle;
+use hayro_cmap::{CMap, Source};
+use std::alloc::Global;
+
+/// The map of the file `data`, over files by their names: the first of `files` with the name, else
+/// that of the bundle. An empty `bundle` is no bundle, and a `budget` of 2^64 - 1 is none. A map that
+/// the handle has is freed.
+#[unsafe(no_mangle)]
+pub extern "C" fn hayro_cmap_parse<'a>(
+    map: &mut MapHandle,
+    alloc: Global,
+    data: &[u8],
+    bundle: &'a [u8],
+    files: &[File<'a>],
+    budget: u64,
+) -> u32
+    ensures accepts { result ≡ number Done
+        → IsSomeAnd map.new.slot.map (IsMapOver bundle.now files.now «data».now) }
+    ensures refuses { result ≡ number Refused → HasNoMapOver bundle.now files.now «data».now }
+    ensures over { result ≡ number OverBudget
+        → PassesBudgetOver bundle.now files.now «data».now (budget_of budget) }
+    ensures within { ((result ≡ number Done) ⊎ (result ≡ number Refused))
+        → StaysWithinBudget bundle.now files.now «data».now (budget_of budget) }
+    ensures not_a_bundle { result ≡ number NotABundle → HoldsOfNone (IsBundle bundle.now) }
+    ensures failed { (result ≡ number Done)
+        ⊎ ((result ≤ number NotABundle) × (map.new.slot.map ≡ None)) }
+{
+    let _old = map.take(alloc);
+    match parse(alloc, limit(budget), data, bundle, files) {
+        Ok(parsed) => map.keep(alloc, parsed),
+        Err(status) => status.number(),
+    }
+}
+
+/// The budget that a number stands for.
+fn limit(budget: u64) -> Option<u64>
+    ensures { result ≡ budget_of budget }
+{
+    if budget == u64::MAX {
+        None
+    } else {
+        Some(budget)
+    }
+}
+
+/// The map of a file over these files and those of a bundle; of no bytes, over these files alone.
+#[tactic(auto, unfolding(crate::specs::NamedFiles::IsMapOver, crate::specs::NamedFiles::HasNoMapOver, crate::specs::NamedFiles::PassesBudgetOver, crate::specs::NamedFiles::StaysWithinBudget))]
+fn parse<'a>(
+    alloc: Global,
+    budget: Option<u64>,
+    data: &[u8],
+    bundle: &'a [u8],
+    files: &[File<'a>],
+) -> Result<CMap, Status>
+    ensures accepts { IfOk result (IsMapOver bundle.now files.now «data».now) }
+    ensures refuses { IsErrOf result Refused → HasNoMapOver bundle.now files.now «data».now }
+    ensures over { IsErrOf result OverBudget
+        → PassesBudgetOver bundle.now files.now «data».now budget }
+    ensures within { (IsOk result ⊎ IsErrOf result Refused)
+        → StaysWithinBudget bundle.now files.now «data».now budget }
+    ensures not_a_bundle { IsErrOf result NotABundle → HoldsOfNone (IsBundle bundle.now) }
+    ensures failed { IfErr result (λ status. (1 ≤ number status) × (number status ≤ 4)) }
+{
+    if bundle.is_empty() {
+        let bases = Files { files };
+        return parse_from(alloc, budget, data, None, &bases);
+    }
+    match Bundle::parse(alloc, bundle)? {
+        Some(bundle) => {
+            let bases = FilesOverBundle {
+                bundle: &bundle,
+                files,
+            };
+            parse_from(alloc, budget, data, Some(&bundle), &bases)
+        }
+        None => Err(Status::NotABundle),
+    }
+}
+
+/// The map of a file over those of a source.
+fn parse_from<S: Source>(
+    alloc: Global,
+    budget: Option<u64>,
+    data: &[u8],
+    bundle: Option<&Bundle<'_>>,
+    source: &S,
+) -> Result<CMap, Status>
+    requires can_ask { S.can_ask source.now }
+    requires by_name { IsByName (S.answers source.now) }
+    ensures accepts { IfOk result (IsOnly
+        (AreLayers (Means (tables_given bundle.entry)) (S.answers source.now) 16 «data».now)) }
+    ensures refuses { IsErrOf result Refused → HoldsOfNone
+        (AreLayers (Means (tables_given bundle.entry)) (S.answers source.now) 16 «data».now) }
+    ensures over { IsErrOf result OverBudget → PassesBudget
+        (Means (tables_given bundle.entry)) (S.answers source.now) 16 «data».now budget }
+    ensures within { (IsOk result ⊎ IsErrOf result Refused) → StaysWithin
+        (Means (tables_given bundle.entry)) (S.answers source.now) 16 «data».now budget }
+    ensures failed { IfErr result (λ status. (1 ≤ number status) × (number status ≤ 3)) }
+{
+    match CMap::parse_from(alloc, budget, data, bundle, source)? {
+        Some(map) => Ok(map),
+        None => Err(Status::Refused),
+    }
+}

@@ -1,0 +1,68 @@
+//! How a call ends, as a number for C.
+
+ghost use Rattle.std.specs.Prelude.{◌≡◌};
+ghost use Rattle.cmap_c.specs.Statuses.{number};
+
+use hayro_cmap::ParseError;
+use std::alloc::AllocError;
+
+/// How a call ends.
+#[derive(Clone, Copy)]
+pub(crate) enum Status {
+    /// There is an answer, and it is written.
+    Done,
+    /// The file, or one that it uses, is outside the grammar or missing.
+    Refused,
+    /// A growth was refused.
+    NoMemory,
+    /// The files that are opened have more bytes than the budget.
+    OverBudget,
+    /// The bytes of the bundle are none.
+    NotABundle,
+    /// There is no answer.
+    Absent,
+    /// There is an answer, and it is longer than its room.
+    NoRoom,
+}
+
+impl Status {
+    /// The number in the header.
+    pub(crate) fn number(self) -> u32
+        ensures { result ≡ number self }
+    {
+        match self {
+            Status::Done => 0,
+            Status::Refused => 1,
+            Status::NoMemory => 2,
+            Status::OverBudget => 3,
+            Status::NotABundle => 4,
+            Status::Absent => 5,
+            Status::NoRoom => 6,
+        }
+    }
+}
+
+impl From<AllocError> for Status {
+    ghost use Rattle.std.specs.Prelude.{◌≡◌};
+    ghost use Rattle.cmap_c.specs.declared.status.Status.TheVariants.{NoMemory};
+
+    ghost from_gives = { λ _ status. status ≡ NoMemory };
+
+    fn from(_error: AllocError) -> Status {
+        Status::NoMemory
+    }
+}
+
+impl From<ParseError> for Status {
+    ghost use Rattle.std.specs.Prelude.{◌≡◌};
+    ghost use Rattle.cmap_c.specs.Statuses.{status_of};
+
+    ghost from_gives = { λ error status. status ≡ status_of error };
+
+    fn from(error: ParseError) -> Status {
+        match error {
+            ParseError::Memory => Status::NoMemory,
+            ParseError::OverBudget => Status::OverBudget,
+        }
+    }
+}

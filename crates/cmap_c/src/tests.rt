@@ -1,0 +1,79 @@
+//! A file is parsed and asked, once through each call.
+
+use crate::handle::{MapHandle, hayro_cmap_free};
+use crate::identity::hayro_cmap_identity;
+use crate::lookups::{hayro_cmap_cid, hayro_cmap_cid_strict, hayro_cmap_text};
+use crate::metadata::{
+    hayro_cmap_name, hayro_cmap_ordering, hayro_cmap_registry, hayro_cmap_supplement,
+    hayro_cmap_writing_mode,
+};
+use crate::parse::hayro_cmap_parse;
+use crate::version::hayro_cmap_version;
+use std::test::Fail;
+
+const FILE: &[u8] = b"begincmap /CIDSystemInfo 3 dict dup begin /Registry (Adobe) def
+/Ordering (Japan1) def /Supplement 6 def end def /CMapName /T def /WMode 1 def
+begincodespacerange <0000> <00FF> endcodespacerange
+begincidrange <0000> <01FF> 0 endcidrange beginbfchar <41> <00420043> endbfchar endcmap";
+
+#[test]
+fn a_parsed_file_answers(rt: HostRuntime) -> Result<(), Fail> {
+    let alloc = rt.alloc();
+    let mut map = MapHandle::empty(alloc);
+    let mut cid = 7;
+    assert_eq!(rt;
+        hayro_cmap_parse(&mut map, alloc, FILE, b"", &[], u64::MAX),
+        0
+    );
+    assert!(rt; hayro_cmap_cid(&mut map, alloc, 0x141, 2, &mut cid));
+    assert_eq!(rt; cid, 0x141);
+    assert!(rt; !hayro_cmap_cid_strict(&mut map, alloc, 0x142, 2, &mut cid));
+    assert_eq!(rt; cid, 0x141);
+    let mut room = [0; 6];
+    let mut needed = 0;
+    assert_eq!(rt;
+        hayro_cmap_text(&mut map, alloc, 0x41, &mut room, &mut needed),
+        0
+    );
+    assert_eq!(rt; &room[..needed.min(6)], b"BC".as_slice());
+    assert_eq!(rt; hayro_cmap_name(&mut map, alloc, &mut room, &mut needed), 0);
+    assert_eq!(rt; &room[..needed.min(6)], b"T".as_slice());
+    assert_eq!(rt;
+        hayro_cmap_registry(&mut map, alloc, &mut room, &mut needed),
+        0
+    );
+    assert_eq!(rt; &room[..needed.min(6)], b"Adobe".as_slice());
+    assert_eq!(rt;
+        hayro_cmap_ordering(&mut map, alloc, &mut room[..5], &mut needed),
+        6
+    );
+    assert_eq!(rt; needed, 6);
+    let mut supplement = 0;
+    assert!(rt; hayro_cmap_supplement(&mut map, alloc, &mut supplement));
+    assert_eq!(rt; supplement, 6);
+    assert_eq!(rt; hayro_cmap_writing_mode(&mut map, alloc), 1);
+    hayro_cmap_free(&mut map, alloc);
+    assert!(rt; !hayro_cmap_cid(&mut map, alloc, 0x41, 2, &mut cid));
+    Ok(())
+}
+
+#[test]
+fn the_identity_answers_the_code(rt: HostRuntime) -> Result<(), Fail> {
+    let alloc = rt.alloc();
+    let mut map = MapHandle::empty(alloc);
+    let mut cid = 0;
+    assert_eq!(rt; hayro_cmap_identity(&mut map, alloc, false), 0);
+    assert!(rt; hayro_cmap_cid(&mut map, alloc, 0x1234, 2, &mut cid));
+    assert_eq!(rt; cid, 0x1234);
+    hayro_cmap_free(&mut map, alloc);
+    Ok(())
+}
+
+#[test]
+fn the_version_fits(rt: HostRuntime) -> Result<(), Fail> {
+    let mut room = [0; 5];
+    let mut needed = 0;
+    assert_eq!(rt; hayro_cmap_version(&mut room, &mut needed), 0);
+    assert_eq!(rt; &room, b"0.1.1");
+    Ok(())
+}

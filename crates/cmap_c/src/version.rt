@@ -1,0 +1,14 @@
+//! The version of the library, for C.
+
+ghost use Rattle.std.specs.Prelude.{codes};
+ghost use Rattle.cmap_c.specs.Rooms.{IsPut};
+
+use crate::room::put_bytes;
+
+/// The version of the library, in ASCII.
+#[unsafe(no_mangle)]
+pub extern "C" fn hayro_cmap_version(room: &mut [u8], needed: &mut usize) -> u32
+    ensures { IsPut (codes "0.1.1") room.old room.new needed.new result }
+{
+    put_bytes(b"0.1.1", room, needed)
+}

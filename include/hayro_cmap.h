@@ -1,0 +1,141 @@
+/* CMap files: which CID a character code of a composite font stands for, and which Unicode text.
+ *
+ *     hayro_cmap map = HAYRO_CMAP_EMPTY;
+ *     uint32_t cid;
+ *     if (hayro_cmap_parse(&map, data, len, no_bundle, 0, no_files, 0, HAYRO_CMAP_NO_BUDGET)
+ *             == HAYRO_CMAP_OK
+ *         && hayro_cmap_cid(&map, 0x3042, 2, &cid))
+ *         printf("%u\n", cid);
+ *     hayro_cmap_free(&map);
+ *
+ * Every call returns on any bytes, and what it answers is proved. What a caller owes is checked by
+ * nothing:
+ *
+ * - A handle begins as HAYRO_CMAP_EMPTY. Only the calls below change it, and it isn't copied by
+ *   assignment: two handles of one map would free it twice.
+ * - A handle is used by one call at a time, and on the thread that it was filled on: a lookup
+ *   counts as a write.
+ * - A pointer isn't null, not even where its length is 0. `cid`, `supplement` and `needed` point to
+ *   a value, which may be any.
+ * - What one parameter of a call points to doesn't overlap what another one points to, if the call
+ *   writes to one of them. The bytes of a file, of a bundle and of names are read during the call
+ *   only, and nobody writes to them meanwhile.
+ * - A handle with a map is freed once, or its memory is lost. To free an empty handle does nothing.
+ * - malloc, realloc and free come from one allocator, which aligns blocks as C asks.
+ * - No call from a signal handler, nor from the forked child of a process with threads. */
+#ifndef HAYRO_CMAP_H
+#define HAYRO_CMAP_H
+
+#include <stdbool.h>
+#include <stddef.h>
+#include <stdint.h>
+
+#ifdef __cplusplus
+extern "C" {
+#endif
+
+/* The version of this header. That of the library: hayro_cmap_version. */
+#define HAYRO_CMAP_VERSION "0.1.1"
+
+/* A map, or none. */
+typedef struct hayro_cmap {
+    bool full;
+    void *map;
+} hayro_cmap;
+
+/* A handle without a map. */
+#define HAYRO_CMAP_EMPTY {false, NULL}
+
+/* A file and the name by which other files use it. */
+typedef struct hayro_cmap_file {
+    const uint8_t *name;
+    size_t name_len;
+    const uint8_t *bytes;
+    size_t len;
+} hayro_cmap_file;
+
+/* How a call ends. It is an int of 32 bits. */
+typedef enum hayro_cmap_status {
+    HAYRO_CMAP_OK = 0,           /* there is an answer, and it is written */
+    HAYRO_CMAP_REFUSED = 1,      /* the file, or one that it uses, is outside the grammar or missing */
+    HAYRO_CMAP_NO_MEMORY = 2,    /* a request for memory was refused */
+    HAYRO_CMAP_OVER_BUDGET = 3,  /* the files that are opened have more bytes than the budget */
+    HAYRO_CMAP_NOT_A_BUNDLE = 4, /* the bytes of the bundle are none */
+    HAYRO_CMAP_ABSENT = 5,       /* there is no answer */
+    HAYRO_CMAP_NO_ROOM = 6       /* there is an answer, and it is longer than its room */
+} hayro_cmap_status;
+
+/* The writing mode that a file gives. */
+typedef enum hayro_cmap_mode {
+    HAYRO_CMAP_HORIZONTAL = 0,
+    HAYRO_CMAP_VERTICAL = 1,
+    HAYRO_CMAP_NO_MODE = 2 /* the file gives none, or there is no map */
+} hayro_cmap_mode;
+
+/* The budget that is none. */
+#define HAYRO_CMAP_NO_BUDGET UINT64_MAX
+
+/* Reads the CMap file `data`, a text or, with a bundle, also one in binary form.
+ *
+ * A file that it uses is the first of `files` with the name, else that of the bundle. It is refused
+ * where it or a file that it uses is outside the grammar, a use has no file, or more than 16 files
+ * stand in a chain. A bundle of length 0 is no bundle. The files that are opened may have no more
+ * bytes than `budget` together; the bytes of the bundle don't count.
+ *
+ * A map that the handle has is freed. With HAYRO_CMAP_OK the handle has the map, else it is empty.
+ * The status is one of the first five. */
+hayro_cmap_status hayro_cmap_parse(hayro_cmap *map, const uint8_t *data, size_t len,
+                                   const uint8_t *bundle, size_t bundle_len,
+                                   const hayro_cmap_file *files, size_t file_count,
+                                   uint64_t budget);
+
+/* Makes the predefined CMap Identity-H, or Identity-V: codes of two bytes are CIDs. A map that the
+ * handle has is freed. HAYRO_CMAP_OK, or HAYRO_CMAP_NO_MEMORY and an empty handle. */
+hayro_cmap_status hayro_cmap_identity(hayro_cmap *map, bool vertical);
+
+/* Frees the map, and the handle is empty. */
+void hayro_cmap_free(hayro_cmap *map);
+
+/* The CID of a code of `byte_len` bytes, big-endian: whether there is one, and then `cid` is it.
+ * Codespace ranges aren't looked at. An empty handle has no CID. */
+bool hayro_cmap_cid(hayro_cmap *map, uint32_t code, uint8_t byte_len, uint32_t *cid);
+
+/* The same, where the code lies in a codespace range of its length, byte by byte; else there is
+ * none. */
+bool hayro_cmap_cid_strict(hayro_cmap *map, uint32_t code, uint8_t byte_len, uint32_t *cid);
+
+/* The text of a code, in UTF-8 and without a zero byte at its end.
+ *
+ * With HAYRO_CMAP_OK its bytes stand at the head of `room`, and `needed` is how many they are. With
+ * HAYRO_CMAP_NO_ROOM `needed` is how many it has, and the room is as it was. Else it is
+ * HAYRO_CMAP_ABSENT or HAYRO_CMAP_NO_MEMORY, and nothing is written. */
+hayro_cmap_status hayro_cmap_text(hayro_cmap *map, uint32_t code, uint8_t *room, size_t room_len,
+                                  size_t *needed);
+
+/* The name that the file gives itself, written as a text is. */
+hayro_cmap_status hayro_cmap_name(hayro_cmap *map, uint8_t *room, size_t room_len,
+                                  size_t *needed);
+
+/* The registry of the character collection that the file gives, as Adobe, written as a text is. */
+hayro_cmap_status hayro_cmap_registry(hayro_cmap *map, uint8_t *room, size_t room_len,
+                                      size_t *needed);
+
+/* The ordering of the character collection that the file gives, as Japan1, written as a text is. */
+hayro_cmap_status hayro_cmap_ordering(hayro_cmap *map, uint8_t *room, size_t room_len,
+                                      size_t *needed);
+
+/* The supplement of the character collection that the file gives: whether it gives one, and then
+ * `supplement` is it. */
+bool hayro_cmap_supplement(hayro_cmap *map, int32_t *supplement);
+
+/* The writing mode that the file gives. */
+hayro_cmap_mode hayro_cmap_writing_mode(hayro_cmap *map);
+
+/* The version of the library, as 0.1.1, written as a text is. */
+hayro_cmap_status hayro_cmap_version(uint8_t *room, size_t room_len, size_t *needed);
+
+#ifdef __cplusplus
+}
+#endif
+
+#endif
