@@ -2,7 +2,7 @@
  *
  *     hayro_cmap map = HAYRO_CMAP_EMPTY;
  *     uint32_t cid;
- *     if (hayro_cmap_parse(&map, data, len, no_bundle, 0, no_files, 0, HAYRO_CMAP_NO_BUDGET)
+ *     if (hayro_cmap_parse(&map, data, data_len, no_bundle, 0, no_files, 0, HAYRO_CMAP_NO_BUDGET)
  *             == HAYRO_CMAP_OK
  *         && hayro_cmap_cid(&map, 0x3042, 2, &cid))
  *         printf("%u\n", cid);
@@ -13,8 +13,9 @@
  *
  * - A handle begins as HAYRO_CMAP_EMPTY. Only the calls below change it, and it isn't copied by
  *   assignment: two handles of one map would free it twice.
- * - A handle is used by one call at a time, and on the thread that it was filled on: a lookup
- *   counts as a write.
+ * - A handle is used by one call at a time: a lookup counts as a write. It may go to another thread,
+ *   where a lock, a start or a join of a thread orders the calls. For lookups at once each thread
+ *   has a handle of its own, by hayro_cmap_clone.
  * - A pointer isn't null, not even where its length is 0. `cid`, `supplement` and `needed` point to
  *   a value, which may be any.
  * - What one parameter of a call points to doesn't overlap what another one points to, if the call
@@ -51,7 +52,7 @@ typedef struct hayro_cmap_file {
     const uint8_t *name;
     size_t name_len;
     const uint8_t *bytes;
-    size_t len;
+    size_t bytes_len;
 } hayro_cmap_file;
 
 /* How a call ends. It is an int of 32 bits. */
@@ -84,14 +85,18 @@ typedef enum hayro_cmap_mode {
  *
  * A map that the handle has is freed. With HAYRO_CMAP_OK the handle has the map, else it is empty.
  * The status is one of the first five. */
-hayro_cmap_status hayro_cmap_parse(hayro_cmap *map, const uint8_t *data, size_t len,
+hayro_cmap_status hayro_cmap_parse(hayro_cmap *map, const uint8_t *data, size_t data_len,
                                    const uint8_t *bundle, size_t bundle_len,
-                                   const hayro_cmap_file *files, size_t file_count,
+                                   const hayro_cmap_file *files, size_t files_len,
                                    uint64_t budget);
 
 /* Makes the predefined CMap Identity-H, or Identity-V: codes of two bytes are CIDs. A map that the
  * handle has is freed. HAYRO_CMAP_OK, or HAYRO_CMAP_NO_MEMORY and an empty handle. */
 hayro_cmap_status hayro_cmap_identity(hayro_cmap *map, bool vertical);
+
+/* Gives `copy` a copy of the map, for lookups in another thread. A map that `copy` has is freed; where
+ * `map` is empty, `copy` is then too. HAYRO_CMAP_OK, or HAYRO_CMAP_NO_MEMORY and an empty copy. */
+hayro_cmap_status hayro_cmap_clone(hayro_cmap *map, hayro_cmap *copy);
 
 /* Frees the map, and the handle is empty. */
 void hayro_cmap_free(hayro_cmap *map);

@@ -63,6 +63,25 @@ impl MapHandle {
     }
 }
 
+/// Gives a handle a copy of another one's map, or none. A map that it has is freed.
+#[unsafe(no_mangle)]
+pub extern "C" fn hayro_cmap_clone(map: &mut MapHandle, alloc: Global, copy: &mut MapHandle) -> u32
+    ensures same { map.new.slot.map ≡ map.old.slot.map }
+    ensures copied { ((result ≡ number Done) × (copy.new.slot.map ≡ map.old.slot.map))
+        ⊎ ((result ≡ number NoMemory) × (copy.new.slot.map ≡ None)) }
+{
+    let _old = copy.take(alloc);
+    let Some(found) = map.take(alloc) else {
+        return Status::Done.number();
+    };
+    let made = found.clone(alloc);
+    map.put(found);
+    match made {
+        Ok(made) => copy.keep(alloc, made),
+        Err(_) => Status::NoMemory.number(),
+    }
+}
+
 /// Frees the map, if there is one.
 #[unsafe(no_mangle)]
 pub extern "C" fn hayro_cmap_free(map: &mut MapHandle, alloc: Global)

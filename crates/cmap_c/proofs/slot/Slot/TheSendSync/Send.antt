@@ -1,0 +1,33 @@
+-- What a slot owns is a map and its block, and these say the same to every thread.
+use Rattle.std.proofs.Common.{List}
+use mir.Raw.{raw}
+use base.Shift.{Keyless}
+use denote.Memory.{lone}
+use denote.RawPtr.{Ptr}
+use denote.Builtin.{RawPtr}
+use denote.Struct.Struct.{exits_of}
+use denote.Struct.Owning.{shape, fields, to}
+use denote.Param.Send.{IsSend, AllSend, owning_send, struct_send, sendable}
+use Rattle.std_alloc.proofs.SendSync.{quiet, lies}
+use Rattle.std.proofs.Crossing.{frees}
+use Rattle.std.proofs.alloc.Global.TheSendSync as heap
+use Rattle.std.specs.Prelude.{Option, None, Some}
+use Rattle.std.specs.declared.alloc.Global.{Global}
+use Rattle.hayro_cmap.specs.Layers.{Layer}
+use Rattle.hayro_cmap.specs.contracts.map.CMap as map
+use Rattle.hayro_cmap.proofs.map.CMap.TheSendSync as map_crosses
+use Rattle.cmap_c.specs.Held.{held}
+use Rattle.cmap_c.specs.contracts.slot.Slot.{the_row, the_type}
+
+held_keyless : (alloc : Global) (at : Ptr) (m : Option (List Layer)) → Keyless (held alloc at m)
+held_keyless alloc at None = tt
+held_keyless alloc at (Some layers) = (lies map.the_row map_crosses.the_send at layers, frees.frees alloc (raw (lone (map.the_row).mir)) at)
+
+pointer_send : IsSend RawPtr
+pointer_send = search sendable
+
+all_send : AllSend (fields the_type)
+all_send = (pointer_send, (heap.the_field_send, tt))
+
+pub send : IsSend the_row
+send = owning_send the_type all_send (λ slot. held_keyless slot.alloc slot.at slot.map) (λ k. quiet (to the_type) (exits_of k (fields the_type)) ((struct_send (shape the_type) all_send).leaving k))
