@@ -12,16 +12,17 @@
  * nothing:
  *
  * - A handle begins as HAYRO_CMAP_EMPTY. Only the calls below change it, and it isn't copied by
- *   assignment: two handles of one map would free it twice.
- * - A handle is used by one call at a time: a lookup counts as a write. It may go to another thread,
- *   where a lock, a start or a join of a thread orders the calls. For lookups at once each thread
- *   has a handle of its own, by hayro_cmap_clone.
+ *   assignment, which would free a map twice.
+ * - A handle is used by one call at a time: a lookup counts as a write to the handle, not to the map.
+ *   Any number of threads look up in one map at once, each by a handle of its own, which
+ *   hayro_cmap_share makes. A handle may go to another thread, where a lock, or a start or a join of
+ *   a thread, orders the calls.
  * - A pointer isn't null, not even where its length is 0. `cid`, `supplement` and `needed` point to
  *   a value, which may be any.
  * - What one parameter of a call points to doesn't overlap what another one points to, if the call
  *   writes to one of them. The bytes of a file, of a bundle and of names are read during the call
  *   only, and nobody writes to them meanwhile.
- * - A handle with a map is freed once, or its memory is lost. To free an empty handle does nothing.
+ * - Each handle with a map is freed once, or memory is lost. To free an empty handle does nothing.
  * - malloc, realloc and free come from one allocator, which aligns blocks as C asks.
  * - No call from a signal handler, nor from the forked child of a process with threads. */
 #ifndef HAYRO_CMAP_H
@@ -94,11 +95,12 @@ hayro_cmap_status hayro_cmap_parse(hayro_cmap *map, const uint8_t *data, size_t 
  * handle has is freed. HAYRO_CMAP_OK, or HAYRO_CMAP_NO_MEMORY and an empty handle. */
 hayro_cmap_status hayro_cmap_identity(hayro_cmap *map, bool vertical);
 
-/* Gives `copy` a copy of the map, for lookups in another thread. A map that `copy` has is freed; where
- * `map` is empty, `copy` is then too. HAYRO_CMAP_OK, or HAYRO_CMAP_NO_MEMORY and an empty copy. */
-hayro_cmap_status hayro_cmap_clone(hayro_cmap *map, hayro_cmap *copy);
+/* Gives an `other` handle the same map, as for lookups in another thread: nothing is copied, and the
+ * map is freed with its last handle. A map that `other` has is freed; where `map` is empty, `other`
+ * is then too. HAYRO_CMAP_OK, or HAYRO_CMAP_NO_MEMORY and an empty `other`. */
+hayro_cmap_status hayro_cmap_share(hayro_cmap *map, hayro_cmap *other);
 
-/* Frees the map, and the handle is empty. */
+/* Empties the handle, and frees the map if no other handle has it. */
 void hayro_cmap_free(hayro_cmap *map);
 
 /* The CID of a code of `byte_len` bytes, big-endian: whether there is one, and then `cid` is it.

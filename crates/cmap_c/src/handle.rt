@@ -4,6 +4,7 @@ ghost use Rattle.std.specs.Prelude.{◌≡◌, ◌⊎◌, None, Some, is_some, o
 ghost use Rattle.cmap_c.specs.Statuses.{number};
 ghost use Rattle.cmap_c.specs.declared.status.Status.TheVariants.{Done, NoMemory};
 
+use crate::shared::SharedMap;
 use crate::slot::Slot;
 use crate::status::Status;
 use hayro_cmap::CMap;
@@ -30,7 +31,7 @@ impl MapHandle {
     }
 
     /// The map, which the handle then no longer has.
-    pub(crate) fn take(&mut self, alloc: Global) -> Option<Box<CMap>>
+    pub(crate) fn take(&mut self, alloc: Global) -> Option<Box<SharedMap>>
         ensures map { option_map (λ b. b.value) result ≡ self.old.slot.map }
         ensures empty { self.new.slot.map ≡ None }
     {
@@ -38,8 +39,9 @@ impl MapHandle {
         if full { Some(slot.into_box()) } else { None }
     }
 
-    /// Gives the handle a map. One that it has is never freed.
-    pub(crate) fn put(&mut self, map: Box<CMap>)
+    /// Gives an empty handle a map.
+    pub(crate) fn put(&mut self, map: Box<SharedMap>)
+        requires { self.old.slot.map ≡ None }
         ensures { self.new.slot.map ≡ Some map.value }
     {
         *self = MapHandle {
@@ -48,10 +50,11 @@ impl MapHandle {
         };
     }
 
-    /// Gives the handle a map, where there is memory for it. One that it has is never freed.
-    pub(crate) fn keep(&mut self, alloc: Global, map: CMap) -> u32
+    /// Gives an empty handle a map, where there is memory for it.
+    pub(crate) fn keep(&mut self, alloc: Global, map: SharedMap) -> u32
+        requires { self.old.slot.map ≡ None }
         ensures { ((result ≡ number Done) × (self.new.slot.map ≡ Some map))
-            ⊎ ((result ≡ number NoMemory) × (self.new.slot.map ≡ self.old.slot.map)) }
+            ⊎ ((result ≡ number NoMemory) × (self.new.slot.map ≡ None)) }
     {
         match Box::new(alloc, map) {
             Ok(map) => {
@@ -61,23 +64,35 @@ impl MapHandle {
             Err(_) => Status::NoMemory.number(),
         }
     }
+
+    /// Gives an empty handle a map that no other one has, where there is memory for it.
+    pub(crate) fn keep_new(&mut self, alloc: Global, map: CMap) -> u32
+        requires { self.old.slot.map ≡ None }
+        ensures { ((result ≡ number Done) × (self.new.slot.map ≡ Some map))
+            ⊎ ((result ≡ number NoMemory) × (self.new.slot.map ≡ None)) }
+    {
+        match SharedMap::new(alloc, map) {
+            Ok(map) => self.keep(alloc, map),
+            Err(_) => Status::NoMemory.number(),
+        }
+    }
 }
 
-/// Gives a handle a copy of another one's map, or none. A map that it has is freed.
+/// Gives an `other` handle the same map, or none where there is none. A map that it has is freed.
 #[unsafe(no_mangle)]
-pub extern "C" fn hayro_cmap_clone(map: &mut MapHandle, alloc: Global, copy: &mut MapHandle) -> u32
+pub extern "C" fn hayro_cmap_share(map: &mut MapHandle, alloc: Global, other: &mut MapHandle) -> u32
     ensures same { map.new.slot.map ≡ map.old.slot.map }
-    ensures copied { ((result ≡ number Done) × (copy.new.slot.map ≡ map.old.slot.map))
-        ⊎ ((result ≡ number NoMemory) × (copy.new.slot.map ≡ None)) }
+    ensures shared { ((result ≡ number Done) × (other.new.slot.map ≡ map.old.slot.map))
+        ⊎ ((result ≡ number NoMemory) × (other.new.slot.map ≡ None)) }
 {
-    let _old = copy.take(alloc);
+    let _old = other.take(alloc);
     let Some(found) = map.take(alloc) else {
         return Status::Done.number();
     };
-    let made = found.clone(alloc);
+    let shared = found.share();
     map.put(found);
-    match made {
-        Ok(made) => copy.keep(alloc, made),
+    match shared {
+        Ok(shared) => other.keep(alloc, shared),
         Err(_) => Status::NoMemory.number(),
     }
 }

@@ -29,7 +29,7 @@ pub extern "C" fn hayro_cmap_identity(map: &mut MapHandle, alloc: Global, vertic
         CMap::identity_h(alloc)
     };
     match made {
-        Ok(made) => map.keep(alloc, made),
+        Ok(made) => map.keep_new(alloc, made),
         Err(_) => Status::NoMemory.number(),
     }
 }

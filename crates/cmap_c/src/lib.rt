@@ -9,6 +9,7 @@ mod loose;
 mod metadata;
 mod parse;
 mod room;
+mod shared;
 mod slot;
 mod status;
 #[cfg(test)]

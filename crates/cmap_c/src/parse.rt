@@ -43,7 +43,7 @@ pub extern "C" fn hayro_cmap_parse<'a>(
 {
     let _old = map.take(alloc);
     match parse(alloc, limit(budget), data, bundle, files) {
-        Ok(parsed) => map.keep(alloc, parsed),
+        Ok(parsed) => map.keep_new(alloc, parsed),
         Err(status) => status.number(),
     }
 }

@@ -1,6 +1,6 @@
 //! A file is parsed and asked, once through each call.
 
-use crate::handle::{MapHandle, hayro_cmap_clone, hayro_cmap_free};
+use crate::handle::{MapHandle, hayro_cmap_free, hayro_cmap_share};
 use crate::identity::hayro_cmap_identity;
 use crate::lookups::{hayro_cmap_cid, hayro_cmap_cid_strict, hayro_cmap_text};
 use crate::metadata::{
@@ -52,13 +52,13 @@ fn a_parsed_file_answers(rt: HostRuntime) -> Result<(), Fail> {
     assert!(rt; hayro_cmap_supplement(&mut map, alloc, &mut supplement));
     assert_eq!(rt; supplement, 6);
     assert_eq!(rt; hayro_cmap_writing_mode(&mut map, alloc), 1);
-    let mut copy = MapHandle::empty(alloc);
-    assert_eq!(rt; hayro_cmap_clone(&mut map, alloc, &mut copy), 0);
+    let mut other = MapHandle::empty(alloc);
+    assert_eq!(rt; hayro_cmap_share(&mut map, alloc, &mut other), 0);
     hayro_cmap_free(&mut map, alloc);
     assert!(rt; !hayro_cmap_cid(&mut map, alloc, 0x41, 2, &mut cid));
-    assert!(rt; hayro_cmap_cid(&mut copy, alloc, 0x41, 2, &mut cid));
+    assert!(rt; hayro_cmap_cid(&mut other, alloc, 0x41, 2, &mut cid));
     assert_eq!(rt; cid, 0x41);
-    hayro_cmap_free(&mut copy, alloc);
+    hayro_cmap_free(&mut other, alloc);
     Ok(())
 }
 

@@ -1,4 +1,4 @@
--- What a slot owns is a map and its block, and these say the same to every thread.
+-- What a slot owns, a shared map and its block, says the same to every thread.
 use Rattle.std.proofs.Common.{List}
 use mir.Raw.{raw}
 use base.Shift.{Keyless}
@@ -9,19 +9,22 @@ use denote.Struct.Struct.{exits_of}
 use denote.Struct.Owning.{shape, fields, to}
 use denote.Param.Send.{IsSend, AllSend, owning_send, struct_send, sendable}
 use Rattle.std_alloc.proofs.SendSync.{quiet, lies}
-use Rattle.std.proofs.Crossing.{frees}
+use Rattle.std.proofs.Crossing.{crosses, frees}
 use Rattle.std.proofs.alloc.Global.TheSendSync as heap
 use Rattle.std.specs.Prelude.{Option, None, Some}
 use Rattle.std.specs.declared.alloc.Global.{Global}
 use Rattle.hayro_cmap.specs.Layers.{Layer}
-use Rattle.hayro_cmap.specs.contracts.map.CMap as map
-use Rattle.hayro_cmap.proofs.map.CMap.TheSendSync as map_crosses
+use Rattle.cmap_c.specs.contracts.shared.SharedMap as map
+use Rattle.hayro_cmap.proofs.map.CMap.TheSendSync as whole
 use Rattle.cmap_c.specs.Held.{held}
 use Rattle.cmap_c.specs.contracts.slot.Slot.{the_row, the_type}
 
+map_send : IsSend map.the_row
+map_send = search (sendable, crosses, whole.the_send, whole.the_sync) depth 20
+
 held_keyless : (alloc : Global) (at : Ptr) (m : Option (List Layer)) → Keyless (held alloc at m)
 held_keyless alloc at None = tt
-held_keyless alloc at (Some layers) = (lies map.the_row map_crosses.the_send at layers, frees.frees alloc (raw (lone (map.the_row).mir)) at)
+held_keyless alloc at (Some layers) = (lies map.the_row map_send at layers, frees.frees alloc (raw (lone (map.the_row).mir)) at)
 
 pointer_send : IsSend RawPtr
 pointer_send = search sendable

@@ -1,0 +1,52 @@
+/* Looks up every code of two bytes in four threads at once, each by its own handle of one map.
+ *
+ *     threads FILE
+ *
+ * It prints how many codes have a CID in each. */
+#include "hayro_cmap.h"
+#include <pthread.h>
+#include <stdio.h>
+#include <stdlib.h>
+
+enum { THREADS = 4, MOST = 1 << 20 };
+
+struct task {
+    pthread_t thread;
+    hayro_cmap map;
+    uint32_t count;
+};
+
+static void *count_codes(void *argument) {
+    struct task *task = argument;
+    uint32_t cid;
+    for (uint32_t code = 0; code <= 0xFFFF; code++)
+        task->count += hayro_cmap_cid(&task->map, code, 2, &cid);
+    hayro_cmap_free(&task->map);
+    return NULL;
+}
+
+int main(int argc, char **argv) {
+    static uint8_t data[MOST];
+    static const uint8_t no_bundle[1];
+    static const hayro_cmap_file no_files[1];
+    FILE *in = argc == 2 ? fopen(argv[1], "rb") : NULL;
+    if (!in) return 2;
+    size_t data_len = fread(data, 1, sizeof data, in);
+    fclose(in);
+    hayro_cmap map = HAYRO_CMAP_EMPTY;
+    if (hayro_cmap_parse(&map, data, data_len, no_bundle, 0, no_files, 0, HAYRO_CMAP_NO_BUDGET)
+        != HAYRO_CMAP_OK)
+        return 1;
+    static struct task tasks[THREADS];
+    for (int i = 0; i < THREADS; i++) {
+        tasks[i].map = (hayro_cmap)HAYRO_CMAP_EMPTY;
+        if (hayro_cmap_share(&map, &tasks[i].map) != HAYRO_CMAP_OK) return 1;
+        if (pthread_create(&tasks[i].thread, NULL, count_codes, &tasks[i]) != 0) return 1;
+    }
+    hayro_cmap_free(&map);
+    for (int i = 0; i < THREADS; i++) {
+        pthread_join(tasks[i].thread, NULL);
+        printf("%u\n", tasks[i].count);
+    }
+    return 0;
+}
