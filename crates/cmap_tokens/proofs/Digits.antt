@@ -1,14 +1,14 @@
 -- The numbers that digits write.
-use Rattle.std.proofs.Common.{◌≡◌, ℕ, ◌+◌, ◌*◌, ◌-◌, ◌^◌, ◌<◌, ◌≤◌, min, List, length, get_or, take, true, ap, sym, ◌∙◌, ⊎_elim, arith, [], ◌∷◌, map, refl, ◌%◌, ◌/◌, subst, pos, false, ◌==◌, drop, Some, length-take-le}
+use Rattle.std.proofs.Common.{◌≡◌, ℕ, ◌+◌, ◌*◌, ◌-◌, ◌^◌, ◌<◌, ◌≤◌, min, List, length, get_or, take, true, ap, sym, ◌∙◌, ⊎_elim, inl, inr, arith, [], ◌∷◌, map, refl, ◌%◌, ◌/◌, subst, pos, false, ◌==◌, drop, Some, length-take-le}
 use Rattle.std.specs.Char.{digit_value, is_digit}
 use Rattle.std.specs.List.{list_all, prefix_len}
-use Rattle.std.proofs.lemmas.Bool.{and_from, lt-ltb, cases_lt, and_parts, ltb-true, le-leb, not_from_false}
+use Rattle.std.proofs.lemmas.Bool.{and_from, lt-ltb, cases_Bool, cases_lt, and_parts, ltb-true, le-leb, not_from_false}
 use Rattle.std.proofs.lemmas.Int.Digits.{digits_value_is, digits_value_more, number_lt}
 use Rattle.std.proofs.Math.Nat.{mul-le-mul_left, pow-le-pow_right}
 use Rattle.cmap_tokens.specs.Numbers.{digits_number, are_digits, digits_value, Integer, digits_len, integer, numeral}
-use Rattle.std.specs.Prelude.{option_map, unwrap_or, codes, nat_le}
+use Rattle.std.specs.Prelude.{Option, None, option_map, unwrap_or, codes, nat_le, nat_lt}
 use Rattle.std.specs.Int.Digits.{AllBelowBase, number_from_digits_after}
-use Rattle.std.proofs.lemmas.List.{take-take, length-map, length-take, take_all, take-append-drop}
+use Rattle.std.proofs.lemmas.List.{take-take, length-map, length-take, take-append-drop}
 use Rattle.std.proofs.lemmas.List.Sums.{prefix_len-le-length}
 use Rattle.cmap_tokens.specs.TokenReading.{octal_len}
 use Rattle.cmap_tokens.proofs.ByteTests.{all_prefix, other_byte, none_of, all_weaker}
@@ -96,17 +96,31 @@ paired (a ∷ b ∷ more) all even =
       bytes = subst (AllByRecursion (λ b. b < 2 ^ 8)) (sym value) (byte, rest.bytes);
     }
 
--- all the digits
-pub all_read : (digits : List ℕ) (i n : ℕ) → length digits ≤ i → all_digits (take i digits) → n ≡ digits_number 16 (take i digits) → 0 < length digits → length digits ≤ 8 → length digits % 2 ≡ 0
+-- the number of up to eight digits, which no cap of 64 bits is met by
+abbrev pub capped : List ℕ → Option ℕ
+capped digits = option_map (λ n. min n (2 ^ 64 - 1)) (digits_value 16 digits)
+
+pub eight_digits : (digits : List ℕ) (n : ℕ) → Some n ≡ capped digits → length digits ≤ 8 → (0 < length digits) × all_digits digits × (n ≡ digits_number 16 digits) × (n < 2 ^ 32)
+eight_digits digits n is few =
+    elim (cases_Bool (are_digits 16 digits)) [
+      | inl are ↦
+          let (some, all) = and_parts (nat_lt 0 (length digits)) (list_all (λ c. is_digit c 16) digits) are in
+          let size = length-map digits digit_value in
+          let most : 16 ^ length (map digit_value digits) ≤ 16 ^ 8 = pow-le-pow_right {n = 16} (omega arith) {i = length (map digit_value digits)} {j = 8} (omega (arith, size, few)) in
+          let below : digits_number 16 digits < 2 ^ 32 = omega (arith, most, number_lt 16 (map digit_value digits) (below_base 16 digits all)) in
+          let same : Some n ≡ Some (min (digits_number 16 digits) (2 ^ 64 - 1)) = rw are at is in
+          let number : n ≡ min (digits_number 16 digits) (2 ^ 64 - 1) = cc in
+          (ltb-true 0 (length digits) some, all, omega (arith, number, below), omega (arith, number, below))
+      | inr other ↦ let none : Some n ≡ None = rw other at is in cc
+    ]
+
+-- digits in pairs are read
+pub pairs_read : (digits : List ℕ) (n : ℕ) → Some n ≡ capped digits → length digits ≤ 8 → length digits % 2 ≡ 0
     → ArePairs digits × (length digits / 2 ≡ length (hex_value digits)) × (n ≡ number_from_digits 256 (hex_value digits))
-all_read digits i n ends all value some few even =
-    let whole : take i digits ≡ digits = take_all i digits ends in
-    let digits_are : all_digits digits = subst all_digits whole all in
-    let are = paired digits digits_are even in (
-      (digits_are, even, some, few),
-      omega (arith, are.long),
-      value ∙ ap (digits_number 16) whole ∙ are.number 0,
-    )
+pairs_read digits n is few even =
+    let (some, all, number, small) = eight_digits digits n is few in
+    let are = paired digits all even in
+    ((all, even, some, few), omega (arith, are.long), number ∙ are.number 0)
 
 -- ---- a run of decimal digits is the number that they write
 digit_regular : (b : ℕ) → is_digit b 10 ≡ true → is_regular b ≡ true

@@ -1,8 +1,9 @@
 -- What contracts see of a scanner.
-use Rattle.std.specs.Prelude.{◌≡◌, ℕ, ◌+◌, ◌≤◌, List, ◌∷◌, ◌++◌, length, drop, IsTrue}
+use Rattle.std.specs.Prelude.{◌≡◌, ℕ, ◌+◌, ◌≤◌, List, ◌∷◌, length, get_or, take, drop, IsTrue}
+use Rattle.cmap_tokens.specs.Ascii.{less, greater}
 use Rattle.cmap_tokens.specs.Bytes.{is_white}
 use Rattle.cmap_tokens.specs.Numbers.{EndsDigits}
-use Rattle.cmap_tokens.specs.Strings.{IsPlain}
+use Rattle.cmap_tokens.specs.Strings.{ArePairs}
 use Rattle.cmap_tokens.specs.Tokens.{Token, Front}
 
 -- the source, and how far the scanner has come in it
@@ -30,7 +31,7 @@ ReadsToken old token new =
 
 -- one white byte, < four digits >, and more
 abbrev pub BeginsTwoBytes : List ℕ → Type 0
-BeginsTwoBytes text = (blank : ℕ) × (piece rest : List ℕ) × (text ≡ blank ∷ piece ++ rest) × IsTrue (is_white blank) × IsPlain piece × (length piece ≡ 6)
+BeginsTwoBytes text = (7 ≤ length text) × IsTrue (is_white (get_or text 0 0)) × (get_or text 1 0 ≡ less) × ArePairs (take 4 (drop 2 text)) × (get_or text 6 0 ≡ greater)
 
 -- one white byte, and then one to 18 decimal digits that no regular byte follows
 abbrev pub BeginsDecimal : List ℕ → Type 0

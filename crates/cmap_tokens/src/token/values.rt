@@ -18,18 +18,11 @@ pub(super) fn pairs_number(digits: &[u8]) -> Option<(u8, u32)>
         × (first.1 ≡ number_from_digits 256 (hex_value digits.now))) }
 {
     let len = digits.len();
-    if len == 0 || len > 8 || len % 2 != 0 {
+    if len > 8 || len % 2 != 0 {
         return None;
     }
-    let mut number: u32 = 0;
-    for byte in digits {
-        let digit = digit_value(*byte);
-        if digit >= 16 {
-            return None;
-        }
-        number = number * 16 + u32::from(digit);
-    }
-    Some((len as u8 / 2, number))
+    let number = digits_number(16, digits)?;
+    Some((len as u8 / 2, number as u32))
 }
 
 // Appends the bytes of hexadecimal digits, white space among them.
