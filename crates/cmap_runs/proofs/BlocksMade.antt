@@ -1,8 +1,6 @@
 -- The runs of each block of codes.
-use Rattle.std.proofs.Common.{◌≡◌, ℕ, zero, suc, ◌+◌, ◌*◌, ◌<◌, ◌≤◌, List, [], ◌∷◌, ◌++◌, length, get_or, sym, subst, inl, inr, arith, length-append}
+use Rattle.std.proofs.Common.{ℕ, zero, suc, ◌+◌, ◌*◌, ◌<◌, ◌≤◌, List, length, get_or, arith}
 use Rattle.std.specs.List.{AllWithin}
-use Rattle.std.proofs.lemmas.Bool.{cases_lt}
-use Rattle.std.proofs.lemmas.List.{get_or_push, get_or_append_left}
 use Rattle.cmap_runs.specs.Blocks.{AreAllBetween}
 use Rattle.cmap_runs.specs.Order.{IsInOrder}
 use Rattle.cmap_runs.specs.Ranges.{Run}
@@ -11,17 +9,6 @@ use Rattle.cmap_runs.specs.declared.runs.blocks.Block.{Block}
 -- the blocks so far
 abbrev pub AreFirstBlocks : List Run → List Block → Type 0
 AreFirstBlocks runs list = (i : ℕ) (d : Block) → i < length list → AreAllBetween runs (16 * i) (16 * i + 16) (get_or list i d).ended (get_or list i d).begun
-
-pub AreFirstBlocks-push : (runs : List Run) (list : List Block) (block : Block)
-    → AreFirstBlocks runs list → AreAllBetween runs (16 * length list) (16 * length list + 16) block.ended block.begun → AreFirstBlocks runs (list ++ block ∷ [])
-AreFirstBlocks-push runs list block are is i d lt =
-    elim (cases_lt i (length list)) [
-      | inl old ↦ subst (λ (made : Block). AreAllBetween runs (16 * i) (16 * i + 16) made.ended made.begun) (sym (get_or_append_left list (block ∷ []) d i old)) (are i d old)
-      | inr new ↦
-          let here : length list ≡ i = omega (arith, length-append list (block ∷ [])) in
-          subst (λ (made : Block). AreAllBetween runs (16 * i) (16 * i + 16) made.ended made.begun) (sym (get_or_push list block d i here))
-          (subst (λ n. AreAllBetween runs (16 * n) (16 * n + 16) block.ended block.begun) here is)
-    ]
 
 low_at_least : (runs : List Run) → IsInOrder runs → (k : ℕ) (d : Run) → k < length runs → k ≤ (get_or runs k d).low
 low_at_least runs order zero d lt = omega arith

@@ -205,21 +205,6 @@ ranges_of_places spans places all lie =
     (λ k d lt filled. (k, omega (arith, length-map places (range_at spans)), get_or-map (range_at spans) places k d (range_at spans (get_or places k d)) lt))
     (omega (arith, length-map places (range_at spans)))
 
-pub places_apart : (spans : List Span) (places : List ℕ)
-    → ((k d : ℕ) → k < length places → ((range_at spans (get_or places k d)).low ≤ (range_at spans (get_or places k d)).high) × ((range_at spans (get_or places k d)).high < 2 ^ 32))
-    → ((k d : ℕ) → k + 1 < length places → (range_at spans (get_or places k d)).high < (range_at spans (get_or places (k + 1) d)).low) → LieApart (map (range_at spans) places)
-places_apart spans places filled apart = record {
-  filled = λ k d lt.
-      let within : k < length places = omega (arith, length-map places (range_at spans)) in
-      let is = get_or-map (range_at spans) places k 0 d within in let its = filled k 0 within in
-      (omega (arith, its.0, ap (λ (r : Run). r.low) is, ap (λ (r : Run). r.high) is), omega (arith, its.1, ap (λ (r : Run). r.high) is));
-  apart = λ i d lt.
-      let within : i + 1 < length places = omega (arith, length-map places (range_at spans)) in
-      let first = get_or-map (range_at spans) places i 0 d (omega arith) in
-      let later = get_or-map (range_at spans) places (i + 1) 0 d within in
-      omega (arith, ap (λ (r : Run). r.high) first, ap (λ (r : Run). r.low) later, apart i 0 within);
-}
-
 pub runs_at_places : (spans : List Span) (places : List ℕ) → ArePlacesApart spans places → map (range_at spans) places ≡ runs_of spans
 runs_at_places spans places are =
     runs_of-unique spans (map (range_at spans) places)

@@ -1,10 +1,9 @@
--- Private aid: the runs of blocks of codes, and where a search looks.
-use Rattle.std.specs.Prelude.{ℕ, ◌+◌, ◌-◌, ◌*◌, ◌/◌, ◌<◌, ◌≤◌, List, length, get_or}
+-- Private aid: the runs of blocks of codes.
+use Rattle.std.specs.Prelude.{ℕ, ◌+◌, ◌*◌, ◌<◌, ◌≤◌, List, length, get_or}
 use Rattle.std.specs.List.{AllWithin}
 use Rattle.cmap_runs.specs.Ranges.{Run}
 use Rattle.cmap_runs.specs.declared.runs.blocks.Block.{Block}
 use Rattle.cmap_runs.specs.declared.runs.blocks.Blocks.{Blocks}
-use Rattle.cmap_runs.specs.declared.runs.blocks.Window.{Window}
 
 -- none but the runs from one place on and before another holds a code from `first` on and before `end`
 pub record AreAllBetween (runs : List Run) (first end low high : ℕ) : Type 0 where
@@ -19,10 +18,3 @@ pub record AreBlocks (runs : List Run) (blocks : Blocks) : Type 0 where
       → AreAllBetween runs (16 * i) (16 * i + 16) (get_or blocks.list.items i d).ended (get_or blocks.list.items i d).begun
   pub within : blocks.ended ≤ length runs
   pub before : AllWithin (λ run. run.high < 16 * length blocks.list.items) runs 0 blocks.ended
-
--- after the first look no more than half of all runs are left
-pub record IsWindow (runs : List Run) (code : ℕ) (window : Window) : Type 0 where
-  pub between : AreAllBetween runs code (code + 1) window.low window.high
-  pub first : window.low < window.high → (window.low ≤ window.first) × (window.first < window.high)
-  pub half_below : window.first - window.low ≤ length runs / 2
-  pub half_above : window.high - (window.first + 1) ≤ length runs / 2

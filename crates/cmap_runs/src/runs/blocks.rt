@@ -1,14 +1,16 @@
 //! For blocks of codes, where in a list of runs a search begins and ends.
 
-ghost use Rattle.std.specs.Prelude.{◌≡◌, ◌+◌, ◌-◌, ◌/◌, ◌≤◌};
-ghost use Rattle.cmap_runs.specs.Blocks.{AreBlocks, IsWindow};
-ghost use Rattle.cmap_runs.specs.Order.{IsInOrder};
+ghost use Rattle.std.specs.Prelude.{◌≡◌, ◌+◌, ◌-◌, ◌/◌, ◌<◌, ◌≤◌};
+ghost use Rattle.cmap_runs.specs.Blocks.{AreAllBetween, AreBlocks};
 
 use super::HasRange;
 use super::held::Held;
 
 // How many codes a block has.
 pub(super) const BLOCK_LEN: u32 = 16;
+
+// The blocks of the codes of two bytes.
+pub(super) const MOST_BLOCKS: usize = 4096;
 
 // The runs from the place `ended` on and before `begun` are all that hold a code of the block.
 #[derive(Clone, Copy, Debug)]
@@ -25,44 +27,32 @@ pub(super) struct Blocks {
     pub(super) ended: usize,
 }
 
-// A search looks at places from `low` on and before `high`, at `first` first.
-#[derive(Clone, Copy, Debug)]
-pub(super) struct Window {
-    pub(super) low: usize,
-    pub(super) first: usize,
-    pub(super) high: usize,
-}
-
 impl Blocks {
-    // Where a search for the run that holds `code` looks.
-    pub(super) fn window<T: HasRange>(&self, held: &Held<T>, code: u32) -> Window
+    // The places from the first of which up to the second a run that holds `code` stands.
+    pub(super) fn window<T: HasRange>(&self, held: &Held<T>, code: u32) -> (usize, usize)
         requires { AreBlocks held.now.runs self.now }
-        ensures { IsWindow held.now.runs code result }
+        ensures { AreAllBetween held.now.runs code (code + 1) result.0 result.1 }
     {
-        let run_count = held.run_count();
-        let Some(block) = self.list.get((code / BLOCK_LEN) as usize) else {
-            return halved(self.ended, run_count);
-        };
-        let (low, high) = (block.ended as usize, block.begun as usize);
-        if high - low > run_count / 2 {
-            return halved(low, high);
+        match self.list.get((code / BLOCK_LEN) as usize) {
+            Some(block) => (block.ended as usize, block.begun as usize),
+            None => (self.ended, held.run_count()),
         }
-        // As far between the two as the code is in the block.
-        let first = low + (high - low) * (code % BLOCK_LEN) as usize / BLOCK_LEN as usize;
-        Window { low, first, high }
     }
 }
 
-// The window with its middle first.
-fn halved(low: usize, high: usize) -> Window
-    requires { low ≤ high }
-    ensures low { result.low ≡ low }
-    ensures first { result.first ≡ low + (high - low) / 2 }
-    ensures high { result.high ≡ high }
+// Where a search looks first: where no more than half of the runs are in the window, as far in it as
+// the code is in its block, since a run has one code at least; else at its middle.
+pub(super) fn first_look(low: usize, high: usize, code: u32, run_count: usize) -> usize
+    requires some { low < high }
+    requires within { high ≤ run_count }
+    ensures from { low ≤ result }
+    ensures before { result < high }
+    ensures half_below { result - low ≤ run_count / 2 }
+    ensures half_above { high - (result + 1) ≤ run_count / 2 }
 {
-    Window {
-        low,
-        first: low + (high - low) / 2,
-        high,
+    let len = high - low;
+    if len > run_count / 2 {
+        return low + len / 2;
     }
+    low + ((code % BLOCK_LEN) as usize).min(len - 1)
 }

@@ -8,7 +8,7 @@ ghost use Rattle.cmap_runs.specs.Order.{IsInOrder};
 ghost use Rattle.cmap_runs.specs.Ranges.{goes_on, joined};
 
 use super::HasRange;
-use super::blocks::{BLOCK_LEN, Block, Blocks};
+use super::blocks::{BLOCK_LEN, Block, Blocks, MOST_BLOCKS};
 use super::looks::Looks;
 use super::ranges::range_at;
 use std::alloc::{AllocError, Global};
@@ -165,27 +165,27 @@ impl<T: HasRange> Held<T> {
         }
     }
 
-    // The blocks of the first codes, four for each run, at most those of the codes of two bytes.
-    // It counts no look, and takes `&mut self` so that no search, which has `&self`, can call it.
+    // The blocks of the first codes, up to the end of the last run: four for each run at most, and no
+    // more than those of the codes of two bytes. It counts no look, and takes `&mut self` so that no
+    // search, which has `&self`, can call it.
     pub(super) fn blocks(&mut self, alloc: Global) -> Result<Blocks, AllocError>
         requires { IsInOrder self.old.runs }
         ensures blocks { IfOk result (λ blocks. AreBlocks self.old.runs blocks) }
         ensures same { self.new ≡ self.old }
     {
-        let block_count = 4 * self.run_count().min(1024);
-        let mut list = Vec::with_capacity(alloc, block_count)?;
-        let mut begun = 0;
-        let mut code = 0;
-        for block in 0..block_count {
-            let ended = self.ended_before(begun, code);
+        let run_count = self.run_count();
+        let most = 4 * run_count.min(MOST_BLOCKS / 4);
+        let mut list = Vec::with_capacity(alloc, most)?;
+        let (mut ended, mut begun, mut code) = (0, 0, 0);
+        while ended < run_count && list.len() < most {
             code += BLOCK_LEN;
             begun = self.begun_before(begun, code);
-            list.push(Block {
+            list.push_reserved(Block {
                 ended: ended as u32,
                 begun: begun as u32,
-            })?;
+            });
+            ended = self.ended_before(ended, begun, code);
         }
-        let ended = self.ended_before(begun, code);
         Ok(Blocks { list, ended })
     }
 
@@ -208,15 +208,18 @@ impl<T: HasRange> Held<T> {
         place
     }
 
-    // How many runs end before the code, before which the first `begun` begin.
-    fn ended_before(&self, begun: usize, code: u32) -> usize
+    // How many runs end before the code, before which the first `begun` begin, and the first `ended`
+    // are known to end.
+    fn ended_before(&self, ended: usize, begun: usize, code: u32) -> usize
         requires order { IsInOrder self.now.runs }
         requires within { begun ≤ length self.now.runs }
+        requires ended { AllWithin (λ run. run.high < code) self.now.runs 0 ended }
+        requires fewer { ended ≤ begun }
         requires begun { AllWithin (λ run. run.low < code) self.now.runs 0 begun }
         ensures within { result ≤ begun }
         ensures before { AllWithin (λ run. run.high < code) self.now.runs 0 result }
     {
-        if begun > 0 && self.run_at(begun - 1).high >= code {
+        if ended < begun && self.run_at(begun - 1).high >= code {
             begun - 1
         } else {
             begun

@@ -1,15 +1,22 @@
-use Rattle.std.proofs.Common.{◌≡◌, ◌*◌, ◌<◌, ◌≤◌, length}
+use Rattle.std.proofs.Common.{◌≡◌, ◌-◌, ◌*◌, ◌<◌, ◌≤◌, length}
 use Rattle.std.specs.List.{AllWithin}
+use Rattle.std.specs.Vec.{vec_capacity, vec_len}
 use Rattle.cmap_runs.proofs.BlocksMade.{AreFirstBlocks}
 use Rattle.cmap_runs.proofs.runs.held.Held.blocks.Given as goal
 
--- the blocks so far; the first `begun` runs are those that begin before the next one
-abbrev pub invariant-loop-block : goal.invariant-loop-block
-invariant-loop-block g l = record {
+-- the blocks so far; the first runs are those that begin, and those that end, before the next one
+abbrev pub invariant-loop-ended : goal.invariant-loop-ended
+invariant-loop-ended g l = record {
   blocks : AreFirstBlocks l.self.runs l.list.items;
-  number : length l.list.items ≡ l.block;
-  code : l.code ≡ 16 * l.block;
+  code : l.code ≡ 16 * length l.list.items;
   within : l.begun ≤ length l.self.runs;
   before : AllWithin (λ run. run.low < l.code) l.self.runs 0 l.begun;
   few : l.begun ≤ l.code;
+  fewer : l.ended ≤ l.begun;
+  ended : AllWithin (λ run. run.high < l.code) l.self.runs 0 l.ended;
+  number : length l.list.items ≤ l.most;
+  room : l.most ≤ vec_capacity l.list;
 }
+
+abbrev pub decreases-loop-ended : goal.decreases-loop-ended
+decreases-loop-ended g l = l.most - vec_len l.list
