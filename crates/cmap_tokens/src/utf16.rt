@@ -188,7 +188,8 @@ fn string(alloc: Global, units: &[u16], last: u16) -> Result<String, AllocError>
     ensures { IfOk result (λ s. chars (string_bytes s)
         ≡ filter_map (λ c. c) (utf16_chars (with_last units.now last))) }
 {
-    let mut text = String::new(alloc);
+    // A unit takes three bytes at most.
+    let mut text = String::with_capacity(alloc, units.len().saturating_mul(3))?;
     let mut rest = units;
     while let Some((c, after)) = next_char(rest, last) {
         text.push(c)?;

@@ -5,7 +5,7 @@ use Rattle.cmap_tokens.proofs.TextsOfUnits.{chars-push, chars-all}
 use Rattle.cmap_tokens.proofs.utf16.string.Goals as goal
 
 pub loop-c-init : goal.loop-c-init
-loop-c-init c = rw (c.new-text.ensures.bytes, chars-nil) (refl, c.requires)
+loop-c-init c = rw (c.in_ok-text.ensures.bytes, chars-nil) (refl, c.requires)
 
 pub loop-c-preserved : goal.loop-c-preserved
 loop-c-preserved c = (
