@@ -165,16 +165,15 @@ impl<T: HasRange> Held<T> {
         }
     }
 
-    // The blocks of the first codes, up to the end of the last run: four for each run at most, and no
-    // more than those of the codes of two bytes. It counts no look, and takes `&mut self` so that no
-    // search, which has `&self`, can call it.
+    // The blocks of the first codes, up to the end of the last run. It counts no look, and takes
+    // `&mut self` so that no search, which has `&self`, can call it.
     pub(super) fn blocks(&mut self, alloc: Global) -> Result<Blocks, AllocError>
         requires { IsInOrder self.old.runs }
         ensures blocks { IfOk result (λ blocks. AreBlocks self.old.runs blocks) }
         ensures same { self.new ≡ self.old }
     {
         let run_count = self.run_count();
-        let most = 4 * run_count.min(MOST_BLOCKS / 4);
+        let most = self.most_blocks();
         let mut list = Vec::with_capacity(alloc, most)?;
         let (mut ended, mut begun, mut code) = (0, 0, 0);
         while ended < run_count && list.len() < most {
@@ -187,6 +186,18 @@ impl<T: HasRange> Held<T> {
             ended = self.ended_before(ended, begun, code);
         }
         Ok(Blocks { list, ended })
+    }
+
+    // How many blocks may be made: four for each run, and no more than those of the codes of two bytes;
+    // none where no run begins there.
+    fn most_blocks(&self) -> usize
+        ensures { result ≤ 4096 }
+    {
+        let run_count = self.run_count();
+        if run_count == 0 || self.run_at(0).low >= BLOCK_LEN * MOST_BLOCKS as u32 {
+            return 0;
+        }
+        4 * run_count.min(MOST_BLOCKS / 4)
     }
 
     // How many runs begin before the code. The first `begun` are known to.
