@@ -99,9 +99,9 @@ fn range_after(base: u64, delta: u32, width: u64) -> Option<Range>
         (λ r. (r.start ≡ base + delta) × (r.end ≡ base + delta + width) × (r.end < 2 ^ 32)) }
 {
     let start = base.checked_add(u64::from(delta))?;
-    let end = start.checked_add(width)?;
+    let end = u32::try_from(start.checked_add(width)?).ok()?;
     Some(Range {
-        start: u32::try_from(start).ok()?,
-        end: u32::try_from(end).ok()?,
+        start: start as u32,
+        end,
     })
 }

@@ -86,7 +86,7 @@ impl PrefixTable {
             → BeginsAt self.now (bits_left reader.old) j → i ≡ j }
         ensures unmoved { IfNone result (reader.new ≡ reader.old) }
     {
-        let word = match look_up(&self.known, reader) {
+        let word = match *look_up(&self.known, reader) {
             Ok(word) => word,
             Err(search) => {
                 let Ok(word) = find(&self.counts, &self.symbols, reader.fork(), search) else {

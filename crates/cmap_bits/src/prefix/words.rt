@@ -101,14 +101,17 @@ pub(super) fn search_bytes(
 }
 
 // What is known of the word that comes next by the next eight bits.
-pub(super) fn look_up(known: &[Result<Word, Search>], reader: &Reader<'_>) -> Result<Word, Search>
+pub(super) fn look_up<'k>(
+    known: &'k [Result<Word, Search>],
+    reader: &Reader<'_>,
+) -> &'k Result<Word, Search>
     requires { length known.now ≡ 256 }
     ensures { (counts symbols : List ℕ) → KnowBytes counts symbols known.now
-        → IsKnown counts symbols (bits_left reader.now) result }
+        → IsKnown counts symbols (bits_left reader.now) result.now }
 {
     match reader.peek_u8() {
-        Some(byte) => known[usize::from(byte)],
-        None => Err(START),
+        Some(byte) => &known[usize::from(byte)],
+        None => &Err(START),
     }
 }
 
