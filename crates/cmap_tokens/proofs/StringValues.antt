@@ -1,11 +1,11 @@
 -- The value that is read of a string is the one that it stands for.
-use Rattle.std.proofs.Common.{◌≡◌, ℕ, ◌&&◌, false, List, length, Some, None, sym, ap, subst, inl, inr, arith, ◌≤◌, true, Option, refl}
-use Rattle.std.proofs.lemmas.Bool.{and_parts, cases_Bool, false≢true}
-use Rattle.cmap_tokens.specs.Strings.{IsCut, IsValue, hex_value, inside, is_between, ArePairs, IsPlain, IsOnlyValue}
+use Rattle.std.proofs.Common.{◌≡◌, ℕ, ◌&&◌, false, List, length, Some, None, sym, ap, subst, inl, inr, arith, ◌≤◌, Option}
+use Rattle.std.proofs.lemmas.Bool.{and_parts, cases_Bool}
+use Rattle.cmap_tokens.specs.Strings.{IsCut, IsValue, hex_value, inside, is_between, ArePairs, IsOnlyValue}
 use Rattle.cmap_tokens.specs.TokenReading.{is_paired, text_value, value_of}
 use Rattle.cmap_tokens.proofs.StringBodies.{first_bracket}
 use Rattle.cmap_tokens.proofs.StringCuts.{cut_read, has_cut}
-use Rattle.std.specs.Prelude.{◌↔◌, ◌<◌, ◌^◌, IfSome, IsTrue, MatchOption, is_some}
+use Rattle.std.specs.Prelude.{◌<◌, ◌^◌, IfSome, MatchOption}
 use Rattle.std.specs.Int.Digits.{number_from_digits}
 use Rattle.std.specs.List.{AllByRecursion}
 use Rattle.cmap_tokens.proofs.Digits.{paired}
@@ -51,10 +51,6 @@ plain_value raw None value is = tt
 plain_value raw (Some first) value is =
     let (all, even, some, few) = is.0 in
     (hex_value (inside raw), record { holds = IsValue-from raw _ value; alone = λ other other_is. let read = IsValue-read raw other other_is in cc }, (paired (inside raw) all even).bytes, is.1, is.2)
-
-pub plain_some : (raw : List ℕ) (found : Option (ℕ × ℕ)) → is_between 60 62 raw ≡ true → Answers (inside raw) found → IsTrue (is_some found) ↔ IsPlain raw
-plain_some raw None whole is = (λ e. absurd (false≢true e), λ plain. absurd (is plain.1))
-plain_some raw (Some first) whole is = (λ e. (whole, is.0), λ plain. refl)
 
 pub few_bytes : (digits : List ℕ) (found : Option (ℕ × ℕ)) → Answers digits found → IfSome found (λ first. first.0 ≤ 4)
 few_bytes digits None is = tt
