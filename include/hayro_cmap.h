@@ -115,7 +115,8 @@ bool hayro_cmap_cid_strict(hayro_cmap *map, uint32_t code, uint8_t byte_len, uin
  *
  * With HAYRO_CMAP_OK its bytes stand at the head of `room`, and `needed` is how many they are. With
  * HAYRO_CMAP_NO_ROOM `needed` is how many it has, and the room is as it was. Else it is
- * HAYRO_CMAP_ABSENT or HAYRO_CMAP_NO_MEMORY, and nothing is written. */
+ * HAYRO_CMAP_ABSENT or, only for a text of more than one character, HAYRO_CMAP_NO_MEMORY, and
+ * nothing is written. */
 hayro_cmap_status hayro_cmap_text(hayro_cmap *map, uint32_t code, uint8_t *room, size_t room_len,
                                   size_t *needed);
 

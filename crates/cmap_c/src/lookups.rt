@@ -1,6 +1,6 @@
 //! What the codes of a map stand for, for C.
 
-ghost use Rattle.std.specs.Prelude.{◌≡◌, MatchOption, encode_utf8_all, true, false};
+ghost use Rattle.std.specs.Prelude.{◌≡◌, ◌<◌, IsSomeAnd, MatchOption, encode_utf8_all, length, true, false};
 ghost use Rattle.cmap_c.specs.Handles.{InHandle, handle_cid, handle_text, utf8_of};
 ghost use Rattle.cmap_c.specs.Rooms.{IsPut};
 ghost use Rattle.cmap_c.specs.Statuses.{number};
@@ -88,6 +88,10 @@ pub extern "C" fn hayro_cmap_text(
         → MatchOption (handle_text map.old.slot.map code)
         ((result ≡ number Absent) × (room.new ≡ room.old) × (needed.new ≡ needed.old))
         (λ text. IsPut (encode_utf8_all text) room.old room.new needed.new result) }
+    ensures err { result ≡ number NoMemory
+        → IsSomeAnd (handle_text map.old.slot.map code) (λ text. 1 < length text) }
+    ensures unwritten { result ≡ number NoMemory
+        → (room.new ≡ room.old) × (needed.new ≡ needed.old) }
 {
     let Some(found) = map.take(alloc) else {
         return Status::Absent.number();
