@@ -1,7 +1,8 @@
 //! For blocks of codes, where in a list of runs a search begins and ends.
 
-ghost use Rattle.std.specs.Prelude.{◌≡◌, ◌+◌, ◌-◌, ◌/◌, ◌<◌, ◌≤◌};
-ghost use Rattle.cmap_runs.specs.Blocks.{AreAllBetween, AreBlocks};
+ghost use Rattle.std.specs.Prelude.{◌≡◌, ◌+◌, ◌-◌, ◌/◌, ◌<◌, ◌≤◌, All, IfNone, IfSome, length};
+ghost use Rattle.cmap_runs.specs.Blocks.{AreBlocks, IsWindow};
+ghost use Rattle.cmap_runs.specs.Ranges.{Holds};
 
 use super::HasRange;
 use super::held::Held;
@@ -27,32 +28,45 @@ pub(super) struct Blocks {
     pub(super) ended: usize,
 }
 
+// A search looks at the runs from the place `low` on and before `high`, at `first` first.
+#[derive(Clone, Copy, Debug)]
+pub(super) struct Window {
+    pub(super) low: usize,
+    pub(super) first: usize,
+    pub(super) high: usize,
+}
+
 impl Blocks {
-    // The places from the first of which up to the second a run that holds `code` stands.
-    pub(super) fn window<T: HasRange>(&self, held: &Held<T>, code: u32) -> (usize, usize)
+    // Where a search for the run that holds `code` looks; `None` where no run holds it. A run of the
+    // block has one code at least, so it looks first as far in as the code is in the block.
+    pub(super) fn window<T: HasRange>(&self, held: &Held<T>, code: u32) -> Option<Window>
         requires { AreBlocks held.now.runs self.now }
-        ensures { AreAllBetween held.now.runs code (code + 1) result.0 result.1 }
+        ensures some { IfSome result (IsWindow held.now.runs code) }
+        ensures none { IfNone result (All (λ run. ¬ (Holds code run)) held.now.runs) }
     {
-        match self.list.get((code / BLOCK_LEN) as usize) {
-            Some(block) => (block.ended as usize, block.begun as usize),
-            None => (self.ended, held.run_count()),
+        let Some(block) = self.list.get((code / BLOCK_LEN) as usize) else {
+            return window_after(held, self.ended);
+        };
+        let (low, high) = (block.ended as usize, block.begun as usize);
+        if low >= high {
+            return None;
         }
+        let first = low + ((code % BLOCK_LEN) as usize).min(high - low - 1);
+        Some(Window { low, first, high })
     }
 }
 
-// Where a search looks first: where no more than half of the runs are in the window, as far in it as
-// the code is in its block, since a run has one code at least; else at its middle.
-pub(super) fn first_look(low: usize, high: usize, code: u32, run_count: usize) -> usize
-    requires some { low < high }
-    requires within { high ≤ run_count }
-    ensures from { low ≤ result }
-    ensures before { result < high }
-    ensures half_below { result - low ≤ run_count / 2 }
-    ensures half_above { high - (result + 1) ≤ run_count / 2 }
+// All the runs from the place `low` on, the middle first; `None` where there is none.
+fn window_after<T: HasRange>(held: &Held<T>, low: usize) -> Option<Window>
+    ensures none { IfNone result (length held.now.runs ≤ low) }
+    ensures low { IfSome result (λ window. window.low ≡ low) }
+    ensures first { IfSome result (λ window. window.first ≡ low + (window.high - low) / 2) }
+    ensures high { IfSome result (λ window. (window.high ≡ length held.now.runs) × (low < window.high)) }
 {
-    let len = high - low;
-    if len > run_count / 2 {
-        return low + len / 2;
+    let high = held.run_count();
+    if low >= high {
+        return None;
     }
-    low + ((code % BLOCK_LEN) as usize).min(len - 1)
+    let first = low + (high - low) / 2;
+    Some(Window { low, first, high })
 }

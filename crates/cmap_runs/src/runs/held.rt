@@ -165,8 +165,9 @@ impl<T: HasRange> Held<T> {
         }
     }
 
-    // The blocks of the first codes, up to the end of the last run. It counts no look, and takes
-    // `&mut self` so that no search, which has `&self`, can call it.
+    // The blocks of the first codes, up to the end of the last run; none where one has most of the
+    // runs. It counts no look, and takes `&mut self` so that no search, which has `&self`, can call
+    // it.
     pub(super) fn blocks(&mut self, alloc: Global) -> Result<Blocks, AllocError>
         requires { IsInOrder self.old.runs }
         ensures blocks { IfOk result (λ blocks. AreBlocks self.old.runs blocks) }
@@ -179,6 +180,12 @@ impl<T: HasRange> Held<T> {
         while ended < run_count && list.len() < most {
             code += BLOCK_LEN;
             begun = self.begun_before(begun, code);
+            if begun - ended > run_count / 2 + 1 {
+                return Ok(Blocks {
+                    list: Vec::new(alloc),
+                    ended: 0,
+                });
+            }
             list.push_reserved(Block {
                 ended: ended as u32,
                 begun: begun as u32,

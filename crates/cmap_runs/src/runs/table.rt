@@ -71,7 +71,7 @@ impl<T: HasRange> Table<T> {
         ensures no_declaration { IfNone result
             (looks.new.declarations ≡ looks.old.declarations) }
     {
-        let window = self.blocks.window(&self.held, code);
+        let window = self.blocks.window(&self.held, code)?;
         let place = find_place(&self.held, code, window, looks)?;
         Some(self.held.declaration(place, looks))
     }

@@ -8,15 +8,14 @@ use Rattle.cmap_runs.proofs.runs.search.find_place.Goals.{then-code-candidate, e
 
 pub loop-low-init : goal.loop-low-init
 loop-low-init g c =
-    let low = c.args.window.0 in let high = c.args.window.1 in let middle = c.first_look-middle.result in
-    let is = c.requires.window in let look = c.first_look-middle.ensures in let number = length c.args.held.now.runs in
+    let window = c.args.window in let is = c.requires.window in let number = length c.args.held.now.runs in
     record {
-      within = is.within;
-      below = is.below;
-      above = λ k d le lt. let above = is.above k d le lt in omega (arith, above);
-      middle = λ some. (look.from, look.before);
-      bound_below = λ some. omega (arith, digits_half number (middle - low) (omega (arith, is.within)) (omega (arith, look.half_below)));
-      bound_above = λ some. omega (arith, digits_half number (high - (middle + 1)) (omega (arith, is.within)) (omega (arith, look.half_above)));
+      within = is.between.within;
+      below = is.between.below;
+      above = λ k d le lt. let above = is.between.above k d le lt in omega (arith, above);
+      middle = λ some. is.first;
+      bound_below = λ some. omega (arith, digits_half number (window.first - window.low) (omega (arith, is.between.within)) is.half_below);
+      bound_above = λ some. omega (arith, digits_half number (window.high - (window.first + 1)) (omega (arith, is.between.within)) is.half_above);
       most = omega arith;
       grows = omega arith;
       declarations = refl;

@@ -1,6 +1,7 @@
-use Rattle.std.proofs.Common.{◌≡◌, ◌-◌, ◌*◌, ◌<◌, ◌≤◌, length}
+use Rattle.std.proofs.Common.{◌≡◌, ℕ, ◌+◌, ◌-◌, ◌*◌, ◌/◌, ◌<◌, ◌≤◌, length, get_or}
 use Rattle.std.specs.List.{AllWithin}
 use Rattle.std.specs.Vec.{vec_capacity, vec_len}
+use Rattle.cmap_runs.specs.declared.runs.blocks.Block.{Block}
 use Rattle.cmap_runs.proofs.BlocksMade.{AreFirstBlocks}
 use Rattle.cmap_runs.proofs.runs.held.Held.blocks.Given as goal
 
@@ -8,10 +9,11 @@ use Rattle.cmap_runs.proofs.runs.held.Held.blocks.Given as goal
 abbrev pub invariant-loop-ended : goal.invariant-loop-ended
 invariant-loop-ended g l = record {
   blocks : AreFirstBlocks l.self.runs l.list.items;
+  few : (i : ℕ) (d : Block) → i < length l.list.items → (get_or l.list.items i d).begun - (get_or l.list.items i d).ended ≤ length l.self.runs / 2 + 1;
   code : l.code ≡ 16 * length l.list.items;
   within : l.begun ≤ length l.self.runs;
   before : AllWithin (λ run. run.low < l.code) l.self.runs 0 l.begun;
-  few : l.begun ≤ l.code;
+  fits : l.begun ≤ l.code;
   fewer : l.ended ≤ l.begun;
   ended : AllWithin (λ run. run.high < l.code) l.self.runs 0 l.ended;
   number : length l.list.items ≤ l.most;
