@@ -13,6 +13,9 @@ pub(super) const BLOCK_LEN: u32 = 16;
 // The blocks of the codes of two bytes.
 pub(super) const MOST_BLOCKS: usize = 4096;
 
+// A shorter list of runs has hardly any blocks.
+pub(super) const FEWEST_RUNS: usize = 512;
+
 // The runs from the place `ended` on and before `begun` are all that hold a code of the block.
 #[derive(Clone, Copy, Debug)]
 pub(super) struct Block {

@@ -8,7 +8,7 @@ ghost use Rattle.cmap_runs.specs.Order.{IsInOrder};
 ghost use Rattle.cmap_runs.specs.Ranges.{goes_on, joined};
 
 use super::HasRange;
-use super::blocks::{BLOCK_LEN, Block, Blocks, MOST_BLOCKS};
+use super::blocks::{BLOCK_LEN, Block, Blocks, FEWEST_RUNS, MOST_BLOCKS};
 use super::looks::Looks;
 use super::ranges::range_at;
 use std::alloc::{AllocError, Global};
@@ -195,16 +195,17 @@ impl<T: HasRange> Held<T> {
         Ok(Blocks { list, ended })
     }
 
-    // How many blocks may be made: four for each run, and no more than those of the codes of two bytes;
-    // none where no run begins there.
+    // How many blocks may be made. Few runs need none but those of the first codes, where the notdefs
+    // of most files lie.
     fn most_blocks(&self) -> usize
         ensures { result ≤ 4096 }
     {
-        let run_count = self.run_count();
-        if run_count == 0 || self.run_at(0).low >= BLOCK_LEN * MOST_BLOCKS as u32 {
-            return 0;
+        match self.run_count() {
+            0 => 0,
+            _ if self.run_at(0).low >= BLOCK_LEN * MOST_BLOCKS as u32 => 0,
+            1..FEWEST_RUNS => 2,
+            _ => MOST_BLOCKS,
         }
-        4 * run_count.min(MOST_BLOCKS / 4)
     }
 
     // How many runs begin before the code. The first `begun` are known to.
