@@ -43,7 +43,10 @@ fn first_piece(text: &[u8]) -> Option<(Token<'_>, usize)>
     match text {
         [b'[' | b']' | b'{' | b'}', ..] => Some((executable_name(&text[..1]), 1)),
         [b'<', b'<', ..] | [b'>', b'>', ..] => Some((executable_name(&text[..2]), 2)),
-        [b'<' | b'(', ..] => string_piece(text),
+        [b'<' | b'(', ..] => {
+            let len = string_len(text)?;
+            Some((Token::String(StringToken { raw: &text[..len] }), len))
+        }
         [b'/', rest @ ..] => {
             let len = run_len(rest);
             let name = Name {
@@ -55,16 +58,6 @@ fn first_piece(text: &[u8]) -> Option<(Token<'_>, usize)>
         [first, ..] if is_regular(*first) => Some(run_piece(text)),
         _ => None,
     }
-}
-
-// The string that a text begins with, and how many bytes it takes.
-fn string_piece(text: &[u8]) -> Option<(Token<'_>, usize)>
-    ensures exact { option_map (λ first. (token_seen first.0, first.1)) result
-        ≡ reading.string_of text.now (reading.string_len text.now) }
-    ensures within { IfSome result (λ first. first.1 ≤ length text.now) }
-{
-    let len = string_len(text)?;
-    Some((Token::String(StringToken { raw: &text[..len] }), len))
 }
 
 // The number or the name that a run is, which a text begins with, and how many bytes it takes.
