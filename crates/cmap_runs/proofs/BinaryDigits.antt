@@ -43,7 +43,3 @@ looks_half low high looks most lt left = (
 
 pub HasDigits-digits : (n : ℕ) → HasDigits n (digits n)
 HasDigits-digits n = (digits_room n, digits_least n)
-
--- fewer have no more digits
-pub digits_fewer : (m n : ℕ) → m ≤ n → digits m ≤ digits n
-digits_fewer m n le = digits_least m (digits n) (omega (arith, digits_room n))

@@ -4,7 +4,7 @@ use Rattle.std.specs.Prelude.{All, map}
 use Rattle.std.specs.List.{range_with_len}
 use Rattle.std.specs.List.Sorted.{IsNonDecreasingBy, IsPermutation}
 use Rattle.std.proofs.lemmas.Bool.{cases_lt}
-use Rattle.std.proofs.lemmas.List.{append_assoc, append-nil, get_or_append_left, get_or_push, length_push, map_push}
+use Rattle.std.proofs.lemmas.List.{append_assoc, get_or_append_left, get_or_push, length_push, map_push}
 use Rattle.std.proofs.lemmas.List.Elements.{All-push}
 use Rattle.std.proofs.lemmas.List.Sorted.{IsNonDecreasingBy-from_all_adjacent, IsPermutation-append_comm, IsPermutation-append_right, IsPermutation-refl, IsPermutation-trans}
 use Rattle.cmap_runs.specs.DeclaredRanges.{LieApart, LieApartBefore, range_at}
@@ -59,16 +59,6 @@ from_to_two first middle end le within =
 pub from_to_more : (first place : ℕ) → first ≤ place → from_to first (place + 1) ≡ from_to first place ++ place ∷ []
 from_to_more first place le =
     from_to_two first place (place + 1) le (omega arith) ∙ ap (λ n. from_to first place ++ range_with_len place n) (let e : place + 1 - place ≡ 1 = omega arith in e)
-
-from_to_none : (first end : ℕ) → end ≤ first → from_to first end ≡ []
-from_to_none first end le = ap (range_with_len first) (let e : end - first ≡ 0 = omega arith in e)
-
--- all were taken
-pub taken_all : (all places : List ℕ) (first middle second end : ℕ) → middle ≤ first → end ≤ second
-    → IsPermutation all (places ++ (from_to first middle ++ from_to second end)) → IsPermutation all places
-taken_all all places first middle second end one other are =
-    subst (IsPermutation all)
-    (ap (λ ys. places ++ (ys ++ from_to second end)) (from_to_none first middle one) ∙ ap (λ ys. places ++ ys) (from_to_none second end other) ∙ append-nil places) are
 
 -- none was taken
 pub taken_none : (middle count : ℕ) → middle ≤ count → IsPermutation (range_with_len 0 count) (from_to 0 middle ++ from_to middle count)

@@ -189,7 +189,7 @@ fn string(alloc: Global, units: &[u16], last: u16) -> Result<String, AllocError>
         ≡ filter_map (λ c. c) (utf16_chars (with_last units.now last))) }
 {
     // A unit takes three bytes at most.
-    let mut text = String::with_capacity(alloc, units.len().saturating_mul(3))?;
+    let mut text = String::with_capacity(alloc, 3 * units.len())?;
     let mut rest = units;
     while let Some((c, after)) = next_char(rest, last) {
         text.push(c)?;

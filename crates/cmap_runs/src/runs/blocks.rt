@@ -16,11 +16,11 @@ pub(super) const MOST_BLOCKS: usize = 4096;
 // A shorter list of runs has hardly any blocks.
 pub(super) const FEWEST_RUNS: usize = 512;
 
-// The runs from the place `ended` on and before `begun` are all that hold a code of the block.
+// The runs from the place `ended` on, so many, are all that hold a code of the block.
 #[derive(Clone, Copy, Debug)]
 pub(super) struct Block {
     pub(super) ended: u32,
-    pub(super) begun: u32,
+    pub(super) run_count: u32,
 }
 
 // The first blocks of codes.
@@ -50,11 +50,12 @@ impl Blocks {
         let Some(block) = self.list.get((code / BLOCK_LEN) as usize) else {
             return window_after(held, self.ended);
         };
-        let (low, high) = (block.ended as usize, block.begun as usize);
-        if low >= high {
+        let (low, run_count) = (block.ended as usize, block.run_count as usize);
+        if run_count == 0 {
             return None;
         }
-        let first = low + ((code % BLOCK_LEN) as usize).min(high - low - 1);
+        let first = low + ((code % BLOCK_LEN) as usize).min(run_count - 1);
+        let high = low + run_count;
         Some(Window { low, first, high })
     }
 }

@@ -188,7 +188,7 @@ impl<T: HasRange> Held<T> {
             }
             list.push_reserved(Block {
                 ended: ended as u32,
-                begun: begun as u32,
+                run_count: (begun - ended) as u32,
             });
             ended = self.ended_before(ended, begun, code);
         }

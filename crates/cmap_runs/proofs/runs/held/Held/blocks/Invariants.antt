@@ -9,7 +9,7 @@ use Rattle.cmap_runs.proofs.runs.held.Held.blocks.Given as goal
 abbrev pub invariant-loop-ended : goal.invariant-loop-ended
 invariant-loop-ended g l = record {
   blocks : AreFirstBlocks l.self.runs l.list.items;
-  few : (i : ℕ) (d : Block) → i < length l.list.items → (get_or l.list.items i d).begun - (get_or l.list.items i d).ended ≤ length l.self.runs / 2 + 1;
+  few : (i : ℕ) (d : Block) → i < length l.list.items → (get_or l.list.items i d).run_count ≤ length l.self.runs / 2 + 1;
   code : l.code ≡ 16 * length l.list.items;
   within : l.begun ≤ length l.self.runs;
   before : AllWithin (λ run. run.low < l.code) l.self.runs 0 l.begun;
