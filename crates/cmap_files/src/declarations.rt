@@ -192,11 +192,6 @@ fn push_filed(
     ensures four { OnOk result (lists.new.four.items
         ≡ lists.old.four.items ++ (if length_of len == 4 then range ∷ [] else [])) }
 {
-    // Most codes have two bytes.
-    if let CodeLength::Two = len {
-        lists.two.push(range)?;
-        return Ok(());
-    }
     let pushed = match len {
         CodeLength::One => lists.one.push(range),
         CodeLength::Two => lists.two.push(range),

@@ -8,7 +8,7 @@ use Rattle.cmap_runs.specs.declared.runs.blocks.Block.{Block}
 
 -- the blocks so far
 abbrev pub AreFirstBlocks : List Run → List Block → Type 0
-AreFirstBlocks runs list = (i : ℕ) (d : Block) → i < length list → AreAllBetween runs (16 * i) (16 * i + 16) (get_or list i d).ended ((get_or list i d).ended + (get_or list i d).run_count)
+AreFirstBlocks runs list = (i : ℕ) (d : Block) → i < length list → AreAllBetween runs (32 * i) (32 * i + 32) (get_or list i d).ended ((get_or list i d).ended + (get_or list i d).run_count)
 
 low_at_least : (runs : List Run) → IsInOrder runs → (k : ℕ) (d : Run) → k < length runs → k ≤ (get_or runs k d).low
 low_at_least runs order zero d lt = omega arith

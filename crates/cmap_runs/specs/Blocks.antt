@@ -13,13 +13,13 @@ pub record AreAllBetween (runs : List Run) (first end low high : ℕ) : Type 0 w
   pub below : AllWithin (λ run. run.high < first) runs 0 low
   pub above : AllWithin (λ run. end ≤ run.low) runs high (length runs)
 
--- each block has 16 codes; its runs are no more than half of all, but for one
+-- each block has 32 codes; its runs are no more than half of all, but for one
 pub record AreBlocks (runs : List Run) (blocks : Blocks) : Type 0 where
   pub each : (i : ℕ) (d : Block) → i < length blocks.list.items
-      → AreAllBetween runs (16 * i) (16 * i + 16) (get_or blocks.list.items i d).ended ((get_or blocks.list.items i d).ended + (get_or blocks.list.items i d).run_count)
+      → AreAllBetween runs (32 * i) (32 * i + 32) (get_or blocks.list.items i d).ended ((get_or blocks.list.items i d).ended + (get_or blocks.list.items i d).run_count)
   pub few : (i : ℕ) (d : Block) → i < length blocks.list.items → (get_or blocks.list.items i d).run_count ≤ length runs / 2 + 1
   pub within : blocks.ended ≤ length runs
-  pub before : AllWithin (λ run. run.high < 16 * length blocks.list.items) runs 0 blocks.ended
+  pub before : AllWithin (λ run. run.high < 32 * length blocks.list.items) runs 0 blocks.ended
 
 -- after the first look no more than half of all runs are left
 pub record IsWindow (runs : List Run) (code : ℕ) (window : Window) : Type 0 where

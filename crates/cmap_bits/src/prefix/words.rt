@@ -38,6 +38,9 @@ const START: Search = Search {
     past: 0,
 };
 
+// Nothing is known of the word that comes next.
+static UNKNOWN: Result<Word, Search> = Err(START);
+
 // The word that comes next, which is looked for from there on; or how far it has been looked for,
 // where none does. Words of one length are numbers in a row, and after the last one comes twice its
 // follower among the longer words.
@@ -111,7 +114,7 @@ pub(super) fn look_up<'k>(
 {
     match reader.peek_u8() {
         Some(byte) => &known[usize::from(byte)],
-        None => &Err(START),
+        None => &UNKNOWN,
     }
 }
 

@@ -8,15 +8,15 @@ use super::HasRange;
 use super::held::Held;
 
 // How many codes a block has.
-pub(super) const BLOCK_LEN: u32 = 16;
+pub(super) const BLOCK_LEN: u32 = 32;
 
 // The blocks of the codes of two bytes.
-pub(super) const MOST_BLOCKS: usize = 4096;
+pub(super) const MOST_BLOCKS: usize = 2048;
 
 // A shorter list of runs has hardly any blocks.
 pub(super) const FEWEST_RUNS: usize = 512;
 
-// The runs from the place `ended` on, so many, are all that hold a code of the block.
+// As many runs as `run_count`, from the place `ended` on, are all that hold a code of the block.
 #[derive(Clone, Copy, Debug)]
 pub(super) struct Block {
     pub(super) ended: u32,

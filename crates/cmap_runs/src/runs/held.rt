@@ -198,12 +198,12 @@ impl<T: HasRange> Held<T> {
     // How many blocks may be made. Few runs need none but those of the first codes, where the notdefs
     // of most files lie.
     fn most_blocks(&self) -> usize
-        ensures { result ≤ 4096 }
+        ensures { result ≤ 2048 }
     {
         match self.run_count() {
             0 => 0,
             _ if self.run_at(0).low >= BLOCK_LEN * MOST_BLOCKS as u32 => 0,
-            1..FEWEST_RUNS => 2,
+            1..FEWEST_RUNS => 1,
             _ => MOST_BLOCKS,
         }
     }

@@ -10,7 +10,7 @@ abbrev pub invariant-loop-ended : goal.invariant-loop-ended
 invariant-loop-ended g l = record {
   blocks : AreFirstBlocks l.self.runs l.list.items;
   few : (i : ℕ) (d : Block) → i < length l.list.items → (get_or l.list.items i d).run_count ≤ length l.self.runs / 2 + 1;
-  code : l.code ≡ 16 * length l.list.items;
+  code : l.code ≡ 32 * length l.list.items;
   within : l.begun ≤ length l.self.runs;
   before : AllWithin (λ run. run.low < l.code) l.self.runs 0 l.begun;
   fits : l.begun ≤ l.code;
