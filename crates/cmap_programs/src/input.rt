@@ -7,7 +7,7 @@ use std::alloc::Global;
 use std::io::{ErrorKind, Read};
 
 /// How many bytes a read asks for.
-const PIECE_LEN: usize = 4096;
+const PIECE_LEN: usize = 8192;
 
 /// All bytes of `input`, by at most `u32::MAX` reads. An input that hasn't ended by then is unreadable.
 pub fn read_all<R: Read>(alloc: Global, input: &mut R) -> Result<Vec<u8>, Failure>
