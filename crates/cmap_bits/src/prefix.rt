@@ -9,7 +9,7 @@ mod reading;
 mod words;
 
 use self::reading::parse;
-use self::words::{Search, Word, decode_from, look_up};
+use self::words::{Search, Word, find_from, look_up};
 use crate::bits::Reader;
 use std::alloc::{AllocError, Global};
 use std::marker::Model;
@@ -86,12 +86,17 @@ impl PrefixTable {
             → BeginsAt self.now (bits_left reader.old) j → i ≡ j }
         ensures unmoved { IfNone result (reader.new ≡ reader.old) }
     {
-        match *look_up(&self.known, reader) {
-            Ok(word) => {
-                reader.skip_bits(word.len);
-                Some(word.symbol)
+        let word = match *look_up(&self.known, reader) {
+            Ok(word) => word,
+            Err(search) => {
+                let found = find_from(&self.counts, &self.symbols, reader.fork(), search);
+                let Some(word) = found else {
+                    return None;
+                };
+                word
             }
-            Err(search) => decode_from(&self.counts, &self.symbols, reader, search),
-        }
+        };
+        reader.skip_bits(word.len);
+        Some(word.symbol)
     }
 }

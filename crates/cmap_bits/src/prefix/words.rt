@@ -2,7 +2,7 @@
 
 ghost use Rattle.std.specs.Prelude.{◌≡◌, ℕ, List, length, IfErr, IfNone, IfOk, IfSome, MatchOption};
 ghost use Rattle.cmap_bits.specs.PrefixWords.{AreWordLengths, BeginsAt, lengths_from};
-ghost use Rattle.cmap_bits.specs.Reader.{after_bits, bits_left};
+ghost use Rattle.cmap_bits.specs.Reader.{bits_left};
 ghost use Rattle.cmap_bits.specs.WordsByLength.{IsNext, IsSearched, IsTable, places_of};
 ghost use Rattle.cmap_bits.specs.WordsFound.{IsKnown, KnowBytes};
 
@@ -41,29 +41,22 @@ const START: Search = Search {
 // Nothing is known of the word that comes next.
 static UNKNOWN: Result<Word, Search> = Err(START);
 
-// The symbol whose word comes next, which is looked for from there on, and the reader moves past that
-// word; `None` where none does, and then the reader stays.
+// The word that comes next, which is looked for from there on; `None` where none does.
 #[inline(never)]
-pub(super) fn decode_from(
+pub(super) fn find_from(
     counts: &[u32],
     symbols: &[u32],
-    reader: &mut Reader<'_>,
+    reader: Reader<'_>,
     start: Search,
-) -> Option<u32>
+) -> Option<Word>
     requires table { IsTable counts.now symbols.now }
-    requires start { IsSearched counts.now (bits_left reader.old) start.len start.place start.past }
-    ensures found { IfSome result (λ symbol. (len : ℕ)
-        × IsNext (places_of counts.now symbols.now) (bits_left reader.old) symbol len
-        × (reader.new ≡ after_bits reader.old len)) }
+    requires start { IsSearched counts.now (bits_left reader) start.len start.place start.past }
+    ensures found { IfSome result (λ word.
+        IsNext (places_of counts.now symbols.now) (bits_left reader.entry) word.symbol word.len) }
     ensures none { IfNone result ((i : ℕ) →
-        BeginsAt (places_of counts.now symbols.now) (bits_left reader.old) i → ⊥) }
-    ensures unmoved { IfNone result (reader.new ≡ reader.old) }
+        BeginsAt (places_of counts.now symbols.now) (bits_left reader.entry) i → ⊥) }
 {
-    let Ok(word) = find(counts, symbols, reader.fork(), start) else {
-        return None;
-    };
-    reader.skip_bits(word.len);
-    Some(word.symbol)
+    find(counts, symbols, reader, start).ok()
 }
 
 // The word that comes next, which is looked for from there on; or how far it has been looked for,
