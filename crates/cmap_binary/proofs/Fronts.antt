@@ -57,6 +57,10 @@ pub bytes_found : (Kept : Type 0) (o : Option (Bor (List ℕ))) (after : List �
 bytes_found Kept None after size bytes kept fits = λ other is. let e : false ≡ true = fits.1 is.0 in cc
 bytes_found Kept (Some piece) after size bytes split fits = record { holds = split; alone = λ other is. pair_is other (piece.now, after) (is.1 ∙ sym split.1) (is.2 ∙ sym split.2) }
 
+-- no more is left after a piece than before it
+pub framed_within : (before : ℕ) {bytes piece rest : List ℕ} → FramedAt before bytes (piece, rest) → length rest ≤ length bytes
+framed_within before (size, after, field, (filled, split)) = omega (arith, split.4)
+
 -- what holds of the values that are made of those of which this holds, and of no others
 pub record Continues {A B : Type 0} (P : A → Type 0) (f : B → A) (Q : B → Type 0) : Type 0 where
   pub made : (y : B) → Q y → P (f y)

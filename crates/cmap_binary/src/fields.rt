@@ -10,7 +10,7 @@ ghost use Rattle.cmap_files.specs.FilesSeen.{file_seen};
 use crate::pieces::{take_byte, take_code, take_terminated, take_u16};
 use cmap_files::code_length::CodeLength;
 use cmap_files::declarations::{CidRange, Codespace};
-use cmap_files::fault::Fault;
+use cmap_files::fault::{Fault, Reason};
 use cmap_files::file::File;
 use cmap_files::metadata::{CharacterCollection, CidFamily};
 use cmap_runs::runs::Range;
@@ -24,20 +24,20 @@ pub(crate) fn add_notdefs(mut payload: &[u8], file: &mut File<'_>) -> Result<(),
         (file_seen file.old) (file_seen file.new) result }
 {
     let Some(width) = take_byte(&mut payload) else {
-        return Err(Fault::Refused);
+        return Err(Fault::Refused(Reason::Field));
     };
     let Some(count) = take_u16(&mut payload) else {
-        return Err(Fault::Refused);
+        return Err(Fault::Refused(Reason::Field));
     };
     if count == 0 {
         return Ok(());
     }
     let Some(len) = CodeLength::of(width) else {
-        return Err(Fault::Refused);
+        return Err(Fault::Refused(Reason::CodeLength));
     };
     for index in 0..count {
         let Some(range) = take_notdef(&mut payload, width) else {
-            return Err(Fault::Refused);
+            return Err(Fault::Refused(Reason::Entry));
         };
         file.lists.add_notdef(len, range)?;
     }
@@ -64,11 +64,11 @@ pub(crate) fn add_codespaces(mut payload: &[u8], file: &mut File<'_>) -> Result<
         (file_seen file.old) (file_seen file.new) result }
 {
     let Some(count) = take_byte(&mut payload) else {
-        return Err(Fault::Refused);
+        return Err(Fault::Refused(Reason::Field));
     };
     for index in 0..count {
         let Some(space) = take_codespace(&mut payload) else {
-            return Err(Fault::Refused);
+            return Err(Fault::Refused(Reason::Entry));
         };
         file.lists.add_codespace(space)?;
     }
@@ -98,13 +98,13 @@ pub(crate) fn set_collection(
         (file_seen file.old) (file_seen file.new) result }
 {
     let Some(registry) = take_terminated(&mut payload) else {
-        return Err(Fault::Refused);
+        return Err(Fault::Refused(Reason::Field));
     };
     let Some(ordering) = take_terminated(&mut payload) else {
-        return Err(Fault::Refused);
+        return Err(Fault::Refused(Reason::Field));
     };
     let Some(supplement) = take_u16(&mut payload) else {
-        return Err(Fault::Refused);
+        return Err(Fault::Refused(Reason::Field));
     };
     let family = CidFamily::from_registry_ordering(alloc, registry, ordering)?;
     file.metadata.character_collection = Some(CharacterCollection {

@@ -1,17 +1,18 @@
 //! CMap files in the binary form bcmap: a header, and segments up to the end that it tells.
 
-ghost use Rattle.std.specs.Prelude.{◌≡◌, ◌↔◌, IsTrue};
+ghost use Rattle.std.specs.Prelude.{◌≡◌, ◌↔◌, ◌+◌, IfErr, IfOk, IsTrue, length};
 ghost use Rattle.cmap_binary.specs.BinaryFiles.{BodyOf, IsBinaryFile, IsMarkedBinary};
 ghost use Rattle.cmap_binary.specs.BinarySeen.{SegmentsSay};
 ghost use Rattle.cmap_binary.specs.BundleSeen.{bundle_seen, tables_seen};
-ghost use Rattle.cmap_files.specs.Outcomes.{Finds, Reads};
+ghost use Rattle.cmap_files.specs.Only.{IsOnly, HoldsOfNone};
+ghost use Rattle.cmap_files.specs.Outcomes.{Finds, ReadsFile, StopsWithin};
 ghost use Rattle.cmap_files.specs.FilesSeen.{file_seen};
 ghost use Rattle.cmap_files.specs.ListsAppended.{no_file};
 
 use crate::bundle::{Bundle, Tables};
 use crate::pieces::take_framed;
 use crate::segments::read_segment;
-use cmap_files::fault::Fault;
+use cmap_files::fault::{Fault, FileFault, Reason};
 use cmap_files::file::File;
 use std::alloc::Global;
 
@@ -37,16 +38,17 @@ pub fn is_marked_binary(bytes: &[u8]) -> bool
     bytes.starts_with(MAGIC)
 }
 
-/// What a binary file says, by the tables of a bundle.
+/// What a binary file says, by the tables of a bundle. A file that is refused says where its first
+/// segment stands that can't be read.
 pub fn read_binary<'d>(
     alloc: Global,
     bundle: &Bundle<'_>,
     bytes: &'d [u8],
-) -> Result<File<'d>, Fault>
-    ensures { Reads (IsBinaryFile (bundle_seen bundle.now).tables bytes.now) file_seen result }
+) -> Result<File<'d>, FileFault>
+    ensures { ReadsFile (IsBinaryFile (bundle_seen bundle.now).tables) file_seen bytes.now result }
 {
     let Some(body) = split_body(bytes) else {
-        return Err(Fault::Refused);
+        return Err(Fault::Refused(Reason::Header).at(0));
     };
     let mut file = File::new(alloc);
     read_segments(alloc, &bundle.tables, body, &mut file)?;
@@ -64,21 +66,29 @@ fn split_body(mut bytes: &[u8]) -> Option<&[u8]>
     Some(&file[HEADER_LEN..])
 }
 
-/// Reads all the segments, and adds what they say to a file that says nothing.
+/// Reads all the segments after the header, and adds what they say to a file that says nothing.
 fn read_segments<'d>(
     alloc: Global,
     tables: &Tables,
-    mut segments: &'d [u8],
+    body: &'d [u8],
     file: &mut File<'d>,
-) -> Result<(), Fault>
+) -> Result<(), FileFault>
     requires { file_seen file.old ≡ no_file }
-    ensures { Reads (SegmentsSay (tables_seen tables.now) segments.now) (λ _. file_seen file.new) result }
+    ensures says { IfOk result
+        (λ _. IsOnly (SegmentsSay (tables_seen tables.now) body.now) (file_seen file.new)) }
+    ensures stops { IfErr result (StopsWithin (HEADER_LEN + length body.now)
+        (HoldsOfNone (SegmentsSay (tables_seen tables.now) body.now))) }
 {
+    let mut segments = body;
     while !segments.is_empty() {
+        let offset = HEADER_LEN + (body.len() - segments.len());
         let Some(segment) = take_framed(&mut segments, TYPE_LEN) else {
-            return Err(Fault::Refused);
+            return Err(Fault::Refused(Reason::SegmentLength).at(offset));
         };
-        read_segment(alloc, tables, segment[0], &segment[SEGMENT_HEAD..], file)?;
+        let (number, payload) = (segment[0], &segment[SEGMENT_HEAD..]);
+        if let Err(fault) = read_segment(alloc, tables, number, payload, file) {
+            return Err(fault.at(offset));
+        }
     }
     Ok(())
 }

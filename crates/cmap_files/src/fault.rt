@@ -2,11 +2,51 @@
 
 use std::alloc::{AllocError, AllocFailed};
 
+/// What is wrong with a file where reading stopped.
+#[derive(Clone, Copy, Debug, PartialEq, Eq)]
+pub enum Reason {
+    /// A text has no token here: a string without an end, another byte than a digit in a hexadecimal
+    /// string, or a `)` or `>` alone.
+    MalformedToken,
+    /// A text ends within a section.
+    EndWithinSection,
+    /// Another token than a code, which is a string.
+    CodeExpected,
+    /// A code of no or of more than four bytes.
+    CodeLength,
+    /// The two ends of a codespace range have other lengths.
+    UnequalLengths,
+    /// Another token than a CID, which is an integer from 0 to 2^32 - 1.
+    CidExpected,
+    /// Another token than the text of a code, which is a string that isn't empty.
+    TextExpected,
+    /// Another token than the `]` after the texts of a range.
+    BracketExpected,
+    /// A `usecmap` without a literal name before it.
+    UseWithoutName,
+    /// A binary file has no whole header of version 1, or fewer bytes than its header tells.
+    Header,
+    /// The last segment of a binary file is cut short.
+    SegmentLength,
+    /// A binary file has a segment of an unknown type.
+    SegmentType,
+    /// A field of a segment of a binary file is cut short.
+    Field,
+    /// An entry of a segment of a binary file is cut short, or its code or its CID passes 32 bits.
+    Entry,
+    /// No file has the name that a use names.
+    NoFile,
+    /// A file would be the seventeenth of its chain.
+    ChainLength,
+    /// The files that are opened have more bytes than the budget.
+    OverBudget,
+}
+
 /// Why a file gives no map.
 #[derive(Clone, Copy)]
 pub enum Fault {
     /// The file is outside the grammar.
-    Refused,
+    Refused(Reason),
     /// A growth was refused.
     Memory,
 }
@@ -30,5 +70,48 @@ impl<T: Drop> From<AllocFailed<T>> for Fault {
 
     fn from(_fault: AllocFailed<T>) -> Fault {
         Fault::Memory
+    }
+}
+
+/// Where the reading of a file stopped, and why.
+#[derive(Clone, Copy, Debug, PartialEq, Eq)]
+pub struct Stop {
+    /// How many bytes of the file had been read.
+    pub offset: usize,
+    pub reason: Reason,
+}
+
+/// Why a file isn't read.
+#[derive(Clone, Copy)]
+pub enum FileFault {
+    /// The file is outside the grammar.
+    Refused(Stop),
+    /// A growth was refused.
+    Memory,
+}
+
+impl From<AllocError> for FileFault {
+    ghost use Rattle.std.specs.Prelude.{◌≡◌};
+    ghost use Rattle.cmap_files.specs.declared.fault.FileFault.TheVariants.{Memory};
+
+    ghost from_gives = { λ _ e. e ≡ Memory };
+
+    fn from(_fault: AllocError) -> FileFault {
+        FileFault::Memory
+    }
+}
+
+impl Fault {
+    ghost use Rattle.std.specs.Prelude.{◌≡◌};
+    ghost use Rattle.cmap_files.specs.Outcomes.{fault_at};
+
+    /// The fault of the file that has it after this many bytes.
+    pub fn at(self, offset: usize) -> FileFault
+        ensures { result ≡ fault_at self offset }
+    {
+        match self {
+            Fault::Refused(reason) => FileFault::Refused(Stop { offset, reason }),
+            Fault::Memory => FileFault::Memory,
+        }
     }
 }

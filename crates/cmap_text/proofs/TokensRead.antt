@@ -8,6 +8,7 @@ use Rattle.cmap_bits.specs.BigEndian.{big_endian}
 use Rattle.std.specs.Option.{ok_or}
 use Rattle.cmap_files.specs.Outcomes.{Outcome}
 use Rattle.cmap_files.specs.declared.fault.Fault.TheVariants.{Refused}
+use Rattle.cmap_files.specs.declared.fault.Reason.{Reason}
 use Rattle.cmap_tokens.specs.Numbers.{Number}
 use Rattle.cmap_tokens.specs.Strings.{IsValue}
 use Rattle.cmap_tokens.specs.Texts.{units_of}
@@ -30,9 +31,9 @@ tested true x y is = (refl, same_Some x y is)
 tested false x y is = absurd (none-some y is)
 
 -- what is found in an option, or a refusal in its place
-pub given : {A B : Type 0} (seen : A → B) (o : Option A) (found : Option B) → option_map seen o ≡ found → Outcome (λ x. found ≡ Some (seen x)) (found ≡ None) (ok_or o Refused)
-given seen None found is = (tt, λ e. sym is)
-given seen (Some x) found is = (sym is, λ e. cc)
+pub given : {A B : Type 0} (seen : A → B) (o : Option A) (found : Option B) (reason : Reason) → option_map seen o ≡ found → Outcome (λ x. found ≡ Some (seen x)) (found ≡ None) (ok_or o (Refused reason))
+given seen None found reason is = (tt, λ e. sym is)
+given seen (Some x) found reason is = (sym is, tt)
 
 -- ---- names
 pub is_executable-found : (name : List ℕ) (t : Token) → is_executable name t ≡ true → t ≡ Token.Name false name

@@ -16,7 +16,7 @@ ghost use Rattle.cmap_text.specs.TextReading.{entry_after, list_in};
 use crate::tokens::{Code, TokenReader, is_executable};
 use cmap_files::code_length::CodeLength;
 use cmap_files::declarations::{BfRange, CidRange, Codespace, Lists};
-use cmap_files::fault::Fault;
+use cmap_files::fault::{Fault, Reason};
 use cmap_files::units::Units;
 use cmap_runs::runs::Range;
 
@@ -45,7 +45,7 @@ pub(crate) fn add_codespace_range(
 {
     let high = reader.next_code()?;
     if low.len.count() != high.len.count() {
-        return Err(Fault::Refused);
+        return Err(Fault::Refused(Reason::UnequalLengths));
     }
     lists.add_codespace(Codespace {
         len: low.len,
@@ -97,9 +97,7 @@ pub(crate) fn add_bf_range(
         lists.old lists.new reader.new result }
 {
     let end = reader.next_code()?;
-    let Some(token) = reader.required_token() else {
-        return Err(Fault::Refused);
-    };
+    let token = reader.required_token()?;
     if is_executable(&token, b"[") {
         return add_list(reader, start.number, end.number, lists);
     }
@@ -120,11 +118,9 @@ fn add_list(
         let units = reader.next_destination()?;
         add_text(lists, code as u32, code as u32, units)?;
     }
-    let Some(token) = reader.required_token() else {
-        return Err(Fault::Refused);
-    };
+    let token = reader.required_token()?;
     if !is_executable(&token, b"]") {
-        return Err(Fault::Refused);
+        return Err(Fault::Refused(Reason::BracketExpected));
     }
     Ok(())
 }
@@ -155,9 +151,7 @@ fn read_cids(reader: &mut TokenReader<'_>, start: Code, shape: Shape) -> Result<
         Shape::Range => reader.next_code()?,
         Shape::Single => start,
     };
-    let Some(cid) = reader.next_cid() else {
-        return Err(Fault::Refused);
-    };
+    let cid = reader.next_cid()?;
     let range = Range {
         start: start.number,
         end: end.number,

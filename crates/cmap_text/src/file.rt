@@ -1,9 +1,9 @@
 //! CMap files as text.
 
-ghost use Rattle.std.specs.Prelude.{◌≡◌, None, Some};
+ghost use Rattle.std.specs.Prelude.{◌≡◌, length, None, Some, IfErr, IfOk};
 ghost use Rattle.cmap_files.specs.FilesSeen.{file_seen};
 ghost use Rattle.cmap_files.specs.Only.{IsOnly};
-ghost use Rattle.cmap_files.specs.Outcomes.{Outcome, Reads};
+ghost use Rattle.cmap_files.specs.Outcomes.{ReadsFile, StopsWithin};
 ghost use Rattle.cmap_files.specs.MetadataSeen.{metadata_seen};
 ghost use Rattle.cmap_tokens.specs.TokensLeft.{HasTokens, Left};
 ghost use Rattle.cmap_text.specs.TextFiles.{IsMetadata, IsTextFile};
@@ -12,15 +12,15 @@ ghost use Rattle.cmap_text.specs.TextSeen.{said_seen, values_seen};
 
 use crate::items::{Said, read_items};
 use crate::tokens::TokenReader;
-use cmap_files::fault::Fault;
+use cmap_files::fault::FileFault;
 use cmap_files::file::File;
 use cmap_files::metadata::Metadata;
 use cmap_tokens::token::one_value_for_a_string;
 use std::alloc::Global;
 
 /// What a text file says.
-pub fn read_text<'d>(alloc: Global, text: &'d [u8]) -> Result<File<'d>, Fault>
-    ensures { Reads (IsTextFile text.now) file_seen result }
+pub fn read_text<'d>(alloc: Global, text: &'d [u8]) -> Result<File<'d>, FileFault>
+    ensures { ReadsFile IsTextFile file_seen text.now result }
 {
     one_value_for_a_string();
     let mut said = Said::new(alloc);
@@ -33,12 +33,15 @@ pub fn read_text<'d>(alloc: Global, text: &'d [u8]) -> Result<File<'d>, Fault>
 }
 
 /// Reads all that a text says, and gives what its keys say of the file.
-fn read_said<'d>(alloc: Global, text: &'d [u8], said: &mut Said<'d>) -> Result<Metadata, Fault>
-    ensures { (left : Left) × HasTokens text.now left × Outcome
-        (λ metadata. (all_said (said_seen said.old) left ≡ Some (said_seen said.new))
+fn read_said<'d>(alloc: Global, text: &'d [u8], said: &mut Said<'d>) -> Result<Metadata, FileFault>
+    ensures { (left : Left) × HasTokens text.now left
+        × IfOk result (λ metadata. (all_said (said_seen said.old) left ≡ Some (said_seen said.new))
         × IsOnly (IsMetadata (values_seen said.new.values)) (metadata_seen metadata))
-        (all_said (said_seen said.old) left ≡ None) result }
+        × IfErr result (StopsWithin (length text.now) (all_said (said_seen said.old) left ≡ None)) }
 {
-    read_items(&mut TokenReader::new(alloc, text), said)?;
-    said.values.metadata(alloc).map_err(Fault::from)
+    let mut reader = TokenReader::new(alloc, text);
+    if let Err(fault) = read_items(&mut reader, said) {
+        return Err(fault.at(reader.offset().min(text.len())));
+    }
+    Ok(said.values.metadata(alloc)?)
 }

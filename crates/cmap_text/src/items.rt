@@ -13,7 +13,7 @@ use crate::keys::{Key, Values};
 use crate::sections::{Section, read_section};
 use crate::tokens::{TokenReader, is_executable, literal_name};
 use cmap_files::declarations::Lists;
-use cmap_files::fault::Fault;
+use cmap_files::fault::{Fault, Reason};
 use cmap_tokens::token::{Token, one_value_for_a_string};
 use std::alloc::Global;
 
@@ -48,7 +48,7 @@ fn add_use<'d>(uses: &mut Vec<&'d [u8]>, operand: Option<&'d [u8]>) -> Result<()
         (option_copied operand.entry ≡ None) result }
 {
     let Some(name) = operand else {
-        return Err(Fault::Refused);
+        return Err(Fault::Refused(Reason::UseWithoutName));
     };
     uses.push(name).map_err(Fault::from)
 }

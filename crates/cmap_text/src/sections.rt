@@ -85,9 +85,7 @@ fn next_start(reader: &mut TokenReader<'_>, section: Section) -> Result<Option<C
     if let Some(code) = reader.plain_code() {
         return Ok(Some(code));
     }
-    let Some(token) = reader.required_token() else {
-        return Err(Fault::Refused);
-    };
+    let token = reader.required_token()?;
     if is_executable(&token, section.closer()) {
         return Ok(None);
     }

@@ -4,6 +4,7 @@ ghost use Rattle.std.specs.Prelude.{◌≡◌, ◌<◌, ◌≤◌, ◌^◌, ℕ,
 ghost use Rattle.std.specs.Int.Digits.{number_from_digits};
 ghost use Rattle.std.specs.List.{AllByRecursion};
 ghost use Rattle.std.specs.Option.{option_copied};
+ghost use Rattle.cmap_files.specs.Outcomes.{Outcome};
 ghost use Rattle.cmap_files.specs.UnitsSeen.{units_seen};
 ghost use Rattle.cmap_tokens.specs.Texts.{units_of};
 ghost use Rattle.cmap_tokens.specs.Tokens.{String};
@@ -14,10 +15,11 @@ ghost use Rattle.cmap_text.specs.TextReading.{cid_in, code_in, code_of, destinat
 ghost use Rattle.cmap_text.specs.TextSeen.{code_seen};
 ghost use Rattle.cmap_tokens.specs.TokensLeft.{HasTokens, ended, malformed, with_front};
 ghost use Rattle.cmap_files.specs.declared.fault.Fault.TheVariants.{Refused};
+ghost use Rattle.cmap_files.specs.declared.fault.Reason.TheVariants.{MalformedToken};
 
 use cmap_bits::bits::Reader;
 use cmap_files::code_length::CodeLength;
-use cmap_files::fault::Fault;
+use cmap_files::fault::{Fault, Reason};
 use cmap_files::names::Cid;
 use cmap_files::units::Units;
 use cmap_tokens::token::{Number, Scanner, Token, one_value_for_a_string};
@@ -65,20 +67,24 @@ impl<'d> TokenReader<'d> {
     pub(crate) fn next_token(&mut self) -> Result<Option<Token<'d>>, Fault>
         ensures { MatchResult result (λ found. MatchOption found ((self.old ≡ ended) × (self.new ≡ ended))
             (λ token. self.old ≡ with_front (token_seen token ∷ []) self.new))
-            (λ fault. (fault ≡ Refused) × (self.old ≡ malformed)) }
+            (λ fault. (fault ≡ Refused MalformedToken) × (self.old ≡ malformed)) }
     {
         let Ok(found) = self.scanner.next_token() else {
-            return Err(Fault::Refused);
+            return Err(Fault::Refused(Reason::MalformedToken));
         };
         Ok(found)
     }
 
-    /// The next token, which a section needs; `None` where no token comes.
-    pub(crate) fn required_token(&mut self) -> Option<Token<'d>>
-        ensures { MatchOption result (self.old.tokens ≡ [])
-            (λ token. self.old ≡ with_front (token_seen token ∷ []) self.new) }
+    /// The next token, which a section needs.
+    pub(crate) fn required_token(&mut self) -> Result<Token<'d>, Fault>
+        ensures { Outcome (λ token. self.old ≡ with_front (token_seen token ∷ []) self.new)
+            (self.old.tokens ≡ []) result }
     {
-        self.scanner.next_token().unwrap_or(None)
+        match self.scanner.next_token() {
+            Ok(Some(token)) => Ok(token),
+            Ok(None) => Err(Fault::Refused(Reason::EndWithinSection)),
+            Err(_) => Err(Fault::Refused(Reason::MalformedToken)),
+        }
     }
 
     /// The code that a token is: a string of one to four bytes.
@@ -88,16 +94,16 @@ impl<'d> TokenReader<'d> {
     {
         one_value_for_a_string();
         let Token::String(string) = token else {
-            return Err(Fault::Refused);
+            return Err(Fault::Refused(Reason::CodeExpected));
         };
         if let Some((count, number)) = string.plain_number() {
             let Some(len) = CodeLength::of(count) else {
-                return Err(Fault::Refused);
+                return Err(Fault::Refused(Reason::CodeLength));
             };
             return Ok(Code { len, number });
         }
         string.decode_into(&mut self.string)?;
-        code_of(&self.string).ok_or(Fault::Refused)
+        code_of(&self.string).ok_or(Fault::Refused(Reason::CodeLength))
     }
 
     /// The code of two bytes that comes next, where it stands as most do; `None` of any other token.
@@ -119,9 +125,7 @@ impl<'d> TokenReader<'d> {
         if let Some(code) = self.plain_code() {
             return Ok(code);
         }
-        let Some(token) = self.required_token() else {
-            return Err(Fault::Refused);
-        };
+        let token = self.required_token()?;
         self.code(&token)
     }
 
@@ -132,14 +136,14 @@ impl<'d> TokenReader<'d> {
     {
         one_value_for_a_string();
         let Token::String(string) = token else {
-            return Err(Fault::Refused);
+            return Err(Fault::Refused(Reason::TextExpected));
         };
         if let Some((len, number)) = string.plain_number() {
             return Ok(units_of_number(len, number));
         }
         string.decode_into(&mut self.string)?;
         if self.string.is_empty() {
-            return Err(Fault::Refused);
+            return Err(Fault::Refused(Reason::TextExpected));
         }
         let units = units(self.alloc, &self.string)?;
         Ok(Units::from_slice(self.alloc, &units)?)
@@ -154,21 +158,24 @@ impl<'d> TokenReader<'d> {
         if let Some(number) = self.scanner.next_two_bytes() {
             return Ok(units_of_number(2, u32::from(number)));
         }
-        let Some(token) = self.required_token() else {
-            return Err(Fault::Refused);
-        };
+        let token = self.required_token()?;
         self.destination(&token)
     }
 
     /// The CID that comes next: an integer of 32 bits without sign.
-    pub(crate) fn next_cid(&mut self) -> Option<Cid>
-        ensures { MatchOption result (head_in cid_in self.old ≡ None)
-            (λ cid. head_in cid_in self.old ≡ Some (cid, self.new)) }
+    pub(crate) fn next_cid(&mut self) -> Result<Cid, Fault>
+        ensures { Gives (head_in cid_in self.old) (λ cid. (cid, self.new)) result }
     {
-        if let Some(number) = self.scanner.next_decimal() {
-            return u32::try_from(number).ok();
-        }
-        cid_of(&self.required_token()?)
+        let cid = match self.scanner.next_decimal() {
+            Some(number) => u32::try_from(number).ok(),
+            None => cid_of(&self.required_token()?),
+        };
+        cid.ok_or(Fault::Refused(Reason::CidExpected))
+    }
+
+    /// How many bytes of the text have been read.
+    pub(crate) fn offset(&self) -> usize {
+        self.scanner.offset()
     }
 }
 

@@ -190,6 +190,13 @@ impl<'a> Scanner<'a> {
         Scanner { source, place: 0 }
     }
 
+    /// How many bytes of the text have been passed.
+    pub fn offset(&self) -> usize
+        ensures { result ≡ self.now.passed }
+    {
+        self.place
+    }
+
     /// The number that the two bytes of the next string write, the high one first, where one white
     /// byte and then `<`, four digits and `>` come next, as in most codes. The scanner is moved past
     /// the string. `None` of any other text, and then nothing moves.

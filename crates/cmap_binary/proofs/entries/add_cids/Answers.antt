@@ -22,7 +22,7 @@ pub returns-in_default : goal.returns-in_default
 returns-in_default c = (tt, λ e. made_none (then_none _ _ c.in_default.ensures))
 
 pub returns-then-count-eq0 : goal.returns-then-count-eq0
-returns-then-count-eq0 c = (record { content = _; only = made_only (then_only _ (rw c.if-count-eq0.true at c.in-Some.ensures) gives); says = adds_none _ }, λ e. cc)
+returns-then-count-eq0 c = (record { content = _; only = made_only (then_only _ (rw c.if-count-eq0.true at c.in-Some.ensures) gives); says = adds_none _ }, tt)
 
 pub returns-in_default-take_columns : goal.returns-in_default-take_columns
 returns-in_default-take_columns c = (tt, λ e. made_none (then_next _ c.in-Some.ensures (rw (some_cids _ _ c.in-Some.count _ (omega arith)) (then_none _ _ c.in_default-take_columns.ensures))))
@@ -42,4 +42,4 @@ pub returns : goal.returns
 returns c =
     let has = c.loop-index.invariant in
     let only = then_only _ c.in-Some-take_columns.ensures (then_only _ (adds_end has (omega arith)) gives) in
-    (record { content = _; only = made_only (then_only _ c.in-Some.ensures (rw (some_cids (tables_seen c.args.tables.now) (shape_seen c.args.shape) c.in-Some.count c.take_u16.new.text.now (omega arith)) only)); says = has.says ∙ ap (λ lists. with_content (with_lists (file_seen c.args.file.now) lists) (declares (map (cid (length_of c.args.len)) has.entries))) c.reserve_cids.ensures.same }, λ e. cc)
+    (record { content = _; only = made_only (then_only _ c.in-Some.ensures (rw (some_cids (tables_seen c.args.tables.now) (shape_seen c.args.shape) c.in-Some.count c.take_u16.new.text.now (omega arith)) only)); says = has.says ∙ ap (λ lists. with_content (with_lists (file_seen c.args.file.now) lists) (declares (map (cid (length_of c.args.len)) has.entries))) c.reserve_cids.ensures.same }, tt)

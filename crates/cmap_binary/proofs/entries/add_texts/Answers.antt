@@ -32,4 +32,4 @@ loop-index-preserved c =
 pub returns : goal.returns
 returns c =
     let has = c.loop-index.invariant in
-    (record { content = _; only = made_only (then_only _ c.in-Some.ensures (then_only _ c.in-Some-take_columns.ensures (then_only _ (adds_end has (omega arith)) gives))); says = rw c.reserve.ensures.items at has.says }, λ e. cc)
+    (record { content = _; only = made_only (then_only _ c.in-Some.ensures (then_only _ c.in-Some-take_columns.ensures (then_only _ (adds_end has (omega arith)) gives))); says = rw c.reserve.ensures.items at has.says }, tt)

@@ -10,7 +10,7 @@ pub loop-index-preserved : goal.loop-index-preserved
 loop-index-preserved c = rw c.in_ok-push.ensures.items (row_more _ _ _ _ _ _ _ _ c.loop-index.invariant (omega arith) c.in-Some-take_u16.ensures)
 
 pub returns : goal.returns
-returns c = (rw (c.in_ok-from_slice.ensures.units, c.deref.ensures.value) (row_end _ _ _ _ _ _ c.loop-index.invariant (omega arith)), λ e. cc)
+returns c = (rw (c.in_ok-from_slice.ensures.units, c.deref.ensures.value) (row_end _ _ _ _ _ _ c.loop-index.invariant (omega arith)), tt)
 
 pub returns-in_default : goal.returns-in_default
 returns-in_default c = (tt, λ e. row_wrong (FieldAt 2) c.args.count c.args.text.now.now 0 _ _ (row_start _ _ _) (omega arith) c.in_default.ensures)

@@ -21,4 +21,4 @@ loop-index-preserved c = adds_more c.loop-index.invariant _ (omega arith) c.in-S
 pub returns : goal.returns
 returns c =
     let has = c.loop-index.invariant in
-    (record { content = _; only = made_only (then_only _ c.in-Some.ensures (then_only _ (adds_end has (omega arith)) gives)); says = has.says }, λ e. cc)
+    (record { content = _; only = made_only (then_only _ c.in-Some.ensures (then_only _ (adds_end has (omega arith)) gives)); says = has.says }, tt)

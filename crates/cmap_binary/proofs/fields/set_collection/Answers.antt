@@ -23,4 +23,4 @@ returns-in_default-take_u16 c = (tt, λ e. made_none (then_next _ c.in-Some.ensu
 pub returns : goal.returns
 returns c =
     let only = then_only _ c.in-Some.ensures (then_only _ c.in-Some-take_terminated.ensures (then_only _ c.in-Some-take_u16.ensures gives)) in
-    (record { content = _; only = made_only (collection_only _ _ _ _ _ c.in_ok-family.ensures.value (search rules) only); says = refl }, λ e. cc)
+    (record { content = _; only = made_only (collection_only _ _ _ _ _ c.in_ok-family.ensures.value (search rules) only); says = refl }, tt)

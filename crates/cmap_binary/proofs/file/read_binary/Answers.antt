@@ -1,4 +1,5 @@
-use Rattle.std.proofs.Common.{ℕ, List, refl, subst}
+use Rattle.std.proofs.Common.{ℕ, ◌≤◌, ◌+◌, List, length, refl, ap, subst, arith}
+use Rattle.std.proofs.lemmas.List.{length-drop}
 use Rattle.cmap_files.specs.Only.{IsOnly, HoldsOfNone}
 use Rattle.cmap_binary.specs.Bundles.{PrefixTables}
 use Rattle.cmap_binary.specs.BundleSeen.{tables_seen}
@@ -6,7 +7,7 @@ use Rattle.cmap_binary.specs.BinaryFiles.{BodyOf, IsBinaryFile, SegmentAt}
 use Rattle.cmap_binary.specs.BinarySeen.{SegmentsSay}
 use Rattle.cmap_binary.specs.Fronts.{AllOf}
 use Rattle.cmap_binary.proofs.Fronts.{Continues, continues_only, continues_none}
-use Rattle.cmap_binary.proofs.Reading.{passed}
+use Rattle.cmap_files.proofs.Outcomes.{file_passed_on}
 use Rattle.cmap_binary.proofs.file.read_binary.Goals as goal
 
 no_body : (tables : PrefixTables) (bytes : List ℕ) → HoldsOfNone (BodyOf bytes) → HoldsOfNone (IsBinaryFile tables bytes)
@@ -20,14 +21,18 @@ body_says tables bytes body only = record {
   parts = λ file (other, contents, at, all, is). (file, (contents, subst (λ b. AllOf (SegmentAt tables) b contents) (only.alone other at) all, is), refl);
 }
 
+-- the body stands after a header of ten bytes
+body_within : (bytes body : List ℕ) → BodyOf bytes body → 10 + length body ≤ length bytes
+body_within bytes body (file, after, (size, rest, field, (filled, split)), (head, is)) = omega (arith, split.3, split.4, filled, ap length is, length-drop 10 file)
+
 pub returns-in_default : goal.returns-in_default
-returns-in_default c = (tt, λ e. no_body _ _ c.in_default.ensures)
+returns-in_default c = (tt, rw c.at.ensures (no_body _ _ c.in_default.ensures, omega arith))
 
 pub returns-in_err-read_segments : goal.returns-in_err-read_segments
 returns-in_err-read_segments c =
-    passed _ _ _ c.from_residual.ensures.1 c.in_err-read_segments.ensures.1
-    (λ none. continues_none (body_says (tables_seen c.args.bundle.now.tables) _ _ c.in-Some.ensures) none)
+    file_passed_on _ _ _ _ _ c.from_residual.ensures.1 c.in_err-read_segments.ensures.stops
+    (λ none. continues_none (body_says (tables_seen c.args.bundle.now.tables) _ _ c.in-Some.ensures) none) (body_within _ _ c.in-Some.ensures.holds)
 
 pub returns : goal.returns
 returns c =
-    (continues_only (body_says (tables_seen c.args.bundle.now.tables) _ _ c.in-Some.ensures) c.in_ok-read_segments.ensures.0, λ e. cc)
+    (continues_only (body_says (tables_seen c.args.bundle.now.tables) _ _ c.in-Some.ensures) c.in_ok-read_segments.ensures.says, tt)

@@ -1,14 +1,14 @@
-use Rattle.std.proofs.Common.{◌≡◌, refl, sym, ap, ◌∙◌, ℕ, List, [], ◌∷◌, ◌++◌, append-nil, drop}
+use Rattle.std.proofs.Common.{◌≡◌, refl, sym, ap, ◌∙◌, ℕ, List, [], ◌∷◌, ◌++◌, append-nil, drop, arith}
 use Rattle.std.specs.Prelude.{slice_index}
 use Rattle.std.proofs.lemmas.List.{take_rest}
 use Rattle.cmap_files.specs.Files.{File}
 use Rattle.cmap_files.specs.Only.{IsOnly, HoldsOfNone}
+use Rattle.cmap_files.proofs.Outcomes.{stops_at}
 use Rattle.cmap_binary.specs.Bundles.{PrefixTables}
 use Rattle.cmap_binary.specs.BinaryFiles.{Content, IsSegment, SegmentAt, file_of}
 use Rattle.cmap_binary.specs.BinarySeen.{SegmentsSay, with_content}
 use Rattle.cmap_binary.specs.Fronts.{FramedAt}
-use Rattle.cmap_binary.proofs.Fronts.{all_end, all_more, all_wrong, continues_none, continues_only, emptied, filled, no_frame, pair_is, then_next, then_none, then_only}
-use Rattle.cmap_binary.proofs.Reading.{passed}
+use Rattle.cmap_binary.proofs.Fronts.{all_end, all_more, all_wrong, framed_within, continues_none, continues_only, emptied, filled, no_frame, pair_is, then_next, then_none, then_only}
 use Rattle.cmap_binary.proofs.SegmentsSaid.{SaidSoFar, file_more}
 use Rattle.cmap_binary.proofs.file.read_segments.Goals as goal
 
@@ -34,20 +34,23 @@ module _ {tables : PrefixTables} {start here : List ℕ} {now : File} (so_far : 
       record { holds = (so_far.contents, only.holds, so_far.says); alone = λ other (contents, all, is). is ∙ ap file_of (only.alone contents all) ∙ sym so_far.says }
 
 pub loop-segments-init : goal.loop-segments-init
-loop-segments-init c = record { contents = []; row = record { made = λ more all. all; parts = λ all is. (all, is, refl) }; says = c.requires }
+loop-segments-init c = (record { contents = []; row = record { made = λ more all. all; parts = λ all is. (all, is, refl) }; says = c.requires }, omega arith)
 
-pub returns-in_default : goal.returns-in_default
-returns-in_default c = (tt, λ e. says_none c.loop-segments.invariant (filled c.loop-segments-test.ensures) (then_none _ _ c.in_default.ensures))
+pub returns-in_default-clause-stops : goal.returns-in_default-clause-stops
+returns-in_default-clause-stops c =
+    rw c.at.ensures (says_none c.loop-segments.invariant.0 (filled c.loop-segments-test.ensures) (then_none _ _ c.in_default.ensures), omega arith)
 
-pub returns-in_err-read_segment : goal.returns-in_err-read_segment
-returns-in_err-read_segment c =
-    passed _ _ _ c.from_residual.ensures.1 c.in_err-read_segment.ensures.1
-    (λ none. says_none c.loop-segments.invariant (filled c.loop-segments-test.ensures) (then_next _ c.in-Some.ensures (λ other at. (rw take_rest at none) other.0 at.0)))
+pub returns-in-Err-clause-stops : goal.returns-in-Err-clause-stops
+returns-in-Err-clause-stops c =
+    rw c.at-in-Err.ensures (stops_at c.in-Err.fault _ _ c.in-Err.ensures.1 (λ none. says_none c.loop-segments.invariant.0 (filled c.loop-segments-test.ensures) (then_next _ c.in-Some.ensures (λ other at. (rw take_rest at none) other.0 at.0))) (omega (arith, c.loop-segments.invariant.1)))
 
 pub loop-segments-preserved : goal.loop-segments-preserved
 loop-segments-preserved c =
-    let content = c.in_ok-read_segment.ensures.0 in
-    says_more c.loop-segments.invariant _ (filled c.loop-segments-test.ensures) (segment_only _ _ _ _ _ c.in-Some.ensures (rw take_rest at content.only)) content.says
+    let content = c.in_default-read_segment.ensures.0 in
+    (
+      says_more c.loop-segments.invariant.0 _ (filled c.loop-segments-test.ensures) (segment_only _ _ _ _ _ c.in-Some.ensures (rw take_rest at content.only)) content.says,
+      omega (arith, framed_within 1 c.in-Some.ensures.holds, c.loop-segments.invariant.1),
+    )
 
-pub returns : goal.returns
-returns c = (says_only c.loop-segments.invariant (emptied c.loop-segments-test.ensures), λ e. cc)
+pub returns-clause-says : goal.returns-clause-says
+returns-clause-says c = says_only c.loop-segments.invariant.0 (emptied c.loop-segments-test.ensures)

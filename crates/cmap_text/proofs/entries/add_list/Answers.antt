@@ -15,11 +15,12 @@ loop-code-preserved c =
     c.loop-code.invariant ∙ list_more _ _ (c.args.end + 1 - (c.loop-code.code + 1)) _ _ _ _ (omega arith) c.in_ok-units.ensures.0
     ∙ ap (λ l. added l (list_in (c.args.end + 1 - (c.loop-code.code + 1)) (c.loop-code.code + 1) c.next_destination.new.self)) (sym c.in_ok-add_text.ensures.0)
 
-pub returns-in_default : goal.returns-in_default
-returns-in_default c = (tt, λ e. c.loop-code.invariant ∙ list_closed _ _ _ _ (omega arith) ∙ rw c.in_default.ensures refl)
+pub returns-in_err-token : goal.returns-in_err-token
+returns-in_err-token c =
+    passed_on c.from_residual-in_err-token.result _ _ _ c.from_residual-in_err-token.ensures.1 (λ e. c.loop-code.invariant ∙ list_closed _ _ _ _ (omega arith) ∙ rw (c.in_err-token.ensures.1 e) refl)
 
 pub returns-then-not-is_executable : goal.returns-then-not-is_executable
-returns-then-not-is_executable c = (tt, λ e. c.loop-code.invariant ∙ list_closed _ _ _ _ (omega arith) ∙ rw (c.in-Some.ensures, ← c.if-not-is_executable.ensures) refl)
+returns-then-not-is_executable c = (tt, λ e. c.loop-code.invariant ∙ list_closed _ _ _ _ (omega arith) ∙ rw (c.in_ok-token.ensures.0, ← c.if-not-is_executable.ensures) refl)
 
 pub returns : goal.returns
-returns c = (c.loop-code.invariant ∙ list_closed _ _ _ _ (omega arith) ∙ rw (c.in-Some.ensures, ← c.if-not-is_executable.ensures) (ap (λ l. Some (l, c.required_token.new.self)) (append_lists-none (lists_seen c.loop-code.lists))), λ e. cc)
+returns c = (c.loop-code.invariant ∙ list_closed _ _ _ _ (omega arith) ∙ rw (c.in_ok-token.ensures.0, ← c.if-not-is_executable.ensures) (ap (λ l. Some (l, c.required_token.new.self)) (append_lists-none (lists_seen c.loop-code.lists))), tt)

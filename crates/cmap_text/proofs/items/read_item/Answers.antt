@@ -10,4 +10,4 @@ returns-in_ok-next_token c =
     let key = key_in-found _ _ (sym c.in-Some-of.ensures) in
     let operand = c.literal_name-said.ensures ∙ ap (λ t. literal_head (other t)) key.1 in
     let value = next_value-is token_seen c.in_ok-next_token.field-0 _ _ c.in_ok-next_token.ensures in
-    (rw (← c.in_default.ensures, ← c.if-is_executable.ensures, ← c.in-Some-of.ensures, value, item_after, c.set.ensures, operand) refl, λ e. cc)
+    (rw (← c.in_default.ensures, ← c.if-is_executable.ensures, ← c.in-Some-of.ensures, value, item_after, c.set.ensures, operand) refl, tt)

@@ -10,7 +10,7 @@ loop-token-init c = IsSaying-none _ _
 
 pub returns-in_err-token : goal.returns-in_err-token
 returns-in_err-token c =
-    passed_on {U = Unit {0}} c.from_residual.result _ _ _ c.from_residual.ensures.1 (λ e. IsSaying-end false _ _ _ _ c.loop-token.invariant c.in_err-token.ensures.1)
+    passed_on c.from_residual.result _ _ _ c.from_residual.ensures.1 (λ e. IsSaying-end false _ _ _ _ c.loop-token.invariant c.in_err-token.ensures.1)
 
 pub loop-token-smaller : goal.loop-token-smaller
 loop-token-smaller c =
@@ -30,4 +30,4 @@ returns-in_err-read_item c =
 pub returns : goal.returns
 returns c =
     let end = rw c.in_default.is at c.in_ok-token.ensures in
-    (IsSaying-end true _ _ _ _ c.loop-token.invariant end.0, λ e. cc)
+    (IsSaying-end true _ _ _ _ c.loop-token.invariant end.0, tt)

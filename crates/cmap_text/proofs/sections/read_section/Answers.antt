@@ -26,4 +26,4 @@ returns-in_err-read_entry c =
 pub returns : goal.returns
 returns c =
     let closes = rw c.in_default.is at c.in_ok-start.ensures.0 in
-    (IsReading-closed _ _ _ _ _ _ c.loop-start.invariant closes, λ e. cc)
+    (IsReading-closed _ _ _ _ _ _ c.loop-start.invariant closes, tt)

@@ -10,9 +10,9 @@ returns-in-Some-clause-code c =
     let (bytes, only, are, count, number) = c.in-Some.ensures.value in
     let read = read_value c.one_value_for_a_string.ensures.value code_of _ _ bytes (ap token_seen c.in-String.is) only.holds in
     let ((least, most), len) = c.in-Some-of.ensures in
-    (read ∙ code_of-is bytes (omega (arith, count, least)) (omega (arith, count, most)) ∙ rw (← count, ← number, len) refl, λ e. cc)
+    (read ∙ code_of-is bytes (omega (arith, count, least)) (omega (arith, count, most)) ∙ rw (← count, ← number, len) refl, tt)
 
 pub returns-clause-code : goal.returns-clause-code
 returns-clause-code c =
     let read = read_value c.one_value_for_a_string.ensures.value code_of _ _ _ (ap token_seen c.in-String.is) c.in_ok-decode_into.ensures.value in
-    rw (c.ok_or.ensures.value, read) (given code_seen c.code_of.result _ (rw c.deref.ensures.value at c.code_of.ensures))
+    rw (c.ok_or.ensures.value, read) (given code_seen c.code_of.result _ _ (rw c.deref.ensures.value at c.code_of.ensures))

@@ -9,4 +9,4 @@ returns-in-Some c =
     let (piece, reads, (value, only, are, two, number), left) = c.in-Some.ensures.token in
     let read = read_value c.one_value_for_a_string.ensures.value destination_of (String piece) piece value refl only.holds ∙ destination_of-is value (omega (arith, two)) in
     let units = c.units_of_number.ensures value are (omega arith) (omega arith) (sym two) (c.from.ensures ∙ number) in
-    (ap (head_in destination_in) (sym c.self.view_is ∙ left) ∙ rw (read, ← units) refl, λ e. cc)
+    (ap (head_in destination_in) (sym c.self.view_is ∙ left) ∙ rw (read, ← units) refl, tt)
