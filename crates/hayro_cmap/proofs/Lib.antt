@@ -1,3 +1,4 @@
+pub mod Blamed
 pub mod BudgetLeft
 pub mod BytesWithin
 pub mod FilesMeant
@@ -6,7 +7,6 @@ pub mod LayersFit
 pub mod LayersSearched
 pub mod OneName
 pub mod OneUse
-pub mod RefusalOf
 pub mod TablesCopied
 pub mod UsesInOrder
 pub mod WholeFile

@@ -1,9 +1,67 @@
--- What a refusal of one file is for those that use it.
-use Rattle.cmap_files.specs.declared.fault.Fault.{Fault}
-use Rattle.cmap_files.specs.declared.fault.Fault.TheVariants as fault
-use Rattle.hayro_cmap.specs.declared.refusal.Refusal.{Refusal}
-use Rattle.hayro_cmap.specs.declared.refusal.Refusal.TheVariants as refusal
+-- Why files have no layers: the file at fault, and what is wrong with it.
+use Rattle.std.specs.Prelude.{◌≡◌, ℕ, zero, suc, ◌≤◌, List, [], ◌∷◌, ◌++◌, ◌⊎◌, length, Contains, Option, Some, None}
+use Rattle.std.specs.Borrow.{Bor}
+use Rattle.cmap_files.specs.Files.{File}
+use Rattle.cmap_files.specs.FilesSeen.{names_seen}
+use Rattle.cmap_files.specs.Only.{HoldsOfNone}
+use Rattle.cmap_files.specs.declared.fault.FileFault.{FileFault}
+use Rattle.cmap_files.specs.declared.fault.FileFault.TheVariants as file_fault
+use Rattle.hayro_cmap.specs.Budgets.{PassesBudget, StaysWithin}
+use Rattle.hayro_cmap.specs.BytesSpent.{About, Refuses, GoesOver}
+use Rattle.hayro_cmap.specs.Layers.{AreLayers}
+use Rattle.hayro_cmap.specs.declared.refusal.Cause.{Cause}
+use Rattle.hayro_cmap.specs.declared.refusal.Cause.TheVariants.{Malformed, NoFile, ChainLength, OverBudget}
+use Rattle.hayro_cmap.specs.declared.refusal.Unresolved.{Unresolved}
+use Rattle.hayro_cmap.specs.declared.refusal.Unresolved.TheVariants.{Refused, Memory}
 
-abbrev pub refusal_of : Fault → Refusal
-refusal_of fault.Refused = refusal.Refused
-refusal_of fault.Memory = refusal.Memory
+module _ (means : List ℕ → File → Type 0) (answer : List ℕ → Option (List ℕ) → Type 0) where
+  -- what is wrong with a file by itself
+  abbrev pub IsOwnFault : List ℕ → Cause → Type 0
+  IsOwnFault bytes (Malformed stop) = HoldsOfNone (means bytes) × (stop.offset ≤ length bytes)
+  IsOwnFault bytes OverBudget = Unit {0}
+  IsOwnFault bytes NoFile = ⊥
+  IsOwnFault bytes ChainLength = ⊥
+
+  -- why a name gives no file, where at most this many files may still stand in the chain
+  abbrev pub IsMissing : ℕ → List ℕ → Cause → Type 0
+  IsMissing room name (Malformed stop) = ⊥
+  IsMissing room name OverBudget = ⊥
+  IsMissing room name NoFile = answer name None
+  IsMissing room name ChainLength = room ≡ 0
+
+  -- the names lead from the file of these bytes to the one at fault, each used by the file before it
+  abbrev pub IsFault : ℕ → List ℕ → List (List ℕ) → Cause → Type 0
+  IsFault zero bytes names cause = ⊥
+  IsFault (suc most) bytes [] cause = IsOwnFault bytes cause
+  IsFault (suc most) bytes (name ∷ names) cause = (file : File) × means bytes file × Contains file.uses name × ((IsMissing most name cause × (names ≡ []))
+      ⊎ ((base : List ℕ) × answer name (Some base) × IsFault most base names cause))
+
+  -- the same from a use of this name
+  abbrev pub IsUseFault : ℕ → List ℕ → List (List ℕ) → Cause → Type 0
+  IsUseFault most name [] cause = ⊥
+  IsUseFault most name (first ∷ names) cause = (first ≡ name) × ((IsMissing most name cause × (names ≡ [])) ⊎ ((base : List ℕ) × answer name (Some base) × IsFault most base names cause))
+
+  -- what a cause says of all files: they pass the budget, or there are no layers and they don't
+  abbrev pub HasNoLayers : ℕ → List ℕ → Option ℕ → Cause → Type 0
+  HasNoLayers most bytes budget (Malformed stop) = HoldsOfNone (AreLayers means answer most bytes) × StaysWithin means answer most bytes budget
+  HasNoLayers most bytes budget NoFile = HoldsOfNone (AreLayers means answer most bytes) × StaysWithin means answer most bytes budget
+  HasNoLayers most bytes budget ChainLength = HoldsOfNone (AreLayers means answer most bytes) × StaysWithin means answer most bytes budget
+  HasNoLayers most bytes budget OverBudget = PassesBudget means answer most bytes budget
+
+-- ---- private aid
+abbrev pub unresolved_of : FileFault → Unresolved
+unresolved_of (file_fault.Refused stop) = Refused (Malformed stop)
+unresolved_of file_fault.Memory = Memory
+
+-- how a search for the layers of a file or of a use fails
+abbrev pub Fails : {Key : Type 0} → About Key → Key → Option ℕ → Option ℕ → Unresolved → Type 0
+Fails about key budget left (Refused (Malformed stop)) = Refuses about key budget left
+Fails about key budget left (Refused NoFile) = Refuses about key budget left
+Fails about key budget left (Refused ChainLength) = Refuses about key budget left
+Fails about key budget left (Refused OverBudget) = GoesOver about key budget
+Fails about key budget left Memory = Unit {0}
+
+-- the names that are added lead to a fault
+abbrev pub Blames : (List (List ℕ) → Cause → Type 0) → List (Bor (List ℕ)) → List (Bor (List ℕ)) → Unresolved → Type 0
+Blames leads old new (Refused cause) = (names : List (List ℕ)) × (names_seen new ≡ names_seen old ++ names) × leads names cause
+Blames leads old new Memory = Unit {0}

@@ -3,9 +3,10 @@
 ghost use Rattle.std.specs.Prelude.{◌≡◌, OnOk, IfErr};
 ghost use Rattle.hayro_cmap.specs.Budgets.{IsOver};
 ghost use Rattle.hayro_cmap.specs.BytesSpent.{Leaves};
-ghost use Rattle.hayro_cmap.specs.declared.refusal.Refusal.TheVariants.{OverBudget};
+ghost use Rattle.hayro_cmap.specs.declared.refusal.Cause.TheVariants.{OverBudget};
+ghost use Rattle.hayro_cmap.specs.declared.refusal.Unresolved.TheVariants.{Refused};
 
-use crate::refusal::Refusal;
+use crate::refusal::{Cause, Unresolved};
 use std::alloc::{AllocError, AllocFailed};
 
 /// Why a map couldn't be read within a budget.
@@ -40,14 +41,15 @@ impl<T: Drop> From<AllocFailed<T>> for ParseError {
 }
 
 /// Takes `count` bytes from what is left of a budget, if there is one.
-pub(crate) fn spend(left: &mut Option<u64>, count: usize) -> Result<(), Refusal>
+pub(crate) fn spend(left: &mut Option<u64>, count: usize) -> Result<(), Unresolved>
     ensures spent { OnOk result (Leaves left.old count left.new) }
-    ensures over { IfErr result (λ error. (error ≡ OverBudget) × IsOver left.old count) }
+    ensures over { IfErr result
+        (λ error. (error ≡ Refused OverBudget) × IsOver left.old count) }
 {
     if let Some(budget) = *left {
         let count = count as u64;
         if budget < count {
-            return Err(Refusal::OverBudget);
+            return Err(Unresolved::Refused(Cause::OverBudget));
         }
         *left = Some(budget - count);
     }

@@ -1,22 +1,21 @@
 //! Files over the files that they use.
 
-ghost use Rattle.std.specs.Prelude.{◌≡◌, ◌∷◌, suc, IfOk, IsErrOf};
+ghost use Rattle.std.specs.Prelude.{◌≡◌, ◌∷◌, length, suc, IfErr, IfOk};
 ghost use Rattle.cmap_binary.specs.BundleSeen.{tables_given};
-ghost use Rattle.cmap_files.specs.FilesSeen.{file_seen};
-ghost use Rattle.cmap_files.specs.Only.{IsOnly, HoldsOfNone};
-ghost use Rattle.cmap_files.specs.declared.fault.Fault.TheVariants as fault;
+ghost use Rattle.cmap_files.specs.FilesSeen.{file_seen, names_seen};
+ghost use Rattle.cmap_files.specs.Outcomes.{ReadsFile};
 ghost use Rattle.hayro_cmap.specs.Answers.{IsByName};
-ghost use Rattle.hayro_cmap.specs.BytesSpent.{Resolves, Refuses, GoesOver, of_file, of_use};
+ghost use Rattle.hayro_cmap.specs.BytesSpent.{Resolves, of_file, of_use};
 ghost use Rattle.hayro_cmap.specs.Layers.{Means, layer_of};
 ghost use Rattle.hayro_cmap.specs.LayersSeen.{layers_seen};
-ghost use Rattle.hayro_cmap.specs.declared.refusal.Refusal.TheVariants.{Refused, OverBudget};
+ghost use Rattle.hayro_cmap.specs.Refusals.{Blames, Fails, IsFault, IsUseFault};
 
 use crate::budget::spend;
 use crate::layers::Layer;
-use crate::refusal::Refusal;
+use crate::refusal::{Cause, Unresolved};
 use crate::source::Source;
 use cmap_binary::{Bundle, is_marked_binary, read_binary};
-use cmap_files::fault::Fault;
+use cmap_files::fault::FileFault;
 use cmap_files::file::File;
 use cmap_text::read_text;
 use std::alloc::{AllocError, Global};
@@ -29,33 +28,36 @@ pub(crate) const MOST_BELOW: u8 = 15;
 ///
 /// The length of each file that is opened, this one too, is first taken from what is `left` of the
 /// budget. A file is read whole before those that it uses are asked for. Each use is resolved,
-/// though only the layers of the last one are kept.
+/// though only the layers of the last one are kept. Where one is refused, the names that lead from
+/// this file to it are added to `names`.
 #[cycle(layers)]
-pub(crate) fn find_layers<S: Source>(
+pub(crate) fn find_layers<'a, S: Source>(
     alloc: Global,
-    bytes: &[u8],
+    bytes: &'a [u8],
     bundle: Option<&Bundle<'_>>,
-    source: &S,
+    source: &'a S,
     below: u8,
     left: &mut Option<u64>,
-) -> Result<Vec<Layer>, Refusal>
+    names: &mut Vec<&'a [u8]>,
+) -> Result<Vec<Layer>, Unresolved>
     requires can_ask { S.can_ask source.now }
     requires by_name { IsByName (S.answers source.now) }
     ensures found { IfOk result (λ layers. Resolves
         (of_file (Means (tables_given bundle.entry)) (S.answers source.now) (suc below))
         bytes.now (layers_seen layers.items) left.old left.new) }
-    ensures refused { IsErrOf result Refused → Refuses
+    ensures stays { IfOk result (λ _. names_seen names.new.items ≡ names_seen names.old.items) }
+    ensures fails { IfErr result (Fails
         (of_file (Means (tables_given bundle.entry)) (S.answers source.now) (suc below))
-        bytes.now left.old left.new }
-    ensures over { IsErrOf result OverBudget → GoesOver
-        (of_file (Means (tables_given bundle.entry)) (S.answers source.now) (suc below))
-        bytes.now left.old }
+        bytes.now left.old left.new) }
+    ensures blames { IfErr result (Blames
+        (IsFault (Means (tables_given bundle.entry)) (S.answers source.now) (suc below) bytes.now)
+        names.old.items names.new.items) }
 {
     spend(left, bytes.len())?;
     let file = read_file(alloc, bytes, bundle)?;
     let mut base = Vec::new(alloc);
     for name in &file.uses {
-        base = find_used(alloc, name, bundle, source, below, left)?;
+        base = find_used(alloc, *name, bundle, source, below, left, names)?;
     }
     Ok(put_over(alloc, file, base)?)
 }
@@ -63,31 +65,38 @@ pub(crate) fn find_layers<S: Source>(
 /// The layers of the file that a use names. It is refused where `below` is 0, since no file may stand
 /// under the one that uses it, where the name has no answer, and where the file is refused.
 #[cycle(layers)]
-fn find_used<S: Source>(
+fn find_used<'a, S: Source>(
     alloc: Global,
-    name: &[u8],
+    name: &'a [u8],
     bundle: Option<&Bundle<'_>>,
-    source: &S,
+    source: &'a S,
     below: u8,
     left: &mut Option<u64>,
-) -> Result<Vec<Layer>, Refusal>
+    names: &mut Vec<&'a [u8]>,
+) -> Result<Vec<Layer>, Unresolved>
     requires can_ask { S.can_ask source.now }
     requires by_name { IsByName (S.answers source.now) }
     ensures found { IfOk result (λ layers. Resolves
         (of_use (Means (tables_given bundle.entry)) (S.answers source.now) below)
         name.now (layers_seen layers.items) left.old left.new) }
-    ensures refused { IsErrOf result Refused → Refuses
+    ensures stays { IfOk result (λ _. names_seen names.new.items ≡ names_seen names.old.items) }
+    ensures fails { IfErr result (Fails
         (of_use (Means (tables_given bundle.entry)) (S.answers source.now) below)
-        name.now left.old left.new }
-    ensures over { IsErrOf result OverBudget → GoesOver
-        (of_use (Means (tables_given bundle.entry)) (S.answers source.now) below)
-        name.now left.old }
+        name.now left.old left.new) }
+    ensures blames { IfErr result (Blames
+        (IsUseFault (Means (tables_given bundle.entry)) (S.answers source.now) below name.now)
+        names.old.items names.new.items) }
 {
+    names.push(name)?;
     if below == 0 {
-        return Err(Refusal::Refused);
+        return Err(Unresolved::Refused(Cause::ChainLength));
     }
-    let bytes = source.file(name).ok_or(Refusal::Refused)?;
-    find_layers(alloc, bytes, bundle, source, below - 1, left)
+    let Some(bytes) = source.file(name) else {
+        return Err(Unresolved::Refused(Cause::NoFile));
+    };
+    let layers = find_layers(alloc, bytes, bundle, source, below - 1, left, names)?;
+    names.pop();
+    Ok(layers)
 }
 
 /// The layer of a file over the layers that it is based on.
@@ -106,11 +115,8 @@ fn read_file<'d>(
     alloc: Global,
     bytes: &'d [u8],
     bundle: Option<&Bundle<'_>>,
-) -> Result<File<'d>, Fault>
-    ensures file { IfOk result
-        (λ file. IsOnly (Means (tables_given bundle.entry) bytes.now) (file_seen file)) }
-    ensures refused { IsErrOf result fault.Refused
-        → HoldsOfNone (Means (tables_given bundle.entry) bytes.now) }
+) -> Result<File<'d>, FileFault>
+    ensures { ReadsFile (Means (tables_given bundle.entry)) file_seen bytes.now result }
 {
     match bundle {
         Some(bundle) if is_marked_binary(bytes) => read_binary(alloc, bundle, bytes),

@@ -14,6 +14,7 @@ mod source;
 pub use budget::ParseError;
 pub use cmap_binary::{Bundle, load_embedded};
 pub use cmap_files::declarations::{BfRange, CidRange};
+pub use cmap_files::fault::{Reason, Stop};
 pub use cmap_files::metadata::{CharacterCollection, CidFamily, Metadata, WritingMode};
 pub use cmap_files::names::{CMapName, Cid};
 pub use cmap_files::units::Units;
@@ -21,6 +22,7 @@ pub use cmap_runs::runs;
 pub use cmap_tokens::token;
 pub use cmap_tokens::utf16::BfString;
 pub use map::CMap;
+pub use refusal::{Cause, Refusal};
 pub use source::Source;
 
 /// The parts of the binary form of CMap files: bits and numbers, prefix tables, bundles.

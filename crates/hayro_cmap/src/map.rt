@@ -1,6 +1,6 @@
 //! Maps: what the codes of a CMap file stand for.
 
-ghost use Rattle.std.specs.Prelude.{◌≡◌, ◌*◌, [], ◌∷◌, ◌≤◌, ◌<◌, IfOk, IfSome, IfNone, IsErrOf, IsSome, IsSomeAnd, OnErr, OnOk, codes, is_some, length, option_map};
+ghost use Rattle.std.specs.Prelude.{◌≡◌, ◌*◌, [], ◌∷◌, ◌≤◌, ◌<◌, IfErr, IfOk, IfSome, IfNone, IsErrOf, IsSome, IsSomeAnd, OnErr, OnOk, codes, is_some, length, option_map};
 ghost use Rattle.cmap_files.specs.CodeLengths.{IsCodeLength};
 ghost use Rattle.cmap_runs.specs.SearchLooks.{LooksAtMost};
 ghost use Rattle.cmap_tokens.specs.TextSeen.{text_seen};
@@ -9,19 +9,21 @@ ghost use Rattle.hayro_cmap.specs.Answers.{Answers, AnswersByName, IsByName};
 ghost use Rattle.hayro_cmap.specs.Budgets.{PassesBudget, StaysWithin};
 ghost use Rattle.cmap_files.specs.DeclarationsSeen.{lists_seen};
 ghost use Rattle.cmap_files.specs.Files as files;
+ghost use Rattle.cmap_files.specs.FilesSeen.{names_seen};
 ghost use Rattle.hayro_cmap.specs.Identity.{identity_layer};
 ghost use Rattle.cmap_binary.specs.BundleSeen.{tables_given};
 ghost use Rattle.hayro_cmap.specs.Layers.{AreLayers, Means};
 ghost use Rattle.hayro_cmap.specs.LayersSeen.{IsMetadataOf, metadata_seen, mode_seen};
 ghost use Rattle.hayro_cmap.specs.Lookups.{InCodespace, bf_of, cid_of};
 ghost use Rattle.cmap_files.specs.Only.{IsOnly, HoldsOfNone};
+ghost use Rattle.hayro_cmap.specs.Refusals.{HasNoLayers, IsFault};
 ghost use Rattle.hayro_cmap.specs.Searches.{bf_looks, cid_looks, finds_text};
 ghost use Rattle.hayro_cmap.specs.declared.budget.ParseError.TheVariants.{OverBudget};
 
 use crate::budget::ParseError;
 use crate::chain::{MOST_BELOW, find_layers};
 use crate::layers::Layer;
-use crate::refusal::Refusal;
+use crate::refusal::{Cause, Refusal, Unresolved};
 use crate::source::{FilesByName, Source};
 use crate::{codespaces, lookup};
 use cmap_binary::Bundle;
@@ -161,12 +163,54 @@ impl CMap {
             → PassesBudget (Means (tables_given bundle.entry))
             (S.answers source.now) 16 «data».now budget }
     {
+        let cause = match CMap::parse_explained(alloc, budget, data, bundle, source)? {
+            Ok(map) => return Ok(Some(map)),
+            Err(refusal) => refusal.cause,
+        };
+        match cause {
+            Cause::OverBudget => Err(ParseError::OverBudget),
+            _ => Ok(None),
+        }
+    }
+
+    /// The map that `parse_from` gives, or why there is none: the file at fault, by the names that
+    /// lead to it, and what is wrong with it.
+    pub fn parse_explained<'a, S: Source>(
+        alloc: Global,
+        budget: Option<u64>,
+        data: &'a [u8],
+        bundle: Option<&Bundle<'_>>,
+        source: &'a S,
+    ) -> Result<Result<CMap, Refusal<'a>>, AllocError>
+        requires can_ask { S.can_ask source.now }
+        requires by_name { IsByName (S.answers source.now) }
+        ensures accepts { IfOk result (λ found. IfOk found
+            (λ map. IsOnly (AreLayers (Means (tables_given bundle.entry))
+            (S.answers source.now) 16 «data».now) map)) }
+
+        // There are no layers, or all that would be opened passes the budget.
+        ensures refuses { IfOk result (λ found. IfErr found
+            (λ refusal. HasNoLayers (Means (tables_given bundle.entry)) (S.answers source.now) 16
+            «data».now budget refusal.cause)) }
+
+        // The names lead to the file that is at fault.
+        ensures blames { IfOk result (λ found. IfErr found
+            (λ refusal. IsFault (Means (tables_given bundle.entry)) (S.answers source.now) 16
+            «data».now (names_seen refusal.names.items) refusal.cause)) }
+
+        // With a map, all that is opened is within the budget.
+        ensures within { IfOk result (λ found. OnOk found
+            (StaysWithin (Means (tables_given bundle.entry))
+            (S.answers source.now) 16 «data».now budget)) }
+    {
         let mut left = budget;
-        match find_layers(alloc, data, bundle, source, MOST_BELOW, &mut left) {
-            Ok(layers) => Ok(Some(CMap { layers })),
-            Err(Refusal::Refused) => Ok(None),
-            Err(Refusal::Memory) => Err(ParseError::Memory),
-            Err(Refusal::OverBudget) => Err(ParseError::OverBudget),
+        let mut names = Vec::new(alloc);
+        match find_layers(
+            alloc, data, bundle, source, MOST_BELOW, &mut left, &mut names,
+        ) {
+            Ok(layers) => Ok(Ok(CMap { layers })),
+            Err(Unresolved::Refused(cause)) => Ok(Err(Refusal { names, cause })),
+            Err(Unresolved::Memory) => Err(AllocError),
         }
     }
 

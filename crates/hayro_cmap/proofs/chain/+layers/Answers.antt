@@ -1,63 +1,81 @@
-use Rattle.std.proofs.Common.{refl, ◌-◌, arith}
-use Rattle.std.proofs.lemmas.Result.{IfOk-weaker, err_from_is_err_and}
+use Rattle.std.proofs.Common.{refl, ◌∙◌, ◌-◌, arith}
 use Rattle.cmap_binary.specs.BundleSeen.{tables_given}
 use Rattle.cmap_files.specs.FilesSeen.{file_seen, names_seen}
 use Rattle.hayro_cmap.specs.Layers.{Means}
+use Rattle.hayro_cmap.proofs.Blamed.{blames_file, blames_missing, blames_use, err_gives, fails_as, file_fails, used_at}
 use Rattle.hayro_cmap.proofs.OneUse.{Resolves-answered, Refuses-answered, Refuses-unanswered, GoesOver-answered}
-use Rattle.hayro_cmap.proofs.RefusalOf.{Refused-from}
 use Rattle.hayro_cmap.proofs.UsesInOrder.{AreUsed-none, AreUsed-at, AreUsed-end, AreUsed-more, Resolves-used, Refuses-used, GoesOver-used}
-use Rattle.hayro_cmap.proofs.WholeFile.{Resolves-file, Refuses-file, Refuses-no_file, GoesOver-file, GoesOver-here}
+use Rattle.hayro_cmap.proofs.WholeFile.{Resolves-file, Refuses-file, GoesOver-file, GoesOver-here}
+use Rattle.hayro_cmap.specs.declared.refusal.Cause.TheVariants.{NoFile, ChainLength}
 use Rattle.hayro_cmap.proofs.chain.+layers.Goals as goal
 
-pub find_layers-returns-in_err-spend-clause-over : goal.find_layers-returns-in_err-spend-clause-over
-find_layers-returns-in_err-spend-clause-over g t c h = GoesOver-here (Means (tables_given c.args.bundle)) (g.S.Source.answers c.args.source.now) c.args.below c.args.bytes.now c.args.left.now c.in_err-spend.ensures.over.1
+pub find_layers-returns-in_err-spend-clause-fails : goal.find_layers-returns-in_err-spend-clause-fails
+find_layers-returns-in_err-spend-clause-fails g t c =
+    let over = GoesOver-here (Means (tables_given c.args.bundle)) (g.S.Source.answers c.args.source.now) c.args.below c.args.bytes.now c.args.left.now c.in_err-spend.ensures.over.1 in
+    err_gives c.from_residual.result c.from_residual.ensures.1 (λ e is. rw (is, c.in_err-spend.ensures.over.0) over)
 
-pub find_layers-returns-in_err-file-clause-refused : goal.find_layers-returns-in_err-file-clause-refused
-find_layers-returns-in_err-file-clause-refused g t c h =
-    let made = err_from_is_err_and c.from_residual-in_err-file.result c.from_residual-in_err-file.ensures.1 in let said = made.1 in let gives = made.2 in
-    let none = c.in_err-file.ensures.refused (let is = Refused-from c.in_err-file.field-0.0 (cc (said, gives, h)) in cc is) in
-    Refuses-no_file (Means (tables_given c.args.bundle)) (g.S.Source.answers c.args.source.now) c.args.below c.args.bytes.now c.args.left.now c.spend.new.left none c.in_ok-spend.ensures.spent
+pub find_layers-returns-in_err-file-clause-fails : goal.find_layers-returns-in_err-file-clause-fails
+find_layers-returns-in_err-file-clause-fails g t c =
+    let fails = file_fails (Means (tables_given c.args.bundle)) (g.S.Source.answers c.args.source.now) c.args.below c.args.bytes.now c.args.left.now c.spend.new.left _ c.in_err-file.ensures.1 c.in_ok-spend.ensures.spent in
+    err_gives c.from_residual-in_err-file.result c.from_residual-in_err-file.ensures.1 (λ e is. rw is fails)
 
 pub find_layers-loop-name-init : goal.find_layers-loop-name-init
-find_layers-loop-name-init g t c = rw c.new-base.ensures.items (AreUsed-none (names_seen c.deref-name-items.result.now) c.spend.new.left)
+find_layers-loop-name-init g t c = (rw c.new-base.ensures.items (AreUsed-none (names_seen c.deref-name-items.result.now) c.spend.new.left), refl)
 
 pub find_layers-loop-name-preserved : goal.find_layers-loop-name-preserved
-find_layers-loop-name-preserved g t c = AreUsed-more (AreUsed-at c.loop-name.name-index refl c.loop-name.invariant c.loop-name-test.true) c.in_ok-base.ensures.found
+find_layers-loop-name-preserved g t c = (AreUsed-more (AreUsed-at c.loop-name.name-index refl c.loop-name.invariant.0 c.loop-name-test.true) c.in_ok-base.ensures.found, c.in_ok-base.ensures.stays ∙ c.loop-name.invariant.1)
 
-pub find_layers-returns-in_err-base-clause-refused : goal.find_layers-returns-in_err-base-clause-refused
-find_layers-returns-in_err-base-clause-refused g t c h =
-    let made = err_from_is_err_and c.from_residual-in_err-base.result c.from_residual-in_err-base.ensures.1 in let said = made.1 in let gives = made.2 in let was = c.in_err-base.was in
-    let used = AreUsed-at c.loop-name.name-index c.deref-name-items.ensures.value c.loop-name.invariant c.loop-name-test.true in
-    Refuses-file (Means (tables_given c.args.bundle)) (g.S.Source.answers c.args.source.now) c.args.below c.args.bytes.now c.args.left.now (file_seen c.in_ok-file.file) c.spend.new.left c.in_ok-file.ensures.file c.in_ok-spend.ensures.spent
-    c.find_used.new.left (Refuses-used used (c.find_used.ensures.refused (cc (said, gives, was, h))))
+pub find_layers-returns-in_err-base-clause-fails : goal.find_layers-returns-in_err-base-clause-fails
+find_layers-returns-in_err-base-clause-fails g t c =
+    let used = AreUsed-at c.loop-name.name-index c.deref-name-items.ensures.value c.loop-name.invariant.0 c.loop-name-test.true in
+    let fails = fails_as c.in_err-base.field-0.0
+    (λ refused. Refuses-file (Means (tables_given c.args.bundle)) (g.S.Source.answers c.args.source.now) c.args.below c.args.bytes.now c.args.left.now (file_seen c.in_ok-file.file) c.spend.new.left c.in_ok-file.ensures.0 c.in_ok-spend.ensures.spent c.find_used.new.left (Refuses-used used refused))
+    (λ over. GoesOver-file (Means (tables_given c.args.bundle)) (g.S.Source.answers c.args.source.now) c.args.below c.args.bytes.now c.args.left.now (file_seen c.in_ok-file.file) c.spend.new.left c.in_ok-file.ensures.0 c.in_ok-spend.ensures.spent (GoesOver-used used over))
+    c.in_err-base.ensures.fails in
+    err_gives c.from_residual-in_err-base.result c.from_residual-in_err-base.ensures.1 (λ e is. rw is fails)
 
-pub find_layers-returns-in_err-base-clause-over : goal.find_layers-returns-in_err-base-clause-over
-find_layers-returns-in_err-base-clause-over g t c h =
-    let made = err_from_is_err_and c.from_residual-in_err-base.result c.from_residual-in_err-base.ensures.1 in let said = made.1 in let gives = made.2 in let was = c.in_err-base.was in
-    let used = AreUsed-at c.loop-name.name-index c.deref-name-items.ensures.value c.loop-name.invariant c.loop-name-test.true in
-    GoesOver-file (Means (tables_given c.args.bundle)) (g.S.Source.answers c.args.source.now) c.args.below c.args.bytes.now c.args.left.now (file_seen c.in_ok-file.file) c.spend.new.left c.in_ok-file.ensures.file c.in_ok-spend.ensures.spent
-    (GoesOver-used used (c.find_used.ensures.over (cc (said, gives, was, h))))
+pub find_layers-returns-in_err-base-clause-blames : goal.find_layers-returns-in_err-base-clause-blames
+find_layers-returns-in_err-base-clause-blames g t c =
+    let uses = used_at _ _ c.loop-name.name-index c.deref-name-items.ensures.value c.loop-name-test.true in
+    let blames = blames_file (Means (tables_given c.args.bundle)) (g.S.Source.answers c.args.source.now) c.args.below c.args.bytes.now _ _ _ (file_seen c.in_ok-file.file) _ c.in_err-base.field-0.0 c.loop-name.invariant.1 c.in_ok-file.ensures.0.holds uses c.in_err-base.ensures.blames in
+    err_gives c.from_residual-in_err-base.result c.from_residual-in_err-base.ensures.1 (λ e is. rw is blames)
 
 pub find_layers-returns-clause-found : goal.find_layers-returns-clause-found
 find_layers-returns-clause-found g t c =
-    let used = AreUsed-end c.loop-name.name-index c.deref-name-items.ensures.value c.loop-name.invariant c.loop-name-test.false in
-    rw c.in_ok-put_over.ensures (Resolves-file (Means (tables_given c.args.bundle)) (g.S.Source.answers c.args.source.now) c.args.below c.args.bytes.now c.args.left.now (file_seen c.in_ok-file.file) c.spend.new.left c.in_ok-file.ensures.file c.in_ok-spend.ensures.spent _ _ (Resolves-used used))
+    let used = AreUsed-end c.loop-name.name-index c.deref-name-items.ensures.value c.loop-name.invariant.0 c.loop-name-test.false in
+    rw c.in_ok-put_over.ensures (Resolves-file (Means (tables_given c.args.bundle)) (g.S.Source.answers c.args.source.now) c.args.below c.args.bytes.now c.args.left.now (file_seen c.in_ok-file.file) c.spend.new.left c.in_ok-file.ensures.0 c.in_ok-spend.ensures.spent _ _ (Resolves-used used))
 
-pub find_used-returns-in_err-bytes-clause-refused : goal.find_used-returns-in_err-bytes-clause-refused
-find_used-returns-in_err-bytes-clause-refused g t c h =
-    Refuses-unanswered _ _ c.requires.by_name c.args.name.now c.args.left.now c.args.below (c.args.below - 1) (omega arith) (rw c.in_err-bytes.ensures.ok_part at c.file.ensures)
+pub find_layers-returns-clause-stays : goal.find_layers-returns-clause-stays
+find_layers-returns-clause-stays g t c = c.loop-name.invariant.1
+
+pub find_used-returns-then-below-eq0-clause-blames : goal.find_used-returns-then-below-eq0-clause-blames
+find_used-returns-then-below-eq0-clause-blames g t c =
+    blames_missing (Means (tables_given c.args.bundle)) (g.S.Source.answers c.args.source.now) c.args.below _ _ c.args.name ChainLength c.in_ok-push.ensures.items c.if-below-eq0.true
+
+pub find_used-returns-in_default-clause-fails : goal.find_used-returns-in_default-clause-fails
+find_used-returns-in_default-clause-fails g t c =
+    Refuses-unanswered _ _ c.requires.by_name c.args.name.now c.args.left.now c.args.below (c.args.below - 1) (omega arith) (rw c.in_default.is at c.file.ensures)
+
+pub find_used-returns-in_default-clause-blames : goal.find_used-returns-in_default-clause-blames
+find_used-returns-in_default-clause-blames g t c =
+    blames_missing (Means (tables_given c.args.bundle)) (g.S.Source.answers c.args.source.now) c.args.below _ _ c.args.name NoFile c.in_ok-push.ensures.items (rw c.in_default.is at c.file.ensures)
+
+pub find_used-returns-in_err-layers-clause-fails : goal.find_used-returns-in_err-layers-clause-fails
+find_used-returns-in_err-layers-clause-fails g t c =
+    let said = rw c.in-Some.is at c.file.ensures in
+    let fails = fails_as c.in_err-layers.field-0.0
+    (Refuses-answered (Means (tables_given c.args.bundle)) (g.S.Source.answers c.args.source.now) c.requires.by_name c.args.name.now c.args.left.now c.args.below (c.args.below - 1) (omega arith) c.in-Some.bytes.now said _)
+    (GoesOver-answered (Means (tables_given c.args.bundle)) (g.S.Source.answers c.args.source.now) c.requires.by_name c.args.name.now c.args.left.now c.args.below (c.args.below - 1) (omega arith) c.in-Some.bytes.now said)
+    c.in_err-layers.ensures.fails in
+    err_gives c.from_residual-in_err-layers.result c.from_residual-in_err-layers.ensures.1 (λ e is. rw is fails)
+
+pub find_used-returns-in_err-layers-clause-blames : goal.find_used-returns-in_err-layers-clause-blames
+find_used-returns-in_err-layers-clause-blames g t c =
+    let said = rw c.in-Some.is at c.file.ensures in
+    let blames = blames_use (Means (tables_given c.args.bundle)) (g.S.Source.answers c.args.source.now) c.args.below (c.args.below - 1) _ _ _ c.args.name c.in-Some.bytes.now c.in_err-layers.field-0.0 (omega arith) c.in_ok-push.ensures.items said c.in_err-layers.ensures.blames in
+    err_gives c.from_residual-in_err-layers.result c.from_residual-in_err-layers.ensures.1 (λ e is. rw is blames)
 
 pub find_used-returns-clause-found : goal.find_used-returns-clause-found
 find_used-returns-clause-found g t c =
-    let said = rw c.in_ok-bytes.ensures.ok_part at c.file.ensures in
-    IfOk-weaker c.find_layers.result _ _ (λ layers. Resolves-answered _ _ c.requires.by_name c.args.name.now c.args.left.now c.args.below (c.args.below - 1) (omega arith) c.in_ok-bytes.bytes.now said _ _) c.find_layers.ensures.found
-
-pub find_used-returns-clause-refused : goal.find_used-returns-clause-refused
-find_used-returns-clause-refused g t c h =
-    let said = rw c.in_ok-bytes.ensures.ok_part at c.file.ensures in
-    Refuses-answered _ _ c.requires.by_name c.args.name.now c.args.left.now c.args.below (c.args.below - 1) (omega arith) c.in_ok-bytes.bytes.now said _ (c.find_layers.ensures.refused h)
-
-pub find_used-returns-clause-over : goal.find_used-returns-clause-over
-find_used-returns-clause-over g t c h =
-    let said = rw c.in_ok-bytes.ensures.ok_part at c.file.ensures in
-    GoesOver-answered _ _ c.requires.by_name c.args.name.now c.args.left.now c.args.below (c.args.below - 1) (omega arith) c.in_ok-bytes.bytes.now said (c.find_layers.ensures.over h)
+    let said = rw c.in-Some.is at c.file.ensures in
+    Resolves-answered _ _ c.requires.by_name c.args.name.now c.args.left.now c.args.below (c.args.below - 1) (omega arith) c.in-Some.bytes.now said _ _ c.in_ok-layers.ensures.found

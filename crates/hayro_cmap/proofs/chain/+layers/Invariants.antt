@@ -1,4 +1,4 @@
-use Rattle.std.proofs.Common.{drop, ◌+◌}
+use Rattle.std.proofs.Common.{◌≡◌, drop, ◌+◌}
 use Rattle.cmap_binary.specs.BundleSeen.{tables_given}
 use Rattle.cmap_files.specs.FilesSeen.{names_seen}
 use Rattle.hayro_cmap.specs.BytesSpent.{of_use}
@@ -15,5 +15,5 @@ decreases-find_used g l = l.below + l.below
 
 abbrev pub invariant-find_layers-loop-name : goal.invariant-find_layers-loop-name
 invariant-find_layers-loop-name g l =
-    let names = names_seen l.name-items in
-    AreUsed (of_use (Means (tables_given l.bundle)) (g.S.Source.answers l.source) l.below) names (drop l.name-index names) (layers_seen l.base.items) l.initial.left l.left
+    let uses = names_seen l.name-items in
+    AreUsed (of_use (Means (tables_given l.bundle)) (g.S.Source.answers l.source) l.below) uses (drop l.name-index uses) (layers_seen l.base.items) l.initial.left l.left × (names_seen l.names.items ≡ names_seen l.initial.names.items)

@@ -1,7 +1,13 @@
-use Rattle.std.proofs.lemmas.Result.{IfOk-weaker}
-use Rattle.hayro_cmap.proofs.FilesMeant.{means_binary}
+use Rattle.hayro_cmap.proofs.FilesMeant.{reads_binary, reads_text}
+use Rattle.hayro_cmap.proofs.chain.read_file.Goals.{in_default-via-in-Some+else-is_marked_binary, in_default-via-in_default}
 use Rattle.hayro_cmap.proofs.chain.read_file.Goals as goal
 
-pub returns-in-Some-clause-file : goal.returns-in-Some-clause-file
-returns-in-Some-clause-file c =
-    rw c.in-Some.is (IfOk-weaker c.read_binary.result _ _ (λ file only. means_binary _ _ _ (c.is_marked_binary.ensures.0 c.if-is_marked_binary.true) only) c.read_binary.ensures.0)
+pub returns-in-Some : goal.returns-in-Some
+returns-in-Some c = rw c.in-Some.is (reads_binary _ _ _ (c.is_marked_binary.ensures.0 c.if-is_marked_binary.true) c.read_binary.ensures)
+
+pub returns-in_default : goal.returns-in_default
+returns-in_default c =
+    elim c.in_default.branch [
+      | in_default-via-in-Some+else-is_marked_binary w ↦ rw w.in-Some.is (reads_text _ _ _ (λ marked. let is = w.if-is_marked_binary.ensures.1 marked in cc) c.read_text.ensures)
+      | in_default-via-in_default w ↦ rw w.in_default.is c.read_text.ensures
+    ]

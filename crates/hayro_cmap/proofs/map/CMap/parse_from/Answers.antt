@@ -1,24 +1,9 @@
-use Rattle.std.specs.Prelude.{true, false}
 use Rattle.cmap_binary.specs.BundleSeen.{tables_given}
 use Rattle.hayro_cmap.specs.Layers.{Means}
-use Rattle.hayro_cmap.proofs.LayersFit.{layers-fit}
-use Rattle.hayro_cmap.proofs.WholeFile.{StaysWithin-from_spent}
+use Rattle.hayro_cmap.proofs.Blamed.{refused_by}
 use Rattle.hayro_cmap.proofs.map.CMap.parse_from.Goals as goal
 
-pub invariant_of-result : goal.invariant_of-result
-invariant_of-result g c =
-    layers-fit (Means (tables_given c.args.bundle)) (g.S.Source.answers c.args.source.now) c.args.«data».now c.in-Ok.layers.items c.in-Ok.ensures.found.only.holds
-
-pub returns-in-Ok-clause-within : goal.returns-in-Ok-clause-within
-returns-in-Ok-clause-within g c =
-    StaysWithin-from_spent (Means (tables_given c.args.bundle)) (g.S.Source.answers c.args.source.now) 16 c.args.«data».now c.args.budget false c.find_layers.new.left c.in-Ok.ensures.found.spent
-
-pub returns-in-Err-Refused-clause-refuses : goal.returns-in-Err-Refused-clause-refuses
-returns-in-Err-Refused-clause-refuses g c =
-    let is = c.in-Err-Refused.is in let refused = c.in-Err-Refused.field-0-is in
-    (c.find_layers.ensures.refused (cc (is, refused))).none
-
-pub returns-in-Err-Refused-clause-within : goal.returns-in-Err-Refused-clause-within
-returns-in-Err-Refused-clause-within g c =
-    let is = c.in-Err-Refused.is in let refused = c.in-Err-Refused.field-0-is in
-    StaysWithin-from_spent (Means (tables_given c.args.bundle)) (g.S.Source.answers c.args.source.now) 16 c.args.«data».now c.args.budget true c.find_layers.new.left (c.find_layers.ensures.refused (cc (is, refused))).spent
+pub returns-in_default : goal.returns-in_default
+returns-in_default g c =
+    let (none, within) = refused_by (Means (tables_given c.args.bundle)) (g.S.Source.answers c.args.source.now) 16 c.args.«data».now c.args.budget c.in-Err.refusal.cause c.in_default.not-OverBudget (rw c.in-Err.is at c.in_ok-map.ensures.refuses) in
+    record { accepts = tt; refuses = none; within = within; some = λ e. cc; over = λ e. cc }
