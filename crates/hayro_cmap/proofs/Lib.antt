@@ -1,4 +1,5 @@
 pub mod Blamed
+pub mod BestMatch
 pub mod BudgetLeft
 pub mod BytesWithin
 pub mod FilesMeant
@@ -6,6 +7,7 @@ pub mod LastFound
 pub mod LayersFit
 pub mod LayersSearched
 pub mod OneName
+pub mod OneStringCode
 pub mod OneUse
 pub mod TablesCopied
 pub mod UsesInOrder

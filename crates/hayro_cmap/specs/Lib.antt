@@ -8,3 +8,5 @@ pub mod Answers
 pub mod LayersSeen
 pub mod BytesSpent
 pub mod Refusals
+pub mod StringCodes
+pub mod PartialMatches

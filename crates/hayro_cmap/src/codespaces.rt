@@ -51,7 +51,7 @@ fn is_within(space: &Codespace, code: u32, len: CodeLength) -> bool
 }
 
 /// The byte of a number that stands `place` bytes before its last.
-fn byte_at(number: u32, place: u8) -> u32
+pub(crate) fn byte_at(number: u32, place: u8) -> u32
     requires { place < 4 }
     ensures { result ≡ byte_at number place }
 {

@@ -10,6 +10,7 @@ mod lookup;
 mod map;
 mod refusal;
 mod source;
+mod string_codes;
 
 pub use budget::ParseError;
 pub use cmap_binary::{Bundle, load_embedded};
@@ -24,6 +25,7 @@ pub use cmap_tokens::utf16::BfString;
 pub use map::CMap;
 pub use refusal::{Cause, Refusal};
 pub use source::Source;
+pub use string_codes::StringCode;
 
 /// The parts of the binary form of CMap files: bits and numbers, prefix tables, bundles.
 pub mod bcmap {

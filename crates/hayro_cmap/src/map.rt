@@ -1,6 +1,10 @@
 //! Maps: what the codes of a CMap file stand for.
 
+<<<<<<< HEAD
 ghost use Rattle.std.specs.Prelude.{◌≡◌, ◌*◌, [], ◌∷◌, ◌≤◌, ◌<◌, IfErr, IfOk, IfSome, IfNone, IsErrOf, IsSome, IsSomeAnd, OnErr, OnOk, codes, is_some, length, option_map};
+=======
+ghost use Rattle.std.specs.Prelude.{◌≡◌, ◌*◌, [], ◌∷◌, ◌≤◌, ◌<◌, IfOk, IfSome, IfNone, IsErrOf, IsSome, IsSomeAnd, OnErr, OnOk, MatchOption, codes, is_some, length, option_map};
+>>>>>>> f0d1b1e (CMap::next_code: the code that a string begins with and how many bytes it has, by the codespace ranges of all layers)
 ghost use Rattle.cmap_files.specs.CodeLengths.{IsCodeLength};
 ghost use Rattle.cmap_runs.specs.SearchLooks.{LooksAtMost};
 ghost use Rattle.cmap_tokens.specs.TextSeen.{text_seen};
@@ -16,7 +20,11 @@ ghost use Rattle.hayro_cmap.specs.Layers.{AreLayers, Means};
 ghost use Rattle.hayro_cmap.specs.LayersSeen.{IsMetadataOf, metadata_seen, mode_seen};
 ghost use Rattle.hayro_cmap.specs.Lookups.{InCodespace, bf_of, cid_of};
 ghost use Rattle.cmap_files.specs.Only.{IsOnly, HoldsOfNone};
+<<<<<<< HEAD
 ghost use Rattle.hayro_cmap.specs.Refusals.{HasNoLayers, IsFault};
+=======
+ghost use Rattle.hayro_cmap.specs.StringCodes.{IsNextCode};
+>>>>>>> f0d1b1e (CMap::next_code: the code that a string begins with and how many bytes it has, by the codespace ranges of all layers)
 ghost use Rattle.hayro_cmap.specs.Searches.{bf_looks, cid_looks, finds_text};
 ghost use Rattle.hayro_cmap.specs.declared.budget.ParseError.TheVariants.{OverBudget};
 
@@ -25,7 +33,8 @@ use crate::chain::{MOST_BELOW, find_layers};
 use crate::layers::Layer;
 use crate::refusal::{Cause, Refusal, Unresolved};
 use crate::source::{FilesByName, Source};
-use crate::{codespaces, lookup};
+use crate::string_codes::StringCode;
+use crate::{codespaces, lookup, string_codes};
 use cmap_binary::Bundle;
 use cmap_files::code_length::CodeLength;
 use cmap_files::declarations::{CidRange, Codespace, Lists};
@@ -279,6 +288,21 @@ impl CMap {
         } else {
             None
         }
+    }
+
+    /// The code that a string begins with, and how many bytes it has; `None` where the string is
+    /// empty.
+    ///
+    /// It is the shortest front of the string that lies in a codespace range of some layer. Where none
+    /// does, the range decides that matches the longest front, each byte between its own; of several,
+    /// the one with the shortest codes. As many bytes are taken as its codes have, or all where there
+    /// are fewer; one where no layer has a range. ISO 32000-1, 9.7.6.2 and 9.7.6.3.
+    pub fn next_code(&self, text: &[u8]) -> Option<StringCode>
+        ensures code { MatchOption result (text.now ≡ []) (IsOnly (IsNextCode self.now text.now)) }
+        ensures length { IfSome result
+            (λ found. IsCodeLength found.byte_len × (found.byte_len ≤ length text.now)) }
+    {
+        string_codes::next_code(&self.layers, text)
     }
 
     /// The Unicode text of `code`: one character, or more of them.
