@@ -1,16 +1,18 @@
 //! What is asked of a map.
 
-use crate::escapes::push_escaped;
+use crate::escapes::{hexadecimal, push_escaped};
 use crate::fault::Fault;
 use crate::ranges::code_of;
+use crate::tokens::push_number;
 use hayro_cmap::runs::Looks;
 use hayro_cmap::{BfString, CMap, CMapName, CidFamily, WritingMode};
 use std::alloc::{AllocError, Global};
 
 /// The words that ask something of a map.
-pub const QUESTIONS: [&str; 8] = [
+pub const QUESTIONS: [&str; 9] = [
     "cid",
     "strict",
+    "codes",
     "bf",
     "name",
     "mode",
@@ -50,6 +52,7 @@ fn push_answer_alone(
         .map(|c| &c.family);
     match word {
         "cid" | "strict" => push_cids(map, word, rest, line)?,
+        "codes" => push_codes(alloc, map, rest, line)?,
         "bf" => push_text_of(alloc, map, rest, line)?,
         "name" => push_name(map, line)?,
         "mode" => push_mode(map, line)?,
@@ -90,6 +93,24 @@ fn push_cid(map: &CMap, word: &str, asked: &str, line: &mut String) -> Result<()
     }
     if counted != plain || (strict.is_some() && strict != plain) {
         line.push_str(" unlike")?;
+    }
+    Ok(())
+}
+
+/// Adds the codes of the string before a colon, one after another.
+fn push_codes(alloc: Global, map: &CMap, rest: &str, line: &mut String) -> Result<(), Fault> {
+    let (digits, _) = rest
+        .split_once(':')
+        .ok_or(Fault::Wrong("codes DIGITS: .."))?;
+    let string = hexadecimal(alloc, digits)?;
+    write!(line, " {digits}:")?;
+    let mut left = string.as_slice();
+    while let Some(next) = map.next_code(left) {
+        if !next.in_codespace {
+            line.push_str(" outside")?;
+        }
+        push_number(Some((next.byte_len, next.code)), line)?;
+        left = &left[usize::from(next.byte_len)..];
     }
     Ok(())
 }

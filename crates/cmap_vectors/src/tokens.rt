@@ -110,7 +110,7 @@ fn push_string(
 }
 
 /// Adds the number of a plain string, in two digits for each of its bytes.
-fn push_number(plain: Option<(u8, u32)>, line: &mut String) -> Result<(), AllocError> {
+pub fn push_number(plain: Option<(u8, u32)>, line: &mut String) -> Result<(), AllocError> {
     match plain {
         Some((1, number)) => write!(line, " 1:{number:02X}"),
         Some((2, number)) => write!(line, " 2:{number:04X}"),
