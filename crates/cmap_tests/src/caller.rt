@@ -26,6 +26,19 @@ pub fn cid_over_bundle(
     Ok(map.and_then(|map| map.lookup_cid_code(code, 2)))
 }
 
+/// The CIDs of a string, one for each of its codes. A code in no range has CID 0, and so has one
+/// without a CID.
+pub fn cids_of_string(alloc: Global, map: &CMap, text: &[u8]) -> Result<Vec<Cid>, AllocError> {
+    let mut cids = Vec::new(alloc);
+    let mut left = text;
+    while let Some(next) = map.next_code(left) {
+        let cid = map.lookup_cid_code_strict(next.code, next.byte_len);
+        cids.push(cid.unwrap_or(0))?;
+        left = &left[usize::from(next.byte_len)..];
+    }
+    Ok(cids)
+}
+
 #[cfg(test)]
 mod tests {
     use super::*;
@@ -38,6 +51,15 @@ mod tests {
         assert_eq!(rt; cid_of_two_bytes(rt.alloc(), file, 0x41)?, Some(165));
         assert_eq!(rt; cid_of_two_bytes(rt.alloc(), file, 0x100)?, None);
         assert_eq!(rt; cid_of_two_bytes(rt.alloc(), b"usecmap", 0x41)?, None);
+        Ok(())
+    }
+
+    #[test]
+    fn a_string_has_the_cids_of_its_codes(rt: HostRuntime) -> Result<(), Fail> {
+        let alloc = rt.alloc();
+        let map = CMap::identity_h(alloc)?;
+        let cids = cids_of_string(alloc, &map, b"\x00\x41\x81\x40\x42")?;
+        assert_eq!(rt; cids.as_slice(), [0x41, 0x8140, 0].as_slice());
         Ok(())
     }
 
