@@ -1,10 +1,6 @@
 //! Maps: what the codes of a CMap file stand for.
 
-<<<<<<< HEAD
-ghost use Rattle.std.specs.Prelude.{◌≡◌, ◌*◌, [], ◌∷◌, ◌≤◌, ◌<◌, IfErr, IfOk, IfSome, IfNone, IsErrOf, IsSome, IsSomeAnd, OnErr, OnOk, codes, is_some, length, option_map};
-=======
-ghost use Rattle.std.specs.Prelude.{◌≡◌, ◌*◌, [], ◌∷◌, ◌≤◌, ◌<◌, IfOk, IfSome, IfNone, IsErrOf, IsSome, IsSomeAnd, OnErr, OnOk, MatchOption, codes, is_some, length, option_map};
->>>>>>> f0d1b1e (CMap::next_code: the code that a string begins with and how many bytes it has, by the codespace ranges of all layers)
+ghost use Rattle.std.specs.Prelude.{◌≡◌, ◌*◌, [], ◌∷◌, ◌≤◌, ◌<◌, IfErr, IfOk, IfSome, IfNone, IsErrOf, IsSome, IsSomeAnd, OnErr, OnOk, MatchOption, codes, is_some, length, option_map};
 ghost use Rattle.cmap_files.specs.CodeLengths.{IsCodeLength};
 ghost use Rattle.cmap_runs.specs.SearchLooks.{LooksAtMost};
 ghost use Rattle.cmap_tokens.specs.TextSeen.{text_seen};
@@ -20,11 +16,8 @@ ghost use Rattle.hayro_cmap.specs.Layers.{AreLayers, Means};
 ghost use Rattle.hayro_cmap.specs.LayersSeen.{IsMetadataOf, metadata_seen, mode_seen};
 ghost use Rattle.hayro_cmap.specs.Lookups.{InCodespace, bf_of, cid_of};
 ghost use Rattle.cmap_files.specs.Only.{IsOnly, HoldsOfNone};
-<<<<<<< HEAD
 ghost use Rattle.hayro_cmap.specs.Refusals.{HasNoLayers, IsFault};
-=======
 ghost use Rattle.hayro_cmap.specs.StringCodes.{IsNextCode};
->>>>>>> f0d1b1e (CMap::next_code: the code that a string begins with and how many bytes it has, by the codespace ranges of all layers)
 ghost use Rattle.hayro_cmap.specs.Searches.{bf_looks, cid_looks, finds_text};
 ghost use Rattle.hayro_cmap.specs.declared.budget.ParseError.TheVariants.{OverBudget};
 
