@@ -27,10 +27,8 @@ impl SharedMap {
     pub(crate) fn new(alloc: Global, map: CMap) -> Result<SharedMap, AllocError>
         ensures { IfOk result (λ shared. shared ≡ map) }
     {
-        match Arc::new(alloc, map) {
-            Ok(map) => Ok(SharedMap { map }),
-            Err(_) => Err(AllocError),
-        }
+        let map = Arc::new(alloc, map)?;
+        Ok(SharedMap { map })
     }
 
     pub(crate) fn map(&self) -> &CMap
