@@ -4,4 +4,5 @@ pub mod BinarySeen
 pub mod BundleSeen
 pub mod Bundles
 pub mod ColumnsSeen
+pub mod Copies
 pub mod Fronts

@@ -19,7 +19,7 @@ use std::alloc::{AllocError, Global};
 #[derive(Debug, Drop)]
 pub struct Bundle<'b> {
     pub(crate) tables: Tables,
-    files: Vec<&'b [u8]>,
+    pub(crate) files: Vec<&'b [u8]>,
 }
 
 /// The prefix tables that all binary files share.

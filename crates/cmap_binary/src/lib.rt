@@ -7,8 +7,10 @@ mod entries;
 mod fields;
 mod file;
 mod kinds;
+mod owned_bundle;
 mod pieces;
 mod segments;
 
 pub use bundle::{Bundle, load_embedded};
 pub use file::{is_marked_binary, read_binary};
+pub use owned_bundle::OwnedBundle;

@@ -13,7 +13,7 @@ mod source;
 mod string_codes;
 
 pub use budget::ParseError;
-pub use cmap_binary::{Bundle, load_embedded};
+pub use cmap_binary::{Bundle, OwnedBundle, load_embedded};
 pub use cmap_files::declarations::{BfRange, CidRange};
 pub use cmap_files::fault::{Reason, Stop};
 pub use cmap_files::metadata::{CharacterCollection, CidFamily, Metadata, WritingMode};
@@ -29,7 +29,7 @@ pub use string_codes::StringCode;
 
 /// The parts of the binary form of CMap files: bits and numbers, prefix tables, bundles.
 pub mod bcmap {
-    pub use cmap_binary::{Bundle, load_embedded};
+    pub use cmap_binary::{Bundle, OwnedBundle, load_embedded};
     pub use cmap_bits::bits::Reader;
     pub use cmap_bits::prefix::PrefixTable;
 }
