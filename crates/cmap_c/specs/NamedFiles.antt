@@ -21,14 +21,14 @@ abbrev pub base_in : Option Bundle → List File → List ℕ → Option (List �
 base_in bundle files name = first_of (file_in files name) (option_and_then (λ b. option_and_then (λ at. slice_get b.files at) (place_of name)) bundle)
 
 -- the layers of a file over these files, and over those of the bundle
-abbrev pub AreLayersOver : Option Bundle → List File → List ℕ → List Layer → Type 0
+unfoldable pub AreLayersOver : Option Bundle → List File → List ℕ → List Layer → Type 0
 AreLayersOver bundle files bytes layers = AreLayers (Means (option_map (λ b. b.tables) bundle)) (λ name answer. answer ≡ base_in bundle files name) 16 bytes layers
 
 -- the files that are opened, over these files and those of the bundle, pass the budget, or stay within it
-abbrev pub PassesOver : Option Bundle → List File → List ℕ → Option ℕ → Type 0
+unfoldable pub PassesOver : Option Bundle → List File → List ℕ → Option ℕ → Type 0
 PassesOver bundle files bytes budget = PassesBudget (Means (option_map (λ b. b.tables) bundle)) (λ name answer. answer ≡ base_in bundle files name) 16 bytes budget
 
-abbrev pub StaysOver : Option Bundle → List File → List ℕ → Option ℕ → Type 0
+unfoldable pub StaysOver : Option Bundle → List File → List ℕ → Option ℕ → Type 0
 StaysOver bundle files bytes budget = StaysWithin (Means (option_map (λ b. b.tables) bundle)) (λ name answer. answer ≡ base_in bundle files name) 16 bytes budget
 
 -- no bytes are no bundle; else the bytes are this one

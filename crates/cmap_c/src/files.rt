@@ -4,7 +4,7 @@ ghost use Rattle.std.specs.Prelude.{◌≡◌};
 ghost use Rattle.std.specs.Option.{option_copied};
 ghost use Rattle.cmap_c.specs.NamedFiles.{file_in};
 
-use hayro_cmap::bcmap::Bundle;
+use hayro_cmap::bcmap::{Bundle, OwnedBundle};
 use hayro_cmap::{CMapName, Source, load_embedded};
 
 /// A file and its name.
@@ -27,27 +27,32 @@ fn file_of<'a>(files: &[File<'a>], name: &[u8]) -> Option<&'a [u8]>
     None
 }
 
-/// Files that other files use.
+/// Files that other files use, and those of a bundle that a handle has.
 #[derive(Drop)]
-pub(crate) struct Files<'f, 'a> {
+pub(crate) struct Files<'b, 'f, 'a> {
+    pub(crate) bundle: Option<&'b OwnedBundle>,
     pub(crate) files: &'f [File<'a>],
 }
 
-impl<'f, 'a> Source for Files<'f, 'a> {
-    ghost use Rattle.std.specs.Prelude.{◌≡◌, ⊤, None};
+impl<'b, 'f, 'a> Source for Files<'b, 'f, 'a> {
+    ghost use Rattle.std.specs.Prelude.{◌≡◌, ⊤};
+    ghost use Rattle.std.specs.Option.{option_copied};
     ghost use Rattle.cmap_c.specs.NamedFiles.{base_in};
 
     ghost can_ask = { λ bases. ⊤ };
 
-    ghost answers = { λ bases name answer. answer ≡ base_in None bases.files.now name };
+    ghost answers = { λ bases name answer. answer
+        ≡ base_in (option_copied bases.bundle) bases.files.now name };
 
     fn file(&self, name: &[u8]) -> Option<&[u8]> {
-        let answer: Option<&'a [u8]> = file_of(self.files, name);
-        answer
+        if let Some(bytes) = file_of(self.files, name) {
+            return Some(bytes);
+        }
+        self.bundle?.file(CMapName::from_bytes(name))
     }
 }
 
-/// Files that other files use, and a bundle of more of them.
+/// Files that other files use, and those of a bundle that lies in the caller's bytes.
 #[derive(Drop)]
 pub(crate) struct FilesOverBundle<'b, 'f, 'a> {
     pub(crate) bundle: &'b Bundle<'a>,

@@ -1,14 +1,15 @@
 //! Maps that C holds.
 
-ghost use Rattle.std.specs.Prelude.{◌≡◌, ◌⊎◌, None, Some, is_some, option_map};
+ghost use Rattle.std.specs.Prelude.{◌≡◌, ◌⊎◌, None, Some, MatchResult, is_some, option_map};
 ghost use Rattle.cmap_c.specs.Statuses.{number};
 ghost use Rattle.cmap_c.specs.declared.status.Status.TheVariants.{Done, NoMemory};
 
-use crate::shared::SharedMap;
-use crate::slot::Slot;
+use crate::loose::Loose;
+use crate::shared::Shared;
+use crate::slot::MapSlot;
 use crate::status::Status;
 use hayro_cmap::CMap;
-use std::alloc::Global;
+use std::alloc::{AllocError, Global};
 use std::mem;
 
 /// A map that C holds, or none. One that is empty is all zero bytes.
@@ -16,7 +17,7 @@ use std::mem;
 #[derive(Drop)]
 pub struct MapHandle {
     full: bool,
-    pub(crate) slot: Slot,
+    pub(crate) slot: MapSlot,
     ghost agrees: { full ≡ is_some slot.map },
 }
 
@@ -26,53 +27,46 @@ impl MapHandle {
     {
         MapHandle {
             full: false,
-            slot: Slot::empty(alloc),
+            slot: MapSlot::empty(alloc),
         }
     }
 
     /// The map, which the handle then no longer has.
-    pub(crate) fn take(&mut self, alloc: Global) -> Option<Box<SharedMap>>
+    pub(crate) fn take(&mut self, alloc: Global) -> Option<Box<Shared<CMap>>>
         ensures map { option_map (λ b. b.value) result ≡ self.old.slot.map }
         ensures empty { self.new.slot.map ≡ None }
     {
         let MapHandle { full, slot } = mem::replace(self, MapHandle::empty(alloc));
-        if full { Some(slot.into_box()) } else { None }
+        if full {
+            Some(slot.into_loose().into_box())
+        } else {
+            None
+        }
     }
 
     /// Gives an empty handle a map.
-    pub(crate) fn put(&mut self, map: Box<SharedMap>)
+    pub(crate) fn put(&mut self, map: Box<Shared<CMap>>)
         requires { self.old.slot.map ≡ None }
         ensures { self.new.slot.map ≡ Some map.value }
     {
         *self = MapHandle {
             full: true,
-            slot: Slot::of(map),
+            slot: MapSlot::of_loose(Loose::of(map)),
         };
     }
 
-    /// Gives an empty handle a map, where there is memory for it.
-    pub(crate) fn keep(&mut self, alloc: Global, map: SharedMap) -> u32
+    /// Gives an empty handle the map that was made, or none where there was no memory for it.
+    pub(crate) fn keep(&mut self, made: Result<Box<Shared<CMap>>, AllocError>) -> u32
         requires { self.old.slot.map ≡ None }
-        ensures { ((result ≡ number Done) × (self.new.slot.map ≡ Some map))
-            ⊎ ((result ≡ number NoMemory) × (self.new.slot.map ≡ None)) }
+        ensures { MatchResult made
+            (λ map. (result ≡ number Done) × (self.new.slot.map ≡ Some map.value))
+            (λ _. (result ≡ number NoMemory) × (self.new.slot.map ≡ None)) }
     {
-        match Box::new(alloc, map) {
+        match made {
             Ok(map) => {
                 self.put(map);
                 Status::Done.number()
             }
-            Err(_) => Status::NoMemory.number(),
-        }
-    }
-
-    /// Gives an empty handle a map that no other one has, where there is memory for it.
-    pub(crate) fn keep_new(&mut self, alloc: Global, map: CMap) -> u32
-        requires { self.old.slot.map ≡ None }
-        ensures { ((result ≡ number Done) × (self.new.slot.map ≡ Some map))
-            ⊎ ((result ≡ number NoMemory) × (self.new.slot.map ≡ None)) }
-    {
-        match SharedMap::new(alloc, map) {
-            Ok(map) => self.keep(alloc, map),
             Err(_) => Status::NoMemory.number(),
         }
     }
@@ -89,12 +83,9 @@ pub extern "C" fn hayro_cmap_share(map: &mut MapHandle, alloc: Global, other: &m
     let Some(found) = map.take(alloc) else {
         return Status::Done.number();
     };
-    let shared = found.share();
+    let shared = found.share(alloc);
     map.put(found);
-    match shared {
-        Ok(shared) => other.keep(alloc, shared),
-        Err(_) => Status::NoMemory.number(),
-    }
+    other.keep(shared)
 }
 
 /// Frees the map, if there is one.

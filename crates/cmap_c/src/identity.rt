@@ -7,6 +7,7 @@ ghost use Rattle.cmap_c.specs.Statuses.{number};
 ghost use Rattle.cmap_c.specs.declared.status.Status.TheVariants.{Done, NoMemory};
 
 use crate::handle::MapHandle;
+use crate::shared::Shared;
 use crate::status::Status;
 use hayro_cmap::CMap;
 use std::alloc::Global;
@@ -29,7 +30,7 @@ pub extern "C" fn hayro_cmap_identity(map: &mut MapHandle, alloc: Global, vertic
         CMap::identity_h(alloc)
     };
     match made {
-        Ok(made) => map.keep_new(alloc, made),
+        Ok(made) => map.keep(Shared::new(alloc, made)),
         Err(_) => Status::NoMemory.number(),
     }
 }

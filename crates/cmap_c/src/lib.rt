@@ -1,6 +1,7 @@
 //! The maps of `hayro_cmap` for C, and for what calls C: the functions of `include/hayro_cmap.h`.
 #![tactic(auto)]
 
+mod bundle;
 mod files;
 mod handle;
 mod identity;

@@ -29,7 +29,7 @@ pub extern "C" fn hayro_cmap_cid(
     let Some(found) = map.take(alloc) else {
         return false;
     };
-    let answer = found.map().lookup_cid_code(code, byte_len);
+    let answer = found.value().lookup_cid_code(code, byte_len);
     map.put(found);
     put_cid(answer, cid)
 }
@@ -54,7 +54,7 @@ pub extern "C" fn hayro_cmap_cid_strict(
     let Some(found) = map.take(alloc) else {
         return false;
     };
-    let answer = found.map().lookup_cid_code_strict(code, byte_len);
+    let answer = found.value().lookup_cid_code_strict(code, byte_len);
     map.put(found);
     put_cid(answer, cid)
 }
@@ -96,7 +96,7 @@ pub extern "C" fn hayro_cmap_text(
     let Some(found) = map.take(alloc) else {
         return Status::Absent.number();
     };
-    let answer = found.map().lookup_bf_string(alloc, code);
+    let answer = found.value().lookup_bf_string(alloc, code);
     map.put(found);
     match answer {
         Ok(Some(text)) => put_text(&text, room, needed),

@@ -30,7 +30,7 @@ pub extern "C" fn hayro_cmap_name(
     let Some(found) = map.take(alloc) else {
         return Status::Absent.number();
     };
-    let status = match &found.map().metadata().name {
+    let status = match &found.value().metadata().name {
         Some(name) => put_bytes(name, room, needed),
         None => Status::Absent.number(),
     };
@@ -54,7 +54,7 @@ pub extern "C" fn hayro_cmap_registry(
     let Some(found) = map.take(alloc) else {
         return Status::Absent.number();
     };
-    let status = match &found.map().metadata().character_collection {
+    let status = match &found.value().metadata().character_collection {
         Some(given) => put_bytes(registry_of(&given.family), room, needed),
         None => Status::Absent.number(),
     };
@@ -78,7 +78,7 @@ pub extern "C" fn hayro_cmap_ordering(
     let Some(found) = map.take(alloc) else {
         return Status::Absent.number();
     };
-    let status = match &found.map().metadata().character_collection {
+    let status = match &found.value().metadata().character_collection {
         Some(given) => put_bytes(ordering_of(&given.family), room, needed),
         None => Status::Absent.number(),
     };
@@ -101,7 +101,7 @@ pub extern "C" fn hayro_cmap_supplement(
     let Some(found) = map.take(alloc) else {
         return false;
     };
-    let has = match &found.map().metadata().character_collection {
+    let has = match &found.value().metadata().character_collection {
         Some(given) => {
             *supplement = given.supplement;
             true
@@ -121,7 +121,7 @@ pub extern "C" fn hayro_cmap_writing_mode(map: &mut MapHandle, alloc: Global) ->
     let Some(found) = map.take(alloc) else {
         return 2;
     };
-    let mode = found.map().metadata().writing_mode;
+    let mode = found.value().metadata().writing_mode;
     map.put(found);
     match mode {
         Some(WritingMode::Horizontal) => 0,

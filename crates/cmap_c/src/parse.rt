@@ -1,20 +1,23 @@
 //! Maps of files, for C.
 
-ghost use Rattle.std.specs.Prelude.{◌≡◌, ◌⊎◌, ◌≤◌, None, Some, IfErr, IfOk, IsErrOf, IsOk, IsSomeAnd};
+ghost use Rattle.std.specs.Prelude.{◌≡◌, ◌⊎◌, ◌≤◌, None, Some, IfErr, IfOk, IsErrOf, IsOk, IsSomeAnd, option_map};
+ghost use Rattle.std.specs.Option.{option_copied};
 ghost use Rattle.cmap_binary.specs.BundleSeen.{tables_given};
 ghost use Rattle.cmap_binary.specs.Bundles.{IsBundle};
 ghost use Rattle.cmap_files.specs.Only.{IsOnly, HoldsOfNone};
 ghost use Rattle.hayro_cmap.specs.Answers.{IsByName};
 ghost use Rattle.hayro_cmap.specs.Budgets.{PassesBudget, StaysWithin};
 ghost use Rattle.hayro_cmap.specs.Layers.{AreLayers, Means};
-ghost use Rattle.cmap_c.specs.NamedFiles.{IsMapOver, HasNoMapOver, PassesBudgetOver, StaysWithinBudget, budget_of};
+ghost use Rattle.cmap_c.specs.NamedFiles.{AreLayersOver, IsMapOver, HasNoMapOver, PassesBudgetOver, PassesOver, StaysOver, StaysWithinBudget, budget_of};
 ghost use Rattle.cmap_c.specs.Statuses.{number};
 ghost use Rattle.cmap_c.specs.declared.status.Status.TheVariants.{Done, Refused, OverBudget, NotABundle};
 
+use crate::bundle::BundleHandle;
 use crate::files::{File, Files, FilesOverBundle};
 use crate::handle::MapHandle;
+use crate::shared::Shared;
 use crate::status::Status;
-use hayro_cmap::bcmap::Bundle;
+use hayro_cmap::bcmap::{Bundle, OwnedBundle};
 use hayro_cmap::{CMap, Source};
 use std::alloc::Global;
 
@@ -43,7 +46,37 @@ pub extern "C" fn hayro_cmap_parse<'a>(
 {
     let _old = map.take(alloc);
     match parse(alloc, limit(budget), data, bundle, files) {
-        Ok(parsed) => map.keep_new(alloc, parsed),
+        Ok(parsed) => map.keep(Shared::new(alloc, parsed)),
+        Err(status) => status.number(),
+    }
+}
+
+/// The map of the file `data`, as `hayro_cmap_parse` gives it, over a bundle that is read already. An
+/// empty handle is no bundle.
+#[unsafe(no_mangle)]
+pub extern "C" fn hayro_cmap_parse_over(
+    map: &mut MapHandle,
+    alloc: Global,
+    data: &[u8],
+    bundle: &mut BundleHandle,
+    files: &[File<'_>],
+    budget: u64,
+) -> u32
+    ensures same { bundle.new.slot.bundle ≡ bundle.old.slot.bundle }
+    ensures accepts { result ≡ number Done → IsSomeAnd map.new.slot.map
+        (IsOnly (AreLayersOver bundle.old.slot.bundle files.now «data».now)) }
+    ensures refuses { result ≡ number Refused
+        → HoldsOfNone (AreLayersOver bundle.old.slot.bundle files.now «data».now) }
+    ensures over { result ≡ number OverBudget
+        → PassesOver bundle.old.slot.bundle files.now «data».now (budget_of budget) }
+    ensures within { ((result ≡ number Done) ⊎ (result ≡ number Refused))
+        → StaysOver bundle.old.slot.bundle files.now «data».now (budget_of budget) }
+    ensures failed { (result ≡ number Done)
+        ⊎ ((result ≤ number OverBudget) × (map.new.slot.map ≡ None)) }
+{
+    let _old = map.take(alloc);
+    match parse_over(alloc, limit(budget), data, bundle, files) {
+        Ok(parsed) => map.keep(Shared::new(alloc, parsed)),
         Err(status) => status.number(),
     }
 }
@@ -78,8 +111,7 @@ fn parse<'a>(
     ensures failed { IfErr result (λ status. (1 ≤ number status) × (number status ≤ 4)) }
 {
     if bundle.is_empty() {
-        let bases = Files { files };
-        return parse_from(alloc, budget, data, None, &bases);
+        return parse_owned(alloc, budget, data, None, files);
     }
     match Bundle::parse(alloc, bundle)? {
         Some(bundle) => {
@@ -90,6 +122,71 @@ fn parse<'a>(
             parse_from(alloc, budget, data, Some(&bundle), &bases)
         }
         None => Err(Status::NotABundle),
+    }
+}
+
+/// The map of a file over these files and those of a handle's bundle, if it has one.
+fn parse_over(
+    alloc: Global,
+    budget: Option<u64>,
+    data: &[u8],
+    bundle: &mut BundleHandle,
+    files: &[File<'_>],
+) -> Result<CMap, Status>
+    ensures same { bundle.new.slot.bundle ≡ bundle.old.slot.bundle }
+    ensures accepts { IfOk result
+        (IsOnly (AreLayersOver bundle.old.slot.bundle files.now «data».now)) }
+    ensures refuses { IsErrOf result Refused
+        → HoldsOfNone (AreLayersOver bundle.old.slot.bundle files.now «data».now) }
+    ensures over { IsErrOf result OverBudget
+        → PassesOver bundle.old.slot.bundle files.now «data».now budget }
+    ensures within { (IsOk result ⊎ IsErrOf result Refused)
+        → StaysOver bundle.old.slot.bundle files.now «data».now budget }
+    ensures failed { IfErr result (λ status. (1 ≤ number status) × (number status ≤ 3)) }
+{
+    let Some(found) = bundle.take(alloc) else {
+        return parse_owned(alloc, budget, data, None, files);
+    };
+    let parsed = parse_owned(alloc, budget, data, Some(found.value()), files);
+    bundle.put(found);
+    parsed
+}
+
+/// The map of a file over these files and those of a bundle, if there is one.
+fn parse_owned(
+    alloc: Global,
+    budget: Option<u64>,
+    data: &[u8],
+    bundle: Option<&OwnedBundle>,
+    files: &[File<'_>],
+) -> Result<CMap, Status>
+    ensures accepts { IfOk result
+        (IsOnly (AreLayersOver (option_copied bundle.entry) files.now «data».now)) }
+    ensures refuses { IsErrOf result Refused
+        → HoldsOfNone (AreLayersOver (option_copied bundle.entry) files.now «data».now) }
+    ensures over { IsErrOf result OverBudget
+        → PassesOver (option_copied bundle.entry) files.now «data».now budget }
+    ensures within { (IsOk result ⊎ IsErrOf result Refused)
+        → StaysOver (option_copied bundle.entry) files.now «data».now budget }
+    ensures failed { IfErr result (λ status. (1 ≤ number status) × (number status ≤ 3)) }
+{
+    parse_from(
+        alloc,
+        budget,
+        data,
+        tables_of(bundle),
+        &Files { bundle, files },
+    )
+}
+
+/// The tables of a bundle, as one without files.
+fn tables_of(bundle: Option<&OwnedBundle>) -> Option<&Bundle<'static>>
+    ensures { tables_given result
+        ≡ option_map (λ b. b.tables) (option_copied bundle.entry) }
+{
+    match bundle {
+        Some(bundle) => Some(bundle.without_files()),
+        None => None,
     }
 }
 

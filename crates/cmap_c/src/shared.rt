@@ -1,47 +1,44 @@
-//! A map that several handles have.
+//! A value that several handles have.
 
 ghost use Rattle.std.specs.Prelude.{◌≡◌, IfOk};
 
-use hayro_cmap::CMap;
 use std::alloc::{AllocError, Global};
 use std::marker::Model;
 use std::sync::Arc;
 
-/// A map that several handles have. A clause sees its layers.
+/// A value that several handles have. A clause sees the value.
 #[derive(Drop)]
-pub(crate) struct SharedMap {
-    map: Arc<CMap>,
+pub(crate) struct Shared<T> {
+    value: Arc<T>,
 }
 
-impl Model for SharedMap {
-    ghost use Rattle.std.specs.Prelude.{List};
+impl<T> Model for Shared<T> {
     ghost use Rattle.std.specs.Arc.{arc_value};
-    ghost use Rattle.hayro_cmap.specs.Layers.{Layer};
 
-    ghost Value = { List Layer };
+    ghost Value = { T };
 
-    ghost view = { λ shared. arc_value shared.map };
+    ghost view = { λ shared. arc_value shared.value };
 }
 
-impl SharedMap {
-    pub(crate) fn new(alloc: Global, map: CMap) -> Result<SharedMap, AllocError>
-        ensures { IfOk result (λ shared. shared ≡ map) }
+impl<T: Drop> Shared<T> {
+    pub(crate) fn new(alloc: Global, value: T) -> Result<Box<Shared<T>>, AllocError>
+        ensures { IfOk result (λ shared. shared.value ≡ value) }
     {
-        let map = Arc::new(alloc, map)?;
-        Ok(SharedMap { map })
+        let value = Arc::new(alloc, value)?;
+        Ok(Box::new(alloc, Shared { value })?)
     }
 
-    pub(crate) fn map(&self) -> &CMap
+    pub(crate) fn value(&self) -> &T
         ensures { result.now ≡ self.now }
     {
-        &self.map
+        &self.value
     }
 
-    /// The same map once more.
-    pub(crate) fn share(&self) -> Result<SharedMap, AllocError>
-        ensures { IfOk result (λ shared. shared ≡ self.now) }
+    /// The same value once more.
+    pub(crate) fn share(&self, alloc: Global) -> Result<Box<Shared<T>>, AllocError>
+        ensures { IfOk result (λ shared. shared.value ≡ self.now) }
     {
-        let map = Arc::try_clone(&self.map)?;
-        Ok(SharedMap { map })
+        let value = Arc::try_clone(&self.value)?;
+        Ok(Box::new(alloc, Shared { value })?)
     }
 }

@@ -11,8 +11,8 @@ use Rattle.cmap_c.proofs.lookups.hayro_cmap_text.Goals as goal
 pub returns-in-Ok-Some-clause-text : goal.returns-in-Ok-Some-clause-text
 returns-in-Ok-Some-clause-text c _ =
     let map : Some c.in-Some.found.value ≡ c.args.map.now.slot.map = c.in-Some.ensures.map in
-    let lent : c.map.result.now ≡ c.in-Some.found.value = c.map.ensures ∙ c.deref.ensures in
-    let answer : option_map text_seen c.in-Ok-Some.field-0 ≡ option_map text_of (bf_of c.map.result.now c.args.code) = c.in-Ok-Some.ensures.value in
+    let lent : c.value.result.now ≡ c.in-Some.found.value = c.value.ensures ∙ c.deref.ensures in
+    let answer : option_map text_seen c.in-Ok-Some.field-0 ≡ option_map text_of (bf_of c.value.result.now c.args.code) = c.in-Ok-Some.ensures.value in
     let found : Some (text_seen c.in-Ok-Some.text) ≡ option_map text_of (bf_of c.in-Some.found.value c.args.code) = rw lent at rw c.in-Ok-Some.field-0-is at answer in
     let value : Some (text_seen c.in-Ok-Some.text) ≡ option_map text_of (handle_text c.args.map.now.slot.map c.args.code) =
     subst (λ held. Some (text_seen c.in-Ok-Some.text) ≡ option_map text_of (handle_text held c.args.code)) map found in

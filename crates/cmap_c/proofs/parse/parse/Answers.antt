@@ -4,36 +4,36 @@ use Rattle.std.proofs.lemmas.Result.{IfOk-weaker}
 use Rattle.cmap_binary.specs.BundleSeen.{bundle_seen}
 use Rattle.cmap_binary.specs.Bundles.{IsBundle}
 use Rattle.cmap_files.specs.Only.{IsOnly}
-use Rattle.cmap_c.specs.NamedFiles.{AreLayersOver, IsMapOver, HasNoMapOver, PassesBudgetOver, StaysWithinBudget}
+use Rattle.cmap_c.specs.NamedFiles.{AreLayersOver, IsMapOver, HasNoMapOver, PassesBudgetOver, PassesOver, StaysOver, StaysWithinBudget}
 use Rattle.cmap_c.proofs.parse.parse.Goals as goal
 
 pub returns-then-is_empty-clause-refuses : goal.returns-then-is_empty-clause-refuses
 unfolding HasNoMapOver
 returns-then-is_empty-clause-refuses c h =
     let none : length c.args.bundle.now ≡ 0 = search rules in
-    (None, nil_from_length c.args.bundle.now none, c.parse_from.ensures.refuses h)
+    (None, nil_from_length c.args.bundle.now none, c.parse_owned.ensures.refuses h)
 
 pub returns-in-Some-clause-accepts : goal.returns-in-Some-clause-accepts
-unfolding IsMapOver
+unfolding IsMapOver AreLayersOver
 returns-in-Some-clause-accepts c =
     let only : IsOnly (IsBundle c.args.bundle.now) (bundle_seen c.in-Some.bundle) = rw c.in-Some.is at c.in_ok-bundle.ensures in
-    IfOk-weaker c.parse_from-in-Some.result (IsOnly (AreLayersOver (Some (bundle_seen c.in-Some.bundle)) c.args.files.now c.args.data.now)) (IsMapOver c.args.bundle.now c.args.files.now c.args.data.now)
-    (λ layers are. (Some (bundle_seen c.in-Some.bundle), only, are)) c.parse_from-in-Some.ensures.accepts
+    IfOk-weaker c.parse_from.result (IsOnly (AreLayersOver (Some (bundle_seen c.in-Some.bundle)) c.args.files.now c.args.data.now)) (IsMapOver c.args.bundle.now c.args.files.now c.args.data.now)
+    (λ layers are. (Some (bundle_seen c.in-Some.bundle), only, are)) c.parse_from.ensures.accepts
 
 pub returns-in-Some-clause-refuses : goal.returns-in-Some-clause-refuses
-unfolding HasNoMapOver
+unfolding HasNoMapOver AreLayersOver
 returns-in-Some-clause-refuses c h =
     let only : IsOnly (IsBundle c.args.bundle.now) (bundle_seen c.in-Some.bundle) = rw c.in-Some.is at c.in_ok-bundle.ensures in
-    (Some (bundle_seen c.in-Some.bundle), only, c.parse_from-in-Some.ensures.refuses h)
+    (Some (bundle_seen c.in-Some.bundle), only, c.parse_from.ensures.refuses h)
 
 pub returns-in-Some-clause-over : goal.returns-in-Some-clause-over
-unfolding PassesBudgetOver
+unfolding PassesBudgetOver PassesOver
 returns-in-Some-clause-over c h =
     let only : IsOnly (IsBundle c.args.bundle.now) (bundle_seen c.in-Some.bundle) = rw c.in-Some.is at c.in_ok-bundle.ensures in
-    (Some (bundle_seen c.in-Some.bundle), only, c.parse_from-in-Some.ensures.over h)
+    (Some (bundle_seen c.in-Some.bundle), only, c.parse_from.ensures.over h)
 
 pub returns-in-Some-clause-within : goal.returns-in-Some-clause-within
-unfolding StaysWithinBudget
+unfolding StaysWithinBudget StaysOver
 returns-in-Some-clause-within c h =
     let only : IsOnly (IsBundle c.args.bundle.now) (bundle_seen c.in-Some.bundle) = rw c.in-Some.is at c.in_ok-bundle.ensures in
-    (Some (bundle_seen c.in-Some.bundle), only, c.parse_from-in-Some.ensures.within h)
+    (Some (bundle_seen c.in-Some.bundle), only, c.parse_from.ensures.within h)

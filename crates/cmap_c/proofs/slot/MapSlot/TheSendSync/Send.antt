@@ -1,5 +1,4 @@
 -- What a slot owns, a shared map and its block, says the same to every thread.
-use Rattle.std.proofs.Common.{List}
 use mir.Raw.{raw}
 use base.Shift.{Keyless}
 use denote.Memory.{lone}
@@ -13,18 +12,16 @@ use Rattle.std.proofs.Crossing.{crosses, frees}
 use Rattle.std.proofs.alloc.Global.TheSendSync as heap
 use Rattle.std.specs.Prelude.{Option, None, Some}
 use Rattle.std.specs.declared.alloc.Global.{Global}
-use Rattle.hayro_cmap.specs.Layers.{Layer}
-use Rattle.cmap_c.specs.contracts.shared.SharedMap as map
 use Rattle.hayro_cmap.proofs.map.CMap.TheSendSync as whole
-use Rattle.cmap_c.specs.Held.{held}
-use Rattle.cmap_c.specs.contracts.slot.Slot.{the_row, the_type}
+use Rattle.cmap_c.specs.Held.{held, shared_map}
+use Rattle.cmap_c.specs.contracts.slot.MapSlot.{the_row, the_type}
 
-map_send : IsSend map.the_row
+map_send : IsSend shared_map
 map_send = search (sendable, crosses, whole.the_send, whole.the_sync) depth 20
 
-held_keyless : (alloc : Global) (at : Ptr) (m : Option (List Layer)) → Keyless (held alloc at m)
+held_keyless : (alloc : Global) (at : Ptr) (m : Option shared_map.Denot) → Keyless (held shared_map alloc at m)
 held_keyless alloc at None = tt
-held_keyless alloc at (Some layers) = (lies map.the_row map_send at layers, frees.frees alloc (raw (lone (map.the_row).mir)) at)
+held_keyless alloc at (Some value) = (lies shared_map map_send at value, frees.frees alloc (raw (lone shared_map.mir)) at)
 
 pointer_send : IsSend RawPtr
 pointer_send = search sendable
