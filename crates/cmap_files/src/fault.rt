@@ -1,6 +1,7 @@
 //! Why a file gives no map.
 
 use std::alloc::{AllocError, AllocFailed};
+use std::fmt::{self, Display, Formatter, Write};
 
 /// What is wrong with a file where reading stopped.
 #[derive(Clone, Copy, Debug, PartialEq, Eq)]
@@ -34,12 +35,27 @@ pub enum Reason {
     Field,
     /// An entry of a segment of a binary file is cut short, or its code or its CID passes 32 bits.
     Entry,
-    /// No file has the name that a use names.
-    NoFile,
-    /// A file would be the seventeenth of its chain.
-    ChainLength,
-    /// The files that are opened have more bytes than the budget.
-    OverBudget,
+}
+
+impl Display for Reason {
+    fn fmt<W: Write>(&self, f: &mut Formatter<W>) -> fmt::Result {
+        f.write_str(match self {
+            Reason::MalformedToken => "no token stands here",
+            Reason::EndWithinSection => "the file ends within a section",
+            Reason::CodeExpected => "a code was expected",
+            Reason::CodeLength => "a code has one to four bytes",
+            Reason::UnequalLengths => "the ends of a codespace range have other lengths",
+            Reason::CidExpected => "a CID was expected",
+            Reason::TextExpected => "the text of a code was expected",
+            Reason::BracketExpected => "a ] was expected",
+            Reason::UseWithoutName => "usecmap without a name before it",
+            Reason::Header => "no whole binary file of version 1",
+            Reason::SegmentLength => "a segment is cut short",
+            Reason::SegmentType => "a segment of an unknown type",
+            Reason::Field => "a field of a segment is cut short",
+            Reason::Entry => "an entry of a segment is cut short or passes 32 bits",
+        })
+    }
 }
 
 /// Why a file gives no map.

@@ -8,7 +8,7 @@ use crate::escapes::{push_escaped, unescaped};
 use crate::fault::Fault;
 use crate::spelled::number;
 use hayro_cmap::bcmap::{Bundle, load_embedded};
-use hayro_cmap::{CMap, CMapName, ParseError};
+use hayro_cmap::{CMap, CMapName, ParseError, Source};
 use std::alloc::{AllocError, Global};
 use std::cell::Cell;
 
@@ -64,6 +64,27 @@ impl Around<'_> {
         }
     }
 
+    /// Adds the names that lead from a file to the one at fault, and what is wrong with it. The files
+    /// of a bundle have no names here.
+    pub fn push_cause(&self, alloc: Global, file: &[u8], line: &mut String) -> Result<(), Fault> {
+        let bundle = match self.bundle {
+            Some(bytes) => Bundle::parse(alloc, bytes)?,
+            None => None,
+        };
+        let bases = NamedFiles {
+            files: self.bases.as_slice(),
+        };
+        let found = CMap::parse_explained(alloc, self.budget, file, bundle.as_ref(), &bases)?;
+        let Err(refusal) = found else {
+            return Ok(line.push_str(" none")?);
+        };
+        for name in &refusal.names {
+            line.push(' ')?;
+            push_escaped(name, line)?;
+        }
+        Ok(write!(line, " {}", refusal.cause)?)
+    }
+
     /// Reads a file where the files of the bundle answer to their names.
     fn read_over_bundle(
         &self,
@@ -95,6 +116,26 @@ impl Around<'_> {
         };
         let map = CMap::parse_within(alloc, self.budget, file, bundle, &get_cmap);
         Ok((outcome_of(map)?, count.get()))
+    }
+}
+
+/// Files that answer to their names.
+#[derive(Drop)]
+struct NamedFiles<'s, 'a> {
+    files: &'s [NamedFile<'a>],
+}
+
+impl<'s, 'a> Source for NamedFiles<'s, 'a> {
+    ghost use Rattle.std.specs.Prelude.{◌≡◌, ⊤};
+    ghost use Rattle.cmap_vectors.specs.NamedFiles.{file_in};
+
+    ghost can_ask = { λ bases. ⊤ };
+
+    ghost answers = { λ bases name answer. answer ≡ file_in bases.files.now name };
+
+    fn file(&self, name: &[u8]) -> Option<&[u8]> {
+        let answer: Option<&'s [u8]> = file_of(self.files, name);
+        answer
     }
 }
 

@@ -169,6 +169,9 @@ impl Row<'_> {
         if word == "least" {
             return files::push_least_budget(alloc, around, input, rest, line);
         }
+        if word == "cause" {
+            return around.push_cause(alloc, input, line);
+        }
         match around.read(alloc, input)? {
             (_, asked) if word == "asked" => Ok(write!(line, " {asked}")?),
             (Outcome::Map(map), _) => maps::push_answer(alloc, &map, word, rest, line),

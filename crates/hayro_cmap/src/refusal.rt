@@ -6,6 +6,7 @@ ghost use Rattle.hayro_cmap.specs.declared.refusal.Unresolved.TheVariants.{Memor
 
 use cmap_files::fault::{FileFault, Stop};
 use std::alloc::{AllocError, AllocFailed};
+use std::fmt::{self, Display, Formatter, Write};
 
 /// Why a file gives no map.
 #[derive(Clone, Copy, Debug, PartialEq, Eq)]
@@ -18,6 +19,17 @@ pub enum Cause {
     ChainLength,
     /// It has more bytes than are left of the budget.
     OverBudget,
+}
+
+impl Display for Cause {
+    fn fmt<W: Write>(&self, f: &mut Formatter<W>) -> fmt::Result {
+        match self {
+            Cause::Malformed(stop) => write!(f, "byte {}: {}", stop.offset, stop.reason),
+            Cause::NoFile => f.write_str("no file has this name"),
+            Cause::ChainLength => f.write_str("more than 16 files in a chain"),
+            Cause::OverBudget => f.write_str("the files have more bytes than the budget"),
+        }
+    }
 }
 
 /// A file at fault, and why.

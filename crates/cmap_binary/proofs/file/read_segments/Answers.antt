@@ -46,8 +46,7 @@ returns-in-Err-clause-stops c =
 
 pub loop-segments-preserved : goal.loop-segments-preserved
 loop-segments-preserved c =
-    let content = c.in_default-read_segment.ensures.0 in
-    (
+    let content = c.in_default-read_segment.ensures.0 in (
       says_more c.loop-segments.invariant.0 _ (filled c.loop-segments-test.ensures) (segment_only _ _ _ _ _ c.in-Some.ensures (rw take_rest at content.only)) content.says,
       omega (arith, framed_within 1 c.in-Some.ensures.holds, c.loop-segments.invariant.1),
     )
