@@ -89,14 +89,13 @@ static void print_cid(hayro_cmap *map, const char *word) {
 }
 
 int main(int argc, char **argv) {
-    static const uint8_t no_bundle[1];
     if (argc < 3) fail("usage: codes FOLDER NAME WORD..");
     load(argv[1]);
     const hayro_cmap_file *file = find(argv[2]);
     hayro_cmap map = HAYRO_CMAP_EMPTY;
     hayro_cmap_status status =
-        hayro_cmap_parse(&map, file->bytes, file->bytes_len, no_bundle, 0, files, file_count,
-                         HAYRO_CMAP_NO_BUDGET);
+        hayro_cmap_parse(&map, file->bytes, file->bytes_len, hayro_cmap_bytes(NULL), 0, files,
+                         file_count, HAYRO_CMAP_NO_BUDGET);
     if (status != HAYRO_CMAP_OK) fail(status == HAYRO_CMAP_REFUSED ? "refused" : "no memory");
     for (int i = 3; i < argc; i++) {
         if (strncmp(argv[i], "bf:", 3) == 0) print_text(&map, argv[i] + 3);

@@ -13,6 +13,7 @@
 #include <optional>
 #include <stdexcept>
 #include <string>
+#include <string_view>
 #include <utility>
 #include <vector>
 
@@ -22,13 +23,15 @@ public:
     using Files = std::map<std::string, std::string>;
 
     // The map of a file over these files, by their names.
-    CMap(const std::string &data, const Files &files) {
+    CMap(std::string_view data, const Files &files) {
         std::vector<hayro_cmap_file> table;
         for (const auto &[name, bytes] : files)
-            table.push_back({pointer(name), name.size(), pointer(bytes), bytes.size()});
-        table.push_back({pointer(""), 0, pointer(""), 0}); // so that the table is never null
-        auto status = hayro_cmap_parse(&handle, pointer(data), data.size(), pointer(""), 0,
-                                       table.data(), files.size(), HAYRO_CMAP_NO_BUDGET);
+            table.push_back({hayro_cmap_bytes(name.data()), name.size(),
+                             hayro_cmap_bytes(bytes.data()), bytes.size()});
+        auto status = hayro_cmap_parse(&handle, hayro_cmap_bytes(data.data()), data.size(),
+                                       hayro_cmap_bytes(nullptr), 0,
+                                       hayro_cmap_files(table.data()), table.size(),
+                                       HAYRO_CMAP_NO_BUDGET);
         if (status == HAYRO_CMAP_NO_MEMORY) throw std::bad_alloc();
         if (status != HAYRO_CMAP_OK) throw std::runtime_error("refused");
     }
@@ -49,8 +52,8 @@ public:
         std::string room(16, '\0');
         size_t needed = 0;
         hayro_cmap_status status;
-        while ((status = hayro_cmap_text(&handle, code, reinterpret_cast<uint8_t *>(room.data()),
-                                         room.size(), &needed)) == HAYRO_CMAP_NO_ROOM)
+        while ((status = hayro_cmap_text(&handle, code, hayro_cmap_room(room.data()), room.size(),
+                                         &needed)) == HAYRO_CMAP_NO_ROOM)
             room.resize(needed);
         if (status == HAYRO_CMAP_NO_MEMORY) throw std::bad_alloc();
         if (status != HAYRO_CMAP_OK) return std::nullopt;
@@ -59,14 +62,6 @@ public:
     }
 
 private:
-    // That of a string is never null.
-    static const uint8_t *pointer(const std::string &bytes) {
-        return reinterpret_cast<const uint8_t *>(bytes.data());
-    }
-    static const uint8_t *pointer(const char *bytes) {
-        return reinterpret_cast<const uint8_t *>(bytes);
-    }
-
     hayro_cmap handle = HAYRO_CMAP_EMPTY;
 };
 

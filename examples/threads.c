@@ -27,15 +27,13 @@ static void *count_codes(void *argument) {
 
 int main(int argc, char **argv) {
     static uint8_t data[MOST];
-    static const uint8_t no_bundle[1];
-    static const hayro_cmap_file no_files[1];
     FILE *in = argc == 2 ? fopen(argv[1], "rb") : NULL;
     if (!in) return 2;
     size_t data_len = fread(data, 1, sizeof data, in);
     fclose(in);
     hayro_cmap map = HAYRO_CMAP_EMPTY;
-    if (hayro_cmap_parse(&map, data, data_len, no_bundle, 0, no_files, 0, HAYRO_CMAP_NO_BUDGET)
-        != HAYRO_CMAP_OK)
+    if (hayro_cmap_parse(&map, data, data_len, hayro_cmap_bytes(NULL), 0, hayro_cmap_files(NULL), 0,
+                         HAYRO_CMAP_NO_BUDGET) != HAYRO_CMAP_OK)
         return 1;
     static struct task tasks[THREADS];
     for (int i = 0; i < THREADS; i++) {

@@ -2,8 +2,8 @@
  *
  *     hayro_cmap map = HAYRO_CMAP_EMPTY;
  *     uint32_t cid;
- *     if (hayro_cmap_parse(&map, data, data_len, no_bundle, 0, no_files, 0, HAYRO_CMAP_NO_BUDGET)
- *             == HAYRO_CMAP_OK
+ *     if (hayro_cmap_parse(&map, data, data_len, hayro_cmap_bytes(NULL), 0,
+ *                          hayro_cmap_files(NULL), 0, HAYRO_CMAP_NO_BUDGET) == HAYRO_CMAP_OK
  *         && hayro_cmap_cid(&map, 0x3042, 2, &cid))
  *         printf("%u\n", cid);
  *     hayro_cmap_free(&map);
@@ -11,18 +11,20 @@
  * Every call returns on any bytes, and what it answers is proved. What a caller owes is checked by
  * nothing:
  *
- * - A handle begins as HAYRO_CMAP_EMPTY. Only the calls below change it, and it isn't copied by
- *   assignment, which would free a map twice.
- * - A handle is used by one call at a time: a lookup counts as a write to the handle, not to the map.
- *   Any number of threads look up in one map at once, each by a handle of its own, which
- *   hayro_cmap_share makes. A handle may go to another thread, where a lock, or a start or a join of
- *   a thread, orders the calls.
- * - A pointer isn't null, not even where its length is 0. `cid`, `supplement` and `needed` point to
- *   a value, which may be any.
+ * - A handle, of a map or of a bundle, begins as HAYRO_CMAP_EMPTY. Only the calls below change it,
+ *   and it isn't copied by assignment, which would free what it has twice.
+ * - A handle is used by one call at a time: to look up in a map, or to read a file over a bundle,
+ *   counts as a write to the handle, not to the map or the bundle. Any number of threads use one at
+ *   once, each by a handle of its own, which hayro_cmap_share and hayro_cmap_bundle_share make. A
+ *   handle may go to another thread, where a lock, or a start or a join of a thread, orders the calls.
+ * - A pointer isn't null, not even where its length is 0, also those in a hayro_cmap_file. Where it
+ *   may be, hayro_cmap_bytes, hayro_cmap_files and hayro_cmap_room give one in its place. `cid`,
+ *   `supplement` and `needed` point to a value, which may be any.
  * - What one parameter of a call points to doesn't overlap what another one points to, if the call
  *   writes to one of them. The bytes of a file, of a bundle and of names are read during the call
  *   only, and nobody writes to them meanwhile.
- * - Each handle with a map is freed once, or memory is lost. To free an empty handle does nothing.
+ * - Each handle with a map or a bundle is freed once, or memory is lost. To free an empty handle does
+ *   nothing.
  * - malloc, realloc and free come from one allocator, which aligns blocks as C asks.
  * - No call from a signal handler, nor from the forked child of a process with threads. */
 #ifndef HAYRO_CMAP_H
@@ -45,7 +47,14 @@ typedef struct hayro_cmap {
     void *map;
 } hayro_cmap;
 
-/* A handle without a map. */
+/* A bundle, or none: predefined CMap files, which files use by their names, and the tables of the
+ * binary form. */
+typedef struct hayro_cmap_bundle {
+    bool full;
+    void *bundle;
+} hayro_cmap_bundle;
+
+/* A handle without a map, or without a bundle. */
 #define HAYRO_CMAP_EMPTY {false, NULL}
 
 /* A file and the name by which other files use it. */
@@ -74,6 +83,22 @@ typedef enum hayro_cmap_mode {
     HAYRO_CMAP_NO_MODE = 2 /* the file gives none, or there is no map */
 } hayro_cmap_mode;
 
+/* Pointers for calls that take none that is null: the one that is handed in, or where that is null,
+ * one that serves with the length 0. */
+static inline const uint8_t *hayro_cmap_bytes(const void *bytes) {
+    return bytes ? (const uint8_t *)bytes : (const uint8_t *)"";
+}
+
+static inline const hayro_cmap_file *hayro_cmap_files(const hayro_cmap_file *files) {
+    static const hayro_cmap_file none = {NULL, 0, NULL, 0};
+    return files ? files : &none;
+}
+
+static inline uint8_t *hayro_cmap_room(void *room) {
+    static uint8_t none;
+    return room ? (uint8_t *)room : &none;
+}
+
 /* The budget that is none. */
 #define HAYRO_CMAP_NO_BUDGET UINT64_MAX
 
@@ -90,6 +115,25 @@ hayro_cmap_status hayro_cmap_parse(hayro_cmap *map, const uint8_t *data, size_t 
                                    const uint8_t *bundle, size_t bundle_len,
                                    const hayro_cmap_file *files, size_t files_len,
                                    uint64_t budget);
+
+/* Reads the CMap file `data` as hayro_cmap_parse does, over a bundle that is read already; an empty
+ * handle is no bundle. The status is one of the first four. */
+hayro_cmap_status hayro_cmap_parse_over(hayro_cmap *map, const uint8_t *data, size_t data_len,
+                                        hayro_cmap_bundle *bundle,
+                                        const hayro_cmap_file *files, size_t files_len,
+                                        uint64_t budget);
+
+/* Reads a bundle, and copies its files, so that its bytes needn't stay. A bundle that the handle has
+ * is freed. HAYRO_CMAP_OK; or HAYRO_CMAP_NO_MEMORY or HAYRO_CMAP_NOT_A_BUNDLE, and an empty handle. */
+hayro_cmap_status hayro_cmap_bundle_open(hayro_cmap_bundle *bundle, const uint8_t *bytes,
+                                         size_t bytes_len);
+
+/* Gives an `other` handle the same bundle, as hayro_cmap_share does with a map. */
+hayro_cmap_status hayro_cmap_bundle_share(hayro_cmap_bundle *bundle, hayro_cmap_bundle *other);
+
+/* Empties the handle, and frees the bundle if no other handle has it. Maps that were read over it
+ * stay. */
+void hayro_cmap_bundle_free(hayro_cmap_bundle *bundle);
 
 /* Makes the predefined CMap Identity-H, or Identity-V: codes of two bytes are CIDs. A map that the
  * handle has is freed. HAYRO_CMAP_OK, or HAYRO_CMAP_NO_MEMORY and an empty handle. */
