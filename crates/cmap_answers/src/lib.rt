@@ -10,8 +10,8 @@ use cmap_programs::input::{read_all, split_bundle};
 use cmap_programs::options::Options;
 use cmap_programs::output::{report, send};
 use cmap_programs::query::Request;
-use hayro_cmap::bcmap::{Bundle, load_embedded};
-use hayro_cmap::{CMap, CMapName, ParseError};
+use hayro_cmap::CMap;
+use hayro_cmap::bcmap::Bundle;
 use std::alloc::Global;
 use std::io::{Read, Write};
 
@@ -42,10 +42,20 @@ fn answer<R: Read, W: Write>(
 ) -> Result<(), Failure> {
     let (options, words) = Options::parse(words)?;
     let request = Request::parse(alloc, words)?;
+    let lines = answers_over(alloc, options, &request, input)?;
+    Ok(send(out, lines.as_str())?)
+}
+
+/// The lines that answer the request, over the file that the input gives.
+fn answers_over<R: Read>(
+    alloc: Global,
+    options: Options,
+    request: &Request<'_>,
+    input: &mut R,
+) -> Result<String, Failure> {
     let bytes = read_all(alloc, input)?;
     let map = map_of(alloc, options, &bytes)?;
-    let lines = lines_of(alloc, &map, &request.queries)?;
-    Ok(send(out, lines.as_str())?)
+    Ok(lines_of(alloc, &map, &request.queries)?)
 }
 
 /// The map of the input: of all its bytes, or of those after the bundle.
@@ -54,10 +64,10 @@ fn map_of(alloc: Global, options: Options, input: &[u8]) -> Result<CMap, Failure
         return map_over(alloc, options.budget, input, None);
     };
     let (front, file) = split_bundle(input, bundle_len).ok_or(Failure::Refused)?;
-    let Some(bundle) = Bundle::parse(alloc, front)? else {
-        return Err(Failure::Refused);
-    };
-    map_over(alloc, options.budget, file, Some(&bundle))
+    match Bundle::parse(alloc, front)? {
+        Some(bundle) => map_over(alloc, options.budget, file, Some(&bundle)),
+        None => Err(Failure::Refused),
+    }
 }
 
 /// The map of a file, which may use the files of the bundle and no others.
@@ -67,11 +77,5 @@ fn map_over(
     file: &[u8],
     bundle: Option<&Bundle<'_>>,
 ) -> Result<CMap, Failure> {
-    let get_cmap = move |name: CMapName<'_>| load_embedded(bundle, name);
-    match CMap::parse_within(alloc, budget, file, bundle, &get_cmap) {
-        Ok(Some(map)) => Ok(map),
-        Ok(None) => Err(Failure::Refused),
-        Err(ParseError::Memory) => Err(Failure::NoMemory),
-        Err(ParseError::OverBudget) => Err(Failure::OverBudget),
-    }
+    CMap::parse_from(alloc, budget, file, bundle, &bundle)?.ok_or(Failure::Refused)
 }

@@ -1,4 +1,5 @@
 pub mod CodeWords
 pub mod Decimals
+pub mod Failures
 pub mod OptionWords
 pub mod Queries

@@ -1,8 +1,10 @@
 //! Why a run gives no answers.
 
 ghost use Rattle.std.specs.Prelude.{◌≡◌};
+ghost use Rattle.cmap_programs.specs.Failures.{failure_of};
 ghost use Rattle.cmap_programs.specs.declared.failure.Failure.TheVariants.{NoMemory};
 
+use hayro_cmap::ParseError;
 use std::alloc::{AllocError, AllocFailed};
 use std::fmt;
 use std::io::{self, ErrorKind};
@@ -54,6 +56,17 @@ impl<T: Drop> From<AllocFailed<T>> for Failure {
 
     fn from(_error: AllocFailed<T>) -> Failure {
         Failure::NoMemory
+    }
+}
+
+impl From<ParseError> for Failure {
+    ghost from_gives = { λ error failure. failure ≡ failure_of error };
+
+    fn from(error: ParseError) -> Failure {
+        match error {
+            ParseError::Memory => Failure::NoMemory,
+            ParseError::OverBudget => Failure::OverBudget,
+        }
     }
 }
 

@@ -1,10 +1,12 @@
--- What a caller's function answers, by name.
-use Rattle.std.specs.Prelude.{◌≡◌, ℕ, List, Option}
+-- What a caller's function and a bundle answer, by name.
+use Rattle.std.specs.Prelude.{◌≡◌, ℕ, List, Option, option_and_then, slice_get}
 use Rattle.std.specs.Borrow.{Bor}
 use Rattle.std.specs.Option.{option_copied}
 use Rattle.std.specs.Fn.{Shared}
 use Rattle.cmap_files.specs.declared.names.CMapName.{CMapName}
+use Rattle.cmap_binary.specs.Bundles.{Bundle}
 use Rattle.cmap_files.specs.CMapNames.{IsNameOf, IsSameName}
+use Rattle.cmap_files.specs.Names.{place_of}
 
 module _ {F : Type 0} (calls : Shared F (CMapName × Unit {0}) (Option (Bor (List ℕ)))) (get_cmap : F) where
   -- asked for the name of this text, it may answer these bytes
@@ -19,3 +21,7 @@ module _ {F : Type 0} (calls : Shared F (CMapName × Unit {0}) (Option (Bor (Lis
 -- a text has one answer at the most
 abbrev pub IsByName : (List ℕ → Option (List ℕ) → Type 0) → Type 0
 IsByName answer = (text : List ℕ) (first second : Option (List ℕ)) → answer text first → answer text second → first ≡ second
+
+-- the file of this name in a bundle, if there is one
+abbrev pub embedded : Option Bundle → List ℕ → Option (List ℕ)
+embedded bundle name = option_and_then (λ b. option_and_then (λ at. slice_get b.files at) (place_of name)) bundle
