@@ -26,10 +26,10 @@ fn write_cid(
     map: &CMap,
     lines: &mut String,
 ) -> Result<(), AllocError> {
-    let digits = query.digits;
+    write!(lines, "cid {byte_len}:{}", query.digits)?;
     match map.lookup_cid_code(query.code, byte_len) {
-        Some(cid) => writeln!(lines, "cid {byte_len}:{digits} {cid}"),
-        None => writeln!(lines, "cid {byte_len}:{digits} none"),
+        Some(cid) => writeln!(lines, " {cid}"),
+        None => lines.push_str(" none\n"),
     }
 }
 

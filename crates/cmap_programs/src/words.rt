@@ -14,7 +14,9 @@ pub fn words(rt: &HostRuntime) -> Result<Vec<String>, Failure> {
 }
 
 fn gathered(rt: &HostRuntime) -> Option<Vec<String>> {
-    env::args(rt).ok()?.skip(1).collect(rt.alloc()).ok()
+    let mut words = env::args(rt).ok()?;
+    let _program = words.next();
+    words.collect(rt.alloc()).ok()
 }
 
 /// The number that decimal digits spell, where it fits.
