@@ -2,8 +2,6 @@
 use Rattle.std.specs.Prelude.{ℕ}
 use Rattle.cmap_c.specs.declared.status.Status.{Status}
 use Rattle.cmap_c.specs.declared.status.Status.TheVariants.{Done, Refused, NoMemory, OverBudget, NotABundle, Absent, NoRoom}
-use Rattle.hayro_cmap.specs.declared.budget.ParseError.{ParseError}
-use Rattle.hayro_cmap.specs.declared.budget.ParseError.TheVariants as fault
 
 abbrev pub number : Status → ℕ
 number Done = 0
@@ -13,7 +11,3 @@ number OverBudget = 3
 number NotABundle = 4
 number Absent = 5
 number NoRoom = 6
-
-abbrev pub status_of : ParseError → Status
-status_of fault.Memory = NoMemory
-status_of fault.OverBudget = OverBudget

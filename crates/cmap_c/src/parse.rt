@@ -18,7 +18,7 @@ use crate::handle::MapHandle;
 use crate::shared::Shared;
 use crate::status::Status;
 use hayro_cmap::bcmap::{Bundle, OwnedBundle};
-use hayro_cmap::{CMap, Source};
+use hayro_cmap::{CMap, ParseError, Source};
 use std::alloc::Global;
 
 /// The map of the file `data`, over files by their names: the first of `files` with the name, else
@@ -113,15 +113,16 @@ fn parse<'a>(
     if bundle.is_empty() {
         return parse_owned(alloc, budget, data, None, files);
     }
-    match Bundle::parse(alloc, bundle)? {
-        Some(bundle) => {
+    match Bundle::parse(alloc, bundle) {
+        Ok(Some(bundle)) => {
             let bases = FilesOverBundle {
                 bundle: &bundle,
                 files,
             };
             parse_from(alloc, budget, data, Some(&bundle), &bases)
         }
-        None => Err(Status::NotABundle),
+        Ok(None) => Err(Status::NotABundle),
+        Err(_) => Err(Status::NoMemory),
     }
 }
 
@@ -210,8 +211,10 @@ fn parse_from<S: Source>(
         (Means (tables_given bundle.entry)) (S.answers source.now) 16 «data».now budget }
     ensures failed { IfErr result (λ status. (1 ≤ number status) × (number status ≤ 3)) }
 {
-    match CMap::parse_from(alloc, budget, data, bundle, source)? {
-        Some(map) => Ok(map),
-        None => Err(Status::Refused),
+    match CMap::parse_from(alloc, budget, data, bundle, source) {
+        Ok(Some(map)) => Ok(map),
+        Ok(None) => Err(Status::Refused),
+        Err(ParseError::Memory) => Err(Status::NoMemory),
+        Err(ParseError::OverBudget) => Err(Status::OverBudget),
     }
 }

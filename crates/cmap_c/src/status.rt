@@ -3,9 +3,6 @@
 ghost use Rattle.std.specs.Prelude.{◌≡◌};
 ghost use Rattle.cmap_c.specs.Statuses.{number};
 
-use hayro_cmap::ParseError;
-use std::alloc::AllocError;
-
 /// How a call ends.
 #[derive(Clone, Copy)]
 pub(crate) enum Status {
@@ -38,31 +35,6 @@ impl Status {
             Status::NotABundle => 4,
             Status::Absent => 5,
             Status::NoRoom => 6,
-        }
-    }
-}
-
-impl From<AllocError> for Status {
-    ghost use Rattle.std.specs.Prelude.{◌≡◌};
-    ghost use Rattle.cmap_c.specs.declared.status.Status.TheVariants.{NoMemory};
-
-    ghost from_gives = { λ _ status. status ≡ NoMemory };
-
-    fn from(_error: AllocError) -> Status {
-        Status::NoMemory
-    }
-}
-
-impl From<ParseError> for Status {
-    ghost use Rattle.std.specs.Prelude.{◌≡◌};
-    ghost use Rattle.cmap_c.specs.Statuses.{status_of};
-
-    ghost from_gives = { λ error status. status ≡ status_of error };
-
-    fn from(error: ParseError) -> Status {
-        match error {
-            ParseError::Memory => Status::NoMemory,
-            ParseError::OverBudget => Status::OverBudget,
         }
     }
 }

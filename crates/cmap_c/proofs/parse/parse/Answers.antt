@@ -13,27 +13,27 @@ returns-then-is_empty-clause-refuses c h =
     let none : length c.args.bundle.now ≡ 0 = search rules in
     (None, nil_from_length c.args.bundle.now none, c.parse_owned.ensures.refuses h)
 
-pub returns-in-Some-clause-accepts : goal.returns-in-Some-clause-accepts
+pub returns-in-Ok-Some-clause-accepts : goal.returns-in-Ok-Some-clause-accepts
 unfolding IsMapOver AreLayersOver
-returns-in-Some-clause-accepts c =
-    let only : IsOnly (IsBundle c.args.bundle.now) (bundle_seen c.in-Some.bundle) = rw c.in-Some.is at c.in_ok-bundle.ensures in
-    IfOk-weaker c.parse_from.result (IsOnly (AreLayersOver (Some (bundle_seen c.in-Some.bundle)) c.args.files.now c.args.data.now)) (IsMapOver c.args.bundle.now c.args.files.now c.args.data.now)
-    (λ layers are. (Some (bundle_seen c.in-Some.bundle), only, are)) c.parse_from.ensures.accepts
+returns-in-Ok-Some-clause-accepts c =
+    let only : IsOnly (IsBundle c.args.bundle.now) (bundle_seen c.in-Ok-Some.bundle) = rw c.in-Ok-Some.field-0-is at c.in-Ok-Some.ensures in
+    IfOk-weaker c.parse_from.result (IsOnly (AreLayersOver (Some (bundle_seen c.in-Ok-Some.bundle)) c.args.files.now c.args.data.now)) (IsMapOver c.args.bundle.now c.args.files.now c.args.data.now)
+    (λ layers are. (Some (bundle_seen c.in-Ok-Some.bundle), only, are)) c.parse_from.ensures.accepts
 
-pub returns-in-Some-clause-refuses : goal.returns-in-Some-clause-refuses
+pub returns-in-Ok-Some-clause-refuses : goal.returns-in-Ok-Some-clause-refuses
 unfolding HasNoMapOver AreLayersOver
-returns-in-Some-clause-refuses c h =
-    let only : IsOnly (IsBundle c.args.bundle.now) (bundle_seen c.in-Some.bundle) = rw c.in-Some.is at c.in_ok-bundle.ensures in
-    (Some (bundle_seen c.in-Some.bundle), only, c.parse_from.ensures.refuses h)
+returns-in-Ok-Some-clause-refuses c h =
+    let only : IsOnly (IsBundle c.args.bundle.now) (bundle_seen c.in-Ok-Some.bundle) = rw c.in-Ok-Some.field-0-is at c.in-Ok-Some.ensures in
+    (Some (bundle_seen c.in-Ok-Some.bundle), only, c.parse_from.ensures.refuses h)
 
-pub returns-in-Some-clause-over : goal.returns-in-Some-clause-over
+pub returns-in-Ok-Some-clause-over : goal.returns-in-Ok-Some-clause-over
 unfolding PassesBudgetOver PassesOver
-returns-in-Some-clause-over c h =
-    let only : IsOnly (IsBundle c.args.bundle.now) (bundle_seen c.in-Some.bundle) = rw c.in-Some.is at c.in_ok-bundle.ensures in
-    (Some (bundle_seen c.in-Some.bundle), only, c.parse_from.ensures.over h)
+returns-in-Ok-Some-clause-over c h =
+    let only : IsOnly (IsBundle c.args.bundle.now) (bundle_seen c.in-Ok-Some.bundle) = rw c.in-Ok-Some.field-0-is at c.in-Ok-Some.ensures in
+    (Some (bundle_seen c.in-Ok-Some.bundle), only, c.parse_from.ensures.over h)
 
-pub returns-in-Some-clause-within : goal.returns-in-Some-clause-within
+pub returns-in-Ok-Some-clause-within : goal.returns-in-Ok-Some-clause-within
 unfolding StaysWithinBudget StaysOver
-returns-in-Some-clause-within c h =
-    let only : IsOnly (IsBundle c.args.bundle.now) (bundle_seen c.in-Some.bundle) = rw c.in-Some.is at c.in_ok-bundle.ensures in
-    (Some (bundle_seen c.in-Some.bundle), only, c.parse_from.ensures.within h)
+returns-in-Ok-Some-clause-within c h =
+    let only : IsOnly (IsBundle c.args.bundle.now) (bundle_seen c.in-Ok-Some.bundle) = rw c.in-Ok-Some.field-0-is at c.in-Ok-Some.ensures in
+    (Some (bundle_seen c.in-Ok-Some.bundle), only, c.parse_from.ensures.within h)
