@@ -3,7 +3,7 @@
 use crate::answer::{Answer, Digits, again, tell};
 use crate::cases::{BUNDLE, FILE};
 use hayro_cmap::CMapName;
-use hayro_cmap::bcmap::{Bundle, OwnedBundle, load_embedded};
+use hayro_cmap::bcmap::{Bundle, load_embedded};
 use std::alloc::{AllocError, Global};
 use std::{fmt, io};
 
@@ -53,16 +53,11 @@ pub(crate) fn tell_all(rt: &(impl Print + AllocGlobal)) -> io::Result<()> {
         if is_bundle {
             tell_files(rt, &found)?;
         }
-        let found = again!(OwnedBundle::parse(rt.alloc(), bytes) => Parsed);
-        tell(rt, "OwnedBundle::parse", title, &found)?;
-        if is_bundle {
-            tell_owned_files(rt, &found)?;
-        }
     }
     Ok(())
 }
 
-fn tell_files(rt: &impl Print, found: &Answer<Parsed<Bundle<'_>>>) -> io::Result<()> {
+fn tell_files(rt: &impl Print, found: &Answer<Parsed<'_>>) -> io::Result<()> {
     for &(title, name) in NAMES {
         let file = match found {
             Answer::Given(Parsed(bundle)) => Answer::Given(File(load_embedded(
@@ -76,23 +71,11 @@ fn tell_files(rt: &impl Print, found: &Answer<Parsed<Bundle<'_>>>) -> io::Result
     Ok(())
 }
 
-fn tell_owned_files(rt: &impl Print, found: &Answer<Parsed<OwnedBundle>>) -> io::Result<()> {
-    for &(title, name) in NAMES {
-        let file = match found {
-            Answer::Given(Parsed(Some(bundle))) => Answer::Given(File(bundle.file(name))),
-            Answer::Given(Parsed(None)) => Answer::Given(File(None)),
-            _ => Answer::NotMade,
-        };
-        tell(rt, "  OwnedBundle::file", title, &file)?;
-    }
-    Ok(())
-}
-
 /// What bytes are.
 #[derive(Drop)]
-struct Parsed<B>(Option<B>);
+struct Parsed<'b>(Option<Bundle<'b>>);
 
-impl<B> fmt::Display for Parsed<B> {
+impl fmt::Display for Parsed<'_> {
     fn fmt<W: fmt::Write>(&self, f: &mut fmt::Formatter<W>) -> fmt::Result {
         match self.0 {
             Some(_) => write!(f, " accepted"),
