@@ -15,7 +15,7 @@ pub enum Reason {
     CodeExpected,
     /// A code of no or of more than four bytes.
     CodeLength,
-    /// The two ends of a codespace range have other lengths.
+    /// The two ends of a codespace range have unequal lengths.
     UnequalLengths,
     /// Another token than a CID, which is an integer from 0 to 2^32 - 1.
     CidExpected,
@@ -44,7 +44,7 @@ impl Display for Reason {
             Reason::EndWithinSection => "the file ends within a section",
             Reason::CodeExpected => "a code was expected",
             Reason::CodeLength => "a code has one to four bytes",
-            Reason::UnequalLengths => "the ends of a codespace range have other lengths",
+            Reason::UnequalLengths => "the ends of a codespace range have unequal lengths",
             Reason::CidExpected => "a CID was expected",
             Reason::TextExpected => "the text of a code was expected",
             Reason::BracketExpected => "a ] was expected",

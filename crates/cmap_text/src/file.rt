@@ -41,6 +41,7 @@ fn read_said<'d>(alloc: Global, text: &'d [u8], said: &mut Said<'d>) -> Result<M
 {
     let mut reader = TokenReader::new(alloc, text);
     if let Err(fault) = read_items(&mut reader, said) {
+        // A clause sees the tokens that are left of a reader, and not whose they are.
         return Err(fault.at(reader.offset().min(text.len())));
     }
     Ok(said.values.metadata(alloc)?)
