@@ -5,8 +5,8 @@ use Rattle.cmap_tokens.specs.declared.utf16.BfString.{BfString}
 use Rattle.cmap_tokens.specs.declared.utf16.BfString.TheVariants.{Char, String}
 use Rattle.cmap_files.specs.Files.{FileMetadata, Mode, horizontal, vertical}
 use Rattle.cmap_files.specs.Metadata.{Collection}
-use Rattle.hayro_cmap.specs.Layers.{Layer}
-use Rattle.hayro_cmap.specs.Lookups.{InCodespace, cid_of, bf_of}
+use Rattle.cmap_layers.specs.Layers.{Layer}
+use Rattle.cmap_layers.specs.Lookups.{InCodespace, cid_of, bf_of}
 
 abbrev pub handle_cid : Option (List Layer) → ℕ → ℕ → Option ℕ
 handle_cid map code len = option_and_then (λ m. cid_of m code len) map

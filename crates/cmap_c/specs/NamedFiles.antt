@@ -4,7 +4,8 @@ use Rattle.cmap_files.specs.Names.{place_of}
 use Rattle.cmap_files.specs.Only.{IsOnly, HoldsOfNone}
 use Rattle.cmap_binary.specs.Bundles.{Bundle, IsBundle}
 use Rattle.hayro_cmap.specs.Budgets.{PassesBudget, StaysWithin}
-use Rattle.hayro_cmap.specs.Layers.{Layer, AreLayers, Means}
+use Rattle.cmap_layers.specs.Layers.{Layer}
+use Rattle.hayro_cmap.specs.Layers.{AreLayers, Means}
 use Rattle.cmap_c.specs.declared.files.File.{File}
 
 -- the first file with a name

@@ -1,6 +1,6 @@
 -- What it says of a file, and of a use, that the search for layers below it fails.
-use Rattle.std.proofs.Common.{◌≡◌, ℕ, suc, ◌<◌, ◌≤◌, refl, sym, ap, ◌∙◌, subst, List, [], ◌∷◌, ◌++◌, length, get_or, Ok, Err, true, inl, inr, append_assoc}
-use Rattle.std.specs.Prelude.{◌⊎◌, Contains, IfErr, IsErrAnd, Option, Some, Result, map}
+use Rattle.std.proofs.Common.{◌≡◌, ℕ, suc, ◌<◌, refl, sym, ap, ◌∙◌, subst, List, [], ◌∷◌, ◌++◌, length, get_or, Ok, Err, true, inl, inr, append_assoc}
+use Rattle.std.specs.Prelude.{◌⊎◌, Contains, IfErr, IsErrAnd, Option, Some, Result}
 use Rattle.std.specs.Borrow.{Bor}
 use Rattle.std.proofs.Math.ListN.{length-map}
 use Rattle.std.proofs.lemmas.List.{get_or-map, map-append}

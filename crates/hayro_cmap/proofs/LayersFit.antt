@@ -4,9 +4,10 @@ use Rattle.std.specs.Prelude.{unwrap_or}
 use Rattle.std.specs.List.{AllZip, last_or}
 use Rattle.std.proofs.Math.ListN.{length-map}
 use Rattle.cmap_files.specs.Files.{File}
-use Rattle.hayro_cmap.specs.Layers.{Layer, AreLayers, OfAnswer, layer_of}
-use Rattle.hayro_cmap.specs.LayersSeen.{layers_seen}
-use Rattle.hayro_cmap.specs.declared.layers.Layer as declared
+use Rattle.cmap_layers.specs.Layers.{Layer, layer_of}
+use Rattle.hayro_cmap.specs.Layers.{AreLayers, OfAnswer}
+use Rattle.cmap_layers.specs.LayersSeen.{layers_seen}
+use Rattle.cmap_layers.specs.declared.layers.Layer as declared
 
 last-short : (R : List ℕ → List Layer → Type 0) (most : ℕ) → ((name : List ℕ) (base : List Layer) → R name base → length base ≤ most)
     → (names : List (List ℕ)) (each : List (List Layer)) (first : Option (List Layer)) → length (unwrap_or first []) ≤ most → AllZip R names each → length (unwrap_or (last_or first each) []) ≤ most

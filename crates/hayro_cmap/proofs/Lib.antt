@@ -1,14 +1,8 @@
 pub mod Blamed
-pub mod BestMatch
 pub mod BudgetLeft
-pub mod BytesWithin
 pub mod FilesMeant
-pub mod LastFound
 pub mod LayersFit
-pub mod LayersSearched
 pub mod OneName
-pub mod OneStringCode
 pub mod OneUse
-pub mod TablesCopied
 pub mod UsesInOrder
 pub mod WholeFile

@@ -4,7 +4,8 @@ use Rattle.cmap_files.specs.Files.{File}
 use Rattle.hayro_cmap.specs.Answers.{IsByName}
 use Rattle.hayro_cmap.specs.Budgets.{Trail, Opens, OpensUse}
 use Rattle.hayro_cmap.specs.BytesSpent.{Spends, Resolves, Refuses, GoesOver, of_file, of_use}
-use Rattle.hayro_cmap.specs.Layers.{Layer, AreLayers, OfAnswer}
+use Rattle.cmap_layers.specs.Layers.{Layer}
+use Rattle.hayro_cmap.specs.Layers.{AreLayers, OfAnswer}
 use Rattle.hayro_cmap.proofs.BudgetLeft.{Leaves-none}
 
 module _ (means : List ℕ → File → Type 0) (answer : List ℕ → Option (List ℕ) → Type 0) (by_name : IsByName answer) (name : List ℕ) (budget : Option ℕ) (most n : ℕ) (is : suc n ≡ most) where

@@ -9,7 +9,7 @@ use Rattle.cmap_files.specs.FilesSeen.{names_seen}
 use Rattle.cmap_files.specs.Only.{IsOnly, HoldsOfNone}
 use Rattle.hayro_cmap.specs.Budgets.{IsOver, Trail}
 use Rattle.hayro_cmap.specs.BytesSpent.{About, Leaves, Spends, Resolves, Refuses, GoesOver, of_uses}
-use Rattle.hayro_cmap.specs.Layers.{Layer}
+use Rattle.cmap_layers.specs.Layers.{Layer}
 use Rattle.hayro_cmap.proofs.BudgetLeft.{sum-append, IsOver-more, Leaves-none, Leaves-append, Leaves-over_append}
 
 -- a trail after files of these lengths

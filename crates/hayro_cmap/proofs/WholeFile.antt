@@ -4,7 +4,7 @@ use Rattle.cmap_files.specs.Files.{File}
 use Rattle.cmap_files.specs.Only.{IsOnly, HoldsOfNone}
 use Rattle.hayro_cmap.specs.Budgets.{IsOver, Trail, Opens, StaysWithin}
 use Rattle.hayro_cmap.specs.BytesSpent.{About, Leaves, Spends, Resolves, Refuses, GoesOver, of_file, of_use, of_uses}
-use Rattle.hayro_cmap.specs.Layers.{Layer, layer_of}
+use Rattle.cmap_layers.specs.Layers.{Layer, layer_of}
 use Rattle.hayro_cmap.proofs.BudgetLeft.{sum-append, IsOver-more, Leaves-one, Leaves-append, Leaves-over_append, not_over}
 
 module _ (means : List ℕ → File → Type 0) (answer : List ℕ → Option (List ℕ) → Type 0) (most : ℕ) (bytes : List ℕ) (budget : Option ℕ) where

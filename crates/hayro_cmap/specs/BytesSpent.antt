@@ -3,7 +3,8 @@ use Rattle.std.specs.Prelude.{◌≡◌, ℕ, ◌+◌, List, Bool, true, false, 
 use Rattle.cmap_files.specs.Files.{File}
 use Rattle.cmap_files.specs.Only.{IsOnly, HoldsOfNone}
 use Rattle.hayro_cmap.specs.Budgets.{Trail, Opens, OpensFirst, OpensUse, OpensUseFirst, OpensEach, OpensEachFirst, Passes}
-use Rattle.hayro_cmap.specs.Layers.{Layer, AreLayers, OfAnswer, IsBase}
+use Rattle.cmap_layers.specs.Layers.{Layer}
+use Rattle.hayro_cmap.specs.Layers.{AreLayers, OfAnswer, IsBase}
 
 -- what count bytes leave of the budget; where there is none, none is left
 abbrev pub Leaves : Option ℕ → ℕ → Option ℕ → Type 0

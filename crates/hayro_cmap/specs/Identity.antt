@@ -2,7 +2,7 @@
 use Rattle.std.specs.Prelude.{ℕ, pos, List, [], ◌∷◌, Some}
 use Rattle.cmap_files.specs.Names.{adobe_identity}
 use Rattle.cmap_files.specs.Files.{Declaration, Mode, lists_of}
-use Rattle.hayro_cmap.specs.Layers.{Layer}
+use Rattle.cmap_layers.specs.Layers.{Layer}
 
 abbrev pub identity_layer : List ℕ → Mode → Layer
 identity_layer name mode = record {

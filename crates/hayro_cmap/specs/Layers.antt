@@ -1,18 +1,11 @@
 -- Files over the files that they use: the layers of a map.
 use Rattle.std.specs.Prelude.{◌≡◌, ℕ, zero, suc, List, [], ◌∷◌, ◌⊎◌, Option, Some, None, unwrap_or}
 use Rattle.std.specs.List.{AllZip, last_or}
-use Rattle.cmap_files.specs.Files.{FileMetadata, Lists, File}
+use Rattle.cmap_files.specs.Files.{File}
+use Rattle.cmap_layers.specs.Layers.{Layer, layer_of}
 use Rattle.cmap_text.specs.TextFiles.{IsTextFile}
 use Rattle.cmap_binary.specs.Bundles.{PrefixTables}
 use Rattle.cmap_binary.specs.BinaryFiles.{IsMarkedBinary, IsBinaryFile}
-
--- a layer of a map: what a file says, without the names that it uses
-pub record Layer : Type 0 where
-  pub metadata : FileMetadata
-  pub lists : Lists
-
-abbrev pub layer_of : File → Layer
-layer_of file = record { metadata = file.metadata; lists = file.lists }
 
 -- what bytes mean: where there is a bundle, by its tables, bytes that are marked so are a binary file; all others are a text file
 abbrev pub Means : Option PrefixTables → List ℕ → File → Type 0

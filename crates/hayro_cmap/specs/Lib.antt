@@ -1,12 +1,6 @@
 pub mod Layers
 pub mod Budgets
-pub mod Lookups
-pub mod Searches
-pub mod LayersDecide
 pub mod Identity
 pub mod Answers
-pub mod LayersSeen
 pub mod BytesSpent
 pub mod Refusals
-pub mod StringCodes
-pub mod PartialMatches

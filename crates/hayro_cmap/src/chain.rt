@@ -6,17 +6,18 @@ ghost use Rattle.cmap_files.specs.FilesSeen.{file_seen, names_seen};
 ghost use Rattle.cmap_files.specs.Outcomes.{ReadsFile};
 ghost use Rattle.hayro_cmap.specs.Answers.{IsByName};
 ghost use Rattle.hayro_cmap.specs.BytesSpent.{Resolves, of_file, of_use};
-ghost use Rattle.hayro_cmap.specs.Layers.{Means, layer_of};
-ghost use Rattle.hayro_cmap.specs.LayersSeen.{layers_seen};
+ghost use Rattle.cmap_layers.specs.Layers.{layer_of};
+ghost use Rattle.hayro_cmap.specs.Layers.{Means};
+ghost use Rattle.cmap_layers.specs.LayersSeen.{layers_seen};
 ghost use Rattle.hayro_cmap.specs.Refusals.{Blames, Fails, IsFault, IsUseFault};
 
 use crate::budget::spend;
-use crate::layers::Layer;
 use crate::refusal::{Cause, Unresolved};
 use crate::source::Source;
 use cmap_binary::{Bundle, is_marked_binary, read_binary};
 use cmap_files::fault::FileFault;
 use cmap_files::file::File;
+use cmap_layers::layers::Layer;
 use cmap_text::read_text;
 use std::alloc::{AllocError, Global};
 

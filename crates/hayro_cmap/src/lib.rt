@@ -4,28 +4,26 @@
 
 mod budget;
 mod chain;
-mod codespaces;
-mod layers;
-mod lookup;
 mod map;
 mod refusal;
 mod source;
-mod string_codes;
 
 pub use budget::ParseError;
 pub use cmap_binary::{Bundle, OwnedBundle, load_embedded};
-pub use cmap_files::declarations::{BfRange, CidRange};
+pub use cmap_files::code_length::CodeLength;
+pub use cmap_files::declarations::{BfRange, ByLength, CidRange, Codespace};
 pub use cmap_files::fault::{Reason, Stop};
 pub use cmap_files::metadata::{CharacterCollection, CidFamily, Metadata, WritingMode};
 pub use cmap_files::names::{CMapName, Cid};
 pub use cmap_files::units::Units;
+pub use cmap_layers::layers::{DeclarationCounts, Layer};
+pub use cmap_layers::string_codes::StringCode;
 pub use cmap_runs::runs;
 pub use cmap_tokens::token;
 pub use cmap_tokens::utf16::BfString;
 pub use map::CMap;
 pub use refusal::{Cause, Refusal};
 pub use source::Source;
-pub use string_codes::StringCode;
 
 /// The parts of the binary form of CMap files: bits and numbers, prefix tables, bundles.
 pub mod bcmap {

@@ -13,26 +13,26 @@ ghost use Rattle.cmap_files.specs.FilesSeen.{names_seen};
 ghost use Rattle.hayro_cmap.specs.Identity.{identity_layer};
 ghost use Rattle.cmap_binary.specs.BundleSeen.{tables_given};
 ghost use Rattle.hayro_cmap.specs.Layers.{AreLayers, Means};
-ghost use Rattle.hayro_cmap.specs.LayersSeen.{IsMetadataOf, metadata_seen, mode_seen};
-ghost use Rattle.hayro_cmap.specs.Lookups.{InCodespace, bf_of, cid_of};
+ghost use Rattle.cmap_layers.specs.LayersSeen.{IsMetadataOf, layers_seen, metadata_seen, mode_seen};
+ghost use Rattle.cmap_layers.specs.Lookups.{InCodespace, bf_of, cid_of};
 ghost use Rattle.cmap_files.specs.Only.{IsOnly, HoldsOfNone};
 ghost use Rattle.hayro_cmap.specs.Refusals.{HasNoLayers, IsFault};
-ghost use Rattle.hayro_cmap.specs.StringCodes.{IsNextCode};
-ghost use Rattle.hayro_cmap.specs.Searches.{bf_looks, cid_looks, finds_text};
+ghost use Rattle.cmap_layers.specs.StringCodes.{IsNextCode};
+ghost use Rattle.cmap_layers.specs.Searches.{bf_looks, cid_looks, finds_text};
 ghost use Rattle.hayro_cmap.specs.declared.budget.ParseError.TheVariants.{OverBudget};
 
 use crate::budget::ParseError;
 use crate::chain::{MOST_BELOW, find_layers};
-use crate::layers::Layer;
 use crate::refusal::{Cause, Refusal, Unresolved};
 use crate::source::{FilesByName, Source};
-use crate::string_codes::StringCode;
-use crate::{codespaces, lookup, string_codes};
 use cmap_binary::Bundle;
 use cmap_files::code_length::CodeLength;
 use cmap_files::declarations::{CidRange, Codespace, Lists};
 use cmap_files::metadata::{CharacterCollection, CidFamily, Metadata, WritingMode};
 use cmap_files::names::{CMapName, Cid, one_name_for_a_text};
+use cmap_layers::layers::Layer;
+use cmap_layers::string_codes::StringCode;
+use cmap_layers::{codespaces, lookup, string_codes};
 use cmap_runs::runs::{Looks, Range};
 use cmap_tokens::utf16::BfString;
 use std::alloc::{AllocError, Global};
@@ -47,11 +47,11 @@ pub struct CMap {
 
 impl Model for CMap {
     ghost use Rattle.std.specs.Prelude.{List, ◌<◌, ◌≤◌, length};
-    ghost use Rattle.hayro_cmap.specs.Layers.{Layer};
+    ghost use Rattle.cmap_layers.specs.Layers.{Layer};
 
     ghost Value = { List Layer };
 
-    ghost use Rattle.hayro_cmap.specs.LayersSeen.{layers_seen};
+    ghost use Rattle.cmap_layers.specs.LayersSeen.{layers_seen};
 
     ghost view = { λ map. layers_seen map.layers.items };
 
@@ -237,7 +237,15 @@ impl CMap {
         ensures top { IsMetadataOf self.now (metadata_seen result.now) }
         ensures few { length self.now ≤ 16 }
     {
-        &self.layers[0].metadata
+        self.layers[0].metadata()
+    }
+
+    /// The layers of the map: the file's own first, then those of the file that it is based on, and so
+    /// on. There are at least one and at most 16.
+    pub fn layers(&self) -> &[Layer]
+        ensures { layers_seen result.now ≡ self.now }
+    {
+        self.layers.as_slice()
     }
 
     /// The CID of `code`, a code of `byte_len` bytes, big-endian.

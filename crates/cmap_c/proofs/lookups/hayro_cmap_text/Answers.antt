@@ -2,7 +2,7 @@ use Rattle.std.proofs.Common.{◌≡◌, ◌∙◌, Some, subst}
 use Rattle.std.specs.Prelude.{option_map}
 use Rattle.cmap_tokens.specs.Texts.{text_of}
 use Rattle.cmap_tokens.specs.TextSeen.{text_seen}
-use Rattle.hayro_cmap.specs.Lookups.{bf_of}
+use Rattle.cmap_layers.specs.Lookups.{bf_of}
 use Rattle.cmap_c.specs.Handles.{handle_text}
 use Rattle.cmap_c.specs.Rooms.{IsPut}
 use Rattle.cmap_c.proofs.TextsOfBytes.{holds_of_bytes}

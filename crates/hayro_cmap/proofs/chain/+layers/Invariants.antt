@@ -3,7 +3,7 @@ use Rattle.cmap_binary.specs.BundleSeen.{tables_given}
 use Rattle.cmap_files.specs.FilesSeen.{names_seen}
 use Rattle.hayro_cmap.specs.BytesSpent.{of_use}
 use Rattle.hayro_cmap.specs.Layers.{Means}
-use Rattle.hayro_cmap.specs.LayersSeen.{layers_seen}
+use Rattle.cmap_layers.specs.LayersSeen.{layers_seen}
 use Rattle.hayro_cmap.proofs.UsesInOrder.{AreUsed}
 use Rattle.hayro_cmap.proofs.chain.+layers.Given as goal
 

@@ -1,6 +1,6 @@
 use Rattle.std.proofs.Common.{sym, ap, ◌∙◌, [], ◌∷◌, ◌++◌}
 use Rattle.std.proofs.lemmas.List.{map-append, take_more}
-use Rattle.hayro_cmap.specs.LayersSeen.{layer_seen, layers_seen}
+use Rattle.cmap_layers.specs.LayersSeen.{layer_seen, layers_seen}
 use Rattle.hayro_cmap.proofs.map.CMap.clone.Goals as goal
 
 pub loop-layer-preserved : goal.loop-layer-preserved

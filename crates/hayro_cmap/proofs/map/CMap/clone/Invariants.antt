@@ -1,5 +1,5 @@
 use Rattle.std.proofs.Common.{◌≡◌, take}
-use Rattle.hayro_cmap.specs.LayersSeen.{layers_seen}
+use Rattle.cmap_layers.specs.LayersSeen.{layers_seen}
 use Rattle.hayro_cmap.proofs.map.CMap.clone.Given as goal
 
 abbrev pub invariant-loop-layer : goal.invariant-loop-layer

@@ -1,4 +1,4 @@
-use Rattle.std.specs.Prelude.{true, false}
+use Rattle.std.specs.Prelude.{false}
 use Rattle.cmap_binary.specs.BundleSeen.{tables_given}
 use Rattle.hayro_cmap.specs.Layers.{Means}
 use Rattle.hayro_cmap.proofs.Blamed.{no_layers}

@@ -1,0 +1,29 @@
+-- What a search finds in lists of declarations, as clauses see these.
+use Rattle.std.proofs.Common.{◌≡◌, ℕ, List, [], ◌∷◌, Option, Some, None, map, refl, ap, ◌∙◌}
+use Rattle.std.specs.Prelude.{option_map, option_and_then, slice_get, unwrap_or}
+use Rattle.std.proofs.lemmas.Option.{slice_get-map}
+use Rattle.cmap_runs.specs.Ranges.{Span, last_place, last_of}
+use Rattle.cmap_files.specs.Files.{CidEntry}
+use Rattle.cmap_layers.specs.Lookups.{decided_cid}
+use Rattle.cmap_layers.specs.LayersDecide.{decided_in}
+
+map-of-map : {A B C : Type 0} (f : B → C) (g : A → B) (xs : List A) → map f (map g xs) ≡ map (λ x. f (g x)) xs
+map-of-map f g [] = refl
+map-of-map f g (x ∷ xs) = ap (λ l. f (g x) ∷ l) (map-of-map f g xs)
+
+got : {A B : Type 0} (g : A → B) (xs : List A) (o : Option ℕ) → option_and_then (slice_get (map g xs)) o ≡ option_map g (option_and_then (slice_get xs) o)
+got g xs None = refl
+got g xs (Some i) = slice_get-map g xs i
+
+pub last_of-map : {A B : Type 0} (span : B → Span) (g : A → B) (xs : List A) (code : ℕ) → last_of span (map g xs) code ≡ option_map g (last_of (λ x. span (g x)) xs code)
+last_of-map span g xs code = ap (λ spans. option_and_then (slice_get (map g xs)) (last_place spans code)) (map-of-map span g xs) ∙ got g xs (last_place (map (λ x. span (g x)) xs) code)
+
+pub spans-map : {A B : Type 0} (span : B → Span) (g : A → B) (xs : List A) → map span (map g xs) ≡ map (λ x. span (g x)) xs
+spans-map span g xs = map-of-map span g xs
+
+-- a layer decides, or those below it do
+pub decided_cid-decided_in : (code : ℕ) (cid notdef : Option CidEntry) (character below : Option ℕ) → decided_cid code cid notdef character below ≡ unwrap_or (decided_in code cid notdef character) below
+decided_cid-decided_in code (Some e) notdef character below = refl
+decided_cid-decided_in code None (Some e) character below = refl
+decided_cid-decided_in code None None (Some c) below = refl
+decided_cid-decided_in code None None None below = refl

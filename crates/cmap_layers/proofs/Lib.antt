@@ -1,0 +1,6 @@
+pub mod BestMatch
+pub mod BytesWithin
+pub mod LastFound
+pub mod LayersSearched
+pub mod OneStringCode
+pub mod TablesCopied

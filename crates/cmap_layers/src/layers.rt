@@ -1,0 +1,199 @@
+//! The layers of a map: what each file in a chain says, its declarations in tables.
+
+ghost use Rattle.std.specs.Prelude.{◌≡◌, IfOk, map};
+ghost use Rattle.cmap_files.specs.DeclarationsSeen.{bf_entry_seen, codespace_seen, lists_seen};
+ghost use Rattle.cmap_layers.specs.Counts.{counts_of, lengths_of};
+ghost use Rattle.cmap_layers.specs.LayersSeen.{by_length_seen, layer_seen, lists_held, metadata_seen};
+
+use cmap_files::declarations::{BfRange, ByLength, CidRange, Codespace, Lists};
+use cmap_files::metadata::Metadata;
+use cmap_runs::runs::{Looks, Table};
+use std::alloc::{AllocError, Global};
+
+/// A layer of a map: what one file says of itself and of its codes, without the files that it uses.
+/// ISO 32000-1, 9.7.5.
+#[derive(Debug, Drop)]
+pub struct Layer {
+    metadata: Metadata,
+    pub(crate) cids: ByLength<Table<CidRange>>,
+    pub(crate) notdefs: ByLength<Table<CidRange>>,
+    pub(crate) bfs: Table<BfRange>,
+    pub(crate) spaces: Vec<Codespace>,
+}
+
+/// How many declarations a layer has of each kind.
+#[derive(Debug, Drop)]
+pub struct DeclarationCounts {
+    /// Those that give codes their CIDs, by the length of the codes.
+    pub cids: ByLength<usize>,
+    /// Those that give the CID of a character that isn't defined, by the length of the codes.
+    pub notdefs: ByLength<usize>,
+    /// Those that give codes their texts.
+    pub bfs: usize,
+}
+
+impl Layer {
+    /// The layer of a file with this metadata and these declarations.
+    ///
+    /// It fails only where there is no memory.
+    pub fn build(alloc: Global, metadata: Metadata, lists: Lists) -> Result<Layer, AllocError>
+        ensures { IfOk result (λ layer. layer_seen layer
+            ≡ record { metadata = metadata_seen metadata; lists = lists_seen lists }) }
+    {
+        let Lists {
+            cids,
+            notdefs,
+            bfs,
+            spaces,
+        } = lists;
+        let bfs = Table::build(alloc, bfs)?;
+        let (cids, notdefs) = build_tables(alloc, cids, notdefs)?;
+        Ok(Layer {
+            metadata,
+            cids,
+            notdefs,
+            bfs,
+            spaces,
+        })
+    }
+
+    /// What the file says of itself.
+    pub fn metadata(&self) -> &Metadata
+        ensures { metadata_seen result.now ≡ (layer_seen self.now).metadata }
+    {
+        &self.metadata
+    }
+
+    /// The codespace ranges, in the order of the file. ISO 32000-1, 9.7.6.2.
+    pub fn codespaces(&self) -> &[Codespace]
+        ensures { map codespace_seen result.now ≡ (layer_seen self.now).lists.spaces }
+    {
+        self.spaces.as_slice()
+    }
+
+    /// How many declarations there are of each kind. Codespace ranges don't count.
+    pub fn counts(&self) -> DeclarationCounts
+        ensures { result ≡ counts_of (layer_seen self.now).lists }
+    {
+        DeclarationCounts {
+            cids: lengths_of(&self.cids),
+            notdefs: lengths_of(&self.notdefs),
+            bfs: self.bfs.decl_count(),
+        }
+    }
+
+    /// A copy of the layer.
+    pub fn clone(&self, alloc: Global) -> Result<Layer, AllocError>
+        ensures { IfOk result (λ copy. layer_seen copy ≡ layer_seen self.now) }
+    {
+        let metadata = self.metadata.clone(alloc)?;
+        let lists = self.lists(alloc)?;
+        Layer::build(alloc, metadata, lists)
+    }
+
+    /// A copy of the declarations.
+    fn lists(&self, alloc: Global) -> Result<Lists, AllocError>
+        ensures { IfOk result (λ lists. lists_seen lists ≡ (layer_seen self.now).lists) }
+    {
+        let copied = |tables| copied_lists(alloc, tables);
+        let [cids, notdefs] = [&self.cids, &self.notdefs].try_map(copied)?;
+        let bfs = copied_bfs(alloc, &self.bfs)?;
+        let spaces = Vec::from_slice(alloc, &self.spaces)?;
+        Ok(Lists {
+            cids,
+            notdefs,
+            bfs,
+            spaces,
+        })
+    }
+}
+
+/// How many declarations each table has.
+fn lengths_of(tables: &ByLength<Table<CidRange>>) -> ByLength<usize>
+    ensures { result ≡ lengths_of (by_length_seen tables.now) }
+{
+    ByLength {
+        one: tables.one.decl_count(),
+        two: tables.two.decl_count(),
+        three: tables.three.decl_count(),
+        four: tables.four.decl_count(),
+    }
+}
+
+/// The tables of the CIDs and of the notdefs.
+fn build_tables(
+    alloc: Global,
+    cids: ByLength<Vec<CidRange>>,
+    notdefs: ByLength<Vec<CidRange>>,
+) -> Result<(ByLength<Table<CidRange>>, ByLength<Table<CidRange>>), AllocError>
+    ensures { IfOk result
+        (λ tables. (tables.0 ≡ lists_held cids) × (tables.1 ≡ lists_held notdefs)) }
+{
+    let lists = [
+        cids.one,
+        cids.two,
+        cids.three,
+        cids.four,
+        notdefs.one,
+        notdefs.two,
+        notdefs.three,
+        notdefs.four,
+    ];
+    let table = |list| Table::build(alloc, list);
+    let [one, two, three, four, first, second, third, fourth] = lists.try_map(table)?;
+    let cids = ByLength {
+        one,
+        two,
+        three,
+        four,
+    };
+    let notdefs = ByLength {
+        one: first,
+        two: second,
+        three: third,
+        four: fourth,
+    };
+    Ok((cids, notdefs))
+}
+
+/// A copy of the declarations of each table.
+fn copied_lists(
+    alloc: Global,
+    tables: &ByLength<Table<CidRange>>,
+) -> Result<ByLength<Vec<CidRange>>, AllocError>
+    ensures { IfOk result (λ lists. lists_held lists ≡ tables.now) }
+{
+    let each = [&tables.one, &tables.two, &tables.three, &tables.four];
+    let copied = |table| copied_cids(alloc, table);
+    let [one, two, three, four] = each.try_map(copied)?;
+    Ok(ByLength {
+        one,
+        two,
+        three,
+        four,
+    })
+}
+
+/// A copy of the declarations of a table.
+fn copied_cids(alloc: Global, table: &Table<CidRange>) -> Result<Vec<CidRange>, AllocError>
+    ensures { IfOk result (λ list. list.items ≡ table.now) }
+{
+    let mut looks = Looks::new();
+    let mut list = Vec::with_capacity(alloc, table.decl_count())?;
+    for place in 0..table.decl_count() {
+        list.push(table.decl(place, &mut looks).clone())?;
+    }
+    Ok(list)
+}
+
+/// A copy of the declarations of a table.
+fn copied_bfs(alloc: Global, table: &Table<BfRange>) -> Result<Vec<BfRange>, AllocError>
+    ensures { IfOk result (λ list. map bf_entry_seen list.items ≡ map bf_entry_seen table.now) }
+{
+    let mut looks = Looks::new();
+    let mut list = Vec::with_capacity(alloc, table.decl_count())?;
+    for place in 0..table.decl_count() {
+        list.push(table.decl(place, &mut looks).clone(alloc)?)?;
+    }
+    Ok(list)
+}

@@ -1,0 +1,8 @@
+//! What the layers of a map are, and what they answer: each is what one CMap file says, and the
+//! layers of the files that it is based on come after it.
+#![tactic(auto)]
+
+pub mod codespaces;
+pub mod layers;
+pub mod lookup;
+pub mod string_codes;

@@ -1,0 +1,135 @@
+//! What a code stands for: the first layer that decides, from the top one on.
+
+ghost use Rattle.std.specs.Prelude.{◌≡◌, ◌*◌, ◌<◌, ◌≤◌, length, map, option_and_then, option_map, is_some, IfOk, IfSome, IsSomeAnd, OnErr};
+ghost use Rattle.std.specs.Option.{option_copied};
+ghost use Rattle.cmap_runs.specs.SearchLooks.{LooksAtMost};
+ghost use Rattle.cmap_tokens.specs.Texts.{only_character, text_of};
+ghost use Rattle.cmap_tokens.specs.TextSeen.{text_seen};
+ghost use Rattle.cmap_files.specs.CodeLengths.{IsCodeLength, length_of};
+ghost use Rattle.cmap_files.specs.DeclarationsSeen.{bf_entry_seen, cid_entry_seen};
+ghost use Rattle.cmap_files.specs.Files.{of_length};
+ghost use Rattle.cmap_layers.specs.LayersSeen.{by_length_seen, layer_seen, layers_seen};
+ghost use Rattle.cmap_layers.specs.Lookups.{bf_at, bf_of, bf_span, cid_of, cid_span, last_bf, last_cid};
+ghost use Rattle.cmap_layers.specs.LayersDecide.{deciding_bf, layer_cid};
+ghost use Rattle.cmap_layers.specs.Searches.{bf_looks, cid_looks, finds_text, layer_looks, search_looks};
+
+use crate::layers::Layer;
+use cmap_files::code_length::CodeLength;
+use cmap_files::declarations::{BfRange, ByLength, CidRange};
+use cmap_files::names::Cid;
+use cmap_runs::runs::{Looks, Table};
+use cmap_tokens::utf16::{BfString, one_char, text};
+use std::alloc::{AllocError, Global};
+
+/// The CID of a code of `byte_len` bytes, big-endian; what is looked at is counted.
+///
+/// It is `None` where no layer decides, for a `byte_len` outside 1 to 4, and where the CID that is
+/// declared passes 32 bits. Codespace ranges aren't looked at. Adobe Technical Note 5014.
+pub fn cid_of(layers: &[Layer], code: u32, byte_len: u8, looks: &mut Looks) -> Option<Cid>
+    ensures value { result ≡ cid_of (layers_seen layers.now) code byte_len }
+    ensures looks { LooksAtMost looks.old looks.new (cid_looks (layers_seen layers.now) byte_len)
+        (3 * length layers.now) (is_some result) }
+    ensures outside { (IsCodeLength byte_len → ⊥) → looks.new ≡ looks.old }
+{
+    let len = CodeLength::of(byte_len)?;
+    for layer in layers {
+        if let Some(decided) = decided_by(layer, code, len, looks) {
+            return decided;
+        }
+    }
+    None
+}
+
+/// The text of a code; what is looked at is counted.
+///
+/// It is `None` where no declaration contains the code, and where the one that decides gives no
+/// text. It fails only where there is no memory, and only a `String` takes some. ISO 32000-1, 9.10.3.
+pub fn bf_of(
+    alloc: Global,
+    layers: &[Layer],
+    code: u32,
+    looks: &mut Looks,
+) -> Result<Option<BfString>, AllocError>
+    ensures value { IfOk result (λ text. option_map text_seen text
+        ≡ option_map text_of (bf_of (layers_seen layers.now) code)) }
+    ensures err { OnErr result (IsSomeAnd (bf_of (layers_seen layers.now) code)
+        (λ characters. 1 < length characters)) }
+    ensures looks { LooksAtMost looks.old looks.new (bf_looks (layers_seen layers.now))
+        (length layers.now) (finds_text result) }
+{
+    let Some(found) = find_bf(layers, code, looks) else {
+        return Ok(None);
+    };
+    text(alloc, found.units.as_slice(), code - found.range.start)
+}
+
+/// The declaration that decides the text of a code.
+fn find_bf<'l>(layers: &'l [Layer], code: u32, looks: &mut Looks) -> Option<&'l BfRange>
+    ensures found { option_map bf_entry_seen (option_copied result)
+        ≡ deciding_bf (layers_seen layers.now) code }
+    ensures start { IfSome result (λ found. found.now.range.start ≤ code) }
+    ensures looks { LooksAtMost looks.old looks.new (bf_looks (layers_seen layers.now))
+        (length layers.now) (is_some result) }
+{
+    for layer in layers {
+        if let Some(found) = last_bf(&layer.bfs, code, looks) {
+            return Some(found);
+        }
+    }
+    None
+}
+
+/// The last declaration of a text that contains the code.
+fn last_bf<'t>(table: &'t Table<BfRange>, code: u32, looks: &mut Looks) -> Option<&'t BfRange>
+    ensures found { option_map bf_entry_seen (option_copied result)
+        ≡ last_bf (map bf_entry_seen table.now) code }
+    ensures start { IfSome result (λ found. found.now.range.start ≤ code) }
+    ensures looks { LooksAtMost looks.old looks.new
+        (search_looks (map bf_span (map bf_entry_seen table.now))) 1 (is_some result) }
+{
+    table.find(code, looks)
+}
+
+/// What a layer decides for a code, if it does: its CID, or that it has none.
+fn decided_by(layer: &Layer, code: u32, len: CodeLength, looks: &mut Looks) -> Option<Option<Cid>>
+    ensures value { result ≡ layer_cid (layer_seen layer.now) code (length_of len) }
+    ensures looks { LooksAtMost looks.old looks.new
+        (layer_looks (layer_seen layer.now) (length_of len)) 3 (is_some result) }
+{
+    if let Some(found) = find_cid(&layer.cids, code, len, looks) {
+        return Some(found.cid.checked_add(code - found.range.start));
+    }
+    if let Some(found) = find_cid(&layer.notdefs, code, len, looks) {
+        return Some(Some(found.cid));
+    }
+    let character = character_of(&layer.bfs, code, looks)?;
+    Some(Some(u32::from(character)))
+}
+
+/// The text of a code, where it is one character.
+fn character_of(table: &Table<BfRange>, code: u32, looks: &mut Looks) -> Option<char>
+    ensures value { result ≡ only_character (option_and_then
+        (λ entry. bf_at entry code) (last_bf (map bf_entry_seen table.now) code)) }
+    ensures looks { LooksAtMost looks.old looks.new
+        (search_looks (map bf_span (map bf_entry_seen table.now))) 1 (is_some result) }
+{
+    let found = last_bf(table, code, looks)?;
+    one_char(found.units.as_slice(), code - found.range.start)
+}
+
+/// The last declaration of CIDs for codes of this length that contains the code.
+fn find_cid<'t>(
+    tables: &'t ByLength<Table<CidRange>>,
+    code: u32,
+    len: CodeLength,
+    looks: &mut Looks,
+) -> Option<&'t CidRange>
+    ensures found { option_map cid_entry_seen (option_copied result)
+        ≡ last_cid (of_length (by_length_seen tables.now) (length_of len)) code }
+    ensures start { IfSome result (λ found. found.now.range.start ≤ code) }
+    ensures looks { LooksAtMost looks.old looks.new
+        (search_looks (map cid_span (of_length (by_length_seen tables.now) (length_of len)))) 1
+        (is_some result) }
+{
+    tables.get(len).find(code, looks)
+}

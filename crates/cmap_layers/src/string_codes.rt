@@ -1,0 +1,149 @@
+//! The code that a string begins with, by the codespace ranges of all layers.
+//! ISO 32000-1, 9.7.6.2 and 9.7.6.3.
+
+ghost use Rattle.std.specs.Prelude.{◌≡◌, ◌↔◌, ◌≤◌, ℕ, min, true, List, [], ◌++◌, length, map, IfSome, IsTrue, MatchOption};
+ghost use Rattle.cmap_files.specs.CodeLengths.{IsCodeLength};
+ghost use Rattle.cmap_files.specs.DeclarationsSeen.{codespace_seen};
+ghost use Rattle.cmap_files.specs.Files as files;
+ghost use Rattle.cmap_files.specs.Only.{IsOnly};
+ghost use Rattle.cmap_layers.specs.LayersSeen.{layers_seen};
+ghost use Rattle.cmap_layers.specs.PartialMatches.{IsBestOf, IsBetter, MatchesMost};
+ghost use Rattle.cmap_layers.specs.StringCodes.{BeginsInside, IsNextCode, Wants, front, ranges_of};
+
+use crate::codespaces::{byte_at, contains};
+use crate::layers::Layer;
+use cmap_bits::bits::Reader;
+use cmap_files::code_length::CodeLength;
+use cmap_files::declarations::Codespace;
+
+/// The code that a string begins with. ISO 32000-1, 9.7.6.2.
+#[derive(Clone, Copy, Debug, PartialEq, Eq)]
+pub struct StringCode {
+    /// The number that its bytes write, the first one high.
+    pub code: u32,
+    /// How many bytes it has, 1 to 4.
+    pub byte_len: u8,
+    /// Whether it lies in a codespace range.
+    pub in_codespace: bool,
+}
+
+/// The code that a string begins with; `None` where it is empty.
+///
+/// It is the shortest front of the string that lies in a codespace range of some layer. Where none
+/// does, the range decides that matches the longest front, each byte between its own; of several,
+/// the one with the shortest codes. As many bytes are taken as its codes have, or all where there
+/// are fewer; one where no layer has a range. ISO 32000-1, 9.7.6.2 and 9.7.6.3.
+pub fn next_code(layers: &[Layer], text: &[u8]) -> Option<StringCode>
+    ensures code { MatchOption result (text.now ≡ [])
+        (IsOnly (IsNextCode (layers_seen layers.now) text.now)) }
+    ensures length { IfSome result
+        (λ found. IsCodeLength found.byte_len × (found.byte_len ≤ length text.now)) }
+{
+    for byte_len in 1..5 {
+        if let Some(found) = code_inside(layers, text, byte_len) {
+            return Some(found);
+        }
+    }
+    let byte_len = bytes_outside(layers, text);
+    let code = Reader::new(text).read_n_bytes(byte_len)?;
+    Some(StringCode {
+        code,
+        byte_len,
+        in_codespace: false,
+    })
+}
+
+/// The first `byte_len` bytes of a string, where they are a code in a codespace range.
+fn code_inside(layers: &[Layer], text: &[u8], byte_len: u8) -> Option<StringCode>
+    ensures { MatchOption result (BeginsInside (layers_seen layers.now) text.now byte_len → ⊥)
+        (λ found. BeginsInside (layers_seen layers.now) text.now byte_len × (found
+        ≡ record { code = front text.now byte_len; byte_len = byte_len; in_codespace = true })) }
+{
+    let code = Reader::new(text).read_n_bytes(byte_len)?;
+    if contains(layers, code, byte_len) {
+        Some(StringCode {
+            code,
+            byte_len,
+            in_codespace: true,
+        })
+    } else {
+        None
+    }
+}
+
+/// How many bytes are taken of a string that begins with no code in a codespace range.
+fn bytes_outside(layers: &[Layer], text: &[u8]) -> u8
+    ensures { (wanted : ℕ) × Wants (ranges_of (layers_seen layers.now)) text.now wanted
+        × IsCodeLength wanted × (result ≡ min wanted (length text.now)) }
+{
+    let wanted = match best_match(layers, text) {
+        Some(best) => best.len.count(),
+        None => 1,
+    };
+    text.len().min(usize::from(wanted)) as u8
+}
+
+/// How a codespace range matches a string.
+#[derive(Clone, Copy)]
+struct PartialMatch {
+    /// How many bytes of the string it matches.
+    matched: u8,
+    /// How many bytes its codes have.
+    len: CodeLength,
+}
+
+impl PartialMatch {
+    /// Whether it matches more, or as much with shorter codes.
+    fn is_better(self, than: PartialMatch) -> bool
+        ensures { IsTrue result ↔ IsBetter self than }
+    {
+        than.matched < self.matched
+            || than.matched == self.matched && self.len.count() < than.len.count()
+    }
+}
+
+/// The best match of the codespace ranges of all layers.
+fn best_match(layers: &[Layer], text: &[u8]) -> Option<PartialMatch>
+    ensures { IsBestOf (ranges_of (layers_seen layers.now)) text.now result }
+{
+    let mut best = None;
+    for layer in layers {
+        best = best_of(&layer.spaces, text, best);
+    }
+    best
+}
+
+/// The best match of some ranges and of those before them, of which `first` is the best one.
+fn best_of(spaces: &[Codespace], text: &[u8], first: Option<PartialMatch>) -> Option<PartialMatch>
+    ensures { (before : List files.Codespace) → IsBestOf before text.now first
+        → IsBestOf (before ++ map codespace_seen spaces.now) text.now result }
+{
+    let mut best = first;
+    for space in spaces {
+        let next = PartialMatch {
+            matched: matched(space, text),
+            len: space.len,
+        };
+        best = match best {
+            Some(best) if !next.is_better(best) => Some(best),
+            _ => Some(next),
+        };
+    }
+    best
+}
+
+/// How many bytes of a string a range matches.
+fn matched(space: &Codespace, text: &[u8]) -> u8
+    ensures { MatchesMost (codespace_seen space.now) text.now result }
+{
+    let len = space.len.count();
+    let most = text.len().min(usize::from(len)) as u8;
+    for place in 0..most {
+        let byte = u32::from(text[usize::from(place)]);
+        let after = len - 1 - place;
+        if byte < byte_at(space.low, after) || byte_at(space.high, after) < byte {
+            return place;
+        }
+    }
+    most
+}

@@ -1,7 +1,0 @@
-use Rattle.std.proofs.Common.{drop}
-use Rattle.hayro_cmap.specs.LayersSeen.{layers_seen}
-use Rattle.hayro_cmap.proofs.LayersSearched.{IsBfSearched}
-use Rattle.hayro_cmap.proofs.lookup.find_bf.Given as goal
-
-abbrev pub invariant-loop-layer : goal.invariant-loop-layer
-invariant-loop-layer l = IsBfSearched (layers_seen l.layers) (layers_seen (drop l.layer-index l.layers)) l.code l.initial.looks l.looks

@@ -1,6 +1,0 @@
-use Rattle.cmap_files.specs.DeclarationsSeen.{codespace_seen}
-use Rattle.hayro_cmap.specs.StringCodes.{Matches}
-use Rattle.hayro_cmap.proofs.string_codes.matched.Given as goal
-
-abbrev pub invariant-loop-place : goal.invariant-loop-place
-invariant-loop-place l = Matches (codespace_seen l.space) l.text l.place

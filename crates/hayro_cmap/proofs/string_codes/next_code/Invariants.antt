@@ -1,7 +1,0 @@
-use Rattle.std.proofs.Common.{ℕ, ◌<◌}
-use Rattle.hayro_cmap.specs.LayersSeen.{layers_seen}
-use Rattle.hayro_cmap.specs.StringCodes.{BeginsInside}
-use Rattle.hayro_cmap.proofs.string_codes.next_code.Given as goal
-
-abbrev pub invariant-loop-byte_len : goal.invariant-loop-byte_len
-invariant-loop-byte_len l = (n : ℕ) → n < l.byte_len → BeginsInside (layers_seen l.layers) l.text n → ⊥
