@@ -2,7 +2,7 @@
 //! CMap file on the standard input.
 #![tactic(auto)]
 
-use cmap_answers::run;
+use cmap_programs::answers::run;
 use cmap_programs::output::report;
 use cmap_programs::words::words;
 use std::process::ExitCode;

@@ -1,6 +1,6 @@
 //! Runs of `cmap_query` over readers and writers that fail or are slow.
 
-use cmap_answers::run;
+use cmap_programs::answers::run;
 use cmap_programs::failure::Failure;
 use cmap_programs::output::report;
 use std::alloc::{AllocError, Global};

@@ -2,7 +2,7 @@
 
 use crate::escapes::unescaped;
 use crate::fault::Fault;
-use cmap_answers::run;
+use cmap_programs::answers::run;
 use std::alloc::{AllocError, Global};
 
 /// Adds how a run on these words and this input ends, and the lines that it writes.

@@ -1,15 +1,14 @@
 //! What the program `cmap_query` does, as a call: words are answered over a CMap file, perhaps one
 //! after a bundle.
-#![tactic(auto)]
 
 mod lines;
 
 use self::lines::lines_of;
-use cmap_programs::failure::Failure;
-use cmap_programs::input::{read_all, split_bundle};
-use cmap_programs::options::Options;
-use cmap_programs::output::{report, send};
-use cmap_programs::query::Request;
+use crate::failure::Failure;
+use crate::input::{read_all, split_bundle};
+use crate::options::Options;
+use crate::output::{report, send};
+use crate::query::Request;
 use hayro_cmap::CMap;
 use hayro_cmap::bcmap::Bundle;
 use std::alloc::Global;

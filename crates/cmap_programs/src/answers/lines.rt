@@ -1,6 +1,6 @@
 //! The lines that answer queries.
 
-use cmap_programs::query::{Asked, Query};
+use crate::query::{Asked, Query};
 use hayro_cmap::{BfString, CMap};
 use std::alloc::{AllocError, Global};
 
