@@ -3,7 +3,7 @@
 use crate::answer::{Answer, Digits, again, tell};
 use crate::cases::{BUNDLE, FILE};
 use hayro_cmap::CMapName;
-use hayro_cmap::bcmap::{Bundle, load_embedded};
+use hayro_cmap::bcmap::{Bundle, OwnedBundle, load_embedded};
 use std::alloc::{AllocError, Global};
 use std::{fmt, io};
 
@@ -54,6 +54,9 @@ pub(crate) fn tell_all(rt: &(impl Print + AllocGlobal)) -> io::Result<()> {
             tell_files(rt, &found)?;
         }
     }
+    for &(title, bytes, is_bundle) in BYTES {
+        tell_owned(rt, title, bytes, is_bundle)?;
+    }
     Ok(())
 }
 
@@ -67,6 +70,37 @@ fn tell_files(rt: &impl Print, found: &Answer<Parsed<'_>>) -> io::Result<()> {
             _ => Answer::NotMade,
         };
         tell(rt, "  load_embedded", title, &file)?;
+    }
+    Ok(())
+}
+
+fn tell_owned(
+    rt: &(impl Print + AllocGlobal),
+    title: &str,
+    bytes: &[u8],
+    is_bundle: bool,
+) -> io::Result<()> {
+    match again!(OwnedBundle::parse(rt.alloc(), bytes)) {
+        Answer::Given(Some(bundle)) => tell_owned_files(rt, title, &bundle),
+        Answer::Given(None) => tell(rt, "OwnedBundle::parse", title, &" refused"),
+        other => tell_not_owned(rt, title, other.words(), is_bundle),
+    }
+}
+
+fn tell_owned_files(rt: &impl Print, title: &str, bundle: &OwnedBundle) -> io::Result<()> {
+    tell(rt, "OwnedBundle::parse", title, &" accepted")?;
+    for &(title, name) in NAMES {
+        tell(rt, "  OwnedBundle::file", title, &File(bundle.file(name)))?;
+    }
+    Ok(())
+}
+
+fn tell_not_owned(rt: &impl Print, title: &str, words: &str, is_bundle: bool) -> io::Result<()> {
+    tell(rt, "OwnedBundle::parse", title, &words)?;
+    if is_bundle {
+        for &(title, _) in NAMES {
+            tell(rt, "  OwnedBundle::file", title, &" not made, no memory")?;
+        }
     }
     Ok(())
 }
