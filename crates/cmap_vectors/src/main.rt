@@ -5,6 +5,7 @@ mod destinations;
 mod escapes;
 mod fault;
 mod files;
+mod layers;
 mod maps;
 mod prefix_tables;
 mod program_runs;

@@ -2,14 +2,15 @@
 
 use crate::escapes::{hexadecimal, push_escaped};
 use crate::fault::Fault;
+use crate::layers::push_layer;
 use crate::ranges::code_of;
 use crate::tokens::push_number;
 use hayro_cmap::runs::Looks;
-use hayro_cmap::{BfString, CMap, CMapName, CidFamily, WritingMode};
+use hayro_cmap::{BfString, CMap, CMapName, CidFamily, Metadata, WritingMode};
 use std::alloc::{AllocError, Global};
 
 /// The words that ask something of a map.
-pub const QUESTIONS: [&str; 9] = [
+pub const QUESTIONS: [&str; 11] = [
     "cid",
     "strict",
     "codes",
@@ -19,6 +20,8 @@ pub const QUESTIONS: [&str; 9] = [
     "collection",
     "unicode",
     "ucs2",
+    "layers",
+    "declared",
 ];
 
 /// Adds what a word asks of a map, and sees that a copy of it answers the same.
@@ -54,11 +57,13 @@ fn push_answer_alone(
         "cid" | "strict" => push_cids(map, word, rest, line)?,
         "codes" => push_codes(alloc, map, rest, line)?,
         "bf" => push_text_of(alloc, map, rest, line)?,
-        "name" => push_name(map, line)?,
+        "name" => push_name(map.metadata(), line)?,
         "mode" => push_mode(map, line)?,
         "collection" => push_collection(map, line)?,
         "unicode" => push_predefined(family.and_then(|family| family.unicode_cmap()), line)?,
         "ucs2" => push_predefined(family.and_then(|family| family.ucs2_cmap()), line)?,
+        "layers" => write!(line, " {}", map.layers().len())?,
+        "declared" => push_layer(map, rest, line)?,
         _ => return Err(Fault::Wrong("an unknown word")),
     }
     Ok(())
@@ -156,8 +161,9 @@ fn push_character(character: char, line: &mut String) -> Result<(), AllocError> 
     write!(line, " U+{:04X}", u32::from(character))
 }
 
-fn push_name(map: &CMap, line: &mut String) -> Result<(), AllocError> {
-    let Some(name) = &map.metadata().name else {
+/// Adds the name that a file gives itself.
+pub fn push_name(metadata: &Metadata, line: &mut String) -> Result<(), AllocError> {
+    let Some(name) = &metadata.name else {
         return line.push_str(" none");
     };
     line.push_str(" /")?;
