@@ -11,6 +11,7 @@ use crate::bundle::Tables;
 use crate::pieces::take_sized;
 use cmap_bits::bits::Reader;
 use cmap_bits::prefix::PrefixTable;
+use cmap_files::fault::{Reason, Segment};
 use cmap_runs::runs::Range;
 
 /// Whether the entries of a segment are ranges, or single codes.
@@ -29,10 +30,17 @@ pub(crate) struct Columns<'b> {
     counts: Option<Reader<'b>>,
     /// The first code after the entry before.
     base: u64,
+    segment: Segment,
+    /// What is wrong where no entry comes next.
+    pub(crate) lack: Reason,
 }
 
-/// The columns that the text begins with.
-pub(crate) fn take_columns<'b>(text: &mut &'b [u8], shape: Shape) -> Option<Columns<'b>>
+/// The columns that the text begins with, of such a segment.
+pub(crate) fn take_columns<'b>(
+    text: &mut &'b [u8],
+    segment: Segment,
+    shape: Shape,
+) -> Option<Columns<'b>>
     ensures { Finds (ColumnsAt (shape_seen shape) text.old.now)
         (λ columns. (columns_seen columns, text.new.now)) result }
 {
@@ -42,6 +50,8 @@ pub(crate) fn take_columns<'b>(text: &mut &'b [u8], shape: Shape) -> Option<Colu
         deltas,
         counts,
         base: 0,
+        segment,
+        lack: Reason::Entry(segment),
     })
 }
 
@@ -66,7 +76,10 @@ impl Columns<'_> {
     {
         let delta = next_symbol(&tables.delta, &mut self.deltas)?;
         let width = next_width(&tables.count, &mut self.counts)?;
-        let range = range_after(self.base, delta, width)?;
+        let Some(range) = range_after(self.base, delta, width) else {
+            self.lack = Reason::CodeTooLarge(self.segment);
+            return None;
+        };
         self.base = u64::from(range.end) + 1;
         Some(range)
     }

@@ -18,7 +18,7 @@ use crate::columns::{Columns, Shape, take_columns};
 use crate::pieces::{take_byte, take_u16};
 use cmap_files::code_length::CodeLength;
 use cmap_files::declarations::{BfRange, CidRange};
-use cmap_files::fault::{Fault, Reason};
+use cmap_files::fault::{Fault, Reason, Segment};
 use cmap_files::file::File;
 use cmap_files::units::Units;
 use std::alloc::Global;
@@ -64,13 +64,13 @@ pub(crate) fn add_cids(
         (file_seen file.old) (file_seen file.new) result }
 {
     let Some(count) = take_u16(&mut payload) else {
-        return Err(Fault::Refused(Reason::Field));
+        return Err(Fault::Refused(Reason::Field(Segment::Cids)));
     };
     if count == 0 {
         return Ok(());
     }
-    let Some(columns) = take_columns(&mut payload, shape) else {
-        return Err(Fault::Refused(Reason::Field));
+    let Some(columns) = take_columns(&mut payload, Segment::Cids, shape) else {
+        return Err(Fault::Refused(Reason::Field(Segment::Cids)));
     };
     // A count that is too great gets no more room than there are bytes.
     file.lists
@@ -82,7 +82,7 @@ pub(crate) fn add_cids(
     };
     for index in 0..count {
         let Some(range) = left.next_entry(tables) else {
-            return Err(Fault::Refused(Reason::Entry));
+            return Err(Fault::Refused(left.columns.lack));
         };
         file.lists.add_cid(len, range)?;
     }
@@ -104,10 +104,10 @@ pub(crate) fn add_texts(
         (file_seen file.old) (file_seen file.new) result }
 {
     let Some(count) = take_u16(&mut payload) else {
-        return Err(Fault::Refused(Reason::Field));
+        return Err(Fault::Refused(Reason::Field(Segment::Texts)));
     };
-    let Some(mut columns) = take_columns(&mut payload, shape) else {
-        return Err(Fault::Refused(Reason::Field));
+    let Some(mut columns) = take_columns(&mut payload, Segment::Texts, shape) else {
+        return Err(Fault::Refused(Reason::Field(Segment::Texts)));
     };
     file.lists
         .bfs
@@ -115,7 +115,7 @@ pub(crate) fn add_texts(
     let mut buffer = Vec::new(alloc);
     for index in 0..count {
         let Some(range) = columns.next_range(tables) else {
-            return Err(Fault::Refused(Reason::Entry));
+            return Err(Fault::Refused(columns.lack));
         };
         let units = read_destination(alloc, &mut payload, fixed, &mut buffer)?;
         file.lists.add_bf(BfRange { range, units })?;
@@ -136,7 +136,7 @@ fn read_destination(
         Some(count) => read_units(alloc, text, count, buffer),
         None => {
             let Some(count) = take_byte(text) else {
-                return Err(Fault::Refused(Reason::Entry));
+                return Err(Fault::Refused(Reason::Entry(Segment::Texts)));
             };
             read_units(alloc, text, count, buffer)
         }
@@ -155,14 +155,14 @@ fn read_units(
 {
     if count == 1 {
         let Some(unit) = take_u16(text) else {
-            return Err(Fault::Refused(Reason::Entry));
+            return Err(Fault::Refused(Reason::Entry(Segment::Texts)));
         };
         return Ok(Units::One([unit]));
     }
     buffer.clear();
     for index in 0..count {
         let Some(unit) = take_u16(text) else {
-            return Err(Fault::Refused(Reason::Entry));
+            return Err(Fault::Refused(Reason::Entry(Segment::Texts)));
         };
         buffer.push(unit)?;
     }

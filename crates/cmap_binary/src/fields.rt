@@ -10,7 +10,7 @@ ghost use Rattle.cmap_files.specs.FilesSeen.{file_seen};
 use crate::pieces::{take_byte, take_code, take_terminated, take_u16};
 use cmap_files::code_length::CodeLength;
 use cmap_files::declarations::{CidRange, Codespace};
-use cmap_files::fault::{Fault, Reason};
+use cmap_files::fault::{Fault, Reason, Segment};
 use cmap_files::file::File;
 use cmap_files::metadata::{CharacterCollection, CidFamily};
 use cmap_runs::runs::Range;
@@ -24,10 +24,10 @@ pub(crate) fn add_notdefs(mut payload: &[u8], file: &mut File<'_>) -> Result<(),
         (file_seen file.old) (file_seen file.new) result }
 {
     let Some(width) = take_byte(&mut payload) else {
-        return Err(Fault::Refused(Reason::Field));
+        return Err(Fault::Refused(Reason::Field(Segment::Notdefs)));
     };
     let Some(count) = take_u16(&mut payload) else {
-        return Err(Fault::Refused(Reason::Field));
+        return Err(Fault::Refused(Reason::Field(Segment::Notdefs)));
     };
     if count == 0 {
         return Ok(());
@@ -37,7 +37,7 @@ pub(crate) fn add_notdefs(mut payload: &[u8], file: &mut File<'_>) -> Result<(),
     };
     for index in 0..count {
         let Some(range) = take_notdef(&mut payload, width) else {
-            return Err(Fault::Refused(Reason::Entry));
+            return Err(Fault::Refused(Reason::Entry(Segment::Notdefs)));
         };
         file.lists.add_notdef(len, range)?;
     }
@@ -64,11 +64,12 @@ pub(crate) fn add_codespaces(mut payload: &[u8], file: &mut File<'_>) -> Result<
         (file_seen file.old) (file_seen file.new) result }
 {
     let Some(count) = take_byte(&mut payload) else {
-        return Err(Fault::Refused(Reason::Field));
+        return Err(Fault::Refused(Reason::Field(Segment::Codespaces)));
     };
     for index in 0..count {
+        let width = payload.first().copied();
         let Some(space) = take_codespace(&mut payload) else {
-            return Err(Fault::Refused(Reason::Entry));
+            return Err(Fault::Refused(codespace_lack(width)));
         };
         file.lists.add_codespace(space)?;
     }
@@ -87,6 +88,14 @@ fn take_codespace(text: &mut &[u8]) -> Option<Codespace>
     Some(Codespace { len, low, high })
 }
 
+/// What is wrong with an entry of a codespace range that begins with this width and isn't read.
+fn codespace_lack(width: Option<u8>) -> Reason {
+    match width {
+        Some(width) if CodeLength::of(width).is_none() => Reason::CodeLength,
+        _ => Reason::Entry(Segment::Codespaces),
+    }
+}
+
 /// Sets the character collection by a segment with this payload: a registry and an ordering, each up
 /// to a zero byte, and the number of a supplement. Payload after it is ignored.
 pub(crate) fn set_collection(
@@ -98,13 +107,13 @@ pub(crate) fn set_collection(
         (file_seen file.old) (file_seen file.new) result }
 {
     let Some(registry) = take_terminated(&mut payload) else {
-        return Err(Fault::Refused(Reason::Field));
+        return Err(Fault::Refused(Reason::Field(Segment::Collection)));
     };
     let Some(ordering) = take_terminated(&mut payload) else {
-        return Err(Fault::Refused(Reason::Field));
+        return Err(Fault::Refused(Reason::Field(Segment::Collection)));
     };
     let Some(supplement) = take_u16(&mut payload) else {
-        return Err(Fault::Refused(Reason::Field));
+        return Err(Fault::Refused(Reason::Field(Segment::Collection)));
     };
     let family = CidFamily::from_registry_ordering(alloc, registry, ordering)?;
     file.metadata.character_collection = Some(CharacterCollection {

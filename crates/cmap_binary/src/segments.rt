@@ -11,7 +11,7 @@ use crate::entries::{add_cids, add_texts};
 use crate::fields::{add_codespaces, add_notdefs, set_collection};
 use crate::kinds::Kind;
 use crate::pieces::take_byte;
-use cmap_files::fault::{Fault, Reason};
+use cmap_files::fault::{Fault, Reason, Segment};
 use cmap_files::file::File;
 use cmap_files::metadata::WritingMode;
 use std::alloc::Global;
@@ -71,7 +71,7 @@ fn set_mode(mut payload: &[u8], file: &mut File<'_>) -> Result<(), Fault>
         (file_seen file.old) (file_seen file.new) result }
 {
     let Some(number) = take_byte(&mut payload) else {
-        return Err(Fault::Refused(Reason::Field));
+        return Err(Fault::Refused(Reason::Field(Segment::WritingMode)));
     };
     file.metadata.writing_mode = WritingMode::numbered(number);
     Ok(())

@@ -1,4 +1,3 @@
-pub mod Collections
 pub mod Handles
 pub mod Held
 pub mod NamedFiles

@@ -1,8 +1,7 @@
 //! What the file of a map says of itself, for C.
 
 ghost use Rattle.std.specs.Prelude.{◌≡◌, MatchOption, true, false};
-ghost use Rattle.cmap_files.specs.MetadataSeen.{family_seen};
-ghost use Rattle.cmap_c.specs.Collections.{registry_of, ordering_of};
+ghost use Rattle.cmap_files.specs.Names.{ordering_of, registry_of};
 ghost use Rattle.cmap_c.specs.Handles.{handle_collection, handle_name, handle_mode, mode_number};
 ghost use Rattle.cmap_c.specs.Rooms.{IsPut};
 ghost use Rattle.cmap_c.specs.Statuses.{number};
@@ -11,7 +10,7 @@ ghost use Rattle.cmap_c.specs.declared.status.Status.TheVariants.{Absent};
 use crate::handle::MapHandle;
 use crate::room::put_bytes;
 use crate::status::Status;
-use hayro_cmap::{CidFamily, WritingMode};
+use hayro_cmap::WritingMode;
 use std::alloc::Global;
 
 /// The name that the file gives.
@@ -55,7 +54,7 @@ pub extern "C" fn hayro_cmap_registry(
         return Status::Absent.number();
     };
     let status = match &found.value().metadata().character_collection {
-        Some(given) => put_bytes(registry_of(&given.family), room, needed),
+        Some(given) => put_bytes(given.family.registry(), room, needed),
         None => Status::Absent.number(),
     };
     map.put(found);
@@ -79,7 +78,7 @@ pub extern "C" fn hayro_cmap_ordering(
         return Status::Absent.number();
     };
     let status = match &found.value().metadata().character_collection {
-        Some(given) => put_bytes(ordering_of(&given.family), room, needed),
+        Some(given) => put_bytes(given.family.ordering(), room, needed),
         None => Status::Absent.number(),
     };
     map.put(found);
@@ -127,27 +126,5 @@ pub extern "C" fn hayro_cmap_writing_mode(map: &mut MapHandle, alloc: Global) ->
         Some(WritingMode::Horizontal) => 0,
         Some(WritingMode::Vertical) => 1,
         None => 2,
-    }
-}
-
-fn registry_of(family: &CidFamily) -> &[u8]
-    ensures { result.now ≡ registry_of (family_seen family.now) }
-{
-    match family {
-        CidFamily::Custom { registry, .. } => registry,
-        _ => b"Adobe",
-    }
-}
-
-fn ordering_of(family: &CidFamily) -> &[u8]
-    ensures { result.now ≡ ordering_of (family_seen family.now) }
-{
-    match family {
-        CidFamily::AdobeJapan1 => b"Japan1",
-        CidFamily::AdobeGB1 => b"GB1",
-        CidFamily::AdobeCNS1 => b"CNS1",
-        CidFamily::AdobeKorea1 => b"Korea1",
-        CidFamily::AdobeIdentity => b"Identity",
-        CidFamily::Custom { ordering, .. } => ordering,
     }
 }

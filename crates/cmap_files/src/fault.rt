@@ -31,15 +31,17 @@ pub enum Reason {
     SegmentLength,
     /// A binary file has a segment of an unknown type.
     SegmentType,
-    /// A field of a segment of a binary file is cut short.
-    Field,
-    /// An entry of a segment of a binary file is cut short, or its code or its CID passes 32 bits.
-    Entry,
+    /// A field of this segment of a binary file is cut short.
+    Field(Segment),
+    /// An entry of this segment of a binary file is cut short.
+    Entry(Segment),
+    /// The last code of an entry of this segment of a binary file passes 32 bits.
+    CodeTooLarge(Segment),
 }
 
 impl Display for Reason {
     fn fmt<W: Write>(&self, f: &mut Formatter<W>) -> fmt::Result {
-        f.write_str(match self {
+        let told = match self {
             Reason::MalformedToken => "no token stands here",
             Reason::EndWithinSection => "the file ends within a section",
             Reason::CodeExpected => "a code was expected",
@@ -52,8 +54,40 @@ impl Display for Reason {
             Reason::Header => "no whole binary file of version 1",
             Reason::SegmentLength => "a segment is cut short",
             Reason::SegmentType => "a segment of an unknown type",
-            Reason::Field => "a field of a segment is cut short",
-            Reason::Entry => "an entry of a segment is cut short or passes 32 bits",
+            Reason::Field(segment) => {
+                return write!(f, "a field of the segment of {segment} is cut short");
+            }
+            Reason::Entry(segment) => {
+                return write!(f, "an entry of the segment of {segment} is cut short");
+            }
+            Reason::CodeTooLarge(segment) => {
+                return write!(f, "a code of the segment of {segment} passes 32 bits");
+            }
+        };
+        f.write_str(told)
+    }
+}
+
+/// A segment of a binary file that can be cut short, by what it holds.
+#[derive(Clone, Copy, Debug, PartialEq, Eq)]
+pub enum Segment {
+    Cids,
+    Texts,
+    Notdefs,
+    WritingMode,
+    Codespaces,
+    Collection,
+}
+
+impl Display for Segment {
+    fn fmt<W: Write>(&self, f: &mut Formatter<W>) -> fmt::Result {
+        f.write_str(match self {
+            Segment::Cids => "CIDs",
+            Segment::Texts => "texts",
+            Segment::Notdefs => "notdef CIDs",
+            Segment::WritingMode => "the writing mode",
+            Segment::Codespaces => "codespace ranges",
+            Segment::Collection => "the character collection",
         })
     }
 }

@@ -4,7 +4,7 @@ ghost use Rattle.std.specs.Prelude.{◌≡◌, IfOk, IfSome, MatchOption, OnErr,
 ghost use Rattle.cmap_files.specs.CMapNames.{IsNameOf, name_bytes};
 ghost use Rattle.cmap_files.specs.Metadata.{mode_numbered};
 ghost use Rattle.cmap_files.specs.MetadataSeen.{family_seen, collection_seen, metadata_seen, mode_seen, HoldsTexts};
-ghost use Rattle.cmap_files.specs.Names.{IsCustom, custom, family_of, unicode_cmap_of, ucs2_cmap_of};
+ghost use Rattle.cmap_files.specs.Names.{IsCustom, custom, family_of, ordering_of, registry_of, unicode_cmap_of, ucs2_cmap_of};
 
 use crate::names::CMapName;
 use std::alloc::{AllocError, Global};
@@ -84,6 +84,30 @@ impl CidFamily {
             Some(CidFamily::AdobeIdentity)
         } else {
             None
+        }
+    }
+
+    /// The registry, the first part of the name of a character collection.
+    pub fn registry(&self) -> &[u8]
+        ensures { result.now ≡ registry_of (family_seen self.now) }
+    {
+        match self {
+            CidFamily::Custom { registry, .. } => registry,
+            _ => ADOBE,
+        }
+    }
+
+    /// The ordering, the part of the name after the registry.
+    pub fn ordering(&self) -> &[u8]
+        ensures { result.now ≡ ordering_of (family_seen self.now) }
+    {
+        match self {
+            CidFamily::AdobeJapan1 => JAPAN1,
+            CidFamily::AdobeGB1 => GB1,
+            CidFamily::AdobeCNS1 => CNS1,
+            CidFamily::AdobeKorea1 => KOREA1,
+            CidFamily::AdobeIdentity => IDENTITY,
+            CidFamily::Custom { ordering, .. } => ordering,
         }
     }
 

@@ -182,19 +182,18 @@ fn push_collection(map: &CMap, line: &mut String) -> Result<(), AllocError> {
     let Some(collection) = &map.metadata().character_collection else {
         return line.push_str(" none");
     };
-    match &collection.family {
-        CidFamily::AdobeJapan1 => line.push_str(" Adobe-Japan1")?,
-        CidFamily::AdobeGB1 => line.push_str(" Adobe-GB1")?,
-        CidFamily::AdobeCNS1 => line.push_str(" Adobe-CNS1")?,
-        CidFamily::AdobeKorea1 => line.push_str(" Adobe-Korea1")?,
-        CidFamily::AdobeIdentity => line.push_str(" Adobe-Identity")?,
-        CidFamily::Custom { registry, ordering } => {
-            line.push_str(" (")?;
-            push_escaped(registry, line)?;
-            line.push_str(") (")?;
-            push_escaped(ordering, line)?;
-            line.push(')')?;
-        }
+    let family = &collection.family;
+    if let CidFamily::Custom { .. } = family {
+        line.push_str(" (")?;
+        push_escaped(family.registry(), line)?;
+        line.push_str(") (")?;
+        push_escaped(family.ordering(), line)?;
+        line.push(')')?;
+    } else {
+        line.push(' ')?;
+        push_escaped(family.registry(), line)?;
+        line.push('-')?;
+        push_escaped(family.ordering(), line)?;
     }
     write!(line, " {}", collection.supplement)
 }
