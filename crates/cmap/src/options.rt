@@ -1,0 +1,41 @@
+//! What the words of a subcommand ask for.
+
+use clap::ArgMatches;
+
+/// What the words of a subcommand ask for.
+#[derive(Clone, Copy)]
+pub(crate) struct Options<'m, 'w> {
+    /// The files, and with `check` the folders.
+    pub(crate) paths: &'m [&'w str],
+    /// The strings of `decode`, and the words of `lookup`.
+    pub(crate) words: &'m [&'w str],
+    /// The folders of the files that others use.
+    pub(crate) bases: &'m [&'w str],
+    /// The file that is a bundle.
+    pub(crate) bundle: Option<&'w str>,
+    /// How many bytes the files that one file opens, itself too, may have together.
+    pub(crate) budget: Option<u64>,
+    /// One object of JSON a line.
+    pub(crate) json: bool,
+}
+
+impl<'m, 'w> Options<'m, 'w> {
+    pub(crate) fn of(matches: &'m ArgMatches<'w>) -> Options<'m, 'w> {
+        Options {
+            paths: given(matches.get_strs("FILE")),
+            words: given(matches.get_strs("WORD")),
+            bases: given(matches.get_strs("base")),
+            bundle: matches.get_str("bundle"),
+            budget: matches.get_one::<u64>("budget"),
+            json: matches.get_flag("json"),
+        }
+    }
+}
+
+/// The words, none where there are none.
+fn given<'m, T>(words: Option<&'m [T]>) -> &'m [T] {
+    match words {
+        Some(words) => words,
+        None => &[],
+    }
+}

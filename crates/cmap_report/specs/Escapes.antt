@@ -1,0 +1,30 @@
+-- Names as they are printed, and what a call adds to a text.
+use Rattle.std.specs.Prelude.{◌≡◌, ℕ, ◌+◌, ◌/◌, ◌%◌, ◌≤◌, ◌==◌, ◌&&◌, nat_lt, nat_le, if◌then◌else◌, List, [], ◌∷◌, ◌++◌, All}
+use Rattle.std.specs.List.{flat_map}
+
+-- a byte that a terminal prints as a character
+abbrev pub IsPrintable : ℕ → Type 0
+IsPrintable byte = (0x20 ≤ byte) × (byte ≤ 0x7E)
+
+-- what stood before still stands, and only such bytes come after it
+abbrev pub AddsPrintable : List ℕ → List ℕ → Type 0
+AddsPrintable old new = (added : List ℕ) × (new ≡ old ++ added) × All IsPrintable added
+
+-- the hexadecimal digit of a number below 16
+abbrev pub digit_of : ℕ → ℕ
+digit_of number = if nat_lt number 10 then 0x30 + number else 0x37 + number
+
+-- the two digits of a byte
+abbrev pub digits_of : ℕ → List ℕ
+digits_of byte = digit_of (byte / 16) ∷ digit_of (byte % 16) ∷ []
+
+-- a byte of a name: `\\`, itself, or `\xHH`
+abbrev pub byte_shown : ℕ → List ℕ
+byte_shown byte =
+    if byte == 0x5C then 0x5C ∷ 0x5C ∷ []
+    else if nat_le 0x20 byte && nat_le byte 0x7E then byte ∷ []
+    else 0x5C ∷ 0x78 ∷ digits_of byte
+
+-- a name, byte by byte
+abbrev pub name_shown : List ℕ → List ℕ
+name_shown name = flat_map byte_shown name
