@@ -1,0 +1,244 @@
+"""Cases of a program: files, command lines, and what has to come of them, as they are written in
+examples/command."""
+
+import os
+import re
+import subprocess
+import unicodedata
+from dataclasses import dataclass, field
+from pathlib import Path
+
+ESCAPE = re.compile(r"\\(?:x([0-9A-Fa-f]{2})|u\{([0-9A-Fa-f]{1,6})\}|([nrtf0\\]))")
+SHORT = {"n": b"\n", "r": b"\r", "t": b"\t", "f": b"\f", "0": b"\0", "\\": b"\\"}
+PLACE = re.compile(r"\{(at|byte|line)(?: ([^{}\"]+))?\}")
+LINE_END = re.compile(rb"\r\n|\r|\n")
+BINARY_HEAD = b"bcmap\x01"
+SECONDS = 120
+
+
+class Misspelled(Exception):
+    """A line of a file of cases that can't be read."""
+
+
+@dataclass
+class File:
+    """The bytes of a file, and the place in them that is marked."""
+
+    path: bytes
+    bytes: bytearray = field(default_factory=bytearray)
+    mark: int | None = None
+
+    def add(self, text):
+        """Adds a text with escapes; `\\@` marks the place where it stands."""
+        before, mark, after = text.partition("\\@")
+        self.bytes += unescape(before)
+        if mark:
+            self.mark = len(self.bytes)
+            self.bytes += unescape(after)
+
+    def add_segment(self, kind, digits):
+        """Adds a segment of a binary file, and keeps the length in the file's head right."""
+        payload = bytes.fromhex(digits)
+        self.bytes += bytes.fromhex(kind) + (5 + len(payload)).to_bytes(4, "big") + payload
+        self.bytes[6:10] = len(self.bytes).to_bytes(4, "big")
+
+    def place(self):
+        """The marked place, as the program says it."""
+        is_binary = self.bytes.startswith(BINARY_HEAD[:5])
+        return f"byte {self.mark}" if is_binary else f"byte {self.mark} (line {self.line()})"
+
+    def line(self):
+        """One more than the line ends before the marked place."""
+        return 1 + len(LINE_END.findall(bytes(self.bytes[: self.mark])))
+
+
+@dataclass
+class Case:
+    """A command line, and what has to come of it."""
+
+    number: int
+    words: list
+    input: bytes = b""
+    output: list = field(default_factory=list)
+    errors: list = field(default_factory=list)
+    status: int = 0
+
+
+def unescape(text):
+    """The bytes of a text with escapes."""
+    if "\\" in ESCAPE.sub("", text):
+        raise Misspelled(f"no escape that is known: {text}")
+    found, at = b"", 0
+    for match in ESCAPE.finditer(text):
+        found += text[at : match.start()].encode() + meaning(match)
+        at = match.end()
+    return found + text[at:].encode()
+
+
+def meaning(match):
+    """The bytes of an escape."""
+    byte, character, short = match.groups()
+    if byte:
+        return bytes.fromhex(byte)
+    if character:
+        return chr(int(character, 16)).encode()
+    return SHORT[short]
+
+
+class Reader:
+    """Reads the lines of a file of cases: what stands there in order are files and cases."""
+
+    def __init__(self, path):
+        self.path = path
+        self.steps = []
+        self.definitions = {}
+        self.open = None
+        self.marked = None
+        self.marks = {}
+
+    def read(self):
+        """All files and cases, in order."""
+        for number, line in enumerate(self.path.read_text().split("\n"), 1):
+            try:
+                self.read_line(number, line)
+            except (Misspelled, ValueError, KeyError, AttributeError) as fault:
+                raise Misspelled(f"{self.path.name}:{number}: can't be read: {fault}") from fault
+        return self.steps
+
+    def read_line(self, number, line):
+        word, _, rest = line.partition(" ")
+        if line.startswith("#"):
+            return
+        if not line:
+            self.open = None
+        elif word == "$":
+            self.open = Case(number, words_of(rest))
+            self.steps.append(self.open)
+        elif word in ("file", "let"):
+            self.begin_bytes(word, rest)
+        elif isinstance(self.open, Case):
+            self.read_expected(word, rest)
+        elif isinstance(self.open, File):
+            self.read_bytes(word, rest)
+        else:
+            raise Misspelled("a line of nothing")
+
+    def begin_bytes(self, word, name):
+        """A file, or a definition for later ones."""
+        self.open = File(unescape(name))
+        if word == "let":
+            self.definitions[name] = self.open
+        else:
+            self.steps.append(self.open)
+
+    def read_bytes(self, word, rest):
+        """A line that adds to the bytes of a file."""
+        file = self.open
+        if word == "|":
+            file.add(rest)
+            file.bytes += b"\n"
+        elif word == "+":
+            file.add(rest)
+        elif word == "hex":
+            file.bytes += bytes.fromhex(rest)
+        elif word == "times":
+            count, _, text = rest.partition(" ")
+            file.bytes += int(count) * unescape(text)
+        elif word == "use":
+            file.bytes += self.definitions[rest].bytes
+        elif word == "binary":
+            file.bytes += BINARY_HEAD + (10).to_bytes(4, "big")
+        elif word == "segment":
+            file.add_segment(*rest.partition(" ")[::2])
+        else:
+            raise Misspelled(f"no word of a file: {word}")
+        if file.mark is not None:
+            self.marked = self.marks[file.path] = file
+
+    def read_expected(self, word, rest):
+        """A line that says what goes into a case, or has to come of it."""
+        case = self.open
+        if word == "<":
+            case.input += unescape(rest) + b"\n"
+        elif word == "<+":
+            case.input += unescape(rest)
+        elif word == ">":
+            case.output.append(self.fill(rest))
+        elif word == "!":
+            case.errors.append(self.fill(rest))
+        elif word == "status":
+            case.status = int(rest)
+        else:
+            raise Misspelled(f"no word of a case: {word}")
+
+    def fill(self, line):
+        """A line with the places of marked files: of the last one, or of the one that is named."""
+        return PLACE.sub(lambda match: self.said(*match.groups()), line)
+
+    def said(self, what, path):
+        """What is said of the marked place of a file."""
+        file = self.marks[unescape(path)] if path else self.marked
+        if what == "at":
+            return file.place()
+        return str(file.mark if what == "byte" else file.line())
+
+
+def words_of(line):
+    """The words of a command line after the name of the program; `""` is the empty one."""
+    name, *words = line.split(" ")
+    if name != "cmap":
+        raise Misspelled("a command line begins with cmap")
+    return [b"" if word == '""' else unescape(word) for word in words if word]
+
+
+def write(folder, file):
+    """Writes a file below a folder; one whose path ends with a slash is a folder."""
+    path = os.path.join(os.fsencode(folder), file.path)
+    if path.endswith(b"/"):
+        os.makedirs(path, exist_ok=True)
+        return
+    os.makedirs(os.path.dirname(path), exist_ok=True)
+    Path(os.fsdecode(path)).write_bytes(file.bytes)
+
+
+def run(program, folder, words, given=b""):
+    """Runs the program in a folder."""
+    return subprocess.run(
+        [program, *words], cwd=folder, input=given, capture_output=True, timeout=SECONDS
+    )
+
+
+def text_of(lines):
+    """Lines as the program prints them."""
+    return "".join(line + "\n" for line in lines)
+
+
+def is_like(expected, found):
+    """Whether a text is as expected; `...` at the end of the last line stands for anything."""
+    if expected and expected[-1].endswith("..."):
+        return found.startswith(text_of(expected)[: -len("...\n")])
+    return text_of(expected) == found
+
+
+def harmful(output):
+    """The characters of an output that a terminal would obey, or that hide what stands there."""
+    text = set(output.decode(errors="backslashreplace")) - {"\n"}
+    return sorted(it for it in text if unicodedata.category(it) in ("Cc", "Cf", "Zl", "Zp", "Co"))
+
+
+def failures_of(program, folder, case):
+    """What is wrong with a run of a case."""
+    got = run(program, folder, case.words, case.input)
+    found = []
+    if got.returncode != case.status:
+        found.append(f"status {got.returncode}, expected {case.status}")
+    for name, output, expected in [
+        ("standard output", got.stdout, case.output),
+        ("standard error", got.stderr, case.errors),
+    ]:
+        text = output.decode(errors="backslashreplace")
+        if not is_like(expected, text):
+            found.append(f"{name}:\n{text}expected:\n{text_of(expected)}")
+        if harmful(output):
+            found.append(f"{name} has characters that do harm: {harmful(output)!a}")
+    return found
