@@ -7,9 +7,8 @@
 
 A row has the name of a CMap of the package poppler-data, a string in hexadecimal digits, and the text
 that pdftotext gives for it in a PDF whose font has that CMap as its encoding and no glyphs of its own.
-The program gives CIDs for the codes of the string, and the collection's own CMap, such as
-Adobe-Japan1-UCS2, gives the texts of these. It prints `N passed, M failed`, and its status is 1 where M
-isn't 0. pdftotext is in the package poppler-utils.
+It prints `N passed, M failed`, and its status is 1 where M isn't 0. pdftotext is in the package
+poppler-utils.
 """
 
 import argparse
@@ -96,20 +95,11 @@ def text_by_pdftotext(name, string):
     return run.stdout.rstrip("\n")
 
 
-def objects_of(words):
-    """The objects that the program prints."""
-    run = subprocess.run([*map(str, words)], capture_output=True, text=True, check=True)
-    return [json.loads(line) for line in run.stdout.splitlines()]
-
-
 def text_by_program(program, name, string):
-    """What the program gives for a string: the CIDs of its codes, and their texts in the collection."""
+    """The text that the program gives for a string. For a code without a text pdftotext gives nothing."""
     words = [program, "decode", "--json", "--base", RESOURCES, resource(name), string]
-    cids = [code["cid"] for code in objects_of(words)[0]["codes"]]
-    texts = resource(f"Adobe-{ordering(name)}-UCS2")
-    asked = [f"bf:{cid:X}" for cid in cids if cid is not None]
-    answers = objects_of([program, "lookup", "--json", "--base", RESOURCES, texts, *asked])
-    return "".join(answer["text"] or "\ufffd" for answer in answers)
+    run = subprocess.run([*map(str, words)], capture_output=True, text=True, check=True)
+    return json.loads(run.stdout)["text"].replace("\ufffd", "")
 
 
 def failures_of(text_of):

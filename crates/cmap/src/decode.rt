@@ -1,69 +1,90 @@
 //! `cmap decode`: what strings say.
 
-use crate::REFUSED;
-use crate::inputs::{library, map_of, read};
+use crate::inputs::{STANDARD_INPUT, map_asked, map_of, needed};
 use crate::options::Options;
-use anyhow::anyhow;
+use crate::told::fault;
+use crate::{ACCEPTED, REFUSED};
+use cmap_library::library::Library;
 use cmap_report::decode::{push_codes, push_json};
-use hayro_cmap::{Bundle, CMap};
-use std::alloc::Global;
+use hayro_cmap::{CMap, Source};
 
 /// Prints the codes of each string, and gives the status.
 pub(crate) fn decode(
     rt: &HostRuntime,
     options: &Options<'_, '_>,
-    bundle: Option<&Bundle<'_>>,
+    library: &Library<'_>,
 ) -> anyhow::Result<u8> {
-    let [path] = options.paths else {
-        return Err(anyhow!("one file is wanted"));
-    };
     let strings = strings_of(rt, options.words)?;
-    let library = library(rt, options.bases, bundle)?;
-    let Some(map) = map_of(rt, path, options.budget, &library)? else {
+    let Some(map) = map_asked(rt, options, library)? else {
         return Ok(REFUSED);
     };
-    for (place, string) in strings.iter().enumerate() {
-        if place > 0 && !options.json {
-            println!(rt; "")?;
-        }
-        tell(rt, &map, string, options.json)?;
+    let Some(name) = texts_name(&map) else {
+        return decode_all(rt, &map, None, &strings, options.json);
+    };
+    let Some(bytes) = library.file(name.as_bytes()) else {
+        return decode_all(rt, &map, None, &strings, options.json);
+    };
+    match map_of(rt, name, bytes, options.budget, library)? {
+        Some(texts) => decode_all(rt, &map, Some(&texts), &strings, options.json),
+        None => Ok(REFUSED),
     }
-    Ok(0)
 }
 
-/// Prints the codes of a string.
-fn tell(rt: &HostRuntime, map: &CMap, string: &[u8], json: bool) -> anyhow::Result<()> {
-    let mut lines = String::new(rt.alloc());
-    if json {
-        push_json(rt.alloc(), &mut lines, map, string)?;
-    } else {
-        push_codes(rt.alloc(), &mut lines, map, string)?;
+/// The name of the CMap from the CIDs of a map's character collection to Unicode: of the first layer
+/// that has a collection. ISO 32000-1, 9.10.2.
+fn texts_name(map: &CMap) -> Option<&'static str> {
+    for layer in map.layers() {
+        if let Some(collection) = &layer.metadata().character_collection {
+            return str::from_utf8(collection.family.ucs2_cmap()?.to_bytes()).ok();
+        }
     }
-    print!(rt; "{lines}")?;
-    Ok(())
+    None
+}
+
+/// Prints the codes of each string, with texts of CIDs where there are some.
+fn decode_all(
+    rt: &HostRuntime,
+    map: &CMap,
+    texts: Option<&CMap>,
+    strings: &[Vec<u8>],
+    json: bool,
+) -> anyhow::Result<u8> {
+    for (place, string) in strings.iter().enumerate() {
+        if place > 0 && !json {
+            println!(rt; "")?;
+        }
+        let mut lines = String::new(rt.alloc());
+        if json {
+            push_json(rt.alloc(), &mut lines, map, texts, string)?;
+        } else {
+            push_codes(rt.alloc(), &mut lines, map, texts, string)?;
+        }
+        print!(rt; "{lines}")?;
+    }
+    Ok(ACCEPTED)
 }
 
 /// The strings that the words spell, and for `-` those of the standard input.
 fn strings_of(rt: &HostRuntime, words: &[&str]) -> anyhow::Result<Vec<Vec<u8>>> {
     let mut strings = Vec::new(rt.alloc());
     for word in words {
-        if *word == "-" {
-            let bytes = read(rt, word)?;
-            let text = str::from_utf8(&bytes).map_err(|_| anyhow!("-: no text"))?;
+        if *word == STANDARD_INPUT {
+            let bytes = needed(rt, word)?;
+            let text = str::from_utf8(&bytes).map_err(|_| fault(rt, word, "no text"))?;
             for spelled in text.split_whitespace() {
-                strings.push(string_of(rt.alloc(), spelled)?)?;
+                strings.push(string_of(rt, spelled)?)?;
             }
         } else {
-            strings.push(string_of(rt.alloc(), word)?)?;
+            strings.push(string_of(rt, word)?)?;
         }
     }
     Ok(strings)
 }
 
 /// The bytes that hexadecimal digits spell, two a byte.
-fn string_of(alloc: Global, word: &str) -> anyhow::Result<Vec<u8>> {
-    match hex::decode(alloc, word.as_bytes()) {
+fn string_of(rt: &HostRuntime, word: &str) -> anyhow::Result<Vec<u8>> {
+    match hex::decode(rt.alloc(), word.as_bytes()) {
         Ok(string) => Ok(string),
-        Err(_) => Err(anyhow!("{word}: no hexadecimal digits in pairs")),
+        Err(_) => Err(fault(rt, word, "no hexadecimal digits in pairs")),
     }
 }

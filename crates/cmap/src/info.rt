@@ -1,45 +1,48 @@
 //! `cmap info`: what files say.
 
-use crate::REFUSED;
-use crate::inputs::{library, map_of};
+use crate::inputs::{map_of, read, tell_unreadable};
 use crate::options::Options;
+use crate::{ACCEPTED, REFUSED};
 use cmap_library::library::Library;
+use cmap_library::uses::uses_by_layer;
 use cmap_report::info::{push_info, push_json};
-use hayro_cmap::Bundle;
 
 /// Prints what each file says, and gives the status.
 pub(crate) fn info(
     rt: &HostRuntime,
     options: &Options<'_, '_>,
-    bundle: Option<&Bundle<'_>>,
+    library: &Library<'_>,
 ) -> anyhow::Result<u8> {
-    let library = library(rt, options.bases, bundle)?;
-    let mut status = 0;
+    let mut status = ACCEPTED;
     for (place, path) in options.paths.iter().enumerate() {
         if place > 0 && !options.json {
             println!(rt; "")?;
         }
-        status = status.max(tell(rt, path, options, &library)?);
+        status = status.max(info_of(rt, path, options, library)?);
     }
     Ok(status)
 }
 
 /// Prints what a file says.
-fn tell(
+fn info_of(
     rt: &HostRuntime,
     path: &str,
     options: &Options<'_, '_>,
     library: &Library<'_>,
 ) -> anyhow::Result<u8> {
-    let Some(map) = map_of(rt, path, options.budget, library)? else {
+    let Some(bytes) = read(rt, path)? else {
+        return tell_unreadable(rt, path);
+    };
+    let Some(map) = map_of(rt, path, &bytes, options.budget, library)? else {
         return Ok(REFUSED);
     };
+    let uses = uses_by_layer(rt.alloc(), &bytes, library, map.layers().len())?;
     let mut lines = String::new(rt.alloc());
     if options.json {
-        push_json(rt.alloc(), &mut lines, path, &map)?;
+        push_json(rt.alloc(), &mut lines, path, &map, &uses)?;
     } else {
-        push_info(&mut lines, path, &map)?;
+        push_info(&mut lines, path, &map, &uses)?;
     }
     print!(rt; "{lines}")?;
-    Ok(0)
+    Ok(ACCEPTED)
 }

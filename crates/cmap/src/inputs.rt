@@ -1,6 +1,8 @@
 //! What is read: files, the files that others use, and a bundle.
 
-use anyhow::anyhow;
+use crate::FAILED;
+use crate::options::Options;
+use crate::told::{fault, tell};
 use cmap_library::folders::{files_in, name_of};
 use cmap_library::library::{Base, Library};
 use cmap_library::refused::push_refusal;
@@ -8,6 +10,9 @@ use cmap_report::escape::push_text;
 use hayro_cmap::{Bundle, CMap};
 use std::fs;
 use std::io::{self, ErrorKind, Read};
+
+/// The path that stands for the standard input.
+pub(crate) const STANDARD_INPUT: &str = "-";
 
 /// The files of the folders of bases, over a bundle.
 pub(crate) fn library<'b>(
@@ -17,53 +22,78 @@ pub(crate) fn library<'b>(
 ) -> anyhow::Result<Library<'b>> {
     let mut library = Library::new(rt.alloc(), bundle);
     for folder in bases {
-        for path in list(rt, folder)? {
+        let Some(paths) = readable(files_in(rt, folder))? else {
+            return Err(unreadable(rt, folder));
+        };
+        for path in &paths {
             let name = String::from_str(rt.alloc(), name_of(path.as_str()))?;
-            let bytes = read(rt, path.as_str())?;
+            let bytes = needed(rt, path.as_str())?;
             library.add(Base { name, bytes })?;
         }
     }
     Ok(library)
 }
 
-/// The paths of the files in a folder.
-pub(crate) fn list(rt: &HostRuntime, folder: &str) -> anyhow::Result<Vec<String>> {
-    files_in(rt, folder).map_err(|error| unreadable(folder, error))
+/// The bytes of a file that a run needs; `-` is the standard input.
+pub(crate) fn needed(rt: &HostRuntime, path: &str) -> anyhow::Result<Vec<u8>> {
+    read(rt, path)?.ok_or_else(|| unreadable(rt, path))
 }
 
-/// The bytes of a file; `-` is the standard input.
-pub(crate) fn read(rt: &HostRuntime, path: &str) -> anyhow::Result<Vec<u8>> {
-    if path == "-" {
+/// The bytes of a file; `-` is the standard input. `None` where it can't be read.
+pub(crate) fn read(rt: &HostRuntime, path: &str) -> anyhow::Result<Option<Vec<u8>>> {
+    if path == STANDARD_INPUT {
         let mut bytes = Vec::new(rt.alloc());
-        rt.stdin().read_to_end(&mut bytes)?;
-        return Ok(bytes);
+        let all = rt.stdin().read_to_end(&mut bytes);
+        return readable(all.map(|_count| bytes));
     }
-    fs::read(rt, path).map_err(|error| unreadable(path, error))
+    readable(fs::read(rt, path))
+}
+
+/// What is read; `None` where it can't be. Want of memory is an error.
+pub(crate) fn readable<T: Drop>(read: io::Result<T>) -> anyhow::Result<Option<T>> {
+    match read {
+        Ok(read) => Ok(Some(read)),
+        Err(error) if error.kind() == ErrorKind::OutOfMemory => Err(anyhow::Error::from(error)),
+        Err(_) => Ok(None),
+    }
 }
 
 /// The error of a path that can't be read.
-fn unreadable(path: &str, error: io::Error) -> anyhow::Error {
-    match error.kind() {
-        ErrorKind::OutOfMemory => anyhow::Error::from(error),
-        _ => anyhow!("{path}: can't be read"),
-    }
+fn unreadable(rt: &HostRuntime, path: &str) -> anyhow::Error {
+    fault(rt, path, "can't be read")
 }
 
-/// The map of a file; where it is refused, the standard error is told why.
+/// Tells that a path can't be read, and gives the status.
+pub(crate) fn tell_unreadable(rt: &HostRuntime, path: &str) -> anyhow::Result<u8> {
+    tell(rt, &unreadable(rt, path))?;
+    Ok(FAILED)
+}
+
+/// The map of the one file that is asked for; where it is refused, the standard error is told why.
+pub(crate) fn map_asked(
+    rt: &HostRuntime,
+    options: &Options<'_, '_>,
+    library: &Library<'_>,
+) -> anyhow::Result<Option<CMap>> {
+    let bytes = needed(rt, options.file)?;
+    map_of(rt, options.file, &bytes, options.budget, library)
+}
+
+/// The map of a file of these bytes; where it is refused, the standard error is told why.
 pub(crate) fn map_of(
     rt: &HostRuntime,
     path: &str,
+    bytes: &[u8],
     budget: Option<u64>,
     library: &Library<'_>,
 ) -> anyhow::Result<Option<CMap>> {
-    let bytes = read(rt, path)?;
-    match CMap::parse_explained(rt.alloc(), budget, &bytes, library.bundle(), library)? {
+    match CMap::parse_explained(rt.alloc(), budget, bytes, library.bundle(), library)? {
         Ok(map) => Ok(Some(map)),
         Err(refusal) => {
             let mut line = String::new(rt.alloc());
             push_text(&mut line, path)?;
             line.push_str(": ")?;
-            push_refusal(&mut line, &bytes, library, &refusal)?;
+            push_refusal(&mut line, bytes, library, &refusal)?;
             eprintln!(rt; "cmap: {line}")?;
             Ok(None)
         }

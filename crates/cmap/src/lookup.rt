@@ -1,25 +1,21 @@
 //! `cmap lookup`: the CIDs and the texts of single codes.
 
-use crate::REFUSED;
-use crate::inputs::{library, map_of};
+use crate::inputs::map_asked;
 use crate::options::Options;
-use anyhow::anyhow;
+use crate::told::fault;
+use crate::{ACCEPTED, REFUSED};
+use cmap_library::library::Library;
 use cmap_programs::query::Query;
 use cmap_report::lookup::{push_answer, push_json};
-use hayro_cmap::Bundle;
 
 /// Prints the answer of each word, and gives the status.
 pub(crate) fn lookup(
     rt: &HostRuntime,
     options: &Options<'_, '_>,
-    bundle: Option<&Bundle<'_>>,
+    library: &Library<'_>,
 ) -> anyhow::Result<u8> {
-    let [path] = options.paths else {
-        return Err(anyhow!("one file is wanted"));
-    };
     let queries = queries_of(rt, options.words)?;
-    let library = library(rt, options.bases, bundle)?;
-    let Some(map) = map_of(rt, path, options.budget, &library)? else {
+    let Some(map) = map_asked(rt, options, library)? else {
         return Ok(REFUSED);
     };
     let mut lines = String::new(rt.alloc());
@@ -31,7 +27,7 @@ pub(crate) fn lookup(
         }
     }
     print!(rt; "{lines}")?;
-    Ok(0)
+    Ok(ACCEPTED)
 }
 
 /// The queries that the words spell.
@@ -40,7 +36,7 @@ fn queries_of<'w>(rt: &HostRuntime, words: &[&'w str]) -> anyhow::Result<Vec<Que
     for word in words {
         match Query::parse(word) {
             Some(query) => queries.push(query)?,
-            None => return Err(anyhow!("{word}: neither L:HEX nor bf:HEX")),
+            None => return Err(fault(rt, word, "neither L:HEX nor bf:HEX")),
         }
     }
     Ok(queries)

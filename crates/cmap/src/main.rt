@@ -8,15 +8,21 @@ mod info;
 mod inputs;
 mod lookup;
 mod options;
+mod progress;
+mod told;
 
 use anyhow::anyhow;
 use clap::ArgMatches;
 use command_line::command;
 use hayro_cmap::Bundle;
-use inputs::read;
+use inputs::{library, needed};
 use options::Options;
 use std::env;
 use std::process::ExitCode;
+use told::{fault, tell, tell_usage};
+
+/// The status where all files are accepted.
+const ACCEPTED: u8 = 0;
 
 /// The status where a file is refused.
 const REFUSED: u8 = 1;
@@ -28,7 +34,7 @@ fn main(rt: HostRuntime) -> ExitCode {
     let status = match run(&rt) {
         Ok(status) => status,
         Err(error) => {
-            let _ = eprintln!(rt; "cmap: {error}");
+            let _ = tell(&rt, &error);
             FAILED
         }
     };
@@ -40,10 +46,7 @@ fn run(rt: &HostRuntime) -> anyhow::Result<u8> {
     let command = command(rt.alloc())?;
     match command.try_get_matches_from(words.as_slice()) {
         Ok(matches) => obey(rt, &matches),
-        Err(error) => {
-            error.print(rt)?;
-            Ok(error.exit_code() as u8)
-        }
+        Err(error) => tell_usage(rt, &error),
     }
 }
 
@@ -53,13 +56,16 @@ fn obey(rt: &HostRuntime, matches: &ArgMatches<'_>) -> anyhow::Result<u8> {
         return Ok(FAILED);
     };
     let options = Options::of(words);
+    if options.asks_twice_for_standard_input() {
+        return Err(anyhow!("the standard input is asked for twice"));
+    }
     let Some(path) = options.bundle else {
         return obey_over(rt, name, &options, None);
     };
-    let bytes = read(rt, path)?;
+    let bytes = needed(rt, path)?;
     match Bundle::parse(rt.alloc(), &bytes)? {
         Some(bundle) => obey_over(rt, name, &options, Some(&bundle)),
-        None => Err(anyhow!("{path}: no bundle")),
+        None => Err(fault(rt, path, "no bundle")),
     }
 }
 
@@ -70,10 +76,11 @@ fn obey_over(
     options: &Options<'_, '_>,
     bundle: Option<&Bundle<'_>>,
 ) -> anyhow::Result<u8> {
+    let library = library(rt, options.bases, bundle)?;
     match name {
-        "info" => info::info(rt, options, bundle),
-        "check" => check::check(rt, options, bundle),
-        "decode" => decode::decode(rt, options, bundle),
-        _ => lookup::lookup(rt, options, bundle),
+        "info" => info::info(rt, options, &library),
+        "check" => check::check(rt, options, &library),
+        "decode" => decode::decode(rt, options, &library),
+        _ => lookup::lookup(rt, options, &library),
     }
 }

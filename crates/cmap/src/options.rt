@@ -1,5 +1,6 @@
 //! What the words of a subcommand ask for.
 
+use crate::inputs::STANDARD_INPUT;
 use clap::ArgMatches;
 
 /// What the words of a subcommand ask for.
@@ -7,6 +8,8 @@ use clap::ArgMatches;
 pub(crate) struct Options<'m, 'w> {
     /// The files, and with `check` the folders.
     pub(crate) paths: &'m [&'w str],
+    /// The first of the files, which is the only one of `decode` and of `lookup`.
+    pub(crate) file: &'w str,
     /// The strings of `decode`, and the words of `lookup`.
     pub(crate) words: &'m [&'w str],
     /// The folders of the files that others use.
@@ -21,14 +24,27 @@ pub(crate) struct Options<'m, 'w> {
 
 impl<'m, 'w> Options<'m, 'w> {
     pub(crate) fn of(matches: &'m ArgMatches<'w>) -> Options<'m, 'w> {
+        let paths = given(matches.get_strs("FILE"));
         Options {
-            paths: given(matches.get_strs("FILE")),
+            paths,
+            file: paths.first().copied().unwrap_or(STANDARD_INPUT),
             words: given(matches.get_strs("WORD")),
             bases: given(matches.get_strs("base")),
             bundle: matches.get_str("bundle"),
             budget: matches.get_one::<u64>("budget"),
             json: matches.get_flag("json"),
         }
+    }
+
+    /// Whether several words ask for the standard input, which can be read once.
+    pub(crate) fn asks_twice_for_standard_input(&self) -> bool {
+        let mut count: u64 = 0;
+        for word in self.paths.iter().chain(self.words).chain(&self.bundle) {
+            if *word == STANDARD_INPUT {
+                count = count.saturating_add(1);
+            }
+        }
+        count > 1
     }
 }
 

@@ -1,5 +1,5 @@
 -- What calls that read answer: what holds of the answer, and what where they have none. Of a want of memory nothing is said.
-use Rattle.std.specs.Prelude.{ℕ, ◌≤◌, List, length, IfOk, IfErr, MatchOption, Option, Result}
+use Rattle.std.specs.Prelude.{ℕ, ◌+◌, ◌<◌, ◌≤◌, List, ◌++◌, length, take, IfOk, IfErr, MatchOption, Option, Result}
 use Rattle.cmap_files.specs.Only.{IsOnly, HoldsOfNone}
 use Rattle.cmap_files.specs.declared.fault.Fault.{Fault}
 use Rattle.cmap_files.specs.declared.fault.Fault.TheVariants as fault
@@ -40,3 +40,8 @@ StopsWithin len refuses file_fault.Memory = Unit {0}
 -- the answer is what the one value with the property says, as a clause sees it; it refuses only where no value has it, and stops within the bytes
 abbrev pub ReadsFile : {A B : Type 0} → (List ℕ → B → Type 0) → (A → B) → List ℕ → Result A FileFault → Type 0
 ReadsFile P seen bytes result = IfOk result (λ x. IsOnly (P bytes) (seen x)) × IfErr result (StopsWithin (length bytes) (HoldsOfNone (P bytes)))
+
+-- a file that is refused before its end: no bytes that begin as it does, up to this offset and with the byte there, have the property, whatever follows
+abbrev pub DecidedBy : {B : Type 0} → (List ℕ → B → Type 0) → List ℕ → FileFault → Type 0
+DecidedBy P bytes (file_fault.Refused stop) = stop.offset < length bytes → (more : List ℕ) → HoldsOfNone (P (take (1 + stop.offset) bytes ++ more))
+DecidedBy P bytes file_fault.Memory = Unit {0}

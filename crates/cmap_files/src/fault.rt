@@ -126,7 +126,9 @@ impl<T: Drop> From<AllocFailed<T>> for Fault {
 /// Where the reading of a file stopped, and why.
 #[derive(Clone, Copy, Debug, PartialEq, Eq)]
 pub struct Stop {
-    /// How many bytes of the file had been read.
+    /// Where in the file, in bytes. Of a text it is the end of the token that can't stand there; where
+    /// no token stands, the place of the byte that shows it; and where only the end of the file shows
+    /// it, its length. Of a binary file it is the start of the segment at fault.
     pub offset: usize,
     pub reason: Reason,
 }

@@ -6,3 +6,4 @@ pub mod folders;
 pub mod library;
 pub mod lines;
 pub mod refused;
+pub mod uses;

@@ -23,7 +23,7 @@ pub struct Library<'b> {
 }
 
 impl<'b> Library<'b> {
-    ghost use Rattle.std.specs.Prelude.{[], ◌∷◌, ◌++◌, OnOk};
+    ghost use Rattle.std.specs.Prelude.{[], ◌∷◌, ◌++◌, OnErr, OnOk};
 
     /// A library without files.
     pub fn new(alloc: Global, bundle: Option<&'b Bundle<'b>>) -> Self
@@ -38,7 +38,8 @@ impl<'b> Library<'b> {
     /// Adds a file, after those of the same name.
     pub fn add(&mut self, base: Base) -> Result<(), AllocError>
         ensures added { OnOk result (self.new.bases.items ≡ self.old.bases.items ++ base ∷ []) }
-        ensures same { self.new.bundle ≡ self.old.bundle }
+        ensures same { OnErr result (self.new.bases.items ≡ self.old.bases.items) }
+        ensures bundle { self.new.bundle ≡ self.old.bundle }
     {
         Ok(self.bases.push(base)?)
     }

@@ -1,12 +1,54 @@
-//! Why a file is refused, as a line that a person reads.
+//! Why a file is refused, as a line that a person reads or as an object of JSON.
 
 use crate::library::Library;
 use crate::lines::line_after;
-use cmap_report::escape::push_name;
-use cmap_report::json;
-use hayro_cmap::{Cause, Refusal, Source, Stop};
+use cmap_binary::is_marked_binary;
+use cmap_report::escape::{escaped_names, push_name};
+use cmap_report::json::push_value;
+use hayro_cmap::{Cause, Reason, Refusal, Source};
+use serde_json::json;
 use std::alloc::{AllocError, Global};
 use std::fmt::Write;
+
+/// Where reading stopped in the file at fault, and why.
+#[derive(Clone, Copy)]
+struct Place {
+    offset: usize,
+    /// The line; a binary file has none.
+    line: Option<usize>,
+    reason: Reason,
+}
+
+/// The place in the file at fault, which is that of these bytes or one that it uses; none where no
+/// file is outside the grammar.
+fn place_of(bytes: &[u8], library: &Library<'_>, refusal: &Refusal<'_>) -> Option<Place> {
+    let Cause::Malformed(stop) = refusal.cause else {
+        return None;
+    };
+    let last = refusal.names.last().copied();
+    let file = file_at_fault(bytes, library, last);
+    Some(Place {
+        offset: stop.offset,
+        line: line_of(file, stop.offset, library),
+        reason: stop.reason,
+    })
+}
+
+/// The bytes of the file at fault: the last one that is named, or the top file.
+fn file_at_fault<'f>(bytes: &'f [u8], library: &'f Library<'_>, last: Option<&[u8]>) -> &'f [u8] {
+    match last {
+        Some(name) => library.file(name).unwrap_or(b""),
+        None => bytes,
+    }
+}
+
+/// The line of a byte; none in a file that is read as binary.
+fn line_of(file: &[u8], offset: usize, library: &Library<'_>) -> Option<usize> {
+    if library.bundle().is_some() && is_marked_binary(file) {
+        return None;
+    }
+    Some(line_after(&file[..offset.min(file.len())]))
+}
 
 /// Adds why a file of these bytes is refused, which uses those of the library: the byte and the line
 /// at which reading stopped and what is wrong there, and the file at fault where it is another one.
@@ -17,46 +59,32 @@ pub fn push_refusal(
     refusal: &Refusal<'_>,
 ) -> Result<(), AllocError> {
     let last = refusal.names.last().copied();
-    match refusal.cause {
-        Cause::Malformed(stop) => push_stop(line, fault_bytes(bytes, library, last), stop)?,
-        Cause::NoFile => {
-            line.push_str("no file has the name /")?;
-            return push_name(line, last.unwrap_or(b""));
-        }
-        Cause::ChainLength | Cause::OverBudget => write!(line, "{}", refusal.cause)?,
+    if let Cause::NoFile = refusal.cause {
+        return push_named(line, "no file has the name /", last);
     }
-    match last {
-        Some(name) => {
-            line.push_str(", in /")?;
-            push_name(line, name)
-        }
-        None => Ok(()),
+    match place_of(bytes, library, refusal) {
+        Some(place) => push_place(line, place)?,
+        None => write!(line, "{}", refusal.cause)?,
     }
+    push_named(line, ", in /", last)
 }
 
-/// The bytes of the file at fault: the last one that is named, or the top file.
-fn fault_bytes<'f>(bytes: &'f [u8], library: &'f Library<'_>, last: Option<&[u8]>) -> &'f [u8] {
-    match last {
-        Some(name) => library.file(name).unwrap_or(b""),
-        None => bytes,
-    }
+/// Adds words and a name after them, nothing where there is no name.
+fn push_named(line: &mut String, words: &str, name: Option<&[u8]>) -> Result<(), AllocError> {
+    let Some(name) = name else {
+        return Ok(());
+    };
+    line.push_str(words)?;
+    push_name(line, name)
 }
 
-/// Adds where reading stopped and why. A binary file has no lines.
-fn push_stop(line: &mut String, bytes: &[u8], stop: Stop) -> Result<(), AllocError> {
-    write!(line, "byte {}", stop.offset)?;
-    if let Some(number) = line_of(bytes, stop) {
+/// Adds a place as `byte 42 (line 3): a CID was expected`.
+fn push_place(line: &mut String, place: Place) -> Result<(), AllocError> {
+    write!(line, "byte {}", place.offset)?;
+    if let Some(number) = place.line {
         write!(line, " (line {number})")?;
     }
-    write!(line, ": {}", stop.reason)
-}
-
-/// The line in which reading stopped; none in a binary file.
-fn line_of(bytes: &[u8], stop: Stop) -> Option<usize> {
-    if bytes.starts_with(b"bcmap") {
-        return None;
-    }
-    Some(line_after(&bytes[..stop.offset.min(bytes.len())]))
+    write!(line, ": {}", place.reason)
 }
 
 /// Adds the object of a refused file, without an end of the line.
@@ -68,47 +96,18 @@ pub fn push_refusal_json(
     library: &Library<'_>,
     refusal: &Refusal<'_>,
 ) -> Result<(), AllocError> {
-    let last = refusal.names.last().copied();
-    let stop = match refusal.cause {
-        Cause::Malformed(stop) => Some(stop),
-        Cause::NoFile | Cause::ChainLength | Cause::OverBudget => None,
+    let place = place_of(bytes, library, refusal);
+    let reason = match place {
+        Some(place) => format!(in alloc; "{}", place.reason)?,
+        None => format!(in alloc; "{}", refusal.cause)?,
     };
-    line.push_str("{\"byte\":")?;
-    match stop {
-        Some(stop) => push_number(line, Some(stop.offset))?,
-        None => push_number(line, None)?,
-    }
-    line.push_str(",\"file\":")?;
-    json::push_string(line, path)?;
-    push_names(alloc, line, &refusal.names)?;
-    line.push_str(",\"line\":")?;
-    match stop {
-        Some(stop) => push_number(line, line_of(fault_bytes(bytes, library, last), stop))?,
-        None => push_number(line, None)?,
-    }
-    line.push_str(",\"ok\":false,\"reason\":\"")?;
-    match stop {
-        Some(stop) => write!(line, "{}", stop.reason)?,
-        None => write!(line, "{}", refusal.cause)?,
-    }
-    line.push_str("\"}")
-}
-
-/// Adds the names that lead to the file at fault.
-fn push_names(alloc: Global, line: &mut String, names: &[&[u8]]) -> Result<(), AllocError> {
-    line.push_str(",\"in\":[")?;
-    for (place, name) in names.iter().enumerate() {
-        if place > 0 {
-            line.push(',')?;
-        }
-        json::push_name(alloc, line, name)?;
-    }
-    line.push(']')
-}
-
-fn push_number(line: &mut String, number: Option<usize>) -> Result<(), AllocError> {
-    match number {
-        Some(number) => write!(line, "{number}"),
-        None => line.push_str("null"),
-    }
+    let object = json!(in alloc; {
+        "byte": place.map(|place| place.offset),
+        "file": path,
+        "in": escaped_names(alloc, &refusal.names)?,
+        "line": place.and_then(|place| place.line),
+        "ok": false,
+        "reason": reason
+    })?;
+    push_value(alloc, line, &object)
 }

@@ -13,6 +13,7 @@ mod prefix_tables;
 mod ranges;
 mod texts;
 mod tokens;
+mod uses;
 
 use std::io;
 use std::process::ExitCode;
@@ -31,5 +32,6 @@ fn tell_all(rt: &(impl Print + AllocGlobal)) -> io::Result<()> {
     bundles::tell_all(rt)?;
     ranges::tell_all(rt)?;
     names::tell_all(rt)?;
+    uses::tell_all(rt)?;
     maps::tell_all(rt)
 }

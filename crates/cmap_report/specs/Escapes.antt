@@ -1,5 +1,6 @@
--- Names as they are printed, and what a call adds to a text.
-use Rattle.std.specs.Prelude.{◌≡◌, ℕ, ◌+◌, ◌/◌, ◌%◌, ◌≤◌, ◌==◌, ◌&&◌, nat_lt, nat_le, if◌then◌else◌, List, [], ◌∷◌, ◌++◌, All}
+-- Names and codes as they are printed, and what a call adds to a text.
+use Rattle.std.specs.Prelude.{◌≡◌, ◌⊎◌, ℕ, ◌+◌, ◌-◌, ◌/◌, ◌%◌, ◌≤◌, ◌==◌, ◌&&◌, nat_lt, nat_le, if◌then◌else◌, List, [], ◌∷◌, ◌++◌, drop, All}
+use Rattle.std.specs.Int.{w32, to_be_bytes}
 use Rattle.std.specs.List.{flat_map}
 
 -- a byte that a terminal prints as a character
@@ -10,6 +11,14 @@ IsPrintable byte = (0x20 ≤ byte) × (byte ≤ 0x7E)
 abbrev pub AddsPrintable : List ℕ → List ℕ → Type 0
 AddsPrintable old new = (added : List ℕ) × (new ≡ old ++ added) × All IsPrintable added
 
+-- what stood before still stands, and one line of such bytes comes after it
+abbrev pub AddsLine : List ℕ → List ℕ → Type 0
+AddsLine old new = (line : List ℕ) × (new ≡ old ++ (line ++ 0x0A ∷ [])) × All IsPrintable line
+
+-- the line, or a front of it
+abbrev pub AddsOfLine : List ℕ → List ℕ → Type 0
+AddsOfLine old new = AddsPrintable old new ⊎ AddsLine old new
+
 -- the hexadecimal digit of a number below 16
 abbrev pub digit_of : ℕ → ℕ
 digit_of number = if nat_lt number 10 then 0x30 + number else 0x37 + number
@@ -17,6 +26,14 @@ digit_of number = if nat_lt number 10 then 0x30 + number else 0x37 + number
 -- the two digits of a byte
 abbrev pub digits_of : ℕ → List ℕ
 digits_of byte = digit_of (byte / 16) ∷ digit_of (byte % 16) ∷ []
+
+-- the digits of bytes
+abbrev pub bytes_shown : List ℕ → List ℕ
+bytes_shown bytes = flat_map digits_of bytes
+
+-- the digits of a code, two for each of its bytes, of which there are one to four
+abbrev pub code_shown : ℕ → ℕ → List ℕ
+code_shown byte_len code = bytes_shown (drop (4 - byte_len) (to_be_bytes w32 code))
 
 -- a byte of a name: `\\`, itself, or `\xHH`
 abbrev pub byte_shown : ℕ → List ℕ

@@ -1,3 +1,4 @@
 pub mod Codes
 pub mod Escapes
+pub mod Json
 pub mod Shown

@@ -1,11 +1,15 @@
 //! The codes of a string, with their CIDs and their texts.
 
+ghost use Rattle.std.specs.Prelude.{OnOk, string_bytes};
+ghost use Rattle.cmap_report.specs.Escapes.{AddsLine, AddsOfLine};
+
 mod codes;
 
 use self::codes::{Place, codes_of, place_of};
-use crate::digits::{push_bytes, push_code};
+use crate::digits::{byte_digits, code_digits, push_code};
 use crate::{escape, json};
 use hayro_cmap::{BfString, CMap, StringCode};
+use serde_json::{Value, json};
 use std::alloc::{AllocError, Global};
 
 /// What stands in the row of texts for a code without a text.
@@ -28,14 +32,17 @@ struct DecodedCode {
     text: Option<String>,
 }
 
-/// Adds a line for each code of a string, and one for its text.
+/// Adds a line for each code of a string, and one for its text. A code without a text of its own has
+/// the one of its CID in `texts`, the CMap from the CIDs of the map's collection to Unicode. ISO
+/// 32000-1, 9.10.2.
 pub fn push_codes(
     alloc: Global,
     out: &mut String,
     map: &CMap,
+    texts: Option<&CMap>,
     string: &[u8],
 ) -> Result<(), AllocError> {
-    let decoded = decode(alloc, map, string)?;
+    let decoded = decode(alloc, map, texts, string)?;
     for code in &decoded.codes {
         push_code_line(out, code)?;
     }
@@ -44,44 +51,78 @@ pub fn push_codes(
     out.push('\n')
 }
 
-/// Adds the object of a string, and ends the line.
+/// Adds the object of a string, and ends the line. Texts are as `push_codes` has them.
 pub fn push_json(
     alloc: Global,
     out: &mut String,
     map: &CMap,
+    texts: Option<&CMap>,
     string: &[u8],
-) -> Result<(), AllocError> {
-    let decoded = decode(alloc, map, string)?;
-    out.push_str("{\"codes\":[")?;
-    for (index, code) in decoded.codes.iter().enumerate() {
-        if index > 0 {
-            out.push(',')?;
-        }
-        push_code_object(out, code)?;
-    }
-    out.push_str("],\"string\":\"")?;
-    push_bytes(out, string)?;
-    out.push_str("\",\"text\":")?;
-    json::push_string(out, decoded.text.as_str())?;
-    out.push_str("}\n")
+) -> Result<(), AllocError>
+    ensures line { OnOk result (AddsLine (string_bytes out.old) (string_bytes out.new)) }
+
+    // Also where there is no memory.
+    ensures printable { AddsOfLine (string_bytes out.old) (string_bytes out.new) }
+{
+    let object = string_object(alloc, map, texts, string)?;
+    json::push_line(alloc, out, &object)
 }
 
-fn decode(alloc: Global, map: &CMap, string: &[u8]) -> Result<Decoded, AllocError> {
+fn string_object(
+    alloc: Global,
+    map: &CMap,
+    texts: Option<&CMap>,
+    string: &[u8],
+) -> Result<Value, AllocError> {
+    let Decoded { codes, text } = decode(alloc, map, texts, string)?;
+    let mut objects = Vec::with_capacity(alloc, codes.len())?;
+    for code in codes {
+        objects.push(code_object(alloc, code)?)?;
+    }
+    let digits = byte_digits(alloc, string)?;
+    json!(in alloc; {"codes": objects, "string": digits, "text": text})
+}
+
+fn decode(
+    alloc: Global,
+    map: &CMap,
+    texts: Option<&CMap>,
+    string: &[u8],
+) -> Result<Decoded, AllocError> {
     let found = codes_of(alloc, map, string)?;
     let mut codes = Vec::with_capacity(alloc, found.len())?;
     let mut row = String::new(alloc);
     for (index, code) in found.iter().enumerate() {
         let is_last = index.saturating_add(1) == found.len();
-        let text = text_of(alloc, map, code.code)?;
+        let cid = map.lookup_cid_code(code.code, code.byte_len);
+        let text = match text_of(alloc, map, code.code)? {
+            Some(text) => Some(text),
+            None => text_of_cid(alloc, texts, cid)?,
+        };
         push_in_row(&mut row, &text)?;
         codes.push(DecodedCode {
             code: *code,
             place: place_of(map, *code, is_last),
-            cid: map.lookup_cid_code(code.code, code.byte_len),
+            cid,
             text,
         })?;
     }
     Ok(Decoded { codes, text: row })
+}
+
+/// The text of a CID, where there are one and a CMap of the texts of CIDs.
+fn text_of_cid(
+    alloc: Global,
+    texts: Option<&CMap>,
+    cid: Option<u32>,
+) -> Result<Option<String>, AllocError> {
+    let Some(texts) = texts else {
+        return Ok(None);
+    };
+    match cid {
+        Some(cid) => text_of(alloc, texts, cid),
+        None => Ok(None),
+    }
 }
 
 /// The text of a code.
@@ -111,15 +152,20 @@ fn push_code_line(out: &mut String, decoded: &DecodedCode) -> Result<(), AllocEr
         Some(cid) => write!(out, "{cid:>12}  ")?,
         None => write!(out, "{:>12}  ", "-")?,
     }
-    match &decoded.text {
-        Some(text) => escape::push_quoted(out, text.as_str())?,
-        None => out.push('-')?,
-    }
+    push_text_or_dash(out, &decoded.text)?;
     out.push_str(match decoded.place {
         Place::Inside => "\n",
         Place::Outside => "  in no codespace range\n",
         Place::CutShort => "  cut short\n",
     })
+}
+
+/// Adds a text between quotation marks, or `-` where there is none.
+pub(crate) fn push_text_or_dash(out: &mut String, text: &Option<String>) -> Result<(), AllocError> {
+    match text {
+        Some(text) => escape::push_quoted(out, text.as_str()),
+        None => out.push('-'),
+    }
 }
 
 fn push_code_column(out: &mut String, code: StringCode) -> Result<(), AllocError> {
@@ -133,16 +179,18 @@ fn push_code_column(out: &mut String, code: StringCode) -> Result<(), AllocError
     })
 }
 
-fn push_code_object(out: &mut String, decoded: &DecodedCode) -> Result<(), AllocError> {
-    out.push_str("{\"cid\":")?;
-    json::push_cid(out, decoded.cid)?;
-    out.push_str(",\"code\":\"")?;
-    push_code(out, decoded.code.byte_len, decoded.code.code)?;
-    out.push_str(match decoded.place {
-        Place::Inside => "\",\"range\":\"inside\",\"text\":",
-        Place::Outside => "\",\"range\":\"outside\",\"text\":",
-        Place::CutShort => "\",\"range\":\"cut short\",\"text\":",
-    })?;
-    json::push_optional(out, &decoded.text)?;
-    out.push('}')
+fn code_object(alloc: Global, decoded: DecodedCode) -> Result<Value, AllocError> {
+    let DecodedCode {
+        code,
+        place,
+        cid,
+        text,
+    } = decoded;
+    let digits = code_digits(alloc, code.byte_len, code.code)?;
+    let range = match place {
+        Place::Inside => "inside",
+        Place::Outside => "outside",
+        Place::CutShort => "cut short",
+    };
+    json!(in alloc; {"cid": cid, "code": digits, "range": range, "text": text})
 }

@@ -1,10 +1,14 @@
 //! What a map's files say of themselves, layer by layer.
 
-use crate::digits::push_code;
+ghost use Rattle.std.specs.Prelude.{OnOk, string_bytes};
+ghost use Rattle.cmap_report.specs.Escapes.{AddsLine, AddsOfLine};
+
+use crate::digits::{code_digits, push_code};
 use crate::{escape, json};
 use hayro_cmap::{
     ByLength, CMap, CharacterCollection, CodeLength, Codespace, Layer, Metadata, WritingMode,
 };
+use serde_json::{Value, json};
 use std::alloc::{AllocError, Global};
 
 /// The lengths that codes have.
@@ -15,13 +19,29 @@ const LENGTHS: [CodeLength; 4] = [
     CodeLength::Four,
 ];
 
-/// Adds the paragraph of a file: what it says, and what those say that it is based on.
-pub fn push_info(out: &mut String, file: &str, map: &CMap) -> Result<(), AllocError> {
+/// Adds the paragraph of a file: what it says, and what those say that it is based on. `uses` has the
+/// names that the file of each layer uses.
+pub fn push_info(
+    out: &mut String,
+    file: &str,
+    map: &CMap,
+    uses: &[Vec<&[u8]>],
+) -> Result<(), AllocError> {
     for (place, layer) in map.layers().iter().enumerate() {
         push_heading(out, file, place)?;
-        push_layer(out, layer)?;
+        push_metadata(out, layer.metadata())?;
+        push_uses(out, names_at(uses, place))?;
+        push_declarations(out, layer)?;
     }
     Ok(())
+}
+
+/// The names that the file of a layer uses.
+fn names_at<T>(uses: &[Vec<T>], place: usize) -> &[T] {
+    match uses.get(place) {
+        Some(names) => names.as_slice(),
+        None => &[],
+    }
 }
 
 /// Adds the file's path over its own layer, and the number of any other over that.
@@ -34,8 +54,8 @@ fn push_heading(out: &mut String, file: &str, place: usize) -> Result<(), AllocE
     out.push('\n')
 }
 
-fn push_layer(out: &mut String, layer: &Layer) -> Result<(), AllocError> {
-    push_metadata(out, layer.metadata())?;
+/// Adds what a layer declares.
+fn push_declarations(out: &mut String, layer: &Layer) -> Result<(), AllocError> {
     push_codespaces(out, layer.codespaces())?;
     let counts = layer.counts();
     push_counts(out, "CID ranges", &counts.cids)?;
@@ -83,6 +103,19 @@ fn mode_name(mode: Option<WritingMode>) -> Option<&'static str> {
         WritingMode::Horizontal => Some("horizontal"),
         WritingMode::Vertical => Some("vertical"),
     }
+}
+
+/// Adds the names of the files that are used, each after a slash.
+fn push_uses(out: &mut String, names: &[&[u8]]) -> Result<(), AllocError> {
+    push_label(out, "files used")?;
+    if names.is_empty() {
+        return out.push_str("-\n");
+    }
+    for (place, name) in names.iter().enumerate() {
+        out.push_str(if place == 0 { "/" } else { " /" })?;
+        escape::push_name(out, name)?;
+    }
+    out.push('\n')
 }
 
 /// Adds codespace ranges, one a line.
@@ -140,86 +173,88 @@ fn push_count(
     write!(out, "{separator}{count} of {} {unit}", len.count())
 }
 
-/// Adds the object of a file, and ends the line.
+/// Adds the object of a file, and ends the line. `uses` has the names that the file of each layer
+/// uses.
 pub fn push_json(
     alloc: Global,
     out: &mut String,
     file: &str,
     map: &CMap,
-) -> Result<(), AllocError> {
-    out.push_str("{\"file\":")?;
-    json::push_string(out, file)?;
-    out.push_str(",\"layers\":[")?;
-    for (place, layer) in map.layers().iter().enumerate() {
-        if place > 0 {
-            out.push(',')?;
-        }
-        push_layer_object(alloc, out, layer)?;
-    }
-    out.push_str("]}\n")
+    uses: &[Vec<&[u8]>],
+) -> Result<(), AllocError>
+    ensures line { OnOk result (AddsLine (string_bytes out.old) (string_bytes out.new)) }
+
+    // Also where there is no memory.
+    ensures printable { AddsOfLine (string_bytes out.old) (string_bytes out.new) }
+{
+    let object = file_object(alloc, file, map, uses)?;
+    json::push_line(alloc, out, &object)
 }
 
-fn push_layer_object(alloc: Global, out: &mut String, layer: &Layer) -> Result<(), AllocError> {
+fn file_object(
+    alloc: Global,
+    file: &str,
+    map: &CMap,
+    uses: &[Vec<&[u8]>],
+) -> Result<Value, AllocError> {
+    let mut layers = Vec::new(alloc);
+    for (place, layer) in map.layers().iter().enumerate() {
+        layers.push(layer_object(alloc, layer, names_at(uses, place))?)?;
+    }
+    json!(in alloc; {"file": file, "layers": layers})
+}
+
+fn layer_object(alloc: Global, layer: &Layer, uses: &[&[u8]]) -> Result<Value, AllocError> {
     let metadata = layer.metadata();
     let counts = layer.counts();
-    push_count_list(out, "{\"cids\":", &counts.cids)?;
-    push_codespace_lists(out, layer.codespaces())?;
-    out.push_str(",\"collection\":")?;
-    push_collection_string(alloc, out, metadata)?;
-    out.push_str(",\"name\":")?;
+    json!(in alloc; {
+        "cids": count_list(alloc, &counts.cids)?,
+        "codespaces": codespace_lists(alloc, layer.codespaces())?,
+        "collection": collection_string(alloc, metadata)?,
+        "name": name_string(alloc, metadata)?,
+        "notdefs": count_list(alloc, &counts.notdefs)?,
+        "texts": counts.bfs,
+        "uses": escape::escaped_names(alloc, uses)?,
+        "writing_mode": mode_string(alloc, metadata)?,
+    })
+}
+
+/// The counts for codes of one, two, three and four bytes.
+fn count_list(alloc: Global, counts: &ByLength<usize>) -> Result<Value, AllocError> {
+    json!(in alloc; [counts.one, counts.two, counts.three, counts.four])
+}
+
+/// Codespace ranges, each as a list of its two ends.
+fn codespace_lists(alloc: Global, spaces: &[Codespace]) -> Result<Vec<Value>, AllocError> {
+    let mut lists = Vec::with_capacity(alloc, spaces.len())?;
+    for space in spaces {
+        let byte_len = space.len.count();
+        let low = code_digits(alloc, byte_len, space.low)?;
+        let high = code_digits(alloc, byte_len, space.high)?;
+        lists.push(json!(in alloc; [low, high])?)?;
+    }
+    Ok(lists)
+}
+
+fn name_string(alloc: Global, metadata: &Metadata) -> Result<Option<String>, AllocError> {
     match &metadata.name {
-        Some(name) => json::push_name(alloc, out, name)?,
-        None => out.push_str("null")?,
+        Some(name) => Ok(Some(escape::escaped_name(alloc, name)?)),
+        None => Ok(None),
     }
-    push_count_list(out, ",\"notdefs\":", &counts.notdefs)?;
-    write!(out, ",\"texts\":{},\"writing_mode\":", counts.bfs)?;
-    match mode_name(metadata.writing_mode) {
-        Some(mode) => json::push_string(out, mode)?,
-        None => out.push_str("null")?,
-    }
-    out.push('}')
 }
 
-/// Adds the counts for codes of one, two, three and four bytes.
-fn push_count_list(
-    out: &mut String,
-    key: &str,
-    counts: &ByLength<usize>,
-) -> Result<(), AllocError> {
-    write!(out, "{key}[{},{},", counts.one, counts.two)?;
-    write!(out, "{},{}]", counts.three, counts.four)
-}
-
-/// Adds codespace ranges, each as a list of its two ends.
-fn push_codespace_lists(out: &mut String, spaces: &[Codespace]) -> Result<(), AllocError> {
-    out.push_str(",\"codespaces\":[")?;
-    for (place, space) in spaces.iter().enumerate() {
-        if place > 0 {
-            out.push(',')?;
-        }
-        push_codespace_list(out, space)?;
-    }
-    out.push(']')
-}
-
-fn push_codespace_list(out: &mut String, space: &Codespace) -> Result<(), AllocError> {
-    let byte_len = space.len.count();
-    out.push_str("[\"")?;
-    push_code(out, byte_len, space.low)?;
-    out.push_str("\",\"")?;
-    push_code(out, byte_len, space.high)?;
-    out.push_str("\"]")
-}
-
-fn push_collection_string(
-    alloc: Global,
-    out: &mut String,
-    metadata: &Metadata,
-) -> Result<(), AllocError> {
+fn collection_string(alloc: Global, metadata: &Metadata) -> Result<Option<String>, AllocError> {
     let Some(collection) = &metadata.character_collection else {
-        return out.push_str("null");
+        return Ok(None);
     };
     let mut name = String::new(alloc);
     push_collection(&mut name, collection)?;
-    json::push_string(out, name.as_str())
+    Ok(Some(name))
+}
+
+fn mode_string(alloc: Global, metadata: &Metadata) -> Result<Option<String>, AllocError> {
+    match mode_name(metadata.writing_mode) {
+        Some(mode) => Ok(Some(String::from_str(alloc, mode)?)),
+        None => Ok(None),
+    }
 }

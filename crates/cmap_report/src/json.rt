@@ -1,48 +1,47 @@
-//! Values of JSON, in bytes from 0x20 to 0x7E. RFC 8259.
+//! Values of JSON as text, in bytes from 0x20 to 0x7E. RFC 8259.
 
-ghost use Rattle.std.specs.Prelude.{◌<◌, string_bytes};
-ghost use Rattle.cmap_report.specs.Escapes.{AddsPrintable, IsPrintable};
+ghost use Rattle.std.specs.Prelude.{◌≡◌, ◌<◌, [], ◌∷◌, ◌++◌, OnOk, false, string_bytes};
+ghost use Rattle.std.specs.Char.{digit_char};
+ghost use Rattle.std.specs.Char.Escape.{encode_utf16};
+ghost use Rattle.std.specs.List.{flat_map};
+ghost use Rattle.cmap_report.specs.Escapes.{AddsLine, AddsOfLine, AddsPrintable};
+ghost use Rattle.cmap_report.specs.Json.{character_escaped, escaped, small_digits_of, unit_escaped};
+ghost use Rattle.serde_json.specs.View.{view};
+ghost use Rattle.serde_json.specs.Written.{compact_text, has_float};
 
-use crate::escape;
+use serde_json::Value;
 use std::alloc::{AllocError, Global};
 
-/// Adds a text as a string of JSON.
-pub fn push_string(out: &mut String, text: &str) -> Result<(), AllocError>
-    ensures { AddsPrintable (string_bytes out.old) (string_bytes out.new) }
+/// Adds the text of a value, without spaces. A character outside 0x20 to 0x7E is added by its
+/// units in UTF-16, as `\uhhhh`.
+pub fn push_value(alloc: Global, out: &mut String, value: &Value) -> Result<(), AllocError>
+    ensures text { OnOk result (has_float (view value.now) ≡ false → string_bytes out.new
+        ≡ string_bytes out.old ++ escaped (compact_text (view value.now))) }
+
+    // Also where there is no memory.
+    ensures printable { AddsPrintable (string_bytes out.old) (string_bytes out.new) }
 {
-    out.push('"')?;
-    push_characters(out, text)?;
-    out.push('"')
+    let text = value.to_string(alloc)?;
+    push_text(out, text.as_str())
 }
 
-/// Adds a name, escaped, as a string of JSON.
-pub fn push_name(alloc: Global, out: &mut String, name: &[u8]) -> Result<(), AllocError>
-    ensures { AddsPrintable (string_bytes out.old) (string_bytes out.new) }
+/// Adds the text of a value, and ends the line.
+pub(crate) fn push_line(alloc: Global, out: &mut String, value: &Value) -> Result<(), AllocError>
+    ensures text { OnOk result (has_float (view value.now) ≡ false → string_bytes out.new
+        ≡ string_bytes out.old ++ escaped (compact_text (view value.now)) ++ 0x0A ∷ []) }
+    ensures line { OnOk result (AddsLine (string_bytes out.old) (string_bytes out.new)) }
+
+    // Also where there is no memory.
+    ensures printable { AddsOfLine (string_bytes out.old) (string_bytes out.new) }
 {
-    let mut escaped = String::new(alloc);
-    escape::push_name(&mut escaped, name)?;
-    push_string(out, escaped.as_str())
+    push_value(alloc, out, value)?;
+    out.push('\n')
 }
 
-/// Adds a text as a string of JSON, or `null` where there is none.
-pub(crate) fn push_optional(out: &mut String, text: &Option<String>) -> Result<(), AllocError> {
-    match text {
-        Some(text) => push_string(out, text.as_str()),
-        None => out.push_str("null"),
-    }
-}
-
-/// Adds a CID, or `null` where there is none.
-pub(crate) fn push_cid(out: &mut String, cid: Option<u32>) -> Result<(), AllocError> {
-    match cid {
-        Some(cid) => write!(out, "{cid}"),
-        None => out.push_str("null"),
-    }
-}
-
-/// Adds the characters of a string.
-fn push_characters(out: &mut String, text: &str) -> Result<(), AllocError>
-    ensures { AddsPrintable (string_bytes out.old) (string_bytes out.new) }
+/// Adds a text, character by character.
+fn push_text(out: &mut String, text: &str) -> Result<(), AllocError>
+    ensures text { OnOk result (string_bytes out.new ≡ string_bytes out.old ++ escaped text.now) }
+    ensures printable { AddsPrintable (string_bytes out.old) (string_bytes out.new) }
 {
     for character in text.chars() {
         push_character(out, character)?;
@@ -50,26 +49,23 @@ fn push_characters(out: &mut String, text: &str) -> Result<(), AllocError>
     Ok(())
 }
 
-/// Adds a character of a string.
+/// Adds a character, as it is or by its units in UTF-16.
 fn push_character(out: &mut String, character: char) -> Result<(), AllocError>
-    ensures { AddsPrintable (string_bytes out.old) (string_bytes out.new) }
+    ensures escaped { OnOk result (string_bytes out.new
+        ≡ string_bytes out.old ++ character_escaped character) }
+    ensures printable { AddsPrintable (string_bytes out.old) (string_bytes out.new) }
 {
     match character {
-        '"' => out.push_str("\\\""),
-        '\\' => out.push_str("\\\\"),
-        '\n' => out.push_str("\\n"),
-        '\r' => out.push_str("\\r"),
-        '\t' => out.push_str("\\t"),
-        '\u{8}' => out.push_str("\\b"),
-        '\u{C}' => out.push_str("\\f"),
         ' '..='~' => out.push(character),
         _ => push_units(out, character),
     }
 }
 
-/// Adds a character by its units in UTF-16.
+/// Adds the units of a character.
 fn push_units(out: &mut String, character: char) -> Result<(), AllocError>
-    ensures { AddsPrintable (string_bytes out.old) (string_bytes out.new) }
+    ensures escaped { OnOk result (string_bytes out.new
+        ≡ string_bytes out.old ++ flat_map unit_escaped (encode_utf16 character)) }
+    ensures printable { AddsPrintable (string_bytes out.old) (string_bytes out.new) }
 {
     let mut units = [0; 2];
     for unit in character.encode_utf16(&mut units).iter() {
@@ -78,32 +74,31 @@ fn push_units(out: &mut String, character: char) -> Result<(), AllocError>
     Ok(())
 }
 
-/// Adds a unit of UTF-16.
+/// Adds a unit as `\uhhhh`.
 fn push_unit(out: &mut String, unit: u16) -> Result<(), AllocError>
-    ensures { AddsPrintable (string_bytes out.old) (string_bytes out.new) }
+    ensures escaped { OnOk result (string_bytes out.new
+        ≡ string_bytes out.old ++ unit_escaped unit) }
+    ensures printable { AddsPrintable (string_bytes out.old) (string_bytes out.new) }
 {
-    let [high, low] = unit.to_be_bytes();
     out.push_str("\\u")?;
-    push_small_digits(out, high)?;
-    push_small_digits(out, low)
+    push_byte(out, (unit / 0x100) as u8)?;
+    push_byte(out, (unit % 0x100) as u8)
 }
 
 /// Adds the two digits of a byte, with small letters.
-fn push_small_digits(out: &mut String, byte: u8) -> Result<(), AllocError>
-    ensures { AddsPrintable (string_bytes out.old) (string_bytes out.new) }
+fn push_byte(out: &mut String, byte: u8) -> Result<(), AllocError>
+    ensures digits { OnOk result (string_bytes out.new
+        ≡ string_bytes out.old ++ small_digits_of byte) }
+    ensures printable { AddsPrintable (string_bytes out.old) (string_bytes out.new) }
 {
     out.push(small_digit(byte / 16))?;
     out.push(small_digit(byte % 16))
 }
 
-/// The digit of a number below 16.
+/// The digit of a number below 16, a small letter from 10 on.
 fn small_digit(number: u8) -> char
     requires { number < 16 }
-    ensures { IsPrintable result }
+    ensures { result ≡ digit_char number }
 {
-    if number < 10 {
-        char::from(b'0' + number)
-    } else {
-        char::from(b'a' + (number - 10))
-    }
+    char::from_digit(u32::from(number), 16).unwrap()
 }

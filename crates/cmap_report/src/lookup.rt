@@ -1,10 +1,21 @@
 //! What words ask of a map.
 
-use crate::decode::text_of;
-use crate::{escape, json};
+ghost use Rattle.std.specs.Prelude.{OnOk, string_bytes};
+ghost use Rattle.cmap_report.specs.Escapes.{AddsLine, AddsOfLine};
+
+use crate::decode::{push_text_or_dash, text_of};
+use crate::json;
 use cmap_programs::query::{Asked, Query};
 use hayro_cmap::CMap;
+use serde_json::{Value, json};
 use std::alloc::{AllocError, Global};
+
+/// What a map says to a query.
+#[derive(Drop)]
+enum Answer {
+    Cid(Option<u32>),
+    Text(Option<String>),
+}
 
 /// Adds a line: the word of the query in thirteen columns, and its answer.
 pub fn push_answer(
@@ -15,15 +26,10 @@ pub fn push_answer(
 ) -> Result<(), AllocError> {
     let word = word_of(alloc, query)?;
     write!(out, "{word:<13}")?;
-    match query.asked {
-        Asked::Cid { byte_len } => match map.lookup_cid_code(query.code, byte_len) {
-            Some(cid) => write!(out, "{cid}")?,
-            None => out.push('-')?,
-        },
-        Asked::Text => match text_of(alloc, map, query.code)? {
-            Some(text) => escape::push_quoted(out, text.as_str())?,
-            None => out.push('-')?,
-        },
+    match answer_of(alloc, map, query)? {
+        Answer::Cid(Some(cid)) => write!(out, "{cid}")?,
+        Answer::Cid(None) => out.push('-')?,
+        Answer::Text(text) => push_text_or_dash(out, &text)?,
     }
     out.push('\n')
 }
@@ -34,20 +40,29 @@ pub fn push_json(
     out: &mut String,
     map: &CMap,
     query: &Query<'_>,
-) -> Result<(), AllocError> {
-    match query.asked {
-        Asked::Cid { byte_len } => {
-            out.push_str("{\"cid\":")?;
-            json::push_cid(out, map.lookup_cid_code(query.code, byte_len))?;
-        }
-        Asked::Text => {
-            out.push_str("{\"text\":")?;
-            json::push_optional(out, &text_of(alloc, map, query.code)?)?;
-        }
+) -> Result<(), AllocError>
+    ensures line { OnOk result (AddsLine (string_bytes out.old) (string_bytes out.new)) }
+
+    // Also where there is no memory.
+    ensures printable { AddsOfLine (string_bytes out.old) (string_bytes out.new) }
+{
+    let object = query_object(alloc, map, query)?;
+    json::push_line(alloc, out, &object)
+}
+
+fn query_object(alloc: Global, map: &CMap, query: &Query<'_>) -> Result<Value, AllocError> {
+    let word = word_of(alloc, query)?;
+    match answer_of(alloc, map, query)? {
+        Answer::Cid(cid) => json!(in alloc; {"cid": cid, "word": word}),
+        Answer::Text(text) => json!(in alloc; {"text": text, "word": word}),
     }
-    out.push_str(",\"word\":")?;
-    json::push_string(out, word_of(alloc, query)?.as_str())?;
-    out.push_str("}\n")
+}
+
+fn answer_of(alloc: Global, map: &CMap, query: &Query<'_>) -> Result<Answer, AllocError> {
+    match query.asked {
+        Asked::Cid { byte_len } => Ok(Answer::Cid(map.lookup_cid_code(query.code, byte_len))),
+        Asked::Text => Ok(Answer::Text(text_of(alloc, map, query.code)?)),
+    }
 }
 
 /// The word that spells a query.

@@ -1,6 +1,6 @@
 //! What rows of data can't show: the callers of the README with their tests, and tests of readers and
-//! writers that fail, of the order of calls, of names and families by their variants, and of tables
-//! over a type of one's own.
+//! writers that fail, of the order of calls, of names and families by their variants, of a call over
+//! a closure, and of tables over a type of one's own.
 #![tactic(auto)]
 
 #[cfg(test)]

@@ -83,23 +83,6 @@ fn a_known_text_has_its_name_and_a_name_its_text(rt: HostRuntime) {
 }
 
 #[test]
-fn any_other_text_is_a_name_by_its_bytes(rt: HostRuntime) {
-    let rows: [&[u8]; 7] = [
-        b"",
-        b"identity-h",
-        b"Identity-",
-        b"Identity-HH",
-        b"/H",
-        b"UniJIS-UTF8-H",
-        b"\xFF\x00",
-    ];
-    for text in rows {
-        assert_eq!(rt; CMapName::from_bytes(text), CMapName::Custom(text));
-        assert!(rt; CMapName::Custom(text).to_bytes() == text);
-    }
-}
-
-#[test]
 fn a_family_has_its_variant(rt: HostRuntime) -> Result<(), Fail> {
     let rows = [
         ("Japan1", CidFamily::AdobeJapan1),
@@ -113,19 +96,6 @@ fn a_family_has_its_variant(rt: HostRuntime) -> Result<(), Fail> {
         assert!(rt; found == family, "{ordering}");
         assert!(rt; found.clone(rt.alloc())? == family, "{ordering}");
     }
-    Ok(())
-}
-
-#[test]
-fn any_other_family_has_its_texts(rt: HostRuntime) -> Result<(), Fail> {
-    let family = CidFamily::from_registry_ordering(rt.alloc(), b"adobe", b"Japan1")?;
-    let copy = family.clone(rt.alloc())?;
-    assert!(rt; copy == family);
-    let CidFamily::Custom { registry, ordering } = copy else {
-        return Err("a known family")?;
-    };
-    assert_eq!(rt; registry.as_slice(), b"adobe".as_slice());
-    assert_eq!(rt; ordering.as_slice(), b"Japan1".as_slice());
     Ok(())
 }
 

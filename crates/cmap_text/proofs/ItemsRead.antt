@@ -1,17 +1,19 @@
--- Items: what is read is a list of items, and each such list is read. And a text as far as it is read, with what it says.
+-- Items: what is read says what a list of items says, and each such list is read. And a text as far as it is read, with what it says.
 use Rattle.std.proofs.Common.{◌≡◌, ℕ, zero, suc, ◌+◌, ◌<◌, ◌≤◌, Bool, true, false, refl, sym, ap, ◌∙◌, subst, List, [], ◌∷◌, ◌++◌, length, arith, length-append, inl, inr}
 use Rattle.std.proofs.lemmas.Bool.{cases_Bool}
 use Rattle.std.proofs.lemmas.Option.{none-some, same_Some}
 use Rattle.std.proofs.lemmas.Slice.Eq.{bytes_eq-Decides}
-use Rattle.std.specs.Prelude.{bytes_eq, Contains, find, MatchOption, Option, Some, None, option_map, option_and_then, if◌then◌else◌}
+use Rattle.std.specs.Prelude.{bytes_eq, Contains, find, Option, Some, None, Result, Ok, Err, option_map}
 use Rattle.cmap_tokens.specs.TokenReading.{HaveValuesRead}
 use Rattle.cmap_tokens.specs.Tokens.{Token}
-use Rattle.cmap_tokens.specs.TokensLeft.{Left, ended, with_front}
+use Rattle.cmap_tokens.specs.TokensLeft.{Left}
+use Rattle.cmap_files.specs.Files.{lists_of}
+use Rattle.cmap_files.specs.ListsAppended.{append_lists}
 use Rattle.cmap_text.specs.TextFiles.{Section, codespace_range, cid_range, cid_char, notdef_range, notdef_char, bf_range, bf_char, keys, opener, use_word, Item, key, entries, use_of_base, other, IsOtherToken, IsItem, MayEnd, AreItems}
-use Rattle.cmap_text.specs.TextReading.{body_in, is_executable, is_literal, opened_by, sections, key_in, next_value, item_after, items_in, items_within, Said, says, says_all, item_said, all_said}
-use Rattle.cmap_text.proofs.TokensRead.{bound, mapped, is_executable-found, is_literal-found}
+use Rattle.cmap_text.specs.TextReading.{Found, added, all_said, and_then, body_in, giving, is_executable, is_literal, item_said, key_in, next_in, opened_by, Said, said_within, sections, with_key, with_lists, with_other, with_use}
+use Rattle.cmap_text.proofs.TokensRead.{bound, mapped, some_bound, same_Ok, err-ok, length-words, is_executable-found, is_literal-found, words, IsAfter, fewer, refused_found, IsNext, next_found, next_is, end_is, IsFound, giving_found, refused_is}
 use Rattle.cmap_text.proofs.SectionsRead.{closing, tokens_in, body_found, entries_are}
-use Rattle.cmap_text.proofs.EntriesRead.{left}
+use Rattle.cmap_text.proofs.ItemsSaid.{says, says_all}
 
 abbrev pub opening : Section → Token
 opening section = Token.Name false (opener section)
@@ -63,149 +65,253 @@ other_found (Token.Name false bytes) opens uses known = (
 other_found (Token.String piece) opens uses known = tt
 other_found (Token.Numeral x) opens uses known = tt
 
-other_is : (t : Token) (rest : Left) → IsOtherToken t → item_after t rest ≡ Some (other t, rest)
-other_is (Token.Name true bytes) rest plain = rw (no_answer (key_in (Token.Name true bytes)) (λ k is. let (known, same) = key_in-found (Token.Name true bytes) k is in plain (subst (Contains keys) (cc) known))) refl
-other_is (Token.Name false bytes) rest (no_use, opens) =
-    let no_section = no_answer (opened_by (Token.Name false bytes)) (λ section is. opens section (let same = opened_by-found (Token.Name false bytes) section is in cc)) in
-    let used : bytes_eq bytes use_word ≡ false = elim (cases_Bool (bytes_eq bytes use_word)) [ inl same ↦ absurd (no_use ((bytes_eq-Decides bytes use_word).0 same)) | inr differs ↦ differs ] in
-    rw (no_section, used, item_after) refl
-other_is (Token.String piece) rest plain = refl
-other_is (Token.Numeral x) rest plain = refl
+-- ---- what is read is an item
+-- what comes after the first token of an item, and what is said then
+pub record IsRest (old : Said) (t : Token) (rest : Left) (found : Said × Left) : Type 0 where
+  pub item : Item
+  pub more : List Token
+  pub whole : IsAfter more rest found.1
+  pub is : IsItem (t ∷ more) item
+  pub may : MayEnd item (words found.1)
+  pub said : says old item ≡ Some found.0
 
--- what comes after the first token of an item
-abbrev IsRest : Token → Left → Item × Left → Type 0
-IsRest t rest p = (more : List Token) × (rest ≡ with_front more p.1) × IsItem (t ∷ more) p.0 × MayEnd p.0 p.1.tokens
+nothing_after : (left : Left) → IsAfter [] left left
+nothing_after left = record { whole = refl; ends = refl }
 
 -- the value of a key
-value_found : (k : List ℕ) (tokens : List Token) (ends : Bool) (found : Option Token × Left) → Contains keys k → next_value (left tokens ends) ≡ Some found → IsRest (Token.Name true k) (left tokens ends) (key k found.0, found.1)
-value_found k [] true found known is = subst (λ f. IsRest (Token.Name true k) (left [] true) (key k f.0, f.1)) (same_Some (None, left [] true) found is) ([], refl, (known, refl), refl)
-value_found k [] false found known is = absurd (none-some found is)
-value_found k (t ∷ rest) ends found known is = subst (λ f. IsRest (Token.Name true k) (left (t ∷ rest) ends) (key k f.0, f.1)) (same_Some (Some t, left rest ends) found is) (t ∷ [], refl, (known, refl), tt)
+value_found : (old : Said) (k : List ℕ) (rest : Left) (value : Option Token) (next : Left) → Contains keys k → next_in rest ≡ Ok (value, next) → IsRest old (Token.Name true k) rest (with_key old k value, next)
+value_found old k rest value next known is = at value (next_found rest value next is)
+  where
+    at : (v : Option Token) → IsNext v rest next → IsRest old (Token.Name true k) rest (with_key old k v, next)
+    at None (none, ends, same) = record {
+      item = key k None;
+      more = [];
+      whole = subst (IsAfter [] rest) same (nothing_after rest);
+      is = (known, refl);
+      may = subst (λ l. words l ≡ []) same (rw none refl);
+      said = refl;
+    }
+    at (Some t) first = record { item = key k (Some t); more = t ∷ []; whole = first; is = (known, refl); may = tt; said = refl }
 
-pub next_value-is : {X : Type 0} (seen : X → Token) (found : Option X) (old new : Left) → MatchOption found ((old ≡ ended) × (new ≡ ended)) (λ value. old ≡ with_front (seen value ∷ []) new) → next_value old ≡ Some (option_map seen found, new)
-next_value-is seen None old new is = rw (is.0, is.1) refl
-next_value-is seen (Some value) old new is = rw is refl
-
-module _ (strings : HaveValuesRead) where
-  item_found : (t : Token) (rest : Left) (p : Item × Left) → item_after t rest ≡ Some p → IsRest t rest p
+module _ (strings : HaveValuesRead) (old : Said) where
+  section_found : (section : Section) (rest : Left) (found : Said × Left) → giving (with_lists old) (added old.lists (body_in section rest)) ≡ Ok found → IsRest old (opening section) rest found
   unfolding body_in
-  item_found t rest p is = section_or (opened_by t) refl
-    where
-      key_or : (k : Option (List ℕ)) → key_in t ≡ k → opened_by t ≡ None → is_executable use_word t ≡ false → IsRest t rest p
-      key_or None known opens uses = subst (IsRest t rest) (same_Some (other t, rest) p (rw (opens, uses, known, item_after) at is)) ([], refl, (other_found t opens uses known, refl), tt)
-      key_or (Some k) known opens uses =
-          let (v, reads, same) = mapped _ (next_value rest) p (rw (opens, uses, known, item_after) at is) in
-          let (contains, named) = key_in-found t k known in
-          subst (IsRest t rest) same (subst (λ u. IsRest u rest (key k v.0, v.1)) (sym named) (value_found k rest.tokens rest.ends v contains reads))
+  section_found section rest found is =
+      let (l, lists, same) = mapped _ (added old.lists (body_in section rest)) found is in
+      let (b, reads, both) = mapped _ (body_in section rest) l lists in
+      let (front, whole, (body, shape, is_body)) = body_found strings (1 + length rest.tokens) section rest b reads in
+      subst (IsRest old (opening section) rest) (ap (λ q. (with_lists old q.0, q.1)) both ∙ same) (record {
+        item = entries b.0;
+        more = front;
+        whole = whole;
+        is = (section, body, ap (λ f. opening section ∷ f) shape, is_body);
+        may = tt;
+        said = refl;
+      })
 
-      section_or : (s : Option Section) → opened_by t ≡ s → IsRest t rest p
+  item_found : (t : Token) (rest : Left) (found : Said × Left) → item_said old t rest ≡ Ok found → IsRest old t rest found
+  item_found t rest found is = section_or (opened_by t) refl
+    where
+      key_or : (k : Option (List ℕ)) → key_in t ≡ k → opened_by t ≡ None → is_executable use_word t ≡ false → IsRest old t rest found
+      key_or None known opens uses =
+          subst (IsRest old t rest) (same_Ok (with_other old t, rest) found (rw (opens, uses, known, item_said) at is)) (record {
+            item = other t;
+            more = [];
+            whole = nothing_after rest;
+            is = (other_found t opens uses known, refl);
+            may = tt;
+            said = refl;
+          })
+      key_or (Some k) known opens uses =
+          let (v, reads, same) = mapped _ (next_in rest) found (rw (opens, uses, known, item_said) at is) in
+          let (contains, named) = key_in-found t k known in
+          subst (IsRest old t rest) same (subst (λ u. IsRest old u rest (with_key old k v.0, v.1)) (sym named) (value_found old k rest v.0 v.1 contains reads))
+
+      use_or : (b : Bool) → is_executable use_word t ≡ b → opened_by t ≡ None → IsRest old t rest found
+      use_or false uses opens = key_or (key_in t) refl opens uses
+      use_or true uses opens =
+          let (said, stays) = refused_found (option_map (with_use old) old.operand) rest found (rw (opens, uses, item_said) at is) in
+          record {
+            item = use_of_base;
+            more = [];
+            whole = subst (IsAfter [] rest) stays (nothing_after rest);
+            is = ap (λ u. u ∷ []) (is_executable-found use_word t uses);
+            may = tt;
+            said = said;
+          }
+
+      section_or : (s : Option Section) → opened_by t ≡ s → IsRest old t rest found
       section_or (Some section) opens =
-          let (b, reads, same) = mapped _ (body_in section rest) p (rw (opens, item_after) at is) in
-          let (front, whole, (body, shape, is_body)) = body_found strings (length rest.tokens) section rest.tokens rest.ends b reads in
-          subst (IsRest t rest) same (front, whole, (section, body, ap (λ u. u ∷ front) (opened_by-found t section opens) ∙ ap (λ f. opening section ∷ f) shape, is_body), tt)
-      section_or None opens =
-          elim (cases_Bool (is_executable use_word t)) [
-            | inl uses ↦ subst (IsRest t rest) (same_Some (use_of_base, rest) p (rw (opens, uses, item_after) at is)) ([], refl, ap (λ u. u ∷ []) (is_executable-found use_word t uses), tt)
-            | inr uses ↦ key_or (key_in t) refl opens uses
-          ]
+          subst (λ u. IsRest old u rest found) (sym (opened_by-found t section opens)) (section_found section rest found (rw (opens, item_said) at is))
+      section_or None opens = use_or (is_executable use_word t) refl opens
 
   -- what is left after an item is no longer
-  pub shorter_item : (t : Token) (next mid : Left) (now new : Said) → item_said now (item_after t next) ≡ Some (new, mid) → length mid.tokens ≤ length next.tokens
-  shorter_item t next mid now new is =
-      let (p, item, more) = bound _ (item_after t next) (new, mid) is in
-      let (said, says, same) = mapped _ (says now p.0) (new, mid) more in
-      let (front, whole, is_item, may) = item_found t next p item in
-      omega (arith, ap (λ l. length l.tokens) whole, length-append front p.1.tokens, ap (λ q. length q.1.tokens) same)
+  pub shorter_item : (t : Token) (next mid : Left) (new : Said) → item_said old t next ≡ Ok (new, mid) → length mid.tokens ≤ length next.tokens
+  shorter_item t next mid new is =
+      let whole = (item_found t next (new, mid) is).whole in
+      omega (arith, fewer whole)
 
-  item_is : (tokens : List Token) (item : Item) (new : Left) → IsItem tokens item → MayEnd item new.tokens → new.ends ≡ true → (t : Token) × (more : List Token) × (tokens ≡ t ∷ more) × (item_after t (with_front more new) ≡ Some (item, new))
+  -- ---- each item is read
+  other_is : (t : Token) (rest : Left) → IsOtherToken t → item_said old t rest ≡ Ok (with_other old t, rest)
+  other_is (Token.Name true bytes) rest plain = rw (no_answer (key_in (Token.Name true bytes)) (λ k is. let (known, same) = key_in-found (Token.Name true bytes) k is in plain (subst (Contains keys) (cc) known))) refl
+  other_is (Token.Name false bytes) rest (no_use, opens) =
+      let no_section = no_answer (opened_by (Token.Name false bytes)) (λ section is. opens section (let same = opened_by-found (Token.Name false bytes) section is in cc)) in
+      let used : bytes_eq bytes use_word ≡ false = elim (cases_Bool (bytes_eq bytes use_word)) [ inl same ↦ absurd (no_use ((bytes_eq-Decides bytes use_word).0 same)) | inr differs ↦ differs ] in
+      rw (no_section, used, item_said) refl
+  other_is (Token.String piece) rest plain = refl
+  other_is (Token.Numeral x) rest plain = refl
+
+  key_said : (k : List ℕ) (left : Left) → Contains keys k → item_said old (Token.Name true k) left ≡ giving (with_key old k) (next_in left)
+  key_said k left known = rw (key_in-own k known, item_said) refl
+
+  section_said : (section : Section) (left : Left) → item_said old (opening section) left ≡ giving (with_lists old) (added old.lists (body_in section left))
+  section_said section left = rw (opened_by-own section, item_said) refl
+
+  -- what the tokens after the first of an item are read as
+  abbrev IsSaid : Item → Token → List Token → Type 0
+  IsSaid item t more = (rest : List Token) (left : Left) (new : Said) → words left ≡ more ++ rest → left.ends ≡ true → MayEnd item rest → says old item ≡ Some new → IsFound (item_said old t left) new rest left
+
+  item_is : (tokens : List Token) (item : Item) → IsItem tokens item → (t : Token) × (more : List Token) × (tokens ≡ t ∷ more) × IsSaid item t more
   unfolding body_in
-  item_is tokens (key k None) new (known, shape) may ends = (Token.Name true k, [], shape, rw (key_in-own k known, may, ends, item_after, next_value) (ap (λ ts. Some (key k None, left ts true)) may))
-  item_is tokens (key k (Some value)) new (known, shape) may ends = (Token.Name true k, value ∷ [], shape, rw (key_in-own k known, item_after) refl)
-  item_is tokens (entries declared) new (section, body, shape, (es, each, body_is, declares)) may ends = (
+  item_is tokens (key k None) (known, shape) = (
+    Token.Name true k,
+    [],
+    shape,
+    λ rest left new whole ends may said.
+        let none = end_is left (whole ∙ may) ends in
+        rw (key_said k left known, ← same_Some (with_key old k None) new said) (giving_found (with_key old k) (subst (λ r. IsFound (next_in left) None r left) (sym may) none)),
+  )
+  item_is tokens (key k (Some value)) (known, shape) = (
+    Token.Name true k,
+    value ∷ [],
+    shape,
+    λ rest left new whole ends may said.
+        rw (key_said k left known, ← same_Some (with_key old k (Some value)) new said) (giving_found (with_key old k) (next_is value rest left whole)),
+  )
+  item_is tokens (entries declared) (section, body, shape, (es, each, body_is, declares)) = (
     opening section,
     body ++ closing section ∷ [],
     shape,
-    rw (opened_by-own section, body_is, declares, item_after) (ap (option_map (λ p. (entries p.0, p.1))) (entries_are strings _ section es new each (omega (arith, length-append (tokens_in es ++ closing section ∷ []) new.tokens, length-append (tokens_in es) (closing section ∷ []))))),
+    λ rest left new whole ends may said.
+        let begins = rw body_is at whole in
+        let long : length (tokens_in es) < 1 + length left.tokens =
+        omega (arith, length-words left, ap length begins, length-append (tokens_in es ++ closing section ∷ []) rest, length-append (tokens_in es) (closing section ∷ [])) in
+        let read = entries_are strings (1 + length left.tokens) section es rest left each long begins in
+        rw (section_said section left, ← same_Some (with_lists old (append_lists old.lists (lists_of declared))) new said, declares) (
+        giving_found (with_lists old) (giving_found (λ d. append_lists old.lists (lists_of d)) read)
+        ),
   )
-  item_is tokens use_of_base new shape may ends = (Token.Name false use_word, [], shape, refl)
-  item_is tokens (other t) new (plain, shape) may ends = (t, [], shape, other_is t new plain)
+  item_is tokens use_of_base shape = (Token.Name false use_word, [], shape, λ rest left new whole ends may said. refused_is said whole)
+  item_is tokens (other t) (plain, shape) = (
+    t,
+    [],
+    shape,
+    λ rest left new whole ends may said.
+        rw (other_is t left plain, ← same_Some (with_other old t) new said) (record { next = left; is = refl; whole = whole; ends = refl }),
+  )
 
-  -- ---- all the items
-  pub items_found : (count : ℕ) (tokens : List Token) (ends : Bool) (items : List Item) → items_within count (left tokens ends) ≡ Some items → (ends ≡ true) × AreItems tokens items
-  unfolding items_within
-  items_found zero tokens ends items is = absurd (none-some items is)
-  items_found (suc count) [] true items is = (refl, subst (AreItems []) (same_Some [] items is) refl)
-  items_found (suc count) [] false items is = absurd (none-some items is)
-  items_found (suc count) (t ∷ rest) ends items is =
-      let (p, item, more) = bound _ (item_after t (left rest ends)) items is in
-      let (later, reads, same) = mapped _ (items_within count p.1) items more in
-      let (front, whole, is_item, may) = item_found t (left rest ends) p item in
-      let (end, are) = items_found count p.1.tokens p.1.ends later reads in
-      (ap (λ l. l.ends) whole ∙ end, subst (AreItems (t ∷ rest)) same (t ∷ front, p.1.tokens, ap (λ l. t ∷ l.tokens) whole, is_item, may, are))
+-- ---- all the items
+-- what is said after the next token, or at the end
+abbrev pub said_from : ℕ → Said → Option Token → Left → Result Said ℕ
+said_from count now None next = Ok now
+said_from count now (Some t) next = and_then (λ p. said_within count p.0 p.1) (item_said now t next)
 
-  pub items_are : (items : List Item) (count : ℕ) (tokens : List Token) → AreItems tokens items → length tokens < count → items_within count (left tokens true) ≡ Some items
-  unfolding items_within
-  items_are items zero tokens are long = absurd (omega (arith, long))
-  items_are [] (suc count) tokens are long = rw are refl
-  items_are (item ∷ items) (suc count) tokens (front, rest, whole, is, may, are) long =
-      let (t, more, shape, reads) = item_is front item (left rest true) is may refl in
-      let tokens_are : tokens ≡ t ∷ (more ++ rest) = whole ∙ ap (λ f. f ++ rest) shape in
-      rw (tokens_are, reads, items_are items count rest are (omega (arith, long, ap length tokens_are, length-append more rest))) refl
+pub said_next : (count : ℕ) (now : Said) (here : Left) → said_within (suc count) now here ≡ and_then (λ p. said_from count now p.0 p.1) (next_in here)
+unfolding said_within
+said_next count now here = at (next_in here)
+  where
+    at : (found : Found (Option Token)) → and_then (λ p. elim p.0 [ None ↦ Ok now | Some t ↦ and_then (λ q. said_within count q.0 q.1) (item_said now t p.1) ]) found ≡ and_then (λ p. said_from count now p.0 p.1) found
+    at (Err e) = refl
+    at (Ok (None, next)) = refl
+    at (Ok (Some t, next)) = refl
+
+module _ (strings : HaveValuesRead) where
+  -- the items that say this
+  abbrev pub Say : Said → Left → Said → Type 0
+  Say old here said = (here.ends ≡ true) × (items : List Item) × AreItems (words here) items × (says_all old items ≡ Some said)
+
+  found_from : (count : ℕ) → ((old : Said) (here : Left) (said : Said) → said_within count old here ≡ Ok said → Say old here said)
+      → (old : Said) (here : Left) (found : Option Token) (next : Left) (said : Said) → IsNext found here next → said_from count old found next ≡ Ok said → Say old here said
+  found_from count later old here None next said (none, ends, same) is = (ends, [], rw none refl, ap Some (same_Ok old said is))
+  found_from count later old here (Some t) next said first is =
+      let (p, item, more) = bound _ (item_said old t next) said is in
+      let rest = item_found strings old t next p item in
+      let (end, items, are, sayings) = later p.0 p.1 said more in (
+        sym first.ends ∙ sym rest.whole.ends ∙ end,
+        rest.item ∷ items,
+        (t ∷ rest.more, words p.1, first.whole ∙ ap (λ ts. t ∷ ts) rest.whole.whole, rest.is, rest.may, are),
+        rw rest.said sayings,
+      )
+
+  pub items_found : (count : ℕ) (old : Said) (here : Left) (said : Said) → said_within count old here ≡ Ok said → Say old here said
+  unfolding said_within
+  items_found zero old here said is = absurd (err-ok _ said is)
+  items_found (suc count) old here said is =
+      let (n, next, more) = bound _ (next_in here) said (sym (said_next count old here) ∙ is) in
+      found_from count (λ o h s. items_found count o h s) old here n.0 n.1 said (next_found here n.0 n.1 next) more
+
+  pub items_are : (items : List Item) (count : ℕ) (old : Said) (here : Left) (said : Said) → AreItems (words here) items → here.ends ≡ true → length here.tokens < count → says_all old items ≡ Some said → said_within count old here ≡ Ok said
+  items_are items zero old here said are ends long sayings = absurd (omega (arith, long))
+  items_are [] (suc count) old here said are ends long sayings =
+      said_next count old here ∙ ap (and_then (λ p. said_from count old p.0 p.1)) (end_is here are ends).is ∙ ap Ok (same_Some old said sayings)
+  items_are (item ∷ items) (suc count) old here said (front, rest, whole, is, may, are) ends long sayings =
+      let (mid, says_item, says_rest) = some_bound (λ mid. says_all mid items) (says old item) said sayings in
+      let (t, more, shape, reads) = item_is strings old front item is in
+      let begins = whole ∙ ap (λ ts. ts ++ rest) shape in
+      let first = next_is t (more ++ rest) here begins in
+      let read = reads rest first.next mid first.whole (first.ends ∙ ends) may says_item in
+      let shorter : length read.next.tokens < count =
+      omega (arith, long, ap length begins, length-append more rest, length-words here, length-words read.next, ap length read.whole) in
+      said_next count old here ∙ ap (and_then (λ p. said_from count old p.0 p.1)) first.is ∙ ap (and_then (λ p. said_within count p.0 p.1)) read.is
+      ∙ items_are items count mid read.next said (subst (λ ts. AreItems ts items) (sym read.whole) are) (read.ends ∙ first.ends ∙ ends) shorter says_rest
 
 -- a text as far as it is read: fewer than count tokens are left, and they decide what it says in all
 pub record IsSaying (start here : Left) (old now : Said) : Type 0 where
   pub count : ℕ
   pub long : length here.tokens < count
-  pub same : all_said old start ≡ option_and_then (says_all now) (items_within count here)
+  pub same : all_said old start ≡ said_within count now here
 
 pub IsSaying-none : (start : Left) (said : Said) → IsSaying start start said said
-unfolding items_in
+unfolding all_said
 IsSaying-none start said = record { count = 1 + length start.tokens; long = omega arith; same = refl }
 
--- at the end
-pub IsSaying-end : (ends : Bool) (start here : Left) (old now : Said) → IsSaying start here old now → here ≡ record { tokens = []; ends = ends } → all_said old start ≡ (if ends then Some now else None)
-unfolding items_within
-IsSaying-end ends start here old now reading end = reading.same ∙ at ends reading.count reading.long end
-  where
-    at : (ends : Bool) (count : ℕ) → length here.tokens < count → here ≡ record { tokens = []; ends = ends } → option_and_then (says_all now) (items_within count here) ≡ (if ends then Some now else None)
-    at ends zero long e = absurd (omega (arith, long))
-    at true (suc count) long e = rw e refl
-    at false (suc count) long e = rw e refl
-
--- what is said in all, after this much
-abbrev said_from : ℕ → Option (Said × Left) → Option Said
-said_from count found = option_and_then (λ (p : Said × Left). option_and_then (says_all p.0) (items_within count p.1)) found
-
-module _ (now : Said) (count : ℕ) where
-  with_item : (p : Item × Left) (said : Option Said) (items : Option (List Item)) → says now p.0 ≡ said → items_within count p.1 ≡ items → option_and_then (says_all now) (option_map (λ l. p.0 ∷ l) items) ≡ said_from count (option_map (λ s. (s, p.1)) said)
-  with_item p None None says reads = refl
-  with_item p (Some s) None says reads = rw reads refl
-  with_item p None (Some items) says reads = rw says refl
-  with_item p (Some s) (Some items) says reads = rw (says, reads) refl
-
-  says_next : (t : Token) (next : Left) → option_and_then (says_all now) (items_within (suc count) (with_front (t ∷ []) next)) ≡ said_from count (item_said now (item_after t next))
-  unfolding items_within
-  says_next t next = at (item_after t next)
-    where
-      at : (found : Option (Item × Left)) → option_and_then (says_all now) (option_and_then (λ (p : Item × Left). option_map (λ items. p.0 ∷ items) (items_within count p.1)) found) ≡ said_from count (item_said now found)
-      at None = refl
-      at (Some p) = with_item p (says now p.0) (items_within count p.1) refl refl
-
-module _ (start here next : Left) (t : Token) (old now : Said) (reading : IsSaying start here old now) (token : here ≡ with_front (t ∷ []) next) where
+module _ (start here : Left) (old now : Said) (reading : IsSaying start here old now) where
+  -- with a token more
   abbrev OneMore : Type 0
-  OneMore = (count : ℕ) × (length next.tokens < count) × (all_said old start ≡ said_from count (item_said now (item_after t next)))
+  OneMore = (count : ℕ) × (length here.tokens ≤ count) × (all_said old start ≡ and_then (λ p. said_from count now p.0 p.1) (next_in here))
 
   one_more : OneMore
   one_more = at reading.count reading.long reading.same
     where
-      at : (count : ℕ) → length here.tokens < count → all_said old start ≡ option_and_then (says_all now) (items_within count here) → OneMore
+      at : (count : ℕ) → length here.tokens < count → all_said old start ≡ said_within count now here → OneMore
       at zero long same = absurd (omega (arith, long))
-      at (suc count) long same = (count, omega (arith, long, ap (λ l. length l.tokens) token), same ∙ ap (λ l. option_and_then (says_all now) (items_within (suc count) l)) token ∙ says_next now count t next)
+      at (suc count) long same = (count, omega (arith, long), same ∙ said_next count now here)
 
-  pub IsSaying-wrong : item_said now (item_after t next) ≡ None → all_said old start ≡ None
-  IsSaying-wrong none = let (count, long, same) = one_more in same ∙ ap (said_from count) none
+  -- where no token comes
+  pub IsSaying-stop : (e : ℕ) → next_in here ≡ Err e → all_said old start ≡ Err e
+  IsSaying-stop e none = let (count, long, same) = one_more in same ∙ ap (and_then (λ p. said_from count now p.0 p.1)) none
 
-  pub IsSaying-more : HaveValuesRead → (mid : Left) (new : Said) → item_said now (item_after t next) ≡ Some (new, mid) → IsSaying start mid old new
-  IsSaying-more strings mid new is =
-      let (count, long, same) = one_more in
-      record { count = count; long = omega (arith, long, shorter_item strings t next mid now new is); same = same ∙ ap (said_from count) is }
+  module _ (next : Left) where
+    -- at the end
+    pub IsSaying-end : next_in here ≡ Ok (None, next) → all_said old start ≡ Ok now
+    IsSaying-end end = let (count, long, same) = one_more in same ∙ ap (and_then (λ p. said_from count now p.0 p.1)) end
+
+    module _ (t : Token) (token : next_in here ≡ Ok (Some t, next)) where
+      pub IsSaying-wrong : (e : ℕ) → item_said now t next ≡ Err e → all_said old start ≡ Err e
+      IsSaying-wrong e none =
+          let (count, long, same) = one_more in
+          same ∙ ap (and_then (λ p. said_from count now p.0 p.1)) token ∙ ap (and_then (λ p. said_within count p.0 p.1)) none
+
+      pub IsSaying-shorter : HaveValuesRead → (mid : Left) (new : Said) → item_said now t next ≡ Ok (new, mid) → length mid.tokens < length here.tokens
+      IsSaying-shorter strings mid new is =
+          let first : IsAfter (t ∷ []) here next = next_found here (Some t) next token in
+          omega (arith, fewer first, shorter_item strings now t next mid new is)
+
+      pub IsSaying-more : HaveValuesRead → (mid : Left) (new : Said) → item_said now t next ≡ Ok (new, mid) → IsSaying start mid old new
+      IsSaying-more strings mid new is =
+          let (count, long, same) = one_more in
+          record {
+            count = count;
+            long = omega (arith, long, IsSaying-shorter strings mid new is);
+            same = same ∙ ap (and_then (λ p. said_from count now p.0 p.1)) token ∙ ap (and_then (λ p. said_within count p.0 p.1)) is;
+          }

@@ -7,8 +7,19 @@ use Rattle.cmap_tokens.specs.Tokens.{Token}
 use Rattle.cmap_files.specs.Files.{Lists, lists_of}
 use Rattle.cmap_files.specs.ListsAppended.{append_lists}
 use Rattle.cmap_text.specs.TextFiles.{Item, key, entries, use_of_base, other, declared_by, literal_head, names_used, value_under, last_value, Values, last_values}
-use Rattle.cmap_text.specs.TextReading.{Said, no_values, with_value, says_all}
+use Rattle.cmap_text.specs.TextReading.{Said, no_values, with_key, with_lists, with_other, with_use, with_value}
 use Rattle.cmap_files.proofs.ListsMade.{append_lists-none, added_more}
+
+-- what is said with one item more; a use needs an operand
+abbrev pub says : Said → Item → Option Said
+says old (key k value) = Some (with_key old k value)
+says old (entries declared) = Some (with_lists old (append_lists old.lists (lists_of declared)))
+says old use_of_base = option_map (with_use old) old.operand
+says old (other t) = Some (with_other old t)
+
+abbrev pub says_all : Said → List Item → Option Said
+says_all old [] = Some old
+says_all old (item ∷ items) = option_and_then (λ mid. says_all mid items) (says old item)
 
 -- the values and the operand after some items
 pub values_after : Values → List Item → Values

@@ -1,3 +1,4 @@
+pub mod Refusals
 pub mod TokensRead
 pub mod EntriesRead
 pub mod SectionsRead
@@ -5,3 +6,4 @@ pub mod ItemsRead
 pub mod ItemsSaid
 pub mod TextRead
 pub mod ValuesRead
+pub mod Local

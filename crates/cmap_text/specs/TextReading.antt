@@ -1,14 +1,14 @@
--- Private aid: what tokens are read as, by functions of the tokens that are left of a text. Public contracts speak of TextFiles alone.
-use Rattle.std.specs.Prelude.{ℕ, zero, suc, ◌+◌, ◌-◌, ◌^◌, ◌==◌, ◌&&◌, nat_lt, nat_le, pos, Bool, true, false, List, [], ◌∷◌, ◌++◌, length, codes, bytes_eq, find, Option, Some, None, option_map, option_and_then, if◌then◌else◌}
+-- Private aid: what tokens are read as, by functions of the tokens that are left of a text, or where they are refused. Public contracts speak of TextFiles alone.
+use Rattle.std.specs.Prelude.{ℕ, zero, suc, ◌+◌, ◌-◌, ◌^◌, ◌==◌, ◌&&◌, nat_lt, nat_le, pos, Bool, true, false, List, [], ◌∷◌, ◌++◌, length, codes, bytes_eq, find, Option, Some, None, Result, Ok, Err, option_map, option_and_then, ok_or, if◌then◌else◌}
 use Rattle.cmap_bits.specs.BigEndian.{big_endian}
 use Rattle.cmap_tokens.specs.Numbers.{Number}
 use Rattle.cmap_tokens.specs.Texts.{units_of}
 use Rattle.cmap_tokens.specs.TokenReading.{value_of}
 use Rattle.cmap_tokens.specs.Tokens.{Token}
-use Rattle.cmap_tokens.specs.TokensLeft.{Left}
+use Rattle.cmap_tokens.specs.TokensLeft.{Placed, Left}
 use Rattle.cmap_files.specs.Files.{CidEntry, Declaration, Lists, lists_of}
 use Rattle.cmap_files.specs.ListsAppended.{no_lists, append_lists}
-use Rattle.cmap_text.specs.TextFiles.{Section, codespace_range, cid_range, cid_char, notdef_range, notdef_char, bf_range, bf_char, keys, opener, closer, use_word, declares_bf, Item, key, entries, use_of_base, other, literal_head, Values}
+use Rattle.cmap_text.specs.TextFiles.{Section, codespace_range, cid_range, cid_char, notdef_range, notdef_char, bf_range, bf_char, keys, opener, closer, use_word, declares_bf, other, literal_head, Values}
 
 -- ---- single tokens
 -- whether a token is this executable name, or this literal one
@@ -51,63 +51,105 @@ destination_of bytes = if nat_lt 0 (length bytes) then Some (units_of bytes) els
 abbrev pub destination_in : Token → Option (List ℕ)
 destination_in t = option_and_then destination_of (value_in t)
 
--- what the next token is, and what is left after it
-abbrev pub head_in : {A : Type 0} → (Token → Option A) → Left → Option (A × Left)
-head_in {A} read left = elim left.tokens [
-  | [] ↦ None
-  | t ∷ rest ↦ option_map (λ x. let p : A × Left = (x, record { tokens = rest; ends = left.ends }) in p) (read t)
+-- ---- what is read
+-- what is found, and what is left after it; or the offset at which it is refused
+abbrev pub Found : Type 0 → Type 0
+Found A = Result (A × Left) ℕ
+
+-- another result, by a function of what is found
+abbrev pub result_map : {A B : Type 0} → (A → B) → Result A ℕ → Result B ℕ
+result_map f (Ok x) = Ok (f x)
+result_map f (Err e) = Err e
+
+abbrev pub and_then : {A B : Type 0} → (A → Result B ℕ) → Result A ℕ → Result B ℕ
+and_then f (Ok x) = f x
+and_then f (Err e) = Err e
+
+-- the same of what is found, where what is left stays
+abbrev pub giving : {A B : Type 0} → (A → B) → Found A → Found B
+giving f found = result_map (λ p. (f p.0, p.1)) found
+
+-- what is found in what is left
+abbrev pub followed_by : {A B : Type 0} → (A → Left → Found B) → Found A → Found B
+followed_by more found = and_then (λ p. more p.0 p.1) found
+
+-- this; where there is none, the token that was read last is refused
+abbrev pub or_refused : {A : Type 0} → Option A → Left → Found A
+or_refused found left = ok_or (option_map (λ x. (x, left)) found) left.passed
+
+-- what is left after this token, before those
+abbrev pub after : Placed → List Placed → Left → Left
+after p rest left = record { passed = p.end; tokens = rest; ends = left.ends; stop = left.stop }
+
+-- the next token
+abbrev pub token_in : Left → Found Token
+token_in left = elim left.tokens [
+  | [] ↦ Err left.stop
+  | p ∷ rest ↦ Ok (p.token, after p rest left)
 ]
 
--- ---- entries: what they declare, and what is left after them
-abbrev pub Declared : Type 0
-Declared = List Declaration × Left
+-- the next token, or none where the text ends
+abbrev pub next_in : Left → Found (Option Token)
+next_in left = elim left.tokens [
+  | [] ↦ if left.ends then Ok (None, left) else Err left.stop
+  | p ∷ rest ↦ Ok (Some p.token, after p rest left)
+]
 
+-- what the next token is
+abbrev pub head_in : {A : Type 0} → (Token → Option A) → Left → Found A
+head_in read left = followed_by (λ t. or_refused (read t)) (token_in left)
+
+-- ---- entries: what they declare
 -- what the codes from the first of an entry on have, filed by its length
 abbrev pub filed : Code → ℕ → ℕ → ℕ × CidEntry
 filed start end cid = (start.len, record { start = start.number; end = end; cid = cid })
 
 -- after the first code: a code and a CID, or a CID
-abbrev pub cid_range_after : Code → Left → Option ((ℕ × CidEntry) × Left)
-cid_range_after start left = option_and_then (λ e. option_map (λ c. (filed start e.0.number c.0, c.1)) (head_in cid_in e.1)) (head_in code_in left)
+abbrev pub cid_range_after : Code → Left → Found (ℕ × CidEntry)
+cid_range_after start left = followed_by (λ end next. giving (filed start end.number) (head_in cid_in next)) (head_in code_in left)
 
-abbrev pub cid_char_after : Code → Left → Option ((ℕ × CidEntry) × Left)
-cid_char_after code left = option_map (λ c. (filed code code.number c.0, c.1)) (head_in cid_in left)
+abbrev pub cid_char_after : Code → Left → Found (ℕ × CidEntry)
+cid_char_after code left = giving (filed code code.number) (head_in cid_in left)
 
-abbrev pub declared_as : (ℕ → CidEntry → Declaration) → Option ((ℕ × CidEntry) × Left) → Option Declared
-declared_as kind found = option_map (λ p. let d : Declared = (kind p.0.0 p.0.1 ∷ [], p.1) in d) found
+abbrev pub declared_as : (ℕ → CidEntry → Declaration) → Found (ℕ × CidEntry) → Found (List Declaration)
+declared_as kind found = giving (λ p. kind p.0 p.1 ∷ []) found
 
--- a code of the same length
-abbrev pub codespace_after : Code → Left → Option Declared
-codespace_after low left =
-    option_and_then (λ h. let d : Declared = (Declaration.codespace (record { len = low.len; low = low.number; high = h.0.number }) ∷ [], h.1) in
-    if low.len == h.0.len then Some d else None) (head_in code_in left)
+-- the codes from low to high, which have one length
+abbrev pub codespace : Code → Code → Option (List Declaration)
+codespace low high = if low.len == high.len then Some (Declaration.codespace (record { len = low.len; low = low.number; high = high.number }) ∷ []) else None
 
--- a destination
-abbrev pub one_text : ℕ → ℕ → Left → Option Declared
-one_text start end left = option_map (λ d. let p : Declared = (declares_bf start end d.0 ∷ [], d.1) in p) (head_in destination_in left)
+abbrev pub codespace_after : Code → Left → Found (List Declaration)
+codespace_after low left = followed_by (λ high. or_refused (codespace low high)) (head_in code_in left)
+
+-- the codes from start to end have this destination
+abbrev pub text_of : ℕ → ℕ → List ℕ → List Declaration
+text_of start end units = declares_bf start end units ∷ []
+
+abbrev pub one_text : ℕ → ℕ → Left → Found (List Declaration)
+one_text start end left = giving (text_of start end) (head_in destination_in left)
 
 -- these declarations, and then those
-abbrev pub before : List Declaration → Option Declared → Option Declared
-before declared more = option_map (λ p. let d : Declared = (declared ++ p.0, p.1) in d) more
+abbrev pub before : List Declaration → Found (List Declaration) → Found (List Declaration)
+before declared more = giving (λ others. declared ++ others) more
 
 -- a destination for each of count codes from this one on, and the ] after them
-unfoldable pub list_in : ℕ → ℕ → Left → Option Declared
+unfoldable pub list_in : ℕ → ℕ → Left → Found (List Declaration)
 list_in zero start left = head_in (λ t. if is_executable (codes "]") t then Some [] else None) left
-list_in (suc count) start left = option_and_then (λ d. before (declares_bf start start d.0 ∷ []) (list_in count (start + 1) d.1)) (head_in destination_in left)
+list_in (suc count) start left = followed_by (λ units next. before (text_of start start units) (list_in count (start + 1) next)) (head_in destination_in left)
 
--- one destination, or [ and a list of them
-abbrev pub texts_in : ℕ → ℕ → Left → Option Declared
-texts_in start end left = elim left.tokens [
-  | [] ↦ None
-  | t ∷ rest ↦ if is_executable (codes "[") t then list_in (end + 1 - start) start (record { tokens = rest; ends = left.ends }) else one_text start end left
-]
+-- one destination, which is this token, or [ and a list of them
+abbrev pub texts_from : ℕ → ℕ → Token → Left → Found (List Declaration)
+texts_from start end t left = if is_executable (codes "[") t then list_in (end + 1 - start) start left else giving (text_of start end) (or_refused (destination_in t) left)
+
+abbrev pub texts_in : ℕ → ℕ → Left → Found (List Declaration)
+texts_in start end left = followed_by (texts_from start end) (token_in left)
 
 -- a code, and texts
-abbrev pub bf_range_after : Code → Left → Option Declared
-bf_range_after start left = option_and_then (λ e. texts_in start.number e.0.number e.1) (head_in code_in left)
+abbrev pub bf_range_after : Code → Left → Found (List Declaration)
+bf_range_after start left = followed_by (λ end. texts_in start.number end.number) (head_in code_in left)
 
 -- what comes after the first code of an entry
-abbrev pub entry_after : Section → Code → Left → Option Declared
+abbrev pub entry_after : Section → Code → Left → Found (List Declaration)
 entry_after codespace_range start left = codespace_after start left
 entry_after cid_range start left = declared_as Declaration.cid (cid_range_after start left)
 entry_after cid_char start left = declared_as Declaration.cid (cid_char_after start left)
@@ -116,31 +158,28 @@ entry_after notdef_char start left = declared_as Declaration.notdef (cid_char_af
 entry_after bf_range start left = bf_range_after start left
 entry_after bf_char start left = one_text start.number start.number left
 
-abbrev pub entry_in : Section → Left → Option Declared
-entry_in section left = option_and_then (λ s. entry_after section s.0 s.1) (head_in code_in left)
+-- the code that an entry of a section begins with, or none at the closer
+abbrev pub code_or_closer : Section → Token → Option (Option Code)
+code_or_closer section t = if is_executable (closer section) t then Some None else option_map Some (code_in t)
 
--- the code that the next entry of a section begins with, or none at the closer
-abbrev pub start_in : Section → Left → Option (Option Code × Left)
-start_in section left = elim left.tokens [
-  | [] ↦ None
-  | t ∷ rest ↦ let next : Left = record { tokens = rest; ends = left.ends } in
-      if is_executable (closer section) t then (let s : Option Code × Left = (None, next) in Some s) else option_map (λ c. let s : Option Code × Left = (Some c, next) in s) (code_in t)
-]
+abbrev pub start_in : Section → Left → Found (Option Code)
+start_in section left = head_in (code_or_closer section) left
 
--- the entries of a section and its closer, at most count tokens
-unfoldable pub body_within : ℕ → Section → Left → Option Declared
-body_within zero section left = None
-body_within (suc count) section left = elim left.tokens [
-  | [] ↦ None
-  | t ∷ rest ↦ if is_executable (closer section) t then Some ([], record { tokens = rest; ends = left.ends }) else option_and_then (λ e. before e.0 (body_within count section e.1)) (entry_in section left)
-]
+-- the entries of a section and its closer, fewer than count
+unfoldable pub body_within : ℕ → Section → Left → Found (List Declaration)
+body_within zero section left = Err left.stop
+body_within (suc count) section left =
+    followed_by (λ start next. elim start [
+      | None ↦ Ok ([], next)
+      | Some code ↦ followed_by (λ declared rest. before declared (body_within count section rest)) (entry_after section code next)
+    ]) (start_in section left)
 
-unfoldable pub body_in : Section → Left → Option Declared
-body_in section left = body_within (length left.tokens) section left
+unfoldable pub body_in : Section → Left → Found (List Declaration)
+body_in section left = body_within (1 + length left.tokens) section left
 
 -- the lists of a file with what is declared
-abbrev pub added : Lists → Option Declared → Option (Lists × Left)
-added lists found = option_map (λ p. (append_lists lists (lists_of p.0), p.1)) found
+abbrev pub added : Lists → Found (List Declaration) → Found Lists
+added lists found = giving (λ declared. append_lists lists (lists_of declared)) found
 
 -- ---- items
 -- the section that a token opens
@@ -153,31 +192,6 @@ opened_by t = find (λ section. is_executable (opener section) t) sections
 -- the key that a token is
 abbrev pub key_in : Token → Option (List ℕ)
 key_in t = find (λ k. is_literal k t) keys
-
--- the value of a key; none where the text ends
-abbrev pub next_value : Left → Option (Option Token × Left)
-next_value left = elim left.tokens [
-  | [] ↦ if left.ends then Some (None, left) else None
-  | t ∷ rest ↦ Some (Some t, record { tokens = rest; ends = left.ends })
-]
-
--- what comes after the first token of an item
-abbrev pub item_after : Token → Left → Option (Item × Left)
-item_after t left = elim (opened_by t) [
-  | Some section ↦ option_map (λ p. (entries p.0, p.1)) (body_in section left)
-  | None ↦ if is_executable use_word t then Some (use_of_base, left) else elim (key_in t) [ Some k ↦ option_map (λ v. (key k v.0, v.1)) (next_value left) | None ↦ Some (other t, left) ]
-]
-
--- all the items, fewer than count
-unfoldable pub items_within : ℕ → Left → Option (List Item)
-items_within zero left = None
-items_within (suc count) left = elim left.tokens [
-  | [] ↦ if left.ends then Some [] else None
-  | t ∷ rest ↦ option_and_then (λ p. option_map (λ items. p.0 ∷ items) (items_within count p.1)) (item_after t (record { tokens = rest; ends = left.ends }))
-]
-
-unfoldable pub items_in : Left → Option (List Item)
-items_in left = items_within (1 + length left.tokens) left
 
 -- what items say, as far as they are read
 pub record Said : Type 0 where
@@ -203,21 +217,35 @@ with_value values k value = record {
   mode = if bytes_eq k (codes "WMode") then value else values.mode;
 }
 
--- what is said with one item more; a use needs an operand
-abbrev pub says : Said → Item → Option Said
-says old (key k value) = Some (record { values = with_value old.values k value; lists = old.lists; uses = old.uses; operand = Some k })
-says old (entries declared) = Some (record { values = old.values; lists = append_lists old.lists (lists_of declared); uses = old.uses; operand = None })
-says old use_of_base = option_map (λ name. record { values = old.values; lists = old.lists; uses = old.uses ++ name ∷ []; operand = None }) old.operand
-says old (other t) = Some (record { values = old.values; lists = old.lists; uses = old.uses; operand = literal_head (other t) })
+-- what is said with one item more: a key, a section, a use of this file, or another token
+abbrev pub with_key : Said → List ℕ → Option Token → Said
+with_key old k value = record { values = with_value old.values k value; lists = old.lists; uses = old.uses; operand = Some k }
 
-abbrev pub says_all : Said → List Item → Option Said
-says_all old [] = Some old
-says_all old (item ∷ items) = option_and_then (λ mid. says_all mid items) (says old item)
+abbrev pub with_lists : Said → Lists → Said
+with_lists old lists = record { values = old.values; lists = lists; uses = old.uses; operand = None }
 
--- what is said after one item more
-abbrev pub item_said : Said → Option (Item × Left) → Option (Said × Left)
-item_said old found = option_and_then (λ p. option_map (λ said. (said, p.1)) (says old p.0)) found
+abbrev pub with_use : Said → List ℕ → Said
+with_use old name = record { values = old.values; lists = old.lists; uses = old.uses ++ name ∷ []; operand = None }
+
+abbrev pub with_other : Said → Token → Said
+with_other old t = record { values = old.values; lists = old.lists; uses = old.uses; operand = literal_head (other t) }
+
+-- what is said after the item that begins with this token; a use needs an operand
+abbrev pub item_said : Said → Token → Left → Found Said
+item_said old t left = elim (opened_by t) [
+  | Some section ↦ giving (with_lists old) (added old.lists (body_in section left))
+  | None ↦ if is_executable use_word t then or_refused (option_map (with_use old) old.operand) left else elim (key_in t) [ Some k ↦ giving (with_key old k) (next_in left) | None ↦ Ok (with_other old t, left) ]
+]
+
+-- what is said after all the items, fewer than count
+unfoldable pub said_within : ℕ → Said → Left → Result Said ℕ
+said_within zero old left = Err left.stop
+said_within (suc count) old left =
+    and_then (λ first. elim first.0 [
+      | None ↦ Ok old
+      | Some t ↦ and_then (λ p. said_within count p.0 p.1) (item_said old t first.1)
+    ]) (next_in left)
 
 -- what is said after all the items that are left
-abbrev pub all_said : Said → Left → Option Said
-all_said old left = option_and_then (says_all old) (items_in left)
+unfoldable pub all_said : Said → Left → Result Said ℕ
+all_said old left = said_within (1 + length left.tokens) old left

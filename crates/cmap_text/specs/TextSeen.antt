@@ -1,5 +1,5 @@
 -- Private aid: what contracts see of what the code reads from a text.
-use Rattle.std.specs.Prelude.{ℕ, List, codes, Option, option_map}
+use Rattle.std.specs.Prelude.{ℕ, List, codes, option_map}
 use Rattle.std.specs.Option.{option_copied}
 use Rattle.cmap_tokens.specs.TokenSeen.{token_seen}
 use Rattle.cmap_files.specs.CodeLengths.{length_of}
@@ -28,7 +28,7 @@ cids_section Notdef Range = files.notdef_range
 cids_section Notdef Single = files.notdef_char
 
 -- the CIDs of an entry of this shape
-abbrev pub cids_after : Shape → reading.Code → Left → Option ((ℕ × CidEntry) × Left)
+abbrev pub cids_after : Shape → reading.Code → Left → reading.Found (ℕ × CidEntry)
 cids_after Range start left = reading.cid_range_after start left
 cids_after Single start left = reading.cid_char_after start left
 

@@ -1,24 +1,25 @@
 //! The entries of sections. Each call here has the first code of an entry, reads what follows it, and
 //! adds what the entry declares.
 
-ghost use Rattle.std.specs.Prelude.{◌≡◌, ◌+◌, ◌-◌, [], ◌∷◌};
+ghost use Rattle.std.specs.Prelude.{◌≡◌, ◌+◌, ◌-◌, OnOk};
 ghost use Rattle.cmap_files.specs.CodeLengths.{length_of};
 ghost use Rattle.cmap_files.specs.DeclarationsSeen.{cid_entry_seen, lists_seen};
 ghost use Rattle.cmap_text.specs.EntriesSeen.{Adds, Gives};
 ghost use Rattle.cmap_files.specs.Files.{lists_of};
 ghost use Rattle.cmap_files.specs.ListsAppended.{append_lists};
-ghost use Rattle.cmap_files.specs.Outcomes.{Succeeds};
 ghost use Rattle.cmap_files.specs.UnitsSeen.{units_seen};
 ghost use Rattle.cmap_text.specs.TextFiles as files;
 ghost use Rattle.cmap_text.specs.TextSeen.{cids_after, cids_section, code_seen};
-ghost use Rattle.cmap_text.specs.TextReading.{entry_after, list_in};
+ghost use Rattle.cmap_text.specs.TextReading.{entry_after, list_in, text_of};
 
+use crate::refusal::Refusal;
 use crate::tokens::{Code, TokenReader, is_executable};
 use cmap_files::code_length::CodeLength;
 use cmap_files::declarations::{BfRange, CidRange, Codespace, Lists};
-use cmap_files::fault::{Fault, Reason};
+use cmap_files::fault::Reason;
 use cmap_files::units::Units;
 use cmap_runs::runs::Range;
+use std::alloc::AllocError;
 
 /// Which CIDs an entry declares: those of its codes, or the one of all codes that have no other.
 #[derive(Clone, Copy)]
@@ -39,13 +40,13 @@ pub(crate) fn add_codespace_range(
     reader: &mut TokenReader<'_>,
     low: Code,
     lists: &mut Lists,
-) -> Result<(), Fault>
+) -> Result<(), Refusal>
     ensures { Adds (entry_after files.codespace_range (code_seen low) reader.old)
         lists.old lists.new reader.new result }
 {
     let high = reader.next_code()?;
     if low.len.count() != high.len.count() {
-        return Err(Fault::Refused(Reason::UnequalLengths));
+        return Err(Refusal::Last(Reason::UnequalLengths));
     }
     lists.add_codespace(Codespace {
         len: low.len,
@@ -62,7 +63,7 @@ pub(crate) fn add_cids(
     kind: CidKind,
     shape: Shape,
     lists: &mut Lists,
-) -> Result<(), Fault>
+) -> Result<(), Refusal>
     ensures { Adds (entry_after (cids_section kind shape) (code_seen start) reader.old)
         lists.old lists.new reader.new result }
 {
@@ -79,12 +80,13 @@ pub(crate) fn add_bf_char(
     reader: &mut TokenReader<'_>,
     code: Code,
     lists: &mut Lists,
-) -> Result<(), Fault>
+) -> Result<(), Refusal>
     ensures { Adds (entry_after files.bf_char (code_seen code) reader.old)
         lists.old lists.new reader.new result }
 {
     let units = reader.next_destination()?;
-    add_text(lists, code.number, code.number, units)
+    add_text(lists, code.number, code.number, units)?;
+    Ok(())
 }
 
 /// code, code, and one destination or a list of them
@@ -92,7 +94,7 @@ pub(crate) fn add_bf_range(
     reader: &mut TokenReader<'_>,
     start: Code,
     lists: &mut Lists,
-) -> Result<(), Fault>
+) -> Result<(), Refusal>
     ensures { Adds (entry_after files.bf_range (code_seen start) reader.old)
         lists.old lists.new reader.new result }
 {
@@ -102,7 +104,8 @@ pub(crate) fn add_bf_range(
         return add_list(reader, start.number, end.number, lists);
     }
     let units = reader.destination(&token)?;
-    add_text(lists, start.number, end.number, units)
+    add_text(lists, start.number, end.number, units)?;
+    Ok(())
 }
 
 /// One destination for each code from `start` to `end`, and the closing bracket.
@@ -111,7 +114,7 @@ fn add_list(
     start: u32,
     end: u32,
     lists: &mut Lists,
-) -> Result<(), Fault>
+) -> Result<(), Refusal>
     ensures { Adds (list_in (end + 1 - start) start reader.old) lists.old lists.new reader.new result }
 {
     for code in u64::from(start)..u64::from(end) + 1 {
@@ -120,18 +123,18 @@ fn add_list(
     }
     let token = reader.required_token()?;
     if !is_executable(&token, b"]") {
-        return Err(Fault::Refused(Reason::BracketExpected));
+        return Err(Refusal::Last(Reason::BracketExpected));
     }
     Ok(())
 }
 
 /// Adds the units of the text of the code `start`, of a range that ends with the code `end`.
-fn add_text(lists: &mut Lists, start: u32, end: u32, units: Units) -> Result<(), Fault>
-    ensures { Succeeds (lists_seen lists.new ≡ append_lists (lists_seen lists.old)
-        (lists_of (files.declares_bf start end (units_seen units) ∷ []))) ⊥ result }
+fn add_text(lists: &mut Lists, start: u32, end: u32, units: Units) -> Result<(), AllocError>
+    ensures { OnOk result (lists_seen lists.new ≡ append_lists (lists_seen lists.old)
+        (lists_of (text_of start end (units_seen units)))) }
 {
     let range = Range { start, end };
-    lists.add_bf(BfRange { range, units }).map_err(Fault::from)
+    lists.add_bf(BfRange { range, units })
 }
 
 /// A declaration of CIDs, and the length of the codes that it is filed by.
@@ -143,9 +146,9 @@ struct Filed {
 
 /// What an entry of CIDs declares: code, code, CID for a range and code, CID for a single code,
 /// filed by the length of the first code.
-fn read_cids(reader: &mut TokenReader<'_>, start: Code, shape: Shape) -> Result<Filed, Fault>
+fn read_cids(reader: &mut TokenReader<'_>, start: Code, shape: Shape) -> Result<Filed, Refusal>
     ensures { Gives (cids_after shape (code_seen start) reader.old)
-        (λ filed. ((length_of filed.len, cid_entry_seen filed.range), reader.new)) result }
+        (λ filed. ((length_of filed.len, cid_entry_seen filed.range), reader.new)) reader.new result }
 {
     let end = match shape {
         Shape::Range => reader.next_code()?,

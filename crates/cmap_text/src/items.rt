@@ -1,19 +1,19 @@
 //! The items of a text: keys with their values, sections, uses of other files, and tokens by themselves.
 
-ghost use Rattle.std.specs.Prelude.{◌≡◌, ◌++◌, ℕ, List, [], ◌∷◌, None, Some};
+ghost use Rattle.std.specs.Prelude.{◌≡◌, ◌++◌, ℕ, List, [], ◌∷◌, None, Some, IfErr, OnOk};
 ghost use Rattle.std.specs.Borrow.{Bor};
 ghost use Rattle.std.specs.Option.{option_copied};
 ghost use Rattle.cmap_tokens.specs.TokenSeen.{token_seen};
-ghost use Rattle.cmap_text.specs.EntriesSeen.{Gives};
-ghost use Rattle.cmap_text.specs.TextReading.{all_said, item_after, item_said, nothing_said};
+ghost use Rattle.cmap_text.specs.EntriesSeen.{Gives, RefusesLast};
+ghost use Rattle.cmap_text.specs.TextReading.{all_said, item_said, nothing_said};
 ghost use Rattle.cmap_text.specs.TextSeen.{said_seen};
-ghost use Rattle.cmap_files.specs.Outcomes.{Succeeds};
 
 use crate::keys::{Key, Values};
+use crate::refusal::Refusal;
 use crate::sections::{Section, read_section};
 use crate::tokens::{TokenReader, is_executable, literal_name};
 use cmap_files::declarations::Lists;
-use cmap_files::fault::{Fault, Reason};
+use cmap_files::fault::Reason;
 use cmap_tokens::token::{Token, one_value_for_a_string};
 use std::alloc::Global;
 
@@ -42,20 +42,27 @@ impl<'d> Said<'d> {
 }
 
 /// Adds a use of the file that the last item names.
-fn add_use<'d>(uses: &mut Vec<&'d [u8]>, operand: Option<&'d [u8]>) -> Result<(), Fault>
-    ensures { Succeeds ((name : Bor (List ℕ)) × (operand.entry ≡ Some name)
-        × (uses.new.items ≡ uses.old.items ++ name ∷ []))
-        (option_copied operand.entry ≡ None) result }
+fn add_use<'d>(uses: &mut Vec<&'d [u8]>, operand: Option<&'d [u8]>) -> Result<(), Refusal>
+    ensures added { OnOk result ((name : Bor (List ℕ)) × (operand.entry ≡ Some name)
+        × (uses.new.items ≡ uses.old.items ++ name ∷ [])) }
+    ensures refused { IfErr result (RefusesLast (option_copied operand.entry ≡ None)) }
 {
     let Some(name) = operand else {
-        return Err(Fault::Refused(Reason::UseWithoutName));
+        return Err(Refusal::Last(Reason::UseWithoutName));
     };
-    uses.push(name).map_err(Fault::from)
+    match uses.push(name) {
+        Ok(()) => Ok(()),
+        Err(_) => Err(Refusal::Memory),
+    }
 }
 
 /// Reads all the items of a text.
-pub(crate) fn read_items<'d>(reader: &mut TokenReader<'d>, said: &mut Said<'d>) -> Result<(), Fault>
-    ensures { Gives (all_said (said_seen said.old) reader.old) (λ done. said_seen said.new) result }
+pub(crate) fn read_items<'d>(
+    reader: &mut TokenReader<'d>,
+    said: &mut Said<'d>,
+) -> Result<(), Refusal>
+    ensures { Gives (all_said (said_seen said.old) reader.old) (λ done. said_seen said.new)
+        reader.new result }
 {
     one_value_for_a_string();
     while let Some(token) = reader.next_token()? {
@@ -69,9 +76,9 @@ fn read_item<'d>(
     reader: &mut TokenReader<'d>,
     first: &Token<'d>,
     said: &mut Said<'d>,
-) -> Result<(), Fault>
-    ensures { Gives (item_said (said_seen said.old) (item_after (token_seen first.now) reader.old))
-        (λ done. (said_seen said.new, reader.new)) result }
+) -> Result<(), Refusal>
+    ensures { Gives (item_said (said_seen said.old) (token_seen first.now) reader.old)
+        (λ done. (said_seen said.new, reader.new)) reader.new result }
 {
     let operand = said.operand;
     said.operand = literal_name(first);

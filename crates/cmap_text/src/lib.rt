@@ -5,6 +5,7 @@ mod entries;
 mod file;
 mod items;
 mod keys;
+mod refusal;
 mod sections;
 mod tokens;
 

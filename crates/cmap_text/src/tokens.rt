@@ -1,25 +1,23 @@
 //! The tokens of a text in order, and what single tokens stand for.
 
-ghost use Rattle.std.specs.Prelude.{◌≡◌, ◌<◌, ◌≤◌, ◌^◌, ℕ, List, [], ◌∷◌, length, None, Some, MatchOption, MatchResult, option_map};
+ghost use Rattle.std.specs.Prelude.{◌≡◌, ◌<◌, ◌≤◌, ◌^◌, ℕ, List, [], length, Ok, Some, MatchOption, option_map};
 ghost use Rattle.std.specs.Int.Digits.{number_from_digits};
 ghost use Rattle.std.specs.List.{AllByRecursion};
 ghost use Rattle.std.specs.Option.{option_copied};
-ghost use Rattle.cmap_files.specs.Outcomes.{Outcome};
 ghost use Rattle.cmap_files.specs.UnitsSeen.{units_seen};
 ghost use Rattle.cmap_tokens.specs.Texts.{units_of};
 ghost use Rattle.cmap_tokens.specs.Tokens.{String};
 ghost use Rattle.cmap_tokens.specs.TokenSeen.{token_seen};
+ghost use Rattle.cmap_tokens.specs.TokensLeft.{start_of, tokens_of};
 ghost use Rattle.cmap_text.specs.EntriesSeen.{Gives};
 ghost use Rattle.cmap_text.specs.TextFiles.{literal_head, other};
-ghost use Rattle.cmap_text.specs.TextReading.{cid_in, code_in, code_of, destination_in, head_in, is_executable, is_literal};
+ghost use Rattle.cmap_text.specs.TextReading.{cid_in, code_in, code_of, destination_in, head_in, is_executable, is_literal, next_in, or_refused, token_in};
 ghost use Rattle.cmap_text.specs.TextSeen.{code_seen};
-ghost use Rattle.cmap_tokens.specs.TokensLeft.{HasTokens, ended, malformed, with_front};
-ghost use Rattle.cmap_files.specs.declared.fault.Fault.TheVariants.{Refused};
-ghost use Rattle.cmap_files.specs.declared.fault.Reason.TheVariants.{MalformedToken};
 
+use crate::refusal::Refusal;
 use cmap_bits::bits::Reader;
 use cmap_files::code_length::CodeLength;
-use cmap_files::fault::{Fault, Reason};
+use cmap_files::fault::Reason;
 use cmap_files::names::Cid;
 use cmap_files::units::Units;
 use cmap_tokens::token::{Number, Scanner, Token, one_value_for_a_string};
@@ -44,17 +42,16 @@ pub(crate) struct TokenReader<'d> {
 }
 
 impl<'d> Model for TokenReader<'d> {
-    ghost use Rattle.cmap_tokens.specs.Scanner.{rest_of};
     ghost use Rattle.cmap_tokens.specs.TokensLeft.{Left, tokens_of};
 
     ghost Value = { Left };
 
-    ghost view = { λ reader. tokens_of (rest_of reader.scanner) };
+    ghost view = { λ reader. tokens_of reader.scanner };
 }
 
 impl<'d> TokenReader<'d> {
     pub(crate) fn new(alloc: Global, text: &'d [u8]) -> Self
-        ensures tokens { HasTokens text.now result }
+        ensures { result ≡ tokens_of (start_of text.now) }
     {
         TokenReader {
             alloc,
@@ -64,52 +61,49 @@ impl<'d> TokenReader<'d> {
     }
 
     /// The next token, `None` at the end of the text.
-    pub(crate) fn next_token(&mut self) -> Result<Option<Token<'d>>, Fault>
-        ensures { MatchResult result (λ found. MatchOption found ((self.old ≡ ended) × (self.new ≡ ended))
-            (λ token. self.old ≡ with_front (token_seen token ∷ []) self.new))
-            (λ fault. (fault ≡ Refused MalformedToken) × (self.old ≡ malformed)) }
+    pub(crate) fn next_token(&mut self) -> Result<Option<Token<'d>>, Refusal>
+        ensures { Gives (next_in self.old) (λ found. (option_map token_seen found, self.new)) self.new result }
     {
         let Ok(found) = self.scanner.next_token() else {
-            return Err(Fault::Refused(Reason::MalformedToken));
+            return Err(Refusal::Next(Reason::MalformedToken));
         };
         Ok(found)
     }
 
     /// The next token, which a section needs.
-    pub(crate) fn required_token(&mut self) -> Result<Token<'d>, Fault>
-        ensures { Outcome (λ token. self.old ≡ with_front (token_seen token ∷ []) self.new)
-            (self.old.tokens ≡ []) result }
+    pub(crate) fn required_token(&mut self) -> Result<Token<'d>, Refusal>
+        ensures { Gives (token_in self.old) (λ token. (token_seen token, self.new)) self.new result }
     {
         match self.scanner.next_token() {
             Ok(Some(token)) => Ok(token),
-            Ok(None) => Err(Fault::Refused(Reason::EndWithinSection)),
-            Err(_) => Err(Fault::Refused(Reason::MalformedToken)),
+            Ok(None) => Err(Refusal::Next(Reason::EndWithinSection)),
+            Err(_) => Err(Refusal::Next(Reason::MalformedToken)),
         }
     }
 
     /// The code that a token is: a string of one to four bytes.
-    pub(crate) fn code(&mut self, token: &Token<'_>) -> Result<Code, Fault>
-        ensures code { Gives (code_in (token_seen token.now)) code_seen result }
-        ensures stays { self.new ≡ self.old }
+    pub(crate) fn code(&mut self, token: &Token<'_>) -> Result<Code, Refusal>
+        ensures { Gives (or_refused (code_in (token_seen token.now)) self.old)
+            (λ code. (code_seen code, self.new)) self.new result }
     {
         one_value_for_a_string();
         let Token::String(string) = token else {
-            return Err(Fault::Refused(Reason::CodeExpected));
+            return Err(Refusal::Last(Reason::CodeExpected));
         };
         if let Some((count, number)) = string.plain_number() {
             let Some(len) = CodeLength::of(count) else {
-                return Err(Fault::Refused(Reason::CodeLength));
+                return Err(Refusal::Last(Reason::CodeLength));
             };
             return Ok(Code { len, number });
         }
         string.decode_into(&mut self.string)?;
-        code_of(&self.string).ok_or(Fault::Refused(Reason::CodeLength))
+        code_of(&self.string).ok_or(Refusal::Last(Reason::CodeLength))
     }
 
     /// The code of two bytes that comes next, where it stands as most do; `None` of any other token.
     pub(crate) fn plain_code(&mut self) -> Option<Code>
         ensures { MatchOption result (self.new ≡ self.old) (λ code. (piece : List ℕ)
-            × (self.old ≡ with_front (String piece ∷ []) self.new)
+            × (token_in self.old ≡ Ok (String piece, self.new))
             × (code_in (String piece) ≡ Some (code_seen code))) }
     {
         one_value_for_a_string();
@@ -119,8 +113,8 @@ impl<'d> TokenReader<'d> {
     }
 
     /// The code that comes next.
-    pub(crate) fn next_code(&mut self) -> Result<Code, Fault>
-        ensures { Gives (head_in code_in self.old) (λ code. (code_seen code, self.new)) result }
+    pub(crate) fn next_code(&mut self) -> Result<Code, Refusal>
+        ensures { Gives (head_in code_in self.old) (λ code. (code_seen code, self.new)) self.new result }
     {
         if let Some(code) = self.plain_code() {
             return Ok(code);
@@ -130,29 +124,29 @@ impl<'d> TokenReader<'d> {
     }
 
     /// The units of the destination that a token is: a string that isn't empty.
-    pub(crate) fn destination(&mut self, token: &Token<'_>) -> Result<Units, Fault>
-        ensures destination { Gives (destination_in (token_seen token.now)) units_seen result }
-        ensures stays { self.new ≡ self.old }
+    pub(crate) fn destination(&mut self, token: &Token<'_>) -> Result<Units, Refusal>
+        ensures { Gives (or_refused (destination_in (token_seen token.now)) self.old)
+            (λ units. (units_seen units, self.new)) self.new result }
     {
         one_value_for_a_string();
         let Token::String(string) = token else {
-            return Err(Fault::Refused(Reason::TextExpected));
+            return Err(Refusal::Last(Reason::TextExpected));
         };
         if let Some((len, number)) = string.plain_number() {
             return Ok(units_of_number(len, number));
         }
         string.decode_into(&mut self.string)?;
         if self.string.is_empty() {
-            return Err(Fault::Refused(Reason::TextExpected));
+            return Err(Refusal::Last(Reason::TextExpected));
         }
         let units = units(self.alloc, &self.string)?;
         Ok(Units::from_slice(self.alloc, &units)?)
     }
 
     /// The units of the destination that comes next.
-    pub(crate) fn next_destination(&mut self) -> Result<Units, Fault>
+    pub(crate) fn next_destination(&mut self) -> Result<Units, Refusal>
         ensures { Gives (head_in destination_in self.old)
-            (λ units. (units_seen units, self.new)) result }
+            (λ units. (units_seen units, self.new)) self.new result }
     {
         one_value_for_a_string();
         if let Some(number) = self.scanner.next_two_bytes() {
@@ -163,19 +157,28 @@ impl<'d> TokenReader<'d> {
     }
 
     /// The CID that comes next: an integer of 32 bits without sign.
-    pub(crate) fn next_cid(&mut self) -> Result<Cid, Fault>
-        ensures { Gives (head_in cid_in self.old) (λ cid. (cid, self.new)) result }
+    pub(crate) fn next_cid(&mut self) -> Result<Cid, Refusal>
+        ensures { Gives (head_in cid_in self.old) (λ cid. (cid, self.new)) self.new result }
     {
         let cid = match self.scanner.next_decimal() {
             Some(number) => u32::try_from(number).ok(),
             None => cid_of(&self.required_token()?),
         };
-        cid.ok_or(Fault::Refused(Reason::CidExpected))
+        cid.ok_or(Refusal::Last(Reason::CidExpected))
     }
 
     /// How many bytes of the text have been read.
-    pub(crate) fn offset(&self) -> usize {
+    pub(crate) fn offset(&self) -> usize
+        ensures { result ≡ self.now.passed }
+    {
         self.scanner.offset()
+    }
+
+    /// The place of the byte that shows that no token comes next, where none does.
+    pub(crate) fn stop(&self) -> usize
+        ensures { self.now.tokens ≡ [] → result ≡ self.now.stop }
+    {
+        self.scanner.stop()
     }
 }
 

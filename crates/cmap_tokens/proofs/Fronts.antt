@@ -1,19 +1,20 @@
 -- The front of a text and the tokens that are left of it: what the code reads is what the relations say, both ways.
-use Rattle.std.proofs.Common.{◌≡◌, ℕ, ◌<◌, false, List, ◌++◌, length, take, drop, None, Some, inl, inr, refl, sym, ap, ◌∙◌, subst, arith, append_assoc, ◌+◌, ◌-◌, ◌≤◌, length-drop, length-take-le, zero, suc, true, [], ◌∷◌, Option, append-nil, length-append}
-use Rattle.std.specs.Prelude.{IfSome, nat_le}
+use Rattle.std.proofs.Common.{◌≡◌, ℕ, ◌<◌, false, List, ◌++◌, length, take, drop, None, Some, inl, inr, refl, sym, ap, ◌∙◌, subst, arith, append_assoc, ◌+◌, ◌-◌, ◌≤◌, length-drop, length-take-le, zero, suc, true, [], ◌∷◌, Option, length-append}
+use Rattle.std.specs.Prelude.{◌↔◌, IfSome, map}
 use Rattle.std.proofs.lemmas.Bool.{cases_lt, le-leb, lt-leb, leb-true}
 use Rattle.std.proofs.lemmas.List.{take_at, drop_at, drop_all, take-append-drop, take_rest, drop-drop}
 use Rattle.cmap_tokens.specs.Gaps.{IsBlank}
 use Rattle.cmap_tokens.specs.Tokens.{Token, Front, IsMalformed, Tokens}
 use Rattle.cmap_tokens.specs.Scanner.{OnlyFront, Place, FirstToken, ReadsToken, rest_of}
-use Rattle.cmap_tokens.specs.TokenReading.{gap_len, first_piece}
-use Rattle.cmap_tokens.specs.TokensLeft.{after_gap, HasTokens, Left, ended, malformed, with_front, tokens_within, tokens_of}
+use Rattle.cmap_tokens.specs.TokenReading.{gap_len, first_piece, malformed_len}
+use Rattle.cmap_tokens.specs.TokensLeft.{after_gap, HasTokens, Left, LeavesAfter, LeavesNone, no_token, start_of, with_token, tokens_within, tokens_of}
 use Rattle.cmap_tokens.proofs.Gaps.{measured, gap_len-append, gap_len-blank}
 use Rattle.cmap_tokens.proofs.TokenPieces.{IsFirst, first_is, is_read}
 
 -- a front is read as it is
 pub record ReadsFront (text gap piece : List ℕ) (token : Token) (rest : List ℕ) : Type 0 where
   pub first : first_piece (after_gap text) ≡ Some (token, length piece)
+  pub long : length gap ≡ gap_len false text
   pub gap_is : gap ≡ take (gap_len false text) text
   pub piece_is : piece ≡ take (length piece) (after_gap text)
   pub rest_is : rest ≡ drop (length piece) (after_gap text)
@@ -27,6 +28,7 @@ reads_front text gap piece token rest front =
     let after : after_gap text ≡ piece ++ rest = ap (drop (gap_len false text)) whole ∙ drop_at gap (piece ++ rest) (gap_len false text) long in
     record {
       first = ap first_piece after ∙ read.first;
+      long = long;
       gap_is = sym (ap (take (gap_len false text)) whole ∙ take_at gap (piece ++ rest) (gap_len false text) long);
       piece_is = sym (ap (take (length piece)) after ∙ take_at piece rest (length piece) refl);
       rest_is = sym (ap (drop (length piece)) after ∙ drop_at piece rest (length piece) refl);
@@ -112,11 +114,12 @@ malformed_is text n gap more none =
     malformed_from text (omega (arith, more, ap length rest, length-drop (gap_len false text) text)) (sym (none ∙ ap first_piece rest))
 
 -- ---- the tokens that are left of a text are those of the relations on texts
-abbrev stopped : List ℕ → Left
-stopped text = record { tokens = []; ends = nat_le (length text) (gap_len false text) }
+-- what is left of a text, from a place on
+abbrev pub left_from : ℕ → List ℕ → Left
+left_from passed text = tokens_within (length text) passed text
 
 -- what stands at the front of a text: no token, or one
-data Next (text : List ℕ) : Type 0 where
+pub data Next (text : List ℕ) : Type 0 where
   none : first_piece (after_gap text) ≡ None → Next text
   one : (first : Token × ℕ) → first_piece (after_gap text) ≡ Some first → Next text
 
@@ -124,106 +127,133 @@ next_by : (text : List ℕ) (o : Option (Token × ℕ)) → first_piece (after_g
 next_by text None e = none e
 next_by text (Some first) e = one first e
 
-next : (text : List ℕ) → Next text
+pub next : (text : List ℕ) → Next text
 next text = next_by text (first_piece (after_gap text)) refl
 
-stop : (n : ℕ) (text : List ℕ) → first_piece (after_gap text) ≡ None → tokens_within n text ≡ stopped text
+pub stops : (n passed : ℕ) (text : List ℕ) → first_piece (after_gap text) ≡ None → tokens_within n passed text ≡ no_token passed text
 unfolding tokens_within
-stop zero text e = refl
-stop (suc n) text e = rw (e, tokens_within) refl
+stops zero passed text e = refl
+stops (suc n) passed text e = rw (e, tokens_within) refl
 
-step : (n : ℕ) (text : List ℕ) (first : Token × ℕ) → first_piece (after_gap text) ≡ Some first → tokens_within (suc n) text ≡ with_front (first.0 ∷ []) (tokens_within n (drop first.1 (after_gap text)))
+pub steps : (n passed : ℕ) (text : List ℕ) (first : Token × ℕ) → first_piece (after_gap text) ≡ Some first
+    → tokens_within (suc n) passed text ≡ with_token first.0 passed (tokens_within n (passed + (gap_len false text + first.1)) (drop first.1 (after_gap text)))
 unfolding tokens_within
-step n text first e = rw (e, tokens_within) refl
+steps n passed text first e = rw (e, tokens_within) refl
+
+pub passed_is : (n passed : ℕ) (text : List ℕ) → (tokens_within n passed text).passed ≡ passed
+unfolding tokens_within
+passed_is zero passed text = refl
+passed_is (suc n) passed text =
+    elim (next text) [
+      | none e ↦ ap (λ l. l.passed) (stops (suc n) passed text e)
+      | one first e ↦ ap (λ l. l.passed) (steps n passed text first e)
+    ]
 
 -- a token takes a byte at least
-shorter : (text : List ℕ) (first : Token × ℕ) → first_piece (after_gap text) ≡ Some first → length (drop first.1 (after_gap text)) < length text
+pub shorter : (text : List ℕ) (first : Token × ℕ) → first_piece (after_gap text) ≡ Some first → length (drop first.1 (after_gap text)) < length text
 shorter text first e =
     let front = (only_front text first e).front in
     omega (arith, (reads_front text _ _ _ _ front).filled, ap length front.whole, length-append {A = ℕ})
 
-enough : (n m : ℕ) (text : List ℕ) → length text ≤ n → length text ≤ m → tokens_within n text ≡ tokens_within m text
-enough zero m text a b =
+enough : (n m passed : ℕ) (text : List ℕ) → length text ≤ n → length text ≤ m → tokens_within n passed text ≡ tokens_within m passed text
+enough zero m passed text a b =
     elim (next text) [
-      | none e ↦ stop zero text e ∙ sym (stop m text e)
+      | none e ↦ stops zero passed text e ∙ sym (stops m passed text e)
       | one first e ↦ absurd (omega (arith, a, shorter text first e))
     ]
-enough (suc n) zero text a b =
+enough (suc n) zero passed text a b =
     elim (next text) [
-      | none e ↦ stop (suc n) text e ∙ sym (stop zero text e)
+      | none e ↦ stops (suc n) passed text e ∙ sym (stops zero passed text e)
       | one first e ↦ absurd (omega (arith, b, shorter text first e))
     ]
-enough (suc n) (suc m) text a b =
+enough (suc n) (suc m) passed text a b =
     elim (next text) [
-      | none e ↦ stop (suc n) text e ∙ sym (stop (suc m) text e)
+      | none e ↦ stops (suc n) passed text e ∙ sym (stops (suc m) passed text e)
       | one first e ↦
           let less = shorter text first e in
-          step n text first e ∙ ap (with_front (first.0 ∷ [])) (enough n m _ (omega (arith, a, less)) (omega (arith, b, less))) ∙ sym (step m text first e)
+          steps n passed text first e ∙ ap (with_token first.0 passed) (enough n m _ _ (omega (arith, a, less)) (omega (arith, b, less))) ∙ sym (steps m passed text first e)
     ]
 
-tokens_of-none : (text : List ℕ) → first_piece (after_gap text) ≡ None → tokens_of text ≡ stopped text
-unfolding tokens_of
-tokens_of-none text e = stop (length text) text e
+pub left-one : (passed : ℕ) (text : List ℕ) (first : Token × ℕ) → first_piece (after_gap text) ≡ Some first
+    → left_from passed text ≡ with_token first.0 passed (left_from (passed + (gap_len false text + first.1)) (drop first.1 (after_gap text)))
+left-one passed text first e =
+    enough (length text) (suc (length text)) passed text (omega arith) (omega arith)
+    ∙ steps (length text) passed text first e
+    ∙ ap (with_token first.0 passed) (enough _ _ _ _ (omega (arith, shorter text first e)) (omega arith))
 
-tokens_of-one : (text : List ℕ) (first : Token × ℕ) → first_piece (after_gap text) ≡ Some first → tokens_of text ≡ with_front (first.0 ∷ []) (tokens_of (drop first.1 (after_gap text)))
-unfolding tokens_of
-tokens_of-one text first e =
-    enough (length text) (suc (length text)) text (omega arith) (omega arith)
-    ∙ step (length text) text first e
-    ∙ ap (with_front (first.0 ∷ [])) (enough (length text) (length (drop first.1 (after_gap text))) _ (omega (arith, shorter text first e)) (omega arith))
-
-pub tokens_of-token : (text gap piece rest : List ℕ) (t : Token) → Front text gap piece t rest → tokens_of text ≡ with_front (t ∷ []) (tokens_of rest)
-tokens_of-token text gap piece rest t front =
-    let read = reads_front text gap piece t rest front in
-    tokens_of-one text (t, length piece) read.first ∙ ap (λ r. with_front (t ∷ []) (tokens_of r)) (sym read.rest_is)
-
-pub tokens_of-blank : (text : List ℕ) → IsBlank text → tokens_of text ≡ ended
-tokens_of-blank text blank =
+-- these are all tokens of a text just where they are left of it, and it ends
+has : (tokens : List Token) (passed : ℕ) (text : List ℕ) → Tokens text tokens ↔ ((map (λ p. p.token) (left_from passed text).tokens ≡ tokens) × ((left_from passed text).ends ≡ true))
+has [] passed text =
     elim (next text) [
-      | none e ↦ tokens_of-none text e ∙ ap (λ b. let l : Left = record { tokens = []; ends = b } in l) (le-leb _ _ (omega (arith, gap_len-blank text blank)))
-      | one first e ↦ absurd (front_not_blank _ _ _ _ _ (only_front text first e).front blank)
+      | none e ↦ rw (stops _ passed text e) (λ blank. (refl, le-leb _ _ (omega (arith, gap_len-blank text blank))), λ both. (measured false text).blank (leb-true _ _ both.1))
+      | one first e ↦ rw (left-one passed text first e) (
+        λ blank. absurd (front_not_blank _ _ _ _ _ (only_front text first e).front blank),
+        λ both. let clash : first.0 ∷ _ ≡ [] = both.0 in cc,
+      )
     ]
-
-pub tokens_of-malformed : (text : List ℕ) → IsMalformed text → tokens_of text ≡ malformed
-tokens_of-malformed text fault =
+has (t ∷ tokens) passed text =
     elim (next text) [
-      | none e ↦
-          elim (cases_lt (gap_len false text) (length text)) [
-            | inl less ↦ tokens_of-none text e ∙ ap (λ b. let l : Left = record { tokens = []; ends = b } in l) (lt-leb _ _ less)
-            | inr all ↦ absurd (fault.0 ((measured false text).blank all))
-          ]
-      | one first e ↦ absurd (fault.1 _ _ _ _ (only_front text first e).front)
-    ]
-
--- all tokens of a text
-tokens_of-all : (text : List ℕ) (tokens : List Token) → Tokens text tokens → tokens_of text ≡ with_front tokens ended
-tokens_of-all text [] blank = tokens_of-blank text blank
-tokens_of-all text (t ∷ tokens) (gap, piece, rest, front, more) = tokens_of-token text gap piece rest t front ∙ ap (with_front (t ∷ [])) (tokens_of-all rest tokens more)
-
-Tokens-of : (text : List ℕ) (tokens : List Token) → (tokens_of text).tokens ≡ tokens → (tokens_of text).ends ≡ true → Tokens text tokens
-Tokens-of text [] is ends =
-    elim (next text) [
-      | none e ↦ (measured false text).blank (leb-true _ _ (ap (λ l. l.ends) (sym (tokens_of-none text e)) ∙ ends))
-      | one first e ↦ let clash : first.0 ∷ _ ≡ [] = ap (λ l. l.tokens) (sym (tokens_of-one text first e)) ∙ is in cc
-    ]
-Tokens-of text (t ∷ tokens) is ends =
-    elim (next text) [
-      | none e ↦ let clash : [] ≡ t ∷ tokens = ap (λ l. l.tokens) (sym (tokens_of-none text e)) ∙ is in cc
+      | none e ↦ rw (stops _ passed text e) (
+        λ at. let clash = sym (reads_front text at.0 at.1 t at.2 at.3).first ∙ e in cc,
+        λ both. let clash : [] ≡ t ∷ tokens = both.0 in cc,
+      )
       | one first e ↦
-          let rest = drop first.1 (after_gap text) in
-          let one_more = tokens_of-one text first e in
-          let lists : first.0 ∷ (tokens_of rest).tokens ≡ t ∷ tokens = ap (λ l. l.tokens) (sym one_more) ∙ is in
-          let head : first.0 ≡ t = cc in
-          let tail : (tokens_of rest).tokens ≡ tokens = cc in
-          (take (gap_len false text) text, take first.1 (after_gap text), rest, subst (λ u. Front text (take (gap_len false text) text) (take first.1 (after_gap text)) u rest) head (only_front text first e).front, Tokens-of rest tokens tail (ap (λ l. l.ends) (sym one_more) ∙ ends))
+          let more = has tokens (passed + (gap_len false text + first.1)) (drop first.1 (after_gap text)) in
+          let only = only_front text first e in
+          rw (left-one passed text first e) (
+            λ at.
+                let same = only.only _ _ _ t at.3 in
+                let left = more.0 (subst (λ r. Tokens r tokens) same.3 at.4) in
+                let first_is : first.0 ≡ t = sym same.2 in
+                (rw (first_is, left.0) refl, left.1),
+            λ both.
+                let lists : first.0 ∷ map (λ p. p.token) (left_from _ _).tokens ≡ t ∷ tokens = both.0 in
+                let head : first.0 ≡ t = cc in
+                (_, _, _, subst (λ u. Front text (take (gap_len false text) text) (take first.1 (after_gap text)) u (drop first.1 (after_gap text))) head only.front, more.1 (cc, both.1)),
+          )
     ]
 
-pub has_tokens : (text : List ℕ) → HasTokens text (tokens_of text)
-has_tokens text tokens = (
-  λ at. let is = tokens_of-all text tokens at in (ap (λ l. l.tokens) is ∙ append-nil tokens, ap (λ l. l.ends) is),
-  λ both. Tokens-of text tokens both.0 both.1,
-)
+pub has_tokens : (text : List ℕ) → HasTokens text (tokens_of (start_of text))
+unfolding tokens_of
+has_tokens text tokens = has tokens 0 text
+
+pub leaves_blank : (place : Place) → IsBlank (rest_of place) → LeavesNone true place
+unfolding tokens_of
+leaves_blank place blank =
+    elim (next (rest_of place)) [
+      | none e ↦ rw (stops _ place.passed (rest_of place) e) (refl, le-leb _ _ (omega (arith, gap_len-blank (rest_of place) blank)))
+      | one first e ↦ absurd (front_not_blank _ _ _ _ _ (only_front (rest_of place) first e).front blank)
+    ]
+
+pub leaves_malformed : (place : Place) → IsMalformed (rest_of place) → LeavesNone false place
+unfolding tokens_of
+leaves_malformed place fault =
+    elim (next (rest_of place)) [
+      | none e ↦
+          elim (cases_lt (gap_len false (rest_of place)) (length (rest_of place))) [
+            | inl less ↦ rw (stops _ place.passed (rest_of place) e) (refl, lt-leb _ _ less)
+            | inr all ↦ absurd (fault.0 ((measured false (rest_of place)).blank all))
+          ]
+      | one first e ↦ absurd (fault.1 _ _ _ _ (only_front (rest_of place) first e).front)
+    ]
 
 -- what is left after the first token of what was left
-pub left_after : (old new : Place) (t : Token) → ReadsToken old t new → tokens_of (rest_of old) ≡ with_front (t ∷ []) (tokens_of (rest_of new))
-left_after old new t (gap, piece, only, is) = tokens_of-token (rest_of old) gap piece (rest_of new) t only.front
+pub left_after : (old new : Place) (t : Token) → ReadsToken old t new → LeavesAfter t old new
+unfolding tokens_of
+left_after old new t (gap, piece, only, is) =
+    let read = reads_front (rest_of old) gap piece t (rest_of new) only.front in
+    let at : old.passed + (gap_len false (rest_of old) + length piece) ≡ new.passed = omega (arith, read.long, ap (λ p. p.passed) is) in
+    left-one old.passed (rest_of old) (t, length piece) read.first ∙ ap (λ r. with_token t old.passed (left_from (old.passed + (gap_len false (rest_of old) + length piece)) r)) (sym read.rest_is) ∙ ap (λ n. with_token t old.passed (left_from n (rest_of new))) at
+
+pub passed_of : (place : Place) → (tokens_of place).passed ≡ place.passed
+unfolding tokens_of
+passed_of place = passed_is (length (rest_of place)) place.passed (rest_of place)
+
+-- n bytes of gap are passed, and then m that show that no token comes
+pub stop_is : (place : Place) (text : List ℕ) (n m : ℕ) → text ≡ rest_of place → n ≡ gap_len false text → m ≡ malformed_len (rest_from text n) → (tokens_of place).tokens ≡ [] → place.passed + n + m ≡ (tokens_of place).stop
+unfolding tokens_of
+stop_is place text n m is gap len empty =
+    elim (next (rest_of place)) [
+      | none e ↦ sym (ap (λ l. l.stop) (stops _ place.passed (rest_of place) e) ∙ omega (arith, gap, len, ap (gap_len false) is, ap malformed_len (rest_is text n gap), ap (λ t. malformed_len (after_gap t)) is))
+      | one first e ↦ let clash : _ ∷ _ ≡ [] = sym (ap (λ l. l.tokens) (left-one place.passed (rest_of place) first e)) ∙ empty in cc
+    ]

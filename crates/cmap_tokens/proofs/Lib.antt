@@ -1,5 +1,6 @@
 pub mod AfterBlank
 pub mod ByteTests
+pub mod Decided
 pub mod Digits
 pub mod Fronts
 pub mod Gaps

@@ -14,7 +14,7 @@ use Rattle.cmap_tokens.proofs.ByteTests.{by_byte, other_byte, none_of, one_of, b
 use Rattle.cmap_tokens.proofs.StringLengths.{has_hex, hex_len-append, has_text, text_len-append}
 
 -- a run is read to its end
-regular_first : (b : ℕ) (text : List ℕ) → is_regular b ≡ true
+pub regular_first : (b : ℕ) (text : List ℕ) → is_regular b ≡ true
     → (first_piece (b ∷ text) ≡ Some (name_or_number (take (prefix_len is_regular (b ∷ text)) (b ∷ text)), prefix_len is_regular (b ∷ text))) × (gap_len false (b ∷ text) ≡ 0)
 unfolding first_piece
 regular_first b text regular =

@@ -55,6 +55,15 @@ first_piece (b ∷ text) =
     else if is_regular b then Some (name_or_number (take (prefix_len is_regular (b ∷ text)) (b ∷ text)), prefix_len is_regular (b ∷ text))
     else None
 
+-- how many bytes show that no token comes, where a text begins with none: all of them, where only its end shows it
+abbrev pub malformed_len : List ℕ → ℕ
+malformed_len [] = 0
+malformed_len (b ∷ text) =
+    if b == less then 1 + prefix_len is_hex_body text
+    else if b == greater then 1
+    else if b == open_parenthesis then 1 + length text
+    else 0
+
 -- the digits of a hexadecimal string, and their bytes after a digit that waits for its second
 abbrev pub hex_digits : List ℕ → List ℕ
 hex_digits body = map digit_value (filter (λ b. is_digit b 16) body)

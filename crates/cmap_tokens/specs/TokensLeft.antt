@@ -1,44 +1,85 @@
--- The tokens that are left of a text, and whether the text ends after them.
-use Rattle.std.specs.Prelude.{◌≡◌, ◌↔◌, ℕ, zero, suc, nat_le, Bool, true, false, List, [], ◌∷◌, ◌++◌, length, drop, Some, None}
+-- The tokens that are left of a text: where each ends, whether the text ends after them, and the byte that shows that no more come.
+use Rattle.std.specs.Prelude.{◌≡◌, ◌↔◌, ◌+◌, ◌<◌, ◌≤◌, ℕ, zero, suc, nat_le, Bool, true, false, List, [], ◌∷◌, ◌++◌, length, map, take, drop, Some, None}
 use Rattle.cmap_tokens.specs.Scanner.{Place, rest_of}
 use Rattle.cmap_tokens.specs.Tokens.{Token, Tokens}
-use Rattle.cmap_tokens.specs.TokenReading.{gap_len, first_piece}
+use Rattle.cmap_tokens.specs.TokenReading.{gap_len, first_piece, malformed_len}
 
--- the tokens up to the end of the text, or up to the first place where no token stands
+-- a token, and how many bytes of the text are passed after it
+pub record Placed : Type 0 where
+  pub token : Token
+  pub end : ℕ
+
+-- what is left of a text from a place on: the tokens up to its end, or up to the first place where no token stands
 pub record Left : Type 0 where
-  pub tokens : List Token
+  pub passed : ℕ
+  pub tokens : List Placed
   pub ends : Bool
+  -- the byte that shows that no token comes after them, or the length of the text
+  pub stop : ℕ
 
-abbrev pub ended : Left
-ended = record { tokens = []; ends = true }
-
-abbrev pub malformed : Left
-malformed = record { tokens = []; ends = false }
-
--- these tokens, and what is left after them
-abbrev pub with_front : List Token → Left → Left
-with_front front left = record { tokens = front ++ left.tokens; ends = left.ends }
+-- this token, which comes next from a place on, and what is left after it
+abbrev pub with_token : Token → ℕ → Left → Left
+with_token token passed next = record { passed = passed; tokens = record { token = token; end = next.passed } ∷ next.tokens; ends = next.ends; stop = next.stop }
 
 -- the text after its first gap
 abbrev pub after_gap : List ℕ → List ℕ
 after_gap text = drop (gap_len false text) text
 
+-- no token comes
+abbrev pub no_token : ℕ → List ℕ → Left
+no_token passed text = record { passed = passed; tokens = []; ends = nat_le (length text) (gap_len false text); stop = passed + (gap_len false text + malformed_len (after_gap text)) }
+
 -- what is left of a text of at most n bytes
-unfoldable pub tokens_within : ℕ → List ℕ → Left
-tokens_within zero text = record { tokens = []; ends = nat_le (length text) (gap_len false text) }
-tokens_within (suc n) text =
+unfoldable pub tokens_within : ℕ → ℕ → List ℕ → Left
+tokens_within zero passed text = no_token passed text
+tokens_within (suc n) passed text =
     elim (first_piece (after_gap text)) [
-      | None ↦ record { tokens = []; ends = nat_le (length text) (gap_len false text) }
-      | Some first ↦ with_front (first.0 ∷ []) (tokens_within n (drop first.1 (after_gap text)))
+      | None ↦ no_token passed text
+      | Some first ↦ with_token first.0 passed (tokens_within n (passed + (gap_len false text + first.1)) (drop first.1 (after_gap text)))
     ]
 
-unfoldable pub tokens_of : List ℕ → Left
-tokens_of text = tokens_within (length text) text
+unfoldable pub tokens_of : Place → Left
+tokens_of place = tokens_within (length (rest_of place)) place.passed (rest_of place)
+
+abbrev pub start_of : List ℕ → Place
+start_of text = record { source = text; passed = 0 }
 
 -- the tokens of the text are those that are left, if it ends after them
 abbrev pub HasTokens : List ℕ → Left → Type 0
-HasTokens text left = (tokens : List Token) → Tokens text tokens ↔ ((left.tokens ≡ tokens) × (left.ends ≡ true))
+HasTokens text left = (tokens : List Token) → Tokens text tokens ↔ ((map (λ p. p.token) left.tokens ≡ tokens) × (left.ends ≡ true))
 
 -- the token comes first of those that are left in the old place, and then those of the new one
 abbrev pub LeavesAfter : Token → Place → Place → Type 0
-LeavesAfter token old new = tokens_of (rest_of old) ≡ with_front (token ∷ []) (tokens_of (rest_of new))
+LeavesAfter token old new = tokens_of old ≡ with_token token old.passed (tokens_of new)
+
+-- no token is left, and the text ends or doesn't
+abbrev pub LeavesNone : Bool → Place → Type 0
+LeavesNone ends place = ((tokens_of place).tokens ≡ []) × ((tokens_of place).ends ≡ ends)
+
+-- ---- which bytes decide on the tokens
+-- tokens that end one after another, from a place on and up to another
+abbrev pub AreInOrder : ℕ → List Placed → ℕ → Type 0
+AreInOrder passed [] stop = passed ≤ stop
+AreInOrder passed (p ∷ tokens) stop = (passed ≤ p.end) × AreInOrder p.end tokens stop
+
+abbrev pub IsInOrder : Left → Type 0
+IsInOrder left = AreInOrder left.passed left.tokens left.stop
+
+-- the tokens that end by k are the other's too, and where it is seen by k that no more come, none come there either
+abbrev pub Agree : ℕ → List Placed → Left → List Placed → Left → Type 0
+Agree k [] left others other = left.stop ≤ k → (left.ends ≡ false) × (others ≡ []) × (other.ends ≡ false) × (other.stop ≡ left.stop)
+Agree k (p ∷ tokens) left others other = p.end ≤ k → (rest : List Placed) × (others ≡ p ∷ rest) × Agree k tokens left rest other
+
+abbrev pub AgreesTo : ℕ → Left → Left → Type 0
+AgreesTo k left other = (other.passed ≡ left.passed) × Agree k left.tokens left other.tokens other
+
+-- each text has the tokens that are left at its start
+abbrev pub HaveTheirTokens : Type 0
+HaveTheirTokens = (text : List ℕ) → HasTokens text (tokens_of (start_of text))
+
+abbrev pub HaveTokensInOrder : Type 0
+HaveTokensInOrder = (text : List ℕ) → IsInOrder (tokens_of (start_of text))
+
+-- what ends by the byte k is decided by the bytes up to it and with it
+abbrev pub AreDecidedByFronts : Type 0
+AreDecidedByFronts = (k : ℕ) (text more : List ℕ) → k < length text → AgreesTo k (tokens_of (start_of text)) (tokens_of (start_of (take (1 + k) text ++ more)))

@@ -3,6 +3,7 @@
 ghost use Rattle.std.specs.Prelude.{IsTrue, is_some};
 ghost use Rattle.cmap_tokens.specs.Strings.{HaveOneValue};
 ghost use Rattle.cmap_tokens.specs.TokenReading.{HaveValuesRead, value_of};
+ghost use Rattle.cmap_tokens.specs.TokensLeft.{AreDecidedByFronts, HaveTheirTokens, HaveTokensInOrder};
 
 mod byte_class;
 mod gaps;
@@ -11,6 +12,8 @@ mod numerals;
 mod pieces;
 mod values;
 
+use self::gaps::gap_len;
+use self::lengths::malformed_len;
 use self::numerals::blank_decimal;
 use self::pieces::{TWO_BYTES_LEN, first_token, two_bytes};
 use self::values::{decode_hex, decode_text, pairs_number};
@@ -170,10 +173,10 @@ impl<'a> Model for Scanner<'a> {
 }
 
 impl<'a> Scanner<'a> {
-    ghost use Rattle.std.specs.Prelude.{◌≡◌, ℕ, ◌↔◌, List, [], ◌∷◌, None, Ok, pos, IfOk, IfSome, IsSome, IsErr, MatchOption, MatchResult, OnErr};
+    ghost use Rattle.std.specs.Prelude.{◌≡◌, ℕ, ◌↔◌, ◌≤◌, List, [], false, true, length, None, Ok, pos, IfOk, IfSome, IsSome, IsErr, MatchOption, MatchResult, OnErr};
     ghost use Rattle.cmap_tokens.specs.Gaps.{IsBlank};
     ghost use Rattle.cmap_tokens.specs.Tokens.{IsMalformed};
-    ghost use Rattle.cmap_tokens.specs.TokensLeft.{HasTokens, LeavesAfter, ended, malformed, tokens_of, with_front};
+    ghost use Rattle.cmap_tokens.specs.TokensLeft.{HasTokens, LeavesAfter, LeavesNone, start_of, tokens_of};
     ghost use Rattle.cmap_tokens.specs.Numbers.{Integer};
     ghost use Rattle.cmap_tokens.specs.Scanner.{BeginsDecimal, BeginsTwoBytes, ReadsToken, rest_of};
     ghost use Rattle.cmap_tokens.specs.Strings.{WritesTwoBytes};
@@ -182,19 +185,32 @@ impl<'a> Scanner<'a> {
 
     /// A scanner before the first byte of a text.
     pub fn new(source: &'a [u8]) -> Self
-        ensures scanner { result ≡ record { source = source.now; passed = 0 } }
+        ensures scanner { result ≡ start_of source.now }
 
         // The tokens of a text are those that are left of it, if it ends after them.
-        ensures tokens { HasTokens source.now (tokens_of source.now) }
+        ensures tokens { HasTokens source.now (tokens_of (start_of source.now)) }
     {
         Scanner { source, place: 0 }
     }
 
     /// How many bytes of the text have been passed.
     pub fn offset(&self) -> usize
-        ensures { result ≡ self.now.passed }
+        ensures passed { result ≡ self.now.passed }
+        ensures left { result ≡ (tokens_of self.now).passed }
     {
         self.place
+    }
+
+    /// The place of the byte that shows that no token comes next, where none does: after the bytes up
+    /// to that one and that one itself none comes, whatever follows. It is the length of the text where
+    /// only its end shows it, as of a string in parentheses that isn't closed.
+    pub fn stop(&self) -> usize
+        ensures place { (tokens_of self.now).tokens ≡ [] → result ≡ (tokens_of self.now).stop }
+        ensures within { result ≤ length self.now.source }
+    {
+        let rest = &self.source[self.place..];
+        let gap = gap_len(rest);
+        self.place + gap + malformed_len(&rest[gap..])
     }
 
     /// The number that the two bytes of the next string write, the high one first, where one white
@@ -242,11 +258,8 @@ impl<'a> Scanner<'a> {
         ensures err_stays { OnErr result (self.new ≡ self.old) }
 
         // What this says of the tokens that are left, and of how they end.
-        ensures left { MatchResult result (λ found. MatchOption found
-            ((tokens_of (rest_of self.old) ≡ ended) × (tokens_of (rest_of self.new) ≡ ended))
-            (λ token. tokens_of (rest_of self.old)
-            ≡ with_front (token_seen token ∷ []) (tokens_of (rest_of self.new))))
-            (λ _. tokens_of (rest_of self.old) ≡ malformed) }
+        ensures left { MatchResult result (λ found. MatchOption found (LeavesNone true self.old)
+            (λ token. LeavesAfter (token_seen token) self.old self.new)) (λ _. LeavesNone false self.old) }
     {
         let rest = &self.source[self.place..];
         let Some((token, len)) = first_token(rest)? else {
@@ -262,4 +275,12 @@ impl<'a> Scanner<'a> {
 pub fn one_value_for_a_string()
     ensures one { HaveOneValue }
     ensures value { HaveValuesRead }
+{}
+
+/// Which bytes decide on the tokens of a text. Nothing is done here: the contract is a law for callers
+/// to stand on.
+pub fn tokens_are_decided_by_fronts()
+    ensures tokens { HaveTheirTokens }
+    ensures order { HaveTokensInOrder }
+    ensures fronts { AreDecidedByFronts }
 {}

@@ -67,10 +67,7 @@ impl Around<'_> {
     /// Adds the names that lead from a file to the one at fault, and what is wrong with it. The files
     /// of a bundle have no names here.
     pub fn push_cause(&self, alloc: Global, file: &[u8], line: &mut String) -> Result<(), Fault> {
-        let bundle = match self.bundle {
-            Some(bytes) => Bundle::parse(alloc, bytes)?,
-            None => None,
-        };
+        let bundle = self.parsed_bundle(alloc)?;
         let bases = NamedFiles {
             files: self.bases.as_slice(),
         };
@@ -83,6 +80,26 @@ impl Around<'_> {
             push_escaped(name, line)?;
         }
         Ok(write!(line, " {}", refusal.cause)?)
+    }
+
+    /// Adds the names of the files that a file uses. None of them is asked for.
+    pub fn push_uses(&self, alloc: Global, file: &[u8], line: &mut String) -> Result<(), Fault> {
+        let bundle = self.parsed_bundle(alloc)?;
+        if self.bundle.is_some() && bundle.is_none() {
+            return Ok(line.push_str(" no bundle")?);
+        }
+        match CMap::uses(alloc, file, bundle.as_ref())? {
+            Some(names) => Ok(push_names(&names, line)?),
+            None => Ok(line.push_str(" refused")?),
+        }
+    }
+
+    /// The bundle; `None` also where what stands for one is none.
+    fn parsed_bundle(&self, alloc: Global) -> Result<Option<Bundle<'_>>, AllocError> {
+        match self.bundle {
+            Some(bytes) => Bundle::parse(alloc, bytes),
+            None => Ok(None),
+        }
     }
 
     /// Reads a file where the files of the bundle answer to their names.
@@ -159,6 +176,18 @@ fn file_of<'x>(files: &'x [NamedFile<'x>], name: &[u8]) -> Option<&'x [u8]>
         }
     }
     None
+}
+
+/// Adds names, each after a slash.
+fn push_names(names: &[&[u8]], line: &mut String) -> Result<(), AllocError> {
+    if names.is_empty() {
+        return line.push_str(" none");
+    }
+    for name in names {
+        line.push_str(" /")?;
+        push_escaped(name, line)?;
+    }
+    Ok(())
 }
 
 /// Whether bytes are a bundle.

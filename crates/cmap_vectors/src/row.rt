@@ -172,6 +172,9 @@ impl Row<'_> {
         if word == "cause" {
             return around.push_cause(alloc, input, line);
         }
+        if word == "uses" {
+            return around.push_uses(alloc, input, line);
+        }
         match around.read(alloc, input)? {
             (_, asked) if word == "asked" => Ok(write!(line, " {asked}")?),
             (Outcome::Map(map), _) => maps::push_answer(alloc, &map, word, rest, line),

@@ -1,5 +1,5 @@
 -- What it says of a file, and of a use, that the search for layers below it fails.
-use Rattle.std.proofs.Common.{◌≡◌, ℕ, suc, ◌<◌, refl, sym, ap, ◌∙◌, subst, List, [], ◌∷◌, ◌++◌, length, get_or, Ok, Err, true, inl, inr, append_assoc}
+use Rattle.std.proofs.Common.{◌≡◌, ℕ, suc, ◌<◌, refl, sym, ap, ◌∙◌, subst, List, [], ◌∷◌, ◌++◌, length, get_or, Ok, Err, true, inl, inr, append_assoc, append-nil}
 use Rattle.std.specs.Prelude.{◌⊎◌, Contains, IfErr, IsErrAnd, Option, Some, Result}
 use Rattle.std.specs.Borrow.{Bor}
 use Rattle.std.proofs.Math.ListN.{length-map}
@@ -14,7 +14,7 @@ use Rattle.cmap_files.specs.declared.fault.FileFault.TheVariants as file_fault
 use Rattle.hayro_cmap.specs.BytesSpent.{About, Leaves, Refuses, GoesOver, of_file}
 use Rattle.hayro_cmap.specs.Budgets.{StaysWithin}
 use Rattle.hayro_cmap.specs.Layers.{AreLayers}
-use Rattle.hayro_cmap.specs.Refusals.{Blames, Fails, HasNoLayers, IsFault, IsMissing, IsUseFault, unresolved_of}
+use Rattle.hayro_cmap.specs.Refusals.{Blames, Fails, HasNoLayers, IsDecidedAsText, IsFault, IsMissing, IsUseFault, unresolved_of}
 use Rattle.hayro_cmap.specs.declared.refusal.Cause.{Cause}
 use Rattle.hayro_cmap.specs.declared.refusal.Cause.TheVariants.{Malformed, NoFile, ChainLength, OverBudget}
 use Rattle.hayro_cmap.specs.declared.refusal.Unresolved.{Unresolved}
@@ -38,6 +38,11 @@ module _ (means : List ℕ → File → Type 0) (answer : List ℕ → Option (L
       → Fails (of_file means answer (suc below)) bytes budget left (unresolved_of fault)
   file_fails below bytes budget left (file_fault.Refused stop) stops leaves = Refuses-no_file means answer below bytes budget left stops.0 leaves
   file_fails below bytes budget left file_fault.Memory stops leaves = tt
+
+  -- the file itself is at fault
+  pub blames_here : (below : ℕ) (bytes : List ℕ) (names : List (Bor (List ℕ))) (fault : FileFault) → StopsWithin (length bytes) (HoldsOfNone (means bytes)) fault → IsDecidedAsText bytes fault → Blames (IsFault means answer (suc below) bytes) names names (unresolved_of fault)
+  blames_here below bytes names (file_fault.Refused stop) stops decided = ([], sym (append-nil (names_seen names)), (stops.0, stops.1, decided))
+  blames_here below bytes names file_fault.Memory stops decided = tt
 
   -- one name more
   one_more : (old : List (Bor (List ℕ))) (name : Bor (List ℕ)) → names_seen (old ++ name ∷ []) ≡ names_seen old ++ name.now ∷ []

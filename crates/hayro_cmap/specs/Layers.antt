@@ -12,6 +12,10 @@ abbrev pub Means : Option PrefixTables → List ℕ → File → Type 0
 Means None bytes file = IsTextFile bytes file
 Means (Some tables) bytes file = (IsMarkedBinary bytes × IsBinaryFile tables bytes file) ⊎ ((IsMarkedBinary bytes → ⊥) × IsTextFile bytes file)
 
+-- the names of the files that a file of these bytes uses
+abbrev pub AreUses : (List ℕ → File → Type 0) → List ℕ → List (List ℕ) → Type 0
+AreUses means bytes uses = (file : File) × means bytes file × (file.uses ≡ uses)
+
 -- a name is answered by bytes of which P holds
 abbrev pub OfAnswer : {A : Type 0} → (List ℕ → Option (List ℕ) → Type 0) → (List ℕ → A → Type 0) → List ℕ → A → Type 0
 OfAnswer answer P name x = (bytes : List ℕ) × answer name (Some bytes) × P bytes x

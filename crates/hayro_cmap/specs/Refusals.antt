@@ -3,9 +3,12 @@ use Rattle.std.specs.Prelude.{◌≡◌, ℕ, zero, suc, ◌≤◌, List, [], �
 use Rattle.std.specs.Borrow.{Bor}
 use Rattle.cmap_files.specs.Files.{File}
 use Rattle.cmap_files.specs.FilesSeen.{names_seen}
+use Rattle.cmap_binary.specs.BinaryFiles.{IsMarkedBinary}
 use Rattle.cmap_files.specs.Only.{HoldsOfNone}
+use Rattle.cmap_files.specs.Outcomes.{DecidedBy}
 use Rattle.cmap_files.specs.declared.fault.FileFault.{FileFault}
 use Rattle.cmap_files.specs.declared.fault.FileFault.TheVariants as file_fault
+use Rattle.cmap_text.specs.TextFiles.{IsTextFile}
 use Rattle.hayro_cmap.specs.Budgets.{PassesBudget, StaysWithin}
 use Rattle.hayro_cmap.specs.BytesSpent.{About, Refuses, GoesOver}
 use Rattle.hayro_cmap.specs.Layers.{AreLayers}
@@ -14,10 +17,14 @@ use Rattle.hayro_cmap.specs.declared.refusal.Cause.TheVariants.{Malformed, NoFil
 use Rattle.hayro_cmap.specs.declared.refusal.Unresolved.{Unresolved}
 use Rattle.hayro_cmap.specs.declared.refusal.Unresolved.TheVariants.{Refused, Memory}
 
+-- bytes that aren't marked as a binary file are decided as a text: no text that begins with those up to the byte at which reading stopped, and with it, is a file
+abbrev pub IsDecidedAsText : List ℕ → FileFault → Type 0
+IsDecidedAsText bytes fault = (IsMarkedBinary bytes → ⊥) → DecidedBy IsTextFile bytes fault
+
 module _ (means : List ℕ → File → Type 0) (answer : List ℕ → Option (List ℕ) → Type 0) where
   -- what is wrong with a file by itself
   abbrev pub IsOwnFault : List ℕ → Cause → Type 0
-  IsOwnFault bytes (Malformed stop) = HoldsOfNone (means bytes) × (stop.offset ≤ length bytes)
+  IsOwnFault bytes (Malformed stop) = HoldsOfNone (means bytes) × (stop.offset ≤ length bytes) × IsDecidedAsText bytes (file_fault.Refused stop)
   IsOwnFault bytes OverBudget = Unit {0}
   IsOwnFault bytes NoFile = ⊥
   IsOwnFault bytes ChainLength = ⊥

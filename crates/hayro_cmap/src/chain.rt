@@ -9,7 +9,7 @@ ghost use Rattle.hayro_cmap.specs.BytesSpent.{Resolves, of_file, of_use};
 ghost use Rattle.cmap_layers.specs.Layers.{layer_of};
 ghost use Rattle.hayro_cmap.specs.Layers.{Means};
 ghost use Rattle.cmap_layers.specs.LayersSeen.{layers_seen};
-ghost use Rattle.hayro_cmap.specs.Refusals.{Blames, Fails, IsFault, IsUseFault};
+ghost use Rattle.hayro_cmap.specs.Refusals.{Blames, Fails, IsDecidedAsText, IsFault, IsUseFault};
 
 use crate::budget::spend;
 use crate::refusal::{Cause, Unresolved};
@@ -112,12 +112,13 @@ fn put_over(alloc: Global, file: File<'_>, mut base: Vec<Layer>) -> Result<Vec<L
 
 /// What one file says. With a bundle, bytes that are marked so are a binary file; all others are a
 /// text.
-fn read_file<'d>(
+pub(crate) fn read_file<'d>(
     alloc: Global,
     bytes: &'d [u8],
     bundle: Option<&Bundle<'_>>,
 ) -> Result<File<'d>, FileFault>
-    ensures { ReadsFile (Means (tables_given bundle.entry)) file_seen bytes.now result }
+    ensures reads { ReadsFile (Means (tables_given bundle.entry)) file_seen bytes.now result }
+    ensures decided { IfErr result (IsDecidedAsText bytes.now) }
 {
     match bundle {
         Some(bundle) if is_marked_binary(bytes) => read_binary(alloc, bundle, bytes),

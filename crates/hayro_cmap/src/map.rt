@@ -12,22 +12,24 @@ ghost use Rattle.cmap_files.specs.Files as files;
 ghost use Rattle.cmap_files.specs.FilesSeen.{names_seen};
 ghost use Rattle.hayro_cmap.specs.Identity.{identity_layer};
 ghost use Rattle.cmap_binary.specs.BundleSeen.{tables_given};
-ghost use Rattle.hayro_cmap.specs.Layers.{AreLayers, Means};
+ghost use Rattle.hayro_cmap.specs.Layers.{AreLayers, AreUses, Means};
 ghost use Rattle.cmap_layers.specs.LayersSeen.{IsMetadataOf, layers_seen, metadata_seen, mode_seen};
 ghost use Rattle.cmap_layers.specs.Lookups.{InCodespace, bf_of, cid_of};
 ghost use Rattle.cmap_files.specs.Only.{IsOnly, HoldsOfNone};
+ghost use Rattle.cmap_files.specs.Outcomes.{Finds};
 ghost use Rattle.hayro_cmap.specs.Refusals.{HasNoLayers, IsFault};
 ghost use Rattle.cmap_layers.specs.StringCodes.{IsNextCode};
 ghost use Rattle.cmap_layers.specs.Searches.{bf_looks, cid_looks, finds_text};
 ghost use Rattle.hayro_cmap.specs.declared.budget.ParseError.TheVariants.{OverBudget};
 
 use crate::budget::ParseError;
-use crate::chain::{MOST_BELOW, find_layers};
+use crate::chain::{MOST_BELOW, find_layers, read_file};
 use crate::refusal::{Cause, Refusal, Unresolved};
 use crate::source::{FilesByName, Source};
 use cmap_binary::Bundle;
 use cmap_files::code_length::CodeLength;
 use cmap_files::declarations::{CidRange, Codespace, Lists};
+use cmap_files::fault::FileFault;
 use cmap_files::metadata::{CharacterCollection, CidFamily, Metadata, WritingMode};
 use cmap_files::names::{CMapName, Cid, one_name_for_a_text};
 use cmap_layers::layers::Layer;
@@ -213,6 +215,24 @@ impl CMap {
             Ok(layers) => Ok(Ok(CMap { layers })),
             Err(Unresolved::Refused(cause)) => Ok(Err(Refusal { names, cause })),
             Err(Unresolved::Memory) => Err(AllocError),
+        }
+    }
+
+    /// The names of the files that the CMap file `data` uses, in order; `None` where it is outside the
+    /// grammar. None of them is asked for. A caller who has to fetch files one by one learns from it
+    /// which ones. With a bundle, a file that begins with `bcmap` is read as binary.
+    pub fn uses<'a>(
+        alloc: Global,
+        data: &'a [u8],
+        bundle: Option<&Bundle<'_>>,
+    ) -> Result<Option<Vec<&'a [u8]>>, AllocError>
+        ensures { IfOk result (Finds (AreUses (Means (tables_given bundle.entry)) «data».now)
+            (λ names. names_seen names.items)) }
+    {
+        match read_file(alloc, data, bundle) {
+            Ok(file) => Ok(Some(file.uses)),
+            Err(FileFault::Refused(_)) => Ok(None),
+            Err(FileFault::Memory) => Err(AllocError),
         }
     }
 

@@ -3,7 +3,7 @@
 ghost use Rattle.std.specs.Prelude.{◌≡◌, ◌≤◌, length, IfSome};
 ghost use Rattle.std.specs.List.{prefix_len};
 ghost use Rattle.cmap_tokens.specs.Bytes.{is_regular};
-ghost use Rattle.cmap_tokens.specs.Tokens.{opened};
+ghost use Rattle.cmap_tokens.specs.Tokens.{is_hex_body, opened};
 ghost use Rattle.cmap_tokens.specs.TokenReading as reading;
 
 use super::byte_class::{digit_value, is_regular, is_white};
@@ -31,6 +31,32 @@ pub(super) fn string_len(text: &[u8]) -> Option<usize>
         [b'(', rest @ ..] => Some(1 + text_len(rest)?),
         _ => None,
     }
+}
+
+// How many bytes show that no token comes, where a text begins with none.
+pub(super) fn malformed_len(text: &[u8]) -> usize
+    ensures exact { result ≡ reading.malformed_len text.now }
+    ensures within { result ≤ length text.now }
+{
+    match text {
+        [b'<', rest @ ..] => 1 + hex_body_len(rest),
+        [b'>', ..] => 1,
+        [b'(', ..] => text.len(),
+        _ => 0,
+    }
+}
+
+// How many digits and white bytes a text begins with.
+fn hex_body_len(text: &[u8]) -> usize
+    ensures exact { result ≡ prefix_len is_hex_body text.now }
+    ensures within { result ≤ length text.now }
+{
+    for (i, byte) in text.iter().enumerate() {
+        if digit_value(*byte) >= 16 && !is_white(*byte) {
+            return i;
+        }
+    }
+    text.len()
 }
 
 // How many bytes a hexadecimal string takes after its `<`.

@@ -1,4 +1,5 @@
-use Rattle.cmap_report.proofs.Adds.{adds_both, one_more_byte}
+use Rattle.cmap_report.specs.Escapes.{byte_shown}
+use Rattle.cmap_report.proofs.Adds.{adds_both, one_more_at}
 use Rattle.cmap_report.proofs.escape.push_name.Goals as goal
 
 pub returns-in_err-push_name_byte-clause-printable : goal.returns-in_err-push_name_byte-clause-printable
@@ -8,5 +9,5 @@ returns-in_err-push_name_byte-clause-printable c =
 pub loop-byte-preserved : goal.loop-byte-preserved
 loop-byte-preserved c = (
   adds_both _ _ _ c.loop-byte.invariant.0 c.push_name_byte.ensures.printable,
-  one_more_byte _ _ _ _ _ c.loop-byte-test.true c.loop-byte.invariant.1 c.in_ok-push_name_byte.ensures.shown,
+  one_more_at byte_shown _ _ _ _ _ c.loop-byte-test.true c.loop-byte.invariant.1 c.in_ok-push_name_byte.ensures.shown,
 )

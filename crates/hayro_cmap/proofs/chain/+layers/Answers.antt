@@ -2,7 +2,7 @@ use Rattle.std.proofs.Common.{refl, ◌∙◌, ◌-◌, arith}
 use Rattle.cmap_binary.specs.BundleSeen.{tables_given}
 use Rattle.cmap_files.specs.FilesSeen.{file_seen, names_seen}
 use Rattle.hayro_cmap.specs.Layers.{Means}
-use Rattle.hayro_cmap.proofs.Blamed.{blames_file, blames_missing, blames_use, err_gives, fails_as, file_fails, used_at}
+use Rattle.hayro_cmap.proofs.Blamed.{blames_file, blames_here, blames_missing, blames_use, err_gives, fails_as, file_fails, used_at}
 use Rattle.hayro_cmap.proofs.OneUse.{Resolves-answered, Refuses-answered, Refuses-unanswered, GoesOver-answered}
 use Rattle.hayro_cmap.proofs.UsesInOrder.{AreUsed-none, AreUsed-at, AreUsed-end, AreUsed-more, Resolves-used, Refuses-used, GoesOver-used}
 use Rattle.hayro_cmap.proofs.WholeFile.{Resolves-file, Refuses-file, GoesOver-file, GoesOver-here}
@@ -16,8 +16,13 @@ find_layers-returns-in_err-spend-clause-fails g t c =
 
 pub find_layers-returns-in_err-file-clause-fails : goal.find_layers-returns-in_err-file-clause-fails
 find_layers-returns-in_err-file-clause-fails g t c =
-    let fails = file_fails (Means (tables_given c.args.bundle)) (g.S.Source.answers c.args.source.now) c.args.below c.args.bytes.now c.args.left.now c.spend.new.left _ c.in_err-file.ensures.1 c.in_ok-spend.ensures.spent in
+    let fails = file_fails (Means (tables_given c.args.bundle)) (g.S.Source.answers c.args.source.now) c.args.below c.args.bytes.now c.args.left.now c.spend.new.left _ c.in_err-file.ensures.reads.1 c.in_ok-spend.ensures.spent in
     err_gives c.from_residual-in_err-file.result c.from_residual-in_err-file.ensures.1 (λ e is. rw is fails)
+
+pub find_layers-returns-in_err-file-clause-blames : goal.find_layers-returns-in_err-file-clause-blames
+find_layers-returns-in_err-file-clause-blames g t c =
+    let blames = blames_here (Means (tables_given c.args.bundle)) (g.S.Source.answers c.args.source.now) c.args.below c.args.bytes.now c.args.names.now.items _ c.in_err-file.ensures.reads.1 c.in_err-file.ensures.decided in
+    err_gives c.from_residual-in_err-file.result c.from_residual-in_err-file.ensures.1 (λ e is. rw is blames)
 
 pub find_layers-loop-name-init : goal.find_layers-loop-name-init
 find_layers-loop-name-init g t c = (rw c.new-base.ensures.items (AreUsed-none (names_seen c.deref-name-items.result.now) c.spend.new.left), refl)
@@ -29,21 +34,21 @@ pub find_layers-returns-in_err-base-clause-fails : goal.find_layers-returns-in_e
 find_layers-returns-in_err-base-clause-fails g t c =
     let used = AreUsed-at c.loop-name.name-index c.deref-name-items.ensures.value c.loop-name.invariant.0 c.loop-name-test.true in
     let fails = fails_as c.in_err-base.field-0.0
-    (λ refused. Refuses-file (Means (tables_given c.args.bundle)) (g.S.Source.answers c.args.source.now) c.args.below c.args.bytes.now c.args.left.now (file_seen c.in_ok-file.file) c.spend.new.left c.in_ok-file.ensures.0 c.in_ok-spend.ensures.spent c.find_used.new.left (Refuses-used used refused))
-    (λ over. GoesOver-file (Means (tables_given c.args.bundle)) (g.S.Source.answers c.args.source.now) c.args.below c.args.bytes.now c.args.left.now (file_seen c.in_ok-file.file) c.spend.new.left c.in_ok-file.ensures.0 c.in_ok-spend.ensures.spent (GoesOver-used used over))
+    (λ refused. Refuses-file (Means (tables_given c.args.bundle)) (g.S.Source.answers c.args.source.now) c.args.below c.args.bytes.now c.args.left.now (file_seen c.in_ok-file.file) c.spend.new.left c.in_ok-file.ensures.reads.0 c.in_ok-spend.ensures.spent c.find_used.new.left (Refuses-used used refused))
+    (λ over. GoesOver-file (Means (tables_given c.args.bundle)) (g.S.Source.answers c.args.source.now) c.args.below c.args.bytes.now c.args.left.now (file_seen c.in_ok-file.file) c.spend.new.left c.in_ok-file.ensures.reads.0 c.in_ok-spend.ensures.spent (GoesOver-used used over))
     c.in_err-base.ensures.fails in
     err_gives c.from_residual-in_err-base.result c.from_residual-in_err-base.ensures.1 (λ e is. rw is fails)
 
 pub find_layers-returns-in_err-base-clause-blames : goal.find_layers-returns-in_err-base-clause-blames
 find_layers-returns-in_err-base-clause-blames g t c =
     let uses = used_at _ _ c.loop-name.name-index c.deref-name-items.ensures.value c.loop-name-test.true in
-    let blames = blames_file (Means (tables_given c.args.bundle)) (g.S.Source.answers c.args.source.now) c.args.below c.args.bytes.now _ _ _ (file_seen c.in_ok-file.file) _ c.in_err-base.field-0.0 c.loop-name.invariant.1 c.in_ok-file.ensures.0.holds uses c.in_err-base.ensures.blames in
+    let blames = blames_file (Means (tables_given c.args.bundle)) (g.S.Source.answers c.args.source.now) c.args.below c.args.bytes.now _ _ _ (file_seen c.in_ok-file.file) _ c.in_err-base.field-0.0 c.loop-name.invariant.1 c.in_ok-file.ensures.reads.0.holds uses c.in_err-base.ensures.blames in
     err_gives c.from_residual-in_err-base.result c.from_residual-in_err-base.ensures.1 (λ e is. rw is blames)
 
 pub find_layers-returns-clause-found : goal.find_layers-returns-clause-found
 find_layers-returns-clause-found g t c =
     let used = AreUsed-end c.loop-name.name-index c.deref-name-items.ensures.value c.loop-name.invariant.0 c.loop-name-test.false in
-    rw c.in_ok-put_over.ensures (Resolves-file (Means (tables_given c.args.bundle)) (g.S.Source.answers c.args.source.now) c.args.below c.args.bytes.now c.args.left.now (file_seen c.in_ok-file.file) c.spend.new.left c.in_ok-file.ensures.0 c.in_ok-spend.ensures.spent _ _ (Resolves-used used))
+    rw c.in_ok-put_over.ensures (Resolves-file (Means (tables_given c.args.bundle)) (g.S.Source.answers c.args.source.now) c.args.below c.args.bytes.now c.args.left.now (file_seen c.in_ok-file.file) c.spend.new.left c.in_ok-file.ensures.reads.0 c.in_ok-spend.ensures.spent _ _ (Resolves-used used))
 
 pub find_layers-returns-clause-stays : goal.find_layers-returns-clause-stays
 find_layers-returns-clause-stays g t c = c.loop-name.invariant.1

@@ -1,13 +1,17 @@
-use Rattle.hayro_cmap.proofs.FilesMeant.{reads_binary, reads_text}
+use Rattle.hayro_cmap.proofs.FilesMeant.{binary_decided, reads_binary, reads_text, text_decided}
 use Rattle.hayro_cmap.proofs.chain.read_file.Goals.{in_default-via-in-Some+else-is_marked_binary, in_default-via-in_default}
 use Rattle.hayro_cmap.proofs.chain.read_file.Goals as goal
 
 pub returns-in-Some : goal.returns-in-Some
-returns-in-Some c = rw c.in-Some.is (reads_binary _ _ _ (c.is_marked_binary.ensures.0 c.if-is_marked_binary.true) c.read_binary.ensures)
+returns-in-Some c =
+    let marked = c.is_marked_binary.ensures.0 c.if-is_marked_binary.true in
+    record { reads = rw c.in-Some.is (reads_binary _ _ _ marked c.read_binary.ensures); decided = binary_decided _ _ marked }
 
 pub returns-in_default : goal.returns-in_default
-returns-in_default c =
-    elim c.in_default.branch [
-      | in_default-via-in-Some+else-is_marked_binary w ↦ rw w.in-Some.is (reads_text _ _ _ (λ marked. let is = w.if-is_marked_binary.ensures.1 marked in cc) c.read_text.ensures)
-      | in_default-via-in_default w ↦ rw w.in_default.is c.read_text.ensures
-    ]
+returns-in_default c = record {
+  reads = elim c.in_default.branch [
+    | in_default-via-in-Some+else-is_marked_binary w ↦ rw w.in-Some.is (reads_text _ _ _ (λ marked. let is = w.if-is_marked_binary.ensures.1 marked in cc) c.read_text.ensures.file)
+    | in_default-via-in_default w ↦ rw w.in_default.is c.read_text.ensures.file
+  ];
+  decided = text_decided _ _ c.read_text.ensures.decided;
+}

@@ -1,18 +1,19 @@
-use Rattle.std.proofs.Common.{ap, ◌∙◌, refl, arith}
+use Rattle.std.proofs.Common.{ap, ◌∙◌, refl, sym, arith}
 use Rattle.cmap_tokens.specs.TokenSeen.{token_seen}
 use Rattle.cmap_text.specs.TextReading.{code_of}
 use Rattle.cmap_text.specs.TextSeen.{code_seen}
-use Rattle.cmap_text.proofs.TokensRead.{read_value, code_of-is, given}
+use Rattle.cmap_text.proofs.Refusals.{given, last_is}
+use Rattle.cmap_text.proofs.TokensRead.{read_value, code_of-is}
 use Rattle.cmap_text.proofs.tokens.TokenReader.code.Goals as goal
 
-pub returns-in-Some-clause-code : goal.returns-in-Some-clause-code
-returns-in-Some-clause-code c =
+pub returns-in-Some : goal.returns-in-Some
+returns-in-Some c =
     let (bytes, only, are, count, number) = c.in-Some.ensures.value in
     let read = read_value c.one_value_for_a_string.ensures.value code_of _ _ bytes (ap token_seen c.in-String.is) only.holds in
     let ((least, most), len) = c.in-Some-of.ensures in
-    (read ∙ code_of-is bytes (omega (arith, count, least)) (omega (arith, count, most)) ∙ rw (← count, ← number, len) refl, tt)
+    (last_is _ _ _ _ (read ∙ code_of-is bytes (omega (arith, count, least)) (omega (arith, count, most)) ∙ rw (← count, ← number, len) refl) refl, tt)
 
-pub returns-clause-code : goal.returns-clause-code
-returns-clause-code c =
+pub returns : goal.returns
+returns c =
     let read = read_value c.one_value_for_a_string.ensures.value code_of _ _ _ (ap token_seen c.in-String.is) c.in_ok-decode_into.ensures.value in
-    rw (c.ok_or.ensures.value, read) (given code_seen c.code_of.result _ _ (rw c.deref.ensures.value at c.code_of.ensures))
+    rw (c.ok_or.ensures.value, read) (given code_seen c.code_of.result _ _ _ _ (rw c.deref.ensures.value at c.code_of.ensures) (sym c.self.view_is))

@@ -1,24 +1,26 @@
-use Rattle.std.proofs.Common.{◌<◌, length, ap, ◌∙◌, sym, arith, rules}
+use Rattle.std.proofs.Common.{◌<◌, length, ap, ◌∙◌, refl, sym, arith, rules}
+use Rattle.std.specs.Prelude.{Some}
 use Rattle.std.proofs.lemmas.Bool.{eqb-true, eqb-false}
 use Rattle.cmap_tokens.specs.TokenSeen.{token_seen}
 use Rattle.cmap_text.specs.TextReading.{destination_of}
+use Rattle.cmap_text.proofs.Refusals.{last_is, last_wrong}
 use Rattle.cmap_text.proofs.TokensRead.{read_value, destination_of-is, destination_of-none}
 use Rattle.cmap_text.proofs.tokens.TokenReader.destination.Goals as goal
 
-pub returns-in-Some-clause-destination : goal.returns-in-Some-clause-destination
-returns-in-Some-clause-destination c =
+pub returns-in-Some : goal.returns-in-Some
+returns-in-Some c =
     let (bytes, only, are, count, number) = c.in-Some.ensures.value in
     let read = read_value c.one_value_for_a_string.ensures.value destination_of _ _ bytes (ap token_seen c.in-String.is) only.holds in
     let units = c.units_of_number.ensures bytes are c.in-Some.ensures.some c.in-Some.ensures.few count number in
-    rw (read, destination_of-is bytes (omega (arith, count, c.in-Some.ensures.some))) (search rules)
+    (last_is _ _ _ _ (read ∙ destination_of-is bytes (omega (arith, count, c.in-Some.ensures.some)) ∙ ap Some (sym units)) refl, tt)
 
-pub returns-then-is_empty-clause-destination : goal.returns-then-is_empty-clause-destination
-returns-then-is_empty-clause-destination c =
+pub returns-then-is_empty : goal.returns-then-is_empty
+returns-then-is_empty c =
     let read = read_value c.one_value_for_a_string.ensures.value destination_of _ _ _ (ap token_seen c.in-String.is) c.in_ok-decode_into.ensures.value in
-    (tt, λ e. read ∙ destination_of-none _ (omega (arith, eqb-true _ 0 (sym c.if-is_empty.ensures))))
+    (tt, last_wrong _ _ _ (read ∙ destination_of-none _ (omega (arith, eqb-true _ 0 (sym c.if-is_empty.ensures)))) (sym c.self.view_is))
 
-pub returns-clause-destination : goal.returns-clause-destination
-returns-clause-destination c =
+pub returns : goal.returns
+returns c =
     let read = read_value c.one_value_for_a_string.ensures.value destination_of _ _ _ (ap token_seen c.in-String.is) c.in_ok-decode_into.ensures.value in
     let filled : 0 < length c.decode_into.new.out.items = omega (arith, eqb-false _ 0 (sym c.if-is_empty.ensures)) in
-    rw (read, destination_of-is c.decode_into.new.out.items filled, ← c.deref.ensures.value) (search rules)
+    (last_is _ _ _ _ (read ∙ destination_of-is c.decode_into.new.out.items filled ∙ rw (← c.deref.ensures.value) (search rules)) (sym c.self.view_is), tt)

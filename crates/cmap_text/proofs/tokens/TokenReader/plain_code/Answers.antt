@@ -1,6 +1,6 @@
-use Rattle.std.proofs.Common.{refl, sym, ◌∙◌, arith}
+use Rattle.std.proofs.Common.{refl, sym, ap, ◌∙◌, arith}
 use Rattle.cmap_tokens.specs.Tokens.{String}
-use Rattle.cmap_text.specs.TextReading.{code_of}
+use Rattle.cmap_text.specs.TextReading.{code_of, token_in}
 use Rattle.cmap_text.proofs.TokensRead.{read_value, code_of-is}
 use Rattle.cmap_text.proofs.tokens.TokenReader.plain_code.Goals as goal
 
@@ -8,4 +8,4 @@ pub returns : goal.returns
 returns c =
     let (piece, reads, (value, only, are, two, number), left) = c.in_ok-next_two_bytes.ensures.token in
     let read = read_value c.one_value_for_a_string.ensures.value code_of (String piece) piece value refl only.holds in
-    (piece, sym c.self.view_is ∙ left, read ∙ code_of-is value (omega (arith, two)) (omega (arith, two)) ∙ rw (two, ← number, c.from-number.ensures) refl)
+    (piece, ap token_in (sym c.self.view_is ∙ left), read ∙ code_of-is value (omega (arith, two)) (omega (arith, two)) ∙ rw (two, ← number, c.from-number.ensures) refl)

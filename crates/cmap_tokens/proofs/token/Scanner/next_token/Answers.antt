@@ -6,7 +6,7 @@ use Rattle.cmap_tokens.specs.Gaps.{IsBlank}
 use Rattle.cmap_tokens.specs.Tokens.{IsMalformed}
 use Rattle.cmap_tokens.specs.Scanner.{Place, ReadsToken, rest_of}
 use Rattle.cmap_tokens.specs.TokenSeen.{token_seen}
-use Rattle.cmap_tokens.proofs.Fronts.{read_token, not_blank, not_malformed, left_after, tokens_of-blank, tokens_of-malformed}
+use Rattle.cmap_tokens.proofs.Fronts.{read_token, not_blank, not_malformed, left_after, leaves_blank, leaves_malformed}
 use Rattle.cmap_tokens.proofs.token.Scanner.next_token.Goals as goal
 use Rattle.cmap_tokens.proofs.token.Scanner.next_token.Goals.{In_err-token, In_default, In-Some}
 
@@ -27,7 +27,7 @@ returns-in_err-token-clause-malformed c = (λ e. fault (goal.at.returns-in_err-t
 
 pub returns-in_err-token-clause-left : goal.returns-in_err-token-clause-left
 returns-in_err-token-clause-left c =
-    let malformed = tokens_of-malformed _ (fault (goal.at.returns-in_err-token-clause-left c).In_err-token) in
+    let malformed = leaves_malformed _ (fault (goal.at.returns-in_err-token-clause-left c).In_err-token) in
     MatchResult-from_err c.from_residual.result _ _ c.from_residual.ensures.0 (λ _. malformed)
 
 pub returns-in_default-clause-end : goal.returns-in_default-clause-end
@@ -37,7 +37,7 @@ pub returns-in_default-clause-malformed : goal.returns-in_default-clause-malform
 returns-in_default-clause-malformed c = (λ e. absurd (false≢true e), λ malformed. absurd (malformed.0 (blank (goal.at.returns-in_default-clause-malformed c).In_default)))
 
 pub returns-in_default-clause-left : goal.returns-in_default-clause-left
-returns-in_default-clause-left c = let ended = tokens_of-blank _ (blank (goal.at.returns-in_default-clause-left c).In_default) in (ended, ended)
+returns-in_default-clause-left c = leaves_blank _ (blank (goal.at.returns-in_default-clause-left c).In_default)
 
 pub returns-clause-token : goal.returns-clause-token
 returns-clause-token c = read (goal.at.returns-clause-token c).In-Some

@@ -1,0 +1,56 @@
+//! How far a run over many files has come.
+
+use std::io::{self, IsTerminal};
+
+/// How many characters the bar has.
+const WIDTH: usize = 30;
+
+/// A bar on a terminal. It is only there where the lines of the files go elsewhere, since on a
+/// terminal these show how far the run has come.
+#[derive(Drop)]
+pub(crate) struct Progress {
+    done: usize,
+    total: usize,
+    is_shown: bool,
+}
+
+impl Progress {
+    /// Of a run over this many files, none of which is done.
+    pub(crate) fn new(rt: &HostRuntime, total: usize) -> Progress {
+        Progress {
+            done: 0,
+            total,
+            is_shown: total > 1 && rt.stderr().is_terminal() && !rt.stdout().is_terminal(),
+        }
+    }
+
+    /// One more file is done: the bar is drawn anew.
+    pub(crate) fn advance(&mut self, rt: &HostRuntime) -> anyhow::Result<()> {
+        self.done = self.done.saturating_add(1);
+        if self.is_shown {
+            let bar = self.bar(rt)?;
+            eprint!(rt; "\r{bar} {} of {}", self.done, self.total)?;
+        }
+        Ok(())
+    }
+
+    /// The bar, filled as far as the files are done.
+    fn bar(&self, rt: &HostRuntime) -> anyhow::Result<String> {
+        let mut bar = String::new(rt.alloc());
+        bar.push('[')?;
+        for place in 0..WIDTH {
+            let is_done = place.saturating_mul(self.total) < self.done.saturating_mul(WIDTH);
+            bar.push(if is_done { '#' } else { ' ' })?;
+        }
+        bar.push(']')?;
+        Ok(bar)
+    }
+
+    /// Takes the bar away, as before a message and at the end.
+    pub(crate) fn clear(&self, rt: &HostRuntime) -> io::Result<()> {
+        if self.is_shown {
+            eprint!(rt; "\r\u{1B}[K")?;
+        }
+        Ok(())
+    }
+}

@@ -1,0 +1,33 @@
+//! The names that the files of a chain use.
+
+use crate::library::Library;
+use hayro_cmap::{CMap, Source};
+use std::alloc::{AllocError, Global};
+
+/// The names that the file of each layer of a map uses, in order, that of the top layer first. The
+/// map is that of a file of these bytes over those of the library, and has this number of layers.
+pub fn uses_by_layer<'f>(
+    alloc: Global,
+    bytes: &'f [u8],
+    library: &'f Library<'_>,
+    layers: usize,
+) -> Result<Vec<Vec<&'f [u8]>>, AllocError> {
+    let mut uses = Vec::new(alloc);
+    let mut next = Some(bytes);
+    for _ in 0..layers {
+        let Some(file) = next else {
+            break;
+        };
+        let Some(names) = CMap::uses(alloc, file, library.bundle())? else {
+            break;
+        };
+        next = base_of(library, &names);
+        uses.push(names)?;
+    }
+    Ok(uses)
+}
+
+/// The file under one that uses these: the last of them.
+fn base_of<'f>(library: &'f Library<'_>, names: &[&[u8]]) -> Option<&'f [u8]> {
+    library.file(names.last()?)
+}
