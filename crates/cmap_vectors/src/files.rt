@@ -8,7 +8,7 @@ use crate::escapes::{push_escaped, unescaped};
 use crate::fault::Fault;
 use crate::spelled::number;
 use hayro_cmap::bcmap::{Bundle, load_embedded};
-use hayro_cmap::{CMap, CMapName, ParseError, Source};
+use hayro_cmap::{CMap, CMapName, ParseError, Refusal, Source};
 use std::alloc::{AllocError, Global};
 use std::cell::Cell;
 
@@ -54,32 +54,40 @@ pub struct Around<'a> {
 impl Around<'_> {
     /// What comes of a file, and how many files were asked for.
     pub fn read(&self, alloc: Global, file: &[u8]) -> Result<(Outcome, u32), AllocError> {
-        let Some(bytes) = self.bundle else {
-            return self.read_over_bases(alloc, file, None);
-        };
-        match Bundle::parse(alloc, bytes)? {
-            None => Ok((Outcome::NoBundle, 0)),
-            Some(bundle) if self.bases.is_empty() => self.read_over_bundle(alloc, file, &bundle),
-            Some(bundle) => self.read_over_bases(alloc, file, Some(&bundle)),
+        let bundle = self.parsed_bundle(alloc)?;
+        if self.bundle.is_some() && bundle.is_none() {
+            return Ok((Outcome::NoBundle, 0));
         }
+        self.read_over(alloc, file, bundle.as_ref())
+    }
+
+    fn read_over(
+        &self,
+        alloc: Global,
+        file: &[u8],
+        bundle: Option<&Bundle<'_>>,
+    ) -> Result<(Outcome, u32), AllocError> {
+        let named = if self.bases.is_empty() { bundle } else { None };
+        let files = NamedFiles {
+            bundle: named,
+            bases: self.bases.as_slice(),
+            asked: Cell::new(0),
+        };
+        let map = CMap::parse_from(alloc, self.budget, file, bundle, &files);
+        Ok((outcome_of(map)?, files.asked.get()))
     }
 
     /// Adds the names that lead from a file to the one at fault, and what is wrong with it. The files
     /// of a bundle have no names here.
     pub fn push_cause(&self, alloc: Global, file: &[u8], line: &mut String) -> Result<(), Fault> {
         let bundle = self.parsed_bundle(alloc)?;
-        let bases = NamedFiles {
-            files: self.bases.as_slice(),
+        let files = NamedFiles {
+            bundle: None,
+            bases: self.bases.as_slice(),
+            asked: Cell::new(0),
         };
-        let found = CMap::parse_explained(alloc, self.budget, file, bundle.as_ref(), &bases)?;
-        let Err(refusal) = found else {
-            return Ok(line.push_str(" none")?);
-        };
-        for name in &refusal.names {
-            line.push(' ')?;
-            push_escaped(name, line)?;
-        }
-        Ok(write!(line, " {}", refusal.cause)?)
+        let found = CMap::parse_explained(alloc, self.budget, file, bundle.as_ref(), &files);
+        push_refusal(&found?, line)
     }
 
     /// Adds the names of the files that a file uses. None of them is asked for.
@@ -88,10 +96,8 @@ impl Around<'_> {
         if self.bundle.is_some() && bundle.is_none() {
             return Ok(line.push_str(" no bundle")?);
         }
-        match CMap::uses(alloc, file, bundle.as_ref())? {
-            Some(names) => Ok(push_names(&names, line)?),
-            None => Ok(line.push_str(" refused")?),
-        }
+        let uses = CMap::uses(alloc, file, bundle.as_ref());
+        Ok(push_names(&uses?, line)?)
     }
 
     /// The bundle; `None` also where what stands for one is none.
@@ -101,58 +107,36 @@ impl Around<'_> {
             None => Ok(None),
         }
     }
-
-    /// Reads a file where the files of the bundle answer to their names.
-    fn read_over_bundle(
-        &self,
-        alloc: Global,
-        file: &[u8],
-        bundle: &Bundle<'_>,
-    ) -> Result<(Outcome, u32), AllocError> {
-        let count = Cell::new(0u32);
-        let get_cmap = |name: CMapName<'_>| {
-            count.set(count.get().wrapping_add(1));
-            load_embedded(Some(bundle), name)
-        };
-        let map = CMap::parse_within(alloc, self.budget, file, Some(bundle), &get_cmap);
-        Ok((outcome_of(map)?, count.get()))
-    }
-
-    /// Reads a file where the bases answer to their names.
-    fn read_over_bases(
-        &self,
-        alloc: Global,
-        file: &[u8],
-        bundle: Option<&Bundle<'_>>,
-    ) -> Result<(Outcome, u32), AllocError> {
-        let bases = self.bases.as_slice();
-        let count = Cell::new(0u32);
-        let get_cmap = |name: CMapName<'_>| {
-            count.set(count.get().wrapping_add(1));
-            file_of(bases, name.to_bytes())
-        };
-        let map = CMap::parse_within(alloc, self.budget, file, bundle, &get_cmap);
-        Ok((outcome_of(map)?, count.get()))
-    }
 }
 
-/// Files that answer to their names.
+/// Files that answer to their names: bases, or else those of a bundle.
 #[derive(Drop)]
 struct NamedFiles<'s, 'a> {
-    files: &'s [NamedFile<'a>],
+    bundle: Option<&'s Bundle<'a>>,
+    bases: &'s [NamedFile<'a>],
+    /// How many were asked for.
+    asked: Cell<u32>,
 }
 
 impl<'s, 'a> Source for NamedFiles<'s, 'a> {
-    ghost use Rattle.std.specs.Prelude.{◌≡◌, ⊤};
+    ghost use Rattle.std.specs.Prelude.{◌≡◌, ⊤, option_map};
+    ghost use Rattle.std.specs.Option.{option_or};
+    ghost use Rattle.cmap_binary.specs.BundleSeen.{bundle_seen};
+    ghost use Rattle.hayro_cmap.specs.Answers.{embedded};
     ghost use Rattle.cmap_vectors.specs.NamedFiles.{file_in};
 
-    ghost can_ask = { λ bases. ⊤ };
+    ghost can_ask = { λ files. ⊤ };
 
-    ghost answers = { λ bases name answer. answer ≡ file_in bases.files.now name };
+    ghost answers = { λ files name answer. answer
+        ≡ option_or (file_in files.bases.now name)
+        (embedded (option_map (λ b. bundle_seen b.now) files.bundle) name) };
 
     fn file(&self, name: &[u8]) -> Option<&[u8]> {
-        let answer: Option<&'s [u8]> = file_of(self.files, name);
-        answer
+        self.asked.set(self.asked.get().wrapping_add(1));
+        match file_of(self.bases, name) {
+            Some(file) => Some(file),
+            None => self.bundle.file(name),
+        }
     }
 }
 
@@ -178,8 +162,23 @@ fn file_of<'x>(files: &'x [NamedFile<'x>], name: &[u8]) -> Option<&'x [u8]>
     None
 }
 
-/// Adds names, each after a slash.
-fn push_names(names: &[&[u8]], line: &mut String) -> Result<(), AllocError> {
+/// Adds the names that lead to the file at fault, and what is wrong with it.
+fn push_refusal(found: &Result<CMap, Refusal>, line: &mut String) -> Result<(), Fault> {
+    let Err(refusal) = found else {
+        return Ok(line.push_str(" none")?);
+    };
+    for name in &refusal.names {
+        line.push(' ')?;
+        push_escaped(name, line)?;
+    }
+    Ok(write!(line, " {}", refusal.cause)?)
+}
+
+/// Adds the names of the files that a file uses, each after a slash; a file that is refused has none.
+fn push_names(uses: &Option<Vec<&[u8]>>, line: &mut String) -> Result<(), AllocError> {
+    let Some(names) = uses else {
+        return line.push_str(" refused");
+    };
     if names.is_empty() {
         return line.push_str(" none");
     }

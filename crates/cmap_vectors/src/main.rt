@@ -15,10 +15,11 @@ mod rows;
 mod spelled;
 mod tokens;
 
+use cmap_programs::words::words;
 use fault::Fault;
 use rows::Rows;
+use std::fs;
 use std::process::ExitCode;
-use std::{env, fs};
 
 fn main(rt: HostRuntime) -> ExitCode {
     match run(&rt) {
@@ -33,7 +34,9 @@ fn main(rt: HostRuntime) -> ExitCode {
 
 /// Runs the rows of each file that the command line names, and says how many failed.
 fn run(rt: &HostRuntime) -> Result<u32, Fault> {
-    let paths = env::args(rt)?.skip(1).collect::<Vec<String>>(rt.alloc())?;
+    let Ok(paths) = words(rt) else {
+        return Err(Fault::Unreadable);
+    };
     if paths.is_empty() {
         return Err(Fault::Wrong("no file of rows"));
     }
