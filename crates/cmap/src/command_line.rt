@@ -33,29 +33,33 @@ fn check<'a>(alloc: Global) -> Result<Command<'a>, AllocError> {
 }
 
 fn decode<'a>(alloc: Global) -> Result<Command<'a>, AllocError> {
-    let strings = Arg::new(alloc, "WORD")
-        .value_name("HEX")
-        .required(true)
-        .action(ArgAction::Append)
-        .num_args(1..)
-        .help("Strings, two hexadecimal digits a byte; - reads them from the standard input");
     let command = Command::new(alloc, "decode")
         .about("Tells the codes of strings, with their CIDs and their texts")
         .arg(file(alloc))?
-        .arg(strings)?;
+        .arg(
+            Arg::new(alloc, "WORD")
+                .value_name("HEX")
+                .required(true)
+                .action(ArgAction::Append)
+                .num_args(1..)
+                .help(
+                    "Strings, two hexadecimal digits a byte; - reads them from the standard input",
+                ),
+        )?;
     with_options(alloc, command)
 }
 
 fn lookup<'a>(alloc: Global) -> Result<Command<'a>, AllocError> {
-    let words = Arg::new(alloc, "WORD")
-        .required(true)
-        .action(ArgAction::Append)
-        .num_args(1..)
-        .help("L:HEX for the CID of a code of L bytes, bf:HEX for the text of a code");
     let command = Command::new(alloc, "lookup")
         .about("Tells the CIDs and the texts of single codes")
         .arg(file(alloc))?
-        .arg(words)?;
+        .arg(
+            Arg::new(alloc, "WORD")
+                .required(true)
+                .action(ArgAction::Append)
+                .num_args(1..)
+                .help("L:HEX for the CID of a code of L bytes, bf:HEX for the text of a code"),
+        )?;
     with_options(alloc, command)
 }
 
@@ -77,25 +81,39 @@ fn files<'a>(alloc: Global, name: &'a str, help: &'a str) -> Arg<'a> {
 
 /// The options that each subcommand has.
 fn with_options<'a>(alloc: Global, command: Command<'a>) -> Result<Command<'a>, AllocError> {
-    let base = Arg::new(alloc, "base")
-        .long("base")
-        .value_name("FOLDER")
-        .action(ArgAction::Append)
-        .help("A folder of the files that CMap files use, by their names, with its subfolders");
-    let bundle = Arg::new(alloc, "bundle")
-        .long("bundle")
-        .value_name("FILE")
-        .action(ArgAction::Set)
-        .help("A bundle: its tables for binary files, and its files for names that no folder has");
-    let budget = Arg::new(alloc, "budget")
-        .long("budget")
-        .value_name("N")
-        .value_parser(value_parser!(u64))
-        .action(ArgAction::Set)
-        .help("How many bytes the files that one file opens, itself too, may have together");
-    let json = Arg::new(alloc, "json")
-        .long("json")
-        .action(ArgAction::SetTrue)
-        .help("One object of JSON a line");
-    command.arg(base)?.arg(bundle)?.arg(budget)?.arg(json)
+    command
+        .arg(
+            Arg::new(alloc, "base")
+                .long("base")
+                .value_name("FOLDER")
+                .action(ArgAction::Append)
+                .help(
+                    "A folder of the files that CMap files use, by their names, with its subfolders",
+                ),
+        )?
+        .arg(
+            Arg::new(alloc, "bundle")
+                .long("bundle")
+                .value_name("FILE")
+                .action(ArgAction::Set)
+                .help(
+                    "A bundle: its tables for binary files, and its files for names that no folder has",
+                ),
+        )?
+        .arg(
+            Arg::new(alloc, "budget")
+                .long("budget")
+                .value_name("N")
+                .value_parser(value_parser!(u64))
+                .action(ArgAction::Set)
+                .help(
+                    "How many bytes the files that one file opens, itself too, may have together",
+                ),
+        )?
+        .arg(
+            Arg::new(alloc, "json")
+                .long("json")
+                .action(ArgAction::SetTrue)
+                .help("One object of JSON a line"),
+        )
 }

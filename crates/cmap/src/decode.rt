@@ -69,16 +69,23 @@ fn strings_of(rt: &HostRuntime, words: &[&str]) -> anyhow::Result<Vec<Vec<u8>>> 
     let mut strings = Vec::new(rt.alloc());
     for word in words {
         if *word == STANDARD_INPUT {
-            let bytes = needed(rt, word)?;
-            let text = str::from_utf8(&bytes).map_err(|_| fault(rt, word, "no text"))?;
-            for spelled in text.split_whitespace() {
-                strings.push(string_of(rt, spelled)?)?;
-            }
+            add_strings(rt, &needed(rt, word)?, &mut strings)?;
         } else {
             strings.push(string_of(rt, word)?)?;
         }
     }
     Ok(strings)
+}
+
+/// Adds the strings of the standard input.
+fn add_strings(rt: &HostRuntime, input: &[u8], strings: &mut Vec<Vec<u8>>) -> anyhow::Result<()> {
+    let Ok(text) = str::from_utf8(input) else {
+        return Err(fault(rt, STANDARD_INPUT, "no text"));
+    };
+    for spelled in text.split_whitespace() {
+        strings.push(string_of(rt, spelled)?)?;
+    }
+    Ok(())
 }
 
 /// The bytes that hexadecimal digits spell, two a byte.

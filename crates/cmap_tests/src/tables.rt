@@ -30,8 +30,9 @@ fn table_of(alloc: Global, ranges: &[(u32, u32)]) -> Result<Table<Declared>, All
     Table::build(alloc, list)
 }
 
-/// The runs of a table: a first code, a last code and the place of the declaration that decides them.
-fn runs_of(alloc: Global, table: &Table<Declared>) -> Result<Vec<(u32, u32, usize)>, AllocError> {
+/// The runs of ranges: a first code, a last code and the place of the declaration that decides them.
+fn runs_of(alloc: Global, ranges: &[(u32, u32)]) -> Result<Vec<(u32, u32, usize)>, AllocError> {
+    let table = table_of(alloc, ranges)?;
     let mut looks = Looks::new();
     let mut runs = Vec::new(alloc);
     for i in 0..table.run_count() {
@@ -59,7 +60,7 @@ fn ranges_that_narrow_have_two_runs_each(rt: HostRuntime) -> Result<(), Fail> {
     for i in 0..2000 {
         ranges.push((i, 4000 - i))?;
     }
-    let runs = runs_of(rt.alloc(), &table_of(rt.alloc(), &ranges)?)?;
+    let runs = runs_of(rt.alloc(), &ranges)?;
     assert_eq!(rt; runs.len(), 3999);
     assert_eq!(rt; runs.first().copied(), Some((0, 0, 0)));
     assert_eq!(rt; runs.get(1999).copied(), Some((1999, 2001, 1999)));
@@ -73,7 +74,7 @@ fn ranges_that_widen_have_one_run(rt: HostRuntime) -> Result<(), Fail> {
     for i in 0..2000 {
         ranges.push((1999 - i, 2001 + i))?;
     }
-    let runs = runs_of(rt.alloc(), &table_of(rt.alloc(), &ranges)?)?;
+    let runs = runs_of(rt.alloc(), &ranges)?;
     assert_eq!(rt; runs.as_slice(), [(0, 4000, 1999)].as_slice());
     Ok(())
 }
@@ -85,7 +86,7 @@ fn a_range_over_many_codes_covers_them(rt: HostRuntime) -> Result<(), Fail> {
         ranges.push((code, code))?;
     }
     ranges.push((0, u32::MAX))?;
-    let runs = runs_of(rt.alloc(), &table_of(rt.alloc(), &ranges)?)?;
+    let runs = runs_of(rt.alloc(), &ranges)?;
     assert_eq!(rt; runs.as_slice(), [(0, u32::MAX, 1000)].as_slice());
     Ok(())
 }

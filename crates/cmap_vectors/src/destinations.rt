@@ -45,7 +45,9 @@ fn push_units(alloc: Global, bytes: &[u8], line: &mut String) -> Result<(), Faul
 /// Adds the text at the offset that a line begins with.
 fn push_text_at(alloc: Global, bytes: &[u8], rest: &str, line: &mut String) -> Result<(), Fault> {
     let (offset, _) = rest.split_once(' ').ok_or(Fault::Wrong("text OFFSET .."))?;
-    let place = u32::from_str_radix(offset, 10).map_err(|_| Fault::Wrong("no offset"))?;
+    let place = u32::from_str_radix(offset, 10)
+        .ok()
+        .ok_or(Fault::Wrong("no offset"))?;
     let units = units(alloc, bytes)?;
     let found = text(alloc, &units, place)?;
     write!(line, " {offset}")?;

@@ -210,9 +210,16 @@ pub fn push_held(
         return Err(Fault::Wrong("an unknown word"));
     }
     let name = unescaped(alloc, asked)?;
-    let bundle = Bundle::parse(alloc, bundle)?;
     write!(line, " {asked} ")?;
-    match load_embedded(bundle.as_ref(), CMapName::from_bytes(&name)) {
+    let bundle = Bundle::parse(alloc, bundle)?;
+    push_file(
+        load_embedded(bundle.as_ref(), CMapName::from_bytes(&name)),
+        line,
+    )
+}
+
+fn push_file(file: Option<&[u8]>, line: &mut String) -> Result<(), Fault> {
+    match file {
         Some(file) => Ok(push_escaped(file, line)?),
         None => Ok(line.push_str("none")?),
     }

@@ -48,11 +48,6 @@ fn push_answer_alone(
     rest: &str,
     line: &mut String,
 ) -> Result<(), Fault> {
-    let family = map
-        .metadata()
-        .character_collection
-        .as_ref()
-        .map(|c| &c.family);
     match word {
         "cid" | "strict" => push_cids(map, word, rest, line)?,
         "codes" => push_codes(alloc, map, rest, line)?,
@@ -60,8 +55,7 @@ fn push_answer_alone(
         "name" => push_name(map.metadata(), line)?,
         "mode" => push_mode(map, line)?,
         "collection" => push_collection(map, line)?,
-        "unicode" => push_predefined(family.and_then(|family| family.unicode_cmap()), line)?,
-        "ucs2" => push_predefined(family.and_then(|family| family.ucs2_cmap()), line)?,
+        "unicode" | "ucs2" => push_predefined(predefined(map, word), line)?,
         "layers" => write!(line, " {}", map.layers().len())?,
         "declared" => push_layer(map, rest, line)?,
         _ => return Err(Fault::Wrong("an unknown word")),
@@ -87,7 +81,7 @@ fn push_cids(map: &CMap, word: &str, rest: &str, line: &mut String) -> Result<()
 fn push_cid(map: &CMap, word: &str, asked: &str, line: &mut String) -> Result<(), Fault> {
     let fault = Fault::Wrong("a code is LENGTH:DIGITS");
     let (len, digits) = asked.split_once(':').ok_or(fault)?;
-    let len = u8::from_str_radix(len, 10).map_err(|_| fault)?;
+    let len = u8::from_str_radix(len, 10).ok().ok_or(fault)?;
     let code = code_of(digits)?;
     let plain = map.lookup_cid_code(code, len);
     let counted = map.lookup_cid_counted(code, len, &mut Looks::new());
@@ -196,6 +190,15 @@ fn push_collection(map: &CMap, line: &mut String) -> Result<(), AllocError> {
         push_escaped(family.ordering(), line)?;
     }
     write!(line, " {}", collection.supplement)
+}
+
+/// The name of the map to Unicode of a map's collection, or of that to UCS-2.
+fn predefined<'m>(map: &'m CMap, word: &str) -> Option<CMapName<'m>> {
+    let collection = map.metadata().character_collection.as_ref()?;
+    match word {
+        "unicode" => collection.family.unicode_cmap(),
+        _ => collection.family.ucs2_cmap(),
+    }
 }
 
 /// Adds the name of a predefined map.

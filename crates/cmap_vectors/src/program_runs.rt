@@ -41,7 +41,9 @@ fn words_of(alloc: Global, line: &str) -> Result<Vec<String>, Fault> {
 }
 
 fn text_of(bytes: Vec<u8>) -> Result<String, Fault> {
-    String::from_utf8(bytes).map_err(|_| Fault::Wrong("bytes that are no text"))
+    String::from_utf8(bytes)
+        .ok()
+        .ok_or(Fault::Wrong("bytes that are no text"))
 }
 
 /// Adds lines, parted by ` / `. A last one without an end is told.

@@ -2,7 +2,7 @@
 
 use crate::fault::Fault;
 use hayro_cmap::runs::{HasRange, Looks, Range, Table};
-use std::alloc::{AllocError, Global};
+use std::alloc::Global;
 
 /// A declaration that knows its place.
 #[derive(Drop)]
@@ -29,9 +29,9 @@ pub fn push_answer(
 ) -> Result<(), Fault> {
     let table = table_of(alloc, ranges)?;
     match word {
-        "runs" => Ok(push_runs(&table, line)?),
+        "runs" => push_runs(&table, line),
         "found" => push_found(&table, rest, line),
-        "declarations" => Ok(write!(line, " {}", table.decl_count())?),
+        "declarations" => push_count(&table, line),
         _ => Err(Fault::Wrong("an unknown word")),
     }
 }
@@ -55,13 +55,19 @@ fn table_of(alloc: Global, ranges: &str) -> Result<Table<Declared>, Fault> {
 
 /// The code of hexadecimal digits.
 pub fn code_of(digits: &str) -> Result<u32, Fault> {
-    u32::from_str_radix(digits, 16).map_err(|_| Fault::Wrong("no code"))
+    u32::from_str_radix(digits, 16)
+        .ok()
+        .ok_or(Fault::Wrong("no code"))
+}
+
+fn push_count(table: &Table<Declared>, line: &mut String) -> Result<(), Fault> {
+    Ok(write!(line, " {}", table.decl_count())?)
 }
 
 /// Adds the runs as `0-F:0 10-1F:1`.
-fn push_runs(table: &Table<Declared>, line: &mut String) -> Result<(), AllocError> {
+fn push_runs(table: &Table<Declared>, line: &mut String) -> Result<(), Fault> {
     if table.run_count() == 0 {
-        return line.push_str(" none");
+        return Ok(line.push_str(" none")?);
     }
     let mut looks = Looks::new();
     for i in 0..table.run_count() {

@@ -192,7 +192,10 @@ impl Row<'_> {
             bases.push((base.name.as_bytes(), base.spelled.bytes.as_slice()))?;
         }
         Ok(Around {
-            bundle: self.bundle.as_ref().map(|bundle| bundle.bytes.as_slice()),
+            bundle: match &self.bundle {
+                Some(bundle) => Some(bundle.bytes.as_slice()),
+                None => None,
+            },
             bases,
             budget: self.budget,
         })

@@ -64,24 +64,27 @@ pub fn addition_of(
     rest: &str,
     definition: Option<&Spelled>,
 ) -> Result<Option<Addition>, Fault> {
-    let bytes = match word {
-        "+" => unescaped(alloc, rest)?,
-        "|" => {
-            let mut line = unescaped(alloc, rest)?;
-            line.push(b'\n')?;
-            line
-        }
-        "hex" => hexadecimal(alloc, rest)?,
+    match word {
+        "+" => Ok(Some(Addition::Bytes(unescaped(alloc, rest)?))),
+        "|" => Ok(Some(Addition::Bytes(unescaped_line(alloc, rest)?))),
+        "hex" => Ok(Some(Addition::Bytes(hexadecimal(alloc, rest)?))),
         "use" => {
             let found = definition.ok_or(Fault::Wrong("no such definition"))?;
-            Vec::from_slice(alloc, &found.bytes)?
+            let copied = Vec::from_slice(alloc, &found.bytes)?;
+            Ok(Some(Addition::Bytes(copied)))
         }
-        "times" => repeated(alloc, rest)?,
-        "binary" => return Ok(Some(Addition::Head)),
-        "segment" => return Ok(Some(Addition::Segment(segment(alloc, rest)?))),
-        _ => return Ok(None),
-    };
-    Ok(Some(Addition::Bytes(bytes)))
+        "times" => Ok(Some(Addition::Bytes(repeated(alloc, rest)?))),
+        "binary" => Ok(Some(Addition::Head)),
+        "segment" => Ok(Some(Addition::Segment(segment(alloc, rest)?))),
+        _ => Ok(None),
+    }
+}
+
+/// A line with its end.
+fn unescaped_line(alloc: Global, text: &str) -> Result<Vec<u8>, Fault> {
+    let mut line = unescaped(alloc, text)?;
+    line.push(b'\n')?;
+    Ok(line)
 }
 
 /// The text after a number, as many times as the number says.
@@ -123,5 +126,7 @@ pub fn split_word(line: &str) -> (&str, &str) {
 
 /// The number of decimal digits.
 pub fn number(digits: &str) -> Result<u64, Fault> {
-    u64::from_str_radix(digits, 10).map_err(|_| Fault::Wrong("no number"))
+    u64::from_str_radix(digits, 10)
+        .ok()
+        .ok_or(Fault::Wrong("no number"))
 }
