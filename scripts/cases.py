@@ -1,4 +1,4 @@
-"""Cases of a program: files, command lines, and what has to come of them, as they are written in
+"""Cases of programs: files, command lines, and what has to come of them, as they are written in
 examples/command."""
 
 import os
@@ -13,6 +13,7 @@ SHORT = {"n": b"\n", "r": b"\r", "t": b"\t", "f": b"\f", "0": b"\0", "\\": b"\\"
 PLACE = re.compile(r"\{(at|byte|line)(?: ([^{}\"]+))?\}")
 LINE_END = re.compile(rb"\r\n|\r|\n")
 BINARY_HEAD = b"bcmap\x01"
+PROGRAMS = ["cmap", "cmap_bench"]
 SECONDS = 120
 
 
@@ -57,6 +58,7 @@ class Case:
     """A command line, and what has to come of it."""
 
     number: int
+    program: str
     words: list
     input: bytes = b""
     output: list = field(default_factory=list)
@@ -112,7 +114,7 @@ class Reader:
         if not line:
             self.open = None
         elif word == "$":
-            self.open = Case(number, words_of(rest))
+            self.open = Case(number, *words_of(rest))
             self.steps.append(self.open)
         elif word in ("file", "let"):
             self.begin_bytes(word, rest)
@@ -184,11 +186,11 @@ class Reader:
 
 
 def words_of(line):
-    """The words of a command line after the name of the program; `""` is the empty one."""
+    """The program of a command line, and the words after its name; `""` is the empty one."""
     name, *words = line.split(" ")
-    if name != "cmap":
-        raise Misspelled("a command line begins with cmap")
-    return [b"" if word == '""' else unescape(word) for word in words if word]
+    if name not in PROGRAMS:
+        raise Misspelled(f"a command line begins with one of {PROGRAMS}")
+    return name, [b"" if word == '""' else unescape(word) for word in words if word]
 
 
 def write(folder, file):

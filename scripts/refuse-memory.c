@@ -29,6 +29,7 @@ struct faults {
 };
 
 static struct faults of_descriptor[DESCRIPTORS];
+static int failed_with;
 static long requests, refused_from, refused_to;
 static int is_counting;
 
@@ -54,6 +55,7 @@ __attribute__((constructor)) static void start(void)
     of_descriptor[1] = (struct faults){0, number("WRITE_FAILED"), number("WRITE_INTERRUPTED"),
                                        number("WRITE_ONE_BYTE")};
     of_descriptor[2] = (struct faults){0, number("ERROR_FAILED"), 0, 0};
+    failed_with = number("FAILED_FOR_MEMORY") ? NO_MEMORY : FAILED;
     is_counting = 1;
 }
 
@@ -111,7 +113,7 @@ static ssize_t transfer(long call, int descriptor, void *bytes, size_t count)
     faults->count++;
     if (faults->count == faults->failed || faults->count == faults->interrupted) {
         report(faults->count == faults->failed ? 'f' : 'i');
-        *__errno_location() = faults->count == faults->failed ? FAILED : INTERRUPTED;
+        *__errno_location() = faults->count == faults->failed ? failed_with : INTERRUPTED;
         return -1;
     }
     if (faults->one_byte == -1 || faults->count == faults->one_byte) {

@@ -4,12 +4,12 @@ use crate::inputs::{STANDARD_INPUT, read, readable, tell_unreadable};
 use crate::options::Options;
 use crate::progress::Progress;
 use crate::{ACCEPTED, REFUSED};
+use cmap_escape::{escape, json};
 use cmap_library::folders::{files_in, is_folder};
 use cmap_library::library::Library;
 use cmap_library::refused::{push_refusal, push_refusal_json};
-use cmap_report::{escape, json};
 use hayro_cmap::{CMap, Refusal};
-use serde_json::json;
+use serde_json::{Map, Value, put};
 use std::alloc::{AllocError, Global};
 
 /// Checks the files and the files of the folders, and gives the status.
@@ -23,8 +23,19 @@ pub(crate) fn check(
     for path in options.paths {
         status = status.max(add_files(rt, path, &mut files)?);
     }
+    Ok(status.max(check_files(rt, &files, options, library)?))
+}
+
+/// Prints the line of each file, and gives the status.
+fn check_files(
+    rt: &HostRuntime,
+    files: &[String],
+    options: &Options<'_, '_>,
+    library: &Library<'_>,
+) -> anyhow::Result<u8> {
+    let mut status = ACCEPTED;
     let mut progress = Progress::new(rt, files.len());
-    for file in &files {
+    for file in files {
         status = status.max(check_file(rt, file.as_str(), options, library, &progress)?);
         progress.advance(rt)?;
     }
@@ -38,12 +49,10 @@ fn add_files(rt: &HostRuntime, path: &str, files: &mut Vec<String>) -> anyhow::R
         files.push(String::from_str(rt.alloc(), path)?)?;
         return Ok(ACCEPTED);
     }
-    let Some(found) = readable(files_in(rt, path))? else {
+    let Some(mut found) = readable(files_in(rt, path))? else {
         return tell_unreadable(rt, path);
     };
-    for file in found {
-        files.push(file)?;
-    }
+    files.append(&mut found)?;
     Ok(ACCEPTED)
 }
 
@@ -59,34 +68,31 @@ fn check_file(
         progress.clear(rt)?;
         return tell_unreadable(rt, path);
     };
-    let found = CMap::parse_explained(
-        rt.alloc(),
-        options.budget,
-        &bytes,
-        library.bundle(),
-        library,
-    )?;
     let mut line = String::new(rt.alloc());
-    let status = match found {
-        Ok(_map) => {
-            push_accepted(rt.alloc(), &mut line, path, options.json)?;
-            ACCEPTED
-        }
-        Err(refusal) => {
-            push_refused(
-                rt.alloc(),
-                &mut line,
-                path,
-                &bytes,
-                options.json,
-                library,
-                &refusal,
-            )?;
-            REFUSED
-        }
-    };
+    let status = push_checked(rt.alloc(), &mut line, path, &bytes, options, library)?;
     println!(rt; "{line}")?;
     Ok(status)
+}
+
+/// Adds the line of a file, and gives its status.
+fn push_checked(
+    alloc: Global,
+    line: &mut String,
+    path: &str,
+    bytes: &[u8],
+    options: &Options<'_, '_>,
+    library: &Library<'_>,
+) -> Result<u8, AllocError> {
+    match CMap::parse_explained(alloc, options.budget, bytes, library.bundle(), library)? {
+        Ok(_map) => {
+            push_accepted(alloc, line, path, options.json)?;
+            Ok(ACCEPTED)
+        }
+        Err(refusal) => {
+            push_refused(alloc, line, path, bytes, options.json, library, &refusal)?;
+            Ok(REFUSED)
+        }
+    }
 }
 
 /// Adds the line of a file that is accepted.
@@ -97,10 +103,18 @@ fn push_accepted(
     json: bool,
 ) -> Result<(), AllocError> {
     if json {
-        return json::push_value(alloc, line, &json!(in alloc; {"file": path, "ok": true})?);
+        return push_accepted_json(alloc, line, path);
     }
     escape::push_text(line, path)?;
     line.push_str(": ok")
+}
+
+fn push_accepted_json(alloc: Global, line: &mut String, path: &str) -> Result<(), AllocError> {
+    let mut object = Map::new(alloc);
+    let file = String::from_str(alloc, path)?;
+    put(&mut object, alloc, "file", Value::from(file))?;
+    put(&mut object, alloc, "ok", Value::from(true))?;
+    json::push_value(alloc, line, &Value::Object(object))
 }
 
 /// Adds the line of a file that is refused.

@@ -3,10 +3,10 @@
 use crate::FAILED;
 use crate::options::Options;
 use crate::told::{fault, tell};
+use cmap_escape::escape::push_text;
 use cmap_library::folders::{files_in, name_of};
 use cmap_library::library::{Base, Library};
 use cmap_library::refused::push_refusal;
-use cmap_report::escape::push_text;
 use hayro_cmap::{Bundle, CMap};
 use std::fs;
 use std::io::{self, ErrorKind, Read};
@@ -36,15 +36,20 @@ pub(crate) fn library<'b>(
 
 /// The bytes of a file that a run needs; `-` is the standard input.
 pub(crate) fn needed(rt: &HostRuntime, path: &str) -> anyhow::Result<Vec<u8>> {
-    read(rt, path)?.ok_or_else(|| unreadable(rt, path))
+    match read(rt, path)? {
+        Some(bytes) => Ok(bytes),
+        None => Err(unreadable(rt, path)),
+    }
 }
 
 /// The bytes of a file; `-` is the standard input. `None` where it can't be read.
 pub(crate) fn read(rt: &HostRuntime, path: &str) -> anyhow::Result<Option<Vec<u8>>> {
     if path == STANDARD_INPUT {
         let mut bytes = Vec::new(rt.alloc());
-        let all = rt.stdin().read_to_end(&mut bytes);
-        return readable(all.map(|_count| bytes));
+        return match readable(rt.stdin().read_to_end(&mut bytes))? {
+            Some(_count) => Ok(Some(bytes)),
+            None => Ok(None),
+        };
     }
     readable(fs::read(rt, path))
 }

@@ -1,7 +1,7 @@
 //! What the standard error is told. Words and paths are escaped, since nobody vetted them.
 
 use clap::Error;
-use cmap_report::escape::push_text;
+use cmap_escape::escape::push_text;
 use std::alloc::{AllocError, Global};
 use std::io;
 

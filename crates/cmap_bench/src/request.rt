@@ -6,7 +6,7 @@ ghost use Rattle.cmap_bench.specs.Words.{SpellsNone, Spells, mode_word};
 use cmap_programs::words::decimal;
 
 /// What the rounds do.
-#[derive(Clone, Copy, Debug, PartialEq, Eq)]
+#[derive(Clone, Copy)]
 pub enum Mode {
     /// Read the file.
     Parse,
@@ -32,7 +32,7 @@ impl Mode {
 }
 
 /// What the words of the command line ask for.
-#[derive(Clone, Copy, Debug)]
+#[derive(Clone, Copy)]
 pub struct Request<'a> {
     /// What the rounds do.
     pub mode: Mode,
@@ -59,6 +59,3 @@ impl<'a> Request<'a> {
         })
     }
 }
-
-#[cfg(test)]
-mod tests;

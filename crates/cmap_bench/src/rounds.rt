@@ -2,7 +2,7 @@
 
 use crate::request::Mode;
 use cmap_programs::failure::Failure;
-use hayro_cmap::{BfString, CMap, CMapName};
+use hayro_cmap::{BfString, Bundle, CMap};
 use std::alloc::{AllocError, Global};
 use std::time::{Clock, Instant};
 
@@ -10,7 +10,7 @@ use std::time::{Clock, Instant};
 const CODE_COUNT: u32 = 0x1_0000;
 
 /// How long rounds took, and what they found.
-#[derive(Clone, Copy, Debug, PartialEq, Eq)]
+#[derive(Clone, Copy)]
 pub struct Measured {
     /// The nanoseconds of the rounds alone; 0 where there was none.
     pub nanos: u128,
@@ -63,7 +63,7 @@ impl<'d> Work<'d> {
     }
 
     /// The checksum after this many more rounds.
-    fn repeat(&self, alloc: Global, before: u64, rounds: u64) -> Result<u64, AllocError> {
+    fn repeat(&self, alloc: Global, before: u64, rounds: u64) -> Result<u64, Failure> {
         let mut checksum = before;
         for _ in 0..rounds {
             checksum = self.round(alloc, checksum)?;
@@ -72,21 +72,22 @@ impl<'d> Work<'d> {
     }
 
     /// The checksum after one more round.
-    fn round(&self, alloc: Global, before: u64) -> Result<u64, AllocError> {
+    fn round(&self, alloc: Global, before: u64) -> Result<u64, Failure> {
         match self {
             Work::Parse(data) => {
                 let accepted = parse(alloc, data)?.is_some();
                 Ok(before.wrapping_add(u64::from(accepted)))
             }
             Work::Lookup(map) => Ok(cid_sum(map)),
-            Work::Bf(map) => text_sum(alloc, map),
+            Work::Bf(map) => Ok(text_sum(alloc, map)?),
         }
     }
 }
 
 /// The map of a file that uses no other.
-fn parse(alloc: Global, data: &[u8]) -> Result<Option<CMap>, AllocError> {
-    CMap::parse(alloc, data, None, &|_name: CMapName<'_>| None)
+fn parse(alloc: Global, data: &[u8]) -> Result<Option<CMap>, Failure> {
+    let no_files: Option<&Bundle<'_>> = None;
+    Ok(CMap::parse_from(alloc, None, data, None, &no_files)?)
 }
 
 /// The sum of the CIDs of all codes of two bytes; none counts 0.
@@ -118,6 +119,3 @@ fn first_char(text: &BfString) -> Option<char> {
         BfString::String(text) => text.chars().next(),
     }
 }
-
-#[cfg(test)]
-mod tests;

@@ -3,10 +3,10 @@
 use crate::library::Library;
 use crate::lines::line_after;
 use cmap_binary::is_marked_binary;
-use cmap_report::escape::{escaped_names, push_name};
-use cmap_report::json::push_value;
+use cmap_escape::escape::{escaped_names, push_name};
+use cmap_escape::json::push_value;
 use hayro_cmap::{Cause, Reason, Refusal, Source};
-use serde_json::json;
+use serde_json::{Map, Value, put};
 use std::alloc::{AllocError, Global};
 use std::fmt::Write;
 
@@ -96,18 +96,45 @@ pub fn push_refusal_json(
     library: &Library<'_>,
     refusal: &Refusal<'_>,
 ) -> Result<(), AllocError> {
-    let place = place_of(bytes, library, refusal);
-    let reason = match place {
-        Some(place) => format!(in alloc; "{}", place.reason)?,
-        None => format!(in alloc; "{}", refusal.cause)?,
+    let mut object = Map::new(alloc);
+    let file = String::from_str(alloc, path)?;
+    put(&mut object, alloc, "file", Value::from(file))?;
+    put(&mut object, alloc, "ok", Value::from(false))?;
+    put_fault(
+        alloc,
+        &mut object,
+        place_of(bytes, library, refusal),
+        refusal,
+    )?;
+    push_value(alloc, line, &Value::Object(object))
+}
+
+/// Sets the members that tell the file at fault, the place in it, and why it is refused.
+fn put_fault(
+    alloc: Global,
+    object: &mut Map<String, Value>,
+    place: Option<Place>,
+    refusal: &Refusal<'_>,
+) -> Result<(), AllocError> {
+    let names = escaped_names(alloc, &refusal.names)?;
+    put(object, alloc, "in", Value::Array(names))?;
+    let (byte, number) = match place {
+        Some(place) => (Some(place.offset), place.line),
+        None => (None, None),
     };
-    let object = json!(in alloc; {
-        "byte": place.map(|place| place.offset),
-        "file": path,
-        "in": escaped_names(alloc, &refusal.names)?,
-        "line": place.and_then(|place| place.line),
-        "ok": false,
-        "reason": reason
-    })?;
-    push_value(alloc, line, &object)
+    put(object, alloc, "byte", Value::from(byte))?;
+    put(object, alloc, "line", Value::from(number))?;
+    let reason = reason_of(alloc, place, refusal)?;
+    put(object, alloc, "reason", Value::from(reason))
+}
+
+fn reason_of(
+    alloc: Global,
+    place: Option<Place>,
+    refusal: &Refusal<'_>,
+) -> Result<String, AllocError> {
+    match place {
+        Some(place) => format!(in alloc; "{}", place.reason),
+        None => format!(in alloc; "{}", refusal.cause),
+    }
 }

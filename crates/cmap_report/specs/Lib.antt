@@ -1,4 +1,1 @@
 pub mod Codes
-pub mod Escapes
-pub mod Json
-pub mod Shown

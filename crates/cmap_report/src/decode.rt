@@ -1,15 +1,15 @@
 //! The codes of a string, with their CIDs and their texts.
 
 ghost use Rattle.std.specs.Prelude.{OnOk, string_bytes};
-ghost use Rattle.cmap_report.specs.Escapes.{AddsLine, AddsOfLine};
+ghost use Rattle.cmap_escape.specs.Escapes.{AddsLine, AddsOfLine};
 
 mod codes;
 
 use self::codes::{Place, codes_of, place_of};
-use crate::digits::{byte_digits, code_digits, push_code};
-use crate::{escape, json};
+use cmap_escape::digits::{byte_digits, code_digits, push_code};
+use cmap_escape::{escape, json};
 use hayro_cmap::{BfString, CMap, StringCode};
-use serde_json::{Value, json};
+use serde_json::{Map, Value, put};
 use std::alloc::{AllocError, Global};
 
 /// What stands in the row of texts for a code without a text.
@@ -21,6 +21,17 @@ struct Decoded {
     codes: Vec<DecodedCode>,
     /// The texts of the codes in a row, U+FFFD for each code without one.
     text: String,
+}
+
+impl Decoded {
+    /// Adds a code, after those that are there.
+    fn add(&mut self, code: DecodedCode) -> Result<(), AllocError> {
+        match &code.text {
+            Some(text) => self.text.push_str(text.as_str())?,
+            None => self.text.push(NO_TEXT)?,
+        }
+        Ok(self.codes.push(code)?)
+    }
 }
 
 /// A code of a string, and what it stands for.
@@ -74,13 +85,25 @@ fn string_object(
     texts: Option<&CMap>,
     string: &[u8],
 ) -> Result<Value, AllocError> {
-    let Decoded { codes, text } = decode(alloc, map, texts, string)?;
+    let mut object = Map::new(alloc);
+    let digits = byte_digits(alloc, string)?;
+    put(&mut object, alloc, "string", Value::from(digits))?;
+    put_decoded(alloc, &mut object, decode(alloc, map, texts, string)?)?;
+    Ok(Value::Object(object))
+}
+
+fn put_decoded(
+    alloc: Global,
+    object: &mut Map<String, Value>,
+    decoded: Decoded,
+) -> Result<(), AllocError> {
+    let Decoded { codes, text } = decoded;
+    put(object, alloc, "text", Value::from(text))?;
     let mut objects = Vec::with_capacity(alloc, codes.len())?;
     for code in codes {
         objects.push(code_object(alloc, code)?)?;
     }
-    let digits = byte_digits(alloc, string)?;
-    json!(in alloc; {"codes": objects, "string": digits, "text": text})
+    put(object, alloc, "codes", Value::Array(objects))
 }
 
 fn decode(
@@ -90,24 +113,36 @@ fn decode(
     string: &[u8],
 ) -> Result<Decoded, AllocError> {
     let found = codes_of(alloc, map, string)?;
-    let mut codes = Vec::with_capacity(alloc, found.len())?;
-    let mut row = String::new(alloc);
+    let mut decoded = Decoded {
+        codes: Vec::with_capacity(alloc, found.len())?,
+        text: String::new(alloc),
+    };
     for (index, code) in found.iter().enumerate() {
         let is_last = index.saturating_add(1) == found.len();
-        let cid = map.lookup_cid_code(code.code, code.byte_len);
-        let text = match text_of(alloc, map, code.code)? {
-            Some(text) => Some(text),
-            None => text_of_cid(alloc, texts, cid)?,
-        };
-        push_in_row(&mut row, &text)?;
-        codes.push(DecodedCode {
-            code: *code,
-            place: place_of(map, *code, is_last),
-            cid,
-            text,
-        })?;
+        decoded.add(decode_code(alloc, map, texts, *code, is_last)?)?;
     }
-    Ok(Decoded { codes, text: row })
+    Ok(decoded)
+}
+
+/// What a code of a string stands for; it is perhaps the last one.
+fn decode_code(
+    alloc: Global,
+    map: &CMap,
+    texts: Option<&CMap>,
+    code: StringCode,
+    is_last: bool,
+) -> Result<DecodedCode, AllocError> {
+    let cid = map.lookup_cid_code(code.code, code.byte_len);
+    let text = match text_of(alloc, map, code.code)? {
+        Some(text) => Some(text),
+        None => text_of_cid(alloc, texts, cid)?,
+    };
+    Ok(DecodedCode {
+        code,
+        place: place_of(map, code, is_last),
+        cid,
+        text,
+    })
 }
 
 /// The text of a CID, where there are one and a CMap of the texts of CIDs.
@@ -135,13 +170,6 @@ pub(crate) fn text_of(alloc: Global, map: &CMap, code: u32) -> Result<Option<Str
             text.push(character)?;
             Ok(Some(text))
         }
-    }
-}
-
-fn push_in_row(row: &mut String, text: &Option<String>) -> Result<(), AllocError> {
-    match text {
-        Some(text) => row.push_str(text.as_str()),
-        None => row.push(NO_TEXT),
     }
 }
 
@@ -180,17 +208,34 @@ fn push_code_column(out: &mut String, code: StringCode) -> Result<(), AllocError
 }
 
 fn code_object(alloc: Global, decoded: DecodedCode) -> Result<Value, AllocError> {
+    let mut object = Map::new(alloc);
+    put_code(alloc, &mut object, decoded)?;
+    Ok(Value::Object(object))
+}
+
+fn put_code(
+    alloc: Global,
+    object: &mut Map<String, Value>,
+    decoded: DecodedCode,
+) -> Result<(), AllocError> {
     let DecodedCode {
         code,
         place,
         cid,
         text,
     } = decoded;
+    put(object, alloc, "text", Value::from(text))?;
+    put(object, alloc, "cid", Value::from(cid))?;
     let digits = code_digits(alloc, code.byte_len, code.code)?;
-    let range = match place {
+    put(object, alloc, "code", Value::from(digits))?;
+    let range = String::from_str(alloc, range_word(place))?;
+    put(object, alloc, "range", Value::from(range))
+}
+
+fn range_word(place: Place) -> &'static str {
+    match place {
         Place::Inside => "inside",
         Place::Outside => "outside",
         Place::CutShort => "cut short",
-    };
-    json!(in alloc; {"cid": cid, "code": digits, "range": range, "text": text})
+    }
 }

@@ -1,18 +1,18 @@
 //! What a map's files say of themselves, layer by layer.
 
 ghost use Rattle.std.specs.Prelude.{OnOk, string_bytes};
-ghost use Rattle.cmap_report.specs.Escapes.{AddsLine, AddsOfLine};
+ghost use Rattle.cmap_escape.specs.Escapes.{AddsLine, AddsOfLine};
 
-use crate::digits::{code_digits, push_code};
-use crate::{escape, json};
+use cmap_escape::digits::{code_digits, push_code};
+use cmap_escape::{escape, json};
 use hayro_cmap::{
     ByLength, CMap, CharacterCollection, CodeLength, Codespace, Layer, Metadata, WritingMode,
 };
-use serde_json::{Value, json};
+use serde_json::{Map, Value, put};
 use std::alloc::{AllocError, Global};
 
 /// The lengths that codes have.
-const LENGTHS: [CodeLength; 4] = [
+const LENGTHS: &[CodeLength] = &[
     CodeLength::One,
     CodeLength::Two,
     CodeLength::Three,
@@ -74,19 +74,27 @@ fn push_label(out: &mut String, label: &str) -> Result<(), AllocError> {
 
 fn push_metadata(out: &mut String, metadata: &Metadata) -> Result<(), AllocError> {
     push_label(out, "name")?;
+    push_name_or_dash(out, metadata)?;
+    push_label(out, "collection")?;
+    push_collection_or_dash(out, metadata)?;
+    push_label(out, "writing mode")?;
+    out.push_str(mode_name(metadata.writing_mode).unwrap_or("-"))?;
+    out.push('\n')
+}
+
+fn push_name_or_dash(out: &mut String, metadata: &Metadata) -> Result<(), AllocError> {
     match &metadata.name {
         Some(name) => escape::push_name(out, name)?,
         None => out.push('-')?,
     }
-    out.push('\n')?;
-    push_label(out, "collection")?;
+    out.push('\n')
+}
+
+fn push_collection_or_dash(out: &mut String, metadata: &Metadata) -> Result<(), AllocError> {
     match &metadata.character_collection {
         Some(collection) => push_collection(out, collection)?,
         None => out.push('-')?,
     }
-    out.push('\n')?;
-    push_label(out, "writing mode")?;
-    out.push_str(mode_name(metadata.writing_mode).unwrap_or("-"))?;
     out.push('\n')
 }
 
@@ -149,7 +157,7 @@ fn push_counts(out: &mut String, label: &str, counts: &ByLength<usize>) -> Resul
     let before = out.len();
     for len in LENGTHS {
         let separator = if out.len() == before { "" } else { ", " };
-        push_count(out, separator, len, *counts.get(len))?;
+        push_count(out, separator, *len, *counts.get(*len))?;
     }
     if out.len() == before {
         out.push('-')?;
@@ -197,43 +205,100 @@ fn file_object(
     map: &CMap,
     uses: &[Vec<&[u8]>],
 ) -> Result<Value, AllocError> {
+    let mut object = Map::new(alloc);
+    let path = String::from_str(alloc, file)?;
+    put(&mut object, alloc, "file", Value::from(path))?;
+    put_layers(alloc, &mut object, map, uses)?;
+    Ok(Value::Object(object))
+}
+
+fn put_layers(
+    alloc: Global,
+    object: &mut Map<String, Value>,
+    map: &CMap,
+    uses: &[Vec<&[u8]>],
+) -> Result<(), AllocError> {
     let mut layers = Vec::new(alloc);
     for (place, layer) in map.layers().iter().enumerate() {
         layers.push(layer_object(alloc, layer, names_at(uses, place))?)?;
     }
-    json!(in alloc; {"file": file, "layers": layers})
+    put(object, alloc, "layers", Value::Array(layers))
 }
 
 fn layer_object(alloc: Global, layer: &Layer, uses: &[&[u8]]) -> Result<Value, AllocError> {
-    let metadata = layer.metadata();
+    let mut object = Map::new(alloc);
+    put_layer(alloc, &mut object, layer, uses)?;
+    Ok(Value::Object(object))
+}
+
+fn put_layer(
+    alloc: Global,
+    object: &mut Map<String, Value>,
+    layer: &Layer,
+    uses: &[&[u8]],
+) -> Result<(), AllocError> {
+    put_declarations(alloc, object, layer)?;
+    put_metadata(alloc, object, layer.metadata())?;
+    let names = escape::escaped_names(alloc, uses)?;
+    put(object, alloc, "uses", Value::Array(names))
+}
+
+fn put_declarations(
+    alloc: Global,
+    object: &mut Map<String, Value>,
+    layer: &Layer,
+) -> Result<(), AllocError> {
     let counts = layer.counts();
-    json!(in alloc; {
-        "cids": count_list(alloc, &counts.cids)?,
-        "codespaces": codespace_lists(alloc, layer.codespaces())?,
-        "collection": collection_string(alloc, metadata)?,
-        "name": name_string(alloc, metadata)?,
-        "notdefs": count_list(alloc, &counts.notdefs)?,
-        "texts": counts.bfs,
-        "uses": escape::escaped_names(alloc, uses)?,
-        "writing_mode": mode_string(alloc, metadata)?,
-    })
+    put(object, alloc, "cids", count_list(alloc, &counts.cids)?)?;
+    put(
+        object,
+        alloc,
+        "notdefs",
+        count_list(alloc, &counts.notdefs)?,
+    )?;
+    put(object, alloc, "texts", Value::from(counts.bfs))?;
+    let spaces = codespace_lists(alloc, layer.codespaces())?;
+    put(object, alloc, "codespaces", Value::Array(spaces))
+}
+
+fn put_metadata(
+    alloc: Global,
+    object: &mut Map<String, Value>,
+    metadata: &Metadata,
+) -> Result<(), AllocError> {
+    let name = name_string(alloc, metadata)?;
+    put(object, alloc, "name", Value::from(name))?;
+    let collection = collection_string(alloc, metadata)?;
+    put(object, alloc, "collection", Value::from(collection))?;
+    let mode = mode_string(alloc, metadata)?;
+    put(object, alloc, "writing_mode", Value::from(mode))
 }
 
 /// The counts for codes of one, two, three and four bytes.
 fn count_list(alloc: Global, counts: &ByLength<usize>) -> Result<Value, AllocError> {
-    json!(in alloc; [counts.one, counts.two, counts.three, counts.four])
+    let mut list = Vec::with_capacity(alloc, LENGTHS.len())?;
+    for len in LENGTHS {
+        list.push(Value::from(*counts.get(*len)))?;
+    }
+    Ok(Value::Array(list))
 }
 
 /// Codespace ranges, each as a list of its two ends.
 fn codespace_lists(alloc: Global, spaces: &[Codespace]) -> Result<Vec<Value>, AllocError> {
     let mut lists = Vec::with_capacity(alloc, spaces.len())?;
     for space in spaces {
-        let byte_len = space.len.count();
-        let low = code_digits(alloc, byte_len, space.low)?;
-        let high = code_digits(alloc, byte_len, space.high)?;
-        lists.push(json!(in alloc; [low, high])?)?;
+        lists.push(codespace_list(alloc, space)?)?;
     }
     Ok(lists)
+}
+
+fn codespace_list(alloc: Global, space: &Codespace) -> Result<Value, AllocError> {
+    let byte_len = space.len.count();
+    let mut ends = Vec::with_capacity(alloc, 2)?;
+    for end in [space.low, space.high] {
+        ends.push(Value::from(code_digits(alloc, byte_len, end)?))?;
+    }
+    Ok(Value::Array(ends))
 }
 
 fn name_string(alloc: Global, metadata: &Metadata) -> Result<Option<String>, AllocError> {

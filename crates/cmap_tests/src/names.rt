@@ -1,8 +1,6 @@
-//! The names of the predefined CMaps, families of character collections, and clones of what a CMap
-//! says of itself.
+//! The names of the predefined CMaps, by their variants.
 
-use hayro_cmap::{CMap, CMapName, CharacterCollection, CidFamily, Metadata, WritingMode};
-use std::test::Fail;
+use hayro_cmap::CMapName;
 
 /// Each known text with its name.
 const KNOWN: &[(&[u8], CMapName<'static>)] = &[
@@ -80,45 +78,4 @@ fn a_known_text_has_its_name_and_a_name_its_text(rt: HostRuntime) {
         assert_eq!(rt; CMapName::from_bytes(text), *name);
         assert!(rt; name.to_bytes() == *text);
     }
-}
-
-#[test]
-fn a_family_has_its_variant(rt: HostRuntime) -> Result<(), Fail> {
-    let rows = [
-        ("Japan1", CidFamily::AdobeJapan1),
-        ("GB1", CidFamily::AdobeGB1),
-        ("CNS1", CidFamily::AdobeCNS1),
-        ("Korea1", CidFamily::AdobeKorea1),
-        ("Identity", CidFamily::AdobeIdentity),
-    ];
-    for (ordering, family) in rows {
-        let found = CidFamily::from_registry_ordering(rt.alloc(), b"Adobe", ordering.as_bytes())?;
-        assert!(rt; found == family, "{ordering}");
-        assert!(rt; found.clone(rt.alloc())? == family, "{ordering}");
-    }
-    Ok(())
-}
-
-#[test]
-fn clones_are_the_same_again(rt: HostRuntime) -> Result<(), Fail> {
-    let collection = CharacterCollection {
-        family: CidFamily::from_registry_ordering(rt.alloc(), b"Adobe", b"Manga1")?,
-        supplement: -7,
-    };
-    assert!(rt; collection.clone(rt.alloc())? == collection);
-    let name: &[u8] = b"Identity-V";
-    let map = CMap::identity_v(rt.alloc())?;
-    let copy = map.metadata().clone(rt.alloc())?;
-    assert!(rt; copy.character_collection == map.metadata().character_collection);
-    assert_eq!(rt; copy.name.as_ref().map(|name| name.as_slice()), Some(name));
-    assert_eq!(rt; copy.writing_mode, Some(WritingMode::Vertical));
-    let empty = Metadata {
-        character_collection: None,
-        name: None,
-        writing_mode: None,
-    };
-    let copy = empty.clone(rt.alloc())?;
-    assert!(rt; copy.character_collection.is_none() && copy.name.is_none());
-    assert_eq!(rt; copy.writing_mode, None);
-    Ok(())
 }

@@ -1,6 +1,6 @@
 //! Tables over a type of declarations of one's own, and tables of many ranges.
 
-use cmap_runs::runs::{HasRange, Looks, Range, Table};
+use hayro_cmap::runs::{HasRange, Looks, Range, Table};
 use std::alloc::{AllocError, Global};
 use std::test::Fail;
 
@@ -39,19 +39,6 @@ fn runs_of(alloc: Global, ranges: &[(u32, u32)]) -> Result<Vec<(u32, u32, usize)
         runs.push(table.run(i, &mut looks))?;
     }
     Ok(runs)
-}
-
-#[test]
-fn a_covered_declaration_stays_in_the_table(rt: HostRuntime) -> Result<(), Fail> {
-    let table = table_of(rt.alloc(), &[(0x10, 0x10), (0, 0xFF)])?;
-    let mut looks = Looks::new();
-    assert_eq!(rt; table.decl_count(), 2);
-    assert_eq!(rt; table.decl(0, &mut looks).range.end, 0x10);
-    assert_eq!(rt;
-        table.find(0x10, &mut looks).map(|d| d.range.end),
-        Some(0xFF)
-    );
-    Ok(())
 }
 
 #[test]

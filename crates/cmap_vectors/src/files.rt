@@ -4,10 +4,10 @@ ghost use Rattle.std.specs.Prelude.{◌≡◌};
 ghost use Rattle.std.specs.Option.{option_copied};
 ghost use Rattle.cmap_vectors.specs.NamedFiles.{file_in};
 
-use crate::escapes::{push_escaped, unescaped};
-use crate::fault::Fault;
-use crate::spelled::number;
-use hayro_cmap::bcmap::{Bundle, load_embedded};
+use cmap_rows::escapes::{push_escaped, unescaped};
+use cmap_rows::fault::Fault;
+use cmap_rows::spelled::number;
+use hayro_cmap::bcmap::{Bundle, OwnedBundle, load_embedded};
 use hayro_cmap::{CMap, CMapName, ParseError, Refusal, Source};
 use std::alloc::{AllocError, Global};
 use std::cell::Cell;
@@ -41,19 +41,19 @@ impl Outcome {
 }
 
 /// What a file may use.
-#[derive(Drop)]
+#[derive(Clone, Copy)]
 pub struct Around<'a> {
     /// The bytes of a bundle.
     pub bundle: Option<&'a [u8]>,
     /// Files by their names. Where there are any, those of the bundle have none.
-    pub bases: Vec<NamedFile<'a>>,
+    pub bases: &'a [NamedFile<'a>],
     /// How many bytes the files may have together.
     pub budget: Option<u64>,
 }
 
 impl Around<'_> {
     /// What comes of a file, and how many files were asked for.
-    pub fn read(&self, alloc: Global, file: &[u8]) -> Result<(Outcome, u32), AllocError> {
+    pub fn read(self, alloc: Global, file: &[u8]) -> Result<(Outcome, u32), AllocError> {
         let bundle = self.parsed_bundle(alloc)?;
         if self.bundle.is_some() && bundle.is_none() {
             return Ok((Outcome::NoBundle, 0));
@@ -62,7 +62,7 @@ impl Around<'_> {
     }
 
     fn read_over(
-        &self,
+        self,
         alloc: Global,
         file: &[u8],
         bundle: Option<&Bundle<'_>>,
@@ -70,34 +70,92 @@ impl Around<'_> {
         let named = if self.bases.is_empty() { bundle } else { None };
         let files = NamedFiles {
             bundle: named,
-            bases: self.bases.as_slice(),
+            bases: self.bases,
             asked: Cell::new(0),
         };
-        let map = CMap::parse_from(alloc, self.budget, file, bundle, &files);
-        Ok((outcome_of(map)?, files.asked.get()))
+        Ok((
+            self.read_files(alloc, file, bundle, &files)?,
+            files.asked.get(),
+        ))
+    }
+
+    /// What comes of a file over files by their names: by `CMap::parse_within`, or without a budget by
+    /// `CMap::parse`.
+    fn read_files(
+        self,
+        alloc: Global,
+        file: &[u8],
+        bundle: Option<&Bundle<'_>>,
+        files: &NamedFiles<'_, '_>,
+    ) -> Result<Outcome, AllocError> {
+        let get_cmap = |name: CMapName<'_>| files.file(name.to_bytes());
+        match self.budget {
+            Some(_) => outcome_of(CMap::parse_within(alloc, self.budget, file, bundle, &get_cmap)),
+            None => match CMap::parse(alloc, file, bundle, &get_cmap)? {
+                Some(map) => Ok(Outcome::Map(map)),
+                None => Ok(Outcome::Refused),
+            },
+        }
     }
 
     /// Adds the names that lead from a file to the one at fault, and what is wrong with it. The files
     /// of a bundle have no names here.
-    pub fn push_cause(&self, alloc: Global, file: &[u8], line: &mut String) -> Result<(), Fault> {
+    pub fn push_cause(self, alloc: Global, file: &[u8], line: &mut String) -> Result<(), Fault> {
         let bundle = self.parsed_bundle(alloc)?;
+        self.push_cause_over(alloc, file, bundle.as_ref(), line)
+    }
+
+    fn push_cause_over(
+        self,
+        alloc: Global,
+        file: &[u8],
+        bundle: Option<&Bundle<'_>>,
+        line: &mut String,
+    ) -> Result<(), Fault> {
         let files = NamedFiles {
             bundle: None,
-            bases: self.bases.as_slice(),
+            bases: self.bases,
             asked: Cell::new(0),
         };
-        let found = CMap::parse_explained(alloc, self.budget, file, bundle.as_ref(), &files);
-        push_refusal(&found?, line)
+        let found = CMap::parse_explained(alloc, self.budget, file, bundle, &files)?;
+        push_refusal(&found, line)
     }
 
     /// Adds the names of the files that a file uses. None of them is asked for.
-    pub fn push_uses(&self, alloc: Global, file: &[u8], line: &mut String) -> Result<(), Fault> {
+    pub fn push_uses(self, alloc: Global, file: &[u8], line: &mut String) -> Result<(), Fault> {
         let bundle = self.parsed_bundle(alloc)?;
         if self.bundle.is_some() && bundle.is_none() {
             return Ok(line.push_str(" no bundle")?);
         }
-        let uses = CMap::uses(alloc, file, bundle.as_ref());
-        Ok(push_names(&uses?, line)?)
+        push_uses_over(alloc, file, bundle.as_ref(), line)
+    }
+
+    /// Adds the budget that a line has, if the files of a file stay within it and pass one byte less.
+    pub fn push_least_budget(
+        self,
+        alloc: Global,
+        file: &[u8],
+        rest: &str,
+        line: &mut String,
+    ) -> Result<(), Fault> {
+        let digits = rest
+            .strip_prefix("budget ")
+            .ok_or(Fault::Wrong("least budget N"))?;
+        let least = number(digits)?;
+        write!(line, " budget {least}")?;
+        if self.is_passed(alloc, file, least)? {
+            line.push_str(" too small")?;
+        } else if least > 0 && !self.is_passed(alloc, file, least.saturating_sub(1))? {
+            line.push_str(" too large")?;
+        }
+        Ok(())
+    }
+
+    /// Whether the files of a file pass a budget; the row's own doesn't count.
+    fn is_passed(mut self, alloc: Global, file: &[u8], budget: u64) -> Result<bool, AllocError> {
+        self.budget = Some(budget);
+        let (outcome, _) = self.read(alloc, file)?;
+        Ok(matches!(outcome, Outcome::OverBudget))
     }
 
     /// The bundle; `None` also where what stands for one is none.
@@ -107,6 +165,16 @@ impl Around<'_> {
             None => Ok(None),
         }
     }
+}
+
+fn push_uses_over(
+    alloc: Global,
+    file: &[u8],
+    bundle: Option<&Bundle<'_>>,
+    line: &mut String,
+) -> Result<(), Fault> {
+    let uses = CMap::uses(alloc, file, bundle)?;
+    Ok(push_names(&uses, line)?)
 }
 
 /// Files that answer to their names: bases, or else those of a bundle.
@@ -189,15 +257,25 @@ fn push_names(uses: &Option<Vec<&[u8]>>, line: &mut String) -> Result<(), AllocE
     Ok(())
 }
 
-/// Whether bytes are a bundle.
+/// Whether bytes are a bundle, also one that owns its files.
 pub fn outcome_of_bundle(alloc: Global, bytes: &[u8]) -> Result<&'static str, Fault> {
-    match Bundle::parse(alloc, bytes)? {
-        Some(_) => Ok("accepted"),
-        None => Ok("refused"),
+    match (is_bundle(alloc, bytes)?, is_owned_bundle(alloc, bytes)?) {
+        (true, true) => Ok("accepted"),
+        (false, false) => Ok("refused"),
+        _ => Ok("unlike"),
     }
 }
 
-/// Adds the file at the place of the name that a line begins with.
+fn is_bundle(alloc: Global, bytes: &[u8]) -> Result<bool, AllocError> {
+    Ok(Bundle::parse(alloc, bytes)?.is_some())
+}
+
+fn is_owned_bundle(alloc: Global, bytes: &[u8]) -> Result<bool, AllocError> {
+    Ok(OwnedBundle::parse(alloc, bytes)?.is_some())
+}
+
+/// Adds the file at the place of the name that a line begins with, and sees that a bundle which owns
+/// its files has the same.
 pub fn push_held(
     alloc: Global,
     bundle: &[u8],
@@ -209,13 +287,37 @@ pub fn push_held(
     if word != "holds" {
         return Err(Fault::Wrong("an unknown word"));
     }
-    let name = unescaped(alloc, asked)?;
     write!(line, " {asked} ")?;
-    let bundle = Bundle::parse(alloc, bundle)?;
-    push_file(
-        load_embedded(bundle.as_ref(), CMapName::from_bytes(&name)),
-        line,
-    )
+    let name = unescaped(alloc, asked)?;
+    push_file_of(alloc, bundle, CMapName::from_bytes(&name), line)
+}
+
+fn push_file_of(
+    alloc: Global,
+    bundle: &[u8],
+    name: CMapName<'_>,
+    line: &mut String,
+) -> Result<(), Fault> {
+    let parsed = Bundle::parse(alloc, bundle)?;
+    let file = load_embedded(parsed.as_ref(), name);
+    push_file(file, line)?;
+    if !is_owned(alloc, bundle, name, file)? {
+        line.push_str(" unlike")?;
+    }
+    Ok(())
+}
+
+/// Whether a bundle that owns its files has this one under a name.
+fn is_owned(
+    alloc: Global,
+    bundle: &[u8],
+    name: CMapName<'_>,
+    file: Option<&[u8]>,
+) -> Result<bool, AllocError> {
+    match OwnedBundle::parse(alloc, bundle)? {
+        Some(owned) => Ok(owned.file(name) == file),
+        None => Ok(file.is_none()),
+    }
 }
 
 fn push_file(file: Option<&[u8]>, line: &mut String) -> Result<(), Fault> {
@@ -223,29 +325,4 @@ fn push_file(file: Option<&[u8]>, line: &mut String) -> Result<(), Fault> {
         Some(file) => Ok(push_escaped(file, line)?),
         None => Ok(line.push_str("none")?),
     }
-}
-
-/// Adds the budget that a line has, if the files of a file stay within it and pass one byte less.
-pub fn push_least_budget(
-    alloc: Global,
-    mut around: Around<'_>,
-    file: &[u8],
-    rest: &str,
-    line: &mut String,
-) -> Result<(), Fault> {
-    let least = number(
-        rest.strip_prefix("budget ")
-            .ok_or(Fault::Wrong("least budget N"))?,
-    )?;
-    around.budget = Some(least);
-    let is_too_small = matches!(around.read(alloc, file)?, (Outcome::OverBudget, _));
-    around.budget = least.checked_sub(1);
-    let is_least = least == 0 || matches!(around.read(alloc, file)?, (Outcome::OverBudget, _));
-    write!(line, " budget {least}")?;
-    if is_too_small {
-        line.push_str(" too small")?;
-    } else if !is_least {
-        line.push_str(" too large")?;
-    }
-    Ok(())
 }

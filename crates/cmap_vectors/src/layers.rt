@@ -1,8 +1,8 @@
 //! What a layer of a map has.
 
-use crate::fault::Fault;
 use crate::maps::push_name;
-use crate::spelled::number;
+use cmap_rows::fault::Fault;
+use cmap_rows::spelled::number;
 use hayro_cmap::{ByLength, CMap, CodeLength, Codespace, Layer};
 use std::alloc::AllocError;
 

@@ -1,23 +1,18 @@
 //! Runs rows of data: what the library is given, and what it has to answer.
 #![tactic(auto)]
 
-mod destinations;
-mod escapes;
-mod fault;
+mod answers;
 mod files;
 mod layers;
 mod maps;
-mod prefix_tables;
 mod program_runs;
-mod ranges;
-mod row;
-mod rows;
-mod spelled;
-mod tokens;
 
+use answers::answer;
 use cmap_programs::words::words;
-use fault::Fault;
-use rows::Rows;
+use cmap_rows::fault::Fault;
+use cmap_rows::row::Row;
+use cmap_rows::rows::{Expectation, Rows};
+use std::alloc::Global;
 use std::fs;
 use std::process::ExitCode;
 
@@ -58,10 +53,39 @@ fn run_file(rt: &HostRuntime, path: &str) -> Result<u32, Fault> {
         }
     };
     let mut rows = Rows::new(rt.alloc(), path);
-    let outcome = rows.run(text.as_str());
+    let outcome = run_rows(rt.alloc(), &mut rows, text.as_str());
     rt.print(rows.report())?;
     if outcome.is_err() {
         eprint!(rt; "{path}:{}: ", rows.line())?;
     }
     outcome
+}
+
+/// Runs all rows of a text, and says how many failed.
+fn run_rows<'r>(alloc: Global, rows: &mut Rows<'r>, text: &'r str) -> Result<u32, Fault> {
+    for line in text.lines() {
+        if let Some(expected) = rows.take(line)? {
+            let got = answer_again(alloc, rows.row(), expected)?;
+            rows.compare(expected, got.as_str())?;
+        }
+    }
+    rows.end()
+}
+
+/// What comes of a row in the place of what is expected. Where there is no memory, it is asked once
+/// again.
+fn answer_again(
+    alloc: Global,
+    row: Option<&Row<'_>>,
+    expected: Expectation<'_>,
+) -> Result<String, Fault> {
+    let row = row.ok_or(Fault::Wrong("an unknown word"))?;
+    match answer(alloc, row, expected.word, expected.rest) {
+        Err(Fault::NoMemory) => {}
+        got => return got,
+    }
+    match answer(alloc, row, expected.word, expected.rest) {
+        Err(Fault::NoMemory) => Err(Fault::Wrong("no memory, asked twice")),
+        got => got,
+    }
 }

@@ -1,16 +1,17 @@
 //! What is asked of a map.
 
-use crate::escapes::{hexadecimal, push_escaped};
-use crate::fault::Fault;
 use crate::layers::push_layer;
-use crate::ranges::code_of;
-use crate::tokens::push_number;
+use cmap_part_rows::ranges::code_of;
+use cmap_part_rows::texts::push_text;
+use cmap_part_rows::tokens::push_number;
+use cmap_rows::escapes::{hexadecimal, push_escaped};
+use cmap_rows::fault::Fault;
 use hayro_cmap::runs::Looks;
-use hayro_cmap::{BfString, CMap, CMapName, CidFamily, Metadata, WritingMode};
+use hayro_cmap::{CMap, CMapName, CidFamily, Metadata, WritingMode};
 use std::alloc::{AllocError, Global};
 
 /// The words that ask something of a map.
-pub const QUESTIONS: [&str; 11] = [
+pub const QUESTIONS: &[&str] = &[
     "cid",
     "strict",
     "codes",
@@ -54,7 +55,7 @@ fn push_answer_alone(
         "bf" => push_text_of(alloc, map, rest, line)?,
         "name" => push_name(map.metadata(), line)?,
         "mode" => push_mode(map, line)?,
-        "collection" => push_collection(map, line)?,
+        "collection" => push_collection(alloc, map, line)?,
         "unicode" | "ucs2" => push_predefined(predefined(map, word), line)?,
         "layers" => write!(line, " {}", map.layers().len())?,
         "declared" => push_layer(map, rest, line)?,
@@ -132,29 +133,6 @@ fn push_text_of(alloc: Global, map: &CMap, rest: &str, line: &mut String) -> Res
     Ok(())
 }
 
-/// Adds the characters of a text; a string of fewer than two is none that there can be.
-pub fn push_text(text: Option<&BfString>, line: &mut String) -> Result<(), AllocError> {
-    match text {
-        Some(BfString::Char(character)) => push_character(*character, line),
-        Some(BfString::String(text)) => push_characters(text.as_str(), line),
-        None => line.push_str(" none"),
-    }
-}
-
-fn push_characters(text: &str, line: &mut String) -> Result<(), AllocError> {
-    for character in text.chars() {
-        push_character(character, line)?;
-    }
-    if text.chars().count() < 2 {
-        line.push_str(" unlike")?;
-    }
-    Ok(())
-}
-
-fn push_character(character: char, line: &mut String) -> Result<(), AllocError> {
-    write!(line, " U+{:04X}", u32::from(character))
-}
-
 /// Adds the name that a file gives itself.
 pub fn push_name(metadata: &Metadata, line: &mut String) -> Result<(), AllocError> {
     let Some(name) = &metadata.name else {
@@ -172,24 +150,32 @@ fn push_mode(map: &CMap, line: &mut String) -> Result<(), AllocError> {
     })
 }
 
-fn push_collection(map: &CMap, line: &mut String) -> Result<(), AllocError> {
+/// Adds the character collection, and sees that a copy of it is the same.
+fn push_collection(alloc: Global, map: &CMap, line: &mut String) -> Result<(), AllocError> {
     let Some(collection) = &map.metadata().character_collection else {
         return line.push_str(" none");
     };
-    let family = &collection.family;
+    push_family(&collection.family, line)?;
+    write!(line, " {}", collection.supplement)?;
+    if collection.clone(alloc)? != *collection {
+        line.push_str(" unlike")?;
+    }
+    Ok(())
+}
+
+fn push_family(family: &CidFamily, line: &mut String) -> Result<(), AllocError> {
     if let CidFamily::Custom { .. } = family {
         line.push_str(" (")?;
         push_escaped(family.registry(), line)?;
         line.push_str(") (")?;
         push_escaped(family.ordering(), line)?;
-        line.push(')')?;
+        line.push(')')
     } else {
         line.push(' ')?;
         push_escaped(family.registry(), line)?;
         line.push('-')?;
-        push_escaped(family.ordering(), line)?;
+        push_escaped(family.ordering(), line)
     }
-    write!(line, " {}", collection.supplement)
 }
 
 /// The name of the map to Unicode of a map's collection, or of that to UCS-2.

@@ -1,8 +1,8 @@
 //! Whole runs of `cmap_query`, over an input and writers in memory.
 
-use crate::escapes::unescaped;
-use crate::fault::Fault;
 use cmap_programs::answers::run;
+use cmap_rows::escapes::unescaped;
+use cmap_rows::fault::Fault;
 use std::alloc::{AllocError, Global};
 
 /// Adds how a run on these words and this input ends, and the lines that it writes.

@@ -1,0 +1,133 @@
+//! Names and texts as they may be printed on a terminal.
+
+ghost use Rattle.std.specs.Prelude.{◌≡◌, ◌++◌, IfOk, OnOk, map, not, string_bytes};
+ghost use Rattle.cmap_escape.specs.Escapes.{AddsPrintable, byte_shown, name_shown};
+ghost use Rattle.cmap_escape.specs.Shown.{AddsShown, character_shown, is_hidden, number_shown, quoted_shown, text_shown};
+ghost use Rattle.serde_json.specs.Data.{string};
+ghost use Rattle.serde_json.specs.View.{view};
+ghost use Rattle.ucd_category.specs.GeneralCategory.{general_category};
+
+use crate::digits::{push_byte, push_number};
+use serde_json::Value;
+use std::alloc::{AllocError, Global};
+use ucd_category::GeneralCategory;
+
+/// Adds a name. A byte from 0x20 to 0x7E is added as it is, but `\` as `\\`, and any other as `\xHH`.
+pub fn push_name(out: &mut String, name: &[u8]) -> Result<(), AllocError>
+    ensures shown { OnOk result (string_bytes out.new
+        ≡ string_bytes out.old ++ name_shown name.now) }
+
+    // Also where there is no memory.
+    ensures printable { AddsPrintable (string_bytes out.old) (string_bytes out.new) }
+{
+    for byte in name {
+        push_name_byte(out, *byte)?;
+    }
+    Ok(())
+}
+
+/// A name, escaped as `push_name` does.
+pub fn escaped_name(alloc: Global, name: &[u8]) -> Result<String, AllocError>
+    ensures { IfOk result (λ escaped. string_bytes escaped ≡ name_shown name.now) }
+{
+    let mut escaped = String::new(alloc);
+    push_name(&mut escaped, name)?;
+    Ok(escaped)
+}
+
+/// Names, escaped as `push_name` does, as values of JSON.
+pub fn escaped_names(alloc: Global, names: &[&[u8]]) -> Result<Vec<Value>, AllocError>
+    ensures { IfOk result (λ values. map view values.items
+        ≡ map (λ name. string (name_shown name.now)) names.now) }
+{
+    let mut values = Vec::with_capacity(alloc, names.len())?;
+    for name in names {
+        values.push(Value::from(escaped_name(alloc, name)?))?;
+    }
+    Ok(values)
+}
+
+/// Adds a byte of a name.
+fn push_name_byte(out: &mut String, byte: u8) -> Result<(), AllocError>
+    ensures shown { OnOk result (string_bytes out.new ≡ string_bytes out.old ++ byte_shown byte) }
+    ensures printable { AddsPrintable (string_bytes out.old) (string_bytes out.new) }
+{
+    match byte {
+        b'\\' => out.push_str("\\\\"),
+        b' '..=b'~' => out.push(char::from(byte)),
+        _ => {
+            out.push_str("\\x")?;
+            push_byte(out, byte)
+        }
+    }
+}
+
+/// Adds a text. A character is added as it is, but `\` as `\\`, `"` as `\"`, and as `\u{H..}` those
+/// that aren't seen or change how others are.
+pub fn push_text(out: &mut String, text: &str) -> Result<(), AllocError>
+    ensures shown { OnOk result (string_bytes out.new
+        ≡ string_bytes out.old ++ text_shown text.now) }
+
+    // Also where there is no memory.
+    ensures harmless { AddsShown (string_bytes out.old) (string_bytes out.new) }
+{
+    for character in text.chars() {
+        push_character(out, character)?;
+    }
+    Ok(())
+}
+
+/// Adds a text, escaped, between quotation marks.
+pub fn push_quoted(out: &mut String, text: &str) -> Result<(), AllocError>
+    ensures shown { OnOk result (string_bytes out.new
+        ≡ string_bytes out.old ++ quoted_shown text.now) }
+
+    // Also where there is no memory.
+    ensures harmless { AddsShown (string_bytes out.old) (string_bytes out.new) }
+{
+    out.push('"')?;
+    push_text(out, text)?;
+    out.push('"')
+}
+
+/// Adds a character of a text.
+fn push_character(out: &mut String, character: char) -> Result<(), AllocError>
+    ensures shown { OnOk result (string_bytes out.new
+        ≡ string_bytes out.old ++ character_shown character) }
+    ensures harmless { AddsShown (string_bytes out.old) (string_bytes out.new) }
+{
+    match character {
+        '\\' => out.push_str("\\\\"),
+        '"' => out.push_str("\\\""),
+        _ if is_shown(character) => out.push(character),
+        _ => push_by_number(out, character),
+    }
+}
+
+/// Adds a character by its number, as `\u{H..}`.
+fn push_by_number(out: &mut String, character: char) -> Result<(), AllocError>
+    ensures shown { OnOk result (string_bytes out.new
+        ≡ string_bytes out.old ++ number_shown character) }
+    ensures printable { AddsPrintable (string_bytes out.old) (string_bytes out.new) }
+{
+    out.push_str("\\u{")?;
+    push_number(out, u32::from(character))?;
+    out.push('}')
+}
+
+/// Whether a character is seen and leaves the others as they are: it isn't one of control, of
+/// format, a separator of lines or of paragraphs, for private use or unassigned.
+fn is_shown(character: char) -> bool
+    ensures { result ≡ not (is_hidden (general_category character)) }
+{
+    !matches!(
+        GeneralCategory::for_char(character),
+        GeneralCategory::Control
+            | GeneralCategory::Format
+            | GeneralCategory::LineSeparator
+            | GeneralCategory::ParagraphSeparator
+            | GeneralCategory::Surrogate
+            | GeneralCategory::PrivateUse
+            | GeneralCategory::Unassigned
+    )
+}

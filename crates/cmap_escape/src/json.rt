@@ -1,0 +1,114 @@
+//! Values of JSON as text, in bytes from 0x20 to 0x7E. RFC 8259.
+
+ghost use Rattle.std.specs.Prelude.{◌≡◌, ◌<◌, [], ◌∷◌, ◌++◌, OnOk, false, string_bytes};
+ghost use Rattle.std.specs.Char.{digit_char};
+ghost use Rattle.std.specs.Char.Escape.{encode_utf16};
+ghost use Rattle.std.specs.List.{flat_map};
+ghost use Rattle.cmap_escape.specs.Escapes.{AddsLine, AddsOfLine, AddsPrintable};
+ghost use Rattle.cmap_escape.specs.Json.{character_escaped, escaped, small_digits_of, unit_escaped};
+ghost use Rattle.serde_json.specs.View.{view};
+ghost use Rattle.serde_json.specs.Written.{compact_text, has_float};
+
+use serde_json::Value;
+use std::alloc::{AllocError, Global};
+
+/// Adds the text of a value, without spaces. A character outside 0x20 to 0x7E is added by its
+/// units in UTF-16, as `\uhhhh`.
+pub fn push_value(alloc: Global, out: &mut String, value: &Value) -> Result<(), AllocError>
+    ensures text { OnOk result (has_float (view value.now) ≡ false → string_bytes out.new
+        ≡ string_bytes out.old ++ escaped (compact_text (view value.now))) }
+
+    // Also where there is no memory.
+    ensures printable { AddsPrintable (string_bytes out.old) (string_bytes out.new) }
+{
+    let text = value.to_string(alloc)?;
+    push_text(out, text.as_str())
+}
+
+/// Adds the text of a value, and ends the line.
+pub fn push_line(alloc: Global, out: &mut String, value: &Value) -> Result<(), AllocError>
+    ensures text { OnOk result (has_float (view value.now) ≡ false → string_bytes out.new
+        ≡ string_bytes out.old ++ escaped (compact_text (view value.now)) ++ 0x0A ∷ []) }
+    ensures line { OnOk result (AddsLine (string_bytes out.old) (string_bytes out.new)) }
+
+    // Also where there is no memory.
+    ensures printable { AddsOfLine (string_bytes out.old) (string_bytes out.new) }
+{
+    push_value(alloc, out, value)?;
+    out.push('\n')
+}
+
+/// Adds a text, character by character.
+fn push_text(out: &mut String, text: &str) -> Result<(), AllocError>
+    ensures text { OnOk result (string_bytes out.new ≡ string_bytes out.old ++ escaped text.now) }
+    ensures printable { AddsPrintable (string_bytes out.old) (string_bytes out.new) }
+{
+    for character in text.chars() {
+        push_character(out, character)?;
+    }
+    Ok(())
+}
+
+/// Adds a character, as it is or by its units in UTF-16.
+fn push_character(out: &mut String, character: char) -> Result<(), AllocError>
+    ensures escaped { OnOk result (string_bytes out.new
+        ≡ string_bytes out.old ++ character_escaped character) }
+    ensures printable { AddsPrintable (string_bytes out.old) (string_bytes out.new) }
+{
+    match character {
+        ' '..='~' => out.push(character),
+        _ => push_units(out, character),
+    }
+}
+
+/// Adds the units of a character.
+fn push_units(out: &mut String, character: char) -> Result<(), AllocError>
+    ensures escaped { OnOk result (string_bytes out.new
+        ≡ string_bytes out.old ++ flat_map unit_escaped (encode_utf16 character)) }
+    ensures printable { AddsPrintable (string_bytes out.old) (string_bytes out.new) }
+{
+    let mut units = [0; 2];
+    for unit in character.encode_utf16(&mut units).iter() {
+        push_unit(out, *unit)?;
+    }
+    Ok(())
+}
+
+/// Adds a unit as `\uhhhh`.
+fn push_unit(out: &mut String, unit: u16) -> Result<(), AllocError>
+    ensures escaped { OnOk result (string_bytes out.new
+        ≡ string_bytes out.old ++ unit_escaped unit) }
+    ensures printable { AddsPrintable (string_bytes out.old) (string_bytes out.new) }
+{
+    out.push_str("\\u")?;
+    push_byte(out, (unit / 0x100) as u8)?;
+    push_byte(out, (unit % 0x100) as u8)
+}
+
+/// Adds the two digits of a byte, with small letters.
+fn push_byte(out: &mut String, byte: u8) -> Result<(), AllocError>
+    ensures digits { OnOk result (string_bytes out.new
+        ≡ string_bytes out.old ++ small_digits_of byte) }
+    ensures printable { AddsPrintable (string_bytes out.old) (string_bytes out.new) }
+{
+    push_digit(out, byte / 16)?;
+    push_digit(out, byte % 16)
+}
+
+/// Adds the digit of a number below 16, a small letter from 10 on.
+fn push_digit(out: &mut String, number: u8) -> Result<(), AllocError>
+    requires { number < 16 }
+    ensures digit { OnOk result (string_bytes out.new
+        ≡ string_bytes out.old ++ digit_char number ∷ []) }
+    ensures printable { AddsPrintable (string_bytes out.old) (string_bytes out.new) }
+{
+    out.push(small_digit(number))
+}
+
+/// The digit of a number below 16, a small letter from 10 on.
+fn small_digit(number: u8) -> char
+    requires { number < 16 }
+    ensures { result ≡ digit_char number }
+{
+    char::from_digit(u32::from(number), 16).unwrap()
+}

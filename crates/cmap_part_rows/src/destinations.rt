@@ -1,0 +1,97 @@
+//! Destinations: their units, and the texts that these stand for.
+
+use crate::texts::push_text;
+use cmap_bits::bits::Reader;
+use cmap_files::units::Units;
+use cmap_rows::fault::Fault;
+use cmap_tokens::utf16::{BfString, number_units, one_char, text, units};
+use std::alloc::{AllocError, Global};
+
+/// Adds what a word asks of a destination.
+pub fn push_answer(
+    alloc: Global,
+    bytes: &[u8],
+    word: &str,
+    rest: &str,
+    line: &mut String,
+) -> Result<(), Fault> {
+    match word {
+        "units" => push_units(alloc, bytes, line),
+        "text" => push_text_at(alloc, bytes, rest, line),
+        _ => Err(Fault::Wrong("an unknown word")),
+    }
+}
+
+fn push_units(alloc: Global, bytes: &[u8], line: &mut String) -> Result<(), Fault> {
+    let units = units(alloc, bytes)?;
+    push_each(&units, line)?;
+    if !is_kept(alloc, &units)? || !is_numbered(alloc, bytes, &units)? {
+        line.push_str(" unlike")?;
+    }
+    Ok(())
+}
+
+fn push_each(units: &[u16], line: &mut String) -> Result<(), AllocError> {
+    if units.is_empty() {
+        return line.push_str(" none");
+    }
+    for unit in units {
+        write!(line, " {unit:04X}")?;
+    }
+    Ok(())
+}
+
+/// Whether a declaration keeps these units, and a copy of it too.
+fn is_kept(alloc: Global, units: &[u16]) -> Result<bool, AllocError> {
+    let kept = Units::from_slice(alloc, units)?;
+    let copied = kept.clone(alloc)?;
+    Ok(kept.as_slice() == units && copied.as_slice() == units)
+}
+
+/// Whether the number that bytes write has the same units, where there are one to four of them.
+fn is_numbered(alloc: Global, bytes: &[u8], units: &[u16]) -> Result<bool, AllocError> {
+    match number_of(bytes) {
+        Some((len, number)) => Ok(number_units(alloc, len, number)?.as_slice() == units),
+        None => Ok(true),
+    }
+}
+
+/// How many bytes there are, one to four, and the number that they write.
+fn number_of(bytes: &[u8]) -> Option<(u8, u32)> {
+    let len = u8::try_from(bytes.len()).ok()?;
+    Some((len, Reader::new(bytes).read_n_bytes(len)?))
+}
+
+/// Adds the text at the offset that a line begins with.
+fn push_text_at(alloc: Global, bytes: &[u8], rest: &str, line: &mut String) -> Result<(), Fault> {
+    let (offset, _) = rest.split_once(' ').ok_or(Fault::Wrong("text OFFSET .."))?;
+    let place = u32::from_str_radix(offset, 10)
+        .ok()
+        .ok_or(Fault::Wrong("no offset"))?;
+    write!(line, " {offset}")?;
+    let units = units(alloc, bytes)?;
+    Ok(push_text_of(alloc, &units, place, line)?)
+}
+
+fn push_text_of(
+    alloc: Global,
+    units: &[u16],
+    place: u32,
+    line: &mut String,
+) -> Result<(), AllocError> {
+    let found = text(alloc, units, place)?;
+    push_text(found.as_ref(), line)?;
+    if !is_same(&found, one_char(units, place)) {
+        line.push_str(" unlike")?;
+    }
+    Ok(())
+}
+
+/// Whether a text is of one character just where there is one, and then of that one.
+fn is_same(found: &Option<BfString>, one: Option<char>) -> bool {
+    match (found, one) {
+        (Some(BfString::Char(character)), Some(one)) => *character == one,
+        (Some(BfString::Char(_)), None) => false,
+        (_, one) => one.is_none(),
+    }
+}

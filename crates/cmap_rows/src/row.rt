@@ -1,0 +1,151 @@
+//! A row: an input, with what stands beside it.
+
+use crate::fault::Fault;
+use crate::spelled::{Addition, Spelled, number, split_word};
+use std::alloc::Global;
+
+/// What is done with the input of a row.
+#[derive(Clone, Copy)]
+pub enum Kind {
+    /// It is read as a CMap file.
+    File,
+    /// It names a map that needs no file.
+    Predefined,
+    /// It is cut into tokens.
+    Tokens,
+    /// It is the ranges of a table.
+    Ranges,
+    /// It begins with a prefix table.
+    PrefixTable(Symbols),
+    /// It is read as a bundle.
+    Bundle,
+    /// It stands for a text.
+    Destination,
+    /// It is the standard input of a run.
+    Run,
+}
+
+/// How many bytes a symbol of a prefix table has.
+#[derive(Clone, Copy)]
+pub enum Symbols {
+    /// One, in a table of counts.
+    OneByte,
+    /// Four, in a table of deltas.
+    FourBytes,
+}
+
+impl Kind {
+    /// The kind of the rows that begin with a word.
+    pub(crate) fn named(word: &str) -> Option<Kind> {
+        match word {
+            "file" => Some(Kind::File),
+            "predefined" => Some(Kind::Predefined),
+            "tokens" => Some(Kind::Tokens),
+            "ranges" => Some(Kind::Ranges),
+            "deltas" => Some(Kind::PrefixTable(Symbols::FourBytes)),
+            "counts" => Some(Kind::PrefixTable(Symbols::OneByte)),
+            "bundle" => Some(Kind::Bundle),
+            "destination" => Some(Kind::Destination),
+            "run" => Some(Kind::Run),
+            _ => None,
+        }
+    }
+
+    /// Whether the first line has the bytes of the input, and not words.
+    pub(crate) fn has_bytes(self) -> bool {
+        !matches!(self, Kind::Predefined | Kind::Ranges | Kind::Run)
+    }
+}
+
+/// Bytes with a name.
+#[derive(Drop)]
+pub struct Named<'r> {
+    pub name: &'r str,
+    pub spelled: Spelled,
+}
+
+/// Which bytes of a row were begun last.
+#[derive(Clone, Copy)]
+pub(crate) enum Begun {
+    Input,
+    Base,
+    Bundle,
+}
+
+/// An input, and what stands beside it.
+#[derive(Drop)]
+pub struct Row<'r> {
+    pub kind: Kind,
+    /// What the first line has in the place of bytes.
+    pub words: &'r str,
+    pub input: Spelled,
+    pub bases: Vec<Named<'r>>,
+    pub bundle: Option<Spelled>,
+    pub budget: Option<u64>,
+    pub(crate) begun: Begun,
+}
+
+impl<'r> Row<'r> {
+    /// Sets what a line sets beside the input, if it is such a line.
+    pub(crate) fn set_beside(
+        &mut self,
+        alloc: Global,
+        word: &str,
+        rest: &'r str,
+    ) -> Result<bool, Fault> {
+        match (self.kind, word) {
+            (Kind::File, "base") => self.begin_base(alloc, rest)?,
+            (Kind::File, "bundle") if self.bundle.is_none() => self.begin_bundle(alloc, rest)?,
+            (Kind::File, "budget") if self.budget.is_none() => self.budget = Some(number(rest)?),
+            (Kind::Run, "input") if self.input.bytes.is_empty() => {
+                self.input = Spelled::new(alloc, rest)?;
+            }
+            _ => return Ok(false),
+        }
+        Ok(true)
+    }
+
+    /// Begins a file that others may use.
+    fn begin_base(&mut self, alloc: Global, rest: &'r str) -> Result<(), Fault> {
+        let (name, text) = split_word(rest);
+        if self.has_base(name) {
+            return Err(Fault::Wrong("a name that is there"));
+        }
+        let spelled = Spelled::new(alloc, text)?;
+        self.bases.push(Named { name, spelled })?;
+        self.begun = Begun::Base;
+        Ok(())
+    }
+
+    /// Begins a bundle.
+    fn begin_bundle(&mut self, alloc: Global, text: &str) -> Result<(), Fault> {
+        self.bundle = Some(Spelled::new(alloc, text)?);
+        self.begun = Begun::Bundle;
+        Ok(())
+    }
+
+    /// Whether a base has this name.
+    fn has_base(&self, name: &str) -> bool {
+        for base in &self.bases {
+            if base.name == name {
+                return true;
+            }
+        }
+        false
+    }
+
+    /// Adds to the bytes that were begun last.
+    pub(crate) fn add(&mut self, addition: &Addition) -> Result<(), Fault> {
+        match self.begun {
+            Begun::Input => self.input.add(addition),
+            Begun::Base => match self.bases.last_mut() {
+                Some(base) => base.spelled.add(addition),
+                None => Err(Fault::Wrong("bytes of nothing")),
+            },
+            Begun::Bundle => match &mut self.bundle {
+                Some(bundle) => bundle.add(addition),
+                None => Err(Fault::Wrong("bytes of nothing")),
+            },
+        }
+    }
+}

@@ -1,0 +1,207 @@
+//! What comes of a row: the line that is right in the place of one that begins with a word.
+
+use crate::files::{self, Around, NamedFile, Outcome};
+use crate::{maps, program_runs};
+use cmap_part_rows::{destinations, prefix_tables, ranges, tokens};
+use cmap_rows::fault::Fault;
+use cmap_rows::row::{Kind, Row};
+use hayro_cmap::CMap;
+use std::alloc::{AllocError, Global};
+
+/// The outcomes that fronts of an input may have.
+const OUTCOMES: &[&str] = &["accepted", "refused", "end", "malformed"];
+
+/// The line that is right in the place of one that begins with a word.
+pub fn answer(alloc: Global, row: &Row<'_>, word: &str, rest: &str) -> Result<String, Fault> {
+    let mut line = String::new(alloc);
+    push_line(alloc, row, word, rest, &mut line)?;
+    Ok(line)
+}
+
+fn push_line(
+    alloc: Global,
+    row: &Row<'_>,
+    word: &str,
+    rest: &str,
+    line: &mut String,
+) -> Result<(), Fault> {
+    if ["accepted", "refused", "over", "no"].contains(&word) {
+        return Ok(line.push_str(outcome(alloc, row, &row.input.bytes)?)?);
+    }
+    line.push_str(word)?;
+    match word {
+        "fronts" => push_fronts(alloc, row, rest, line),
+        _ => push_answer(alloc, row, word, rest, line),
+    }
+}
+
+/// What comes of an input in the place of the row's own, in a word or two.
+fn outcome(alloc: Global, row: &Row<'_>, input: &[u8]) -> Result<&'static str, Fault> {
+    match row.kind {
+        Kind::File => outcome_of_file(alloc, row, input),
+        Kind::Tokens => tokens::outcome(alloc, input),
+        Kind::PrefixTable(symbols) => prefix_tables::outcome(alloc, symbols, input),
+        Kind::Bundle => files::outcome_of_bundle(alloc, input),
+        Kind::Predefined | Kind::Ranges | Kind::Destination | Kind::Run => {
+            Err(Fault::Wrong("an unknown word"))
+        }
+    }
+}
+
+fn outcome_of_file(alloc: Global, row: &Row<'_>, file: &[u8]) -> Result<&'static str, Fault> {
+    let bases = bases_of(alloc, row)?;
+    let (outcome, _) = around(row, &bases).read(alloc, file)?;
+    Ok(outcome.words())
+}
+
+fn push_answer(
+    alloc: Global,
+    row: &Row<'_>,
+    word: &str,
+    rest: &str,
+    line: &mut String,
+) -> Result<(), Fault> {
+    let input = row.input.bytes.as_slice();
+    match row.kind {
+        Kind::File => {
+            let bases = bases_of(alloc, row)?;
+            push_answer_of_file(alloc, around(row, &bases), input, word, rest, line)
+        }
+        Kind::Predefined => push_answer_of_predefined(alloc, row.words, word, rest, line),
+        Kind::Tokens => tokens::push_answer(alloc, input, word, line),
+        Kind::Ranges => ranges::push_answer(alloc, row.words, word, rest, line),
+        Kind::PrefixTable(symbols) => {
+            prefix_tables::push_answer(alloc, symbols, input, word, rest, line)
+        }
+        Kind::Bundle => files::push_held(alloc, input, word, rest, line),
+        Kind::Destination => destinations::push_answer(alloc, input, word, rest, line),
+        Kind::Run => program_runs::push_answer(alloc, row.words, input, word, line),
+    }
+}
+
+fn push_answer_of_file(
+    alloc: Global,
+    around: Around<'_>,
+    file: &[u8],
+    word: &str,
+    rest: &str,
+    line: &mut String,
+) -> Result<(), Fault> {
+    match word {
+        "least" => around.push_least_budget(alloc, file, rest, line),
+        "cause" => around.push_cause(alloc, file, line),
+        "uses" => around.push_uses(alloc, file, line),
+        _ => {
+            let (outcome, asked) = around.read(alloc, file)?;
+            push_answer_of_outcome(alloc, &outcome, asked, word, rest, line)
+        }
+    }
+}
+
+fn push_answer_of_outcome(
+    alloc: Global,
+    outcome: &Outcome,
+    asked: u32,
+    word: &str,
+    rest: &str,
+    line: &mut String,
+) -> Result<(), Fault> {
+    match outcome {
+        _ if word == "asked" => Ok(write!(line, " {asked}")?),
+        Outcome::Map(map) => maps::push_answer(alloc, map, word, rest, line),
+        _ if maps::QUESTIONS.contains(&word) => Ok(write!(line, " {}", outcome.words())?),
+        _ => Err(Fault::Wrong("an unknown word")),
+    }
+}
+
+fn push_answer_of_predefined(
+    alloc: Global,
+    name: &str,
+    word: &str,
+    rest: &str,
+    line: &mut String,
+) -> Result<(), Fault> {
+    let map = predefined(alloc, name)?;
+    maps::push_answer(alloc, &map, word, rest, line)
+}
+
+/// The files that a row's file may use, by their names.
+fn bases_of<'r>(alloc: Global, row: &'r Row<'_>) -> Result<Vec<NamedFile<'r>>, AllocError> {
+    let mut bases = Vec::with_capacity(alloc, row.bases.len())?;
+    for base in &row.bases {
+        bases.push((base.name.as_bytes(), base.spelled.bytes.as_slice()))?;
+    }
+    Ok(bases)
+}
+
+/// What a row's files are read over.
+fn around<'r>(row: &'r Row<'_>, bases: &'r [NamedFile<'r>]) -> Around<'r> {
+    let bundle = match &row.bundle {
+        Some(bundle) => Some(bundle.bytes.as_slice()),
+        None => None,
+    };
+    Around {
+        bundle,
+        bases,
+        budget: row.budget,
+    }
+}
+
+/// Adds the outcome that a line begins with, and at which lengths the front of the input has it.
+fn push_fronts(alloc: Global, row: &Row<'_>, rest: &str, line: &mut String) -> Result<(), Fault> {
+    let (asked, _) = rest
+        .split_once(' ')
+        .ok_or(Fault::Wrong("fronts OUTCOME .."))?;
+    if !OUTCOMES.contains(&asked) {
+        return Err(Fault::Wrong("an unknown outcome"));
+    }
+    write!(line, " {asked}")?;
+    let before = line.len();
+    push_fronts_of(alloc, row, asked, line)?;
+    if line.len() == before {
+        line.push_str(" none")?;
+    }
+    Ok(())
+}
+
+/// Adds at which lengths the front of the input has an outcome.
+fn push_fronts_of(
+    alloc: Global,
+    row: &Row<'_>,
+    asked: &str,
+    line: &mut String,
+) -> Result<(), Fault> {
+    let input = row.input.bytes.as_slice();
+    let mut first = None;
+    for len in 0..=input.len() {
+        let is_so = len < input.len() && outcome(alloc, row, &input[..len])? == asked;
+        match first {
+            None if is_so => first = Some(len),
+            Some(start) if !is_so => {
+                push_lengths(start, len, input.len(), line)?;
+                first = None;
+            }
+            _ => {}
+        }
+    }
+    Ok(())
+}
+
+/// Adds the lengths from `start` on that are below `end`, of which there is one at least; `all`
+/// lie below `len`.
+fn push_lengths(start: usize, end: usize, len: usize, line: &mut String) -> Result<(), AllocError> {
+    match end.saturating_sub(1) {
+        _ if start == 0 && end == len => line.push_str(" all"),
+        last if last == start => write!(line, " {start}"),
+        last => write!(line, " {start}-{last}"),
+    }
+}
+
+/// A map that needs no file.
+fn predefined(alloc: Global, name: &str) -> Result<CMap, Fault> {
+    match name {
+        "Identity-H" => Ok(CMap::identity_h(alloc)?),
+        "Identity-V" => Ok(CMap::identity_v(alloc)?),
+        _ => Err(Fault::Wrong("Identity-H or Identity-V")),
+    }
+}
