@@ -1,13 +1,14 @@
 -- A prefix table that a reader takes part by part.
-use Rattle.std.proofs.Common.{◌≡◌, ◌≤◌, ℕ, ◌+◌, ◌*◌, ◌<◌, List, [], ◌∷◌, ◌++◌, length, take, drop, ap, ◌∙◌, sym, subst, arith}
+use Rattle.std.proofs.Common.{◌≡◌, ◌≤◌, ℕ, ◌+◌, ◌*◌, ◌<◌, suc, List, [], ◌∷◌, ◌++◌, length, take, drop, Option, Some, None, Ok, Err, ap, ◌∙◌, sym, subst, arith}
+use Rattle.std.specs.Prelude.{Result, IfOk, MatchOption}
 use Rattle.std.proofs.lemmas.List.{length-drop}
 use Rattle.std.proofs.lemmas.List.FromFn.{length-map-range_with_len, map-range_with_len_more}
-use Rattle.std.proofs.Math.Nat.{mul-suc}
+use Rattle.std.proofs.Math.Nat.{mul-le-mul_left, mul-suc}
 use Rattle.std.proofs.Math.Numerals.{add-one}
 use Rattle.cmap_bits.specs.BigEndian.{big_endian, numbers}
 use Rattle.cmap_bits.specs.PrefixWords.{Place, AreWordLengths, TableFront, counted, lengths_from, symbols_start, table_end, word_lengths, zip_places}
 use Rattle.cmap_bits.specs.Reader.{Reading, bytes_left, IsAtByte, after_bytes}
-use Rattle.cmap_bits.specs.TableReading.{TakesMost, TakesNumbers, TakesCounts}
+use Rattle.cmap_bits.specs.TableReading.{BeginsWithNoTable, TakesMost, TakesNumbers, TakesCounts}
 use Rattle.cmap_bits.specs.TableTaken.{TakesTable}
 use Rattle.cmap_bits.specs.WordsByLength.{IsTable, places_of}
 use Rattle.cmap_bits.proofs.BytesTaken.{bytes_left-moved, moved-twice, StaysAtByte-moved}
@@ -26,8 +27,14 @@ TakesNumbers-more width i n old new next taken h t here moves =
       moves = rw up (moved-twice old new next (width * i) width t.moves moves);
     }
 
+-- too few bytes for one more
+pub TakesNumbers-short : (width i count : ℕ) (old new : Reading) (taken : List ℕ) → IsAtByte old → TakesNumbers width i old taken new → i < count → length (bytes_left new) < width → length (bytes_left old) < width * count
+TakesNumbers-short width i count old new taken h t within short =
+    let up : width * suc i ≡ width * i + width = mul-suc width i in
+    omega (arith, up, mul-le-mul_left width within, short, ap length (bytes_left-moved old new (width * i) h t.moves), length-drop (width * i) (bytes_left old))
+
 -- ---- the counts
-pub TakesCounts-read : (old mid new : Reading) (most : ℕ) (counts : List ℕ) → IsAtByte old → TakesMost old most mid → TakesNumbers 2 most mid counts new → TakesCounts old counts new
+TakesCounts-read : (old mid new : Reading) (most : ℕ) (counts : List ℕ) → IsAtByte old → TakesMost old most mid → TakesNumbers 2 most mid counts new → TakesCounts old counts new
 TakesCounts-read old mid new most counts h m n =
     let left = bytes_left-moved old mid 3 h m.moves in
     record {
@@ -35,6 +42,15 @@ TakesCounts-read old mid new most counts h m n =
       lengths = ap (lengths_from 1) (n.taken_is ∙ ap (λ k. numbers 2 k (bytes_left mid)) m.most_is ∙ ap (numbers 2 (counted (bytes_left old))) left);
       moves = moved-twice old mid new 3 (2 * counted (bytes_left old)) m.moves (n.moves ∙ ap (λ k. after_bytes mid (2 * k)) m.most_is);
     }
+
+pub counts_read : {V E : Type 0} (items : V → List ℕ) (r : Result (Option V) E) (old mid new : Reading) (most : ℕ) → IsAtByte old → TakesMost old most mid
+    → IfOk r (λ o. MatchOption o (length (bytes_left mid) < 2 * most) (λ v. TakesNumbers 2 most mid (items v) new))
+    → IfOk r (λ o. MatchOption o (BeginsWithNoTable (bytes_left old)) (λ v. TakesCounts old (items v) new))
+unfolding TableFront
+counts_read items (Ok (Some v)) old mid new most h m n = TakesCounts-read old mid new most (items v) h m n
+counts_read items (Ok None) old mid new most h m short =
+    λ width table rest front. absurd (omega (arith, front.enough, m.most_is, short, ap length (bytes_left-moved old mid 3 h m.moves), length-drop 3 (bytes_left old)))
+counts_read items (Err e) old mid new most h m n = tt
 
 -- ---- the table
 pub unsound : (width : ℕ) (old mid : Reading) (counts : List ℕ) → TakesCounts old counts mid → (AreWordLengths (lengths_from 1 counts) → ⊥) → (table : List Place) (rest : List ℕ) → TableFront width (bytes_left old) table rest → ⊥

@@ -1,15 +1,17 @@
 -- A token that stands after one white byte.
-use Rattle.std.proofs.Common.{◌≡◌, ℕ, ◌+◌, ◌<◌, ◌≤◌, ◌==◌, ◌-◌, true, false, List, [], ◌∷◌, ◌++◌, length, get_or, take, drop, Some, refl, sym, ap, ◌∙◌, subst, arith, length-take-le}
+use Rattle.std.proofs.Common.{◌≡◌, ℕ, ◌+◌, ◌<◌, ◌≤◌, ◌^◌, ◌==◌, ◌-◌, true, false, List, [], ◌∷◌, ◌++◌, length, get_or, take, drop, Some, refl, sym, ap, ◌∙◌, subst, arith, length-take-le}
 use Rattle.std.specs.Prelude.{IsTrue, pos}
 use Rattle.std.specs.Char.{is_digit}
 use Rattle.std.specs.List.{list_all, prefix_len}
 use Rattle.std.proofs.Math.Seq.{drop-cons}
+use Rattle.std.proofs.Math.Nat.{pow-le-pow_right}
 use Rattle.std.proofs.lemmas.Bool.{or_right}
-use Rattle.std.proofs.lemmas.List.{drop_at, take-append-drop, take_rest}
+use Rattle.std.proofs.lemmas.Int.Digits.{number_lt}
+use Rattle.std.proofs.lemmas.List.{drop_at, length-take, take-append-drop, take_rest}
 use Rattle.cmap_tokens.specs.Bytes.{is_white, is_regular}
-use Rattle.cmap_tokens.specs.Numbers.{Integer, numeral}
-use Rattle.cmap_tokens.specs.Scanner.{FirstToken, OnlyFront}
-use Rattle.cmap_tokens.specs.Strings.{WritesTwoBytes}
+use Rattle.cmap_tokens.specs.Numbers.{EndsDigits, Integer, numeral}
+use Rattle.cmap_tokens.specs.Scanner.{BeginsDecimal, FirstToken, OnlyFront}
+use Rattle.cmap_tokens.specs.Strings.{WritesTwoBytes, hex_value}
 use Rattle.cmap_tokens.specs.Tokens.{Token, Front, IsHexString, IsRun, IsToken, begins_name, begins_regular, is_hex_body}
 use Rattle.cmap_tokens.proofs.ByteTests.{all_prefix, all_weaker, other_byte}
 use Rattle.cmap_tokens.proofs.Digits.{paired}
@@ -25,6 +27,14 @@ first_after_blank text blank len piece rest token whole white is longest long =
     let read = reads_front text (blank ∷ []) piece token rest front in
     let after : rest ≡ drop len text = sym (ap (drop len) whole ∙ drop_at (blank ∷ piece) rest len (omega (arith, long))) in
     (_, _, subst (OnlyFront text _ _ token) (sym read.rest_is ∙ after) (only_front text (token, length piece) read.first), omega (arith, long, ap length read.gap_is, ap length read.piece_is))
+
+-- two bytes write a number of 16 bits
+pub two_bytes_fit : (text : List ℕ) (count number : ℕ) → Answers (take 4 (drop 2 text)) (Some (count, number)) → number < 2 ^ 16
+two_bytes_fit text count number (are, counted, writes) =
+    let digits = take 4 (drop 2 text) in
+    let bytes = paired digits are.0 are.1 in
+    let most : 256 ^ length (hex_value digits) ≤ 256 ^ 2 = pow-le-pow_right {n = 256} (omega arith) {i = length (hex_value digits)} {j = 2} (omega (arith, bytes.long, length-take 4 (drop 2 text))) in
+    omega (arith, writes, most, number_lt 256 (hex_value digits) bytes.bytes)
 
 pub two_bytes_found : (text : List ℕ) (count number : ℕ) → 7 ≤ length text → is_white (get_or text 0 0) ≡ true → get_or text 1 0 ≡ 60 → get_or text 6 0 ≡ 62 → Answers (take 4 (drop 2 text)) (Some (count, number))
     → (blank : ℕ) × (piece rest : List ℕ) × (text ≡ blank ∷ piece ++ rest) × IsTrue (is_white blank) × IsHexString piece × (length piece ≡ 6) × WritesTwoBytes piece number
@@ -67,3 +77,6 @@ decimal_found text len number long white some is within spelled =
       omega (arith, size),
       sym (ap (λ l. numeral (take len l)) same) ∙ spelled,
     )
+
+pub decimal_ends : (text : List ℕ) → BeginsDecimal text → (len : ℕ) × (1 ≤ len) × (len ≤ 18) × EndsDigits (take (length text - 1) (drop 1 text)) len
+decimal_ends text (blank, rest, whole, white, len, some, few, ends) = (len, some, few, subst (λ t. EndsDigits t len) (sym (take_rest text 1 ∙ ap (drop 1) whole)) ends)

@@ -68,10 +68,7 @@ fn read_counts(alloc: Global, reader: &mut Reader<'_>) -> Result<Option<Vec<u32>
     let Some(most) = read_most(reader) else {
         return Ok(None);
     };
-    let Some(counts) = read_numbers(alloc, reader, most, 2)? else {
-        return Ok(None);
-    };
-    Ok(Some(counts))
+    read_numbers(alloc, reader, most, 2)
 }
 
 // How many lengths are counted: none where the table has no symbols.

@@ -1,6 +1,6 @@
 //! How far runs and strings reach, in bytes.
 
-ghost use Rattle.std.specs.Prelude.{◌≡◌, ◌≤◌, length, IfSome};
+ghost use Rattle.std.specs.Prelude.{◌≡◌, ◌+◌, ◌≤◌, length, IfSome};
 ghost use Rattle.std.specs.List.{prefix_len};
 ghost use Rattle.cmap_tokens.specs.Bytes.{is_regular};
 ghost use Rattle.cmap_tokens.specs.Tokens.{is_hex_body, opened};
@@ -27,8 +27,8 @@ pub(super) fn string_len(text: &[u8]) -> Option<usize>
     ensures within { IfSome result (λ len. len ≤ length text.now) }
 {
     match text {
-        [b'<', rest @ ..] => Some(1 + hex_len(rest)?),
-        [b'(', rest @ ..] => Some(1 + text_len(rest)?),
+        [b'<', rest @ ..] => hex_len(rest),
+        [b'(', rest @ ..] => text_len(rest),
         _ => None,
     }
 }
@@ -59,23 +59,23 @@ fn hex_body_len(text: &[u8]) -> usize
     text.len()
 }
 
-// How many bytes a hexadecimal string takes after its `<`.
+// How many bytes a hexadecimal string takes, by the bytes after its `<`.
 fn hex_len(text: &[u8]) -> Option<usize>
-    ensures exact { result ≡ reading.hex_len text.now }
-    ensures within { IfSome result (λ len. len ≤ length text.now) }
+    ensures exact { result ≡ reading.one_more (reading.hex_len text.now) }
+    ensures within { IfSome result (λ len. len ≤ 1 + length text.now) }
 {
     for (i, byte) in text.iter().enumerate() {
         if digit_value(*byte) >= 16 && !is_white(*byte) {
-            return if *byte == b'>' { Some(i + 1) } else { None };
+            return if *byte == b'>' { Some(i + 2) } else { None };
         }
     }
     None
 }
 
-// How many bytes a string in parentheses takes after its `(`.
+// How many bytes a string in parentheses takes, by the bytes after its `(`.
 fn text_len(text: &[u8]) -> Option<usize>
-    ensures exact { result ≡ reading.text_len opened text.now }
-    ensures within { IfSome result (λ len. len ≤ length text.now) }
+    ensures exact { result ≡ reading.one_more (reading.text_len opened text.now) }
+    ensures within { IfSome result (λ len. len ≤ 1 + length text.now) }
 {
     let mut depth: usize = 1;
     let mut escaped = false;
@@ -86,7 +86,7 @@ fn text_len(text: &[u8]) -> Option<usize>
             match byte {
                 b'\\' => escaped = true,
                 b'(' => depth += 1,
-                b')' if depth == 1 => return Some(i + 1),
+                b')' if depth == 1 => return Some(i + 2),
                 b')' => depth -= 1,
                 _ => {}
             }

@@ -1,6 +1,6 @@
 //! The token that a text begins with.
 
-ghost use Rattle.std.specs.Prelude.{◌≡◌, ℕ, ◌≤◌, false, List, ◌∷◌, ◌++◌, length, take, option_map, IfOk, IfSome, IsSome, IsTrue, MatchOption, MatchResult};
+ghost use Rattle.std.specs.Prelude.{◌≡◌, ℕ, ◌+◌, ◌≤◌, false, true, List, ◌∷◌, ◌++◌, length, take, option_map, IfOk, IfSome, IsSome, IsTrue, MatchOption, MatchResult};
 ghost use Rattle.std.specs.List.{prefix_len};
 ghost use Rattle.cmap_tokens.specs.Bytes.{is_regular, is_white};
 ghost use Rattle.cmap_tokens.specs.Gaps.{IsBlank};
@@ -43,21 +43,36 @@ fn first_piece(text: &[u8]) -> Option<(Token<'_>, usize)>
     match text {
         [b'[' | b']' | b'{' | b'}', ..] => Some((executable_name(&text[..1]), 1)),
         [b'<', b'<', ..] | [b'>', b'>', ..] => Some((executable_name(&text[..2]), 2)),
-        [b'<' | b'(', ..] => {
-            let len = string_len(text)?;
-            Some((Token::String(StringToken { raw: &text[..len] }), len))
-        }
-        [b'/', rest @ ..] => {
-            let len = run_len(rest);
-            let name = Name {
-                literal: true,
-                bytes: &rest[..len],
-            };
-            Some((Token::Name(name), 1 + len))
-        }
+        [b'<' | b'(', ..] => string_piece(text),
+        [b'/', rest @ ..] => Some(literal_name(rest)),
         [first, ..] if is_regular(*first) => Some(run_piece(text)),
         _ => None,
     }
+}
+
+// The string that a text begins with, and how many bytes it takes.
+fn string_piece(text: &[u8]) -> Option<(Token<'_>, usize)>
+    ensures exact { option_map (λ first. (token_seen first.0, first.1)) result
+        ≡ reading.string_of text.now (reading.string_len text.now) }
+    ensures within { IfSome result (λ first. first.1 ≤ length text.now) }
+{
+    let len = string_len(text)?;
+    Some((Token::String(StringToken { raw: &text[..len] }), len))
+}
+
+// The name after a slash, and how many bytes both take.
+fn literal_name(text: &[u8]) -> (Token<'_>, usize)
+    ensures token { token_seen result.0
+        ≡ tokens.Name true (take (prefix_len is_regular text.now) text.now) }
+    ensures len { result.1 ≡ 1 + prefix_len is_regular text.now }
+    ensures within { result.1 ≤ 1 + length text.now }
+{
+    let len = run_len(text);
+    let name = Name {
+        literal: true,
+        bytes: &text[..len],
+    };
+    (Token::Name(name), 1 + len)
 }
 
 // The number or the name that a run is, which a text begins with, and how many bytes it takes.
@@ -92,6 +107,7 @@ pub(super) fn two_bytes(text: &[u8]) -> Option<u16>
     ensures found { IfSome result (λ number. (blank : ℕ) × (piece rest : List ℕ)
         × (text.now ≡ blank ∷ piece ++ rest) × IsTrue (is_white blank) × IsHexString piece
         × (length piece ≡ 6) × WritesTwoBytes piece number) }
+    ensures within { IfSome result (λ _. 7 ≤ length text.now) }
     ensures some { BeginsTwoBytes text.now → IsSome result }
 {
     match text {

@@ -1,4 +1,4 @@
-use Rattle.std.proofs.Common.{subst}
+use Rattle.std.proofs.Common.{refl, subst}
 use Rattle.std.proofs.lemmas.List.{drop-drop}
 use Rattle.cmap_bits.specs.PrefixWords.{bits, Decodes}
 use Rattle.cmap_bits.proofs.TablesDecoded.{BeginsAt-only}
@@ -44,3 +44,6 @@ returns-clause-found c = elim c.match-look_up.branch [
       let after = drop-drop w.in-Some.word.len c.args.reader.now.taken (bits c.args.reader.now.source) in
       (_, rw (← c.self.view_is, c.skip_bits.ensures, w.word-is) (subst (Decodes _ _ _ _) after here), c.skip_bits.ensures)
 ]
+
+pub returns-in_default-clause-unmoved : goal.returns-in_default-clause-unmoved
+returns-in_default-clause-unmoved c = refl

@@ -1,5 +1,5 @@
-use Rattle.cmap_bits.proofs.TablesTaken.{TakesCounts-read}
+use Rattle.cmap_bits.proofs.TablesTaken.{counts_read}
 use Rattle.cmap_bits.proofs.prefix.reading.read_counts.Goals as goal
 
 pub returns : goal.returns
-returns c = TakesCounts-read _ _ _ _ _ c.requires c.in-Some.ensures (rw c.in-Some-2.is at c.in_ok-counts.ensures)
+returns c = counts_read (λ v. v.items) _ _ _ _ _ c.requires c.in-Some.ensures c.read_numbers.ensures

@@ -1,6 +1,9 @@
 use Rattle.std.proofs.Common.{sym, ◌∙◌, arith}
-use Rattle.cmap_tokens.proofs.AfterBlank.{two_bytes_found}
+use Rattle.cmap_tokens.proofs.AfterBlank.{two_bytes_fit, two_bytes_found}
 use Rattle.cmap_tokens.proofs.token.pieces.two_bytes.Goals as goal
+
+pub overflow_cast-result : goal.overflow_cast-result
+overflow_cast-result c = omega (arith, two_bytes_fit c.args.text.now c.in_ok-number-in-60.field-0-0 c.in_ok-number-in-60.number c.in_ok-number-in-60.ensures)
 
 pub returns-in_ok-number-in-60-clause-found : goal.returns-in_ok-number-in-60-clause-found
 returns-in_ok-number-in-60-clause-found c =
