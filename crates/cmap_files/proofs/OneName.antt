@@ -1,6 +1,9 @@
 -- The name of a text is one name.
-use Rattle.std.proofs.Common.{◌≡◌, refl, sym, ◌∙◌, ap, ℕ, List, [], ◌∷◌, Option, Some, None, get_or, inl, inr, ◌⊎◌}
+use Rattle.std.proofs.Common.{◌≡◌, refl, sym, ◌∙◌, ap, ℕ, ◌<◌, List, [], ◌∷◌, map, Option, Some, None, get_or, zero-add, inl, inr, ◌⊎◌}
 use Rattle.std.specs.Prelude.{unwrap_or}
+use Rattle.std.specs.List.{range_with_len}
+use Rattle.std.proofs.lemmas.List.{get_or-map}
+use Rattle.std.proofs.lemmas.List.FromFn.{get_or-map-range_with_len}
 use Rattle.std.proofs.lemmas.Option.{none-some}
 use Rattle.std.specs.Borrow.{Bor}
 use Rattle.cmap_files.specs.declared.names.CMapName.{CMapName}
@@ -8,11 +11,16 @@ use Rattle.cmap_files.specs.declared.names.CMapName.TheVariants.{N83pvRksjH, N90
 use Rattle.cmap_files.specs.CMapNames.{place, name_bytes, IsNameOf, IsSameName}
 use Rattle.cmap_files.specs.Names.{known_names, place_of}
 
-abbrev variants : List CMapName
+abbrev pub variants : List CMapName
 variants = N83pvRksjH ∷ N90msRksjH ∷ N90msRksjV ∷ N90mspRksjH ∷ N90mspRksjV ∷ N90pvRksjH ∷ AddRksjH ∷ AddRksjV ∷ AdobeCns1Ucs2 ∷ AdobeGb1Ucs2 ∷ AdobeJapan1Ucs2 ∷ AdobeKorea1Ucs2 ∷ B5pcH ∷ B5pcV ∷ CnsEucH ∷ CnsEucV ∷ ETenB5H ∷ ETenB5V ∷ ETenmsB5H ∷ ETenmsB5V ∷ EucH ∷ EucV ∷ ExtRksjH ∷ ExtRksjV ∷ GbEucH ∷ GbEucV ∷ GbkEucH ∷ GbkEucV ∷ Gbk2kH ∷ Gbk2kV ∷ GbkpEucH ∷ GbkpEucV ∷ GbpcEucH ∷ GbpcEucV ∷ H ∷ HKscsB5H ∷ HKscsB5V ∷ IdentityH ∷ IdentityV ∷ KscEucH ∷ KscEucV ∷ KscmsUhcH ∷ KscmsUhcHwH ∷ KscmsUhcHwV ∷ KscmsUhcV ∷ KscpcEucH ∷ UniCnsUcs2H ∷ UniCnsUcs2V ∷ UniCnsUtf16H ∷ UniCnsUtf16V ∷ UniGbUcs2H ∷ UniGbUcs2V ∷ UniGbUtf16H ∷ UniGbUtf16V ∷ UniJisUcs2H ∷ UniJisUcs2HwH ∷ UniJisUcs2HwV ∷ UniJisUcs2V ∷ UniJisUtf16H ∷ UniJisUtf16V ∷ UniKsUcs2H ∷ UniKsUcs2V ∷ UniKsUtf16H ∷ UniKsUtf16V ∷ V ∷ []
 
 named : ℕ → CMapName
 named k = get_or variants k (Custom (record { ref_ptr = (0, 0); now = [] }))
+
+pub place-variant : (at : ℕ) (d : CMapName) → at < 65 → place (get_or variants at d) ≡ Some at
+place-variant at d lt =
+    let places : map place variants ≡ map Some (range_with_len 0 65) = refl in
+    sym (get_or-map place variants at d None lt) ∙ ap (λ places. get_or places at None) places ∙ get_or-map-range_with_len Some 0 65 at at None lt (zero-add at)
 
 -- a name is the one at its place, or custom
 Sorted : CMapName → Type 0

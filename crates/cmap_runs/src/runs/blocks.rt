@@ -32,7 +32,7 @@ pub(super) struct Blocks {
 }
 
 // A search looks at the runs from the place `low` on and before `high`, at `first` first.
-#[derive(Clone, Copy, Debug)]
+#[derive(Drop)]
 pub(super) struct Window {
     pub(super) low: usize,
     pub(super) first: usize,

@@ -82,13 +82,13 @@ fn open_range(ends: &mut BinaryHeap<(usize, u32)>, range: &Run) -> Result<(), Al
     ensures opens { OnOk result (Opens (heap_items ends.old) (heap_items ends.new) range.now) }
     ensures few { OnOk result (heap_len ends.new ≤ heap_len ends.old + 1) }
 {
-    let is_hidden = match ends.peek() {
-        Some((place, last)) => range.place < *place && range.high <= *last,
-        None => false,
-    };
-    if !is_hidden {
-        ends.push((range.place, range.high))?;
+    if let Some((place, last)) = ends.peek()
+        && range.place < *place
+        && range.high <= *last
+    {
+        return Ok(());
     }
+    ends.push((range.place, range.high))?;
     Ok(())
 }
 

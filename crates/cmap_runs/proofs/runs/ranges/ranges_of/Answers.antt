@@ -1,4 +1,4 @@
-use Rattle.std.proofs.Common.{◌≡◌, ◌+◌, [], ◌∷◌, ◌++◌, map, sym, ap, ◌∙◌, subst, arith}
+use Rattle.std.proofs.Common.{◌≡◌, ◌+◌, [], ◌∷◌, ◌++◌, length, map, sym, ap, ◌∙◌, subst, arith}
 use Rattle.cmap_runs.specs.DeclaredRanges.{AreRanges}
 use Rattle.cmap_runs.specs.Ranges.{Run}
 use Rattle.cmap_runs.proofs.RangesDecide.{AreRanges-push, AreRanges-skip, span_at}
@@ -18,3 +18,7 @@ loop-place-preserved g c =
       | else-range w ↦
           subst (AreRanges spans (place + 1)) (sym (ap (λ ranges. ranges.items) w.ranges-is)) (AreRanges-skip spans place range.start range.end old c.loop-place.invariant at (omega arith))
     ]
+
+pub returns : goal.returns
+returns g c =
+    subst (λ count. AreRanges (map g.T.HasRange.span c.args.declarations.now) count c.loop-place.ranges.items) (let e : c.loop-place.place ≡ length c.args.declarations.now = omega arith in e) c.loop-place.invariant

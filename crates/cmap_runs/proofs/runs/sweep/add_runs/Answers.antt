@@ -7,7 +7,7 @@ use Rattle.std.specs.Ordering.{ordering_then}
 use Rattle.std.proofs.lemmas.List.Sorted.{first_le_from_greatest}
 use Rattle.cmap_runs.specs.OpenRanges.{StayOpen}
 use Rattle.cmap_runs.specs.Ranges.{AreRunsBelow}
-use Rattle.cmap_runs.proofs.OpenDecide.{AreRunsBelow-greatest, AreRunsBelow-none_open, StayOpen-close, StayOpen-later, none_left, popped}
+use Rattle.cmap_runs.proofs.OpenDecide.{AreRunsBelow-greatest, AreRunsBelow-none_open, StayOpen-close, StayOpen-later, StayOpen-same, none_left, popped}
 use Rattle.cmap_runs.proofs.runs.sweep.add_runs.Goals as goal
 use Rattle.cmap_runs.proofs.runs.sweep.add_runs.Goals.{then-from-last+in_ok-add-2, else-from-last}
 
@@ -69,3 +69,19 @@ loop-place-preserved c =
         few = omega (arith, fewer, ap length w.runs-is);
       }
     ]
+
+pub returns-else-from-to-clause-runs : goal.returns-else-from-to-clause-runs
+returns-else-from-to-clause-runs c = λ decides greatest are.
+    let same : c.loop-place.from ≡ c.args.to = omega arith in
+    subst (λ code. AreRunsBelow decides code c.loop-place.runs) same (c.loop-place.invariant.runs decides greatest are)
+
+pub loop-place-init : goal.loop-place-init
+loop-place-init c = record {
+  order = omega arith;
+  limit = c.requires.order;
+  runs = λ decides greatest are. are;
+  stay = StayOpen-same _ _;
+  heap = c.requires.heap;
+  fewer = omega arith;
+  few = omega arith;
+}

@@ -1,4 +1,4 @@
-use Rattle.std.proofs.Common.{◌<◌, All, length, map, sym, subst}
+use Rattle.std.proofs.Common.{◌<◌, All, length, map, sym, ap, subst, arith}
 use Rattle.std.specs.Prelude.{IfSome}
 use Rattle.std.proofs.lemmas.List.{length-map}
 use Rattle.std.specs.List.{range_with_len}
@@ -52,3 +52,14 @@ returns-clause-runs g c =
     c.in_ok-sweep.ensures.runs spans
     (subst (AreRanges spans (length spans)) (sym c.as_slice.ensures.value)
     (subst (λ n. AreRanges spans n c.in_ok-ranges-2.ranges.items) (sym (length-map list g.T.HasRange.span)) c.in_ok-ranges-2.ensures.ranges))
+
+pub returns-clause-few : goal.returns-clause-few
+returns-clause-few g c = omega (arith, c.in_ok-sweep.ensures.few, ap length c.as_slice.ensures.value, c.in_ok-ranges-2.ensures.ranges.few)
+
+pub returns-in_default-clause-runs : goal.returns-in_default-clause-runs
+returns-in_default-clause-runs g c =
+    let list = c.args.declarations.now in let spans = map g.T.HasRange.span list in
+    c.in_ok-sorted_and_swept.ensures.runs spans (subst (λ n. AreRanges spans n c.in_ok-ranges.ranges.items) (sym (length-map list g.T.HasRange.span)) c.in_ok-ranges.ensures)
+
+pub returns-in_default-clause-few : goal.returns-in_default-clause-few
+returns-in_default-clause-few g c = omega (arith, c.in_ok-sorted_and_swept.ensures.few, c.in_ok-ranges.ensures.few)

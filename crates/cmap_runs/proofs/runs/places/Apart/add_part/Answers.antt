@@ -1,4 +1,4 @@
-use Rattle.std.proofs.Common.{◌+◌, ◌++◌, [], ◌∷◌, map, sym, ap, ◌∙◌, subst, arith}
+use Rattle.std.proofs.Common.{◌≡◌, ◌+◌, ◌-◌, ◌++◌, [], ◌∷◌, map, refl, sym, ap, ◌∙◌, subst, append-nil, arith}
 use Rattle.std.proofs.lemmas.List.{append_assoc}
 use Rattle.cmap_runs.specs.DeclaredRanges.{LieApartBefore}
 use Rattle.cmap_runs.specs.Ranges.{Run}
@@ -23,3 +23,8 @@ loop-place-preserved g c =
           (LieApartBefore-push spans c.loop-place.self.places.items place c.loop-place.self.next c.from-last.result (old.apart are)
           (omega (arith, low)) (omega (arith, low, high)) (omega (arith, high)) (omega (arith, high)));
     }
+
+pub loop-place-init : goal.loop-place-init
+loop-place-init g c =
+    let none : c.args.first - c.args.first ≡ 0 = omega arith in
+    record { places = rw (none, append-nil) refl; len = omega arith; capacity = omega arith; apart = λ are. are }
