@@ -13,7 +13,6 @@ use crate::metadata::{
 use crate::parse::{hayro_cmap_parse, hayro_cmap_parse_over};
 use crate::version::hayro_cmap_version;
 use std::alloc::Global;
-use std::test::Fail;
 
 const FILE: &[u8] = b"begincmap /CIDSystemInfo 3 dict dup begin /Registry (Adobe) def
 /Ordering (Japan1) def /Supplement 6 def end def /CMapName /T def /WMode 1 def
@@ -33,66 +32,95 @@ fn parsed(alloc: Global, file: &[u8], bundle: &[u8], budget: u64) -> (MapHandle,
     (map, status)
 }
 
+/// The map of `FILE`.
+fn map_of_file(alloc: Global) -> MapHandle {
+    let (map, _status) = parsed(alloc, FILE, b"", u64::MAX);
+    map
+}
+
 #[test]
-fn a_parsed_file_answers(rt: HostRuntime) -> Result<(), Fail> {
+fn a_code_has_its_cid(rt: HostRuntime) {
     let alloc = rt.alloc();
     let (mut map, status) = parsed(alloc, FILE, b"", u64::MAX);
-    assert_eq!(rt; status, 0);
+    assert!(rt; status == 0);
     let mut cid = 7;
-    assert!(rt; hayro_cmap_cid(&mut map, alloc, 0x141, 2, &mut cid));
-    assert_eq!(rt; cid, 0x141);
-    assert!(rt; !hayro_cmap_cid_strict(&mut map, alloc, 0x142, 2, &mut cid));
-    assert_eq!(rt; cid, 0x141);
-    let mut room = [0; 6];
-    let mut needed = 0;
-    assert_eq!(rt;
-        hayro_cmap_text(&mut map, alloc, 0x41, &mut room, &mut needed),
-        0
-    );
-    assert_eq!(rt; &room[..needed.min(6)], b"BC".as_slice());
+    assert!(rt; hayro_cmap_cid(&mut map, alloc, 0x141, 2, &mut cid) && cid == 0x141);
+    assert!(rt; !hayro_cmap_cid_strict(&mut map, alloc, 0x142, 2, &mut cid) && cid == 0x141);
     hayro_cmap_free(&mut map, alloc);
-    Ok(())
 }
 
 #[test]
-fn a_file_says_what_it_is(rt: HostRuntime) -> Result<(), Fail> {
+fn a_code_has_its_text(rt: HostRuntime) {
     let alloc = rt.alloc();
-    let (mut map, _) = parsed(alloc, FILE, b"", u64::MAX);
+    let mut map = map_of_file(alloc);
     let mut room = [0; 6];
     let mut needed = 0;
-    assert_eq!(rt; hayro_cmap_name(&mut map, alloc, &mut room, &mut needed), 0);
-    assert_eq!(rt; &room[..needed.min(6)], b"T".as_slice());
-    assert_eq!(rt;
-        hayro_cmap_registry(&mut map, alloc, &mut room, &mut needed),
-        0
-    );
-    assert_eq!(rt; &room[..needed.min(6)], b"Adobe".as_slice());
-    assert_eq!(rt;
-        hayro_cmap_ordering(&mut map, alloc, &mut room[..5], &mut needed),
-        6
-    );
-    assert_eq!(rt; needed, 6);
+    let status = hayro_cmap_text(&mut map, alloc, 0x41, &mut room, &mut needed);
+    assert!(rt; status == 0 && needed == 2 && room == *b"BC\0\0\0\0");
+    hayro_cmap_free(&mut map, alloc);
+}
+
+#[test]
+fn a_file_has_its_name(rt: HostRuntime) {
+    let alloc = rt.alloc();
+    let mut map = map_of_file(alloc);
+    let mut room = [0; 6];
+    let mut needed = 0;
+    let status = hayro_cmap_name(&mut map, alloc, &mut room, &mut needed);
+    assert!(rt; status == 0 && needed == 1 && room == *b"T\0\0\0\0\0");
+    hayro_cmap_free(&mut map, alloc);
+}
+
+#[test]
+fn a_file_has_its_registry(rt: HostRuntime) {
+    let alloc = rt.alloc();
+    let mut map = map_of_file(alloc);
+    let mut room = [0; 6];
+    let mut needed = 0;
+    let status = hayro_cmap_registry(&mut map, alloc, &mut room, &mut needed);
+    assert!(rt; status == 0 && needed == 5 && room == *b"Adobe\0");
+    hayro_cmap_free(&mut map, alloc);
+}
+
+#[test]
+fn an_ordering_that_is_longer_than_its_room_is_not_written(rt: HostRuntime) {
+    let alloc = rt.alloc();
+    let mut map = map_of_file(alloc);
+    let mut room = [7; 5];
+    let mut needed = 0;
+    let status = hayro_cmap_ordering(&mut map, alloc, &mut room, &mut needed);
+    assert!(rt; status == 6 && needed == 6 && room == [7; 5]);
+    hayro_cmap_free(&mut map, alloc);
+}
+
+#[test]
+fn a_file_has_its_supplement_and_its_writing_mode(rt: HostRuntime) {
+    let alloc = rt.alloc();
+    let mut map = map_of_file(alloc);
     let mut supplement = 0;
-    assert!(rt; hayro_cmap_supplement(&mut map, alloc, &mut supplement));
-    assert_eq!(rt; supplement, 6);
-    assert_eq!(rt; hayro_cmap_writing_mode(&mut map, alloc), 1);
+    assert!(rt; hayro_cmap_supplement(&mut map, alloc, &mut supplement) && supplement == 6);
+    assert!(rt; hayro_cmap_writing_mode(&mut map, alloc) == 1);
     hayro_cmap_free(&mut map, alloc);
-    Ok(())
 }
 
 #[test]
-fn a_shared_map_outlives_its_first_handle(rt: HostRuntime) -> Result<(), Fail> {
+fn a_shared_map_outlives_its_first_handle(rt: HostRuntime) {
     let alloc = rt.alloc();
-    let (mut map, _) = parsed(alloc, FILE, b"", u64::MAX);
-    let mut cid = 0;
+    let mut map = map_of_file(alloc);
     let mut other = MapHandle::empty(alloc);
-    assert_eq!(rt; hayro_cmap_share(&mut map, alloc, &mut other), 0);
+    assert!(rt; hayro_cmap_share(&mut map, alloc, &mut other) == 0);
     hayro_cmap_free(&mut map, alloc);
+    let mut cid = 0;
     assert!(rt; !hayro_cmap_cid(&mut map, alloc, 0x41, 2, &mut cid));
-    assert!(rt; hayro_cmap_cid(&mut other, alloc, 0x41, 2, &mut cid));
-    assert_eq!(rt; cid, 0x41);
+    assert!(rt; hayro_cmap_cid(&mut other, alloc, 0x41, 2, &mut cid) && cid == 0x41);
     hayro_cmap_free(&mut other, alloc);
-    Ok(())
+}
+
+/// The handle of the bundle that the bytes are, and the status that opening it ended with.
+fn opened(alloc: Global, bytes: &[u8]) -> (BundleHandle, u32) {
+    let mut bundle = BundleHandle::empty(alloc);
+    let status = hayro_cmap_bundle_open(&mut bundle, alloc, bytes);
+    (bundle, status)
 }
 
 /// The status of a file that is read over a bundle, and the CID of the code 0x21 of two bytes.
@@ -105,56 +133,63 @@ fn read_over(alloc: Global, file: &[u8], bundle: &mut BundleHandle) -> (u32, u32
     (status, cid)
 }
 
+/// A file that uses the one of the bundle.
+const OVER_IT: &[u8] = b"/83pv-RKSJ-H usecmap";
+
 #[test]
-fn a_bundle_is_read_once_for_several_maps(rt: HostRuntime) -> Result<(), Fail> {
+fn a_bundle_is_read_once_for_several_maps(rt: HostRuntime) {
     let alloc = rt.alloc();
-    let used = b"/83pv-RKSJ-H usecmap";
-    let over_it = b"/83pv-RKSJ-H usecmap begincidchar <0021> 9 endcidchar";
-    let mut bundle = BundleHandle::empty(alloc);
-    assert_eq!(rt; hayro_cmap_bundle_open(&mut bundle, alloc, BUNDLE), 0);
-    assert_eq!(rt; read_over(alloc, used, &mut bundle), (0, 6));
-    assert_eq!(rt; read_over(alloc, over_it, &mut bundle), (0, 9));
-    assert_eq!(rt; read_over(alloc, &BUNDLE[23..], &mut bundle), (0, 6));
-    let mut other = BundleHandle::empty(alloc);
-    assert_eq!(rt; hayro_cmap_bundle_share(&mut bundle, alloc, &mut other), 0);
+    let (mut bundle, status) = opened(alloc, BUNDLE);
+    assert!(rt; status == 0);
+    let changed = b"/83pv-RKSJ-H usecmap begincidchar <0021> 9 endcidchar";
+    assert!(rt; read_over(alloc, OVER_IT, &mut bundle) == (0, 6));
+    assert!(rt; read_over(alloc, changed, &mut bundle) == (0, 9));
+    assert!(rt; read_over(alloc, &BUNDLE[23..], &mut bundle) == (0, 6));
     hayro_cmap_bundle_free(&mut bundle, alloc);
-    assert_eq!(rt; read_over(alloc, used, &mut bundle), (1, 0));
-    assert_eq!(rt; read_over(alloc, used, &mut other), (0, 6));
-    assert_eq!(rt; hayro_cmap_bundle_open(&mut other, alloc, b"no bundle"), 4);
-    assert_eq!(rt; read_over(alloc, used, &mut other), (1, 0));
-    hayro_cmap_bundle_free(&mut other, alloc);
-    Ok(())
+    assert!(rt; read_over(alloc, OVER_IT, &mut bundle) == (1, 0));
 }
 
 #[test]
-fn statuses_say_why_there_is_no_map(rt: HostRuntime) -> Result<(), Fail> {
+fn a_shared_bundle_outlives_its_first_handle(rt: HostRuntime) {
     let alloc = rt.alloc();
-    let (_refused, status) = parsed(alloc, b"/A usecmap", b"", u64::MAX);
-    assert_eq!(rt; status, 1);
-    let (_over, status) = parsed(alloc, FILE, b"", 9);
-    assert_eq!(rt; status, 3);
-    let (_not_a_bundle, status) = parsed(alloc, FILE, b"no bundle", u64::MAX);
-    assert_eq!(rt; status, 4);
-    Ok(())
+    let (mut bundle, _status) = opened(alloc, BUNDLE);
+    let mut other = BundleHandle::empty(alloc);
+    assert!(rt; hayro_cmap_bundle_share(&mut bundle, alloc, &mut other) == 0);
+    hayro_cmap_bundle_free(&mut bundle, alloc);
+    assert!(rt; read_over(alloc, OVER_IT, &mut other) == (0, 6));
+    hayro_cmap_bundle_free(&mut other, alloc);
 }
 
 #[test]
-fn the_identity_answers_the_code(rt: HostRuntime) -> Result<(), Fail> {
+fn bytes_that_are_no_bundle_leave_none(rt: HostRuntime) {
+    let alloc = rt.alloc();
+    let (mut bundle, _status) = opened(alloc, BUNDLE);
+    assert!(rt; hayro_cmap_bundle_open(&mut bundle, alloc, b"no bundle") == 4);
+    assert!(rt; read_over(alloc, OVER_IT, &mut bundle) == (1, 0));
+    hayro_cmap_bundle_free(&mut bundle, alloc);
+}
+
+#[test]
+fn statuses_say_why_there_is_no_map(rt: HostRuntime) {
+    let alloc = rt.alloc();
+    assert!(rt; parsed(alloc, b"/A usecmap", b"", u64::MAX).1 == 1);
+    assert!(rt; parsed(alloc, FILE, b"", 9).1 == 3);
+    assert!(rt; parsed(alloc, FILE, b"no bundle", u64::MAX).1 == 4);
+}
+
+#[test]
+fn the_identity_answers_the_code(rt: HostRuntime) {
     let alloc = rt.alloc();
     let mut map = MapHandle::empty(alloc);
     let mut cid = 0;
-    assert_eq!(rt; hayro_cmap_identity(&mut map, alloc, false), 0);
-    assert!(rt; hayro_cmap_cid(&mut map, alloc, 0x1234, 2, &mut cid));
-    assert_eq!(rt; cid, 0x1234);
+    assert!(rt; hayro_cmap_identity(&mut map, alloc, false) == 0);
+    assert!(rt; hayro_cmap_cid(&mut map, alloc, 0x1234, 2, &mut cid) && cid == 0x1234);
     hayro_cmap_free(&mut map, alloc);
-    Ok(())
 }
 
 #[test]
-fn the_version_fits(rt: HostRuntime) -> Result<(), Fail> {
+fn the_version_fits(rt: HostRuntime) {
     let mut room = [0; 5];
     let mut needed = 0;
-    assert_eq!(rt; hayro_cmap_version(&mut room, &mut needed), 0);
-    assert_eq!(rt; &room, b"0.1.1");
-    Ok(())
+    assert!(rt; hayro_cmap_version(&mut room, &mut needed) == 0 && room == *b"0.1.1");
 }

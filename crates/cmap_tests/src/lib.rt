@@ -6,7 +6,8 @@
 mod bases;
 #[cfg(test)]
 mod bits;
-pub mod caller;
+#[cfg(test)]
+mod caller;
 #[cfg(test)]
 mod cid_ranges;
 #[cfg(test)]
