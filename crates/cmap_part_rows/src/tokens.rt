@@ -94,13 +94,13 @@ fn push_string(
     line: &mut String,
 ) -> Result<(), Fault> {
     let value = value_of(alloc, string)?;
-    match strings {
-        Strings::Values => push_piece(&value, line)?,
-        Strings::Pieces => push_piece(string.raw(), line)?,
-        Strings::Numbers => push_number(string.plain_number(), line)?,
-        Strings::Lengths => write!(line, " {}", value.len())?,
-    }
-    Ok(())
+    let pushed = match strings {
+        Strings::Values => push_piece(&value, line),
+        Strings::Pieces => push_piece(string.raw(), line),
+        Strings::Numbers => push_number(string.plain_number(), line),
+        Strings::Lengths => write!(line, " {}", value.len()),
+    };
+    Ok(pushed?)
 }
 
 fn push_piece(bytes: &[u8], line: &mut String) -> Result<(), AllocError> {

@@ -66,18 +66,22 @@ pub fn hexadecimal(alloc: Global, digits: &str) -> Result<Vec<u8>, Fault> {
 /// Adds bytes to a line in the one way in which it shows them.
 pub fn push_escaped(bytes: &[u8], line: &mut String) -> Result<(), AllocError> {
     for byte in bytes {
-        match byte {
-            b'\\' => line.push_str("\\\\")?,
-            b'\n' => line.push_str("\\n")?,
-            b'\r' => line.push_str("\\r")?,
-            b'\t' => line.push_str("\\t")?,
-            0x0C => line.push_str("\\f")?,
-            0 => line.push_str("\\0")?,
-            b'!'..=b'~' => line.push(char::from(*byte))?,
-            _ => write!(line, "\\x{byte:02X}")?,
-        }
+        push_byte(*byte, line)?;
     }
     Ok(())
+}
+
+fn push_byte(byte: u8, line: &mut String) -> Result<(), AllocError> {
+    match byte {
+        b'\\' => line.push_str("\\\\"),
+        b'\n' => line.push_str("\\n"),
+        b'\r' => line.push_str("\\r"),
+        b'\t' => line.push_str("\\t"),
+        0x0C => line.push_str("\\f"),
+        0 => line.push_str("\\0"),
+        b'!'..=b'~' => line.push(char::from(byte)),
+        _ => write!(line, "\\x{byte:02X}"),
+    }
 }
 
 /// A line in the one way in which it is compared: with one blank between its words, and its bytes

@@ -107,12 +107,7 @@ impl<'r> Row<'r> {
 
     /// Begins a file that others may use.
     fn begin_base(&mut self, alloc: Global, rest: &'r str) -> Result<(), Fault> {
-        let (name, text) = split_word(rest);
-        if self.has_base(name) {
-            return Err(Fault::Wrong("a name that is there"));
-        }
-        let spelled = Spelled::new(alloc, text)?;
-        self.bases.push(Named { name, spelled })?;
+        begin_named(alloc, &mut self.bases, rest)?;
         self.begun = Begun::Base;
         Ok(())
     }
@@ -122,16 +117,6 @@ impl<'r> Row<'r> {
         self.bundle = Some(Spelled::new(alloc, text)?);
         self.begun = Begun::Bundle;
         Ok(())
-    }
-
-    /// Whether a base has this name.
-    fn has_base(&self, name: &str) -> bool {
-        for base in &self.bases {
-            if base.name == name {
-                return true;
-            }
-        }
-        false
     }
 
     /// Adds to the bytes that were begun last.
@@ -148,4 +133,28 @@ impl<'r> Row<'r> {
             },
         }
     }
+}
+
+/// Begins the bytes of a name that isn't there yet.
+pub(crate) fn begin_named<'r>(
+    alloc: Global,
+    all: &mut Vec<Named<'r>>,
+    rest: &'r str,
+) -> Result<(), Fault> {
+    let (name, text) = split_word(rest);
+    if bytes_of(all, name).is_some() {
+        return Err(Fault::Wrong("a name that is there"));
+    }
+    let spelled = Spelled::new(alloc, text)?;
+    Ok(all.push(Named { name, spelled })?)
+}
+
+/// The bytes of a name.
+pub(crate) fn bytes_of<'n>(all: &'n [Named<'_>], name: &str) -> Option<&'n Spelled> {
+    for one in all {
+        if one.name == name {
+            return Some(&one.spelled);
+        }
+    }
+    None
 }

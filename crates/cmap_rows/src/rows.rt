@@ -2,7 +2,7 @@
 
 use crate::escapes::canonical;
 use crate::fault::Fault;
-use crate::row::{Begun, Kind, Named, Row};
+use crate::row::{Begun, Kind, Named, Row, begin_named, bytes_of};
 use crate::spelled::{Addition, Spelled, addition_of, split_word};
 use std::alloc::{AllocError, Global};
 
@@ -120,7 +120,7 @@ impl<'r> Rows<'r> {
     fn begin_paragraph(&mut self, word: &str, rest: &'r str) -> Result<(), Fault> {
         self.stage = Stage::Begun;
         if word == "let" {
-            return self.define(rest);
+            return begin_named(self.alloc, &mut self.definitions, rest);
         }
         let kind = Kind::named(word).ok_or(Fault::Wrong("an unknown word"))?;
         let text = if kind.has_bytes() { rest } else { "" };
@@ -136,30 +136,10 @@ impl<'r> Rows<'r> {
         Ok(())
     }
 
-    /// Begins a definition.
-    fn define(&mut self, rest: &'r str) -> Result<(), Fault> {
-        let (name, text) = split_word(rest);
-        if self.definition(name).is_some() {
-            return Err(Fault::Wrong("a name that is there"));
-        }
-        let spelled = Spelled::new(self.alloc, text)?;
-        self.definitions.push(Named { name, spelled })?;
-        Ok(())
-    }
-
-    /// The bytes of a definition.
-    fn definition(&self, name: &str) -> Option<&Spelled> {
-        for definition in &self.definitions {
-            if definition.name == name {
-                return Some(&definition.spelled);
-            }
-        }
-        None
-    }
-
     /// Adds what a line adds to the bytes that were begun last, if it is such a line.
     fn add_bytes(&mut self, word: &str, rest: &str) -> Result<bool, Fault> {
-        match addition_of(self.alloc, word, rest, self.definition(rest))? {
+        let definition = bytes_of(&self.definitions, rest);
+        match addition_of(self.alloc, word, rest, definition)? {
             Some(addition) => {
                 self.add(&addition)?;
                 Ok(true)

@@ -65,20 +65,26 @@ pub fn addition_of(
     rest: &str,
     definition: Option<&Spelled>,
 ) -> Result<Option<Addition>, Fault> {
+    let bytes = match word {
+        "+" => unescaped(alloc, rest),
+        "|" => unescaped_line(alloc, rest),
+        "hex" => hexadecimal(alloc, rest),
+        "use" => copied(alloc, definition),
+        "times" => repeated(alloc, rest),
+        "segment" => segment(alloc, rest),
+        "binary" => return Ok(Some(Addition::Head)),
+        _ => return Ok(None),
+    };
     match word {
-        "+" => Ok(Some(Addition::Bytes(unescaped(alloc, rest)?))),
-        "|" => Ok(Some(Addition::Bytes(unescaped_line(alloc, rest)?))),
-        "hex" => Ok(Some(Addition::Bytes(hexadecimal(alloc, rest)?))),
-        "use" => {
-            let found = definition.ok_or(Fault::Wrong("no such definition"))?;
-            let copied = Vec::from_slice(alloc, &found.bytes)?;
-            Ok(Some(Addition::Bytes(copied)))
-        }
-        "times" => Ok(Some(Addition::Bytes(repeated(alloc, rest)?))),
-        "binary" => Ok(Some(Addition::Head)),
-        "segment" => Ok(Some(Addition::Segment(segment(alloc, rest)?))),
-        _ => Ok(None),
+        "segment" => Ok(Some(Addition::Segment(bytes?))),
+        _ => Ok(Some(Addition::Bytes(bytes?))),
     }
+}
+
+/// The bytes of a definition.
+fn copied(alloc: Global, definition: Option<&Spelled>) -> Result<Vec<u8>, Fault> {
+    let found = definition.ok_or(Fault::Wrong("no such definition"))?;
+    Ok(Vec::from_slice(alloc, &found.bytes)?)
 }
 
 /// A line with its end.

@@ -1,6 +1,6 @@
 //! What comes of a row: the line that is right in the place of one that begins with a word.
 
-use crate::files::{self, Around, NamedFile, Outcome};
+use crate::files::{self, Around, Outcome};
 use crate::{maps, program_runs};
 use cmap_part_rows::{destinations, prefix_tables, ranges, tokens};
 use cmap_rows::fault::Fault;
@@ -25,7 +25,7 @@ fn push_line(
     rest: &str,
     line: &mut String,
 ) -> Result<(), Fault> {
-    if ["accepted", "refused", "over", "no"].contains(&word) {
+    if matches!(word, "accepted" | "refused" | "over" | "no") {
         return Ok(line.push_str(outcome(alloc, row, &row.input.bytes)?)?);
     }
     line.push_str(word)?;
@@ -38,7 +38,7 @@ fn push_line(
 /// What comes of an input in the place of the row's own, in a word or two.
 fn outcome(alloc: Global, row: &Row<'_>, input: &[u8]) -> Result<&'static str, Fault> {
     match row.kind {
-        Kind::File => outcome_of_file(alloc, row, input),
+        Kind::File => Ok(outcome_of_file(alloc, row, input)?),
         Kind::Tokens => tokens::outcome(alloc, input),
         Kind::PrefixTable(symbols) => prefix_tables::outcome(alloc, symbols, input),
         Kind::Bundle => files::outcome_of_bundle(alloc, input),
@@ -48,10 +48,9 @@ fn outcome(alloc: Global, row: &Row<'_>, input: &[u8]) -> Result<&'static str, F
     }
 }
 
-fn outcome_of_file(alloc: Global, row: &Row<'_>, file: &[u8]) -> Result<&'static str, Fault> {
-    let bases = bases_of(alloc, row)?;
-    let (outcome, _) = around(row, &bases).read(alloc, file)?;
-    Ok(outcome.words())
+fn outcome_of_file(alloc: Global, row: &Row<'_>, file: &[u8]) -> Result<&'static str, AllocError> {
+    let around = Around::new(alloc, row)?;
+    around.words(alloc, file)
 }
 
 fn push_answer(
@@ -63,10 +62,7 @@ fn push_answer(
 ) -> Result<(), Fault> {
     let input = row.input.bytes.as_slice();
     match row.kind {
-        Kind::File => {
-            let bases = bases_of(alloc, row)?;
-            push_answer_of_file(alloc, around(row, &bases), input, word, rest, line)
-        }
+        Kind::File => push_answer_of_file(alloc, row, word, rest, line),
         Kind::Predefined => push_answer_of_predefined(alloc, row.words, word, rest, line),
         Kind::Tokens => tokens::push_answer(alloc, input, word, line),
         Kind::Ranges => ranges::push_answer(alloc, row.words, word, rest, line),
@@ -81,33 +77,44 @@ fn push_answer(
 
 fn push_answer_of_file(
     alloc: Global,
-    around: Around<'_>,
+    row: &Row<'_>,
+    word: &str,
+    rest: &str,
+    line: &mut String,
+) -> Result<(), Fault> {
+    let around = Around::new(alloc, row)?;
+    push_answer_over(alloc, &around, &row.input.bytes, word, rest, line)
+}
+
+fn push_answer_over(
+    alloc: Global,
+    around: &Around<'_>,
     file: &[u8],
     word: &str,
     rest: &str,
     line: &mut String,
 ) -> Result<(), Fault> {
-    match word {
-        "least" => around.push_least_budget(alloc, file, rest, line),
+    let pushed = match word {
+        "asked" => around.push_asked(alloc, file, line),
         "cause" => around.push_cause(alloc, file, line),
         "uses" => around.push_uses(alloc, file, line),
+        "least" => return around.push_least_budget(alloc, file, rest, line),
         _ => {
-            let (outcome, asked) = around.read(alloc, file)?;
-            push_answer_of_outcome(alloc, &outcome, asked, word, rest, line)
+            let outcome = around.read(alloc, file)?;
+            return push_answer_of_outcome(alloc, &outcome, word, rest, line);
         }
-    }
+    };
+    Ok(pushed?)
 }
 
 fn push_answer_of_outcome(
     alloc: Global,
     outcome: &Outcome,
-    asked: u32,
     word: &str,
     rest: &str,
     line: &mut String,
 ) -> Result<(), Fault> {
     match outcome {
-        _ if word == "asked" => Ok(write!(line, " {asked}")?),
         Outcome::Map(map) => maps::push_answer(alloc, map, word, rest, line),
         _ if maps::QUESTIONS.contains(&word) => Ok(write!(line, " {}", outcome.words())?),
         _ => Err(Fault::Wrong("an unknown word")),
@@ -123,28 +130,6 @@ fn push_answer_of_predefined(
 ) -> Result<(), Fault> {
     let map = predefined(alloc, name)?;
     maps::push_answer(alloc, &map, word, rest, line)
-}
-
-/// The files that a row's file may use, by their names.
-fn bases_of<'r>(alloc: Global, row: &'r Row<'_>) -> Result<Vec<NamedFile<'r>>, AllocError> {
-    let mut bases = Vec::with_capacity(alloc, row.bases.len())?;
-    for base in &row.bases {
-        bases.push((base.name.as_bytes(), base.spelled.bytes.as_slice()))?;
-    }
-    Ok(bases)
-}
-
-/// What a row's files are read over.
-fn around<'r>(row: &'r Row<'_>, bases: &'r [NamedFile<'r>]) -> Around<'r> {
-    let bundle = match &row.bundle {
-        Some(bundle) => Some(bundle.bytes.as_slice()),
-        None => None,
-    };
-    Around {
-        bundle,
-        bases,
-        budget: row.budget,
-    }
 }
 
 /// Adds the outcome that a line begins with, and at which lengths the front of the input has it.

@@ -6,6 +6,7 @@ ghost use Rattle.cmap_vectors.specs.NamedFiles.{file_in};
 
 use cmap_rows::escapes::{push_escaped, unescaped};
 use cmap_rows::fault::Fault;
+use cmap_rows::row::Row;
 use cmap_rows::spelled::number;
 use hayro_cmap::bcmap::{Bundle, OwnedBundle, load_embedded};
 use hayro_cmap::{CMap, CMapName, ParseError, Refusal, Source};
@@ -13,7 +14,7 @@ use std::alloc::{AllocError, Global};
 use std::cell::Cell;
 
 /// A name and its file.
-pub type NamedFile<'a> = (&'a [u8], &'a [u8]);
+type NamedFile<'a> = (&'a [u8], &'a [u8]);
 
 /// What comes of a file.
 #[derive(Drop)]
@@ -40,57 +41,72 @@ impl Outcome {
     }
 }
 
-/// What a file may use.
-#[derive(Clone, Copy)]
-pub struct Around<'a> {
-    /// The bytes of a bundle.
-    pub bundle: Option<&'a [u8]>,
+/// What a row's file is read over.
+#[derive(Drop)]
+pub struct Around<'r> {
     /// Files by their names. Where there are any, those of the bundle have none.
-    pub bases: &'a [NamedFile<'a>],
+    bases: Vec<NamedFile<'r>>,
+    /// The bundle; `None` also where what stands for one is none.
+    bundle: Option<Bundle<'r>>,
+    is_no_bundle: bool,
     /// How many bytes the files may have together.
-    pub budget: Option<u64>,
+    budget: Option<u64>,
 }
 
-impl Around<'_> {
-    /// What comes of a file, and how many files were asked for.
-    pub fn read(self, alloc: Global, file: &[u8]) -> Result<(Outcome, u32), AllocError> {
-        let bundle = self.parsed_bundle(alloc)?;
-        if self.bundle.is_some() && bundle.is_none() {
-            return Ok((Outcome::NoBundle, 0));
-        }
-        self.read_over(alloc, file, bundle.as_ref())
+impl<'r> Around<'r> {
+    /// What stands beside the input of a row.
+    pub fn new(alloc: Global, row: &'r Row<'_>) -> Result<Around<'r>, AllocError> {
+        let bases = bases_of(alloc, row)?;
+        let bundle = bundle_of(alloc, row)?;
+        Ok(Around {
+            bases,
+            is_no_bundle: row.bundle.is_some() && bundle.is_none(),
+            bundle,
+            budget: row.budget,
+        })
     }
 
-    fn read_over(
-        self,
-        alloc: Global,
-        file: &[u8],
-        bundle: Option<&Bundle<'_>>,
-    ) -> Result<(Outcome, u32), AllocError> {
-        let named = if self.bases.is_empty() { bundle } else { None };
-        let files = NamedFiles {
-            bundle: named,
-            bases: self.bases,
-            asked: Cell::new(0),
+    /// What comes of a file, in a word or two.
+    pub fn words(&self, alloc: Global, file: &[u8]) -> Result<&'static str, AllocError> {
+        let outcome = self.read(alloc, file)?;
+        Ok(outcome.words())
+    }
+
+    /// What comes of a file.
+    pub fn read(&self, alloc: Global, file: &[u8]) -> Result<Outcome, AllocError> {
+        self.read_over(alloc, self.budget, file, &self.files())
+    }
+
+    /// The files that are read by their names.
+    fn files(&self) -> NamedFiles<'_, 'r> {
+        let bundle = if self.bases.is_empty() {
+            self.bundle.as_ref()
+        } else {
+            None
         };
-        Ok((
-            self.read_files(alloc, file, bundle, &files)?,
-            files.asked.get(),
-        ))
+        NamedFiles {
+            bundle,
+            bases: &self.bases,
+            asked: Cell::new(0),
+        }
     }
 
     /// What comes of a file over files by their names: by `CMap::parse_within`, or without a budget by
     /// `CMap::parse`.
-    fn read_files(
-        self,
+    fn read_over(
+        &self,
         alloc: Global,
+        budget: Option<u64>,
         file: &[u8],
-        bundle: Option<&Bundle<'_>>,
         files: &NamedFiles<'_, '_>,
     ) -> Result<Outcome, AllocError> {
+        if self.is_no_bundle {
+            return Ok(Outcome::NoBundle);
+        }
+        let bundle = self.bundle.as_ref();
         let get_cmap = |name: CMapName<'_>| files.file(name.to_bytes());
-        match self.budget {
-            Some(_) => outcome_of(CMap::parse_within(alloc, self.budget, file, bundle, &get_cmap)),
+        match budget {
+            Some(_) => outcome_of(CMap::parse_within(alloc, budget, file, bundle, &get_cmap)),
             None => match CMap::parse(alloc, file, bundle, &get_cmap)? {
                 Some(map) => Ok(Outcome::Map(map)),
                 None => Ok(Outcome::Refused),
@@ -98,41 +114,52 @@ impl Around<'_> {
         }
     }
 
-    /// Adds the names that lead from a file to the one at fault, and what is wrong with it. The files
-    /// of a bundle have no names here.
-    pub fn push_cause(self, alloc: Global, file: &[u8], line: &mut String) -> Result<(), Fault> {
-        let bundle = self.parsed_bundle(alloc)?;
-        self.push_cause_over(alloc, file, bundle.as_ref(), line)
-    }
-
-    fn push_cause_over(
-        self,
+    /// Adds how many files are asked for.
+    pub fn push_asked(
+        &self,
         alloc: Global,
         file: &[u8],
-        bundle: Option<&Bundle<'_>>,
         line: &mut String,
-    ) -> Result<(), Fault> {
+    ) -> Result<(), AllocError> {
+        let files = self.files();
+        let _outcome = self.read_over(alloc, self.budget, file, &files)?;
+        write!(line, " {}", files.asked.get())
+    }
+
+    /// Adds the names that lead from a file to the one at fault, and what is wrong with it. The files
+    /// of a bundle have no names here.
+    pub fn push_cause(
+        &self,
+        alloc: Global,
+        file: &[u8],
+        line: &mut String,
+    ) -> Result<(), AllocError> {
         let files = NamedFiles {
             bundle: None,
-            bases: self.bases,
+            bases: &self.bases,
             asked: Cell::new(0),
         };
-        let found = CMap::parse_explained(alloc, self.budget, file, bundle, &files)?;
+        let found = CMap::parse_explained(alloc, self.budget, file, self.bundle.as_ref(), &files)?;
         push_refusal(&found, line)
     }
 
     /// Adds the names of the files that a file uses. None of them is asked for.
-    pub fn push_uses(self, alloc: Global, file: &[u8], line: &mut String) -> Result<(), Fault> {
-        let bundle = self.parsed_bundle(alloc)?;
-        if self.bundle.is_some() && bundle.is_none() {
-            return Ok(line.push_str(" no bundle")?);
+    pub fn push_uses(
+        &self,
+        alloc: Global,
+        file: &[u8],
+        line: &mut String,
+    ) -> Result<(), AllocError> {
+        if self.is_no_bundle {
+            return line.push_str(" no bundle");
         }
-        push_uses_over(alloc, file, bundle.as_ref(), line)
+        let uses = CMap::uses(alloc, file, self.bundle.as_ref())?;
+        push_names(&uses, line)
     }
 
     /// Adds the budget that a line has, if the files of a file stay within it and pass one byte less.
     pub fn push_least_budget(
-        self,
+        &self,
         alloc: Global,
         file: &[u8],
         rest: &str,
@@ -143,38 +170,48 @@ impl Around<'_> {
             .ok_or(Fault::Wrong("least budget N"))?;
         let least = number(digits)?;
         write!(line, " budget {least}")?;
-        if self.is_passed(alloc, file, least)? {
-            line.push_str(" too small")?;
-        } else if least > 0 && !self.is_passed(alloc, file, least.saturating_sub(1))? {
-            line.push_str(" too large")?;
-        }
+        line.push_str(self.told_of_least(alloc, file, least)?)?;
         Ok(())
     }
 
-    /// Whether the files of a file pass a budget; the row's own doesn't count.
-    fn is_passed(mut self, alloc: Global, file: &[u8], budget: u64) -> Result<bool, AllocError> {
-        self.budget = Some(budget);
-        let (outcome, _) = self.read(alloc, file)?;
-        Ok(matches!(outcome, Outcome::OverBudget))
+    /// What is wrong with the least budget that a line has.
+    fn told_of_least(
+        &self,
+        alloc: Global,
+        file: &[u8],
+        least: u64,
+    ) -> Result<&'static str, AllocError> {
+        if self.is_passed(alloc, file, least)? {
+            return Ok(" too small");
+        }
+        if least > 0 && !self.is_passed(alloc, file, least.saturating_sub(1))? {
+            return Ok(" too large");
+        }
+        Ok("")
     }
 
-    /// The bundle; `None` also where what stands for one is none.
-    fn parsed_bundle(&self, alloc: Global) -> Result<Option<Bundle<'_>>, AllocError> {
-        match self.bundle {
-            Some(bytes) => Bundle::parse(alloc, bytes),
-            None => Ok(None),
-        }
+    /// Whether the files of a file pass a budget; the row's own doesn't count.
+    fn is_passed(&self, alloc: Global, file: &[u8], budget: u64) -> Result<bool, AllocError> {
+        let outcome = self.read_over(alloc, Some(budget), file, &self.files())?;
+        Ok(matches!(outcome, Outcome::OverBudget))
     }
 }
 
-fn push_uses_over(
-    alloc: Global,
-    file: &[u8],
-    bundle: Option<&Bundle<'_>>,
-    line: &mut String,
-) -> Result<(), Fault> {
-    let uses = CMap::uses(alloc, file, bundle)?;
-    Ok(push_names(&uses, line)?)
+/// The bundle that stands beside a row's input.
+fn bundle_of<'r>(alloc: Global, row: &'r Row<'_>) -> Result<Option<Bundle<'r>>, AllocError> {
+    match &row.bundle {
+        Some(bundle) => Bundle::parse(alloc, &bundle.bytes),
+        None => Ok(None),
+    }
+}
+
+/// The files that a row's file may use, by their names.
+fn bases_of<'r>(alloc: Global, row: &'r Row<'_>) -> Result<Vec<NamedFile<'r>>, AllocError> {
+    let mut bases = Vec::with_capacity(alloc, row.bases.len())?;
+    for base in &row.bases {
+        bases.push((base.name.as_bytes(), base.spelled.bytes.as_slice()))?;
+    }
+    Ok(bases)
 }
 
 /// Files that answer to their names: bases, or else those of a bundle.
@@ -231,15 +268,15 @@ fn file_of<'x>(files: &'x [NamedFile<'x>], name: &[u8]) -> Option<&'x [u8]>
 }
 
 /// Adds the names that lead to the file at fault, and what is wrong with it.
-fn push_refusal(found: &Result<CMap, Refusal>, line: &mut String) -> Result<(), Fault> {
+fn push_refusal(found: &Result<CMap, Refusal>, line: &mut String) -> Result<(), AllocError> {
     let Err(refusal) = found else {
-        return Ok(line.push_str(" none")?);
+        return line.push_str(" none");
     };
     for name in &refusal.names {
         line.push(' ')?;
         push_escaped(name, line)?;
     }
-    Ok(write!(line, " {}", refusal.cause)?)
+    write!(line, " {}", refusal.cause)
 }
 
 /// Adds the names of the files that a file uses, each after a slash; a file that is refused has none.
@@ -289,7 +326,7 @@ pub fn push_held(
     }
     write!(line, " {asked} ")?;
     let name = unescaped(alloc, asked)?;
-    push_file_of(alloc, bundle, CMapName::from_bytes(&name), line)
+    Ok(push_file_of(alloc, bundle, CMapName::from_bytes(&name), line)?)
 }
 
 fn push_file_of(
@@ -297,14 +334,29 @@ fn push_file_of(
     bundle: &[u8],
     name: CMapName<'_>,
     line: &mut String,
-) -> Result<(), Fault> {
+) -> Result<(), AllocError> {
     let parsed = Bundle::parse(alloc, bundle)?;
     let file = load_embedded(parsed.as_ref(), name);
-    push_file(file, line)?;
-    if !is_owned(alloc, bundle, name, file)? {
-        line.push_str(" unlike")?;
+    push_file(alloc, bundle, name, file, line)
+}
+
+/// Adds the file of a name, and sees that a bundle which owns its files has the same.
+fn push_file(
+    alloc: Global,
+    bundle: &[u8],
+    name: CMapName<'_>,
+    file: Option<&[u8]>,
+    line: &mut String,
+) -> Result<(), AllocError> {
+    match file {
+        Some(file) => push_escaped(file, line)?,
+        None => line.push_str("none")?,
     }
-    Ok(())
+    if is_owned(alloc, bundle, name, file)? {
+        Ok(())
+    } else {
+        line.push_str(" unlike")
+    }
 }
 
 /// Whether a bundle that owns its files has this one under a name.
@@ -317,12 +369,5 @@ fn is_owned(
     match OwnedBundle::parse(alloc, bundle)? {
         Some(owned) => Ok(owned.file(name) == file),
         None => Ok(file.is_none()),
-    }
-}
-
-fn push_file(file: Option<&[u8]>, line: &mut String) -> Result<(), Fault> {
-    match file {
-        Some(file) => Ok(push_escaped(file, line)?),
-        None => Ok(line.push_str("none")?),
     }
 }

@@ -53,7 +53,17 @@ fn run_file(rt: &HostRuntime, path: &str) -> Result<u32, Fault> {
         }
     };
     let mut rows = Rows::new(rt.alloc(), path);
-    let outcome = run_rows(rt.alloc(), &mut rows, text.as_str());
+    report_rows(rt, path, &mut rows, text.as_str())
+}
+
+/// Runs all rows of a text, and writes what is reported of them.
+fn report_rows<'r>(
+    rt: &HostRuntime,
+    path: &str,
+    rows: &mut Rows<'r>,
+    text: &'r str,
+) -> Result<u32, Fault> {
+    let outcome = run_rows(rt.alloc(), rows, text);
     rt.print(rows.report())?;
     if outcome.is_err() {
         eprint!(rt; "{path}:{}: ", rows.line())?;

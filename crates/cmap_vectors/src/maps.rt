@@ -49,19 +49,19 @@ fn push_answer_alone(
     rest: &str,
     line: &mut String,
 ) -> Result<(), Fault> {
-    match word {
-        "cid" | "strict" => push_cids(map, word, rest, line)?,
-        "codes" => push_codes(alloc, map, rest, line)?,
-        "bf" => push_text_of(alloc, map, rest, line)?,
-        "name" => push_name(map.metadata(), line)?,
-        "mode" => push_mode(map, line)?,
-        "collection" => push_collection(alloc, map, line)?,
-        "unicode" | "ucs2" => push_predefined(predefined(map, word), line)?,
-        "layers" => write!(line, " {}", map.layers().len())?,
-        "declared" => push_layer(map, rest, line)?,
+    let pushed = match word {
+        "cid" | "strict" => return push_cids(map, word, rest, line),
+        "codes" => return push_codes(alloc, map, rest, line),
+        "bf" => return push_text_of(alloc, map, rest, line),
+        "declared" => return push_layer(map, rest, line),
+        "name" => push_name(map.metadata(), line),
+        "mode" => push_mode(map, line),
+        "collection" => push_collection(alloc, map, line),
+        "unicode" | "ucs2" => push_predefined(predefined(map, word), line),
+        "layers" => write!(line, " {}", map.layers().len()),
         _ => return Err(Fault::Wrong("an unknown word")),
-    }
-    Ok(())
+    };
+    Ok(pushed?)
 }
 
 /// Adds the codes of a line, each with its CID.
