@@ -1,13 +1,13 @@
 //! `cmap check`: one line for each file.
 
-use crate::inputs::{STANDARD_INPUT, read, readable, tell_unreadable};
+use crate::inputs::{STANDARD_INPUT, push_reason, read, readable, tell_unreadable};
 use crate::options::Options;
 use crate::progress::Progress;
 use crate::{ACCEPTED, REFUSED};
 use cmap_escape::{escape, json};
 use cmap_library::folders::{files_in, is_folder};
 use cmap_library::library::Library;
-use cmap_library::refused::{push_refusal, push_refusal_json};
+use cmap_library::refused::push_refusal_json;
 use hayro_cmap::{CMap, Refusal};
 use serde_json::{Map, Value, put};
 use std::alloc::{AllocError, Global};
@@ -130,7 +130,5 @@ fn push_refused(
     if json {
         return push_refusal_json(alloc, line, path, bytes, library, refusal);
     }
-    escape::push_text(line, path)?;
-    line.push_str(": ")?;
-    push_refusal(line, bytes, library, refusal)
+    push_reason(line, path, bytes, library, refusal)
 }

@@ -3,66 +3,94 @@
 use clap::{Arg, ArgAction, Command, value_parser};
 use std::alloc::{AllocError, Global};
 
+/// A subcommand, and what stands after its name.
+#[derive(Clone, Copy)]
+struct Subcommand {
+    name: &'static str,
+    about: &'static str,
+    /// Whether one file stands before the words.
+    has_file: bool,
+    /// What the words are found by. There is one at least.
+    id: &'static str,
+    /// What the help calls a word.
+    value_name: &'static str,
+    /// What the help says of the words.
+    help: &'static str,
+}
+
+const SUBCOMMANDS: &[Subcommand] = &[
+    Subcommand {
+        name: "info",
+        about: "Tells what files say: their names, codespace ranges, declarations and layers",
+        has_file: false,
+        id: "FILE",
+        value_name: "FILE",
+        help: "CMap files; - is the standard input",
+    },
+    Subcommand {
+        name: "check",
+        about: "Says of each file whether it is right, or where it is wrong and why",
+        has_file: false,
+        id: "FILE",
+        value_name: "FILE|FOLDER",
+        help: "CMap files, and folders of them; - is the standard input",
+    },
+    Subcommand {
+        name: "decode",
+        about: "Tells the codes of strings, with their CIDs and their texts",
+        has_file: true,
+        id: "WORD",
+        value_name: "HEX",
+        help: "Strings, two hexadecimal digits a byte; - reads them from the standard input",
+    },
+    Subcommand {
+        name: "lookup",
+        about: "Tells the CIDs and the texts of single codes",
+        has_file: true,
+        id: "WORD",
+        value_name: "WORD",
+        help: "L:HEX for the CID of a code of L bytes, bf:HEX for the text of a code",
+    },
+];
+
 /// The command line of `cmap`.
 pub(crate) fn command<'a>(alloc: Global) -> Result<Command<'a>, AllocError> {
-    let command = with_subcommand(program(alloc)?, info(alloc))?;
-    let command = with_subcommand(command, check(alloc))?;
-    let command = with_subcommand(command, decode(alloc))?;
-    with_subcommand(command, lookup(alloc))
+    let mut command = program(alloc)?;
+    for subcommand in SUBCOMMANDS {
+        command = command.subcommand(subcommand.command(alloc)?)?;
+    }
+    Ok(command)
 }
 
 fn program<'a>(alloc: Global) -> Result<Command<'a>, AllocError> {
-    let command = Command::new(alloc, "cmap").bin_name("cmap")?;
-    Ok(
-        command
-            .about("Tells what is in CMap files, where they are wrong, and what strings say")
-            .version("0.1.1")
-            .subcommand_required(true)
-            .arg_required_else_help(true),
-    )
+    Command::new(alloc, "cmap")
+        .about("Tells what is in CMap files, where they are wrong, and what strings say")
+        .version("0.1.1")
+        .subcommand_required(true)
+        .arg_required_else_help(true)
+        .bin_name("cmap")
 }
 
-fn with_subcommand<'a>(
-    command: Command<'a>,
-    subcommand: Result<Command<'a>, AllocError>,
-) -> Result<Command<'a>, AllocError> {
-    command.subcommand(subcommand?)
-}
+impl Subcommand {
+    fn command<'a>(self, alloc: Global) -> Result<Command<'a>, AllocError> {
+        let options = options(alloc)?;
+        let mut command = Command::new(alloc, self.name)
+            .about(self.about)
+            .args(options)?;
+        if self.has_file {
+            command = command.arg(file(alloc))?;
+        }
+        command.arg(self.words(alloc))
+    }
 
-fn info<'a>(alloc: Global) -> Result<Command<'a>, AllocError> {
-    let about = "Tells what files say: their names, codespace ranges, declarations and layers";
-    let files = files(alloc, "FILE", "CMap files; - is the standard input");
-    with_options(alloc, Command::new(alloc, "info").about(about).arg(files)?)
-}
-
-fn check<'a>(alloc: Global) -> Result<Command<'a>, AllocError> {
-    let about = "Says of each file whether it is right, or where it is wrong and why";
-    let help = "CMap files, and folders of them; - is the standard input";
-    let files = files(alloc, "FILE|FOLDER", help);
-    with_options(alloc, Command::new(alloc, "check").about(about).arg(files)?)
-}
-
-fn decode<'a>(alloc: Global) -> Result<Command<'a>, AllocError> {
-    let about = "Tells the codes of strings, with their CIDs and their texts";
-    let help = "Strings, two hexadecimal digits a byte; - reads them from the standard input";
-    let command = Command::new(alloc, "decode").about(about);
-    with_words(alloc, command, words(alloc, "HEX", help))
-}
-
-fn lookup<'a>(alloc: Global) -> Result<Command<'a>, AllocError> {
-    let about = "Tells the CIDs and the texts of single codes";
-    let help = "L:HEX for the CID of a code of L bytes, bf:HEX for the text of a code";
-    let command = Command::new(alloc, "lookup").about(about);
-    with_words(alloc, command, words(alloc, "WORD", help))
-}
-
-/// A subcommand over one file, and what is asked of it.
-fn with_words<'a>(
-    alloc: Global,
-    command: Command<'a>,
-    words: Arg<'a>,
-) -> Result<Command<'a>, AllocError> {
-    with_options(alloc, command.arg(file(alloc))?.arg(words)?)
+    fn words<'a>(self, alloc: Global) -> Arg<'a> {
+        Arg::new(alloc, self.id)
+            .value_name(self.value_name)
+            .help(self.help)
+            .required(true)
+            .action(ArgAction::Append)
+            .num_args(1..)
+    }
 }
 
 fn file<'a>(alloc: Global) -> Arg<'a> {
@@ -72,25 +100,9 @@ fn file<'a>(alloc: Global) -> Arg<'a> {
         .help("A CMap file; - is the standard input")
 }
 
-fn files<'a>(alloc: Global, name: &'a str, help: &'a str) -> Arg<'a> {
-    several(Arg::new(alloc, "FILE").value_name(name).help(help))
-}
-
-fn words<'a>(alloc: Global, name: &'a str, help: &'a str) -> Arg<'a> {
-    several(Arg::new(alloc, "WORD").value_name(name).help(help))
-}
-
-/// One value or more.
-fn several(arg: Arg<'_>) -> Arg<'_> {
-    arg.required(true).action(ArgAction::Append).num_args(1..)
-}
-
 /// The options that each subcommand has.
-fn with_options<'a>(alloc: Global, command: Command<'a>) -> Result<Command<'a>, AllocError> {
-    let command = command.arg(base(alloc))?;
-    let command = command.arg(bundle(alloc))?;
-    let command = command.arg(budget(alloc))?;
-    command.arg(json(alloc))
+fn options<'a>(alloc: Global) -> Result<Vec<Arg<'a>>, AllocError> {
+    Ok(vec![in alloc; base(alloc), bundle(alloc), budget(alloc), json(alloc)]?)
 }
 
 fn base<'a>(alloc: Global) -> Arg<'a> {

@@ -15,19 +15,33 @@ pub(crate) fn decode(
     library: &Library<'_>,
 ) -> anyhow::Result<u8> {
     let strings = strings_of(rt, options.words)?;
-    let Some(map) = map_asked(rt, options, library)? else {
-        return Ok(REFUSED);
-    };
-    let Some(name) = texts_name(&map) else {
-        return decode_all(rt, &map, None, &strings, options.json);
-    };
-    let Some(bytes) = library.file(name.as_bytes()) else {
-        return decode_all(rt, &map, None, &strings, options.json);
-    };
-    match map_of(rt, name, bytes, options.budget, library)? {
-        Some(texts) => decode_all(rt, &map, Some(&texts), &strings, options.json),
+    match map_asked(rt, options, library)? {
+        Some(map) => decode_by(rt, &map, &strings, options, library),
         None => Ok(REFUSED),
     }
+}
+
+/// Prints the codes of each string by a map, with the texts of CIDs that the library has.
+fn decode_by(
+    rt: &HostRuntime,
+    map: &CMap,
+    strings: &[Vec<u8>],
+    options: &Options<'_, '_>,
+    library: &Library<'_>,
+) -> anyhow::Result<u8> {
+    let Some((name, bytes)) = texts_file(map, library) else {
+        return decode_all(rt, map, None, strings, options.json);
+    };
+    match map_of(rt, name, bytes, options.budget, library)? {
+        Some(texts) => decode_all(rt, map, Some(&texts), strings, options.json),
+        None => Ok(REFUSED),
+    }
+}
+
+/// The CMap from the CIDs of a map's character collection to Unicode, by its name.
+fn texts_file<'l>(map: &CMap, library: &'l Library<'_>) -> Option<(&'static str, &'l [u8])> {
+    let name = texts_name(map)?;
+    Some((name, library.file(name.as_bytes())?))
 }
 
 /// The name of the CMap from the CIDs of a map's character collection to Unicode: of the first layer
@@ -68,13 +82,17 @@ fn decode_all(
 fn strings_of(rt: &HostRuntime, words: &[&str]) -> anyhow::Result<Vec<Vec<u8>>> {
     let mut strings = Vec::new(rt.alloc());
     for word in words {
-        if *word == STANDARD_INPUT {
-            add_strings(rt, &needed(rt, word)?, &mut strings)?;
-        } else {
-            strings.push(string_of(rt, word)?)?;
-        }
+        add_word(rt, word, &mut strings)?;
     }
     Ok(strings)
+}
+
+/// Adds the string that a word spells, and for `-` those of the standard input.
+fn add_word(rt: &HostRuntime, word: &str, strings: &mut Vec<Vec<u8>>) -> anyhow::Result<()> {
+    if word == STANDARD_INPUT {
+        return add_strings(rt, &needed(rt, word)?, strings);
+    }
+    Ok(strings.push(string_of(rt, word)?)?)
 }
 
 /// Adds the strings of the standard input.

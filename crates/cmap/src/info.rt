@@ -6,6 +6,8 @@ use crate::{ACCEPTED, REFUSED};
 use cmap_library::library::Library;
 use cmap_library::uses::uses_by_layer;
 use cmap_report::info::{push_info, push_json};
+use hayro_cmap::CMap;
+use std::alloc::{AllocError, Global};
 
 /// Prints what each file says, and gives the status.
 pub(crate) fn info(
@@ -36,13 +38,26 @@ fn info_of(
     let Some(map) = map_of(rt, path, &bytes, options.budget, library)? else {
         return Ok(REFUSED);
     };
-    let uses = uses_by_layer(rt.alloc(), &bytes, library, map.layers().len())?;
-    let mut lines = String::new(rt.alloc());
-    if options.json {
-        push_json(rt.alloc(), &mut lines, path, &map, &uses)?;
-    } else {
-        push_info(&mut lines, path, &map, &uses)?;
-    }
+    let lines = lines_of(rt.alloc(), path, &bytes, &map, options.json, library)?;
     print!(rt; "{lines}")?;
     Ok(ACCEPTED)
+}
+
+/// What a file of these bytes says, whose map this is.
+fn lines_of(
+    alloc: Global,
+    path: &str,
+    bytes: &[u8],
+    map: &CMap,
+    json: bool,
+    library: &Library<'_>,
+) -> Result<String, AllocError> {
+    let uses = uses_by_layer(alloc, bytes, library, map.layers().len())?;
+    let mut lines = String::new(alloc);
+    if json {
+        push_json(alloc, &mut lines, path, map, &uses)?;
+    } else {
+        push_info(&mut lines, path, map, &uses)?;
+    }
+    Ok(lines)
 }

@@ -7,7 +7,8 @@ use cmap_escape::escape::push_text;
 use cmap_library::folders::{files_in, name_of};
 use cmap_library::library::{Base, Library};
 use cmap_library::refused::push_refusal;
-use hayro_cmap::{Bundle, CMap};
+use hayro_cmap::{Bundle, CMap, Refusal};
+use std::alloc::AllocError;
 use std::fs;
 use std::io::{self, ErrorKind, Read};
 
@@ -22,16 +23,27 @@ pub(crate) fn library<'b>(
 ) -> anyhow::Result<Library<'b>> {
     let mut library = Library::new(rt.alloc(), bundle);
     for folder in bases {
-        let Some(paths) = readable(files_in(rt, folder))? else {
-            return Err(unreadable(rt, folder));
-        };
-        for path in &paths {
-            let name = String::from_str(rt.alloc(), name_of(path.as_str()))?;
-            let bytes = needed(rt, path.as_str())?;
-            library.add(Base { name, bytes })?;
-        }
+        add_folder(rt, folder, &mut library)?;
     }
     Ok(library)
+}
+
+/// Adds the files of a folder.
+fn add_folder(rt: &HostRuntime, folder: &str, library: &mut Library<'_>) -> anyhow::Result<()> {
+    let Some(paths) = readable(files_in(rt, folder))? else {
+        return Err(unreadable(rt, folder));
+    };
+    for path in &paths {
+        add_base(rt, path.as_str(), library)?;
+    }
+    Ok(())
+}
+
+/// Adds a file.
+fn add_base(rt: &HostRuntime, path: &str, library: &mut Library<'_>) -> anyhow::Result<()> {
+    let name = String::from_str(rt.alloc(), name_of(path))?;
+    let bytes = needed(rt, path)?;
+    Ok(library.add(Base { name, bytes })?)
 }
 
 /// The bytes of a file that a run needs; `-` is the standard input.
@@ -96,11 +108,22 @@ pub(crate) fn map_of(
         Ok(map) => Ok(Some(map)),
         Err(refusal) => {
             let mut line = String::new(rt.alloc());
-            push_text(&mut line, path)?;
-            line.push_str(": ")?;
-            push_refusal(&mut line, bytes, library, &refusal)?;
+            push_reason(&mut line, path, bytes, library, &refusal)?;
             eprintln!(rt; "cmap: {line}")?;
             Ok(None)
         }
     }
+}
+
+/// Adds why a file of these bytes is refused, after its path.
+pub(crate) fn push_reason(
+    line: &mut String,
+    path: &str,
+    bytes: &[u8],
+    library: &Library<'_>,
+    refusal: &Refusal<'_>,
+) -> Result<(), AllocError> {
+    push_text(line, path)?;
+    line.push_str(": ")?;
+    push_refusal(line, bytes, library, refusal)
 }

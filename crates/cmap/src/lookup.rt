@@ -7,6 +7,8 @@ use crate::{ACCEPTED, REFUSED};
 use cmap_library::library::Library;
 use cmap_programs::query::Query;
 use cmap_report::lookup::{push_answer, push_json};
+use hayro_cmap::CMap;
+use std::alloc::{AllocError, Global};
 
 /// Prints the answer of each word, and gives the status.
 pub(crate) fn lookup(
@@ -18,16 +20,27 @@ pub(crate) fn lookup(
     let Some(map) = map_asked(rt, options, library)? else {
         return Ok(REFUSED);
     };
-    let mut lines = String::new(rt.alloc());
-    for query in &queries {
-        if options.json {
-            push_json(rt.alloc(), &mut lines, &map, query)?;
-        } else {
-            push_answer(rt.alloc(), &mut lines, &map, query)?;
-        }
-    }
+    let lines = lines_of(rt.alloc(), &map, &queries, options.json)?;
     print!(rt; "{lines}")?;
     Ok(ACCEPTED)
+}
+
+/// The answers to queries.
+fn lines_of(
+    alloc: Global,
+    map: &CMap,
+    queries: &[Query<'_>],
+    json: bool,
+) -> Result<String, AllocError> {
+    let mut lines = String::new(alloc);
+    for query in queries {
+        if json {
+            push_json(alloc, &mut lines, map, query)?;
+        } else {
+            push_answer(alloc, &mut lines, map, query)?;
+        }
+    }
+    Ok(lines)
 }
 
 /// The queries that the words spell.

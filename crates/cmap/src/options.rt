@@ -38,14 +38,20 @@ impl<'m, 'w> Options<'m, 'w> {
 
     /// Whether several words ask for the standard input, which can be read once.
     pub(crate) fn asks_twice_for_standard_input(&self) -> bool {
-        let mut count: u64 = 0;
-        for word in self.paths.iter().chain(self.words).chain(&self.bundle) {
-            if *word == STANDARD_INPUT {
-                count = count.saturating_add(1);
-            }
-        }
-        count > 1
+        let words = count_asking(self.paths).saturating_add(count_asking(self.words));
+        words > 1 || words == 1 && self.bundle == Some(STANDARD_INPUT)
     }
+}
+
+/// How many words ask for the standard input.
+fn count_asking(words: &[&str]) -> usize {
+    let mut count: usize = 0;
+    for word in words {
+        if *word == STANDARD_INPUT {
+            count = count.saturating_add(1);
+        }
+    }
+    count
 }
 
 /// The words, none where there are none.

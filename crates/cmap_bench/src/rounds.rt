@@ -34,8 +34,8 @@ impl<'d> Work<'d> {
     pub fn new(alloc: Global, mode: Mode, data: &'d [u8]) -> Result<Work<'d>, Failure> {
         match mode {
             Mode::Parse => Ok(Work::Parse(data)),
-            Mode::Lookup => Ok(Work::Lookup(parse(alloc, data)?.ok_or(Failure::Refused)?)),
-            Mode::Bf => Ok(Work::Bf(parse(alloc, data)?.ok_or(Failure::Refused)?)),
+            Mode::Lookup => Ok(Work::Lookup(accepted(alloc, data)?)),
+            Mode::Bf => Ok(Work::Bf(accepted(alloc, data)?)),
         }
     }
 
@@ -82,6 +82,11 @@ impl<'d> Work<'d> {
             Work::Bf(map) => Ok(text_sum(alloc, map)?),
         }
     }
+}
+
+/// The map of a file that has one.
+fn accepted(alloc: Global, data: &[u8]) -> Result<CMap, Failure> {
+    parse(alloc, data)?.ok_or(Failure::Refused)
 }
 
 /// The map of a file that uses no other.

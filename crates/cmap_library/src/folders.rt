@@ -1,6 +1,6 @@
 //! The files in folders.
 
-use std::fs::{self, read_dir};
+use std::fs::{self, DirEntry, read_dir};
 use std::io;
 
 /// Whether a folder has this path.
@@ -36,13 +36,23 @@ fn list(
     folders: &mut Vec<String>,
 ) -> io::Result<()> {
     for entry in read_dir(rt, folder)? {
-        let entry = entry?;
-        let path = String::from_str(rt.alloc(), entry.path().as_str())?;
-        if entry.file_type()?.is_dir() {
-            folders.push(path)?;
-        } else if !is_folder(rt, path.as_str()) {
-            files.push(path)?;
-        }
+        add(rt, &entry?, files, folders)?;
+    }
+    Ok(())
+}
+
+/// Adds an entry of a folder to the files or to the folders.
+fn add(
+    rt: &HostRuntime,
+    entry: &DirEntry,
+    files: &mut Vec<String>,
+    folders: &mut Vec<String>,
+) -> io::Result<()> {
+    let path = String::from_str(rt.alloc(), entry.path().as_str())?;
+    if entry.file_type()?.is_dir() {
+        folders.push(path)?;
+    } else if !is_folder(rt, path.as_str()) {
+        files.push(path)?;
     }
     Ok(())
 }

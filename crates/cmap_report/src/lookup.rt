@@ -24,14 +24,27 @@ pub fn push_answer(
     map: &CMap,
     query: &Query<'_>,
 ) -> Result<(), AllocError> {
-    let word = word_of(alloc, query)?;
-    write!(out, "{word:<13}")?;
-    match answer_of(alloc, map, query)? {
-        Answer::Cid(Some(cid)) => write!(out, "{cid}")?,
-        Answer::Cid(None) => out.push('-')?,
-        Answer::Text(text) => push_text_or_dash(out, &text)?,
-    }
+    push_word(alloc, out, query)?;
+    push_answer_alone(alloc, out, map, query)?;
     out.push('\n')
+}
+
+fn push_word(alloc: Global, out: &mut String, query: &Query<'_>) -> Result<(), AllocError> {
+    let word = word_of(alloc, query)?;
+    write!(out, "{word:<13}")
+}
+
+fn push_answer_alone(
+    alloc: Global,
+    out: &mut String,
+    map: &CMap,
+    query: &Query<'_>,
+) -> Result<(), AllocError> {
+    match answer_of(alloc, map, query)? {
+        Answer::Cid(Some(cid)) => write!(out, "{cid}"),
+        Answer::Cid(None) => out.push('-'),
+        Answer::Text(text) => push_text_or_dash(out, &text),
+    }
 }
 
 /// Adds the object of a query, and ends the line.
