@@ -1,15 +1,7 @@
--- What a call that reads answers, by what the calls that it makes answer.
-use Rattle.std.proofs.Common.{◌≡◌, refl, ap, ◌∙◌, Ok, Err}
-use Rattle.std.specs.Prelude.{Result, IsErrAnd}
+-- What a segment says, by the one value that is read of it.
+use Rattle.std.proofs.Common.{refl, ap, ◌∙◌}
 use Rattle.cmap_files.specs.Only.{IsOnly, HoldsOfNone}
-use Rattle.cmap_files.specs.Outcomes.{IsRefusal, Outcome}
-use Rattle.cmap_files.specs.declared.fault.Fault.{Fault}
 use Rattle.cmap_binary.specs.BinaryFiles.{Content, Made}
-
--- the error of a call, passed on by `?`
-pub passed : {A : Type 0} {N M : Type 0} (S : A → Type 0) (result : Result A Fault) (fault : Fault) → IsErrAnd result (λ e. e ≡ fault) → (IsRefusal fault → M) → (M → N) → Outcome S N result
-passed S (Ok x) fault is refused none = absurd is
-passed S (Err error) fault is refused none = (tt, λ e. none (refused (rw is at e)))
 
 -- what is made of a value
 pub made_none : {A : Type 0} {reads : A → Type 0} {make : A → Content} → HoldsOfNone reads → HoldsOfNone (Made reads make)

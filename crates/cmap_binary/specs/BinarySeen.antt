@@ -6,6 +6,7 @@ use Rattle.cmap_files.specs.ListsAppended.{append_lists}
 use Rattle.cmap_files.specs.Only.{IsOnly, HoldsOfNone}
 use Rattle.cmap_files.specs.Outcomes.{Succeeds}
 use Rattle.cmap_files.specs.declared.fault.Fault.{Fault}
+use Rattle.cmap_files.specs.declared.fault.Reason.{Reason}
 use Rattle.cmap_binary.specs.Bundles.{PrefixTables}
 use Rattle.cmap_binary.specs.BinaryFiles as files
 use Rattle.cmap_binary.specs.BinaryFiles.{Content, declares, uses, sets_mode, sets_name, sets_collection, SegmentAt, file_of}
@@ -39,7 +40,7 @@ pub record SaysContent (reads : Content → Type 0) (old new : File) : Type 0 wh
   pub says : new ≡ with_content old content
 
 -- a call that adds what it reads to a file
-abbrev pub Adds : (Content → Type 0) → File → File → Result Unit Fault → Type 0
+abbrev pub Adds : (Content → Type 0) → File → File → Result Unit (Fault Reason) → Type 0
 Adds reads old new = Succeeds (SaysContent reads old new) (HoldsOfNone reads)
 
 -- the bytes are segments in a row, which say together what the file says

@@ -59,7 +59,7 @@ pub(crate) fn add_cids(
     len: CodeLength,
     mut payload: &[u8],
     file: &mut File<'_>,
-) -> Result<(), Fault>
+) -> Result<(), Fault<Reason>>
     ensures { Adds (SaysAs (tables_seen tables.now) (files.cids (shape_seen shape) (length_of len)) payload.now)
         (file_seen file.old) (file_seen file.new) result }
 {
@@ -99,7 +99,7 @@ pub(crate) fn add_texts(
     fixed: Option<u8>,
     mut payload: &[u8],
     file: &mut File<'_>,
-) -> Result<(), Fault>
+) -> Result<(), Fault<Reason>>
     ensures { Adds (SaysAs (tables_seen tables.now) (files.texts (shape_seen shape) fixed) payload.now)
         (file_seen file.old) (file_seen file.new) result }
 {
@@ -129,7 +129,7 @@ fn read_destination(
     text: &mut &[u8],
     fixed: Option<u8>,
     buffer: &mut Vec<u16>,
-) -> Result<Units, Fault>
+) -> Result<Units, Fault<Reason>>
     ensures { Reads (DestinationAt fixed text.old.now) (λ units. (units_seen units, text.new.now)) result }
 {
     match fixed {
@@ -150,7 +150,7 @@ fn read_units(
     text: &mut &[u8],
     count: u8,
     buffer: &mut Vec<u16>,
-) -> Result<Units, Fault>
+) -> Result<Units, Fault<Reason>>
     ensures { Reads (RowOf (FieldAt 2) count text.old.now) (λ units. (units_seen units, text.new.now)) result }
 {
     if count == 1 {

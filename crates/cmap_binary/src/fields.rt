@@ -19,7 +19,7 @@ use std::alloc::Global;
 /// Adds the notdef declarations of a segment with this payload: the width of their codes, their
 /// number, and the entries. Only where there is none may the width be that of no code. Payload after
 /// them is ignored.
-pub(crate) fn add_notdefs(mut payload: &[u8], file: &mut File<'_>) -> Result<(), Fault>
+pub(crate) fn add_notdefs(mut payload: &[u8], file: &mut File<'_>) -> Result<(), Fault<Reason>>
     ensures { Adds (SaysAs no_tables files.notdefs payload.now)
         (file_seen file.old) (file_seen file.new) result }
 {
@@ -59,7 +59,7 @@ fn take_notdef(text: &mut &[u8], width: u8) -> Option<CidRange>
 }
 
 /// Adds the codespace ranges of a segment with this payload. Payload after them is ignored.
-pub(crate) fn add_codespaces(mut payload: &[u8], file: &mut File<'_>) -> Result<(), Fault>
+pub(crate) fn add_codespaces(mut payload: &[u8], file: &mut File<'_>) -> Result<(), Fault<Reason>>
     ensures { Adds (SaysAs no_tables files.codespaces payload.now)
         (file_seen file.old) (file_seen file.new) result }
 {
@@ -102,7 +102,7 @@ pub(crate) fn set_collection(
     alloc: Global,
     mut payload: &[u8],
     file: &mut File<'_>,
-) -> Result<(), Fault>
+) -> Result<(), Fault<Reason>>
     ensures { Adds (SaysAs no_tables files.collection payload.now)
         (file_seen file.old) (file_seen file.new) result }
 {

@@ -12,7 +12,7 @@ ghost use Rattle.cmap_files.specs.ListsAppended.{no_file};
 use crate::bundle::{Bundle, Tables};
 use crate::pieces::take_framed;
 use crate::segments::read_segment;
-use cmap_files::fault::{Fault, FileFault, Reason};
+use cmap_files::fault::{Fault, Reason, Stop};
 use cmap_files::file::File;
 use std::alloc::Global;
 
@@ -44,11 +44,12 @@ pub fn read_binary<'d>(
     alloc: Global,
     bundle: &Bundle<'_>,
     bytes: &'d [u8],
-) -> Result<File<'d>, FileFault>
+) -> Result<File<'d>, Fault<Stop>>
     ensures { ReadsFile (IsBinaryFile (bundle_seen bundle.now).tables) file_seen bytes.now result }
 {
     let Some(body) = split_body(bytes) else {
-        return Err(Fault::Refused(Reason::Header).at(0));
+        let (offset, reason) = (0, Reason::Header);
+        return Err(Fault::Refused(Stop { offset, reason }));
     };
     let mut file = File::new(alloc);
     read_segments(alloc, &bundle.tables, body, &mut file)?;
@@ -72,7 +73,7 @@ fn read_segments<'d>(
     tables: &Tables,
     body: &'d [u8],
     file: &mut File<'d>,
-) -> Result<(), FileFault>
+) -> Result<(), Fault<Stop>>
     requires { file_seen file.old ≡ no_file }
     ensures says { IfOk result
         (λ _. IsOnly (SegmentsSay (tables_seen tables.now) body.now) (file_seen file.new)) }
@@ -83,11 +84,14 @@ fn read_segments<'d>(
     while !segments.is_empty() {
         let offset = HEADER_LEN + (body.len() - segments.len());
         let Some(segment) = take_framed(&mut segments, TYPE_LEN) else {
-            return Err(Fault::Refused(Reason::SegmentLength).at(offset));
+            let reason = Reason::SegmentLength;
+            return Err(Fault::Refused(Stop { offset, reason }));
         };
         let (number, payload) = (segment[0], &segment[SEGMENT_HEAD..]);
-        if let Err(fault) = read_segment(alloc, tables, number, payload, file) {
-            return Err(fault.at(offset));
+        match read_segment(alloc, tables, number, payload, file) {
+            Ok(()) => {}
+            Err(Fault::Refused(reason)) => return Err(Fault::Refused(Stop { offset, reason })),
+            Err(Fault::Memory) => return Err(Fault::Memory),
         }
     }
     Ok(())

@@ -23,7 +23,7 @@ pub(crate) fn read_segment<'d>(
     number: u8,
     payload: &'d [u8],
     file: &mut File<'d>,
-) -> Result<(), Fault>
+) -> Result<(), Fault<Reason>>
     ensures { Adds (IsSegment (tables_seen tables.now) number payload.now)
         (file_seen file.old) (file_seen file.new) result }
 {
@@ -40,7 +40,7 @@ fn add_content<'d>(
     kind: Kind,
     payload: &'d [u8],
     file: &mut File<'d>,
-) -> Result<(), Fault>
+) -> Result<(), Fault<Reason>>
     ensures { Adds (SaysAs (tables_seen tables.now) (kind_seen kind) payload.now)
         (file_seen file.old) (file_seen file.new) result }
 {
@@ -57,7 +57,7 @@ fn add_content<'d>(
 }
 
 /// The name of a file that is used.
-fn add_use<'d>(payload: &'d [u8], file: &mut File<'d>) -> Result<(), Fault>
+fn add_use<'d>(payload: &'d [u8], file: &mut File<'d>) -> Result<(), Fault<Reason>>
     ensures { Adds (SaysAs no_tables files.base payload.now)
         (file_seen file.old) (file_seen file.new) result }
 {
@@ -66,7 +66,7 @@ fn add_use<'d>(payload: &'d [u8], file: &mut File<'d>) -> Result<(), Fault>
 }
 
 /// The writing mode: the first byte is 0 for horizontal, 1 for vertical.
-fn set_mode(mut payload: &[u8], file: &mut File<'_>) -> Result<(), Fault>
+fn set_mode(mut payload: &[u8], file: &mut File<'_>) -> Result<(), Fault<Reason>>
     ensures { Adds (SaysAs no_tables files.mode payload.now)
         (file_seen file.old) (file_seen file.new) result }
 {
@@ -78,7 +78,7 @@ fn set_mode(mut payload: &[u8], file: &mut File<'_>) -> Result<(), Fault>
 }
 
 /// The name of the file.
-fn set_name(alloc: Global, payload: &[u8], file: &mut File<'_>) -> Result<(), Fault>
+fn set_name(alloc: Global, payload: &[u8], file: &mut File<'_>) -> Result<(), Fault<Reason>>
     ensures { Adds (SaysAs no_tables files.name payload.now)
         (file_seen file.old) (file_seen file.new) result }
 {

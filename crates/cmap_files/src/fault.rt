@@ -92,33 +92,33 @@ impl Display for Segment {
     }
 }
 
-/// Why a file gives no map.
+/// Why a call has no answer.
 #[derive(Clone, Copy)]
-pub enum Fault {
-    /// The file is outside the grammar.
-    Refused(Reason),
+pub enum Fault<R> {
+    /// What was read is refused.
+    Refused(R),
     /// A growth was refused.
     Memory,
 }
 
-impl From<AllocError> for Fault {
+impl<R> From<AllocError> for Fault<R> {
     ghost use Rattle.std.specs.Prelude.{◌≡◌};
     ghost use Rattle.cmap_files.specs.declared.fault.Fault.TheVariants.{Memory};
 
     ghost from_gives = { λ _ e. e ≡ Memory };
 
-    fn from(_fault: AllocError) -> Fault {
+    fn from(_fault: AllocError) -> Fault<R> {
         Fault::Memory
     }
 }
 
-impl<T: Drop> From<AllocFailed<T>> for Fault {
+impl<R, T: Drop> From<AllocFailed<T>> for Fault<R> {
     ghost use Rattle.std.specs.Prelude.{◌≡◌};
     ghost use Rattle.cmap_files.specs.declared.fault.Fault.TheVariants.{Memory};
 
     ghost from_gives = { λ _ e. e ≡ Memory };
 
-    fn from(_fault: AllocFailed<T>) -> Fault {
+    fn from(_fault: AllocFailed<T>) -> Fault<R> {
         Fault::Memory
     }
 }
@@ -131,39 +131,4 @@ pub struct Stop {
     /// it, its length. Of a binary file it is the start of the segment at fault.
     pub offset: usize,
     pub reason: Reason,
-}
-
-/// Why a file isn't read.
-#[derive(Clone, Copy)]
-pub enum FileFault {
-    /// The file is outside the grammar.
-    Refused(Stop),
-    /// A growth was refused.
-    Memory,
-}
-
-impl From<AllocError> for FileFault {
-    ghost use Rattle.std.specs.Prelude.{◌≡◌};
-    ghost use Rattle.cmap_files.specs.declared.fault.FileFault.TheVariants.{Memory};
-
-    ghost from_gives = { λ _ e. e ≡ Memory };
-
-    fn from(_fault: AllocError) -> FileFault {
-        FileFault::Memory
-    }
-}
-
-impl Fault {
-    ghost use Rattle.std.specs.Prelude.{◌≡◌};
-    ghost use Rattle.cmap_files.specs.Outcomes.{fault_at};
-
-    /// The fault of the file that has it after this many bytes.
-    pub fn at(self, offset: usize) -> FileFault
-        ensures { result ≡ fault_at self offset }
-    {
-        match self {
-            Fault::Refused(reason) => FileFault::Refused(Stop { offset, reason }),
-            Fault::Memory => FileFault::Memory,
-        }
-    }
 }

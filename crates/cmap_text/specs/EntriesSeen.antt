@@ -1,36 +1,34 @@
 -- Private aid: what the clauses of calls that read tokens say.
-use Rattle.std.specs.Prelude.{◌≡◌, ℕ, List, [], min, Result, Ok, Err, IfOk, IfErr}
+use Rattle.std.specs.Prelude.{◌≡◌, ℕ, List, [], min, Result, Ok, Err}
 use Rattle.cmap_tokens.specs.TokensLeft.{Left}
 use Rattle.cmap_files.specs.Files.{Declaration}
 use Rattle.cmap_files.specs.DeclarationsSeen.{lists_seen}
+use Rattle.cmap_files.specs.Outcomes.{Outcome}
 use Rattle.cmap_files.specs.declared.declarations.Lists.{Lists}
-use Rattle.cmap_files.specs.declared.fault.FileFault.{FileFault}
-use Rattle.cmap_files.specs.declared.fault.FileFault.TheVariants as file_fault
+use Rattle.cmap_files.specs.declared.fault.Fault.{Fault}
+use Rattle.cmap_files.specs.declared.fault.Stop.{Stop}
 use Rattle.cmap_text.specs.TextReading.{Found, added}
-use Rattle.cmap_text.specs.declared.refusal.Refusal.{Refusal}
-use Rattle.cmap_text.specs.declared.refusal.Refusal.TheVariants as refusal
+use Rattle.cmap_text.specs.declared.wrong_token.WrongToken.{WrongToken}
+use Rattle.cmap_text.specs.declared.wrong_token.WrongToken.TheVariants.{Last, Next}
 
--- it is refused where the reader has come to by now, after the token that was read last, or where no token comes. Of a want of memory nothing is said
-abbrev pub RefusesAt : {A : Type 0} → Left → Result A ℕ → Refusal → Type 0
-RefusesAt here found (refusal.Last reason) = found ≡ Err here.passed
-RefusesAt here found (refusal.Next reason) = (here.tokens ≡ []) × (found ≡ Err here.stop)
-RefusesAt here found refusal.Memory = Unit {0}
+-- it is refused where the reader has come to by now, after the token that was read last, or where no token comes
+abbrev pub RefusesAt : {A : Type 0} → Left → Result A ℕ → WrongToken → Type 0
+RefusesAt here found (Last reason) = found ≡ Err here.passed
+RefusesAt here found (Next reason) = (here.tokens ≡ []) × (found ≡ Err here.stop)
 
 -- the answer is what is found, as a clause sees it, and it refuses only where nothing is
-abbrev pub Gives : {A B : Type 0} → Result B ℕ → (A → B) → Left → Result A Refusal → Type 0
-Gives found seen here result = IfOk result (λ x. found ≡ Ok (seen x)) × IfErr result (RefusesAt here found)
+abbrev pub Gives : {A B : Type 0} → Result B ℕ → (A → B) → Left → Result A (Fault WrongToken) → Type 0
+Gives found seen here = Outcome (λ x. found ≡ Ok (seen x)) (RefusesAt here found)
 
 -- what is found is added to the lists
-abbrev pub Adds : {A : Type 0} → Found (List Declaration) → Lists → Lists → Left → Result A Refusal → Type 0
+abbrev pub Adds : {A : Type 0} → Found (List Declaration) → Lists → Lists → Left → Result A (Fault WrongToken) → Type 0
 Adds found before after here = Gives (added (lists_seen before) found) (λ done. (lists_seen after, here)) here
 
--- the token that was read last is refused only where this holds, and no other
-abbrev pub RefusesLast : Type 0 → Refusal → Type 0
-RefusesLast refuses (refusal.Last reason) = refuses
-RefusesLast refuses (refusal.Next reason) = ⊥
-RefusesLast refuses refusal.Memory = Unit {0}
+-- the token that was read last is wrong, and this holds
+abbrev pub IsLast : Type 0 → WrongToken → Type 0
+IsLast holds (Last reason) = holds
+IsLast holds (Next reason) = ⊥
 
 -- a file of this length is refused where nothing is found
-abbrev pub StopsAt : {A : Type 0} → ℕ → Result A ℕ → FileFault → Type 0
-StopsAt len found (file_fault.Refused stop) = (e : ℕ) × (found ≡ Err e) × (stop.offset ≡ min e len)
-StopsAt len found file_fault.Memory = Unit {0}
+abbrev pub StopsAt : {A : Type 0} → ℕ → Result A ℕ → Stop → Type 0
+StopsAt len found stop = (e : ℕ) × (found ≡ Err e) × (stop.offset ≡ min e len)

@@ -12,11 +12,11 @@ ghost use Rattle.cmap_text.specs.TextFiles as files;
 ghost use Rattle.cmap_text.specs.TextSeen.{cids_after, cids_section, code_seen};
 ghost use Rattle.cmap_text.specs.TextReading.{entry_after, list_in, text_of};
 
-use crate::refusal::Refusal;
 use crate::tokens::{Code, TokenReader, is_executable};
+use crate::wrong_token::WrongToken;
 use cmap_files::code_length::CodeLength;
 use cmap_files::declarations::{BfRange, CidRange, Codespace, Lists};
-use cmap_files::fault::Reason;
+use cmap_files::fault::{Fault, Reason};
 use cmap_files::units::Units;
 use cmap_runs::runs::Range;
 use std::alloc::AllocError;
@@ -40,13 +40,13 @@ pub(crate) fn add_codespace_range(
     reader: &mut TokenReader<'_>,
     low: Code,
     lists: &mut Lists,
-) -> Result<(), Refusal>
+) -> Result<(), Fault<WrongToken>>
     ensures { Adds (entry_after files.codespace_range (code_seen low) reader.old)
         lists.old lists.new reader.new result }
 {
     let high = reader.next_code()?;
     if low.len.count() != high.len.count() {
-        return Err(Refusal::Last(Reason::UnequalLengths));
+        return Err(Fault::Refused(WrongToken::Last(Reason::UnequalLengths)));
     }
     lists.add_codespace(Codespace {
         len: low.len,
@@ -63,7 +63,7 @@ pub(crate) fn add_cids(
     kind: CidKind,
     shape: Shape,
     lists: &mut Lists,
-) -> Result<(), Refusal>
+) -> Result<(), Fault<WrongToken>>
     ensures { Adds (entry_after (cids_section kind shape) (code_seen start) reader.old)
         lists.old lists.new reader.new result }
 {
@@ -80,7 +80,7 @@ pub(crate) fn add_bf_char(
     reader: &mut TokenReader<'_>,
     code: Code,
     lists: &mut Lists,
-) -> Result<(), Refusal>
+) -> Result<(), Fault<WrongToken>>
     ensures { Adds (entry_after files.bf_char (code_seen code) reader.old)
         lists.old lists.new reader.new result }
 {
@@ -94,7 +94,7 @@ pub(crate) fn add_bf_range(
     reader: &mut TokenReader<'_>,
     start: Code,
     lists: &mut Lists,
-) -> Result<(), Refusal>
+) -> Result<(), Fault<WrongToken>>
     ensures { Adds (entry_after files.bf_range (code_seen start) reader.old)
         lists.old lists.new reader.new result }
 {
@@ -114,7 +114,7 @@ fn add_list(
     start: u32,
     end: u32,
     lists: &mut Lists,
-) -> Result<(), Refusal>
+) -> Result<(), Fault<WrongToken>>
     ensures { Adds (list_in (end + 1 - start) start reader.old) lists.old lists.new reader.new result }
 {
     for code in u64::from(start)..u64::from(end) + 1 {
@@ -123,7 +123,7 @@ fn add_list(
     }
     let token = reader.required_token()?;
     if !is_executable(&token, b"]") {
-        return Err(Refusal::Last(Reason::BracketExpected));
+        return Err(Fault::Refused(WrongToken::Last(Reason::BracketExpected)));
     }
     Ok(())
 }
@@ -146,7 +146,11 @@ struct Filed {
 
 /// What an entry of CIDs declares: code, code, CID for a range and code, CID for a single code,
 /// filed by the length of the first code.
-fn read_cids(reader: &mut TokenReader<'_>, start: Code, shape: Shape) -> Result<Filed, Refusal>
+fn read_cids(
+    reader: &mut TokenReader<'_>,
+    start: Code,
+    shape: Shape,
+) -> Result<Filed, Fault<WrongToken>>
     ensures { Gives (cids_after shape (code_seen start) reader.old)
         (λ filed. ((length_of filed.len, cid_entry_seen filed.range), reader.new)) reader.new result }
 {

@@ -3,7 +3,7 @@
 ghost use Rattle.std.specs.Prelude.{◌≡◌, length, Ok, IfErr, IfOk};
 ghost use Rattle.cmap_files.specs.FilesSeen.{file_seen};
 ghost use Rattle.cmap_files.specs.Only.{IsOnly};
-ghost use Rattle.cmap_files.specs.Outcomes.{DecidedBy, ReadsFile};
+ghost use Rattle.cmap_files.specs.Outcomes.{DecidedBy, ReadsFile, RefusesWith};
 ghost use Rattle.cmap_files.specs.MetadataSeen.{metadata_seen};
 ghost use Rattle.cmap_tokens.specs.TokensLeft.{start_of, tokens_of};
 ghost use Rattle.cmap_text.specs.EntriesSeen.{StopsAt};
@@ -12,21 +12,21 @@ ghost use Rattle.cmap_text.specs.TextReading.{all_said};
 ghost use Rattle.cmap_text.specs.TextSeen.{said_seen, values_seen};
 
 use crate::items::{Said, read_items};
-use crate::refusal::Refusal;
 use crate::tokens::TokenReader;
-use cmap_files::fault::{Fault, FileFault};
+use crate::wrong_token::WrongToken;
+use cmap_files::fault::{Fault, Stop};
 use cmap_files::file::File;
 use cmap_files::metadata::Metadata;
 use cmap_tokens::token::{one_value_for_a_string, tokens_are_decided_by_fronts};
 use std::alloc::Global;
 
 /// What a text file says.
-pub fn read_text<'d>(alloc: Global, text: &'d [u8]) -> Result<File<'d>, FileFault>
+pub fn read_text<'d>(alloc: Global, text: &'d [u8]) -> Result<File<'d>, Fault<Stop>>
     ensures file { ReadsFile IsTextFile file_seen text.now result }
 
     // Where it is refused before its end, no text is a file that begins with the same bytes, up to
     // this offset and with the byte there.
-    ensures decided { IfErr result (DecidedBy IsTextFile text.now) }
+    ensures decided { IfErr result (RefusesWith (DecidedBy IsTextFile text.now)) }
 {
     one_value_for_a_string();
     tokens_are_decided_by_fronts();
@@ -40,21 +40,29 @@ pub fn read_text<'d>(alloc: Global, text: &'d [u8]) -> Result<File<'d>, FileFaul
 }
 
 /// Reads all that a text says, and gives what its keys say of the file.
-fn read_said<'d>(alloc: Global, text: &'d [u8], said: &mut Said<'d>) -> Result<Metadata, FileFault>
+fn read_said<'d>(
+    alloc: Global,
+    text: &'d [u8],
+    said: &mut Said<'d>,
+) -> Result<Metadata, Fault<Stop>>
     ensures says { IfOk result (λ metadata.
         (all_said (said_seen said.old) (tokens_of (start_of text.now)) ≡ Ok (said_seen said.new))
         × IsOnly (IsMetadata (values_seen said.new.values)) (metadata_seen metadata)) }
-    ensures stops { IfErr result (StopsAt (length text.now)
-        (all_said (said_seen said.old) (tokens_of (start_of text.now)))) }
+    ensures stops { IfErr result (RefusesWith (StopsAt (length text.now)
+        (all_said (said_seen said.old) (tokens_of (start_of text.now))))) }
 {
     let mut reader = TokenReader::new(alloc, text);
     // A clause sees the tokens that are left of a reader, and not whose they are.
     match read_items(&mut reader, said) {
         Ok(()) => Ok(said.values.metadata(alloc)?),
-        Err(Refusal::Last(reason)) => {
-            Err(Fault::Refused(reason).at(reader.offset().min(text.len())))
+        Err(Fault::Refused(WrongToken::Last(reason))) => {
+            let offset = reader.offset().min(text.len());
+            Err(Fault::Refused(Stop { offset, reason }))
         }
-        Err(Refusal::Next(reason)) => Err(Fault::Refused(reason).at(reader.stop().min(text.len()))),
-        Err(Refusal::Memory) => Err(FileFault::Memory),
+        Err(Fault::Refused(WrongToken::Next(reason))) => {
+            let offset = reader.stop().min(text.len());
+            Err(Fault::Refused(Stop { offset, reason }))
+        }
+        Err(Fault::Memory) => Err(Fault::Memory),
     }
 }

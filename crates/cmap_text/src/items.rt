@@ -3,17 +3,18 @@
 ghost use Rattle.std.specs.Prelude.{◌≡◌, ◌++◌, ℕ, List, [], ◌∷◌, None, Some, IfErr, OnOk};
 ghost use Rattle.std.specs.Borrow.{Bor};
 ghost use Rattle.std.specs.Option.{option_copied};
+ghost use Rattle.cmap_files.specs.Outcomes.{RefusesWith};
 ghost use Rattle.cmap_tokens.specs.TokenSeen.{token_seen};
-ghost use Rattle.cmap_text.specs.EntriesSeen.{Gives, RefusesLast};
+ghost use Rattle.cmap_text.specs.EntriesSeen.{Gives, IsLast};
 ghost use Rattle.cmap_text.specs.TextReading.{all_said, item_said, nothing_said};
 ghost use Rattle.cmap_text.specs.TextSeen.{said_seen};
 
 use crate::keys::{Key, Values};
-use crate::refusal::Refusal;
 use crate::sections::{Section, read_section};
 use crate::tokens::{TokenReader, is_executable, literal_name};
+use crate::wrong_token::WrongToken;
 use cmap_files::declarations::Lists;
-use cmap_files::fault::Reason;
+use cmap_files::fault::{Fault, Reason};
 use cmap_tokens::token::{Token, one_value_for_a_string};
 use std::alloc::Global;
 
@@ -42,25 +43,24 @@ impl<'d> Said<'d> {
 }
 
 /// Adds a use of the file that the last item names.
-fn add_use<'d>(uses: &mut Vec<&'d [u8]>, operand: Option<&'d [u8]>) -> Result<(), Refusal>
+fn add_use<'d>(uses: &mut Vec<&'d [u8]>, operand: Option<&'d [u8]>) -> Result<(), Fault<WrongToken>>
     ensures added { OnOk result ((name : Bor (List ℕ)) × (operand.entry ≡ Some name)
         × (uses.new.items ≡ uses.old.items ++ name ∷ [])) }
-    ensures refused { IfErr result (RefusesLast (option_copied operand.entry ≡ None)) }
+    ensures refused { IfErr result
+        (RefusesWith (IsLast (option_copied operand.entry ≡ None))) }
 {
     let Some(name) = operand else {
-        return Err(Refusal::Last(Reason::UseWithoutName));
+        return Err(Fault::Refused(WrongToken::Last(Reason::UseWithoutName)));
     };
-    match uses.push(name) {
-        Ok(()) => Ok(()),
-        Err(_) => Err(Refusal::Memory),
-    }
+    uses.push(name)?;
+    Ok(())
 }
 
 /// Reads all the items of a text.
 pub(crate) fn read_items<'d>(
     reader: &mut TokenReader<'d>,
     said: &mut Said<'d>,
-) -> Result<(), Refusal>
+) -> Result<(), Fault<WrongToken>>
     ensures { Gives (all_said (said_seen said.old) reader.old) (λ done. said_seen said.new)
         reader.new result }
 {
@@ -76,7 +76,7 @@ fn read_item<'d>(
     reader: &mut TokenReader<'d>,
     first: &Token<'d>,
     said: &mut Said<'d>,
-) -> Result<(), Refusal>
+) -> Result<(), Fault<WrongToken>>
     ensures { Gives (item_said (said_seen said.old) (token_seen first.now) reader.old)
         (λ done. (said_seen said.new, reader.new)) reader.new result }
 {

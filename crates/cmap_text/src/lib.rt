@@ -5,8 +5,8 @@ mod entries;
 mod file;
 mod items;
 mod keys;
-mod refusal;
 mod sections;
 mod tokens;
+mod wrong_token;
 
 pub use file::read_text;

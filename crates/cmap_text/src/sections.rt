@@ -8,9 +8,10 @@ ghost use Rattle.cmap_text.specs.TextReading.{body_in, entry_after, opened_by, s
 ghost use Rattle.cmap_text.specs.TextSeen.{code_seen, section_seen};
 
 use crate::entries::{CidKind, Shape, add_bf_char, add_bf_range, add_cids, add_codespace_range};
-use crate::refusal::Refusal;
 use crate::tokens::{Code, TokenReader, is_executable};
+use crate::wrong_token::WrongToken;
 use cmap_files::declarations::Lists;
+use cmap_files::fault::Fault;
 use cmap_tokens::token::{Token, one_value_for_a_string};
 
 /// The kinds of sections.
@@ -67,7 +68,7 @@ pub(crate) fn read_section(
     reader: &mut TokenReader<'_>,
     section: Section,
     lists: &mut Lists,
-) -> Result<(), Refusal>
+) -> Result<(), Fault<WrongToken>>
     ensures { Adds (body_in (section_seen section) reader.old) lists.old lists.new reader.new result }
 {
     one_value_for_a_string();
@@ -78,7 +79,10 @@ pub(crate) fn read_section(
 }
 
 /// The code that the next entry of a section begins with; `None` at the closer.
-fn next_start(reader: &mut TokenReader<'_>, section: Section) -> Result<Option<Code>, Refusal>
+fn next_start(
+    reader: &mut TokenReader<'_>,
+    section: Section,
+) -> Result<Option<Code>, Fault<WrongToken>>
     ensures { Gives (start_in (section_seen section) reader.old)
         (λ start. (option_map code_seen start, reader.new)) reader.new result }
 {
@@ -98,7 +102,7 @@ fn read_entry(
     section: Section,
     start: Code,
     lists: &mut Lists,
-) -> Result<(), Refusal>
+) -> Result<(), Fault<WrongToken>>
     ensures { Adds (entry_after (section_seen section) (code_seen start) reader.old)
         lists.old lists.new reader.new result }
 {

@@ -14,10 +14,10 @@ ghost use Rattle.cmap_text.specs.TextFiles.{literal_head, other};
 ghost use Rattle.cmap_text.specs.TextReading.{cid_in, code_in, code_of, destination_in, head_in, is_executable, is_literal, next_in, or_refused, token_in};
 ghost use Rattle.cmap_text.specs.TextSeen.{code_seen};
 
-use crate::refusal::Refusal;
+use crate::wrong_token::WrongToken;
 use cmap_bits::bits::Reader;
 use cmap_files::code_length::CodeLength;
-use cmap_files::fault::Reason;
+use cmap_files::fault::{Fault, Reason};
 use cmap_files::names::Cid;
 use cmap_files::units::Units;
 use cmap_tokens::token::{Number, Scanner, Token, one_value_for_a_string};
@@ -61,43 +61,43 @@ impl<'d> TokenReader<'d> {
     }
 
     /// The next token, `None` at the end of the text.
-    pub(crate) fn next_token(&mut self) -> Result<Option<Token<'d>>, Refusal>
+    pub(crate) fn next_token(&mut self) -> Result<Option<Token<'d>>, Fault<WrongToken>>
         ensures { Gives (next_in self.old) (λ found. (option_map token_seen found, self.new)) self.new result }
     {
         let Ok(found) = self.scanner.next_token() else {
-            return Err(Refusal::Next(Reason::MalformedToken));
+            return Err(Fault::Refused(WrongToken::Next(Reason::MalformedToken)));
         };
         Ok(found)
     }
 
     /// The next token, which a section needs.
-    pub(crate) fn required_token(&mut self) -> Result<Token<'d>, Refusal>
+    pub(crate) fn required_token(&mut self) -> Result<Token<'d>, Fault<WrongToken>>
         ensures { Gives (token_in self.old) (λ token. (token_seen token, self.new)) self.new result }
     {
         match self.scanner.next_token() {
             Ok(Some(token)) => Ok(token),
-            Ok(None) => Err(Refusal::Next(Reason::EndWithinSection)),
-            Err(_) => Err(Refusal::Next(Reason::MalformedToken)),
+            Ok(None) => Err(Fault::Refused(WrongToken::Next(Reason::EndWithinSection))),
+            Err(_) => Err(Fault::Refused(WrongToken::Next(Reason::MalformedToken))),
         }
     }
 
     /// The code that a token is: a string of one to four bytes.
-    pub(crate) fn code(&mut self, token: &Token<'_>) -> Result<Code, Refusal>
+    pub(crate) fn code(&mut self, token: &Token<'_>) -> Result<Code, Fault<WrongToken>>
         ensures { Gives (or_refused (code_in (token_seen token.now)) self.old)
             (λ code. (code_seen code, self.new)) self.new result }
     {
         one_value_for_a_string();
         let Token::String(string) = token else {
-            return Err(Refusal::Last(Reason::CodeExpected));
+            return Err(Fault::Refused(WrongToken::Last(Reason::CodeExpected)));
         };
         if let Some((count, number)) = string.plain_number() {
             let Some(len) = CodeLength::of(count) else {
-                return Err(Refusal::Last(Reason::CodeLength));
+                return Err(Fault::Refused(WrongToken::Last(Reason::CodeLength)));
             };
             return Ok(Code { len, number });
         }
         string.decode_into(&mut self.string)?;
-        code_of(&self.string).ok_or(Refusal::Last(Reason::CodeLength))
+        code_of(&self.string).ok_or(Fault::Refused(WrongToken::Last(Reason::CodeLength)))
     }
 
     /// The code of two bytes that comes next, where it stands as most do; `None` of any other token.
@@ -113,7 +113,7 @@ impl<'d> TokenReader<'d> {
     }
 
     /// The code that comes next.
-    pub(crate) fn next_code(&mut self) -> Result<Code, Refusal>
+    pub(crate) fn next_code(&mut self) -> Result<Code, Fault<WrongToken>>
         ensures { Gives (head_in code_in self.old) (λ code. (code_seen code, self.new)) self.new result }
     {
         if let Some(code) = self.plain_code() {
@@ -124,27 +124,27 @@ impl<'d> TokenReader<'d> {
     }
 
     /// The units of the destination that a token is: a string that isn't empty.
-    pub(crate) fn destination(&mut self, token: &Token<'_>) -> Result<Units, Refusal>
+    pub(crate) fn destination(&mut self, token: &Token<'_>) -> Result<Units, Fault<WrongToken>>
         ensures { Gives (or_refused (destination_in (token_seen token.now)) self.old)
             (λ units. (units_seen units, self.new)) self.new result }
     {
         one_value_for_a_string();
         let Token::String(string) = token else {
-            return Err(Refusal::Last(Reason::TextExpected));
+            return Err(Fault::Refused(WrongToken::Last(Reason::TextExpected)));
         };
         if let Some((len, number)) = string.plain_number() {
             return Ok(units_of_number(len, number));
         }
         string.decode_into(&mut self.string)?;
         if self.string.is_empty() {
-            return Err(Refusal::Last(Reason::TextExpected));
+            return Err(Fault::Refused(WrongToken::Last(Reason::TextExpected)));
         }
         let units = units(self.alloc, &self.string)?;
         Ok(Units::from_slice(self.alloc, &units)?)
     }
 
     /// The units of the destination that comes next.
-    pub(crate) fn next_destination(&mut self) -> Result<Units, Refusal>
+    pub(crate) fn next_destination(&mut self) -> Result<Units, Fault<WrongToken>>
         ensures { Gives (head_in destination_in self.old)
             (λ units. (units_seen units, self.new)) self.new result }
     {
@@ -157,14 +157,14 @@ impl<'d> TokenReader<'d> {
     }
 
     /// The CID that comes next: an integer of 32 bits without sign.
-    pub(crate) fn next_cid(&mut self) -> Result<Cid, Refusal>
+    pub(crate) fn next_cid(&mut self) -> Result<Cid, Fault<WrongToken>>
         ensures { Gives (head_in cid_in self.old) (λ cid. (cid, self.new)) self.new result }
     {
         let cid = match self.scanner.next_decimal() {
             Some(number) => u32::try_from(number).ok(),
             None => cid_of(&self.required_token()?),
         };
-        cid.ok_or(Refusal::Last(Reason::CidExpected))
+        cid.ok_or(Fault::Refused(WrongToken::Last(Reason::CidExpected)))
     }
 
     /// How many bytes of the text have been read.

@@ -1,11 +1,13 @@
 -- What the bytes of a file mean.
-use Rattle.std.proofs.Common.{ℕ, List, Ok, Err, inl, inr, arith}
+use Rattle.std.proofs.Common.{ℕ, List, Ok, Err, inl, inr}
 use Rattle.std.specs.Prelude.{IfErr, Result, Some}
 use Rattle.cmap_files.specs.FilesSeen.{file_seen}
 use Rattle.cmap_files.specs.Only.{IsOnly, HoldsOfNone}
-use Rattle.cmap_files.specs.Outcomes.{DecidedBy, ReadsFile}
-use Rattle.cmap_files.proofs.Outcomes.{stops_as}
-use Rattle.cmap_files.specs.declared.fault.FileFault.{FileFault}
+use Rattle.cmap_files.specs.Outcomes.{DecidedBy, ReadsFile, RefusesWith}
+use Rattle.cmap_files.proofs.Outcomes.{refused_as}
+use Rattle.cmap_files.specs.declared.fault.Fault.{Fault}
+use Rattle.cmap_files.specs.declared.fault.Fault.TheVariants.{Refused, Memory}
+use Rattle.cmap_files.specs.declared.fault.Stop.{Stop}
 use Rattle.cmap_files.specs.declared.file.File as declared
 use Rattle.cmap_files.specs.Files.{File}
 use Rattle.cmap_text.specs.TextFiles.{IsTextFile}
@@ -24,9 +26,9 @@ means_binary tables bytes file marked only = record {
 no_binary : (tables : PrefixTables) (bytes : List ℕ) → IsMarkedBinary bytes → HoldsOfNone (IsBinaryFile tables bytes) → HoldsOfNone (Means (Some tables) bytes)
 no_binary tables bytes marked none file means = elim means [ inl (_, is) ↦ none file is | inr (unmarked, _) ↦ unmarked marked ]
 
-pub reads_binary : (tables : PrefixTables) (bytes : List ℕ) (r : Result declared.File FileFault) → IsMarkedBinary bytes → ReadsFile (IsBinaryFile tables) file_seen bytes r → ReadsFile (Means (Some tables)) file_seen bytes r
+pub reads_binary : (tables : PrefixTables) (bytes : List ℕ) (r : Result declared.File (Fault Stop)) → IsMarkedBinary bytes → ReadsFile (IsBinaryFile tables) file_seen bytes r → ReadsFile (Means (Some tables)) file_seen bytes r
 reads_binary tables bytes (Ok file) marked reads = (means_binary tables bytes (file_seen file) marked reads.0, tt)
-reads_binary tables bytes (Err fault) marked reads = (tt, stops_as fault _ _ reads.1 (no_binary tables bytes marked) (omega arith))
+reads_binary tables bytes (Err fault) marked reads = (tt, refused_as fault reads.1 (λ stop stops. (no_binary tables bytes marked stops.0, stops.1)))
 
 -- all others are texts
 means_text : (tables : PrefixTables) (bytes : List ℕ) (file : File) → (IsMarkedBinary bytes → ⊥) → IsOnly (IsTextFile bytes) file → IsOnly (Means (Some tables) bytes) file
@@ -38,15 +40,16 @@ means_text tables bytes file unmarked only = record {
 no_text : (tables : PrefixTables) (bytes : List ℕ) → (IsMarkedBinary bytes → ⊥) → HoldsOfNone (IsTextFile bytes) → HoldsOfNone (Means (Some tables) bytes)
 no_text tables bytes unmarked none file means = elim means [ inl (marked, _) ↦ unmarked marked | inr (_, is) ↦ none file is ]
 
-pub reads_text : (tables : PrefixTables) (bytes : List ℕ) (r : Result declared.File FileFault) → (IsMarkedBinary bytes → ⊥) → ReadsFile IsTextFile file_seen bytes r → ReadsFile (Means (Some tables)) file_seen bytes r
+pub reads_text : (tables : PrefixTables) (bytes : List ℕ) (r : Result declared.File (Fault Stop)) → (IsMarkedBinary bytes → ⊥) → ReadsFile IsTextFile file_seen bytes r → ReadsFile (Means (Some tables)) file_seen bytes r
 reads_text tables bytes (Ok file) unmarked reads = (means_text tables bytes (file_seen file) unmarked reads.0, tt)
-reads_text tables bytes (Err fault) unmarked reads = (tt, stops_as fault _ _ reads.1 (no_text tables bytes unmarked) (omega arith))
+reads_text tables bytes (Err fault) unmarked reads = (tt, refused_as fault reads.1 (λ stop stops. (no_text tables bytes unmarked stops.0, stops.1)))
 
 -- which byte decides on a text
-pub binary_decided : (bytes : List ℕ) (r : Result declared.File FileFault) → IsMarkedBinary bytes → IfErr r (IsDecidedAsText bytes)
+pub binary_decided : (bytes : List ℕ) (r : Result declared.File (Fault Stop)) → IsMarkedBinary bytes → IfErr r (RefusesWith (IsDecidedAsText bytes))
 binary_decided bytes (Ok file) marked = tt
-binary_decided bytes (Err fault) marked = λ unmarked. absurd (unmarked marked)
+binary_decided bytes (Err (Refused stop)) marked = λ unmarked. absurd (unmarked marked)
+binary_decided bytes (Err Memory) marked = tt
 
-pub text_decided : (bytes : List ℕ) (r : Result declared.File FileFault) → IfErr r (DecidedBy IsTextFile bytes) → IfErr r (IsDecidedAsText bytes)
+pub text_decided : (bytes : List ℕ) (r : Result declared.File (Fault Stop)) → IfErr r (RefusesWith (DecidedBy IsTextFile bytes)) → IfErr r (RefusesWith (IsDecidedAsText bytes))
 text_decided bytes (Ok file) decided = tt
-text_decided bytes (Err fault) decided = λ unmarked. decided
+text_decided bytes (Err fault) decided = refused_as fault decided (λ stop decides unmarked. decides)

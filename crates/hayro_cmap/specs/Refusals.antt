@@ -6,25 +6,22 @@ use Rattle.cmap_files.specs.FilesSeen.{names_seen}
 use Rattle.cmap_binary.specs.BinaryFiles.{IsMarkedBinary}
 use Rattle.cmap_files.specs.Only.{HoldsOfNone}
 use Rattle.cmap_files.specs.Outcomes.{DecidedBy}
-use Rattle.cmap_files.specs.declared.fault.FileFault.{FileFault}
-use Rattle.cmap_files.specs.declared.fault.FileFault.TheVariants as file_fault
+use Rattle.cmap_files.specs.declared.fault.Stop.{Stop}
 use Rattle.cmap_text.specs.TextFiles.{IsTextFile}
 use Rattle.hayro_cmap.specs.Budgets.{PassesBudget, StaysWithin}
 use Rattle.hayro_cmap.specs.BytesSpent.{About, Refuses, GoesOver}
 use Rattle.hayro_cmap.specs.Layers.{AreLayers}
 use Rattle.hayro_cmap.specs.declared.refusal.Cause.{Cause}
 use Rattle.hayro_cmap.specs.declared.refusal.Cause.TheVariants.{Malformed, NoFile, ChainLength, OverBudget}
-use Rattle.hayro_cmap.specs.declared.refusal.Unresolved.{Unresolved}
-use Rattle.hayro_cmap.specs.declared.refusal.Unresolved.TheVariants.{Refused, Memory}
 
 -- bytes that aren't marked as a binary file are decided as a text: no text that begins with those up to the byte at which reading stopped, and with it, is a file
-abbrev pub IsDecidedAsText : List ℕ → FileFault → Type 0
-IsDecidedAsText bytes fault = (IsMarkedBinary bytes → ⊥) → DecidedBy IsTextFile bytes fault
+abbrev pub IsDecidedAsText : List ℕ → Stop → Type 0
+IsDecidedAsText bytes stop = (IsMarkedBinary bytes → ⊥) → DecidedBy IsTextFile bytes stop
 
 module _ (means : List ℕ → File → Type 0) (answer : List ℕ → Option (List ℕ) → Type 0) where
   -- what is wrong with a file by itself
   abbrev pub IsOwnFault : List ℕ → Cause → Type 0
-  IsOwnFault bytes (Malformed stop) = HoldsOfNone (means bytes) × (stop.offset ≤ length bytes) × IsDecidedAsText bytes (file_fault.Refused stop)
+  IsOwnFault bytes (Malformed stop) = HoldsOfNone (means bytes) × (stop.offset ≤ length bytes) × IsDecidedAsText bytes stop
   IsOwnFault bytes OverBudget = Unit {0}
   IsOwnFault bytes NoFile = ⊥
   IsOwnFault bytes ChainLength = ⊥
@@ -56,19 +53,13 @@ module _ (means : List ℕ → File → Type 0) (answer : List ℕ → Option (L
   HasNoLayers most bytes budget OverBudget = PassesBudget means answer most bytes budget
 
 -- ---- private aid
-abbrev pub unresolved_of : FileFault → Unresolved
-unresolved_of (file_fault.Refused stop) = Refused (Malformed stop)
-unresolved_of file_fault.Memory = Memory
-
 -- how a search for the layers of a file or of a use fails
-abbrev pub Fails : {Key : Type 0} → About Key → Key → Option ℕ → Option ℕ → Unresolved → Type 0
-Fails about key budget left (Refused (Malformed stop)) = Refuses about key budget left
-Fails about key budget left (Refused NoFile) = Refuses about key budget left
-Fails about key budget left (Refused ChainLength) = Refuses about key budget left
-Fails about key budget left (Refused OverBudget) = GoesOver about key budget
-Fails about key budget left Memory = Unit {0}
+abbrev pub Fails : {Key : Type 0} → About Key → Key → Option ℕ → Option ℕ → Cause → Type 0
+Fails about key budget left (Malformed stop) = Refuses about key budget left
+Fails about key budget left NoFile = Refuses about key budget left
+Fails about key budget left ChainLength = Refuses about key budget left
+Fails about key budget left OverBudget = GoesOver about key budget
 
 -- the names that are added lead to a fault
-abbrev pub Blames : (List (List ℕ) → Cause → Type 0) → List (Bor (List ℕ)) → List (Bor (List ℕ)) → Unresolved → Type 0
-Blames leads old new (Refused cause) = (names : List (List ℕ)) × (names_seen new ≡ names_seen old ++ names) × leads names cause
-Blames leads old new Memory = Unit {0}
+abbrev pub Blames : (List (List ℕ) → Cause → Type 0) → List (Bor (List ℕ)) → List (Bor (List ℕ)) → Cause → Type 0
+Blames leads old new cause = (names : List (List ℕ)) × (names_seen new ≡ names_seen old ++ names) × leads names cause

@@ -4,10 +4,11 @@ ghost use Rattle.std.specs.Prelude.{◌≡◌, OnOk, IfErr};
 ghost use Rattle.hayro_cmap.specs.Budgets.{IsOver};
 ghost use Rattle.hayro_cmap.specs.BytesSpent.{Leaves};
 ghost use Rattle.hayro_cmap.specs.declared.refusal.Cause.TheVariants.{OverBudget};
-ghost use Rattle.hayro_cmap.specs.declared.refusal.Unresolved.TheVariants.{Refused};
+ghost use Rattle.cmap_files.specs.declared.fault.Fault.TheVariants.{Refused};
 
-use crate::refusal::{Cause, Unresolved};
-use std::alloc::{AllocError, AllocFailed};
+use crate::refusal::Cause;
+use cmap_files::fault::Fault;
+use std::alloc::AllocError;
 
 /// Why a map couldn't be read within a budget.
 #[derive(Clone, Copy, Debug, PartialEq, Eq)]
@@ -29,19 +30,8 @@ impl From<AllocError> for ParseError {
     }
 }
 
-impl<T: Drop> From<AllocFailed<T>> for ParseError {
-    ghost use Rattle.std.specs.Prelude.{◌≡◌};
-    ghost use Rattle.hayro_cmap.specs.declared.budget.ParseError.TheVariants.{Memory};
-
-    ghost from_gives = { λ _ e. e ≡ Memory };
-
-    fn from(_fault: AllocFailed<T>) -> ParseError {
-        ParseError::Memory
-    }
-}
-
 /// Takes `count` bytes from what is left of a budget, if there is one.
-pub(crate) fn spend(left: &mut Option<u64>, count: usize) -> Result<(), Unresolved>
+pub(crate) fn spend(left: &mut Option<u64>, count: usize) -> Result<(), Fault<Cause>>
     ensures spent { OnOk result (Leaves left.old count left.new) }
     ensures over { IfErr result
         (λ error. (error ≡ Refused OverBudget) × IsOver left.old count) }
@@ -49,7 +39,7 @@ pub(crate) fn spend(left: &mut Option<u64>, count: usize) -> Result<(), Unresolv
     if let Some(budget) = *left {
         let count = count as u64;
         if budget < count {
-            return Err(Unresolved::Refused(Cause::OverBudget));
+            return Err(Fault::Refused(Cause::OverBudget));
         }
         *left = Some(budget - count);
     }

@@ -3,7 +3,7 @@
 ghost use Rattle.std.specs.Prelude.{◌≡◌, ◌∷◌, length, suc, IfErr, IfOk};
 ghost use Rattle.cmap_binary.specs.BundleSeen.{tables_given};
 ghost use Rattle.cmap_files.specs.FilesSeen.{file_seen, names_seen};
-ghost use Rattle.cmap_files.specs.Outcomes.{ReadsFile};
+ghost use Rattle.cmap_files.specs.Outcomes.{ReadsFile, RefusesWith};
 ghost use Rattle.hayro_cmap.specs.Answers.{IsByName};
 ghost use Rattle.hayro_cmap.specs.BytesSpent.{Resolves, of_file, of_use};
 ghost use Rattle.cmap_layers.specs.Layers.{layer_of};
@@ -12,10 +12,10 @@ ghost use Rattle.cmap_layers.specs.LayersSeen.{layers_seen};
 ghost use Rattle.hayro_cmap.specs.Refusals.{Blames, Fails, IsDecidedAsText, IsFault, IsUseFault};
 
 use crate::budget::spend;
-use crate::refusal::{Cause, Unresolved};
+use crate::refusal::Cause;
 use crate::source::Source;
 use cmap_binary::{Bundle, is_marked_binary, read_binary};
-use cmap_files::fault::FileFault;
+use cmap_files::fault::{Fault, Stop};
 use cmap_files::file::File;
 use cmap_layers::layers::Layer;
 use cmap_text::read_text;
@@ -40,22 +40,26 @@ pub(crate) fn find_layers<'a, S: Source>(
     below: u8,
     left: &mut Option<u64>,
     names: &mut Vec<&'a [u8]>,
-) -> Result<Vec<Layer>, Unresolved>
+) -> Result<Vec<Layer>, Fault<Cause>>
     requires can_ask { S.can_ask source.now }
     requires by_name { IsByName (S.answers source.now) }
     ensures found { IfOk result (λ layers. Resolves
         (of_file (Means (tables_given bundle.entry)) (S.answers source.now) (suc below))
         bytes.now (layers_seen layers.items) left.old left.new) }
     ensures stays { IfOk result (λ _. names_seen names.new.items ≡ names_seen names.old.items) }
-    ensures fails { IfErr result (Fails
+    ensures fails { IfErr result (RefusesWith (Fails
         (of_file (Means (tables_given bundle.entry)) (S.answers source.now) (suc below))
-        bytes.now left.old left.new) }
-    ensures blames { IfErr result (Blames
+        bytes.now left.old left.new)) }
+    ensures blames { IfErr result (RefusesWith (Blames
         (IsFault (Means (tables_given bundle.entry)) (S.answers source.now) (suc below) bytes.now)
-        names.old.items names.new.items) }
+        names.old.items names.new.items)) }
 {
     spend(left, bytes.len())?;
-    let file = read_file(alloc, bytes, bundle)?;
+    let file = match read_file(alloc, bytes, bundle) {
+        Ok(file) => file,
+        Err(Fault::Refused(stop)) => return Err(Fault::Refused(Cause::Malformed(stop))),
+        Err(Fault::Memory) => return Err(Fault::Memory),
+    };
     let mut base = Vec::new(alloc);
     for name in &file.uses {
         base = find_used(alloc, *name, bundle, source, below, left, names)?;
@@ -74,26 +78,26 @@ fn find_used<'a, S: Source>(
     below: u8,
     left: &mut Option<u64>,
     names: &mut Vec<&'a [u8]>,
-) -> Result<Vec<Layer>, Unresolved>
+) -> Result<Vec<Layer>, Fault<Cause>>
     requires can_ask { S.can_ask source.now }
     requires by_name { IsByName (S.answers source.now) }
     ensures found { IfOk result (λ layers. Resolves
         (of_use (Means (tables_given bundle.entry)) (S.answers source.now) below)
         name.now (layers_seen layers.items) left.old left.new) }
     ensures stays { IfOk result (λ _. names_seen names.new.items ≡ names_seen names.old.items) }
-    ensures fails { IfErr result (Fails
+    ensures fails { IfErr result (RefusesWith (Fails
         (of_use (Means (tables_given bundle.entry)) (S.answers source.now) below)
-        name.now left.old left.new) }
-    ensures blames { IfErr result (Blames
+        name.now left.old left.new)) }
+    ensures blames { IfErr result (RefusesWith (Blames
         (IsUseFault (Means (tables_given bundle.entry)) (S.answers source.now) below name.now)
-        names.old.items names.new.items) }
+        names.old.items names.new.items)) }
 {
     names.push(name)?;
     if below == 0 {
-        return Err(Unresolved::Refused(Cause::ChainLength));
+        return Err(Fault::Refused(Cause::ChainLength));
     }
     let Some(bytes) = source.file(name) else {
-        return Err(Unresolved::Refused(Cause::NoFile));
+        return Err(Fault::Refused(Cause::NoFile));
     };
     let layers = find_layers(alloc, bytes, bundle, source, below - 1, left, names)?;
     names.pop();
@@ -116,9 +120,9 @@ pub(crate) fn read_file<'d>(
     alloc: Global,
     bytes: &'d [u8],
     bundle: Option<&Bundle<'_>>,
-) -> Result<File<'d>, FileFault>
+) -> Result<File<'d>, Fault<Stop>>
     ensures reads { ReadsFile (Means (tables_given bundle.entry)) file_seen bytes.now result }
-    ensures decided { IfErr result (IsDecidedAsText bytes.now) }
+    ensures decided { IfErr result (RefusesWith (IsDecidedAsText bytes.now)) }
 {
     match bundle {
         Some(bundle) if is_marked_binary(bytes) => read_binary(alloc, bundle, bytes),

@@ -24,12 +24,12 @@ ghost use Rattle.hayro_cmap.specs.declared.budget.ParseError.TheVariants.{OverBu
 
 use crate::budget::ParseError;
 use crate::chain::{MOST_BELOW, find_layers, read_file};
-use crate::refusal::{Cause, Refusal, Unresolved};
+use crate::refusal::{Cause, Refusal};
 use crate::source::{FilesByName, Source};
 use cmap_binary::Bundle;
 use cmap_files::code_length::CodeLength;
 use cmap_files::declarations::{CidRange, Codespace, Lists};
-use cmap_files::fault::FileFault;
+use cmap_files::fault::Fault;
 use cmap_files::metadata::{CharacterCollection, CidFamily, Metadata, WritingMode};
 use cmap_files::names::{CMapName, Cid, one_name_for_a_text};
 use cmap_layers::layers::Layer;
@@ -213,8 +213,8 @@ impl CMap {
             alloc, data, bundle, source, MOST_BELOW, &mut left, &mut names,
         ) {
             Ok(layers) => Ok(Ok(CMap { layers })),
-            Err(Unresolved::Refused(cause)) => Ok(Err(Refusal { names, cause })),
-            Err(Unresolved::Memory) => Err(AllocError),
+            Err(Fault::Refused(cause)) => Ok(Err(Refusal { names, cause })),
+            Err(Fault::Memory) => Err(AllocError),
         }
     }
 
@@ -231,8 +231,8 @@ impl CMap {
     {
         match read_file(alloc, data, bundle) {
             Ok(file) => Ok(Some(file.uses)),
-            Err(FileFault::Refused(_)) => Ok(None),
-            Err(FileFault::Memory) => Err(AllocError),
+            Err(Fault::Refused(_)) => Ok(None),
+            Err(Fault::Memory) => Err(AllocError),
         }
     }
 

@@ -1,11 +1,8 @@
-//! Why a file and those that it uses have no layers.
+//! Why a file gives no map.
 
 ghost use Rattle.std.specs.Prelude.{◌≡◌};
-ghost use Rattle.hayro_cmap.specs.Refusals.{unresolved_of};
-ghost use Rattle.hayro_cmap.specs.declared.refusal.Unresolved.TheVariants.{Memory};
 
-use cmap_files::fault::{FileFault, Stop};
-use std::alloc::{AllocError, AllocFailed};
+use cmap_files::fault::Stop;
 use std::fmt::{self, Display, Formatter, Write};
 
 /// Why a file gives no map.
@@ -39,40 +36,4 @@ pub struct Refusal<'a> {
     /// used by the file before it. The top file itself has no name.
     pub names: Vec<&'a [u8]>,
     pub cause: Cause,
-}
-
-/// Why a file and those that it uses have no layers.
-#[derive(Clone, Copy)]
-pub(crate) enum Unresolved {
-    /// One of them is at fault.
-    Refused(Cause),
-    /// A growth was refused.
-    Memory,
-}
-
-impl From<FileFault> for Unresolved {
-    ghost from_gives = { λ fault e. e ≡ unresolved_of fault };
-
-    fn from(fault: FileFault) -> Unresolved {
-        match fault {
-            FileFault::Refused(stop) => Unresolved::Refused(Cause::Malformed(stop)),
-            FileFault::Memory => Unresolved::Memory,
-        }
-    }
-}
-
-impl From<AllocError> for Unresolved {
-    ghost from_gives = { λ _ e. e ≡ Memory };
-
-    fn from(_fault: AllocError) -> Unresolved {
-        Unresolved::Memory
-    }
-}
-
-impl<T: Drop> From<AllocFailed<T>> for Unresolved {
-    ghost from_gives = { λ _ e. e ≡ Memory };
-
-    fn from(_fault: AllocFailed<T>) -> Unresolved {
-        Unresolved::Memory
-    }
 }

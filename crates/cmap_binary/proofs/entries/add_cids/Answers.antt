@@ -19,13 +19,13 @@ some_cids tables shape zero text some = absurd (omega (arith, some))
 some_cids tables shape (suc m) text some = refl
 
 pub returns-in_default : goal.returns-in_default
-returns-in_default c = (tt, λ e. made_none (then_none _ _ c.in_default.ensures))
+returns-in_default c = (tt, made_none (then_none _ _ c.in_default.ensures))
 
 pub returns-then-count-eq0 : goal.returns-then-count-eq0
 returns-then-count-eq0 c = (record { content = _; only = made_only (then_only _ (rw c.if-count-eq0.true at c.in-Some.ensures) gives); says = adds_none _ }, tt)
 
 pub returns-in_default-take_columns : goal.returns-in_default-take_columns
-returns-in_default-take_columns c = (tt, λ e. made_none (then_next _ c.in-Some.ensures (rw (some_cids _ _ c.in-Some.count _ (omega arith)) (then_none _ _ c.in_default-take_columns.ensures))))
+returns-in_default-take_columns c = (tt, made_none (then_next _ c.in-Some.ensures (rw (some_cids _ _ c.in-Some.count _ (omega arith)) (then_none _ _ c.in_default-take_columns.ensures))))
 
 pub loop-index-init : goal.loop-index-init
 loop-index-init c = adds_start _ _ _ _ _
@@ -33,7 +33,7 @@ loop-index-init c = adds_start _ _ _ _ _
 pub returns-in_default-next_entry : goal.returns-in_default-next_entry
 returns-in_default-next_entry c =
     let none = adds_wrong c.loop-index.invariant (omega arith) c.in_default-next_entry.ensures in
-    (tt, λ e. made_none (then_next _ c.in-Some.ensures (rw (some_cids _ _ c.in-Some.count _ (omega arith)) (then_next _ c.in-Some-take_columns.ensures (then_none _ _ none)))))
+    (tt, made_none (then_next _ c.in-Some.ensures (rw (some_cids _ _ c.in-Some.count _ (omega arith)) (then_next _ c.in-Some-take_columns.ensures (then_none _ _ none)))))
 
 pub loop-index-preserved : goal.loop-index-preserved
 loop-index-preserved c = adds_more c.loop-index.invariant _ (omega arith) c.in-Some-next_entry.ensures (rw c.in_ok-add_cid.ensures refl)

@@ -1,14 +1,15 @@
 use Rattle.std.proofs.Common.{arith, refl}
+use Rattle.cmap_files.proofs.Outcomes.{passed_on}
 use Rattle.cmap_binary.proofs.Fronts.{gives, then_none, then_next, then_only}
-use Rattle.cmap_binary.proofs.Reading.{made_none, made_only, passed}
+use Rattle.cmap_binary.proofs.Reading.{made_none, made_only}
 use Rattle.cmap_binary.proofs.RowsAdded.{adds_start, adds_more, adds_wrong, adds_end}
 use Rattle.cmap_binary.proofs.entries.add_texts.Goals as goal
 
 pub returns-in_default : goal.returns-in_default
-returns-in_default c = (tt, λ e. made_none (then_none _ _ c.in_default.ensures))
+returns-in_default c = (tt, made_none (then_none _ _ c.in_default.ensures))
 
 pub returns-in_default-take_columns : goal.returns-in_default-take_columns
-returns-in_default-take_columns c = (tt, λ e. made_none (then_next _ c.in-Some.ensures (then_none _ _ c.in_default-take_columns.ensures)))
+returns-in_default-take_columns c = (tt, made_none (then_next _ c.in-Some.ensures (then_none _ _ c.in_default-take_columns.ensures)))
 
 pub loop-index-init : goal.loop-index-init
 loop-index-init c = adds_start _ _ _ _ _
@@ -16,12 +17,12 @@ loop-index-init c = adds_start _ _ _ _ _
 pub returns-in_default-next_range : goal.returns-in_default-next_range
 returns-in_default-next_range c =
     let none = adds_wrong c.loop-index.invariant (omega arith) (then_none _ _ c.in_default-next_range.ensures.next) in
-    (tt, λ e. made_none (then_next _ c.in-Some.ensures (then_next _ c.in-Some-take_columns.ensures (then_none _ _ none))))
+    (tt, made_none (then_next _ c.in-Some.ensures (then_next _ c.in-Some-take_columns.ensures (then_none _ _ none))))
 
 pub returns-in_err-units : goal.returns-in_err-units
 returns-in_err-units c =
-    passed _ _ _ c.from_residual-in_err-units.ensures.1 c.in_err-units.ensures.1
-    (λ none. made_none (then_next _ c.in-Some.ensures (then_next _ c.in-Some-take_columns.ensures (then_none _ _
+    passed_on _ _ _ c.from_residual-in_err-units.ensures.1 c.in_err-units.ensures.1
+    (λ reason none. made_none (then_next _ c.in-Some.ensures (then_next _ c.in-Some-take_columns.ensures (then_none _ _
     (adds_wrong c.loop-index.invariant (omega arith) (then_next _ c.in-Some-next_range.ensures.next (then_none _ _ none)))))))
 
 pub loop-index-preserved : goal.loop-index-preserved

@@ -13,7 +13,7 @@ pub returns : goal.returns
 returns c = (rw (c.in_ok-from_slice.ensures.units, c.deref.ensures.value) (row_end _ _ _ _ _ _ c.loop-index.invariant (omega arith)), tt)
 
 pub returns-in_default : goal.returns-in_default
-returns-in_default c = (tt, λ e. row_wrong (FieldAt 2) c.args.count c.args.text.now.now 0 _ _ (row_start _ _ _) (omega arith) c.in_default.ensures)
+returns-in_default c = (tt, row_wrong (FieldAt 2) c.args.count c.args.text.now.now 0 _ _ (row_start _ _ _) (omega arith) c.in_default.ensures)
 
 pub returns-in_default-take_u16 : goal.returns-in_default-take_u16
-returns-in_default-take_u16 c = (tt, λ e. row_wrong _ _ _ _ _ _ c.loop-index.invariant (omega arith) c.in_default-take_u16.ensures)
+returns-in_default-take_u16 c = (tt, row_wrong _ _ _ _ _ _ c.loop-index.invariant (omega arith) c.in_default-take_u16.ensures)

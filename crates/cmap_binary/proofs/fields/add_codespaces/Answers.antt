@@ -5,7 +5,7 @@ use Rattle.cmap_binary.proofs.RowsAdded.{adds_start, adds_more, adds_wrong, adds
 use Rattle.cmap_binary.proofs.fields.add_codespaces.Goals as goal
 
 pub returns-in_default : goal.returns-in_default
-returns-in_default c = (tt, λ e. made_none (then_none _ _ c.in_default.ensures))
+returns-in_default c = (tt, made_none (then_none _ _ c.in_default.ensures))
 
 pub loop-index-init : goal.loop-index-init
 loop-index-init c = adds_start _ _ _ _ _
@@ -13,7 +13,7 @@ loop-index-init c = adds_start _ _ _ _ _
 pub returns-in_default-take_codespace : goal.returns-in_default-take_codespace
 returns-in_default-take_codespace c =
     let none = adds_wrong c.loop-index.invariant (omega arith) c.in_default-take_codespace.ensures in
-    (tt, λ e. made_none (then_next _ c.in-Some.ensures (then_none _ _ none)))
+    (tt, made_none (then_next _ c.in-Some.ensures (then_none _ _ none)))
 
 pub loop-index-preserved : goal.loop-index-preserved
 loop-index-preserved c = adds_more c.loop-index.invariant _ (omega arith) c.in-Some-take_codespace.ensures (rw c.in_ok-add_codespace.ensures refl)

@@ -6,10 +6,10 @@ use Rattle.cmap_binary.proofs.RowsAdded.{adds_none, adds_start, adds_more, adds_
 use Rattle.cmap_binary.proofs.fields.add_notdefs.Goals as goal
 
 pub returns-in_default : goal.returns-in_default
-returns-in_default c = (tt, λ e. made_none (then_none _ _ c.in_default.ensures))
+returns-in_default c = (tt, made_none (then_none _ _ c.in_default.ensures))
 
 pub returns-in_default-take_u16 : goal.returns-in_default-take_u16
-returns-in_default-take_u16 c = (tt, λ e. made_none (then_next _ c.in-Some.ensures (then_none _ _ c.in_default-take_u16.ensures)))
+returns-in_default-take_u16 c = (tt, made_none (then_next _ c.in-Some.ensures (then_none _ _ c.in_default-take_u16.ensures)))
 
 pub returns-then-count-eq0 : goal.returns-then-count-eq0
 returns-then-count-eq0 c =
@@ -19,7 +19,7 @@ returns-then-count-eq0 c =
 pub returns-in_default-of : goal.returns-in_default-of
 returns-in_default-of c =
     let none = row_wrong (NotdefAt c.in-Some.width) _ c.take_u16.new.text.now _ _ _ (row_start _ _ _) (omega arith) (λ other (start, mid, code, more). c.in_default-of.ensures code.0) in
-    (tt, λ e. made_none (then_next _ c.in-Some.ensures (then_next _ c.in-Some-take_u16.ensures (then_none _ _ none))))
+    (tt, made_none (then_next _ c.in-Some.ensures (then_next _ c.in-Some-take_u16.ensures (then_none _ _ none))))
 
 pub loop-index-init : goal.loop-index-init
 loop-index-init c = adds_start _ _ _ _ _
@@ -27,7 +27,7 @@ loop-index-init c = adds_start _ _ _ _ _
 pub returns-in_default-take_notdef : goal.returns-in_default-take_notdef
 returns-in_default-take_notdef c =
     let none = adds_wrong c.loop-index.invariant (omega arith) c.in_default-take_notdef.ensures in
-    (tt, λ e. made_none (then_next _ c.in-Some.ensures (then_next _ c.in-Some-take_u16.ensures (then_none _ _ none))))
+    (tt, made_none (then_next _ c.in-Some.ensures (then_next _ c.in-Some-take_u16.ensures (then_none _ _ none))))
 
 pub loop-index-preserved : goal.loop-index-preserved
 loop-index-preserved c = adds_more c.loop-index.invariant _ (omega arith) c.in-Some-take_notdef.ensures (rw (c.in_ok-add_notdef.ensures, c.in-Some-of.ensures.1) refl)

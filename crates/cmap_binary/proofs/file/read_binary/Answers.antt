@@ -7,7 +7,7 @@ use Rattle.cmap_binary.specs.BinaryFiles.{BodyOf, IsBinaryFile, SegmentAt}
 use Rattle.cmap_binary.specs.BinarySeen.{SegmentsSay}
 use Rattle.cmap_binary.specs.Fronts.{AllOf}
 use Rattle.cmap_binary.proofs.Fronts.{Continues, continues_only, continues_none}
-use Rattle.cmap_files.proofs.Outcomes.{file_passed_on}
+use Rattle.cmap_files.proofs.Outcomes.{passed_on}
 use Rattle.cmap_binary.proofs.file.read_binary.Goals as goal
 
 no_body : (tables : PrefixTables) (bytes : List ℕ) → HoldsOfNone (BodyOf bytes) → HoldsOfNone (IsBinaryFile tables bytes)
@@ -26,12 +26,14 @@ body_within : (bytes body : List ℕ) → BodyOf bytes body → 10 + length body
 body_within bytes body (file, after, (size, rest, field, (filled, split)), (head, is)) = omega (arith, split.3, split.4, filled, ap length is, length-drop 10 file)
 
 pub returns-in_default : goal.returns-in_default
-returns-in_default c = (tt, rw c.at.ensures (no_body _ _ c.in_default.ensures, omega arith))
+returns-in_default c = (tt, (no_body _ _ c.in_default.ensures, omega arith))
 
 pub returns-in_err-read_segments : goal.returns-in_err-read_segments
 returns-in_err-read_segments c =
-    file_passed_on _ _ _ _ _ c.from_residual.ensures.1 c.in_err-read_segments.ensures.stops
-    (λ none. continues_none (body_says (tables_seen c.args.bundle.now.tables) _ _ c.in-Some.ensures) none) (body_within _ _ c.in-Some.ensures.holds)
+    passed_on _ _ _ c.from_residual.ensures.1 c.in_err-read_segments.ensures.stops (λ stop stops. (
+      continues_none (body_says (tables_seen c.args.bundle.now.tables) _ _ c.in-Some.ensures) stops.0,
+      omega (arith, stops.1, body_within _ _ c.in-Some.ensures.holds),
+    ))
 
 pub returns : goal.returns
 returns c =

@@ -3,7 +3,6 @@ use Rattle.std.specs.Prelude.{slice_index}
 use Rattle.std.proofs.lemmas.List.{take_rest}
 use Rattle.cmap_files.specs.Files.{File}
 use Rattle.cmap_files.specs.Only.{IsOnly, HoldsOfNone}
-use Rattle.cmap_files.proofs.Outcomes.{stops_at}
 use Rattle.cmap_binary.specs.Bundles.{PrefixTables}
 use Rattle.cmap_binary.specs.BinaryFiles.{Content, IsSegment, SegmentAt, file_of}
 use Rattle.cmap_binary.specs.BinarySeen.{SegmentsSay, with_content}
@@ -38,15 +37,16 @@ loop-segments-init c = (record { contents = []; row = record { made = λ more al
 
 pub returns-in_default-clause-stops : goal.returns-in_default-clause-stops
 returns-in_default-clause-stops c =
-    rw c.at.ensures (says_none c.loop-segments.invariant.0 (filled c.loop-segments-test.ensures) (then_none _ _ c.in_default.ensures), omega arith)
+    (says_none c.loop-segments.invariant.0 (filled c.loop-segments-test.ensures) (then_none _ _ c.in_default.ensures), omega arith)
 
-pub returns-in-Err-clause-stops : goal.returns-in-Err-clause-stops
-returns-in-Err-clause-stops c =
-    rw c.at-in-Err.ensures (stops_at c.in-Err.fault _ _ c.in-Err.ensures.1 (λ none. says_none c.loop-segments.invariant.0 (filled c.loop-segments-test.ensures) (then_next _ c.in-Some.ensures (λ other at. (rw take_rest at none) other.0 at.0))) (omega (arith, c.loop-segments.invariant.1)))
+pub returns-in-Err-Refused-clause-stops : goal.returns-in-Err-Refused-clause-stops
+returns-in-Err-Refused-clause-stops c =
+    let none = rw (take_rest, c.in-Err-Refused.field-0-is) at c.in-Err-Refused.ensures.1 in
+    (says_none c.loop-segments.invariant.0 (filled c.loop-segments-test.ensures) (then_next _ c.in-Some.ensures (λ other at. none other.0 at.0)), omega (arith, c.loop-segments.invariant.1))
 
 pub loop-segments-preserved : goal.loop-segments-preserved
 loop-segments-preserved c =
-    let content = c.in_default-read_segment.ensures.0 in (
+    let content = c.in-Ok.ensures.0 in (
       says_more c.loop-segments.invariant.0 _ (filled c.loop-segments-test.ensures) (segment_only _ _ _ _ _ c.in-Some.ensures (rw take_rest at content.only)) content.says,
       omega (arith, framed_within 1 c.in-Some.ensures.holds, c.loop-segments.invariant.1),
     )

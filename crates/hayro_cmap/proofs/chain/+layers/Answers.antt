@@ -1,28 +1,31 @@
-use Rattle.std.proofs.Common.{refl, ◌∙◌, ◌-◌, arith}
+use Rattle.std.proofs.Common.{refl, sym, ◌∙◌, ◌-◌, [], append-nil, arith}
 use Rattle.cmap_binary.specs.BundleSeen.{tables_given}
 use Rattle.cmap_files.specs.FilesSeen.{file_seen, names_seen}
 use Rattle.hayro_cmap.specs.Layers.{Means}
-use Rattle.hayro_cmap.proofs.Blamed.{blames_file, blames_here, blames_missing, blames_use, err_gives, fails_as, file_fails, used_at}
+use Rattle.cmap_files.proofs.Outcomes.{refuses_on}
+use Rattle.hayro_cmap.proofs.Blamed.{blames_file, blames_missing, blames_use, fails_as, used_at}
 use Rattle.hayro_cmap.proofs.OneUse.{Resolves-answered, Refuses-answered, Refuses-unanswered, GoesOver-answered}
 use Rattle.hayro_cmap.proofs.UsesInOrder.{AreUsed-none, AreUsed-at, AreUsed-end, AreUsed-more, Resolves-used, Refuses-used, GoesOver-used}
-use Rattle.hayro_cmap.proofs.WholeFile.{Resolves-file, Refuses-file, GoesOver-file, GoesOver-here}
+use Rattle.hayro_cmap.proofs.WholeFile.{Refuses-no_file, Resolves-file, Refuses-file, GoesOver-file, GoesOver-here}
 use Rattle.hayro_cmap.specs.declared.refusal.Cause.TheVariants.{NoFile, ChainLength}
 use Rattle.hayro_cmap.proofs.chain.+layers.Goals as goal
 
 pub find_layers-returns-in_err-spend-clause-fails : goal.find_layers-returns-in_err-spend-clause-fails
 find_layers-returns-in_err-spend-clause-fails g t c =
     let over = GoesOver-here (Means (tables_given c.args.bundle)) (g.S.Source.answers c.args.source.now) c.args.below c.args.bytes.now c.args.left.now c.in_err-spend.ensures.over.1 in
-    err_gives c.from_residual.result c.from_residual.ensures.1 (λ e is. rw (is, c.in_err-spend.ensures.over.0) over)
+    refuses_on _ _ c.from_residual.ensures.1 (rw c.in_err-spend.ensures.over.0 over) (λ cause fails. fails)
 
-pub find_layers-returns-in_err-file-clause-fails : goal.find_layers-returns-in_err-file-clause-fails
-find_layers-returns-in_err-file-clause-fails g t c =
-    let fails = file_fails (Means (tables_given c.args.bundle)) (g.S.Source.answers c.args.source.now) c.args.below c.args.bytes.now c.args.left.now c.spend.new.left _ c.in_err-file.ensures.reads.1 c.in_ok-spend.ensures.spent in
-    err_gives c.from_residual-in_err-file.result c.from_residual-in_err-file.ensures.1 (λ e is. rw is fails)
+pub find_layers-returns-in-Err-Refused-clause-fails : goal.find_layers-returns-in-Err-Refused-clause-fails
+find_layers-returns-in-Err-Refused-clause-fails g t c =
+    let stops = rw c.in-Err-Refused.field-0-is at c.in-Err-Refused.ensures.reads.1 in
+    Refuses-no_file (Means (tables_given c.args.bundle)) (g.S.Source.answers c.args.source.now) c.args.below c.args.bytes.now c.args.left.now _ stops.0 c.in_ok-spend.ensures.spent
 
-pub find_layers-returns-in_err-file-clause-blames : goal.find_layers-returns-in_err-file-clause-blames
-find_layers-returns-in_err-file-clause-blames g t c =
-    let blames = blames_here (Means (tables_given c.args.bundle)) (g.S.Source.answers c.args.source.now) c.args.below c.args.bytes.now c.args.names.now.items _ c.in_err-file.ensures.reads.1 c.in_err-file.ensures.decided in
-    err_gives c.from_residual-in_err-file.result c.from_residual-in_err-file.ensures.1 (λ e is. rw is blames)
+pub find_layers-returns-in-Err-Refused-clause-blames : goal.find_layers-returns-in-Err-Refused-clause-blames
+find_layers-returns-in-Err-Refused-clause-blames g t c =
+    let is = c.in-Err-Refused.field-0-is in
+    let stops = rw is at c.in-Err-Refused.ensures.reads.1 in
+    let decided = rw is at c.in-Err-Refused.ensures.decided in
+    rw is ([], sym (append-nil (names_seen c.args.names.now.items)), (stops.0, stops.1, decided))
 
 pub find_layers-loop-name-init : goal.find_layers-loop-name-init
 find_layers-loop-name-init g t c = (rw c.new-base.ensures.items (AreUsed-none (names_seen c.deref-name-items.result.now) c.spend.new.left), refl)
@@ -33,22 +36,20 @@ find_layers-loop-name-preserved g t c = (AreUsed-more (AreUsed-at c.loop-name.na
 pub find_layers-returns-in_err-base-clause-fails : goal.find_layers-returns-in_err-base-clause-fails
 find_layers-returns-in_err-base-clause-fails g t c =
     let used = AreUsed-at c.loop-name.name-index c.deref-name-items.ensures.value c.loop-name.invariant.0 c.loop-name-test.true in
-    let fails = fails_as c.in_err-base.field-0.0
-    (λ refused. Refuses-file (Means (tables_given c.args.bundle)) (g.S.Source.answers c.args.source.now) c.args.below c.args.bytes.now c.args.left.now (file_seen c.in_ok-file.file) c.spend.new.left c.in_ok-file.ensures.reads.0 c.in_ok-spend.ensures.spent c.find_used.new.left (Refuses-used used refused))
-    (λ over. GoesOver-file (Means (tables_given c.args.bundle)) (g.S.Source.answers c.args.source.now) c.args.below c.args.bytes.now c.args.left.now (file_seen c.in_ok-file.file) c.spend.new.left c.in_ok-file.ensures.reads.0 c.in_ok-spend.ensures.spent (GoesOver-used used over))
-    c.in_err-base.ensures.fails in
-    err_gives c.from_residual-in_err-base.result c.from_residual-in_err-base.ensures.1 (λ e is. rw is fails)
+    refuses_on _ _ c.from_residual-in_err-base.ensures.1 c.in_err-base.ensures.fails (fails_as
+    (λ refused. Refuses-file (Means (tables_given c.args.bundle)) (g.S.Source.answers c.args.source.now) c.args.below c.args.bytes.now c.args.left.now (file_seen c.in-Ok.file) c.spend.new.left c.in-Ok.ensures.reads.0 c.in_ok-spend.ensures.spent c.find_used.new.left (Refuses-used used refused))
+    (λ over. GoesOver-file (Means (tables_given c.args.bundle)) (g.S.Source.answers c.args.source.now) c.args.below c.args.bytes.now c.args.left.now (file_seen c.in-Ok.file) c.spend.new.left c.in-Ok.ensures.reads.0 c.in_ok-spend.ensures.spent (GoesOver-used used over)))
 
 pub find_layers-returns-in_err-base-clause-blames : goal.find_layers-returns-in_err-base-clause-blames
 find_layers-returns-in_err-base-clause-blames g t c =
     let uses = used_at _ _ c.loop-name.name-index c.deref-name-items.ensures.value c.loop-name-test.true in
-    let blames = blames_file (Means (tables_given c.args.bundle)) (g.S.Source.answers c.args.source.now) c.args.below c.args.bytes.now _ _ _ (file_seen c.in_ok-file.file) _ c.in_err-base.field-0.0 c.loop-name.invariant.1 c.in_ok-file.ensures.reads.0.holds uses c.in_err-base.ensures.blames in
-    err_gives c.from_residual-in_err-base.result c.from_residual-in_err-base.ensures.1 (λ e is. rw is blames)
+    refuses_on _ _ c.from_residual-in_err-base.ensures.1 c.in_err-base.ensures.blames
+    (blames_file (Means (tables_given c.args.bundle)) (g.S.Source.answers c.args.source.now) c.args.below c.args.bytes.now _ _ _ (file_seen c.in-Ok.file) _ c.loop-name.invariant.1 c.in-Ok.ensures.reads.0.holds uses)
 
 pub find_layers-returns-clause-found : goal.find_layers-returns-clause-found
 find_layers-returns-clause-found g t c =
     let used = AreUsed-end c.loop-name.name-index c.deref-name-items.ensures.value c.loop-name.invariant.0 c.loop-name-test.false in
-    rw c.in_ok-put_over.ensures (Resolves-file (Means (tables_given c.args.bundle)) (g.S.Source.answers c.args.source.now) c.args.below c.args.bytes.now c.args.left.now (file_seen c.in_ok-file.file) c.spend.new.left c.in_ok-file.ensures.reads.0 c.in_ok-spend.ensures.spent _ _ (Resolves-used used))
+    rw c.in_ok-put_over.ensures (Resolves-file (Means (tables_given c.args.bundle)) (g.S.Source.answers c.args.source.now) c.args.below c.args.bytes.now c.args.left.now (file_seen c.in-Ok.file) c.spend.new.left c.in-Ok.ensures.reads.0 c.in_ok-spend.ensures.spent _ _ (Resolves-used used))
 
 pub find_layers-returns-clause-stays : goal.find_layers-returns-clause-stays
 find_layers-returns-clause-stays g t c = c.loop-name.invariant.1
@@ -68,17 +69,15 @@ find_used-returns-in_default-clause-blames g t c =
 pub find_used-returns-in_err-layers-clause-fails : goal.find_used-returns-in_err-layers-clause-fails
 find_used-returns-in_err-layers-clause-fails g t c =
     let said = rw c.in-Some.is at c.file.ensures in
-    let fails = fails_as c.in_err-layers.field-0.0
+    refuses_on _ _ c.from_residual-in_err-layers.ensures.1 c.in_err-layers.ensures.fails (fails_as
     (Refuses-answered (Means (tables_given c.args.bundle)) (g.S.Source.answers c.args.source.now) c.requires.by_name c.args.name.now c.args.left.now c.args.below (c.args.below - 1) (omega arith) c.in-Some.bytes.now said _)
-    (GoesOver-answered (Means (tables_given c.args.bundle)) (g.S.Source.answers c.args.source.now) c.requires.by_name c.args.name.now c.args.left.now c.args.below (c.args.below - 1) (omega arith) c.in-Some.bytes.now said)
-    c.in_err-layers.ensures.fails in
-    err_gives c.from_residual-in_err-layers.result c.from_residual-in_err-layers.ensures.1 (λ e is. rw is fails)
+    (GoesOver-answered (Means (tables_given c.args.bundle)) (g.S.Source.answers c.args.source.now) c.requires.by_name c.args.name.now c.args.left.now c.args.below (c.args.below - 1) (omega arith) c.in-Some.bytes.now said))
 
 pub find_used-returns-in_err-layers-clause-blames : goal.find_used-returns-in_err-layers-clause-blames
 find_used-returns-in_err-layers-clause-blames g t c =
     let said = rw c.in-Some.is at c.file.ensures in
-    let blames = blames_use (Means (tables_given c.args.bundle)) (g.S.Source.answers c.args.source.now) c.args.below (c.args.below - 1) _ _ _ c.args.name c.in-Some.bytes.now c.in_err-layers.field-0.0 (omega arith) c.in_ok-push.ensures.items said c.in_err-layers.ensures.blames in
-    err_gives c.from_residual-in_err-layers.result c.from_residual-in_err-layers.ensures.1 (λ e is. rw is blames)
+    refuses_on _ _ c.from_residual-in_err-layers.ensures.1 c.in_err-layers.ensures.blames
+    (blames_use (Means (tables_given c.args.bundle)) (g.S.Source.answers c.args.source.now) c.args.below (c.args.below - 1) _ _ _ c.args.name c.in-Some.bytes.now (omega arith) c.in_ok-push.ensures.items said)
 
 pub find_used-returns-clause-found : goal.find_used-returns-clause-found
 find_used-returns-clause-found g t c =
