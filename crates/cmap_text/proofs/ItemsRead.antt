@@ -4,7 +4,6 @@ use Rattle.std.proofs.lemmas.Bool.{cases_Bool}
 use Rattle.std.proofs.lemmas.Option.{none-some, same_Some}
 use Rattle.std.proofs.lemmas.Slice.Eq.{bytes_eq-Decides}
 use Rattle.std.specs.Prelude.{bytes_eq, Contains, find, Option, Some, None, Result, Ok, Err, option_map}
-use Rattle.cmap_tokens.specs.TokenReading.{HaveValuesRead}
 use Rattle.cmap_tokens.specs.Tokens.{Token}
 use Rattle.cmap_tokens.specs.TokensLeft.{Left}
 use Rattle.cmap_files.specs.Files.{lists_of}
@@ -93,13 +92,13 @@ value_found old k rest value next known is = at value (next_found rest value nex
     }
     at (Some t) first = record { item = key k (Some t); more = t ∷ []; whole = first; is = (known, refl); may = tt; said = refl }
 
-module _ (strings : HaveValuesRead) (old : Said) where
+module _ (old : Said) where
   section_found : (section : Section) (rest : Left) (found : Said × Left) → giving (with_lists old) (added old.lists (body_in section rest)) ≡ Ok found → IsRest old (opening section) rest found
   unfolding body_in
   section_found section rest found is =
       let (l, lists, same) = mapped _ (added old.lists (body_in section rest)) found is in
       let (b, reads, both) = mapped _ (body_in section rest) l lists in
-      let (front, whole, (body, shape, is_body)) = body_found strings (1 + length rest.tokens) section rest b reads in
+      let (front, whole, (body, shape, is_body)) = body_found (1 + length rest.tokens) section rest b reads in
       subst (IsRest old (opening section) rest) (ap (λ q. (with_lists old q.0, q.1)) both ∙ same) (record {
         item = entries b.0;
         more = front;
@@ -196,7 +195,7 @@ module _ (strings : HaveValuesRead) (old : Said) where
         let begins = rw body_is at whole in
         let long : length (tokens_in es) < 1 + length left.tokens =
         omega (arith, length-words left, ap length begins, length-append (tokens_in es ++ closing section ∷ []) rest, length-append (tokens_in es) (closing section ∷ [])) in
-        let read = entries_are strings (1 + length left.tokens) section es rest left each long begins in
+        let read = entries_are (1 + length left.tokens) section es rest left each long begins in
         rw (section_said section left, ← same_Some (with_lists old (append_lists old.lists (lists_of declared))) new said, declares) (
         giving_found (with_lists old) (giving_found (λ d. append_lists old.lists (lists_of d)) read)
         ),
@@ -225,45 +224,44 @@ said_next count now here = at (next_in here)
     at (Ok (None, next)) = refl
     at (Ok (Some t, next)) = refl
 
-module _ (strings : HaveValuesRead) where
-  -- the items that say this
-  abbrev pub Say : Said → Left → Said → Type 0
-  Say old here said = (here.ends ≡ true) × (items : List Item) × AreItems (words here) items × (says_all old items ≡ Some said)
+-- the items that say this
+abbrev pub Say : Said → Left → Said → Type 0
+Say old here said = (here.ends ≡ true) × (items : List Item) × AreItems (words here) items × (says_all old items ≡ Some said)
 
-  found_from : (count : ℕ) → ((old : Said) (here : Left) (said : Said) → said_within count old here ≡ Ok said → Say old here said)
-      → (old : Said) (here : Left) (found : Option Token) (next : Left) (said : Said) → IsNext found here next → said_from count old found next ≡ Ok said → Say old here said
-  found_from count later old here None next said (none, ends, same) is = (ends, [], rw none refl, ap Some (same_Ok old said is))
-  found_from count later old here (Some t) next said first is =
-      let (p, item, more) = bound _ (item_said old t next) said is in
-      let rest = item_found strings old t next p item in
-      let (end, items, are, sayings) = later p.0 p.1 said more in (
-        sym first.ends ∙ sym rest.whole.ends ∙ end,
-        rest.item ∷ items,
-        (t ∷ rest.more, words p.1, first.whole ∙ ap (λ ts. t ∷ ts) rest.whole.whole, rest.is, rest.may, are),
-        rw rest.said sayings,
-      )
+found_from : (count : ℕ) → ((old : Said) (here : Left) (said : Said) → said_within count old here ≡ Ok said → Say old here said)
+    → (old : Said) (here : Left) (found : Option Token) (next : Left) (said : Said) → IsNext found here next → said_from count old found next ≡ Ok said → Say old here said
+found_from count later old here None next said (none, ends, same) is = (ends, [], rw none refl, ap Some (same_Ok old said is))
+found_from count later old here (Some t) next said first is =
+    let (p, item, more) = bound _ (item_said old t next) said is in
+    let rest = item_found old t next p item in
+    let (end, items, are, sayings) = later p.0 p.1 said more in (
+      sym first.ends ∙ sym rest.whole.ends ∙ end,
+      rest.item ∷ items,
+      (t ∷ rest.more, words p.1, first.whole ∙ ap (λ ts. t ∷ ts) rest.whole.whole, rest.is, rest.may, are),
+      rw rest.said sayings,
+    )
 
-  pub items_found : (count : ℕ) (old : Said) (here : Left) (said : Said) → said_within count old here ≡ Ok said → Say old here said
-  unfolding said_within
-  items_found zero old here said is = absurd (err-ok _ said is)
-  items_found (suc count) old here said is =
-      let (n, next, more) = bound _ (next_in here) said (sym (said_next count old here) ∙ is) in
-      found_from count (λ o h s. items_found count o h s) old here n.0 n.1 said (next_found here n.0 n.1 next) more
+pub items_found : (count : ℕ) (old : Said) (here : Left) (said : Said) → said_within count old here ≡ Ok said → Say old here said
+unfolding said_within
+items_found zero old here said is = absurd (err-ok _ said is)
+items_found (suc count) old here said is =
+    let (n, next, more) = bound _ (next_in here) said (sym (said_next count old here) ∙ is) in
+    found_from count (λ o h s. items_found count o h s) old here n.0 n.1 said (next_found here n.0 n.1 next) more
 
-  pub items_are : (items : List Item) (count : ℕ) (old : Said) (here : Left) (said : Said) → AreItems (words here) items → here.ends ≡ true → length here.tokens < count → says_all old items ≡ Some said → said_within count old here ≡ Ok said
-  items_are items zero old here said are ends long sayings = absurd (omega (arith, long))
-  items_are [] (suc count) old here said are ends long sayings =
-      said_next count old here ∙ ap (and_then (λ p. said_from count old p.0 p.1)) (end_is here are ends).is ∙ ap Ok (same_Some old said sayings)
-  items_are (item ∷ items) (suc count) old here said (front, rest, whole, is, may, are) ends long sayings =
-      let (mid, says_item, says_rest) = some_bound (λ mid. says_all mid items) (says old item) said sayings in
-      let (t, more, shape, reads) = item_is strings old front item is in
-      let begins = whole ∙ ap (λ ts. ts ++ rest) shape in
-      let first = next_is t (more ++ rest) here begins in
-      let read = reads rest first.next mid first.whole (first.ends ∙ ends) may says_item in
-      let shorter : length read.next.tokens < count =
-      omega (arith, long, ap length begins, length-append more rest, length-words here, length-words read.next, ap length read.whole) in
-      said_next count old here ∙ ap (and_then (λ p. said_from count old p.0 p.1)) first.is ∙ ap (and_then (λ p. said_within count p.0 p.1)) read.is
-      ∙ items_are items count mid read.next said (subst (λ ts. AreItems ts items) (sym read.whole) are) (read.ends ∙ first.ends ∙ ends) shorter says_rest
+pub items_are : (items : List Item) (count : ℕ) (old : Said) (here : Left) (said : Said) → AreItems (words here) items → here.ends ≡ true → length here.tokens < count → says_all old items ≡ Some said → said_within count old here ≡ Ok said
+items_are items zero old here said are ends long sayings = absurd (omega (arith, long))
+items_are [] (suc count) old here said are ends long sayings =
+    said_next count old here ∙ ap (and_then (λ p. said_from count old p.0 p.1)) (end_is here are ends).is ∙ ap Ok (same_Some old said sayings)
+items_are (item ∷ items) (suc count) old here said (front, rest, whole, is, may, are) ends long sayings =
+    let (mid, says_item, says_rest) = some_bound (λ mid. says_all mid items) (says old item) said sayings in
+    let (t, more, shape, reads) = item_is old front item is in
+    let begins = whole ∙ ap (λ ts. ts ++ rest) shape in
+    let first = next_is t (more ++ rest) here begins in
+    let read = reads rest first.next mid first.whole (first.ends ∙ ends) may says_item in
+    let shorter : length read.next.tokens < count =
+    omega (arith, long, ap length begins, length-append more rest, length-words here, length-words read.next, ap length read.whole) in
+    said_next count old here ∙ ap (and_then (λ p. said_from count old p.0 p.1)) first.is ∙ ap (and_then (λ p. said_within count p.0 p.1)) read.is
+    ∙ items_are items count mid read.next said (subst (λ ts. AreItems ts items) (sym read.whole) are) (read.ends ∙ first.ends ∙ ends) shorter says_rest
 
 -- a text as far as it is read: fewer than count tokens are left, and they decide what it says in all
 pub record IsSaying (start here : Left) (old now : Said) : Type 0 where
@@ -302,16 +300,16 @@ module _ (start here : Left) (old now : Said) (reading : IsSaying start here old
           let (count, long, same) = one_more in
           same ∙ ap (and_then (λ p. said_from count now p.0 p.1)) token ∙ ap (and_then (λ p. said_within count p.0 p.1)) none
 
-      pub IsSaying-shorter : HaveValuesRead → (mid : Left) (new : Said) → item_said now t next ≡ Ok (new, mid) → length mid.tokens < length here.tokens
-      IsSaying-shorter strings mid new is =
+      pub IsSaying-shorter : (mid : Left) (new : Said) → item_said now t next ≡ Ok (new, mid) → length mid.tokens < length here.tokens
+      IsSaying-shorter mid new is =
           let first : IsAfter (t ∷ []) here next = next_found here (Some t) next token in
-          omega (arith, fewer first, shorter_item strings now t next mid new is)
+          omega (arith, fewer first, shorter_item now t next mid new is)
 
-      pub IsSaying-more : HaveValuesRead → (mid : Left) (new : Said) → item_said now t next ≡ Ok (new, mid) → IsSaying start mid old new
-      IsSaying-more strings mid new is =
+      pub IsSaying-more : (mid : Left) (new : Said) → item_said now t next ≡ Ok (new, mid) → IsSaying start mid old new
+      IsSaying-more mid new is =
           let (count, long, same) = one_more in
           record {
             count = count;
-            long = omega (arith, long, IsSaying-shorter strings mid new is);
+            long = omega (arith, long, IsSaying-shorter mid new is);
             same = same ∙ ap (and_then (λ p. said_from count now p.0 p.1)) token ∙ ap (and_then (λ p. said_within count p.0 p.1)) is;
           }

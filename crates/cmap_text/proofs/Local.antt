@@ -2,9 +2,11 @@
 use Rattle.std.proofs.Common.{◌≡◌, ℕ, zero, suc, ◌+◌, ◌<◌, ◌≤◌, Bool, true, false, refl, sym, ap, ◌∙◌, subst, List, [], ◌∷◌, ◌++◌, take, length, arith, inl, inr}
 use Rattle.std.proofs.lemmas.Bool.{cases_Bool, cases_lt}
 use Rattle.std.specs.Prelude.{codes, ◌⊎◌, Option, Some, None, Result, Ok, Err, option_map}
-use Rattle.cmap_tokens.specs.TokenReading.{HaveValuesRead}
 use Rattle.cmap_tokens.specs.Tokens.{Token}
-use Rattle.cmap_tokens.specs.TokensLeft.{Placed, Left, AreInOrder, IsInOrder, Agree, AgreesTo, AreDecidedByFronts, HaveTheirTokens, HaveTokensInOrder, start_of, tokens_of}
+use Rattle.cmap_tokens.proofs.Decided.{in_order}
+use Rattle.cmap_tokens.proofs.Decided as fronts
+use Rattle.cmap_tokens.proofs.Fronts.{has_tokens}
+use Rattle.cmap_tokens.specs.TokensLeft.{Placed, Left, AreInOrder, IsInOrder, Agree, AgreesTo, start_of, tokens_of}
 use Rattle.cmap_files.specs.Files.{CidEntry, Declaration}
 use Rattle.cmap_files.specs.Only.{HoldsOfNone}
 use Rattle.cmap_text.specs.TextFiles.{Section, codespace_range, cid_range, cid_char, notdef_range, notdef_char, bf_range, bf_char, use_word, IsTextFile}
@@ -127,7 +129,7 @@ module _ (k : ℕ) where
   entry_local bf_char start = giving_local (text_of start.number start.number) (head_in destination_in) (head_local destination_in)
 
   -- ---- sections
-  module _ (strings : HaveValuesRead) (section : Section) where
+  module _ (section : Section) where
     abbrev AreLocal : ℕ → ℕ → Type 0
     AreLocal n m = (left other : Left) → IsInOrder left → AgreesTo k left other → length left.tokens < n → length other.tokens < m → Agrees left.passed (body_within n section left) (body_within m section other)
 
@@ -138,11 +140,11 @@ module _ (k : ℕ) where
     from_local n m later left other next mid (Some code) starts also order agrees long others_long =
         then_agrees (λ declared rest. before declared (body_within n section rest)) (λ declared rest. before declared (body_within m section rest)) next.passed (entry_after section code next) (entry_after section code mid) (entry_local section code next mid order agrees)
         (λ declared rest others entry same o a.
-        let shorter : length rest.tokens < n = omega (arith, long, shorter_after strings section left next rest code declared starts entry) in
-        let others_shorter : length others.tokens < m = omega (arith, others_long, shorter_after strings section other mid others code declared also same) in
+        let shorter : length rest.tokens < n = omega (arith, long, shorter_after section left next rest code declared starts entry) in
+        let others_shorter : length others.tokens < m = omega (arith, others_long, shorter_after section other mid others code declared also same) in
         giving_agrees _ rest.passed (body_within n section rest) (body_within m section others) (later m rest others o a shorter others_shorter))
         (λ declared rest entry o a.
-        let shorter : length rest.tokens < n = omega (arith, long, shorter_after strings section left next rest code declared starts entry) in
+        let shorter : length rest.tokens < n = omega (arith, long, shorter_after section left next rest code declared starts entry) in
         giving_agrees _ rest.passed (body_within n section rest) (body_within n section rest) (later n rest rest o a shorter shorter))
 
     body_local : (n m : ℕ) → AreLocal n m
@@ -237,75 +239,73 @@ module _ (k : ℕ) where
   said_end zero now here none ends long = absurd (omega (arith, long))
   said_end (suc n) now here none ends long = said_next n now here ∙ rw (none, ends) refl
 
-  module _ (strings : HaveValuesRead) where
-    item_local : (old : Said) (t : Token) (left other : Left) → IsInOrder left → AgreesTo k left other → AgreesOrEnds Any left.passed (item_said old t left) (item_said old t other)
-    unfolding body_in
-    item_local old t left other order agrees = section_or (opened_by t) refl
-      where
-        key_or : (name : Option (List ℕ)) → key_in t ≡ name → opened_by t ≡ None → is_executable use_word t ≡ false → AgreesOrEnds Any left.passed (item_said old t left) (item_said old t other)
-        key_or None known opens uses = rw (opens, uses, known, item_said) (order, omega arith, λ within. inr (other, refl, agrees))
-        key_or (Some name) known opens uses = rw (opens, uses, known, item_said) (giving_or_ends IsEnd (with_key old name) left.passed (next_in left) (next_in other) (next_local left other order agrees))
+  item_local : (old : Said) (t : Token) (left other : Left) → IsInOrder left → AgreesTo k left other → AgreesOrEnds Any left.passed (item_said old t left) (item_said old t other)
+  unfolding body_in
+  item_local old t left other order agrees = section_or (opened_by t) refl
+    where
+      key_or : (name : Option (List ℕ)) → key_in t ≡ name → opened_by t ≡ None → is_executable use_word t ≡ false → AgreesOrEnds Any left.passed (item_said old t left) (item_said old t other)
+      key_or None known opens uses = rw (opens, uses, known, item_said) (order, omega arith, λ within. inr (other, refl, agrees))
+      key_or (Some name) known opens uses = rw (opens, uses, known, item_said) (giving_or_ends IsEnd (with_key old name) left.passed (next_in left) (next_in other) (next_local left other order agrees))
 
-        use_or : (uses : Bool) → is_executable use_word t ≡ uses → opened_by t ≡ None → AgreesOrEnds Any left.passed (item_said old t left) (item_said old t other)
-        use_or false uses opens = key_or (key_in t) refl opens uses
-        use_or true uses opens =
-            rw (opens, uses, item_said) (agrees_or_ends left.passed _ (or_refused (option_map (with_use old) old.operand) other) (refused_local (option_map (with_use old) old.operand) left other order agrees))
+      use_or : (uses : Bool) → is_executable use_word t ≡ uses → opened_by t ≡ None → AgreesOrEnds Any left.passed (item_said old t left) (item_said old t other)
+      use_or false uses opens = key_or (key_in t) refl opens uses
+      use_or true uses opens =
+          rw (opens, uses, item_said) (agrees_or_ends left.passed _ (or_refused (option_map (with_use old) old.operand) other) (refused_local (option_map (with_use old) old.operand) left other order agrees))
 
-        section_or : (section : Option Section) → opened_by t ≡ section → AgreesOrEnds Any left.passed (item_said old t left) (item_said old t other)
-        section_or None opens = use_or (is_executable use_word t) refl opens
-        section_or (Some section) opens =
-            let body = body_local strings section (1 + length left.tokens) (1 + length other.tokens) left other order agrees (omega arith) (omega arith) in
-            rw (opens, item_said) (agrees_or_ends left.passed (giving (with_lists old) (added old.lists (body_in section left))) (giving (with_lists old) (added old.lists (body_in section other))) (
-            giving_agrees (with_lists old) left.passed (added old.lists (body_in section left)) (added old.lists (body_in section other)) (giving_agrees _ left.passed (body_in section left) (body_in section other) body)
-            ))
+      section_or : (section : Option Section) → opened_by t ≡ section → AgreesOrEnds Any left.passed (item_said old t left) (item_said old t other)
+      section_or None opens = use_or (is_executable use_word t) refl opens
+      section_or (Some section) opens =
+          let body = body_local section (1 + length left.tokens) (1 + length other.tokens) left other order agrees (omega arith) (omega arith) in
+          rw (opens, item_said) (agrees_or_ends left.passed (giving (with_lists old) (added old.lists (body_in section left))) (giving (with_lists old) (added old.lists (body_in section other))) (
+          giving_agrees (with_lists old) left.passed (added old.lists (body_in section left)) (added old.lists (body_in section other)) (giving_agrees _ left.passed (body_in section left) (body_in section other) body)
+          ))
 
-    abbrev AreSaid : ℕ → ℕ → Type 0
-    AreSaid n m = (old : Said) (left other : Left) → IsInOrder left → AgreesTo k left other → length left.tokens < n → length other.tokens < m → EndsAs left.passed (said_within n old left) (said_within m old other)
+  abbrev AreSaid : ℕ → ℕ → Type 0
+  AreSaid n m = (old : Said) (left other : Left) → IsInOrder left → AgreesTo k left other → length left.tokens < n → length other.tokens < m → EndsAs left.passed (said_within n old left) (said_within m old other)
 
-    -- after the next token, or at the end
-    said_after_token : (n m : ℕ) → ((other : ℕ) → AreSaid n other) → (old : Said) (left other next mid : Left) (first : Option Token) → next_in left ≡ Ok (first, next) → next_in other ≡ Ok (first, mid)
-        → IsInOrder next → AgreesTo k next mid → length left.tokens ≤ n → length other.tokens ≤ m → EndsAs next.passed (said_from n old first next) (said_from m old first mid)
-    said_after_token n m later old left other next mid None starts also order agrees long others_long = tt
-    said_after_token n m later old left other next mid (Some t) starts also order agrees long others_long =
-        let token : IsAfter (t ∷ []) left next = next_found left (Some t) next starts in
-        let others_token : IsAfter (t ∷ []) other mid = next_found other (Some t) mid also in
-        then_ends Any (said_within n) (said_within m) next.passed (item_said old t next) (item_said old t mid) (item_local old t next mid order agrees)
-        (λ new rest others item same o a.
-        let shorter : length rest.tokens < n = omega (arith, long, fewer token, shorter_item strings old t next rest new item) in
-        let others_shorter : length others.tokens < m = omega (arith, others_long, fewer others_token, shorter_item strings old t mid others new same) in
-        later m new rest others o a shorter others_shorter)
-        (λ new rest item o a.
-        let shorter : length rest.tokens < n = omega (arith, long, fewer token, shorter_item strings old t next rest new item) in
-        later n new rest rest o a shorter shorter)
-        (λ new rest item last none ends.
-        let shorter : length rest.tokens < n = omega (arith, long, fewer token, shorter_item strings old t next rest new item) in
-        (new, said_end n new rest none ends shorter))
+  -- after the next token, or at the end
+  said_after_token : (n m : ℕ) → ((other : ℕ) → AreSaid n other) → (old : Said) (left other next mid : Left) (first : Option Token) → next_in left ≡ Ok (first, next) → next_in other ≡ Ok (first, mid)
+      → IsInOrder next → AgreesTo k next mid → length left.tokens ≤ n → length other.tokens ≤ m → EndsAs next.passed (said_from n old first next) (said_from m old first mid)
+  said_after_token n m later old left other next mid None starts also order agrees long others_long = tt
+  said_after_token n m later old left other next mid (Some t) starts also order agrees long others_long =
+      let token : IsAfter (t ∷ []) left next = next_found left (Some t) next starts in
+      let others_token : IsAfter (t ∷ []) other mid = next_found other (Some t) mid also in
+      then_ends Any (said_within n) (said_within m) next.passed (item_said old t next) (item_said old t mid) (item_local old t next mid order agrees)
+      (λ new rest others item same o a.
+      let shorter : length rest.tokens < n = omega (arith, long, fewer token, shorter_item old t next rest new item) in
+      let others_shorter : length others.tokens < m = omega (arith, others_long, fewer others_token, shorter_item old t mid others new same) in
+      later m new rest others o a shorter others_shorter)
+      (λ new rest item o a.
+      let shorter : length rest.tokens < n = omega (arith, long, fewer token, shorter_item old t next rest new item) in
+      later n new rest rest o a shorter shorter)
+      (λ new rest item last none ends.
+      let shorter : length rest.tokens < n = omega (arith, long, fewer token, shorter_item old t next rest new item) in
+      (new, said_end n new rest none ends shorter))
 
-    said_local : (n m : ℕ) → AreSaid n m
-    said_local zero m old left other order agrees long others_long = absurd (omega (arith, long))
-    said_local (suc n) zero old left other order agrees long others_long = absurd (omega (arith, others_long))
-    said_local (suc n) (suc m) old left other order agrees long others_long =
-        rw (said_next n old left, said_next m old other) (
-        then_ends IsEnd (said_from n old) (said_from m old) left.passed (next_in left) (next_in other) (next_local left other order agrees)
-        (λ first next mid starts also o a. said_after_token n m (λ j. said_local n j) old left other next mid first starts also o a (omega (arith, long)) (omega (arith, others_long)))
-        (λ first next starts o a. said_after_token n n (λ j. said_local n j) old left left next next first starts starts o a (omega (arith, long)) (omega (arith, long)))
-        (λ first next starts last none ends. ended first next last)
-        )
-      where
-        ended : (first : Option Token) (next : Left) → IsEnd first → (said : Said) × (said_from n old first next ≡ Ok said)
-        ended None next last = (old, refl)
-        ended (Some t) next last = absurd last
+  said_local : (n m : ℕ) → AreSaid n m
+  said_local zero m old left other order agrees long others_long = absurd (omega (arith, long))
+  said_local (suc n) zero old left other order agrees long others_long = absurd (omega (arith, others_long))
+  said_local (suc n) (suc m) old left other order agrees long others_long =
+      rw (said_next n old left, said_next m old other) (
+      then_ends IsEnd (said_from n old) (said_from m old) left.passed (next_in left) (next_in other) (next_local left other order agrees)
+      (λ first next mid starts also o a. said_after_token n m (λ j. said_local n j) old left other next mid first starts also o a (omega (arith, long)) (omega (arith, others_long)))
+      (λ first next starts o a. said_after_token n n (λ j. said_local n j) old left left next next first starts starts o a (omega (arith, long)) (omega (arith, long)))
+      (λ first next starts last none ends. ended first next last)
+      )
+    where
+      ended : (first : Option Token) (next : Left) → IsEnd first → (said : Said) × (said_from n old first next ≡ Ok said)
+      ended None next last = (old, refl)
+      ended (Some t) next last = absurd last
 
-    all_local : (old : Said) (left other : Left) (e : ℕ) → IsInOrder left → AgreesTo k left other → e ≤ k → all_said old left ≡ Err e → all_said old other ≡ Err e
-    unfolding all_said
-    all_local old left other e order agrees within is =
-        let ends = said_local (1 + length left.tokens) (1 + length other.tokens) old left other order agrees (omega arith) (omega arith) in
-        (subst (λ f. EndsAs left.passed f (all_said old other)) is ends).1 within
+  all_local : (old : Said) (left other : Left) (e : ℕ) → IsInOrder left → AgreesTo k left other → e ≤ k → all_said old left ≡ Err e → all_said old other ≡ Err e
+  unfolding all_said
+  all_local old left other e order agrees within is =
+      let ends = said_local (1 + length left.tokens) (1 + length other.tokens) old left other order agrees (omega arith) (omega arith) in
+      (subst (λ f. EndsAs left.passed f (all_said old other)) is ends).1 within
 
 -- ---- texts
-module _ (strings : HaveValuesRead) (tokens : HaveTheirTokens) (in_order : HaveTokensInOrder) (fronts : AreDecidedByFronts) where
-  -- what is refused at a byte is refused whatever follows it
-  pub decided : (text : List ℕ) (e : ℕ) → all_said nothing_said (tokens_of (start_of text)) ≡ Err e → e < length text → (more : List ℕ) → HoldsOfNone (IsTextFile (take (1 + e) text ++ more))
-  decided text e is within more =
-      let other = take (1 + e) text ++ more in
-      no_file strings other _ (tokens other) e (all_local e strings nothing_said _ _ e (in_order text) (fronts e text more within) (omega arith) is)
+-- what is refused at a byte is refused whatever follows it
+pub decided : (text : List ℕ) (e : ℕ) → all_said nothing_said (tokens_of (start_of text)) ≡ Err e → e < length text → (more : List ℕ) → HoldsOfNone (IsTextFile (take (1 + e) text ++ more))
+decided text e is within more =
+    let other = take (1 + e) text ++ more in
+    no_file other _ (has_tokens other) e (all_local e nothing_said _ _ e (in_order text) (fronts.decided e text more within) (omega arith) is)

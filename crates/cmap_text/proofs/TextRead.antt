@@ -1,7 +1,6 @@
 -- The file of a text is what its items say.
 use Rattle.std.proofs.Common.{◌≡◌, ℕ, refl, sym, ap, ◌∙◌, subst, List, arith}
 use Rattle.std.specs.Prelude.{flat_map, Ok, Err, Some, None, option_map}
-use Rattle.cmap_tokens.specs.TokenReading.{HaveValuesRead}
 use Rattle.cmap_tokens.specs.Tokens.{Token, Tokens}
 use Rattle.cmap_tokens.specs.TokensLeft.{HasTokens, Left}
 use Rattle.cmap_files.specs.Only.{IsOnly, HoldsOfNone}
@@ -12,7 +11,7 @@ use Rattle.cmap_text.proofs.TokensRead.{err-ok, same_Ok, some_mapped}
 use Rattle.cmap_text.proofs.ItemsRead.{items_found, items_are}
 use Rattle.cmap_text.proofs.ItemsSaid.{said_after, says_all, all_says, values_said}
 
-module _ (strings : HaveValuesRead) (text : List ℕ) (left : Left) (has : HasTokens text left) where
+module _ (text : List ℕ) (left : Left) (has : HasTokens text left) where
   said_of : (items : List Item) → says_all nothing_said items ≡ option_map (said_after nothing_said items) (names_used None items)
   said_of items = all_says items nothing_said.values nothing_said.lists nothing_said.uses None
 
@@ -21,12 +20,12 @@ module _ (strings : HaveValuesRead) (text : List ℕ) (left : Left) (has : HasTo
   unfolding all_said
   read_items tokens items names at are used =
       let (same, ends) = (has tokens).0 at in
-      items_are strings items _ nothing_said left _ (subst (λ l. AreItems l items) (sym same) are) ends (omega arith) (said_of items ∙ ap (option_map (said_after nothing_said items)) used)
+      items_are items _ nothing_said left _ (subst (λ l. AreItems l items) (sym same) are) ends (omega arith) (said_of items ∙ ap (option_map (said_after nothing_said items)) used)
 
   pub text_file : (said : Said) (metadata : FileMetadata) → all_said nothing_said left ≡ Ok said → IsOnly (IsMetadata said.values) metadata → IsOnly (IsTextFile text) (record { metadata = metadata; lists = said.lists; uses = said.uses })
   unfolding IsTextFile all_said said_after
   text_file said metadata is only =
-      let (ends, items, are, sayings) = items_found strings _ nothing_said left said is in
+      let (ends, items, are, sayings) = items_found _ nothing_said left said is in
       let (names, used, after) = some_mapped (said_after nothing_said items) (names_used None items) said (sym (said_of items) ∙ sayings) in
       let values_are : last_values items ≡ said.values = values_said items ∙ ap (λ s. s.values) after in
       let uses_are : names ≡ said.uses = ap (λ s. s.uses) after in

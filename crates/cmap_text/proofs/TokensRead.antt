@@ -8,8 +8,8 @@ use Rattle.std.specs.Prelude.{pos, negsuc, nat_le, nat_lt, map, Option, Some, No
 use Rattle.cmap_bits.specs.BigEndian.{big_endian}
 use Rattle.cmap_tokens.specs.Numbers.{Number}
 use Rattle.cmap_tokens.specs.Strings.{IsValue}
+use Rattle.cmap_tokens.proofs.StringValues.{IsValue-read, IsValue-from}
 use Rattle.cmap_tokens.specs.Texts.{units_of}
-use Rattle.cmap_tokens.specs.TokenReading.{HaveValuesRead}
 use Rattle.cmap_tokens.specs.Tokens.{Token}
 use Rattle.cmap_tokens.specs.TokensLeft.{Placed, Left}
 use Rattle.cmap_text.specs.TextFiles.{IsCode, IsCid, IsDestination}
@@ -89,33 +89,32 @@ cid_found (Token.Numeral (Number.Integer (pos n))) cid is =
 pub cid_is : (t : Token) (cid : ℕ) → IsCid t cid → cid_in t ≡ Some cid
 cid_is t cid (is, within) = rw (is, lt-ltb cid (2 ^ 32) within) refl
 
-module _ (strings : HaveValuesRead) where
-  -- a string is read by its value
-  pub read_value : {A : Type 0} (read : List ℕ → Option A) (t : Token) (piece value : List ℕ) → t ≡ Token.String piece → IsValue piece value → option_and_then read (value_in t) ≡ read value
-  read_value read t piece value is holds = rw (is, (strings piece value).0 holds) refl
+-- a string is read by its value
+pub read_value : {A : Type 0} (read : List ℕ → Option A) (t : Token) (piece value : List ℕ) → t ≡ Token.String piece → IsValue piece value → option_and_then read (value_in t) ≡ read value
+read_value read t piece value is holds = rw (is, IsValue-read piece value holds) refl
 
-  found_value : {A : Type 0} (read : List ℕ → Option A) (t : Token) (x : A) → option_and_then read (value_in t) ≡ Some x → (piece value : List ℕ) × (t ≡ Token.String piece) × IsValue piece value × (read value ≡ Some x)
-  found_value read (Token.Name literal bytes) x is = absurd (none-some x is)
-  found_value read (Token.String piece) x is = let (value, read_is, gives) = some_bound read (value_in (Token.String piece)) x is in (piece, value, refl, (strings piece value).1 read_is, gives)
-  found_value read (Token.Numeral n) x is = absurd (none-some x is)
+found_value : {A : Type 0} (read : List ℕ → Option A) (t : Token) (x : A) → option_and_then read (value_in t) ≡ Some x → (piece value : List ℕ) × (t ≡ Token.String piece) × IsValue piece value × (read value ≡ Some x)
+found_value read (Token.Name literal bytes) x is = absurd (none-some x is)
+found_value read (Token.String piece) x is = let (value, read_is, gives) = some_bound read (value_in (Token.String piece)) x is in (piece, value, refl, IsValue-from piece value read_is, gives)
+found_value read (Token.Numeral n) x is = absurd (none-some x is)
 
-  pub code_is : (t : Token) (bytes : List ℕ) → IsCode t bytes → code_in t ≡ Some (written bytes)
-  code_is t bytes (piece, is, value, least, most) = read_value code_of t piece bytes is value ∙ code_of-is bytes least most
+pub code_is : (t : Token) (bytes : List ℕ) → IsCode t bytes → code_in t ≡ Some (written bytes)
+code_is t bytes (piece, is, value, least, most) = read_value code_of t piece bytes is value ∙ code_of-is bytes least most
 
-  pub code_found : (t : Token) (code : Code) → code_in t ≡ Some code → (bytes : List ℕ) × IsCode t bytes × (written bytes ≡ code)
-  code_found t code is =
-      let (piece, bytes, string, value, gives) = found_value code_of t code is in
-      let (least, most, same) = code_of-found bytes code gives in
-      (bytes, (piece, string, value, least, most), same)
+pub code_found : (t : Token) (code : Code) → code_in t ≡ Some code → (bytes : List ℕ) × IsCode t bytes × (written bytes ≡ code)
+code_found t code is =
+    let (piece, bytes, string, value, gives) = found_value code_of t code is in
+    let (least, most, same) = code_of-found bytes code gives in
+    (bytes, (piece, string, value, least, most), same)
 
-  pub destination_is : (t : Token) (units : List ℕ) → IsDestination t units → destination_in t ≡ Some units
-  destination_is t units (piece, bytes, is, value, filled, units_are) = read_value destination_of t piece bytes is value ∙ destination_of-is bytes filled ∙ ap Some (sym units_are)
+pub destination_is : (t : Token) (units : List ℕ) → IsDestination t units → destination_in t ≡ Some units
+destination_is t units (piece, bytes, is, value, filled, units_are) = read_value destination_of t piece bytes is value ∙ destination_of-is bytes filled ∙ ap Some (sym units_are)
 
-  pub destination_found : (t : Token) (units : List ℕ) → destination_in t ≡ Some units → IsDestination t units
-  destination_found t units is =
-      let (piece, bytes, string, value, gives) = found_value destination_of t units is in
-      let (filled, same) = tested (nat_lt 0 (length bytes)) (units_of bytes) units gives in
-      (piece, bytes, string, value, ltb-true 0 (length bytes) filled, sym same)
+pub destination_found : (t : Token) (units : List ℕ) → destination_in t ≡ Some units → IsDestination t units
+destination_found t units is =
+    let (piece, bytes, string, value, gives) = found_value destination_of t units is in
+    let (filled, same) = tested (nat_lt 0 (length bytes)) (units_of bytes) units gives in
+    (piece, bytes, string, value, ltb-true 0 (length bytes) filled, sym same)
 
 -- ---- what is left
 -- the tokens that are left

@@ -17,7 +17,6 @@ use crate::wrong_token::WrongToken;
 use cmap_files::fault::{Fault, Stop};
 use cmap_files::file::File;
 use cmap_files::metadata::Metadata;
-use cmap_tokens::token::{one_value_for_a_string, tokens_are_decided_by_fronts};
 use std::alloc::Global;
 
 /// What a text file says.
@@ -28,8 +27,6 @@ pub fn read_text<'d>(alloc: Global, text: &'d [u8]) -> Result<File<'d>, Fault<St
     // this offset and with the byte there.
     ensures decided { IfErr result (RefusesWith (DecidedBy IsTextFile text.now)) }
 {
-    one_value_for_a_string();
-    tokens_are_decided_by_fronts();
     let mut said = Said::new(alloc);
     let metadata = read_said(alloc, text, &mut said)?;
     Ok(File {

@@ -15,7 +15,7 @@ use crate::tokens::{TokenReader, is_executable, literal_name};
 use crate::wrong_token::WrongToken;
 use cmap_files::declarations::Lists;
 use cmap_files::fault::{Fault, Reason};
-use cmap_tokens::token::{Token, one_value_for_a_string};
+use cmap_tokens::token::Token;
 use std::alloc::Global;
 
 /// What items say, as far as they are read.
@@ -64,7 +64,6 @@ pub(crate) fn read_items<'d>(
     ensures { Gives (all_said (said_seen said.old) reader.old) (λ done. said_seen said.new)
         reader.new result }
 {
-    one_value_for_a_string();
     while let Some(token) = reader.next_token()? {
         read_item(reader, &token, said)?;
     }

@@ -12,7 +12,7 @@ use crate::tokens::{Code, TokenReader, is_executable};
 use crate::wrong_token::WrongToken;
 use cmap_files::declarations::Lists;
 use cmap_files::fault::Fault;
-use cmap_tokens::token::{Token, one_value_for_a_string};
+use cmap_tokens::token::Token;
 
 /// The kinds of sections.
 #[derive(Clone, Copy)]
@@ -71,7 +71,6 @@ pub(crate) fn read_section(
 ) -> Result<(), Fault<WrongToken>>
     ensures { Adds (body_in (section_seen section) reader.old) lists.old lists.new reader.new result }
 {
-    one_value_for_a_string();
     while let Some(start) = next_start(reader, section)? {
         read_entry(reader, section, start, lists)?;
     }

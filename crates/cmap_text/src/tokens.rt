@@ -20,7 +20,7 @@ use cmap_files::code_length::CodeLength;
 use cmap_files::fault::{Fault, Reason};
 use cmap_files::names::Cid;
 use cmap_files::units::Units;
-use cmap_tokens::token::{Number, Scanner, Token, one_value_for_a_string};
+use cmap_tokens::token::{Number, Scanner, Token};
 use cmap_tokens::utf16::units;
 use std::alloc::Global;
 use std::marker::Model;
@@ -86,7 +86,6 @@ impl<'d> TokenReader<'d> {
         ensures { Gives (or_refused (code_in (token_seen token.now)) self.old)
             (λ code. (code_seen code, self.new)) self.new result }
     {
-        one_value_for_a_string();
         let Token::String(string) = token else {
             return Err(Fault::Refused(WrongToken::Last(Reason::CodeExpected)));
         };
@@ -106,7 +105,6 @@ impl<'d> TokenReader<'d> {
             × (token_in self.old ≡ Ok (String piece, self.new))
             × (code_in (String piece) ≡ Some (code_seen code))) }
     {
-        one_value_for_a_string();
         let number = u32::from(self.scanner.next_two_bytes()?);
         let len = CodeLength::Two;
         Some(Code { len, number })
@@ -128,7 +126,6 @@ impl<'d> TokenReader<'d> {
         ensures { Gives (or_refused (destination_in (token_seen token.now)) self.old)
             (λ units. (units_seen units, self.new)) self.new result }
     {
-        one_value_for_a_string();
         let Token::String(string) = token else {
             return Err(Fault::Refused(WrongToken::Last(Reason::TextExpected)));
         };
@@ -148,7 +145,6 @@ impl<'d> TokenReader<'d> {
         ensures { Gives (head_in destination_in self.old)
             (λ units. (units_seen units, self.new)) self.new result }
     {
-        one_value_for_a_string();
         if let Some(number) = self.scanner.next_two_bytes() {
             return Ok(units_of_number(2, u32::from(number)));
         }

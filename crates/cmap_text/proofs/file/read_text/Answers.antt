@@ -3,8 +3,8 @@ use Rattle.cmap_files.proofs.Outcomes.{passed_on}
 use Rattle.cmap_files.specs.Only.{HoldsOfNone}
 use Rattle.cmap_files.specs.Outcomes.{DecidedBy}
 use Rattle.cmap_files.specs.declared.fault.Stop.{Stop}
-use Rattle.cmap_tokens.specs.TokenReading.{HaveValuesRead}
-use Rattle.cmap_tokens.specs.TokensLeft.{AreDecidedByFronts, HaveTheirTokens, HaveTokensInOrder, start_of, tokens_of}
+use Rattle.cmap_tokens.proofs.Fronts.{has_tokens}
+use Rattle.cmap_tokens.specs.TokensLeft.{start_of, tokens_of}
 use Rattle.cmap_text.specs.EntriesSeen.{StopsAt}
 use Rattle.cmap_text.specs.TextFiles.{IsTextFile}
 use Rattle.cmap_text.specs.TextReading.{all_said, nothing_said}
@@ -16,27 +16,26 @@ use Rattle.cmap_text.proofs.file.read_text.Goals as goal
 abbrev StopsText : List ℕ → Stop → Type 0
 StopsText text stop = StopsAt (length text) (all_said nothing_said (tokens_of (start_of text))) stop
 
-refused_text : HaveValuesRead → HaveTheirTokens → (text : List ℕ) (stop : Stop) → StopsText text stop → HoldsOfNone (IsTextFile text) × (stop.offset ≤ length text)
-refused_text strings tokens text stop (e, none, offset) = (no_file strings text _ (tokens text) e none, omega (arith, offset))
+refused_text : (text : List ℕ) (stop : Stop) → StopsText text stop → HoldsOfNone (IsTextFile text) × (stop.offset ≤ length text)
+refused_text text stop (e, none, offset) = (no_file text _ (has_tokens text) e none, omega (arith, offset))
 
-decided_text : HaveValuesRead → HaveTheirTokens → HaveTokensInOrder → AreDecidedByFronts → (text : List ℕ) (stop : Stop) → StopsText text stop → DecidedBy IsTextFile text stop
-decided_text strings tokens in_order fronts text stop (e, none, offset) =
+decided_text : (text : List ℕ) (stop : Stop) → StopsText text stop → DecidedBy IsTextFile text stop
+decided_text text stop (e, none, offset) =
     λ within more.
     let same : e ≡ stop.offset = omega (arith, offset, within) in
-    decided strings tokens in_order fronts text stop.offset (none ∙ ap (λ n. Err n) same) within more
+    decided text stop.offset (none ∙ ap (λ n. Err n) same) within more
 
 pub returns-in_err-metadata-clause-file : goal.returns-in_err-metadata-clause-file
 returns-in_err-metadata-clause-file c =
     let stops = rw c.new-said.ensures at c.in_err-metadata.ensures.stops in
-    passed_on _ _ _ c.from_residual.ensures.1 stops (refused_text c.one_value_for_a_string.ensures.value c.tokens_are_decided_by_fronts.ensures.tokens c.args.text.now)
+    passed_on _ _ _ c.from_residual.ensures.1 stops (refused_text c.args.text.now)
 
 pub returns-in_err-metadata-clause-decided : goal.returns-in_err-metadata-clause-decided
 returns-in_err-metadata-clause-decided c =
     let stops = rw c.new-said.ensures at c.in_err-metadata.ensures.stops in
-    let laws = c.tokens_are_decided_by_fronts.ensures in
-    (passed_on (λ x. Unit {0}) _ _ c.from_residual.ensures.1 stops (decided_text c.one_value_for_a_string.ensures.value laws.tokens laws.order laws.fronts c.args.text.now)).1
+    (passed_on (λ x. Unit {0}) _ _ c.from_residual.ensures.1 stops (decided_text c.args.text.now)).1
 
 pub returns-clause-file : goal.returns-clause-file
 returns-clause-file c =
     let (said, metadata) = rw c.new-said.ensures at c.in_ok-metadata.ensures.says in
-    (text_file c.one_value_for_a_string.ensures.value _ _ (c.tokens_are_decided_by_fronts.ensures.tokens c.args.text.now) _ _ said metadata, tt)
+    (text_file _ _ (has_tokens c.args.text.now) _ _ said metadata, tt)

@@ -12,12 +12,12 @@ returns-in_err-token c =
 pub loop-token-smaller : goal.loop-token-smaller
 loop-token-smaller c =
     let token = rw c.in-Some.is at c.in_ok-token.ensures.0 in
-    IsSaying-shorter _ _ _ _ c.loop-token.invariant _ _ token c.one_value_for_a_string.ensures.value _ _ c.in_ok-read_item.ensures.0
+    IsSaying-shorter _ _ _ _ c.loop-token.invariant _ _ token _ _ c.in_ok-read_item.ensures.0
 
 pub loop-token-preserved : goal.loop-token-preserved
 loop-token-preserved c =
     let token = rw c.in-Some.is at c.in_ok-token.ensures.0 in
-    IsSaying-more _ _ _ _ c.loop-token.invariant _ _ token c.one_value_for_a_string.ensures.value _ _ c.in_ok-read_item.ensures.0
+    IsSaying-more _ _ _ _ c.loop-token.invariant _ _ token _ _ c.in_ok-read_item.ensures.0
 
 pub returns-in_err-read_item : goal.returns-in_err-read_item
 returns-in_err-read_item c =

@@ -11,12 +11,12 @@ returns-in_err-start c = passed_on c.from_residual.result _ _ c.next_start.new.r
 pub loop-start-smaller : goal.loop-start-smaller
 loop-start-smaller c =
     let starts = rw c.in-Some.is at c.in_ok-start.ensures.0 in
-    IsReading-shorter _ _ _ _ _ c.loop-start.invariant _ _ starts c.one_value_for_a_string.ensures.value _ _ c.in_ok-read_entry.ensures.0
+    IsReading-shorter _ _ _ _ _ c.loop-start.invariant _ _ starts _ _ c.in_ok-read_entry.ensures.0
 
 pub loop-start-preserved : goal.loop-start-preserved
 loop-start-preserved c =
     let starts = rw c.in-Some.is at c.in_ok-start.ensures.0 in
-    IsReading-more _ _ _ _ _ c.loop-start.invariant _ _ starts c.one_value_for_a_string.ensures.value _ _ c.in_ok-read_entry.ensures.0
+    IsReading-more _ _ _ _ _ c.loop-start.invariant _ _ starts _ _ c.in_ok-read_entry.ensures.0
 
 pub returns-in_err-read_entry : goal.returns-in_err-read_entry
 returns-in_err-read_entry c =

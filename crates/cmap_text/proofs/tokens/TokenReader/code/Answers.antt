@@ -9,11 +9,11 @@ use Rattle.cmap_text.proofs.tokens.TokenReader.code.Goals as goal
 pub returns-in-Some : goal.returns-in-Some
 returns-in-Some c =
     let (bytes, only, are, count, number) = c.in-Some.ensures.value in
-    let read = read_value c.one_value_for_a_string.ensures.value code_of _ _ bytes (ap token_seen c.in-String.is) only.holds in
+    let read = read_value code_of _ _ bytes (ap token_seen c.in-String.is) only.holds in
     let ((least, most), len) = c.in-Some-of.ensures in
     (last_is _ _ _ _ (read ∙ code_of-is bytes (omega (arith, count, least)) (omega (arith, count, most)) ∙ rw (← count, ← number, len) refl) refl, tt)
 
 pub returns : goal.returns
 returns c =
-    let read = read_value c.one_value_for_a_string.ensures.value code_of _ _ _ (ap token_seen c.in-String.is) c.in_ok-decode_into.ensures.value in
+    let read = read_value code_of _ _ _ (ap token_seen c.in-String.is) c.in_ok-decode_into.ensures.value in
     rw (c.ok_or.ensures.value, read) (given code_seen c.code_of.result _ _ _ _ (rw c.deref.ensures.value at c.code_of.ensures) (sym c.self.view_is))

@@ -10,17 +10,17 @@ use Rattle.cmap_text.proofs.tokens.TokenReader.destination.Goals as goal
 pub returns-in-Some : goal.returns-in-Some
 returns-in-Some c =
     let (bytes, only, are, count, number) = c.in-Some.ensures.value in
-    let read = read_value c.one_value_for_a_string.ensures.value destination_of _ _ bytes (ap token_seen c.in-String.is) only.holds in
+    let read = read_value destination_of _ _ bytes (ap token_seen c.in-String.is) only.holds in
     let units = c.units_of_number.ensures bytes are c.in-Some.ensures.some c.in-Some.ensures.few count number in
     (last_is _ _ _ _ (read ∙ destination_of-is bytes (omega (arith, count, c.in-Some.ensures.some)) ∙ ap Some (sym units)) refl, tt)
 
 pub returns-then-is_empty : goal.returns-then-is_empty
 returns-then-is_empty c =
-    let read = read_value c.one_value_for_a_string.ensures.value destination_of _ _ _ (ap token_seen c.in-String.is) c.in_ok-decode_into.ensures.value in
+    let read = read_value destination_of _ _ _ (ap token_seen c.in-String.is) c.in_ok-decode_into.ensures.value in
     (tt, last_wrong _ _ _ (read ∙ destination_of-none _ (omega (arith, eqb-true _ 0 (sym c.if-is_empty.ensures)))) (sym c.self.view_is))
 
 pub returns : goal.returns
 returns c =
-    let read = read_value c.one_value_for_a_string.ensures.value destination_of _ _ _ (ap token_seen c.in-String.is) c.in_ok-decode_into.ensures.value in
+    let read = read_value destination_of _ _ _ (ap token_seen c.in-String.is) c.in_ok-decode_into.ensures.value in
     let filled : 0 < length c.decode_into.new.out.items = omega (arith, eqb-false _ 0 (sym c.if-is_empty.ensures)) in
     (last_is _ _ _ _ (read ∙ destination_of-is c.decode_into.new.out.items filled ∙ rw (← c.deref.ensures.value) (search rules)) (sym c.self.view_is), tt)

@@ -7,6 +7,6 @@ use Rattle.cmap_text.proofs.tokens.TokenReader.next_destination.Goals as goal
 pub returns-in-Some : goal.returns-in-Some
 returns-in-Some c =
     let (piece, reads, (value, only, are, two, number), left) = c.in-Some.ensures.token in
-    let read = read_value c.one_value_for_a_string.ensures.value destination_of (String piece) piece value refl only.holds ∙ destination_of-is value (omega (arith, two)) in
+    let read = read_value destination_of (String piece) piece value refl only.holds ∙ destination_of-is value (omega (arith, two)) in
     let units = c.units_of_number.ensures value are (omega arith) (omega arith) (sym two) (c.from.ensures ∙ number) in
     (ap (head_in destination_in) (sym c.self.view_is ∙ left) ∙ rw (read, ← units) refl, tt)

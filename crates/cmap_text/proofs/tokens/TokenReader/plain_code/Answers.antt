@@ -7,5 +7,5 @@ use Rattle.cmap_text.proofs.tokens.TokenReader.plain_code.Goals as goal
 pub returns : goal.returns
 returns c =
     let (piece, reads, (value, only, are, two, number), left) = c.in_ok-next_two_bytes.ensures.token in
-    let read = read_value c.one_value_for_a_string.ensures.value code_of (String piece) piece value refl only.holds in
+    let read = read_value code_of (String piece) piece value refl only.holds in
     (piece, ap token_in (sym c.self.view_is ∙ left), read ∙ code_of-is value (omega (arith, two)) (omega (arith, two)) ∙ rw (two, ← number, c.from-number.ensures) refl)
