@@ -322,13 +322,6 @@ impl<'a> CMapName<'a> {
     }
 }
 
-/// A text is the text of one name, wherever the bytes of a custom one lie. Nothing is done here: the
-/// contract is a law for callers to stand on.
-pub fn one_name_for_a_text()
-    ensures { (text : List ℕ) (name other : CMapName) → IsNameOf text name → IsNameOf text other
-        → IsSameName name other }
-{}
-
 /// The place of the known name with this text.
 fn place_of(text: &[u8]) -> Option<usize>
     ensures place { result ≡ place_of text.now }

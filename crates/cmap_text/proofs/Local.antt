@@ -308,4 +308,4 @@ module _ (k : ℕ) where
 pub decided : (text : List ℕ) (e : ℕ) → all_said nothing_said (tokens_of (start_of text)) ≡ Err e → e < length text → (more : List ℕ) → HoldsOfNone (IsTextFile (take (1 + e) text ++ more))
 decided text e is within more =
     let other = take (1 + e) text ++ more in
-    no_file other _ (has_tokens other) e (all_local e nothing_said _ _ e (in_order text) (fronts.decided e text more within) (omega arith) is)
+    no_file other _ (has_tokens other) e (all_local e nothing_said _ _ e (in_order text) (fronts.decided text e more within) (omega arith) is)

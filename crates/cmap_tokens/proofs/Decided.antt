@@ -8,7 +8,7 @@ use Rattle.cmap_tokens.specs.Bytes.{is_white, is_regular}
 use Rattle.cmap_tokens.specs.Gaps.{ends_comment}
 use Rattle.cmap_tokens.specs.Tokens.{Token, IsToken, is_bracket, begins_regular, begins_name, is_hex_body}
 use Rattle.cmap_tokens.specs.TokenReading.{one_more, gap_len, hex_len, string_of, first_piece, malformed_len}
-use Rattle.cmap_tokens.specs.TokensLeft.{after_gap, Agree, AgreesTo, AreDecidedByFronts, HaveTokensInOrder, IsInOrder, Left, Placed, tokens_within, tokens_of, with_token}
+use Rattle.cmap_tokens.specs.TokensLeft.{after_gap, Agree, AgreesTo, IsDecidedByFronts, IsInOrder, Left, Placed, start_of, tokens_within, tokens_of, with_token}
 use Rattle.cmap_tokens.proofs.ByteTests.{by_byte}
 use Rattle.cmap_tokens.proofs.Fronts.{left_from, left-one, next, none, one, passed_is, shorter, steps, stops}
 use Rattle.cmap_tokens.proofs.TokenPieces.{IsFirst, first_is, is_read, regular_first}
@@ -116,7 +116,7 @@ order (suc n) passed text =
           subst IsInOrder (sym (steps n passed text first e)) (omega (arith, passed_is n at (drop first.1 (after_gap text))), order n at (drop first.1 (after_gap text)))
     ]
 
-pub in_order : HaveTokensInOrder
+pub in_order : (text : List ℕ) → IsInOrder (tokens_of (start_of text))
 unfolding tokens_of
 in_order text = order (length text) 0 text
 
@@ -163,8 +163,8 @@ agrees (suc n) k passed front s t text other here there long end =
           )
     ]
 
-pub decided : AreDecidedByFronts
+pub decided : (text : List ℕ) → IsDecidedByFronts text
 unfolding tokens_of
-decided k text more within =
+decided text k more within =
     let size = length-take-le (1 + k) text (omega (arith, within)) in
     agrees (suc (suc k)) k 0 (take (1 + k) text) (drop (1 + k) text) more text _ (sym (take-append-drop (1 + k) text)) refl (omega (arith, size)) (omega (arith, size))

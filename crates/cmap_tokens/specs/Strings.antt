@@ -71,10 +71,6 @@ IsValue piece value =
     (IsTrue (is_between less greater piece) × (value ≡ hex_value (inside piece)))
     ⊎ (IsTrue (is_between open_parenthesis close_parenthesis piece) × (parts : List (List ℕ × List ℕ)) × IsCut parts (inside piece) value)
 
--- a piece stands for one value, if it stands for any
-abbrev pub HaveOneValue : Type 0
-HaveOneValue = (piece value other : List ℕ) → IsValue piece value → IsValue piece other → value ≡ other
-
 -- two digits for each of one to four bytes, and nothing between them
 abbrev pub ArePairs : List ℕ → Type 0
 ArePairs digits = IsTrue (list_all (λ c. is_digit c 16) digits) × (length digits % 2 ≡ 0) × (0 < length digits) × (length digits ≤ 8)

@@ -1,5 +1,5 @@
 -- Private aid: what the code reads, as functions on lists. Public contracts speak of Tokens, Numbers and Strings alone.
-use Rattle.std.specs.Prelude.{◌≡◌, ◌↔◌, zero, suc, ◌%◌, ◌&&◌, ◌++◌, length, drop, ℕ, ◌+◌, ◌==◌, Bool, true, false, not, List, [], ◌∷◌, take, map, option_map, filter, Option, Some, None, codes, if◌then◌else◌}
+use Rattle.std.specs.Prelude.{zero, suc, ◌%◌, ◌&&◌, ◌++◌, length, drop, ℕ, ◌+◌, ◌==◌, Bool, true, false, not, List, [], ◌∷◌, take, map, option_map, filter, Option, Some, None, codes, if◌then◌else◌}
 use Rattle.std.specs.List.{prefix_len}
 use Rattle.std.specs.Option.{option_to_list}
 use Rattle.std.specs.Char.{digit_value, is_digit}
@@ -8,7 +8,7 @@ use Rattle.cmap_tokens.specs.Bytes.{is_white, is_regular}
 use Rattle.cmap_tokens.specs.Gaps.{ends_comment}
 use Rattle.cmap_tokens.specs.Tokens.{Token, Name, String, Inside, after_byte, opened, is_bracket, is_hex_body, name_or_number}
 use Rattle.cmap_tokens.specs.Numbers.{digits_len, digits_number}
-use Rattle.cmap_tokens.specs.Strings.{begins_with, digit_pairs, escape_value, hex_value, inside, is_between, IsValue}
+use Rattle.cmap_tokens.specs.Strings.{begins_with, digit_pairs, escape_value, hex_value, inside, is_between}
 
 -- one more, where there is a count
 abbrev pub one_more : Option ℕ → Option ℕ
@@ -122,7 +122,3 @@ value_of piece =
     if is_between less greater piece then Some (hex_value (inside piece))
     else if is_between open_parenthesis close_parenthesis piece && is_paired false (inside piece) then Some (text_value (inside piece))
     else None
-
--- a piece stands for the value that is read of it, and for no other
-abbrev pub HaveValuesRead : Type 0
-HaveValuesRead = (piece value : List ℕ) → IsValue piece value ↔ (value_of piece ≡ Some value)

@@ -73,13 +73,6 @@ Agree k (p ∷ tokens) left others other = p.end ≤ k → (rest : List Placed) 
 abbrev pub AgreesTo : ℕ → Left → Left → Type 0
 AgreesTo k left other = (other.passed ≡ left.passed) × Agree k left.tokens left other.tokens other
 
--- each text has the tokens that are left at its start
-abbrev pub HaveTheirTokens : Type 0
-HaveTheirTokens = (text : List ℕ) → HasTokens text (tokens_of (start_of text))
-
-abbrev pub HaveTokensInOrder : Type 0
-HaveTokensInOrder = (text : List ℕ) → IsInOrder (tokens_of (start_of text))
-
--- what ends by the byte k is decided by the bytes up to it and with it
-abbrev pub AreDecidedByFronts : Type 0
-AreDecidedByFronts = (k : ℕ) (text more : List ℕ) → k < length text → AgreesTo k (tokens_of (start_of text)) (tokens_of (start_of (take (1 + k) text ++ more)))
+-- what ends by the byte k is decided by the bytes up to it and with it, and so is it that no more come
+abbrev pub IsDecidedByFronts : List ℕ → Type 0
+IsDecidedByFronts text = (k : ℕ) (more : List ℕ) → k < length text → AgreesTo k (tokens_of (start_of text)) (tokens_of (start_of (take (1 + k) text ++ more)))

@@ -1,9 +1,7 @@
 //! Tokens of PostScript text, one after another: names, strings and numbers.
 
 ghost use Rattle.std.specs.Prelude.{IsTrue, is_some};
-ghost use Rattle.cmap_tokens.specs.Strings.{HaveOneValue};
-ghost use Rattle.cmap_tokens.specs.TokenReading.{HaveValuesRead, value_of};
-ghost use Rattle.cmap_tokens.specs.TokensLeft.{AreDecidedByFronts, HaveTheirTokens, HaveTokensInOrder};
+ghost use Rattle.cmap_tokens.specs.TokenReading.{value_of};
 
 mod byte_class;
 mod gaps;
@@ -176,7 +174,7 @@ impl<'a> Scanner<'a> {
     ghost use Rattle.std.specs.Prelude.{◌≡◌, ℕ, ◌↔◌, ◌≤◌, List, [], false, true, length, None, Ok, pos, IfOk, IfSome, IsSome, IsErr, MatchOption, MatchResult, OnErr};
     ghost use Rattle.cmap_tokens.specs.Gaps.{IsBlank};
     ghost use Rattle.cmap_tokens.specs.Tokens.{IsMalformed};
-    ghost use Rattle.cmap_tokens.specs.TokensLeft.{HasTokens, LeavesAfter, LeavesNone, start_of, tokens_of};
+    ghost use Rattle.cmap_tokens.specs.TokensLeft.{HasTokens, IsDecidedByFronts, IsInOrder, LeavesAfter, LeavesNone, start_of, tokens_of};
     ghost use Rattle.cmap_tokens.specs.Numbers.{Integer};
     ghost use Rattle.cmap_tokens.specs.Scanner.{BeginsDecimal, BeginsTwoBytes, ReadsToken, rest_of};
     ghost use Rattle.cmap_tokens.specs.Strings.{WritesTwoBytes};
@@ -189,6 +187,10 @@ impl<'a> Scanner<'a> {
 
         // The tokens of a text are those that are left of it, if it ends after them.
         ensures tokens { HasTokens source.now (tokens_of (start_of source.now)) }
+
+        // They end one after another, and those that end by a byte are decided by the bytes up to it.
+        ensures order { IsInOrder (tokens_of (start_of source.now)) }
+        ensures fronts { IsDecidedByFronts source.now }
     {
         Scanner { source, place: 0 }
     }
@@ -269,18 +271,3 @@ impl<'a> Scanner<'a> {
         Ok(Some(token))
     }
 }
-
-/// A string stands for one value, the one that is read of it. Nothing is done here: the contract is a
-/// law for callers to stand on.
-pub fn one_value_for_a_string()
-    ensures one { HaveOneValue }
-    ensures value { HaveValuesRead }
-{}
-
-/// Which bytes decide on the tokens of a text. Nothing is done here: the contract is a law for callers
-/// to stand on.
-pub fn tokens_are_decided_by_fronts()
-    ensures tokens { HaveTheirTokens }
-    ensures order { HaveTokensInOrder }
-    ensures fronts { AreDecidedByFronts }
-{}

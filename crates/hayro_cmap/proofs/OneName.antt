@@ -2,11 +2,10 @@
 use Rattle.std.proofs.Common.{◌∙◌, sym, ℕ, List, Option}
 use Rattle.std.specs.Borrow.{Bor}
 use Rattle.std.specs.Fn.{Shared}
-use Rattle.cmap_files.specs.CMapNames.{IsNameOf, IsSameName}
+use Rattle.cmap_files.proofs.OneName.{IsSameName-from_text}
 use Rattle.cmap_files.specs.declared.names.CMapName.{CMapName}
 use Rattle.hayro_cmap.specs.Answers.{Answers, AnswersByName, IsByName}
 
 pub IsByName-from_answers : {F : Type 0} (calls : Shared F (CMapName × Unit {0}) (Option (Bor (List ℕ)))) (get_cmap : F)
-    → ((text : List ℕ) (name other : CMapName) → IsNameOf text name → IsNameOf text other → IsSameName name other)
     → AnswersByName calls get_cmap → IsByName (Answers calls get_cmap)
-IsByName-from_answers calls get_cmap one h text first second a b = a.4 ∙ h a.0 b.0 a.1 b.1 (one text a.0 b.0 a.2 b.2) a.3 b.3 ∙ sym b.4
+IsByName-from_answers calls get_cmap h text first second a b = a.4 ∙ h a.0 b.0 a.1 b.1 (IsSameName-from_text text a.0 b.0 a.2 b.2) a.3 b.3 ∙ sym b.4

@@ -31,7 +31,7 @@ use cmap_files::code_length::CodeLength;
 use cmap_files::declarations::{CidRange, Codespace, Lists};
 use cmap_files::fault::Fault;
 use cmap_files::metadata::{CharacterCollection, CidFamily, Metadata, WritingMode};
-use cmap_files::names::{CMapName, Cid, one_name_for_a_text};
+use cmap_files::names::{CMapName, Cid};
 use cmap_layers::layers::Layer;
 use cmap_layers::string_codes::StringCode;
 use cmap_layers::{codespaces, lookup, string_codes};
@@ -129,7 +129,6 @@ impl CMap {
             → PassesBudget (Means (tables_given bundle.entry))
             (Answers F.Fn get_cmap.now) 16 «data».now budget }
     {
-        one_name_for_a_text();
         let source = FilesByName {
             get_cmap,
             of: PhantomData,
