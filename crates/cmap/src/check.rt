@@ -8,7 +8,7 @@ use cmap_escape::{escape, json};
 use cmap_library::folders::{files_in, is_folder};
 use cmap_library::library::Library;
 use cmap_library::refused::push_refusal_json;
-use hayro_cmap::{CMap, Refusal};
+use hayro_cmap::{CMap, Fault, Refusal};
 use serde_json::{Map, Value, put};
 use std::alloc::{AllocError, Global};
 
@@ -83,15 +83,16 @@ fn push_checked(
     options: &Options<'_, '_>,
     library: &Library<'_>,
 ) -> Result<u8, AllocError> {
-    match CMap::parse_explained(alloc, options.budget, bytes, library.bundle(), library)? {
+    match CMap::parse_from(alloc, options.budget, bytes, library.bundle(), library) {
         Ok(_map) => {
             push_accepted(alloc, line, path, options.json)?;
             Ok(ACCEPTED)
         }
-        Err(refusal) => {
+        Err(Fault::Refused(refusal)) => {
             push_refused(alloc, line, path, bytes, options.json, library, &refusal)?;
             Ok(REFUSED)
         }
+        Err(Fault::Memory) => Err(AllocError),
     }
 }
 

@@ -7,7 +7,7 @@ use cmap_escape::escape::push_text;
 use cmap_library::folders::{files_in, name_of};
 use cmap_library::library::{Base, Library};
 use cmap_library::refused::push_refusal;
-use hayro_cmap::{Bundle, CMap, Refusal};
+use hayro_cmap::{Bundle, CMap, Fault, Refusal};
 use std::alloc::AllocError;
 use std::fs;
 use std::io::{self, ErrorKind, Read};
@@ -104,9 +104,10 @@ pub(crate) fn map_of(
     budget: Option<u64>,
     library: &Library<'_>,
 ) -> anyhow::Result<Option<CMap>> {
-    match CMap::parse_explained(rt.alloc(), budget, bytes, library.bundle(), library)? {
+    match CMap::parse_from(rt.alloc(), budget, bytes, library.bundle(), library) {
         Ok(map) => Ok(Some(map)),
-        Err(refusal) => {
+        Err(Fault::Memory) => Err(AllocError.into()),
+        Err(Fault::Refused(refusal)) => {
             let mut line = String::new(rt.alloc());
             push_reason(&mut line, path, bytes, library, &refusal)?;
             eprintln!(rt; "cmap: {line}")?;

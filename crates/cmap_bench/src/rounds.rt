@@ -2,7 +2,7 @@
 
 use crate::request::Mode;
 use cmap_programs::failure::Failure;
-use hayro_cmap::{BfString, Bundle, CMap};
+use hayro_cmap::{BfString, CMap, CMapName};
 use std::alloc::{AllocError, Global};
 use std::time::{Clock, Instant};
 
@@ -91,8 +91,8 @@ fn accepted(alloc: Global, data: &[u8]) -> Result<CMap, Failure> {
 
 /// The map of a file that uses no other.
 fn parse(alloc: Global, data: &[u8]) -> Result<Option<CMap>, Failure> {
-    let no_files: Option<&Bundle<'_>> = None;
-    Ok(CMap::parse_from(alloc, None, data, None, &no_files)?)
+    let no_file: Option<&'static [u8]> = None;
+    Ok(CMap::parse(alloc, data, None, &|_name: CMapName<'_>| no_file)?)
 }
 
 /// The sum of the CIDs of all codes of two bytes; none counts 0.

@@ -6,8 +6,7 @@ ghost use Rattle.cmap_binary.specs.BundleSeen.{tables_given};
 ghost use Rattle.cmap_binary.specs.Bundles.{IsBundle};
 ghost use Rattle.cmap_files.specs.Only.{IsOnly, HoldsOfNone};
 ghost use Rattle.hayro_cmap.specs.Answers.{IsByName};
-ghost use Rattle.hayro_cmap.specs.Budgets.{PassesBudget, StaysWithin};
-ghost use Rattle.hayro_cmap.specs.Layers.{AreLayers, Means};
+ghost use Rattle.hayro_cmap.specs.Maps.{ExceedsBudget, FitsBudget, HasNoMap, IsMapOf};
 ghost use Rattle.cmap_c.specs.NamedFiles.{AreLayersOver, IsMapOver, HasNoMapOver, PassesBudgetOver, PassesOver, StaysOver, StaysWithinBudget, budget_of};
 ghost use Rattle.cmap_c.specs.Statuses.{number};
 ghost use Rattle.cmap_c.specs.declared.status.Status.TheVariants.{Done, Refused, OverBudget, NotABundle};
@@ -18,7 +17,7 @@ use crate::handle::MapHandle;
 use crate::shared::Shared;
 use crate::status::Status;
 use hayro_cmap::bcmap::{Bundle, OwnedBundle};
-use hayro_cmap::{CMap, ParseError, Source};
+use hayro_cmap::{CMap, Cause, Fault, Source};
 use std::alloc::Global;
 
 /// The map of the file `data`, over files by their names: the first of `files` with the name, else
@@ -201,20 +200,22 @@ fn parse_from<S: Source>(
 ) -> Result<CMap, Status>
     requires can_ask { S.can_ask source.now }
     requires by_name { IsByName (S.answers source.now) }
-    ensures accepts { IfOk result (IsOnly
-        (AreLayers (Means (tables_given bundle.entry)) (S.answers source.now) 16 «data».now)) }
-    ensures refuses { IsErrOf result Refused → HoldsOfNone
-        (AreLayers (Means (tables_given bundle.entry)) (S.answers source.now) 16 «data».now) }
-    ensures over { IsErrOf result OverBudget → PassesBudget
-        (Means (tables_given bundle.entry)) (S.answers source.now) 16 «data».now budget }
-    ensures within { (IsOk result ⊎ IsErrOf result Refused) → StaysWithin
-        (Means (tables_given bundle.entry)) (S.answers source.now) 16 «data».now budget }
+    ensures accepts { IfOk result
+        (IsMapOf bundle.entry (S.answers source.now) «data».now) }
+    ensures refuses { IsErrOf result Refused
+        → HasNoMap bundle.entry (S.answers source.now) «data».now }
+    ensures over { IsErrOf result OverBudget
+        → ExceedsBudget bundle.entry (S.answers source.now) «data».now budget }
+    ensures within { (IsOk result ⊎ IsErrOf result Refused)
+        → FitsBudget bundle.entry (S.answers source.now) «data».now budget }
     ensures failed { IfErr result (λ status. (1 ≤ number status) × (number status ≤ 3)) }
 {
     match CMap::parse_from(alloc, budget, data, bundle, source) {
-        Ok(Some(map)) => Ok(map),
-        Ok(None) => Err(Status::Refused),
-        Err(ParseError::Memory) => Err(Status::NoMemory),
-        Err(ParseError::OverBudget) => Err(Status::OverBudget),
+        Ok(map) => Ok(map),
+        Err(Fault::Refused(refusal)) => match refusal.cause {
+            Cause::OverBudget => Err(Status::OverBudget),
+            _ => Err(Status::Refused),
+        },
+        Err(Fault::Memory) => Err(Status::NoMemory),
     }
 }

@@ -93,7 +93,7 @@ impl Display for Segment {
 }
 
 /// Why a call has no answer.
-#[derive(Clone, Copy)]
+#[derive(Debug, Drop)]
 pub enum Fault<R> {
     /// What was read is refused.
     Refused(R),

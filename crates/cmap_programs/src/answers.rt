@@ -9,8 +9,8 @@ use crate::input::{read_all, split_bundle};
 use crate::options::Options;
 use crate::output::{report, send};
 use crate::query::Request;
-use hayro_cmap::CMap;
 use hayro_cmap::bcmap::Bundle;
+use hayro_cmap::{CMap, CMapName, load_embedded};
 use std::alloc::Global;
 use std::io::{Read, Write};
 
@@ -76,5 +76,6 @@ fn map_over(
     file: &[u8],
     bundle: Option<&Bundle<'_>>,
 ) -> Result<CMap, Failure> {
-    CMap::parse_from(alloc, budget, file, bundle, &bundle)?.ok_or(Failure::Refused)
+    let get_cmap = |name: CMapName<'_>| load_embedded(bundle, name);
+    CMap::parse_within(alloc, budget, file, bundle, &get_cmap)?.ok_or(Failure::Refused)
 }

@@ -139,8 +139,11 @@ impl<'r> Around<'r> {
             bases: &self.bases,
             asked: Cell::new(0),
         };
-        let found = CMap::parse_explained(alloc, self.budget, file, self.bundle.as_ref(), &files)?;
-        push_refusal(&found, line)
+        match CMap::parse_from(alloc, self.budget, file, self.bundle.as_ref(), &files) {
+            Ok(_map) => line.push_str(" none"),
+            Err(hayro_cmap::Fault::Refused(refusal)) => push_refusal(&refusal, line),
+            Err(hayro_cmap::Fault::Memory) => Err(AllocError),
+        }
     }
 
     /// Adds the names of the files that a file uses. None of them is asked for.
@@ -268,10 +271,7 @@ fn file_of<'x>(files: &'x [NamedFile<'x>], name: &[u8]) -> Option<&'x [u8]>
 }
 
 /// Adds the names that lead to the file at fault, and what is wrong with it.
-fn push_refusal(found: &Result<CMap, Refusal>, line: &mut String) -> Result<(), AllocError> {
-    let Err(refusal) = found else {
-        return line.push_str(" none");
-    };
+fn push_refusal(refusal: &Refusal<'_>, line: &mut String) -> Result<(), AllocError> {
     for name in &refusal.names {
         line.push(' ')?;
         push_escaped(name, line)?;

@@ -11,7 +11,7 @@ use Rattle.cmap_files.specs.Only.{HoldsOfNone}
 use Rattle.hayro_cmap.specs.BytesSpent.{About, Refuses, GoesOver, of_file}
 use Rattle.hayro_cmap.specs.Budgets.{StaysWithin}
 use Rattle.hayro_cmap.specs.Layers.{AreLayers}
-use Rattle.hayro_cmap.specs.Refusals.{Blames, Fails, HasNoLayers, IsFault, IsMissing, IsUseFault}
+use Rattle.hayro_cmap.specs.Refusals.{Blames, Fails, IsFault, IsMissing, IsUseFault}
 use Rattle.hayro_cmap.specs.declared.refusal.Cause.{Cause}
 use Rattle.hayro_cmap.specs.declared.refusal.Cause.TheVariants.{Malformed, NoFile, ChainLength, OverBudget}
 use Rattle.hayro_cmap.proofs.WholeFile.{StaysWithin-from_spent}
@@ -47,19 +47,13 @@ module _ (means : List ℕ → File → Type 0) (answer : List ℕ → Option (L
     (file, meant, subst (Contains file.uses) (sym first_is) uses, subst (λ n. (IsMissing means answer below n cause × (names ≡ [])) ⊎ ((base : List ℕ) × answer n (Some base) × IsFault means answer below base names cause)) (sym first_is) fault),
   )
 
--- what the cause says of all files
-pub no_layers : (means : List ℕ → File → Type 0) (answer : List ℕ → Option (List ℕ) → Type 0) (most : ℕ) (bytes : List ℕ) (budget left : Option ℕ) (cause : Cause) → Fails (of_file means answer most) bytes budget left cause → HasNoLayers means answer most bytes budget cause
-no_layers means answer most bytes budget left (Malformed stop) fails = (fails.none, StaysWithin-from_spent means answer most bytes budget true left fails.spent)
-no_layers means answer most bytes budget left NoFile fails = (fails.none, StaysWithin-from_spent means answer most bytes budget true left fails.spent)
-no_layers means answer most bytes budget left ChainLength fails = (fails.none, StaysWithin-from_spent means answer most bytes budget true left fails.spent)
-no_layers means answer most bytes budget left OverBudget fails = fails
-
 -- all causes but one say that there are no layers
-pub refused_by : (means : List ℕ → File → Type 0) (answer : List ℕ → Option (List ℕ) → Type 0) (most : ℕ) (bytes : List ℕ) (budget : Option ℕ) (cause : Cause) → (cause ≡ OverBudget → ⊥) → HasNoLayers means answer most bytes budget cause → HoldsOfNone (AreLayers means answer most bytes) × StaysWithin means answer most bytes budget
-refused_by means answer most bytes budget (Malformed stop) other none = none
-refused_by means answer most bytes budget NoFile other none = none
-refused_by means answer most bytes budget ChainLength other none = none
-refused_by means answer most bytes budget OverBudget other none = absurd (other refl)
+pub no_layers : (means : List ℕ → File → Type 0) (answer : List ℕ → Option (List ℕ) → Type 0) (most : ℕ) (bytes : List ℕ) (budget left : Option ℕ) (cause : Cause) → Fails (of_file means answer most) bytes budget left cause
+    → (cause ≡ OverBudget → ⊥) → HoldsOfNone (AreLayers means answer most bytes) × StaysWithin means answer most bytes budget
+no_layers means answer most bytes budget left (Malformed stop) fails other = (fails.none, StaysWithin-from_spent means answer most bytes budget true left fails.spent)
+no_layers means answer most bytes budget left NoFile fails other = (fails.none, StaysWithin-from_spent means answer most bytes budget true left fails.spent)
+no_layers means answer most bytes budget left ChainLength fails other = (fails.none, StaysWithin-from_spent means answer most bytes budget true left fails.spent)
+no_layers means answer most bytes budget left OverBudget fails other = absurd (other refl)
 
 -- the name at a place of the names of a slice
 pub used_at : (items uses : List (Bor (List ℕ))) (i : ℕ) → items ≡ uses → i < length items → Contains (names_seen uses) (get_or items i (record { ref_ptr = (0, 0); now = [] })).now

@@ -4,3 +4,4 @@ pub mod Identity
 pub mod Answers
 pub mod BytesSpent
 pub mod Refusals
+pub mod Maps

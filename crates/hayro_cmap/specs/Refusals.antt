@@ -8,9 +8,7 @@ use Rattle.cmap_files.specs.Only.{HoldsOfNone}
 use Rattle.cmap_files.specs.Outcomes.{DecidedBy}
 use Rattle.cmap_files.specs.declared.fault.Stop.{Stop}
 use Rattle.cmap_text.specs.TextFiles.{IsTextFile}
-use Rattle.hayro_cmap.specs.Budgets.{PassesBudget, StaysWithin}
 use Rattle.hayro_cmap.specs.BytesSpent.{About, Refuses, GoesOver}
-use Rattle.hayro_cmap.specs.Layers.{AreLayers}
 use Rattle.hayro_cmap.specs.declared.refusal.Cause.{Cause}
 use Rattle.hayro_cmap.specs.declared.refusal.Cause.TheVariants.{Malformed, NoFile, ChainLength, OverBudget}
 
@@ -44,13 +42,6 @@ module _ (means : List ℕ → File → Type 0) (answer : List ℕ → Option (L
   abbrev pub IsUseFault : ℕ → List ℕ → List (List ℕ) → Cause → Type 0
   IsUseFault most name [] cause = ⊥
   IsUseFault most name (first ∷ names) cause = (first ≡ name) × ((IsMissing most name cause × (names ≡ [])) ⊎ ((base : List ℕ) × answer name (Some base) × IsFault most base names cause))
-
-  -- what a cause says of all files: they pass the budget, or there are no layers and they don't
-  abbrev pub HasNoLayers : ℕ → List ℕ → Option ℕ → Cause → Type 0
-  HasNoLayers most bytes budget (Malformed stop) = HoldsOfNone (AreLayers means answer most bytes) × StaysWithin means answer most bytes budget
-  HasNoLayers most bytes budget NoFile = HoldsOfNone (AreLayers means answer most bytes) × StaysWithin means answer most bytes budget
-  HasNoLayers most bytes budget ChainLength = HoldsOfNone (AreLayers means answer most bytes) × StaysWithin means answer most bytes budget
-  HasNoLayers most bytes budget OverBudget = PassesBudget means answer most bytes budget
 
 -- ---- private aid
 -- how a search for the layers of a file or of a use fails

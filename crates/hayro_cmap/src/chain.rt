@@ -21,8 +21,8 @@ use cmap_layers::layers::Layer;
 use cmap_text::read_text;
 use std::alloc::{AllocError, Global};
 
-/// How many files may stand under the top one in a chain.
-pub(crate) const MOST_BELOW: u8 = 15;
+/// How many files may stand in a chain, the top one counted.
+pub(crate) const MOST_FILES: u8 = 16;
 
 /// The layers of a file, its own first. It is refused where it or a file that it uses is outside the
 /// grammar, a use has no answer, or more than `below` files stand under it in a chain.

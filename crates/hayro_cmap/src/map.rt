@@ -1,29 +1,29 @@
 //! Maps: what the codes of a CMap file stand for.
 
-ghost use Rattle.std.specs.Prelude.{◌≡◌, ◌*◌, [], ◌∷◌, ◌≤◌, ◌<◌, IfErr, IfOk, IfSome, IfNone, IsErrOf, IsSome, IsSomeAnd, OnErr, OnOk, MatchOption, codes, is_some, length, option_map};
+ghost use Rattle.std.specs.Prelude.{◌≡◌, ◌≢◌, ◌*◌, [], ◌∷◌, ◌≤◌, ◌<◌, IfErr, IfOk, IfSome, IfNone, IsErrOf, IsSome, IsSomeAnd, OnErr, OnOk, MatchOption, codes, is_some, length, option_map};
 ghost use Rattle.cmap_files.specs.CodeLengths.{IsCodeLength};
 ghost use Rattle.cmap_runs.specs.SearchLooks.{LooksAtMost};
 ghost use Rattle.cmap_tokens.specs.TextSeen.{text_seen};
 ghost use Rattle.cmap_tokens.specs.Texts.{text_of};
 ghost use Rattle.hayro_cmap.specs.Answers.{Answers, AnswersByName, IsByName};
-ghost use Rattle.hayro_cmap.specs.Budgets.{PassesBudget, StaysWithin};
 ghost use Rattle.cmap_files.specs.DeclarationsSeen.{lists_seen};
 ghost use Rattle.cmap_files.specs.Files as files;
 ghost use Rattle.cmap_files.specs.FilesSeen.{names_seen};
 ghost use Rattle.hayro_cmap.specs.Identity.{identity_layer};
 ghost use Rattle.cmap_binary.specs.BundleSeen.{tables_given};
-ghost use Rattle.hayro_cmap.specs.Layers.{AreLayers, AreUses, Means};
+ghost use Rattle.hayro_cmap.specs.Layers.{AreUses, Means};
+ghost use Rattle.hayro_cmap.specs.Maps.{ExceedsBudget, FitsBudget, HasNoMap, IsMapOf, LeadsToFault};
 ghost use Rattle.cmap_layers.specs.LayersSeen.{IsMetadataOf, layers_seen, metadata_seen, mode_seen};
 ghost use Rattle.cmap_layers.specs.Lookups.{InCodespace, bf_of, cid_of};
-ghost use Rattle.cmap_files.specs.Only.{IsOnly, HoldsOfNone};
-ghost use Rattle.cmap_files.specs.Outcomes.{Finds};
-ghost use Rattle.hayro_cmap.specs.Refusals.{HasNoLayers, IsFault};
+ghost use Rattle.cmap_files.specs.Only.{IsOnly};
+ghost use Rattle.cmap_files.specs.Outcomes.{Finds, RefusesWith};
 ghost use Rattle.cmap_layers.specs.StringCodes.{IsNextCode};
 ghost use Rattle.cmap_layers.specs.Searches.{bf_looks, cid_looks, finds_text};
 ghost use Rattle.hayro_cmap.specs.declared.budget.ParseError.TheVariants.{OverBudget};
+ghost use Rattle.hayro_cmap.specs.declared.refusal.Cause.TheVariants as Cause;
 
 use crate::budget::ParseError;
-use crate::chain::{MOST_BELOW, find_layers, read_file};
+use crate::chain::{MOST_FILES, find_layers, read_file};
 use crate::refusal::{Cause, Refusal};
 use crate::source::{FilesByName, Source};
 use cmap_binary::Bundle;
@@ -81,11 +81,9 @@ impl CMap {
 
         // A map is that of the file, and no other layers are.
         ensures accepts { IfOk result (λ found. IfSome found
-            (λ map. IsOnly (AreLayers (Means (tables_given bundle.entry))
-            (Answers F.Fn get_cmap.now) 16 «data».now) map)) }
+            (IsMapOf bundle.entry (Answers F.Fn get_cmap.now) «data».now)) }
         ensures refuses { IfOk result (λ found. IfNone found
-            (HoldsOfNone (AreLayers (Means (tables_given bundle.entry))
-            (Answers F.Fn get_cmap.now) 16 «data».now))) }
+            (HasNoMap bundle.entry (Answers F.Fn get_cmap.now) «data».now)) }
     {
         match CMap::parse_within(alloc, None, data, bundle, get_cmap) {
             Ok(map) => Ok(map),
@@ -112,108 +110,70 @@ impl CMap {
         requires callable { F.IsAlwaysCallable get_cmap.now }
         requires by_name { AnswersByName F.Fn get_cmap.now }
         ensures accepts { IfOk result (λ found. IfSome found
-            (λ map. IsOnly (AreLayers (Means (tables_given bundle.entry))
-            (Answers F.Fn get_cmap.now) 16 «data».now) map)) }
+            (IsMapOf bundle.entry (Answers F.Fn get_cmap.now) «data».now)) }
         ensures refuses { IfOk result (λ found. IfNone found
-            (HoldsOfNone (AreLayers (Means (tables_given bundle.entry))
-            (Answers F.Fn get_cmap.now) 16 «data».now))) }
+            (HasNoMap bundle.entry (Answers F.Fn get_cmap.now) «data».now)) }
 
         // With an answer, all that is opened is within the budget.
         ensures within { OnOk result
-            (StaysWithin (Means (tables_given bundle.entry))
-            (Answers F.Fn get_cmap.now) 16 «data».now budget) }
+            (FitsBudget bundle.entry (Answers F.Fn get_cmap.now) «data».now budget) }
 
         // There is a budget, and all that would be opened passes it.
         ensures some { IsErrOf result OverBudget → IsSome budget }
         ensures over { IsErrOf result OverBudget
-            → PassesBudget (Means (tables_given bundle.entry))
-            (Answers F.Fn get_cmap.now) 16 «data».now budget }
+            → ExceedsBudget bundle.entry (Answers F.Fn get_cmap.now) «data».now budget }
     {
         let source = FilesByName {
             get_cmap,
             of: PhantomData,
         };
-        CMap::parse_from(alloc, budget, data, bundle, &source)
-    }
-
-    /// The map that `parse_within` gives, where the files that others use come from a `Source`.
-    ///
-    /// A caller whose `Source` says what it answers to each name meets both premises.
-    pub fn parse_from<S: Source>(
-        alloc: Global,
-        budget: Option<u64>,
-        data: &[u8],
-        bundle: Option<&Bundle<'_>>,
-        source: &S,
-    ) -> Result<Option<CMap>, ParseError>
-        requires can_ask { S.can_ask source.now }
-        requires by_name { IsByName (S.answers source.now) }
-        ensures accepts { IfOk result (λ found. IfSome found
-            (λ map. IsOnly (AreLayers (Means (tables_given bundle.entry))
-            (S.answers source.now) 16 «data».now) map)) }
-        ensures refuses { IfOk result (λ found. IfNone found
-            (HoldsOfNone (AreLayers (Means (tables_given bundle.entry))
-            (S.answers source.now) 16 «data».now))) }
-
-        // With an answer, all that is opened is within the budget.
-        ensures within { OnOk result
-            (StaysWithin (Means (tables_given bundle.entry))
-            (S.answers source.now) 16 «data».now budget) }
-
-        // There is a budget, and all that would be opened passes it.
-        ensures some { IsErrOf result OverBudget → IsSome budget }
-        ensures over { IsErrOf result OverBudget
-            → PassesBudget (Means (tables_given bundle.entry))
-            (S.answers source.now) 16 «data».now budget }
-    {
-        let cause = match CMap::parse_explained(alloc, budget, data, bundle, source)? {
-            Ok(map) => return Ok(Some(map)),
-            Err(refusal) => refusal.cause,
-        };
-        match cause {
-            Cause::OverBudget => Err(ParseError::OverBudget),
-            _ => Ok(None),
+        match CMap::parse_from(alloc, budget, data, bundle, &source) {
+            Ok(map) => Ok(Some(map)),
+            Err(Fault::Refused(refusal)) => match refusal.cause {
+                Cause::OverBudget => Err(ParseError::OverBudget),
+                _ => Ok(None),
+            },
+            Err(Fault::Memory) => Err(ParseError::Memory),
         }
     }
 
-    /// The map that `parse_from` gives, or why there is none: the file at fault, by the names that
-    /// lead to it, and what is wrong with it.
-    pub fn parse_explained<'a, S: Source>(
+    /// The map that `parse_within` gives, where the files that others use come from a `Source`; or why
+    /// there is none: the file at fault, by the names that lead to it, and what is wrong with it.
+    ///
+    /// A caller whose `Source` says what it answers to each name meets both premises.
+    pub fn parse_from<'a, S: Source>(
         alloc: Global,
         budget: Option<u64>,
         data: &'a [u8],
         bundle: Option<&Bundle<'_>>,
         source: &'a S,
-    ) -> Result<Result<CMap, Refusal<'a>>, AllocError>
+    ) -> Result<CMap, Fault<Refusal<'a>>>
         requires can_ask { S.can_ask source.now }
         requires by_name { IsByName (S.answers source.now) }
-        ensures accepts { IfOk result (λ found. IfOk found
-            (λ map. IsOnly (AreLayers (Means (tables_given bundle.entry))
-            (S.answers source.now) 16 «data».now) map)) }
+        ensures accepts { IfOk result
+            (IsMapOf bundle.entry (S.answers source.now) «data».now) }
+        ensures within { OnOk result
+            (FitsBudget bundle.entry (S.answers source.now) «data».now budget) }
 
-        // There are no layers, or all that would be opened passes the budget.
-        ensures refuses { IfOk result (λ found. IfErr found
-            (λ refusal. HasNoLayers (Means (tables_given bundle.entry)) (S.answers source.now) 16
-            «data».now budget refusal.cause)) }
+        // There is no map, or what is opened passes the budget.
+        ensures refuses { IfErr result (RefusesWith (λ refusal. refusal.cause ≢ Cause.OverBudget
+            → HasNoMap bundle.entry (S.answers source.now) «data».now
+            × FitsBudget bundle.entry (S.answers source.now) «data».now budget)) }
+        ensures over { IfErr result (RefusesWith (λ refusal. refusal.cause ≡ Cause.OverBudget
+            → ExceedsBudget bundle.entry (S.answers source.now) «data».now budget)) }
 
         // The names lead to the file that is at fault.
-        ensures blames { IfOk result (λ found. IfErr found
-            (λ refusal. IsFault (Means (tables_given bundle.entry)) (S.answers source.now) 16
-            «data».now (names_seen refusal.names.items) refusal.cause)) }
-
-        // With a map, all that is opened is within the budget.
-        ensures within { IfOk result (λ found. OnOk found
-            (StaysWithin (Means (tables_given bundle.entry))
-            (S.answers source.now) 16 «data».now budget)) }
+        ensures blames { IfErr result (RefusesWith (λ refusal.
+            LeadsToFault bundle.entry (S.answers source.now) «data».now
+            (names_seen refusal.names.items) refusal.cause)) }
     {
         let mut left = budget;
         let mut names = Vec::new(alloc);
-        match find_layers(
-            alloc, data, bundle, source, MOST_BELOW, &mut left, &mut names,
-        ) {
-            Ok(layers) => Ok(Ok(CMap { layers })),
-            Err(Fault::Refused(cause)) => Ok(Err(Refusal { names, cause })),
-            Err(Fault::Memory) => Err(AllocError),
+        let below = MOST_FILES - 1;
+        match find_layers(alloc, data, bundle, source, below, &mut left, &mut names) {
+            Ok(layers) => Ok(CMap { layers }),
+            Err(Fault::Refused(cause)) => Err(Fault::Refused(Refusal { names, cause })),
+            Err(Fault::Memory) => Err(Fault::Memory),
         }
     }
 
