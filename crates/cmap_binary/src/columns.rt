@@ -1,17 +1,17 @@
 //! Columns of the segments of a binary file: where the codes of the entries lie.
 
-ghost use Rattle.std.specs.Prelude.{◌≡◌, ◌+◌, ◌<◌, ◌≤◌, ◌^◌, IfSome, MatchOption, option_map};
+ghost use Rattle.std.specs.Prelude.{◌≡◌, ◌+◌, ◌<◌, ◌≤◌, ◌^◌, IfOk, MatchOption, option_map};
 ghost use Rattle.cmap_bits.specs.Reader.{bits_left};
 ghost use Rattle.cmap_binary.specs.BinaryEntries.{ColumnsAt, CountsAt, SpanAt, SymbolAt, WidthAt};
 ghost use Rattle.cmap_binary.specs.BundleSeen.{tables_seen};
 ghost use Rattle.cmap_binary.specs.ColumnsSeen.{columns_seen, shape_seen, span_seen};
-ghost use Rattle.cmap_files.specs.Outcomes.{Finds};
+ghost use Rattle.cmap_files.specs.Outcomes.{Finds, Reads};
 
 use crate::bundle::Tables;
 use crate::pieces::take_sized;
 use cmap_bits::bits::Reader;
 use cmap_bits::prefix::PrefixTable;
-use cmap_files::fault::{Reason, Segment};
+use cmap_files::fault::{Fault, Reason, Segment};
 use cmap_runs::runs::Range;
 
 /// Whether the entries of a segment are ranges, or single codes.
@@ -30,9 +30,7 @@ pub(crate) struct Columns<'b> {
     counts: Option<Reader<'b>>,
     /// The first code after the entry before.
     base: u64,
-    segment: Segment,
-    /// What is wrong where no entry comes next.
-    pub(crate) lack: Reason,
+    pub(crate) segment: Segment,
 }
 
 /// The columns that the text begins with, of such a segment.
@@ -51,7 +49,6 @@ pub(crate) fn take_columns<'b>(
         counts,
         base: 0,
         segment,
-        lack: Reason::Entry(segment),
     })
 }
 
@@ -69,19 +66,22 @@ fn take_counts<'b>(text: &mut &'b [u8], shape: Shape) -> Option<Option<Reader<'b
 impl Columns<'_> {
     /// The codes of the next entry.
     #[inline(always)]
-    pub(crate) fn next_range(&mut self, tables: &Tables) -> Option<Range>
-        ensures next { Finds (SpanAt (tables_seen tables.now) (columns_seen self.old))
+    pub(crate) fn next_range(&mut self, tables: &Tables) -> Result<Range, Fault<Reason>>
+        ensures next { Reads (SpanAt (tables_seen tables.now) (columns_seen self.old))
             (λ range. (span_seen range, columns_seen self.new)) result }
-        ensures order { IfSome result (λ range. range.start ≤ range.end) }
+        ensures order { IfOk result (λ range. range.start ≤ range.end) }
     {
-        let delta = next_symbol(&tables.delta, &mut self.deltas)?;
-        let width = next_width(&tables.count, &mut self.counts)?;
+        let Some(delta) = next_symbol(&tables.delta, &mut self.deltas) else {
+            return Err(Fault::Refused(Reason::Entry(self.segment)));
+        };
+        let Some(width) = next_width(&tables.count, &mut self.counts) else {
+            return Err(Fault::Refused(Reason::Entry(self.segment)));
+        };
         let Some(range) = range_after(self.base, delta, width) else {
-            self.lack = Reason::CodeTooLarge(self.segment);
-            return None;
+            return Err(Fault::Refused(Reason::CodeTooLarge(self.segment)));
         };
         self.base = u64::from(range.end) + 1;
-        Some(range)
+        Ok(range)
     }
 }
 

@@ -7,7 +7,7 @@ ghost use Rattle.cmap_binary.specs.BinarySeen.{Adds};
 ghost use Rattle.cmap_binary.specs.BundleSeen.{tables_seen};
 ghost use Rattle.cmap_binary.specs.ColumnsSeen.{cid_columns_seen, shape_seen};
 ghost use Rattle.cmap_binary.specs.Fronts.{FieldAt, RowOf};
-ghost use Rattle.cmap_files.specs.Outcomes.{Finds, Reads};
+ghost use Rattle.cmap_files.specs.Outcomes.{Reads};
 ghost use Rattle.cmap_files.specs.CodeLengths.{length_of};
 ghost use Rattle.cmap_files.specs.DeclarationsSeen.{cid_entry_seen};
 ghost use Rattle.cmap_files.specs.FilesSeen.{file_seen};
@@ -35,18 +35,20 @@ struct CidColumns<'b> {
 impl CidColumns<'_> {
     /// The next entry: raw CID 0 goes on after the CIDs of the entry before.
     #[inline(always)]
-    fn next_entry(&mut self, tables: &Tables) -> Option<CidRange>
-        ensures { Finds (CidEntryAt (tables_seen tables.now) (cid_columns_seen self.old))
+    fn next_entry(&mut self, tables: &Tables) -> Result<CidRange, Fault<Reason>>
+        ensures { Reads (CidEntryAt (tables_seen tables.now) (cid_columns_seen self.old))
             (λ entry. (cid_entry_seen entry, cid_columns_seen self.new)) result }
     {
         let range = self.columns.next_range(tables)?;
-        let raw = take_u16(&mut self.raws)?;
+        let Some(raw) = take_u16(&mut self.raws) else {
+            return Err(Fault::Refused(Reason::Entry(Segment::Cids)));
+        };
         let cid = if raw == 0 { self.next } else { u64::from(raw) };
         let Ok(cid) = u32::try_from(cid) else {
-            return None;
+            return Err(Fault::Refused(Reason::CidTooLarge));
         };
         self.next = u64::from(cid) + u64::from(range.end - range.start) + 1;
-        Some(CidRange { range, cid })
+        Ok(CidRange { range, cid })
     }
 }
 
@@ -80,10 +82,8 @@ pub(crate) fn add_cids(
         raws: payload,
         next: 0,
     };
-    for index in 0..count {
-        let Some(range) = left.next_entry(tables) else {
-            return Err(Fault::Refused(left.columns.lack));
-        };
+    for _ in 0..count {
+        let range = left.next_entry(tables)?;
         file.lists.add_cid(len, range)?;
     }
     Ok(())
@@ -113,10 +113,8 @@ pub(crate) fn add_texts(
         .bfs
         .reserve(usize::from(count).min(payload.len()))?;
     let mut buffer = Vec::new(alloc);
-    for index in 0..count {
-        let Some(range) = columns.next_range(tables) else {
-            return Err(Fault::Refused(columns.lack));
-        };
+    for _ in 0..count {
+        let range = columns.next_range(tables)?;
         let units = read_destination(alloc, &mut payload, fixed, &mut buffer)?;
         file.lists.add_bf(BfRange { range, units })?;
     }
@@ -160,7 +158,7 @@ fn read_units(
         return Ok(Units::One([unit]));
     }
     buffer.clear();
-    for index in 0..count {
+    for _ in 0..count {
         let Some(unit) = take_u16(text) else {
             return Err(Fault::Refused(Reason::Entry(Segment::Texts)));
         };

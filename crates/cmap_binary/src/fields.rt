@@ -35,7 +35,7 @@ pub(crate) fn add_notdefs(mut payload: &[u8], file: &mut File<'_>) -> Result<(),
     let Some(len) = CodeLength::of(width) else {
         return Err(Fault::Refused(Reason::CodeLength));
     };
-    for index in 0..count {
+    for _ in 0..count {
         let Some(range) = take_notdef(&mut payload, width) else {
             return Err(Fault::Refused(Reason::Entry(Segment::Notdefs)));
         };
@@ -66,7 +66,7 @@ pub(crate) fn add_codespaces(mut payload: &[u8], file: &mut File<'_>) -> Result<
     let Some(count) = take_byte(&mut payload) else {
         return Err(Fault::Refused(Reason::Field(Segment::Codespaces)));
     };
-    for index in 0..count {
+    for _ in 0..count {
         let width = payload.first().copied();
         let Some(space) = take_codespace(&mut payload) else {
             return Err(Fault::Refused(codespace_lack(width)));

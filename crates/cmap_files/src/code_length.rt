@@ -4,7 +4,7 @@ ghost use Rattle.std.specs.Prelude.{◌≡◌, MatchOption};
 ghost use Rattle.cmap_files.specs.CodeLengths.{IsCodeLength, length_of};
 
 /// How many bytes a code has: one to four.
-#[derive(Clone, Copy, Debug)]
+#[derive(Clone, Copy, Debug, PartialEq, Eq)]
 pub enum CodeLength {
     One,
     Two,

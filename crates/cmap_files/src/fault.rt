@@ -37,6 +37,8 @@ pub enum Reason {
     Entry(Segment),
     /// The last code of an entry of this segment of a binary file passes 32 bits.
     CodeTooLarge(Segment),
+    /// A CID of a binary file passes 32 bits.
+    CidTooLarge,
 }
 
 impl Display for Reason {
@@ -54,6 +56,7 @@ impl Display for Reason {
             Reason::Header => "no whole binary file of version 1",
             Reason::SegmentLength => "a segment is cut short",
             Reason::SegmentType => "a segment of an unknown type",
+            Reason::CidTooLarge => "a CID passes 32 bits",
             Reason::Field(segment) => {
                 return write!(f, "a field of the segment of {segment} is cut short");
             }

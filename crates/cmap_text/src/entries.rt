@@ -45,7 +45,7 @@ pub(crate) fn add_codespace_range(
         lists.old lists.new reader.new result }
 {
     let high = reader.next_code()?;
-    if low.len.count() != high.len.count() {
+    if low.len != high.len {
         return Err(Fault::Refused(WrongToken::Last(Reason::UnequalLengths)));
     }
     lists.add_codespace(Codespace {

@@ -153,8 +153,9 @@ fn mode_of(value: Option<Token<'_>>) -> Option<WritingMode>
     ensures { option_map mode_seen result ≡ mode_in (option_map token_seen value.entry) }
 {
     match value {
-        Some(Token::Number(Number::Integer(0))) => Some(WritingMode::Horizontal),
-        Some(Token::Number(Number::Integer(1))) => Some(WritingMode::Vertical),
+        Some(Token::Number(Number::Integer(number))) => {
+            WritingMode::numbered(u8::try_from(number).ok()?)
+        }
         _ => None,
     }
 }

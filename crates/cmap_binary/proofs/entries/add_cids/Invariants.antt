@@ -7,5 +7,5 @@ use Rattle.cmap_binary.specs.ColumnsSeen.{cid_columns_seen}
 use Rattle.cmap_binary.proofs.RowsAdded.{AddsRow}
 use Rattle.cmap_binary.proofs.entries.add_cids.Given as goal
 
-abbrev pub invariant-loop-index : goal.invariant-loop-index
-invariant-loop-index l = AddsRow (CidEntryAt (tables_seen l.tables)) (cid (length_of l.len)) l.count (cid_columns_seen l.initial.left) (file_seen l.initial.file) l.index (cid_columns_seen l.left) (file_seen l.file)
+abbrev pub invariant-loop : goal.invariant-loop
+invariant-loop l = AddsRow (CidEntryAt (tables_seen l.tables)) (cid (length_of l.len)) l.count (cid_columns_seen l.initial.left) (file_seen l.initial.file) l.counter (cid_columns_seen l.left) (file_seen l.file)

@@ -11,26 +11,27 @@ returns-in_default c = (tt, made_none (then_none _ _ c.in_default.ensures))
 pub returns-in_default-take_columns : goal.returns-in_default-take_columns
 returns-in_default-take_columns c = (tt, made_none (then_next _ c.in-Some.ensures (then_none _ _ c.in_default-take_columns.ensures)))
 
-pub loop-index-init : goal.loop-index-init
-loop-index-init c = adds_start _ _ _ _ _
+pub loop-init : goal.loop-init
+loop-init c = adds_start _ _ _ _ _
 
-pub returns-in_default-next_range : goal.returns-in_default-next_range
-returns-in_default-next_range c =
-    let none = adds_wrong c.loop-index.invariant (omega arith) (then_none _ _ c.in_default-next_range.ensures.next) in
-    (tt, made_none (then_next _ c.in-Some.ensures (then_next _ c.in-Some-take_columns.ensures (then_none _ _ none))))
+pub returns-in_err-range : goal.returns-in_err-range
+returns-in_err-range c =
+    passed_on _ _ _ c.from_residual-in_err-range.ensures.1 c.in_err-range.ensures.next.1
+    (λ reason none. made_none (then_next _ c.in-Some.ensures (then_next _ c.in-Some-take_columns.ensures (then_none _ _
+    (adds_wrong c.loop.invariant (omega arith) (then_none _ _ none))))))
 
 pub returns-in_err-units : goal.returns-in_err-units
 returns-in_err-units c =
     passed_on _ _ _ c.from_residual-in_err-units.ensures.1 c.in_err-units.ensures.1
     (λ reason none. made_none (then_next _ c.in-Some.ensures (then_next _ c.in-Some-take_columns.ensures (then_none _ _
-    (adds_wrong c.loop-index.invariant (omega arith) (then_next _ c.in-Some-next_range.ensures.next (then_none _ _ none)))))))
+    (adds_wrong c.loop.invariant (omega arith) (then_next _ c.in_ok-range.ensures.next.0 (then_none _ _ none)))))))
 
-pub loop-index-preserved : goal.loop-index-preserved
-loop-index-preserved c =
-    adds_more c.loop-index.invariant _ (omega arith) (then_only _ c.in-Some-next_range.ensures.next (then_only _ c.in_ok-units.ensures.0 gives))
+pub loop-preserved : goal.loop-preserved
+loop-preserved c =
+    adds_more c.loop.invariant _ (omega arith) (then_only _ c.in_ok-range.ensures.next.0 (then_only _ c.in_ok-units.ensures.0 gives))
     (rw c.in_ok-add_bf.ensures refl)
 
 pub returns : goal.returns
 returns c =
-    let has = c.loop-index.invariant in
+    let has = c.loop.invariant in
     (record { content = _; only = made_only (then_only _ c.in-Some.ensures (then_only _ c.in-Some-take_columns.ensures (then_only _ (adds_end has (omega arith)) gives))); says = rw c.reserve.ensures.items at has.says }, tt)

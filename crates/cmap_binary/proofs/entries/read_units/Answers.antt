@@ -3,17 +3,17 @@ use Rattle.cmap_binary.specs.Fronts.{FieldAt}
 use Rattle.cmap_binary.proofs.Fronts.{row_start, row_more, row_wrong, row_end}
 use Rattle.cmap_binary.proofs.entries.read_units.Goals as goal
 
-pub loop-index-init : goal.loop-index-init
-loop-index-init c = rw c.clear.ensures.items (row_start _ _ _)
+pub loop-init : goal.loop-init
+loop-init c = rw c.clear.ensures.items (row_start _ _ _)
 
-pub loop-index-preserved : goal.loop-index-preserved
-loop-index-preserved c = rw c.in_ok-push.ensures.items (row_more _ _ _ _ _ _ _ _ c.loop-index.invariant (omega arith) c.in-Some-take_u16.ensures)
+pub loop-preserved : goal.loop-preserved
+loop-preserved c = rw c.in_ok-push.ensures.items (row_more _ _ _ _ _ _ _ _ c.loop.invariant (omega arith) c.in-Some-take_u16.ensures)
 
 pub returns : goal.returns
-returns c = (rw (c.in_ok-from_slice.ensures.units, c.deref.ensures.value) (row_end _ _ _ _ _ _ c.loop-index.invariant (omega arith)), tt)
+returns c = (rw (c.in_ok-from_slice.ensures.units, c.deref.ensures.value) (row_end _ _ _ _ _ _ c.loop.invariant (omega arith)), tt)
 
 pub returns-in_default : goal.returns-in_default
 returns-in_default c = (tt, row_wrong (FieldAt 2) c.args.count c.args.text.now.now 0 _ _ (row_start _ _ _) (omega arith) c.in_default.ensures)
 
 pub returns-in_default-take_u16 : goal.returns-in_default-take_u16
-returns-in_default-take_u16 c = (tt, row_wrong _ _ _ _ _ _ c.loop-index.invariant (omega arith) c.in_default-take_u16.ensures)
+returns-in_default-take_u16 c = (tt, row_wrong _ _ _ _ _ _ c.loop.invariant (omega arith) c.in_default-take_u16.ensures)

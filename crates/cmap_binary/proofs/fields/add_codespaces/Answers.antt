@@ -7,18 +7,18 @@ use Rattle.cmap_binary.proofs.fields.add_codespaces.Goals as goal
 pub returns-in_default : goal.returns-in_default
 returns-in_default c = (tt, made_none (then_none _ _ c.in_default.ensures))
 
-pub loop-index-init : goal.loop-index-init
-loop-index-init c = adds_start _ _ _ _ _
+pub loop-init : goal.loop-init
+loop-init c = adds_start _ _ _ _ _
 
 pub returns-in_default-take_codespace : goal.returns-in_default-take_codespace
 returns-in_default-take_codespace c =
-    let none = adds_wrong c.loop-index.invariant (omega arith) c.in_default-take_codespace.ensures in
+    let none = adds_wrong c.loop.invariant (omega arith) c.in_default-take_codespace.ensures in
     (tt, made_none (then_next _ c.in-Some.ensures (then_none _ _ none)))
 
-pub loop-index-preserved : goal.loop-index-preserved
-loop-index-preserved c = adds_more c.loop-index.invariant _ (omega arith) c.in-Some-take_codespace.ensures (rw c.in_ok-add_codespace.ensures refl)
+pub loop-preserved : goal.loop-preserved
+loop-preserved c = adds_more c.loop.invariant _ (omega arith) c.in-Some-take_codespace.ensures (rw c.in_ok-add_codespace.ensures refl)
 
 pub returns : goal.returns
 returns c =
-    let has = c.loop-index.invariant in
+    let has = c.loop.invariant in
     (record { content = _; only = made_only (then_only _ c.in-Some.ensures (then_only _ (adds_end has (omega arith)) gives)); says = has.says }, tt)

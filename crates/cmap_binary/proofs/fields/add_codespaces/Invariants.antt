@@ -4,5 +4,5 @@ use Rattle.cmap_binary.specs.BinaryFiles.{CodespaceAt}
 use Rattle.cmap_binary.proofs.RowsAdded.{AddsRow}
 use Rattle.cmap_binary.proofs.fields.add_codespaces.Given as goal
 
-abbrev pub invariant-loop-index : goal.invariant-loop-index
-invariant-loop-index l = AddsRow CodespaceAt codespace l.count l.initial.payload (file_seen l.initial.file) l.index l.payload (file_seen l.file)
+abbrev pub invariant-loop : goal.invariant-loop
+invariant-loop l = AddsRow CodespaceAt codespace l.count l.initial.payload (file_seen l.initial.file) l.counter l.payload (file_seen l.file)

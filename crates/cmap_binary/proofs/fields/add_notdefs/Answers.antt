@@ -21,18 +21,18 @@ returns-in_default-of c =
     let none = row_wrong (NotdefAt c.in-Some.width) _ c.take_u16.new.text.now _ _ _ (row_start _ _ _) (omega arith) (λ other (start, mid, code, more). c.in_default-of.ensures code.0) in
     (tt, made_none (then_next _ c.in-Some.ensures (then_next _ c.in-Some-take_u16.ensures (then_none _ _ none))))
 
-pub loop-index-init : goal.loop-index-init
-loop-index-init c = adds_start _ _ _ _ _
+pub loop-init : goal.loop-init
+loop-init c = adds_start _ _ _ _ _
 
 pub returns-in_default-take_notdef : goal.returns-in_default-take_notdef
 returns-in_default-take_notdef c =
-    let none = adds_wrong c.loop-index.invariant (omega arith) c.in_default-take_notdef.ensures in
+    let none = adds_wrong c.loop.invariant (omega arith) c.in_default-take_notdef.ensures in
     (tt, made_none (then_next _ c.in-Some.ensures (then_next _ c.in-Some-take_u16.ensures (then_none _ _ none))))
 
-pub loop-index-preserved : goal.loop-index-preserved
-loop-index-preserved c = adds_more c.loop-index.invariant _ (omega arith) c.in-Some-take_notdef.ensures (rw (c.in_ok-add_notdef.ensures, c.in-Some-of.ensures.1) refl)
+pub loop-preserved : goal.loop-preserved
+loop-preserved c = adds_more c.loop.invariant _ (omega arith) c.in-Some-take_notdef.ensures (rw (c.in_ok-add_notdef.ensures, c.in-Some-of.ensures.1) refl)
 
 pub returns : goal.returns
 returns c =
-    let has = c.loop-index.invariant in
+    let has = c.loop.invariant in
     (record { content = _; only = made_only (then_only _ c.in-Some.ensures (then_only _ c.in-Some-take_u16.ensures (then_only _ (adds_end has (omega arith)) gives))); says = has.says }, tt)
