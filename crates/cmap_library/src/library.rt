@@ -1,10 +1,8 @@
 //! The files that others use, by their names.
 
 ghost use Rattle.std.specs.Prelude.{◌≡◌};
-ghost use Rattle.std.specs.Option.{option_copied};
-ghost use Rattle.cmap_library.specs.Libraries.{first_named};
 
-use hayro_cmap::{Bundle, CMapName, Source, load_embedded};
+use hayro_cmap::{Bundle, NamedFile, NamedFiles, Source};
 use std::alloc::{AllocError, Global};
 
 /// A file that others may use.
@@ -50,37 +48,39 @@ impl<'b> Library<'b> {
     {
         self.bundle
     }
+}
 
-    /// The bytes of the first file of this name.
-    fn base(&self, name: &[u8]) -> Option<&[u8]>
-        ensures { option_copied result ≡ first_named name.now self.now.bases.items }
-    {
-        for (i, base) in self.bases.iter().enumerate() {
-            if base.name.as_bytes() == name {
-                return Some(&base.bytes);
-            }
-        }
-        None
+impl NamedFile for Base {
+    ghost use Rattle.cmap_library.specs.Libraries.{bytes_of, name_of};
+
+    ghost name_of = { name_of };
+
+    ghost bytes_of = { bytes_of };
+
+    fn name(&self) -> &[u8] {
+        self.name.as_bytes()
+    }
+
+    fn bytes(&self) -> &[u8] {
+        &self.bytes
     }
 }
 
 impl<'b> Source for Library<'b> {
-    ghost use Rattle.std.specs.Prelude.{◌≡◌, ⊤, option_map};
-    ghost use Rattle.std.specs.Option.{option_copied, option_or};
-    ghost use Rattle.cmap_binary.specs.BundleSeen.{bundle_seen};
-    ghost use Rattle.hayro_cmap.specs.Answers.{embedded};
-    ghost use Rattle.cmap_library.specs.Libraries.{first_named};
+    ghost use Rattle.std.specs.Prelude.{◌≡◌, ⊤};
+    ghost use Rattle.hayro_cmap.specs.NamedFiles.{file_named};
+    ghost use Rattle.cmap_library.specs.Libraries.{bytes_of, name_of};
 
     ghost can_ask = { λ library. ⊤ };
 
     ghost answers = { λ library name answer. answer
-        ≡ option_or (first_named name library.bases.items)
-        (embedded (option_map (λ b. bundle_seen b.now) library.bundle) name) };
+        ≡ file_named name_of bytes_of library.bases.items library.bundle name };
 
     fn file(&self, name: &[u8]) -> Option<&[u8]> {
-        match self.base(name) {
-            Some(bytes) => Some(bytes),
-            None => self.bundle.file(name),
-        }
+        let files = NamedFiles {
+            files: self.bases.as_slice(),
+            bundle: self.bundle,
+        };
+        files.find(name)
     }
 }

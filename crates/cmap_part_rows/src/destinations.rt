@@ -1,10 +1,9 @@
 //! Destinations: their units, and the texts that these stand for.
 
 use crate::texts::push_text;
-use cmap_bits::bits::Reader;
 use cmap_files::units::Units;
 use cmap_rows::fault::Fault;
-use cmap_tokens::utf16::{BfString, number_units, one_char, text, units};
+use cmap_tokens::utf16::{BfString, one_char, text, units};
 use std::alloc::{AllocError, Global};
 
 /// Adds what a word asks of a destination.
@@ -25,7 +24,7 @@ pub fn push_answer(
 fn push_units(alloc: Global, bytes: &[u8], line: &mut String) -> Result<(), Fault> {
     let units = units(alloc, bytes)?;
     push_each(&units, line)?;
-    if !is_kept(alloc, &units)? || !is_numbered(alloc, bytes, &units)? {
+    if !is_kept(alloc, &units)? {
         line.push_str(" unlike")?;
     }
     Ok(())
@@ -46,20 +45,6 @@ fn is_kept(alloc: Global, units: &[u16]) -> Result<bool, AllocError> {
     let kept = Units::from_slice(alloc, units)?;
     let copied = kept.clone(alloc)?;
     Ok(kept.as_slice() == units && copied.as_slice() == units)
-}
-
-/// Whether the number that bytes write has the same units, where there are one to four of them.
-fn is_numbered(alloc: Global, bytes: &[u8], units: &[u16]) -> Result<bool, AllocError> {
-    match number_of(bytes) {
-        Some((len, number)) => Ok(number_units(alloc, len, number)?.as_slice() == units),
-        None => Ok(true),
-    }
-}
-
-/// How many bytes there are, one to four, and the number that they write.
-fn number_of(bytes: &[u8]) -> Option<(u8, u32)> {
-    let len = u8::try_from(bytes.len()).ok()?;
-    Some((len, Reader::new(bytes).read_n_bytes(len)?))
 }
 
 /// Adds the text at the offset that a line begins with.

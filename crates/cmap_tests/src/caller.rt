@@ -1,7 +1,7 @@
 //! Callers of the library, as the README shows them.
 
 use hayro_cmap::bcmap::Bundle;
-use hayro_cmap::{CMap, CMapName, Cid, load_embedded};
+use hayro_cmap::{CMap, CMapName, Cid, Fault, NamedFiles, load_embedded};
 use std::alloc::{AllocError, Global};
 
 /// The CID of a code of two bytes in a CMap that stands alone.
@@ -24,6 +24,24 @@ pub fn cid_over_bundle(
     let get_cmap = |name: CMapName<'_>| load_embedded(Some(&bundle), name);
     let map = CMap::parse(alloc, file, Some(&bundle), &get_cmap)?;
     Ok(map.and_then(|map| map.lookup_cid_code(code, 2)))
+}
+
+/// The CID of a code of two bytes in a CMap that may use these files, each with its name.
+pub fn cid_over_files(
+    alloc: Global,
+    files: &[(&[u8], &[u8])],
+    file: &[u8],
+    code: u32,
+) -> Result<Option<Cid>, AllocError> {
+    let source = NamedFiles {
+        files,
+        bundle: None,
+    };
+    match CMap::parse_from(alloc, None, file, None, &source) {
+        Ok(map) => Ok(map.lookup_cid_code(code, 2)),
+        Err(Fault::Refused(_refusal)) => Ok(None),
+        Err(Fault::Memory) => Err(AllocError),
+    }
 }
 
 /// The CIDs of a string, one for each of its codes. A code in no range has CID 0, and so has one

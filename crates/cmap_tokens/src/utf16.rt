@@ -1,10 +1,9 @@
 //! Texts in UTF-16, as The Unicode Standard, 3.9, D91 defines it.
 
-ghost use Rattle.std.specs.Prelude.{◌≡◌, ℕ, ◌/◌, ◌%◌, ◌^◌, List, [], ◌∷◌, ◌<◌, ◌≤◌, true, length, drop, Some, IfOk, OnErr, IfSome, IsSomeAnd, MatchOption, option_map, is_some};
+ghost use Rattle.std.specs.Prelude.{◌≡◌, ℕ, List, [], ◌∷◌, ◌<◌, ◌≤◌, true, length, drop, Some, IfOk, OnErr, IfSome, IsSomeAnd, MatchOption, option_map, is_some};
 ghost use Rattle.std.specs.Char.{IsScalar};
 ghost use Rattle.std.specs.Char.Utf16.{utf16_chars, surrogate_pair_char};
-ghost use Rattle.std.specs.Int.Digits.{number_from_digits};
-ghost use Rattle.std.specs.List.{AllByRecursion, filter_map, list_all};
+ghost use Rattle.std.specs.List.{filter_map, list_all};
 ghost use Rattle.std.specs.Str.{chars};
 ghost use Rattle.std.specs.String.{string_bytes};
 ghost use Rattle.cmap_tokens.specs.Texts.{units_of, text_at, text_of, characters, only_character};
@@ -59,26 +58,6 @@ pub fn units(alloc: Global, bytes: &[u8]) -> Result<Vec<u16>, AllocError>
         units.push_reserved(u16::from_be_bytes([*high, *low]));
         pairs = rest;
     }
-    Ok(units)
-}
-
-/// The units of a destination of `len` bytes, one to four, where `number` is what these write, the
-/// high one first. For any other length or number it gives one unit, up to a length of two, or two.
-///
-/// It fails only where there is no memory.
-pub fn number_units(alloc: Global, len: u8, number: u32) -> Result<Vec<u16>, AllocError>
-    ensures value { (bytes : List ℕ) → AllByRecursion (λ b. b < 2 ^ 8) bytes → 1 ≤ len → len ≤ 4 → len ≡ length bytes
-        → number ≡ number_from_digits 256 bytes → IfOk result (λ v. v.items ≡ units_of bytes) }
-    ensures one { len ≤ 2 → IfOk result (λ v. v.items ≡ number % 2 ^ 16 ∷ []) }
-    ensures two { 2 < len
-        → IfOk result (λ v. v.items ≡ number / 2 ^ 16 ∷ number % 2 ^ 16 ∷ []) }
-{
-    let (high, low) = ((number / 0x1_0000) as u16, (number % 0x1_0000) as u16);
-    let mut units = Vec::with_capacity(alloc, if len <= 2 { 1 } else { 2 })?;
-    if len > 2 {
-        units.push_reserved(high);
-    }
-    units.push_reserved(low);
     Ok(units)
 }
 

@@ -1,20 +1,16 @@
 //! CMap files over other files, and bundles.
 
-ghost use Rattle.std.specs.Prelude.{◌≡◌};
-ghost use Rattle.std.specs.Option.{option_copied};
-ghost use Rattle.cmap_vectors.specs.NamedFiles.{file_in};
-
 use cmap_rows::escapes::{push_escaped, unescaped};
 use cmap_rows::fault::Fault;
 use cmap_rows::row::Row;
 use cmap_rows::spelled::number;
 use hayro_cmap::bcmap::{Bundle, OwnedBundle, load_embedded};
-use hayro_cmap::{CMap, CMapName, ParseError, Refusal, Source};
+use hayro_cmap::{CMap, CMapName, Fault as ParseFault, NamedFiles, ParseError, Refusal, Source};
 use std::alloc::{AllocError, Global};
 use std::cell::Cell;
 
 /// A name and its file.
-type NamedFile<'a> = (&'a [u8], &'a [u8]);
+type Base<'a> = (&'a [u8], &'a [u8]);
 
 /// What comes of a file.
 #[derive(Drop)]
@@ -45,7 +41,7 @@ impl Outcome {
 #[derive(Drop)]
 pub struct Around<'r> {
     /// Files by their names. Where there are any, those of the bundle have none.
-    bases: Vec<NamedFile<'r>>,
+    bases: Vec<Base<'r>>,
     /// The bundle; `None` also where what stands for one is none.
     bundle: Option<Bundle<'r>>,
     is_no_bundle: bool,
@@ -78,15 +74,17 @@ impl<'r> Around<'r> {
     }
 
     /// The files that are read by their names.
-    fn files(&self) -> NamedFiles<'_, 'r> {
+    fn files(&self) -> CountedFiles<'_> {
         let bundle = if self.bases.is_empty() {
             self.bundle.as_ref()
         } else {
             None
         };
-        NamedFiles {
-            bundle,
-            bases: &self.bases,
+        CountedFiles {
+            files: NamedFiles {
+                files: self.bases.as_slice(),
+                bundle,
+            },
             asked: Cell::new(0),
         }
     }
@@ -98,7 +96,7 @@ impl<'r> Around<'r> {
         alloc: Global,
         budget: Option<u64>,
         file: &[u8],
-        files: &NamedFiles<'_, '_>,
+        files: &CountedFiles<'_>,
     ) -> Result<Outcome, AllocError> {
         if self.is_no_bundle {
             return Ok(Outcome::NoBundle);
@@ -135,14 +133,13 @@ impl<'r> Around<'r> {
         line: &mut String,
     ) -> Result<(), AllocError> {
         let files = NamedFiles {
+            files: self.bases.as_slice(),
             bundle: None,
-            bases: &self.bases,
-            asked: Cell::new(0),
         };
         match CMap::parse_from(alloc, self.budget, file, self.bundle.as_ref(), &files) {
             Ok(_map) => line.push_str(" none"),
-            Err(hayro_cmap::Fault::Refused(refusal)) => push_refusal(&refusal, line),
-            Err(hayro_cmap::Fault::Memory) => Err(AllocError),
+            Err(ParseFault::Refused(refusal)) => push_refusal(&refusal, line),
+            Err(ParseFault::Memory) => Err(AllocError),
         }
     }
 
@@ -209,7 +206,7 @@ fn bundle_of<'r>(alloc: Global, row: &'r Row<'_>) -> Result<Option<Bundle<'r>>, 
 }
 
 /// The files that a row's file may use, by their names.
-fn bases_of<'r>(alloc: Global, row: &'r Row<'_>) -> Result<Vec<NamedFile<'r>>, AllocError> {
+fn bases_of<'r>(alloc: Global, row: &'r Row<'_>) -> Result<Vec<Base<'r>>, AllocError> {
     let mut bases = Vec::with_capacity(alloc, row.bases.len())?;
     for base in &row.bases {
         bases.push((base.name.as_bytes(), base.spelled.bytes.as_slice()))?;
@@ -217,34 +214,25 @@ fn bases_of<'r>(alloc: Global, row: &'r Row<'_>) -> Result<Vec<NamedFile<'r>>, A
     Ok(bases)
 }
 
-/// Files that answer to their names: bases, or else those of a bundle.
+/// Files that answer to their names, and how many were asked for.
 #[derive(Drop)]
-struct NamedFiles<'s, 'a> {
-    bundle: Option<&'s Bundle<'a>>,
-    bases: &'s [NamedFile<'a>],
-    /// How many were asked for.
+struct CountedFiles<'s> {
+    files: NamedFiles<'s, Base<'s>>,
     asked: Cell<u32>,
 }
 
-impl<'s, 'a> Source for NamedFiles<'s, 'a> {
-    ghost use Rattle.std.specs.Prelude.{◌≡◌, ⊤, option_map};
-    ghost use Rattle.std.specs.Option.{option_or};
-    ghost use Rattle.cmap_binary.specs.BundleSeen.{bundle_seen};
-    ghost use Rattle.hayro_cmap.specs.Answers.{embedded};
-    ghost use Rattle.cmap_vectors.specs.NamedFiles.{file_in};
+impl<'s> Source for CountedFiles<'s> {
+    ghost use Rattle.std.specs.Prelude.{◌≡◌, ⊤};
+    ghost use Rattle.hayro_cmap.specs.NamedFiles.{file_named};
 
-    ghost can_ask = { λ files. ⊤ };
+    ghost can_ask = { λ counted. ⊤ };
 
-    ghost answers = { λ files name answer. answer
-        ≡ option_or (file_in files.bases.now name)
-        (embedded (option_map (λ b. bundle_seen b.now) files.bundle) name) };
+    ghost answers = { λ counted name answer. answer
+        ≡ file_named (λ base. base.0.now) (λ base. base.1.now) counted.files.files.now counted.files.bundle name };
 
     fn file(&self, name: &[u8]) -> Option<&[u8]> {
         self.asked.set(self.asked.get().wrapping_add(1));
-        match file_of(self.bases, name) {
-            Some(file) => Some(file),
-            None => self.bundle.file(name),
-        }
+        self.files.find(name)
     }
 }
 
@@ -256,18 +244,6 @@ fn outcome_of(map: Result<Option<CMap>, ParseError>) -> Result<Outcome, AllocErr
         Err(ParseError::OverBudget) => Ok(Outcome::OverBudget),
         Err(ParseError::Memory) => Err(AllocError),
     }
-}
-
-/// The first file with a name.
-fn file_of<'x>(files: &'x [NamedFile<'x>], name: &[u8]) -> Option<&'x [u8]>
-    ensures { option_copied result ≡ file_in files.now name.now }
-{
-    for entry in files {
-        if entry.0 == name {
-            return Some(entry.1);
-        }
-    }
-    None
 }
 
 /// Adds the names that lead to the file at fault, and what is wrong with it.

@@ -5,3 +5,4 @@ pub mod Answers
 pub mod BytesSpent
 pub mod Refusals
 pub mod Maps
+pub mod NamedFiles

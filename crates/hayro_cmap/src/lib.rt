@@ -5,6 +5,7 @@
 mod budget;
 mod chain;
 mod map;
+mod named_files;
 mod refusal;
 mod source;
 
@@ -22,6 +23,7 @@ pub use cmap_runs::runs;
 pub use cmap_tokens::token;
 pub use cmap_tokens::utf16::BfString;
 pub use map::CMap;
+pub use named_files::{NamedFile, NamedFiles};
 pub use refusal::{Cause, Refusal};
 pub use source::Source;
 
