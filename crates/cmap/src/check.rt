@@ -1,13 +1,13 @@
 //! `cmap check`: one line for each file.
 
-use crate::inputs::{STANDARD_INPUT, push_reason, read, readable, tell_unreadable};
+use crate::inputs::{STANDARD_INPUT, push_reason, read, readable, report_unreadable};
 use crate::options::Options;
 use crate::progress::Progress;
 use crate::{ACCEPTED, REFUSED};
 use cmap_escape::{escape, json};
-use cmap_library::folders::{files_in, is_folder};
-use cmap_library::library::Library;
-use cmap_library::refused::push_refusal_json;
+use crate::folders::{files_in, is_folder};
+use crate::bases::Bases;
+use cmap_report::refused::push_refusal_json;
 use hayro_cmap::{CMap, Fault, Refusal};
 use serde_json::{Map, Value, put};
 use std::alloc::{AllocError, Global};
@@ -16,14 +16,14 @@ use std::alloc::{AllocError, Global};
 pub(crate) fn check(
     rt: &HostRuntime,
     options: &Options<'_, '_>,
-    library: &Library<'_>,
+    bases: &Bases<'_>,
 ) -> anyhow::Result<u8> {
     let mut files = Vec::new(rt.alloc());
     let mut status = ACCEPTED;
     for path in options.paths {
         status = status.max(add_files(rt, path, &mut files)?);
     }
-    Ok(status.max(check_files(rt, &files, options, library)?))
+    Ok(status.max(check_files(rt, &files, options, bases)?))
 }
 
 /// Prints the line of each file, and gives the status.
@@ -31,12 +31,12 @@ fn check_files(
     rt: &HostRuntime,
     files: &[String],
     options: &Options<'_, '_>,
-    library: &Library<'_>,
+    bases: &Bases<'_>,
 ) -> anyhow::Result<u8> {
     let mut status = ACCEPTED;
     let mut progress = Progress::new(rt, files.len());
     for file in files {
-        status = status.max(check_file(rt, file.as_str(), options, library, &progress)?);
+        status = status.max(check_file(rt, file.as_str(), options, bases, &progress)?);
         progress.advance(rt)?;
     }
     progress.clear(rt)?;
@@ -50,7 +50,7 @@ fn add_files(rt: &HostRuntime, path: &str, files: &mut Vec<String>) -> anyhow::R
         return Ok(ACCEPTED);
     }
     let Some(mut found) = readable(files_in(rt, path))? else {
-        return tell_unreadable(rt, path);
+        return report_unreadable(rt, path);
     };
     files.append(&mut found)?;
     Ok(ACCEPTED)
@@ -61,15 +61,15 @@ fn check_file(
     rt: &HostRuntime,
     path: &str,
     options: &Options<'_, '_>,
-    library: &Library<'_>,
+    bases: &Bases<'_>,
     progress: &Progress,
 ) -> anyhow::Result<u8> {
     let Some(bytes) = read(rt, path)? else {
         progress.clear(rt)?;
-        return tell_unreadable(rt, path);
+        return report_unreadable(rt, path);
     };
     let mut line = String::new(rt.alloc());
-    let status = push_checked(rt.alloc(), &mut line, path, &bytes, options, library)?;
+    let status = push_checked(rt.alloc(), &mut line, path, &bytes, options, bases)?;
     println!(rt; "{line}")?;
     Ok(status)
 }
@@ -81,15 +81,15 @@ fn push_checked(
     path: &str,
     bytes: &[u8],
     options: &Options<'_, '_>,
-    library: &Library<'_>,
+    bases: &Bases<'_>,
 ) -> Result<u8, AllocError> {
-    match CMap::parse_from(alloc, options.budget, bytes, library.bundle(), library) {
+    match CMap::parse_from(alloc, options.budget, bytes, bases.bundle, bases) {
         Ok(_map) => {
             push_accepted(alloc, line, path, options.json)?;
             Ok(ACCEPTED)
         }
         Err(Fault::Refused(refusal)) => {
-            push_refused(alloc, line, path, bytes, options.json, library, &refusal)?;
+            push_refused(alloc, line, path, bytes, options.json, bases, &refusal)?;
             Ok(REFUSED)
         }
         Err(Fault::Memory) => Err(AllocError),
@@ -125,11 +125,11 @@ fn push_refused(
     path: &str,
     bytes: &[u8],
     json: bool,
-    library: &Library<'_>,
+    bases: &Bases<'_>,
     refusal: &Refusal<'_>,
 ) -> Result<(), AllocError> {
     if json {
-        return push_refusal_json(alloc, line, path, bytes, library, refusal);
+        return push_refusal_json(alloc, line, path, bytes, bases, refusal);
     }
-    push_reason(line, path, bytes, library, refusal)
+    push_reason(line, path, bytes, bases, refusal)
 }

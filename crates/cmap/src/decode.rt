@@ -2,46 +2,46 @@
 
 use crate::inputs::{STANDARD_INPUT, map_asked, map_of, needed};
 use crate::options::Options;
-use crate::told::fault;
+use crate::messages::fault;
 use crate::{ACCEPTED, REFUSED};
-use cmap_library::library::Library;
+use crate::bases::Bases;
 use cmap_report::decode::{push_codes, push_json};
-use hayro_cmap::{CMap, Source};
+use hayro_cmap::CMap;
 
 /// Prints the codes of each string, and gives the status.
 pub(crate) fn decode(
     rt: &HostRuntime,
     options: &Options<'_, '_>,
-    library: &Library<'_>,
+    bases: &Bases<'_>,
 ) -> anyhow::Result<u8> {
     let strings = strings_of(rt, options.words)?;
-    match map_asked(rt, options, library)? {
-        Some(map) => decode_by(rt, &map, &strings, options, library),
+    match map_asked(rt, options, bases)? {
+        Some(map) => decode_by(rt, &map, &strings, options, bases),
         None => Ok(REFUSED),
     }
 }
 
-/// Prints the codes of each string by a map, with the texts of CIDs that the library has.
+/// Prints the codes of each string by a map, with the texts of CIDs that the bases have.
 fn decode_by(
     rt: &HostRuntime,
     map: &CMap,
     strings: &[Vec<u8>],
     options: &Options<'_, '_>,
-    library: &Library<'_>,
+    bases: &Bases<'_>,
 ) -> anyhow::Result<u8> {
-    let Some((name, bytes)) = texts_file(map, library) else {
+    let Some((name, bytes)) = texts_file(map, bases) else {
         return decode_all(rt, map, None, strings, options.json);
     };
-    match map_of(rt, name, bytes, options.budget, library)? {
+    match map_of(rt, name, bytes, options.budget, bases)? {
         Some(texts) => decode_all(rt, map, Some(&texts), strings, options.json),
         None => Ok(REFUSED),
     }
 }
 
 /// The CMap from the CIDs of a map's character collection to Unicode, by its name.
-fn texts_file<'l>(map: &CMap, library: &'l Library<'_>) -> Option<(&'static str, &'l [u8])> {
+fn texts_file<'b>(map: &CMap, bases: &Bases<'b>) -> Option<(&'static str, &'b [u8])> {
     let name = texts_name(map)?;
-    Some((name, library.file(name.as_bytes())?))
+    Some((name, bases.find(name.as_bytes())?))
 }
 
 /// The name of the CMap from the CIDs of a map's character collection to Unicode: of the first layer
@@ -63,8 +63,8 @@ fn decode_all(
     strings: &[Vec<u8>],
     json: bool,
 ) -> anyhow::Result<u8> {
-    for (place, string) in strings.iter().enumerate() {
-        if place > 0 && !json {
+    for (index, string) in strings.iter().enumerate() {
+        if index > 0 && !json {
             println!(rt; "")?;
         }
         let mut lines = String::new(rt.alloc());

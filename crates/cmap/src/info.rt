@@ -1,10 +1,10 @@
 //! `cmap info`: what files say.
 
-use crate::inputs::{map_of, read, tell_unreadable};
+use crate::inputs::{map_of, read, report_unreadable};
 use crate::options::Options;
 use crate::{ACCEPTED, REFUSED};
-use cmap_library::library::Library;
-use cmap_library::uses::uses_by_layer;
+use crate::bases::Bases;
+use cmap_report::uses::uses_by_layer;
 use cmap_report::info::{push_info, push_json};
 use hayro_cmap::CMap;
 use std::alloc::{AllocError, Global};
@@ -13,14 +13,14 @@ use std::alloc::{AllocError, Global};
 pub(crate) fn info(
     rt: &HostRuntime,
     options: &Options<'_, '_>,
-    library: &Library<'_>,
+    bases: &Bases<'_>,
 ) -> anyhow::Result<u8> {
     let mut status = ACCEPTED;
-    for (place, path) in options.paths.iter().enumerate() {
-        if place > 0 && !options.json {
+    for (index, path) in options.paths.iter().enumerate() {
+        if index > 0 && !options.json {
             println!(rt; "")?;
         }
-        status = status.max(info_of(rt, path, options, library)?);
+        status = status.max(info_of(rt, path, options, bases)?);
     }
     Ok(status)
 }
@@ -30,15 +30,15 @@ fn info_of(
     rt: &HostRuntime,
     path: &str,
     options: &Options<'_, '_>,
-    library: &Library<'_>,
+    bases: &Bases<'_>,
 ) -> anyhow::Result<u8> {
     let Some(bytes) = read(rt, path)? else {
-        return tell_unreadable(rt, path);
+        return report_unreadable(rt, path);
     };
-    let Some(map) = map_of(rt, path, &bytes, options.budget, library)? else {
+    let Some(map) = map_of(rt, path, &bytes, options.budget, bases)? else {
         return Ok(REFUSED);
     };
-    let lines = lines_of(rt.alloc(), path, &bytes, &map, options.json, library)?;
+    let lines = lines_of(rt.alloc(), path, &bytes, &map, options.json, bases)?;
     print!(rt; "{lines}")?;
     Ok(ACCEPTED)
 }
@@ -50,9 +50,9 @@ fn lines_of(
     bytes: &[u8],
     map: &CMap,
     json: bool,
-    library: &Library<'_>,
+    bases: &Bases<'_>,
 ) -> Result<String, AllocError> {
-    let uses = uses_by_layer(alloc, bytes, library, map.layers().len())?;
+    let uses = uses_by_layer(alloc, bytes, bases, map.layers().len())?;
     let mut lines = String::new(alloc);
     if json {
         push_json(alloc, &mut lines, path, map, &uses)?;

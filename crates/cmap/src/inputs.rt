@@ -1,50 +1,18 @@
-//! What is read: files, the files that others use, and a bundle.
+//! What is read: files, and their maps over the files that they use.
 
 use crate::FAILED;
 use crate::options::Options;
-use crate::told::{fault, tell};
+use crate::messages::{fault, report};
 use cmap_escape::escape::push_text;
-use cmap_library::folders::{files_in, name_of};
-use cmap_library::library::{Base, Library};
-use cmap_library::refused::push_refusal;
-use hayro_cmap::{Bundle, CMap, Fault, Refusal};
+use crate::bases::Bases;
+use cmap_report::refused::push_refusal;
+use hayro_cmap::{CMap, Fault, Refusal};
 use std::alloc::AllocError;
 use std::fs;
 use std::io::{self, ErrorKind, Read};
 
 /// The path that stands for the standard input.
 pub(crate) const STANDARD_INPUT: &str = "-";
-
-/// The files of the folders of bases, over a bundle.
-pub(crate) fn library<'b>(
-    rt: &HostRuntime,
-    bases: &[&str],
-    bundle: Option<&'b Bundle<'b>>,
-) -> anyhow::Result<Library<'b>> {
-    let mut library = Library::new(rt.alloc(), bundle);
-    for folder in bases {
-        add_folder(rt, folder, &mut library)?;
-    }
-    Ok(library)
-}
-
-/// Adds the files of a folder.
-fn add_folder(rt: &HostRuntime, folder: &str, library: &mut Library<'_>) -> anyhow::Result<()> {
-    let Some(paths) = readable(files_in(rt, folder))? else {
-        return Err(unreadable(rt, folder));
-    };
-    for path in &paths {
-        add_base(rt, path.as_str(), library)?;
-    }
-    Ok(())
-}
-
-/// Adds a file.
-fn add_base(rt: &HostRuntime, path: &str, library: &mut Library<'_>) -> anyhow::Result<()> {
-    let name = String::from_str(rt.alloc(), name_of(path))?;
-    let bytes = needed(rt, path)?;
-    Ok(library.add(Base { name, bytes })?)
-}
 
 /// The bytes of a file that a run needs; `-` is the standard input.
 pub(crate) fn needed(rt: &HostRuntime, path: &str) -> anyhow::Result<Vec<u8>> {
@@ -66,7 +34,7 @@ pub(crate) fn read(rt: &HostRuntime, path: &str) -> anyhow::Result<Option<Vec<u8
     readable(fs::read(rt, path))
 }
 
-/// What is read; `None` where it can't be. Want of memory is an error.
+/// What is read; `None` where it can't be. That memory ran out is an error.
 pub(crate) fn readable<T: Drop>(read: io::Result<T>) -> anyhow::Result<Option<T>> {
     match read {
         Ok(read) => Ok(Some(read)),
@@ -76,13 +44,13 @@ pub(crate) fn readable<T: Drop>(read: io::Result<T>) -> anyhow::Result<Option<T>
 }
 
 /// The error of a path that can't be read.
-fn unreadable(rt: &HostRuntime, path: &str) -> anyhow::Error {
+pub(crate) fn unreadable(rt: &HostRuntime, path: &str) -> anyhow::Error {
     fault(rt, path, "can't be read")
 }
 
 /// Tells that a path can't be read, and gives the status.
-pub(crate) fn tell_unreadable(rt: &HostRuntime, path: &str) -> anyhow::Result<u8> {
-    tell(rt, &unreadable(rt, path))?;
+pub(crate) fn report_unreadable(rt: &HostRuntime, path: &str) -> anyhow::Result<u8> {
+    report(rt, &unreadable(rt, path))?;
     Ok(FAILED)
 }
 
@@ -90,10 +58,10 @@ pub(crate) fn tell_unreadable(rt: &HostRuntime, path: &str) -> anyhow::Result<u8
 pub(crate) fn map_asked(
     rt: &HostRuntime,
     options: &Options<'_, '_>,
-    library: &Library<'_>,
+    bases: &Bases<'_>,
 ) -> anyhow::Result<Option<CMap>> {
     let bytes = needed(rt, options.file)?;
-    map_of(rt, options.file, &bytes, options.budget, library)
+    map_of(rt, options.file, &bytes, options.budget, bases)
 }
 
 /// The map of a file of these bytes; where it is refused, the standard error is told why.
@@ -102,14 +70,14 @@ pub(crate) fn map_of(
     path: &str,
     bytes: &[u8],
     budget: Option<u64>,
-    library: &Library<'_>,
+    bases: &Bases<'_>,
 ) -> anyhow::Result<Option<CMap>> {
-    match CMap::parse_from(rt.alloc(), budget, bytes, library.bundle(), library) {
+    match CMap::parse_from(rt.alloc(), budget, bytes, bases.bundle, bases) {
         Ok(map) => Ok(Some(map)),
         Err(Fault::Memory) => Err(AllocError.into()),
         Err(Fault::Refused(refusal)) => {
             let mut line = String::new(rt.alloc());
-            push_reason(&mut line, path, bytes, library, &refusal)?;
+            push_reason(&mut line, path, bytes, bases, &refusal)?;
             eprintln!(rt; "cmap: {line}")?;
             Ok(None)
         }
@@ -121,10 +89,10 @@ pub(crate) fn push_reason(
     line: &mut String,
     path: &str,
     bytes: &[u8],
-    library: &Library<'_>,
+    bases: &Bases<'_>,
     refusal: &Refusal<'_>,
 ) -> Result<(), AllocError> {
     push_text(line, path)?;
     line.push_str(": ")?;
-    push_refusal(line, bytes, library, refusal)
+    push_refusal(line, bytes, bases, refusal)
 }

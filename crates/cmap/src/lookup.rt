@@ -2,10 +2,10 @@
 
 use crate::inputs::map_asked;
 use crate::options::Options;
-use crate::told::fault;
+use crate::messages::fault;
 use crate::{ACCEPTED, REFUSED};
-use cmap_library::library::Library;
-use cmap_programs::query::Query;
+use crate::bases::Bases;
+use cmap_queries::query::Query;
 use cmap_report::lookup::{push_answer, push_json};
 use hayro_cmap::CMap;
 use std::alloc::{AllocError, Global};
@@ -14,10 +14,10 @@ use std::alloc::{AllocError, Global};
 pub(crate) fn lookup(
     rt: &HostRuntime,
     options: &Options<'_, '_>,
-    library: &Library<'_>,
+    bases: &Bases<'_>,
 ) -> anyhow::Result<u8> {
     let queries = queries_of(rt, options.words)?;
-    let Some(map) = map_asked(rt, options, library)? else {
+    let Some(map) = map_asked(rt, options, bases)? else {
         return Ok(REFUSED);
     };
     let lines = lines_of(rt.alloc(), &map, &queries, options.json)?;

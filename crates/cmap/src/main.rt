@@ -1,25 +1,28 @@
 //! The command `cmap`: what is in a CMap file, where it is wrong, and what a string says.
 #![tactic(auto)]
 
+mod bases;
 mod check;
 mod command_line;
 mod decode;
+mod folders;
 mod info;
 mod inputs;
 mod lookup;
 mod options;
 mod progress;
-mod told;
+mod messages;
 
 use anyhow::anyhow;
+use bases::bases_in;
 use clap::ArgMatches;
 use command_line::command;
-use hayro_cmap::Bundle;
-use inputs::{library, needed};
+use hayro_cmap::{Bundle, NamedFiles};
+use inputs::{bases, needed};
 use options::Options;
 use std::env;
 use std::process::ExitCode;
-use told::{fault, tell, tell_usage};
+use messages::{fault, report, print_usage};
 
 /// The status where all files are accepted.
 const ACCEPTED: u8 = 0;
@@ -34,7 +37,7 @@ fn main(rt: HostRuntime) -> ExitCode {
     let status = match run(&rt) {
         Ok(status) => status,
         Err(error) => {
-            let _ = tell(&rt, &error);
+            let _ = report(&rt, &error);
             FAILED
         }
     };
@@ -45,13 +48,13 @@ fn run(rt: &HostRuntime) -> anyhow::Result<u8> {
     let words: Vec<String> = env::args(rt)?.collect(rt.alloc())?;
     let command = command(rt.alloc())?;
     match command.try_get_matches_from(words.as_slice()) {
-        Ok(matches) => obey(rt, &matches),
-        Err(error) => tell_usage(rt, &error),
+        Ok(matches) => run_command(rt, &matches),
+        Err(error) => print_usage(rt, &error),
     }
 }
 
 /// Does what the words ask for, and gives the status.
-fn obey(rt: &HostRuntime, matches: &ArgMatches<'_>) -> anyhow::Result<u8> {
+fn run_command(rt: &HostRuntime, matches: &ArgMatches<'_>) -> anyhow::Result<u8> {
     let Some((name, words)) = matches.subcommand() else {
         return Ok(FAILED);
     };
@@ -60,27 +63,31 @@ fn obey(rt: &HostRuntime, matches: &ArgMatches<'_>) -> anyhow::Result<u8> {
         return Err(anyhow!("the standard input is asked for twice"));
     }
     let Some(path) = options.bundle else {
-        return obey_over(rt, name, &options, None);
+        return run_subcommand(rt, name, &options, None);
     };
     let bytes = needed(rt, path)?;
     match Bundle::parse(rt.alloc(), &bytes)? {
-        Some(bundle) => obey_over(rt, name, &options, Some(&bundle)),
+        Some(bundle) => run_subcommand(rt, name, &options, Some(&bundle)),
         None => Err(fault(rt, path, "no bundle")),
     }
 }
 
 /// Does it over a bundle.
-fn obey_over(
+fn run_subcommand(
     rt: &HostRuntime,
     name: &str,
     options: &Options<'_, '_>,
     bundle: Option<&Bundle<'_>>,
 ) -> anyhow::Result<u8> {
-    let library = library(rt, options.bases, bundle)?;
+    let bases = bases_in(rt, options.bases)?;
+    let bases = NamedFiles {
+        files: bases.as_slice(),
+        bundle,
+    };
     match name {
-        "info" => info::info(rt, options, &library),
-        "check" => check::check(rt, options, &library),
-        "decode" => decode::decode(rt, options, &library),
-        _ => lookup::lookup(rt, options, &library),
+        "info" => info::info(rt, options, &bases),
+        "check" => check::check(rt, options, &bases),
+        "decode" => decode::decode(rt, options, &bases),
+        _ => lookup::lookup(rt, options, &bases),
     }
 }

@@ -38,8 +38,8 @@ impl Progress {
     fn bar(&self, rt: &HostRuntime) -> anyhow::Result<String> {
         let mut bar = String::new(rt.alloc());
         bar.push('[')?;
-        for place in 0..WIDTH {
-            let is_done = place.saturating_mul(self.total) < self.done.saturating_mul(WIDTH);
+        for cell in 0..WIDTH {
+            let is_done = cell.saturating_mul(self.total) < self.done.saturating_mul(WIDTH);
             bar.push(if is_done { '#' } else { ' ' })?;
         }
         bar.push(']')?;

@@ -6,7 +6,7 @@ mod request;
 mod rounds;
 mod run;
 
-use cmap_programs::output::report;
+use cmap_queries::output::report;
 use std::process::ExitCode;
 
 fn main(rt: HostRuntime) -> ExitCode {

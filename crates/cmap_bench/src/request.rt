@@ -1,9 +1,9 @@
-//! The words of the command line.
+//! The arguments.
 
 ghost use Rattle.std.specs.Prelude.{◌≡◌, ◌≢◌, ℕ, MatchOption, map, string_bytes};
-ghost use Rattle.cmap_bench.specs.Words.{SpellsNone, Spells, mode_word};
+ghost use Rattle.cmap_bench.specs.Arguments.{SpellsNoRequest, SpellsRequest, mode_argument};
 
-use cmap_programs::words::decimal;
+use cmap_queries::arguments::decimal;
 
 /// What the rounds do.
 #[derive(Clone, Copy)]
@@ -17,12 +17,12 @@ pub enum Mode {
 }
 
 impl Mode {
-    /// The mode that a word names.
-    fn parse(word: &str) -> Option<Mode>
-        ensures { MatchOption result ((mode : Mode) → word.now ≢ mode_word mode)
-            (λ mode. word.now ≡ mode_word mode) }
+    /// The mode that an argument names.
+    fn parse(argument: &str) -> Option<Mode>
+        ensures { MatchOption result ((mode : Mode) → argument.now ≢ mode_argument mode)
+            (λ mode. argument.now ≡ mode_argument mode) }
     {
-        match word {
+        match argument {
             "parse" => Some(Mode::Parse),
             "lookup" => Some(Mode::Lookup),
             "bf" => Some(Mode::Bf),
@@ -31,7 +31,7 @@ impl Mode {
     }
 }
 
-/// What the words of the command line ask for.
+/// What the arguments ask for.
 #[derive(Clone, Copy)]
 pub struct Request<'a> {
     /// What the rounds do.
@@ -43,13 +43,13 @@ pub struct Request<'a> {
 }
 
 impl<'a> Request<'a> {
-    /// The request that the words spell: a mode, a file, and a number of rounds in decimal digits.
-    pub fn parse(words: &'a [String]) -> Option<Request<'a>>
-        ensures { MatchOption result (SpellsNone (map string_bytes words.now))
-            (λ request. Spells request.mode request.path.now request.rounds
-            (map string_bytes words.now)) }
+    /// The request that the arguments spell: a mode, a file, and a number of rounds in decimal digits.
+    pub fn parse(arguments: &'a [String]) -> Option<Request<'a>>
+        ensures { MatchOption result (SpellsNoRequest (map string_bytes arguments.now))
+            (λ request. SpellsRequest request.mode request.path.now request.rounds
+            (map string_bytes arguments.now)) }
     {
-        let [mode, path, rounds] = words else {
+        let [mode, path, rounds] = arguments else {
             return None;
         };
         Some(Request {

@@ -1,7 +1,7 @@
 //! Rounds of work on a file, and how long they take.
 
 use crate::request::Mode;
-use cmap_programs::failure::Failure;
+use cmap_queries::failure::Failure;
 use hayro_cmap::{BfString, CMap, CMapName};
 use std::alloc::{AllocError, Global};
 use std::time::{Clock, Instant};

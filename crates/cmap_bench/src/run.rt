@@ -1,17 +1,17 @@
-//! A whole run, from the words to the line that is written.
+//! A whole run, from the arguments to the line that is written.
 
 use crate::request::Request;
 use crate::rounds::{Measured, Work};
-use cmap_programs::failure::Failure;
-use cmap_programs::output::send;
-use cmap_programs::words::words;
+use cmap_queries::failure::Failure;
+use cmap_queries::output::send;
+use cmap_queries::arguments::arguments;
 use std::fs;
 
-/// Measures what the words ask for, and writes one line on the standard output: the nanoseconds and
+/// Measures what the arguments ask for, and writes one line on the standard output: the nanoseconds and
 /// the checksum.
 pub fn run(rt: &HostRuntime) -> Result<(), Failure> {
-    let words = words(rt)?;
-    let request = Request::parse(&words).ok_or(Failure::Usage)?;
+    let arguments = arguments(rt)?;
+    let request = Request::parse(&arguments).ok_or(Failure::Usage)?;
     let measured = measure(rt, request)?;
     tell(rt, measured)
 }

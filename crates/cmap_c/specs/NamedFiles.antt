@@ -1,55 +1,47 @@
--- The files that C hands in, each with its name, and those of a bundle.
-use Rattle.std.specs.Prelude.{◌≡◌, ℕ, ◌-◌, ◌^◌, ◌==◌, List, [], ◌∷◌, Option, Some, None, bytes_eq, slice_get, option_and_then, option_map, if◌then◌else◌}
-use Rattle.cmap_files.specs.Names.{place_of}
-use Rattle.cmap_files.specs.Only.{IsOnly, HoldsOfNone}
+-- Maps over the files that C hands in, each with its name, and over those of a bundle.
+use Rattle.std.specs.Prelude.{◌≡◌, ℕ, ◌-◌, ◌^◌, ◌==◌, List, [], Option, Some, None, option_map, if◌then◌else◌}
+use Rattle.std.specs.Borrow.{Bor}
+use Rattle.std.specs.Option.{option_or}
 use Rattle.cmap_binary.specs.Bundles.{Bundle, IsBundle}
-use Rattle.hayro_cmap.specs.Budgets.{PassesBudget, StaysWithin}
+use Rattle.cmap_files.specs.Only.{IsOnly}
 use Rattle.cmap_layers.specs.Layers.{Layer}
-use Rattle.hayro_cmap.specs.Layers.{AreLayers, Means}
-use Rattle.cmap_c.specs.declared.files.File.{File}
+use Rattle.hayro_cmap.specs.Answers.{embedded}
+use Rattle.hayro_cmap.specs.Maps as maps
+use Rattle.hayro_cmap.specs.NamedFiles.{first_named}
+use Rattle.cmap_c.specs.declared.files.BaseFile.{BaseFile}
 
--- the first file with a name
-abbrev pub file_in : List File → List ℕ → Option (List ℕ)
-file_in [] name = None
-file_in (file ∷ files) name = if bytes_eq file.name.now name then Some file.bytes.now else file_in files name
+abbrev pub name_of : BaseFile → List ℕ
+name_of file = file.name.now
 
-abbrev pub first_of : Option (List ℕ) → Option (List ℕ) → Option (List ℕ)
-first_of (Some bytes) other = Some bytes
-first_of None other = other
+abbrev pub bytes_of : BaseFile → List ℕ
+bytes_of file = file.bytes.now
 
--- the first file with a name, else that of the bundle
-abbrev pub base_in : Option Bundle → List File → List ℕ → Option (List ℕ)
-base_in bundle files name = first_of (file_in files name) (option_and_then (λ b. option_and_then (λ at. slice_get b.files at) (place_of name)) bundle)
+-- the bundle, where there is one
+abbrev pub bundle_in : {B : Type 0} → (B → Bundle) → Option (Bor B) → Option Bundle
+bundle_in bundle_of bundle = option_map (λ b. bundle_of b.now) bundle
 
--- the layers of a file over these files, and over those of the bundle
-unfoldable pub AreLayersOver : Option Bundle → List File → List ℕ → List Layer → Type 0
-AreLayersOver bundle files bytes layers = AreLayers (Means (option_map (λ b. b.tables) bundle)) (λ name answer. answer ≡ base_in bundle files name) 16 bytes layers
+-- a name is answered by the first file with it, else by that of the bundle
+abbrev pub answers : Option Bundle → List BaseFile → List ℕ → Option (List ℕ) → Type 0
+answers bundle files name answer = answer ≡ option_or (first_named name_of bytes_of files name) (embedded bundle name)
 
--- the files that are opened, over these files and those of the bundle, pass the budget, or stay within it
-unfoldable pub PassesOver : Option Bundle → List File → List ℕ → Option ℕ → Type 0
-PassesOver bundle files bytes budget = PassesBudget (Means (option_map (λ b. b.tables) bundle)) (λ name answer. answer ≡ base_in bundle files name) 16 bytes budget
+-- what is said of a file over these files and those of the bundle
+module _ (bundle : Option Bundle) (files : List BaseFile) (bytes : List ℕ) where
+  unfoldable pub IsMapOver : List Layer → Type 0
+  IsMapOver = maps.IsMapOf (option_map (λ b. b.tables) bundle) (answers bundle files) bytes
 
-unfoldable pub StaysOver : Option Bundle → List File → List ℕ → Option ℕ → Type 0
-StaysOver bundle files bytes budget = StaysWithin (Means (option_map (λ b. b.tables) bundle)) (λ name answer. answer ≡ base_in bundle files name) 16 bytes budget
+  unfoldable pub HasNoMapOver : Type 0
+  HasNoMapOver = maps.HasNoMap (option_map (λ b. b.tables) bundle) (answers bundle files) bytes
 
--- no bytes are no bundle; else the bytes are this one
-abbrev pub IsGiven : List ℕ → Option Bundle → Type 0
-IsGiven bytes None = bytes ≡ []
-IsGiven bytes (Some bundle) = IsOnly (IsBundle bytes) bundle
+  unfoldable pub FitsBudgetOver : Option ℕ → Type 0
+  FitsBudgetOver = maps.FitsBudget (option_map (λ b. b.tables) bundle) (answers bundle files) bytes
 
--- they are the layers of a file over these files and this bundle, and no others are
-unfoldable pub IsMapOver : List ℕ → List File → List ℕ → List Layer → Type 0
-IsMapOver bundle files bytes layers = (given : Option Bundle) × IsGiven bundle given × IsOnly (AreLayersOver given files bytes) layers
+  unfoldable pub ExceedsBudgetOver : Option ℕ → Type 0
+  ExceedsBudgetOver = maps.ExceedsBudget (option_map (λ b. b.tables) bundle) (answers bundle files) bytes
 
--- no layers are
-unfoldable pub HasNoMapOver : List ℕ → List File → List ℕ → Type 0
-HasNoMapOver bundle files bytes = (given : Option Bundle) × IsGiven bundle given × HoldsOfNone (AreLayersOver given files bytes)
-
-unfoldable pub PassesBudgetOver : List ℕ → List File → List ℕ → Option ℕ → Type 0
-PassesBudgetOver bundle files bytes budget = (given : Option Bundle) × IsGiven bundle given × PassesOver given files bytes budget
-
-unfoldable pub StaysWithinBudget : List ℕ → List File → List ℕ → Option ℕ → Type 0
-StaysWithinBudget bundle files bytes budget = (given : Option Bundle) × IsGiven bundle given × StaysOver given files bytes budget
+-- this holds of the bundle that the bytes are; no bytes are no bundle
+unfoldable pub OfGiven : List ℕ → (Option Bundle → Type 0) → Type 0
+OfGiven [] P = P None
+OfGiven bytes P = (bundle : Bundle) × IsOnly (IsBundle bytes) bundle × P (Some bundle)
 
 -- the greatest number of 64 bits is no budget
 abbrev pub budget_of : ℕ → Option ℕ

@@ -1,23 +1,22 @@
 //! Maps of files, for C.
 
-ghost use Rattle.std.specs.Prelude.{◌≡◌, ◌⊎◌, ◌≤◌, None, Some, IfErr, IfOk, IsErrOf, IsOk, IsSomeAnd, option_map};
+ghost use Rattle.std.specs.Prelude.{◌≡◌, ◌≢◌, ◌⊎◌, ◌≤◌, [], None, Some, IfErr, IfOk, IsErrOf, IsOk, IsSomeAnd, option_map};
 ghost use Rattle.std.specs.Option.{option_copied};
 ghost use Rattle.cmap_binary.specs.BundleSeen.{tables_given};
 ghost use Rattle.cmap_binary.specs.Bundles.{IsBundle};
-ghost use Rattle.cmap_files.specs.Only.{IsOnly, HoldsOfNone};
-ghost use Rattle.hayro_cmap.specs.Answers.{IsByName};
+ghost use Rattle.cmap_files.specs.Only.{HoldsOfNone};
 ghost use Rattle.hayro_cmap.specs.Maps.{ExceedsBudget, FitsBudget, HasNoMap, IsMapOf};
-ghost use Rattle.cmap_c.specs.NamedFiles.{AreLayersOver, IsMapOver, HasNoMapOver, PassesBudgetOver, PassesOver, StaysOver, StaysWithinBudget, budget_of};
+ghost use Rattle.cmap_c.specs.NamedFiles.{ExceedsBudgetOver, FitsBudgetOver, HasNoMapOver, IsMapOver, OfGiven, answers, budget_of, bundle_in};
 ghost use Rattle.cmap_c.specs.Statuses.{number};
 ghost use Rattle.cmap_c.specs.declared.status.Status.TheVariants.{Done, Refused, OverBudget, NotABundle};
 
 use crate::bundle::BundleHandle;
-use crate::files::{File, Files, FilesOverBundle};
+use crate::files::BaseFile;
 use crate::handle::MapHandle;
 use crate::shared::Shared;
 use crate::status::Status;
 use hayro_cmap::bcmap::{Bundle, OwnedBundle};
-use hayro_cmap::{CMap, Cause, Fault, Source};
+use hayro_cmap::{BundleFiles, CMap, Cause, Fault, NamedFiles};
 use std::alloc::Global;
 
 /// The map of the file `data`, over files by their names: the first of `files` with the name, else
@@ -29,17 +28,19 @@ pub extern "C" fn hayro_cmap_parse<'a>(
     alloc: Global,
     data: &[u8],
     bundle: &'a [u8],
-    files: &[File<'a>],
+    files: &[BaseFile<'a>],
     budget: u64,
 ) -> u32
-    ensures accepts { result ≡ number Done
-        → IsSomeAnd map.new.slot.map (IsMapOver bundle.now files.now «data».now) }
-    ensures refuses { result ≡ number Refused → HasNoMapOver bundle.now files.now «data».now }
-    ensures over { result ≡ number OverBudget
-        → PassesBudgetOver bundle.now files.now «data».now (budget_of budget) }
-    ensures within { ((result ≡ number Done) ⊎ (result ≡ number Refused))
-        → StaysWithinBudget bundle.now files.now «data».now (budget_of budget) }
-    ensures not_a_bundle { result ≡ number NotABundle → HoldsOfNone (IsBundle bundle.now) }
+    ensures accepts { result ≡ number Done → IsSomeAnd map.new.slot.map
+        (λ layers. OfGiven bundle.now (λ given. IsMapOver given files.now «data».now layers)) }
+    ensures refuses { result ≡ number Refused
+        → OfGiven bundle.now (λ given. HasNoMapOver given files.now «data».now) }
+    ensures over { result ≡ number OverBudget → OfGiven bundle.now
+        (λ given. ExceedsBudgetOver given files.now «data».now (budget_of budget)) }
+    ensures within { ((result ≡ number Done) ⊎ (result ≡ number Refused)) → OfGiven bundle.now
+        (λ given. FitsBudgetOver given files.now «data».now (budget_of budget)) }
+    ensures not_a_bundle { result ≡ number NotABundle
+        → (bundle.now ≢ []) × HoldsOfNone (IsBundle bundle.now) }
     ensures failed { (result ≡ number Done)
         ⊎ ((result ≤ number NotABundle) × (map.new.slot.map ≡ None)) }
 {
@@ -58,18 +59,18 @@ pub extern "C" fn hayro_cmap_parse_over(
     alloc: Global,
     data: &[u8],
     bundle: &mut BundleHandle,
-    files: &[File<'_>],
+    files: &[BaseFile<'_>],
     budget: u64,
 ) -> u32
     ensures same { bundle.new.slot.bundle ≡ bundle.old.slot.bundle }
     ensures accepts { result ≡ number Done → IsSomeAnd map.new.slot.map
-        (IsOnly (AreLayersOver bundle.old.slot.bundle files.now «data».now)) }
+        (IsMapOver bundle.old.slot.bundle files.now «data».now) }
     ensures refuses { result ≡ number Refused
-        → HoldsOfNone (AreLayersOver bundle.old.slot.bundle files.now «data».now) }
+        → HasNoMapOver bundle.old.slot.bundle files.now «data».now }
     ensures over { result ≡ number OverBudget
-        → PassesOver bundle.old.slot.bundle files.now «data».now (budget_of budget) }
+        → ExceedsBudgetOver bundle.old.slot.bundle files.now «data».now (budget_of budget) }
     ensures within { ((result ≡ number Done) ⊎ (result ≡ number Refused))
-        → StaysOver bundle.old.slot.bundle files.now «data».now (budget_of budget) }
+        → FitsBudgetOver bundle.old.slot.bundle files.now «data».now (budget_of budget) }
     ensures failed { (result ≡ number Done)
         ⊎ ((result ≤ number OverBudget) × (map.new.slot.map ≡ None)) }
 {
@@ -92,21 +93,23 @@ fn limit(budget: u64) -> Option<u64>
 }
 
 /// The map of a file over these files and those of a bundle; of no bytes, over these files alone.
-#[tactic(auto, unfolding(crate::specs::NamedFiles::IsMapOver, crate::specs::NamedFiles::HasNoMapOver, crate::specs::NamedFiles::PassesBudgetOver, crate::specs::NamedFiles::StaysWithinBudget))]
 fn parse<'a>(
     alloc: Global,
     budget: Option<u64>,
     data: &[u8],
     bundle: &'a [u8],
-    files: &[File<'a>],
+    files: &[BaseFile<'a>],
 ) -> Result<CMap, Status>
-    ensures accepts { IfOk result (IsMapOver bundle.now files.now «data».now) }
-    ensures refuses { IsErrOf result Refused → HasNoMapOver bundle.now files.now «data».now }
+    ensures accepts { IfOk result
+        (λ layers. OfGiven bundle.now (λ given. IsMapOver given files.now «data».now layers)) }
+    ensures refuses { IsErrOf result Refused
+        → OfGiven bundle.now (λ given. HasNoMapOver given files.now «data».now) }
     ensures over { IsErrOf result OverBudget
-        → PassesBudgetOver bundle.now files.now «data».now budget }
+        → OfGiven bundle.now (λ given. ExceedsBudgetOver given files.now «data».now budget) }
     ensures within { (IsOk result ⊎ IsErrOf result Refused)
-        → StaysWithinBudget bundle.now files.now «data».now budget }
-    ensures not_a_bundle { IsErrOf result NotABundle → HoldsOfNone (IsBundle bundle.now) }
+        → OfGiven bundle.now (λ given. FitsBudgetOver given files.now «data».now budget) }
+    ensures not_a_bundle { IsErrOf result NotABundle
+        → (bundle.now ≢ []) × HoldsOfNone (IsBundle bundle.now) }
     ensures failed { IfErr result (λ status. (1 ≤ number status) × (number status ≤ 4)) }
 {
     if bundle.is_empty() {
@@ -114,11 +117,7 @@ fn parse<'a>(
     }
     match Bundle::parse(alloc, bundle) {
         Ok(Some(bundle)) => {
-            let bases = FilesOverBundle {
-                bundle: &bundle,
-                files,
-            };
-            parse_from(alloc, budget, data, Some(&bundle), &bases)
+            parse_from(alloc, budget, data, Some(&bundle), files, Some(&bundle))
         }
         Ok(None) => Err(Status::NotABundle),
         Err(_) => Err(Status::NoMemory),
@@ -131,17 +130,17 @@ fn parse_over(
     budget: Option<u64>,
     data: &[u8],
     bundle: &mut BundleHandle,
-    files: &[File<'_>],
+    files: &[BaseFile<'_>],
 ) -> Result<CMap, Status>
     ensures same { bundle.new.slot.bundle ≡ bundle.old.slot.bundle }
     ensures accepts { IfOk result
-        (IsOnly (AreLayersOver bundle.old.slot.bundle files.now «data».now)) }
+        (IsMapOver bundle.old.slot.bundle files.now «data».now) }
     ensures refuses { IsErrOf result Refused
-        → HoldsOfNone (AreLayersOver bundle.old.slot.bundle files.now «data».now) }
+        → HasNoMapOver bundle.old.slot.bundle files.now «data».now }
     ensures over { IsErrOf result OverBudget
-        → PassesOver bundle.old.slot.bundle files.now «data».now budget }
+        → ExceedsBudgetOver bundle.old.slot.bundle files.now «data».now budget }
     ensures within { (IsOk result ⊎ IsErrOf result Refused)
-        → StaysOver bundle.old.slot.bundle files.now «data».now budget }
+        → FitsBudgetOver bundle.old.slot.bundle files.now «data».now budget }
     ensures failed { IfErr result (λ status. (1 ≤ number status) × (number status ≤ 3)) }
 {
     let Some(found) = bundle.take(alloc) else {
@@ -158,25 +157,19 @@ fn parse_owned(
     budget: Option<u64>,
     data: &[u8],
     bundle: Option<&OwnedBundle>,
-    files: &[File<'_>],
+    files: &[BaseFile<'_>],
 ) -> Result<CMap, Status>
     ensures accepts { IfOk result
-        (IsOnly (AreLayersOver (option_copied bundle.entry) files.now «data».now)) }
+        (IsMapOver (option_copied bundle.entry) files.now «data».now) }
     ensures refuses { IsErrOf result Refused
-        → HoldsOfNone (AreLayersOver (option_copied bundle.entry) files.now «data».now) }
+        → HasNoMapOver (option_copied bundle.entry) files.now «data».now }
     ensures over { IsErrOf result OverBudget
-        → PassesOver (option_copied bundle.entry) files.now «data».now budget }
+        → ExceedsBudgetOver (option_copied bundle.entry) files.now «data».now budget }
     ensures within { (IsOk result ⊎ IsErrOf result Refused)
-        → StaysOver (option_copied bundle.entry) files.now «data».now budget }
+        → FitsBudgetOver (option_copied bundle.entry) files.now «data».now budget }
     ensures failed { IfErr result (λ status. (1 ≤ number status) × (number status ≤ 3)) }
 {
-    parse_from(
-        alloc,
-        budget,
-        data,
-        tables_of(bundle),
-        &Files { bundle, files },
-    )
+    parse_from(alloc, budget, data, tables_of(bundle), files, bundle)
 }
 
 /// The tables of a bundle, as one without files.
@@ -190,27 +183,28 @@ fn tables_of(bundle: Option<&OwnedBundle>) -> Option<&Bundle<'static>>
     }
 }
 
-/// The map of a file over those of a source.
-fn parse_from<S: Source>(
+/// The map of a file over these files and those of a bundle, if there is one; binary files are read by
+/// the `tables`.
+fn parse_from<B: BundleFiles>(
     alloc: Global,
     budget: Option<u64>,
     data: &[u8],
-    bundle: Option<&Bundle<'_>>,
-    source: &S,
+    tables: Option<&Bundle<'_>>,
+    files: &[BaseFile<'_>],
+    bundle: Option<&B>,
 ) -> Result<CMap, Status>
-    requires can_ask { S.can_ask source.now }
-    requires by_name { IsByName (S.answers source.now) }
-    ensures accepts { IfOk result
-        (IsMapOf bundle.entry (S.answers source.now) «data».now) }
-    ensures refuses { IsErrOf result Refused
-        → HasNoMap bundle.entry (S.answers source.now) «data».now }
-    ensures over { IsErrOf result OverBudget
-        → ExceedsBudget bundle.entry (S.answers source.now) «data».now budget }
-    ensures within { (IsOk result ⊎ IsErrOf result Refused)
-        → FitsBudget bundle.entry (S.answers source.now) «data».now budget }
+    ensures accepts { IfOk result (IsMapOf (tables_given tables.entry)
+        (answers (bundle_in B.bundle_of bundle.entry) files.now) «data».now) }
+    ensures refuses { IsErrOf result Refused → HasNoMap (tables_given tables.entry)
+        (answers (bundle_in B.bundle_of bundle.entry) files.now) «data».now }
+    ensures over { IsErrOf result OverBudget → ExceedsBudget (tables_given tables.entry)
+        (answers (bundle_in B.bundle_of bundle.entry) files.now) «data».now budget }
+    ensures within { (IsOk result ⊎ IsErrOf result Refused) → FitsBudget (tables_given tables.entry)
+        (answers (bundle_in B.bundle_of bundle.entry) files.now) «data».now budget }
     ensures failed { IfErr result (λ status. (1 ≤ number status) × (number status ≤ 3)) }
 {
-    match CMap::parse_from(alloc, budget, data, bundle, source) {
+    let source = NamedFiles { files, bundle };
+    match CMap::parse_from(alloc, budget, data, tables, &source) {
         Ok(map) => Ok(map),
         Err(Fault::Refused(refusal)) => match refusal.cause {
             Cause::OverBudget => Err(Status::OverBudget),

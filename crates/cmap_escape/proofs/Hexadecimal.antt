@@ -4,6 +4,7 @@ use Rattle.std.proofs.lemmas.Bool.{ne_eqb}
 use Rattle.std.proofs.lemmas.Fmt.{hex_one_digit}
 use Rattle.std.specs.Fmt.{digits, digits_onto, digit_glyph}
 use Rattle.cmap_escape.specs.Escapes.{digit_of}
+use Rattle.cmap_escape.specs.declared.digits.Letters.TheVariants.{Capital}
 
 -- `digits` with a bound on how many there are, before what stands after them
 abbrev spelled : ℕ → ℕ → List ℕ → List ℕ
@@ -50,11 +51,11 @@ more_digits n low high =
     ∙ spelled-append 64 (n / 16) [] (last_of n ∷ []) ∙ ap (λ front. front ++ last_of n ∷ []) (whole (n / 16))
 
 -- the last digit after those of a sixteenth
-pub last_digit_added : (old now new : List ℕ) (n : ℕ) → 16 ≤ n → n < 2 ^ 32 → now ≡ old ++ digits 16 true (n / 16) → new ≡ now ++ digit_of (n % 16) ∷ [] → new ≡ old ++ digits 16 true n
+pub last_digit_added : (old now new : List ℕ) (n : ℕ) → 16 ≤ n → n < 2 ^ 32 → now ≡ old ++ digits 16 true (n / 16) → new ≡ now ++ digit_of Capital (n % 16) ∷ [] → new ≡ old ++ digits 16 true n
 last_digit_added old now new n low high now_is new_is =
-    new_is ∙ ap (λ front. front ++ digit_of (n % 16) ∷ []) now_is ∙ append_assoc old (digits 16 true (n / 16)) (digit_of (n % 16) ∷ [])
+    new_is ∙ ap (λ front. front ++ digit_of Capital (n % 16) ∷ []) now_is ∙ append_assoc old (digits 16 true (n / 16)) (digit_of Capital (n % 16) ∷ [])
     ∙ ap (λ added. old ++ added) (sym (more_digits n low high))
 
 -- the only digit of a number below 16
-pub one_digit_added : (old new : List ℕ) (n : ℕ) → n < 16 → new ≡ old ++ digit_of n ∷ [] → new ≡ old ++ digits 16 true n
+pub one_digit_added : (old new : List ℕ) (n : ℕ) → n < 16 → new ≡ old ++ digit_of Capital n ∷ [] → new ≡ old ++ digits 16 true n
 one_digit_added old new n below is = is ∙ ap (λ added. old ++ added) (sym (hex_one_digit true n below))

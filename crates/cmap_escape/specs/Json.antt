@@ -1,17 +1,14 @@
 -- The text of a value of JSON, as it is printed.
 use Rattle.std.specs.Prelude.{ℕ, ◌/◌, ◌%◌, ◌&&◌, nat_le, if◌then◌else◌, List, [], ◌∷◌, ◌++◌}
-use Rattle.std.specs.Char.{digit_char}
 use Rattle.std.specs.Char.Escape.{encode_utf16}
 use Rattle.std.specs.List.{flat_map}
 use Rattle.std.specs.Str.{chars}
-
--- the two digits of a byte, with small letters
-abbrev pub small_digits_of : ℕ → List ℕ
-small_digits_of byte = digit_char (byte / 16) ∷ digit_char (byte % 16) ∷ []
+use Rattle.cmap_escape.specs.Escapes.{digits_of}
+use Rattle.cmap_escape.specs.declared.digits.Letters.TheVariants.{Small}
 
 -- a unit of UTF-16 as `\uhhhh`
 abbrev pub unit_escaped : ℕ → List ℕ
-unit_escaped unit = 0x5C ∷ 0x75 ∷ (small_digits_of (unit / 0x100) ++ small_digits_of (unit % 0x100))
+unit_escaped unit = 0x5C ∷ 0x75 ∷ (digits_of Small (unit / 0x100) ++ digits_of Small (unit % 0x100))
 
 -- a character: itself from 0x20 to 0x7E, and else the escapes of its units
 abbrev pub character_escaped : ℕ → List ℕ

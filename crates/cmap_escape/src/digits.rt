@@ -6,6 +6,13 @@ ghost use Rattle.cmap_escape.specs.Escapes.{AddsPrintable, bytes_shown, code_sho
 
 use std::alloc::{AllocError, Global};
 
+/// What stands for the digits from 10 on.
+#[derive(Clone, Copy)]
+pub(crate) enum Letters {
+    Capital,
+    Small,
+}
+
 /// The two digits of each byte.
 pub fn byte_digits(alloc: Global, bytes: &[u8]) -> Result<String, AllocError>
     ensures { IfOk result (λ text. string_bytes text ≡ bytes_shown bytes.now) }
@@ -42,18 +49,19 @@ fn push_bytes(out: &mut String, bytes: &[u8]) -> Result<(), AllocError>
     ensures printable { AddsPrintable (string_bytes out.old) (string_bytes out.new) }
 {
     for byte in bytes {
-        push_byte(out, *byte)?;
+        push_byte(out, Letters::Capital, *byte)?;
     }
     Ok(())
 }
 
 /// Adds the two digits of a byte.
-pub(crate) fn push_byte(out: &mut String, byte: u8) -> Result<(), AllocError>
-    ensures digits { OnOk result (string_bytes out.new ≡ string_bytes out.old ++ digits_of byte) }
+pub(crate) fn push_byte(out: &mut String, letters: Letters, byte: u8) -> Result<(), AllocError>
+    ensures digits { OnOk result (string_bytes out.new
+        ≡ string_bytes out.old ++ digits_of letters byte) }
     ensures printable { AddsPrintable (string_bytes out.old) (string_bytes out.new) }
 {
-    push_digit(out, byte / 16)?;
-    push_digit(out, byte % 16)
+    push_digit(out, letters, byte / 16)?;
+    push_digit(out, letters, byte % 16)
 }
 
 /// Adds the digits of a number, at least one.
@@ -63,30 +71,30 @@ pub(crate) fn push_number(out: &mut String, number: u32) -> Result<(), AllocErro
     ensures printable { AddsPrintable (string_bytes out.old) (string_bytes out.new) }
 {
     if number < 16 {
-        return push_digit(out, number as u8);
+        return push_digit(out, Letters::Capital, number as u8);
     }
     push_number(out, number / 16)?;
-    push_digit(out, (number % 16) as u8)
+    push_digit(out, Letters::Capital, (number % 16) as u8)
 }
 
 /// Adds the digit of a number below 16.
-fn push_digit(out: &mut String, number: u8) -> Result<(), AllocError>
+fn push_digit(out: &mut String, letters: Letters, number: u8) -> Result<(), AllocError>
     requires { number < 16 }
     ensures digit { OnOk result (string_bytes out.new
-        ≡ string_bytes out.old ++ digit_of number ∷ []) }
+        ≡ string_bytes out.old ++ digit_of letters number ∷ []) }
     ensures printable { AddsPrintable (string_bytes out.old) (string_bytes out.new) }
 {
-    out.push(digit(number))
+    out.push(digit(letters, number))
 }
 
 /// The digit of a number below 16.
-fn digit(number: u8) -> char
+fn digit(letters: Letters, number: u8) -> char
     requires { number < 16 }
-    ensures { result ≡ digit_of number }
+    ensures { result ≡ digit_of letters number }
 {
-    if number < 10 {
-        char::from(b'0' + number)
-    } else {
-        char::from(b'A' + (number - 10))
+    match letters {
+        _ if number < 10 => char::from(b'0' + number),
+        Letters::Capital => char::from(b'A' + (number - 10)),
+        Letters::Small => char::from(b'a' + (number - 10)),
     }
 }

@@ -7,7 +7,7 @@ ghost use Rattle.serde_json.specs.Data.{string};
 ghost use Rattle.serde_json.specs.View.{view};
 ghost use Rattle.ucd_category.specs.GeneralCategory.{general_category};
 
-use crate::digits::{push_byte, push_number};
+use crate::digits::{Letters, push_byte, push_number};
 use serde_json::Value;
 use std::alloc::{AllocError, Global};
 use ucd_category::GeneralCategory;
@@ -57,7 +57,7 @@ fn push_name_byte(out: &mut String, byte: u8) -> Result<(), AllocError>
         b' '..=b'~' => out.push(char::from(byte)),
         _ => {
             out.push_str("\\x")?;
-            push_byte(out, byte)
+            push_byte(out, Letters::Capital, byte)
         }
     }
 }

@@ -1,14 +1,14 @@
 //! Values of JSON as text, in bytes from 0x20 to 0x7E. RFC 8259.
 
-ghost use Rattle.std.specs.Prelude.{◌≡◌, ◌<◌, [], ◌∷◌, ◌++◌, OnOk, false, string_bytes};
-ghost use Rattle.std.specs.Char.{digit_char};
+ghost use Rattle.std.specs.Prelude.{◌≡◌, [], ◌∷◌, ◌++◌, OnOk, false, string_bytes};
 ghost use Rattle.std.specs.Char.Escape.{encode_utf16};
 ghost use Rattle.std.specs.List.{flat_map};
 ghost use Rattle.cmap_escape.specs.Escapes.{AddsLine, AddsOfLine, AddsPrintable};
-ghost use Rattle.cmap_escape.specs.Json.{character_escaped, escaped, small_digits_of, unit_escaped};
+ghost use Rattle.cmap_escape.specs.Json.{character_escaped, escaped, unit_escaped};
 ghost use Rattle.serde_json.specs.View.{view};
 ghost use Rattle.serde_json.specs.Written.{compact_text, has_float};
 
+use crate::digits::{Letters, push_byte};
 use serde_json::Value;
 use std::alloc::{AllocError, Global};
 
@@ -81,34 +81,6 @@ fn push_unit(out: &mut String, unit: u16) -> Result<(), AllocError>
     ensures printable { AddsPrintable (string_bytes out.old) (string_bytes out.new) }
 {
     out.push_str("\\u")?;
-    push_byte(out, (unit / 0x100) as u8)?;
-    push_byte(out, (unit % 0x100) as u8)
-}
-
-/// Adds the two digits of a byte, with small letters.
-fn push_byte(out: &mut String, byte: u8) -> Result<(), AllocError>
-    ensures digits { OnOk result (string_bytes out.new
-        ≡ string_bytes out.old ++ small_digits_of byte) }
-    ensures printable { AddsPrintable (string_bytes out.old) (string_bytes out.new) }
-{
-    push_digit(out, byte / 16)?;
-    push_digit(out, byte % 16)
-}
-
-/// Adds the digit of a number below 16, a small letter from 10 on.
-fn push_digit(out: &mut String, number: u8) -> Result<(), AllocError>
-    requires { number < 16 }
-    ensures digit { OnOk result (string_bytes out.new
-        ≡ string_bytes out.old ++ digit_char number ∷ []) }
-    ensures printable { AddsPrintable (string_bytes out.old) (string_bytes out.new) }
-{
-    out.push(small_digit(number))
-}
-
-/// The digit of a number below 16, a small letter from 10 on.
-fn small_digit(number: u8) -> char
-    requires { number < 16 }
-    ensures { result ≡ digit_char number }
-{
-    char::from_digit(u32::from(number), 16).unwrap()
+    push_byte(out, Letters::Small, (unit / 0x100) as u8)?;
+    push_byte(out, Letters::Small, (unit % 0x100) as u8)
 }

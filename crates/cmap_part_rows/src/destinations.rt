@@ -2,7 +2,7 @@
 
 use crate::texts::push_text;
 use cmap_files::units::Units;
-use cmap_rows::fault::Fault;
+use cmap_rows::row_error::RowError;
 use cmap_tokens::utf16::{BfString, one_char, text, units};
 use std::alloc::{AllocError, Global};
 
@@ -13,15 +13,15 @@ pub fn push_answer(
     word: &str,
     rest: &str,
     line: &mut String,
-) -> Result<(), Fault> {
+) -> Result<(), RowError> {
     match word {
         "units" => push_units(alloc, bytes, line),
         "text" => push_text_at(alloc, bytes, rest, line),
-        _ => Err(Fault::Wrong("an unknown word")),
+        _ => Err(RowError::Wrong("an unknown word")),
     }
 }
 
-fn push_units(alloc: Global, bytes: &[u8], line: &mut String) -> Result<(), Fault> {
+fn push_units(alloc: Global, bytes: &[u8], line: &mut String) -> Result<(), RowError> {
     let units = units(alloc, bytes)?;
     push_each(&units, line)?;
     if !is_kept(alloc, &units)? {
@@ -48,11 +48,11 @@ fn is_kept(alloc: Global, units: &[u16]) -> Result<bool, AllocError> {
 }
 
 /// Adds the text at the offset that a line begins with.
-fn push_text_at(alloc: Global, bytes: &[u8], rest: &str, line: &mut String) -> Result<(), Fault> {
-    let (offset, _) = rest.split_once(' ').ok_or(Fault::Wrong("text OFFSET .."))?;
+fn push_text_at(alloc: Global, bytes: &[u8], rest: &str, line: &mut String) -> Result<(), RowError> {
+    let (offset, _) = rest.split_once(' ').ok_or(RowError::Wrong("text OFFSET .."))?;
     let place = u32::from_str_radix(offset, 10)
         .ok()
-        .ok_or(Fault::Wrong("no offset"))?;
+        .ok_or(RowError::Wrong("no offset"))?;
     write!(line, " {offset}")?;
     let units = units(alloc, bytes)?;
     Ok(push_text_of(alloc, &units, place, line)?)

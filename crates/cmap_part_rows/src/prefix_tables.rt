@@ -3,7 +3,7 @@
 use cmap_bits::bits::Reader;
 use cmap_bits::prefix::PrefixTable;
 use cmap_rows::escapes::hexadecimal;
-use cmap_rows::fault::Fault;
+use cmap_rows::row_error::RowError;
 use cmap_rows::row::Symbols;
 use std::alloc::{AllocError, Global};
 
@@ -12,7 +12,7 @@ fn table_of(
     alloc: Global,
     symbols: Symbols,
     bytes: &[u8],
-) -> Result<(Option<PrefixTable>, usize), Fault> {
+) -> Result<(Option<PrefixTable>, usize), RowError> {
     let mut reader = Reader::new(bytes);
     let table = match symbols {
         Symbols::OneByte => PrefixTable::parse_count(alloc, &mut reader),
@@ -20,13 +20,13 @@ fn table_of(
     };
     match table {
         Ok(table) => Ok((table, reader.position())),
-        Err(_) if reader.position() == 0 => Err(Fault::NoMemory),
-        Err(_) => Err(Fault::Wrong("a reader has moved")),
+        Err(_) if reader.position() == 0 => Err(RowError::NoMemory),
+        Err(_) => Err(RowError::Wrong("a reader has moved")),
     }
 }
 
 /// Whether bytes begin with a table.
-pub fn outcome(alloc: Global, symbols: Symbols, bytes: &[u8]) -> Result<&'static str, Fault> {
+pub fn outcome(alloc: Global, symbols: Symbols, bytes: &[u8]) -> Result<&'static str, RowError> {
     match table_of(alloc, symbols, bytes)? {
         (Some(_), _) => Ok("accepted"),
         (None, 0) => Ok("refused"),
@@ -42,12 +42,12 @@ pub fn push_answer(
     word: &str,
     rest: &str,
     line: &mut String,
-) -> Result<(), Fault> {
+) -> Result<(), RowError> {
     let (table, position) = table_of(alloc, symbols, bytes)?;
     match word {
         "takes" => Ok(push_taken(table.is_some(), position, line)?),
         "symbols" => push_symbols_of(alloc, table.as_ref(), rest, line),
-        _ => Err(Fault::Wrong("an unknown word")),
+        _ => Err(RowError::Wrong("an unknown word")),
     }
 }
 
@@ -65,7 +65,7 @@ fn push_symbols_of(
     table: Option<&PrefixTable>,
     rest: &str,
     line: &mut String,
-) -> Result<(), Fault> {
+) -> Result<(), RowError> {
     match table {
         Some(table) => push_symbols(alloc, table, rest, line),
         None => Ok(line.push_str(" none")?),
@@ -78,10 +78,10 @@ fn push_symbols(
     table: &PrefixTable,
     rest: &str,
     line: &mut String,
-) -> Result<(), Fault> {
+) -> Result<(), RowError> {
     let (digits, _) = rest
         .split_once(':')
-        .ok_or(Fault::Wrong("symbols DIGITS: .."))?;
+        .ok_or(RowError::Wrong("symbols DIGITS: .."))?;
     write!(line, " {digits}:")?;
     let bytes = hexadecimal(alloc, digits)?;
     Ok(push_decoded(table, &bytes, line)?)

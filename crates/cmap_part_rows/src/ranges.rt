@@ -1,6 +1,6 @@
 //! Tables of declarations: the maximal runs of their ranges, and what is found.
 
-use cmap_rows::fault::Fault;
+use cmap_rows::row_error::RowError;
 use cmap_runs::runs::{HasRange, Looks, Range, Table};
 use std::alloc::Global;
 
@@ -26,7 +26,7 @@ pub fn push_answer(
     word: &str,
     rest: &str,
     line: &mut String,
-) -> Result<(), Fault> {
+) -> Result<(), RowError> {
     let table = table_of(alloc, ranges)?;
     push_of_table(&table, word, rest, line)
 }
@@ -36,22 +36,22 @@ fn push_of_table(
     word: &str,
     rest: &str,
     line: &mut String,
-) -> Result<(), Fault> {
+) -> Result<(), RowError> {
     match word {
         "runs" => push_runs(table, line),
         "found" => push_found(table, rest, line),
         "declarations" => push_count(table, line),
-        _ => Err(Fault::Wrong("an unknown word")),
+        _ => Err(RowError::Wrong("an unknown word")),
     }
 }
 
 /// The table of ranges as `0-FF 10-1F`.
-fn table_of(alloc: Global, ranges: &str) -> Result<Table<Declared>, Fault> {
+fn table_of(alloc: Global, ranges: &str) -> Result<Table<Declared>, RowError> {
     let mut list = Vec::new(alloc);
     for word in ranges.split_whitespace() {
         let (start, end) = word
             .split_once('-')
-            .ok_or(Fault::Wrong("a range is START-END"))?;
+            .ok_or(RowError::Wrong("a range is START-END"))?;
         let range = Range {
             start: code_of(start)?,
             end: code_of(end)?,
@@ -63,14 +63,14 @@ fn table_of(alloc: Global, ranges: &str) -> Result<Table<Declared>, Fault> {
 }
 
 /// The code of hexadecimal digits.
-pub fn code_of(digits: &str) -> Result<u32, Fault> {
+pub fn code_of(digits: &str) -> Result<u32, RowError> {
     u32::from_str_radix(digits, 16)
         .ok()
-        .ok_or(Fault::Wrong("no code"))
+        .ok_or(RowError::Wrong("no code"))
 }
 
 /// Adds how many declarations there are, and sees that each stands at its place.
-fn push_count(table: &Table<Declared>, line: &mut String) -> Result<(), Fault> {
+fn push_count(table: &Table<Declared>, line: &mut String) -> Result<(), RowError> {
     write!(line, " {}", table.decl_count())?;
     let mut looks = Looks::new();
     for place in 0..table.decl_count() {
@@ -82,7 +82,7 @@ fn push_count(table: &Table<Declared>, line: &mut String) -> Result<(), Fault> {
 }
 
 /// Adds the runs as `0-F:0 10-1F:1`.
-fn push_runs(table: &Table<Declared>, line: &mut String) -> Result<(), Fault> {
+fn push_runs(table: &Table<Declared>, line: &mut String) -> Result<(), RowError> {
     if table.run_count() == 0 {
         return Ok(line.push_str(" none")?);
     }
@@ -95,15 +95,15 @@ fn push_runs(table: &Table<Declared>, line: &mut String) -> Result<(), Fault> {
 }
 
 /// Adds each code with the place of what is found for it.
-fn push_found(table: &Table<Declared>, rest: &str, line: &mut String) -> Result<(), Fault> {
+fn push_found(table: &Table<Declared>, rest: &str, line: &mut String) -> Result<(), RowError> {
     if rest.is_empty() {
-        return Err(Fault::Wrong("no code"));
+        return Err(RowError::Wrong("no code"));
     }
     let mut looks = Looks::new();
     for word in rest.split_whitespace() {
         let (digits, _) = word
             .split_once(':')
-            .ok_or(Fault::Wrong("a code without its answer"))?;
+            .ok_or(RowError::Wrong("a code without its answer"))?;
         match table.find(code_of(digits)?, &mut looks) {
             Some(found) => write!(line, " {digits}:{}", found.place)?,
             None => write!(line, " {digits}:none")?,

@@ -1,7 +1,7 @@
 //! The tokens of a text.
 
 use cmap_rows::escapes::push_escaped;
-use cmap_rows::fault::Fault;
+use cmap_rows::row_error::RowError;
 use cmap_tokens::token::{Number, Scanner, StringToken, Token};
 use std::alloc::{AllocError, Global};
 
@@ -25,19 +25,19 @@ impl Strings {
     }
 
     /// What a word of rows asks for.
-    fn named(word: &str) -> Result<Strings, Fault> {
+    fn named(word: &str) -> Result<Strings, RowError> {
         match word {
             "tokens" => Ok(Strings::Values),
             "pieces" => Ok(Strings::Pieces),
             "plain" => Ok(Strings::Numbers),
             "lengths" => Ok(Strings::Lengths),
-            _ => Err(Fault::Wrong("an unknown word")),
+            _ => Err(RowError::Wrong("an unknown word")),
         }
     }
 }
 
 /// Adds what a word asks of all tokens of a text.
-pub fn push_answer(alloc: Global, text: &[u8], word: &str, line: &mut String) -> Result<(), Fault> {
+pub fn push_answer(alloc: Global, text: &[u8], word: &str, line: &mut String) -> Result<(), RowError> {
     let strings = Strings::named(word)?;
     let end = push_tokens(alloc, text, strings, line)?;
     if !strings.are_alone() {
@@ -47,7 +47,7 @@ pub fn push_answer(alloc: Global, text: &[u8], word: &str, line: &mut String) ->
 }
 
 /// Whether the tokens of a text end, or it is malformed.
-pub fn outcome(alloc: Global, text: &[u8]) -> Result<&'static str, Fault> {
+pub fn outcome(alloc: Global, text: &[u8]) -> Result<&'static str, RowError> {
     push_tokens(alloc, text, Strings::Numbers, &mut String::new(alloc))
 }
 
@@ -57,7 +57,7 @@ fn push_tokens(
     text: &[u8],
     strings: Strings,
     line: &mut String,
-) -> Result<&'static str, Fault> {
+) -> Result<&'static str, RowError> {
     let mut scanner = Scanner::new(text);
     for _ in 0..=text.len() {
         match scanner.next_token() {
@@ -92,7 +92,7 @@ fn push_string(
     string: StringToken<'_>,
     strings: Strings,
     line: &mut String,
-) -> Result<(), Fault> {
+) -> Result<(), RowError> {
     let value = value_of(alloc, string)?;
     let pushed = match strings {
         Strings::Values => push_piece(&value, line),
@@ -109,13 +109,13 @@ fn push_piece(bytes: &[u8], line: &mut String) -> Result<(), AllocError> {
 }
 
 /// The value of a string, in a vector that held other bytes, which stay where there is no memory.
-fn value_of(alloc: Global, string: StringToken<'_>) -> Result<Vec<u8>, Fault> {
+fn value_of(alloc: Global, string: StringToken<'_>) -> Result<Vec<u8>, RowError> {
     let before = b"replaced".as_slice();
     let mut value = Vec::from_slice(alloc, before)?;
     match string.decode_into(&mut value) {
         Ok(()) => Ok(value),
-        Err(_) if value.as_slice() == before => Err(Fault::NoMemory),
-        Err(_) => Err(Fault::Wrong("a value is lost")),
+        Err(_) if value.as_slice() == before => Err(RowError::NoMemory),
+        Err(_) => Err(RowError::Wrong("a value is lost")),
     }
 }
 

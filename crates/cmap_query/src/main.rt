@@ -2,16 +2,16 @@
 //! CMap file on the standard input.
 #![tactic(auto)]
 
-use cmap_programs::answers::run;
-use cmap_programs::output::report;
-use cmap_programs::words::words;
+use cmap_queries::answers::run;
+use cmap_queries::output::report;
+use cmap_queries::arguments::arguments;
 use std::process::ExitCode;
 
 fn main(rt: HostRuntime) -> ExitCode {
-    let status = match words(&rt) {
-        Ok(words) => run(
+    let status = match arguments(&rt) {
+        Ok(arguments) => run(
             rt.alloc(),
-            &words,
+            &arguments,
             &mut rt.stdin(),
             &mut rt.stdout(),
             &mut rt.stderr(),

@@ -1,1 +1,2 @@
 pub mod Codes
+pub mod Lines

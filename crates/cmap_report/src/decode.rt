@@ -5,7 +5,7 @@ ghost use Rattle.cmap_escape.specs.Escapes.{AddsLine, AddsOfLine};
 
 mod codes;
 
-use self::codes::{Place, codes_of, place_of};
+use self::codes::{CodespaceStatus, codes_of, status_of};
 use cmap_escape::digits::{byte_digits, code_digits, push_code};
 use cmap_escape::{escape, json};
 use hayro_cmap::{BfString, CMap, StringCode};
@@ -38,7 +38,7 @@ impl Decoded {
 #[derive(Drop)]
 struct DecodedCode {
     code: StringCode,
-    place: Place,
+    status: CodespaceStatus,
     cid: Option<u32>,
     text: Option<String>,
 }
@@ -139,7 +139,7 @@ fn decode_code(
     };
     Ok(DecodedCode {
         code,
-        place: place_of(map, code, is_last),
+        status: status_of(map, code, is_last),
         cid,
         text,
     })
@@ -181,10 +181,10 @@ fn push_code_line(out: &mut String, decoded: &DecodedCode) -> Result<(), AllocEr
         None => write!(out, "{:>12}  ", "-")?,
     }
     push_text_or_dash(out, &decoded.text)?;
-    out.push_str(match decoded.place {
-        Place::Inside => "\n",
-        Place::Outside => "  in no codespace range\n",
-        Place::CutShort => "  cut short\n",
+    out.push_str(match decoded.status {
+        CodespaceStatus::Inside => "\n",
+        CodespaceStatus::Outside => "  in no codespace range\n",
+        CodespaceStatus::CutShort => "  cut short\n",
     })
 }
 
@@ -220,7 +220,7 @@ fn put_code(
 ) -> Result<(), AllocError> {
     let DecodedCode {
         code,
-        place,
+        status,
         cid,
         text,
     } = decoded;
@@ -228,14 +228,14 @@ fn put_code(
     put(object, alloc, "cid", Value::from(cid))?;
     let digits = code_digits(alloc, code.byte_len, code.code)?;
     put(object, alloc, "code", Value::from(digits))?;
-    let range = String::from_str(alloc, range_word(place))?;
+    let range = String::from_str(alloc, range_word(status))?;
     put(object, alloc, "range", Value::from(range))
 }
 
-fn range_word(place: Place) -> &'static str {
-    match place {
-        Place::Inside => "inside",
-        Place::Outside => "outside",
-        Place::CutShort => "cut short",
+fn range_word(status: CodespaceStatus) -> &'static str {
+    match status {
+        CodespaceStatus::Inside => "inside",
+        CodespaceStatus::Outside => "outside",
+        CodespaceStatus::CutShort => "cut short",
     }
 }

@@ -27,29 +27,29 @@ pub fn push_info(
     map: &CMap,
     uses: &[Vec<&[u8]>],
 ) -> Result<(), AllocError> {
-    for (place, layer) in map.layers().iter().enumerate() {
-        push_heading(out, file, place)?;
+    for (index, layer) in map.layers().iter().enumerate() {
+        push_heading(out, file, index)?;
         push_metadata(out, layer.metadata())?;
-        push_uses(out, names_at(uses, place))?;
+        push_uses(out, names_at(uses, index))?;
         push_declarations(out, layer)?;
     }
     Ok(())
 }
 
 /// The names that the file of a layer uses.
-fn names_at<T>(uses: &[Vec<T>], place: usize) -> &[T] {
-    match uses.get(place) {
+fn names_at<T>(uses: &[Vec<T>], index: usize) -> &[T] {
+    match uses.get(index) {
         Some(names) => names.as_slice(),
         None => &[],
     }
 }
 
 /// Adds the file's path over its own layer, and the number of any other over that.
-fn push_heading(out: &mut String, file: &str, place: usize) -> Result<(), AllocError> {
-    if place == 0 {
+fn push_heading(out: &mut String, file: &str, index: usize) -> Result<(), AllocError> {
+    if index == 0 {
         escape::push_text(out, file)?;
     } else {
-        write!(out, "layer {}", place.saturating_add(1))?;
+        write!(out, "layer {}", index.saturating_add(1))?;
     }
     out.push('\n')
 }
@@ -119,8 +119,8 @@ fn push_uses(out: &mut String, names: &[&[u8]]) -> Result<(), AllocError> {
     if names.is_empty() {
         return out.push_str("-\n");
     }
-    for (place, name) in names.iter().enumerate() {
-        out.push_str(if place == 0 { "/" } else { " /" })?;
+    for (index, name) in names.iter().enumerate() {
+        out.push_str(if index == 0 { "/" } else { " /" })?;
         escape::push_name(out, name)?;
     }
     out.push('\n')
@@ -132,8 +132,8 @@ fn push_codespaces(out: &mut String, spaces: &[Codespace]) -> Result<(), AllocEr
     if spaces.is_empty() {
         return out.push_str("-\n");
     }
-    for (place, space) in spaces.iter().enumerate() {
-        if place > 0 {
+    for (index, space) in spaces.iter().enumerate() {
+        if index > 0 {
             push_label(out, "")?;
         }
         push_codespace(out, space)?;
@@ -219,8 +219,8 @@ fn put_layers(
     uses: &[Vec<&[u8]>],
 ) -> Result<(), AllocError> {
     let mut layers = Vec::new(alloc);
-    for (place, layer) in map.layers().iter().enumerate() {
-        layers.push(layer_object(alloc, layer, names_at(uses, place))?)?;
+    for (index, layer) in map.layers().iter().enumerate() {
+        layers.push(layer_object(alloc, layer, names_at(uses, index))?)?;
     }
     put(object, alloc, "layers", Value::Array(layers))
 }

@@ -1,6 +1,10 @@
-//! What the program `cmap` prints of a map: as lines for people, and as objects of JSON.
+//! What the program `cmap` prints of a map, and of why a file is refused: as lines for people, and as
+//! objects of JSON.
 #![tactic(auto)]
 
 pub mod decode;
 pub mod info;
+pub mod lines;
 pub mod lookup;
+pub mod refused;
+pub mod uses;

@@ -5,7 +5,7 @@ ghost use Rattle.cmap_escape.specs.Escapes.{AddsLine, AddsOfLine};
 
 use crate::decode::{push_text_or_dash, text_of};
 use cmap_escape::json;
-use cmap_programs::query::{Asked, Query};
+use cmap_queries::query::{Asked, Query};
 use hayro_cmap::CMap;
 use serde_json::{Map, Value, put};
 use std::alloc::{AllocError, Global};

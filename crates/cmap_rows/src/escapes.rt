@@ -1,10 +1,10 @@
 //! Bytes as rows write them: as text with escapes, or in hexadecimal digits.
 
-use crate::fault::Fault;
+use crate::row_error::RowError;
 use std::alloc::{AllocError, Global};
 
 /// The bytes of a text, in which `\n`, `\r`, `\t`, `\f`, `\0`, `\\` and `\x41` are escapes.
-pub fn unescaped(alloc: Global, text: &str) -> Result<Vec<u8>, Fault> {
+pub fn unescaped(alloc: Global, text: &str) -> Result<Vec<u8>, RowError> {
     let mut bytes = Vec::with_capacity(alloc, text.len())?;
     let mut rest = text.as_bytes();
     for _ in 0..text.len() {
@@ -12,7 +12,7 @@ pub fn unescaped(alloc: Global, text: &str) -> Result<Vec<u8>, Fault> {
             [] => break,
             [b'\\', b'x', high, low, after @ ..] => (byte_of([*high, *low])?, after),
             [b'\\', letter, after @ ..] => (escaped_byte(*letter)?, after),
-            [b'\\'] => return Err(Fault::Wrong("an escape that is cut")),
+            [b'\\'] => return Err(RowError::Wrong("an escape that is cut")),
             [byte, after @ ..] => (*byte, after),
         };
         bytes.push(byte)?;
@@ -22,7 +22,7 @@ pub fn unescaped(alloc: Global, text: &str) -> Result<Vec<u8>, Fault> {
 }
 
 /// The byte that a letter after a backslash stands for.
-fn escaped_byte(letter: u8) -> Result<u8, Fault> {
+fn escaped_byte(letter: u8) -> Result<u8, RowError> {
     match letter {
         b'n' => Ok(b'\n'),
         b'r' => Ok(b'\r'),
@@ -30,21 +30,21 @@ fn escaped_byte(letter: u8) -> Result<u8, Fault> {
         b'f' => Ok(0x0C),
         b'0' => Ok(0),
         b'\\' => Ok(b'\\'),
-        _ => Err(Fault::Wrong("an unknown escape")),
+        _ => Err(RowError::Wrong("an unknown escape")),
     }
 }
 
 /// The byte of two hexadecimal digits.
-fn byte_of(digits: [u8; 2]) -> Result<u8, Fault> {
+fn byte_of(digits: [u8; 2]) -> Result<u8, RowError> {
     let mut byte = [0];
     match hex::decode_to_slice(digits, &mut byte) {
         Ok(()) => Ok(byte[0]),
-        Err(_) => Err(Fault::Wrong("no hexadecimal digits")),
+        Err(_) => Err(RowError::Wrong("no hexadecimal digits")),
     }
 }
 
 /// The bytes of hexadecimal digits in pairs, which blanks may part.
-pub fn hexadecimal(alloc: Global, digits: &str) -> Result<Vec<u8>, Fault> {
+pub fn hexadecimal(alloc: Global, digits: &str) -> Result<Vec<u8>, RowError> {
     let mut bytes = Vec::new(alloc);
     let mut high = None;
     for digit in digits.bytes() {
@@ -59,7 +59,7 @@ pub fn hexadecimal(alloc: Global, digits: &str) -> Result<Vec<u8>, Fault> {
     }
     match high {
         None => Ok(bytes),
-        Some(_) => Err(Fault::Wrong("a digit without its other one")),
+        Some(_) => Err(RowError::Wrong("a digit without its other one")),
     }
 }
 
@@ -86,7 +86,7 @@ fn push_byte(byte: u8, line: &mut String) -> Result<(), AllocError> {
 
 /// A line in the one way in which it is compared: with one blank between its words, and its bytes
 /// escaped as `push_escaped` does.
-pub fn canonical(alloc: Global, line: &str) -> Result<String, Fault> {
+pub fn canonical(alloc: Global, line: &str) -> Result<String, RowError> {
     let mut shown = String::new(alloc);
     for word in line.split_whitespace() {
         if !shown.is_empty() {

@@ -2,7 +2,7 @@
 #![tactic(auto)]
 
 pub mod escapes;
-pub mod fault;
 pub mod row;
+pub mod row_error;
 pub mod rows;
 pub mod spelled;

@@ -1,12 +1,12 @@
 //! A row: an input, with what stands beside it.
 
-use crate::fault::Fault;
+use crate::row_error::RowError;
 use crate::spelled::{Addition, Spelled, number, split_word};
 use std::alloc::Global;
 
 /// What is done with the input of a row.
 #[derive(Clone, Copy)]
-pub enum Kind {
+pub enum RowKind {
     /// It is read as a CMap file.
     File,
     /// It names a map that needs no file.
@@ -34,26 +34,26 @@ pub enum Symbols {
     FourBytes,
 }
 
-impl Kind {
+impl RowKind {
     /// The kind of the rows that begin with a word.
-    pub(crate) fn named(word: &str) -> Option<Kind> {
+    pub(crate) fn named(word: &str) -> Option<RowKind> {
         match word {
-            "file" => Some(Kind::File),
-            "predefined" => Some(Kind::Predefined),
-            "tokens" => Some(Kind::Tokens),
-            "ranges" => Some(Kind::Ranges),
-            "deltas" => Some(Kind::PrefixTable(Symbols::FourBytes)),
-            "counts" => Some(Kind::PrefixTable(Symbols::OneByte)),
-            "bundle" => Some(Kind::Bundle),
-            "destination" => Some(Kind::Destination),
-            "run" => Some(Kind::Run),
+            "file" => Some(RowKind::File),
+            "predefined" => Some(RowKind::Predefined),
+            "tokens" => Some(RowKind::Tokens),
+            "ranges" => Some(RowKind::Ranges),
+            "deltas" => Some(RowKind::PrefixTable(Symbols::FourBytes)),
+            "counts" => Some(RowKind::PrefixTable(Symbols::OneByte)),
+            "bundle" => Some(RowKind::Bundle),
+            "destination" => Some(RowKind::Destination),
+            "run" => Some(RowKind::Run),
             _ => None,
         }
     }
 
     /// Whether the first line has the bytes of the input, and not words.
     pub(crate) fn has_bytes(self) -> bool {
-        !matches!(self, Kind::Predefined | Kind::Ranges | Kind::Run)
+        !matches!(self, RowKind::Predefined | RowKind::Ranges | RowKind::Run)
     }
 }
 
@@ -75,7 +75,7 @@ pub(crate) enum Begun {
 /// An input, and what stands beside it.
 #[derive(Drop)]
 pub struct Row<'r> {
-    pub kind: Kind,
+    pub kind: RowKind,
     /// What the first line has in the place of bytes.
     pub words: &'r str,
     pub input: Spelled,
@@ -92,12 +92,12 @@ impl<'r> Row<'r> {
         alloc: Global,
         word: &str,
         rest: &'r str,
-    ) -> Result<bool, Fault> {
+    ) -> Result<bool, RowError> {
         match (self.kind, word) {
-            (Kind::File, "base") => self.begin_base(alloc, rest)?,
-            (Kind::File, "bundle") if self.bundle.is_none() => self.begin_bundle(alloc, rest)?,
-            (Kind::File, "budget") if self.budget.is_none() => self.budget = Some(number(rest)?),
-            (Kind::Run, "input") if self.input.bytes.is_empty() => {
+            (RowKind::File, "base") => self.begin_base(alloc, rest)?,
+            (RowKind::File, "bundle") if self.bundle.is_none() => self.begin_bundle(alloc, rest)?,
+            (RowKind::File, "budget") if self.budget.is_none() => self.budget = Some(number(rest)?),
+            (RowKind::Run, "input") if self.input.bytes.is_empty() => {
                 self.input = Spelled::new(alloc, rest)?;
             }
             _ => return Ok(false),
@@ -106,30 +106,30 @@ impl<'r> Row<'r> {
     }
 
     /// Begins a file that others may use.
-    fn begin_base(&mut self, alloc: Global, rest: &'r str) -> Result<(), Fault> {
+    fn begin_base(&mut self, alloc: Global, rest: &'r str) -> Result<(), RowError> {
         begin_named(alloc, &mut self.bases, rest)?;
         self.begun = Begun::Base;
         Ok(())
     }
 
     /// Begins a bundle.
-    fn begin_bundle(&mut self, alloc: Global, text: &str) -> Result<(), Fault> {
+    fn begin_bundle(&mut self, alloc: Global, text: &str) -> Result<(), RowError> {
         self.bundle = Some(Spelled::new(alloc, text)?);
         self.begun = Begun::Bundle;
         Ok(())
     }
 
     /// Adds to the bytes that were begun last.
-    pub(crate) fn add(&mut self, addition: &Addition) -> Result<(), Fault> {
+    pub(crate) fn add(&mut self, addition: &Addition) -> Result<(), RowError> {
         match self.begun {
             Begun::Input => self.input.add(addition),
             Begun::Base => match self.bases.last_mut() {
                 Some(base) => base.spelled.add(addition),
-                None => Err(Fault::Wrong("bytes of nothing")),
+                None => Err(RowError::Wrong("bytes of nothing")),
             },
             Begun::Bundle => match &mut self.bundle {
                 Some(bundle) => bundle.add(addition),
-                None => Err(Fault::Wrong("bytes of nothing")),
+                None => Err(RowError::Wrong("bytes of nothing")),
             },
         }
     }
@@ -140,10 +140,10 @@ pub(crate) fn begin_named<'r>(
     alloc: Global,
     all: &mut Vec<Named<'r>>,
     rest: &'r str,
-) -> Result<(), Fault> {
+) -> Result<(), RowError> {
     let (name, text) = split_word(rest);
     if bytes_of(all, name).is_some() {
-        return Err(Fault::Wrong("a name that is there"));
+        return Err(RowError::Wrong("a name that is there"));
     }
     let spelled = Spelled::new(alloc, text)?;
     Ok(all.push(Named { name, spelled })?)

@@ -1,8 +1,8 @@
 //! The lines of a file of rows, one after another.
 
 use crate::escapes::canonical;
-use crate::fault::Fault;
-use crate::row::{Begun, Kind, Named, Row, begin_named, bytes_of};
+use crate::row_error::RowError;
+use crate::row::{Begun, RowKind, Named, Row, begin_named, bytes_of};
 use crate::spelled::{Addition, Spelled, addition_of, split_word};
 use std::alloc::{AllocError, Global};
 
@@ -81,14 +81,14 @@ impl<'r> Rows<'r> {
     }
 
     /// Takes the next line, and says what it expects of the row, where it expects something.
-    pub fn take(&mut self, line: &'r str) -> Result<Option<Expectation<'r>>, Fault> {
+    pub fn take(&mut self, line: &'r str) -> Result<Option<Expectation<'r>>, RowError> {
         self.line = self.line.saturating_add(1);
         if line.is_empty() {
             self.end_paragraph()?;
             return Ok(None);
         }
         if line.starts_with(' ') || line.ends_with(' ') {
-            return Err(Fault::Wrong("a blank at an end of a line is written \\x20"));
+            return Err(RowError::Wrong("a blank at an end of a line is written \\x20"));
         }
         if line.starts_with('#') {
             return Ok(None);
@@ -101,7 +101,7 @@ impl<'r> Rows<'r> {
     }
 
     /// Does what a line does that expects nothing, if it is such a line.
-    fn is_prepared(&mut self, word: &str, rest: &'r str) -> Result<bool, Fault> {
+    fn is_prepared(&mut self, word: &str, rest: &'r str) -> Result<bool, RowError> {
         match self.stage {
             Stage::Between if word == "title" => {
                 self.title = rest;
@@ -117,12 +117,12 @@ impl<'r> Rows<'r> {
     }
 
     /// Begins a definition or a row.
-    fn begin_paragraph(&mut self, word: &str, rest: &'r str) -> Result<(), Fault> {
+    fn begin_paragraph(&mut self, word: &str, rest: &'r str) -> Result<(), RowError> {
         self.stage = Stage::Begun;
         if word == "let" {
             return begin_named(self.alloc, &mut self.definitions, rest);
         }
-        let kind = Kind::named(word).ok_or(Fault::Wrong("an unknown word"))?;
+        let kind = RowKind::named(word).ok_or(RowError::Wrong("an unknown word"))?;
         let text = if kind.has_bytes() { rest } else { "" };
         self.row = Some(Row {
             kind,
@@ -137,7 +137,7 @@ impl<'r> Rows<'r> {
     }
 
     /// Adds what a line adds to the bytes that were begun last, if it is such a line.
-    fn add_bytes(&mut self, word: &str, rest: &str) -> Result<bool, Fault> {
+    fn add_bytes(&mut self, word: &str, rest: &str) -> Result<bool, RowError> {
         let definition = bytes_of(&self.definitions, rest);
         match addition_of(self.alloc, word, rest, definition)? {
             Some(addition) => {
@@ -149,18 +149,18 @@ impl<'r> Rows<'r> {
     }
 
     /// Adds to the bytes that were begun last.
-    fn add(&mut self, addition: &Addition) -> Result<(), Fault> {
+    fn add(&mut self, addition: &Addition) -> Result<(), RowError> {
         if let Some(row) = &mut self.row {
             return row.add(addition);
         }
         match self.definitions.last_mut() {
             Some(definition) => definition.spelled.add(addition),
-            None => Err(Fault::Wrong("bytes of nothing")),
+            None => Err(RowError::Wrong("bytes of nothing")),
         }
     }
 
     /// Sets what a line sets beside the input of a row, if it is such a line.
-    fn add_beside(&mut self, word: &str, rest: &'r str) -> Result<bool, Fault> {
+    fn add_beside(&mut self, word: &str, rest: &'r str) -> Result<bool, RowError> {
         let alloc = self.alloc;
         match &mut self.row {
             Some(row) => row.set_beside(alloc, word, rest),
@@ -169,9 +169,9 @@ impl<'r> Rows<'r> {
     }
 
     /// What a line expects of the row.
-    fn expectation(&mut self, word: &'r str, rest: &'r str) -> Result<Expectation<'r>, Fault> {
+    fn expectation(&mut self, word: &'r str, rest: &'r str) -> Result<Expectation<'r>, RowError> {
         if self.row.is_none() {
-            return Err(Fault::Wrong("an unknown word"));
+            return Err(RowError::Wrong("an unknown word"));
         }
         self.stage = Stage::Expecting;
         let is_wanted = word != "not";
@@ -188,7 +188,7 @@ impl<'r> Rows<'r> {
     }
 
     /// Compares what is expected with the line that comes.
-    pub fn compare(&mut self, expected: Expectation<'_>, got: &str) -> Result<(), Fault> {
+    pub fn compare(&mut self, expected: Expectation<'_>, got: &str) -> Result<(), RowError> {
         let Expectation {
             word,
             rest,
@@ -215,12 +215,12 @@ impl<'r> Rows<'r> {
     }
 
     /// Ends the paragraph, if there is one, and counts its row.
-    fn end_paragraph(&mut self) -> Result<(), Fault> {
+    fn end_paragraph(&mut self) -> Result<(), RowError> {
         if self.row.is_some() {
             match self.stage {
                 Stage::Expecting if self.is_failed => self.failed = self.failed.saturating_add(1),
                 Stage::Expecting => self.passed = self.passed.saturating_add(1),
-                _ => return Err(Fault::Wrong("nothing is expected of the row above")),
+                _ => return Err(RowError::Wrong("nothing is expected of the row above")),
             }
         }
         self.row = None;
@@ -230,10 +230,10 @@ impl<'r> Rows<'r> {
     }
 
     /// Ends the rows, and says how many failed.
-    pub fn end(&mut self) -> Result<u32, Fault> {
+    pub fn end(&mut self) -> Result<u32, RowError> {
         self.end_paragraph()?;
         if self.passed == 0 && self.failed == 0 {
-            return Err(Fault::Wrong("no row"));
+            return Err(RowError::Wrong("no row"));
         }
         let path = self.path;
         let passed = self.passed;

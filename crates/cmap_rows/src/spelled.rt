@@ -1,7 +1,7 @@
 //! Bytes that rows spell, a line after another.
 
 use crate::escapes::{hexadecimal, unescaped};
-use crate::fault::Fault;
+use crate::row_error::RowError;
 use std::alloc::Global;
 
 /// Bytes, and whether they are a binary file, whose head tells its length.
@@ -24,7 +24,7 @@ pub enum Addition {
 
 impl Spelled {
     /// The bytes of a text with escapes.
-    pub fn new(alloc: Global, text: &str) -> Result<Spelled, Fault> {
+    pub fn new(alloc: Global, text: &str) -> Result<Spelled, RowError> {
         Ok(Spelled {
             bytes: unescaped(alloc, text)?,
             is_binary: false,
@@ -32,14 +32,14 @@ impl Spelled {
     }
 
     /// Adds what a line adds.
-    pub fn add(&mut self, addition: &Addition) -> Result<(), Fault> {
+    pub fn add(&mut self, addition: &Addition) -> Result<(), RowError> {
         match addition {
             Addition::Bytes(bytes) => self.bytes.extend_from_slice(bytes)?,
             Addition::Head if self.bytes.is_empty() => {
                 self.is_binary = true;
                 self.bytes.extend_from_slice(b"bcmap\x01\0\0\0\x0A")?;
             }
-            Addition::Head => return Err(Fault::Wrong("a binary file begins with its head")),
+            Addition::Head => return Err(RowError::Wrong("a binary file begins with its head")),
             Addition::Segment(bytes) => {
                 self.bytes.extend_from_slice(bytes)?;
                 self.count();
@@ -64,7 +64,7 @@ pub fn addition_of(
     word: &str,
     rest: &str,
     definition: Option<&Spelled>,
-) -> Result<Option<Addition>, Fault> {
+) -> Result<Option<Addition>, RowError> {
     let bytes = match word {
         "+" => unescaped(alloc, rest),
         "|" => unescaped_line(alloc, rest),
@@ -82,20 +82,20 @@ pub fn addition_of(
 }
 
 /// The bytes of a definition.
-fn copied(alloc: Global, definition: Option<&Spelled>) -> Result<Vec<u8>, Fault> {
-    let found = definition.ok_or(Fault::Wrong("no such definition"))?;
+fn copied(alloc: Global, definition: Option<&Spelled>) -> Result<Vec<u8>, RowError> {
+    let found = definition.ok_or(RowError::Wrong("no such definition"))?;
     Ok(Vec::from_slice(alloc, &found.bytes)?)
 }
 
 /// A line with its end.
-fn unescaped_line(alloc: Global, text: &str) -> Result<Vec<u8>, Fault> {
+fn unescaped_line(alloc: Global, text: &str) -> Result<Vec<u8>, RowError> {
     let mut line = unescaped(alloc, text)?;
     line.push(b'\n')?;
     Ok(line)
 }
 
 /// The text after a number, as many times as the number says.
-fn repeated(alloc: Global, rest: &str) -> Result<Vec<u8>, Fault> {
+fn repeated(alloc: Global, rest: &str) -> Result<Vec<u8>, RowError> {
     let (digits, text) = split_word(rest);
     let once = unescaped(alloc, text)?;
     let mut bytes = Vec::new(alloc);
@@ -106,12 +106,12 @@ fn repeated(alloc: Global, rest: &str) -> Result<Vec<u8>, Fault> {
 }
 
 /// A segment: a byte for its type, four for its length, and the payload.
-fn segment(alloc: Global, rest: &str) -> Result<Vec<u8>, Fault> {
+fn segment(alloc: Global, rest: &str) -> Result<Vec<u8>, RowError> {
     let (kind, digits) = split_word(rest);
     let payload = hexadecimal(alloc, digits)?;
     let mut bytes = hexadecimal(alloc, kind)?;
     if bytes.len() != 1 {
-        return Err(Fault::Wrong("segment TYPE DIGITS"));
+        return Err(RowError::Wrong("segment TYPE DIGITS"));
     }
     bytes.extend_from_slice(&length(payload.len().saturating_add(5)))?;
     bytes.extend_from_slice(&payload)?;
@@ -132,8 +132,8 @@ pub fn split_word(line: &str) -> (&str, &str) {
 }
 
 /// The number of decimal digits.
-pub fn number(digits: &str) -> Result<u64, Fault> {
+pub fn number(digits: &str) -> Result<u64, RowError> {
     u64::from_str_radix(digits, 10)
         .ok()
-        .ok_or(Fault::Wrong("no number"))
+        .ok_or(RowError::Wrong("no number"))
 }

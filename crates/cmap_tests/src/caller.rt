@@ -33,11 +33,7 @@ pub fn cid_over_files(
     file: &[u8],
     code: u32,
 ) -> Result<Option<Cid>, AllocError> {
-    let source = NamedFiles {
-        files,
-        bundle: None,
-    };
-    match CMap::parse_from(alloc, None, file, None, &source) {
+    match CMap::parse_from(alloc, None, file, None, &NamedFiles::alone(files)) {
         Ok(map) => Ok(map.lookup_cid_code(code, 2)),
         Err(Fault::Refused(_refusal)) => Ok(None),
         Err(Fault::Memory) => Err(AllocError),

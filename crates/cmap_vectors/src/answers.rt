@@ -3,8 +3,8 @@
 use crate::files::{self, Around, Outcome};
 use crate::{maps, program_runs};
 use cmap_part_rows::{destinations, prefix_tables, ranges, tokens};
-use cmap_rows::fault::Fault;
-use cmap_rows::row::{Kind, Row};
+use cmap_rows::row_error::RowError;
+use cmap_rows::row::{RowKind, Row};
 use hayro_cmap::CMap;
 use std::alloc::{AllocError, Global};
 
@@ -12,7 +12,7 @@ use std::alloc::{AllocError, Global};
 const OUTCOMES: &[&str] = &["accepted", "refused", "end", "malformed"];
 
 /// The line that is right in the place of one that begins with a word.
-pub fn answer(alloc: Global, row: &Row<'_>, word: &str, rest: &str) -> Result<String, Fault> {
+pub fn answer(alloc: Global, row: &Row<'_>, word: &str, rest: &str) -> Result<String, RowError> {
     let mut line = String::new(alloc);
     push_line(alloc, row, word, rest, &mut line)?;
     Ok(line)
@@ -24,7 +24,7 @@ fn push_line(
     word: &str,
     rest: &str,
     line: &mut String,
-) -> Result<(), Fault> {
+) -> Result<(), RowError> {
     if matches!(word, "accepted" | "refused" | "over" | "no") {
         return Ok(line.push_str(outcome(alloc, row, &row.input.bytes)?)?);
     }
@@ -36,14 +36,14 @@ fn push_line(
 }
 
 /// What comes of an input in the place of the row's own, in a word or two.
-fn outcome(alloc: Global, row: &Row<'_>, input: &[u8]) -> Result<&'static str, Fault> {
+fn outcome(alloc: Global, row: &Row<'_>, input: &[u8]) -> Result<&'static str, RowError> {
     match row.kind {
-        Kind::File => Ok(outcome_of_file(alloc, row, input)?),
-        Kind::Tokens => tokens::outcome(alloc, input),
-        Kind::PrefixTable(symbols) => prefix_tables::outcome(alloc, symbols, input),
-        Kind::Bundle => files::outcome_of_bundle(alloc, input),
-        Kind::Predefined | Kind::Ranges | Kind::Destination | Kind::Run => {
-            Err(Fault::Wrong("an unknown word"))
+        RowKind::File => Ok(outcome_of_file(alloc, row, input)?),
+        RowKind::Tokens => tokens::outcome(alloc, input),
+        RowKind::PrefixTable(symbols) => prefix_tables::outcome(alloc, symbols, input),
+        RowKind::Bundle => files::outcome_of_bundle(alloc, input),
+        RowKind::Predefined | RowKind::Ranges | RowKind::Destination | RowKind::Run => {
+            Err(RowError::Wrong("an unknown word"))
         }
     }
 }
@@ -59,19 +59,19 @@ fn push_answer(
     word: &str,
     rest: &str,
     line: &mut String,
-) -> Result<(), Fault> {
+) -> Result<(), RowError> {
     let input = row.input.bytes.as_slice();
     match row.kind {
-        Kind::File => push_answer_of_file(alloc, row, word, rest, line),
-        Kind::Predefined => push_answer_of_predefined(alloc, row.words, word, rest, line),
-        Kind::Tokens => tokens::push_answer(alloc, input, word, line),
-        Kind::Ranges => ranges::push_answer(alloc, row.words, word, rest, line),
-        Kind::PrefixTable(symbols) => {
+        RowKind::File => push_answer_of_file(alloc, row, word, rest, line),
+        RowKind::Predefined => push_answer_of_predefined(alloc, row.words, word, rest, line),
+        RowKind::Tokens => tokens::push_answer(alloc, input, word, line),
+        RowKind::Ranges => ranges::push_answer(alloc, row.words, word, rest, line),
+        RowKind::PrefixTable(symbols) => {
             prefix_tables::push_answer(alloc, symbols, input, word, rest, line)
         }
-        Kind::Bundle => files::push_held(alloc, input, word, rest, line),
-        Kind::Destination => destinations::push_answer(alloc, input, word, rest, line),
-        Kind::Run => program_runs::push_answer(alloc, row.words, input, word, line),
+        RowKind::Bundle => files::push_held(alloc, input, word, rest, line),
+        RowKind::Destination => destinations::push_answer(alloc, input, word, rest, line),
+        RowKind::Run => program_runs::push_answer(alloc, row.words, input, word, line),
     }
 }
 
@@ -81,7 +81,7 @@ fn push_answer_of_file(
     word: &str,
     rest: &str,
     line: &mut String,
-) -> Result<(), Fault> {
+) -> Result<(), RowError> {
     let around = Around::new(alloc, row)?;
     push_answer_over(alloc, &around, &row.input.bytes, word, rest, line)
 }
@@ -93,7 +93,7 @@ fn push_answer_over(
     word: &str,
     rest: &str,
     line: &mut String,
-) -> Result<(), Fault> {
+) -> Result<(), RowError> {
     let pushed = match word {
         "asked" => around.push_asked(alloc, file, line),
         "cause" => around.push_cause(alloc, file, line),
@@ -113,11 +113,11 @@ fn push_answer_of_outcome(
     word: &str,
     rest: &str,
     line: &mut String,
-) -> Result<(), Fault> {
+) -> Result<(), RowError> {
     match outcome {
         Outcome::Map(map) => maps::push_answer(alloc, map, word, rest, line),
         _ if maps::QUESTIONS.contains(&word) => Ok(write!(line, " {}", outcome.words())?),
-        _ => Err(Fault::Wrong("an unknown word")),
+        _ => Err(RowError::Wrong("an unknown word")),
     }
 }
 
@@ -127,18 +127,18 @@ fn push_answer_of_predefined(
     word: &str,
     rest: &str,
     line: &mut String,
-) -> Result<(), Fault> {
+) -> Result<(), RowError> {
     let map = predefined(alloc, name)?;
     maps::push_answer(alloc, &map, word, rest, line)
 }
 
 /// Adds the outcome that a line begins with, and at which lengths the front of the input has it.
-fn push_fronts(alloc: Global, row: &Row<'_>, rest: &str, line: &mut String) -> Result<(), Fault> {
+fn push_fronts(alloc: Global, row: &Row<'_>, rest: &str, line: &mut String) -> Result<(), RowError> {
     let (asked, _) = rest
         .split_once(' ')
-        .ok_or(Fault::Wrong("fronts OUTCOME .."))?;
+        .ok_or(RowError::Wrong("fronts OUTCOME .."))?;
     if !OUTCOMES.contains(&asked) {
-        return Err(Fault::Wrong("an unknown outcome"));
+        return Err(RowError::Wrong("an unknown outcome"));
     }
     write!(line, " {asked}")?;
     let before = line.len();
@@ -155,7 +155,7 @@ fn push_fronts_of(
     row: &Row<'_>,
     asked: &str,
     line: &mut String,
-) -> Result<(), Fault> {
+) -> Result<(), RowError> {
     let input = row.input.bytes.as_slice();
     let mut first = None;
     for len in 0..=input.len() {
@@ -183,10 +183,10 @@ fn push_lengths(start: usize, end: usize, len: usize, line: &mut String) -> Resu
 }
 
 /// A map that needs no file.
-fn predefined(alloc: Global, name: &str) -> Result<CMap, Fault> {
+fn predefined(alloc: Global, name: &str) -> Result<CMap, RowError> {
     match name {
         "Identity-H" => Ok(CMap::identity_h(alloc)?),
         "Identity-V" => Ok(CMap::identity_v(alloc)?),
-        _ => Err(Fault::Wrong("Identity-H or Identity-V")),
+        _ => Err(RowError::Wrong("Identity-H or Identity-V")),
     }
 }

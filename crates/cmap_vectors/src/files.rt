@@ -1,16 +1,16 @@
 //! CMap files over other files, and bundles.
 
 use cmap_rows::escapes::{push_escaped, unescaped};
-use cmap_rows::fault::Fault;
+use cmap_rows::row_error::RowError;
 use cmap_rows::row::Row;
 use cmap_rows::spelled::number;
 use hayro_cmap::bcmap::{Bundle, OwnedBundle, load_embedded};
-use hayro_cmap::{CMap, CMapName, Fault as ParseFault, NamedFiles, ParseError, Refusal, Source};
+use hayro_cmap::{CMap, CMapName, Fault, NamedFiles, ParseError, Refusal, Source};
 use std::alloc::{AllocError, Global};
 use std::cell::Cell;
 
 /// A name and its file.
-type Base<'a> = (&'a [u8], &'a [u8]);
+type NamedBytes<'a> = (&'a [u8], &'a [u8]);
 
 /// What comes of a file.
 #[derive(Drop)]
@@ -41,7 +41,7 @@ impl Outcome {
 #[derive(Drop)]
 pub struct Around<'r> {
     /// Files by their names. Where there are any, those of the bundle have none.
-    bases: Vec<Base<'r>>,
+    bases: Vec<NamedBytes<'r>>,
     /// The bundle; `None` also where what stands for one is none.
     bundle: Option<Bundle<'r>>,
     is_no_bundle: bool,
@@ -132,14 +132,11 @@ impl<'r> Around<'r> {
         file: &[u8],
         line: &mut String,
     ) -> Result<(), AllocError> {
-        let files = NamedFiles {
-            files: self.bases.as_slice(),
-            bundle: None,
-        };
+        let files = NamedFiles::alone(self.bases.as_slice());
         match CMap::parse_from(alloc, self.budget, file, self.bundle.as_ref(), &files) {
             Ok(_map) => line.push_str(" none"),
-            Err(ParseFault::Refused(refusal)) => push_refusal(&refusal, line),
-            Err(ParseFault::Memory) => Err(AllocError),
+            Err(Fault::Refused(refusal)) => push_refusal(&refusal, line),
+            Err(Fault::Memory) => Err(AllocError),
         }
     }
 
@@ -164,10 +161,10 @@ impl<'r> Around<'r> {
         file: &[u8],
         rest: &str,
         line: &mut String,
-    ) -> Result<(), Fault> {
+    ) -> Result<(), RowError> {
         let digits = rest
             .strip_prefix("budget ")
-            .ok_or(Fault::Wrong("least budget N"))?;
+            .ok_or(RowError::Wrong("least budget N"))?;
         let least = number(digits)?;
         write!(line, " budget {least}")?;
         line.push_str(self.told_of_least(alloc, file, least)?)?;
@@ -206,7 +203,7 @@ fn bundle_of<'r>(alloc: Global, row: &'r Row<'_>) -> Result<Option<Bundle<'r>>, 
 }
 
 /// The files that a row's file may use, by their names.
-fn bases_of<'r>(alloc: Global, row: &'r Row<'_>) -> Result<Vec<Base<'r>>, AllocError> {
+fn bases_of<'r>(alloc: Global, row: &'r Row<'_>) -> Result<Vec<NamedBytes<'r>>, AllocError> {
     let mut bases = Vec::with_capacity(alloc, row.bases.len())?;
     for base in &row.bases {
         bases.push((base.name.as_bytes(), base.spelled.bytes.as_slice()))?;
@@ -217,18 +214,20 @@ fn bases_of<'r>(alloc: Global, row: &'r Row<'_>) -> Result<Vec<Base<'r>>, AllocE
 /// Files that answer to their names, and how many were asked for.
 #[derive(Drop)]
 struct CountedFiles<'s> {
-    files: NamedFiles<'s, Base<'s>>,
+    files: NamedFiles<'s, NamedBytes<'s>, Bundle<'s>>,
     asked: Cell<u32>,
 }
 
 impl<'s> Source for CountedFiles<'s> {
     ghost use Rattle.std.specs.Prelude.{◌≡◌, ⊤};
+    ghost use Rattle.cmap_binary.specs.BundleSeen.{bundle_seen};
     ghost use Rattle.hayro_cmap.specs.NamedFiles.{file_named};
 
     ghost can_ask = { λ counted. ⊤ };
 
     ghost answers = { λ counted name answer. answer
-        ≡ file_named (λ base. base.0.now) (λ base. base.1.now) counted.files.files.now counted.files.bundle name };
+        ≡ file_named (λ base. base.0.now) (λ base. base.1.now) bundle_seen
+        counted.files.files.now counted.files.bundle name };
 
     fn file(&self, name: &[u8]) -> Option<&[u8]> {
         self.asked.set(self.asked.get().wrapping_add(1));
@@ -236,7 +235,7 @@ impl<'s> Source for CountedFiles<'s> {
     }
 }
 
-/// What a result means; want of memory is none.
+/// What a result means; where memory ran out it is an error.
 fn outcome_of(map: Result<Option<CMap>, ParseError>) -> Result<Outcome, AllocError> {
     match map {
         Ok(Some(map)) => Ok(Outcome::Map(map)),
@@ -271,7 +270,7 @@ fn push_names(uses: &Option<Vec<&[u8]>>, line: &mut String) -> Result<(), AllocE
 }
 
 /// Whether bytes are a bundle, also one that owns its files.
-pub fn outcome_of_bundle(alloc: Global, bytes: &[u8]) -> Result<&'static str, Fault> {
+pub fn outcome_of_bundle(alloc: Global, bytes: &[u8]) -> Result<&'static str, RowError> {
     match (is_bundle(alloc, bytes)?, is_owned_bundle(alloc, bytes)?) {
         (true, true) => Ok("accepted"),
         (false, false) => Ok("refused"),
@@ -295,10 +294,10 @@ pub fn push_held(
     word: &str,
     rest: &str,
     line: &mut String,
-) -> Result<(), Fault> {
-    let (asked, _) = rest.split_once(' ').ok_or(Fault::Wrong("holds NAME .."))?;
+) -> Result<(), RowError> {
+    let (asked, _) = rest.split_once(' ').ok_or(RowError::Wrong("holds NAME .."))?;
     if word != "holds" {
-        return Err(Fault::Wrong("an unknown word"));
+        return Err(RowError::Wrong("an unknown word"));
     }
     write!(line, " {asked} ")?;
     let name = unescaped(alloc, asked)?;

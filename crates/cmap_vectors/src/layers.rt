@@ -1,16 +1,16 @@
 //! What a layer of a map has.
 
 use crate::maps::push_name;
-use cmap_rows::fault::Fault;
+use cmap_rows::row_error::RowError;
 use cmap_rows::spelled::number;
 use hayro_cmap::{ByLength, CMap, CodeLength, Codespace, Layer};
 use std::alloc::AllocError;
 
 /// Adds the number that a line begins with, and what the layer of that number has.
-pub fn push_layer(map: &CMap, rest: &str, line: &mut String) -> Result<(), Fault> {
+pub fn push_layer(map: &CMap, rest: &str, line: &mut String) -> Result<(), RowError> {
     let (digits, _) = rest
         .split_once(' ')
-        .ok_or(Fault::Wrong("declared LAYER .."))?;
+        .ok_or(RowError::Wrong("declared LAYER .."))?;
     let place = number(digits)? as usize;
     write!(line, " {digits}")?;
     match map.layers().get(place) {

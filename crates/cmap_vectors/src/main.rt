@@ -8,8 +8,8 @@ mod maps;
 mod program_runs;
 
 use answers::answer;
-use cmap_programs::words::words;
-use cmap_rows::fault::Fault;
+use cmap_queries::arguments::arguments;
+use cmap_rows::row_error::RowError;
 use cmap_rows::row::Row;
 use cmap_rows::rows::{Expectation, Rows};
 use std::alloc::Global;
@@ -28,12 +28,12 @@ fn main(rt: HostRuntime) -> ExitCode {
 }
 
 /// Runs the rows of each file that the command line names, and says how many failed.
-fn run(rt: &HostRuntime) -> Result<u32, Fault> {
-    let Ok(paths) = words(rt) else {
-        return Err(Fault::Unreadable);
+fn run(rt: &HostRuntime) -> Result<u32, RowError> {
+    let Ok(paths) = arguments(rt) else {
+        return Err(RowError::Unreadable);
     };
     if paths.is_empty() {
-        return Err(Fault::Wrong("no file of rows"));
+        return Err(RowError::Wrong("no file of rows"));
     }
     let mut failed = 0u32;
     for path in &paths {
@@ -44,12 +44,12 @@ fn run(rt: &HostRuntime) -> Result<u32, Fault> {
 
 /// Runs the rows of a file, writes a line for each expectation that isn't met and one for all rows,
 /// and says how many rows failed.
-fn run_file(rt: &HostRuntime, path: &str) -> Result<u32, Fault> {
+fn run_file(rt: &HostRuntime, path: &str) -> Result<u32, RowError> {
     let text = match fs::read_to_string(rt, path) {
         Ok(text) => text,
         Err(error) => {
             eprint!(rt; "{path}: ")?;
-            return Err(Fault::from(error));
+            return Err(RowError::from(error));
         }
     };
     let mut rows = Rows::new(rt.alloc(), path);
@@ -62,7 +62,7 @@ fn report_rows<'r>(
     path: &str,
     rows: &mut Rows<'r>,
     text: &'r str,
-) -> Result<u32, Fault> {
+) -> Result<u32, RowError> {
     let outcome = run_rows(rt.alloc(), rows, text);
     rt.print(rows.report())?;
     if outcome.is_err() {
@@ -72,7 +72,7 @@ fn report_rows<'r>(
 }
 
 /// Runs all rows of a text, and says how many failed.
-fn run_rows<'r>(alloc: Global, rows: &mut Rows<'r>, text: &'r str) -> Result<u32, Fault> {
+fn run_rows<'r>(alloc: Global, rows: &mut Rows<'r>, text: &'r str) -> Result<u32, RowError> {
     for line in text.lines() {
         if let Some(expected) = rows.take(line)? {
             let got = answer_again(alloc, rows.row(), expected)?;
@@ -88,14 +88,14 @@ fn answer_again(
     alloc: Global,
     row: Option<&Row<'_>>,
     expected: Expectation<'_>,
-) -> Result<String, Fault> {
-    let row = row.ok_or(Fault::Wrong("an unknown word"))?;
+) -> Result<String, RowError> {
+    let row = row.ok_or(RowError::Wrong("an unknown word"))?;
     match answer(alloc, row, expected.word, expected.rest) {
-        Err(Fault::NoMemory) => {}
+        Err(RowError::NoMemory) => {}
         got => return got,
     }
     match answer(alloc, row, expected.word, expected.rest) {
-        Err(Fault::NoMemory) => Err(Fault::Wrong("no memory, asked twice")),
+        Err(RowError::NoMemory) => Err(RowError::Wrong("no memory, asked twice")),
         got => got,
     }
 }

@@ -5,7 +5,7 @@ use cmap_part_rows::ranges::code_of;
 use cmap_part_rows::texts::push_text;
 use cmap_part_rows::tokens::push_number;
 use cmap_rows::escapes::{hexadecimal, push_escaped};
-use cmap_rows::fault::Fault;
+use cmap_rows::row_error::RowError;
 use hayro_cmap::runs::Looks;
 use hayro_cmap::{CMap, CMapName, CidFamily, Metadata, WritingMode};
 use std::alloc::{AllocError, Global};
@@ -32,7 +32,7 @@ pub fn push_answer(
     word: &str,
     rest: &str,
     line: &mut String,
-) -> Result<(), Fault> {
+) -> Result<(), RowError> {
     let mut copied = line.clone()?;
     push_answer_alone(alloc, map, word, rest, line)?;
     push_answer_alone(alloc, &map.clone(alloc)?, word, rest, &mut copied)?;
@@ -48,7 +48,7 @@ fn push_answer_alone(
     word: &str,
     rest: &str,
     line: &mut String,
-) -> Result<(), Fault> {
+) -> Result<(), RowError> {
     let pushed = match word {
         "cid" | "strict" => return push_cids(map, word, rest, line),
         "codes" => return push_codes(alloc, map, rest, line),
@@ -59,15 +59,15 @@ fn push_answer_alone(
         "collection" => push_collection(alloc, map, line),
         "unicode" | "ucs2" => push_predefined(predefined(map, word), line),
         "layers" => write!(line, " {}", map.layers().len()),
-        _ => return Err(Fault::Wrong("an unknown word")),
+        _ => return Err(RowError::Wrong("an unknown word")),
     };
     Ok(pushed?)
 }
 
 /// Adds the codes of a line, each with its CID.
-fn push_cids(map: &CMap, word: &str, rest: &str, line: &mut String) -> Result<(), Fault> {
+fn push_cids(map: &CMap, word: &str, rest: &str, line: &mut String) -> Result<(), RowError> {
     let mut words = rest.split_whitespace();
-    let fault = Fault::Wrong("a code without its answer");
+    let fault = RowError::Wrong("a code without its answer");
     for _ in 0..rest.len() {
         let Some(code) = words.next() else {
             break;
@@ -79,8 +79,8 @@ fn push_cids(map: &CMap, word: &str, rest: &str, line: &mut String) -> Result<()
 }
 
 /// Adds a code as `2:0041` with its CID.
-fn push_cid(map: &CMap, word: &str, asked: &str, line: &mut String) -> Result<(), Fault> {
-    let fault = Fault::Wrong("a code is LENGTH:DIGITS");
+fn push_cid(map: &CMap, word: &str, asked: &str, line: &mut String) -> Result<(), RowError> {
+    let fault = RowError::Wrong("a code is LENGTH:DIGITS");
     let (len, digits) = asked.split_once(':').ok_or(fault)?;
     let len = u8::from_str_radix(len, 10).ok().ok_or(fault)?;
     let code = code_of(digits)?;
@@ -98,10 +98,10 @@ fn push_cid(map: &CMap, word: &str, asked: &str, line: &mut String) -> Result<()
 }
 
 /// Adds the codes of the string before a colon, one after another.
-fn push_codes(alloc: Global, map: &CMap, rest: &str, line: &mut String) -> Result<(), Fault> {
+fn push_codes(alloc: Global, map: &CMap, rest: &str, line: &mut String) -> Result<(), RowError> {
     let (digits, _) = rest
         .split_once(':')
-        .ok_or(Fault::Wrong("codes DIGITS: .."))?;
+        .ok_or(RowError::Wrong("codes DIGITS: .."))?;
     let string = hexadecimal(alloc, digits)?;
     write!(line, " {digits}:")?;
     let mut left = string.as_slice();
@@ -116,8 +116,8 @@ fn push_codes(alloc: Global, map: &CMap, rest: &str, line: &mut String) -> Resul
 }
 
 /// Adds the code that a line begins with, and its text.
-fn push_text_of(alloc: Global, map: &CMap, rest: &str, line: &mut String) -> Result<(), Fault> {
-    let (digits, _) = rest.split_once(' ').ok_or(Fault::Wrong("bf DIGITS .."))?;
+fn push_text_of(alloc: Global, map: &CMap, rest: &str, line: &mut String) -> Result<(), RowError> {
+    let (digits, _) = rest.split_once(' ').ok_or(RowError::Wrong("bf DIGITS .."))?;
     let code = code_of(digits)?;
     let found = map.lookup_bf_string(alloc, code)?;
     write!(line, " {digits}")?;

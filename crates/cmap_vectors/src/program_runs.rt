@@ -1,8 +1,8 @@
 //! Whole runs of `cmap_query`, over an input and writers in memory.
 
-use cmap_programs::answers::run;
+use cmap_queries::answers::run;
 use cmap_rows::escapes::unescaped;
-use cmap_rows::fault::Fault;
+use cmap_rows::row_error::RowError;
 use std::alloc::{AllocError, Global};
 
 /// Adds how a run on these words and this input ends, and the lines that it writes.
@@ -12,9 +12,9 @@ pub fn push_answer(
     input: &[u8],
     word: &str,
     line: &mut String,
-) -> Result<(), Fault> {
+) -> Result<(), RowError> {
     if word != "ends" {
-        return Err(Fault::Wrong("an unknown word"));
+        return Err(RowError::Wrong("an unknown word"));
     }
     let words = words_of(alloc, words)?;
     let mut rest = input;
@@ -31,7 +31,7 @@ pub fn push_answer(
 }
 
 /// The words of a line, of which `""` is the empty one.
-fn words_of(alloc: Global, line: &str) -> Result<Vec<String>, Fault> {
+fn words_of(alloc: Global, line: &str) -> Result<Vec<String>, RowError> {
     let mut words = Vec::new(alloc);
     for word in line.split_whitespace() {
         let bytes = unescaped(alloc, if word == "\"\"" { "" } else { word })?;
@@ -40,14 +40,14 @@ fn words_of(alloc: Global, line: &str) -> Result<Vec<String>, Fault> {
     Ok(words)
 }
 
-fn text_of(bytes: Vec<u8>) -> Result<String, Fault> {
+fn text_of(bytes: Vec<u8>) -> Result<String, RowError> {
     String::from_utf8(bytes)
         .ok()
-        .ok_or(Fault::Wrong("bytes that are no text"))
+        .ok_or(RowError::Wrong("bytes that are no text"))
 }
 
 /// Adds lines, parted by ` / `. A last one without an end is told.
-fn push_lines(bytes: Vec<u8>, line: &mut String) -> Result<(), Fault> {
+fn push_lines(bytes: Vec<u8>, line: &mut String) -> Result<(), RowError> {
     let text = text_of(bytes)?;
     for (i, part) in text.lines().enumerate() {
         line.push_str(if i == 0 { " " } else { " / " })?;

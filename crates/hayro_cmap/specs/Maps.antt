@@ -1,8 +1,6 @@
--- What is said of a file over those that it uses: by the tables of a bundle, where one is handed in, and with these answers to names.
+-- What is said of a file over those that it uses: by the tables of a bundle, where there is one, and with these answers to names.
 use Rattle.std.specs.Prelude.{ℕ, List, Option}
-use Rattle.std.specs.Borrow.{Bor}
-use Rattle.cmap_binary.specs.BundleSeen.{tables_given}
-use Rattle.cmap_binary.specs.declared.bundle.Bundle.{Bundle}
+use Rattle.cmap_binary.specs.Bundles.{PrefixTables}
 use Rattle.cmap_files.specs.Only.{IsOnly, HoldsOfNone}
 use Rattle.cmap_layers.specs.Layers.{Layer}
 use Rattle.hayro_cmap.specs.Budgets.{PassesBudget, StaysWithin}
@@ -11,21 +9,21 @@ use Rattle.hayro_cmap.specs.Refusals.{IsFault}
 use Rattle.hayro_cmap.specs.declared.chain.TheConstants.{MOST_FILES}
 use Rattle.hayro_cmap.specs.declared.refusal.Cause.{Cause}
 
-module _ (bundle : Option (Bor Bundle)) (answers : List ℕ → Option (List ℕ) → Type 0) (bytes : List ℕ) where
+module _ (tables : Option PrefixTables) (answers : List ℕ → Option (List ℕ) → Type 0) (bytes : List ℕ) where
   -- the map is that of the file, and no other is
   abbrev pub IsMapOf : List Layer → Type 0
-  IsMapOf = IsOnly (AreLayers (Means (tables_given bundle)) answers MOST_FILES bytes)
+  IsMapOf = IsOnly (AreLayers (Means tables) answers MOST_FILES bytes)
 
   abbrev pub HasNoMap : Type 0
-  HasNoMap = HoldsOfNone (AreLayers (Means (tables_given bundle)) answers MOST_FILES bytes)
+  HasNoMap = HoldsOfNone (AreLayers (Means tables) answers MOST_FILES bytes)
 
   -- all that is opened is within the budget, or passes it
   abbrev pub FitsBudget : Option ℕ → Type 0
-  FitsBudget budget = StaysWithin (Means (tables_given bundle)) answers MOST_FILES bytes budget
+  FitsBudget budget = StaysWithin (Means tables) answers MOST_FILES bytes budget
 
   abbrev pub ExceedsBudget : Option ℕ → Type 0
-  ExceedsBudget budget = PassesBudget (Means (tables_given bundle)) answers MOST_FILES bytes budget
+  ExceedsBudget budget = PassesBudget (Means tables) answers MOST_FILES bytes budget
 
   -- the names lead from the file to the one at fault
   abbrev pub LeadsToFault : List (List ℕ) → Cause → Type 0
-  LeadsToFault names cause = IsFault (Means (tables_given bundle)) answers MOST_FILES bytes names cause
+  LeadsToFault names cause = IsFault (Means tables) answers MOST_FILES bytes names cause

@@ -2,8 +2,7 @@
 use Rattle.std.specs.Prelude.{ℕ, List, [], ◌∷◌, bytes_eq, Option, Some, None, option_map, if◌then◌else◌}
 use Rattle.std.specs.Borrow.{Bor}
 use Rattle.std.specs.Option.{option_or}
-use Rattle.cmap_binary.specs.BundleSeen.{bundle_seen}
-use Rattle.cmap_binary.specs.declared.bundle.Bundle.{Bundle}
+use Rattle.cmap_binary.specs.Bundles.{Bundle}
 use Rattle.hayro_cmap.specs.Answers.{embedded}
 
 module _ {N : Type 0} (name_of bytes_of : N → List ℕ) where
@@ -12,6 +11,7 @@ module _ {N : Type 0} (name_of bytes_of : N → List ℕ) where
   first_named [] name = None
   first_named (file ∷ files) name = if bytes_eq (name_of file) name then Some (bytes_of file) else first_named files name
 
+module _ {N B : Type 0} (name_of bytes_of : N → List ℕ) (bundle_of : B → Bundle) where
   -- where none has it, those of the bundle's file
-  abbrev pub file_named : List N → Option (Bor Bundle) → List ℕ → Option (List ℕ)
-  file_named files bundle name = option_or (first_named files name) (embedded (option_map (λ b. bundle_seen b.now) bundle) name)
+  abbrev pub file_named : List N → Option (Bor B) → List ℕ → Option (List ℕ)
+  file_named files bundle name = option_or (first_named name_of bytes_of files name) (embedded (option_map (λ b. bundle_of b.now) bundle) name)

@@ -81,9 +81,9 @@ impl CMap {
 
         // A map is that of the file, and no other layers are.
         ensures accepts { IfOk result (λ found. IfSome found
-            (IsMapOf bundle.entry (Answers F.Fn get_cmap.now) «data».now)) }
+            (IsMapOf (tables_given bundle.entry) (Answers F.Fn get_cmap.now) «data».now)) }
         ensures refuses { IfOk result (λ found. IfNone found
-            (HasNoMap bundle.entry (Answers F.Fn get_cmap.now) «data».now)) }
+            (HasNoMap (tables_given bundle.entry) (Answers F.Fn get_cmap.now) «data».now)) }
     {
         match CMap::parse_within(alloc, None, data, bundle, get_cmap) {
             Ok(map) => Ok(map),
@@ -110,18 +110,18 @@ impl CMap {
         requires callable { F.IsAlwaysCallable get_cmap.now }
         requires by_name { AnswersByName F.Fn get_cmap.now }
         ensures accepts { IfOk result (λ found. IfSome found
-            (IsMapOf bundle.entry (Answers F.Fn get_cmap.now) «data».now)) }
+            (IsMapOf (tables_given bundle.entry) (Answers F.Fn get_cmap.now) «data».now)) }
         ensures refuses { IfOk result (λ found. IfNone found
-            (HasNoMap bundle.entry (Answers F.Fn get_cmap.now) «data».now)) }
+            (HasNoMap (tables_given bundle.entry) (Answers F.Fn get_cmap.now) «data».now)) }
 
         // With an answer, all that is opened is within the budget.
         ensures within { OnOk result
-            (FitsBudget bundle.entry (Answers F.Fn get_cmap.now) «data».now budget) }
+            (FitsBudget (tables_given bundle.entry) (Answers F.Fn get_cmap.now) «data».now budget) }
 
         // There is a budget, and all that would be opened passes it.
         ensures some { IsErrOf result OverBudget → IsSome budget }
         ensures over { IsErrOf result OverBudget
-            → ExceedsBudget bundle.entry (Answers F.Fn get_cmap.now) «data».now budget }
+            → ExceedsBudget (tables_given bundle.entry) (Answers F.Fn get_cmap.now) «data».now budget }
     {
         let source = FilesByName {
             get_cmap,
@@ -151,20 +151,20 @@ impl CMap {
         requires can_ask { S.can_ask source.now }
         requires by_name { IsByName (S.answers source.now) }
         ensures accepts { IfOk result
-            (IsMapOf bundle.entry (S.answers source.now) «data».now) }
+            (IsMapOf (tables_given bundle.entry) (S.answers source.now) «data».now) }
         ensures within { OnOk result
-            (FitsBudget bundle.entry (S.answers source.now) «data».now budget) }
+            (FitsBudget (tables_given bundle.entry) (S.answers source.now) «data».now budget) }
 
         // There is no map, or what is opened passes the budget.
         ensures refuses { IfErr result (RefusesWith (λ refusal. refusal.cause ≢ Cause.OverBudget
-            → HasNoMap bundle.entry (S.answers source.now) «data».now
-            × FitsBudget bundle.entry (S.answers source.now) «data».now budget)) }
+            → HasNoMap (tables_given bundle.entry) (S.answers source.now) «data».now
+            × FitsBudget (tables_given bundle.entry) (S.answers source.now) «data».now budget)) }
         ensures over { IfErr result (RefusesWith (λ refusal. refusal.cause ≡ Cause.OverBudget
-            → ExceedsBudget bundle.entry (S.answers source.now) «data».now budget)) }
+            → ExceedsBudget (tables_given bundle.entry) (S.answers source.now) «data».now budget)) }
 
         // The names lead to the file that is at fault.
         ensures blames { IfErr result (RefusesWith (λ refusal.
-            LeadsToFault bundle.entry (S.answers source.now) «data».now
+            LeadsToFault (tables_given bundle.entry) (S.answers source.now) «data».now
             (names_seen refusal.names.items) refusal.cause)) }
     {
         let mut left = budget;

@@ -4,7 +4,6 @@ ghost use Rattle.std.specs.Prelude.{ℕ, List, Option};
 ghost use Rattle.std.specs.Option.{option_copied};
 ghost use Rattle.hayro_cmap.specs.Answers.{Answers};
 
-use cmap_binary::{Bundle, load_embedded};
 use cmap_files::names::CMapName;
 use std::marker::PhantomData;
 
@@ -23,23 +22,6 @@ pub trait Source {
     fn file(&self, name: &[u8]) -> Option<&[u8]>
         requires { can_ask self.now }
         ensures { answers self.now name.now (option_copied result) };
-}
-
-/// The files of a bundle by their names; without a bundle there is none.
-impl<'b> Source for Option<&Bundle<'b>> {
-    ghost use Rattle.std.specs.Prelude.{◌≡◌, ⊤, option_map};
-    ghost use Rattle.cmap_binary.specs.BundleSeen.{bundle_seen};
-    ghost use Rattle.hayro_cmap.specs.Answers.{embedded};
-
-    ghost can_ask = { λ bundle. ⊤ };
-
-    ghost answers = { λ bundle name answer. answer
-        ≡ embedded (option_map (λ b. bundle_seen b.now) bundle) name };
-
-    fn file(&self, name: &[u8]) -> Option<&[u8]> {
-        let file: Option<&'b [u8]> = load_embedded(*self, CMapName::from_bytes(name));
-        file
-    }
 }
 
 /// A caller's function, asked for the name that stands for a text.

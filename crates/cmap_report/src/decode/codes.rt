@@ -1,4 +1,4 @@
-//! The codes that a string has, and where they lie.
+//! The codes that a string has, and whether they lie in codespace ranges.
 
 ghost use Rattle.std.specs.Prelude.{IfOk};
 ghost use Rattle.cmap_report.specs.Codes.{AreCodes};
@@ -6,9 +6,9 @@ ghost use Rattle.cmap_report.specs.Codes.{AreCodes};
 use hayro_cmap::{CMap, Codespace, Layer, StringCode};
 use std::alloc::{AllocError, Global};
 
-/// Where a code of a string lies.
+/// Whether a code of a string lies in a codespace range.
 #[derive(Clone, Copy)]
-pub(super) enum Place {
+pub(super) enum CodespaceStatus {
     /// In a codespace range.
     Inside,
     /// In none.
@@ -34,14 +34,14 @@ pub(super) fn codes_of(
     Ok(codes)
 }
 
-/// Where a code of a string lies, perhaps the last one.
-pub(super) fn place_of(map: &CMap, code: StringCode, is_last: bool) -> Place {
+/// Whether a code of a string lies in a codespace range. It may be the last code of the string.
+pub(super) fn status_of(map: &CMap, code: StringCode, is_last: bool) -> CodespaceStatus {
     if code.in_codespace {
-        Place::Inside
+        CodespaceStatus::Inside
     } else if is_last && begins_longer(map.layers(), code) {
-        Place::CutShort
+        CodespaceStatus::CutShort
     } else {
-        Place::Outside
+        CodespaceStatus::Outside
     }
 }
 
@@ -77,8 +77,8 @@ fn begins_longer_in(space: &Codespace, code: StringCode) -> bool {
 fn is_between(number: u32, low: u32, high: u32) -> bool {
     let bytes = number.to_be_bytes();
     let [low, high] = [low.to_be_bytes(), high.to_be_bytes()];
-    for place in 0..4 {
-        if bytes[place] < low[place] || high[place] < bytes[place] {
+    for index in 0..4 {
+        if bytes[index] < low[index] || high[index] < bytes[index] {
             return false;
         }
     }

@@ -1,4 +1,5 @@
 use Rattle.cmap_escape.specs.Escapes.{digits_of}
+use Rattle.cmap_escape.specs.declared.digits.Letters.TheVariants.{Capital}
 use Rattle.cmap_escape.proofs.Adds.{adds_both, one_more_at}
 use Rattle.cmap_escape.proofs.digits.push_bytes.Goals as goal
 
@@ -8,5 +9,5 @@ returns-in_err-push_byte-clause-printable c = adds_both _ _ _ c.loop-byte.invari
 pub loop-byte-preserved : goal.loop-byte-preserved
 loop-byte-preserved c = (
   adds_both _ _ _ c.loop-byte.invariant.0 c.push_byte.ensures.printable,
-  one_more_at digits_of _ _ _ _ _ c.loop-byte-test.true c.loop-byte.invariant.1 c.in_ok-push_byte.ensures.digits,
+  one_more_at (digits_of Capital) _ _ _ _ _ c.loop-byte-test.true c.loop-byte.invariant.1 c.in_ok-push_byte.ensures.digits,
 )

@@ -1,4 +1,0 @@
-pub mod CodeWordParts
-pub mod InputPieces
-pub mod OneMore
-pub mod OptionFronts

@@ -1,0 +1,4 @@
+pub mod CodeArgumentParts
+pub mod InputPieces
+pub mod OneMore
+pub mod OptionFronts

@@ -1,0 +1,5 @@
+pub mod CodeArguments
+pub mod Decimals
+pub mod Failures
+pub mod OptionArguments
+pub mod Queries
