@@ -1,7 +1,7 @@
 //! Prefix tables: the bytes that they take, and the symbols that bits spell.
 
-use cmap_bits::bits::Reader;
-use cmap_bits::prefix::PrefixTable;
+use cmap_binary::bits::Reader;
+use cmap_binary::prefix::PrefixTable;
 use cmap_rows::escapes::hexadecimal;
 use cmap_rows::fault::Fault;
 use cmap_rows::row::Symbols;
