@@ -6,7 +6,7 @@ use Rattle.std.specs.List.{IsSplitAt}
 use Rattle.std.proofs.lemmas.Bool.{eqb-true, eqb-false}
 use Rattle.std.proofs.lemmas.List.{nil_from_length}
 use Rattle.std.proofs.lemmas.Option.{none-some}
-use Rattle.cmap_bits.specs.Reader.{number_at}
+use Rattle.cmap_binary.specs.Reader.{number_at}
 use Rattle.cmap_files.specs.Only.{IsOnly, HoldsOfNone}
 use Rattle.cmap_binary.specs.Fronts.{Then, Gives, GivesIf, RowOf, AllOf, BytesAt, FieldAt, FramedAt}
 use Rattle.cmap_files.specs.Outcomes.{Finds}

@@ -1,4 +1,14 @@
+pub mod BitsOfBytes
+pub mod BitsPeeked
+pub mod BitsTaken
+pub mod BytesTaken
 pub mod Fronts
+pub mod Lengths
+pub mod NumbersOfBits
+pub mod PlacesZipped
 pub mod Reading
 pub mod RowsAdded
 pub mod SegmentsSaid
+pub mod TablesDecoded
+pub mod TablesTaken
+pub mod WordsBegun

@@ -1,6 +1,6 @@
 -- The entries of a segment of a binary file, each by what the one before leaves.
 use Rattle.std.specs.Prelude.{ℕ, zero, suc, ◌+◌, ◌-◌, ◌<◌, ◌^◌, List, [], Option, Some, None}
-use Rattle.cmap_bits.specs.PrefixWords.{Place, Decodes, bits}
+use Rattle.cmap_binary.specs.PrefixWords.{Place, Decodes, bits}
 use Rattle.cmap_runs.specs.Ranges.{Span}
 use Rattle.cmap_files.specs.Files.{CidEntry, BfEntry}
 use Rattle.cmap_binary.specs.Bundles.{PrefixTables}

@@ -1,6 +1,6 @@
 -- Bundles: prefix tables, and files by their places.
 use Rattle.std.specs.Prelude.{ℕ, List}
-use Rattle.cmap_bits.specs.PrefixWords.{Place, TableFront}
+use Rattle.cmap_binary.specs.PrefixWords.{Place, TableFront}
 use Rattle.cmap_binary.specs.Fronts.{Then, AllOf, FramedAt, SizedAt}
 
 -- the prefix tables of a bundle: of deltas and of counts

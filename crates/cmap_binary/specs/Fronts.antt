@@ -2,7 +2,7 @@
 use Rattle.std.specs.Prelude.{◌≡◌, ℕ, zero, suc, ◌+◌, ◌<◌, ◌≤◌, List, [], ◌∷◌, length, take, drop, slice_index, Some}
 use Rattle.std.specs.List.{IsSplitAt}
 pub use Rattle.cmap_files.specs.CodeLengths.{IsCodeLength}
-use Rattle.cmap_bits.specs.Reader.{number_at}
+use Rattle.cmap_binary.specs.Reader.{number_at}
 
 -- first this, which leaves something; then that, of what is left
 abbrev pub Then : {A S B : Type 0} → (A × S → Type 0) → (A → S → B → Type 0) → B → Type 0

@@ -6,3 +6,9 @@ pub mod Bundles
 pub mod ColumnsSeen
 pub mod Copies
 pub mod Fronts
+pub mod PrefixWords
+pub mod Reader
+pub mod TableTaken
+pub mod TableReading
+pub mod WordsByLength
+pub mod WordsFound

@@ -8,9 +8,9 @@ ghost use Rattle.cmap_files.specs.Outcomes.{Finds};
 ghost use Rattle.cmap_files.specs.CMapNames.{place};
 ghost use Rattle.cmap_files.specs.FilesSeen.{names_seen};
 
+use crate::bits::Reader;
 use crate::pieces::{take_framed, take_sized};
-use cmap_bits::bits::Reader;
-use cmap_bits::prefix::PrefixTable;
+use crate::prefix::PrefixTable;
 use cmap_files::names::CMapName;
 use std::alloc::{AllocError, Global};
 

@@ -1,16 +1,16 @@
 //! Columns of the segments of a binary file: where the codes of the entries lie.
 
 ghost use Rattle.std.specs.Prelude.{◌≡◌, ◌+◌, ◌<◌, ◌≤◌, ◌^◌, IfOk, MatchOption, option_map};
-ghost use Rattle.cmap_bits.specs.Reader.{bits_left};
+ghost use Rattle.cmap_binary.specs.Reader.{bits_left};
 ghost use Rattle.cmap_binary.specs.BinaryEntries.{ColumnsAt, CountsAt, SpanAt, SymbolAt, WidthAt};
 ghost use Rattle.cmap_binary.specs.BundleSeen.{tables_seen};
 ghost use Rattle.cmap_binary.specs.ColumnsSeen.{columns_seen, shape_seen, span_seen};
 ghost use Rattle.cmap_files.specs.Outcomes.{Finds, Reads};
 
+use crate::bits::Reader;
 use crate::bundle::Tables;
 use crate::pieces::take_sized;
-use cmap_bits::bits::Reader;
-use cmap_bits::prefix::PrefixTable;
+use crate::prefix::PrefixTable;
 use cmap_files::fault::{Fault, Reason, Segment};
 use cmap_runs::runs::Range;
 

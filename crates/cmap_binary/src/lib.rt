@@ -1,6 +1,8 @@
-//! CMap files in the binary form `bcmap`, and bundles of them.
+//! CMap files in the binary form `bcmap`, and bundles of them: the bits and the prefix tables that
+//! they are packed with, and what they say.
 #![tactic(auto)]
 
+pub mod bits;
 mod bundle;
 mod columns;
 mod entries;
@@ -9,6 +11,7 @@ mod file;
 mod kinds;
 mod owned_bundle;
 mod pieces;
+pub mod prefix;
 mod segments;
 
 pub use bundle::{Bundle, load_embedded};

@@ -5,7 +5,7 @@ ghost use Rattle.std.specs.Prelude.{◌<◌, ◌^◌};
 ghost use Rattle.cmap_binary.specs.Fronts.{ByteAt, CodeAt, FieldAt, FramedAt, SizedAt, TerminatedAt};
 ghost use Rattle.cmap_files.specs.Outcomes.{Finds};
 
-use cmap_bits::bits::Reader;
+use crate::bits::Reader;
 
 /// How many bytes the length of a piece has.
 const SIZE: usize = 4;

@@ -1,5 +1,6 @@
--- How many bytes a code has.
-use Rattle.std.specs.Prelude.{ℕ, ◌≤◌}
+-- How many bytes a code has, and the number that these write.
+use Rattle.std.specs.Prelude.{ℕ, ◌≤◌, ◌&&◌, if◌then◌else◌, List, length, nat_le, Option, Some, None}
+use Rattle.cmap_files.specs.BigEndian.{big_endian}
 use Rattle.cmap_files.specs.declared.code_length.CodeLength.{CodeLength}
 use Rattle.cmap_files.specs.declared.code_length.CodeLength.TheVariants.{One, Two, Three, Four}
 
@@ -12,3 +13,10 @@ length_of One = 1
 length_of Two = 2
 length_of Three = 3
 length_of Four = 4
+
+-- how many bytes there are, and the number that they write, where they are one to four
+abbrev pub code_written : List ℕ → Option (ℕ × ℕ)
+code_written bytes = if nat_le 1 (length bytes) && nat_le (length bytes) 4 then Some (length bytes, big_endian bytes) else None
+
+abbrev pub code_seen : CodeLength × ℕ → ℕ × ℕ
+code_seen code = (length_of code.0, code.1)

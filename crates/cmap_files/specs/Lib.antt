@@ -5,6 +5,7 @@ pub mod UnitsSeen
 pub mod DeclarationsSeen
 pub mod FilesSeen
 pub mod ListsAppended
+pub mod BigEndian
 pub mod CodeLengths
 pub mod Names
 pub mod CMapNames

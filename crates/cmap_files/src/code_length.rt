@@ -1,7 +1,7 @@
-//! How many bytes a code has.
+//! How many bytes a code has, and the number that these write.
 
-ghost use Rattle.std.specs.Prelude.{◌≡◌, MatchOption};
-ghost use Rattle.cmap_files.specs.CodeLengths.{IsCodeLength, length_of};
+ghost use Rattle.std.specs.Prelude.{◌≡◌, option_map, MatchOption};
+ghost use Rattle.cmap_files.specs.CodeLengths.{IsCodeLength, code_seen, code_written, length_of};
 
 /// How many bytes a code has: one to four.
 #[derive(Clone, Copy, Debug, PartialEq, Eq)]
@@ -37,5 +37,19 @@ impl CodeLength {
             CodeLength::Three => 3,
             CodeLength::Four => 4,
         }
+    }
+}
+
+/// The code that one to four bytes write, the first one high: its length, and its number. `None` of
+/// no bytes, and of more than four.
+pub fn read_code(bytes: &[u8]) -> Option<(CodeLength, u32)>
+    ensures { option_map code_seen result ≡ code_written bytes.now }
+{
+    match *bytes {
+        [a] => Some((CodeLength::One, u32::from(a))),
+        [a, b] => Some((CodeLength::Two, u32::from_be_bytes([0, 0, a, b]))),
+        [a, b, c] => Some((CodeLength::Three, u32::from_be_bytes([0, a, b, c]))),
+        [a, b, c, d] => Some((CodeLength::Four, u32::from_be_bytes([a, b, c, d]))),
+        _ => None,
     }
 }

@@ -12,8 +12,7 @@ ghost use Rattle.cmap_layers.specs.StringCodes.{BeginsInside, IsNextCode, Wants,
 
 use crate::codespaces::{byte_at, contains};
 use crate::layers::Layer;
-use cmap_bits::bits::Reader;
-use cmap_files::code_length::CodeLength;
+use cmap_files::code_length::{CodeLength, read_code};
 use cmap_files::declarations::Codespace;
 
 /// The code that a string begins with. ISO 32000-1, 9.7.6.2.
@@ -45,7 +44,7 @@ pub fn next_code(layers: &[Layer], text: &[u8]) -> Option<StringCode>
         }
     }
     let byte_len = bytes_outside(layers, text);
-    let code = Reader::new(text).read_n_bytes(byte_len)?;
+    let (_, code) = read_code(&text[..usize::from(byte_len)])?;
     Some(StringCode {
         code,
         byte_len,
@@ -59,7 +58,7 @@ fn code_inside(layers: &[Layer], text: &[u8], byte_len: u8) -> Option<StringCode
         (λ found. BeginsInside (layers_seen layers.now) text.now byte_len × (found
         ≡ record { code = front text.now byte_len; byte_len = byte_len; in_codespace = true })) }
 {
-    let code = Reader::new(text).read_n_bytes(byte_len)?;
+    let (_, code) = read_code(text.get(..usize::from(byte_len))?)?;
     if contains(layers, code, byte_len) {
         Some(StringCode {
             code,

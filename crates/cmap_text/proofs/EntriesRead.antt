@@ -3,7 +3,7 @@ use Rattle.std.proofs.Common.{◌≡◌, ℕ, zero, suc, false, ◌+◌, ◌-◌
 use Rattle.std.proofs.lemmas.Bool.{cases_Bool, eqb-true, eq-eqb}
 use Rattle.std.specs.List.{AllZip, enumerate_from}
 use Rattle.std.specs.Prelude.{codes, map, Some, None, Ok, Err, ◌==◌, if◌then◌else◌}
-use Rattle.cmap_bits.specs.BigEndian.{big_endian}
+use Rattle.cmap_files.specs.BigEndian.{big_endian}
 use Rattle.cmap_tokens.specs.Tokens.{Token}
 use Rattle.cmap_tokens.specs.TokensLeft.{Left}
 use Rattle.cmap_files.specs.Files.{CidEntry, Declaration, Lists, lists_of}

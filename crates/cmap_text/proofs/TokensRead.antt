@@ -5,7 +5,7 @@ use Rattle.std.proofs.lemmas.Option.{none-some, same_Some}
 use Rattle.std.proofs.lemmas.List.{length-map}
 use Rattle.std.proofs.lemmas.Slice.Eq.{bytes_eq-Decides}
 use Rattle.std.specs.Prelude.{pos, negsuc, nat_le, nat_lt, map, Option, Some, None, Result, Ok, Err, option_map, option_and_then, if◌then◌else◌}
-use Rattle.cmap_bits.specs.BigEndian.{big_endian}
+use Rattle.cmap_files.specs.BigEndian.{big_endian}
 use Rattle.cmap_tokens.specs.Numbers.{Number}
 use Rattle.cmap_tokens.specs.Strings.{IsValue}
 use Rattle.cmap_tokens.proofs.StringValues.{IsValue-read, IsValue-from}

@@ -1,6 +1,6 @@
 -- Private aid: what tokens are read as, by functions of the tokens that are left of a text, or where they are refused. Public contracts speak of TextFiles alone.
 use Rattle.std.specs.Prelude.{ℕ, zero, suc, ◌+◌, ◌-◌, ◌^◌, ◌==◌, ◌&&◌, nat_lt, nat_le, pos, Bool, true, false, List, [], ◌∷◌, ◌++◌, length, codes, bytes_eq, find, Option, Some, None, Result, Ok, Err, option_map, option_and_then, ok_or, if◌then◌else◌}
-use Rattle.cmap_bits.specs.BigEndian.{big_endian}
+use Rattle.cmap_files.specs.BigEndian.{big_endian}
 use Rattle.cmap_tokens.specs.Numbers.{Number}
 use Rattle.cmap_tokens.specs.Texts.{units_of}
 use Rattle.cmap_tokens.specs.TokenReading.{value_of}

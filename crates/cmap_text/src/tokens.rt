@@ -15,8 +15,7 @@ ghost use Rattle.cmap_text.specs.TextReading.{cid_in, code_in, code_of, destinat
 ghost use Rattle.cmap_text.specs.TextSeen.{code_seen};
 
 use crate::wrong_token::WrongToken;
-use cmap_bits::bits::Reader;
-use cmap_files::code_length::CodeLength;
+use cmap_files::code_length::{CodeLength, read_code};
 use cmap_files::fault::{Fault, Reason};
 use cmap_files::names::Cid;
 use cmap_files::units::Units;
@@ -182,8 +181,7 @@ impl<'d> TokenReader<'d> {
 fn code_of(bytes: &[u8]) -> Option<Code>
     ensures { option_map code_seen result ≡ code_of bytes.now }
 {
-    let len = CodeLength::of(u8::try_from(bytes.len()).ok()?)?;
-    let number = Reader::new(bytes).read_n_bytes(len.count())?;
+    let (len, number) = read_code(bytes)?;
     Some(Code { len, number })
 }
 

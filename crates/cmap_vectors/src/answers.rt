@@ -2,7 +2,7 @@
 
 use crate::files::{self, Around, Outcome};
 use crate::{maps, program_runs};
-use cmap_part_rows::{destinations, prefix_tables, ranges, tokens};
+use cmap_rows::parts::{destinations, prefix_tables, ranges, tokens};
 use cmap_rows::row_error::RowError;
 use cmap_rows::row::{RowKind, Row};
 use hayro_cmap::CMap;

@@ -274,7 +274,7 @@ pub fn outcome_of_bundle(alloc: Global, bytes: &[u8]) -> Result<&'static str, Ro
     match (is_bundle(alloc, bytes)?, is_owned_bundle(alloc, bytes)?) {
         (true, true) => Ok("accepted"),
         (false, false) => Ok("refused"),
-        _ => Ok("unlike"),
+        _ => Ok("mismatch"),
     }
 }
 
@@ -330,7 +330,7 @@ fn push_file(
     if is_owned(alloc, bundle, name, file)? {
         Ok(())
     } else {
-        line.push_str(" unlike")
+        line.push_str(" mismatch")
     }
 }
 

@@ -1,9 +1,9 @@
 //! What is asked of a map.
 
 use crate::layers::push_layer;
-use cmap_part_rows::ranges::code_of;
-use cmap_part_rows::texts::push_text;
-use cmap_part_rows::tokens::push_number;
+use cmap_rows::parts::ranges::code_of;
+use cmap_rows::parts::texts::push_text;
+use cmap_rows::parts::tokens::push_number;
 use cmap_rows::escapes::{hexadecimal, push_escaped};
 use cmap_rows::row_error::RowError;
 use hayro_cmap::runs::Looks;
@@ -37,7 +37,7 @@ pub fn push_answer(
     push_answer_alone(alloc, map, word, rest, line)?;
     push_answer_alone(alloc, &map.clone(alloc)?, word, rest, &mut copied)?;
     if copied.as_str() != line.as_str() {
-        line.push_str(" unlike")?;
+        line.push_str(" mismatch")?;
     }
     Ok(())
 }
@@ -92,7 +92,7 @@ fn push_cid(map: &CMap, word: &str, asked: &str, line: &mut String) -> Result<()
         None => write!(line, " {asked} none")?,
     }
     if counted != plain || (strict.is_some() && strict != plain) {
-        line.push_str(" unlike")?;
+        line.push_str(" mismatch")?;
     }
     Ok(())
 }
@@ -128,7 +128,7 @@ fn push_text_of(alloc: Global, map: &CMap, rest: &str, line: &mut String) -> Res
         None => None,
     };
     if counted != found || copied != found {
-        line.push_str(" unlike")?;
+        line.push_str(" mismatch")?;
     }
     Ok(())
 }
@@ -158,7 +158,7 @@ fn push_collection(alloc: Global, map: &CMap, line: &mut String) -> Result<(), A
     push_family(&collection.family, line)?;
     write!(line, " {}", collection.supplement)?;
     if collection.clone(alloc)? != *collection {
-        line.push_str(" unlike")?;
+        line.push_str(" mismatch")?;
     }
     Ok(())
 }

@@ -29,7 +29,7 @@ pub use source::Source;
 
 /// The parts of the binary form of CMap files: bits and numbers, prefix tables, bundles.
 pub mod bcmap {
+    pub use cmap_binary::bits::Reader;
+    pub use cmap_binary::prefix::PrefixTable;
     pub use cmap_binary::{Bundle, OwnedBundle, load_embedded};
-    pub use cmap_bits::bits::Reader;
-    pub use cmap_bits::prefix::PrefixTable;
 }

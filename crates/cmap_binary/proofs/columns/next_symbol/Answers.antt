@@ -2,7 +2,7 @@ use Rattle.std.proofs.Common.{◌≡◌, ℕ, sym, ap, ◌∙◌, List, ◌++◌
 use Rattle.std.specs.Prelude.{Option, Some, None, IfSome, IfNone, MatchOption, slice_get}
 use Rattle.std.proofs.lemmas.List.{append_cancel_left}
 use Rattle.std.proofs.lemmas.Option.{same_Some}
-use Rattle.cmap_bits.specs.PrefixWords.{Place, word_after, BeginsAt, Decodes}
+use Rattle.cmap_binary.specs.PrefixWords.{Place, word_after, BeginsAt, Decodes}
 use Rattle.cmap_files.specs.Only.{IsOnly, HoldsOfNone}
 use Rattle.cmap_binary.specs.BinaryEntries.{SymbolAt}
 use Rattle.cmap_binary.proofs.Fronts.{pair_is}

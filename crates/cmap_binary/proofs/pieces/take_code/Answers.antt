@@ -3,7 +3,7 @@ use Rattle.std.specs.Prelude.{Some, None, ◌&&◌, nat_le, if◌then◌else◌}
 use Rattle.std.proofs.lemmas.Bool.{cases_Bool, leb-true}
 use Rattle.std.proofs.lemmas.List.{take_rest}
 use Rattle.std.proofs.lemmas.Option.{none-some}
-use Rattle.cmap_bits.specs.Reader.{number_at}
+use Rattle.cmap_binary.specs.Reader.{number_at}
 use Rattle.cmap_files.specs.Only.{IsOnly}
 use Rattle.cmap_binary.specs.Fronts.{CodeAt}
 use Rattle.cmap_binary.proofs.Fronts.{field_only}

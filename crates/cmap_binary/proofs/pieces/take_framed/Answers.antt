@@ -1,7 +1,7 @@
 use Rattle.std.proofs.Common.{◌≡◌, ◌∙◌, drop}
 use Rattle.std.specs.Prelude.{Some}
 use Rattle.std.proofs.lemmas.List.{take_rest}
-use Rattle.cmap_bits.specs.Reader.{number_at}
+use Rattle.cmap_binary.specs.Reader.{number_at}
 use Rattle.cmap_binary.proofs.Fronts.{bytes_found, field_only, finds_under, then_finds}
 use Rattle.cmap_binary.proofs.pieces.take_framed.Goals as goal
 

@@ -1,0 +1,64 @@
+-- Bits and the numbers that they write.
+use Rattle.std.proofs.Common.{◌≡◌, ℕ, zero, suc, ◌+◌, ◌*◌, ◌/◌, ◌%◌, ◌^◌, ◌<◌, List, [], ◌∷◌, length, refl, ap, ◌∙◌, sym, arith}
+use Rattle.std.specs.Int.Digits.{number_from_digits, number_from_digits_after, AllBelowBase}
+use Rattle.std.proofs.lemmas.Int.Digits.{number_lt}
+use Rattle.std.proofs.lemmas.Nat.{mod-pow-add, mod_below, div-mul-add}
+use Rattle.std.proofs.Math.Nat.{pow-suc, mod-eq_of_lt, add-mul, mul_assoc, mul_comm}
+use Rattle.std.specs.List.{All}
+use Rattle.std.proofs.lemmas.List.Elements.{All-append, All-cons, All-drop, All-nil}
+use Rattle.cmap_binary.specs.Reader.{Reading, bits_left}
+use Rattle.cmap_binary.specs.PrefixWords.{bits_of, bits}
+
+doubled : (n d p r : ℕ) → (n * 2 + d) * p + r ≡ n * (p * 2) + (d * p + r)
+doubled n d p r = omega (arith, add-mul (n * 2) d p, mul_assoc n 2 p, mul_comm 2 p)
+
+-- the number after another one is the sum of both, with room for the digits
+pub number_after-sum : (n : ℕ) (ds : List ℕ) → number_from_digits_after 2 n ds ≡ n * 2 ^ length ds + number_from_digits 2 ds
+number_after-sum n [] = omega arith
+number_after-sum n (d ∷ ds) =
+    let p = 2 ^ length ds in
+    let r = number_from_digits 2 ds in
+    number_after-sum (n * 2 + d) ds
+    ∙ doubled n d p r
+    ∙ ap (λ q. n * q + (d * p + r)) (sym (pow-suc 2 (length ds)))
+    ∙ ap (λ s. n * 2 ^ suc (length ds) + s) (sym (number_after-sum d ds) ∙ ap (λ m. number_from_digits_after 2 m ds) (omega arith))
+
+-- the bits of the number that bits write
+pub bits_of-number_after : (n : ℕ) (ds : List ℕ) → AllBelowBase 2 ds → bits_of (length ds) (number_from_digits_after 2 n ds) ≡ ds
+bits_of-number_after n [] h = refl
+bits_of-number_after n (d ∷ ds) h =
+    let whole = number_from_digits_after 2 (n * 2 + d) ds in
+    let high : whole / 2 ^ length ds ≡ n * 2 + d =
+    ap (λ x. x / 2 ^ length ds) (number_after-sum (n * 2 + d) ds) ∙ div-mul-add (n * 2 + d) (2 ^ length ds) (number_from_digits 2 ds) (number_lt 2 ds h.1) in
+    let low : (n * 2 + d) % 2 ≡ d = omega arith in
+    ap (λ x. x % 2 ∷ bits_of (length ds) whole) high ∙ ap (λ x. x ∷ bits_of (length ds) whole) low ∙ ap (λ xs. d ∷ xs) (bits_of-number_after (n * 2 + d) ds h.1)
+
+pub number_after-bits_of : (n count m : ℕ) → number_from_digits_after 2 n (bits_of count m) ≡ n * 2 ^ count + m % 2 ^ count
+number_after-bits_of n zero m = omega arith
+number_after-bits_of n (suc count) m =
+    let step = number_after-bits_of (n * 2 + m / 2 ^ count % 2) count m in
+    let e : 1 + count ≡ suc count = omega arith in
+    let split : m % 2 ^ suc count ≡ (m / 2 ^ count % 2) * 2 ^ count + m % 2 ^ count = ap (λ k. m % 2 ^ k) (sym e) ∙ mod-pow-add m 1 count in
+    step
+    ∙ doubled n (m / 2 ^ count % 2) (2 ^ count) (m % 2 ^ count)
+    ∙ ap (λ q. n * q + (m / 2 ^ count % 2 * 2 ^ count + m % 2 ^ count)) (sym (pow-suc 2 count))
+    ∙ ap (λ s. n * 2 ^ suc count + s) (sym split)
+
+-- the number that the bits of a number write
+pub number-bits_of : (count n : ℕ) → n < 2 ^ count → number_from_digits 2 (bits_of count n) ≡ n
+number-bits_of count n h = omega (arith, number_after-bits_of 0 count n, mod-eq_of_lt h)
+
+-- ---- bits are below 2
+abbrev pub AreBits : List ℕ → Type 0
+AreBits ds = All (λ d. d < 2) ds
+
+pub AreBits-bits_of : (count n : ℕ) → AreBits (bits_of count n)
+AreBits-bits_of zero n = All-nil (λ d. d < 2)
+AreBits-bits_of (suc count) n = All-cons (λ d. d < 2) _ _ (mod_below (n / 2 ^ count) 2 (omega arith)) (AreBits-bits_of count n)
+
+pub AreBits-bits : (bytes : List ℕ) → AreBits (bits bytes)
+AreBits-bits [] = All-nil (λ d. d < 2)
+AreBits-bits (b ∷ bytes) = All-append (λ d. d < 2) (bits_of 8 b) (bits bytes) (AreBits-bits_of 8 b) (AreBits-bits bytes)
+
+pub AreBits-left : (r : Reading) → AreBits (bits_left r)
+AreBits-left r = All-drop (λ d. d < 2) r.taken (bits r.source) (AreBits-bits r.source)

@@ -1,0 +1,131 @@
+//! The tokens of a text.
+
+use crate::escapes::push_escaped;
+use crate::row_error::RowError;
+use cmap_tokens::token::{Number, Scanner, StringToken, Token};
+use std::alloc::{AllocError, Global};
+
+/// How the strings among tokens are shown.
+#[derive(Clone, Copy)]
+pub enum Strings {
+    /// By their values, beside all other tokens.
+    Values,
+    /// As they are written, beside all other tokens.
+    Pieces,
+    /// By their plain numbers, alone.
+    Numbers,
+    /// By how many bytes their values have, alone.
+    Lengths,
+}
+
+impl Strings {
+    /// Whether other tokens are shown.
+    fn are_alone(self) -> bool {
+        matches!(self, Strings::Numbers | Strings::Lengths)
+    }
+
+    /// What a word of rows asks for.
+    fn named(word: &str) -> Result<Strings, RowError> {
+        match word {
+            "tokens" => Ok(Strings::Values),
+            "pieces" => Ok(Strings::Pieces),
+            "plain" => Ok(Strings::Numbers),
+            "lengths" => Ok(Strings::Lengths),
+            _ => Err(RowError::Wrong("an unknown word")),
+        }
+    }
+}
+
+/// Adds what a word asks of all tokens of a text.
+pub fn push_answer(alloc: Global, text: &[u8], word: &str, line: &mut String) -> Result<(), RowError> {
+    let strings = Strings::named(word)?;
+    let end = push_tokens(alloc, text, strings, line)?;
+    if !strings.are_alone() {
+        write!(line, " {end}")?;
+    }
+    Ok(())
+}
+
+/// Whether the tokens of a text end, or it is malformed.
+pub fn outcome(alloc: Global, text: &[u8]) -> Result<&'static str, RowError> {
+    push_tokens(alloc, text, Strings::Numbers, &mut String::new(alloc))
+}
+
+/// Adds all tokens of a text, and says how they end.
+fn push_tokens(
+    alloc: Global,
+    text: &[u8],
+    strings: Strings,
+    line: &mut String,
+) -> Result<&'static str, RowError> {
+    let mut scanner = Scanner::new(text);
+    for _ in 0..=text.len() {
+        match scanner.next_token() {
+            Ok(Some(Token::String(string))) => push_string(alloc, string, strings, line)?,
+            Ok(Some(_)) if strings.are_alone() => {}
+            Ok(Some(token)) => push_token(token, line)?,
+            Ok(None) => return Ok("end"),
+            Err(_) => return Ok("malformed"),
+        }
+    }
+    Ok("endless")
+}
+
+fn push_token(token: Token<'_>, line: &mut String) -> Result<(), AllocError> {
+    match token {
+        Token::Name(name) => {
+            line.push_str(if name.is_literal() {
+                " literal:"
+            } else {
+                " name:"
+            })?;
+            push_escaped(name.as_bytes(), line)
+        }
+        Token::Number(Number::Integer(number)) => write!(line, " integer:{number}"),
+        Token::Number(Number::Real) => line.push_str(" real"),
+        Token::String(_) => Ok(()),
+    }
+}
+
+fn push_string(
+    alloc: Global,
+    string: StringToken<'_>,
+    strings: Strings,
+    line: &mut String,
+) -> Result<(), RowError> {
+    let value = value_of(alloc, string)?;
+    let pushed = match strings {
+        Strings::Values => push_piece(&value, line),
+        Strings::Pieces => push_piece(string.raw(), line),
+        Strings::Numbers => push_number(string.plain_number(), line),
+        Strings::Lengths => write!(line, " {}", value.len()),
+    };
+    Ok(pushed?)
+}
+
+fn push_piece(bytes: &[u8], line: &mut String) -> Result<(), AllocError> {
+    line.push_str(" string:")?;
+    push_escaped(bytes, line)
+}
+
+/// The value of a string, in a vector that held other bytes, which stay where there is no memory.
+fn value_of(alloc: Global, string: StringToken<'_>) -> Result<Vec<u8>, RowError> {
+    let before = b"replaced".as_slice();
+    let mut value = Vec::from_slice(alloc, before)?;
+    match string.decode_into(&mut value) {
+        Ok(()) => Ok(value),
+        Err(_) if value.as_slice() == before => Err(RowError::NoMemory),
+        Err(_) => Err(RowError::Wrong("a value is lost")),
+    }
+}
+
+/// Adds the number of a plain string, in two digits for each of its bytes.
+pub fn push_number(plain: Option<(u8, u32)>, line: &mut String) -> Result<(), AllocError> {
+    match plain {
+        Some((1, number)) => write!(line, " 1:{number:02X}"),
+        Some((2, number)) => write!(line, " 2:{number:04X}"),
+        Some((3, number)) => write!(line, " 3:{number:06X}"),
+        Some((len, number)) => write!(line, " {len}:{number:08X}"),
+        None => line.push_str(" none"),
+    }
+}
