@@ -1,12 +1,12 @@
 //! `cmap check`: one line for each file.
 
+use crate::bases::Bases;
+use crate::folders::{files_in, is_folder};
 use crate::inputs::{STANDARD_INPUT, push_reason, read, readable, report_unreadable};
 use crate::options::Options;
 use crate::progress::Progress;
 use crate::{ACCEPTED, REFUSED};
 use cmap_escape::{escape, json};
-use crate::folders::{files_in, is_folder};
-use crate::bases::Bases;
 use cmap_report::refused::push_refusal_json;
 use hayro_cmap::{CMap, Fault, Refusal};
 use serde_json::{Map, Value, put};

@@ -1,10 +1,10 @@
 //! `cmap decode`: what strings say.
 
-use crate::inputs::{STANDARD_INPUT, map_asked, map_of, needed};
-use crate::options::Options;
-use crate::messages::fault;
-use crate::{ACCEPTED, REFUSED};
 use crate::bases::Bases;
+use crate::inputs::{STANDARD_INPUT, map_asked, map_of, needed};
+use crate::messages::fault;
+use crate::options::Options;
+use crate::{ACCEPTED, REFUSED};
 use cmap_report::decode::{push_codes, push_json};
 use hayro_cmap::CMap;
 

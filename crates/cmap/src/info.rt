@@ -1,11 +1,11 @@
 //! `cmap info`: what files say.
 
+use crate::bases::Bases;
 use crate::inputs::{map_of, read, report_unreadable};
 use crate::options::Options;
 use crate::{ACCEPTED, REFUSED};
-use crate::bases::Bases;
-use cmap_report::uses::uses_by_layer;
 use cmap_report::info::{push_info, push_json};
+use cmap_report::uses::uses_by_layer;
 use hayro_cmap::CMap;
 use std::alloc::{AllocError, Global};
 

@@ -1,10 +1,10 @@
 //! What is read: files, and their maps over the files that they use.
 
 use crate::FAILED;
-use crate::options::Options;
-use crate::messages::{fault, report};
-use cmap_escape::escape::push_text;
 use crate::bases::Bases;
+use crate::messages::{fault, report};
+use crate::options::Options;
+use cmap_escape::escape::push_text;
 use cmap_report::refused::push_refusal;
 use hayro_cmap::{CMap, Fault, Refusal};
 use std::alloc::AllocError;

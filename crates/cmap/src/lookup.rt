@@ -1,10 +1,10 @@
 //! `cmap lookup`: the CIDs and the texts of single codes.
 
-use crate::inputs::map_asked;
-use crate::options::Options;
-use crate::messages::fault;
-use crate::{ACCEPTED, REFUSED};
 use crate::bases::Bases;
+use crate::inputs::map_asked;
+use crate::messages::fault;
+use crate::options::Options;
+use crate::{ACCEPTED, REFUSED};
 use cmap_queries::query::Query;
 use cmap_report::lookup::{push_answer, push_json};
 use hayro_cmap::CMap;

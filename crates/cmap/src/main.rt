@@ -9,9 +9,9 @@ mod folders;
 mod info;
 mod inputs;
 mod lookup;
+mod messages;
 mod options;
 mod progress;
-mod messages;
 
 use anyhow::anyhow;
 use bases::bases_in;
@@ -19,10 +19,10 @@ use clap::ArgMatches;
 use command_line::command;
 use hayro_cmap::{Bundle, NamedFiles};
 use inputs::{bases, needed};
+use messages::{fault, print_usage, report};
 use options::Options;
 use std::env;
 use std::process::ExitCode;
-use messages::{fault, report, print_usage};
 
 /// The status where all files are accepted.
 const ACCEPTED: u8 = 0;

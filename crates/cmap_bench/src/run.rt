@@ -2,9 +2,9 @@
 
 use crate::request::Request;
 use crate::rounds::{Measured, Work};
+use cmap_queries::arguments::arguments;
 use cmap_queries::failure::Failure;
 use cmap_queries::output::send;
-use cmap_queries::arguments::arguments;
 use std::fs;
 
 /// Measures what the arguments ask for, and writes one line on the standard output: the nanoseconds and

@@ -47,7 +47,11 @@ fn file_at_fault<'f, N: NamedFile>(
 }
 
 /// The line of a byte; `None` in a file that is read as binary.
-fn line_of<N: NamedFile>(file: &[u8], offset: usize, files: &NamedFiles<'_, N, Bundle<'_>>) -> Option<usize> {
+fn line_of<N: NamedFile>(
+    file: &[u8],
+    offset: usize,
+    files: &NamedFiles<'_, N, Bundle<'_>>,
+) -> Option<usize> {
     if files.bundle.is_some() && is_marked_binary(file) {
         return None;
     }

@@ -27,6 +27,9 @@ pub fn uses_by_layer<'f, N: NamedFile>(
 }
 
 /// The file under one that uses these: the last of them.
-fn base_of<'f, N: NamedFile>(files: &NamedFiles<'f, N, Bundle<'f>>, names: &[&[u8]]) -> Option<&'f [u8]> {
+fn base_of<'f, N: NamedFile>(
+    files: &NamedFiles<'f, N, Bundle<'f>>,
+    names: &[&[u8]],
+) -> Option<&'f [u8]> {
     files.find(names.last()?)
 }

@@ -1,8 +1,8 @@
 //! The lines of a file of rows, one after another.
 
 use crate::escapes::canonical;
+use crate::row::{Begun, Named, Row, RowKind, begin_named, bytes_of};
 use crate::row_error::RowError;
-use crate::row::{Begun, RowKind, Named, Row, begin_named, bytes_of};
 use crate::spelled::{Addition, Spelled, addition_of, split_word};
 use std::alloc::{AllocError, Global};
 

@@ -3,8 +3,8 @@
 use crate::files::{self, Around, Outcome};
 use crate::{maps, program_runs};
 use cmap_rows::parts::{destinations, prefix_tables, ranges, tokens};
+use cmap_rows::row::{Row, RowKind};
 use cmap_rows::row_error::RowError;
-use cmap_rows::row::{RowKind, Row};
 use hayro_cmap::CMap;
 use std::alloc::{AllocError, Global};
 
@@ -133,7 +133,12 @@ fn push_answer_of_predefined(
 }
 
 /// Adds the outcome that a line begins with, and at which lengths the front of the input has it.
-fn push_fronts(alloc: Global, row: &Row<'_>, rest: &str, line: &mut String) -> Result<(), RowError> {
+fn push_fronts(
+    alloc: Global,
+    row: &Row<'_>,
+    rest: &str,
+    line: &mut String,
+) -> Result<(), RowError> {
     let (asked, _) = rest
         .split_once(' ')
         .ok_or(RowError::Wrong("fronts OUTCOME .."))?;

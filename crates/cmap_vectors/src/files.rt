@@ -1,8 +1,8 @@
 //! CMap files over other files, and bundles.
 
 use cmap_rows::escapes::{push_escaped, unescaped};
-use cmap_rows::row_error::RowError;
 use cmap_rows::row::Row;
+use cmap_rows::row_error::RowError;
 use cmap_rows::spelled::number;
 use hayro_cmap::bcmap::{Bundle, OwnedBundle, load_embedded};
 use hayro_cmap::{CMap, CMapName, Fault, NamedFiles, ParseError, Refusal, Source};
@@ -295,7 +295,9 @@ pub fn push_held(
     rest: &str,
     line: &mut String,
 ) -> Result<(), RowError> {
-    let (asked, _) = rest.split_once(' ').ok_or(RowError::Wrong("holds NAME .."))?;
+    let (asked, _) = rest
+        .split_once(' ')
+        .ok_or(RowError::Wrong("holds NAME .."))?;
     if word != "holds" {
         return Err(RowError::Wrong("an unknown word"));
     }

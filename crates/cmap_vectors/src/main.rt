@@ -9,8 +9,8 @@ mod program_runs;
 
 use answers::answer;
 use cmap_queries::arguments::arguments;
-use cmap_rows::row_error::RowError;
 use cmap_rows::row::Row;
+use cmap_rows::row_error::RowError;
 use cmap_rows::rows::{Expectation, Rows};
 use std::alloc::Global;
 use std::fs;

@@ -1,10 +1,10 @@
 //! What is asked of a map.
 
 use crate::layers::push_layer;
+use cmap_rows::escapes::{hexadecimal, push_escaped};
 use cmap_rows::parts::ranges::code_of;
 use cmap_rows::parts::texts::push_text;
 use cmap_rows::parts::tokens::push_number;
-use cmap_rows::escapes::{hexadecimal, push_escaped};
 use cmap_rows::row_error::RowError;
 use hayro_cmap::runs::Looks;
 use hayro_cmap::{CMap, CMapName, CidFamily, Metadata, WritingMode};

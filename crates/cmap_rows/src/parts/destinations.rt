@@ -1,8 +1,8 @@
 //! Destinations: their units, and the texts that these stand for.
 
 use super::texts::push_text;
-use cmap_files::units::Units;
 use crate::row_error::RowError;
+use cmap_files::units::Units;
 use cmap_tokens::utf16::{BfString, one_char, text, units};
 use std::alloc::{AllocError, Global};
 
@@ -48,8 +48,15 @@ fn is_kept(alloc: Global, units: &[u16]) -> Result<bool, AllocError> {
 }
 
 /// Adds the text at the offset that a line begins with.
-fn push_text_at(alloc: Global, bytes: &[u8], rest: &str, line: &mut String) -> Result<(), RowError> {
-    let (offset, _) = rest.split_once(' ').ok_or(RowError::Wrong("text OFFSET .."))?;
+fn push_text_at(
+    alloc: Global,
+    bytes: &[u8],
+    rest: &str,
+    line: &mut String,
+) -> Result<(), RowError> {
+    let (offset, _) = rest
+        .split_once(' ')
+        .ok_or(RowError::Wrong("text OFFSET .."))?;
     let place = u32::from_str_radix(offset, 10)
         .ok()
         .ok_or(RowError::Wrong("no offset"))?;

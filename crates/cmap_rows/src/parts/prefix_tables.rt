@@ -1,10 +1,10 @@
 //! Prefix tables: the bytes that they take, and the symbols that bits spell.
 
+use crate::escapes::hexadecimal;
+use crate::row::Symbols;
+use crate::row_error::RowError;
 use cmap_binary::bits::Reader;
 use cmap_binary::prefix::PrefixTable;
-use crate::escapes::hexadecimal;
-use crate::row_error::RowError;
-use crate::row::Symbols;
 use std::alloc::{AllocError, Global};
 
 /// The table at the head of these bytes, and how many of them are read; none where there is no memory.

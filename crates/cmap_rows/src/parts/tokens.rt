@@ -37,7 +37,12 @@ impl Strings {
 }
 
 /// Adds what a word asks of all tokens of a text.
-pub fn push_answer(alloc: Global, text: &[u8], word: &str, line: &mut String) -> Result<(), RowError> {
+pub fn push_answer(
+    alloc: Global,
+    text: &[u8],
+    word: &str,
+    line: &mut String,
+) -> Result<(), RowError> {
     let strings = Strings::named(word)?;
     let end = push_tokens(alloc, text, strings, line)?;
     if !strings.are_alone() {
