@@ -12,7 +12,7 @@ use cmap_files::code_length::CodeLength;
 use cmap_files::declarations::{CidRange, Codespace};
 use cmap_files::fault::{Fault, Reason, Segment};
 use cmap_files::file::File;
-use cmap_files::metadata::{CharacterCollection, CidFamily};
+use cmap_files::character_collection::{CharacterCollection, CidFamily};
 use cmap_runs::runs::Range;
 use std::alloc::Global;
 

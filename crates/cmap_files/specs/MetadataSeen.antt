@@ -2,11 +2,11 @@
 use Rattle.std.specs.Prelude.{option_map, IsSome, IsSomeAnd, ◌⊎◌}
 use Rattle.cmap_files.specs.Names as names
 use Rattle.cmap_files.specs.Metadata as said
-use Rattle.cmap_files.specs.declared.metadata.CidFamily.{CidFamily}
-use Rattle.cmap_files.specs.declared.metadata.CidFamily.TheVariants.{AdobeJapan1, AdobeGB1, AdobeCNS1, AdobeKorea1, AdobeIdentity, Custom}
-use Rattle.cmap_files.specs.declared.metadata.CharacterCollection.{CharacterCollection}
-use Rattle.cmap_files.specs.declared.metadata.WritingMode.{WritingMode}
-use Rattle.cmap_files.specs.declared.metadata.WritingMode.TheVariants.{Horizontal, Vertical}
+use Rattle.cmap_files.specs.declared.character_collection.CidFamily.{CidFamily}
+use Rattle.cmap_files.specs.declared.character_collection.CidFamily.TheVariants.{AdobeJapan1, AdobeGB1, AdobeCNS1, AdobeKorea1, AdobeIdentity, Custom}
+use Rattle.cmap_files.specs.declared.character_collection.CharacterCollection.{CharacterCollection}
+use Rattle.cmap_files.specs.declared.writing_mode.WritingMode.{WritingMode}
+use Rattle.cmap_files.specs.declared.writing_mode.WritingMode.TheVariants.{Horizontal, Vertical}
 use Rattle.cmap_files.specs.declared.metadata.Metadata.{Metadata}
 
 abbrev pub family_seen : CidFamily → names.Family

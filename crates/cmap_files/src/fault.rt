@@ -130,7 +130,7 @@ impl<R, T: Drop> From<AllocFailed<T>> for Fault<R> {
 #[derive(Clone, Copy, Debug, PartialEq, Eq)]
 pub struct Stop {
     /// Where in the file, in bytes. Of a text it is the end of the token that can't stand there; where
-    /// no token stands, the place of the byte that shows it; and where only the end of the file shows
+    /// no token stands, the offset of the byte that shows it; and where only the end of the file shows
     /// it, its length. Of a binary file it is the start of the segment at fault.
     pub offset: usize,
     pub reason: Reason,

@@ -1,6 +1,7 @@
 //! What one CMap file says: its metadata, what it declares for its codes, and the files that it uses.
 #![tactic(auto)]
 
+pub mod character_collection;
 pub mod code_length;
 pub mod declarations;
 pub mod fault;
@@ -8,3 +9,4 @@ pub mod file;
 pub mod metadata;
 pub mod names;
 pub mod units;
+pub mod writing_mode;

@@ -1,8 +1,8 @@
 //! Names of CMaps.
 
-ghost use Rattle.std.specs.Prelude.{◌≡◌, ℕ, List, ◌<◌, [], Some, IfSome, slice_index_or};
-ghost use Rattle.cmap_files.specs.CMapNames.{IsNameOf, IsSameName, name_bytes, place};
-ghost use Rattle.cmap_files.specs.Names.{known_names, place_of};
+ghost use Rattle.std.specs.Prelude.{◌≡◌, ℕ, List, ◌<◌, [], Some, IfSome, IsSome, slice_index_or};
+ghost use Rattle.cmap_files.specs.CMapNames.{IsNameOf, IsSameName, index_of_name, name_bytes};
+ghost use Rattle.cmap_files.specs.Names.{known_names, index_of_text};
 ghost use Rattle.cmap_files.specs.declared.names.CMapName.{CMapName};
 
 /// The number of a character in a character collection. Adobe Technical Note 5014.
@@ -226,19 +226,27 @@ impl<'a> CMapName<'a> {
     pub fn from_bytes(bytes: &'a [u8]) -> CMapName<'a>
         ensures name { IsNameOf bytes.now result }
 
-        // A text has one name. So the name of `name.to_bytes()` is `name`, unless that was made by
-        // hand as a `Custom` of a known text.
+        // A text has one name.
         ensures only { (other : CMapName) → IsNameOf bytes.now other → IsSameName other result }
     {
-        match place_of(bytes) {
-            Some(place) => known_name(place),
+        match index_of(bytes) {
+            Some(index) => known_name(index),
             None => CMapName::Custom(bytes),
         }
     }
 
     /// The text of this name, without the slash that stands before it in a file.
-    #[tactic(auto, unfolding(crate::specs::Names::known_names))]
     pub fn to_bytes(&self) -> &'a [u8]
+        ensures text { result.now ≡ name_bytes self.now }
+
+        // The name of this text is the name itself, unless that was made by hand as a `Custom` of a
+        // known text.
+        ensures known { IsSome (index_of_name self.now) → IsNameOf result.now self.now }
+    {
+        self.text()
+    }
+
+    fn text(&self) -> &'a [u8]
         ensures { result.now ≡ name_bytes self.now }
     {
         match self {
@@ -311,35 +319,35 @@ impl<'a> CMapName<'a> {
         }
     }
 
-    /// Its place among the known names; `None` for a `Custom` one, whatever its text is.
-    pub fn place(self) -> Option<usize>
-        ensures { result ≡ place self.entry }
+    /// Its index among the known names; `None` for a `Custom` one, whatever its text is.
+    pub fn index(self) -> Option<usize>
+        ensures { result ≡ index_of_name self.entry }
     {
         match self {
             CMapName::Custom(_) => None,
-            known => place_of(known.to_bytes()),
+            known => index_of(known.text()),
         }
     }
 }
 
-/// The place of the known name with this text.
-fn place_of(text: &[u8]) -> Option<usize>
-    ensures place { result ≡ place_of text.now }
-    ensures known { IfSome result (λ place.
-        (place < KNOWN_COUNT) × (slice_index_or known_names place [] ≡ text.now)) }
+/// The index of the known name with this text.
+fn index_of(text: &[u8]) -> Option<usize>
+    ensures index { result ≡ index_of_text text.now }
+    ensures known { IfSome result (λ index.
+        (index < KNOWN_COUNT) × (slice_index_or known_names index [] ≡ text.now)) }
 {
-    for place in 0..KNOWN_COUNT {
-        if known_name(place).to_bytes() == text {
-            return Some(place);
+    for index in 0..KNOWN_COUNT {
+        if known_name(index).text() == text {
+            return Some(index);
         }
     }
     None
 }
 
-/// The known name at a place, in the order of their texts.
+/// The known name at an index, in the order of their texts.
 fn known_name<'a>(at: usize) -> CMapName<'a>
     requires { at < KNOWN_COUNT }
-    ensures { place result ≡ Some at }
+    ensures { index_of_name result ≡ Some at }
 {
     KNOWN_NAMES[at]
 }

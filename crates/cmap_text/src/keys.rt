@@ -9,7 +9,9 @@ ghost use Rattle.cmap_text.specs.TextReading.{key_in, no_values, with_value};
 ghost use Rattle.cmap_text.specs.TextSeen.{key_name, values_seen};
 
 use crate::tokens::is_literal;
-use cmap_files::metadata::{CharacterCollection, CidFamily, Metadata, WritingMode};
+use cmap_files::character_collection::{CharacterCollection, CidFamily};
+use cmap_files::metadata::Metadata;
+use cmap_files::writing_mode::WritingMode;
 use cmap_tokens::token::{Number, Token};
 use std::alloc::{AllocError, Global};
 

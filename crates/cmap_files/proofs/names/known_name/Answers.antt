@@ -1,5 +1,5 @@
-use Rattle.cmap_files.proofs.OneName.{place-variant}
+use Rattle.cmap_files.proofs.OneName.{index-variant}
 use Rattle.cmap_files.proofs.names.known_name.Goals as goal
 
 pub returns : goal.returns
-returns c = place-variant c.args.at _ c.requires
+returns c = index-variant c.args.at _ c.requires

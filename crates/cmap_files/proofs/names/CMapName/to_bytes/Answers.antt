@@ -1,7 +1,5 @@
-use Rattle.std.proofs.Common.{refl}
-use Rattle.cmap_files.specs.Names.{known_names}
+use Rattle.cmap_files.proofs.OneName.{IsNameOf-own_text}
 use Rattle.cmap_files.proofs.names.CMapName.to_bytes.Goals as goal
 
-pub returns-in-EucH : goal.returns-in-EucH
-unfolding known_names
-returns-in-EucH c = rw c.in-EucH.is refl
+pub returns-clause-known : goal.returns-clause-known
+returns-clause-known c some = IsNameOf-own_text _ _ c.text.ensures some

@@ -1,6 +1,6 @@
 use Rattle.std.proofs.Common.{refl}
 use Rattle.cmap_files.specs.Names.{known_names}
-use Rattle.cmap_files.proofs.metadata.CidFamily.unicode_cmap.Goals as goal
+use Rattle.cmap_files.proofs.character_collection.CidFamily.unicode_cmap.Goals as goal
 
 pub returns-in-AdobeGB1-clause-text : goal.returns-in-AdobeGB1-clause-text
 unfolding known_names
