@@ -5,7 +5,7 @@ ghost use Rattle.std.specs.Option.{option_copied};
 ghost use Rattle.cmap_binary.specs.BundleSeen.{bundle_seen, tables_seen};
 ghost use Rattle.cmap_binary.specs.Bundles.{AreFiles, HoldsTables, IsBundle};
 ghost use Rattle.cmap_files.specs.Outcomes.{Finds};
-ghost use Rattle.cmap_files.specs.CMapNames.{place};
+ghost use Rattle.cmap_files.specs.CMapNames.{index_of_name};
 ghost use Rattle.cmap_files.specs.FilesSeen.{names_seen};
 
 use crate::bits::Reader;
@@ -89,8 +89,8 @@ fn split_files<'b>(alloc: Global, mut bytes: &'b [u8]) -> Result<Option<Vec<&'b 
 /// file at the place of the name. It takes no memory.
 pub fn load_embedded<'b>(bundle: Option<&Bundle<'b>>, name: CMapName<'_>) -> Option<&'b [u8]>
     ensures { option_copied result ≡ option_and_then
-        (λ b. option_and_then (λ at. slice_get (bundle_seen b).files at) (place name.entry))
+        (λ b. option_and_then (λ at. slice_get (bundle_seen b).files at) (index_of_name name.entry))
         (option_copied bundle.entry) }
 {
-    bundle?.files.get(name.place()?).copied()
+    bundle?.files.get(name.index()?).copied()
 }

@@ -4,7 +4,7 @@ ghost use Rattle.std.specs.Prelude.{◌≡◌, [], IfOk, option_and_then, slice_
 ghost use Rattle.std.specs.Option.{option_copied};
 ghost use Rattle.cmap_binary.specs.BundleSeen.{bundle_seen};
 ghost use Rattle.cmap_binary.specs.Bundles.{IsBundle};
-ghost use Rattle.cmap_files.specs.CMapNames.{place};
+ghost use Rattle.cmap_files.specs.CMapNames.{index_of_name};
 ghost use Rattle.cmap_files.specs.FilesSeen.{names_seen};
 ghost use Rattle.cmap_files.specs.Outcomes.{Finds};
 ghost use Rattle.cmap_binary.specs.Copies.{copies_seen};
@@ -68,9 +68,9 @@ impl OwnedBundle {
     /// bundle has no file at the place of the name. It takes no memory.
     pub fn file(&self, name: CMapName<'_>) -> Option<&[u8]>
         ensures { option_copied result
-            ≡ option_and_then (λ at. slice_get self.now.files at) (place name.entry) }
+            ≡ option_and_then (λ at. slice_get self.now.files at) (index_of_name name.entry) }
     {
-        let file = self.files.get(name.place()?)?;
+        let file = self.files.get(name.index()?)?;
         Some(file)
     }
 }

@@ -116,9 +116,7 @@ fn parse<'a>(
         return parse_owned(alloc, budget, data, None, files);
     }
     match Bundle::parse(alloc, bundle) {
-        Ok(Some(bundle)) => {
-            parse_from(alloc, budget, data, Some(&bundle), files, Some(&bundle))
-        }
+        Ok(Some(bundle)) => { parse_from(alloc, budget, data, Some(&bundle), files, Some(&bundle)) }
         Ok(None) => Err(Status::NotABundle),
         Err(_) => Err(Status::NoMemory),
     }

@@ -19,7 +19,7 @@ const FILE: &[u8] = b"begincmap /CIDSystemInfo 3 dict dup begin /Registry (Adobe
 begincodespacerange <0000> <00FF> endcodespacerange
 begincidrange <0000> <01FF> 0 endcidrange beginbfchar <41> <00420043> endbfchar endcmap";
 
-/// Two tables, and the file of the codes 0x20 and 0x21 at the place of the first name.
+/// Two tables, and the file of the codes 0x20 and 0x21 at the index of the first name.
 const BUNDLE: &[u8] = &[
     0, 0, 0, 19, 0, 2, 1, 0, 2, 0, 0, 0, 0x20, 0, 0, 0, 0, 0, 1, 1, 0, 1, 4, 0x62, 0x63, 0x6D,
     0x61, 0x70, 1, 0, 0, 0, 26, 4, 0, 0, 0, 16, 0, 2, 0, 0, 0, 1, 0x40, 0, 5, 0, 0,

@@ -28,7 +28,7 @@ adds_bytes false old new bytes is all = adds_nothing old new is
 pub one_more : (piece : ℕ → List ℕ) (old now new front : List ℕ) (element : ℕ) → now ≡ old ++ flat_map piece front → new ≡ now ++ piece element → new ≡ old ++ flat_map piece (front ++ element ∷ [])
 one_more piece old now new front element now_is new_is = new_is ∙ ap (λ bytes. bytes ++ piece element) now_is ∙ flat_map_more piece old front element
 
--- the same at the next place of a list
+-- the same at the next index of a list
 pub one_more_at : (piece : ℕ → List ℕ) (old now new elements : List ℕ) (i : ℕ) → i < length elements → now ≡ old ++ flat_map piece (take i elements) → new ≡ now ++ piece (get_or elements i 0)
     → new ≡ old ++ flat_map piece (take (i + 1) elements)
 one_more_at piece old now new elements i below now_is new_is =

@@ -2,7 +2,7 @@
 use Rattle.std.proofs.Common.{◌≡◌, ℕ, List, [], ◌∷◌, Option, Some, None, map, refl, ap, ◌∙◌}
 use Rattle.std.specs.Prelude.{option_map, option_and_then, slice_get, unwrap_or}
 use Rattle.std.proofs.lemmas.Option.{slice_get-map}
-use Rattle.cmap_runs.specs.Ranges.{Span, last_place, last_of}
+use Rattle.cmap_runs.specs.Ranges.{Span, last_index, last_of}
 use Rattle.cmap_files.specs.Files.{CidEntry}
 use Rattle.cmap_layers.specs.Lookups.{decided_cid}
 use Rattle.cmap_layers.specs.LayersDecide.{decided_in}
@@ -16,7 +16,7 @@ got g xs None = refl
 got g xs (Some i) = slice_get-map g xs i
 
 pub last_of-map : {A B : Type 0} (span : B → Span) (g : A → B) (xs : List A) (code : ℕ) → last_of span (map g xs) code ≡ option_map g (last_of (λ x. span (g x)) xs code)
-last_of-map span g xs code = ap (λ spans. option_and_then (slice_get (map g xs)) (last_place spans code)) (map-of-map span g xs) ∙ got g xs (last_place (map (λ x. span (g x)) xs) code)
+last_of-map span g xs code = ap (λ spans. option_and_then (slice_get (map g xs)) (last_index spans code)) (map-of-map span g xs) ∙ got g xs (last_index (map (λ x. span (g x)) xs) code)
 
 pub spans-map : {A B : Type 0} (span : B → Span) (g : A → B) (xs : List A) → map span (map g xs) ≡ map (λ x. span (g x)) xs
 spans-map span g xs = map-of-map span g xs

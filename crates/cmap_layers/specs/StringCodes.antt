@@ -25,7 +25,7 @@ IsShortestInside layers text n = BeginsInside layers text n × ((m : ℕ) → m 
 abbrev pub ranges_of : List Layer → List Codespace
 ranges_of layers = flat_map (λ layer. layer.lists.spaces) layers
 
--- a range matches the first n bytes of a string: each lies between the bytes of the range at its place
+-- a range matches the first n bytes of a string: each lies between the bytes of the range at its index
 abbrev pub Matches : Codespace → List ℕ → ℕ → Type 0
 Matches space text n = (n ≤ space.len) × (n ≤ length text)
     × ((k : ℕ) → k < n → (byte_at space.low (space.len - suc k) ≤ slice_index text k) × (slice_index text k ≤ byte_at space.high (space.len - suc k)))

@@ -45,16 +45,16 @@ fn is_within(space: &Codespace, code: u32, len: CodeLength) -> bool
     ensures { IsTrue result ↔ IsWithin (codespace_seen space.now) code (length_of len) }
 {
     space.len.count() == len.count()
-        && (0..len.count()).all(|place| {
-            let byte = byte_at(code, place);
-            byte_at(space.low, place) <= byte && byte <= byte_at(space.high, place)
+        && (0..len.count()).all(|after| {
+            let byte = byte_at(code, after);
+            byte_at(space.low, after) <= byte && byte <= byte_at(space.high, after)
         })
 }
 
-/// The byte of a number that stands `place` bytes before its last.
-pub(crate) fn byte_at(number: u32, place: u8) -> u32
-    requires { place < 4 }
-    ensures { result ≡ byte_at number place }
+/// The byte of a number that stands `after` bytes before its last.
+pub(crate) fn byte_at(number: u32, after: u8) -> u32
+    requires { after < 4 }
+    ensures { result ≡ byte_at number after }
 {
-    (number >> (8 * place)) & 0xFF
+    (number >> (8 * after)) & 0xFF
 }

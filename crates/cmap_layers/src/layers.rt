@@ -180,8 +180,8 @@ fn copied_cids(alloc: Global, table: &Table<CidRange>) -> Result<Vec<CidRange>, 
 {
     let mut looks = Looks::new();
     let mut list = Vec::with_capacity(alloc, table.decl_count())?;
-    for place in 0..table.decl_count() {
-        list.push(table.decl(place, &mut looks).clone())?;
+    for index in 0..table.decl_count() {
+        list.push(table.decl(index, &mut looks).clone())?;
     }
     Ok(list)
 }
@@ -192,8 +192,8 @@ fn copied_bfs(alloc: Global, table: &Table<BfRange>) -> Result<Vec<BfRange>, All
 {
     let mut looks = Looks::new();
     let mut list = Vec::with_capacity(alloc, table.decl_count())?;
-    for place in 0..table.decl_count() {
-        list.push(table.decl(place, &mut looks).clone(alloc)?)?;
+    for index in 0..table.decl_count() {
+        list.push(table.decl(index, &mut looks).clone(alloc)?)?;
     }
     Ok(list)
 }

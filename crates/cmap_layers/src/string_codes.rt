@@ -137,11 +137,11 @@ fn matched(space: &Codespace, text: &[u8]) -> u8
 {
     let len = space.len.count();
     let most = text.len().min(usize::from(len)) as u8;
-    for place in 0..most {
-        let byte = u32::from(text[usize::from(place)]);
-        let after = len - 1 - place;
+    for index in 0..most {
+        let byte = u32::from(text[usize::from(index)]);
+        let after = len - 1 - index;
         if byte < byte_at(space.low, after) || byte_at(space.high, after) < byte {
-            return place;
+            return index;
         }
     }
     most

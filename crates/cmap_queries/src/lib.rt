@@ -3,9 +3,9 @@
 #![tactic(auto)]
 
 pub mod answers;
+pub mod arguments;
 pub mod failure;
 pub mod input;
 pub mod options;
 pub mod output;
 pub mod query;
-pub mod arguments;

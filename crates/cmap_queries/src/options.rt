@@ -4,8 +4,8 @@ ghost use Rattle.std.specs.Prelude.{◌≡◌, MatchResult, map, string_bytes};
 ghost use Rattle.cmap_queries.specs.OptionArguments.{SpellsNoNumber, SpellsNoOptions};
 ghost use Rattle.cmap_queries.specs.OptionArguments.{SpellsOption, SpellsOptions};
 
-use crate::failure::Failure;
 use crate::arguments::decimal;
+use crate::failure::Failure;
 
 /// What is asked of the whole run.
 #[derive(Clone, Copy)]
@@ -32,7 +32,10 @@ impl RunOptions {
 }
 
 /// The number of the option of this name, where the arguments begin with it, and the arguments after it.
-fn parse_option<'w>(name: &str, arguments: &'w [String]) -> Result<(Option<u64>, &'w [String]), Failure>
+fn parse_option<'w>(
+    name: &str,
+    arguments: &'w [String],
+) -> Result<(Option<u64>, &'w [String]), Failure>
     ensures { MatchResult result
         (λ found. SpellsOption name.now (map string_bytes arguments.now) found.0
         (map string_bytes found.1.now))

@@ -76,7 +76,7 @@ pub(crate) enum Begun {
 #[derive(Drop)]
 pub struct Row<'r> {
     pub kind: RowKind,
-    /// What the first line has in the place of bytes.
+    /// What the first line has instead of bytes.
     pub words: &'r str,
     pub input: Spelled,
     pub bases: Vec<Named<'r>>,

@@ -18,10 +18,10 @@ low_at_least runs order (suc k) d lt = omega (arith, low_at_least runs order k d
 pub few_begun : (runs : List Run) (code count : ℕ) → IsInOrder runs → count ≤ length runs → AllWithin (λ run. run.low < code) runs 0 count → count ≤ code
 few_begun runs code zero order within begun = omega arith
 few_begun runs code (suc k) order within begun =
-    let d : Run = record { low = 0; high = 0; place = 0 } in
+    let d : Run = record { low = 0; high = 0; index = 0 } in
     omega (arith, low_at_least runs order k d (omega arith), begun k d (omega arith) (omega arith))
 
 -- the runs from one on that doesn't begin before the code
-pub none_begun : (runs : List Run) (code place : ℕ) → IsInOrder runs → place < length runs
-    → ((d : Run) → code ≤ (get_or runs place d).low) → AllWithin (λ run. code ≤ run.low) runs place (length runs)
-none_begun runs code place order lt from = λ k d le within. grind (arith, from d, order.apart place k d, order.filled place d)
+pub none_begun : (runs : List Run) (code index : ℕ) → IsInOrder runs → index < length runs
+    → ((d : Run) → code ≤ (get_or runs index d).low) → AllWithin (λ run. code ≤ run.low) runs index (length runs)
+none_begun runs code index order lt from = λ k d le within. grind (arith, from d, order.apart index k d, order.filled index d)

@@ -1,7 +1,7 @@
 pub mod BinaryDigits
 pub mod BlocksMade
-pub mod FoundPlace
-pub mod LastPlace
+pub mod FoundIndex
+pub mod LastIndex
 pub mod LieApart
 pub mod MaximalRuns
 pub mod OpenDecide

@@ -21,15 +21,15 @@ LieApart-push ranges range lie filled fits before = record {
       ];
 }
 
-pub LieApartBefore-push : (spans : List Span) (places : List ℕ) (place code high : ℕ) → LieApartBefore spans places code
-    → code ≤ (range_at spans place).low → (range_at spans place).low ≤ (range_at spans place).high → (range_at spans place).high ≡ high → high < 2 ^ 32
-    → LieApartBefore spans (places ++ place ∷ []) (high + 1)
-LieApartBefore-push spans places place code high are after filled is fits =
-    let ranges = map (range_at spans) places in let range = range_at spans place in
+pub LieApartBefore-push : (spans : List Span) (indices : List ℕ) (index code high : ℕ) → LieApartBefore spans indices code
+    → code ≤ (range_at spans index).low → (range_at spans index).low ≤ (range_at spans index).high → (range_at spans index).high ≡ high → high < 2 ^ 32
+    → LieApartBefore spans (indices ++ index ∷ []) (high + 1)
+LieApartBefore-push spans indices index code high are after filled is fits =
+    let ranges = map (range_at spans) indices in let range = range_at spans index in
     record {
-      apart = subst LieApart (sym (map_push (range_at spans) places place))
+      apart = subst LieApart (sym (map_push (range_at spans) indices index))
           (LieApart-push ranges range are.apart filled (omega (arith, is)) (λ k d lt. omega (arith, are.before k d lt)));
-      before = subst (All (λ (range : Run). range.high < high + 1)) (sym (map_push (range_at spans) places place))
+      before = subst (All (λ (range : Run). range.high < high + 1)) (sym (map_push (range_at spans) indices index))
           (All-push (λ range. range.high < high + 1) ranges range (λ k d lt. omega (arith, are.before k d lt, is)) (omega (arith, is)));
     }
 
@@ -41,7 +41,7 @@ pub LieApart-ascend : (ranges : List Run) → LieApart ranges → IsNonDecreasin
 LieApart-ascend ranges lie =
     IsNonDecreasingBy-from_all_adjacent (λ range. range.low) ranges (λ k d lt. omega (arith, lie.apart k d lt, (lie.filled k d (omega arith)).0))
 
--- ---- two parts, of which places are taken by turns
+-- ---- two parts, of which indices are taken by turns
 abbrev pub from_to : ℕ → ℕ → List ℕ
 from_to first end = range_with_len first (end - first)
 
@@ -56,9 +56,9 @@ from_to_two first middle end le within =
     ap (range_with_len first) (let e : end - first ≡ (middle - first) + (end - middle) = omega arith in e)
     ∙ range_in_two first (middle - first) (end - middle) ∙ ap (λ n. from_to first middle ++ range_with_len n (end - middle)) (let e : first + (middle - first) ≡ middle = omega arith in e)
 
-pub from_to_more : (first place : ℕ) → first ≤ place → from_to first (place + 1) ≡ from_to first place ++ place ∷ []
-from_to_more first place le =
-    from_to_two first place (place + 1) le (omega arith) ∙ ap (λ n. from_to first place ++ range_with_len place n) (let e : place + 1 - place ≡ 1 = omega arith in e)
+pub from_to_more : (first index : ℕ) → first ≤ index → from_to first (index + 1) ≡ from_to first index ++ index ∷ []
+from_to_more first index le =
+    from_to_two first index (index + 1) le (omega arith) ∙ ap (λ n. from_to first index ++ range_with_len index n) (let e : index + 1 - index ≡ 1 = omega arith in e)
 
 -- none was taken
 pub taken_none : (middle count : ℕ) → middle ≤ count → IsPermutation (range_with_len 0 count) (from_to 0 middle ++ from_to middle count)
@@ -67,12 +67,12 @@ taken_none middle count le =
     (ap (range_with_len 0) (let e : count ≡ count - 0 = omega arith in e) ∙ from_to_two 0 middle count (omega arith) le) (IsPermutation-refl (range_with_len 0 count))
 
 -- taken are these, and all others are left in the two parts
-pub taken_first : (all places : List ℕ) (first next middle : ℕ) (others : List ℕ) → first ≤ next → next ≤ middle
-    → IsPermutation all (places ++ (from_to first middle ++ others)) → IsPermutation all ((places ++ from_to first next) ++ (from_to next middle ++ others))
-taken_first all places first next middle others le within are =
+pub taken_first : (all indices : List ℕ) (first next middle : ℕ) (others : List ℕ) → first ≤ next → next ≤ middle
+    → IsPermutation all (indices ++ (from_to first middle ++ others)) → IsPermutation all ((indices ++ from_to first next) ++ (from_to next middle ++ others))
+taken_first all indices first next middle others le within are =
     subst (IsPermutation all)
-    (ap (λ part. places ++ (part ++ others)) (from_to_two first next middle le within) ∙ ap (λ ys. places ++ ys) (append_assoc (from_to first next) (from_to next middle) others)
-    ∙ sym (append_assoc places (from_to first next) (from_to next middle ++ others))) are
+    (ap (λ part. indices ++ (part ++ others)) (from_to_two first next middle le within) ∙ ap (λ ys. indices ++ ys) (append_assoc (from_to first next) (from_to next middle) others)
+    ∙ sym (append_assoc indices (from_to first next) (from_to next middle ++ others))) are
 
-pub turned : (all places one other : List ℕ) → IsPermutation all (places ++ (one ++ other)) → IsPermutation all (places ++ (other ++ one))
-turned all places one other are = IsPermutation-trans all _ _ are (IsPermutation-append_right places _ _ (IsPermutation-append_comm one other))
+pub turned : (all indices one other : List ℕ) → IsPermutation all (indices ++ (one ++ other)) → IsPermutation all (indices ++ (other ++ one))
+turned all indices one other are = IsPermutation-trans all _ _ are (IsPermutation-append_right indices _ _ (IsPermutation-append_comm one other))

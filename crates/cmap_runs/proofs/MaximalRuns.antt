@@ -9,7 +9,7 @@ use Rattle.std.proofs.lemmas.List.{get_or_append_left, get_or_push, length_push,
 use Rattle.std.proofs.lemmas.List.Quantifiers.{Any-push, all_pairs_push}
 use Rattle.std.proofs.lemmas.Option.{same_Some, get_or_from_slice_get, slice_get_within, slice_get-get_or}
 use Rattle.cmap_runs.specs.Order.{IsInOrder}
-use Rattle.cmap_runs.specs.Ranges.{Run, Holds, IsRun, AreRunsBelow, goes_on, joined, with_code, runs_below, Span, AreRuns, last_place, runs_of}
+use Rattle.cmap_runs.specs.Ranges.{Run, Holds, IsRun, AreRunsBelow, goes_on, joined, with_code, runs_below, Span, AreRuns, last_index, runs_of}
 
 pub Any-old : {X : Type 0} (P : X → Type 0) (xs : List X) (y : X) → Any P xs → Any P (xs ++ y ∷ [])
 Any-old P xs y found =
@@ -99,7 +99,7 @@ some_goes_on (first ∷ rest) run on = omega arith
 -- a run that doesn't go on from the last one
 joined_pushed : (decides : ℕ → Option ℕ) (runs : List Run) (run : Run)
     → AreRunsBelow decides run.low runs → run.low ≤ run.high
-    → ((code : ℕ) → run.low ≤ code → code ≤ run.high → decides code ≡ Some run.place)
+    → ((code : ℕ) → run.low ≤ code → code ≤ run.high → decides code ≡ Some run.index)
     → goes_on (slice_get runs (length runs - 1)) run ≡ false → AreRunsBelow decides (run.high + 1) (runs ++ run ∷ [])
 joined_pushed decides runs run are filled right apart =
     AreRunsBelow-push decides runs run are (record {
@@ -126,12 +126,12 @@ joined_pushed decides runs run are filled right apart =
 
 joined_on : (decides : ℕ → Option ℕ) (runs : List Run) (run last : Run) → slice_get runs (length runs - 1) ≡ Some last → goes_on (Some last) run ≡ true
     → AreRunsBelow decides run.low runs → run.low ≤ run.high
-    → ((code : ℕ) → run.low ≤ code → code ≤ run.high → decides code ≡ Some run.place)
+    → ((code : ℕ) → run.low ≤ code → code ≤ run.high → decides code ≡ Some run.index)
     → AreRunsBelow decides (run.high + 1) (set runs (length runs - 1) (record last { high = run.high }))
 joined_on decides runs run last at on are filled right =
     let longer : Run = record last { high = run.high } in
     let split = last_split runs last at in
-    let place : last.place ≡ run.place = grind (arith, nat_tests) in let next : last.high + 1 ≡ run.low = grind (arith, nat_tests) in
+    let index : last.index ≡ run.index = grind (arith, nat_tests) in let next : last.high + 1 ≡ run.low = grind (arith, nat_tests) in
     let parts = AreRunsBelow-pop decides run.low split.0 last (subst (AreRunsBelow decides run.low) split.1 are) in
     subst (AreRunsBelow decides (run.high + 1))
     (sym (ap (λ runs. set runs (length split.0) longer) split.1 ∙ set_at split.0 last [] longer (length split.0) refl)
@@ -140,14 +140,14 @@ joined_on decides runs run last at on are filled right =
       filled = omega (arith, parts.0.filled);
       below = omega arith;
       right = λ code low high.
-          elim (cases_lt last.high code) [ inl after ↦ right code (omega arith) high ∙ ap Some (sym place) | inr within ↦ parts.0.right code low within ];
+          elim (cases_lt last.high code) [ inl after ↦ right code (omega arith) high ∙ ap Some (sym index) | inr within ↦ parts.0.right code low within ];
       begins = parts.0.begins;
       ends = λ within. absurd (omega arith);
     }))
 
 pub AreRunsBelow-joined : (decides : ℕ → Option ℕ) (runs : List Run) (run : Run)
     → AreRunsBelow decides run.low runs → run.low ≤ run.high
-    → ((code : ℕ) → run.low ≤ code → code ≤ run.high → decides code ≡ Some run.place) → AreRunsBelow decides (run.high + 1) (joined runs run)
+    → ((code : ℕ) → run.low ≤ code → code ≤ run.high → decides code ≡ Some run.index) → AreRunsBelow decides (run.high + 1) (joined runs run)
 AreRunsBelow-joined decides runs run are filled right =
     cond_both (goes_on (slice_get runs (length runs - 1)) run) _ _ (AreRunsBelow decides (run.high + 1)) (λ on.
     let last = get_or runs (length runs - 1) run in
@@ -158,8 +158,8 @@ AreRunsBelow-joined decides runs run are filled right =
 with_code_one : (decides : ℕ → Option ℕ) (code : ℕ) (runs : List Run) (o : Option ℕ)
     → AreRunsBelow decides code runs → decides code ≡ o → AreRunsBelow decides (suc code) (with_code runs code o)
 with_code_one decides code runs None are is = AreRunsBelow-gap decides code (suc code) runs are (omega arith) (λ other low high. grind arith)
-with_code_one decides code runs (Some place) are is =
-    rw (← add-one code) (AreRunsBelow-joined decides runs (record { low = code; high = code; place = place }) are (omega arith) (λ other low high. grind arith))
+with_code_one decides code runs (Some index) are is =
+    rw (← add-one code) (AreRunsBelow-joined decides runs (record { low = code; high = code; index = index }) are (omega arith) (λ other low high. grind arith))
 
 AreRunsBelow-runs_below : (decides : ℕ → Option ℕ) (limit : ℕ) → AreRunsBelow decides limit (runs_below decides limit)
 unfolding runs_below
@@ -170,7 +170,7 @@ AreRunsBelow-runs_below decides (suc code) = with_code_one decides code (runs_be
 one_run : (decides : ℕ → Option ℕ) (limit : ℕ) (run other : Run) (code : ℕ)
     → IsRun decides limit run → IsRun decides limit other → Holds code run → Holds code other → run ≡ other
 one_run decides limit run other code is was here there =
-    let place : run.place ≡ other.place = same_Some _ _ (sym (is.right code here.0 here.1) ∙ was.right code there.0 there.1) in
+    let index : run.index ≡ other.index = same_Some _ _ (sym (is.right code here.0 here.1) ∙ was.right code there.0 there.1) in
     let low : run.low ≡ other.low = grind (arith, is.begins (run.low - 1), was.right (run.low - 1), was.begins (other.low - 1), is.right (other.low - 1)) in
     let high : run.high ≡ other.high = grind (arith, is.ends, was.right (run.high + 1), was.ends, is.right (other.high + 1), is.below, was.below) in
     grind arith
@@ -227,7 +227,7 @@ AreRunsBelow-unique decides limit runs others are were =
     (λ k d lt. is_among decides limit others _ were (are.each k d lt)) (λ k d lt. is_among decides limit runs _ are (were.each k d lt))
 
 pub AreRuns-runs_of : (spans : List Span) → AreRuns spans (runs_of spans)
-AreRuns-runs_of spans = AreRunsBelow-runs_below (last_place spans) (2 ^ 32)
+AreRuns-runs_of spans = AreRunsBelow-runs_below (last_index spans) (2 ^ 32)
 
 pub runs_of-unique : (spans : List Span) (runs : List Run) → AreRuns spans runs → runs ≡ runs_of spans
-runs_of-unique spans runs are = AreRunsBelow-unique (last_place spans) (2 ^ 32) runs (runs_of spans) are (AreRuns-runs_of spans)
+runs_of-unique spans runs are = AreRunsBelow-unique (last_index spans) (2 ^ 32) runs (runs_of spans) are (AreRuns-runs_of spans)

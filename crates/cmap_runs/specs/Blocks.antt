@@ -6,7 +6,7 @@ use Rattle.cmap_runs.specs.declared.runs.blocks.Block.{Block}
 use Rattle.cmap_runs.specs.declared.runs.blocks.Blocks.{Blocks}
 use Rattle.cmap_runs.specs.declared.runs.blocks.Window.{Window}
 
--- none but the runs from one place on and before another holds a code from `first` on and before `end`
+-- none but the runs from one index on and before another holds a code from `first` on and before `end`
 pub record AreAllBetween (runs : List Run) (first end low high : ℕ) : Type 0 where
   pub order : low ≤ high
   pub within : high ≤ length runs

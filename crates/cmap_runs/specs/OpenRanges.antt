@@ -1,39 +1,39 @@
--- Private aid: open ranges, those that have begun. Each is the place of its declaration with its last code.
+-- Private aid: open ranges, those that have begun. Each is the index of its declaration with its last code.
 use Rattle.std.specs.Prelude.{◌≡◌, ℕ, ◌<◌, ◌≤◌, ◌⊎◌, List, All, Option, Some, None, slice_get}
 use Rattle.std.specs.BinaryHeap.{IsHeap}
 use Rattle.std.specs.List.{Contains}
 use Rattle.std.specs.Ordering.{nat_cmp, ordering_then}
 use Rattle.cmap_runs.specs.Ranges.{Run, Span}
 
--- the greatest place of an open range that doesn't end before the code, or none
+-- the greatest index of an open range that doesn't end before the code, or none
 abbrev pub IsGreatest : List (ℕ × ℕ) → ℕ → Option ℕ → Type 0
-IsGreatest ends code None = (place last : ℕ) → Contains ends (place, last) → last < code
-IsGreatest ends code (Some place) = ((last : ℕ) × Contains ends (place, last) × (code ≤ last))
-    × ((other last : ℕ) → Contains ends (other, last) → code ≤ last → other ≤ place)
+IsGreatest ends code None = (index last : ℕ) → Contains ends (index, last) → last < code
+IsGreatest ends code (Some index) = ((last : ℕ) × Contains ends (index, last) × (code ≤ last))
+    × ((other last : ℕ) → Contains ends (other, last) → code ≤ last → other ≤ index)
 
 -- after some were closed: they end before the code
 pub record StayOpen (before after : List (ℕ × ℕ)) (code : ℕ) : Type 0 where
-  pub kept : (place last : ℕ) → Contains before (place, last) → (last < code) ⊎ Contains after (place, last)
-  pub no_more : (place last : ℕ) → Contains after (place, last) → Contains before (place, last)
+  pub kept : (index last : ℕ) → Contains before (index, last) → (last < code) ⊎ Contains after (index, last)
+  pub no_more : (index last : ℕ) → Contains after (index, last) → Contains before (index, last)
 
 abbrev pub entry_of : Run → ℕ × ℕ
-entry_of range = (range.place, range.high)
+entry_of range = (range.index, range.high)
 
--- an open range with the place of this one, or a greater one, ends no earlier
+-- an open range with the index of this one, or a greater one, ends no earlier
 abbrev pub IsCovered : List (ℕ × ℕ) → Run → Type 0
-IsCovered ends range = (place last : ℕ) × Contains ends (place, last) × (range.place ≤ place) × (range.high ≤ last)
+IsCovered ends range = (index last : ℕ) × Contains ends (index, last) × (range.index ≤ index) × (range.high ≤ last)
 
 -- after a range was opened, or is covered without
 pub record Opens (before after : List (ℕ × ℕ)) (range : Run) : Type 0 where
   pub covered : IsCovered after range
-  pub kept : (place last : ℕ) → Contains before (place, last) → Contains after (place, last)
-  pub no_more : (place last : ℕ) → Contains after (place, last) → (entry_of range ≡ (place, last)) ⊎ Contains before (place, last)
+  pub kept : (index last : ℕ) → Contains before (index, last) → Contains after (index, last)
+  pub no_more : (index last : ℕ) → Contains after (index, last) → (entry_of range ≡ (index, last)) ⊎ Contains before (index, last)
 
 -- open are ranges that have begun by the code; each that has begun is covered, or ends before it
 pub record AreOpen (spans : List Span) (begun : List Run) (ends : List (ℕ × ℕ)) (code : ℕ) : Type 0 where
   pub kept : All (λ range. (range.high < code) ⊎ IsCovered ends range) begun
-  pub no_more : (place last : ℕ) → Contains ends (place, last) → (start : ℕ) × (start ≤ code) × (slice_get spans place ≡ Some (record { start = start; end = last }))
+  pub no_more : (index last : ℕ) → Contains ends (index, last) → (start : ℕ) × (start ≤ code) × (slice_get spans index ≡ Some (record { start = start; end = last }))
 
--- a heap with the greatest place on top
+-- a heap with the greatest index on top
 abbrev pub HasGreatestOnTop : List (ℕ × ℕ) → Type 0
 HasGreatestOnTop ends = IsHeap (λ x y. ordering_then (nat_cmp x.0 y.0) (nat_cmp x.1 y.1)) ends

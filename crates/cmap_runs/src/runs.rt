@@ -5,8 +5,8 @@ ghost use Rattle.cmap_runs.specs.Ranges.{Span};
 
 mod blocks;
 mod held;
+mod indices;
 mod looks;
-mod places;
 mod ranges;
 mod search;
 mod sweep;

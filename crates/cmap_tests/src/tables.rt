@@ -30,7 +30,7 @@ fn table_of(alloc: Global, ranges: &[(u32, u32)]) -> Result<Table<Declared>, All
     Table::build(alloc, list)
 }
 
-/// The runs of ranges: a first code, a last code and the place of the declaration that decides them.
+/// The runs of ranges: a first code, a last code and the index of the declaration that decides them.
 fn runs_of(alloc: Global, ranges: &[(u32, u32)]) -> Result<Vec<(u32, u32, usize)>, AllocError> {
     let table = table_of(alloc, ranges)?;
     let mut looks = Looks::new();

@@ -1,4 +1,4 @@
-//! What comes of a row: the line that is right in the place of one that begins with a word.
+//! What comes of a row: the right line for one that begins with a word.
 
 use crate::files::{self, Around, Outcome};
 use crate::{maps, program_runs};
@@ -11,7 +11,7 @@ use std::alloc::{AllocError, Global};
 /// The outcomes that fronts of an input may have.
 const OUTCOMES: &[&str] = &["accepted", "refused", "end", "malformed"];
 
-/// The line that is right in the place of one that begins with a word.
+/// The right line for one that begins with a word.
 pub fn answer(alloc: Global, row: &Row<'_>, word: &str, rest: &str) -> Result<String, RowError> {
     let mut line = String::new(alloc);
     push_line(alloc, row, word, rest, &mut line)?;
@@ -35,7 +35,7 @@ fn push_line(
     }
 }
 
-/// What comes of an input in the place of the row's own, in a word or two.
+/// What comes of an input other than the row's own, in a word or two.
 fn outcome(alloc: Global, row: &Row<'_>, input: &[u8]) -> Result<&'static str, RowError> {
     match row.kind {
         RowKind::File => Ok(outcome_of_file(alloc, row, input)?),

@@ -286,7 +286,7 @@ fn is_owned_bundle(alloc: Global, bytes: &[u8]) -> Result<bool, AllocError> {
     Ok(OwnedBundle::parse(alloc, bytes)?.is_some())
 }
 
-/// Adds the file at the place of the name that a line begins with, and sees that a bundle which owns
+/// Adds the file at the index of the name that a line begins with, and sees that a bundle which owns
 /// its files has the same.
 pub fn push_held(
     alloc: Global,

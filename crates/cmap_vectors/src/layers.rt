@@ -11,9 +11,9 @@ pub fn push_layer(map: &CMap, rest: &str, line: &mut String) -> Result<(), RowEr
     let (digits, _) = rest
         .split_once(' ')
         .ok_or(RowError::Wrong("declared LAYER .."))?;
-    let place = number(digits)? as usize;
+    let index = number(digits)? as usize;
     write!(line, " {digits}")?;
-    match map.layers().get(place) {
+    match map.layers().get(index) {
         Some(layer) => Ok(push_declared(layer, line)?),
         None => Ok(line.push_str(" none")?),
     }

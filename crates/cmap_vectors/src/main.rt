@@ -82,7 +82,7 @@ fn run_rows<'r>(alloc: Global, rows: &mut Rows<'r>, text: &'r str) -> Result<u32
     rows.end()
 }
 
-/// What comes of a row in the place of what is expected. Where there is no memory, it is asked once
+/// What comes of a row, instead of what is expected. Where there is no memory, it is asked once
 /// again.
 fn answer_again(
     alloc: Global,

@@ -6,7 +6,7 @@ use Rattle.std.specs.Fn.{Shared}
 use Rattle.cmap_files.specs.declared.names.CMapName.{CMapName}
 use Rattle.cmap_binary.specs.Bundles.{Bundle}
 use Rattle.cmap_files.specs.CMapNames.{IsNameOf, IsSameName}
-use Rattle.cmap_files.specs.Names.{place_of}
+use Rattle.cmap_files.specs.Names.{index_of_text}
 
 module _ {F : Type 0} (calls : Shared F (CMapName × Unit {0}) (Option (Bor (List ℕ)))) (get_cmap : F) where
   -- asked for the name of this text, it may answer these bytes
@@ -24,4 +24,4 @@ IsByName answer = (text : List ℕ) (first second : Option (List ℕ)) → answe
 
 -- the file of this name in a bundle, if there is one
 abbrev pub embedded : Option Bundle → List ℕ → Option (List ℕ)
-embedded bundle name = option_and_then (λ b. option_and_then (λ at. slice_get b.files at) (place_of name)) bundle
+embedded bundle name = option_and_then (λ b. option_and_then (λ at. slice_get b.files at) (index_of_text name)) bundle

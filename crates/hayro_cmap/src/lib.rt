@@ -11,10 +11,10 @@ mod source;
 
 pub use budget::ParseError;
 pub use cmap_binary::{Bundle, OwnedBundle, load_embedded};
+pub use cmap_files::character_collection::{CharacterCollection, CidFamily};
 pub use cmap_files::code_length::CodeLength;
 pub use cmap_files::declarations::{BfRange, ByLength, CidRange, Codespace};
 pub use cmap_files::fault::{Fault, Reason, Segment, Stop};
-pub use cmap_files::character_collection::{CharacterCollection, CidFamily};
 pub use cmap_files::metadata::Metadata;
 pub use cmap_files::names::{CMapName, Cid};
 pub use cmap_files::units::Units;

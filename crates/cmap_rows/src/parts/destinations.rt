@@ -54,26 +54,26 @@ fn push_text_at(
     rest: &str,
     line: &mut String,
 ) -> Result<(), RowError> {
-    let (offset, _) = rest
+    let (digits, _) = rest
         .split_once(' ')
         .ok_or(RowError::Wrong("text OFFSET .."))?;
-    let place = u32::from_str_radix(offset, 10)
+    let offset = u32::from_str_radix(digits, 10)
         .ok()
         .ok_or(RowError::Wrong("no offset"))?;
-    write!(line, " {offset}")?;
+    write!(line, " {digits}")?;
     let units = units(alloc, bytes)?;
-    Ok(push_text_of(alloc, &units, place, line)?)
+    Ok(push_text_of(alloc, &units, offset, line)?)
 }
 
 fn push_text_of(
     alloc: Global,
     units: &[u16],
-    place: u32,
+    offset: u32,
     line: &mut String,
 ) -> Result<(), AllocError> {
-    let found = text(alloc, units, place)?;
+    let found = text(alloc, units, offset)?;
     push_text(found.as_ref(), line)?;
-    if !is_same(&found, one_char(units, place)) {
+    if !is_same(&found, one_char(units, offset)) {
         line.push_str(" mismatch")?;
     }
     Ok(())

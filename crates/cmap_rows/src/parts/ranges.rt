@@ -4,11 +4,11 @@ use crate::row_error::RowError;
 use cmap_runs::runs::{HasRange, Looks, Range, Table};
 use std::alloc::Global;
 
-/// A declaration that knows its place.
+/// A declaration that knows its index.
 #[derive(Drop)]
 struct Declared {
     range: Range,
-    place: usize,
+    index: usize,
 }
 
 impl HasRange for Declared {
@@ -56,8 +56,8 @@ fn table_of(alloc: Global, ranges: &str) -> Result<Table<Declared>, RowError> {
             start: code_of(start)?,
             end: code_of(end)?,
         };
-        let place = list.len();
-        list.push(Declared { range, place })?;
+        let index = list.len();
+        list.push(Declared { range, index })?;
     }
     Ok(Table::build(alloc, list)?)
 }
@@ -69,12 +69,12 @@ pub fn code_of(digits: &str) -> Result<u32, RowError> {
         .ok_or(RowError::Wrong("no code"))
 }
 
-/// Adds how many declarations there are, and sees that each stands at its place.
+/// Adds how many declarations there are, and sees that each stands at its index.
 fn push_count(table: &Table<Declared>, line: &mut String) -> Result<(), RowError> {
     write!(line, " {}", table.decl_count())?;
     let mut looks = Looks::new();
-    for place in 0..table.decl_count() {
-        if table.decl(place, &mut looks).place != place {
+    for index in 0..table.decl_count() {
+        if table.decl(index, &mut looks).index != index {
             line.push_str(" mismatch")?;
         }
     }
@@ -88,13 +88,13 @@ fn push_runs(table: &Table<Declared>, line: &mut String) -> Result<(), RowError>
     }
     let mut looks = Looks::new();
     for i in 0..table.run_count() {
-        let (first, last, place) = table.run(i, &mut looks);
-        write!(line, " {first:X}-{last:X}:{place}")?;
+        let (first, last, index) = table.run(i, &mut looks);
+        write!(line, " {first:X}-{last:X}:{index}")?;
     }
     Ok(())
 }
 
-/// Adds each code with the place of what is found for it.
+/// Adds each code with the index of what is found for it.
 fn push_found(table: &Table<Declared>, rest: &str, line: &mut String) -> Result<(), RowError> {
     if rest.is_empty() {
         return Err(RowError::Wrong("no code"));
@@ -105,7 +105,7 @@ fn push_found(table: &Table<Declared>, rest: &str, line: &mut String) -> Result<
             .split_once(':')
             .ok_or(RowError::Wrong("a code without its answer"))?;
         match table.find(code_of(digits)?, &mut looks) {
-            Some(found) => write!(line, " {digits}:{}", found.place)?,
+            Some(found) => write!(line, " {digits}:{}", found.index)?,
             None => write!(line, " {digits}:none")?,
         }
     }

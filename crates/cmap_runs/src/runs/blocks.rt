@@ -16,7 +16,7 @@ pub(super) const MOST_BLOCKS: usize = 2048;
 // A shorter list of runs has hardly any blocks.
 pub(super) const FEWEST_RUNS: usize = 512;
 
-// As many runs as `run_count`, from the place `ended` on, are all that hold a code of the block.
+// As many runs as `run_count`, from the index `ended` on, are all that hold a code of the block.
 #[derive(Clone, Copy, Debug)]
 pub(super) struct Block {
     pub(super) ended: u32,
@@ -31,7 +31,7 @@ pub(super) struct Blocks {
     pub(super) ended: usize,
 }
 
-// A search looks at the runs from the place `low` on and before `high`, at `first` first.
+// A search looks at the runs from the index `low` on and before `high`, at `first` first.
 #[derive(Drop)]
 pub(super) struct Window {
     pub(super) low: usize,
@@ -60,7 +60,7 @@ impl Blocks {
     }
 }
 
-// All the runs from the place `low` on, the middle first; `None` where there is none.
+// All the runs from the index `low` on, the middle first; `None` where there is none.
 fn window_after<T: HasRange>(held: &Held<T>, low: usize) -> Option<Window>
     ensures none { IfNone result (length held.now.runs ≤ low) }
     ensures low { IfSome result (λ window. window.low ≡ low) }

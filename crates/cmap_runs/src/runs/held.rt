@@ -3,7 +3,7 @@
 ghost use Rattle.std.specs.Prelude.{◌≡◌, ◌+◌, ◌-◌, ◌<◌, ◌≤◌, true, [], Some, IfOk, OnOk, OnErr, length, map, slice_get};
 ghost use Rattle.std.specs.List.{AllWithin};
 ghost use Rattle.cmap_runs.specs.Blocks.{AreBlocks};
-ghost use Rattle.cmap_runs.specs.HeldRuns.{places_within, runs_held};
+ghost use Rattle.cmap_runs.specs.HeldRuns.{indices_within, runs_held};
 ghost use Rattle.cmap_runs.specs.Order.{IsInOrder};
 ghost use Rattle.cmap_runs.specs.Ranges.{goes_on, joined};
 
@@ -14,12 +14,12 @@ use super::ranges::range_at;
 use std::alloc::{AllocError, Global};
 use std::marker::Model;
 
-// The codes from `low` to `high`, which the declaration at `place` decides.
+// The codes from `low` to `high`, which the declaration at `index` decides.
 #[derive(Debug, Drop)]
 pub(super) struct Run {
     pub(super) low: u32,
     pub(super) high: u32,
-    pub(super) place: usize,
+    pub(super) index: usize,
 }
 
 impl Model for Run {
@@ -27,14 +27,14 @@ impl Model for Run {
 
     ghost Value = { ranges.Run };
 
-    ghost view = { λ run. record { low = run.low; high = run.high; place = run.place } };
+    ghost view = { λ run. record { low = run.low; high = run.high; index = run.index } };
 }
 
 impl Run {
-    pub(super) fn new(low: u32, high: u32, place: usize) -> Run
-        ensures { result ≡ record { low = low; high = high; place = place } }
+    pub(super) fn new(low: u32, high: u32, index: usize) -> Run
+        ensures { result ≡ record { low = low; high = high; index = index } }
     {
-        Run { low, high, place }
+        Run { low, high, index }
     }
 }
 
@@ -61,14 +61,14 @@ impl Runs {
         }
     }
 
-    // Adds a run at the end. Where it goes on from the last one, with its place, the two are one.
-    pub(super) fn add(&mut self, low: u32, high: u32, place: usize) -> Result<(), AllocError>
+    // Adds a run at the end. Where it goes on from the last one, with its index, the two are one.
+    pub(super) fn add(&mut self, low: u32, high: u32, index: usize) -> Result<(), AllocError>
         ensures added { OnOk result
-            (self.new ≡ joined self.old (record { low = low; high = high; place = place })) }
+            (self.new ≡ joined self.old (record { low = low; high = high; index = index })) }
         ensures few { OnOk result (length self.new ≤ length self.old + 1) }
         ensures err { OnErr result (self.new ≡ self.old) }
     {
-        let run = Run { low, high, place };
+        let run = Run { low, high, index };
         if self.is_continued_by(&run) {
             let end = self.list.len() - 1;
             self.list[end].high = high;
@@ -78,14 +78,14 @@ impl Runs {
         Ok(())
     }
 
-    // Whether the run begins just after the last one, with its place.
+    // Whether the run begins just after the last one, with its index.
     fn is_continued_by(&self, run: &Run) -> bool
         ensures answer { result ≡ goes_on (slice_get self.now (length self.now - 1)) run.now }
         ensures some { result ≡ true → 0 < length self.now }
     {
         match self.list.last() {
             Some(last) => {
-                last.place == run.place && u64::from(last.high) + 1 == u64::from(run.low)
+                last.index == run.index && u64::from(last.high) + 1 == u64::from(run.low)
             }
             None => false,
         }
@@ -95,12 +95,12 @@ impl Runs {
 // The runs of declarations.
 #[derive(Debug, Drop)]
 pub(super) enum RunList {
-    // The places of declarations whose ranges are the runs.
+    // The indices of declarations whose ranges are the runs.
     Ranges(Vec<u32>),
     Swept(Runs),
 }
 
-// Declarations, each at its place, with their runs.
+// Declarations, each at its index, with their runs.
 #[derive(Debug, Drop)]
 pub(super) struct Held<T: HasRange> {
     declarations: Vec<T>,
@@ -113,19 +113,19 @@ impl<T: HasRange> Model for Held<T> {
 
     ghost Value = { DecidedRuns T };
 
-    ghost use Rattle.cmap_runs.specs.HeldRuns.{places_within, runs_held};
+    ghost use Rattle.cmap_runs.specs.HeldRuns.{indices_within, runs_held};
 
     ghost view = { λ held. record {
       declarations = held.declarations.items;
       runs = runs_held (map T.span held.declarations.items) held.runs;
     } };
 
-    ghost invariant = { λ held. places_within (length held.declarations.items) held.runs };
+    ghost invariant = { λ held. indices_within (length held.declarations.items) held.runs };
 }
 
 impl<T: HasRange> Held<T> {
     pub(super) fn new(declarations: Vec<T>, runs: RunList) -> Held<T>
-        requires { places_within (length declarations.items) runs }
+        requires { indices_within (length declarations.items) runs }
         ensures declarations { result.declarations ≡ declarations.items }
         ensures runs { result.runs ≡ runs_held (map T.span declarations.items) runs }
     {
@@ -136,7 +136,7 @@ impl<T: HasRange> Held<T> {
         ensures { result ≡ length self.now.runs }
     {
         match &self.runs {
-            RunList::Ranges(places) => places.len(),
+            RunList::Ranges(indices) => indices.len(),
             RunList::Swept(runs) => runs.list.len(),
         }
     }
@@ -157,10 +157,10 @@ impl<T: HasRange> Held<T> {
         ensures { slice_get self.now.runs i ≡ Some result }
     {
         match &self.runs {
-            RunList::Ranges(places) => range_at(&self.declarations, places[i]),
+            RunList::Ranges(indices) => range_at(&self.declarations, indices[i]),
             RunList::Swept(runs) => {
                 let run = &runs.list[i];
-                Run::new(run.low, run.high, run.place)
+                Run::new(run.low, run.high, run.index)
             }
         }
     }
@@ -220,11 +220,11 @@ impl<T: HasRange> Held<T> {
         ensures few { result ≤ code }
     {
         let run_count = self.run_count();
-        let mut place = begun;
-        while place < run_count && self.run_at(place).low < code {
-            place += 1;
+        let mut index = begun;
+        while index < run_count && self.run_at(index).low < code {
+            index += 1;
         }
-        place
+        index
     }
 
     // How many runs end before the code, before which the first `begun` begin, and the first `ended`
@@ -251,14 +251,14 @@ impl<T: HasRange> Held<T> {
         self.declarations.len()
     }
 
-    // The declaration at `place`.
-    pub(super) fn declaration(&self, place: usize, looks: &mut Looks) -> &T
-        requires { place < length self.now.declarations }
-        ensures declaration { slice_get self.now.declarations place ≡ Some result.now }
+    // The declaration at `index`.
+    pub(super) fn declaration(&self, index: usize, looks: &mut Looks) -> &T
+        requires { index < length self.now.declarations }
+        ensures declaration { slice_get self.now.declarations index ≡ Some result.now }
         ensures runs { looks.new.runs ≡ looks.old.runs }
         ensures declarations { looks.new.declarations ≡ looks.old.declarations + 1 }
     {
         looks.look_at_declaration();
-        &self.declarations[place]
+        &self.declarations[index]
     }
 }

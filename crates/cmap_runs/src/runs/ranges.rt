@@ -1,4 +1,4 @@
-//! The ranges of declarations, each with the place of its declaration.
+//! The ranges of declarations, each with the index of its declaration.
 
 ghost use Rattle.std.specs.Prelude.{◌≡◌, ◌<◌, IfOk, length, map};
 ghost use Rattle.std.specs.List.{range_with_len};
@@ -18,31 +18,31 @@ pub(super) fn ranges_of<T: HasRange>(
         (λ ranges. AreRanges (map T.span declarations.now) (length declarations.now) ranges.items) }
 {
     let mut ranges = Vec::with_capacity(alloc, declarations.len())?;
-    for (place, declaration) in declarations.iter().enumerate() {
+    for (index, declaration) in declarations.iter().enumerate() {
         let range = declaration.range();
         if range.start <= range.end {
-            ranges.push(Run::new(range.start, range.end, place))?;
+            ranges.push(Run::new(range.start, range.end, index))?;
         }
     }
     Ok(ranges)
 }
 
-// The ranges of the declarations at the places, in this order, but for empty ones.
+// The ranges of the declarations at the indices, in this order, but for empty ones.
 pub(super) fn ranges_at<T: HasRange>(
     alloc: Global,
     declarations: &[T],
-    places: Vec<u32>,
+    indices: Vec<u32>,
 ) -> Result<Vec<Run>, AllocError>
-    requires places { IsPermutation (range_with_len 0 (length declarations.now)) places.items }
+    requires indices { IsPermutation (range_with_len 0 (length declarations.now)) indices.items }
     requires order { IsNonDecreasingBy
-        (λ place. (range_at (map T.span declarations.now) place).low) places.items }
+        (λ index. (range_at (map T.span declarations.now) index).low) indices.items }
     ensures ranges { IfOk result
         (λ ranges. AreRanges (map T.span declarations.now) (length declarations.now) ranges.items) }
     ensures order { IfOk result (λ ranges. IsNonDecreasingBy (λ range. range.low) ranges.items) }
 {
-    let mut ranges = Vec::with_capacity(alloc, places.len())?;
-    for place in &places {
-        let range = range_at(declarations, *place);
+    let mut ranges = Vec::with_capacity(alloc, indices.len())?;
+    for index in &indices {
+        let range = range_at(declarations, *index);
         if range.low <= range.high {
             ranges.push(range)?;
         }
@@ -50,21 +50,21 @@ pub(super) fn ranges_at<T: HasRange>(
     Ok(ranges)
 }
 
-// The range of the declaration at the place.
-pub(super) fn range_at<T: HasRange>(declarations: &[T], place: u32) -> Run
-    requires { place < length declarations.now }
-    ensures { result ≡ range_at (map T.span declarations.now) place }
+// The range of the declaration at the index.
+pub(super) fn range_at<T: HasRange>(declarations: &[T], index: u32) -> Run
+    requires { index < length declarations.now }
+    ensures { result ≡ range_at (map T.span declarations.now) index }
 {
-    let place = place as usize;
-    let range = declarations[place].range();
-    Run::new(range.start, range.end, place)
+    let index = index as usize;
+    let range = declarations[index].range();
+    Run::new(range.start, range.end, index)
 }
 
-// The first code of the range of the declaration at the place, and 1 where there is none.
-pub(super) fn start_at<T: HasRange>(declarations: &[T], place: u32) -> u32
-    ensures { result ≡ (range_at (map T.span declarations.now) place).low }
+// The first code of the range of the declaration at the index, and 1 where there is none.
+pub(super) fn start_at<T: HasRange>(declarations: &[T], index: u32) -> u32
+    ensures { result ≡ (range_at (map T.span declarations.now) index).low }
 {
-    match declarations.get(place as usize) {
+    match declarations.get(index as usize) {
         Some(declaration) => declaration.range().start,
         None => 1,
     }

@@ -10,8 +10,8 @@ use super::blocks::Window;
 use super::held::Held;
 use super::looks::Looks;
 
-// The place of the declaration of the run that holds `code`. Only the runs in the window may.
-pub(super) fn find_place<T: HasRange>(
+// The index of the declaration of the run that holds `code`. Only the runs in the window may.
+pub(super) fn find_index<T: HasRange>(
     held: &Held<T>,
     code: u32,
     window: Window,
@@ -21,7 +21,7 @@ pub(super) fn find_place<T: HasRange>(
     requires window { IsWindow held.now.runs code window }
     ensures none { IfNone result (All (λ run. ¬ (Holds code run)) held.now.runs) }
     ensures found { IfSome result
-        (λ place. Any (λ run. Holds code run × (run.place ≡ place)) held.now.runs) }
+        (λ index. Any (λ run. Holds code run × (run.index ≡ index)) held.now.runs) }
     ensures bound { looks.new.runs ≤ looks.old.runs + digits (length held.now.runs) }
     ensures grows { looks.old.runs ≤ looks.new.runs }
     ensures looked { OnSome result (looks.old.runs + 1 ≤ looks.new.runs) }
@@ -35,7 +35,7 @@ pub(super) fn find_place<T: HasRange>(
         } else if candidate.high < code {
             low = middle + 1;
         } else {
-            return Some(candidate.place);
+            return Some(candidate.index);
         }
         middle = low + (high - low) / 2;
     }

@@ -4,13 +4,13 @@ ghost use Rattle.std.specs.Prelude.{◌≡◌, ℕ, ◌+◌, ◌-◌, ◌*◌, �
 ghost use Rattle.std.specs.BinaryHeap.{heap_items, heap_len};
 ghost use Rattle.std.specs.List.Sorted.{IsNonDecreasingBy};
 ghost use Rattle.cmap_runs.specs.DeclaredRanges.{AreRanges};
-ghost use Rattle.cmap_runs.specs.HeldRuns.{places_within, runs_held};
+ghost use Rattle.cmap_runs.specs.HeldRuns.{indices_within, runs_held};
 ghost use Rattle.cmap_runs.specs.OpenRanges.{HasGreatestOnTop, IsGreatest, Opens, StayOpen};
 ghost use Rattle.cmap_runs.specs.Ranges.{AreRunsBelow, Span, runs_of};
 
 use super::HasRange;
 use super::held::{Run, RunList, Runs};
-use super::places::{are_apart, places_in_order, places_of_parts};
+use super::indices::{are_apart, indices_in_order, indices_of_parts};
 use super::ranges::{ranges_at, ranges_of};
 use std::alloc::{AllocError, Global};
 use std::collections::BinaryHeap;
@@ -22,7 +22,7 @@ const CODE_COUNT: u64 = 1 << 32;
 pub(super) fn runs_of<T: HasRange>(alloc: Global, declarations: &[T]) -> Result<RunList, AllocError>
     ensures runs { IfOk result (λ runs. runs_held (map T.span declarations.now) runs
         ≡ runs_of (map T.span declarations.now)) }
-    ensures within { IfOk result (λ runs. places_within (length declarations.now) runs) }
+    ensures within { IfOk result (λ runs. indices_within (length declarations.now) runs) }
     ensures few { IfOk result (λ runs. length (runs_held (map T.span declarations.now) runs)
         ≤ 2 * length declarations.now - 1) }
 {
@@ -30,10 +30,10 @@ pub(super) fn runs_of<T: HasRange>(alloc: Global, declarations: &[T]) -> Result<
         let ranges = ranges_of(alloc, declarations)?;
         return Ok(RunList::Swept(sorted_and_swept(alloc, ranges)?));
     };
-    if let Some(places) = places_of_parts(alloc, declarations, count)? {
-        return Ok(RunList::Ranges(places));
+    if let Some(indices) = indices_of_parts(alloc, declarations, count)? {
+        return Ok(RunList::Ranges(indices));
     }
-    let ordered = places_in_order(alloc, declarations, count)?;
+    let ordered = indices_in_order(alloc, declarations, count)?;
     if are_apart(declarations, &ordered) {
         return Ok(RunList::Ranges(ordered));
     }
@@ -74,7 +74,7 @@ fn sweep(alloc: Global, ranges: &[Run]) -> Result<Runs, AllocError>
     Ok(runs)
 }
 
-// Opens the range, unless one with a greater place that ends no earlier is open, so that this one
+// Opens the range, unless one with a greater index that ends no earlier is open, so that this one
 // decides no code.
 fn open_range(ends: &mut BinaryHeap<(usize, u32)>, range: &Run) -> Result<(), AllocError>
     requires { HasGreatestOnTop (heap_items ends.old) }
@@ -82,17 +82,17 @@ fn open_range(ends: &mut BinaryHeap<(usize, u32)>, range: &Run) -> Result<(), Al
     ensures opens { OnOk result (Opens (heap_items ends.old) (heap_items ends.new) range.now) }
     ensures few { OnOk result (heap_len ends.new ≤ heap_len ends.old + 1) }
 {
-    if let Some((place, last)) = ends.peek()
-        && range.place < *place
+    if let Some((index, last)) = ends.peek()
+        && range.index < *index
         && range.high <= *last
     {
         return Ok(());
     }
-    ends.push((range.place, range.high))?;
+    ends.push((range.index, range.high))?;
     Ok(())
 }
 
-// Adds the runs of the codes from `from` on and before `to`. The greatest place of an open range
+// Adds the runs of the codes from `from` on and before `to`. The greatest index of an open range
 // decides a code. `ends` has each with its last code, and those that have ended are closed on the
 // way.
 fn add_runs(
@@ -115,16 +115,16 @@ fn add_runs(
         ≤ length runs.old + heap_len ends.old) }
 {
     let mut from = from;
-    while let Some((place, last)) = ends.peek() {
-        let (place, last) = (*place, u64::from(*last));
+    while let Some((index, last)) = ends.peek() {
+        let (index, last) = (*index, u64::from(*last));
         if last >= to {
             if from < to {
-                runs.add(from as u32, (to - 1) as u32, place)?;
+                runs.add(from as u32, (to - 1) as u32, index)?;
             }
             return Ok(());
         }
         if from <= last {
-            runs.add(from as u32, last as u32, place)?;
+            runs.add(from as u32, last as u32, index)?;
             from = last + 1;
         }
         let _ = ends.pop();

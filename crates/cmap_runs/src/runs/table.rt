@@ -9,14 +9,14 @@ use super::HasRange;
 use super::blocks::Blocks;
 use super::held::Held;
 use super::looks::Looks;
-use super::search::find_place;
+use super::search::find_index;
 use super::sweep::runs_of;
 use std::alloc::{AllocError, Global};
 use std::marker::Model;
 
 /// A list of declarations, in which the last one that contains a code is found by halving a list
 /// of runs. A run is a row of codes that one declaration decides, as long as can be. A clause
-/// sees the list. Places count from 0, and codes are numbers of 32 bits.
+/// sees the list. Indices count from 0, and codes are numbers of 32 bits.
 ///
 /// Where the ranges lie apart, they are the runs, and nothing but their order is held beside the
 /// declarations. A look at such a run reads the range of its declaration, and counts as a look at
@@ -72,8 +72,8 @@ impl<T: HasRange> Table<T> {
             (looks.new.declarations ≡ looks.old.declarations) }
     {
         let window = self.blocks.window(&self.held, code)?;
-        let place = find_place(&self.held, code, window, looks)?;
-        Some(self.held.declaration(place, looks))
+        let index = find_index(&self.held, code, window, looks)?;
+        Some(self.held.declaration(index, looks))
     }
 
     /// How many declarations the table has.
@@ -97,20 +97,20 @@ impl<T: HasRange> Table<T> {
         self.held.run_count()
     }
 
-    /// The first code of the run at `i`, its last code and the place of the declaration that
+    /// The first code of the run at `i`, its last code and the index of the declaration that
     /// decides them.
     pub fn run(&self, i: usize, looks: &mut Looks) -> (u32, u32, usize)
         requires { i < length (runs_of (map T.span self.now)) }
         ensures run { slice_get (runs_of (map T.span self.now)) i
-            ≡ Some (record { low = result.0; high = result.1; place = result.2 }) }
+            ≡ Some (record { low = result.0; high = result.1; index = result.2 }) }
         ensures runs { looks.new.runs ≡ looks.old.runs + 1 }
         ensures declarations { looks.new.declarations ≡ looks.old.declarations }
     {
         let run = self.held.run(i, looks);
-        (run.low, run.high, run.place)
+        (run.low, run.high, run.index)
     }
 
-    /// The declaration at place `i`.
+    /// The declaration at index `i`.
     pub fn decl(&self, i: usize, looks: &mut Looks) -> &T
         requires { i < length self.now }
         ensures declaration { slice_get self.now i ≡ Some result.now }

@@ -4,9 +4,9 @@ use Rattle.cmap_files.specs.DeclarationsSeen.{bf_entry_seen}
 use Rattle.cmap_layers.proofs.TablesCopied.{take_next-map}
 use Rattle.cmap_layers.proofs.layers.copied_bfs.Goals as goal
 
-pub loop-place-preserved : goal.loop-place-preserved
-loop-place-preserved c =
+pub loop-index-preserved : goal.loop-index-preserved
+loop-index-preserved c =
     ap (map bf_entry_seen) c.in_ok-push.ensures.items
-    ∙ map-append bf_entry_seen c.loop-place.list.items (c.in_ok-clone.field-0 ∷ [])
-    ∙ (λ k. c.loop-place.invariant k ++ c.in_ok-clone.ensures k ∷ [])
-    ∙ sym (take_next-map bf_entry_seen c.args.table.now c.loop-place.place c.decl.result.now c.decl.ensures.declaration)
+    ∙ map-append bf_entry_seen c.loop-index.list.items (c.in_ok-clone.field-0 ∷ [])
+    ∙ (λ k. c.loop-index.invariant k ++ c.in_ok-clone.ensures k ∷ [])
+    ∙ sym (take_next-map bf_entry_seen c.args.table.now c.loop-index.index c.decl.result.now c.decl.ensures.declaration)

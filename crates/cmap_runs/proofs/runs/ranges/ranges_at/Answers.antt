@@ -4,39 +4,39 @@ use Rattle.std.specs.List.Sorted.{IsNonDecreasingBy, IsPermutation}
 use Rattle.std.proofs.lemmas.List.{length-map}
 use Rattle.cmap_runs.specs.DeclaredRanges.{range_at}
 use Rattle.cmap_runs.specs.Ranges.{Run}
-use Rattle.cmap_runs.proofs.RangesDecide.{AreRanges-from_places, IsRange-at, RangesAt, RangesAt-push, RangesAt-skip, is_place}
+use Rattle.cmap_runs.proofs.RangesDecide.{AreRanges-from_indices, IsRange-at, RangesAt, RangesAt-push, RangesAt-skip, is_index}
 use Rattle.cmap_runs.proofs.runs.ranges.ranges_at.Goals as goal
 use Rattle.cmap_runs.proofs.runs.ranges.ranges_at.Goals.{then-range+in_ok-push, else-range}
 
 pub range_at-range-requires : goal.range_at-range-requires
 range_at-range-requires g c =
-    is_place _ c.deref-place-items.result.now
-    (subst (IsPermutation (range_with_len 0 (length c.args.declarations.now))) (sym c.deref-place-items.ensures.value) c.requires.places)
-    c.loop-place.place-index 0 (omega arith)
+    is_index _ c.deref-index-items.result.now
+    (subst (IsPermutation (range_with_len 0 (length c.args.declarations.now))) (sym c.deref-index-items.ensures.value) c.requires.indices)
+    c.loop-index.index-index 0 (omega arith)
 
-pub loop-place-preserved : goal.loop-place-preserved
-loop-place-preserved g c =
-    let spans = map g.T.HasRange.span c.args.declarations.now in let places = c.deref-place-items.result.now in let i = c.loop-place.place-index in
-    let old = c.loop-place.ranges.items in let lt : i < length places = omega arith in
-    let order = subst (IsNonDecreasingBy (λ place. (range_at spans place).low)) (sym c.deref-place-items.ensures.value) c.requires.order in
-    let is : c.range_at-range.result ≡ range_at spans (get_or places i 0) = c.range_at-range.ensures in
+pub loop-index-preserved : goal.loop-index-preserved
+loop-index-preserved g c =
+    let spans = map g.T.HasRange.span c.args.declarations.now in let indices = c.deref-index-items.result.now in let i = c.loop-index.index-index in
+    let old = c.loop-index.ranges.items in let lt : i < length indices = omega arith in
+    let order = subst (IsNonDecreasingBy (λ index. (range_at spans index).low)) (sym c.deref-index-items.ensures.value) c.requires.order in
+    let is : c.range_at-range.result ≡ range_at spans (get_or indices i 0) = c.range_at-range.ensures in
     let low = ap (λ (r : Run). r.low) (c.range.view_is ∙ is) in let high = ap (λ (r : Run). r.high) (c.range.view_is ∙ is) in
     elim c.if-range.branch [
       | then-range+in_ok-push w ↦
-          let items_are : c.if-range.ranges.items ≡ old ++ range_at spans (get_or places i 0) ∷ [] = ap (λ ranges. ranges.items) w.ranges-is ∙ w.in_ok-push.ensures.items ∙ ap (λ r. old ++ r ∷ []) is in
-          let within : get_or places i 0 < length spans =
-          subst (λ n. get_or places i 0 < n) (sym (length-map c.args.declarations.now g.T.HasRange.span))
-          (is_place _ places (subst (IsPermutation (range_with_len 0 (length c.args.declarations.now))) (sym c.deref-place-items.ensures.value) c.requires.places) i 0 lt)
+          let items_are : c.if-range.ranges.items ≡ old ++ range_at spans (get_or indices i 0) ∷ [] = ap (λ ranges. ranges.items) w.ranges-is ∙ w.in_ok-push.ensures.items ∙ ap (λ r. old ++ r ∷ []) is in
+          let within : get_or indices i 0 < length spans =
+          subst (λ n. get_or indices i 0 < n) (sym (length-map c.args.declarations.now g.T.HasRange.span))
+          (is_index _ indices (subst (IsPermutation (range_with_len 0 (length c.args.declarations.now))) (sym c.deref-index-items.ensures.value) c.requires.indices) i 0 lt)
           in
-          subst (RangesAt spans places (i + 1)) (sym items_are)
-          (RangesAt-push spans places i 0 old order lt c.loop-place.invariant (IsRange-at spans (get_or places i 0) within (omega (arith, low, high, w.if-range.true)) (omega (arith, high))))
+          subst (RangesAt spans indices (i + 1)) (sym items_are)
+          (RangesAt-push spans indices i 0 old order lt c.loop-index.invariant (IsRange-at spans (get_or indices i 0) within (omega (arith, low, high, w.if-range.true)) (omega (arith, high))))
       | else-range w ↦
-          subst (λ (ranges : List Run). RangesAt spans places (i + 1) ranges) (sym (ap (λ ranges. ranges.items) w.ranges-is))
-          (RangesAt-skip spans places i 0 old lt c.loop-place.invariant (omega (arith, low, high, w.if-range.false)))
+          subst (λ (ranges : List Run). RangesAt spans indices (i + 1) ranges) (sym (ap (λ ranges. ranges.items) w.ranges-is))
+          (RangesAt-skip spans indices i 0 old lt c.loop-index.invariant (omega (arith, low, high, w.if-range.false)))
     ]
 
 pub returns-clause-ranges : goal.returns-clause-ranges
 returns-clause-ranges g c =
-    AreRanges-from_places (map g.T.HasRange.span c.args.declarations.now) (length c.args.declarations.now) c.deref-place-items.result.now c.loop-place.ranges.items
-    (subst (IsPermutation (range_with_len 0 (length c.args.declarations.now))) (sym c.deref-place-items.ensures.value) c.requires.places)
-    c.loop-place.invariant.each (λ k d lt. c.loop-place.invariant.every k d (omega arith)) (omega (arith, c.loop-place.invariant.few))
+    AreRanges-from_indices (map g.T.HasRange.span c.args.declarations.now) (length c.args.declarations.now) c.deref-index-items.result.now c.loop-index.ranges.items
+    (subst (IsPermutation (range_with_len 0 (length c.args.declarations.now))) (sym c.deref-index-items.ensures.value) c.requires.indices)
+    c.loop-index.invariant.each (λ k d lt. c.loop-index.invariant.every k d (omega arith)) (omega (arith, c.loop-index.invariant.few))

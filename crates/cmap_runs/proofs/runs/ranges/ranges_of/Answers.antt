@@ -5,20 +5,20 @@ use Rattle.cmap_runs.proofs.RangesDecide.{AreRanges-push, AreRanges-skip, span_a
 use Rattle.cmap_runs.proofs.runs.ranges.ranges_of.Goals as goal
 use Rattle.cmap_runs.proofs.runs.ranges.ranges_of.Goals.{then-range+in_ok-push, else-range}
 
-pub loop-place-preserved : goal.loop-place-preserved
-loop-place-preserved g c =
-    let list = c.args.declarations.now in let place = c.loop-place.place in let spans = map g.T.HasRange.span list in
-    let range = c.range-range.result.now in let old = c.loop-place.ranges.items in
-    let at = span_at g.T.HasRange.span list place c.index-declarations-place.result range.start range.end (omega arith) c.index-declarations-place.is c.range-range.ensures.start c.range-range.ensures.end in
+pub loop-index-preserved : goal.loop-index-preserved
+loop-index-preserved g c =
+    let list = c.args.declarations.now in let index = c.loop-index.index in let spans = map g.T.HasRange.span list in
+    let range = c.range-range.result.now in let old = c.loop-index.ranges.items in
+    let at = span_at g.T.HasRange.span list index c.index-declarations-index.result range.start range.end (omega arith) c.index-declarations-index.is c.range-range.ensures.start c.range-range.ensures.end in
     elim c.if-range.branch [
       | then-range+in_ok-push w ↦
-          let run : Run = record { low = range.start; high = range.end; place = place } in
+          let run : Run = record { low = range.start; high = range.end; index = index } in
           let items_are : c.if-range.ranges.items ≡ old ++ run ∷ [] = ap (λ ranges. ranges.items) w.ranges-is ∙ subst (λ run. w.push.new.self.items ≡ old ++ run ∷ []) w.new.ensures w.in_ok-push.ensures.items in
-          subst (AreRanges spans (place + 1)) (sym items_are) (AreRanges-push spans place range.start range.end old c.loop-place.invariant at w.if-range.true (omega arith))
+          subst (AreRanges spans (index + 1)) (sym items_are) (AreRanges-push spans index range.start range.end old c.loop-index.invariant at w.if-range.true (omega arith))
       | else-range w ↦
-          subst (AreRanges spans (place + 1)) (sym (ap (λ ranges. ranges.items) w.ranges-is)) (AreRanges-skip spans place range.start range.end old c.loop-place.invariant at (omega arith))
+          subst (AreRanges spans (index + 1)) (sym (ap (λ ranges. ranges.items) w.ranges-is)) (AreRanges-skip spans index range.start range.end old c.loop-index.invariant at (omega arith))
     ]
 
 pub returns : goal.returns
 returns g c =
-    subst (λ count. AreRanges (map g.T.HasRange.span c.args.declarations.now) count c.loop-place.ranges.items) (let e : c.loop-place.place ≡ length c.args.declarations.now = omega arith in e) c.loop-place.invariant
+    subst (λ count. AreRanges (map g.T.HasRange.span c.args.declarations.now) count c.loop-index.ranges.items) (let e : c.loop-index.index ≡ length c.args.declarations.now = omega arith in e) c.loop-index.invariant

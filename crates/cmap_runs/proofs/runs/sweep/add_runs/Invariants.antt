@@ -4,8 +4,8 @@ use Rattle.cmap_runs.specs.OpenRanges.{HasGreatestOnTop, IsGreatest, StayOpen}
 use Rattle.cmap_runs.specs.Ranges.{AreRunsBelow}
 use Rattle.cmap_runs.proofs.runs.sweep.add_runs.Given as goal
 
-abbrev pub invariant-loop-place : goal.invariant-loop-place
-invariant-loop-place l = record {
+abbrev pub invariant-loop-index : goal.invariant-loop-index
+invariant-loop-index l = record {
   order : l.fn.from ≤ l.from;
   limit : l.from ≤ l.to;
   runs : (decides : ℕ → Option ℕ) → ((code : ℕ) → l.fn.from ≤ code → code < l.to → IsGreatest (heap_items l.fn.ends) code (decides code))
@@ -16,5 +16,5 @@ invariant-loop-place l = record {
   few : length l.runs + heap_len l.ends ≤ length l.fn.runs + heap_len l.fn.ends;
 }
 
-abbrev pub decreases-loop-place : goal.decreases-loop-place
-decreases-loop-place l = heap_len l.ends
+abbrev pub decreases-loop-index : goal.decreases-loop-index
+decreases-loop-index l = heap_len l.ends

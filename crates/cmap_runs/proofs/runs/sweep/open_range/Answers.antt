@@ -9,10 +9,10 @@ pub returns-clause-opens : goal.returns-clause-opens
 returns-clause-opens c =
     let ends = heap_items c.args.ends.now in let top = c.in-Some.field-0.now in
     let at : Contains ends top = (0, omega (arith, c.args.ends.now.data.ok.0, c.in-Some.ensures.variant.0 refl), sym c.in-Some.ensures.lookup) in
-    rw (← c.range.view_is) (record { covered = (top.0, top.1, at, omega arith, omega arith); kept = λ place last has. has; no_more = λ place last has. inr has })
+    rw (← c.range.view_is) (record { covered = (top.0, top.1, at, omega arith, omega arith); kept = λ index last has. has; no_more = λ index last has. inr has })
 
 pub returns-2-clause-opens : goal.returns-2-clause-opens
 returns-2-clause-opens c =
     let before = heap_items c.args.ends.now in let after = heap_items c.push.new.self in
     subst (Opens before after) c.range.view_is
-    (Opens-push before after (record { low = c.range.inside.low; high = c.range.inside.high; place = c.range.inside.place }) c.in_ok-push.ensures.permutation)
+    (Opens-push before after (record { low = c.range.inside.low; high = c.range.inside.high; index = c.range.inside.index }) c.in_ok-push.ensures.permutation)

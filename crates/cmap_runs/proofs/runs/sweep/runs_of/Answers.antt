@@ -6,42 +6,42 @@ use Rattle.std.specs.List.Sorted.{IsNonDecreasingBy, IsPermutation}
 use Rattle.std.specs.Vec.{vec_items}
 use Rattle.cmap_runs.specs.DeclaredRanges.{AreRanges, ArePlacesApart, LieApart, range_at}
 use Rattle.cmap_runs.specs.Ranges.{Run}
-use Rattle.cmap_runs.proofs.RangesDecide.{few_places, is_place, places_within_list, runs_at_places}
+use Rattle.cmap_runs.proofs.RangesDecide.{few_indices, is_index, indices_within_list, runs_at_indices}
 use Rattle.cmap_runs.proofs.runs.sweep.runs_of.Goals as goal
 use Rattle.cmap_runs.proofs.runs.sweep.runs_of.Given.{Over}
 
-in_parts : (g : Over) (c : goal.In-Some g) → ArePlacesApart (map g.T.HasRange.span c.args.declarations.now) c.in-Some.places.items
-in_parts g c = subst (λ found. IfSome found (λ places. ArePlacesApart (map g.T.HasRange.span c.args.declarations.now) (vec_items places))) c.in-Some.is c.in_ok-places.ensures
+in_parts : (g : Over) (c : goal.In-Some g) → ArePlacesApart (map g.T.HasRange.span c.args.declarations.now) c.in-Some.indices.items
+in_parts g c = subst (λ found. IfSome found (λ indices. ArePlacesApart (map g.T.HasRange.span c.args.declarations.now) (vec_items indices))) c.in-Some.is c.in_ok-indices.ensures
 
 pub returns-in-Some-clause-runs : goal.returns-in-Some-clause-runs
-returns-in-Some-clause-runs g c = runs_at_places (map g.T.HasRange.span c.args.declarations.now) c.in-Some.places.items (in_parts g c)
+returns-in-Some-clause-runs g c = runs_at_indices (map g.T.HasRange.span c.args.declarations.now) c.in-Some.indices.items (in_parts g c)
 
 pub returns-in-Some-clause-within : goal.returns-in-Some-clause-within
-returns-in-Some-clause-within g c = places_within_list g.T.HasRange.span c.args.declarations.now c.in-Some.places.items (in_parts g c)
+returns-in-Some-clause-within g c = indices_within_list g.T.HasRange.span c.args.declarations.now c.in-Some.indices.items (in_parts g c)
 
 pub returns-in-Some-clause-few : goal.returns-in-Some-clause-few
-returns-in-Some-clause-few g c = few_places g.T.HasRange.span c.args.declarations.now c.in-Some.places.items (in_parts g c)
+returns-in-Some-clause-few g c = few_indices g.T.HasRange.span c.args.declarations.now c.in-Some.indices.items (in_parts g c)
 
 pub are_apart-requires : goal.are_apart-requires
 are_apart-requires g c =
-    subst (All (λ place. place < length c.args.declarations.now)) (sym c.deref.ensures.value) (is_place _ c.in_ok-ordered.ordered.items c.in_ok-ordered.ensures.places)
+    subst (All (λ index. index < length c.args.declarations.now)) (sym c.deref.ensures.value) (is_index _ c.in_ok-ordered.ordered.items c.in_ok-ordered.ensures.indices)
 
 in_order : (g : Over) (c : goal.Then-are_apart g) → ArePlacesApart (map g.T.HasRange.span c.args.declarations.now) c.in_ok-ordered.ordered.items
 in_order g c =
-    let list = c.args.declarations.now in let places = c.in_ok-ordered.ordered.items in
+    let list = c.args.declarations.now in let indices = c.in_ok-ordered.ordered.items in
     record {
-      every = subst (λ n. IsPermutation (range_with_len 0 n) places) (sym (length-map list g.T.HasRange.span)) c.in_ok-ordered.ensures.places;
-      apart = subst (λ places. LieApart (map (range_at (map g.T.HasRange.span list)) places)) c.deref.ensures.value (c.are_apart.ensures c.if-are_apart.true);
+      every = subst (λ n. IsPermutation (range_with_len 0 n) indices) (sym (length-map list g.T.HasRange.span)) c.in_ok-ordered.ensures.indices;
+      apart = subst (λ indices. LieApart (map (range_at (map g.T.HasRange.span list)) indices)) c.deref.ensures.value (c.are_apart.ensures c.if-are_apart.true);
     }
 
 pub returns-then-are_apart-clause-runs : goal.returns-then-are_apart-clause-runs
-returns-then-are_apart-clause-runs g c = runs_at_places (map g.T.HasRange.span c.args.declarations.now) c.in_ok-ordered.ordered.items (in_order g c)
+returns-then-are_apart-clause-runs g c = runs_at_indices (map g.T.HasRange.span c.args.declarations.now) c.in_ok-ordered.ordered.items (in_order g c)
 
 pub returns-then-are_apart-clause-within : goal.returns-then-are_apart-clause-within
-returns-then-are_apart-clause-within g c = places_within_list g.T.HasRange.span c.args.declarations.now c.in_ok-ordered.ordered.items (in_order g c)
+returns-then-are_apart-clause-within g c = indices_within_list g.T.HasRange.span c.args.declarations.now c.in_ok-ordered.ordered.items (in_order g c)
 
 pub returns-then-are_apart-clause-few : goal.returns-then-are_apart-clause-few
-returns-then-are_apart-clause-few g c = few_places g.T.HasRange.span c.args.declarations.now c.in_ok-ordered.ordered.items (in_order g c)
+returns-then-are_apart-clause-few g c = few_indices g.T.HasRange.span c.args.declarations.now c.in_ok-ordered.ordered.items (in_order g c)
 
 pub sweep-requires : goal.sweep-requires
 sweep-requires g c = subst (IsNonDecreasingBy (λ (range : Run). range.low)) (sym c.as_slice.ensures.value) c.in_ok-ranges-2.ensures.order

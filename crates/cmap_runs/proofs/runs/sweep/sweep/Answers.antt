@@ -3,7 +3,7 @@ use Rattle.std.specs.BinaryHeap.{heap_items, heap_len}
 use Rattle.std.proofs.lemmas.List.{get_or_read, take_more}
 use Rattle.cmap_runs.specs.DeclaredRanges.{IsRange}
 use Rattle.cmap_runs.specs.OpenRanges.{AreOpen, IsGreatest, Opens, StayOpen}
-use Rattle.cmap_runs.specs.Ranges.{AreRunsBelow, Run, last_place}
+use Rattle.cmap_runs.specs.Ranges.{AreRunsBelow, Run, last_index}
 use Rattle.cmap_runs.proofs.MaximalRuns.{runs_of-unique}
 use Rattle.cmap_runs.proofs.OpenDecide.{AreOpen-push, StayOpen-same, decides_open}
 use Rattle.cmap_runs.proofs.runs.sweep.sweep.Goals as goal
@@ -12,7 +12,7 @@ use Rattle.cmap_runs.proofs.runs.sweep.sweep.Goals.{then-from-next+in_ok-add_run
 pub loop-range-preserved : goal.loop-range-preserved
 loop-range-preserved c =
     let ranges = c.args.ranges.now in let i = c.loop-range.range-index in let from = c.loop-range.from in let next = c.from-next.result in
-    let range : Run = record { low = c.range.inside.low; high = c.range.inside.high; place = c.range.inside.place } in
+    let range : Run = record { low = c.range.inside.low; high = c.range.inside.high; index = c.range.inside.index } in
     let lt : i < length ranges = omega arith in
     let is : (d : Run) → range ≡ get_or ranges i d = λ d. c.range.view_is ∙ get_or_read ranges i c.range-item.result lt c.range-item.is d in
     let low : (d : Run) → next ≡ (get_or ranges i d).low = λ d. c.from-next.ensures ∙ ap (λ (r : Run). r.low) (is d) in
@@ -45,7 +45,7 @@ loop-range-preserved c =
           let old = c.loop-range.invariant.are spans are in (
             subst (λ begun. AreOpen spans begun (heap_items c.open_range.new.ends) next) (sym (take_more ranges i range lt ∙ ap (λ r. take i ranges ++ r ∷ []) (sym (is range))))
                 (AreOpen-push range next old.0 le stay (subst (IsRange spans) (sym (is range)) (are.each i range lt)) (omega arith) (subst (Opens now (heap_items c.open_range.new.ends)) (sym c.range.view_is) c.in_ok-open_range.ensures.opens)),
-            more (last_place spans) (decides_open i next are old.0 later) old.1,
+            more (last_index spans) (decides_open i next are old.0 later) old.1,
           );
       heap = c.in_ok-open_range.ensures.heap;
       few = omega (arith, c.in_ok-open_range.ensures.few, few);
@@ -55,7 +55,7 @@ pub returns-clause-runs : goal.returns-clause-runs
 returns-clause-runs c = λ spans are.
     let ranges = c.args.ranges.now in let i = c.loop-range.range-index in let old = c.loop-range.invariant.are spans are in
     runs_of-unique spans c.add_runs-2.new.runs
-    (c.in_ok-add_runs-2.ensures.runs (last_place spans) (decides_open i (2 ^ 32) are old.0 (λ k d from_here within. absurd (omega arith))) old.1)
+    (c.in_ok-add_runs-2.ensures.runs (last_index spans) (decides_open i (2 ^ 32) are old.0 (λ k d from_here within. absurd (omega arith))) old.1)
 
 pub returns-clause-few : goal.returns-clause-few
 returns-clause-few c = omega (arith, c.in_ok-add_runs-2.ensures.few)

@@ -1,7 +1,7 @@
 use Rattle.std.proofs.Common.{map, sym, ap, ◌∙◌}
 use Rattle.cmap_runs.specs.DeclaredRanges.{DecidedRuns}
 use Rattle.cmap_runs.specs.HeldRuns.{runs_held}
-use Rattle.cmap_runs.proofs.FoundPlace.{runs_in_order}
+use Rattle.cmap_runs.proofs.FoundIndex.{runs_in_order}
 use Rattle.cmap_runs.proofs.runs.table.Table.build.Goals as goal
 
 pub blocks-requires : goal.blocks-requires

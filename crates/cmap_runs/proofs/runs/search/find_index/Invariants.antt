@@ -1,7 +1,7 @@
 use Rattle.std.proofs.Common.{◌-◌, ◌≡◌, ◌+◌, ◌<◌, ◌≤◌, length}
 use Rattle.std.specs.List.{AllWithin}
 use Rattle.cmap_runs.specs.Ranges.{digits}
-use Rattle.cmap_runs.proofs.runs.search.find_place.Given as goal
+use Rattle.cmap_runs.proofs.runs.search.find_index.Given as goal
 
 -- whatever a look at the middle leaves, its digits may still be looked at
 abbrev pub invariant-loop-low : goal.invariant-loop-low

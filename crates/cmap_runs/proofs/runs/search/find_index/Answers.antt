@@ -3,8 +3,8 @@ use Rattle.std.proofs.lemmas.Option.{get_or_from_slice_get}
 use Rattle.cmap_runs.specs.Ranges.{Run, digits}
 use Rattle.cmap_runs.proofs.BinaryDigits.{digits_half, looks_half}
 use Rattle.cmap_runs.proofs.RunsInOrder.{before_later, after_earlier}
-use Rattle.cmap_runs.proofs.runs.search.find_place.Goals as goal
-use Rattle.cmap_runs.proofs.runs.search.find_place.Goals.{then-code-candidate, else-code-candidate+then-candidate-code}
+use Rattle.cmap_runs.proofs.runs.search.find_index.Goals as goal
+use Rattle.cmap_runs.proofs.runs.search.find_index.Goals.{then-code-candidate, else-code-candidate+then-candidate-code}
 
 pub loop-low-init : goal.loop-low-init
 loop-low-init g c =
@@ -63,4 +63,4 @@ returns-else-candidate-code-clause-found g c =
     let middle = c.loop-low.middle in
     let run : Run = c.run-candidate.result in
     let low = ap (λ (run : Run). run.low) c.candidate.view_is in let high = ap (λ (run : Run). run.high) c.candidate.view_is in
-    (middle, run, omega (arith, c.loop-low.invariant.within, c.loop-low.invariant.middle c.loop-low-test.true), get_or_from_slice_get c.args.held.now.runs middle run run c.run-candidate.ensures.run, (((omega arith, omega arith), ap (λ (run : Run). run.place) (sym c.candidate.view_is))))
+    (middle, run, omega (arith, c.loop-low.invariant.within, c.loop-low.invariant.middle c.loop-low-test.true), get_or_from_slice_get c.args.held.now.runs middle run run c.run-candidate.ensures.run, (((omega arith, omega arith), ap (λ (run : Run). run.index) (sym c.candidate.view_is))))
