@@ -5,7 +5,7 @@ use Rattle.cmap_tokens.specs.declared.utf16.BfString.{BfString}
 use Rattle.cmap_tokens.specs.declared.utf16.BfString.TheVariants.{Char, String}
 use Rattle.cmap_files.specs.Files.{FileMetadata, Mode, horizontal, vertical}
 use Rattle.cmap_files.specs.Metadata.{Collection}
-use Rattle.cmap_layers.specs.Layers.{Layer}
+use Rattle.cmap_layers.specs.Layers.{Layer, top_metadata}
 use Rattle.cmap_layers.specs.Lookups.{InCodespace, cid_of, bf_of}
 
 abbrev pub handle_cid : Option (List Layer) → ℕ → ℕ → Option ℕ
@@ -18,10 +18,6 @@ handle_text map code = option_and_then (λ m. bf_of m code) map
 abbrev pub InHandle : Option (List Layer) → ℕ → ℕ → Type 0
 InHandle None code len = ⊥
 InHandle (Some map) code len = InCodespace map code len
-
-abbrev pub top_metadata : List Layer → Option FileMetadata
-top_metadata [] = None
-top_metadata (top ∷ below) = Some top.metadata
 
 abbrev pub handle_metadata : Option (List Layer) → Option FileMetadata
 handle_metadata map = option_and_then top_metadata map

@@ -1,6 +1,6 @@
 //! What a CMap declares for its codes.
 
-ghost use Rattle.std.specs.Prelude.{◌≡◌, ◌==◌, ◌+◌, ◌≤◌, [], ◌∷◌, ◌++◌, IfOk, OnOk, if◌then◌else◌, vec_capacity, vec_len};
+ghost use Rattle.std.specs.Prelude.{◌≡◌, ◌==◌, ◌+◌, ◌≤◌, [], ◌∷◌, ◌++◌, IfOk, OnErr, OnOk, if◌then◌else◌, vec_capacity, vec_len};
 ghost use Rattle.cmap_files.specs.CodeLengths.{length_of};
 ghost use Rattle.cmap_files.specs.Files.{Declaration, lists_of};
 ghost use Rattle.cmap_files.specs.DeclarationsSeen.{bf_entry_seen, cid_entry_seen, codespace_seen, lists_seen, slot};
@@ -127,8 +127,9 @@ impl Lists {
     /// Adds a declaration of CIDs for codes of this length.
     #[inline(always)]
     pub fn add_cid(&mut self, len: CodeLength, range: CidRange) -> Result<(), AllocError>
-        ensures { OnOk result (lists_seen self.new ≡ append_lists (lists_seen self.old)
+        ensures added { OnOk result (lists_seen self.new ≡ append_lists (lists_seen self.old)
             (lists_of (Declaration.cid (length_of len) (cid_entry_seen range) ∷ []))) }
+        ensures same { OnErr result (lists_seen self.new ≡ lists_seen self.old) }
     {
         push_filed(&mut self.cids, len, range)
     }
@@ -151,16 +152,18 @@ impl Lists {
 
     /// Adds a notdef declaration for codes of this length.
     pub fn add_notdef(&mut self, len: CodeLength, range: CidRange) -> Result<(), AllocError>
-        ensures { OnOk result (lists_seen self.new ≡ append_lists (lists_seen self.old)
+        ensures added { OnOk result (lists_seen self.new ≡ append_lists (lists_seen self.old)
             (lists_of (Declaration.notdef (length_of len) (cid_entry_seen range) ∷ []))) }
+        ensures same { OnErr result (lists_seen self.new ≡ lists_seen self.old) }
     {
         push_filed(&mut self.notdefs, len, range)
     }
 
     /// Adds a declaration of texts.
     pub fn add_bf(&mut self, range: BfRange) -> Result<(), AllocError>
-        ensures { OnOk result (lists_seen self.new ≡ append_lists (lists_seen self.old)
+        ensures added { OnOk result (lists_seen self.new ≡ append_lists (lists_seen self.old)
             (lists_of (Declaration.bf (bf_entry_seen range) ∷ []))) }
+        ensures same { OnErr result (lists_seen self.new ≡ lists_seen self.old) }
     {
         self.bfs.push(range)?;
         Ok(())
@@ -168,8 +171,9 @@ impl Lists {
 
     /// Adds a codespace range.
     pub fn add_codespace(&mut self, space: Codespace) -> Result<(), AllocError>
-        ensures { OnOk result (lists_seen self.new ≡ append_lists (lists_seen self.old)
+        ensures added { OnOk result (lists_seen self.new ≡ append_lists (lists_seen self.old)
             (lists_of (Declaration.codespace (codespace_seen space) ∷ []))) }
+        ensures same { OnErr result (lists_seen self.new ≡ lists_seen self.old) }
     {
         self.spaces.push(space)?;
         Ok(())
@@ -191,6 +195,10 @@ fn push_filed(
         ≡ lists.old.three.items ++ (if length_of len == 3 then range ∷ [] else [])) }
     ensures four { OnOk result (lists.new.four.items
         ≡ lists.old.four.items ++ (if length_of len == 4 then range ∷ [] else [])) }
+    ensures same { OnErr result ((lists.new.one.items ≡ lists.old.one.items)
+        × (lists.new.two.items ≡ lists.old.two.items)
+        × (lists.new.three.items ≡ lists.old.three.items)
+        × (lists.new.four.items ≡ lists.old.four.items)) }
 {
     let pushed = match len {
         CodeLength::One => lists.one.push(range),

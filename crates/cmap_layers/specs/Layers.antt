@@ -1,4 +1,5 @@
 -- What a layer of a map is.
+use Rattle.std.specs.Prelude.{List, [], ◌∷◌, Option, None, Some}
 use Rattle.cmap_files.specs.Files.{FileMetadata, Lists, File}
 
 -- what a file says, without the names that it uses
@@ -8,3 +9,8 @@ pub record Layer : Type 0 where
 
 abbrev pub layer_of : File → Layer
 layer_of file = record { metadata = file.metadata; lists = file.lists }
+
+-- the metadata of a map: what the top file says of itself
+abbrev pub top_metadata : List Layer → Option FileMetadata
+top_metadata [] = None
+top_metadata (top ∷ below) = Some top.metadata

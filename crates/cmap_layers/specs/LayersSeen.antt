@@ -1,5 +1,5 @@
 -- What contracts see of layers.
-use Rattle.std.specs.Prelude.{◌≡◌, List, [], ◌∷◌, map}
+use Rattle.std.specs.Prelude.{List, map}
 use Rattle.std.specs.Global.{Vec}
 pub use Rattle.cmap_files.specs.MetadataSeen.{family_seen, collection_seen, mode_seen, metadata_seen, HoldsTexts}
 use Rattle.cmap_files.specs.Files as files
@@ -30,8 +30,3 @@ layer_seen layer = record {
 
 abbrev pub layers_seen : List Layer → List layers.Layer
 layers_seen xs = map layer_seen xs
-
--- the metadata of the top layer
-abbrev pub IsMetadataOf : List layers.Layer → files.FileMetadata → Type 0
-IsMetadataOf [] metadata = ⊥
-IsMetadataOf (top ∷ below) metadata = metadata ≡ top.metadata

@@ -45,11 +45,11 @@ reads_text tables bytes (Ok file) unmarked reads = (means_text tables bytes (fil
 reads_text tables bytes (Err fault) unmarked reads = (tt, refused_as fault reads.1 (λ stop stops. (no_text tables bytes unmarked stops.0, stops.1)))
 
 -- which byte decides on a text
-pub binary_decided : (bytes : List ℕ) (r : Result declared.File (Fault Stop)) → IsMarkedBinary bytes → IfErr r (RefusesWith (IsDecidedAsText bytes))
-binary_decided bytes (Ok file) marked = tt
-binary_decided bytes (Err (Refused stop)) marked = λ unmarked. absurd (unmarked marked)
-binary_decided bytes (Err Memory) marked = tt
+pub binary_decided : (tables : PrefixTables) (bytes : List ℕ) (r : Result declared.File (Fault Stop)) → IsMarkedBinary bytes → IfErr r (RefusesWith (IsDecidedAsText (Some tables) bytes))
+binary_decided tables bytes (Ok file) marked = tt
+binary_decided tables bytes (Err (Refused stop)) marked = λ unmarked. absurd (unmarked marked)
+binary_decided tables bytes (Err Memory) marked = tt
 
-pub text_decided : (bytes : List ℕ) (r : Result declared.File (Fault Stop)) → IfErr r (RefusesWith (DecidedBy IsTextFile bytes)) → IfErr r (RefusesWith (IsDecidedAsText bytes))
-text_decided bytes (Ok file) decided = tt
-text_decided bytes (Err fault) decided = refused_as fault decided (λ stop decides unmarked. decides)
+pub text_decided : (tables : Option PrefixTables) (bytes : List ℕ) (r : Result declared.File (Fault Stop)) → IfErr r (RefusesWith (DecidedBy IsTextFile bytes)) → IfErr r (RefusesWith (IsDecidedAsText tables bytes))
+text_decided tables bytes (Ok file) decided = tt
+text_decided tables bytes (Err fault) decided = refused_as fault decided (λ stop decides text. decides)

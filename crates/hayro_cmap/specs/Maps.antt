@@ -26,4 +26,4 @@ module _ (tables : Option PrefixTables) (answers : List ℕ → Option (List ℕ
 
   -- the names lead from the file to the one at fault
   abbrev pub LeadsToFault : List (List ℕ) → Cause → Type 0
-  LeadsToFault names cause = IsFault (Means tables) answers MOST_FILES bytes names cause
+  LeadsToFault names cause = IsFault tables answers MOST_FILES bytes names cause

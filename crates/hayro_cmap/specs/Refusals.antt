@@ -1,41 +1,48 @@
 -- Why files have no layers: the file at fault, and what is wrong with it.
-use Rattle.std.specs.Prelude.{◌≡◌, ℕ, zero, suc, ◌≤◌, List, [], ◌∷◌, ◌++◌, ◌⊎◌, length, Contains, Option, Some, None}
+use Rattle.std.specs.Prelude.{◌≡◌, ℕ, zero, suc, ◌<◌, ◌≤◌, List, [], ◌∷◌, ◌++◌, ◌⊎◌, length, Contains, Option, Some, None}
 use Rattle.std.specs.Borrow.{Bor}
 use Rattle.cmap_files.specs.Files.{File}
 use Rattle.cmap_files.specs.FilesSeen.{names_seen}
 use Rattle.cmap_binary.specs.BinaryFiles.{IsMarkedBinary}
+use Rattle.cmap_binary.specs.Bundles.{PrefixTables}
 use Rattle.cmap_files.specs.Only.{HoldsOfNone}
 use Rattle.cmap_files.specs.Outcomes.{DecidedBy}
 use Rattle.cmap_files.specs.declared.fault.Stop.{Stop}
 use Rattle.cmap_text.specs.TextFiles.{IsTextFile}
 use Rattle.hayro_cmap.specs.BytesSpent.{About, Refuses, GoesOver}
+use Rattle.hayro_cmap.specs.Layers.{Means}
 use Rattle.hayro_cmap.specs.declared.refusal.Cause.{Cause}
 use Rattle.hayro_cmap.specs.declared.refusal.Cause.TheVariants.{Malformed, NoFile, ChainLength, OverBudget}
 
--- bytes that aren't marked as a binary file are decided as a text: no text that begins with those up to the byte at which reading stopped, and with it, is a file
-abbrev pub IsDecidedAsText : List ℕ → Stop → Type 0
-IsDecidedAsText bytes stop = (IsMarkedBinary bytes → ⊥) → DecidedBy IsTextFile bytes stop
+-- bytes are read as a text: all where there is no bundle, else those that aren't marked as a binary file
+abbrev pub IsReadAsText : Option PrefixTables → List ℕ → Type 0
+IsReadAsText None bytes = Unit {0}
+IsReadAsText (Some tables) bytes = IsMarkedBinary bytes → ⊥
 
-module _ (means : List ℕ → File → Type 0) (answer : List ℕ → Option (List ℕ) → Type 0) where
+-- of bytes that are read as a text, those up to and including the one at which reading stopped decide: no text that begins with them is a file
+abbrev pub IsDecidedAsText : Option PrefixTables → List ℕ → Stop → Type 0
+IsDecidedAsText tables bytes stop = IsReadAsText tables bytes → DecidedBy IsTextFile bytes stop
+
+module _ (tables : Option PrefixTables) (answer : List ℕ → Option (List ℕ) → Type 0) where
   -- what is wrong with a file by itself
   abbrev pub IsOwnFault : List ℕ → Cause → Type 0
-  IsOwnFault bytes (Malformed stop) = HoldsOfNone (means bytes) × (stop.offset ≤ length bytes) × IsDecidedAsText bytes stop
+  IsOwnFault bytes (Malformed stop) = HoldsOfNone (Means tables bytes) × (stop.offset ≤ length bytes) × IsDecidedAsText tables bytes stop
   IsOwnFault bytes OverBudget = Unit {0}
   IsOwnFault bytes NoFile = ⊥
   IsOwnFault bytes ChainLength = ⊥
 
-  -- why a name gives no file, where at most this many files may still stand in the chain
+  -- why a name gives no file, where at most this many files may still stand in the chain; without room for one it isn't asked for
   abbrev pub IsMissing : ℕ → List ℕ → Cause → Type 0
   IsMissing room name (Malformed stop) = ⊥
   IsMissing room name OverBudget = ⊥
-  IsMissing room name NoFile = answer name None
+  IsMissing room name NoFile = (0 < room) × answer name None
   IsMissing room name ChainLength = room ≡ 0
 
   -- the names lead from the file of these bytes to the one at fault, each used by the file before it
   abbrev pub IsFault : ℕ → List ℕ → List (List ℕ) → Cause → Type 0
   IsFault zero bytes names cause = ⊥
   IsFault (suc most) bytes [] cause = IsOwnFault bytes cause
-  IsFault (suc most) bytes (name ∷ names) cause = (file : File) × means bytes file × Contains file.uses name × ((IsMissing most name cause × (names ≡ []))
+  IsFault (suc most) bytes (name ∷ names) cause = (file : File) × Means tables bytes file × Contains file.uses name × ((IsMissing most name cause × (names ≡ []))
       ⊎ ((base : List ℕ) × answer name (Some base) × IsFault most base names cause))
 
   -- the same from a use of this name

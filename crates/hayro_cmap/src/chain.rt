@@ -51,7 +51,7 @@ pub(crate) fn find_layers<'a, S: Source>(
         (of_file (Means (tables_given bundle.entry)) (S.answers source.now) (suc below))
         bytes.now left.old left.new)) }
     ensures blames { IfErr result (RefusesWith (Blames
-        (IsFault (Means (tables_given bundle.entry)) (S.answers source.now) (suc below) bytes.now)
+        (IsFault (tables_given bundle.entry) (S.answers source.now) (suc below) bytes.now)
         names.old.items names.new.items)) }
 {
     spend(left, bytes.len())?;
@@ -89,7 +89,7 @@ fn find_used<'a, S: Source>(
         (of_use (Means (tables_given bundle.entry)) (S.answers source.now) below)
         name.now left.old left.new)) }
     ensures blames { IfErr result (RefusesWith (Blames
-        (IsUseFault (Means (tables_given bundle.entry)) (S.answers source.now) below name.now)
+        (IsUseFault (tables_given bundle.entry) (S.answers source.now) below name.now)
         names.old.items names.new.items)) }
 {
     names.push(name)?;
@@ -122,7 +122,7 @@ pub(crate) fn read_file<'d>(
     bundle: Option<&Bundle<'_>>,
 ) -> Result<File<'d>, Fault<Stop>>
     ensures reads { ReadsFile (Means (tables_given bundle.entry)) file_seen bytes.now result }
-    ensures decided { IfErr result (RefusesWith (IsDecidedAsText bytes.now)) }
+    ensures decided { IfErr result (RefusesWith (IsDecidedAsText (tables_given bundle.entry) bytes.now)) }
 {
     match bundle {
         Some(bundle) if is_marked_binary(bytes) => read_binary(alloc, bundle, bytes),

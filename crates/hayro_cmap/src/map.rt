@@ -1,6 +1,6 @@
 //! Maps: what the codes of a CMap file stand for.
 
-ghost use Rattle.std.specs.Prelude.{◌≡◌, ◌≢◌, ◌*◌, [], ◌∷◌, ◌≤◌, ◌<◌, IfErr, IfOk, IfSome, IfNone, IsErrOf, IsSome, IsSomeAnd, OnErr, OnOk, MatchOption, codes, is_some, length, option_map};
+ghost use Rattle.std.specs.Prelude.{◌≡◌, ◌≢◌, ◌*◌, [], ◌∷◌, ◌≤◌, ◌<◌, IfErr, IfOk, IfSome, IfNone, IsErrOf, IsSome, IsSomeAnd, OnErr, OnOk, MatchOption, Some, codes, is_some, length, option_map};
 ghost use Rattle.cmap_files.specs.CodeLengths.{IsCodeLength};
 ghost use Rattle.cmap_runs.specs.SearchLooks.{LooksAtMost};
 ghost use Rattle.cmap_tokens.specs.TextSeen.{text_seen};
@@ -13,7 +13,8 @@ ghost use Rattle.hayro_cmap.specs.Identity.{identity_layer};
 ghost use Rattle.cmap_binary.specs.BundleSeen.{tables_given};
 ghost use Rattle.hayro_cmap.specs.Layers.{AreUses, Means};
 ghost use Rattle.hayro_cmap.specs.Maps.{ExceedsBudget, FitsBudget, HasNoMap, IsMapOf, LeadsToFault};
-ghost use Rattle.cmap_layers.specs.LayersSeen.{IsMetadataOf, layers_seen, metadata_seen, mode_seen};
+ghost use Rattle.cmap_layers.specs.LayersSeen.{layers_seen, metadata_seen, mode_seen};
+ghost use Rattle.cmap_layers.specs.Layers.{top_metadata};
 ghost use Rattle.cmap_layers.specs.Lookups.{InCodespace, bf_of, cid_of};
 ghost use Rattle.cmap_files.specs.Only.{IsOnly};
 ghost use Rattle.cmap_files.specs.Outcomes.{Finds, RefusesWith};
@@ -215,7 +216,7 @@ impl CMap {
 
     /// What the file says of itself, and not what those say that it is based on.
     pub fn metadata(&self) -> &Metadata
-        ensures top { IsMetadataOf self.now (metadata_seen result.now) }
+        ensures top { top_metadata self.now ≡ Some (metadata_seen result.now) }
         ensures few { length self.now ≤ 16 }
     {
         self.layers[0].metadata()

@@ -38,7 +38,7 @@ returns-in_err-range c =
     (adds_wrong c.loop.invariant (omega arith) none))))))
 
 pub loop-preserved : goal.loop-preserved
-loop-preserved c = adds_more c.loop.invariant _ (omega arith) c.in_ok-range.ensures.0 (rw c.in_ok-add_cid.ensures refl)
+loop-preserved c = adds_more c.loop.invariant _ (omega arith) c.in_ok-range.ensures.0 (rw c.in_ok-add_cid.ensures.added refl)
 
 pub returns : goal.returns
 returns c =

@@ -29,7 +29,7 @@ returns-in_err-units c =
 pub loop-preserved : goal.loop-preserved
 loop-preserved c =
     adds_more c.loop.invariant _ (omega arith) (then_only _ c.in_ok-range.ensures.next.0 (then_only _ c.in_ok-units.ensures.0 gives))
-    (rw c.in_ok-add_bf.ensures refl)
+    (rw c.in_ok-add_bf.ensures.added refl)
 
 pub returns : goal.returns
 returns c =

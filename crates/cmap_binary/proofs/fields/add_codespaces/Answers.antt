@@ -16,7 +16,7 @@ returns-in_default-take_codespace c =
     (tt, made_none (then_next _ c.in-Some.ensures (then_none _ _ none)))
 
 pub loop-preserved : goal.loop-preserved
-loop-preserved c = adds_more c.loop.invariant _ (omega arith) c.in-Some-take_codespace.ensures (rw c.in_ok-add_codespace.ensures refl)
+loop-preserved c = adds_more c.loop.invariant _ (omega arith) c.in-Some-take_codespace.ensures (rw c.in_ok-add_codespace.ensures.added refl)
 
 pub returns : goal.returns
 returns c =

@@ -30,7 +30,7 @@ returns-in_default-take_notdef c =
     (tt, made_none (then_next _ c.in-Some.ensures (then_next _ c.in-Some-take_u16.ensures (then_none _ _ none))))
 
 pub loop-preserved : goal.loop-preserved
-loop-preserved c = adds_more c.loop.invariant _ (omega arith) c.in-Some-take_notdef.ensures (rw (c.in_ok-add_notdef.ensures, c.in-Some-of.ensures.1) refl)
+loop-preserved c = adds_more c.loop.invariant _ (omega arith) c.in-Some-take_notdef.ensures (rw (c.in_ok-add_notdef.ensures.added, c.in-Some-of.ensures.1) refl)
 
 pub returns : goal.returns
 returns c =

@@ -44,7 +44,7 @@ pub find_layers-returns-in_err-base-clause-blames : goal.find_layers-returns-in_
 find_layers-returns-in_err-base-clause-blames g t c =
     let uses = used_at _ _ c.loop-name.name-index c.deref-name-items.ensures.value c.loop-name-test.true in
     refuses_on _ _ c.from_residual-in_err-base.ensures.1 c.in_err-base.ensures.blames
-    (blames_file (Means (tables_given c.args.bundle)) (g.S.Source.answers c.args.source.now) c.args.below c.args.bytes.now _ _ _ (file_seen c.in-Ok.file) _ c.loop-name.invariant.1 c.in-Ok.ensures.reads.0.holds uses)
+    (blames_file (tables_given c.args.bundle) (g.S.Source.answers c.args.source.now) c.args.below c.args.bytes.now _ _ _ (file_seen c.in-Ok.file) _ c.loop-name.invariant.1 c.in-Ok.ensures.reads.0.holds uses)
 
 pub find_layers-returns-clause-found : goal.find_layers-returns-clause-found
 find_layers-returns-clause-found g t c =
@@ -56,7 +56,7 @@ find_layers-returns-clause-stays g t c = c.loop-name.invariant.1
 
 pub find_used-returns-then-below-eq0-clause-blames : goal.find_used-returns-then-below-eq0-clause-blames
 find_used-returns-then-below-eq0-clause-blames g t c =
-    blames_missing (Means (tables_given c.args.bundle)) (g.S.Source.answers c.args.source.now) c.args.below _ _ c.args.name ChainLength c.in_ok-push.ensures.items c.if-below-eq0.true
+    blames_missing (tables_given c.args.bundle) (g.S.Source.answers c.args.source.now) c.args.below _ _ c.args.name ChainLength c.in_ok-push.ensures.items c.if-below-eq0.true
 
 pub find_used-returns-in_default-clause-fails : goal.find_used-returns-in_default-clause-fails
 find_used-returns-in_default-clause-fails g t c =
@@ -64,7 +64,7 @@ find_used-returns-in_default-clause-fails g t c =
 
 pub find_used-returns-in_default-clause-blames : goal.find_used-returns-in_default-clause-blames
 find_used-returns-in_default-clause-blames g t c =
-    blames_missing (Means (tables_given c.args.bundle)) (g.S.Source.answers c.args.source.now) c.args.below _ _ c.args.name NoFile c.in_ok-push.ensures.items (rw c.in_default.is at c.file.ensures)
+    blames_missing (tables_given c.args.bundle) (g.S.Source.answers c.args.source.now) c.args.below _ _ c.args.name NoFile c.in_ok-push.ensures.items (omega arith, rw c.in_default.is at c.file.ensures)
 
 pub find_used-returns-in_err-layers-clause-fails : goal.find_used-returns-in_err-layers-clause-fails
 find_used-returns-in_err-layers-clause-fails g t c =
@@ -77,7 +77,7 @@ pub find_used-returns-in_err-layers-clause-blames : goal.find_used-returns-in_er
 find_used-returns-in_err-layers-clause-blames g t c =
     let said = rw c.in-Some.is at c.file.ensures in
     refuses_on _ _ c.from_residual-in_err-layers.ensures.1 c.in_err-layers.ensures.blames
-    (blames_use (Means (tables_given c.args.bundle)) (g.S.Source.answers c.args.source.now) c.args.below (c.args.below - 1) _ _ _ c.args.name c.in-Some.bytes.now (omega arith) c.in_ok-push.ensures.items said)
+    (blames_use (tables_given c.args.bundle) (g.S.Source.answers c.args.source.now) c.args.below (c.args.below - 1) _ _ _ c.args.name c.in-Some.bytes.now (omega arith) c.in_ok-push.ensures.items said)
 
 pub find_used-returns-clause-found : goal.find_used-returns-clause-found
 find_used-returns-clause-found g t c =

@@ -5,7 +5,7 @@ use Rattle.hayro_cmap.proofs.chain.read_file.Goals as goal
 pub returns-in-Some : goal.returns-in-Some
 returns-in-Some c =
     let marked = c.is_marked_binary.ensures.0 c.if-is_marked_binary.true in
-    record { reads = rw c.in-Some.is (reads_binary _ _ _ marked c.read_binary.ensures); decided = binary_decided _ _ marked }
+    record { reads = rw c.in-Some.is (reads_binary _ _ _ marked c.read_binary.ensures); decided = rw c.in-Some.is (binary_decided _ _ _ marked) }
 
 pub returns-in_default : goal.returns-in_default
 returns-in_default c = record {
@@ -13,5 +13,5 @@ returns-in_default c = record {
     | in_default-via-in-Some+else-is_marked_binary w ↦ rw w.in-Some.is (reads_text _ _ _ (λ marked. let is = w.if-is_marked_binary.ensures.1 marked in cc) c.read_text.ensures.file)
     | in_default-via-in_default w ↦ rw w.in_default.is c.read_text.ensures.file
   ];
-  decided = text_decided _ _ c.read_text.ensures.decided;
+  decided = text_decided _ _ _ c.read_text.ensures.decided;
 }
