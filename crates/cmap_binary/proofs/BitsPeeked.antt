@@ -5,9 +5,9 @@ use Rattle.std.proofs.lemmas.Int.Digits.{number_after_append, number_lt}
 use Rattle.std.proofs.lemmas.List.{drop-append-le, drop-drop, length-drop, length-take-le, take-append-drop, take-append-le}
 use Rattle.std.proofs.lemmas.List.Elements.{All-drop, All-take, recursion_from_All}
 use Rattle.std.proofs.lemmas.Nat.{mod_low, shr_high}
-use Rattle.cmap_binary.specs.PrefixWords.{bits, bits_of}
+use Rattle.cmap_binary.specs.PrefixWords.{AreBits, bits, bits_of}
 use Rattle.cmap_binary.proofs.BitsOfBytes.{bits-at}
-use Rattle.cmap_binary.proofs.NumbersOfBits.{AreBits, AreBits-bits, bits_of-number_after, number_after-sum}
+use Rattle.cmap_binary.proofs.NumbersOfBits.{AreBits-bits, bits_of-number_after, number_after-sum}
 
 -- bits within those of a number, by shift and remainder
 bits_within : (before here later : List ℕ) → AllBelowBase 2 here → AllBelowBase 2 later → bits_of (length here) (number_from_digits 2 (before ++ (here ++ later)) / 2 ^ length later % 2 ^ length here) ≡ here

@@ -1,6 +1,6 @@
 -- What bytes begin with, one thing after another: the parts have one value each, and so has the whole; or a part has none, and so has the whole.
 use Rattle.std.proofs.Common.{◌≡◌, true, false, ℕ, zero, suc, ◌<◌, ◌≤◌, ◌+◌, refl, sym, ap, ◌∙◌, subst, List, [], ◌∷◌, ◌++◌, length, drop, arith, append_assoc, append-nil}
-use Rattle.std.specs.Prelude.{◌==◌, ◌↔◌, IsSome, MatchOption, Option, Some, None}
+use Rattle.std.specs.Prelude.{◌==◌, ◌↔◌, IfOk, IsSome, MatchOption, Option, Result, Some, None, Ok, Err}
 use Rattle.std.specs.Borrow.{Bor}
 use Rattle.std.specs.List.{IsSplitAt}
 use Rattle.std.proofs.lemmas.Bool.{eqb-true, eqb-false}
@@ -42,6 +42,10 @@ module _ {A S B : Type 0} {P : A × S → Type 0} {x : A} {rest : S} (Q : A → 
   pub then_finds : {V : Type 0} (seen : V → B) (o : Option V) → Finds (Q x rest) seen o → Finds (Then P Q) seen o
   then_finds seen None none = then_next none
   then_finds seen (Some y) only = then_only only
+
+pub then_finds_ok : {A S B V E : Type 0} {P : A × S → Type 0} {x : A} {rest : S} (Q : A → S → B → Type 0) (seen : V → B) (r : Result (Option V) E) → IsOnly P (x, rest) → IfOk r (Finds (Q x rest) seen) → IfOk r (Finds (Then P Q) seen)
+then_finds_ok Q seen (Ok o) first finds = then_finds Q first seen o finds
+then_finds_ok Q seen (Err e) first finds = tt
 
 pub finds_under : {A B C : Type 0} (P : B → Type 0) (seen : A → B) (o : Option A) → C → Finds P seen o → Finds (λ y. C × P y) seen o
 finds_under P seen None holds none = λ other is. none other is.1

@@ -1,91 +1,89 @@
--- The lengths of words, from how many there are of each.
-use Rattle.std.proofs.Common.{◌≡◌, ℕ, suc, ◌+◌, ◌-◌, ◌*◌, ◌^◌, ◌<◌, ◌≤◌, List, [], ◌∷◌, ◌++◌, inl, inr, length, get_or, take, drop, replicate, refl, ap, ◌∙◌, sym, arith}
-use Rattle.std.specs.List.{All}
+-- The lengths of words, from how many there are of each, and the room that these take.
+use Rattle.std.proofs.Common.{◌≡◌, ℕ, ◌+◌, ◌-◌, ◌*◌, ◌^◌, ◌<◌, ◌≤◌, List, [], ◌∷◌, ◌++◌, inl, inr, length, get_or, drop, replicate, refl, ap, ◌∙◌, sym, subst, arith}
+use Rattle.std.specs.List.{All, sum_by}
 use Rattle.std.proofs.lemmas.Bool.{cases_lt}
-use Rattle.std.proofs.lemmas.List.Elements.{All-append, All-from_get_or}
-use Rattle.std.proofs.lemmas.List.{append-nil, append_assoc, get_or-append_right, get_or-replicate, get_or_append_left, length-append, length-replicate, length-take-le, take-append-drop, take_more}
+use Rattle.std.proofs.lemmas.List.{append-nil, append_assoc, drop_all, drop_more, get_or-append-add, get_or-append_right, get_or-replicate, get_or_append_left, length-append, length-replicate}
+use Rattle.std.proofs.lemmas.List.Elements.{All-append, All-nil}
+use Rattle.std.proofs.lemmas.List.Folds.{sum_by-replicate}
 use Rattle.std.proofs.lemmas.List.Sorted.{IsNonDecreasingBy-from_default}
 use Rattle.std.proofs.lemmas.List.Sums.{sum_by-append}
-use Rattle.std.proofs.lemmas.List.Folds.{sum_by-replicate}
 use Rattle.cmap_binary.specs.PrefixWords.{AreWordLengths, lengths_from}
-use Rattle.cmap_binary.specs.WordsByLength.{lengths_to, room_of}
+use Rattle.cmap_binary.proofs.RankedWords.{lengths_from-least}
 
-pub length-lengths : (len count : ℕ) (later : List ℕ) → length (replicate count len ++ later) ≡ count + length later
-length-lengths len count later = simp (length-append, length-replicate)
-
-pub get_or-past : (len count k : ℕ) (later : List ℕ) → count ≤ k → get_or (replicate count len ++ later) k 0 ≡ get_or later (k - count) 0
-get_or-past len count k later h = get_or-append_right (replicate count len) later count k 0 (length-replicate count len) h
-
-pub get_or-front : (len count k : ℕ) (later : List ℕ) → k < count → get_or (replicate count len ++ later) k 0 ≡ len
-get_or-front len count k later h = get_or_append_left (replicate count len) later 0 k (omega (arith, length-replicate count len)) ∙ get_or-replicate count k len 0 h
-
--- no length is shorter than the first one, or longer than the last one that is counted
-pub lengths_from-within : (len : ℕ) (counts : List ℕ) (k : ℕ) → k < length (lengths_from len counts) → (len ≤ get_or (lengths_from len counts) k 0) × (get_or (lengths_from len counts) k 0 < len + length counts)
-lengths_from-within len [] k h = absurd (omega arith)
-lengths_from-within len (count ∷ counts) k h =
+rising : (len : ℕ) (counts : List ℕ) (i j : ℕ) → i ≤ j → j < length (lengths_from len counts) → get_or (lengths_from len counts) i 0 ≤ get_or (lengths_from len counts) j 0
+rising len [] i j h within = absurd (omega arith)
+rising len (count ∷ counts) i j h within =
+    let here = replicate count len in
     let later = lengths_from (len + 1) counts in
-    elim (cases_lt k count) [
-      | inl below ↦ rw (get_or-front len count k later below) (omega arith, omega arith)
-      | inr past ↦
-          let more = lengths_from-within (len + 1) counts (k - count) (omega (arith, length-lengths len count later)) in
-          rw (get_or-past len count k later past) (omega arith, omega arith)
-    ]
-
-lengths_from-rising : (len : ℕ) (counts : List ℕ) (i j : ℕ) → i ≤ j → j < length (lengths_from len counts) → get_or (lengths_from len counts) i 0 ≤ get_or (lengths_from len counts) j 0
-lengths_from-rising len [] i j h k = absurd (omega arith)
-lengths_from-rising len (count ∷ counts) i j h k =
-    let later = lengths_from (len + 1) counts in
+    let size = length-replicate count len in
     elim (cases_lt i count) [
-      | inl below ↦ omega (arith, get_or-front len count i later below, lengths_from-within len (count ∷ counts) j k)
+      | inl below ↦ omega (arith, get_or_append_left here later 0 i (omega (arith, size)), get_or-replicate count i len 0 below, lengths_from-least len (count ∷ counts) j 0 within)
       | inr past ↦
-          let after : count ≤ j = omega arith in
-          omega (arith, get_or-past len count i later past, get_or-past len count j later after, lengths_from-rising (len + 1) counts (i - count) (j - count) (omega arith) (omega (arith, length-lengths len count later)))
+          omega (arith, get_or-append_right here later count i 0 size past, get_or-append_right here later count j 0 size (omega arith), rising (len + 1) counts (i - count) (j - count) (omega arith) (omega (arith, length-append here later, size)))
     ]
 
-abbrev pub AreShort : List ℕ → Type 0
-AreShort lens = All (λ l. l ≤ 32) lens
+abbrev room_of : List ℕ → ℕ
+room_of lens = sum_by (λ l. 2 ^ (32 - l)) lens
 
-pub AreWordLengths-room : (counts : List ℕ) → AreShort (lengths_from 1 counts) → room_of (lengths_from 1 counts) ≤ 2 ^ 32 → AreWordLengths (lengths_from 1 counts)
-AreWordLengths-room counts short room = record {
-  lengths = All-from_get_or (λ l. (1 ≤ l) × (l ≤ 32)) (lengths_from 1 counts) 0 (λ k h. ((lengths_from-within 1 counts k h).0, short k 0 h));
-  rising = IsNonDecreasingBy-from_default (λ x. x) (lengths_from 1 counts) 0 (lengths_from-rising 1 counts);
-  room = room;
-}
+-- the words of the first i lengths are so many, and leave this room
+pub record IsCounted (counts : List ℕ) (i total room : ℕ) : Type 0 where
+  pub before : List ℕ
+  pub whole : lengths_from 1 counts ≡ before ++ lengths_from (i + 1) (drop i counts)
+  pub lengths : All (λ l. (1 ≤ l) × (l ≤ 32)) before
+  pub total_is : total ≡ length before
+  pub room_is : room + room_of before ≡ 2 ^ 32
+  pub few : total + room ≤ 2 ^ 32
 
--- ---- length by length
-lengths_from-append : (len : ℕ) (counts more : List ℕ) → lengths_from len (counts ++ more) ≡ lengths_from len counts ++ lengths_from (len + length counts) more
-lengths_from-append len [] more = let e : len + 0 ≡ len = omega arith in rw e refl
-lengths_from-append len (count ∷ counts) more =
-    let e : len + 1 + length counts ≡ len + suc (length counts) = omega arith in
-    ap (λ ls. replicate count len ++ ls) (lengths_from-append (len + 1) counts more ∙ ap (λ l. lengths_from (len + 1) counts ++ lengths_from l more) e)
-    ∙ sym (append_assoc (replicate count len) (lengths_from (len + 1) counts) (lengths_from (len + suc (length counts)) more))
+pub IsCounted-none : (counts : List ℕ) → IsCounted counts 0 0 (2 ^ 32)
+IsCounted-none counts = record { before = []; whole = refl; lengths = All-nil (λ l. (1 ≤ l) × (l ≤ 32)); total_is = refl; room_is = refl; few = omega arith }
 
-pub lengths_from-split : (i : ℕ) (counts : List ℕ) → i ≤ length counts → lengths_from 1 counts ≡ lengths_to i counts ++ lengths_from (i + 1) (drop i counts)
-lengths_from-split i counts h =
-    let e : 1 + length (take i counts) ≡ i + 1 = omega (arith, length-take-le i counts h) in
-    ap (lengths_from 1) (sym (take-append-drop i counts)) ∙ lengths_from-append 1 (take i counts) (drop i counts) ∙ ap (λ n. lengths_to i counts ++ lengths_from n (drop i counts)) e
+module _ {counts : List ℕ} {i total room : ℕ} (c : IsCounted counts i total room) where
+  pub IsCounted-all : length counts ≤ i → (total ≡ length (lengths_from 1 counts)) × AreWordLengths (lengths_from 1 counts)
+  IsCounted-all end =
+      let whole : lengths_from 1 counts ≡ c.before = c.whole ∙ ap (λ cs. c.before ++ lengths_from (i + 1) cs) (drop_all i counts end) ∙ append-nil c.before in (
+        c.total_is ∙ ap length (sym whole),
+        record {
+          lengths = subst (All (λ l. (1 ≤ l) × (l ≤ 32))) (sym whole) c.lengths;
+          rising = IsNonDecreasingBy-from_default (λ x. x) (lengths_from 1 counts) 0 (rising 1 counts);
+          room = omega (arith, ap room_of whole, c.room_is);
+        },
+      )
 
-lengths_to-more : (i : ℕ) (counts : List ℕ) → i < length counts → lengths_to (i + 1) counts ≡ lengths_to i counts ++ replicate (get_or counts i 0) (i + 1)
-lengths_to-more i counts h =
-    let e : 1 + length (take i counts) ≡ i + 1 = omega (arith, length-take-le i counts (omega arith)) in
-    ap (lengths_from 1) (take_more counts i 0 h) ∙ lengths_from-append 1 (take i counts) (get_or counts i 0 ∷ [])
-    ∙ ap (λ n. lengths_to i counts ++ (replicate (get_or counts i 0) n ++ [])) e ∙ ap (λ ls. lengths_to i counts ++ ls) (append-nil (replicate (get_or counts i 0) (i + 1)))
+  module _ (within : i < length counts) where
+    opened : lengths_from 1 counts ≡ c.before ++ (replicate (get_or counts i 0) (i + 1) ++ lengths_from (i + 1 + 1) (drop (i + 1) counts))
+    opened = c.whole ∙ ap (λ cs. c.before ++ lengths_from (i + 1) cs) (drop_more counts i 0 within)
 
-pub length-lengths_to : (i : ℕ) (counts : List ℕ) → i < length counts → length (lengths_to (i + 1) counts) ≡ length (lengths_to i counts) + get_or counts i 0
-length-lengths_to i counts h = rw (lengths_to-more i counts h, length-append (lengths_to i counts), length-replicate (get_or counts i 0) (i + 1)) refl
+    room_opened : room_of (lengths_from 1 counts) ≡ room_of c.before + (get_or counts i 0 * 2 ^ (32 - (i + 1)) + room_of (lengths_from (i + 1 + 1) (drop (i + 1) counts)))
+    room_opened =
+        let f : ℕ → ℕ = λ l. 2 ^ (32 - l) in
+        let here = replicate (get_or counts i 0) (i + 1) in
+        let later = lengths_from (i + 1 + 1) (drop (i + 1) counts) in
+        omega (arith, ap room_of opened, sum_by-append f c.before (here ++ later), sum_by-append f here later, sum_by-replicate f (get_or counts i 0) (i + 1))
 
-pub room-lengths_to : (i : ℕ) (counts : List ℕ) → i < length counts → room_of (lengths_to (i + 1) counts) ≡ room_of (lengths_to i counts) + get_or counts i 0 * 2 ^ (32 - (i + 1))
-room-lengths_to i counts h =
-    let f : ℕ → ℕ = λ l. 2 ^ (32 - l) in
-    rw (lengths_to-more i counts h, sum_by-append f (lengths_to i counts), sum_by-replicate f (get_or counts i 0) (i + 1)) refl
+    pub too_long : 0 < get_or counts i 0 → 32 ≤ i → AreWordLengths (lengths_from 1 counts) → ⊥
+    too_long some long sound =
+        let here = replicate (get_or counts i 0) (i + 1) in
+        let later = lengths_from (i + 1 + 1) (drop (i + 1) counts) in
+        let size = length-replicate (get_or counts i 0) (i + 1) in
+        let inside : length c.before + 0 < length (lengths_from 1 counts) = omega (arith, ap length opened, length-append c.before (here ++ later), length-append here later, size) in
+        let length_is = ap (λ ls. get_or ls (length c.before + 0) 0) opened ∙ get_or-append-add c.before (here ++ later) 0 0 ∙ get_or_append_left here later 0 0 (omega (arith, size)) ∙ get_or-replicate (get_or counts i 0) 0 (i + 1) 0 some in
+        omega (arith, length_is, sound.lengths (length c.before + 0) 0 inside)
 
--- those up to i take no more room than all
-pub room-within : (i : ℕ) (counts : List ℕ) → i ≤ length counts → room_of (lengths_to i counts) ≤ room_of (lengths_from 1 counts)
-room-within i counts h = rw (lengths_from-split i counts h, sum_by-append (λ l. 2 ^ (32 - l)) (lengths_to i counts)) (omega arith)
+    pub no_room : room < get_or counts i 0 * 2 ^ (32 - (i + 1)) → AreWordLengths (lengths_from 1 counts) → ⊥
+    no_room over sound = omega (arith, over, room_opened, c.room_is, sound.room)
 
-pub AreShort-lengths_to : (i : ℕ) (counts : List ℕ) → i < length counts → (0 < get_or counts i 0 → i < 32) → AreShort (lengths_to i counts) → AreShort (lengths_to (i + 1) counts)
-AreShort-lengths_to i counts h few short =
-    let c = get_or counts i 0 in
-    rw (lengths_to-more i counts h) (All-append (λ l. l ≤ 32) (lengths_to i counts) (replicate c (i + 1)) short (λ k d b.
-    let inside : k < c = omega (arith, length-replicate c (i + 1)) in
-    rw (get_or-replicate c k (i + 1) d inside) (omega (arith, few (omega arith)))))
+    pub IsCounted-more : (left : ℕ) → (0 < get_or counts i 0 → i < 32) → left + get_or counts i 0 * 2 ^ (32 - (i + 1)) ≡ room → get_or counts i 0 ≤ get_or counts i 0 * 2 ^ (32 - (i + 1)) → IsCounted counts (i + 1) (total + get_or counts i 0) left
+    IsCounted-more left short takes some =
+        let count = get_or counts i 0 in
+        let f : ℕ → ℕ = λ l. 2 ^ (32 - l) in
+        let here = replicate count (i + 1) in
+        let size = length-replicate count (i + 1) in
+        record {
+          before = c.before ++ here;
+          whole = opened ∙ sym (append_assoc c.before here (lengths_from (i + 1 + 1) (drop (i + 1) counts)));
+          lengths = All-append (λ l. (1 ≤ l) × (l ≤ 32)) c.before here c.lengths (λ k d inside.
+              rw (get_or-replicate count k (i + 1) d (omega (arith, inside, size))) (omega arith, omega (arith, short (omega (arith, inside, size)))));
+          total_is = omega (arith, c.total_is, length-append c.before here, size);
+          room_is = omega (arith, c.room_is, takes, sum_by-append f c.before here, sum_by-replicate f count (i + 1));
+          few = omega (arith, c.few, takes, some);
+        }

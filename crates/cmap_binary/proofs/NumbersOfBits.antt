@@ -2,12 +2,11 @@
 use Rattle.std.proofs.Common.{◌≡◌, ℕ, zero, suc, ◌+◌, ◌*◌, ◌/◌, ◌%◌, ◌^◌, ◌<◌, List, [], ◌∷◌, length, refl, ap, ◌∙◌, sym, arith}
 use Rattle.std.specs.Int.Digits.{number_from_digits, number_from_digits_after, AllBelowBase}
 use Rattle.std.proofs.lemmas.Int.Digits.{number_lt}
-use Rattle.std.proofs.lemmas.Nat.{mod-pow-add, mod_below, div-mul-add}
-use Rattle.std.proofs.Math.Nat.{pow-suc, mod-eq_of_lt, add-mul, mul_assoc, mul_comm}
-use Rattle.std.specs.List.{All}
+use Rattle.std.proofs.lemmas.Nat.{mod_below, div-mul-add}
+use Rattle.std.proofs.Math.Nat.{pow-suc, add-mul, mul_assoc, mul_comm}
 use Rattle.std.proofs.lemmas.List.Elements.{All-append, All-cons, All-drop, All-nil}
 use Rattle.cmap_binary.specs.Reader.{Reading, bits_left}
-use Rattle.cmap_binary.specs.PrefixWords.{bits_of, bits}
+use Rattle.cmap_binary.specs.PrefixWords.{AreBits, bits_of, bits}
 
 doubled : (n d p r : ℕ) → (n * 2 + d) * p + r ≡ n * (p * 2) + (d * p + r)
 doubled n d p r = omega (arith, add-mul (n * 2) d p, mul_assoc n 2 p, mul_comm 2 p)
@@ -33,25 +32,7 @@ bits_of-number_after n (d ∷ ds) h =
     let low : (n * 2 + d) % 2 ≡ d = omega arith in
     ap (λ x. x % 2 ∷ bits_of (length ds) whole) high ∙ ap (λ x. x ∷ bits_of (length ds) whole) low ∙ ap (λ xs. d ∷ xs) (bits_of-number_after (n * 2 + d) ds h.1)
 
-pub number_after-bits_of : (n count m : ℕ) → number_from_digits_after 2 n (bits_of count m) ≡ n * 2 ^ count + m % 2 ^ count
-number_after-bits_of n zero m = omega arith
-number_after-bits_of n (suc count) m =
-    let step = number_after-bits_of (n * 2 + m / 2 ^ count % 2) count m in
-    let e : 1 + count ≡ suc count = omega arith in
-    let split : m % 2 ^ suc count ≡ (m / 2 ^ count % 2) * 2 ^ count + m % 2 ^ count = ap (λ k. m % 2 ^ k) (sym e) ∙ mod-pow-add m 1 count in
-    step
-    ∙ doubled n (m / 2 ^ count % 2) (2 ^ count) (m % 2 ^ count)
-    ∙ ap (λ q. n * q + (m / 2 ^ count % 2 * 2 ^ count + m % 2 ^ count)) (sym (pow-suc 2 count))
-    ∙ ap (λ s. n * 2 ^ suc count + s) (sym split)
-
--- the number that the bits of a number write
-pub number-bits_of : (count n : ℕ) → n < 2 ^ count → number_from_digits 2 (bits_of count n) ≡ n
-number-bits_of count n h = omega (arith, number_after-bits_of 0 count n, mod-eq_of_lt h)
-
 -- ---- bits are below 2
-abbrev pub AreBits : List ℕ → Type 0
-AreBits ds = All (λ d. d < 2) ds
-
 pub AreBits-bits_of : (count n : ℕ) → AreBits (bits_of count n)
 AreBits-bits_of zero n = All-nil (λ d. d < 2)
 AreBits-bits_of (suc count) n = All-cons (λ d. d < 2) _ _ (mod_below (n / 2 ^ count) 2 (omega arith)) (AreBits-bits_of count n)

@@ -1,14 +1,20 @@
--- Private aid: the code words that are found at the front of bits.
-use Rattle.std.specs.Prelude.{◌≡◌, ℕ, List, [], ◌∷◌, Result, Some, MatchResult, slice_get}
-use Rattle.cmap_binary.specs.PrefixWords.{bits}
-use Rattle.cmap_binary.specs.WordsByLength.{IsNext, IsSearched, places_of}
+-- Private aid: what is known of the code word that begins bits.
+use Rattle.std.specs.Prelude.{◌≡◌, ℕ, List, [], ◌∷◌, ◌++◌, Result, Some, MatchResult, slice_get}
+use Rattle.cmap_binary.specs.PrefixWords.{CodeWord, bits}
+use Rattle.cmap_binary.specs.WordsByLength.{IsSearched, Progress, first_word}
 use Rattle.cmap_binary.specs.declared.prefix.words.Search.{Search}
 use Rattle.cmap_binary.specs.declared.prefix.words.Word.{Word}
 
--- the word that begins the bits, or how far it has been looked for
+abbrev pub word_seen : Word → CodeWord
+word_seen word = record { len = word.len; symbol = word.symbol }
+
+abbrev pub search_seen : Search → Progress
+search_seen search = record { len = search.len; rank = search.rank; past = search.past }
+
+-- the word that begins these bits, whatever follows them, or how far it has been looked for
 abbrev pub IsKnown : List ℕ → List ℕ → List ℕ → Result Word Search → Type 0
-IsKnown counts symbols stream known =
-    MatchResult known (λ word. IsNext (places_of counts symbols) stream word.symbol word.len) (λ search. IsSearched counts stream search.len search.place search.past)
+IsKnown counts symbols front known =
+    MatchResult known (λ word. (more : List ℕ) → Some (word_seen word) ≡ first_word counts symbols (front ++ more)) (λ search. IsSearched counts front (search_seen search))
 
 -- what is known of the bits of each byte
 abbrev pub KnowBytes : List ℕ → List ℕ → List (Result Word Search) → Type 0

@@ -15,9 +15,9 @@ use std::marker::Model;
 #[derive(Debug, Drop)]
 pub struct Reader<'a> {
     bytes: &'a [u8],
-    // whole bytes passed
+    /// Whole bytes passed.
     byte: usize,
-    // bits taken of the next one
+    /// Bits taken of the next one.
     bit: u8,
 }
 
@@ -160,7 +160,23 @@ impl<'a> Reader<'a> {
         self.bit == 0
     }
 
-    // The next eight bits as a byte, where two bytes have them and the bits that go before.
+    /// The bytes that are left.
+    pub(crate) fn left(&self) -> &'a [u8]
+        ensures { result.now ≡ bytes_left self.now }
+    {
+        &self.bytes[self.byte..]
+    }
+
+    /// Moves past `count` bytes.
+    pub(crate) fn skip_bytes(&mut self, count: usize)
+        requires at_byte { IsAtByte self.old }
+        requires within { count ≤ length (bytes_left self.old) }
+        ensures { self.new ≡ after_bytes self.old count }
+    {
+        self.byte += count;
+    }
+
+    /// The next eight bits as a byte, where two bytes have them and the bits that go before.
     pub(crate) fn peek_u8(&self) -> Option<u8>
         ensures { IfSome result (λ byte. take 8 (bits_left self.now) ≡ bits (byte ∷ [])) }
     {
@@ -169,7 +185,7 @@ impl<'a> Reader<'a> {
         Some((pair >> (8 - self.bit) & 0xFF) as u8)
     }
 
-    // Moves past `count` bits.
+    /// Moves past `count` bits.
     pub(crate) fn skip_bits(&mut self, count: u8)
         requires { count ≤ length (bits_left self.old) }
         ensures { self.new ≡ after_bits self.old count }
@@ -179,7 +195,7 @@ impl<'a> Reader<'a> {
         self.bit = (bit % 8) as u8;
     }
 
-    // A reader at the same place, to try what may fail.
+    /// A reader at the same place, to try what may fail.
     pub(crate) fn fork(&self) -> Reader<'a>
         ensures { result ≡ self.now }
     {

@@ -3,7 +3,9 @@ use Rattle.std.specs.Prelude.{slice_get}
 use Rattle.std.proofs.lemmas.Bool.{cases_lt}
 use Rattle.std.proofs.lemmas.List.{get_or_append_left, get_or_push, length_push}
 use Rattle.std.proofs.lemmas.Option.{get_or_from_slice_get, slice_get-get_or, slice_get_within}
-use Rattle.cmap_binary.proofs.WordsBegun.{IsSearched-first}
+use Rattle.cmap_binary.specs.PrefixWords.{bits}
+use Rattle.cmap_binary.specs.WordsFound.{IsKnown}
+use Rattle.cmap_binary.proofs.WordsSearched.{IsSearched-start}
 use Rattle.cmap_binary.proofs.prefix.words.search_bytes.Goals as goal
 
 one_more : {A : Type 0} (P : ℕ → A → Type 0) (xs : List A) (next : A) → ((k : ℕ) (x : A) → slice_get xs k ≡ Some x → P k x) → P (length xs) next → (k : ℕ) (x : A) → slice_get (xs ++ next ∷ []) k ≡ Some x → P k x
@@ -17,11 +19,11 @@ one_more P xs next before here k x at =
     ]
 
 pub find-requires-clause-start : goal.find-requires-clause-start
-find-requires-clause-start c = IsSearched-first _ _
+find-requires-clause-start c = IsSearched-start _ _
 
 pub loop-byte-preserved : goal.loop-byte-preserved
 loop-byte-preserved c =
     let known = c.loop-byte.known.items in
     let size = c.loop-byte.invariant.0 in
-    rw c.in_ok-push.ensures.items
-    (omega (arith, size, length_push known c.find.result), one_more _ known c.find.result c.loop-byte.invariant.1 (rw size (rw c.new.ensures at c.find.ensures.known)))
+    let here = subst (λ n. IsKnown c.args.counts.now c.args.symbols.now (bits (n ∷ [])) c.find.result) (sym size) (rw c.new.ensures at c.find.ensures.known) in
+    rw c.in_ok-push.ensures.items (omega (arith, size, length_push known c.find.result), one_more _ known c.find.result c.loop-byte.invariant.1 here)
