@@ -5,10 +5,10 @@ use Rattle.cmap_tokens.specs.TokenSeen.{token_seen}
 use Rattle.cmap_files.specs.CodeLengths.{length_of}
 use Rattle.cmap_files.specs.DeclarationsSeen.{lists_seen}
 use Rattle.cmap_files.specs.Files.{CidEntry}
-use Rattle.cmap_tokens.specs.TokensLeft.{Left}
 use Rattle.cmap_files.specs.FilesSeen.{names_seen}
 use Rattle.cmap_text.specs.TextFiles as files
 use Rattle.cmap_text.specs.TextReading as reading
+use Rattle.cmap_text.specs.TokenReaders.{Reader}
 use Rattle.cmap_text.specs.declared.entries.CidKind.{CidKind}
 use Rattle.cmap_text.specs.declared.entries.CidKind.TheVariants.{Cid, Notdef}
 use Rattle.cmap_text.specs.declared.entries.Shape.{Shape}
@@ -28,9 +28,9 @@ cids_section Notdef Range = files.notdef_range
 cids_section Notdef Single = files.notdef_char
 
 -- the CIDs of an entry of this shape
-abbrev pub cids_after : Shape → reading.Code → Left → reading.Found (ℕ × CidEntry)
-cids_after Range start left = reading.cid_range_after start left
-cids_after Single start left = reading.cid_char_after start left
+abbrev pub cids_after : Shape → reading.Code → Reader (ℕ × CidEntry)
+cids_after Range start = reading.cid_range_after start
+cids_after Single start = reading.cid_char_after start
 
 abbrev pub section_seen : Section → files.Section
 section_seen Codespaces = files.codespace_range

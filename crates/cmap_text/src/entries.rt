@@ -4,13 +4,14 @@
 ghost use Rattle.std.specs.Prelude.{◌≡◌, ◌+◌, ◌-◌, OnOk};
 ghost use Rattle.cmap_files.specs.CodeLengths.{length_of};
 ghost use Rattle.cmap_files.specs.DeclarationsSeen.{cid_entry_seen, lists_seen};
-ghost use Rattle.cmap_text.specs.EntriesSeen.{Adds, Gives};
+ghost use Rattle.cmap_text.specs.EntriesSeen.{AddsDeclarations, ReadsAs};
 ghost use Rattle.cmap_files.specs.Files.{lists_of};
 ghost use Rattle.cmap_files.specs.ListsAppended.{append_lists};
 ghost use Rattle.cmap_files.specs.UnitsSeen.{units_seen};
 ghost use Rattle.cmap_text.specs.TextFiles as files;
 ghost use Rattle.cmap_text.specs.TextSeen.{cids_after, cids_section, code_seen};
 ghost use Rattle.cmap_text.specs.TextReading.{entry_after, list_in, text_of};
+ghost use Rattle.cmap_text.specs.TokenReaders.{run};
 
 use crate::tokens::{Code, TokenReader, is_executable};
 use crate::wrong_token::WrongToken;
@@ -41,7 +42,7 @@ pub(crate) fn add_codespace_range(
     low: Code,
     lists: &mut Lists,
 ) -> Result<(), Fault<WrongToken>>
-    ensures { Adds (entry_after files.codespace_range (code_seen low) reader.old)
+    ensures { AddsDeclarations (entry_after files.codespace_range (code_seen low)) reader.old
         lists.old lists.new reader.new result }
 {
     let high = reader.next_code()?;
@@ -64,7 +65,7 @@ pub(crate) fn add_cids(
     shape: Shape,
     lists: &mut Lists,
 ) -> Result<(), Fault<WrongToken>>
-    ensures { Adds (entry_after (cids_section kind shape) (code_seen start) reader.old)
+    ensures { AddsDeclarations (entry_after (cids_section kind shape) (code_seen start)) reader.old
         lists.old lists.new reader.new result }
 {
     let filed = read_cids(reader, start, shape)?;
@@ -81,7 +82,7 @@ pub(crate) fn add_bf_char(
     code: Code,
     lists: &mut Lists,
 ) -> Result<(), Fault<WrongToken>>
-    ensures { Adds (entry_after files.bf_char (code_seen code) reader.old)
+    ensures { AddsDeclarations (entry_after files.bf_char (code_seen code)) reader.old
         lists.old lists.new reader.new result }
 {
     let units = reader.next_destination()?;
@@ -95,7 +96,7 @@ pub(crate) fn add_bf_range(
     start: Code,
     lists: &mut Lists,
 ) -> Result<(), Fault<WrongToken>>
-    ensures { Adds (entry_after files.bf_range (code_seen start) reader.old)
+    ensures { AddsDeclarations (entry_after files.bf_range (code_seen start)) reader.old
         lists.old lists.new reader.new result }
 {
     let end = reader.next_code()?;
@@ -115,7 +116,8 @@ fn add_list(
     end: u32,
     lists: &mut Lists,
 ) -> Result<(), Fault<WrongToken>>
-    ensures { Adds (list_in (end + 1 - start) start reader.old) lists.old lists.new reader.new result }
+    ensures { AddsDeclarations (list_in (end + 1 - start) start) reader.old
+        lists.old lists.new reader.new result }
 {
     for code in u64::from(start)..u64::from(end) + 1 {
         let units = reader.next_destination()?;
@@ -151,7 +153,7 @@ fn read_cids(
     start: Code,
     shape: Shape,
 ) -> Result<Filed, Fault<WrongToken>>
-    ensures { Gives (cids_after shape (code_seen start) reader.old)
+    ensures { ReadsAs (run (cids_after shape (code_seen start)) reader.old)
         (λ filed. ((length_of filed.len, cid_entry_seen filed.range), reader.new)) reader.new result }
 {
     let end = match shape {

@@ -2,10 +2,11 @@
 
 ghost use Rattle.std.specs.Prelude.{◌≡◌, option_map};
 ghost use Rattle.cmap_tokens.specs.TokenSeen.{token_seen};
-ghost use Rattle.cmap_text.specs.EntriesSeen.{Adds, Gives};
+ghost use Rattle.cmap_text.specs.EntriesSeen.{AddsDeclarations, ReadsAs};
 ghost use Rattle.cmap_text.specs.TextFiles as files;
-ghost use Rattle.cmap_text.specs.TextReading.{body_in, entry_after, opened_by, start_in};
+ghost use Rattle.cmap_text.specs.TextReading.{body_in, code_or_closer, entry_after, opened_by};
 ghost use Rattle.cmap_text.specs.TextSeen.{code_seen, section_seen};
+ghost use Rattle.cmap_text.specs.TokenReaders.{head_in};
 
 use crate::entries::{CidKind, Shape, add_bf_char, add_bf_range, add_cids, add_codespace_range};
 use crate::tokens::{Code, TokenReader, is_executable};
@@ -69,7 +70,8 @@ pub(crate) fn read_section(
     section: Section,
     lists: &mut Lists,
 ) -> Result<(), Fault<WrongToken>>
-    ensures { Adds (body_in (section_seen section) reader.old) lists.old lists.new reader.new result }
+    ensures { AddsDeclarations (body_in (section_seen section)) reader.old
+        lists.old lists.new reader.new result }
 {
     while let Some(start) = next_start(reader, section)? {
         read_entry(reader, section, start, lists)?;
@@ -82,7 +84,7 @@ fn next_start(
     reader: &mut TokenReader<'_>,
     section: Section,
 ) -> Result<Option<Code>, Fault<WrongToken>>
-    ensures { Gives (start_in (section_seen section) reader.old)
+    ensures { ReadsAs (head_in (code_or_closer (section_seen section)) reader.old)
         (λ start. (option_map code_seen start, reader.new)) reader.new result }
 {
     if let Some(code) = reader.plain_code() {
@@ -102,7 +104,7 @@ fn read_entry(
     start: Code,
     lists: &mut Lists,
 ) -> Result<(), Fault<WrongToken>>
-    ensures { Adds (entry_after (section_seen section) (code_seen start) reader.old)
+    ensures { AddsDeclarations (entry_after (section_seen section) (code_seen start)) reader.old
         lists.old lists.new reader.new result }
 {
     match section {

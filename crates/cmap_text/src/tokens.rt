@@ -9,10 +9,11 @@ ghost use Rattle.cmap_tokens.specs.Texts.{units_of};
 ghost use Rattle.cmap_tokens.specs.Tokens.{String};
 ghost use Rattle.cmap_tokens.specs.TokenSeen.{token_seen};
 ghost use Rattle.cmap_tokens.specs.TokensLeft.{start_of, tokens_of};
-ghost use Rattle.cmap_text.specs.EntriesSeen.{Gives};
+ghost use Rattle.cmap_text.specs.EntriesSeen.{ReadsAs};
 ghost use Rattle.cmap_text.specs.TextFiles.{literal_head, other};
-ghost use Rattle.cmap_text.specs.TextReading.{cid_in, code_in, code_of, destination_in, head_in, is_executable, is_literal, next_in, or_refused, token_in};
+ghost use Rattle.cmap_text.specs.TextReading.{cid_in, code_in, code_of, destination_in, is_executable, is_literal};
 ghost use Rattle.cmap_text.specs.TextSeen.{code_seen};
+ghost use Rattle.cmap_text.specs.TokenReaders.{head_in, next_in, or_refused, token_in};
 
 use crate::wrong_token::WrongToken;
 use cmap_bits::bits::Reader;
@@ -62,7 +63,7 @@ impl<'d> TokenReader<'d> {
 
     /// The next token, `None` at the end of the text.
     pub(crate) fn next_token(&mut self) -> Result<Option<Token<'d>>, Fault<WrongToken>>
-        ensures { Gives (next_in self.old) (λ found. (option_map token_seen found, self.new)) self.new result }
+        ensures { ReadsAs (next_in self.old) (λ found. (option_map token_seen found, self.new)) self.new result }
     {
         let Ok(found) = self.scanner.next_token() else {
             return Err(Fault::Refused(WrongToken::Next(Reason::MalformedToken)));
@@ -72,7 +73,7 @@ impl<'d> TokenReader<'d> {
 
     /// The next token, which a section needs.
     pub(crate) fn required_token(&mut self) -> Result<Token<'d>, Fault<WrongToken>>
-        ensures { Gives (token_in self.old) (λ token. (token_seen token, self.new)) self.new result }
+        ensures { ReadsAs (token_in self.old) (λ token. (token_seen token, self.new)) self.new result }
     {
         match self.scanner.next_token() {
             Ok(Some(token)) => Ok(token),
@@ -83,7 +84,7 @@ impl<'d> TokenReader<'d> {
 
     /// The code that a token is: a string of one to four bytes.
     pub(crate) fn code(&mut self, token: &Token<'_>) -> Result<Code, Fault<WrongToken>>
-        ensures { Gives (or_refused (code_in (token_seen token.now)) self.old)
+        ensures { ReadsAs (or_refused (code_in (token_seen token.now)) self.old)
             (λ code. (code_seen code, self.new)) self.new result }
     {
         let Token::String(string) = token else {
@@ -112,7 +113,7 @@ impl<'d> TokenReader<'d> {
 
     /// The code that comes next.
     pub(crate) fn next_code(&mut self) -> Result<Code, Fault<WrongToken>>
-        ensures { Gives (head_in code_in self.old) (λ code. (code_seen code, self.new)) self.new result }
+        ensures { ReadsAs (head_in code_in self.old) (λ code. (code_seen code, self.new)) self.new result }
     {
         if let Some(code) = self.plain_code() {
             return Ok(code);
@@ -123,7 +124,7 @@ impl<'d> TokenReader<'d> {
 
     /// The units of the destination that a token is: a string that isn't empty.
     pub(crate) fn destination(&mut self, token: &Token<'_>) -> Result<Units, Fault<WrongToken>>
-        ensures { Gives (or_refused (destination_in (token_seen token.now)) self.old)
+        ensures { ReadsAs (or_refused (destination_in (token_seen token.now)) self.old)
             (λ units. (units_seen units, self.new)) self.new result }
     {
         let Token::String(string) = token else {
@@ -142,7 +143,7 @@ impl<'d> TokenReader<'d> {
 
     /// The units of the destination that comes next.
     pub(crate) fn next_destination(&mut self) -> Result<Units, Fault<WrongToken>>
-        ensures { Gives (head_in destination_in self.old)
+        ensures { ReadsAs (head_in destination_in self.old)
             (λ units. (units_seen units, self.new)) self.new result }
     {
         if let Some(number) = self.scanner.next_two_bytes() {
@@ -154,7 +155,7 @@ impl<'d> TokenReader<'d> {
 
     /// The CID that comes next: an integer of 32 bits without sign.
     pub(crate) fn next_cid(&mut self) -> Result<Cid, Fault<WrongToken>>
-        ensures { Gives (head_in cid_in self.old) (λ cid. (cid, self.new)) self.new result }
+        ensures { ReadsAs (head_in cid_in self.old) (λ cid. (cid, self.new)) self.new result }
     {
         let cid = match self.scanner.next_decimal() {
             Some(number) => u32::try_from(number).ok(),
