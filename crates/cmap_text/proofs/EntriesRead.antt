@@ -7,13 +7,13 @@ use Rattle.std.specs.Prelude.{codes, map, flat_map, ◌⊎◌, Option, Some, Non
 use Rattle.cmap_bits.specs.BigEndian.{big_endian}
 use Rattle.cmap_tokens.specs.Tokens.{Token}
 use Rattle.cmap_tokens.specs.TokensLeft.{Left}
-use Rattle.cmap_files.specs.Files.{CidEntry, Declaration, Lists}
+use Rattle.cmap_files.specs.Files.{Declaration, Lists}
 use Rattle.cmap_files.proofs.ListsMade.{added_more, append_lists-none}
-use Rattle.cmap_text.specs.TextFiles.{Section, codespace_range, cid_range, cid_char, notdef_range, notdef_char, bf_range, bf_char, closer, declares_bf, IsCode, IsDestination, IsCidRange, IsCidChar, IsEntry, AreEntries}
-use Rattle.cmap_text.specs.TextReading.{adding, body_in, Code, code_in, cid_range_after, cid_char_after, code_or_closer, codespace, declared_as, entry_after, is_executable, list_in, text_of, texts_from}
-use Rattle.cmap_text.proofs.TokensRead.{some_mapped, tested, written, code_is, code_found, cid_is, cid_found, destination_is, destination_found, is_executable-found, is_executable-own}
+use Rattle.cmap_text.specs.TextFiles.{Section, codespace_range, cids, range, single, bf_range, bf_char, closer, declares_bf, declares_cid, IsCode, IsDestination, IsEntry, AreEntries}
+use Rattle.cmap_text.specs.TextReading.{adding, body_in, Code, code_in, code_or_closer, codespace, entry_after, is_executable, list_in, text_of, texts_from}
 use Rattle.cmap_text.specs.TokenReaders.{followed_by, head_in, round, run}
-use Rattle.cmap_text.proofs.TokenReaders.{Means, Rounds, repeat_next}
+use Rattle.cmap_text.proofs.TokensRead.{some_mapped, tested, written, code_is, code_found, cid_is, cid_found, destination_is, destination_found, is_executable-found, is_executable-own}
+use Rattle.cmap_text.proofs.TokenReaders.{Implies, Means, Reading, Rounds, repeat_next}
 
 abbrev opening_bracket : Token
 opening_bracket = Token.Name false (codes "[")
@@ -21,34 +21,21 @@ opening_bracket = Token.Name false (codes "[")
 abbrev closing_bracket : Token
 closing_bracket = Token.Name false (codes "]")
 
-abbrev pub closing : Section → Token
+abbrev closing : Section → Token
 closing section = Token.Name false (closer section)
 
 -- the lists with what such tokens declare
-abbrev Adds : (List Token → List Declaration → List Token → Type 0) → Lists → List Token → Lists → List Token → Type 0
+abbrev Adds : Reading (List Declaration) → Lists → Reading Lists
 Adds Is lists tokens new rest = (declared : List Declaration) × Is tokens declared rest × (new ≡ adding lists declared)
 
--- ---- what is read is an entry
-range_there : (kind : ℕ → CidEntry → Declaration) (t : Token) (bytes : List ℕ) (lists : Lists) (tokens : List Token) (new : Lists) (rest : List Token) → IsCode t bytes → Means (declared_as kind lists (cid_range_after (written bytes))) tokens new rest
-    → Adds (λ more. IsCidRange kind (t ∷ more)) lists tokens new rest
-range_there kind t bytes lists tokens new rest is_start (p, (end, mid, (b, b_at, b_is), (cid, (c, c_at, c_is), filed_is)), new_is) =
-    let (end_bytes, is_end, same) = code_found b end b_is in
-    (_, (t, b, c, bytes, end_bytes, cid, cc, is_start, is_end, cid_found c cid c_is, refl), rw (new_is, filed_is) (ap (λ k. adding lists (kind (length bytes) (record { start = big_endian bytes; end = k.number; cid = cid }) ∷ [])) same))
-
-char_there : (kind : ℕ → CidEntry → Declaration) (t : Token) (bytes : List ℕ) (lists : Lists) (tokens : List Token) (new : Lists) (rest : List Token) → IsCode t bytes → Means (declared_as kind lists (cid_char_after (written bytes))) tokens new rest
-    → Adds (λ more. IsCidChar kind (t ∷ more)) lists tokens new rest
-char_there kind t bytes lists tokens new rest is_code (p, (cid, (c, c_at, c_is), filed_is), new_is) =
-    (_, (t, c, bytes, cid, ap (λ ts. t ∷ ts) c_at, is_code, cid_found c cid c_is, refl), rw (new_is, filed_is) refl)
-
--- one declaration for each destination, from this code on
+-- ---- destinations for count codes, from this one on, and ]
 abbrev declared_from : ℕ → List (List ℕ) → List Declaration
 declared_from start texts = map (λ p. declares_bf p.0 p.0 p.1) (enumerate_from start texts)
 
--- destinations for count codes, and ]
-abbrev IsList : ℕ → ℕ → List Token → List Declaration → List Token → Type 0
+abbrev IsList : ℕ → ℕ → Reading (List Declaration)
 IsList count start tokens declared rest = (ds : List Token) × (texts : List (List ℕ)) × (tokens ≡ ds ++ closing_bracket ∷ rest) × AllZip IsDestination ds texts × (length texts ≡ count) × (declared ≡ declared_from start texts)
 
-list_there : (count start : ℕ) (lists : Lists) (tokens : List Token) (new : Lists) (rest : List Token) → Means (list_in count start lists) tokens new rest → Adds (IsList count start) lists tokens new rest
+list_there : (count start : ℕ) (lists : Lists) → Implies (Means (list_in count start lists)) (Adds (IsList count start) lists)
 unfolding list_in
 list_there zero start lists tokens new rest (t, at, gives) =
     let (closes, same) = tested (is_executable (codes "]") t) lists new gives in
@@ -58,38 +45,7 @@ list_there (suc count) start lists tokens new rest (units, mid, (d, at, is), mor
     let (others, (ds, texts, shape, all, counted, declares), new_is) = list_there count (start + 1) (adding lists first) mid new rest more in
     (first ++ others, (d ∷ ds, units ∷ texts, at ∙ ap (λ ts. d ∷ ts) shape, (destination_found d units is, all), ap suc counted, ap (λ l. first ++ l) declares), added_more lists (adding lists first) new first others refl new_is)
 
-pub entry_there : (section : Section) (t : Token) (bytes : List ℕ) (lists : Lists) (tokens : List Token) (new : Lists) (rest : List Token) → IsCode t bytes → Means (entry_after section (written bytes) lists) tokens new rest → Adds (λ more. IsEntry section (t ∷ more)) lists tokens new rest
-entry_there codespace_range t bytes lists tokens new rest is_low (high, mid, (b, b_at, b_is), (gives, mid_is)) =
-    let (high_bytes, is_high, same) = code_found b high b_is in
-    let (declared, of_codes, added) = some_mapped (adding lists) (codespace (written bytes) high) new gives in
-    let (equal, declares) = tested (length bytes == high.len) _ declared of_codes in (
-      _,
-      (t, b, bytes, high_bytes, cc, is_low, is_high, eqb-true (length bytes) high.len equal ∙ ap (λ k. k.len) same, refl),
-      sym added ∙ ap (adding lists) (sym declares ∙ ap (λ k. Declaration.codespace (record { len = length bytes; low = big_endian bytes; high = k.number }) ∷ []) same),
-    )
-entry_there cid_range t bytes lists tokens new rest is_code means = range_there Declaration.cid t bytes lists tokens new rest is_code means
-entry_there cid_char t bytes lists tokens new rest is_code means = char_there Declaration.cid t bytes lists tokens new rest is_code means
-entry_there notdef_range t bytes lists tokens new rest is_code means = range_there Declaration.notdef t bytes lists tokens new rest is_code means
-entry_there notdef_char t bytes lists tokens new rest is_code means = char_there Declaration.notdef t bytes lists tokens new rest is_code means
-entry_there bf_char t bytes lists tokens new rest is_code (units, (d, at, is), new_is) = (_, (t, d, bytes, units, ap (λ ts. t ∷ ts) at, is_code, destination_found d units is, refl), new_is)
-entry_there bf_range t bytes lists tokens new rest is_code (end, mid, (b, b_at, b_is), (u, later, (d, d_at, d_is), texts)) =
-    let (end_bytes, is_end, same) = code_found b end b_is in
-    let number : end.number ≡ big_endian end_bytes = ap (λ k. k.number) same in
-    let begins : t ∷ tokens ≡ t ∷ b ∷ u ∷ later = rw (b_at, d_at, same_Some d u d_is) refl in
-    let read = subst (λ n. Means (texts_from (big_endian bytes) n lists u) later new rest) number texts in
-    elim (cases_Bool (is_executable (codes "[") u)) [
-      | inl opens ↦
-          let (declared, (ds, units, shape, all, counted, declares), new_is) = list_there _ (big_endian bytes) lists later new rest (rw (opens, Means) at read) in
-          let bracket = is_executable-found (codes "[") u opens in
-          (declared, (t, b, bytes, end_bytes, is_code, is_end, inr (ds, units, begins ∙ ap (λ ts. t ∷ b ∷ u ∷ ts) shape ∙ ap (λ v. t ∷ b ∷ v ∷ ds ++ closing_bracket ∷ rest) bracket, all, counted, declares)), new_is)
-      | inr one ↦
-          let (units, (is, whole), new_is) = rw (one, Means) at read in
-          (_, (t, b, bytes, end_bytes, is_code, is_end, inl (u, units, begins ∙ ap (λ ts. t ∷ b ∷ u ∷ ts) whole, destination_found u units is, refl)), new_is)
-    ]
-
--- ---- each entry is read
-list_found : (ds : List Token) (texts : List (List ℕ)) (start : ℕ) (lists : Lists) (rest : List Token) → AllZip IsDestination ds texts
-    → Means (list_in (length texts) start lists) (ds ++ closing_bracket ∷ rest) (adding lists (declared_from start texts)) rest
+list_found : (ds : List Token) (texts : List (List ℕ)) (start : ℕ) (lists : Lists) (rest : List Token) → AllZip IsDestination ds texts → Means (list_in (length texts) start lists) (ds ++ closing_bracket ∷ rest) (adding lists (declared_from start texts)) rest
 unfolding list_in
 list_found [] [] start lists rest all = (closing_bracket, refl, ap Some (sym (append_lists-none lists)))
 list_found [] (units ∷ texts) start lists rest all = absurd all
@@ -97,38 +53,65 @@ list_found (d ∷ ds) [] start lists rest all = absurd all
 list_found (d ∷ ds) (units ∷ texts) start lists rest all =
     let first = text_of start start units in
     let later = list_found ds texts (start + 1) (adding lists first) rest all.1 in
-    (units, ds ++ closing_bracket ∷ rest, (d, refl, destination_is d units all.0), subst (λ l. Means (list_in (length texts) (start + 1) (adding lists first)) (ds ++ closing_bracket ∷ rest) l rest) (added_more lists (adding lists first) _ first (declared_from (start + 1) texts) refl refl) later)
+    (units, _, (d, refl, destination_is d units all.0), subst (λ l. Means (list_in (length texts) (start + 1) (adding lists first)) (ds ++ closing_bracket ∷ rest) l rest) (added_more lists (adding lists first) _ first (declared_from (start + 1) texts) refl refl) later)
 
+-- ---- what is read is an entry
+module _ (t : Token) (bytes : List ℕ) (is_code : IsCode t bytes) (lists : Lists) where
+  pub entry_there : (section : Section) → Implies (Means (entry_after section (written bytes) lists)) (Adds (λ tokens. IsEntry section (t ∷ tokens)) lists)
+  entry_there codespace_range tokens new rest (high, mid, (b, b_at, b_is), (gives, mid_is)) =
+      let (high_bytes, is_high, same) = code_found b high b_is in
+      let (declared, of_codes, added) = some_mapped (adding lists) (codespace (written bytes) high) new gives in
+      let (equal, declares) = tested (length bytes == high.len) _ declared of_codes in (
+        _,
+        (t, b, bytes, high_bytes, cc, is_code, is_high, eqb-true (length bytes) high.len equal ∙ ap (λ k. k.len) same, refl),
+        sym added ∙ ap (adding lists) (sym declares ∙ ap (λ k. Declaration.codespace (record { len = length bytes; low = big_endian bytes; high = k.number }) ∷ []) same),
+      )
+  entry_there (cids kind range) tokens new rest (p, (end, mid, (b, b_at, b_is), (n, (c, c_at, c_is), filed_is)), new_is) =
+      let (end_bytes, is_end, same) = code_found b end b_is in (
+        _,
+        (t, b, c, bytes, end_bytes, n, cc, is_code, is_end, cid_found c n c_is, refl),
+        rw (new_is, filed_is) (ap (λ k. adding lists (declares_cid kind (length bytes) (record { start = big_endian bytes; end = k.number; cid = n }) ∷ [])) same),
+      )
+  entry_there (cids kind single) tokens new rest (p, (n, (c, c_at, c_is), filed_is), new_is) = (_, (t, c, bytes, n, cc, is_code, cid_found c n c_is, refl), rw (new_is, filed_is) refl)
+  entry_there bf_char tokens new rest (units, (d, at, is), new_is) = (_, (t, d, bytes, units, cc, is_code, destination_found d units is, refl), new_is)
+  entry_there bf_range tokens new rest (end, mid, (b, b_at, b_is), (u, later, (d, d_at, d_is), texts)) =
+      let (end_bytes, is_end, same) = code_found b end b_is in
+      let read = subst (λ k. Means (texts_from (big_endian bytes) k.number lists u) later new rest) same texts in
+      let begins : t ∷ tokens ≡ t ∷ b ∷ u ∷ later = cc in
+      elim (cases_Bool (is_executable (codes "[") u)) [
+        | inl opens ↦
+            let (declared, (ds, units, shape, all, counted, declares), new_is) = list_there _ (big_endian bytes) lists later new rest (rw (opens, Means) at read) in
+            let bracket = is_executable-found (codes "[") u opens in
+            (declared, (t, b, bytes, end_bytes, is_code, is_end, inr (ds, units, begins ∙ cc, all, counted, declares)), new_is)
+        | inr one ↦ let (units, (is, whole), new_is) = rw (one, Means) at read in (_, (t, b, bytes, end_bytes, is_code, is_end, inl (u, units, cc, destination_found u units is, refl)), new_is)
+      ]
+
+-- ---- each entry is read
 -- the first code of an entry, and what is read after it
-abbrev Enters : Section → List Token → List Declaration → List Token → Type 0
+abbrev Enters : Section → Reading (List Declaration)
 Enters section tokens declared rest = (t : Token) × (bytes : List ℕ) × (later : List Token) × (tokens ≡ t ∷ later) × IsCode t bytes × ((lists : Lists) → Means (entry_after section (written bytes) lists) later (adding lists declared) rest)
 
-pub entry_found : (section : Section) (tokens : List Token) (declared : List Declaration) (rest : List Token) → IsEntry section tokens declared rest → Enters section tokens declared rest
+pub entry_found : (section : Section) → Implies (IsEntry section) (Enters section)
 entry_found codespace_range tokens declared rest (a, b, low, high, shape, is_low, is_high, same, declares) =
-    (a, low, b ∷ rest, shape, is_low, λ lists. (written high, rest, (b, refl, code_is b high is_high), (rw (declares, eq-eqb (length low) (length high) same) refl, refl)))
-entry_found cid_range tokens declared rest (a, b, c, start, end, cid, shape, is_start, is_end, is_cid, declares) =
-    (a, start, b ∷ c ∷ rest, shape, is_start, λ lists. (_, (written end, c ∷ rest, (b, refl, code_is b end is_end), (cid, (c, refl, cid_is c cid is_cid), refl)), rw declares refl))
-entry_found notdef_range tokens declared rest (a, b, c, start, end, cid, shape, is_start, is_end, is_cid, declares) =
-    (a, start, b ∷ c ∷ rest, shape, is_start, λ lists. (_, (written end, c ∷ rest, (b, refl, code_is b end is_end), (cid, (c, refl, cid_is c cid is_cid), refl)), rw declares refl))
-entry_found cid_char tokens declared rest (a, c, code, cid, shape, is_code, is_cid, declares) =
-    (a, code, c ∷ rest, shape, is_code, λ lists. (_, (cid, (c, refl, cid_is c cid is_cid), refl), rw declares refl))
-entry_found notdef_char tokens declared rest (a, c, code, cid, shape, is_code, is_cid, declares) =
-    (a, code, c ∷ rest, shape, is_code, λ lists. (_, (cid, (c, refl, cid_is c cid is_cid), refl), rw declares refl))
+    (a, low, _, shape, is_low, λ lists. (_, _, (b, refl, code_is b high is_high), (rw (declares, eq-eqb (length low) (length high) same) refl, refl)))
+entry_found (cids kind range) tokens declared rest (a, b, c, start, end, n, shape, is_start, is_end, is_cid, declares) =
+    (a, start, _, shape, is_start, λ lists. (_, (_, _, (b, refl, code_is b end is_end), (n, (c, refl, cid_is c n is_cid), refl)), rw declares refl))
+entry_found (cids kind single) tokens declared rest (a, c, code, n, shape, is_code, is_cid, declares) =
+    (a, code, _, shape, is_code, λ lists. (_, (n, (c, refl, cid_is c n is_cid), refl), rw declares refl))
 entry_found bf_char tokens declared rest (a, d, code, units, shape, is_code, is_d, declares) =
-    (a, code, d ∷ rest, shape, is_code, λ lists. (units, (d, refl, destination_is d units is_d), rw declares refl))
+    (a, code, _, shape, is_code, λ lists. (units, (d, refl, destination_is d units is_d), rw declares refl))
 entry_found bf_range tokens declared rest (a, b, start, end, is_start, is_end, inl (d, units, shape, is_d, declares)) =
     let other = ap (is_executable (codes "[")) is_d.2 in
-    (a, start, b ∷ d ∷ rest, shape, is_start, λ lists. (written end, d ∷ rest, (b, refl, code_is b end is_end), (d, rest, (d, refl, refl), rw other (units, (destination_is d units is_d, refl), rw declares refl))))
+    (a, start, _, shape, is_start, λ lists. (_, _, (b, refl, code_is b end is_end), (_, _, (d, refl, refl), rw other (units, (destination_is d units is_d, refl), rw declares refl))))
 entry_found bf_range tokens declared rest (a, b, start, end, is_start, is_end, inr (ds, texts, shape, all, count, declares)) =
-    let later = ds ++ closing_bracket ∷ rest in
-    (a, start, b ∷ opening_bracket ∷ later, shape, is_start, λ lists. (written end, opening_bracket ∷ later, (b, refl, code_is b end is_end), (opening_bracket, later, (opening_bracket, refl, refl), rw (declares, ← count) (list_found ds texts (big_endian start) lists rest all))))
+    (a, start, _, shape, is_start, λ lists. (_, _, (b, refl, code_is b end is_end), (opening_bracket, _, (opening_bracket, refl, refl), rw (declares, ← count) (list_found ds texts (big_endian start) lists rest all))))
 
 -- ---- sections
 module _ (section : Section) where
-  abbrev pub Entries : ℕ → Lists → List Token → Lists → List Token → Type 0
+  abbrev Entries : ℕ → Lists → Reading Lists
   Entries = Rounds (code_or_closer section) (λ now code. Means (entry_after section code now))
 
-  -- whether a token is the closer, or else the code of an entry
+  -- a token is the closer, or else the code of an entry
   begins : (t : Token) (found : Option Code) → code_or_closer section t ≡ Some found → ((found ≡ None) × (t ≡ closing section)) ⊎ ((code : Code) × (found ≡ Some code) × (code_in t ≡ Some code))
   begins t found is =
       elim (cases_Bool (is_executable (closer section) t)) [
@@ -136,10 +119,10 @@ module _ (section : Section) where
         | inr one ↦ let (code, gives, same) = some_mapped Some (code_in t) found (rw one at is) in inr (code, sym same, gives)
       ]
 
-  pub entries_there : (n : ℕ) (lists : Lists) (tokens : List Token) (new : Lists) (rest : List Token) → Entries n lists tokens new rest → (each : List (List Declaration)) × AreEntries section tokens each rest × (new ≡ adding lists (flat_map (λ ds. ds) each))
+  pub entries_there : (n : ℕ) (lists : Lists) → Implies (Entries n lists) (λ tokens new rest. (each : List (List Declaration)) × AreEntries section tokens each rest × (new ≡ adding lists (flat_map (λ ds. ds) each)))
   entries_there zero lists tokens new rest (t, at, begun, same) =
       elim (begins t None begun) [
-        | inl (none, closes) ↦ ([], at ∙ ap (λ u. u ∷ rest) closes, sym (append_lists-none lists ∙ same))
+        | inl (none, closes) ↦ ([], cc, sym (append_lists-none lists ∙ same))
         | inr (code, clash, gives) ↦ absurd (none-some code clash)
       ]
   entries_there (suc n) lists tokens new rest (t, code, later, mid, next, at, begun, means, rounds) =
@@ -148,7 +131,7 @@ module _ (section : Section) where
         | inr (other, same, gives) ↦
             let (bytes, is_code, code_is) = code_found t other gives in
             let first = subst (λ k. Means (entry_after section k lists) later next mid) (same_Some code other same ∙ code_is) means in
-            let (declared, entry, next_is) = entry_there section t bytes lists later next mid is_code first in
+            let (declared, entry, next_is) = entry_there t bytes is_code lists section later next mid first in
             let (each, are, new_is) = entries_there n next mid new rest rounds in
             (declared ∷ each, (mid, subst (λ ts. IsEntry section ts declared mid) (sym at) entry, are), added_more lists next new declared (flat_map (λ ds. ds) each) next_is new_is)
       ]
@@ -157,18 +140,10 @@ module _ (section : Section) where
   entries_found [] lists tokens rest are = (closing section, are, rw (is_executable-own (closer section)) refl, sym (append_lists-none lists))
   entries_found (declared ∷ each) lists tokens rest (mid, entry, are) =
       let (t, bytes, later, shape, is_code, means) = entry_found section tokens declared mid entry in
-      let other : is_executable (closer section) t ≡ false = ap (is_executable (closer section)) is_code.1 in
-      let rounds = entries_found each (adding lists declared) mid rest are in (
-        t,
-        written bytes,
-        later,
-        mid,
-        adding lists declared,
-        shape,
-        rw (other, code_is t bytes is_code) refl,
-        means lists,
-        subst (λ l. Entries (length each) (adding lists declared) mid l rest) (added_more lists (adding lists declared) _ declared (flat_map (λ ds. ds) each) refl refl) rounds,
-      )
+      let other = ap (is_executable (closer section)) is_code.1 in
+      let rounds = entries_found each (adding lists declared) mid rest are in
+      let all = subst (λ l. Entries (length each) (adding lists declared) mid l rest) (added_more lists (adding lists declared) _ declared (flat_map (λ ds. ds) each) refl refl) rounds in
+      (t, written bytes, later, mid, adding lists declared, shape, rw (other, code_is t bytes is_code) refl, means lists, all)
 
 pub body_next : (section : Section) (lists : Lists) (here : Left) → run (body_in section lists) here ≡ followed_by (round (λ now. run (body_in section now)) (λ now code. run (entry_after section code now)) lists) (head_in (code_or_closer section) here)
-body_next section lists here = repeat_next (code_or_closer section) (λ now code. entry_after section code now) lists here
+body_next section = repeat_next (code_or_closer section) (λ now code. entry_after section code now)

@@ -11,17 +11,20 @@ use Rattle.cmap_files.specs.Only.{HoldsOfNone}
 use Rattle.cmap_text.specs.TextFiles.{IsTextFile}
 use Rattle.cmap_text.specs.TokenReaders.{Found, after, followed_by, head_in, next_in, or_refused, token_in, Reader, wanted, head, giving, chain, repeat, round, run, ItemReader, reads, takes_value, run_item}
 use Rattle.cmap_text.specs.TextReading.{all_said, item_after, item_said, nothing_said, Said}
-use Rattle.cmap_text.proofs.TokenReaders.{having, head-shorter, run-shorter, repeat_next}
+use Rattle.cmap_text.proofs.TokenReaders.{having, head-shorter, is_there, repeat_next}
 use Rattle.cmap_text.proofs.ItemsRead.{item-shorter, next-shorter, said_next}
 use Rattle.cmap_text.proofs.TextRead.{no_file}
 
 module _ (k : ℕ) where
   -- ---- tokens that are left of two texts, which agree up to k
-  agree_after : (p q : Placed) (r s : List Placed) (left other : Left) (tokens others : List Placed) → Agree k tokens left others other → Agree k tokens (after p r left) others (after q s other)
-  agree_after p q r s left other [] others agree = agree
-  agree_after p q r s left other (t ∷ tokens) others agree = λ within.
+  abbrev Alike : Left → Left → Type 0
+  Alike left other = IsInOrder left × AgreesTo k left other
+
+  agree_after : (p : Placed) (r s : List Placed) (left other : Left) (tokens others : List Placed) → Agree k tokens left others other → Agree k tokens (after p r left) others (after p s other)
+  agree_after p r s left other [] others agree = agree
+  agree_after p r s left other (t ∷ tokens) others agree = λ within.
       let (rest, same, more) = agree within in
-      (rest, same, agree_after p q r s left other tokens rest more)
+      (rest, same, agree_after p r s left other tokens rest more)
 
   -- past k nothing has to agree
   beyond : (left : Left) → IsInOrder left → k < left.passed → AgreesTo k left left
@@ -32,134 +35,125 @@ module _ (k : ℕ) where
       at (p ∷ tokens) o = λ within. absurd (omega (arith, o.0, within, past))
 
   -- ---- what is found in them
-  -- what is left in both; or nothing is said of it
-  data Claim : Type 0 where
-    both_left : Claim
-    none : Claim
-
-  -- what is found in a text from an offset on, and in the other one
-  abbrev Agrees : {A : Type 0} → Claim → ℕ → Found A → Found A → Type 0
-  Agrees claim passed (Err e) other = (passed ≤ e) × (e ≤ k → other ≡ Err e)
-  Agrees both_left passed (Ok p) other = IsInOrder p.1 × (passed ≤ p.1.passed) × (p.1.passed ≤ k → (next : Left) × (other ≡ Ok (p.0, next)) × AgreesTo k p.1 next)
-  Agrees none passed (Ok p) other = Unit {0}
+  -- what is found in the one and in the other; of what is left after it only if that matters
+  abbrev Agrees : {A : Type 0} → Bool → Left → Found A → Found A → Type 0
+  Agrees matters left (Err e) other = (left.passed ≤ e) × (e ≤ k → other ≡ Err e)
+  Agrees true left (Ok p) other = (left.passed ≤ p.1.passed) × IsInOrder p.1 × (p.1.passed ≤ k → (next : Left) × (other ≡ Ok (p.0, next)) × AgreesTo k p.1 next)
+  Agrees false left (Ok p) other = Unit {0}
 
   -- found later, or past k
-  later : {A : Type 0} (claim : Claim) (passed mid : ℕ) (found other : Found A) → passed ≤ mid → Agrees claim mid found other → Agrees claim passed found other
-  later claim passed mid (Err e) other less (from, same) = (omega (arith, less, from), same)
-  later both_left passed mid (Ok p) other less (order, from, same) = (order, omega (arith, less, from), same)
-  later none passed mid (Ok p) other less agrees = tt
+  later : {A : Type 0} (matters : Bool) (left mid : Left) (found other : Found A) → left.passed ≤ mid.passed → Agrees matters mid found other → Agrees matters left found other
+  later matters left mid (Err e) other less (from, same) = (omega (arith, less, from), same)
+  later true left mid (Ok p) other less (from, order, same) = (omega (arith, less, from), order, same)
+  later false left mid (Ok p) other less agrees = tt
 
-  past_all : {A : Type 0} (claim : Claim) (mid : ℕ) (found other any : Found A) → k < mid → Agrees claim mid found other → Agrees claim mid found any
-  past_all claim mid (Err e) other any past (from, same) = (from, λ within. absurd (omega (arith, past, from, within)))
-  past_all both_left mid (Ok p) other any past (order, from, same) = (order, from, λ within. absurd (omega (arith, past, from, within)))
-  past_all none mid (Ok p) other any past agrees = tt
+  too_late : {A : Type 0} (matters : Bool) (mid : Left) (found other any : Found A) → k < mid.passed → Agrees matters mid found other → Agrees matters mid found any
+  too_late matters mid (Err e) other any past (from, same) = (from, λ within. absurd (omega (arith, past, from, within)))
+  too_late true mid (Ok p) other any past (from, order, same) = (from, order, λ within. absurd (omega (arith, past, from, within)))
+  too_late false mid (Ok p) other any past agrees = tt
 
-  then_agrees : {A B : Type 0} (claim : Claim) (more : A → Left → Found B) (passed : ℕ) (found other : Found A) → Agrees both_left passed found other
-      → ((x : A) (next mid : Left) → found ≡ Ok (x, next) → IsInOrder next → AgreesTo k next mid → Agrees claim next.passed (more x next) (more x mid)) → Agrees claim passed (followed_by more found) (followed_by more other)
-  then_agrees claim more passed (Err e) other (less, same) both = (less, λ within. ap (followed_by more) (same within))
-  then_agrees claim more passed (Ok p) other (order, less, same) both =
-      let here = p.1.passed in
-      later claim passed here (more p.0 p.1) (followed_by more other) less (elim (cases_lt k here) [
-        | inl past ↦ past_all claim here (more p.0 p.1) (more p.0 p.1) (followed_by more other) past (both p.0 p.1 p.1 refl order (beyond p.1 order past))
-        | inr within ↦ let (mid, is, agrees) = same within in subst (λ f. Agrees claim here (more p.0 p.1) (followed_by more f)) (sym is) (both p.0 p.1 mid refl order agrees)
+  then_agrees : {A B : Type 0} (matters : Bool) (more : A → Left → Found B) (left : Left) (found other : Found A) → Agrees true left found other → ((x : A) (next mid : Left) → found ≡ Ok (x, next) → Alike next mid → Agrees matters next (more x next) (more x mid))
+      → Agrees matters left (followed_by more found) (followed_by more other)
+  then_agrees matters more left (Err e) other (less, same) both = (less, λ within. ap (followed_by more) (same within))
+  then_agrees matters more left (Ok (x, next)) other (less, order, same) both =
+      later matters left next (more x next) (followed_by more other) less (elim (cases_lt k next.passed) [
+        | inl past ↦ too_late matters next (more x next) (more x next) (followed_by more other) past (both x next next refl (order, beyond next order past))
+        | inr within ↦ let (mid, is, agrees) = same within in subst (λ f. Agrees matters next (more x next) (followed_by more f)) (sym is) (both x next mid refl (order, agrees))
       ])
 
   abbrev IsLocal : {A : Type 0} → (Left → Found A) → Type 0
-  IsLocal read = (left other : Left) → IsInOrder left → AgreesTo k left other → Agrees both_left left.passed (read left) (read other)
+  IsLocal read = (left other : Left) → Alike left other → Agrees true left (read left) (read other)
+
+  then_local : {A B : Type 0} (more : A → Left → Found B) (read : Left → Found A) → IsLocal read → ((x : A) → IsLocal (more x)) → IsLocal (λ left. followed_by more (read left))
+  then_local more read first second left other alike = then_agrees true more left (read left) (read other) (first left other alike) (λ x next mid is. second x next mid)
 
   wanted_local : {A : Type 0} (found : Option A) → IsLocal (or_refused found)
-  wanted_local None left other order (passed, agrees) = (omega arith, λ within. ap Err passed)
-  wanted_local (Some x) left other order agrees = (order, omega arith, λ within. (other, refl, agrees))
+  wanted_local None left other (order, (passed, agrees)) = (omega arith, λ within. ap Err passed)
+  wanted_local (Some x) left other (order, agrees) = (omega arith, order, λ within. (other, refl, agrees))
+
+  token_local : IsLocal token_in
+  token_local left other (order, (passed, agrees)) = at left.tokens order agrees
+    where
+      at : (tokens : List Placed) → AreInOrder left.passed tokens left.stop → Agree k tokens left other.tokens other → Agrees true left (token_in (having tokens left)) (token_in other)
+      at [] o a = (o, λ within. let (ends, none, also, same) = a within in rw (none, same) refl)
+      at (p ∷ rest) o a = (o.0, o.1, λ within. let (others, begins, more) = a within in (after p others other, rw begins refl, (refl, agree_after p rest others left other rest others more)))
 
   head_local : {A : Type 0} (read : Token → Option A) → IsLocal (head_in read)
-  head_local read left other order (passed, agrees) = then_agrees both_left (λ t. or_refused (read t)) left.passed (token_in left) (token_in other) (at left.tokens order agrees) (λ t next mid is o a. wanted_local (read t) next mid o a)
-    where
-      at : (tokens : List Placed) → AreInOrder left.passed tokens left.stop → Agree k tokens left other.tokens other → Agrees both_left left.passed (token_in (having tokens left)) (token_in other)
-      at [] o a = (o, λ within. let (ends, none_there, also, same) = a within in rw (none_there, same) refl)
-      at (p ∷ rest) o a = (
-        o.1,
-        o.0,
-        λ within. let (others, begins, more) = a within in (after p others other, rw begins refl, (refl, agree_after p p rest others left other rest others more)),
-      )
+  head_local read = then_local (λ t. or_refused (read t)) token_in token_local (λ t. wanted_local (read t))
 
-  module _ {S X : Type 0} (begins : Token → Option (Option X)) (more : S → X → Reader S) (are_local : (now : S) (x : X) → IsLocal (run (more now x))) where
-    rounds_local : (n : ℕ) (now : S) (left other : Left) → IsInOrder left → AgreesTo k left other → length left.tokens < n → Agrees both_left left.passed (run (repeat begins more now) left) (run (repeat begins more now) other)
-    rounds_local zero now left other order agrees long = absurd (omega (arith, long))
-    rounds_local (suc n) now left other order agrees long =
+  module _ {S X : Type 0} (begins : Token → Option (Option X)) (more : S → X → Reader S) (each : (now : S) (x : X) → IsLocal (run (more now x))) where
+    abbrev again : S → Left → Found S
+    again now = run (repeat begins more now)
+
+    rounds_local : (n : ℕ) (now : S) (left other : Left) → length left.tokens < n → Alike left other → Agrees true left (again now left) (again now other)
+    rounds_local zero now left other long alike = absurd (omega (arith, long))
+    rounds_local (suc n) now left other long alike =
         rw (repeat_next begins more now left, repeat_next begins more now other) (
-        then_agrees both_left (round (λ s. run (repeat begins more s)) (λ s x. run (more s x)) now) left.passed (head_in begins left) (head_in begins other) (head_local begins left other order agrees) (λ x next mid is o a. from x next mid is o a (rounds_local n))
+        then_agrees true (round again (λ s x. run (more s x)) now) left (head_in begins left) (head_in begins other) (head_local begins left other alike) (λ x next mid is. from x next mid is (rounds_local n))
         )
       where
-        from : (x : Option X) (next mid : Left) → head_in begins left ≡ Ok (x, next) → IsInOrder next → AgreesTo k next mid → ((new : S) (here there : Left) → IsInOrder here → AgreesTo k here there → length here.tokens < n → Agrees both_left here.passed (run (repeat begins more new) here) (run (repeat begins more new) there))
-            → Agrees both_left next.passed (round (λ s. run (repeat begins more s)) (λ s y. run (more s y)) now x next) (round (λ s. run (repeat begins more s)) (λ s y. run (more s y)) now x mid)
-        from None next mid is o a again = wanted_local (Some now) next mid o a
-        from (Some x) next mid is o a again =
-            then_agrees both_left (λ s. run (repeat begins more s)) next.passed (run (more now x) next) (run (more now x) mid) (are_local now x next mid o a) (
-            λ new here there goes_on ho ha. again new here there ho ha (omega (arith, long, head-shorter begins left (Some x, next) is, run-shorter (more now x) next (new, here) goes_on))
+        from : (x : Option X) (next mid : Left) → head_in begins left ≡ Ok (x, next) → ((new : S) (here there : Left) → length here.tokens < n → Alike here there → Agrees true here (again new here) (again new there))
+            → Alike next mid → Agrees true next (round again (λ s y. run (more s y)) now x next) (round again (λ s y. run (more s y)) now x mid)
+        from None next mid is rounds alike = wanted_local (Some now) next mid alike
+        from (Some x) next mid is rounds alike =
+            then_agrees true again next (run (more now x) next) (run (more now x) mid) (each now x next mid alike) (
+            λ new here there goes_on. rounds new here there (omega (arith, long, head-shorter begins left (Some x, next) is, (is_there (more now x) next (new, here) goes_on).2))
             )
 
   run_local : {A : Type 0} (r : Reader A) → IsLocal (run r)
   run_local (wanted found) = wanted_local found
   run_local (head read) = head_local read
-  run_local (giving f reader) = λ left other order agrees. then_agrees both_left (λ x next. Ok (f x, next)) left.passed (run reader left) (run reader other) (run_local reader left other order agrees) (λ x next mid is o a. wanted_local (Some (f x)) next mid o a)
-  run_local (chain first more) = λ left other order agrees. then_agrees both_left (λ x. run (more x)) left.passed (run first left) (run first other) (run_local first left other order agrees) (λ x next mid is o a. run_local (more x) next mid o a)
-  run_local (repeat begins more start) = λ left other order agrees. rounds_local begins more (λ now x. run_local (more now x)) (1 + length left.tokens) start left other order agrees (omega arith)
+  run_local (giving f reader) = then_local (λ x next. Ok (f x, next)) (run reader) (run_local reader) (λ x. wanted_local (Some (f x)))
+  run_local (chain first more) = then_local (λ x. run (more x)) (run first) (run_local first) (λ x. run_local (more x))
+  run_local (repeat begins more start) = λ left other. rounds_local begins more (λ now x. run_local (more now x)) (1 + length left.tokens) start left other (omega arith)
 
   -- ---- items
   -- the next token agrees, or the text ends
-  next_local : (left other : Left) → IsInOrder left → AgreesTo k left other → (next_in left ≡ Ok (None, left)) ⊎ Agrees both_left left.passed (next_in left) (next_in other)
-  next_local left other order (passed, agrees) = at left.tokens left.ends order agrees
+  next_local : (left other : Left) → Alike left other → (next_in left ≡ Ok (None, left)) ⊎ Agrees true left (next_in left) (next_in other)
+  next_local left other (order, (passed, agrees)) = at left.tokens left.ends order agrees
     where
       at : (tokens : List Placed) (ends : Bool) → AreInOrder left.passed tokens left.stop → let l : Left = record { passed = left.passed; tokens = tokens; ends = ends; stop = left.stop } in Agree k tokens l other.tokens other
-          → (next_in l ≡ Ok (None, l)) ⊎ Agrees both_left left.passed (next_in l) (next_in other)
+          → (next_in l ≡ Ok (None, l)) ⊎ Agrees true left (next_in l) (next_in other)
       at [] true o a = inl refl
-      at [] false o a = inr (o, λ within. let (ends, none_there, also, same) = a within in rw (none_there, also, same) refl)
-      at (p ∷ rest) ends o a = inr (
-        o.1,
-        o.0,
-        λ within. let (others, begins, more) = a within in (after p others other, rw begins refl, (refl, agree_after p p rest others (record { passed = left.passed; tokens = p ∷ rest; ends = ends; stop = left.stop }) other rest others more)),
-      )
+      at [] false o a = inr (o, λ within. let (ends, none, also, same) = a within in rw (none, also, same) refl)
+      at (p ∷ rest) ends o a = inr (o.0, o.1, λ within. let (others, begins, more) = a within in (after p others other, rw begins refl, (refl, agree_after p rest others (record { passed = left.passed; tokens = p ∷ rest; ends = ends; stop = left.stop }) other rest others more)))
 
   -- at the end all is said
   ended : (now : Said) (here : Left) → next_in here ≡ Ok (None, here) → all_said now here ≡ Ok (now, here)
   ended now here end = said_next now here ∙ ap (followed_by (round all_said item_said now)) end
 
   abbrev SaidAgrees : Said → Left → Left → Type 0
-  SaidAgrees now left other = Agrees none left.passed (all_said now left) (all_said now other)
+  SaidAgrees now left other = Alike left other → Agrees false left (all_said now left) (all_said now other)
 
-  said_local : (n : ℕ) (now : Said) (left other : Left) → IsInOrder left → AgreesTo k left other → length left.tokens < n → SaidAgrees now left other
-  said_local zero now left other order agrees long = absurd (omega (arith, long))
-  said_local (suc n) now left other order agrees long =
-      elim (next_local left other order agrees) [
+  -- what is said after an item
+  item_local : (i : ItemReader Said) (left other : Left) → ((new : Said) (here there : Left) → run_item i left ≡ Ok (new, here) → SaidAgrees new here there) → Alike left other → Agrees false left (followed_by all_said (run_item i left)) (followed_by all_said (run_item i other))
+  item_local (reads reader) left other later_said alike = then_agrees false all_said left (run reader left) (run reader other) (run_local reader left other alike) later_said
+  item_local (takes_value set) left other later_said alike =
+      elim (next_local left other alike) [
+        | inl end ↦ rw (end, ended (set None) left end) tt
+        | inr value ↦ then_agrees false all_said left (run_item (takes_value set) left) (run_item (takes_value set) other) (then_agrees true (λ v next. Ok (set v, next)) left (next_in left) (next_in other) value (λ v next mid is. wanted_local (Some (set v)) next mid)) later_said
+      ]
+
+  said_local : (n : ℕ) (now : Said) (left other : Left) → length left.tokens < n → SaidAgrees now left other
+  said_local zero now left other long alike = absurd (omega (arith, long))
+  said_local (suc n) now left other long alike =
+      elim (next_local left other alike) [
         | inl end ↦ rw (ended now left end) tt
         | inr first ↦ rw (said_next now left, said_next now other) (
-            then_agrees none (round all_said item_said now) left.passed (next_in left) (next_in other) first (λ t next mid is o a. from t next mid is o a (said_local n))
+            then_agrees false (round all_said item_said now) left (next_in left) (next_in other) first (λ t next mid is. from t next mid is (said_local n))
             )
       ]
     where
-      Again : Type 0
-      Again = (new : Said) (here there : Left) → IsInOrder here → AgreesTo k here there → length here.tokens < n → SaidAgrees new here there
-
-      item : (i : ItemReader Said) (next mid : Left) → IsInOrder next → AgreesTo k next mid → ((new : Said) (here there : Left) → run_item i next ≡ Ok (new, here) → IsInOrder here → AgreesTo k here there → SaidAgrees new here there)
-          → Agrees none next.passed (followed_by all_said (run_item i next)) (followed_by all_said (run_item i mid))
-      item (reads reader) next mid o a again = then_agrees none all_said next.passed (run reader next) (run reader mid) (run_local reader next mid o a) again
-      item (takes_value set) next mid o a again = elim (next_local next mid o a) [
-        | inl end ↦ rw (end, ended (set None) next end) tt
-        | inr value ↦ then_agrees none all_said next.passed (run_item (takes_value set) next) (run_item (takes_value set) mid) (then_agrees both_left (λ v l. Ok (set v, l)) next.passed (next_in next) (next_in mid) value (λ v here there is ho ha. wanted_local (Some (set v)) here there ho ha)) again
-      ]
-
-      from : (t : Option Token) (next mid : Left) → next_in left ≡ Ok (t, next) → IsInOrder next → AgreesTo k next mid → ((new : Said) (here there : Left) → IsInOrder here → AgreesTo k here there → length here.tokens < n → SaidAgrees new here there)
-          → Agrees none next.passed (round all_said item_said now t next) (round all_said item_said now t mid)
-      from None next mid is o a again = tt
-      from (Some t) next mid is o a again = item (item_after now t) next mid o a (λ new here there goes_on ho ha. again new here there ho ha (omega (arith, long, next-shorter left t next is, item-shorter (item_after now t) next (new, here) goes_on)))
-
-  all_local : (old : Said) (left other : Left) (e : ℕ) → IsInOrder left → AgreesTo k left other → e ≤ k → all_said old left ≡ Err e → all_said old other ≡ Err e
-  all_local old left other e order agrees within is =
-      (subst (λ f. Agrees none left.passed f (all_said old other)) is (said_local (1 + length left.tokens) old left other order agrees (omega arith))).1 within
+      from : (t : Option Token) (next mid : Left) → next_in left ≡ Ok (t, next) → ((new : Said) (here there : Left) → length here.tokens < n → SaidAgrees new here there)
+          → Alike next mid → Agrees false next (round all_said item_said now t next) (round all_said item_said now t mid)
+      from None next mid is later_said next_alike = tt
+      from (Some t) next mid is later_said next_alike = item_local (item_after now t) next mid (λ new here there goes_on. later_said new here there (omega (arith, long, next-shorter left t next is, item-shorter (item_after now t) next (new, here) goes_on))) next_alike
 
 -- ---- texts
 -- what is refused at a byte is refused whatever follows it
 pub decided : (text : List ℕ) (e : ℕ) → all_said nothing_said (tokens_of (start_of text)) ≡ Err e → e < length text → (more : List ℕ) → HoldsOfNone (IsTextFile (take (1 + e) text ++ more))
 decided text e is within more =
-    let other = take (1 + e) text ++ more in
-    no_file other _ (has_tokens other) e (all_local e nothing_said _ _ e (in_order text) (fronts.decided text e more within) (omega arith) is)
+    let left = tokens_of (start_of text) in
+    let other = tokens_of (start_of (take (1 + e) text ++ more)) in
+    let same = said_local e (1 + length left.tokens) nothing_said left other (omega arith) (in_order text, fronts.decided text e more within) in
+    no_file _ other (has_tokens _) e ((subst (λ f. Agrees e false left f (all_said nothing_said other)) is same).1 (omega arith))

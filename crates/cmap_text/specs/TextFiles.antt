@@ -13,30 +13,41 @@ use Rattle.cmap_files.specs.Files.{CidEntry, Declaration, Mode, Collection, File
 abbrev pub keys : List (List ℕ)
 keys = codes "Registry" ∷ codes "Ordering" ∷ codes "Supplement" ∷ codes "CMapName" ∷ codes "WMode" ∷ []
 
+-- which CIDs a section declares: those of its codes, or the one of all codes that have no other
+pub data CidKind : Type 0 where
+  mapped : CidKind
+  notdef : CidKind
+
+abbrev pub declares_cid : CidKind → ℕ → CidEntry → Declaration
+declares_cid mapped len entry = Declaration.cid len entry
+declares_cid notdef len entry = Declaration.notdef len entry
+
+-- whether each entry is for the codes of a range or for a single code
+pub data Extent : Type 0 where
+  range : Extent
+  single : Extent
+
 pub data Section : Type 0 where
   codespace_range : Section
-  cid_range : Section
-  cid_char : Section
-  notdef_range : Section
-  notdef_char : Section
+  cids : CidKind → Extent → Section
   bf_range : Section
   bf_char : Section
 
 abbrev pub opener : Section → List ℕ
 opener codespace_range = codes "begincodespacerange"
-opener cid_range = codes "begincidrange"
-opener cid_char = codes "begincidchar"
-opener notdef_range = codes "beginnotdefrange"
-opener notdef_char = codes "beginnotdefchar"
+opener (cids mapped range) = codes "begincidrange"
+opener (cids mapped single) = codes "begincidchar"
+opener (cids notdef range) = codes "beginnotdefrange"
+opener (cids notdef single) = codes "beginnotdefchar"
 opener bf_range = codes "beginbfrange"
 opener bf_char = codes "beginbfchar"
 
 abbrev pub closer : Section → List ℕ
 closer codespace_range = codes "endcodespacerange"
-closer cid_range = codes "endcidrange"
-closer cid_char = codes "endcidchar"
-closer notdef_range = codes "endnotdefrange"
-closer notdef_char = codes "endnotdefchar"
+closer (cids mapped range) = codes "endcidrange"
+closer (cids mapped single) = codes "endcidchar"
+closer (cids notdef range) = codes "endnotdefrange"
+closer (cids notdef single) = codes "endnotdefchar"
 closer bf_range = codes "endbfrange"
 closer bf_char = codes "endbfchar"
 
@@ -58,25 +69,16 @@ IsDestination t units = (piece bytes : List ℕ) × (t ≡ Token.String piece) �
 abbrev pub cid_entry : List ℕ → List ℕ → ℕ → CidEntry
 cid_entry start end cid = record { start = big_endian start; end = big_endian end; cid = cid }
 
--- what tokens begin with, what that declares, and the tokens after it
--- code, code, CID, filed by the length of the first; or code, CID
-abbrev pub IsCidRange : (ℕ → CidEntry → Declaration) → List Token → List Declaration → List Token → Type 0
-IsCidRange kind tokens declared rest = (a b c : Token) × (start end : List ℕ) × (cid : ℕ) × (tokens ≡ a ∷ b ∷ c ∷ rest) × IsCode a start × IsCode b end × IsCid c cid × (declared ≡ kind (length start) (cid_entry start end cid) ∷ [])
-
-abbrev pub IsCidChar : (ℕ → CidEntry → Declaration) → List Token → List Declaration → List Token → Type 0
-IsCidChar kind tokens declared rest = (a c : Token) × (code : List ℕ) × (cid : ℕ) × (tokens ≡ a ∷ c ∷ rest) × IsCode a code × IsCid c cid × (declared ≡ kind (length code) (cid_entry code code cid) ∷ [])
-
 abbrev pub declares_bf : ℕ → ℕ → List ℕ → Declaration
 declares_bf start end units = Declaration.bf (record { start = start; end = end; units = units })
 
--- one entry of a section
+-- the entry of a section that tokens begin with, what it declares, and the tokens after it
 abbrev pub IsEntry : Section → List Token → List Declaration → List Token → Type 0
 IsEntry codespace_range tokens declared rest = (a b : Token) × (low high : List ℕ) × (tokens ≡ a ∷ b ∷ rest) × IsCode a low × IsCode b high × (length low ≡ length high)
     × (declared ≡ Declaration.codespace (record { len = length low; low = big_endian low; high = big_endian high }) ∷ [])
-IsEntry cid_range tokens declared rest = IsCidRange Declaration.cid tokens declared rest
-IsEntry cid_char tokens declared rest = IsCidChar Declaration.cid tokens declared rest
-IsEntry notdef_range tokens declared rest = IsCidRange Declaration.notdef tokens declared rest
-IsEntry notdef_char tokens declared rest = IsCidChar Declaration.notdef tokens declared rest
+-- code, code, CID, filed by the length of the first; or code, CID
+IsEntry (cids kind range) tokens declared rest = (a b c : Token) × (start end : List ℕ) × (n : ℕ) × (tokens ≡ a ∷ b ∷ c ∷ rest) × IsCode a start × IsCode b end × IsCid c n × (declared ≡ declares_cid kind (length start) (cid_entry start end n) ∷ [])
+IsEntry (cids kind single) tokens declared rest = (a c : Token) × (code : List ℕ) × (n : ℕ) × (tokens ≡ a ∷ c ∷ rest) × IsCode a code × IsCid c n × (declared ≡ declares_cid kind (length code) (cid_entry code code n) ∷ [])
 IsEntry bf_char tokens declared rest = (a d : Token) × (code units : List ℕ) × (tokens ≡ a ∷ d ∷ rest) × IsCode a code × IsDestination d units × (declared ≡ declares_bf (big_endian code) (big_endian code) units ∷ [])
 IsEntry bf_range tokens declared rest = (a b : Token) × (start end : List ℕ) × IsCode a start × IsCode b end
     × (((d : Token) × (units : List ℕ) × (tokens ≡ a ∷ b ∷ d ∷ rest) × IsDestination d units × (declared ≡ declares_bf (big_endian start) (big_endian end) units ∷ []))

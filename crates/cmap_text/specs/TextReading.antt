@@ -9,7 +9,7 @@ use Rattle.cmap_tokens.specs.TokensLeft.{Left}
 use Rattle.cmap_files.specs.Files.{CidEntry, Declaration, Lists, lists_of}
 use Rattle.cmap_files.specs.ListsAppended.{no_lists, append_lists}
 use Rattle.cmap_text.specs.TokenReaders.{Found, Reader, wanted, head, giving, chain, repeat, ItemReader, reads, takes_value, run_item, next_in, repeated}
-use Rattle.cmap_text.specs.TextFiles.{Section, codespace_range, cid_range, cid_char, notdef_range, notdef_char, bf_range, bf_char, keys, opener, closer, use_word, declares_bf, other, literal_head, Values}
+use Rattle.cmap_text.specs.TextFiles.{Extent, range, single, Section, codespace_range, cids, bf_range, bf_char, mapped, notdef, keys, opener, closer, use_word, declares_bf, declares_cid, other, literal_head, Values}
 
 -- ---- single tokens
 -- whether a token is this executable name, or this literal one
@@ -61,14 +61,9 @@ abbrev pub filed : Code → ℕ → ℕ → ℕ × CidEntry
 filed start end cid = (start.len, record { start = start.number; end = end; cid = cid })
 
 -- after the first code: a code and a CID, or a CID
-abbrev pub cid_range_after : Code → Reader (ℕ × CidEntry)
-cid_range_after start = chain (head code_in) (λ end. giving (filed start end.number) (head cid_in))
-
-abbrev pub cid_char_after : Code → Reader (ℕ × CidEntry)
-cid_char_after code = giving (filed code code.number) (head cid_in)
-
-abbrev pub declared_as : (ℕ → CidEntry → Declaration) → Lists → Reader (ℕ × CidEntry) → Reader Lists
-declared_as kind lists entry = giving (λ p. adding lists (kind p.0 p.1 ∷ [])) entry
+abbrev pub cids_after : Extent → Code → Reader (ℕ × CidEntry)
+cids_after range start = chain (head code_in) (λ end. giving (filed start end.number) (head cid_in))
+cids_after single code = giving (filed code code.number) (head cid_in)
 
 -- the codes from low to high, which have one length
 abbrev pub codespace : Code → Code → Option (List Declaration)
@@ -93,10 +88,7 @@ texts_from start end lists t = elim (is_executable (codes "[") t) [
 -- what comes after the first code of an entry
 abbrev pub entry_after : Section → Code → Lists → Reader Lists
 entry_after codespace_range start lists = chain (head code_in) (λ high. wanted (option_map (adding lists) (codespace start high)))
-entry_after cid_range start lists = declared_as Declaration.cid lists (cid_range_after start)
-entry_after cid_char start lists = declared_as Declaration.cid lists (cid_char_after start)
-entry_after notdef_range start lists = declared_as Declaration.notdef lists (cid_range_after start)
-entry_after notdef_char start lists = declared_as Declaration.notdef lists (cid_char_after start)
+entry_after (cids kind extent) start lists = giving (λ p. adding lists (declares_cid kind p.0 p.1 ∷ [])) (cids_after extent start)
 entry_after bf_range start lists = chain (head code_in) (λ end. chain (head Some) (texts_from start.number end.number lists))
 entry_after bf_char start lists = giving (λ units. adding lists (text_of start.number start.number units)) (head destination_in)
 
@@ -111,7 +103,7 @@ body_in section lists = repeat (code_or_closer section) (λ now code. entry_afte
 -- ---- items
 -- the section that a token opens
 abbrev pub sections : List Section
-sections = cid_range ∷ cid_char ∷ bf_range ∷ bf_char ∷ notdef_range ∷ notdef_char ∷ codespace_range ∷ []
+sections = cids mapped range ∷ cids mapped single ∷ bf_range ∷ bf_char ∷ cids notdef range ∷ cids notdef single ∷ codespace_range ∷ []
 
 abbrev pub opened_by : Token → Option Section
 opened_by t = find (λ section. is_executable (opener section) t) sections

@@ -9,8 +9,8 @@ ghost use Rattle.cmap_files.specs.Files.{lists_of};
 ghost use Rattle.cmap_files.specs.ListsAppended.{append_lists};
 ghost use Rattle.cmap_files.specs.UnitsSeen.{units_seen};
 ghost use Rattle.cmap_text.specs.TextFiles as files;
-ghost use Rattle.cmap_text.specs.TextSeen.{cids_after, cids_section, code_seen};
-ghost use Rattle.cmap_text.specs.TextReading.{entry_after, list_in, text_of};
+ghost use Rattle.cmap_text.specs.TextSeen.{code_seen, extent_seen, kind_seen};
+ghost use Rattle.cmap_text.specs.TextReading.{cids_after, entry_after, list_in, text_of};
 ghost use Rattle.cmap_text.specs.TokenReaders.{run};
 
 use crate::tokens::{Code, TokenReader, is_executable};
@@ -31,7 +31,7 @@ pub(crate) enum CidKind {
 
 /// Whether an entry is for the codes of a range or for a single code.
 #[derive(Clone, Copy)]
-pub(crate) enum Shape {
+pub(crate) enum Extent {
     Range,
     Single,
 }
@@ -62,13 +62,13 @@ pub(crate) fn add_cids(
     reader: &mut TokenReader<'_>,
     start: Code,
     kind: CidKind,
-    shape: Shape,
+    extent: Extent,
     lists: &mut Lists,
 ) -> Result<(), Fault<WrongToken>>
-    ensures { AddsDeclarations (entry_after (cids_section kind shape) (code_seen start)) reader.old
+    ensures { AddsDeclarations (entry_after (files.cids (kind_seen kind) (extent_seen extent)) (code_seen start)) reader.old
         lists.old lists.new reader.new result }
 {
-    let filed = read_cids(reader, start, shape)?;
+    let filed = read_cids(reader, start, extent)?;
     match kind {
         CidKind::Cid => lists.add_cid(filed.len, filed.range)?,
         CidKind::Notdef => lists.add_notdef(filed.len, filed.range)?,
@@ -151,14 +151,14 @@ struct Filed {
 fn read_cids(
     reader: &mut TokenReader<'_>,
     start: Code,
-    shape: Shape,
+    extent: Extent,
 ) -> Result<Filed, Fault<WrongToken>>
-    ensures { ReadsAs (run (cids_after shape (code_seen start)) reader.old)
+    ensures { ReadsAs (run (cids_after (extent_seen extent) (code_seen start)) reader.old)
         (λ filed. ((length_of filed.len, cid_entry_seen filed.range), reader.new)) reader.new result }
 {
-    let end = match shape {
-        Shape::Range => reader.next_code()?,
-        Shape::Single => start,
+    let end = match extent {
+        Extent::Range => reader.next_code()?,
+        Extent::Single => start,
     };
     let cid = reader.next_cid()?;
     let range = Range {

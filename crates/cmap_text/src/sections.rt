@@ -8,7 +8,7 @@ ghost use Rattle.cmap_text.specs.TextReading.{body_in, code_or_closer, entry_aft
 ghost use Rattle.cmap_text.specs.TextSeen.{code_seen, section_seen};
 ghost use Rattle.cmap_text.specs.TokenReaders.{head_in};
 
-use crate::entries::{CidKind, Shape, add_bf_char, add_bf_range, add_cids, add_codespace_range};
+use crate::entries::{CidKind, Extent, add_bf_char, add_bf_range, add_cids, add_codespace_range};
 use crate::tokens::{Code, TokenReader, is_executable};
 use crate::wrong_token::WrongToken;
 use cmap_files::declarations::Lists;
@@ -19,7 +19,7 @@ use cmap_tokens::token::Token;
 #[derive(Clone, Copy)]
 pub(crate) enum Section {
     Codespaces,
-    Cids(CidKind, Shape),
+    Cids(CidKind, Extent),
     BfRange,
     BfChar,
 }
@@ -30,17 +30,17 @@ impl Section {
         ensures { option_map section_seen result ≡ opened_by (token_seen token.now) }
     {
         if is_executable(token, b"begincidrange") {
-            Some(Section::Cids(CidKind::Cid, Shape::Range))
+            Some(Section::Cids(CidKind::Cid, Extent::Range))
         } else if is_executable(token, b"begincidchar") {
-            Some(Section::Cids(CidKind::Cid, Shape::Single))
+            Some(Section::Cids(CidKind::Cid, Extent::Single))
         } else if is_executable(token, b"beginbfrange") {
             Some(Section::BfRange)
         } else if is_executable(token, b"beginbfchar") {
             Some(Section::BfChar)
         } else if is_executable(token, b"beginnotdefrange") {
-            Some(Section::Cids(CidKind::Notdef, Shape::Range))
+            Some(Section::Cids(CidKind::Notdef, Extent::Range))
         } else if is_executable(token, b"beginnotdefchar") {
-            Some(Section::Cids(CidKind::Notdef, Shape::Single))
+            Some(Section::Cids(CidKind::Notdef, Extent::Single))
         } else if is_executable(token, b"begincodespacerange") {
             Some(Section::Codespaces)
         } else {
@@ -54,10 +54,10 @@ impl Section {
     {
         match self {
             Section::Codespaces => b"endcodespacerange",
-            Section::Cids(CidKind::Cid, Shape::Range) => b"endcidrange",
-            Section::Cids(CidKind::Cid, Shape::Single) => b"endcidchar",
-            Section::Cids(CidKind::Notdef, Shape::Range) => b"endnotdefrange",
-            Section::Cids(CidKind::Notdef, Shape::Single) => b"endnotdefchar",
+            Section::Cids(CidKind::Cid, Extent::Range) => b"endcidrange",
+            Section::Cids(CidKind::Cid, Extent::Single) => b"endcidchar",
+            Section::Cids(CidKind::Notdef, Extent::Range) => b"endnotdefrange",
+            Section::Cids(CidKind::Notdef, Extent::Single) => b"endnotdefchar",
             Section::BfRange => b"endbfrange",
             Section::BfChar => b"endbfchar",
         }
@@ -109,7 +109,7 @@ fn read_entry(
 {
     match section {
         Section::Codespaces => add_codespace_range(reader, start, lists),
-        Section::Cids(kind, shape) => add_cids(reader, start, kind, shape, lists),
+        Section::Cids(kind, extent) => add_cids(reader, start, kind, extent, lists),
         Section::BfRange => add_bf_range(reader, start, lists),
         Section::BfChar => add_bf_char(reader, start, lists),
     }

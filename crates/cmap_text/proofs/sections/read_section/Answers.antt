@@ -4,7 +4,7 @@ use Rattle.cmap_files.specs.DeclarationsSeen.{lists_seen}
 use Rattle.cmap_text.specs.TextReading.{code_or_closer, entry_after}
 use Rattle.cmap_text.specs.TextSeen.{code_seen, section_seen}
 use Rattle.cmap_text.proofs.EntriesRead.{body_next}
-use Rattle.cmap_text.proofs.TokenReaders.{head-shorter, run-shorter}
+use Rattle.cmap_text.proofs.TokenReaders.{head-shorter, is_there}
 use Rattle.cmap_text.proofs.sections.read_section.Goals as goal
 
 pub returns-in_err-start : goal.returns-in_err-start
@@ -15,7 +15,7 @@ pub loop-start-smaller : goal.loop-start-smaller
 loop-start-smaller c =
     let section = section_seen c.args.section in
     let entry = entry_after section (code_seen c.in-Some.start) (lists_seen c.loop-start.lists) in
-    omega (arith, head-shorter (code_or_closer section) c.loop-start.reader _ c.in_ok-start.ensures.0, run-shorter entry c.next_start.new.reader _ c.in_ok-read_entry.ensures.0)
+    omega (arith, head-shorter (code_or_closer section) c.loop-start.reader _ c.in_ok-start.ensures.0, (is_there entry c.next_start.new.reader _ c.in_ok-read_entry.ensures.0).2)
 
 pub loop-start-preserved : goal.loop-start-preserved
 loop-start-preserved c =
