@@ -111,30 +111,28 @@ module _ (section : Section) where
   abbrev Entries : ℕ → Lists → Reading Lists
   Entries = Rounds (code_or_closer section) (λ now code. Means (entry_after section code now))
 
-  -- a token is the closer, or else the code of an entry
-  begins : (t : Token) (found : Option Code) → code_or_closer section t ≡ Some found → ((found ≡ None) × (t ≡ closing section)) ⊎ ((code : Code) × (found ≡ Some code) × (code_in t ≡ Some code))
-  begins t found is =
+  closes : (t : Token) → code_or_closer section t ≡ Some None → t ≡ closing section
+  closes t is =
       elim (cases_Bool (is_executable (closer section) t)) [
-        | inl closes ↦ inl (sym (same_Some None found (rw closes at is)), is_executable-found (closer section) t closes)
-        | inr one ↦ let (code, gives, same) = some_mapped Some (code_in t) found (rw one at is) in inr (code, sym same, gives)
+        | inl closer_is ↦ is_executable-found (closer section) t closer_is
+        | inr one ↦ let (code, gives, clash) = some_mapped Some (code_in t) None (rw one at is) in absurd (none-some code (sym clash))
+      ]
+
+  starts : (t : Token) (code : Code) → code_or_closer section t ≡ Some (Some code) → code_in t ≡ Some code
+  starts t code is =
+      elim (cases_Bool (is_executable (closer section) t)) [
+        | inl closer_is ↦ absurd (none-some code (same_Some None (Some code) (rw closer_is at is)))
+        | inr one ↦ let (other, gives, same) = some_mapped Some (code_in t) (Some code) (rw one at is) in gives ∙ same
       ]
 
   pub entries_there : (n : ℕ) (lists : Lists) → Implies (Entries n lists) (λ tokens new rest. (each : List (List Declaration)) × AreEntries section tokens each rest × (new ≡ adding lists (flat_map (λ ds. ds) each)))
-  entries_there zero lists tokens new rest (t, at, begun, same) =
-      elim (begins t None begun) [
-        | inl (none, closes) ↦ ([], cc, sym (append_lists-none lists ∙ same))
-        | inr (code, clash, gives) ↦ absurd (none-some code clash)
-      ]
+  entries_there zero lists tokens new rest (t, at, begun, same) = ([], at ∙ ap (λ u. u ∷ rest) (closes t begun), sym (append_lists-none lists ∙ same))
   entries_there (suc n) lists tokens new rest (t, code, later, mid, next, at, begun, means, rounds) =
-      elim (begins t (Some code) begun) [
-        | inl (clash, closes) ↦ absurd (none-some code (sym clash))
-        | inr (other, same, gives) ↦
-            let (bytes, is_code, code_is) = code_found t other gives in
-            let first = subst (λ k. Means (entry_after section k lists) later next mid) (same_Some code other same ∙ code_is) means in
-            let (declared, entry, next_is) = entry_there t bytes is_code lists section later next mid first in
-            let (each, are, new_is) = entries_there n next mid new rest rounds in
-            (declared ∷ each, (mid, subst (λ ts. IsEntry section ts declared mid) (sym at) entry, are), added_more lists next new declared (flat_map (λ ds. ds) each) next_is new_is)
-      ]
+      let (bytes, is_code, same) = code_found t code (starts t code begun) in
+      let first = subst (λ k. Means (entry_after section k lists) later next mid) same means in
+      let (declared, entry, next_is) = entry_there t bytes is_code lists section later next mid first in
+      let (each, are, new_is) = entries_there n next mid new rest rounds in
+      (declared ∷ each, (mid, subst (λ ts. IsEntry section ts declared mid) (sym at) entry, are), added_more lists next new declared (flat_map (λ ds. ds) each) next_is new_is)
 
   pub entries_found : (each : List (List Declaration)) (lists : Lists) (tokens rest : List Token) → AreEntries section tokens each rest → Entries (length each) lists tokens (adding lists (flat_map (λ ds. ds) each)) rest
   entries_found [] lists tokens rest are = (closing section, are, rw (is_executable-own (closer section)) refl, sym (append_lists-none lists))

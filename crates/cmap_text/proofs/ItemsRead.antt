@@ -212,7 +212,7 @@ said_next = repeated_next next_in item_said next-shorter (λ s t. item-shorter (
 pub all_found : (items : List Item) (old : Said) (here : Left) (said : Said) → AreItems (words here) items → here.ends ≡ true → says_all old items ≡ Some said → (left : Left) × (all_said old here ≡ Ok (said, left))
 all_found [] old here said are ends sayings =
     let first = next_found here (words here) None [] refl (are, refl, ends) in
-    (first.next, said_next old here ∙ ap (followed_by (round all_said item_said old)) first.is ∙ ap (λ s. Ok (s, first.next)) (same_Some old said sayings))
+    (first.next, rw (said_next old here, first.is) (ap (λ s. Ok (s, first.next)) (same_Some old said sayings)))
 all_found (item ∷ items) old here said (rest, is, are) ends sayings =
     let (mid, says_item, says_rest) = some_bound (λ mid. says_all mid items) (says old item) said sayings in
     let (t, kind, later, shape, means) = is_begun old (words here) mid rest (item, is, says_item) in
@@ -220,4 +220,4 @@ all_found (item ∷ items) old here said (rest, is, are) ends sayings =
     let still_ends = first.ends ∙ ends in
     let read = item_found (item_after old t) first.next later mid rest first.whole (rw (item_as old kind, still_ends) means) in
     let (left, others) = all_found items mid read.next said (subst (λ ts. AreItems ts items) (sym read.whole) are) (read.ends ∙ still_ends) says_rest in
-    (left, said_next old here ∙ ap (followed_by (round all_said item_said old)) first.is ∙ ap (followed_by all_said) read.is ∙ others)
+    (left, rw (said_next old here, first.is, read.is) others)

@@ -49,12 +49,6 @@ written bytes = record { len = length bytes; number = big_endian bytes }
 pub code_of-is : (bytes : List ℕ) → 1 ≤ length bytes → length bytes ≤ 4 → code_of bytes ≡ Some (written bytes)
 code_of-is bytes least most = rw (le-leb 1 (length bytes) least, le-leb (length bytes) 4 most) refl
 
-code_of-found : (bytes : List ℕ) (code : Code) → code_of bytes ≡ Some code → (1 ≤ length bytes) × (length bytes ≤ 4) × (code ≡ written bytes)
-code_of-found bytes code is =
-    let (within, same) = tested (nat_le 1 (length bytes) && nat_le (length bytes) 4) (written bytes) code is in
-    let (least, most) = and_parts (nat_le 1 (length bytes)) (nat_le (length bytes) 4) within in
-    (leb-true 1 (length bytes) least, leb-true (length bytes) 4 most, sym same)
-
 pub destination_of-is : (bytes : List ℕ) → 0 < length bytes → destination_of bytes ≡ Some (units_of bytes)
 destination_of-is bytes filled = rw (lt-ltb 0 (length bytes) filled) refl
 
@@ -88,8 +82,9 @@ code_is t bytes (piece, is, value, least, most) = read_value code_of t piece byt
 pub code_found : (t : Token) (code : Code) → code_in t ≡ Some code → (bytes : List ℕ) × IsCode t bytes × (code ≡ written bytes)
 code_found t code is =
     let (piece, bytes, string, value, gives) = found_value code_of t code is in
-    let (least, most, same) = code_of-found bytes code gives in
-    (bytes, (piece, string, value, least, most), same)
+    let (within, same) = tested (nat_le 1 (length bytes) && nat_le (length bytes) 4) (written bytes) code gives in
+    let (least, most) = and_parts (nat_le 1 (length bytes)) (nat_le (length bytes) 4) within in
+    (bytes, (piece, string, value, leb-true 1 (length bytes) least, leb-true (length bytes) 4 most), sym same)
 
 pub destination_is : (t : Token) (units : List ℕ) → IsDestination t units → destination_in t ≡ Some units
 destination_is t units (piece, bytes, is, value, filled, units_are) = read_value destination_of t piece bytes is value ∙ destination_of-is bytes filled ∙ ap Some (sym units_are)

@@ -14,7 +14,7 @@ ghost use Rattle.cmap_text.specs.TextReading.{cids_after, entry_after, list_in, 
 ghost use Rattle.cmap_text.specs.TokenReaders.{run};
 
 use crate::tokens::{Code, TokenReader, is_executable};
-use crate::wrong_token::WrongToken;
+use crate::wrong_token::{WrongToken, wrong};
 use cmap_files::code_length::CodeLength;
 use cmap_files::declarations::{BfRange, CidRange, Codespace, Lists};
 use cmap_files::fault::{Fault, Reason};
@@ -47,7 +47,7 @@ pub(crate) fn add_codespace_range(
 {
     let high = reader.next_code()?;
     if low.len != high.len {
-        return Err(Fault::Refused(WrongToken::Last(Reason::UnequalLengths)));
+        return Err(wrong(Reason::UnequalLengths));
     }
     lists.add_codespace(Codespace {
         len: low.len,
@@ -125,7 +125,7 @@ fn add_list(
     }
     let token = reader.required_token()?;
     if !is_executable(&token, b"]") {
-        return Err(Fault::Refused(WrongToken::Last(Reason::BracketExpected)));
+        return Err(wrong(Reason::BracketExpected));
     }
     Ok(())
 }

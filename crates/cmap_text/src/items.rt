@@ -12,7 +12,7 @@ ghost use Rattle.cmap_text.specs.TextSeen.{said_seen};
 use crate::keys::{Key, Values};
 use crate::sections::{Section, read_section};
 use crate::tokens::{TokenReader, is_executable, literal_name};
-use crate::wrong_token::WrongToken;
+use crate::wrong_token::{WrongToken, wrong};
 use cmap_files::declarations::Lists;
 use cmap_files::fault::{Fault, Reason};
 use cmap_tokens::token::Token;
@@ -50,7 +50,7 @@ fn add_use<'d>(uses: &mut Vec<&'d [u8]>, operand: Option<&'d [u8]>) -> Result<()
         (RefusesWith (IsLast (option_copied operand.entry ≡ None))) }
 {
     let Some(name) = operand else {
-        return Err(Fault::Refused(WrongToken::Last(Reason::UseWithoutName)));
+        return Err(wrong(Reason::UseWithoutName));
     };
     uses.push(name)?;
     Ok(())

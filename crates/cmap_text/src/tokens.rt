@@ -15,7 +15,7 @@ ghost use Rattle.cmap_text.specs.TextReading.{cid_in, code_in, code_of, destinat
 ghost use Rattle.cmap_text.specs.TextSeen.{code_seen};
 ghost use Rattle.cmap_text.specs.TokenReaders.{head_in, next_in, or_refused, token_in};
 
-use crate::wrong_token::WrongToken;
+use crate::wrong_token::{WrongToken, no_token, wrong};
 use cmap_bits::bits::Reader;
 use cmap_files::code_length::CodeLength;
 use cmap_files::fault::{Fault, Reason};
@@ -66,7 +66,7 @@ impl<'d> TokenReader<'d> {
         ensures { ReadsAs (next_in self.old) (λ found. (option_map token_seen found, self.new)) self.new result }
     {
         let Ok(found) = self.scanner.next_token() else {
-            return Err(Fault::Refused(WrongToken::Next(Reason::MalformedToken)));
+            return Err(no_token(Reason::MalformedToken));
         };
         Ok(found)
     }
@@ -77,8 +77,8 @@ impl<'d> TokenReader<'d> {
     {
         match self.scanner.next_token() {
             Ok(Some(token)) => Ok(token),
-            Ok(None) => Err(Fault::Refused(WrongToken::Next(Reason::EndWithinSection))),
-            Err(_) => Err(Fault::Refused(WrongToken::Next(Reason::MalformedToken))),
+            Ok(None) => Err(no_token(Reason::EndWithinSection)),
+            Err(_) => Err(no_token(Reason::MalformedToken)),
         }
     }
 
@@ -88,16 +88,16 @@ impl<'d> TokenReader<'d> {
             (λ code. (code_seen code, self.new)) self.new result }
     {
         let Token::String(string) = token else {
-            return Err(Fault::Refused(WrongToken::Last(Reason::CodeExpected)));
+            return Err(wrong(Reason::CodeExpected));
         };
         if let Some((count, number)) = string.plain_number() {
             let Some(len) = CodeLength::of(count) else {
-                return Err(Fault::Refused(WrongToken::Last(Reason::CodeLength)));
+                return Err(wrong(Reason::CodeLength));
             };
             return Ok(Code { len, number });
         }
         string.decode_into(&mut self.string)?;
-        code_of(&self.string).ok_or(Fault::Refused(WrongToken::Last(Reason::CodeLength)))
+        code_of(&self.string).ok_or(wrong(Reason::CodeLength))
     }
 
     /// The code of two bytes that comes next, where it stands as most do; `None` of any other token.
@@ -128,14 +128,14 @@ impl<'d> TokenReader<'d> {
             (λ units. (units_seen units, self.new)) self.new result }
     {
         let Token::String(string) = token else {
-            return Err(Fault::Refused(WrongToken::Last(Reason::TextExpected)));
+            return Err(wrong(Reason::TextExpected));
         };
         if let Some((len, number)) = string.plain_number() {
             return Ok(units_of_number(len, number));
         }
         string.decode_into(&mut self.string)?;
         if self.string.is_empty() {
-            return Err(Fault::Refused(WrongToken::Last(Reason::TextExpected)));
+            return Err(wrong(Reason::TextExpected));
         }
         let units = units(self.alloc, &self.string)?;
         Ok(Units::from_slice(self.alloc, &units)?)
@@ -161,7 +161,7 @@ impl<'d> TokenReader<'d> {
             Some(number) => u32::try_from(number).ok(),
             None => cid_of(&self.required_token()?),
         };
-        cid.ok_or(Fault::Refused(WrongToken::Last(Reason::CidExpected)))
+        cid.ok_or(wrong(Reason::CidExpected))
     }
 
     /// How many bytes of the text have been read.
@@ -171,7 +171,7 @@ impl<'d> TokenReader<'d> {
         self.scanner.offset()
     }
 
-    /// The place of the byte that shows that no token comes next, where none does.
+    /// The offset of the byte that shows that no token comes next, where none does.
     pub(crate) fn stop(&self) -> usize
         ensures { self.now.tokens ≡ [] → result ≡ self.now.stop }
     {
