@@ -3,7 +3,7 @@ use Rattle.std.proofs.Common.{◌≡◌, ℕ, zero, suc, false, ◌+◌, refl, s
 use Rattle.std.proofs.lemmas.Bool.{cases_Bool, eqb-true, eq-eqb}
 use Rattle.std.proofs.lemmas.Option.{none-some, same_Some}
 use Rattle.std.specs.List.{AllZip, enumerate_from}
-use Rattle.std.specs.Prelude.{codes, map, flat_map, ◌⊎◌, Option, Some, None, ◌==◌}
+use Rattle.std.specs.Prelude.{codes, map, flat_map, Some, None, ◌==◌}
 use Rattle.cmap_bits.specs.BigEndian.{big_endian}
 use Rattle.cmap_tokens.specs.Tokens.{Token}
 use Rattle.cmap_tokens.specs.TokensLeft.{Left}
@@ -129,10 +129,9 @@ module _ (section : Section) where
   entries_there zero lists tokens new rest (t, at, begun, same) = ([], at ∙ ap (λ u. u ∷ rest) (closes t begun), sym (append_lists-none lists ∙ same))
   entries_there (suc n) lists tokens new rest (t, code, later, mid, next, at, begun, means, rounds) =
       let (bytes, is_code, same) = code_found t code (starts t code begun) in
-      let first = subst (λ k. Means (entry_after section k lists) later next mid) same means in
-      let (declared, entry, next_is) = entry_there t bytes is_code lists section later next mid first in
+      let (declared, entry, next_is) = entry_there t bytes is_code lists section later next mid (rw same at means) in
       let (each, are, new_is) = entries_there n next mid new rest rounds in
-      (declared ∷ each, (mid, subst (λ ts. IsEntry section ts declared mid) (sym at) entry, are), added_more lists next new declared (flat_map (λ ds. ds) each) next_is new_is)
+      (declared ∷ each, (mid, rw at entry, are), added_more lists next new declared (flat_map (λ ds. ds) each) next_is new_is)
 
   pub entries_found : (each : List (List Declaration)) (lists : Lists) (tokens rest : List Token) → AreEntries section tokens each rest → Entries (length each) lists tokens (adding lists (flat_map (λ ds. ds) each)) rest
   entries_found [] lists tokens rest are = (closing section, are, rw (is_executable-own (closer section)) refl, sym (append_lists-none lists))

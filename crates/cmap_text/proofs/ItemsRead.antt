@@ -1,9 +1,8 @@
 -- Items: what is read says what a list of items says, and each such list is read.
 use Rattle.std.proofs.Common.{◌≡◌, ℕ, zero, suc, ◌<◌, ◌≤◌, Bool, true, false, refl, sym, ap, ◌∙◌, subst, List, [], ◌∷◌, length, arith, inl, inr}
-use Rattle.std.proofs.lemmas.Bool.{cases_Bool}
+use Rattle.std.proofs.lemmas.Bool.{cases_Bool, false≢true}
 use Rattle.std.proofs.lemmas.Option.{none-some, same_Some}
-use Rattle.std.proofs.lemmas.Slice.Eq.{bytes_eq-Decides}
-use Rattle.std.specs.Prelude.{bytes_eq, Contains, find, flat_map, Option, Some, None, Ok, option_map}
+use Rattle.std.specs.Prelude.{◌⊎◌, Contains, find, flat_map, Option, Some, None, Ok, option_map}
 use Rattle.cmap_tokens.specs.Tokens.{Token}
 use Rattle.cmap_tokens.specs.TokensLeft.{Placed, Left}
 use Rattle.cmap_text.specs.TextFiles.{Section, codespace_range, cids, mapped, notdef, range, single, bf_range, bf_char, keys, opener, use_word, Item, key, entries, use_of_base, other, IsOtherToken, IsItem, AreItems}
@@ -56,25 +55,26 @@ data Kind : Token → Type 0 where
   takes : (k : List ℕ) → Contains keys k → Kind (Token.Name true k)
   alone : (t : Token) → IsOtherToken t → Kind t
 
+cases_Option : {A : Type 0} (o : Option A) → (o ≡ None) ⊎ ((x : A) × (o ≡ Some x))
+cases_Option None = inl refl
+cases_Option (Some x) = inr (x, refl)
+
 kind_of : (t : Token) → Kind t
-kind_of (Token.Name true bytes) = at (key_in (Token.Name true bytes)) refl
-  where
-    at : (found : Option (List ℕ)) → key_in (Token.Name true bytes) ≡ found → Kind (Token.Name true bytes)
-    at None is = alone (Token.Name true bytes) (λ is_key. none-some bytes (sym is ∙ key_in-own bytes is_key))
-    at (Some k) is = let (contained, named) = key_in-found (Token.Name true bytes) k is in subst Kind (sym named) (takes k contained)
-kind_of (Token.Name false bytes) = at (opened_by (Token.Name false bytes)) refl
-  where
-    at : (found : Option Section) → opened_by (Token.Name false bytes) ≡ found → Kind (Token.Name false bytes)
-    at (Some section) is = subst Kind (sym (opened_by-found (Token.Name false bytes) section is)) (opens section)
-    at None is = elim (cases_Bool (bytes_eq bytes use_word)) [
-      | inl same ↦ subst (λ b. Kind (Token.Name false b)) (sym ((bytes_eq-Decides bytes use_word).0 same)) uses
-      | inr differs ↦ alone (Token.Name false bytes) (
-        λ same. let clash : true ≡ false = sym ((bytes_eq-Decides bytes use_word).1 same) ∙ differs in cc,
-        λ section same. none-some section (sym is ∙ ap (λ b. opened_by (Token.Name false b)) same ∙ opened_by-own section),
-      )
+kind_of t =
+    elim (cases_Option (opened_by t)) [
+      | inr (section, is) ↦ rw (opened_by-found t section is) (opens section)
+      | inl no_section ↦ elim (cases_Bool (is_executable use_word t)) [
+        | inl used ↦ rw (is_executable-found use_word t used) uses
+        | inr no_use ↦ elim (cases_Option (key_in t)) [
+          | inr (k, is) ↦ let (contained, named) = key_in-found t k is in rw named (takes k contained)
+          | inl no_key ↦ alone t (
+            λ k contained same. none-some k (sym no_key ∙ ap key_in same ∙ key_in-own k contained),
+            λ section same. none-some section (sym no_section ∙ ap opened_by same ∙ opened_by-own section),
+            λ same. false≢true (sym no_use ∙ ap (is_executable use_word) same),
+          )
+        ]
+      ]
     ]
-kind_of (Token.String piece) = alone (Token.String piece) tt
-kind_of (Token.Numeral x) = alone (Token.Numeral x) tt
 
 abbrev item_of : Said → {t : Token} → Kind t → ItemReader Said
 item_of old (opens section) = reads (giving (with_lists old) (body_in section old.lists))
@@ -88,14 +88,11 @@ no_answer None none = refl
 no_answer (Some x) none = absurd (none x refl)
 
 other_after : (old : Said) (t : Token) → IsOtherToken t → item_after old t ≡ reads (wanted (Some (with_other old t)))
-other_after old (Token.Name true bytes) plain =
-    rw (no_answer (key_in (Token.Name true bytes)) (λ k is. let (contained, same) = key_in-found (Token.Name true bytes) k is in plain (subst (Contains keys) (cc) contained)), item_after) refl
-other_after old (Token.Name false bytes) (no_use, no_opener) =
-    let no_section = no_answer (opened_by (Token.Name false bytes)) (λ section is. no_opener section (let same = opened_by-found (Token.Name false bytes) section is in cc)) in
-    let differs : bytes_eq bytes use_word ≡ false = elim (cases_Bool (bytes_eq bytes use_word)) [ inl same ↦ absurd (no_use ((bytes_eq-Decides bytes use_word).0 same)) | inr differs ↦ differs ] in
-    rw (no_section, differs, item_after) refl
-other_after old (Token.String piece) plain = refl
-other_after old (Token.Numeral x) plain = refl
+other_after old t (no_key, no_opener, no_use) =
+    let key_none = no_answer (key_in t) (λ k is. let (contained, named) = key_in-found t k is in no_key k contained named) in
+    let section_none = no_answer (opened_by t) (λ section is. no_opener section (opened_by-found t section is)) in
+    let use_none : is_executable use_word t ≡ false = elim (cases_Bool (is_executable use_word t)) [ inl used ↦ absurd (no_use (is_executable-found use_word t used)) | inr differs ↦ differs ] in
+    rw (section_none, use_none, key_none, item_after) refl
 
 item_as : (old : Said) {t : Token} (kind : Kind t) → item_after old t ≡ item_of old kind
 item_as old (opens section) = rw (opened_by-own section, item_after) refl
@@ -219,5 +216,5 @@ all_found (item ∷ items) old here said (rest, is, are) ends sayings =
     let first = next_found here (words here) (Some t) later refl shape in
     let still_ends = first.ends ∙ ends in
     let read = item_found (item_after old t) first.next later mid rest first.whole (rw (item_as old kind, still_ends) means) in
-    let (left, others) = all_found items mid read.next said (subst (λ ts. AreItems ts items) (sym read.whole) are) (read.ends ∙ still_ends) says_rest in
+    let (left, others) = all_found items mid read.next said (rw read.whole are) (read.ends ∙ still_ends) says_rest in
     (left, rw (said_next old here, first.is, read.is) others)

@@ -1,5 +1,5 @@
 -- What calls that read tokens answer.
-use Rattle.std.proofs.Common.{◌≡◌, ℕ, refl, sym}
+use Rattle.std.proofs.Common.{◌≡◌, ℕ, refl}
 use Rattle.std.specs.Prelude.{Option, Some, None, Result, Ok, Err, IsErrAnd, option_map}
 use Rattle.std.specs.Option.{ok_or}
 use Rattle.cmap_tokens.specs.TokensLeft.{Left}

@@ -102,10 +102,7 @@ pub data Item : Type 0 where
 
 -- a token that is an item by itself: no key, no opener and no use
 abbrev pub IsOtherToken : Token → Type 0
-IsOtherToken (Token.Name true bytes) = Contains keys bytes → ⊥
-IsOtherToken (Token.Name false bytes) = (bytes ≢ use_word) × ((section : Section) → bytes ≢ opener section)
-IsOtherToken (Token.String piece) = Unit {0}
-IsOtherToken (Token.Numeral x) = Unit {0}
+IsOtherToken t = ((k : List ℕ) → Contains keys k → t ≢ Token.Name true k) × ((section : Section) → t ≢ Token.Name false (opener section)) × (t ≢ Token.Name false use_word)
 
 -- the item that tokens begin with, and the tokens after it; only the last item may be a key without a value
 abbrev pub IsItem : List Token → Item → List Token → Type 0

@@ -1,5 +1,4 @@
 use Rattle.std.proofs.Common.{◌<◌, length, ap, ◌∙◌, refl, sym, arith, rules}
-use Rattle.std.specs.Prelude.{Some}
 use Rattle.std.proofs.lemmas.Bool.{eqb-true, eqb-false}
 use Rattle.cmap_tokens.specs.TokenSeen.{token_seen}
 use Rattle.cmap_text.specs.TextReading.{destination_of}
