@@ -1,7 +1,7 @@
 pub mod Refusals
+pub mod TokenReaders
 pub mod TokensRead
 pub mod EntriesRead
-pub mod SectionsRead
 pub mod ItemsRead
 pub mod ItemsSaid
 pub mod TextRead

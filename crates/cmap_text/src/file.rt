@@ -5,7 +5,7 @@ ghost use Rattle.cmap_files.specs.FilesSeen.{file_seen};
 ghost use Rattle.cmap_files.specs.Only.{IsOnly};
 ghost use Rattle.cmap_files.specs.Outcomes.{DecidedBy, ReadsFile, RefusesWith};
 ghost use Rattle.cmap_files.specs.MetadataSeen.{metadata_seen};
-ghost use Rattle.cmap_tokens.specs.TokensLeft.{start_of, tokens_of};
+ghost use Rattle.cmap_tokens.specs.TokensLeft.{Left, start_of, tokens_of};
 ghost use Rattle.cmap_text.specs.EntriesSeen.{StopsAt};
 ghost use Rattle.cmap_text.specs.TextFiles.{IsMetadata, IsTextFile};
 ghost use Rattle.cmap_text.specs.TextReading.{all_said};
@@ -43,7 +43,7 @@ fn read_said<'d>(
     said: &mut Said<'d>,
 ) -> Result<Metadata, Fault<Stop>>
     ensures says { IfOk result (λ metadata.
-        (all_said (said_seen said.old) (tokens_of (start_of text.now)) ≡ Ok (said_seen said.new))
+        ((rest : Left) × (all_said (said_seen said.old) (tokens_of (start_of text.now)) ≡ Ok (said_seen said.new, rest)))
         × IsOnly (IsMetadata (values_seen said.new.values)) (metadata_seen metadata)) }
     ensures stops { IfErr result (RefusesWith (StopsAt (length text.now)
         (all_said (said_seen said.old) (tokens_of (start_of text.now))))) }
