@@ -1,13 +1,13 @@
 //! Texts in UTF-16, as The Unicode Standard, 3.9, D91 defines it.
 
-ghost use Rattle.std.specs.Prelude.{◌≡◌, ℕ, List, [], ◌∷◌, ◌<◌, ◌≤◌, true, length, drop, Some, IfOk, OnErr, IfSome, IsSomeAnd, MatchOption, option_map, is_some};
+ghost use Rattle.std.specs.Prelude.{◌≡◌, ℕ, List, ◌∷◌, ◌<◌, ◌≤◌, true, length, Some, None, IfOk, OnErr, IfSome, IsSomeAnd, MatchOption, option_map, is_some, if◌then◌else◌};
 ghost use Rattle.std.specs.Char.{IsScalar};
-ghost use Rattle.std.specs.Char.Utf16.{utf16_chars, surrogate_pair_char};
-ghost use Rattle.std.specs.List.{filter_map, list_all};
+ghost use Rattle.std.specs.Char.Utf16.{surrogate_pair_char};
 ghost use Rattle.std.specs.Str.{chars};
 ghost use Rattle.std.specs.String.{string_bytes};
-ghost use Rattle.cmap_tokens.specs.Texts.{units_of, text_at, text_of, characters, only_character};
-ghost use Rattle.cmap_tokens.specs.LastUnits.{with_last, moved_last, IsPair, IsStuck};
+ghost use Rattle.cmap_tokens.specs.Texts.{units_of, shifted, text_at, text_of, only_character};
+ghost use Rattle.cmap_tokens.specs.LastUnits as reading;
+ghost use Rattle.cmap_tokens.specs.LastUnits.{with_last, spelled, is_pair, HaveNoFirst};
 ghost use Rattle.cmap_tokens.specs.TextSeen.{text_seen};
 
 use std::alloc::{AllocError, Global};
@@ -92,7 +92,7 @@ pub fn one_char(units: &[u16], offset: u32) -> Option<char>
 
 // The last unit with the offset added.
 fn last_unit(units: &[u16], offset: u32) -> Option<u16>
-    ensures { result ≡ moved_last units.now offset }
+    ensures { shifted units.now offset ≡ option_map (λ last. with_last units.now last) result }
 {
     let last = u64::from(*units.last()?) + u64::from(offset);
     u16::try_from(last).ok()
@@ -100,7 +100,7 @@ fn last_unit(units: &[u16], offset: u32) -> Option<u16>
 
 // The character that units spell, `last` in the place of the last one, where it is just one.
 fn only_char(units: &[u16], last: u16) -> Option<char>
-    ensures { result ≡ only_character (characters (with_last units.now last)) }
+    ensures { result ≡ only_character (spelled units.now last) }
 {
     let (first, rest) = next_char(units, last)?;
     rest.is_empty().then_some(first)
@@ -108,9 +108,8 @@ fn only_char(units: &[u16], last: u16) -> Option<char>
 
 // The first character of units, `last` in the place of the last one, and the units after it.
 fn next_char(units: &[u16], last: u16) -> Option<(char, &[u16])>
-    ensures value { MatchOption result (IsStuck (with_last units.now last))
-        (λ x. utf16_chars (with_last units.now last)
-        ≡ Some x.0 ∷ utf16_chars (with_last x.1.now last)) }
+    ensures value { MatchOption result (HaveNoFirst units.now last)
+        (λ x. spelled units.now last ≡ option_map (λ cs. x.0 ∷ cs) (spelled x.1.now last)) }
     ensures shorter { IfSome result (λ x. length x.1.now < length units.now) }
     ensures scalar { IfSome result (λ x. IsScalar x.0) }
 {
@@ -118,29 +117,27 @@ fn next_char(units: &[u16], last: u16) -> Option<(char, &[u16])>
         return None;
     };
     let first = first_unit(units, last);
-    if let [_, after @ ..] = rest {
-        if let Some(c) = pair(first, first_unit(rest, last)) {
-            return Some((c, after));
-        }
+    if let Some(c) = pair(first, first_unit(rest, last)) {
+        return Some((c, &rest[1..]));
     }
     Some((char::from_u32(u32::from(first))?, rest))
 }
 
-// The first of one or more units, `last` in the place of the last one.
+// The first of the units, `last` in the place of the last one, and 0 where there are none.
 fn first_unit(units: &[u16], last: u16) -> u16
-    requires { 0 < length units.now }
-    ensures { with_last units.now last ≡ result ∷ with_last (drop 1 units.now) last }
+    ensures { result ≡ reading.first_unit units.now last }
 {
     match units {
-        [first, _, ..] => *first,
-        _ => last,
+        [] => 0,
+        [_] => last,
+        [first, ..] => *first,
     }
 }
 
 // The character of a surrogate pair.
 fn pair(high: u16, low: u16) -> Option<char>
-    ensures value { MatchOption result (IsPair high low → ⊥)
-        (λ c. IsPair high low × (c ≡ surrogate_pair_char high low)) }
+    ensures value { result
+        ≡ (if is_pair high low then Some (surrogate_pair_char high low) else None) }
     ensures scalar { IfSome result IsScalar }
 {
     if (0xD800..0xDC00).contains(&high) && (0xDC00..0xE000).contains(&low) {
@@ -152,7 +149,7 @@ fn pair(high: u16, low: u16) -> Option<char>
 
 // No surrogate stands alone.
 fn is_well_formed(units: &[u16], last: u16) -> bool
-    ensures { result ≡ list_all is_some (utf16_chars (with_last units.now last)) }
+    ensures { result ≡ is_some (spelled units.now last) }
 {
     let mut rest = units;
     while let Some((_, after)) = next_char(rest, last) {
@@ -163,9 +160,8 @@ fn is_well_formed(units: &[u16], last: u16) -> bool
 
 // All the characters that units spell.
 fn string(alloc: Global, units: &[u16], last: u16) -> Result<String, AllocError>
-    requires { list_all is_some (utf16_chars (with_last units.now last)) ≡ true }
-    ensures { IfOk result (λ s. chars (string_bytes s)
-        ≡ filter_map (λ c. c) (utf16_chars (with_last units.now last))) }
+    requires { is_some (spelled units.now last) ≡ true }
+    ensures { IfOk result (λ s. spelled units.now last ≡ Some (chars (string_bytes s))) }
 {
     // A unit takes three bytes at most.
     let mut text = String::with_capacity(alloc, 3 * units.len())?;
