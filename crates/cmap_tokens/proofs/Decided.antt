@@ -3,6 +3,7 @@ use Rattle.std.proofs.Common.{◌≡◌, ℕ, ◌+◌, ◌<◌, Bool, true, fals
 use Rattle.std.specs.List.{prefix_len}
 use Rattle.std.specs.Prelude.{IfSome, IsTrue}
 use Rattle.std.proofs.lemmas.Bool.{cases_Bool, lt-leb}
+use Rattle.std.proofs.Math.ListN.{get_or-append}
 use Rattle.std.proofs.lemmas.List.{drop-append-le, take-append-drop, take-append-le}
 use Rattle.cmap_tokens.specs.Bytes.{is_white, is_regular}
 use Rattle.cmap_tokens.specs.Gaps.{ends_comment}
@@ -26,13 +27,18 @@ gap_kept false (b ∷ front) s t short =
           ]
     ]
 
-hex_kept : (front s t : List ℕ) → prefix_len is_hex_body (front ++ s) < length front → (hex_len (front ++ t) ≡ hex_len (front ++ s)) × (prefix_len is_hex_body (front ++ t) ≡ prefix_len is_hex_body (front ++ s))
+hex_kept : (front s t : List ℕ) → prefix_len is_hex_body (front ++ s) < length front → prefix_len is_hex_body (front ++ t) ≡ prefix_len is_hex_body (front ++ s)
 hex_kept [] s t short = absurd (omega (arith, short))
 hex_kept (b ∷ front) s t short =
     elim (cases_Bool (is_hex_body b)) [
-      | inl is_hex ↦ let more = hex_kept front s t (omega (arith, rw is_hex at short)) in rw is_hex (ap one_more more.0, ap (λ n. 1 + n) more.1)
-      | inr ends ↦ rw ends (refl, refl)
+      | inl is_hex ↦ rw is_hex (ap (λ n. 1 + n) (hex_kept front s t (omega (arith, rw is_hex at short))))
+      | inr ends ↦ rw ends refl
     ]
+
+hex_len-kept : (front s t : List ℕ) → prefix_len is_hex_body (front ++ s) < length front → hex_len (front ++ t) ≡ hex_len (front ++ s)
+hex_len-kept front s t short =
+    let n = prefix_len is_hex_body (front ++ s) in
+    rw (hex_kept front s t short, get_or-append front t 0 n short, get_or-append front s 0 n short) refl
 
 -- where a gap ends within the front
 after_kept : (front s t text other : List ℕ) → text ≡ front ++ s → other ≡ front ++ t → gap_len false text < length front
@@ -71,8 +77,9 @@ less_kept (b ∷ front) s t e short =
     elim (cases_Bool (b == 60)) [
       | inl again ↦ let clash = rw again at e in cc
       | inr single ↦
-          let same = hex_kept (b ∷ front) s t (omega (arith, short)) in
-          (rw single (ap (λ o. string_of (60 ∷ b ∷ front ++ t) (one_more o)) same.0 ∙ no_string _ _ (hex_len (b ∷ front ++ s)) (rw single at e)), ap (λ n. 1 + n) same.1)
+          let within : prefix_len is_hex_body (b ∷ front ++ s) < length (b ∷ front) = omega (arith, short) in
+          let same = hex_len-kept (b ∷ front) s t within in
+          (rw single (ap (λ o. string_of (60 ∷ b ∷ front ++ t) (one_more o)) same ∙ no_string _ _ (hex_len (b ∷ front ++ s)) (rw single at e)), ap (λ n. 1 + n) (hex_kept (b ∷ front) s t within))
     ]
 
 greater_kept : (front s t : List ℕ) → NoneKept (62 ∷ front) s t

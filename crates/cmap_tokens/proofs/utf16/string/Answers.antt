@@ -1,4 +1,4 @@
-use Rattle.std.proofs.Common.{List, ◌++◌, option_map, sym, ap}
+use Rattle.std.proofs.Common.{sym}
 use Rattle.std.proofs.lemmas.Iterator.Adapters.{option_map_id}
 use Rattle.std.proofs.lemmas.Str.{chars-nil, IsUtf8-string_bytes}
 use Rattle.cmap_tokens.specs.LastUnits.{spelled}

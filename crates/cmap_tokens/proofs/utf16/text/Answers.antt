@@ -1,5 +1,4 @@
-use Rattle.std.proofs.Common.{◌≡◌, sym, ◌∙◌, ap, option_map, Some, ◌<◌, length}
-use Rattle.std.specs.Option.{IsSomeAnd}
+use Rattle.std.proofs.Common.{◌≡◌, sym, ◌∙◌, ap, option_map, Some}
 use Rattle.cmap_tokens.specs.Texts.{only_character, text_at, text_of}
 use Rattle.cmap_tokens.specs.LastUnits.{spelled}
 use Rattle.cmap_tokens.proofs.TextsOfUnits.{text_at-last, text_of-one, text_of-more, text_at-long, OnErr-holds}

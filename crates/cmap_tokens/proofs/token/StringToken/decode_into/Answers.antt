@@ -1,22 +1,20 @@
-use Rattle.std.proofs.Common.{◌++◌, Some, sym, ap, ◌∙◌}
+use Rattle.std.proofs.Common.{◌++◌, sym, ap, ◌∙◌, subst}
 use Rattle.cmap_tokens.specs.Strings.{IsValue, hex_value}
 use Rattle.cmap_tokens.specs.TokenReading.{text_value}
-use Rattle.cmap_tokens.proofs.StringValues.{IsValue-from, one_value}
-use Rattle.cmap_tokens.proofs.StringBodies.{hex_body, text_body}
+use Rattle.cmap_tokens.proofs.StringLengths.{IsString-from}
+use Rattle.cmap_tokens.proofs.StringValues.{one_value, value_holds}
 use Rattle.cmap_tokens.proofs.token.StringToken.decode_into.Goals as goal
 use Rattle.cmap_tokens.proofs.token.StringToken.decode_into.Goals.{After-decode_hex, After-decode_text}
 
 hex_decoded : (c : After-decode_hex) → IsValue c.args.self.now.raw.now c.decode_hex.new.out.items
 hex_decoded c =
-    IsValue-from _ _
-    (hex_body _ (sym c.is_hexadecimal.ensures ∙ c.if-is_hexadecimal.true)
-    ∙ ap Some (sym (c.decode_hex.ensures ∙ ap (λ items. items ++ hex_value c.body-body.result.now) c.clear.ensures.items ∙ ap hex_value c.body-body.ensures)))
+    let decoded = c.decode_hex.ensures ∙ ap (λ items. items ++ hex_value c.body-body.result.now) c.clear.ensures.items ∙ ap hex_value c.body-body.ensures in
+    subst (IsValue c.args.self.now.raw.now) (rw (sym c.is_hexadecimal.ensures ∙ c.if-is_hexadecimal.true) (sym decoded)) (value_holds _ (IsString-from _ c.args.self.now.whole))
 
 text_decoded : (c : After-decode_text) → IsValue c.args.self.now.raw.now c.decode_text.new.out.items
 text_decoded c =
-    IsValue-from _ _
-    ((text_body _ c.args.self.now.whole (sym c.is_hexadecimal.ensures ∙ c.if-is_hexadecimal.false)).1
-    ∙ ap Some (sym (c.decode_text.ensures ∙ ap (λ items. items ++ text_value c.body-body.result.now) c.clear.ensures.items ∙ ap text_value c.body-body.ensures)))
+    let decoded = c.decode_text.ensures ∙ ap (λ items. items ++ text_value c.body-body.result.now) c.clear.ensures.items ∙ ap text_value c.body-body.ensures in
+    subst (IsValue c.args.self.now.raw.now) (rw (sym c.is_hexadecimal.ensures ∙ c.if-is_hexadecimal.false) (sym decoded)) (value_holds _ (IsString-from _ c.args.self.now.whole))
 
 pub returns-then-is_hexadecimal-clause-value : goal.returns-then-is_hexadecimal-clause-value
 returns-then-is_hexadecimal-clause-value c = hex_decoded c
