@@ -14,16 +14,15 @@ use Rattle.cmap_tokens.specs.Strings.{WritesTwoBytes, hex_value}
 use Rattle.cmap_tokens.specs.Tokens.{Token, Name, Numeral, String, Front, IsHexString, IsToken, begins_name, begins_regular, is_hex_body}
 use Rattle.cmap_tokens.proofs.ByteTests.{all_front, all_weaker, other_byte}
 use Rattle.cmap_tokens.proofs.Digits.{digit_regular, digits_numeral, digits_small, paired, value_is}
-use Rattle.cmap_tokens.proofs.Fronts.{only_front, reads_front}
+use Rattle.cmap_tokens.proofs.Fronts.{front_only}
 use Rattle.cmap_tokens.proofs.StringValues.{one_value}
 
 first_after_blank : (text : List ℕ) (blank len : ℕ) (piece rest : List ℕ) (token : Token) → text ≡ blank ∷ piece ++ rest → is_white blank ≡ true → IsToken piece token → (IsTrue (begins_name piece) → begins_regular rest ≡ false) → len ≡ 1 + length piece → FirstToken text token len
 first_after_blank text blank len piece rest token whole white is longest long =
     let not_percent : (blank == 37) ≡ false = other_byte is_white 37 blank refl white in
     let front : Front text (blank ∷ []) piece token rest = record { whole = whole; gap_is = rw (not_percent, white) refl; piece_is = is; longest = longest } in
-    let read = reads_front text (blank ∷ []) piece token rest front in
     let after : rest ≡ drop len text = sym (ap (drop len) whole ∙ drop_at (blank ∷ piece) rest len (omega (arith, long))) in
-    (_, _, subst (OnlyFront text _ _ token) (sym read.rest_is ∙ after) (only_front text (token, length piece) read.first), omega (arith, long, ap length read.gap_is, ap length read.piece_is))
+    (_, _, subst (OnlyFront text _ piece token) after (front_only front), long)
 
 -- ---- < four digits >
 two_bytes_written : (a b c d n : ℕ) → let digits : List ℕ = a ∷ b ∷ c ∷ d ∷ [] in list_all (λ k. is_digit k 16) digits ≡ true → n ≡ digits_number 16 digits → WritesTwoBytes (60 ∷ a ∷ b ∷ c ∷ d ∷ 62 ∷ []) n × IsHexString (60 ∷ a ∷ b ∷ c ∷ d ∷ 62 ∷ [])

@@ -1,20 +1,15 @@
-use Rattle.std.proofs.Common.{◌+◌, sym, ap, ◌∙◌, subst}
-use Rattle.std.specs.Prelude.{pos}
+use Rattle.std.proofs.Common.{◌+◌, sym, ap, ◌∙◌}
 use Rattle.std.proofs.lemmas.List.{take_rest}
-use Rattle.cmap_tokens.specs.Numbers.{Integer}
-use Rattle.cmap_tokens.specs.Scanner.{Place, ReadsToken, past, rest_of, spaced_decimal}
-use Rattle.cmap_tokens.specs.Tokens.{Token, Numeral}
+use Rattle.cmap_tokens.specs.Scanner.{past, rest_of, spaced_decimal}
 use Rattle.cmap_tokens.proofs.AfterBlank.{decimal_first}
 use Rattle.cmap_tokens.proofs.Fronts.{read_token, left_after}
 use Rattle.cmap_tokens.proofs.token.Scanner.next_decimal.Goals as goal
 
 pub returns-clause-token : goal.returns-clause-token
 returns-clause-token c =
-    let token : Token = Numeral (Integer (pos c.in_ok-number.number)) in
-    let next : Place = record { source = c.self.inside.source.now; passed = c.self.inside.place + (1 + c.in_ok-number.len) } in
-    let read = read_token _ c.self.inside.place (1 + c.in_ok-number.len) token (decimal_first _ c.in_ok-number.number c.in_ok-number.len (sym c.in_ok-number.ensures.front)) in
-    let read_here = subst (λ old. ReadsToken old token next) c.self.view_is read in
-    (read_here, left_after _ _ _ read_here)
+    let first = decimal_first _ c.in_ok-number.number c.in_ok-number.len (sym c.in_ok-number.ensures.front) in
+    let read = read_token _ _ _ (1 + c.in_ok-number.len) _ c.self.view_is (take_rest _ c.self.inside.place) first in
+    (read, left_after _ _ _ read)
 
 pub returns-clause-front : goal.returns-clause-front
 returns-clause-front c = (
