@@ -1,76 +1,57 @@
--- Texts in UTF-16, character by character, and the offset of the last unit.
-use Rattle.std.proofs.Common.{◌≡◌, ℕ, ◌+◌, ◌-◌, ◌<◌, ◌^◌, suc, get_or, nat_lt, true, false, ◌==◌, ◌&&◌, List, [], ◌∷◌, ◌++◌, inl, inr, length, drop, Option, Some, None, Result, Ok, Err, is_some, option_map, refl, ap, ◌∙◌, sym, arith, append_assoc, append-nil}
-use Rattle.std.specs.Option.{IsSomeAnd}
+-- Texts in UTF-16, character by character.
+use Rattle.std.proofs.Common.{◌≡◌, ℕ, ◌+◌, ◌<◌, ◌≤◌, true, ◌&&◌, Bool, leb, List, [], ◌∷◌, ◌++◌, inl, inr, length, get_or, drop, Option, Some, None, Result, Ok, Err, is_some, option_map, refl, ap, ◌∙◌, sym, arith, append_assoc, append-nil, length-append, length-drop}
 use Rattle.std.specs.Prelude.{if◌then◌else◌}
-use Rattle.std.specs.Result.{OnErr}
 use Rattle.std.specs.Bool.{then_some}
+use Rattle.std.specs.Option.{IsSomeAnd}
+use Rattle.std.specs.Result.{OnErr}
 use Rattle.std.specs.Char.{IsScalar, encode_utf8}
-use Rattle.std.specs.Char.Utf16.{utf16_chars, lone_unit_char, surrogate_pair_char, is_high_surrogate}
+use Rattle.std.specs.Char.Utf16.{utf16_chars, lone_unit_char, surrogate_pair_char, is_high_surrogate, is_low_surrogate}
 use Rattle.std.specs.Str.{chars, IsUtf8}
-use Rattle.std.proofs.lemmas.Bool.{and_parts, cases_Bool, cond_both, ne_eqb, false≢true}
-use Rattle.std.proofs.lemmas.List.{drop-drop}
+use Rattle.std.proofs.lemmas.Bool.{and_parts, cases_Bool, cases_lt, false≢true, le-leb, lt-leb}
+use Rattle.std.proofs.lemmas.List.{drop_all, drop_more, get_or_past}
 use Rattle.std.proofs.lemmas.Str.{utf16_chars-nil, chars-append, chars-encodes}
-use Rattle.cmap_tokens.specs.Texts.{all_some, shifted, text_at, only_character, text_of, one, more}
-use Rattle.cmap_tokens.specs.LastUnits.{with_last, first_unit, spelled, is_pair, HaveNoFirst}
+use Rattle.cmap_tokens.specs.Texts.{all_some, characters, only_character}
 
--- the text is what the units spell with their new last one
-pub text_at-last : (us : List ℕ) (offset last : ℕ) → shifted us offset ≡ Some (with_last us last) → text_at us offset ≡ spelled us last
-text_at-last [] offset last e = cc
-text_at-last (u ∷ []) offset last e = rw e refl
-text_at-last (u ∷ v ∷ us) offset last e = rw e refl
+-- what is left of the characters, from an index on
+abbrev pub characters_from : List ℕ → ℕ → Option (List ℕ)
+characters_from us i = characters (drop i us)
 
-not_none : (u : ℕ) (us : List ℕ) → (length (u ∷ us) == 0) ≡ false
-not_none u us = ne_eqb (length (u ∷ us)) 0 (λ e. absurd (omega arith))
+pub characters-end : (us : List ℕ) (i : ℕ) → length us ≤ i → characters_from us i ≡ Some []
+characters-end us i past = ap characters (drop_all i us past) ∙ ap all_some utf16_chars-nil
 
--- the last unit with the offset added is a unit, or there is no text
-pub shifted-last : (us : List ℕ) (offset : ℕ) → 0 < length us → let n = get_or us (length us - 1) 0 + offset in shifted us offset ≡ option_map (λ last. with_last us last) (if nat_lt n (2 ^ 16) then Some n else None)
-shifted-last [] offset some = absurd (omega (arith, some))
-shifted-last (u ∷ []) offset some = cond_both (nat_lt (u + offset) (2 ^ 16)) (Some ((u + offset) ∷ [])) None (λ o. o ≡ option_map (λ last. with_last (u ∷ []) last) (if nat_lt (u + offset) (2 ^ 16) then Some (u + offset) else None)) (λ is. rw is refl) (λ is. rw is refl)
-shifted-last (u ∷ v ∷ us) offset some =
-    let before : length (u ∷ v ∷ us) - 1 ≡ suc (length (v ∷ us) - 1) = omega arith in
-    let n = get_or (v ∷ us) (length (v ∷ us) - 1) 0 + offset in
-    rw (before, shifted-last (v ∷ us) offset (omega arith)) (elim (cases_Bool (nat_lt n (2 ^ 16))) [ inl fits ↦ rw fits refl | inr past ↦ rw past refl ])
+-- ---- the character at an index
+low_within : (us : List ℕ) (i v : ℕ) → v ≡ get_or us i 0 → is_low_surrogate v ≡ true → i < length us
+low_within us i v v_is low =
+    elim (cases_lt i (length us)) [
+      | inl within ↦ within
+      | inr past ↦ let none : v ≡ 0 = v_is ∙ get_or_past us i 0 past in absurd (false≢true (rw none at low))
+    ]
 
--- ---- the first character
-pub HaveNoFirst-nil : (us : List ℕ) (last : ℕ) → length us < 1 → HaveNoFirst us last
-HaveNoFirst-nil [] last none = ap all_some utf16_chars-nil
-HaveNoFirst-nil (u ∷ us) last none = absurd (omega (arith, none))
-
--- two units that are a pair, or else one
-pub first_pair : (us : List ℕ) (last : ℕ) → is_pair (first_unit us last) (first_unit (drop 1 us) last) ≡ true
-    → (1 < length us) × (spelled us last ≡ option_map (λ cs. surrogate_pair_char (first_unit us last) (first_unit (drop 1 us) last) ∷ cs) (spelled (drop 2 us) last))
+pub pair_at : (us : List ℕ) (i u v c : ℕ) → i < length us → u ≡ get_or us i 0 → v ≡ get_or us (i + 1) 0 → Some c ≡ (if is_high_surrogate u && is_low_surrogate v then Some (surrogate_pair_char u v) else None)
+    → characters_from us i ≡ option_map (λ cs. c ∷ cs) (characters_from us (i + 2))
 unfolding utf16_chars
-first_pair [] last pair = cc
-first_pair (u ∷ []) last pair = absurd (false≢true (and_parts (is_high_surrogate last) false pair).1)
-first_pair (u ∷ v ∷ []) last pair = (omega arith, rw pair refl)
-first_pair (u ∷ v ∷ w ∷ us) last pair = (omega arith, rw pair refl)
-
-pub first_lone : (us : List ℕ) (last : ℕ) → 0 < length us → is_pair (first_unit us last) (first_unit (drop 1 us) last) ≡ false
-    → spelled us last ≡ all_some (lone_unit_char (first_unit us last) ∷ utf16_chars (with_last (drop 1 us) last))
-unfolding utf16_chars
-first_lone [] last some lone = absurd (omega (arith, some))
-first_lone (u ∷ []) last some lone = refl
-first_lone (u ∷ v ∷ []) last some lone = rw lone refl
-first_lone (u ∷ v ∷ w ∷ us) last some lone = rw lone refl
-
--- the same, as the code finds them
-pub pair_found : (us rest after : List ℕ) (last u v c : ℕ) → rest ≡ drop 1 us → after ≡ drop 1 rest → u ≡ first_unit us last → v ≡ first_unit rest last
-    → Some c ≡ (if is_pair u v then Some (surrogate_pair_char u v) else None) → spelled us last ≡ option_map (λ cs. c ∷ cs) (spelled after last)
-pair_found us rest after last u v c rest_is after_is u_is v_is found =
-    elim (cases_Bool (is_pair u v)) [
+pair_at us i u v c within u_is v_is found =
+    elim (cases_Bool (is_high_surrogate u && is_low_surrogate v)) [
       | inl pair ↦
-          let char : Some c ≡ Some (surrogate_pair_char u v) = rw pair at found in
-          let same : c ≡ surrogate_pair_char u v = cc in
-          rw (after_is, same, u_is, v_is, rest_is, drop-drop 1 1 us) (first_pair us last (rw (u_is, v_is, rest_is) at pair)).1
+          let next = low_within us (i + 1) v v_is (and_parts (is_high_surrogate u) (is_low_surrogate v) pair).1 in
+          let two : i + 1 + 1 ≡ i + 2 = omega arith in
+          let same : Some c ≡ Some (surrogate_pair_char u v) = rw pair at found in
+          let char : c ≡ surrogate_pair_char u v = cc in
+          rw (drop_more us i 0 within, drop_more us (i + 1) 0 next, ← u_is, ← v_is, two, pair, char) refl
       | inr lone ↦ let clash = rw lone at found in cc
     ]
 
-pub lone_found : (us rest : List ℕ) (last u v : ℕ) → 0 < length us → rest ≡ drop 1 us → u ≡ first_unit us last → v ≡ first_unit rest last
-    → None ≡ (if is_pair u v then Some (surrogate_pair_char u v) else None) → spelled us last ≡ all_some (lone_unit_char u ∷ utf16_chars (with_last rest last))
-lone_found us rest last u v some rest_is u_is v_is found =
-    elim (cases_Bool (is_pair u v)) [
-      | inl pair ↦ let clash = rw pair at found in cc
-      | inr lone ↦ rw (u_is, rest_is) (first_lone us last some (rw (u_is, v_is, rest_is) at lone))
+pub lone_at : (us : List ℕ) (i u v : ℕ) → i < length us → u ≡ get_or us i 0 → v ≡ get_or us (i + 1) 0 → None ≡ (if is_high_surrogate u && is_low_surrogate v then Some (surrogate_pair_char u v) else None)
+    → characters_from us i ≡ all_some (lone_unit_char u ∷ utf16_chars (drop (i + 1) us))
+unfolding utf16_chars
+lone_at us i u v within u_is v_is none_found =
+    elim (cases_Bool (is_high_surrogate u && is_low_surrogate v)) [
+      | inl pair ↦ let clash = rw pair at none_found in cc
+      | inr lone ↦
+          elim (cases_lt (i + 1) (length us)) [
+            | inl next ↦ rw (drop_more us i 0 within, drop_more us (i + 1) 0 next, ← u_is, ← v_is, lone) refl
+            | inr past ↦ rw (drop_more us i 0 within, drop_all (i + 1) us (omega (arith, past)), ← u_is) refl
+          ]
     ]
 
 -- units spell a character at least
@@ -78,44 +59,33 @@ not_empty : (c : ℕ) (o : Option (List ℕ)) → option_map (λ cs. c ∷ cs) o
 not_empty c None e = cc
 not_empty c (Some cs) e = cc
 
-not_empty-first : (o : Option ℕ) (found : List (Option ℕ)) → all_some (o ∷ found) ≡ Some [] → ⊥
-not_empty-first None found e = cc
-not_empty-first (Some c) found e = not_empty c (all_some found) e
+first_not_empty : (o : Option ℕ) (found : List (Option ℕ)) → all_some (o ∷ found) ≡ Some [] → ⊥
+first_not_empty None found e = cc
+first_not_empty (Some c) found e = not_empty c (all_some found) e
 
-spelled-some : (u : ℕ) (us : List ℕ) (last : ℕ) → spelled (u ∷ us) last ≡ Some [] → ⊥
-spelled-some u us last e =
-    let first = first_unit (u ∷ us) last in
-    elim (cases_Bool (is_pair first (first_unit us last))) [
-      | inl pair ↦ not_empty _ _ (sym (first_pair (u ∷ us) last pair).1 ∙ e)
-      | inr lone ↦ not_empty-first (lone_unit_char first) (utf16_chars (with_last us last)) (sym (first_lone (u ∷ us) last (omega arith) lone) ∙ e)
+characters-some : (us : List ℕ) → 0 < length us → characters us ≡ Some [] → ⊥
+unfolding utf16_chars
+characters-some [] some e = omega (arith, some)
+characters-some (u ∷ []) some e = first_not_empty (lone_unit_char u) [] e
+characters-some (u ∷ v ∷ us) some e =
+    elim (cases_Bool (is_high_surrogate u && is_low_surrogate v)) [
+      | inl pair ↦ not_empty (surrogate_pair_char u v) (characters us) (rw pair at e)
+      | inr lone ↦ first_not_empty (lone_unit_char u) (utf16_chars (v ∷ us)) (rw lone at e)
     ]
 
 -- ---- texts of one character, and of more
-pub only_character-none : (us : List ℕ) (last : ℕ) → HaveNoFirst us last → None ≡ only_character (spelled us last)
-only_character-none us last none = cond_both (length us == 0) (Some []) None (λ o. None ≡ only_character o) (λ _. refl) (λ _. refl) ∙ ap only_character (sym none)
-
-only_character-more : (c : ℕ) (o : Option (List ℕ)) → (o ≡ Some [] → ⊥) → None ≡ only_character (option_map (λ cs. c ∷ cs) o)
-only_character-more c None some = refl
-only_character-more c (Some []) some = absurd (some refl)
-only_character-more c (Some (d ∷ cs)) some = refl
+more_follow : (c : ℕ) (o : Option (List ℕ)) → (o ≡ Some [] → ⊥) → only_character (option_map (λ cs. c ∷ cs) o) ≡ None
+more_follow c None some = refl
+more_follow c (Some []) some = absurd (some refl)
+more_follow c (Some (d ∷ cs)) some = refl
 
 -- the first character is the only one where nothing comes after it
-pub only_character-first : (us rest : List ℕ) (last c : ℕ) → spelled us last ≡ option_map (λ cs. c ∷ cs) (spelled rest last) → then_some (length rest == 0) c ≡ only_character (spelled us last)
-only_character-first us [] last c e = rw (e, utf16_chars-nil) refl
-only_character-first us (u ∷ rest) last c e =
-    ap (λ b. then_some b c) (not_none u rest) ∙ only_character-more c _ (spelled-some u rest last) ∙ ap only_character (sym e)
-
--- what a text of one character is, and one of more
-pub text_of-one : (o : Option (List ℕ)) (c : ℕ) → Some c ≡ only_character o → Some (one c) ≡ option_map text_of o
-text_of-one None c e = cc
-text_of-one (Some []) c e = cc
-text_of-one (Some (d ∷ [])) c e = cc
-text_of-one (Some (d ∷ f ∷ cs)) c e = cc
-
-pub text_of-more : (cs : List ℕ) → None ≡ only_character (Some cs) → text_of cs ≡ more cs
-text_of-more [] e = refl
-text_of-more (c ∷ []) e = cc
-text_of-more (c ∷ d ∷ cs) e = refl
+pub only_first : (us : List ℕ) (c after : ℕ) (ends : Bool) → ends ≡ leb (length us) after → characters us ≡ option_map (λ cs. c ∷ cs) (characters_from us after) → then_some ends c ≡ only_character (characters us)
+only_first us c after ends is e =
+    elim (cases_lt after (length us)) [
+      | inl less ↦ rw (is, lt-leb _ _ less, e) (sym (more_follow c _ (characters-some (drop after us) (omega (arith, less, length-drop after us)))))
+      | inr past ↦ rw (is, le-leb _ _ past, e, characters-end us after past) refl
+    ]
 
 long : (o : Option (List ℕ)) → (o ≡ Some [] → ⊥) → true ≡ is_some o → None ≡ only_character o → IsSomeAnd o (λ cs. 1 < length cs)
 long None some is e = cc
@@ -123,15 +93,14 @@ long (Some []) some is e = absurd (some refl)
 long (Some (c ∷ [])) some is e = cc
 long (Some (c ∷ d ∷ cs)) some is e = omega arith
 
-pub text_at-long : (us : List ℕ) (offset last : ℕ) → shifted us offset ≡ Some (with_last us last) → true ≡ is_some (spelled us last) → None ≡ only_character (spelled us last) → IsSomeAnd (text_at us offset) (λ cs. 1 < length cs)
-text_at-long [] offset last e well not_one = cc
-text_at-long (u ∷ us) offset last e well not_one = rw (text_at-last (u ∷ us) offset last e) (long (spelled (u ∷ us) last) (spelled-some u us last) well not_one)
+pub characters-long : (front : List ℕ) (last : ℕ) → let us = front ++ last ∷ [] in true ≡ is_some (characters us) → None ≡ only_character (characters us) → IsSomeAnd (characters us) (λ cs. 1 < length cs)
+characters-long front last well not_one = long _ (characters-some (front ++ last ∷ []) (omega (arith, length-append front (last ∷ [])))) well not_one
 
 pub OnErr-holds : {X E P : Type 0} (r : Result X E) → P → OnErr r P
 OnErr-holds (Ok x) p = tt
 OnErr-holds (Err e) p = p
 
--- ---- the text that is written, one character more and at the end
+-- ---- the text that is written
 chars-encode : (c : ℕ) → IsScalar c → chars (encode_utf8 c) ≡ c ∷ []
 chars-encode c h = ap chars (sym (append-nil (encode_utf8 c))) ∙ chars-encodes (c ∷ []) (ap (λ b. b && true) h)
 
@@ -139,13 +108,14 @@ grown : (cs ds : List ℕ) (c : ℕ) (o : Option (List ℕ)) → ds ≡ cs ++ c 
 grown cs ds c None e = refl
 grown cs ds c (Some rest) e = ap Some (sym (append_assoc cs (c ∷ []) rest) ∙ ap (λ l. l ++ rest) (sym e))
 
-pub chars-push : (old new us rest : List ℕ) (c last : ℕ) (all : Option (List ℕ)) → IsUtf8 old → IsScalar c → new ≡ old ++ encode_utf8 c
-    → spelled us last ≡ option_map (λ cs. c ∷ cs) (spelled rest last) → all ≡ option_map (λ cs. chars old ++ cs) (spelled us last) → all ≡ option_map (λ cs. chars new ++ cs) (spelled rest last)
-chars-push old new us rest c last all utf8 scalar_c e first so_far =
+-- a character more
+pub chars-push : (old new us : List ℕ) (c i j : ℕ) (all : Option (List ℕ)) → IsUtf8 old → IsScalar c → new ≡ old ++ encode_utf8 c
+    → characters_from us i ≡ option_map (λ cs. c ∷ cs) (characters_from us j) → all ≡ option_map (λ cs. chars old ++ cs) (characters_from us i) → all ≡ option_map (λ cs. chars new ++ cs) (characters_from us j)
+chars-push old new us c i j all utf8 scalar_c e first so_far =
     so_far
     ∙ ap (option_map (λ cs. chars old ++ cs)) first
     ∙ grown (chars old) (chars new) c _ (ap chars e ∙ chars-append old (encode_utf8 c) utf8 ∙ ap (λ cs. chars old ++ cs) (chars-encode c scalar_c))
 
-pub chars-all : (cs us : List ℕ) (last : ℕ) (all : Option (List ℕ)) → HaveNoFirst us last → is_some all ≡ true → all ≡ option_map (λ rest. cs ++ rest) (spelled us last) → all ≡ Some cs
-chars-all cs [] last all none some e = e ∙ rw utf16_chars-nil (ap Some (append-nil cs))
-chars-all cs (u ∷ us) last all none some e = let clash = rw (e, none, not_none u us) at some in cc
+-- and all of them
+pub chars-all : (cs us : List ℕ) (i : ℕ) (all : Option (List ℕ)) → length us ≤ i → all ≡ option_map (λ rest. cs ++ rest) (characters_from us i) → all ≡ Some cs
+chars-all cs us i all past e = e ∙ ap (option_map (λ rest. cs ++ rest)) (characters-end us i past) ∙ ap Some (append-nil cs)

@@ -1,7 +1,9 @@
-use Rattle.std.proofs.Common.{arith}
-use Rattle.std.proofs.lemmas.Grind.{common_steps}
-use Rattle.std.proofs.lemmas.Bool.Decides.{nat_tests}
+use Rattle.std.proofs.Common.{[], ◌∷◌, ◌++◌, is_some, sym, ap, ◌∙◌, arith, length-append}
+use Rattle.cmap_tokens.proofs.TextsOfUnits.{characters-end}
 use Rattle.cmap_tokens.proofs.utf16.is_well_formed.Goals as goal
 
 pub returns : goal.returns
-returns c = grind (arith, common_steps, nat_tests)
+returns c =
+    let front = c.args.front.now in
+    let last = c.args.last ∷ [] in
+    ap is_some (sym (characters-end (front ++ last) c.loop-index.index (omega (arith, c.loop-index-test.false, length-append front last)))) ∙ c.loop-index.invariant.same

@@ -1,9 +1,13 @@
-use Rattle.std.proofs.Common.{◌≡◌, length, is_some}
-use Rattle.cmap_tokens.specs.LastUnits.{spelled}
+use Rattle.std.proofs.Common.{◌≡◌, ◌+◌, ◌-◌, ◌≤◌, [], ◌∷◌, ◌++◌, length, is_some}
+use Rattle.cmap_tokens.specs.Texts.{characters}
+use Rattle.cmap_tokens.proofs.TextsOfUnits.{characters_from}
 use Rattle.cmap_tokens.proofs.utf16.is_well_formed.Given as goal
 
-abbrev pub invariant-loop-after : goal.invariant-loop-after
-invariant-loop-after l = is_some (spelled l.rest l.last) ≡ is_some (spelled l.units l.last)
+abbrev pub invariant-loop-index : goal.invariant-loop-index
+invariant-loop-index l = record {
+  within : l.index ≤ 1 + length l.front;
+  same : is_some (characters_from (l.front ++ l.last ∷ []) l.index) ≡ is_some (characters (l.front ++ l.last ∷ []));
+}
 
-abbrev pub decreases-loop-after : goal.decreases-loop-after
-decreases-loop-after l = length l.rest
+abbrev pub decreases-loop-index : goal.decreases-loop-index
+decreases-loop-index l = 1 + length l.front - l.index
