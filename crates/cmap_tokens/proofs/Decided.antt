@@ -4,36 +4,23 @@ use Rattle.std.specs.List.{prefix_len}
 use Rattle.std.proofs.lemmas.Bool.{cases_Bool, lt-leb}
 use Rattle.std.proofs.Math.ListN.{get_or-append}
 use Rattle.std.proofs.Math.Seq.{take-append-add}
+use Rattle.std.proofs.lemmas.Bool.Decides.{nat_tests}
+use Rattle.std.proofs.lemmas.List.Folds.{prefix_len-append}
 use Rattle.std.proofs.lemmas.List.{drop-append-le, take-append-drop}
-use Rattle.cmap_tokens.specs.Bytes.{is_white, is_regular}
 use Rattle.cmap_tokens.specs.Gaps.{ends_comment}
-use Rattle.cmap_tokens.specs.Tokens.{Token, Front, is_bracket, begins_regular, is_hex_body}
+use Rattle.cmap_tokens.specs.Tokens.{Token, Front, begins_regular, is_hex_body}
 use Rattle.cmap_tokens.specs.TokenReading.{one_more, gap_len, hex_len, string_of, first_piece, malformed_len}
 use Rattle.cmap_tokens.specs.TokensLeft.{after_gap, Agree, AgreesTo, IsDecidedByFronts, IsInOrder, Left, Placed, start_of, tokens_of, with_token}
 use Rattle.cmap_tokens.proofs.ByteTests.{by_byte}
 use Rattle.cmap_tokens.proofs.Fronts.{front_long, left_from, left_front, left_none, next, none, one, passed_is}
-use Rattle.cmap_tokens.proofs.TokenPieces.{regular_first}
 
 gap_kept : (in_comment : Bool) (front s t : List ℕ) → gap_len in_comment (front ++ s) < length front → gap_len in_comment (front ++ t) ≡ gap_len in_comment (front ++ s)
 gap_kept in_comment [] s t short = absurd (omega (arith, short))
 gap_kept true (b ∷ front) s t short = ap (λ n. 1 + n) (gap_kept (not (ends_comment b)) front s t (omega (arith, short)))
-gap_kept false (b ∷ front) s t short =
-    elim (cases_Bool (b == 37)) [
-      | inl percent ↦ rw percent (ap (λ n. 1 + n) (gap_kept true front s t (omega (arith, rw percent at short))))
-      | inr other ↦
-          elim (cases_Bool (is_white b)) [
-            | inl white ↦ rw (other, white) (ap (λ n. 1 + n) (gap_kept false front s t (omega (arith, rw (other, white) at short))))
-            | inr solid ↦ rw (other, solid) refl
-          ]
-    ]
+gap_kept false (b ∷ front) s t short = grind (arith, nat_tests, gap_kept true front s t, gap_kept false front s t)
 
 hex_kept : (front s t : List ℕ) → prefix_len is_hex_body (front ++ s) < length front → prefix_len is_hex_body (front ++ t) ≡ prefix_len is_hex_body (front ++ s)
-hex_kept [] s t short = absurd (omega (arith, short))
-hex_kept (b ∷ front) s t short =
-    elim (cases_Bool (is_hex_body b)) [
-      | inl is_hex ↦ rw is_hex (ap (λ n. 1 + n) (hex_kept front s t (omega (arith, rw is_hex at short))))
-      | inr ends ↦ rw ends refl
-    ]
+hex_kept front s t short = grind (arith, nat_tests, prefix_len-append is_hex_body front s, prefix_len-append is_hex_body front t)
 
 hex_len-kept : (front s t : List ℕ) → prefix_len is_hex_body (front ++ s) < length front → hex_len (front ++ t) ≡ hex_len (front ++ s)
 hex_len-kept front s t short =
@@ -52,22 +39,17 @@ less_kept : (front s t : List ℕ) → NoneKept (60 ∷ front) s t
 unfolding first_piece
 less_kept [] s t e short = absurd (omega (arith, short))
 less_kept (b ∷ front) s t e short =
+    let within : prefix_len is_hex_body (b ∷ front ++ s) < length (b ∷ front) = omega (arith, short) in
+    let same = hex_len-kept (b ∷ front) s t within in
     elim (cases_Bool (b == 60)) [
       | inl again ↦ let clash = rw again at e in cc
-      | inr single ↦
-          let within : prefix_len is_hex_body (b ∷ front ++ s) < length (b ∷ front) = omega (arith, short) in
-          let same = hex_len-kept (b ∷ front) s t within in
-          (rw single (ap (λ o. string_of (60 ∷ b ∷ front ++ t) (one_more o)) same ∙ no_string _ _ (hex_len (b ∷ front ++ s)) (rw single at e)), ap (λ n. 1 + n) (hex_kept (b ∷ front) s t within))
+      | inr single ↦ (rw single (ap (λ o. string_of (60 ∷ b ∷ front ++ t) (one_more o)) same ∙ no_string _ _ (hex_len (b ∷ front ++ s)) (rw single at e)), ap (λ n. 1 + n) (hex_kept (b ∷ front) s t within))
     ]
 
 greater_kept : (front s t : List ℕ) → NoneKept (62 ∷ front) s t
 unfolding first_piece
 greater_kept [] s t e short = absurd (omega (arith, short))
-greater_kept (b ∷ front) s t e short =
-    elim (cases_Bool (b == 62)) [
-      | inl again ↦ let clash = rw again at e in cc
-      | inr single ↦ (rw single refl, refl)
-    ]
+greater_kept (b ∷ front) s t e short = (e, refl)
 
 nothing_kept : (front s t : List ℕ) → NoneKept front s t
 unfolding first_piece
@@ -76,18 +58,7 @@ nothing_kept (b ∷ front) s t =
     let P : ℕ → Type 0 = λ c. NoneKept (c ∷ front) s t in
     by_byte b 60 P (less_kept front s t) (λ not_less. by_byte b 62 P (greater_kept front s t) (λ not_greater.
     by_byte b 40 P (λ e short. absurd (omega (arith, short, length-append front s))) (λ not_open e short.
-    elim (cases_Bool (is_bracket b)) [
-      | inl bracket ↦ let clash = rw bracket at e in cc
-      | inr not_bracket ↦
-          elim (cases_Bool (b == 47)) [
-            | inl slash ↦ let clash = rw (not_bracket, not_less, not_greater, not_open, slash) at e in cc
-            | inr not_slash ↦
-                elim (cases_Bool (is_regular b)) [
-                  | inl regular ↦ let clash : Some _ ≡ None = sym (regular_first b (front ++ s) regular).0 ∙ e in cc
-                  | inr special ↦ (rw (special, not_bracket, not_less, not_greater, not_open, not_slash) refl, rw (not_less, not_greater, not_open) refl)
-                ]
-          ]
-    ])))
+    grind (arith, nat_tests, e, not_less, not_greater, not_open))))
 
 none_kept : (front s t text : List ℕ) → text ≡ front ++ s → first_piece (after_gap text) ≡ None → gap_len false text + malformed_len (after_gap text) < length front
     → (gap_len false (front ++ t) ≡ gap_len false text) × (first_piece (after_gap (front ++ t)) ≡ None) × (malformed_len (after_gap (front ++ t)) ≡ malformed_len (after_gap text))

@@ -2,7 +2,7 @@
 use Rattle.std.proofs.Common.{◌≡◌, ℕ, ◌+◌, ◌<◌, ◌≤◌, true, false, not, ◌||◌, ◌==◌, List, [], ◌∷◌, ◌++◌, length, take, drop, Option, Some, None, one-add, refl, sym, ap, ◌∙◌, subst, inl, inr, arith, append_assoc}
 use Rattle.std.specs.Prelude.{IfSome, IsTrue, codes}
 use Rattle.std.specs.List.{list_all, prefix_len}
-use Rattle.std.proofs.lemmas.Bool.{and_parts, or_left, both_ways, cases_Bool, not-true}
+use Rattle.std.proofs.lemmas.Bool.{cond-true, and_parts, or_left, both_ways, cases_Bool, not-true}
 use Rattle.std.proofs.lemmas.List.{take_at}
 use Rattle.std.proofs.lemmas.List.Folds.{length-prefix_len}
 use Rattle.std.proofs.lemmas.List.Sums.{prefix_len-le-length}
@@ -10,30 +10,11 @@ use Rattle.cmap_tokens.specs.Bytes.{is_white, is_regular}
 use Rattle.cmap_tokens.specs.Tokens.{Token, Name, String, IsToken, IsString, is_bracket, begins_regular, begins_name, is_hex_body, name_or_number}
 use Rattle.cmap_tokens.specs.Strings.{begins_with}
 use Rattle.cmap_tokens.specs.TokenReading.{string_len, string_of, gap_len, first_piece}
-use Rattle.cmap_tokens.proofs.ByteTests.{by_byte, other_byte, none_of, one_of, begins_with_is, all_prefix, prefix_ends, prefix_stops}
+use Rattle.cmap_tokens.proofs.ByteTests.{by_byte, other_byte, one_of, begins_with_is, all_prefix, prefix_ends, prefix_stops}
 use Rattle.cmap_tokens.proofs.StringLengths.{string_is, string_len-append}
 
--- a run is read to its end
-pub regular_first : (b : ℕ) (text : List ℕ) → is_regular b ≡ true
-    → (first_piece (b ∷ text) ≡ Some (name_or_number (take (prefix_len is_regular (b ∷ text)) (b ∷ text)), prefix_len is_regular (b ∷ text))) × (gap_len false (b ∷ text) ≡ 0)
-unfolding first_piece
-regular_first b text regular =
-    let never : (k : ℕ) → is_regular k ≡ false → (b == k) ≡ false = λ k special. other_byte is_regular k b special regular in
-    let not_bracket : is_bracket b ≡ false = none_of is_regular b (codes "[]{}") refl regular in
-    let not_less : (b == 60) ≡ false = never 60 refl in
-    let not_greater : (b == 62) ≡ false = never 62 refl in
-    let not_open : (b == 40) ≡ false = never 40 refl in
-    let not_slash : (b == 47) ≡ false = never 47 refl in
-    let not_percent : (b == 37) ≡ false = never 37 refl in
-    let not_white : is_white b ≡ false = not-true (is_white b) (and_parts (not (is_white b)) _ regular).0 in
-    (rw (regular, not_bracket, not_less, not_greater, not_open, not_slash) refl, rw (not_percent, not_white) refl)
-
-bracket_first : (b : ℕ) (text : List ℕ) → is_bracket b ≡ true → (first_piece (b ∷ text) ≡ Some (Name false (b ∷ []), 1)) × (gap_len false (b ∷ text) ≡ 0) × (begins_name (b ∷ []) ≡ false)
-unfolding first_piece
-bracket_first b text bracket =
-    let not_percent : (b == 37) ≡ false = other_byte is_bracket 37 b refl bracket in
-    let not_white : is_white b ≡ false = one_of is_white b (codes "[]{}") refl bracket in
-    (rw bracket refl, rw (not_percent, not_white) refl, one_of (λ c. is_regular c || c == 47) b (codes "[]{}") refl bracket)
+bracket_special : (b : ℕ) → is_bracket b ≡ true → (is_regular b ≡ false) × (begins_name (b ∷ []) ≡ false)
+bracket_special b bracket = (one_of is_regular b (codes "[]{}") refl bracket, one_of (λ c. is_regular c || c == 47) b (codes "[]{}") refl bracket)
 
 -- what is read is a token, as long as can be
 pub record IsFirst (text : List ℕ) (first : Token × ℕ) : Type 0 where
@@ -87,36 +68,39 @@ name_is text =
     })
 
 run_is : (b : ℕ) (text : List ℕ) → is_regular b ≡ true → First b text
+unfolding first_piece
 run_is b text regular =
     let n = prefix_len is_regular (b ∷ text) in
     let long : length (take n (b ∷ text)) ≡ n = length-prefix_len is_regular (b ∷ text) in
     let some : n ≡ 1 + prefix_len is_regular text = rw regular refl in
-    subst (λ o. IfSome o (IsFirst (b ∷ text))) (sym (regular_first b text regular).0)
-    (record {
+    let is : IsFirst (b ∷ text) (name_or_number (take n (b ∷ text)), n) = record {
       within = prefix_len-le-length is_regular (b ∷ text);
       is_token = inl ((omega (arith, long, some), all_prefix is_regular (b ∷ text)), refl);
       longest = λ h. prefix_stops is_regular (b ∷ text);
-    })
+    } in
+    rw regular (rw regular at is)
 
 bracket_is : (b : ℕ) (text : List ℕ) → is_bracket b ≡ true → First b text
+unfolding first_piece
 bracket_is b text bracket =
-    let (first, gap, special) = bracket_first b text bracket in
-    subst (λ o. IfSome o (IsFirst (b ∷ text))) (sym first) (no_name _ _ (omega arith) (inr (inr (inl (inl (b, refl, bracket), refl)))) special)
+    let (special, no_name_first) = bracket_special b bracket in
+    rw (special, bracket) (no_name _ _ (omega arith) (inr (inr (inl (inl (b, refl, bracket), refl)))) no_name_first)
 
 pub first_is : (text : List ℕ) → IfSome (first_piece text) (IsFirst text)
 unfolding first_piece
 first_is [] = tt
 first_is (b ∷ text) =
     let P : ℕ → Type 0 = λ c. First c text in
-    elim (cases_Bool (is_bracket b)) [
-      | inl bracket ↦ bracket_is b text bracket
-      | inr not_bracket ↦
-          by_byte b 60 P (less_is text) (λ not_less. by_byte b 62 P (greater_is text) (λ not_greater.
-          by_byte b 40 P (string_first (40 ∷ text) _ refl) (λ not_open. by_byte b 47 P (name_is text) (λ not_slash.
-          elim (cases_Bool (is_regular b)) [
-            | inl regular ↦ run_is b text regular
-            | inr special ↦ rw (special, not_bracket, not_less, not_greater, not_open, not_slash) tt
-          ]))))
+    elim (cases_Bool (is_regular b)) [
+      | inl regular ↦ run_is b text regular
+      | inr special ↦
+          elim (cases_Bool (is_bracket b)) [
+            | inl bracket ↦ bracket_is b text bracket
+            | inr not_bracket ↦
+                by_byte b 47 P (name_is text) (λ not_slash. by_byte b 60 P (less_is text) (λ not_less.
+                by_byte b 62 P (greater_is text) (λ not_greater. by_byte b 40 P (string_first (40 ∷ text) _ refl) (λ not_open.
+                rw (special, not_bracket, not_slash, not_less, not_greater, not_open) tt))))
+          ]
     ]
 
 -- the other way: a token is read, where what follows doesn't make it longer
@@ -126,14 +110,15 @@ pub record IsRead (piece : List ℕ) (token : Token) (rest : List ℕ) : Type 0 
   pub filled : 0 < length piece
 
 read_run : (run rest : List ℕ) → 0 < length run → list_all is_regular run ≡ true → (IsTrue (begins_name run) → begins_regular rest ≡ false) → IsRead run (name_or_number run) rest
+unfolding first_piece
 read_run [] rest some all longest = absurd (omega (arith, some))
 read_run (b ∷ run) rest some all longest =
-    let regular : is_regular b ≡ true = (and_parts (is_regular b) (list_all is_regular run) all).0 in
-    let (first, no_gap) = regular_first b (run ++ rest) regular in
+    let (first, more) = and_parts (is_regular b) (list_all is_regular run) all in
+    let regular : is_regular b ≡ true = first in
     let long : prefix_len is_regular (b ∷ run ++ rest) ≡ length (b ∷ run) = prefix_ends is_regular (b ∷ run) rest all (longest (or_left (is_regular b) (b == 47) regular)) in
     record {
-      first = first ∙ ap (λ n. Some (name_or_number (take n (b ∷ run ++ rest)), n)) long ∙ ap (λ r. Some (name_or_number r, length (b ∷ run))) (take_at (b ∷ run) rest (length (b ∷ run)) refl);
-      no_gap = no_gap;
+      first = cond-true _ _ _ regular ∙ ap (λ n. Some (name_or_number (take n (b ∷ run ++ rest)), n)) long ∙ ap (λ r. Some (name_or_number r, length (b ∷ run))) (take_at (b ∷ run) rest (length (b ∷ run)) refl);
+      no_gap = (let not_percent = other_byte is_regular 37 b refl regular in let not_white = not-true (is_white b) (and_parts (not (is_white b)) _ regular).0 in rw (not_percent, not_white) refl);
       filled = some;
     }
 
@@ -146,7 +131,8 @@ read_name name rest all stops = record {
 }
 
 read_bracket : (b : ℕ) (rest : List ℕ) → is_bracket b ≡ true → IsRead (b ∷ []) (Name false (b ∷ [])) rest
-read_bracket b rest bracket = let (first, no_gap, special) = bracket_first b rest bracket in record { first = first; no_gap = no_gap; filled = omega arith }
+unfolding first_piece
+read_bracket b rest bracket = record { first = rw ((bracket_special b bracket).0, bracket) refl; no_gap = (let not_percent = other_byte is_bracket 37 b refl bracket in let not_white = one_of is_white b (codes "[]{}") refl bracket in rw (not_percent, not_white) refl); filled = omega arith }
 
 -- no < stands after the < of a hexadecimal string
 single : (body rest : List ℕ) → list_all is_hex_body body ≡ true → begins_with 60 (body ++ 62 ∷ rest) ≡ false

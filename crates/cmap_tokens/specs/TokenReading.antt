@@ -46,12 +46,12 @@ string_of text len = option_map (λ n. (String (take n text), n)) len
 unfoldable pub first_piece : List ℕ → Option (Token × ℕ)
 first_piece [] = None
 first_piece (b ∷ text) =
-    if is_bracket b then Some (Name false (b ∷ []), 1)
+    if is_regular b then Some (name_or_number (take (prefix_len is_regular (b ∷ text)) (b ∷ text)), prefix_len is_regular (b ∷ text))
+    else if is_bracket b then Some (Name false (b ∷ []), 1)
+    else if b == slash then Some (Name true (take (prefix_len is_regular text) text), 1 + prefix_len is_regular text)
     else if b == less then (if begins_with less text then Some (Name false (codes "<<"), 2) else string_of (b ∷ text) (string_len (b ∷ text)))
     else if b == greater then (if begins_with greater text then Some (Name false (codes ">>"), 2) else None)
     else if b == open_parenthesis then string_of (b ∷ text) (string_len (b ∷ text))
-    else if b == slash then Some (Name true (take (prefix_len is_regular text) text), 1 + prefix_len is_regular text)
-    else if is_regular b then Some (name_or_number (take (prefix_len is_regular (b ∷ text)) (b ∷ text)), prefix_len is_regular (b ∷ text))
     else None
 
 -- how many bytes show that no token comes, where a text begins with none: all of them, where only its end shows it
