@@ -1,11 +1,12 @@
 -- A token that stands after one white byte.
-use Rattle.std.proofs.Common.{◌≡◌, ℕ, ◌+◌, ◌<◌, ◌≤◌, ◌&&◌, ◌==◌, Bool, false, true, not, nat_lt, nat_le, List, [], ◌∷◌, ◌++◌, length, get_or, take, drop, Some, inl, inr, refl, sym, ap, ◌∙◌, subst, arith, length-take-le}
+use Rattle.std.proofs.Common.{◌≡◌, ℕ, ◌+◌, ◌<◌, ◌≤◌, ◌&&◌, ◌==◌, Bool, false, true, List, [], ◌∷◌, ◌++◌, length, get_or, take, drop, Some, inl, inr, refl, sym, ap, ◌∙◌, subst, arith, length-take-le}
 use Rattle.std.specs.Prelude.{IsTrue, pos}
 use Rattle.std.specs.Char.{is_digit}
 use Rattle.std.specs.List.{list_all}
 use Rattle.std.specs.Option.{option_map_or}
 use Rattle.std.proofs.Math.Seq.{drop-cons}
-use Rattle.std.proofs.lemmas.Bool.{and_parts, cases_Bool, eqb-true, leb-true, ltb-true, not-true, or_right}
+use Rattle.std.proofs.lemmas.Bool.{and_parts, cases_Bool, eqb-true, or_right}
+use Rattle.std.proofs.lemmas.Bool.Decides.{nat_tests}
 use Rattle.std.proofs.lemmas.List.{drop_at, take-append-drop}
 use Rattle.cmap_tokens.specs.Bytes.{is_white, is_regular}
 use Rattle.cmap_tokens.specs.Numbers.{Integer, decimal_front, digits_len, digits_number}
@@ -63,19 +64,14 @@ record Decimal (text : List ℕ) (number len : ℕ) : Type 0 where
   special : is_regular (get_or text len 0) ≡ false
 
 decimal_is : (text : List ℕ) (first : ℕ × ℕ) → decimal_front text ≡ Some first → Decimal text first.0 first.1
-decimal_is text first e =
-    let n = digits_len 10 text in
-    elim (cases_Bool (nat_le 1 n && nat_le n 18 && nat_lt n (length text) && not (is_regular (get_or text n 0)))) [
-      | inl is ↦
-          let (fits, special) = and_parts (nat_le 1 n && nat_le n 18 && nat_lt n (length text)) (not (is_regular (get_or text n 0))) is in
-          let (counted, within) = and_parts (nat_le 1 n && nat_le n 18) (nat_lt n (length text)) fits in
-          let (some, few) = and_parts (nat_le 1 n) (nat_le n 18) counted in
-          let read : ℕ × ℕ = (digits_number 10 (take n text), n) in
-          let found : Some read ≡ Some first = rw is at e in
-          let same : read ≡ first = cc in
-          subst (λ f. Decimal text f.0 f.1) same (record { len_is = refl; number_is = refl; filled = leb-true 1 n some; few = leb-true n 18 few; within = ltb-true n (length text) within; special = not-true _ special })
-      | inr other ↦ let at = rw other at e in cc
-    ]
+decimal_is text first e = record {
+  len_is = grind (arith, nat_tests, e);
+  number_is = grind (arith, nat_tests, e);
+  filled = grind (arith, nat_tests, e);
+  few = grind (arith, nat_tests, e);
+  within = grind (arith, nat_tests, e);
+  special = grind (arith, nat_tests, e);
+}
 
 pub decimal_first : (text : List ℕ) (number len : ℕ) → spaced_decimal text ≡ Some (number, len) → FirstToken text (Numeral (Integer (pos number))) (1 + len)
 decimal_first [] number len e = cc

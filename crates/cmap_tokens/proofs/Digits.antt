@@ -1,12 +1,13 @@
 -- The numbers that digits write.
-use Rattle.std.proofs.Common.{◌≡◌, ℕ, ◌+◌, ◌*◌, ◌-◌, ◌^◌, ◌<◌, ◌≤◌, min, List, length, get_or, take, true, ap, sym, ◌∙◌, ⊎_elim, inl, inr, arith, [], ◌∷◌, map, refl, ◌%◌, ◌/◌, subst, pos, false, ◌==◌, Some}
+use Rattle.std.proofs.Common.{◌≡◌, ℕ, ◌+◌, ◌*◌, ◌-◌, ◌^◌, ◌<◌, ◌≤◌, min, List, length, get_or, take, true, ap, sym, ◌∙◌, ⊎_elim, arith, [], ◌∷◌, map, refl, ◌%◌, ◌/◌, subst, pos, false, ◌==◌, Some}
 use Rattle.std.specs.Char.{digit_value, is_digit}
 use Rattle.std.specs.List.{list_all}
-use Rattle.std.proofs.lemmas.Bool.{and_from, lt-ltb, cases_Bool, cases_lt, and_parts, ltb-true, le-leb, not_from_false}
+use Rattle.std.proofs.lemmas.Bool.{and_from, lt-ltb, cases_lt, and_parts, ltb-true, le-leb, not_from_false}
+use Rattle.std.proofs.lemmas.Bool.Decides.{nat_tests}
 use Rattle.std.proofs.lemmas.Int.Digits.{digits_value_is, digits_value_more, number_lt}
 use Rattle.std.proofs.Math.Nat.{mul-le-mul_left, pow-le-pow_right}
 use Rattle.cmap_tokens.specs.Numbers.{digits_number, are_digits, digits_value, Integer, integer, numeral}
-use Rattle.std.specs.Prelude.{Option, None, option_map, unwrap_or, codes, nat_le, nat_lt}
+use Rattle.std.specs.Prelude.{Option, option_map, unwrap_or, codes, nat_le}
 use Rattle.std.specs.Int.Digits.{AllBelowBase, number_from_digits_after}
 use Rattle.std.proofs.lemmas.List.{length-map, length-take}
 use Rattle.cmap_tokens.specs.TokenReading.{octal_len}
@@ -37,9 +38,7 @@ digits_number_more base text i h =
 -- ---- up to three octal digits
 pub below_base : (base : ℕ) (digits : List ℕ) → list_all (λ c. is_digit c base) digits ≡ true → AllBelowBase base (map digit_value digits)
 below_base base [] all = tt
-below_base base (c ∷ digits) all =
-    let (first, more) = and_parts (is_digit c base) (list_all (λ k. is_digit k base) digits) all in
-    (ltb-true (digit_value c) base first, below_base base digits more)
+below_base base (c ∷ digits) all = (grind (arith, nat_tests, all), below_base base digits (grind (arith, nat_tests, all)))
 
 -- so many digits write a number below this one
 pub digits_small : (base m : ℕ) (digits : List ℕ) → 0 < base → list_all (λ c. is_digit c base) digits ≡ true → length digits ≤ m → digits_number base digits < base ^ m
@@ -52,30 +51,15 @@ abbrev pub capped : ℕ → List ℕ → Option ℕ
 capped base digits = option_map (λ n. min n (2 ^ 64 - 1)) (digits_value base digits)
 
 pub uncapped : (base m : ℕ) (digits : List ℕ) → 0 < base → length digits ≤ m → base ^ m ≤ 2 ^ 64 → capped base digits ≡ digits_value base digits
-uncapped base m digits some few fits =
-    elim (cases_Bool (are_digits base digits)) [
-      | inl are ↦
-          let small = digits_small base m digits some (and_parts (nat_lt 0 (length digits)) _ are).1 few in
-          let same : min (digits_number base digits) (2 ^ 64 - 1) ≡ digits_number base digits = omega (arith, small, fits) in
-          rw are (ap Some same)
-      | inr other ↦ rw other refl
-    ]
+uncapped base m digits some few fits = grind (arith, nat_tests, digits_small base m digits some)
 
 -- the digits of a number that is read
 pub value_is : (base m n : ℕ) (digits : List ℕ) → 0 < base → length digits ≤ m → digits_value base digits ≡ Some n → (0 < length digits) × (list_all (λ c. is_digit c base) digits ≡ true) × (n ≡ digits_number base digits) × (n < base ^ m)
-value_is base m n digits some few is =
-    elim (cases_Bool (are_digits base digits)) [
-      | inl are ↦
-          let (filled, all) = and_parts (nat_lt 0 (length digits)) (list_all (λ c. is_digit c base) digits) are in
-          let read : Some (digits_number base digits) ≡ Some n = rw are at is in
-          let number : n ≡ digits_number base digits = cc in
-          (ltb-true 0 (length digits) filled, all, number, omega (arith, number, digits_small base m digits some all few))
-      | inr other ↦ let none : None ≡ Some n = rw other at is in cc
-    ]
+value_is base m n digits some few is = (grind (arith, nat_tests, is), grind (arith, nat_tests, is), grind (arith, nat_tests, is), grind (arith, nat_tests, is, digits_small base m digits some))
 
 unwrapped : (digits : List ℕ) → list_all (λ c. is_digit c 8) digits ≡ true → unwrap_or (digits_value 8 digits) 0 ≡ digits_number 8 digits
 unwrapped [] all = refl
-unwrapped (c ∷ digits) all = let are : are_digits 8 (c ∷ digits) ≡ true = and_from _ _ (lt-ltb 0 (length (c ∷ digits)) (omega arith)) all in rw are refl
+unwrapped (c ∷ digits) all = grind (arith, nat_tests, all)
 
 pub octal_value : (text : List ℕ) → unwrap_or (capped 8 (take (octal_len text) text)) 0 ≡ digits_number 8 (take (octal_len text) text)
 octal_value text =

@@ -1,6 +1,6 @@
 -- The front of a text and the tokens that are left of it: what the code reads is what the relations say, both ways.
 use Rattle.std.proofs.Common.{◌≡◌, ℕ, ◌+◌, ◌-◌, ◌<◌, ◌≤◌, zero, suc, false, true, List, [], ◌∷◌, ◌++◌, length, take, drop, Option, None, Some, inl, inr, refl, sym, ap, ◌∙◌, subst, arith, append_assoc, length-append, length-drop, length-take-le}
-use Rattle.std.specs.Prelude.{◌↔◌, IfSome, map}
+use Rattle.std.specs.Prelude.{IfSome, map}
 use Rattle.std.proofs.lemmas.Bool.{cases_lt, le-leb, lt-leb, leb-true}
 use Rattle.std.proofs.lemmas.List.{take_at, drop_at, drop_all, take-append-drop, take_rest, drop-drop}
 use Rattle.cmap_tokens.specs.Gaps.{IsBlank}
@@ -172,49 +172,37 @@ passed_is passed text =
       | one front ↦ ap (λ l. l.passed) (left_front front passed)
     ]
 
--- these are all tokens of a text just where they are left of it, and it ends
-has : (tokens : List Token) (passed : ℕ) (text : List ℕ) → Tokens text tokens ↔ ((map (λ p. p.token) (left_from passed text).tokens ≡ tokens) × ((left_from passed text).ends ≡ true))
-has [] passed text =
+left_blank : (passed : ℕ) (text : List ℕ) → IsBlank text → ((left_from passed text).tokens ≡ []) × ((left_from passed text).ends ≡ true)
+left_blank passed text blank =
     elim (next text) [
-      | none e ↦ rw (left_none passed text e) (λ blank. (refl, le-leb _ _ (omega (arith, gap_len-blank text blank))), λ both. (measured false text).blank (leb-true _ _ both.1))
-      | one {token = token} front ↦ rw (left_front front passed) (
-        λ blank. absurd (front_not_blank front blank),
-        λ both. let clash : token ∷ _ ≡ [] = both.0 in cc,
-      )
+      | none e ↦ rw (left_none passed text e) (refl, le-leb _ _ (omega (arith, gap_len-blank text blank)))
+      | one front ↦ absurd (front_not_blank front blank)
     ]
-has (t ∷ tokens) passed text =
+
+-- all tokens of a text are those that are left of it, and it ends
+are_left : (tokens : List Token) (passed : ℕ) (text : List ℕ) → Tokens text tokens → (map (λ p. p.token) (left_from passed text).tokens ≡ tokens) × ((left_from passed text).ends ≡ true)
+are_left [] passed text blank = let (empty, ends) = left_blank passed text blank in (rw empty refl, ends)
+are_left (token ∷ tokens) passed text (gap, piece, rest, front, more) =
+    let (same, ends) = are_left tokens (passed + (length gap + length piece)) rest more in
+    rw (left_front front passed) (ap (λ others. token ∷ others) same, ends)
+
+-- and those that are left, where it ends, are all
+left_are : (n passed : ℕ) (text : List ℕ) → length text < n → (left_from passed text).ends ≡ true → Tokens text (map (λ p. p.token) (left_from passed text).tokens)
+left_are zero passed text few = absurd (omega (arith, few))
+left_are (suc n) passed text few =
     elim (next text) [
-      | none e ↦ rw (left_none passed text e) (
-        λ at. absurd (no_front at.3 e),
-        λ both. let clash : [] ≡ t ∷ tokens = both.0 in cc,
-      )
-      | one {gap = gap} {piece = piece} {token = token} {rest = rest} front ↦
-          let more = has tokens (passed + (length gap + length piece)) rest in
-          rw (left_front front passed) (
-            λ at.
-                let same = (front_only front).only _ _ _ t at.3 in
-                let left = more.0 (subst (λ r. Tokens r tokens) same.3 at.4) in
-                let is_token : token ≡ t = sym same.2 in
-                (rw (is_token, left.0) refl, left.1),
-            λ both.
-                let lists : token ∷ map (λ p. p.token) (left_from _ _).tokens ≡ t ∷ tokens = both.0 in
-                let head : token ≡ t = cc in
-                (gap, piece, rest, subst (λ u. Front text gap piece u rest) head front, more.1 (cc, both.1)),
-          )
+      | none e ↦ rw (left_none passed text e) (λ ends. (measured false text).blank (leb-true _ _ ends))
+      | one {rest = rest} front ↦ rw (left_front front passed) (λ ends. (_, _, rest, front, left_are n _ rest (omega (arith, few, front_long front)) ends))
     ]
 
 pub has_tokens : (text : List ℕ) → HasTokens text (tokens_of (start_of text))
 unfolding tokens_of
-has_tokens text tokens = has tokens 0 text
+has_tokens text tokens = (are_left tokens 0 text, λ both. subst (Tokens text) both.0 (left_are (suc (length text)) 0 text (omega arith) both.1))
 
 -- ---- what the reading of a token says
 pub leaves_blank : (place : Place) → IsBlank (rest_of place) → LeavesNone true place
 unfolding tokens_of
-leaves_blank place blank =
-    elim (next (rest_of place)) [
-      | none e ↦ rw (left_none place.passed (rest_of place) e) (refl, le-leb _ _ (omega (arith, gap_len-blank (rest_of place) blank)))
-      | one front ↦ absurd (front_not_blank front blank)
-    ]
+leaves_blank place blank = left_blank place.passed (rest_of place) blank
 
 pub leaves_malformed : (place : Place) → IsMalformed (rest_of place) → LeavesNone false place
 unfolding tokens_of

@@ -1,10 +1,10 @@
 -- How far strings reach: what the code measures is what the grammar says, both ways.
-use Rattle.std.proofs.Common.{◌≡◌, ℕ, ◌+◌, ◌<◌, ◌≤◌, Bool, true, false, ◌==◌, List, [], ◌∷◌, ◌++◌, length, get_or, take, drop, suc, Option, Some, None, one-add, refl, sym, ap, ◌∙◌, inl, inr, arith, append_assoc, append-nil, length-append}
+use Rattle.std.proofs.Common.{◌≡◌, ℕ, ◌+◌, ◌-◌, ◌<◌, ◌≤◌, Bool, true, false, ◌==◌, List, [], ◌∷◌, ◌++◌, length, get_or, take, drop, suc, Option, Some, None, one-add, refl, sym, ap, ◌∙◌, inl, inr, arith, append_assoc, append-nil, length-append}
 use Rattle.std.specs.Prelude.{IsTrue, option_map}
 use Rattle.std.specs.List.{list_all, prefix_len}
 use Rattle.std.specs.Option.{option_map_or}
 use Rattle.std.proofs.Math.Seq.{get_or-append_seam}
-use Rattle.std.proofs.lemmas.Bool.{cases_Bool, cases_lt, cond_both, eq-eqb, eqb-true}
+use Rattle.std.proofs.lemmas.Bool.{cases_Bool, cases_lt, eq-eqb, eqb-true}
 use Rattle.std.proofs.lemmas.List.{at_drop_more, get_or_past, nil_from_length, take_all, take_more}
 use Rattle.cmap_tokens.specs.Tokens.{Inside, after_byte, closes_at_end, opened, is_hex_body, IsHexString, IsString}
 use Rattle.cmap_tokens.specs.TokenReading.{one_more, hex_len, text_len, string_len, is_string, is_paired}
@@ -92,28 +92,15 @@ pub count_step : (f : List ℕ → Option ℕ) (text : List ℕ) (i : ℕ) (rest
 count_step f text i rest within is = sym (ap (option_map (λ n. i + n)) (at_drop_more f text i 0 within ∙ is) ∙ one_more_from i rest)
 
 -- what closes ends with ), and each backslash before it has a byte after it
-abbrev pub EndsFrom : Option Inside → List ℕ → Type 0
-EndsFrom None bytes = bytes ≡ []
-EndsFrom (Some place) bytes = (body : List ℕ) × (bytes ≡ body ++ 41 ∷ []) × (is_paired place.escaped body ≡ true)
-
-abbrev Follows : Inside → ℕ → Option Inside → Type 0
-Follows place b None = (b ≡ 41) × (place.escaped ≡ false)
-Follows place b (Some next) = (text : List ℕ) → is_paired place.escaped (b ∷ text) ≡ is_paired next.escaped text
-
-follows : (escaped : Bool) (depth b : ℕ) → let place : Inside = record { escaped = escaped; depth = depth } in Follows place b (after_byte place b)
-follows true depth b = λ text. refl
-follows false depth b =
-    let place : Inside = record { escaped = false; depth = depth } in
-    let P : Option Inside → Type 0 = Follows place b in
-    cond_both (b == 92) _ _ P (λ escape text. ap (λ t. is_paired t text) escape)
-    (λ plain. let same = λ (text : List ℕ). ap (λ t. is_paired t text) plain in
-    cond_both (b == 40) _ _ P (λ _. same) (λ _. cond_both (b == 41) _ _ P (λ close. cond_both (depth == 1) _ _ P (λ _. (eqb-true b 41 close, refl)) (λ _. same)) (λ _. same)))
-
-ends_more : (place : Inside) (b : ℕ) (bytes : List ℕ) (next : Option Inside) → Follows place b next → EndsFrom next bytes → EndsFrom (Some place) (b ∷ bytes)
-ends_more place b bytes None (close, plain) none = ([], rw (close, none) refl, ap (λ e. is_paired e []) plain)
-ends_more place b bytes (Some next) same (body, whole, paired) = (b ∷ body, ap (λ t. b ∷ t) whole, same body ∙ paired)
-
-pub ends_from : (place : Option Inside) (bytes : List ℕ) → closes_at_end place bytes ≡ true → EndsFrom place bytes
-ends_from None bytes closes = nil_from_length bytes (eqb-true (length bytes) 0 closes)
-ends_from (Some place) [] closes = cc
-ends_from (Some place) (b ∷ bytes) closes = ends_more place b bytes (after_byte place b) (follows place.escaped place.depth b) (ends_from (after_byte place b) bytes closes)
+pub ends_from : (escaped : Bool) (depth : ℕ) (bytes : List ℕ) → closes_at_end (Some (record { escaped = escaped; depth = depth })) bytes ≡ true → (body : List ℕ) × (bytes ≡ body ++ 41 ∷ []) × (is_paired escaped body ≡ true)
+ends_from escaped depth [] = λ closes. cc
+ends_from true depth (b ∷ bytes) = λ closes. let (body, whole, paired) = ends_from false depth bytes closes in (b ∷ body, ap (λ t. b ∷ t) whole, paired)
+ends_from false depth (b ∷ bytes) =
+    let P : ℕ → Type 0 = λ c. closes_at_end (Some (record { escaped = false; depth = depth })) (c ∷ bytes) ≡ true → (body : List ℕ) × (c ∷ bytes ≡ body ++ 41 ∷ []) × (is_paired false body ≡ true) in
+    by_byte b 92 P (λ closes. let (body, whole, paired) = ends_from true depth bytes closes in (92 ∷ body, ap (λ t. 92 ∷ t) whole, paired)) (λ plain.
+    by_byte b 41 P (elim (cases_Bool (depth == 1)) [
+      | inl last ↦ λ closes. ([], ap (λ t. 41 ∷ t) (nil_from_length bytes (eqb-true (length bytes) 0 (rw (last, closes_at_end) at closes))), refl)
+      | inr deeper ↦ λ closes. let (body, whole, paired) = ends_from false (depth - 1) bytes (rw (deeper, closes_at_end) at closes) in (41 ∷ body, ap (λ t. 41 ∷ t) whole, paired)
+    ]) (λ not_close.
+    by_byte b 40 P (λ closes. let (body, whole, paired) = ends_from false (depth + 1) bytes closes in (40 ∷ body, ap (λ t. 40 ∷ t) whole, paired)) (λ not_open closes.
+    let (body, whole, paired) = ends_from false depth bytes (rw (plain, not_open, not_close, closes_at_end) at closes) in (b ∷ body, ap (λ t. b ∷ t) whole, rw plain paired))))

@@ -5,7 +5,7 @@ use Rattle.std.specs.Int.Digits.{number_from_digits}
 use Rattle.std.specs.List.{AllByRecursion}
 use Rattle.std.proofs.lemmas.Bool.{cases_Bool, false≢true}
 use Rattle.std.proofs.lemmas.List.{take_at}
-use Rattle.cmap_tokens.specs.Tokens.{IsHexString, IsTextString, IsString, opened}
+use Rattle.cmap_tokens.specs.Tokens.{IsHexString, IsTextString, IsString}
 use Rattle.cmap_tokens.specs.Strings.{IsValue, hex_value, inside, ArePairs, IsOnlyValue, IsPlain}
 use Rattle.cmap_tokens.specs.TokenReading.{is_paired, is_string, string_value, value_of}
 use Rattle.cmap_tokens.proofs.Digits.{paired}
@@ -34,14 +34,14 @@ inside_is first last body =
 pub has_brackets : (piece : List ℕ) → IsString piece → 2 ≤ length piece
 has_brackets piece (inl (body, shape, all)) = omega (arith, ap length shape, length-append body (62 ∷ []))
 has_brackets piece (inr (bytes, shape, closes)) =
-    let (body, whole, paired) = ends_from opened bytes closes in omega (arith, ap length shape, ap length whole, length-append body (41 ∷ []))
+    let (body, whole, paired) = ends_from false 1 bytes closes in omega (arith, ap length shape, ap length whole, length-append body (41 ∷ []))
 
 -- ---- the value
 pub value_holds : (piece : List ℕ) → IsString piece → IsValue piece (string_value piece)
 value_holds piece (inl hex) = inl (hex, rw (hex_begins piece hex) refl)
 value_holds piece (inr text) =
     let (bytes, shape, closes) = text in
-    let (body, whole, paired) = ends_from opened bytes closes in
+    let (body, whole, paired) = ends_from false 1 bytes closes in
     let body_is : inside piece ≡ body = ap inside (shape ∙ ap (λ t. 40 ∷ t) whole) ∙ inside_is 40 41 body in
     let (parts, cut) = has_cut (length (inside piece)) (inside piece) (omega arith) (ap (is_paired false) body_is ∙ paired) in
     rw (text_begins piece text) (inr (text, parts, cut))
@@ -52,6 +52,10 @@ value_same piece value (inr (text, parts, cut)) = (inr text, cut_read parts (ins
 
 pub one_value : (piece value other : List ℕ) → IsValue piece value → IsValue piece other → value ≡ other
 one_value piece value other is other_is = (value_same piece value is).1 ∙ sym (value_same piece other other_is).1
+
+-- what is decoded
+pub decoded : (raw value : List ℕ) → is_string raw ≡ true → value ≡ string_value raw → IsValue raw value × ((other : List ℕ) → IsValue raw other → other ≡ value)
+decoded raw value string e = let is : IsValue raw value = rw e (value_holds raw (IsString-from raw string)) in (is, λ other other_is. one_value raw other value other_is is)
 
 pub IsValue-read : (piece value : List ℕ) → IsValue piece value → value_of piece ≡ Some value
 unfolding value_of
