@@ -1,9 +1,8 @@
 -- What contracts see of a scanner.
-use Rattle.std.specs.Prelude.{◌≡◌, ℕ, ◌+◌, ◌≤◌, List, ◌∷◌, length, get_or, take, drop, IsTrue}
+use Rattle.std.specs.Prelude.{◌≡◌, ℕ, ◌+◌, ◌&&◌, ◌==◌, List, length, get_or, take, drop, Option, None, if◌then◌else◌}
 use Rattle.cmap_tokens.specs.Ascii.{less, greater}
 use Rattle.cmap_tokens.specs.Bytes.{is_white}
-use Rattle.cmap_tokens.specs.Numbers.{EndsDigits}
-use Rattle.cmap_tokens.specs.Strings.{ArePairs}
+use Rattle.cmap_tokens.specs.Numbers.{digits_value, decimal_front}
 use Rattle.cmap_tokens.specs.Tokens.{Token, Front}
 
 -- the source, and how far the scanner has come in it
@@ -29,10 +28,14 @@ abbrev pub ReadsToken : Place → Token → Place → Type 0
 ReadsToken old token new =
     (gap piece : List ℕ) × OnlyFront (rest_of old) gap piece token (rest_of new) × (new ≡ record { source = old.source; passed = old.passed + (length gap + length piece) })
 
--- one white byte, < four digits >, and more
-abbrev pub BeginsTwoBytes : List ℕ → Type 0
-BeginsTwoBytes text = (7 ≤ length text) × IsTrue (is_white (get_or text 0 0)) × (get_or text 1 0 ≡ less) × ArePairs (take 4 (drop 2 text)) × (get_or text 6 0 ≡ greater)
+-- the place so many bytes further on
+abbrev pub past : ℕ → Place → Place
+past len place = record { source = place.source; passed = place.passed + len }
 
--- one white byte, and then one to 18 decimal digits that no regular byte follows
-abbrev pub BeginsDecimal : List ℕ → Type 0
-BeginsDecimal text = (blank : ℕ) × (rest : List ℕ) × (text ≡ blank ∷ rest) × IsTrue (is_white blank) × (len : ℕ) × (1 ≤ len) × (len ≤ 18) × EndsDigits rest len
+-- a text that begins with one white byte, < four hexadecimal digits >: the number that the digits write
+abbrev pub spaced_two_bytes : List ℕ → Option ℕ
+spaced_two_bytes text = if get_or text 6 0 == greater && get_or text 1 0 == less && is_white (get_or text 0 0) then digits_value 16 (take 4 (drop 2 text)) else None
+
+-- a text that begins with one white byte, one to 18 decimal digits, and a byte that is not regular: the number that the digits write, and how many they are
+abbrev pub spaced_decimal : List ℕ → Option (ℕ × ℕ)
+spaced_decimal text = if is_white (get_or text 0 0) then decimal_front (drop 1 text) else None

@@ -4,7 +4,7 @@ use Rattle.std.specs.List.{list_any, list_all}
 use Rattle.std.specs.Option.{option_map_or}
 use Rattle.std.specs.Char.{is_digit}
 use Rattle.cmap_tokens.specs.Ascii.{open_parenthesis, close_parenthesis, slash, less, greater, backslash}
-use Rattle.cmap_tokens.specs.Bytes.{is_white, is_regular}
+use Rattle.cmap_tokens.specs.Bytes.{begins, is_white, is_regular}
 use Rattle.cmap_tokens.specs.Gaps.{IsGap, IsBlank}
 use Rattle.cmap_tokens.specs.Numbers.{Number, numeral}
 
@@ -66,23 +66,25 @@ opened = Some (record { escaped = false; depth = 1 })
 abbrev pub IsTextString : List ℕ → Type 0
 IsTextString piece = (bytes : List ℕ) × (piece ≡ open_parenthesis ∷ bytes) × IsTrue (closes_at_end opened bytes)
 
+-- a string with its brackets
+abbrev pub IsString : List ℕ → Type 0
+IsString piece = IsHexString piece ⊎ IsTextString piece
+
 -- a whole piece of text is this token
 abbrev pub IsToken : List ℕ → Token → Type 0
 IsToken piece token =
     (IsRun piece × (token ≡ name_or_number piece))
     ⊎ (((name : List ℕ) × (piece ≡ slash ∷ name) × IsTrue (list_all is_regular name) × (token ≡ Name true name))
     ⊎ ((IsBracket piece × (token ≡ Name false piece))
-    ⊎ ((IsHexString piece ⊎ IsTextString piece) × (token ≡ String piece))))
+    ⊎ (IsString piece × (token ≡ String piece))))
 
 -- a regular byte comes next
 abbrev pub begins_regular : List ℕ → Bool
-begins_regular [] = false
-begins_regular (b ∷ bytes) = is_regular b
+begins_regular text = begins is_regular text
 
 -- what a name or a number begins with: a regular byte or /
 abbrev pub begins_name : List ℕ → Bool
-begins_name [] = false
-begins_name (b ∷ bytes) = is_regular b || b == slash
+begins_name text = begins (λ b. is_regular b || b == slash) text
 
 -- the text is a gap, then a piece that is this token and as long as can be, then the rest
 pub record Front (text gap piece : List ℕ) (token : Token) (rest : List ℕ) : Type 0 where
