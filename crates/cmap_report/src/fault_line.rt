@@ -1,7 +1,7 @@
-//! The lines of a text.
+//! The line of a byte at fault.
 
 ghost use Rattle.std.specs.Prelude.{◌≡◌, ◌+◌, false};
-ghost use Rattle.cmap_report.specs.Lines.{line_ends};
+ghost use Rattle.cmap_report.specs.LineEnds.{line_ends};
 
 /// The line that follows these bytes of a text, the first one 1. A line ends with LF, CR, or CR and
 /// LF.

@@ -6,7 +6,7 @@ use Rattle.cmap_layers.specs.Lookups.{bf_of}
 use Rattle.cmap_c.specs.Handles.{handle_text}
 use Rattle.cmap_c.specs.Rooms.{IsPut}
 use Rattle.cmap_c.proofs.TextsOfBytes.{holds_of_bytes}
-use Rattle.cmap_c.proofs.lookups.hayro_cmap_text.Goals as goal
+use Rattle.cmap_c.proofs.utf8_text.hayro_cmap_text.Goals as goal
 
 pub returns-in-Ok-Some-clause-text : goal.returns-in-Ok-Some-clause-text
 returns-in-Ok-Some-clause-text c _ =

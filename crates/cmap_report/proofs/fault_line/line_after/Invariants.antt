@@ -1,6 +1,6 @@
 use Rattle.std.proofs.Common.{◌≡◌, ◌+◌, ◌≤◌, false, drop}
-use Rattle.cmap_report.specs.Lines.{line_ends}
-use Rattle.cmap_report.proofs.lines.line_after.Given as goal
+use Rattle.cmap_report.specs.LineEnds.{line_ends}
+use Rattle.cmap_report.proofs.fault_line.line_after.Given as goal
 
 abbrev pub invariant-loop-i : goal.invariant-loop-i
 invariant-loop-i l = record {
