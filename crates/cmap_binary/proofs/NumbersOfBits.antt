@@ -3,24 +3,23 @@ use Rattle.std.proofs.Common.{◌≡◌, ℕ, zero, suc, ◌+◌, ◌*◌, ◌/�
 use Rattle.std.specs.Int.Digits.{number_from_digits, number_from_digits_after, AllBelowBase}
 use Rattle.std.proofs.lemmas.Int.Digits.{number_lt}
 use Rattle.std.proofs.lemmas.Nat.{mod_below, div-mul-add}
-use Rattle.std.proofs.Math.Nat.{pow-suc, add-mul, mul_assoc, mul_comm}
+use Rattle.std.proofs.Math.Nat.{pow-suc, mul_assoc, mul_comm}
 use Rattle.std.proofs.lemmas.List.Elements.{All-append, All-cons, All-drop, All-nil}
 use Rattle.cmap_binary.specs.Reader.{Reading, bits_left}
 use Rattle.cmap_binary.specs.PrefixWords.{AreBits, bits_of, bits}
 
-doubled : (n d p r : ℕ) → (n * 2 + d) * p + r ≡ n * (p * 2) + (d * p + r)
-doubled n d p r = omega (arith, add-mul (n * 2) d p, mul_assoc n 2 p, mul_comm 2 p)
-
--- the number after another one is the sum of both, with room for the digits
-pub number_after-sum : (n : ℕ) (ds : List ℕ) → number_from_digits_after 2 n ds ≡ n * 2 ^ length ds + number_from_digits 2 ds
-number_after-sum n [] = omega arith
-number_after-sum n (d ∷ ds) =
+-- the number after the sum of two others
+pub number_after-add : (m n : ℕ) (ds : List ℕ) → number_from_digits_after 2 (m + n) ds ≡ m * 2 ^ length ds + number_from_digits_after 2 n ds
+number_after-add m n [] = omega arith
+number_after-add m n (d ∷ ds) =
     let p = 2 ^ length ds in
-    let r = number_from_digits 2 ds in
-    number_after-sum (n * 2 + d) ds
-    ∙ doubled n d p r
-    ∙ ap (λ q. n * q + (d * p + r)) (sym (pow-suc 2 (length ds)))
-    ∙ ap (λ s. n * 2 ^ suc (length ds) + s) (sym (number_after-sum d ds) ∙ ap (λ m. number_from_digits_after 2 m ds) (omega arith))
+    let doubled : (m + n) * 2 + d ≡ m * 2 + (n * 2 + d) = omega arith in
+    ap (λ k. number_from_digits_after 2 k ds) doubled
+    ∙ number_after-add (m * 2) (n * 2 + d) ds
+    ∙ ap (λ k. k + number_from_digits_after 2 (n * 2 + d) ds) (mul_assoc m 2 p ∙ ap (λ k. m * k) (mul_comm 2 p ∙ sym (pow-suc 2 (length ds))))
+
+pub number_after-sum : (n : ℕ) (ds : List ℕ) → number_from_digits_after 2 n ds ≡ n * 2 ^ length ds + number_from_digits 2 ds
+number_after-sum n ds = let e : n ≡ n + 0 = omega arith in ap (λ k. number_from_digits_after 2 k ds) e ∙ number_after-add n 0 ds
 
 -- the bits of the number that bits write
 pub bits_of-number_after : (n : ℕ) (ds : List ℕ) → AllBelowBase 2 ds → bits_of (length ds) (number_from_digits_after 2 n ds) ≡ ds

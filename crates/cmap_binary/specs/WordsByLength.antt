@@ -1,5 +1,5 @@
 -- Private aid: code words by how many there are of each length, and the one that begins bits, as it is looked for length by length.
-use Rattle.std.specs.Prelude.{◌≡◌, ℕ, ◌+◌, ◌-◌, ◌*◌, ◌^◌, ◌<◌, ◌≤◌, List, [], ◌∷◌, ◌++◌, length, get_or, drop, Option, Some, None, option_map, if◌then◌else◌, nat_lt}
+use Rattle.std.specs.Prelude.{◌≡◌, ℕ, ◌+◌, ◌-◌, ◌*◌, ◌^◌, ◌<◌, ◌≤◌, List, [], ◌∷◌, ◌++◌, length, get_or, drop, Option, Some, None, if◌then◌else◌, nat_lt}
 use Rattle.cmap_binary.specs.PrefixWords.{CodeWord, AreWordLengths, lengths_from, zip_words}
 
 abbrev pub words_of : List ℕ → List ℕ → List CodeWord
@@ -36,11 +36,12 @@ word_in p (count ∷ counts) (bit ∷ stream) =
     if nat_lt next count then Some (record { rank = p.rank + next; len = p.len + 1 }) else word_in (with_bit p count bit) counts stream
 
 -- the word that begins bits
-abbrev pub first_ranked : List ℕ → List ℕ → Option Ranked
-first_ranked counts stream = word_in start counts stream
+abbrev pub first_word : List ℕ → List ℕ → Option Ranked
+first_word counts stream = word_in start counts stream
 
-abbrev pub first_word : List ℕ → List ℕ → List ℕ → Option CodeWord
-first_word counts symbols stream = option_map (λ word. record { len = word.len; symbol = get_or symbols word.rank 0 }) (first_ranked counts stream)
+-- it has this symbol and this many bits
+abbrev pub IsFirst : List ℕ → List ℕ → List ℕ → ℕ → ℕ → Type 0
+IsFirst counts symbols stream symbol len = (rank : ℕ) × (first_word counts stream ≡ Some (record { rank = rank; len = len })) × (symbol ≡ get_or symbols rank 0)
 
 -- the word that begins bits has been looked for so far, in numbers that fit; whatever follows, it is the one that is found from there on
 pub record IsSearched (counts front : List ℕ) (p : Progress) : Type 0 where
@@ -48,4 +49,4 @@ pub record IsSearched (counts front : List ℕ) (p : Progress) : Type 0 where
   pub most : p.len ≤ 32
   pub small : p.past < 2 ^ p.len
   pub few : p.rank ≤ 4294967295 * p.len
-  pub same : (more : List ℕ) → first_ranked counts (front ++ more) ≡ word_in p (drop p.len counts) (drop p.len (front ++ more))
+  pub same : (more : List ℕ) → first_word counts (front ++ more) ≡ word_in p (drop p.len counts) (drop p.len (front ++ more))

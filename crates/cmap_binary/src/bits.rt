@@ -167,13 +167,13 @@ impl<'a> Reader<'a> {
         &self.bytes[self.byte..]
     }
 
-    /// Moves past `count` bytes.
-    pub(crate) fn skip_bytes(&mut self, count: usize)
+    /// Moves past `n` bytes.
+    pub(crate) fn skip_bytes(&mut self, n: usize)
         requires at_byte { IsAtByte self.old }
-        requires within { count ≤ length (bytes_left self.old) }
-        ensures { self.new ≡ after_bytes self.old count }
+        requires within { n ≤ length (bytes_left self.old) }
+        ensures { self.new ≡ after_bytes self.old n }
     {
-        self.byte += count;
+        self.byte += n;
     }
 
     /// The next eight bits as a byte, where two bytes have them and the bits that go before.

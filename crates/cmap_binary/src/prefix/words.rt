@@ -1,10 +1,10 @@
 //! The words of a table, by how many there are of each length.
 
-ghost use Rattle.std.specs.Prelude.{◌≡◌, ℕ, List, None, length, option_map, IfErr, IfOk, MatchOption};
+ghost use Rattle.std.specs.Prelude.{◌≡◌, ℕ, List, None, length, IfErr, IfOk, MatchOption};
 ghost use Rattle.cmap_binary.specs.PrefixWords.{AreWordLengths, lengths_from};
 ghost use Rattle.cmap_binary.specs.Reader.{bits_left};
-ghost use Rattle.cmap_binary.specs.WordsByLength.{IsSearched, IsTable, first_ranked, first_word};
-ghost use Rattle.cmap_binary.specs.WordsFound.{IsKnown, KnowBytes, search_seen, word_seen};
+ghost use Rattle.cmap_binary.specs.WordsByLength.{IsSearched, IsTable, first_word};
+ghost use Rattle.cmap_binary.specs.WordsFound.{FindsFirst, IsKnown, KnowBytes, search_seen};
 
 use crate::bits::Reader;
 use std::alloc::{AllocError, Global};
@@ -52,7 +52,7 @@ pub(super) fn next_word(
     requires table { IsTable counts.now symbols.now }
     requires bytes { length known.now ≡ 256 }
     requires knows { KnowBytes counts.now symbols.now known.now }
-    ensures { option_map word_seen result ≡ first_word counts.now symbols.now (bits_left reader.now) }
+    ensures { FindsFirst counts.now symbols.now (bits_left reader.now) result }
 {
     match *look_up(known, reader) {
         Ok(word) => Some(word),
@@ -65,7 +65,7 @@ pub(super) fn next_word(
 fn find_from(counts: &[u32], symbols: &[u32], reader: Reader<'_>, start: Search) -> Option<Word>
     requires table { IsTable counts.now symbols.now }
     requires start { IsSearched counts.now (bits_left reader) (search_seen start) }
-    ensures { option_map word_seen result ≡ first_word counts.now symbols.now (bits_left reader.entry) }
+    ensures { FindsFirst counts.now symbols.now (bits_left reader.entry) result }
 {
     find(counts, symbols, reader, start).ok()
 }
@@ -82,7 +82,7 @@ fn find(
     requires table { IsTable counts.now symbols.now }
     requires start { IsSearched counts.now (bits_left reader) (search_seen start) }
     ensures known { IsKnown counts.now symbols.now (bits_left reader.entry) result }
-    ensures none { IfErr result (λ _. first_ranked counts.now (bits_left reader.entry) ≡ None) }
+    ensures none { IfErr result (λ _. first_word counts.now (bits_left reader.entry) ≡ None) }
 {
     reader.skip_bits(start.len);
     let mut rank = start.rank;
