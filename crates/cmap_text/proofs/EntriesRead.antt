@@ -48,12 +48,11 @@ list_there (suc count) start lists tokens new rest (units, mid, (d, at, is), mor
 list_found : (ds : List Token) (texts : List (List ℕ)) (start : ℕ) (lists : Lists) (rest : List Token) → AllZip IsDestination ds texts → Means (list_in (length texts) start lists) (ds ++ closing_bracket ∷ rest) (adding lists (declared_from start texts)) rest
 unfolding list_in
 list_found [] [] start lists rest all = (closing_bracket, refl, ap Some (sym (append_lists-none lists)))
-list_found [] (units ∷ texts) start lists rest all = absurd all
-list_found (d ∷ ds) [] start lists rest all = absurd all
 list_found (d ∷ ds) (units ∷ texts) start lists rest all =
     let first = text_of start start units in
     let later = list_found ds texts (start + 1) (adding lists first) rest all.1 in
     (units, _, (d, refl, destination_is d units all.0), subst (λ l. Means (list_in (length texts) (start + 1) (adding lists first)) (ds ++ closing_bracket ∷ rest) l rest) (added_more lists (adding lists first) _ first (declared_from (start + 1) texts) refl refl) later)
+list_found _ _ start lists rest all = absurd all
 
 -- ---- what is read is an entry
 module _ (t : Token) (bytes : List ℕ) (is_code : IsCode t bytes) (lists : Lists) where

@@ -26,13 +26,9 @@ found_in test (y ∷ xs) x is =
 
 -- ---- sections, keys and other tokens by themselves
 opened_by-own : (section : Section) → opened_by (opening section) ≡ Some section
-opened_by-own codespace_range = refl
 opened_by-own (cids mapped range) = refl
-opened_by-own (cids mapped single) = refl
 opened_by-own (cids notdef range) = refl
-opened_by-own (cids notdef single) = refl
-opened_by-own bf_range = refl
-opened_by-own bf_char = refl
+opened_by-own _ = refl
 
 opened_by-found : (t : Token) (section : Section) → opened_by t ≡ Some section → t ≡ opening section
 opened_by-found t section is = is_executable-found (opener section) t (found_in (λ s. is_executable (opener s) t) sections section is).1

@@ -50,39 +50,42 @@ Means (repeat begins more start) tokens new rest = (n : ℕ) × Rounds begins (�
 abbrev pub IsThere : {A : Type 0} → Reading A → Left → A × Left → Type 0
 IsThere Is left p = Is (words left) p.0 (words p.1) × (p.1.ends ≡ left.ends) × (length p.1.tokens ≤ length left.tokens)
 
-wanted_there : {A : Type 0} (found : Option A) (left : Left) (p : A × Left) → or_refused found left ≡ Ok p → IsThere (Means (wanted found)) left p
+abbrev pub FindsOnly : {A : Type 0} → (Left → Found A) → Reading A → Type 0
+FindsOnly read Is = (left : Left) (p : _ × Left) → read left ≡ Ok p → IsThere Is left p
+
+wanted_there : {A : Type 0} (found : Option A) → FindsOnly (or_refused found) (Means (wanted found))
 wanted_there None left p is = absurd (err-ok _ p is)
 wanted_there (Some x) left p is = subst (IsThere (Means (wanted (Some x))) left) (same_Ok _ p is) ((refl, refl), refl, omega arith)
 
-pub head_there : {A : Type 0} (read : Token → Option A) (left : Left) (p : A × Left) → head_in read left ≡ Ok p → IsThere (Means (head read)) left p
+head_there : {A : Type 0} (read : Token → Option A) → FindsOnly (head_in read) (Means (head read))
 head_there read left p is = at left.tokens is
   where
     at : (tokens : List Placed) → head_in read (having tokens left) ≡ Ok p → IsThere (Means (head read)) (having tokens left) p
     at [] e = absurd (err-ok _ p e)
     at (q ∷ rest) e = let ((gives, same), ends, fewer) = wanted_there (read q.token) (after q rest left) p e in ((q.token, ap (λ ts. q.token ∷ ts) same, gives), ends, omega (arith, fewer))
 
-module _ {S X : Type 0} (begins : Token → Option (Option X)) (more : S → X → Left → Found S) (More : S → X → Reading S) where
-  abbrev AreThere : S → Left → S × Left → Type 0
-  AreThere now = IsThere (λ tokens new rest. (n : ℕ) × Rounds begins More n now tokens new rest)
+module _ {S X : Type 0} (begins : Token → Option (Option X)) (more : S → X → Left → Found S) (More : S → X → Reading S) (there : (now : S) (x : X) → FindsOnly (more now x) (More now x)) where
+  abbrev SomeRounds : S → Reading S
+  SomeRounds now tokens new rest = (n : ℕ) × Rounds begins More n now tokens new rest
 
-  rounds_there : ((now : S) (x : X) (left : Left) (p : S × Left) → more now x left ≡ Ok p → IsThere (More now x) left p) → (count : ℕ) (now : S) (left : Left) (p : S × Left) → repeated_within count (head_in begins) more now left ≡ Ok p → AreThere now left p
+  rounds_there : (count : ℕ) (now : S) → FindsOnly (repeated_within count (head_in begins) more now) (SomeRounds now)
   unfolding repeated_within
-  rounds_there there zero now left p is = absurd (err-ok _ p is)
-  rounds_there there (suc count) now left p is =
+  rounds_there zero now left p is = absurd (err-ok _ p is)
+  rounds_there (suc count) now left p is =
       let (q, first, later) = bound _ (head_in begins left) p is in
       let ((t, whole, begun), ends, fewer) = head_there begins left q first in
-      from q.0 q.1 begun (whole, ends, fewer) later (rounds_there there count)
+      from q.0 q.1 begun (whole, ends, fewer) later (rounds_there count)
     where
       from : {t : Token} (begun : Option X) (next : Left) → begins t ≡ Some begun → (words left ≡ t ∷ words next) × (next.ends ≡ left.ends) × (length next.tokens ≤ length left.tokens) → round (repeated_within count (head_in begins) more) more now begun next ≡ Ok p
-          → ((new : S) (mid : Left) (r : S × Left) → repeated_within count (head_in begins) more new mid ≡ Ok r → AreThere new mid r) → AreThere now left p
-      from {t} None next begun (whole, ends, fewer) e again = subst (AreThere now left) (same_Ok (now, next) p e) ((zero, (t, whole, begun, refl)), ends, fewer)
+          → ((new : S) → FindsOnly (repeated_within count (head_in begins) more new) (SomeRounds new)) → IsThere (SomeRounds now) left p
+      from {t} None next begun (whole, ends, fewer) e again = subst (IsThere (SomeRounds now) left) (same_Ok (now, next) p e) ((zero, (t, whole, begun, refl)), ends, fewer)
       from {t} (Some x) next begun (whole, ends, fewer) e again =
           let (q, goes_on, later) = bound _ (more now x next) p e in
           let (is, more_ends, more_fewer) = there now x next q goes_on in
           let ((n, rounds), last_ends, last_fewer) = again q.0 q.1 p later in
           ((suc n, (t, x, words next, words q.1, q.0, whole, begun, is, rounds)), last_ends ∙ more_ends ∙ ends, omega (arith, fewer, more_fewer, last_fewer))
 
-pub is_there : {A : Type 0} (r : Reader A) (left : Left) (p : A × Left) → run r left ≡ Ok p → IsThere (Means r) left p
+pub is_there : {A : Type 0} (r : Reader A) → FindsOnly (run r) (Means r)
 unfolding repeated
 is_there (wanted found) left p is = wanted_there found left p is
 is_there (head read) left p is = head_there read left p is
