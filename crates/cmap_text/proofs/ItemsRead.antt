@@ -5,7 +5,7 @@ use Rattle.std.proofs.lemmas.Option.{none-some, same_Some}
 use Rattle.std.specs.Prelude.{◌⊎◌, Contains, find, flat_map, Option, Some, None, Ok, option_map}
 use Rattle.cmap_tokens.specs.Tokens.{Token}
 use Rattle.cmap_tokens.specs.TokensLeft.{Placed, Left}
-use Rattle.cmap_text.specs.TextFiles.{Section, codespace_range, cids, mapped, notdef, range, single, bf_range, bf_char, keys, opener, use_word, Item, key, entries, use_of_base, other, IsOtherToken, IsItem, AreItems}
+use Rattle.cmap_text.specs.TextFiles.{Section, cids, mapped, notdef, range, keys, opener, use_word, Item, key, entries, use_of_base, other, IsOtherToken, IsItem, AreItems}
 use Rattle.cmap_text.specs.TokenReaders.{after, followed_by, ItemReader, reads, giving, wanted, takes_value, next_in, repeated, repeated_within, round, run_item}
 use Rattle.cmap_text.specs.TextReading.{adding, all_said, body_in, is_executable, is_literal, item_after, item_said, key_in, opened_by, Said, sections, with_key, with_lists, with_other, with_use}
 use Rattle.cmap_text.proofs.TokensRead.{some_bound, is_executable-found, is_literal-found}
@@ -212,5 +212,5 @@ all_found (item ∷ items) old here said (rest, is, are) ends sayings =
     let first = next_found here (words here) (Some t) later refl shape in
     let still_ends = first.ends ∙ ends in
     let read = item_found (item_after old t) first.next later mid rest first.whole (rw (item_as old kind, still_ends) means) in
-    let (left, others) = all_found items mid read.next said (rw read.whole are) (read.ends ∙ still_ends) says_rest in
+    let (left, others) = all_found items mid read.next said (rw read.whole are) (rw read.ends still_ends) says_rest in
     (left, rw (said_next old here, first.is, read.is) others)

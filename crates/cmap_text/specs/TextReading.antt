@@ -14,22 +14,17 @@ use Rattle.cmap_text.specs.TextFiles.{Extent, range, single, Section, codespace_
 -- ---- single tokens
 -- whether a token is this executable name, or this literal one
 abbrev pub is_executable : List ℕ → Token → Bool
-is_executable name (Token.Name true bytes) = false
 is_executable name (Token.Name false bytes) = bytes_eq bytes name
-is_executable name (Token.String piece) = false
-is_executable name (Token.Numeral x) = false
+is_executable name _ = false
 
 abbrev pub is_literal : List ℕ → Token → Bool
 is_literal name (Token.Name true bytes) = bytes_eq bytes name
-is_literal name (Token.Name false bytes) = false
-is_literal name (Token.String piece) = false
-is_literal name (Token.Numeral x) = false
+is_literal name _ = false
 
 -- the bytes of a string
 abbrev pub value_in : Token → Option (List ℕ)
-value_in (Token.Name literal bytes) = None
 value_in (Token.String piece) = value_of piece
-value_in (Token.Numeral x) = None
+value_in _ = None
 
 -- a code, by the number of its bytes and the number that they write
 pub record Code : Type 0 where

@@ -65,8 +65,9 @@ pub(crate) fn add_cids(
     extent: Extent,
     lists: &mut Lists,
 ) -> Result<(), Fault<WrongToken>>
-    ensures { AddsDeclarations (entry_after (files.cids (kind_seen kind) (extent_seen extent)) (code_seen start)) reader.old
-        lists.old lists.new reader.new result }
+    ensures { AddsDeclarations
+        (entry_after (files.cids (kind_seen kind) (extent_seen extent)) (code_seen start))
+        reader.old lists.old lists.new reader.new result }
 {
     let filed = read_cids(reader, start, extent)?;
     match kind {
