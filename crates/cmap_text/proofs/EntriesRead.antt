@@ -11,9 +11,9 @@ use Rattle.cmap_files.specs.Files.{Declaration, Lists}
 use Rattle.cmap_files.proofs.ListsMade.{added_more, append_lists-none}
 use Rattle.cmap_text.specs.TextFiles.{Section, codespace_range, cids, range, single, bf_range, bf_char, closer, declares_bf, declares_cid, IsCode, IsDestination, IsEntry, AreEntries}
 use Rattle.cmap_text.specs.TextReading.{adding, body_in, Code, code_in, code_or_closer, codespace, entry_after, is_executable, list_in, text_of, texts_from}
-use Rattle.cmap_text.specs.TokenReaders.{followed_by, head_in, round, run}
+use Rattle.cmap_text.specs.TokenParsers.{followed_by, head_in, round, run}
 use Rattle.cmap_text.proofs.TokensRead.{some_mapped, tested, written, code_is, code_found, cid_is, cid_found, destination_is, destination_found, is_executable-found, is_executable-own}
-use Rattle.cmap_text.proofs.TokenReaders.{Implies, Means, Reading, Rounds, repeat_next}
+use Rattle.cmap_text.proofs.TokenParsers.{Implies, Means, Relation, Rounds, repeat_next}
 
 abbrev opening_bracket : Token
 opening_bracket = Token.Name false (codes "[")
@@ -25,14 +25,14 @@ abbrev closing : Section → Token
 closing section = Token.Name false (closer section)
 
 -- the lists with what such tokens declare
-abbrev Adds : Reading (List Declaration) → Lists → Reading Lists
+abbrev Adds : Relation (List Declaration) → Lists → Relation Lists
 Adds Is lists tokens new rest = (declared : List Declaration) × Is tokens declared rest × (new ≡ adding lists declared)
 
 -- ---- destinations for count codes, from this one on, and ]
 abbrev declared_from : ℕ → List (List ℕ) → List Declaration
 declared_from start texts = map (λ p. declares_bf p.0 p.0 p.1) (enumerate_from start texts)
 
-abbrev IsList : ℕ → ℕ → Reading (List Declaration)
+abbrev IsList : ℕ → ℕ → Relation (List Declaration)
 IsList count start tokens declared rest = (ds : List Token) × (texts : List (List ℕ)) × (tokens ≡ ds ++ closing_bracket ∷ rest) × AllZip IsDestination ds texts × (length texts ≡ count) × (declared ≡ declared_from start texts)
 
 list_there : (count start : ℕ) (lists : Lists) → Implies (Means (list_in count start lists)) (Adds (IsList count start) lists)
@@ -87,7 +87,7 @@ module _ (t : Token) (bytes : List ℕ) (is_code : IsCode t bytes) (lists : List
 
 -- ---- each entry is read
 -- the first code of an entry, and what is read after it
-abbrev Enters : Section → Reading (List Declaration)
+abbrev Enters : Section → Relation (List Declaration)
 Enters section tokens declared rest = (t : Token) × (bytes : List ℕ) × (later : List Token) × (tokens ≡ t ∷ later) × IsCode t bytes × ((lists : Lists) → Means (entry_after section (written bytes) lists) later (adding lists declared) rest)
 
 pub entry_found : (section : Section) → Implies (IsEntry section) (Enters section)
@@ -107,7 +107,7 @@ entry_found bf_range tokens declared rest (a, b, start, end, is_start, is_end, i
 
 -- ---- sections
 module _ (section : Section) where
-  abbrev Entries : ℕ → Lists → Reading Lists
+  abbrev Entries : ℕ → Lists → Relation Lists
   Entries = Rounds (code_or_closer section) (λ now code. Means (entry_after section code now))
 
   closes : (t : Token) → code_or_closer section t ≡ Some None → t ≡ closing section

@@ -9,9 +9,9 @@ use Rattle.cmap_tokens.proofs.Fronts.{has_tokens}
 use Rattle.cmap_tokens.specs.TokensLeft.{Placed, Left, AreInOrder, IsInOrder, Agree, AgreesTo, start_of, tokens_of}
 use Rattle.cmap_files.specs.Only.{HoldsOfNone}
 use Rattle.cmap_text.specs.TextFiles.{IsTextFile}
-use Rattle.cmap_text.specs.TokenReaders.{Found, after, followed_by, head_in, next_in, or_refused, token_in, Reader, wanted, head, giving, chain, repeat, round, run, ItemReader, reads, takes_value, run_item}
+use Rattle.cmap_text.specs.TokenParsers.{Found, after, followed_by, head_in, next_in, or_refused, token_in, Parser, wanted, head, giving, chain, repeat, round, run, ItemParser, reads, takes_value, run_item}
 use Rattle.cmap_text.specs.TextReading.{all_said, item_after, item_said, nothing_said, Said}
-use Rattle.cmap_text.proofs.TokenReaders.{having, head-shorter, is_there, repeat_next}
+use Rattle.cmap_text.proofs.TokenParsers.{having, head-shorter, is_there, repeat_next}
 use Rattle.cmap_text.proofs.ItemsRead.{item-shorter, next-shorter, said_next}
 use Rattle.cmap_text.proofs.TextRead.{no_file}
 
@@ -68,7 +68,7 @@ module _ (k : ℕ) where
   head_local : {A : Type 0} (read : Token → Option A) → IsLocal (head_in read)
   head_local read = then_local (λ t. or_refused (read t)) token_in token_local (λ t. wanted_local (read t))
 
-  module _ {S X : Type 0} (begins : Token → Option (Option X)) (more : S → X → Reader S) (each : (now : S) (x : X) → IsLocal (run (more now x))) where
+  module _ {S X : Type 0} (begins : Token → Option (Option X)) (more : S → X → Parser S) (each : (now : S) (x : X) → IsLocal (run (more now x))) where
     abbrev again : S → Left → Found S
     again now = run (repeat begins more now)
 
@@ -87,10 +87,10 @@ module _ (k : ℕ) where
             λ new here there goes_on. rounds new here there (omega (arith, long, head-shorter begins left (Some x, next) is, (is_there (more now x) next (new, here) goes_on).2))
             )
 
-  run_local : {A : Type 0} (r : Reader A) → IsLocal (run r)
+  run_local : {A : Type 0} (r : Parser A) → IsLocal (run r)
   run_local (wanted found) = wanted_local found
   run_local (head read) = head_local read
-  run_local (giving f reader) = then_local (λ x next. Ok (f x, next)) (run reader) (run_local reader) (λ x. wanted_local (Some (f x)))
+  run_local (giving f parser) = then_local (λ x next. Ok (f x, next)) (run parser) (run_local parser) (λ x. wanted_local (Some (f x)))
   run_local (chain first more) = then_local (λ x. run (more x)) (run first) (run_local first) (λ x. run_local (more x))
   run_local (repeat begins more start) = λ left other. rounds_local begins more (λ now x. run_local (more now x)) (1 + length left.tokens) start left other (omega arith)
 
@@ -117,8 +117,8 @@ module _ (k : ℕ) where
   SaidAgrees now left other = Alike left other → Agrees false left (all_said now left) (all_said now other)
 
   -- what is said after an item
-  item_local : (i : ItemReader Said) (left other : Left) → ((new : Said) (here there : Left) → run_item i left ≡ Ok (new, here) → SaidAgrees new here there) → Alike left other → Agrees false left (followed_by all_said (run_item i left)) (followed_by all_said (run_item i other))
-  item_local (reads reader) left other later_said alike = then_agrees false all_said left (run reader left) (run reader other) (run_local reader left other alike) later_said
+  item_local : (i : ItemParser Said) (left other : Left) → ((new : Said) (here there : Left) → run_item i left ≡ Ok (new, here) → SaidAgrees new here there) → Alike left other → Agrees false left (followed_by all_said (run_item i left)) (followed_by all_said (run_item i other))
+  item_local (reads parser) left other later_said alike = then_agrees false all_said left (run parser left) (run parser other) (run_local parser left other alike) later_said
   item_local (takes_value set) left other later_said alike =
       elim (next_local left other alike) [
         | inl end ↦ rw (end, ended (set None) left end) tt
