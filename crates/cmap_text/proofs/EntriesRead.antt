@@ -11,9 +11,9 @@ use Rattle.cmap_files.specs.Files.{Declaration, Lists}
 use Rattle.cmap_files.proofs.ListsMade.{added_more, append_lists-none}
 use Rattle.cmap_text.specs.TextFiles.{Section, codespace_range, cids, range, single, bf_range, bf_char, closer, declares_bf, declares_cid, IsCode, IsDestination, IsEntry, AreEntries}
 use Rattle.cmap_text.specs.TextReading.{adding, body_in, Code, code_in, code_or_closer, codespace, entry_after, is_executable, list_in, text_of, texts_from}
-use Rattle.cmap_text.specs.TokenReaders.{followed_by, head_in, round, run}
+use Rattle.cmap_text.specs.TokenParsers.{followed_by, head_in, round, run}
 use Rattle.cmap_text.proofs.TokensRead.{some_mapped, tested, written, code_is, code_found, cid_is, cid_found, destination_is, destination_found, is_executable-found, is_executable-own}
-use Rattle.cmap_text.proofs.TokenReaders.{Implies, Means, Reading, Rounds, repeat_next}
+use Rattle.cmap_text.proofs.TokenParsers.{Implies, Means, Relation, Rounds, repeat_next}
 
 abbrev opening_bracket : Token
 opening_bracket = Token.Name false (codes "[")
@@ -25,14 +25,14 @@ abbrev closing : Section → Token
 closing section = Token.Name false (closer section)
 
 -- the lists with what such tokens declare
-abbrev Adds : Reading (List Declaration) → Lists → Reading Lists
+abbrev Adds : Relation (List Declaration) → Lists → Relation Lists
 Adds Is lists tokens new rest = (declared : List Declaration) × Is tokens declared rest × (new ≡ adding lists declared)
 
 -- ---- destinations for count codes, from this one on, and ]
 abbrev declared_from : ℕ → List (List ℕ) → List Declaration
 declared_from start texts = map (λ p. declares_bf p.0 p.0 p.1) (enumerate_from start texts)
 
-abbrev IsList : ℕ → ℕ → Reading (List Declaration)
+abbrev IsList : ℕ → ℕ → Relation (List Declaration)
 IsList count start tokens declared rest = (ds : List Token) × (texts : List (List ℕ)) × (tokens ≡ ds ++ closing_bracket ∷ rest) × AllZip IsDestination ds texts × (length texts ≡ count) × (declared ≡ declared_from start texts)
 
 list_there : (count start : ℕ) (lists : Lists) → Implies (Means (list_in count start lists)) (Adds (IsList count start) lists)
@@ -48,12 +48,11 @@ list_there (suc count) start lists tokens new rest (units, mid, (d, at, is), mor
 list_found : (ds : List Token) (texts : List (List ℕ)) (start : ℕ) (lists : Lists) (rest : List Token) → AllZip IsDestination ds texts → Means (list_in (length texts) start lists) (ds ++ closing_bracket ∷ rest) (adding lists (declared_from start texts)) rest
 unfolding list_in
 list_found [] [] start lists rest all = (closing_bracket, refl, ap Some (sym (append_lists-none lists)))
-list_found [] (units ∷ texts) start lists rest all = absurd all
-list_found (d ∷ ds) [] start lists rest all = absurd all
 list_found (d ∷ ds) (units ∷ texts) start lists rest all =
     let first = text_of start start units in
     let later = list_found ds texts (start + 1) (adding lists first) rest all.1 in
     (units, _, (d, refl, destination_is d units all.0), subst (λ l. Means (list_in (length texts) (start + 1) (adding lists first)) (ds ++ closing_bracket ∷ rest) l rest) (added_more lists (adding lists first) _ first (declared_from (start + 1) texts) refl refl) later)
+list_found _ _ start lists rest all = absurd all
 
 -- ---- what is read is an entry
 module _ (t : Token) (bytes : List ℕ) (is_code : IsCode t bytes) (lists : Lists) where
@@ -88,7 +87,7 @@ module _ (t : Token) (bytes : List ℕ) (is_code : IsCode t bytes) (lists : List
 
 -- ---- each entry is read
 -- the first code of an entry, and what is read after it
-abbrev Enters : Section → Reading (List Declaration)
+abbrev Enters : Section → Relation (List Declaration)
 Enters section tokens declared rest = (t : Token) × (bytes : List ℕ) × (later : List Token) × (tokens ≡ t ∷ later) × IsCode t bytes × ((lists : Lists) → Means (entry_after section (written bytes) lists) later (adding lists declared) rest)
 
 pub entry_found : (section : Section) → Implies (IsEntry section) (Enters section)
@@ -108,7 +107,7 @@ entry_found bf_range tokens declared rest (a, b, start, end, is_start, is_end, i
 
 -- ---- sections
 module _ (section : Section) where
-  abbrev Entries : ℕ → Lists → Reading Lists
+  abbrev Entries : ℕ → Lists → Relation Lists
   Entries = Rounds (code_or_closer section) (λ now code. Means (entry_after section code now))
 
   closes : (t : Token) → code_or_closer section t ≡ Some None → t ≡ closing section

@@ -5,11 +5,11 @@ use Rattle.std.proofs.lemmas.Option.{none-some, same_Some}
 use Rattle.std.specs.Prelude.{◌⊎◌, Contains, find, flat_map, Option, Some, None, Ok, option_map}
 use Rattle.cmap_tokens.specs.Tokens.{Token}
 use Rattle.cmap_tokens.specs.TokensLeft.{Placed, Left}
-use Rattle.cmap_text.specs.TextFiles.{Section, codespace_range, cids, mapped, notdef, range, single, bf_range, bf_char, keys, opener, use_word, Item, key, entries, use_of_base, other, IsOtherToken, IsItem, AreItems}
-use Rattle.cmap_text.specs.TokenReaders.{after, followed_by, ItemReader, reads, giving, wanted, takes_value, next_in, repeated, repeated_within, round, run_item}
+use Rattle.cmap_text.specs.TextFiles.{Section, cids, mapped, notdef, range, keys, opener, use_word, Item, key, entries, use_of_base, other, IsOtherToken, IsItem, AreItems}
+use Rattle.cmap_text.specs.TokenParsers.{after, followed_by, ItemParser, reads, giving, wanted, takes_value, next_in, repeated, repeated_within, round, run_item}
 use Rattle.cmap_text.specs.TextReading.{adding, all_said, body_in, is_executable, is_literal, item_after, item_said, key_in, opened_by, Said, sections, with_key, with_lists, with_other, with_use}
 use Rattle.cmap_text.proofs.TokensRead.{some_bound, is_executable-found, is_literal-found}
-use Rattle.cmap_text.proofs.TokenReaders.{bound, same_Ok, err-ok, having, length-words, words, Implies, Means, Reading, IsThere, is_there, IsFound, is_found, known, then_found, repeated_next}
+use Rattle.cmap_text.proofs.TokenParsers.{bound, same_Ok, err-ok, having, length-words, words, Implies, Means, Relation, IsThere, is_there, IsFound, is_found, known, then_found, repeated_next}
 use Rattle.cmap_text.proofs.EntriesRead.{entries_there, entries_found}
 use Rattle.cmap_text.proofs.ItemsSaid.{says, says_all}
 
@@ -26,13 +26,9 @@ found_in test (y ∷ xs) x is =
 
 -- ---- sections, keys and other tokens by themselves
 opened_by-own : (section : Section) → opened_by (opening section) ≡ Some section
-opened_by-own codespace_range = refl
 opened_by-own (cids mapped range) = refl
-opened_by-own (cids mapped single) = refl
 opened_by-own (cids notdef range) = refl
-opened_by-own (cids notdef single) = refl
-opened_by-own bf_range = refl
-opened_by-own bf_char = refl
+opened_by-own _ = refl
 
 opened_by-found : (t : Token) (section : Section) → opened_by t ≡ Some section → t ≡ opening section
 opened_by-found t section is = is_executable-found (opener section) t (found_in (λ s. is_executable (opener s) t) sections section is).1
@@ -76,7 +72,7 @@ kind_of t =
       ]
     ]
 
-abbrev item_of : Said → {t : Token} → Kind t → ItemReader Said
+abbrev item_of : Said → {t : Token} → Kind t → ItemParser Said
 item_of old (opens section) = reads (giving (with_lists old) (body_in section old.lists))
 item_of old uses = reads (wanted (option_map (with_use old) old.operand))
 item_of old (takes k contained) = takes_value (with_key old k)
@@ -102,12 +98,12 @@ item_as old (alone t plain) = other_after old t plain
 
 -- ---- what comes after the first token of an item
 -- the next token, or none at the end
-abbrev IsNext : Bool → Reading (Option Token)
+abbrev IsNext : Bool → Relation (Option Token)
 IsNext ends tokens None rest = (tokens ≡ []) × (rest ≡ []) × (ends ≡ true)
 IsNext ends tokens (Some t) rest = tokens ≡ t ∷ rest
 
-abbrev MeansItem : {A : Type 0} → Bool → ItemReader A → Reading A
-MeansItem ends (reads reader) tokens x rest = Means reader tokens x rest
+abbrev MeansItem : {A : Type 0} → Bool → ItemParser A → Relation A
+MeansItem ends (reads parser) tokens x rest = Means parser tokens x rest
 MeansItem ends (takes_value set) tokens x rest = (value : Option Token) × IsNext ends tokens value rest × (x ≡ set value)
 
 abbrev ending : Bool → Left → Left
@@ -132,24 +128,24 @@ next_found left tokens value rest whole is = at left.tokens value whole is
         let token : q.token ≡ t = cc in
         record { next = after q others left; is = ap (λ u. Ok (Some u, after q others left)) token; whole = cc; ends = refl }
 
-item_there : {A : Type 0} (i : ItemReader A) (left : Left) (p : A × Left) → run_item i left ≡ Ok p → IsThere (MeansItem left.ends i) left p
-item_there (reads reader) left p is = is_there reader left p is
+item_there : {A : Type 0} (i : ItemParser A) (left : Left) (p : A × Left) → run_item i left ≡ Ok p → IsThere (MeansItem left.ends i) left p
+item_there (reads parser) left p is = is_there parser left p is
 item_there (takes_value set) left p is =
     let (q, next, later) = bound _ (next_in left) p is in
     let (means, ends, fewer) = next_there left q next in
     subst (IsThere (MeansItem left.ends (takes_value set)) left) (same_Ok (set q.0, q.1) p later) ((q.0, means, refl), ends, fewer)
 
-item_found : {A : Type 0} (i : ItemReader A) (left : Left) (tokens : List Token) (x : A) (rest : List Token) → words left ≡ tokens → MeansItem left.ends i tokens x rest → IsFound (run_item i left) x rest left
-item_found (reads reader) left tokens x rest at means = is_found reader tokens x rest means left at
+item_found : {A : Type 0} (i : ItemParser A) (left : Left) (tokens : List Token) (x : A) (rest : List Token) → words left ≡ tokens → MeansItem left.ends i tokens x rest → IsFound (run_item i left) x rest left
+item_found (reads parser) left tokens x rest at means = is_found parser tokens x rest means left at
 item_found (takes_value set) left tokens x rest at (value, next, same) = then_found (λ v n. Ok (set v, n)) (next_found left tokens value rest at next) (λ n. known (sym same))
 
 -- ---- items
 -- an item that says this
-abbrev Says : Said → Reading Said
+abbrev Says : Said → Relation Said
 Says old tokens new rest = (item : Item) × IsItem tokens item rest × (says old item ≡ Some new)
 
 -- the first token of an item, and what is read after it
-abbrev IsBegun : Bool → Said → Reading Said
+abbrev IsBegun : Bool → Said → Relation Said
 IsBegun ends old tokens new rest = (t : Token) × (kind : Kind t) × (later : List Token) × (tokens ≡ t ∷ later) × MeansItem ends (item_of old kind) later new rest
 
 is_item : (ends : Bool) (old : Said) → Implies (IsBegun ends old) (Says old)
@@ -199,7 +195,7 @@ all_there old here p is = items_there _ old here p is
 pub next-shorter : (left : Left) (t : Token) (next : Left) → next_in left ≡ Ok (Some t, next) → length next.tokens < length left.tokens
 next-shorter left t next is = omega (arith, length-words left, length-words next, ap length (next_there left (Some t, next) is).0)
 
-pub item-shorter : {A : Type 0} (i : ItemReader A) (left : Left) (p : A × Left) → run_item i left ≡ Ok p → length p.1.tokens ≤ length left.tokens
+pub item-shorter : {A : Type 0} (i : ItemParser A) (left : Left) (p : A × Left) → run_item i left ≡ Ok p → length p.1.tokens ≤ length left.tokens
 item-shorter i left p is = (item_there i left p is).2
 
 pub said_next : (now : Said) (here : Left) → all_said now here ≡ followed_by (round all_said item_said now) (next_in here)
@@ -216,5 +212,5 @@ all_found (item ∷ items) old here said (rest, is, are) ends sayings =
     let first = next_found here (words here) (Some t) later refl shape in
     let still_ends = first.ends ∙ ends in
     let read = item_found (item_after old t) first.next later mid rest first.whole (rw (item_as old kind, still_ends) means) in
-    let (left, others) = all_found items mid read.next said (rw read.whole are) (read.ends ∙ still_ends) says_rest in
+    let (left, others) = all_found items mid read.next said (rw read.whole are) (rw read.ends still_ends) says_rest in
     (left, rw (said_next old here, first.is, read.is) others)

@@ -25,9 +25,7 @@ says_all old (item ∷ items) = option_and_then (λ mid. says_all mid items) (sa
 pub values_after : Values → List Item → Values
 values_after values [] = values
 values_after values (key k value ∷ items) = values_after (with_value values k value) items
-values_after values (entries declared ∷ items) = values_after values items
-values_after values (use_of_base ∷ items) = values_after values items
-values_after values (other t ∷ items) = values_after values items
+values_after values (_ ∷ items) = values_after values items
 
 pub operand_after : Option (List ℕ) → List Item → Option (List ℕ)
 operand_after operand [] = operand
@@ -68,9 +66,7 @@ module _ (name : List ℕ) (value_of : Values → Option Token) (is_set : (value
         | inl is ↦ rw is (last_said items (with_value values k value) (Some value) (sym (rw is at (is_set values k value))))
         | inr differs ↦ rw differs (last_said items (with_value values k value) last (same ∙ sym (rw differs at (is_set values k value))))
       ]
-  last_said (entries declared ∷ items) values last same = last_said items values last same
-  last_said (use_of_base ∷ items) values last same = last_said items values last same
-  last_said (other t ∷ items) values last same = last_said items values last same
+  last_said (_ ∷ items) values last same = last_said items values last same
 
 pub values_said : (items : List Item) → last_values items ≡ values_after no_values items
 values_said items =

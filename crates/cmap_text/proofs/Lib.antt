@@ -1,5 +1,5 @@
 pub mod Refusals
-pub mod TokenReaders
+pub mod TokenParsers
 pub mod TokensRead
 pub mod EntriesRead
 pub mod ItemsRead

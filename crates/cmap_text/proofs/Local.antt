@@ -1,5 +1,5 @@
 -- Where a text is refused is decided by its bytes up to and including that offset: what is read of two texts that agree so far.
-use Rattle.std.proofs.Common.{◌≡◌, ℕ, zero, suc, ◌+◌, ◌<◌, ◌≤◌, Bool, true, false, refl, sym, ap, ◌∙◌, subst, List, [], ◌∷◌, ◌++◌, take, length, arith, inl, inr}
+use Rattle.std.proofs.Common.{◌≡◌, ℕ, zero, suc, ◌+◌, ◌<◌, ◌≤◌, Bool, true, false, refl, ap, ◌∙◌, subst, List, [], ◌∷◌, ◌++◌, take, length, arith, inl, inr}
 use Rattle.std.proofs.lemmas.Bool.{cases_lt}
 use Rattle.std.specs.Prelude.{◌⊎◌, Option, Some, None, Ok, Err}
 use Rattle.cmap_tokens.specs.Tokens.{Token}
@@ -9,30 +9,22 @@ use Rattle.cmap_tokens.proofs.Fronts.{has_tokens}
 use Rattle.cmap_tokens.specs.TokensLeft.{Placed, Left, AreInOrder, IsInOrder, Agree, AgreesTo, start_of, tokens_of}
 use Rattle.cmap_files.specs.Only.{HoldsOfNone}
 use Rattle.cmap_text.specs.TextFiles.{IsTextFile}
-use Rattle.cmap_text.specs.TokenReaders.{Found, after, followed_by, head_in, next_in, or_refused, token_in, Reader, wanted, head, giving, chain, repeat, round, run, ItemReader, reads, takes_value, run_item}
+use Rattle.cmap_text.specs.TokenParsers.{Found, after, followed_by, head_in, next_in, or_refused, token_in, Parser, wanted, head, giving, chain, repeat, round, run, ItemParser, reads, takes_value, run_item}
 use Rattle.cmap_text.specs.TextReading.{all_said, item_after, item_said, nothing_said, Said}
-use Rattle.cmap_text.proofs.TokenReaders.{having, head-shorter, is_there, repeat_next}
+use Rattle.cmap_text.proofs.TokenParsers.{having, head-shorter, is_there, repeat_next}
 use Rattle.cmap_text.proofs.ItemsRead.{item-shorter, next-shorter, said_next}
 use Rattle.cmap_text.proofs.TextRead.{no_file}
 
 module _ (k : ℕ) where
-  -- ---- tokens that are left of two texts, which agree up to k
+  -- ---- tokens that are left of two texts, which agree up to k; past it nothing has to agree
   abbrev Alike : Left → Left → Type 0
-  Alike left other = IsInOrder left × AgreesTo k left other
+  Alike left other = IsInOrder left × (left.passed ≤ k → AgreesTo k left other)
 
   agree_after : (p : Placed) (r s : List Placed) (left other : Left) (tokens others : List Placed) → Agree k tokens left others other → Agree k tokens (after p r left) others (after p s other)
   agree_after p r s left other [] others agree = agree
   agree_after p r s left other (t ∷ tokens) others agree = λ within.
       let (rest, same, more) = agree within in
       (rest, same, agree_after p r s left other tokens rest more)
-
-  -- past k nothing has to agree
-  beyond : (left : Left) → IsInOrder left → k < left.passed → AgreesTo k left left
-  beyond left order past = (refl, at left.tokens order)
-    where
-      at : (tokens : List Placed) → AreInOrder left.passed tokens left.stop → Agree k tokens left tokens left
-      at [] o = λ within. absurd (omega (arith, o, within, past))
-      at (p ∷ tokens) o = λ within. absurd (omega (arith, o.0, within, past))
 
   -- ---- what is found in them
   -- what is found in the one and in the other; of what is left after it only if that matters
@@ -41,25 +33,20 @@ module _ (k : ℕ) where
   Agrees true left (Ok p) other = (left.passed ≤ p.1.passed) × IsInOrder p.1 × (p.1.passed ≤ k → (next : Left) × (other ≡ Ok (p.0, next)) × AgreesTo k p.1 next)
   Agrees false left (Ok p) other = Unit {0}
 
-  -- found later, or past k
-  later : {A : Type 0} (matters : Bool) (left mid : Left) (found other : Found A) → left.passed ≤ mid.passed → Agrees matters mid found other → Agrees matters left found other
-  later matters left mid (Err e) other less (from, same) = (omega (arith, less, from), same)
-  later true left mid (Ok p) other less (from, order, same) = (omega (arith, less, from), order, same)
-  later false left mid (Ok p) other less agrees = tt
-
-  too_late : {A : Type 0} (matters : Bool) (mid : Left) (found other any : Found A) → k < mid.passed → Agrees matters mid found other → Agrees matters mid found any
-  too_late matters mid (Err e) other any past (from, same) = (from, λ within. absurd (omega (arith, past, from, within)))
-  too_late true mid (Ok p) other any past (from, order, same) = (from, order, λ within. absurd (omega (arith, past, from, within)))
-  too_late false mid (Ok p) other any past agrees = tt
+  from_earlier : {A : Type 0} (matters : Bool) (left mid : Left) (found other any : Found A) → left.passed ≤ mid.passed → Agrees matters mid found other → (mid.passed ≤ k → any ≡ other) → Agrees matters left found any
+  from_earlier matters left mid (Err e) other any less (from, same) equal = (omega (arith, less, from), λ within. equal (omega (arith, from, within)) ∙ same within)
+  from_earlier true left mid (Ok p) other any less (from, order, same) equal = (omega (arith, less, from), order, λ within. let (next, is, agrees) = same within in (next, equal (omega (arith, from, within)) ∙ is, agrees))
+  from_earlier false left mid (Ok p) other any less agrees equal = tt
 
   then_agrees : {A B : Type 0} (matters : Bool) (more : A → Left → Found B) (left : Left) (found other : Found A) → Agrees true left found other → ((x : A) (next mid : Left) → found ≡ Ok (x, next) → Alike next mid → Agrees matters next (more x next) (more x mid))
       → Agrees matters left (followed_by more found) (followed_by more other)
   then_agrees matters more left (Err e) other (less, same) both = (less, λ within. ap (followed_by more) (same within))
   then_agrees matters more left (Ok (x, next)) other (less, order, same) both =
-      later matters left next (more x next) (followed_by more other) less (elim (cases_lt k next.passed) [
-        | inl past ↦ too_late matters next (more x next) (more x next) (followed_by more other) past (both x next next refl (order, beyond next order past))
-        | inr within ↦ let (mid, is, agrees) = same within in subst (λ f. Agrees matters next (more x next) (followed_by more f)) (sym is) (both x next mid refl (order, agrees))
-      ])
+      let (mid, is) : (mid : Left) × (next.passed ≤ k → (other ≡ Ok (x, mid)) × AgreesTo k next mid) = elim (cases_lt k next.passed) [
+        | inl past ↦ (next, λ within. absurd (omega (arith, past, within)))
+        | inr within ↦ let (mid, is, agrees) = same within in (mid, λ w. (is, agrees))
+      ] in
+      from_earlier matters left next (more x next) (more x mid) (followed_by more other) less (both x next mid refl (order, λ within. (is within).1)) (λ within. ap (followed_by more) (is within).0)
 
   abbrev IsLocal : {A : Type 0} → (Left → Found A) → Type 0
   IsLocal read = (left other : Left) → Alike left other → Agrees true left (read left) (read other)
@@ -68,20 +55,20 @@ module _ (k : ℕ) where
   then_local more read first second left other alike = then_agrees true more left (read left) (read other) (first left other alike) (λ x next mid is. second x next mid)
 
   wanted_local : {A : Type 0} (found : Option A) → IsLocal (or_refused found)
-  wanted_local None left other (order, (passed, agrees)) = (omega arith, λ within. ap Err passed)
-  wanted_local (Some x) left other (order, agrees) = (omega arith, order, λ within. (other, refl, agrees))
+  wanted_local None left other (order, agrees) = (omega arith, λ within. ap Err (agrees within).0)
+  wanted_local (Some x) left other (order, agrees) = (omega arith, order, λ within. (other, refl, agrees within))
 
   token_local : IsLocal token_in
-  token_local left other (order, (passed, agrees)) = at left.tokens order agrees
+  token_local left other (order, agrees) = at left.tokens order (λ within. (agrees within).1)
     where
-      at : (tokens : List Placed) → AreInOrder left.passed tokens left.stop → Agree k tokens left other.tokens other → Agrees true left (token_in (having tokens left)) (token_in other)
-      at [] o a = (o, λ within. let (ends, none, also, same) = a within in rw (none, same) refl)
-      at (p ∷ rest) o a = (o.0, o.1, λ within. let (others, begins, more) = a within in (after p others other, rw begins refl, (refl, agree_after p rest others left other rest others more)))
+      at : (tokens : List Placed) → AreInOrder left.passed tokens left.stop → (left.passed ≤ k → Agree k tokens left other.tokens other) → Agrees true left (token_in (having tokens left)) (token_in other)
+      at [] o a = (o, λ within. let (ends, none, also, same) = a (omega (arith, o, within)) within in rw (none, same) refl)
+      at (p ∷ rest) o a = (o.0, o.1, λ within. let (others, begins, more) = a (omega (arith, o.0, within)) within in (after p others other, rw begins refl, (refl, agree_after p rest others left other rest others more)))
 
   head_local : {A : Type 0} (read : Token → Option A) → IsLocal (head_in read)
   head_local read = then_local (λ t. or_refused (read t)) token_in token_local (λ t. wanted_local (read t))
 
-  module _ {S X : Type 0} (begins : Token → Option (Option X)) (more : S → X → Reader S) (each : (now : S) (x : X) → IsLocal (run (more now x))) where
+  module _ {S X : Type 0} (begins : Token → Option (Option X)) (more : S → X → Parser S) (each : (now : S) (x : X) → IsLocal (run (more now x))) where
     abbrev again : S → Left → Found S
     again now = run (repeat begins more now)
 
@@ -100,23 +87,27 @@ module _ (k : ℕ) where
             λ new here there goes_on. rounds new here there (omega (arith, long, head-shorter begins left (Some x, next) is, (is_there (more now x) next (new, here) goes_on).2))
             )
 
-  run_local : {A : Type 0} (r : Reader A) → IsLocal (run r)
+  run_local : {A : Type 0} (r : Parser A) → IsLocal (run r)
   run_local (wanted found) = wanted_local found
   run_local (head read) = head_local read
-  run_local (giving f reader) = then_local (λ x next. Ok (f x, next)) (run reader) (run_local reader) (λ x. wanted_local (Some (f x)))
+  run_local (giving f parser) = then_local (λ x next. Ok (f x, next)) (run parser) (run_local parser) (λ x. wanted_local (Some (f x)))
   run_local (chain first more) = then_local (λ x. run (more x)) (run first) (run_local first) (λ x. run_local (more x))
   run_local (repeat begins more start) = λ left other. rounds_local begins more (λ now x. run_local (more now x)) (1 + length left.tokens) start left other (omega arith)
 
   -- ---- items
   -- the next token agrees, or the text ends
   next_local : (left other : Left) → Alike left other → (next_in left ≡ Ok (None, left)) ⊎ Agrees true left (next_in left) (next_in other)
-  next_local left other (order, (passed, agrees)) = at left.tokens left.ends order agrees
+  next_local left other (order, agrees) = at left.tokens left.ends order (λ within. (agrees within).1)
     where
-      at : (tokens : List Placed) (ends : Bool) → AreInOrder left.passed tokens left.stop → let l : Left = record { passed = left.passed; tokens = tokens; ends = ends; stop = left.stop } in Agree k tokens l other.tokens other
+      at : (tokens : List Placed) (ends : Bool) → AreInOrder left.passed tokens left.stop → let l : Left = record { passed = left.passed; tokens = tokens; ends = ends; stop = left.stop } in (left.passed ≤ k → Agree k tokens l other.tokens other)
           → (next_in l ≡ Ok (None, l)) ⊎ Agrees true left (next_in l) (next_in other)
       at [] true o a = inl refl
-      at [] false o a = inr (o, λ within. let (ends, none, also, same) = a within in rw (none, also, same) refl)
-      at (p ∷ rest) ends o a = inr (o.0, o.1, λ within. let (others, begins, more) = a within in (after p others other, rw begins refl, (refl, agree_after p rest others (record { passed = left.passed; tokens = p ∷ rest; ends = ends; stop = left.stop }) other rest others more)))
+      at [] false o a = inr (o, λ within. let (ends, none, also, same) = a (omega (arith, o, within)) within in rw (none, also, same) refl)
+      at (p ∷ rest) ends o a = inr (
+        o.0,
+        o.1,
+        λ within. let (others, begins, more) = a (omega (arith, o.0, within)) within in (after p others other, rw begins refl, (refl, agree_after p rest others (record { passed = left.passed; tokens = p ∷ rest; ends = ends; stop = left.stop }) other rest others more)),
+      )
 
   -- at the end all is said
   ended : (now : Said) (here : Left) → next_in here ≡ Ok (None, here) → all_said now here ≡ Ok (now, here)
@@ -126,8 +117,8 @@ module _ (k : ℕ) where
   SaidAgrees now left other = Alike left other → Agrees false left (all_said now left) (all_said now other)
 
   -- what is said after an item
-  item_local : (i : ItemReader Said) (left other : Left) → ((new : Said) (here there : Left) → run_item i left ≡ Ok (new, here) → SaidAgrees new here there) → Alike left other → Agrees false left (followed_by all_said (run_item i left)) (followed_by all_said (run_item i other))
-  item_local (reads reader) left other later_said alike = then_agrees false all_said left (run reader left) (run reader other) (run_local reader left other alike) later_said
+  item_local : (i : ItemParser Said) (left other : Left) → ((new : Said) (here there : Left) → run_item i left ≡ Ok (new, here) → SaidAgrees new here there) → Alike left other → Agrees false left (followed_by all_said (run_item i left)) (followed_by all_said (run_item i other))
+  item_local (reads parser) left other later_said alike = then_agrees false all_said left (run parser left) (run parser other) (run_local parser left other alike) later_said
   item_local (takes_value set) left other later_said alike =
       elim (next_local left other alike) [
         | inl end ↦ rw (end, ended (set None) left end) tt
@@ -155,5 +146,5 @@ pub decided : (text : List ℕ) (e : ℕ) → all_said nothing_said (tokens_of (
 decided text e is within more =
     let left = tokens_of (start_of text) in
     let other = tokens_of (start_of (take (1 + e) text ++ more)) in
-    let same = said_local e (1 + length left.tokens) nothing_said left other (omega arith) (in_order text, fronts.decided text e more within) in
+    let same = said_local e (1 + length left.tokens) nothing_said left other (omega arith) (in_order text, λ k. fronts.decided text e more within) in
     no_file _ other (has_tokens _) e ((subst (λ f. Agrees e false left f (all_said nothing_said other)) is same).1 (omega arith))

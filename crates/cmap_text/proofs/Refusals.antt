@@ -9,7 +9,7 @@ use Rattle.cmap_files.specs.declared.fault.Fault.TheVariants.{Refused}
 use Rattle.cmap_files.specs.declared.fault.Reason.{Reason}
 use Rattle.cmap_files.proofs.Outcomes as outcomes
 use Rattle.cmap_text.specs.EntriesSeen.{RefusesAt}
-use Rattle.cmap_text.specs.TokenReaders.{or_refused}
+use Rattle.cmap_text.specs.TokenParsers.{or_refused}
 use Rattle.cmap_text.specs.declared.wrong_token.WrongToken.{WrongToken}
 use Rattle.cmap_text.specs.declared.wrong_token.WrongToken.TheVariants.{Last, Next}
 

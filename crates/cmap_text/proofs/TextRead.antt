@@ -8,7 +8,7 @@ use Rattle.cmap_files.specs.Files.{FileMetadata}
 use Rattle.cmap_text.specs.TextFiles.{Item, names_used, last_values, IsMetadata, IsTextFile, AreItems}
 use Rattle.cmap_text.specs.TextReading.{Said, nothing_said, all_said}
 use Rattle.cmap_text.proofs.TokensRead.{some_mapped}
-use Rattle.cmap_text.proofs.TokenReaders.{err-ok, same_Ok}
+use Rattle.cmap_text.proofs.TokenParsers.{err-ok, same_Ok}
 use Rattle.cmap_text.proofs.ItemsRead.{all_there, all_found}
 use Rattle.cmap_text.proofs.ItemsSaid.{said_after, says_all, all_says, values_said}
 

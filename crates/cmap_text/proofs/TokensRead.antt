@@ -3,7 +3,7 @@ use Rattle.std.proofs.Common.{◌≡◌, ℕ, ◌≤◌, ◌<◌, ◌^◌, ◌&&
 use Rattle.std.proofs.lemmas.Bool.{and_parts, le-leb, leb-true, lt-ltb, ltb-true}
 use Rattle.std.proofs.lemmas.Option.{none-some, same_Some}
 use Rattle.std.proofs.lemmas.Slice.Eq.{bytes_eq-Decides}
-use Rattle.std.specs.Prelude.{pos, negsuc, nat_le, nat_lt, Option, Some, None, option_map, option_and_then, if◌then◌else◌}
+use Rattle.std.specs.Prelude.{pos, nat_le, nat_lt, Option, Some, None, option_map, option_and_then, if◌then◌else◌}
 use Rattle.cmap_files.specs.BigEndian.{big_endian}
 use Rattle.cmap_tokens.specs.Numbers.{Number}
 use Rattle.cmap_tokens.specs.Strings.{IsValue}
@@ -27,19 +27,15 @@ tested false x y is = absurd (none-some y is)
 
 -- ---- names
 pub is_executable-found : (name : List ℕ) (t : Token) → is_executable name t ≡ true → t ≡ Token.Name false name
-is_executable-found name (Token.Name true bytes) is = cc
 is_executable-found name (Token.Name false bytes) is = ap (Token.Name false) ((bytes_eq-Decides bytes name).0 is)
-is_executable-found name (Token.String piece) is = cc
-is_executable-found name (Token.Numeral x) is = cc
+is_executable-found name _ is = cc
 
 pub is_executable-own : (name : List ℕ) → is_executable name (Token.Name false name) ≡ true
 is_executable-own name = (bytes_eq-Decides name name).1 refl
 
 pub is_literal-found : (name : List ℕ) (t : Token) → is_literal name t ≡ true → t ≡ Token.Name true name
 is_literal-found name (Token.Name true bytes) is = ap (Token.Name true) ((bytes_eq-Decides bytes name).0 is)
-is_literal-found name (Token.Name false bytes) is = cc
-is_literal-found name (Token.String piece) is = cc
-is_literal-found name (Token.Numeral x) is = cc
+is_literal-found name _ is = cc
 
 -- ---- codes, CIDs and destinations
 -- a code of these bytes
@@ -56,13 +52,10 @@ pub destination_of-none : (bytes : List ℕ) → length bytes ≡ 0 → destinat
 destination_of-none bytes empty = rw empty refl
 
 pub cid_found : (t : Token) (cid : ℕ) → cid_in t ≡ Some cid → IsCid t cid
-cid_found (Token.Name literal bytes) cid is = absurd (none-some cid is)
-cid_found (Token.String piece) cid is = absurd (none-some cid is)
-cid_found (Token.Numeral Number.Real) cid is = absurd (none-some cid is)
-cid_found (Token.Numeral (Number.Integer (negsuc n))) cid is = absurd (none-some cid is)
 cid_found (Token.Numeral (Number.Integer (pos n))) cid is =
     let (within, same) = tested (nat_lt n (2 ^ 32)) n cid is in
     (ap (λ m. Token.Numeral (Number.Integer (pos m))) same, omega (arith, ltb-true n (2 ^ 32) within, same))
+cid_found _ cid is = absurd (none-some cid is)
 
 pub cid_is : (t : Token) (cid : ℕ) → IsCid t cid → cid_in t ≡ Some cid
 cid_is t cid (is, within) = rw (is, lt-ltb cid (2 ^ 32) within) refl
@@ -72,9 +65,8 @@ pub read_value : {A : Type 0} (read : List ℕ → Option A) (t : Token) (piece 
 read_value read t piece value is holds = rw (is, IsValue-read piece value holds) refl
 
 found_value : {A : Type 0} (read : List ℕ → Option A) (t : Token) (x : A) → option_and_then read (value_in t) ≡ Some x → (piece value : List ℕ) × (t ≡ Token.String piece) × IsValue piece value × (read value ≡ Some x)
-found_value read (Token.Name literal bytes) x is = absurd (none-some x is)
 found_value read (Token.String piece) x is = let (value, read_is, gives) = some_bound read (value_in (Token.String piece)) x is in (piece, value, refl, IsValue-from piece value read_is, gives)
-found_value read (Token.Numeral n) x is = absurd (none-some x is)
+found_value read _ x is = absurd (none-some x is)
 
 pub code_is : (t : Token) (bytes : List ℕ) → IsCode t bytes → code_in t ≡ Some (written bytes)
 code_is t bytes (piece, is, value, least, most) = read_value code_of t piece bytes is value ∙ code_of-is bytes least most

@@ -7,7 +7,7 @@ use Rattle.cmap_files.specs.Outcomes.{Outcome}
 use Rattle.cmap_files.specs.declared.declarations.Lists.{Lists}
 use Rattle.cmap_files.specs.declared.fault.Fault.{Fault}
 use Rattle.cmap_files.specs.declared.fault.Stop.{Stop}
-use Rattle.cmap_text.specs.TokenReaders.{Reader, run}
+use Rattle.cmap_text.specs.TokenParsers.{Parser, run}
 use Rattle.cmap_text.specs.declared.wrong_token.WrongToken.{WrongToken}
 use Rattle.cmap_text.specs.declared.wrong_token.WrongToken.TheVariants.{Last, Next}
 
@@ -20,8 +20,8 @@ RefusesAt here found (Next reason) = (here.tokens ≡ []) × (found ≡ Err here
 abbrev pub ReadsAs : {A B : Type 0} → Result B ℕ → (A → B) → Left → Result A (Fault WrongToken) → Type 0
 ReadsAs found seen here = Outcome (λ x. found ≡ Ok (seen x)) (RefusesAt here found)
 
--- the lists are what is read so, with those that were there before
-abbrev pub AddsDeclarations : {A : Type 0} → (files.Lists → Reader files.Lists) → Left → Lists → Lists → Left → Result A (Fault WrongToken) → Type 0
+-- what is read from the lists as they were gives the lists as they are now
+abbrev pub AddsDeclarations : {A : Type 0} → (files.Lists → Parser files.Lists) → Left → Lists → Lists → Left → Result A (Fault WrongToken) → Type 0
 AddsDeclarations read old before after here = ReadsAs (run (read (lists_seen before)) old) (λ done. (lists_seen after, here)) here
 
 -- the token that was read last is wrong, and this holds

@@ -120,12 +120,8 @@ AreItems tokens (item ∷ items) = (rest : List Token) × IsItem tokens item res
 -- the literal name that an item begins with
 abbrev pub literal_head : Item → Option (List ℕ)
 literal_head (key k value) = Some k
-literal_head (entries declared) = None
-literal_head use_of_base = None
 literal_head (other (Token.Name true bytes)) = Some bytes
-literal_head (other (Token.Name false bytes)) = None
-literal_head (other (Token.String piece)) = None
-literal_head (other (Token.Numeral x)) = None
+literal_head _ = None
 
 -- the names that the items use, where each use comes right after an item that begins with a literal name
 abbrev pub names_used : Option (List ℕ) → List Item → Option (List (List ℕ))
@@ -136,17 +132,13 @@ names_used before (entries declared ∷ items) = names_used None items
 names_used before (other t ∷ items) = names_used (literal_head (other t)) items
 
 abbrev pub declared_by : Item → List Declaration
-declared_by (key k value) = []
 declared_by (entries declared) = declared
-declared_by use_of_base = []
-declared_by (other t) = []
+declared_by _ = []
 
 -- the value of an item with this key
 abbrev pub value_under : List ℕ → Item → Option (Option Token)
 value_under name (key k value) = if bytes_eq k name then Some value else None
-value_under name (entries declared) = None
-value_under name use_of_base = None
-value_under name (other t) = None
+value_under name _ = None
 
 -- the value of the last item with this key
 abbrev pub last_value : List ℕ → List Item → Option Token
@@ -172,17 +164,13 @@ last_values items = record {
 
 -- registry and ordering: the value of a string, or the bytes of a name
 abbrev pub GivesText : Option Token → Option (List ℕ) → Type 0
-GivesText None text = text ≡ None
 GivesText (Some (Token.Name literal bytes)) text = text ≡ Some bytes
 GivesText (Some (Token.String piece)) text = (value : List ℕ) × IsValue piece value × (text ≡ Some value)
-GivesText (Some (Token.Numeral x)) text = text ≡ None
+GivesText _ text = text ≡ None
 
 abbrev pub integer_in : Option Token → Option ℤ
 integer_in (Some (Token.Numeral (Number.Integer n))) = Some n
-integer_in (Some (Token.Numeral Number.Real)) = None
-integer_in (Some (Token.Name literal bytes)) = None
-integer_in (Some (Token.String piece)) = None
-integer_in None = None
+integer_in _ = None
 
 -- a supplement has 32 bits with sign
 abbrev pub supplement_in : Option Token → Option ℤ
@@ -190,9 +178,7 @@ supplement_in t = option_and_then (λ n. if int_le (neg_ℤ (pos (2 ^ 31))) n &&
 
 abbrev pub name_in : Option Token → Option (List ℕ)
 name_in (Some (Token.Name literal bytes)) = Some bytes
-name_in (Some (Token.String piece)) = None
-name_in (Some (Token.Numeral x)) = None
-name_in None = None
+name_in _ = None
 
 abbrev pub mode_of_integer : ℤ → Option Mode
 mode_of_integer (pos n) = mode_numbered n

@@ -8,28 +8,23 @@ use Rattle.cmap_tokens.specs.Tokens.{Token}
 use Rattle.cmap_tokens.specs.TokensLeft.{Left}
 use Rattle.cmap_files.specs.Files.{CidEntry, Declaration, Lists, lists_of}
 use Rattle.cmap_files.specs.ListsAppended.{no_lists, append_lists}
-use Rattle.cmap_text.specs.TokenReaders.{Found, Reader, wanted, head, giving, chain, repeat, ItemReader, reads, takes_value, run_item, next_in, repeated}
+use Rattle.cmap_text.specs.TokenParsers.{Found, Parser, wanted, head, giving, chain, repeat, ItemParser, reads, takes_value, run_item, next_in, repeated}
 use Rattle.cmap_text.specs.TextFiles.{Extent, range, single, Section, codespace_range, cids, bf_range, bf_char, mapped, notdef, keys, opener, closer, use_word, declares_bf, declares_cid, other, literal_head, Values}
 
 -- ---- single tokens
 -- whether a token is this executable name, or this literal one
 abbrev pub is_executable : List ℕ → Token → Bool
-is_executable name (Token.Name true bytes) = false
 is_executable name (Token.Name false bytes) = bytes_eq bytes name
-is_executable name (Token.String piece) = false
-is_executable name (Token.Numeral x) = false
+is_executable name _ = false
 
 abbrev pub is_literal : List ℕ → Token → Bool
 is_literal name (Token.Name true bytes) = bytes_eq bytes name
-is_literal name (Token.Name false bytes) = false
-is_literal name (Token.String piece) = false
-is_literal name (Token.Numeral x) = false
+is_literal name _ = false
 
 -- the bytes of a string
 abbrev pub value_in : Token → Option (List ℕ)
-value_in (Token.Name literal bytes) = None
 value_in (Token.String piece) = value_of piece
-value_in (Token.Numeral x) = None
+value_in _ = None
 
 -- a code, by the number of its bytes and the number that they write
 pub record Code : Type 0 where
@@ -61,7 +56,7 @@ abbrev pub filed : Code → ℕ → ℕ → ℕ × CidEntry
 filed start end cid = (start.len, record { start = start.number; end = end; cid = cid })
 
 -- after the first code: a code and a CID, or a CID
-abbrev pub cids_after : Extent → Code → Reader (ℕ × CidEntry)
+abbrev pub cids_after : Extent → Code → Parser (ℕ × CidEntry)
 cids_after range start = chain (head code_in) (λ end. giving (filed start end.number) (head cid_in))
 cids_after single code = giving (filed code code.number) (head cid_in)
 
@@ -74,19 +69,19 @@ abbrev pub text_of : ℕ → ℕ → List ℕ → List Declaration
 text_of start end units = declares_bf start end units ∷ []
 
 -- a destination for each of count codes from this one on, and the ] after them
-unfoldable pub list_in : ℕ → ℕ → Lists → Reader Lists
+unfoldable pub list_in : ℕ → ℕ → Lists → Parser Lists
 list_in zero start lists = head (λ t. if is_executable (codes "]") t then Some lists else None)
 list_in (suc count) start lists = chain (head destination_in) (λ units. list_in count (start + 1) (adding lists (text_of start start units)))
 
 -- one destination, which is this token, or [ and a list of them
-abbrev pub texts_from : ℕ → ℕ → Lists → Token → Reader Lists
+abbrev pub texts_from : ℕ → ℕ → Lists → Token → Parser Lists
 texts_from start end lists t = elim (is_executable (codes "[") t) [
   | true ↦ list_in (end + 1 - start) start lists
   | false ↦ giving (λ units. adding lists (text_of start end units)) (wanted (destination_in t))
 ]
 
 -- what comes after the first code of an entry
-abbrev pub entry_after : Section → Code → Lists → Reader Lists
+abbrev pub entry_after : Section → Code → Lists → Parser Lists
 entry_after codespace_range start lists = chain (head code_in) (λ high. wanted (option_map (adding lists) (codespace start high)))
 entry_after (cids kind extent) start lists = giving (λ p. adding lists (declares_cid kind p.0 p.1 ∷ [])) (cids_after extent start)
 entry_after bf_range start lists = chain (head code_in) (λ end. chain (head Some) (texts_from start.number end.number lists))
@@ -97,7 +92,7 @@ abbrev pub code_or_closer : Section → Token → Option (Option Code)
 code_or_closer section t = if is_executable (closer section) t then Some None else option_map Some (code_in t)
 
 -- the entries of a section and its closer
-abbrev pub body_in : Section → Lists → Reader Lists
+abbrev pub body_in : Section → Lists → Parser Lists
 body_in section lists = repeat (code_or_closer section) (λ now code. entry_after section code now) lists
 
 -- ---- items
@@ -150,7 +145,7 @@ abbrev pub with_other : Said → Token → Said
 with_other old t = record { values = old.values; lists = old.lists; uses = old.uses; operand = literal_head (other t) }
 
 -- what is said after the item that begins with this token; a use needs an operand
-abbrev pub item_after : Said → Token → ItemReader Said
+abbrev pub item_after : Said → Token → ItemParser Said
 item_after old t = elim (opened_by t) [
   | Some section ↦ reads (giving (with_lists old) (body_in section old.lists))
   | None ↦ elim (is_executable use_word t) [

@@ -11,7 +11,7 @@ ghost use Rattle.cmap_files.specs.UnitsSeen.{units_seen};
 ghost use Rattle.cmap_text.specs.TextFiles as files;
 ghost use Rattle.cmap_text.specs.TextSeen.{code_seen, extent_seen, kind_seen};
 ghost use Rattle.cmap_text.specs.TextReading.{cids_after, entry_after, list_in, text_of};
-ghost use Rattle.cmap_text.specs.TokenReaders.{run};
+ghost use Rattle.cmap_text.specs.TokenParsers.{run};
 
 use crate::tokens::{Code, TokenReader, is_executable};
 use crate::wrong_token::{WrongToken, wrong};
@@ -65,8 +65,9 @@ pub(crate) fn add_cids(
     extent: Extent,
     lists: &mut Lists,
 ) -> Result<(), Fault<WrongToken>>
-    ensures { AddsDeclarations (entry_after (files.cids (kind_seen kind) (extent_seen extent)) (code_seen start)) reader.old
-        lists.old lists.new reader.new result }
+    ensures { AddsDeclarations
+        (entry_after (files.cids (kind_seen kind) (extent_seen extent)) (code_seen start))
+        reader.old lists.old lists.new reader.new result }
 {
     let filed = read_cids(reader, start, extent)?;
     match kind {

@@ -43,7 +43,8 @@ fn read_said<'d>(
     said: &mut Said<'d>,
 ) -> Result<Metadata, Fault<Stop>>
     ensures says { IfOk result (λ metadata.
-        ((rest : Left) × (all_said (said_seen said.old) (tokens_of (start_of text.now)) ≡ Ok (said_seen said.new, rest)))
+        ((rest : Left) × (all_said (said_seen said.old) (tokens_of (start_of text.now))
+        ≡ Ok (said_seen said.new, rest)))
         × IsOnly (IsMetadata (values_seen said.new.values)) (metadata_seen metadata)) }
     ensures stops { IfErr result (RefusesWith (StopsAt (length text.now)
         (all_said (said_seen said.old) (tokens_of (start_of text.now))))) }

@@ -6,7 +6,7 @@ ghost use Rattle.cmap_text.specs.EntriesSeen.{AddsDeclarations, ReadsAs};
 ghost use Rattle.cmap_text.specs.TextFiles as files;
 ghost use Rattle.cmap_text.specs.TextReading.{body_in, code_or_closer, entry_after, opened_by};
 ghost use Rattle.cmap_text.specs.TextSeen.{code_seen, section_seen};
-ghost use Rattle.cmap_text.specs.TokenReaders.{head_in};
+ghost use Rattle.cmap_text.specs.TokenParsers.{head_in};
 
 use crate::entries::{CidKind, Extent, add_bf_char, add_bf_range, add_cids, add_codespace_range};
 use crate::tokens::{Code, TokenReader, is_executable};

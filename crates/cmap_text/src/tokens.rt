@@ -13,7 +13,7 @@ ghost use Rattle.cmap_text.specs.EntriesSeen.{ReadsAs};
 ghost use Rattle.cmap_text.specs.TextFiles.{literal_head, other};
 ghost use Rattle.cmap_text.specs.TextReading.{cid_in, code_in, code_of, destination_in, is_executable, is_literal};
 ghost use Rattle.cmap_text.specs.TextSeen.{code_seen};
-ghost use Rattle.cmap_text.specs.TokenReaders.{head_in, next_in, or_refused, token_in};
+ghost use Rattle.cmap_text.specs.TokenParsers.{head_in, next_in, or_refused, token_in};
 
 use crate::wrong_token::{WrongToken, no_token, wrong};
 use cmap_files::code_length::{CodeLength, read_code};

@@ -1,7 +1,7 @@
 use Rattle.std.proofs.Common.{◌≡◌, ◌+◌, ◌-◌}
 use Rattle.cmap_files.specs.DeclarationsSeen.{lists_seen}
 use Rattle.cmap_text.specs.TextReading.{list_in}
-use Rattle.cmap_text.specs.TokenReaders.{run}
+use Rattle.cmap_text.specs.TokenParsers.{run}
 use Rattle.cmap_text.proofs.entries.add_list.Given as goal
 
 abbrev pub invariant-loop-code : goal.invariant-loop-code

@@ -4,7 +4,7 @@ use Rattle.cmap_files.specs.DeclarationsSeen.{lists_seen}
 use Rattle.cmap_text.specs.TextReading.{code_or_closer, entry_after}
 use Rattle.cmap_text.specs.TextSeen.{code_seen, section_seen}
 use Rattle.cmap_text.proofs.EntriesRead.{body_next}
-use Rattle.cmap_text.proofs.TokenReaders.{head-shorter, is_there}
+use Rattle.cmap_text.proofs.TokenParsers.{head-shorter, is_there}
 use Rattle.cmap_text.proofs.sections.read_section.Goals as goal
 
 pub returns-in_err-start : goal.returns-in_err-start

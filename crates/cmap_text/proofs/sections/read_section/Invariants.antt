@@ -2,7 +2,7 @@ use Rattle.std.proofs.Common.{◌≡◌, length}
 use Rattle.cmap_files.specs.DeclarationsSeen.{lists_seen}
 use Rattle.cmap_text.specs.TextReading.{body_in}
 use Rattle.cmap_text.specs.TextSeen.{section_seen}
-use Rattle.cmap_text.specs.TokenReaders.{run}
+use Rattle.cmap_text.specs.TokenParsers.{run}
 use Rattle.cmap_text.proofs.sections.read_section.Given as goal
 
 abbrev pub invariant-loop-start : goal.invariant-loop-start

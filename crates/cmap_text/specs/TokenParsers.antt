@@ -1,4 +1,4 @@
--- Private aid: how tokens are read, one after another, and what is found so in the tokens that are left of a text.
+-- Private aid: parsers of tokens, and what each finds in the tokens that are left of a text.
 use Rattle.std.specs.Prelude.{ℕ, zero, suc, ◌+◌, List, [], ◌∷◌, length, Option, Some, None, Result, Ok, Err, option_map, ok_or, if◌then◌else◌}
 use Rattle.cmap_tokens.specs.Tokens.{Token}
 use Rattle.cmap_tokens.specs.TokensLeft.{Placed, Left}
@@ -53,31 +53,31 @@ repeated_within (suc count) begins more now left = followed_by (round (repeated_
 unfoldable pub repeated : {S X : Type 0} → (Left → Found (Option X)) → (S → X → Left → Found S) → S → Left → Found S
 repeated begins more now left = repeated_within (1 + length left.tokens) begins more now left
 
--- ---- what reads them
-pub data Reader : Type 0 → Type 1 where
+-- ---- what finds it
+pub data Parser : Type 0 → Type 1 where
   -- this, or the token that was read last is refused
-  wanted : {A : Type 0} → Option A → Reader A
+  wanted : {A : Type 0} → Option A → Parser A
   -- what the next token is
-  head : {A : Type 0} → (Token → Option A) → Reader A
+  head : {A : Type 0} → (Token → Option A) → Parser A
   -- what this gives, by a function of it
-  giving : {A B : Type 0} → (A → B) → Reader A → Reader B
+  giving : {A B : Type 0} → (A → B) → Parser A → Parser B
   -- first this, and then that
-  chain : {A B : Type 0} → Reader A → (A → Reader B) → Reader B
+  chain : {A B : Type 0} → Parser A → (A → Parser B) → Parser B
   -- again and again, from this on: what the next token begins, and what follows; up to a token that begins none
-  repeat : {S X : Type 0} → (Token → Option (Option X)) → (S → X → Reader S) → S → Reader S
+  repeat : {S X : Type 0} → (Token → Option (Option X)) → (S → X → Parser S) → S → Parser S
 
-abbrev pub run : {A : Type 0} → Reader A → Left → Found A
+abbrev pub run : {A : Type 0} → Parser A → Left → Found A
 run (wanted found) left = or_refused found left
 run (head read) left = head_in read left
-run (giving f reader) left = followed_by (λ x next. Ok (f x, next)) (run reader left)
+run (giving f parser) left = followed_by (λ x next. Ok (f x, next)) (run parser left)
 run (chain first more) left = followed_by (λ x. run (more x)) (run first left)
 run (repeat begins more start) left = repeated (head_in begins) (λ now x. run (more now x)) start left
 
 -- what follows the first token of an item: tokens that are read so; or one token, which is its value, unless the text ends
-pub data ItemReader : Type 0 → Type 1 where
-  reads : {A : Type 0} → Reader A → ItemReader A
-  takes_value : {A : Type 0} → (Option Token → A) → ItemReader A
+pub data ItemParser : Type 0 → Type 1 where
+  reads : {A : Type 0} → Parser A → ItemParser A
+  takes_value : {A : Type 0} → (Option Token → A) → ItemParser A
 
-abbrev pub run_item : {A : Type 0} → ItemReader A → Left → Found A
-run_item (reads reader) left = run reader left
+abbrev pub run_item : {A : Type 0} → ItemParser A → Left → Found A
+run_item (reads parser) left = run parser left
 run_item (takes_value set) left = followed_by (λ value next. Ok (set value, next)) (next_in left)
