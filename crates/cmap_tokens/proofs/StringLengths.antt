@@ -34,18 +34,18 @@ hex_len-append body rest is_body =
     rw (len, get_or-append_seam body 62 rest 0) refl
 
 -- ---- ( .. )
-text_is : (place : Option Inside) (text : List ℕ) (n : ℕ) → text_len place text ≡ Some n → (closes_at_end place (take n text) ≡ true) × (n ≤ length text)
+text_is : (state : Option Inside) (text : List ℕ) (n : ℕ) → text_len state text ≡ Some n → (closes_at_end state (take n text) ≡ true) × (n ≤ length text)
 text_is None text n e = let none : n ≡ 0 = cc in (rw none refl, omega (arith, none))
-text_is (Some place) [] n e = cc
-text_is (Some place) (b ∷ text) n e =
-    let (k, less, more) = one_more_some (text_len (after_byte place b) text) n e in
-    let (closes, within) = text_is (after_byte place b) text k less in
+text_is (Some state) [] n e = cc
+text_is (Some state) (b ∷ text) n e =
+    let (k, less, more) = one_more_some (text_len (after_byte state b) text) n e in
+    let (closes, within) = text_is (after_byte state b) text k less in
     (rw more closes, omega (arith, more, within))
 
-text_len-append : (place : Option Inside) (bytes rest : List ℕ) → closes_at_end place bytes ≡ true → text_len place (bytes ++ rest) ≡ Some (length bytes)
+text_len-append : (state : Option Inside) (bytes rest : List ℕ) → closes_at_end state bytes ≡ true → text_len state (bytes ++ rest) ≡ Some (length bytes)
 text_len-append None bytes rest closes = ap Some (sym (eqb-true (length bytes) 0 closes))
-text_len-append (Some place) [] rest closes = cc
-text_len-append (Some place) (b ∷ bytes) rest closes = ap one_more (text_len-append (after_byte place b) bytes rest closes) ∙ ap Some (one-add (length bytes))
+text_len-append (Some state) [] rest closes = cc
+text_len-append (Some state) (b ∷ bytes) rest closes = ap one_more (text_len-append (after_byte state b) bytes rest closes) ∙ ap Some (one-add (length bytes))
 
 -- ---- strings
 -- what is measured is a string
