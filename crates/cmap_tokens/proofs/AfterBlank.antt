@@ -1,15 +1,15 @@
 -- A token that stands after one white byte.
-use Rattle.std.proofs.Common.{◌≡◌, ℕ, ◌+◌, ◌<◌, ◌≤◌, ◌&&◌, ◌==◌, Bool, false, true, List, [], ◌∷◌, ◌++◌, length, get_or, take, drop, Some, inl, inr, refl, sym, ap, ◌∙◌, subst, arith, length-take-le}
+use Rattle.std.proofs.Common.{◌≡◌, ℕ, ◌+◌, ◌<◌, ◌≤◌, ◌==◌, Bool, false, true, List, [], ◌∷◌, ◌++◌, length, get_or, take, drop, Some, inl, inr, refl, sym, ap, ◌∙◌, subst, arith, length-take-le}
 use Rattle.std.specs.Prelude.{IsTrue, pos}
 use Rattle.std.specs.Char.{is_digit}
 use Rattle.std.specs.List.{list_all}
 use Rattle.std.specs.Option.{option_map_or}
 use Rattle.std.proofs.Math.Seq.{drop-cons}
-use Rattle.std.proofs.lemmas.Bool.{and_parts, cases_Bool, eqb-true, or_right}
+use Rattle.std.proofs.lemmas.Bool.{or_right}
 use Rattle.std.proofs.lemmas.Bool.Decides.{nat_tests}
 use Rattle.std.proofs.lemmas.List.{drop_at, take-append-drop}
 use Rattle.cmap_tokens.specs.Bytes.{is_white, is_regular}
-use Rattle.cmap_tokens.specs.Numbers.{Integer, decimal_front, digits_len, digits_number}
+use Rattle.cmap_tokens.specs.Numbers.{Integer, decimal_front, digits_len, digits_value, digits_number}
 use Rattle.cmap_tokens.specs.Scanner.{FirstToken, OnlyFront, spaced_decimal, spaced_two_bytes}
 use Rattle.cmap_tokens.specs.Strings.{WritesTwoBytes, hex_value}
 use Rattle.cmap_tokens.specs.Tokens.{Token, Name, Numeral, String, Front, IsHexString, IsToken, begins_name, begins_regular, is_hex_body}
@@ -37,15 +37,13 @@ two_bytes_written a b c d n all is =
 pub two_bytes_first : (text : List ℕ) (n : ℕ) → spaced_two_bytes text ≡ Some n → (piece : List ℕ) × FirstToken text (String piece) 7 × WritesTwoBytes piece n
 two_bytes_first (blank ∷ l ∷ a ∷ b ∷ c ∷ d ∷ g ∷ rest) n e =
     let digits : List ℕ = a ∷ b ∷ c ∷ d ∷ [] in
-    elim (cases_Bool (g == 62 && l == 60 && is_white blank)) [
-      | inl begins ↦
-          let (brackets, white) = and_parts (g == 62 && l == 60) (is_white blank) begins in
-          let (greater, less) = and_parts (g == 62) (l == 60) brackets in
-          let (some, all, number, small) = value_is 16 4 n digits (omega arith) (omega arith) (rw begins at e) in
-          let (writes, hex) = two_bytes_written a b c d n all number in
-          (_, first_after_blank _ blank 7 _ rest _ (rw (eqb-true g 62 greater, eqb-true l 60 less) refl) white (inr (inr (inr (inl hex, refl)))) (λ h. cc) refl, writes)
-      | inr other ↦ let at = rw other at e in cc
-    ]
+    let greater : g ≡ 62 = grind (arith, nat_tests, e) in
+    let less : l ≡ 60 = grind (arith, nat_tests, e) in
+    let white : is_white blank ≡ true = grind (arith, nat_tests, e) in
+    let read : digits_value 16 digits ≡ Some n = grind (arith, nat_tests, e) in
+    let (some, all, number, small) = value_is 16 4 n digits (omega arith) (omega arith) read in
+    let (writes, hex) = two_bytes_written a b c d n all number in
+    (_, first_after_blank _ blank 7 _ rest _ (rw (greater, less) refl) white (inr (inr (inr (inl hex, refl)))) (λ h. cc) refl, writes)
 two_bytes_first [] n e = cc
 two_bytes_first (a ∷ []) n e = cc
 two_bytes_first (a ∷ b ∷ []) n e = cc
@@ -77,16 +75,14 @@ pub decimal_first : (text : List ℕ) (number len : ℕ) → spaced_decimal text
 decimal_first [] number len e = cc
 decimal_first (blank ∷ text) number len e =
     let p : ℕ → Bool = λ c. is_digit c 10 in
-    elim (cases_Bool (is_white blank)) [
-      | inl white ↦
-          let is = decimal_is text (number, len) (rw white at e) in
-          let piece = take len text in
-          let long : length piece ≡ len = length-take-le len text (omega (arith, is.within)) in
-          let digits : list_all p piece ≡ true = all_front p len text (omega (arith, is.len_is)) in
-          let small = digits_small 10 18 piece (omega arith) digits (omega (arith, long, is.few)) in
-          let spelled = digits_numeral piece (omega (arith, long, is.filled)) digits (omega (arith, small)) in
-          first_after_blank (blank ∷ text) blank (1 + len) piece (drop len text) (Numeral (Integer (pos number))) (ap (λ t. blank ∷ t) (sym (take-append-drop len text))) white
-          (inl ((omega (arith, long, is.filled), all_weaker p is_regular piece digit_regular digits), sym (ap (λ n. option_map_or Numeral n (Name false piece)) (spelled ∙ ap (λ n. Some (Integer (pos n))) is.number_is))))
-          (λ _. ap begins_regular (drop-cons text len 0 is.within) ∙ is.special) (omega (arith, long))
-      | inr other ↦ let at = rw other at e in cc
-    ]
+    let white : is_white blank ≡ true = grind (arith, nat_tests, e) in
+    let front : decimal_front text ≡ Some (number, len) = rw white at e in
+    let is = decimal_is text (number, len) front in
+    let piece = take len text in
+    let long : length piece ≡ len = length-take-le len text (omega (arith, is.within)) in
+    let digits : list_all p piece ≡ true = all_front p len text (omega (arith, is.len_is)) in
+    let small = digits_small 10 18 piece (omega arith) digits (omega (arith, long, is.few)) in
+    let spelled = digits_numeral piece (omega (arith, long, is.filled)) digits (omega (arith, small)) in
+    first_after_blank (blank ∷ text) blank (1 + len) piece (drop len text) (Numeral (Integer (pos number))) (ap (λ t. blank ∷ t) (sym (take-append-drop len text))) white
+    (inl ((omega (arith, long, is.filled), all_weaker p is_regular piece digit_regular digits), sym (ap (λ n. option_map_or Numeral n (Name false piece)) (spelled ∙ ap (λ n. Some (Integer (pos n))) is.number_is))))
+    (λ _. ap begins_regular (drop-cons text len 0 is.within) ∙ is.special) (omega (arith, long))

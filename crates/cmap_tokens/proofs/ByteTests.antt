@@ -1,18 +1,14 @@
 -- What a test of bytes tells of a byte, and of the bytes that a text begins with.
 use Rattle.std.proofs.Common.{◌≡◌, ℕ, ◌+◌, ◌≤◌, Bool, true, false, ◌==◌, List, [], ◌∷◌, ◌++◌, length, take, drop, zero, suc, one-add, refl, sym, ap, subst, inl, inr, arith}
 use Rattle.std.specs.List.{list_any, list_all, prefix_len}
-use Rattle.std.proofs.lemmas.Bool.{both_ways, cases_Bool, eqb-true, false≢true}
+use Rattle.std.proofs.lemmas.Bool.{cases_Bool, eqb-true, false≢true}
 use Rattle.std.proofs.lemmas.Bool.Decides.{nat_tests}
 use Rattle.cmap_tokens.specs.Bytes.{begins}
 use Rattle.cmap_tokens.specs.Strings.{begins_with}
 
 -- a byte that passes is none that fails
 pub other_byte : (p : ℕ → Bool) (k c : ℕ) → p k ≡ false → p c ≡ true → (c == k) ≡ false
-other_byte p k c fails passes =
-    elim (cases_Bool (c == k)) [
-      | inl same ↦ absurd (both_ways (p k) fails (subst (λ b. p b ≡ true) (eqb-true c k same) passes))
-      | inr other ↦ other
-    ]
+other_byte p k c fails passes = grind (arith, nat_tests, fails, passes)
 
 -- by whether a byte is this one
 pub by_byte : (b k : ℕ) (P : ℕ → Type 0) → P k → ((b == k) ≡ false → P b) → P b
@@ -53,11 +49,7 @@ none_of p c [] fail passes = refl
 none_of p c (k ∷ bytes) fail passes = grind (arith, nat_tests, fail, other_byte p k c, none_of p c bytes)
 
 pub one_of : (p : ℕ → Bool) (c : ℕ) (bytes : List ℕ) → list_any p bytes ≡ false → list_any (λ k. c == k) bytes ≡ true → p c ≡ false
-one_of p c bytes fail is =
-    elim (cases_Bool (p c)) [
-      | inl passes ↦ absurd (both_ways _ (none_of p c bytes fail passes) is)
-      | inr fails ↦ fails
-    ]
+one_of p c bytes fail is = grind (arith, nat_tests, is, none_of p c bytes fail)
 
 pub all_weaker : (p q : ℕ → Bool) (text : List ℕ) → ((c : ℕ) → p c ≡ true → q c ≡ true) → list_all p text ≡ true → list_all q text ≡ true
 all_weaker p q [] weaker all = refl

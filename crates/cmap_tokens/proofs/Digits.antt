@@ -2,21 +2,20 @@
 use Rattle.std.proofs.Common.{◌≡◌, ℕ, ◌+◌, ◌*◌, ◌-◌, ◌^◌, ◌<◌, ◌≤◌, min, List, length, get_or, take, true, ap, sym, ◌∙◌, ⊎_elim, arith, [], ◌∷◌, map, refl, ◌%◌, ◌/◌, subst, pos, false, ◌==◌, Some}
 use Rattle.std.specs.Char.{digit_value, is_digit}
 use Rattle.std.specs.List.{list_all}
-use Rattle.std.proofs.lemmas.Bool.{and_from, lt-ltb, cases_lt, and_parts, ltb-true, le-leb, not_from_false}
+use Rattle.std.proofs.lemmas.Bool.{and_from, lt-ltb, cases_lt, and_parts, ltb-true, le-leb}
 use Rattle.std.proofs.lemmas.Bool.Decides.{nat_tests}
 use Rattle.std.proofs.lemmas.Int.Digits.{digits_value_is, digits_value_more, number_lt}
 use Rattle.std.proofs.Math.Nat.{mul-le-mul_left, pow-le-pow_right}
 use Rattle.cmap_tokens.specs.Numbers.{digits_number, are_digits, digits_value, Integer, integer, numeral}
-use Rattle.std.specs.Prelude.{Option, option_map, unwrap_or, codes, nat_le}
+use Rattle.std.specs.Prelude.{Option, option_map, unwrap_or, nat_le}
 use Rattle.std.specs.Int.Digits.{AllBelowBase, number_from_digits_after}
 use Rattle.std.proofs.lemmas.List.{length-map, length-take}
 use Rattle.cmap_tokens.specs.TokenReading.{octal_len}
-use Rattle.cmap_tokens.proofs.ByteTests.{all_front, other_byte, none_of}
+use Rattle.cmap_tokens.proofs.ByteTests.{all_front, other_byte}
 use Rattle.std.specs.Int.Digits.{number_from_digits}
 use Rattle.std.specs.List.{AllByRecursion}
 use Rattle.cmap_tokens.specs.Strings.{ArePairs, hex_value}
-use Rattle.cmap_tokens.specs.Ascii.{nul, tab, line_feed, form_feed, carriage_return, space}
-use Rattle.cmap_tokens.specs.Bytes.{is_white, is_delimiter, is_regular}
+use Rattle.cmap_tokens.specs.Bytes.{is_regular}
 
 -- ---- a number kept within 64 bits
 -- a number within the limit m goes on by a digit
@@ -109,9 +108,7 @@ pairs_read digits n is few even =
 
 -- ---- a run of decimal digits is the number that they write
 pub digit_regular : (b : ℕ) → is_digit b 10 ≡ true → is_regular b ≡ true
-digit_regular b digit =
-    let test = λ (c : ℕ). is_digit c 10 in
-    and_from _ _ (not_from_false (is_white b) (none_of test b (nul ∷ tab ∷ line_feed ∷ form_feed ∷ carriage_return ∷ space ∷ []) refl digit)) (not_from_false (is_delimiter b) (none_of test b (codes "()<>[]{}/%") refl digit))
+digit_regular b digit = grind (arith, nat_tests, digit)
 
 pub digits_numeral : (digits : List ℕ) → 0 < length digits → list_all (λ c. is_digit c 10) digits ≡ true → digits_number 10 digits < 2 ^ 63 → numeral digits ≡ Some (Integer (pos (digits_number 10 digits)))
 unfolding numeral integer

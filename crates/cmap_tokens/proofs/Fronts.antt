@@ -120,10 +120,10 @@ malformed_is text n gap more e =
 pub read_token : (here old : Place) (text : List ℕ) (len : ℕ) (token : Token) → here ≡ old → text ≡ rest_of here → FirstToken text token len → ReadsToken old token (past len here)
 read_token here old text len token same is first =
     let (gap, piece, only, long) = subst (λ text. FirstToken text token len) is first in
-    subst (λ place. ReadsToken place token (past len here)) same (gap, piece, subst (OnlyFront (rest_of here) gap piece token) (drop-drop len here.passed here.source) only, ap (λ n. past n here) long)
+    subst (λ cursor. ReadsToken cursor token (past len here)) same (gap, piece, subst (OnlyFront (rest_of here) gap piece token) (drop-drop len here.passed here.source) only, ap (λ n. past n here) long)
 
 -- ---- the tokens that are left of a text are those of the relations on texts
--- what is left of a text, from a place on
+-- what is left of a text, from an offset on
 abbrev pub left_from : ℕ → List ℕ → Left
 left_from passed text = tokens_within (length text) passed text
 
@@ -200,18 +200,18 @@ unfolding tokens_of
 has_tokens text tokens = (are_left tokens 0 text, λ both. subst (Tokens text) both.0 (left_are (suc (length text)) 0 text (omega arith) both.1))
 
 -- ---- what the reading of a token says
-pub leaves_blank : (place : Place) → IsBlank (rest_of place) → LeavesNone true place
+pub leaves_blank : (cursor : Place) → IsBlank (rest_of cursor) → LeavesNone true cursor
 unfolding tokens_of
-leaves_blank place blank = left_blank place.passed (rest_of place) blank
+leaves_blank cursor blank = left_blank cursor.passed (rest_of cursor) blank
 
-pub leaves_malformed : (place : Place) → IsMalformed (rest_of place) → LeavesNone false place
+pub leaves_malformed : (cursor : Place) → IsMalformed (rest_of cursor) → LeavesNone false cursor
 unfolding tokens_of
-leaves_malformed place malformed =
-    elim (next (rest_of place)) [
+leaves_malformed cursor malformed =
+    elim (next (rest_of cursor)) [
       | none e ↦
-          elim (cases_lt (gap_len false (rest_of place)) (length (rest_of place))) [
-            | inl less ↦ rw (left_none place.passed (rest_of place) e) (refl, lt-leb _ _ less)
-            | inr all ↦ absurd (malformed.0 ((measured false (rest_of place)).blank all))
+          elim (cases_lt (gap_len false (rest_of cursor)) (length (rest_of cursor))) [
+            | inl less ↦ rw (left_none cursor.passed (rest_of cursor) e) (refl, lt-leb _ _ less)
+            | inr all ↦ absurd (malformed.0 ((measured false (rest_of cursor)).blank all))
           ]
       | one front ↦ absurd (malformed.1 _ _ _ _ front)
     ]
@@ -228,15 +228,15 @@ not_blank old new token (gap, piece, only, is) = front_not_blank only.front
 pub not_malformed : (old new : Place) (token : Token) → ReadsToken old token new → IsMalformed (rest_of old) → ⊥
 not_malformed old new token (gap, piece, only, is) malformed = malformed.1 gap piece (rest_of new) token only.front
 
-pub passed_of : (place : Place) → (tokens_of place).passed ≡ place.passed
+pub passed_of : (cursor : Place) → (tokens_of cursor).passed ≡ cursor.passed
 unfolding tokens_of
-passed_of place = passed_is place.passed (rest_of place)
+passed_of cursor = passed_is cursor.passed (rest_of cursor)
 
 -- n bytes of gap are passed, and then m that show that no token comes
-pub stop_is : (place : Place) (text : List ℕ) (n m : ℕ) → text ≡ rest_of place → n ≡ gap_len false text → m ≡ malformed_len (rest_from text n) → (tokens_of place).tokens ≡ [] → place.passed + n + m ≡ (tokens_of place).stop
+pub stop_is : (cursor : Place) (text : List ℕ) (n m : ℕ) → text ≡ rest_of cursor → n ≡ gap_len false text → m ≡ malformed_len (rest_from text n) → (tokens_of cursor).tokens ≡ [] → cursor.passed + n + m ≡ (tokens_of cursor).stop
 unfolding tokens_of
-stop_is place text n m is gap len empty =
-    elim (next (rest_of place)) [
-      | none e ↦ sym (ap (λ l. l.stop) (left_none place.passed (rest_of place) e) ∙ omega (arith, gap, len, ap (gap_len false) is, ap malformed_len (rest_is text n gap), ap (λ t. malformed_len (after_gap t)) is))
-      | one {token = token} front ↦ let clash : token ∷ _ ≡ [] = sym (ap (λ l. map (λ p. p.token) l.tokens) (left_front front place.passed)) ∙ ap (map (λ p. p.token)) empty in cc
+stop_is cursor text n m is gap len empty =
+    elim (next (rest_of cursor)) [
+      | none e ↦ sym (ap (λ l. l.stop) (left_none cursor.passed (rest_of cursor) e) ∙ omega (arith, gap, len, ap (gap_len false) is, ap malformed_len (rest_is text n gap), ap (λ t. malformed_len (after_gap t)) is))
+      | one {token = token} front ↦ let clash : token ∷ _ ≡ [] = sym (ap (λ l. map (λ p. p.token) l.tokens) (left_front front cursor.passed)) ∙ ap (map (λ p. p.token)) empty in cc
     ]

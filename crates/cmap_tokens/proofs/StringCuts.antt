@@ -4,6 +4,7 @@ use Rattle.std.specs.Option.{option_to_list}
 use Rattle.std.specs.List.{list_all, prefix_len}
 use Rattle.std.specs.Char.{is_digit}
 use Rattle.std.proofs.lemmas.Bool.{and_parts, and_from, or_from, or_parts, cases_Bool, cases_lt, false≢true, lt-ltb}
+use Rattle.std.proofs.lemmas.Bool.Decides.{nat_tests}
 use Rattle.std.proofs.lemmas.List.{take_at, drop_at, take-append-drop, length-take}
 use Rattle.std.proofs.lemmas.List.Sums.{prefix_len-le-length}
 use Rattle.cmap_tokens.specs.Numbers.{are_digits, digits_number}
@@ -25,9 +26,7 @@ by_line_end P both feed return text next (inr (inr (is, other))) = subst (λ t. 
 
 digits_paired : (digits next : List ℕ) → list_all (λ c. is_digit c 8) digits ≡ true → is_paired false (digits ++ next) ≡ is_paired false next
 digits_paired [] next all = refl
-digits_paired (c ∷ digits) next all =
-    let (first, more) = and_parts (is_digit c 8) _ all in
-    ap (λ t. is_paired t (digits ++ next)) (other_byte (λ k. is_digit k 8) 92 c refl first) ∙ digits_paired digits next more
+digits_paired (c ∷ digits) next all = grind (arith, nat_tests, all, other_byte (λ k. is_digit k 8) 92 c, digits_paired digits next)
 
 read_octal : (digits next : List ℕ) → are_digits 8 digits ≡ true → length digits ≤ 3 → (length digits ≡ 3) ⊎ (begins_octal next ≡ false) → Reads (92 ∷ digits) (digits_number 8 digits % 256 ∷ []) next
 unfolding first_part reading.escape

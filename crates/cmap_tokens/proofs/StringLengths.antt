@@ -4,7 +4,7 @@ use Rattle.std.specs.Prelude.{IsTrue, option_map}
 use Rattle.std.specs.List.{list_all, prefix_len}
 use Rattle.std.specs.Option.{option_map_or}
 use Rattle.std.proofs.Math.Seq.{get_or-append_seam}
-use Rattle.std.proofs.lemmas.Bool.{cases_Bool, cases_lt, eq-eqb, eqb-true}
+use Rattle.std.proofs.lemmas.Bool.{cases_Bool, eq-eqb, eqb-true}
 use Rattle.std.proofs.lemmas.List.{at_drop_more, get_or_past, nil_from_length, take_all, take_more}
 use Rattle.cmap_tokens.specs.Tokens.{Inside, after_byte, closes_at_end, opened, is_hex_body, IsHexString, IsString}
 use Rattle.cmap_tokens.specs.TokenReading.{one_more, hex_len, text_len, string_len, is_string, is_paired}
@@ -23,7 +23,7 @@ hex_is text n e =
           let last : get_or text len 0 ≡ 62 = eqb-true _ 62 ends in
           let at : 1 + len ≡ n = let some = rw ends at e in cc in
           let long : n ≡ len + 1 = omega (arith, at) in
-          let within : len < length text = elim (cases_lt len (length text)) [ inl less ↦ less | inr past ↦ absurd (omega (arith, last, get_or_past text len 0 past)) ] in
+          let within : len < length text = grind (arith, last, get_or_past text len 0) in
           ((take len text, rw (long, take_more text len 0 within, last) refl, all_prefix is_hex_body text), omega (arith, long, within))
       | inr other ↦ let at = rw other at e in cc
     ]
@@ -34,18 +34,18 @@ hex_len-append body rest is_body =
     rw (len, get_or-append_seam body 62 rest 0) refl
 
 -- ---- ( .. )
-text_is : (place : Option Inside) (text : List ℕ) (n : ℕ) → text_len place text ≡ Some n → (closes_at_end place (take n text) ≡ true) × (n ≤ length text)
+text_is : (state : Option Inside) (text : List ℕ) (n : ℕ) → text_len state text ≡ Some n → (closes_at_end state (take n text) ≡ true) × (n ≤ length text)
 text_is None text n e = let none : n ≡ 0 = cc in (rw none refl, omega (arith, none))
-text_is (Some place) [] n e = cc
-text_is (Some place) (b ∷ text) n e =
-    let (k, less, more) = one_more_some (text_len (after_byte place b) text) n e in
-    let (closes, within) = text_is (after_byte place b) text k less in
+text_is (Some state) [] n e = cc
+text_is (Some state) (b ∷ text) n e =
+    let (k, less, more) = one_more_some (text_len (after_byte state b) text) n e in
+    let (closes, within) = text_is (after_byte state b) text k less in
     (rw more closes, omega (arith, more, within))
 
-text_len-append : (place : Option Inside) (bytes rest : List ℕ) → closes_at_end place bytes ≡ true → text_len place (bytes ++ rest) ≡ Some (length bytes)
+text_len-append : (state : Option Inside) (bytes rest : List ℕ) → closes_at_end state bytes ≡ true → text_len state (bytes ++ rest) ≡ Some (length bytes)
 text_len-append None bytes rest closes = ap Some (sym (eqb-true (length bytes) 0 closes))
-text_len-append (Some place) [] rest closes = cc
-text_len-append (Some place) (b ∷ bytes) rest closes = ap one_more (text_len-append (after_byte place b) bytes rest closes) ∙ ap Some (one-add (length bytes))
+text_len-append (Some state) [] rest closes = cc
+text_len-append (Some state) (b ∷ bytes) rest closes = ap one_more (text_len-append (after_byte state b) bytes rest closes) ∙ ap Some (one-add (length bytes))
 
 -- ---- strings
 -- what is measured is a string
@@ -92,15 +92,21 @@ pub count_step : (f : List ℕ → Option ℕ) (text : List ℕ) (i : ℕ) (rest
 count_step f text i rest within is = sym (ap (option_map (λ n. i + n)) (at_drop_more f text i 0 within ∙ is) ∙ one_more_from i rest)
 
 -- what closes ends with ), and each backslash before it has a byte after it
-pub ends_from : (escaped : Bool) (depth : ℕ) (bytes : List ℕ) → closes_at_end (Some (record { escaped = escaped; depth = depth })) bytes ≡ true → (body : List ℕ) × (bytes ≡ body ++ 41 ∷ []) × (is_paired escaped body ≡ true)
+abbrev pub EndsPaired : Bool → List ℕ → Type 0
+EndsPaired escaped bytes = (body : List ℕ) × (bytes ≡ body ++ 41 ∷ []) × (is_paired escaped body ≡ true)
+
+byte_before : (b : ℕ) (escaped next : Bool) (bytes : List ℕ) → ((body : List ℕ) → is_paired escaped (b ∷ body) ≡ is_paired next body) → EndsPaired next bytes → EndsPaired escaped (b ∷ bytes)
+byte_before b escaped next bytes same (body, whole, paired) = (b ∷ body, ap (λ t. b ∷ t) whole, same body ∙ paired)
+
+pub ends_from : (escaped : Bool) (depth : ℕ) (bytes : List ℕ) → closes_at_end (Some (record { escaped = escaped; depth = depth })) bytes ≡ true → EndsPaired escaped bytes
 ends_from escaped depth [] = λ closes. cc
-ends_from true depth (b ∷ bytes) = λ closes. let (body, whole, paired) = ends_from false depth bytes closes in (b ∷ body, ap (λ t. b ∷ t) whole, paired)
+ends_from true depth (b ∷ bytes) = λ closes. byte_before b true false bytes (λ _. refl) (ends_from false depth bytes closes)
 ends_from false depth (b ∷ bytes) =
-    let P : ℕ → Type 0 = λ c. closes_at_end (Some (record { escaped = false; depth = depth })) (c ∷ bytes) ≡ true → (body : List ℕ) × (c ∷ bytes ≡ body ++ 41 ∷ []) × (is_paired false body ≡ true) in
-    by_byte b 92 P (λ closes. let (body, whole, paired) = ends_from true depth bytes closes in (92 ∷ body, ap (λ t. 92 ∷ t) whole, paired)) (λ plain.
+    let P : ℕ → Type 0 = λ c. closes_at_end (Some (record { escaped = false; depth = depth })) (c ∷ bytes) ≡ true → EndsPaired false (c ∷ bytes) in
+    by_byte b 92 P (λ closes. byte_before 92 false true bytes (λ _. refl) (ends_from true depth bytes closes)) (λ plain.
     by_byte b 41 P (elim (cases_Bool (depth == 1)) [
       | inl last ↦ λ closes. ([], ap (λ t. 41 ∷ t) (nil_from_length bytes (eqb-true (length bytes) 0 (rw (last, closes_at_end) at closes))), refl)
-      | inr deeper ↦ λ closes. let (body, whole, paired) = ends_from false (depth - 1) bytes (rw (deeper, closes_at_end) at closes) in (41 ∷ body, ap (λ t. 41 ∷ t) whole, paired)
+      | inr deeper ↦ λ closes. byte_before 41 false false bytes (λ _. refl) (ends_from false (depth - 1) bytes (rw (deeper, closes_at_end) at closes))
     ]) (λ not_close.
-    by_byte b 40 P (λ closes. let (body, whole, paired) = ends_from false (depth + 1) bytes closes in (40 ∷ body, ap (λ t. 40 ∷ t) whole, paired)) (λ not_open closes.
-    let (body, whole, paired) = ends_from false depth bytes (rw (plain, not_open, not_close, closes_at_end) at closes) in (b ∷ body, ap (λ t. b ∷ t) whole, rw plain paired))))
+    by_byte b 40 P (λ closes. byte_before 40 false false bytes (λ _. refl) (ends_from false (depth + 1) bytes closes)) (λ not_open closes.
+    byte_before b false false bytes (λ body. ap (λ t. is_paired t body) plain) (ends_from false depth bytes (rw (plain, not_open, not_close, closes_at_end) at closes)))))

@@ -3,7 +3,8 @@ use Rattle.std.proofs.Common.{◌≡◌, ℕ, ◌-◌, ◌<◌, ◌≤◌, ◌^�
 use Rattle.std.specs.Prelude.{◌↔◌, IfSome, IsTrue, MatchOption, is_some}
 use Rattle.std.specs.Int.Digits.{number_from_digits}
 use Rattle.std.specs.List.{AllByRecursion}
-use Rattle.std.proofs.lemmas.Bool.{cases_Bool, false≢true}
+use Rattle.std.proofs.lemmas.Bool.{false≢true}
+use Rattle.std.proofs.lemmas.Bool.Decides.{nat_tests}
 use Rattle.std.proofs.lemmas.List.{take_at}
 use Rattle.cmap_tokens.specs.Tokens.{IsHexString, IsTextString, IsString}
 use Rattle.cmap_tokens.specs.Strings.{IsValue, hex_value, inside, ArePairs, IsOnlyValue, IsPlain}
@@ -63,11 +64,7 @@ IsValue-read piece value is = let (string, same) = value_same piece value is in 
 
 pub IsValue-from : (piece value : List ℕ) → value_of piece ≡ Some value → IsValue piece value
 unfolding value_of
-IsValue-from piece value e =
-    elim (cases_Bool (is_string piece)) [
-      | inl string ↦ let is : Some (string_value piece) ≡ Some value = rw string at e in let same : string_value piece ≡ value = cc in rw (← same) (value_holds piece (IsString-from piece string))
-      | inr other ↦ let is : None ≡ Some value = rw other at e in cc
-    ]
+IsValue-from piece value e = (decoded piece value (grind (arith, nat_tests, e)) (grind (arith, nat_tests, e))).0
 
 -- ---- a hexadecimal string whose digits stand in pairs, and the number that they write
 -- what the digits between the brackets answer

@@ -7,7 +7,8 @@ use Rattle.std.specs.Result.{OnErr}
 use Rattle.std.specs.Char.{IsScalar, encode_utf8}
 use Rattle.std.specs.Char.Utf16.{utf16_chars, lone_unit_char, surrogate_pair_char, is_high_surrogate, is_low_surrogate}
 use Rattle.std.specs.Str.{chars, IsUtf8}
-use Rattle.std.proofs.lemmas.Bool.{and_parts, cases_Bool, cases_lt, false≢true, le-leb, lt-leb}
+use Rattle.std.proofs.lemmas.Bool.{and_parts, cases_Bool, cases_lt, le-leb, lt-leb}
+use Rattle.std.proofs.lemmas.Bool.Decides.{nat_tests}
 use Rattle.std.proofs.lemmas.List.{drop_all, drop_more, get_or_past}
 use Rattle.std.proofs.lemmas.Str.{utf16_chars-nil, chars-append, chars-encodes}
 use Rattle.cmap_tokens.specs.Texts.{all_some, characters, only_character}
@@ -21,11 +22,7 @@ characters-end us i past = ap characters (drop_all i us past) ∙ ap all_some ut
 
 -- ---- the character at an index
 low_within : (us : List ℕ) (i v : ℕ) → v ≡ get_or us i 0 → is_low_surrogate v ≡ true → i < length us
-low_within us i v v_is low =
-    elim (cases_lt i (length us)) [
-      | inl within ↦ within
-      | inr past ↦ let none : v ≡ 0 = v_is ∙ get_or_past us i 0 past in absurd (false≢true (rw none at low))
-    ]
+low_within us i v v_is low = grind (arith, nat_tests, v_is, low, get_or_past us i 0)
 
 pub pair_at : (us : List ℕ) (i u v c : ℕ) → i < length us → u ≡ get_or us i 0 → v ≡ get_or us (i + 1) 0 → Some c ≡ (if is_high_surrogate u && is_low_surrogate v then Some (surrogate_pair_char u v) else None)
     → characters_from us i ≡ option_map (λ cs. c ∷ cs) (characters_from us (i + 2))

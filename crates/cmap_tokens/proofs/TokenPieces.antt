@@ -153,17 +153,14 @@ read_string piece rest is =
       filled = (string_begins piece is).1;
     }
 
-read_as : (piece shape rest : List ℕ) (token other : Token) → piece ≡ shape → token ≡ other → IsRead shape other rest → IsRead piece token rest
-read_as piece shape rest token other same is read = subst (λ p. IsRead p token rest) (sym same) (subst (λ t. IsRead shape t rest) (sym is) read)
-
 pub is_read : (piece : List ℕ) (token : Token) (rest : List ℕ) → IsToken piece token → (IsTrue (begins_name piece) → begins_regular rest ≡ false) → IsRead piece token rest
 unfolding first_piece
 is_read piece token rest is longest =
     elim is [
-      | inl (is_run, same) ↦ read_as _ _ rest _ _ refl same (read_run piece rest is_run.0 is_run.1 longest)
-      | inr (inl (name, shape, all, same)) ↦ read_as _ _ rest _ _ shape same (read_name name rest all (longest (rw shape refl)))
-      | inr (inr (inl (inl (b, shape, is_one), same))) ↦ read_as _ _ rest _ _ shape (same ∙ ap (Name false) shape) (read_bracket b rest is_one)
-      | inr (inr (inl (inr (inl shape), same))) ↦ read_as _ _ rest _ _ shape (same ∙ ap (Name false) shape) (record { first = refl; no_gap = refl; filled = omega arith })
-      | inr (inr (inl (inr (inr shape), same))) ↦ read_as _ _ rest _ _ shape (same ∙ ap (Name false) shape) (record { first = refl; no_gap = refl; filled = omega arith })
+      | inl (is_run, same) ↦ rw same (read_run piece rest is_run.0 is_run.1 longest)
+      | inr (inl (name, shape, all, same)) ↦ rw (same, shape) (read_name name rest all (longest (rw shape refl)))
+      | inr (inr (inl (inl (b, shape, is_one), same))) ↦ rw (same, shape) (read_bracket b rest is_one)
+      | inr (inr (inl (inr (inl shape), same))) ↦ rw (same, shape) (record { first = refl; no_gap = refl; filled = omega arith })
+      | inr (inr (inl (inr (inr shape), same))) ↦ rw (same, shape) (record { first = refl; no_gap = refl; filled = omega arith })
       | inr (inr (inr (string, same))) ↦ rw same (read_string piece rest string)
     ]

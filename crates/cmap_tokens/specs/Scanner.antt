@@ -12,7 +12,7 @@ pub record Place : Type 0 where
 
 -- what is left of the source
 abbrev pub rest_of : Place → List ℕ
-rest_of place = drop place.passed place.source
+rest_of cursor = drop cursor.passed cursor.source
 
 -- the text has this front and no other
 pub record OnlyFront (text gap piece : List ℕ) (token : Token) (rest : List ℕ) : Type 0 where
@@ -23,14 +23,14 @@ pub record OnlyFront (text gap piece : List ℕ) (token : Token) (rest : List �
 abbrev pub FirstToken : List ℕ → Token → ℕ → Type 0
 FirstToken text token len = (gap piece : List ℕ) × OnlyFront text gap piece token (drop len text) × (len ≡ length gap + length piece)
 
--- the token is that of the one front of what is left, and the new place is after its piece
+-- the token is that of the one front of what is left, and the new cursor stands after its piece
 abbrev pub ReadsToken : Place → Token → Place → Type 0
 ReadsToken old token new =
     (gap piece : List ℕ) × OnlyFront (rest_of old) gap piece token (rest_of new) × (new ≡ record { source = old.source; passed = old.passed + (length gap + length piece) })
 
--- the place so many bytes further on
+-- the cursor moved on by so many bytes
 abbrev pub past : ℕ → Place → Place
-past len place = record { source = place.source; passed = place.passed + len }
+past len cursor = record { source = cursor.source; passed = cursor.passed + len }
 
 -- a text that begins with one white byte, < four hexadecimal digits >: the number that the digits write
 abbrev pub spaced_two_bytes : List ℕ → Option ℕ

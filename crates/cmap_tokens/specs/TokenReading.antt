@@ -20,15 +20,15 @@ gap_len in_comment [] = 0
 gap_len true (b ∷ text) = 1 + gap_len (not (ends_comment b)) text
 gap_len false (b ∷ text) = if b == percent then 1 + gap_len true text else if is_white b then 1 + gap_len false text else 0
 
--- how many bytes up to > and with it, where only digits and white bytes stand before it
+-- how many bytes up to and including >, where only digits and white bytes stand before it
 abbrev pub hex_len : List ℕ → Option ℕ
 hex_len text = if get_or text (prefix_len is_hex_body text) 0 == greater then Some (1 + prefix_len is_hex_body text) else None
 
--- how many bytes up to the ) that closes the first parenthesis and with it
+-- how many bytes up to and including the ) that closes the first parenthesis
 abbrev pub text_len : Option Inside → List ℕ → Option ℕ
 text_len None text = Some 0
-text_len (Some place) [] = None
-text_len (Some place) (b ∷ text) = one_more (text_len (after_byte place b) text)
+text_len (Some state) [] = None
+text_len (Some state) (b ∷ text) = one_more (text_len (after_byte state b) text)
 
 -- how many bytes the string takes that a text begins with
 abbrev pub string_len : List ℕ → Option ℕ

@@ -38,25 +38,25 @@ is_hex_body b = is_white b || is_digit b 16
 abbrev pub IsHexString : List ℕ → Type 0
 IsHexString piece = (body : List ℕ) × (piece ≡ less ∷ body ++ greater ∷ []) × IsTrue (list_all is_hex_body body)
 
--- a place in ( .. ): whether it stands after a backslash, so that the next byte doesn't count, and how many parentheses are open
+-- the state within ( .. ): whether the last byte is a backslash that escapes the next one, and how many parentheses are open
 pub record Inside : Type 0 where
   pub escaped : Bool
   pub depth : ℕ
 
--- the place after one more byte; none after the ) that closes the first parenthesis
+-- the state after one more byte; None after the ) that closes the first parenthesis
 abbrev pub after_byte : Inside → ℕ → Option Inside
-after_byte place b =
-    if place.escaped then Some (record { escaped = false; depth = place.depth })
-    else if b == backslash then Some (record { escaped = true; depth = place.depth })
-    else if b == open_parenthesis then Some (record { escaped = false; depth = place.depth + 1 })
-    else if b == close_parenthesis then (if place.depth == 1 then None else Some (record { escaped = false; depth = place.depth - 1 }))
-    else Some (record { escaped = false; depth = place.depth })
+after_byte state b =
+    if state.escaped then Some (record { escaped = false; depth = state.depth })
+    else if b == backslash then Some (record { escaped = true; depth = state.depth })
+    else if b == open_parenthesis then Some (record { escaped = false; depth = state.depth + 1 })
+    else if b == close_parenthesis then (if state.depth == 1 then None else Some (record { escaped = false; depth = state.depth - 1 }))
+    else Some (record { escaped = false; depth = state.depth })
 
--- from this place the first parenthesis is closed by the last byte, and not before
+-- from this state the first parenthesis is closed by the last byte, and not before
 abbrev pub closes_at_end : Option Inside → List ℕ → Bool
 closes_at_end None bytes = length bytes == 0
-closes_at_end (Some place) [] = false
-closes_at_end (Some place) (b ∷ bytes) = closes_at_end (after_byte place b) bytes
+closes_at_end (Some state) [] = false
+closes_at_end (Some state) (b ∷ bytes) = closes_at_end (after_byte state b) bytes
 
 -- after the (
 abbrev pub opened : Option Inside

@@ -156,7 +156,7 @@ pub struct Malformed;
 #[derive(Debug, Drop)]
 pub struct Scanner<'a> {
     source: &'a [u8],
-    place: usize,
+    offset: usize,
 }
 
 impl<'a> Model for Scanner<'a> {
@@ -165,9 +165,9 @@ impl<'a> Model for Scanner<'a> {
 
     ghost Value = { Place };
 
-    ghost view = { λ scanner. record { source = scanner.source.now; passed = scanner.place } };
+    ghost view = { λ scanner. record { source = scanner.source.now; passed = scanner.offset } };
 
-    ghost invariant = { λ scanner. scanner.place ≤ length scanner.source.now };
+    ghost invariant = { λ scanner. scanner.offset ≤ length scanner.source.now };
 }
 
 impl<'a> Scanner<'a> {
@@ -192,7 +192,7 @@ impl<'a> Scanner<'a> {
         ensures order { IsInOrder (tokens_of (start_of source.now)) }
         ensures fronts { IsDecidedByFronts source.now }
     {
-        Scanner { source, place: 0 }
+        Scanner { source, offset: 0 }
     }
 
     /// How many bytes of the text have been passed.
@@ -200,19 +200,19 @@ impl<'a> Scanner<'a> {
         ensures passed { result ≡ self.now.passed }
         ensures left { result ≡ (tokens_of self.now).passed }
     {
-        self.place
+        self.offset
     }
 
-    /// The place of the byte that shows that no token comes next, where none does: after the bytes up
-    /// to that one and that one itself none comes, whatever follows. It is the length of the text where
-    /// only its end shows it, as of a string in parentheses that isn't closed.
+    /// The offset of the byte that shows that no token comes next, where none does: after the bytes up
+    /// to and including that one none comes, whatever follows. It is the length of the text where only
+    /// its end shows it, as of a string in parentheses that isn't closed.
     pub fn stop(&self) -> usize
-        ensures place { (tokens_of self.now).tokens ≡ [] → result ≡ (tokens_of self.now).stop }
+        ensures offset { (tokens_of self.now).tokens ≡ [] → result ≡ (tokens_of self.now).stop }
         ensures within { result ≤ length self.now.source }
     {
-        let rest = &self.source[self.place..];
+        let rest = &self.source[self.offset..];
         let gap = gap_len(rest);
-        self.place + gap + malformed_len(&rest[gap..])
+        self.offset + gap + malformed_len(&rest[gap..])
     }
 
     /// The number that the two bytes of the next string write, the high one first, where one white
@@ -226,8 +226,8 @@ impl<'a> Scanner<'a> {
         ensures moves { IfSome result (λ _. self.new ≡ past 7 self.old) }
         ensures stays { result ≡ None → self.new ≡ self.old }
     {
-        let number = two_bytes(&self.source[self.place..])?;
-        self.place += TWO_BYTES_LEN;
+        let number = two_bytes(&self.source[self.offset..])?;
+        self.offset += TWO_BYTES_LEN;
         Some(number)
     }
 
@@ -241,8 +241,8 @@ impl<'a> Scanner<'a> {
             × (spaced_decimal (rest_of self.old) ≡ Some (number, len)) × (self.new ≡ past (1 + len) self.old)) }
         ensures stays { result ≡ None → self.new ≡ self.old }
     {
-        let (number, len) = blank_decimal(&self.source[self.place..])?;
-        self.place += 1 + len;
+        let (number, len) = blank_decimal(&self.source[self.offset..])?;
+        self.offset += 1 + len;
         Some(number)
     }
 
@@ -265,11 +265,11 @@ impl<'a> Scanner<'a> {
         ensures left { MatchResult result (λ found. MatchOption found (LeavesNone true self.old)
             (λ token. LeavesAfter (token_seen token) self.old self.new)) (λ _. LeavesNone false self.old) }
     {
-        let rest = &self.source[self.place..];
+        let rest = &self.source[self.offset..];
         let Some((token, len)) = first_token(rest)? else {
             return Ok(None);
         };
-        self.place += len;
+        self.offset += len;
         Ok(Some(token))
     }
 }

@@ -124,7 +124,7 @@ fn char_at(front: &[u16], last: u16, index: usize) -> Option<(char, usize)>
     Some((char::from_u32(u32::from(first))?, index + 1))
 }
 
-// The unit at an index, and 0 where there is none.
+// The unit at an index, and 0 past the end.
 fn unit_at(front: &[u16], last: u16, index: usize) -> u16
     ensures { result ≡ get_or (front.now ++ last ∷ []) index 0 }
 {

@@ -10,7 +10,7 @@ use Rattle.cmap_tokens.proofs.token.Scanner.next_token.Goals as goal
 
 pub returns-in_err-token : goal.returns-in_err-token
 returns-in_err-token c =
-    let malformed = subst IsMalformed (take_rest _ c.self.inside.place ∙ ap rest_of c.self.view_is) c.in_err-token.ensures.outcome in
+    let malformed = subst IsMalformed (take_rest _ c.self.inside.offset ∙ ap rest_of c.self.view_is) c.in_err-token.ensures.outcome in
     let left = leaves_malformed _ malformed in
     record {
       token = search rules;
@@ -23,7 +23,7 @@ returns-in_err-token c =
 
 pub returns-in_default : goal.returns-in_default
 returns-in_default c =
-    let blank = subst IsBlank (take_rest _ c.self.inside.place ∙ ap rest_of c.self.view_is) (rw c.in_default.is at c.in_ok-token.ensures.outcome) in
+    let blank = subst IsBlank (take_rest _ c.self.inside.offset ∙ ap rest_of c.self.view_is) (rw c.in_default.is at c.in_ok-token.ensures.outcome) in
     record {
       token = search rules;
       end = (λ e. blank, λ h. refl);
@@ -35,7 +35,7 @@ returns-in_default c =
 
 pub returns : goal.returns
 returns c =
-    let read = read_token _ _ _ c.in-Some.len _ c.self.view_is (take_rest _ c.self.inside.place) (rw c.in-Some.is at c.in_ok-token.ensures.outcome) in
+    let read = read_token _ _ _ c.in-Some.len _ c.self.view_is (take_rest _ c.self.inside.offset) (rw c.in-Some.is at c.in_ok-token.ensures.outcome) in
     record {
       token = read;
       end = (λ e. cc, λ blank. absurd (not_blank _ _ _ read blank));

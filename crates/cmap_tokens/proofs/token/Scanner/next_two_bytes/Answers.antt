@@ -8,5 +8,5 @@ use Rattle.cmap_tokens.proofs.token.Scanner.next_two_bytes.Goals as goal
 pub returns-clause-token : goal.returns-clause-token
 returns-clause-token c =
     let (piece, first, writes) = two_bytes_first _ c.in_ok-number.number (sym c.in_ok-number.ensures.front) in
-    let read = read_token _ _ _ 7 (String piece) c.self.view_is (take_rest _ c.self.inside.place) first in
+    let read = read_token _ _ _ 7 (String piece) c.self.view_is (take_rest _ c.self.inside.offset) first in
     (piece, read, writes, left_after _ _ _ read)
