@@ -6,7 +6,7 @@ use Rattle.std.proofs.lemmas.List.{get_or-drop, length-drop}
 use Rattle.std.proofs.lemmas.Option.{get_or_from_slice_get, none-some, slice_get-get_or, slice_get_within}
 use Rattle.cmap_binary.specs.PrefixWords.{bits}
 use Rattle.cmap_binary.specs.Reader.{Reading, bits_left, after_bits}
-use Rattle.cmap_binary.proofs.NumbersOfBits.{AreBits-left}
+use Rattle.cmap_binary.proofs.BitsOfBytes.{AreBits-left}
 use Rattle.cmap_binary.proofs.WordsSearched.{NextBit}
 
 module _ (r old : Reading) (i : ℕ) (at : old ≡ after_bits r i) where

@@ -4,7 +4,6 @@ pub mod BitsTaken
 pub mod BytesTaken
 pub mod Fronts
 pub mod Lengths
-pub mod NumbersOfBits
 pub mod RankedWords
 pub mod Reading
 pub mod RowsAdded
@@ -12,4 +11,3 @@ pub mod SegmentsSaid
 pub mod TablesDecoded
 pub mod TablesTaken
 pub mod WordsSearched
-pub mod WordsZipped

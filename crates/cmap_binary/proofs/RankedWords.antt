@@ -9,11 +9,20 @@ use Rattle.std.proofs.lemmas.List.Elements.{All-append, All-drop, All-nil, All-r
 use Rattle.std.proofs.lemmas.List.Folds.{sum_by-replicate}
 use Rattle.std.proofs.lemmas.List.Sums.{sum_by-append}
 use Rattle.std.proofs.lemmas.Option.{none-some, same_Some}
-use Rattle.std.proofs.Math.Nat.{mul-le-mul_right}
+use Rattle.std.proofs.Math.Nat.{mul-le-mul_right, mul_assoc, mul_comm, pow-suc}
 use Rattle.std.proofs.Math.Seq.{take-append-add}
 use Rattle.cmap_binary.specs.PrefixWords.{AreBits, lengths_from, number_after}
 use Rattle.cmap_binary.specs.WordsByLength.{Progress, Ranked, with_bit, word_in}
-use Rattle.cmap_binary.proofs.NumbersOfBits.{number_after-add}
+
+-- the number that bits write after the sum of two others
+number_after-add : (m n : ℕ) (ds : List ℕ) → number_from_digits_after 2 (m + n) ds ≡ m * 2 ^ length ds + number_from_digits_after 2 n ds
+number_after-add m n [] = omega arith
+number_after-add m n (d ∷ ds) =
+    let p = 2 ^ length ds in
+    let doubled : (m + n) * 2 + d ≡ m * 2 + (n * 2 + d) = omega arith in
+    ap (λ k. number_from_digits_after 2 k ds) doubled
+    ∙ number_after-add (m * 2) (n * 2 + d) ds
+    ∙ ap (λ k. k + number_from_digits_after 2 (n * 2 + d) ds) (mul_assoc m 2 p ∙ ap (λ k. m * k) (mul_comm 2 p ∙ sym (pow-suc 2 (length ds))))
 
 pub lengths_from-least : (len : ℕ) (counts : List ℕ) → All (λ l. len ≤ l) (lengths_from len counts)
 lengths_from-least len [] = All-nil (λ l. len ≤ l)

@@ -1,16 +1,32 @@
 -- The code word of a table that begins bits is the one that is found by how many words there are of each length.
-use Rattle.std.proofs.Common.{◌≡◌, ℕ, ◌+◌, ◌<◌, ◌≤◌, List, [], ◌++◌, length, get_or, take, drop, Some, None, refl, ap, ◌∙◌, sym, arith}
+use Rattle.std.proofs.Common.{◌≡◌, ℕ, zero, suc, ◌+◌, ◌<◌, ◌≤◌, List, [], ◌∷◌, ◌++◌, length, get_or, take, drop, Some, None, refl, ap, ◌∙◌, sym, arith}
+use Rattle.std.specs.List.{slice_get}
 use Rattle.std.proofs.lemmas.List.{append-nil, length-append, length-map, length-take-le, take-append-drop, take_at}
 use Rattle.std.proofs.lemmas.List.Elements.{All-take}
 use Rattle.std.proofs.lemmas.Option.{none-some, same_Some, slice_get_within}
-use Rattle.cmap_binary.specs.PrefixWords.{AreBits, BeginsAt, CodeWord, Decodes, IsPrefixFree, IsWord, lengths_from, lengths_of}
+use Rattle.cmap_binary.specs.PrefixWords.{AreBits, BeginsAt, CodeWord, Decodes, IsPrefixFree, IsSound, IsWord, lengths_from, lengths_of, zip_words}
 use Rattle.cmap_binary.specs.WordsByLength.{IsFirst, IsTable, Ranked, first_word, start, words_of}
 use Rattle.cmap_binary.proofs.RankedWords.{Begins, begun_is_found, found_begins}
-use Rattle.cmap_binary.proofs.WordsZipped.{lengths-zip_words, slice_get-zip_words}
 
+-- ---- code words that are made of lengths and symbols
+lengths-zip_words : (lens symbols : List ℕ) → length symbols ≡ length lens → lengths_of (zip_words lens symbols) ≡ lens
+lengths-zip_words [] symbols each = refl
+lengths-zip_words (l ∷ lens) [] each = absurd (omega arith)
+lengths-zip_words (l ∷ lens) (s ∷ symbols) each = ap (λ ls. l ∷ ls) (lengths-zip_words lens symbols (omega arith))
+
+slice_get-zip_words : (lens symbols : List ℕ) (i : ℕ) → length symbols ≡ length lens → i < length lens → slice_get (zip_words lens symbols) i ≡ Some (record { len = get_or lens i 0; symbol = get_or symbols i 0 })
+slice_get-zip_words [] symbols i each h = absurd (omega arith)
+slice_get-zip_words (l ∷ lens) [] i each h = absurd (omega arith)
+slice_get-zip_words (l ∷ lens) (s ∷ symbols) zero each h = refl
+slice_get-zip_words (l ∷ lens) (s ∷ symbols) (suc i) each h = slice_get-zip_words lens symbols i (omega arith) (omega arith)
+
+-- ---- the code words of a table
 module _ {counts symbols : List ℕ} (table : IsTable counts symbols) where
-  lens_are : lengths_of (words_of counts symbols) ≡ lengths_from 1 counts
+  pub lens_are : lengths_of (words_of counts symbols) ≡ lengths_from 1 counts
   lens_are = lengths-zip_words (lengths_from 1 counts) symbols table.a_symbol_each
+
+  pub IsSound-table : IsSound (words_of counts symbols)
+  IsSound-table = rw lens_are table.sound
 
   IsWord-begins : (stream : List ℕ) (i : ℕ) (entry : CodeWord) (word rest : List ℕ) → IsWord (words_of counts symbols) i entry word → stream ≡ word ++ rest → Begins start counts stream i entry.len
   IsWord-begins stream i entry word rest is cut =

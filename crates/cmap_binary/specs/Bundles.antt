@@ -1,4 +1,4 @@
--- Bundles: prefix tables, and files by their places.
+-- Bundles: prefix tables, and files by their indices.
 use Rattle.std.specs.Prelude.{ℕ, List}
 use Rattle.cmap_binary.specs.PrefixWords.{CodeWord}
 use Rattle.cmap_binary.specs.TableFronts.{TableAt}
@@ -9,7 +9,7 @@ pub record PrefixTables : Type 0 where
   pub delta : List CodeWord
   pub count : List CodeWord
 
--- its files, place by place
+-- its files, index by index
 pub record Bundle : Type 0 where
   pub tables : PrefixTables
   pub files : List (List ℕ)

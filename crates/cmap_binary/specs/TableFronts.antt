@@ -12,7 +12,7 @@ abbrev pub LengthCountsAt : List ℕ → List ℕ × List ℕ → Type 0
 LengthCountsAt text = Then (MostAt text) (RowOf (FieldAt 2))
 
 -- the counts, and a symbol of this many bytes for each code word
-unfoldable pub TableAt : ℕ → List ℕ → List CodeWord × List ℕ → Type 0
+abbrev pub TableAt : ℕ → List ℕ → List CodeWord × List ℕ → Type 0
 TableAt width text =
     Then (LengthCountsAt text) (λ counts mid.
     let lens = lengths_from 1 counts in

@@ -1,5 +1,5 @@
 -- Private aid: what is known of the code word that begins bits.
-use Rattle.std.specs.Prelude.{◌≡◌, ℕ, List, [], ◌∷◌, ◌++◌, Option, Result, Some, None, MatchOption, MatchResult, slice_get}
+use Rattle.std.specs.Prelude.{◌≡◌, ◌<◌, ℕ, List, [], ◌∷◌, ◌++◌, length, slice_index_or, Option, Result, None, MatchOption, MatchResult}
 use Rattle.cmap_binary.specs.PrefixWords.{bits}
 use Rattle.cmap_binary.specs.WordsByLength.{IsFirst, IsSearched, Progress, first_word}
 use Rattle.cmap_binary.specs.declared.prefix.words.Search.{Search}
@@ -15,7 +15,7 @@ IsKnown counts symbols front known =
 
 -- what is known of the bits of each byte
 abbrev pub KnowBytes : List ℕ → List ℕ → List (Result Word Search) → Type 0
-KnowBytes counts symbols known = (byte : ℕ) (found : Result Word Search) → slice_get known byte ≡ Some found → IsKnown counts symbols (bits (byte ∷ [])) found
+KnowBytes counts symbols known = (byte : ℕ) (other : Result Word Search) → byte < length known → IsKnown counts symbols (bits (byte ∷ [])) (slice_index_or known byte other)
 
 -- what is found is the word that begins the bits, and where nothing is found none does
 abbrev pub FindsFirst : List ℕ → List ℕ → List ℕ → Option Word → Type 0

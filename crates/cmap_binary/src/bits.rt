@@ -1,6 +1,6 @@
 //! Bits, and big-endian numbers of one to four bytes, read from bytes in order.
 
-ghost use Rattle.std.specs.Prelude.{◌≡◌, ℕ, ◌/◌, ◌≤◌, ◌↔◌, Bool, [], ◌∷◌, length, option_map, is_some, slice_get, take, IsTrue, IfSome, if◌then◌else◌, nat_le, ◌&&◌};
+ghost use Rattle.std.specs.Prelude.{◌≡◌, ℕ, ◌/◌, ◌≤◌, ◌↔◌, Bool, List, [], ◌∷◌, ◌++◌, length, option_map, is_some, slice_get, IsTrue, IfSome, if◌then◌else◌, nat_le, ◌&&◌};
 ghost use Rattle.std.specs.List.{before_first};
 ghost use Rattle.cmap_files.specs.BigEndian.{big_endian};
 ghost use Rattle.cmap_binary.specs.Reader.{bits_left, bytes_left, IsAtByte, after_bits, after_bytes, front, number_at, AnswersByByte, AnswersBy};
@@ -178,7 +178,8 @@ impl<'a> Reader<'a> {
 
     /// The next eight bits as a byte, where two bytes have them and the bits that go before.
     pub(crate) fn peek_u8(&self) -> Option<u8>
-        ensures { IfSome result (λ byte. take 8 (bits_left self.now) ≡ bits (byte ∷ [])) }
+        ensures { IfSome result
+            (λ byte. (later : List ℕ) × (bits_left self.now ≡ bits (byte ∷ []) ++ later)) }
     {
         let low = *self.bytes.get(self.byte + 1)?;
         let pair = u16::from_be_bytes([self.bytes[self.byte], low]);
@@ -195,7 +196,7 @@ impl<'a> Reader<'a> {
         self.bit = (bit % 8) as u8;
     }
 
-    /// A reader at the same place, to try what may fail.
+    /// A reader at the same bit.
     pub(crate) fn fork(&self) -> Reader<'a>
         ensures { result ≡ self.now }
     {

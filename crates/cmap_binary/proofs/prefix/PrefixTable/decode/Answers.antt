@@ -1,7 +1,7 @@
 use Rattle.std.proofs.Common.{subst}
 use Rattle.std.proofs.lemmas.List.{drop-drop}
 use Rattle.cmap_binary.specs.PrefixWords.{Decodes, bits}
-use Rattle.cmap_binary.proofs.NumbersOfBits.{AreBits-left}
+use Rattle.cmap_binary.proofs.BitsOfBytes.{AreBits-left}
 use Rattle.cmap_binary.proofs.TablesDecoded.{BeginsAt-none, BeginsAt-only, first_decodes}
 use Rattle.cmap_binary.proofs.prefix.PrefixTable.decode.Goals as goal
 

@@ -1,7 +1,5 @@
-use Rattle.std.proofs.Common.{◌≡◌, ℕ, List, [], ◌∷◌, ◌++◌, append_assoc, get_or, drop, Ok, Err, ap, sym, subst, ◌∙◌, arith}
+use Rattle.std.proofs.Common.{ℕ, List, [], ◌∷◌, ◌++◌, append_assoc, Ok, Err, arith}
 use Rattle.std.specs.Prelude.{Result}
-use Rattle.std.proofs.lemmas.List.{take-append-drop}
-use Rattle.std.proofs.lemmas.Option.{slice_get-get_or}
 use Rattle.cmap_binary.specs.PrefixWords.{bits}
 use Rattle.cmap_binary.specs.Reader.{bits_left}
 use Rattle.cmap_binary.specs.WordsFound.{IsKnown}
@@ -16,12 +14,9 @@ more counts symbols front later (Err search) is = IsSearched-more is later
 
 pub returns-in-Some : goal.returns-in-Some
 returns-in-Some c = λ counts symbols knows.
-    let stream = bits_left c.args.reader.now in
-    let byte = c.in-Some.byte in
-    let cut : stream ≡ bits (byte ∷ []) ++ drop 8 stream = sym (take-append-drop 8 stream) ∙ ap (λ bs. bs ++ drop 8 stream) c.in-Some.ensures in
-    let found = get_or c.args.known.now byte (Ok (record { symbol = 0; len = 0 })) in
-    let here = knows byte found (slice_get-get_or c.args.known.now byte _ (omega arith)) in
-    rw c.from.ensures (subst (λ bs. IsKnown counts symbols bs found) (sym cut) (more counts symbols (bits (byte ∷ [])) (drop 8 stream) found here))
+    let (later, cut) = c.in-Some.ensures in
+    let known = knows c.in-Some.byte (Ok (record { symbol = 0; len = 0 })) (omega arith) in
+    rw (c.from.ensures, cut) (more counts symbols (bits (c.in-Some.byte ∷ [])) later _ known)
 
 pub returns-in-None : goal.returns-in-None
 returns-in-None c = λ counts symbols knows. IsSearched-start counts (bits_left c.args.reader.now)
