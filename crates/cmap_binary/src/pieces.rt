@@ -1,4 +1,4 @@
-//! What a text begins with: numbers, codes, and pieces that tell their own length. Each call takes
+//! What a text begins with: numbers, codes, and pieces that give their own length. Each call takes
 //! off the text what it finds.
 
 ghost use Rattle.std.specs.Prelude.{◌<◌, ◌^◌};
@@ -55,7 +55,7 @@ pub(crate) fn take_sized<'b>(text: &mut &'b [u8]) -> Option<&'b [u8]>
     text.split_off(..size as usize)
 }
 
-/// The piece that tells its whole length in the four bytes after its first `before` ones.
+/// The piece that gives its whole length in the four bytes after its first `before` ones.
 pub(crate) fn take_framed<'b>(text: &mut &'b [u8], before: usize) -> Option<&'b [u8]>
     requires { before < 2 ^ 32 }
     ensures { Finds (FramedAt before text.old.now) (λ piece. (piece.now, text.new.now)) result }

@@ -23,8 +23,8 @@ use std::alloc::Global;
 pub fn read_text<'d>(alloc: Global, text: &'d [u8]) -> Result<File<'d>, Fault<Stop>>
     ensures file { ReadsFile IsTextFile file_seen text.now result }
 
-    // Where it is refused before its end, no text is a file that begins with the same bytes, up to
-    // this offset and with the byte there.
+    // Where it is refused before its end, no text is a file that begins with the same bytes, up to and
+    // including the one at this offset.
     ensures decided { IfErr result (RefusesWith (DecidedBy IsTextFile text.now)) }
 {
     let mut said = Said::new(alloc);
@@ -50,7 +50,6 @@ fn read_said<'d>(
         (all_said (said_seen said.old) (tokens_of (start_of text.now))))) }
 {
     let mut reader = TokenReader::new(alloc, text);
-    // A clause sees the tokens that are left of a reader, and not whose they are.
     match read_items(&mut reader, said) {
         Ok(()) => Ok(said.values.metadata(alloc)?),
         Err(Fault::Refused(WrongToken::Last(reason))) => {

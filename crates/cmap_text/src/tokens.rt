@@ -37,7 +37,7 @@ pub(crate) struct Code {
 pub(crate) struct TokenReader<'d> {
     alloc: Global,
     scanner: Scanner<'d>,
-    // the bytes of the last string
+    /// the bytes of the last string
     string: Vec<u8>,
 }
 

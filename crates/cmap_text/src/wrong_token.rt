@@ -6,7 +6,7 @@ ghost use Rattle.cmap_text.specs.declared.wrong_token.WrongToken.TheVariants.{La
 
 use cmap_files::fault::{Fault, Reason};
 
-/// Why a reader of tokens goes no further. It tells where: after the last token, or where no token
+/// Why a reader of tokens goes no further. It says where: after the last token, or where no token
 /// comes.
 #[derive(Clone, Copy)]
 pub(crate) enum WrongToken {

@@ -214,7 +214,7 @@ impl CMap {
         CMap::identity(alloc, b"Identity-V", WritingMode::Vertical)
     }
 
-    /// What the file says of itself, and not what those say that it is based on.
+    /// What the file states about itself, without those that it is based on.
     pub fn metadata(&self) -> &Metadata
         ensures top { top_metadata self.now ≡ Some (metadata_seen result.now) }
         ensures few { length self.now ≤ 16 }
