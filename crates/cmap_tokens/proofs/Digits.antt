@@ -49,12 +49,29 @@ digits_small base m digits some all few =
 abbrev pub capped : ℕ → List ℕ → Option ℕ
 capped base digits = option_map (λ n. min n (2 ^ 64 - 1)) (digits_value base digits)
 
-pub uncapped : (base m : ℕ) (digits : List ℕ) → 0 < base → length digits ≤ m → base ^ m ≤ 2 ^ 64 → capped base digits ≡ digits_value base digits
+uncapped : (base m : ℕ) (digits : List ℕ) → 0 < base → length digits ≤ m → base ^ m ≤ 2 ^ 64 → capped base digits ≡ digits_value base digits
 uncapped base m digits some few fits = grind (arith, nat_tests, digits_small base m digits some)
 
--- the digits of a number that is read
-pub value_is : (base m n : ℕ) (digits : List ℕ) → 0 < base → length digits ≤ m → digits_value base digits ≡ Some n → (0 < length digits) × (list_all (λ c. is_digit c base) digits ≡ true) × (n ≡ digits_number base digits) × (n < base ^ m)
-value_is base m n digits some few is = (grind (arith, nat_tests, is), grind (arith, nat_tests, is), grind (arith, nat_tests, is), grind (arith, nat_tests, is, digits_small base m digits some))
+-- at most m digits that write a number
+pub record Written (base m : ℕ) (digits : List ℕ) (n : ℕ) : Type 0 where
+  pub value : digits_value base digits ≡ Some n
+  pub filled : 0 < length digits
+  pub all : list_all (λ c. is_digit c base) digits ≡ true
+  pub number : n ≡ digits_number base digits
+  pub small : n < base ^ m
+
+pub written : (base m : ℕ) (digits : List ℕ) (n : ℕ) → 0 < base → length digits ≤ m → digits_value base digits ≡ Some n → Written base m digits n
+written base m digits n some few is = record {
+  value = is;
+  filled = grind (arith, nat_tests, is);
+  all = grind (arith, nat_tests, is);
+  number = grind (arith, nat_tests, is);
+  small = grind (arith, nat_tests, is, digits_small base m digits some);
+}
+
+-- and no cap is met
+pub written_uncapped : (base m : ℕ) (digits : List ℕ) (n : ℕ) → 0 < base → length digits ≤ m → base ^ m ≤ 2 ^ 64 → Some n ≡ capped base digits → Written base m digits n
+written_uncapped base m digits n some few fits is = written base m digits n some few (sym (is ∙ uncapped base m digits some few fits))
 
 unwrapped : (digits : List ℕ) → list_all (λ c. is_digit c 8) digits ≡ true → unwrap_or (digits_value 8 digits) 0 ≡ digits_number 8 digits
 unwrapped [] all = refl
@@ -99,12 +116,11 @@ paired (a ∷ b ∷ more) all even =
     }
 
 -- digits in pairs are read
-pub pairs_read : (digits : List ℕ) (n : ℕ) → digits_value 16 digits ≡ Some n → length digits ≤ 8 → length digits % 2 ≡ 0
+pub pairs_read : (digits : List ℕ) (n : ℕ) → Written 16 8 digits n → length digits ≤ 8 → length digits % 2 ≡ 0
     → ArePairs digits × (length digits / 2 ≡ length (hex_value digits)) × (n ≡ number_from_digits 256 (hex_value digits))
 pairs_read digits n is few even =
-    let (some, all, number, small) = value_is 16 8 n digits (omega arith) few is in
-    let are = paired digits all even in
-    ((all, even, some, few), omega (arith, are.long), number ∙ are.number 0)
+    let are = paired digits is.all even in
+    ((is.all, even, is.filled, few), omega (arith, are.long), is.number ∙ are.number 0)
 
 -- ---- a run of decimal digits is the number that they write
 pub digit_regular : (b : ℕ) → is_digit b 10 ≡ true → is_regular b ≡ true
