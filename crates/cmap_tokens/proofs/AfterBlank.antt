@@ -32,7 +32,7 @@ two_bytes_written a b c d n all is =
     let piece : List ℕ = 60 ∷ a ∷ b ∷ c ∷ d ∷ 62 ∷ [] in
     let are = paired digits all refl in
     let hex : IsHexString piece = (digits, refl, all_weaker (λ k. is_digit k 16) is_hex_body digits (λ k digit. or_right (is_white k) (is_digit k 16) digit) all) in
-    ((hex_value digits, record { holds = inl (hex, refl); alone = λ other other_is. one_value piece other _ other_is (inl (hex, refl)) }, are.bytes, omega (arith, are.long), is ∙ are.number 0), hex)
+    ((hex_value digits, record { holds = inl (hex, refl); alone = λ other other_is. one_value piece other _ other_is (inl (hex, refl)) }, are.2, omega (arith, are.1), is ∙ are.0 0), hex)
 
 pub two_bytes_first : (text : List ℕ) (n : ℕ) → spaced_two_bytes text ≡ Some n → (piece : List ℕ) × FirstToken text (String piece) 7 × WritesTwoBytes piece n
 two_bytes_first (blank ∷ l ∷ a ∷ b ∷ c ∷ d ∷ g ∷ rest) n e =

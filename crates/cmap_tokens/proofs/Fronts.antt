@@ -61,7 +61,7 @@ module _ {text gap piece : List ℕ} {token : Token} {rest : List ℕ} (front : 
   no_front : first_piece (after_gap text) ≡ None → ⊥
   no_front e = let clash = sym (reads_front front).first ∙ e in cc
 
-  front_not_blank : IsBlank text → ⊥
+  pub front_not_blank : IsBlank text → ⊥
   front_not_blank blank = omega (arith, front_long front, (reads_front front).long, gap_len-blank text blank)
 
 -- what is read is a front
@@ -221,12 +221,6 @@ pub left_after : (old new : Place) (token : Token) → ReadsToken old token new 
 unfolding tokens_of
 left_after old new token (gap, piece, only, is) =
     left_front only.front old.passed ∙ ap (λ n. with_token token old.passed (left_from n (rest_of new))) (sym (ap (λ p. p.passed) is))
-
-pub not_blank : (old new : Place) (token : Token) → ReadsToken old token new → IsBlank (rest_of old) → ⊥
-not_blank old new token (gap, piece, only, is) = front_not_blank only.front
-
-pub not_malformed : (old new : Place) (token : Token) → ReadsToken old token new → IsMalformed (rest_of old) → ⊥
-not_malformed old new token (gap, piece, only, is) malformed = malformed.1 gap piece (rest_of new) token only.front
 
 pub passed_of : (cursor : Place) → (tokens_of cursor).passed ≡ cursor.passed
 unfolding tokens_of

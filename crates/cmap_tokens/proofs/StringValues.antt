@@ -32,10 +32,12 @@ inside_is first last body =
     let end : length (first ∷ body ++ last ∷ []) - 1 ≡ suc (length body) = omega (arith, length-append body (last ∷ [])) in
     rw end (take_at body (last ∷ []) (length body) refl)
 
-pub has_brackets : (piece : List ℕ) → IsString piece → 2 ≤ length piece
-has_brackets piece (inl (body, shape, all)) = omega (arith, ap length shape, length-append body (62 ∷ []))
-has_brackets piece (inr (bytes, shape, closes)) =
-    let (body, whole, paired) = ends_from false 1 bytes closes in omega (arith, ap length shape, ap length whole, length-append body (41 ∷ []))
+pub has_brackets : (piece : List ℕ) → is_string piece ≡ true → 2 ≤ length piece
+has_brackets piece is =
+    elim (IsString-from piece is) [
+      | inl (body, shape, all) ↦ omega (arith, ap length shape, length-append body (62 ∷ []))
+      | inr (bytes, shape, closes) ↦ let (body, whole, paired) = ends_from false 1 bytes closes in omega (arith, ap length shape, ap length whole, length-append body (41 ∷ []))
+    ]
 
 -- ---- the value
 pub value_holds : (piece : List ℕ) → IsString piece → IsValue piece (string_value piece)
@@ -76,7 +78,7 @@ pub plain_value : (raw : List ℕ) (found : Option (ℕ × ℕ)) → IsHexString
 plain_value raw None hex is = tt
 plain_value raw (Some first) hex is =
     let (all, even, some, few) = is.0 in
-    (hex_value (inside raw), record { holds = inl (hex, refl); alone = λ other other_is. one_value raw other _ other_is (inl (hex, refl)) }, (paired (inside raw) all even).bytes, is.1, is.2)
+    (hex_value (inside raw), record { holds = inl (hex, refl); alone = λ other other_is. one_value raw other _ other_is (inl (hex, refl)) }, (paired (inside raw) all even).2, is.1, is.2)
 
 pub plain_is : (raw : List ℕ) (found : Option (ℕ × ℕ)) → IsHexString raw → Answers (inside raw) found → IsTrue (is_some found) ↔ IsPlain raw
 plain_is raw None hex is = (λ some. absurd (false≢true some), λ plain. absurd (is plain.1))

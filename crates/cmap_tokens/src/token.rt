@@ -129,6 +129,7 @@ impl<'a> StringToken<'a> {
     }
 
     // What stands between the brackets.
+    #[tactic(auto, using(crate::proofs::StringValues::has_brackets))]
     fn body(&self) -> &'a [u8]
         ensures { result.now ≡ inside (string_raw self.now) }
     {
