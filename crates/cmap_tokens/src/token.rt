@@ -197,6 +197,7 @@ impl<'a> Scanner<'a> {
     }
 
     /// How many bytes of the text have been passed.
+    #[tactic(auto, using(crate::proofs::Fronts::passed_of))]
     pub fn offset(&self) -> usize
         ensures passed { result ≡ self.now.passed }
         ensures left { result ≡ (tokens_of self.now).passed }

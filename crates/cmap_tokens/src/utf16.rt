@@ -151,6 +151,7 @@ fn pair(high: u16, low: u16) -> Option<char>
 }
 
 // No surrogate stands alone.
+#[tactic(auto, using(crate::proofs::TextsOfUnits::characters_end))]
 fn is_well_formed(front: &[u16], last: u16) -> bool
     ensures { result ≡ is_some (characters (front.now ++ last ∷ [])) }
 {
