@@ -6,7 +6,7 @@ use Rattle.cmap_tokens.specs.Tokens.{Token}
 use Rattle.cmap_tokens.proofs.Decided.{in_order}
 use Rattle.cmap_tokens.proofs.Decided as fronts
 use Rattle.cmap_tokens.proofs.Fronts.{has_tokens}
-use Rattle.cmap_tokens.specs.TokensLeft.{Placed, Left, AreInOrder, IsInOrder, Agree, AgreesTo, start_of, tokens_of}
+use Rattle.cmap_tokens.specs.TokensLeft.{EndedToken, Left, AreInOrder, EndInOrder, Agree, AgreesTo, start_of, tokens_of}
 use Rattle.cmap_files.specs.Files.{CidEntry, Declaration}
 use Rattle.cmap_files.specs.Only.{HoldsOfNone}
 use Rattle.cmap_text.specs.TextFiles.{Section, codespace_range, cid_range, cid_char, notdef_range, notdef_char, bf_range, bf_char, use_word, IsTextFile}
@@ -18,17 +18,17 @@ use Rattle.cmap_text.proofs.TextRead.{no_file}
 
 module _ (k : ℕ) where
   -- ---- tokens that are left of two texts, which agree up to k
-  agree_after : (p q : Placed) (r s : List Placed) (left other : Left) (tokens others : List Placed) → Agree k tokens left others other → Agree k tokens (after p r left) others (after q s other)
+  agree_after : (p q : EndedToken) (r s : List EndedToken) (left other : Left) (tokens others : List EndedToken) → Agree k tokens left others other → Agree k tokens (after p r left) others (after q s other)
   agree_after p q r s left other [] others agree = agree
   agree_after p q r s left other (t ∷ tokens) others agree = λ within.
       let (rest, same, more) = agree within in
       (rest, same, agree_after p q r s left other tokens rest more)
 
   -- past k nothing has to agree
-  beyond : (left : Left) → IsInOrder left → k < left.passed → AgreesTo k left left
+  beyond : (left : Left) → EndInOrder left → k < left.passed → AgreesTo k left left
   beyond left order past = (refl, at left.tokens order)
     where
-      at : (tokens : List Placed) → AreInOrder left.passed tokens left.stop → Agree k tokens left tokens left
+      at : (tokens : List EndedToken) → AreInOrder left.passed tokens left.stop → Agree k tokens left tokens left
       at [] o = λ within. absurd (omega (arith, o, within, past))
       at (p ∷ tokens) o = λ within. absurd (omega (arith, o.0, within, past))
 
@@ -36,10 +36,10 @@ module _ (k : ℕ) where
   -- what is found in a text from a place on, and in the other one
   abbrev pub Agrees : {A : Type 0} → ℕ → Found A → Found A → Type 0
   Agrees passed (Err e) other = (passed ≤ e) × (e ≤ k → other ≡ Err e)
-  Agrees passed (Ok p) other = IsInOrder p.1 × (passed ≤ p.1.passed) × (p.1.passed ≤ k → (next : Left) × (other ≡ Ok (p.0, next)) × AgreesTo k p.1 next)
+  Agrees passed (Ok p) other = EndInOrder p.1 × (passed ≤ p.1.passed) × (p.1.passed ≤ k → (next : Left) × (other ≡ Ok (p.0, next)) × AgreesTo k p.1 next)
 
   abbrev pub IsLocal : {A : Type 0} → (Left → Found A) → Type 0
-  IsLocal read = (left other : Left) → IsInOrder left → AgreesTo k left other → Agrees left.passed (read left) (read other)
+  IsLocal read = (left other : Left) → EndInOrder left → AgreesTo k left other → Agrees left.passed (read left) (read other)
 
   sooner : {A : Type 0} (passed mid : ℕ) (found other : Found A) → passed ≤ mid → Agrees mid found other → Agrees passed found other
   sooner passed mid (Err e) other less (later, same) = (omega (arith, less, later), same)
@@ -50,8 +50,8 @@ module _ (k : ℕ) where
   late passed mid (Ok p) other any less past (order, later, same) = (order, omega (arith, less, later), λ within. absurd (omega (arith, past, later, within)))
 
   then_agrees : {A B : Type 0} (more others : A → Left → Found B) (passed : ℕ) (found other : Found A) → Agrees passed found other
-      → ((x : A) (next mid : Left) → found ≡ Ok (x, next) → other ≡ Ok (x, mid) → IsInOrder next → AgreesTo k next mid → Agrees next.passed (more x next) (others x mid))
-      → ((x : A) (next : Left) → found ≡ Ok (x, next) → IsInOrder next → AgreesTo k next next → Agrees next.passed (more x next) (more x next))
+      → ((x : A) (next mid : Left) → found ≡ Ok (x, next) → other ≡ Ok (x, mid) → EndInOrder next → AgreesTo k next mid → Agrees next.passed (more x next) (others x mid))
+      → ((x : A) (next : Left) → found ≡ Ok (x, next) → EndInOrder next → AgreesTo k next next → Agrees next.passed (more x next) (more x next))
       → Agrees passed (followed_by more found) (followed_by others other)
   then_agrees more others passed (Err e) other (less, same) both alone = (less, λ within. ap (followed_by others) (same within))
   then_agrees more others passed (Ok p) other (order, less, same) both alone =
@@ -79,7 +79,7 @@ module _ (k : ℕ) where
   token_local : IsLocal token_in
   token_local left other order (passed, agrees) = at left.tokens order agrees
     where
-      at : (tokens : List Placed) → AreInOrder left.passed tokens left.stop → Agree k tokens left other.tokens other → Agrees left.passed (token_in (record { passed = left.passed; tokens = tokens; ends = left.ends; stop = left.stop })) (token_in other)
+      at : (tokens : List EndedToken) → AreInOrder left.passed tokens left.stop → Agree k tokens left other.tokens other → Agrees left.passed (token_in (record { passed = left.passed; tokens = tokens; ends = left.ends; stop = left.stop })) (token_in other)
       at [] o a = (o, λ within. let (ends, none, also, same) = a within in rw (none, same) refl)
       at (p ∷ rest) o a = (
         o.1,
@@ -131,11 +131,11 @@ module _ (k : ℕ) where
   -- ---- sections
   module _ (section : Section) where
     abbrev AreLocal : ℕ → ℕ → Type 0
-    AreLocal n m = (left other : Left) → IsInOrder left → AgreesTo k left other → length left.tokens < n → length other.tokens < m → Agrees left.passed (body_within n section left) (body_within m section other)
+    AreLocal n m = (left other : Left) → EndInOrder left → AgreesTo k left other → length left.tokens < n → length other.tokens < m → Agrees left.passed (body_within n section left) (body_within m section other)
 
     -- after the first code of an entry, or the closer
     from_local : (n m : ℕ) → ((other : ℕ) → AreLocal n other) → (left other next mid : Left) (start : Option Code) → start_in section left ≡ Ok (start, next) → start_in section other ≡ Ok (start, mid)
-        → IsInOrder next → AgreesTo k next mid → length left.tokens ≤ n → length other.tokens ≤ m → Agrees next.passed (body_from n section start next) (body_from m section start mid)
+        → EndInOrder next → AgreesTo k next mid → length left.tokens ≤ n → length other.tokens ≤ m → Agrees next.passed (body_from n section start next) (body_from m section start mid)
     from_local n m later left other next mid None starts also order agrees long others_long = (order, omega arith, λ within. (mid, refl, agrees))
     from_local n m later left other next mid (Some code) starts also order agrees long others_long =
         then_agrees (λ declared rest. before declared (body_within n section rest)) (λ declared rest. before declared (body_within m section rest)) next.passed (entry_after section code next) (entry_after section code mid) (entry_local section code next mid order agrees)
@@ -162,7 +162,7 @@ module _ (k : ℕ) where
   abbrev AgreesOrEnds : {A : Type 0} → (A → Type 0) → ℕ → Found A → Found A → Type 0
   AgreesOrEnds IsLast passed (Err e) other = (passed ≤ e) × (e ≤ k → other ≡ Err e)
   AgreesOrEnds IsLast passed (Ok p) other =
-      IsInOrder p.1 × (passed ≤ p.1.passed) × (p.1.passed ≤ k → (IsLast p.0 × (p.1.tokens ≡ []) × (p.1.ends ≡ true)) ⊎ ((next : Left) × (other ≡ Ok (p.0, next)) × AgreesTo k p.1 next))
+      EndInOrder p.1 × (passed ≤ p.1.passed) × (p.1.passed ≤ k → (IsLast p.0 × (p.1.tokens ≡ []) × (p.1.ends ≡ true)) ⊎ ((next : Left) × (other ≡ Ok (p.0, next)) × AgreesTo k p.1 next))
 
   abbrev Any : {A : Type 0} → A → Type 0
   Any x = Unit {0}
@@ -188,10 +188,10 @@ module _ (k : ℕ) where
   IsEnd None = Unit {0}
   IsEnd (Some t) = ⊥
 
-  next_local : (left other : Left) → IsInOrder left → AgreesTo k left other → AgreesOrEnds IsEnd left.passed (next_in left) (next_in other)
+  next_local : (left other : Left) → EndInOrder left → AgreesTo k left other → AgreesOrEnds IsEnd left.passed (next_in left) (next_in other)
   next_local left other order (passed, agrees) = at left.tokens left.ends order agrees
     where
-      at : (tokens : List Placed) (ends : Bool) → AreInOrder left.passed tokens left.stop → Agree k tokens (record { passed = left.passed; tokens = tokens; ends = ends; stop = left.stop }) other.tokens other
+      at : (tokens : List EndedToken) (ends : Bool) → AreInOrder left.passed tokens left.stop → Agree k tokens (record { passed = left.passed; tokens = tokens; ends = ends; stop = left.stop }) other.tokens other
           → AgreesOrEnds IsEnd left.passed (next_in (record { passed = left.passed; tokens = tokens; ends = ends; stop = left.stop })) (next_in other)
       at [] true o a = (o, omega arith, λ within. inl (tt, refl, refl))
       at [] false o a = (o, λ within. let (ends, none, also, same) = a within in rw (none, also, same) refl)
@@ -218,8 +218,8 @@ module _ (k : ℕ) where
   ends_well passed found any said is = rw is tt
 
   then_ends : {A : Type 0} (IsLast : A → Type 0) (more others : A → Left → Result Said ℕ) (passed : ℕ) (found other : Found A) → AgreesOrEnds IsLast passed found other
-      → ((x : A) (next mid : Left) → found ≡ Ok (x, next) → other ≡ Ok (x, mid) → IsInOrder next → AgreesTo k next mid → EndsAs next.passed (more x next) (others x mid))
-      → ((x : A) (next : Left) → found ≡ Ok (x, next) → IsInOrder next → AgreesTo k next next → EndsAs next.passed (more x next) (more x next))
+      → ((x : A) (next mid : Left) → found ≡ Ok (x, next) → other ≡ Ok (x, mid) → EndInOrder next → AgreesTo k next mid → EndsAs next.passed (more x next) (others x mid))
+      → ((x : A) (next : Left) → found ≡ Ok (x, next) → EndInOrder next → AgreesTo k next next → EndsAs next.passed (more x next) (more x next))
       → ((x : A) (next : Left) → found ≡ Ok (x, next) → IsLast x → next.tokens ≡ [] → next.ends ≡ true → (said : Said) × (more x next ≡ Ok said))
       → EndsAs passed (and_then (λ p. more p.0 p.1) found) (and_then (λ p. others p.0 p.1) other)
   then_ends IsLast more others passed (Err e) other (less, same) both alone ended = (less, λ within. ap (and_then (λ p. others p.0 p.1)) (same within))
@@ -239,7 +239,7 @@ module _ (k : ℕ) where
   said_end zero now here none ends long = absurd (omega (arith, long))
   said_end (suc n) now here none ends long = said_next n now here ∙ rw (none, ends) refl
 
-  item_local : (old : Said) (t : Token) (left other : Left) → IsInOrder left → AgreesTo k left other → AgreesOrEnds Any left.passed (item_said old t left) (item_said old t other)
+  item_local : (old : Said) (t : Token) (left other : Left) → EndInOrder left → AgreesTo k left other → AgreesOrEnds Any left.passed (item_said old t left) (item_said old t other)
   unfolding body_in
   item_local old t left other order agrees = section_or (opened_by t) refl
     where
@@ -261,11 +261,11 @@ module _ (k : ℕ) where
           ))
 
   abbrev AreSaid : ℕ → ℕ → Type 0
-  AreSaid n m = (old : Said) (left other : Left) → IsInOrder left → AgreesTo k left other → length left.tokens < n → length other.tokens < m → EndsAs left.passed (said_within n old left) (said_within m old other)
+  AreSaid n m = (old : Said) (left other : Left) → EndInOrder left → AgreesTo k left other → length left.tokens < n → length other.tokens < m → EndsAs left.passed (said_within n old left) (said_within m old other)
 
   -- after the next token, or at the end
   said_after_token : (n m : ℕ) → ((other : ℕ) → AreSaid n other) → (old : Said) (left other next mid : Left) (first : Option Token) → next_in left ≡ Ok (first, next) → next_in other ≡ Ok (first, mid)
-      → IsInOrder next → AgreesTo k next mid → length left.tokens ≤ n → length other.tokens ≤ m → EndsAs next.passed (said_from n old first next) (said_from m old first mid)
+      → EndInOrder next → AgreesTo k next mid → length left.tokens ≤ n → length other.tokens ≤ m → EndsAs next.passed (said_from n old first next) (said_from m old first mid)
   said_after_token n m later old left other next mid None starts also order agrees long others_long = tt
   said_after_token n m later old left other next mid (Some t) starts also order agrees long others_long =
       let token : IsAfter (t ∷ []) left next = next_found left (Some t) next starts in
@@ -297,7 +297,7 @@ module _ (k : ℕ) where
       ended None next last = (old, refl)
       ended (Some t) next last = absurd last
 
-  all_local : (old : Said) (left other : Left) (e : ℕ) → IsInOrder left → AgreesTo k left other → e ≤ k → all_said old left ≡ Err e → all_said old other ≡ Err e
+  all_local : (old : Said) (left other : Left) (e : ℕ) → EndInOrder left → AgreesTo k left other → e ≤ k → all_said old left ≡ Err e → all_said old other ≡ Err e
   unfolding all_said
   all_local old left other e order agrees within is =
       let ends = said_local (1 + length left.tokens) (1 + length other.tokens) old left other order agrees (omega arith) (omega arith) in

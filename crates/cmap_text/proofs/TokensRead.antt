@@ -11,7 +11,7 @@ use Rattle.cmap_tokens.specs.Strings.{IsValue}
 use Rattle.cmap_tokens.proofs.StringValues.{IsValue-read, IsValue-from}
 use Rattle.cmap_tokens.specs.Texts.{units_of}
 use Rattle.cmap_tokens.specs.Tokens.{Token}
-use Rattle.cmap_tokens.specs.TokensLeft.{Placed, Left}
+use Rattle.cmap_tokens.specs.TokensLeft.{EndedToken, Left}
 use Rattle.cmap_text.specs.TextFiles.{IsCode, IsCid, IsDestination}
 use Rattle.cmap_text.specs.TextReading.{Code, Found, after, and_then, result_map, giving, followed_by, or_refused, code_of, code_in, cid_in, destination_of, destination_in, token_in, next_in, head_in, is_executable, is_literal, value_in}
 
@@ -122,7 +122,7 @@ abbrev pub words : Left → List Token
 words left = map (λ p. p.token) left.tokens
 
 pub length-words : (left : Left) → length (words left) ≡ length left.tokens
-length-words left = length-map left.tokens (λ (p : Placed). p.token)
+length-words left = length-map left.tokens (λ (p : EndedToken). p.token)
 
 -- these tokens come first of those that are left, and then the others
 pub record IsAfter (front : List Token) (left next : Left) : Type 0 where
@@ -140,7 +140,7 @@ fewer {front} {left} {next} comes =
     omega (arith, ap length comes.whole, length-append front (words next), length-words left, length-words next)
 
 -- these tokens are left in place of others
-abbrev having : List Placed → Left → Left
+abbrev having : List EndedToken → Left → Left
 having tokens left = record { passed = left.passed; tokens = tokens; ends = left.ends; stop = left.stop }
 
 abbrev ending : Bool → Left → Left
@@ -149,7 +149,7 @@ ending ends left = record { passed = left.passed; tokens = left.tokens; ends = e
 pub token_found : (left : Left) (p : Token × Left) → token_in left ≡ Ok p → IsAfter (p.0 ∷ []) left p.1
 token_found left p is = at left.tokens is
   where
-    at : (tokens : List Placed) → token_in (having tokens left) ≡ Ok p → IsAfter (p.0 ∷ []) (having tokens left) p.1
+    at : (tokens : List EndedToken) → token_in (having tokens left) ≡ Ok p → IsAfter (p.0 ∷ []) (having tokens left) p.1
     at [] e = absurd (err-ok _ p e)
     at (q ∷ rest) e = subst (λ (f : Token × Left). IsAfter (f.0 ∷ []) (having (q ∷ rest) left) f.1) (same_Ok _ p e) (record { whole = refl; ends = refl })
 
@@ -182,7 +182,7 @@ giving_found f first = record { next = first.next; is = ap (giving f) first.is; 
 pub token_is : (t : Token) (rest : List Token) (left : Left) → words left ≡ t ∷ rest → IsFound (token_in left) t rest left
 token_is t rest left whole = at left.tokens whole
   where
-    at : (tokens : List Placed) → words (having tokens left) ≡ t ∷ rest → IsFound (token_in (having tokens left)) t rest (having tokens left)
+    at : (tokens : List EndedToken) → words (having tokens left) ≡ t ∷ rest → IsFound (token_in (having tokens left)) t rest (having tokens left)
     at [] e = absurd (cc)
     at (q ∷ others) e =
         let token : q.token ≡ t = cc in
@@ -203,7 +203,7 @@ IsNext (Some t) left next = IsAfter (t ∷ []) left next
 pub next_found : (left : Left) (found : Option Token) (next : Left) → next_in left ≡ Ok (found, next) → IsNext found left next
 next_found left found next is = at left.tokens left.ends is
   where
-    at : (tokens : List Placed) (ends : Bool) → next_in (ending ends (having tokens left)) ≡ Ok (found, next) → IsNext found (ending ends (having tokens left)) next
+    at : (tokens : List EndedToken) (ends : Bool) → next_in (ending ends (having tokens left)) ≡ Ok (found, next) → IsNext found (ending ends (having tokens left)) next
     at [] true e = subst (λ (f : Option Token × Left). IsNext f.0 (ending true (having [] left)) f.1) (same_Ok (None, ending true (having [] left)) (found, next) e) (refl, refl, refl)
     at [] false e = absurd (err-ok _ _ e)
     at (q ∷ rest) ends e =
@@ -212,7 +212,7 @@ next_found left found next is = at left.tokens left.ends is
 pub next_is : (t : Token) (rest : List Token) (left : Left) → words left ≡ t ∷ rest → IsFound (next_in left) (Some t) rest left
 next_is t rest left whole = at left.tokens whole
   where
-    at : (tokens : List Placed) → words (having tokens left) ≡ t ∷ rest → IsFound (next_in (having tokens left)) (Some t) rest (having tokens left)
+    at : (tokens : List EndedToken) → words (having tokens left) ≡ t ∷ rest → IsFound (next_in (having tokens left)) (Some t) rest (having tokens left)
     at [] e = absurd (cc)
     at (q ∷ others) e =
         let token : q.token ≡ t = cc in
@@ -222,6 +222,6 @@ next_is t rest left whole = at left.tokens whole
 pub end_is : (left : Left) → words left ≡ [] → left.ends ≡ true → IsFound (next_in left) None [] left
 end_is left whole ends = at left.tokens whole
   where
-    at : (tokens : List Placed) → words (having tokens left) ≡ [] → IsFound (next_in (having tokens left)) None [] (having tokens left)
+    at : (tokens : List EndedToken) → words (having tokens left) ≡ [] → IsFound (next_in (having tokens left)) None [] (having tokens left)
     at [] e = record { next = having [] left; is = rw ends refl; whole = refl; ends = refl }
     at (q ∷ others) e = absurd (cc)

@@ -3,9 +3,9 @@ use Rattle.std.specs.Prelude.{ℕ, zero, suc, ◌+◌, ◌-◌, ◌^◌, ◌==�
 use Rattle.cmap_bits.specs.BigEndian.{big_endian}
 use Rattle.cmap_tokens.specs.Numbers.{Number}
 use Rattle.cmap_tokens.specs.Texts.{units_of}
-use Rattle.cmap_tokens.specs.TokenReading.{value_of}
+use Rattle.cmap_tokens.specs.TokenReading.{string_value}
 use Rattle.cmap_tokens.specs.Tokens.{Token}
-use Rattle.cmap_tokens.specs.TokensLeft.{Placed, Left}
+use Rattle.cmap_tokens.specs.TokensLeft.{EndedToken, Left}
 use Rattle.cmap_files.specs.Files.{CidEntry, Declaration, Lists, lists_of}
 use Rattle.cmap_files.specs.ListsAppended.{no_lists, append_lists}
 use Rattle.cmap_text.specs.TextFiles.{Section, codespace_range, cid_range, cid_char, notdef_range, notdef_char, bf_range, bf_char, keys, opener, closer, use_word, declares_bf, other, literal_head, Values}
@@ -27,7 +27,7 @@ is_literal name (Token.Numeral x) = false
 -- the bytes of a string
 abbrev pub value_in : Token → Option (List ℕ)
 value_in (Token.Name literal bytes) = None
-value_in (Token.String piece) = value_of piece
+value_in (Token.String piece) = string_value piece
 value_in (Token.Numeral x) = None
 
 -- a code, by the number of its bytes and the number that they write
@@ -78,7 +78,7 @@ abbrev pub or_refused : {A : Type 0} → Option A → Left → Found A
 or_refused found left = ok_or (option_map (λ x. (x, left)) found) left.passed
 
 -- what is left after this token, before those
-abbrev pub after : Placed → List Placed → Left → Left
+abbrev pub after : EndedToken → List EndedToken → Left → Left
 after p rest left = record { passed = p.end; tokens = rest; ends = left.ends; stop = left.stop }
 
 -- the next token
