@@ -18,7 +18,7 @@ use bases::bases_in;
 use clap::ArgMatches;
 use command_line::command;
 use hayro_cmap::{Bundle, NamedFiles};
-use inputs::{bases, needed};
+use inputs::needed;
 use messages::{fault, print_usage, report};
 use options::Options;
 use std::env;
