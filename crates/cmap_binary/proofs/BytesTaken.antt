@@ -1,21 +1,15 @@
 -- A reader some bytes on.
-use Rattle.std.proofs.Common.{◌≡◌, ℕ, ◌+◌, ◌-◌, ◌*◌, ◌/◌, ◌≤◌, List, length, take, drop, refl, ap, ◌∙◌, sym, arith, length-take-le}
+use Rattle.std.proofs.Common.{◌≡◌, ℕ, ◌+◌, ◌-◌, ◌*◌, ◌/◌, ◌%◌, ◌≤◌, List, length, take, drop, ap, ◌∙◌, sym, arith, length-take-le}
 use Rattle.std.proofs.lemmas.List.{drop-drop}
 use Rattle.cmap_binary.specs.Reader.{Reading, bytes_left, IsAtByte, after_bytes}
-use Rattle.cmap_binary.specs.TableTaken.{StaysAtByte}
 
-pub bytes_left-moved : (old new : Reading) (count : ℕ) → IsAtByte old → new ≡ after_bytes old count → bytes_left new ≡ drop count (bytes_left old)
-bytes_left-moved old new count h moves =
+pub bytes_left-moved : (old : Reading) (count : ℕ) → IsAtByte old → bytes_left (after_bytes old count) ≡ drop count (bytes_left old)
+bytes_left-moved old count h =
     let e : (old.taken + 8 * count) / 8 ≡ old.taken / 8 + count = omega arith in
-    ap bytes_left moves ∙ ap (λ n. drop n old.source) e ∙ sym (drop-drop count (old.taken / 8) old.source)
+    ap (λ n. drop n old.source) e ∙ sym (drop-drop count (old.taken / 8) old.source)
 
-pub moved-twice : (old mid new : Reading) (a b : ℕ) → mid ≡ after_bytes old a → new ≡ after_bytes mid b → new ≡ after_bytes old (a + b)
-moved-twice old mid new a b first second =
-    let e : old.taken + 8 * a + 8 * b ≡ old.taken + 8 * (a + b) = omega arith in
-    second ∙ ap (λ r. after_bytes r b) first ∙ ap (λ n. record { source = old.source; taken = n }) e
-
-pub StaysAtByte-moved : (old new : Reading) (count : ℕ) → IsAtByte old → new ≡ after_bytes old count → StaysAtByte old new
-StaysAtByte-moved old new count h moves = rw moves (refl, omega arith)
+pub IsAtByte-moved : (old new : Reading) (count : ℕ) → IsAtByte old → new ≡ after_bytes old count → IsAtByte new
+IsAtByte-moved old new count h moves = let e : (old.taken + 8 * count) % 8 ≡ 0 = omega arith in rw moves e
 
 -- as many bytes as lie in a slice are passed
 abbrev pub at_bit : List ℕ → ℕ → ℕ → Reading

@@ -1,6 +1,6 @@
 -- What bytes begin with, one thing after another: the parts have one value each, and so has the whole; or a part has none, and so has the whole.
 use Rattle.std.proofs.Common.{◌≡◌, true, false, ℕ, zero, suc, ◌<◌, ◌≤◌, ◌+◌, refl, sym, ap, ◌∙◌, subst, List, [], ◌∷◌, ◌++◌, length, drop, arith, append_assoc, append-nil}
-use Rattle.std.specs.Prelude.{◌==◌, ◌↔◌, IsSome, MatchOption, Option, Some, None}
+use Rattle.std.specs.Prelude.{◌==◌, ◌↔◌, IfOk, IsSome, MatchOption, Option, Result, Some, None, Ok, Err}
 use Rattle.std.specs.Borrow.{Bor}
 use Rattle.std.specs.List.{IsSplitAt}
 use Rattle.std.proofs.lemmas.Bool.{eqb-true, eqb-false}
@@ -43,6 +43,10 @@ module _ {A S B : Type 0} {P : A × S → Type 0} {x : A} {rest : S} (Q : A → 
   then_finds seen None none = then_next none
   then_finds seen (Some y) only = then_only only
 
+pub then_finds_ok : {A S B V E : Type 0} {P : A × S → Type 0} {x : A} {rest : S} (Q : A → S → B → Type 0) (seen : V → B) (r : Result (Option V) E) → IsOnly P (x, rest) → IfOk r (Finds (Q x rest) seen) → IfOk r (Finds (Then P Q) seen)
+then_finds_ok Q seen (Ok o) first finds = then_finds Q first seen o finds
+then_finds_ok Q seen (Err e) first finds = tt
+
 pub finds_under : {A B C : Type 0} (P : B → Type 0) (seen : A → B) (o : Option A) → C → Finds P seen o → Finds (λ y. C × P y) seen o
 finds_under P seen None holds none = λ other is. none other is.1
 finds_under P seen (Some y) holds only = record { holds = (holds, only.holds); alone = λ other is. only.alone other is.1 }
@@ -72,7 +76,7 @@ continues_only {f = f} row only = record { holds = row.made _ only.holds; alone 
 pub continues_none : {A B : Type 0} {P : A → Type 0} {f : B → A} {Q : B → Type 0} → Continues P f Q → HoldsOfNone Q → HoldsOfNone P
 continues_none row none other is = let (y, at, same) = row.parts other is in none y at
 
--- n things in a row: those before place i are these, and the others come from here
+-- n things in a row: those before index i are these, and the others come from here
 pub record HasRow {A S : Type 0} (item : S → A × S → Type 0) (n : ℕ) (start : S) (i : ℕ) (here : S) (xs : List A) : Type 0 where
   pub left : ℕ
   pub count : i + left ≡ n

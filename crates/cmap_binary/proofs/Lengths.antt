@@ -1,91 +1,87 @@
--- The lengths of words, from how many there are of each.
-use Rattle.std.proofs.Common.{◌≡◌, ℕ, suc, ◌+◌, ◌-◌, ◌*◌, ◌^◌, ◌<◌, ◌≤◌, List, [], ◌∷◌, ◌++◌, inl, inr, length, get_or, take, drop, replicate, refl, ap, ◌∙◌, sym, arith}
-use Rattle.std.specs.List.{All}
+-- The lengths of words, from how many there are of each, and the room that these take.
+use Rattle.std.proofs.Common.{◌≡◌, ℕ, ◌+◌, ◌-◌, ◌*◌, ◌^◌, ◌<◌, ◌≤◌, List, [], ◌∷◌, ◌++◌, inl, inr, length, get_or, drop, replicate, refl, ap, ◌∙◌, sym, arith}
+use Rattle.std.specs.List.{All, sum_by}
 use Rattle.std.proofs.lemmas.Bool.{cases_lt}
-use Rattle.std.proofs.lemmas.List.Elements.{All-append, All-from_get_or}
-use Rattle.std.proofs.lemmas.List.{append-nil, append_assoc, get_or-append_right, get_or-replicate, get_or_append_left, length-append, length-replicate, length-take-le, take-append-drop, take_more}
+use Rattle.std.proofs.lemmas.List.{append-nil, append_assoc, drop_all, drop_more, get_or-append-add, get_or-replicate, length-append, length-replicate}
+use Rattle.std.proofs.lemmas.List.Elements.{All-append, All-nil}
+use Rattle.std.proofs.lemmas.List.Folds.{sum_by-replicate}
 use Rattle.std.proofs.lemmas.List.Sorted.{IsNonDecreasingBy-from_default}
 use Rattle.std.proofs.lemmas.List.Sums.{sum_by-append}
-use Rattle.std.proofs.lemmas.List.Folds.{sum_by-replicate}
 use Rattle.cmap_binary.specs.PrefixWords.{AreWordLengths, lengths_from}
-use Rattle.cmap_binary.specs.WordsByLength.{lengths_to, room_of}
+use Rattle.cmap_binary.proofs.RankedWords.{lengths_from-least, word_here, word_later, words_sized}
 
-pub length-lengths : (len count : ℕ) (later : List ℕ) → length (replicate count len ++ later) ≡ count + length later
-length-lengths len count later = simp (length-append, length-replicate)
-
-pub get_or-past : (len count k : ℕ) (later : List ℕ) → count ≤ k → get_or (replicate count len ++ later) k 0 ≡ get_or later (k - count) 0
-get_or-past len count k later h = get_or-append_right (replicate count len) later count k 0 (length-replicate count len) h
-
-pub get_or-front : (len count k : ℕ) (later : List ℕ) → k < count → get_or (replicate count len ++ later) k 0 ≡ len
-get_or-front len count k later h = get_or_append_left (replicate count len) later 0 k (omega (arith, length-replicate count len)) ∙ get_or-replicate count k len 0 h
-
--- no length is shorter than the first one, or longer than the last one that is counted
-pub lengths_from-within : (len : ℕ) (counts : List ℕ) (k : ℕ) → k < length (lengths_from len counts) → (len ≤ get_or (lengths_from len counts) k 0) × (get_or (lengths_from len counts) k 0 < len + length counts)
-lengths_from-within len [] k h = absurd (omega arith)
-lengths_from-within len (count ∷ counts) k h =
-    let later = lengths_from (len + 1) counts in
-    elim (cases_lt k count) [
-      | inl below ↦ rw (get_or-front len count k later below) (omega arith, omega arith)
-      | inr past ↦
-          let more = lengths_from-within (len + 1) counts (k - count) (omega (arith, length-lengths len count later)) in
-          rw (get_or-past len count k later past) (omega arith, omega arith)
-    ]
-
-lengths_from-rising : (len : ℕ) (counts : List ℕ) (i j : ℕ) → i ≤ j → j < length (lengths_from len counts) → get_or (lengths_from len counts) i 0 ≤ get_or (lengths_from len counts) j 0
-lengths_from-rising len [] i j h k = absurd (omega arith)
-lengths_from-rising len (count ∷ counts) i j h k =
+rising : (len : ℕ) (counts : List ℕ) (i j : ℕ) → i ≤ j → j < length (lengths_from len counts) → get_or (lengths_from len counts) i 0 ≤ get_or (lengths_from len counts) j 0
+rising len [] i j h within = absurd (omega arith)
+rising len (count ∷ counts) i j h within =
     let later = lengths_from (len + 1) counts in
     elim (cases_lt i count) [
-      | inl below ↦ omega (arith, get_or-front len count i later below, lengths_from-within len (count ∷ counts) j k)
+      | inl below ↦ omega (arith, (word_here count len later i below).0, lengths_from-least len (count ∷ counts) j 0 within)
       | inr past ↦
-          let after : count ≤ j = omega arith in
-          omega (arith, get_or-past len count i later past, get_or-past len count j later after, lengths_from-rising (len + 1) counts (i - count) (j - count) (omega arith) (omega (arith, length-lengths len count later)))
+          let here : count + (i - count) ≡ i = omega arith in
+          let there : count + (j - count) ≡ j = omega arith in
+          rw (← here, ← there) (omega (arith, (word_later count len later (i - count) 0).0, (word_later count len later (j - count) 0).0, rising (len + 1) counts (i - count) (j - count) (omega arith) (omega (arith, words_sized count len later))))
     ]
 
-abbrev pub AreShort : List ℕ → Type 0
-AreShort lens = All (λ l. l ≤ 32) lens
+abbrev room_of : List ℕ → ℕ
+room_of lens = sum_by (λ l. 2 ^ (32 - l)) lens
 
-pub AreWordLengths-room : (counts : List ℕ) → AreShort (lengths_from 1 counts) → room_of (lengths_from 1 counts) ≤ 2 ^ 32 → AreWordLengths (lengths_from 1 counts)
-AreWordLengths-room counts short room = record {
-  lengths = All-from_get_or (λ l. (1 ≤ l) × (l ≤ 32)) (lengths_from 1 counts) 0 (λ k h. ((lengths_from-within 1 counts k h).0, short k 0 h));
-  rising = IsNonDecreasingBy-from_default (λ x. x) (lengths_from 1 counts) 0 (lengths_from-rising 1 counts);
-  room = room;
-}
+abbrev AreShort : List ℕ → Type 0
+AreShort lens = All (λ l. (1 ≤ l) × (l ≤ 32)) lens
 
--- ---- length by length
-lengths_from-append : (len : ℕ) (counts more : List ℕ) → lengths_from len (counts ++ more) ≡ lengths_from len counts ++ lengths_from (len + length counts) more
-lengths_from-append len [] more = let e : len + 0 ≡ len = omega arith in rw e refl
-lengths_from-append len (count ∷ counts) more =
-    let e : len + 1 + length counts ≡ len + suc (length counts) = omega arith in
-    ap (λ ls. replicate count len ++ ls) (lengths_from-append (len + 1) counts more ∙ ap (λ l. lengths_from (len + 1) counts ++ lengths_from l more) e)
-    ∙ sym (append_assoc (replicate count len) (lengths_from (len + 1) counts) (lengths_from (len + suc (length counts)) more))
+-- the words of the first i lengths are so many, and leave this room
+pub record IsCounted (counts : List ℕ) (i total room : ℕ) : Type 0 where
+  pub before : List ℕ
+  pub whole : lengths_from 1 counts ≡ before ++ lengths_from (i + 1) (drop i counts)
+  pub lengths : AreShort before
+  pub total_is : total ≡ length before
+  pub room_is : room + room_of before ≡ 2 ^ 32
+  pub few : total + room ≤ 2 ^ 32
 
-pub lengths_from-split : (i : ℕ) (counts : List ℕ) → i ≤ length counts → lengths_from 1 counts ≡ lengths_to i counts ++ lengths_from (i + 1) (drop i counts)
-lengths_from-split i counts h =
-    let e : 1 + length (take i counts) ≡ i + 1 = omega (arith, length-take-le i counts h) in
-    ap (lengths_from 1) (sym (take-append-drop i counts)) ∙ lengths_from-append 1 (take i counts) (drop i counts) ∙ ap (λ n. lengths_to i counts ++ lengths_from n (drop i counts)) e
+pub IsCounted-none : (counts : List ℕ) → IsCounted counts 0 0 (2 ^ 32)
+IsCounted-none counts = record { before = []; whole = refl; lengths = All-nil (λ l. (1 ≤ l) × (l ≤ 32)); total_is = refl; room_is = refl; few = omega arith }
 
-lengths_to-more : (i : ℕ) (counts : List ℕ) → i < length counts → lengths_to (i + 1) counts ≡ lengths_to i counts ++ replicate (get_or counts i 0) (i + 1)
-lengths_to-more i counts h =
-    let e : 1 + length (take i counts) ≡ i + 1 = omega (arith, length-take-le i counts (omega arith)) in
-    ap (lengths_from 1) (take_more counts i 0 h) ∙ lengths_from-append 1 (take i counts) (get_or counts i 0 ∷ [])
-    ∙ ap (λ n. lengths_to i counts ++ (replicate (get_or counts i 0) n ++ [])) e ∙ ap (λ ls. lengths_to i counts ++ ls) (append-nil (replicate (get_or counts i 0) (i + 1)))
+module _ {counts : List ℕ} {i total room : ℕ} (c : IsCounted counts i total room) where
+  pub IsCounted-all : length counts ≤ i → (total ≡ length (lengths_from 1 counts)) × AreWordLengths (lengths_from 1 counts)
+  IsCounted-all end =
+      let whole : c.before ≡ lengths_from 1 counts = sym (c.whole ∙ ap (λ cs. c.before ++ lengths_from (i + 1) cs) (drop_all i counts end) ∙ append-nil c.before) in (
+        c.total_is ∙ ap length whole,
+        record {
+          lengths = rw whole at c.lengths;
+          rising = IsNonDecreasingBy-from_default (λ x. x) (lengths_from 1 counts) 0 (rising 1 counts);
+          room = omega (arith, ap room_of whole, c.room_is);
+        },
+      )
 
-pub length-lengths_to : (i : ℕ) (counts : List ℕ) → i < length counts → length (lengths_to (i + 1) counts) ≡ length (lengths_to i counts) + get_or counts i 0
-length-lengths_to i counts h = rw (lengths_to-more i counts h, length-append (lengths_to i counts), length-replicate (get_or counts i 0) (i + 1)) refl
+  module _ (within : i < length counts) where
+    abbrev here : List ℕ
+    here = replicate (get_or counts i 0) (i + 1)
 
-pub room-lengths_to : (i : ℕ) (counts : List ℕ) → i < length counts → room_of (lengths_to (i + 1) counts) ≡ room_of (lengths_to i counts) + get_or counts i 0 * 2 ^ (32 - (i + 1))
-room-lengths_to i counts h =
-    let f : ℕ → ℕ = λ l. 2 ^ (32 - l) in
-    rw (lengths_to-more i counts h, sum_by-append f (lengths_to i counts), sum_by-replicate f (get_or counts i 0) (i + 1)) refl
+    abbrev later : List ℕ
+    later = lengths_from (i + 1 + 1) (drop (i + 1) counts)
 
--- those up to i take no more room than all
-pub room-within : (i : ℕ) (counts : List ℕ) → i ≤ length counts → room_of (lengths_to i counts) ≤ room_of (lengths_from 1 counts)
-room-within i counts h = rw (lengths_from-split i counts h, sum_by-append (λ l. 2 ^ (32 - l)) (lengths_to i counts)) (omega arith)
+    opened : lengths_from 1 counts ≡ c.before ++ (here ++ later)
+    opened = c.whole ∙ ap (λ cs. c.before ++ lengths_from (i + 1) cs) (drop_more counts i 0 within)
 
-pub AreShort-lengths_to : (i : ℕ) (counts : List ℕ) → i < length counts → (0 < get_or counts i 0 → i < 32) → AreShort (lengths_to i counts) → AreShort (lengths_to (i + 1) counts)
-AreShort-lengths_to i counts h few short =
-    let c = get_or counts i 0 in
-    rw (lengths_to-more i counts h) (All-append (λ l. l ≤ 32) (lengths_to i counts) (replicate c (i + 1)) short (λ k d b.
-    let inside : k < c = omega (arith, length-replicate c (i + 1)) in
-    rw (get_or-replicate c k (i + 1) d inside) (omega (arith, few (omega arith)))))
+    pub too_long : 0 < get_or counts i 0 → 32 ≤ i → AreWordLengths (lengths_from 1 counts) → ⊥
+    too_long some long sound =
+        let first = ap (λ ls. get_or ls (length c.before + 0) 0) opened ∙ get_or-append-add c.before (here ++ later) 0 0 ∙ (word_here (get_or counts i 0) (i + 1) later 0 some).0 in
+        omega (arith, first, sound.lengths (length c.before + 0) 0 (omega (arith, ap length opened, length-append c.before (here ++ later), words_sized (get_or counts i 0) (i + 1) later)))
+
+    room_here : (ls : List ℕ) → room_of (here ++ ls) ≡ get_or counts i 0 * 2 ^ (32 - (i + 1)) + room_of ls
+    room_here ls = let f : ℕ → ℕ = λ l. 2 ^ (32 - l) in omega (arith, sum_by-append f here ls, sum_by-replicate f (get_or counts i 0) (i + 1))
+
+    pub no_room : room < get_or counts i 0 * 2 ^ (32 - (i + 1)) → AreWordLengths (lengths_from 1 counts) → ⊥
+    no_room over sound = omega (arith, over, ap room_of opened, sum_by-append (λ l. 2 ^ (32 - l)) c.before (here ++ later), room_here later, c.room_is, sound.room)
+
+    pub IsCounted-more : (left : ℕ) → (0 < get_or counts i 0 → i < 32) → left + get_or counts i 0 * 2 ^ (32 - (i + 1)) ≡ room → get_or counts i 0 ≤ get_or counts i 0 * 2 ^ (32 - (i + 1)) → IsCounted counts (i + 1) (total + get_or counts i 0) left
+    IsCounted-more left short takes some =
+        let size = length-replicate (get_or counts i 0) (i + 1) in
+        record {
+          before = c.before ++ here;
+          whole = opened ∙ sym (append_assoc c.before here later);
+          lengths = All-append (λ l. (1 ≤ l) × (l ≤ 32)) c.before here c.lengths (λ k d inside.
+              rw (get_or-replicate (get_or counts i 0) k (i + 1) d (omega (arith, inside, size))) (omega arith, omega (arith, short (omega (arith, inside, size)))));
+          total_is = omega (arith, c.total_is, length-append c.before here, size);
+          room_is = omega (arith, c.room_is, takes, sum_by-append (λ l. 2 ^ (32 - l)) c.before here, sum_by-replicate (λ l. 2 ^ (32 - l)) (get_or counts i 0) (i + 1));
+          few = omega (arith, c.few, takes, some);
+        }

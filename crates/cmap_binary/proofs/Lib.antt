@@ -4,11 +4,10 @@ pub mod BitsTaken
 pub mod BytesTaken
 pub mod Fronts
 pub mod Lengths
-pub mod NumbersOfBits
-pub mod PlacesZipped
+pub mod RankedWords
 pub mod Reading
 pub mod RowsAdded
 pub mod SegmentsSaid
 pub mod TablesDecoded
 pub mod TablesTaken
-pub mod WordsBegun
+pub mod WordsSearched

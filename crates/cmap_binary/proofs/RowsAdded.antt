@@ -13,7 +13,7 @@ use Rattle.cmap_binary.proofs.Fronts.{HasRow, row_start, row_more, row_wrong, ro
 abbrev pub with_lists : File → Lists → File
 with_lists file lists = record { metadata = file.metadata; lists = lists; uses = file.uses }
 
--- n things in a row: those before place i are added to the file, as declarations of this kind
+-- n things in a row: those before index i are added to the file, as declarations of this kind
 pub record AddsRow {A S : Type 0} (item : S → A × S → Type 0) (kind : A → Declaration) (n : ℕ) (start : S) (old : File) (i : ℕ) (here : S) (now : File) : Type 0 where
   pub entries : List A
   pub row : HasRow item n start i here entries

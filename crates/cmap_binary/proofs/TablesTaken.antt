@@ -1,88 +1,79 @@
--- A prefix table that a reader takes part by part.
-use Rattle.std.proofs.Common.{◌≡◌, ◌≤◌, ℕ, ◌+◌, ◌*◌, ◌<◌, suc, List, [], ◌∷◌, ◌++◌, length, take, drop, Option, Some, None, Ok, Err, ap, ◌∙◌, sym, subst, arith}
-use Rattle.std.specs.Prelude.{Result, IfOk, MatchOption}
-use Rattle.std.proofs.lemmas.List.{length-drop}
-use Rattle.std.proofs.lemmas.List.FromFn.{length-map-range_with_len, map-range_with_len_more}
-use Rattle.std.proofs.Math.Nat.{mul-le-mul_left, mul-suc}
-use Rattle.std.proofs.Math.Numerals.{add-one}
+-- Where a prefix table ends that a text begins with.
+use Rattle.std.proofs.Common.{◌≡◌, ℕ, zero, suc, ◌+◌, ◌-◌, ◌*◌, ◌≤◌, List, inl, inr, length, get_or, take, drop, Some, refl, ap, ◌∙◌, sym, arith}
+use Rattle.std.specs.Prelude.{nat_le, slice_index}
+use Rattle.std.proofs.lemmas.Bool.{cases_Bool, leb-true}
+use Rattle.std.proofs.lemmas.List.{drop-drop, get_or-drop, length-drop, length-map}
+use Rattle.std.proofs.lemmas.Option.{none-some, same_Some}
+use Rattle.std.proofs.Math.Nat.{mul-suc}
 use Rattle.cmap_files.specs.BigEndian.{big_endian}
-use Rattle.cmap_binary.specs.PrefixWords.{Place, AreWordLengths, TableFront, counted, lengths_from, numbers, symbols_start, table_end, word_lengths, zip_places}
-use Rattle.cmap_binary.specs.Reader.{Reading, bytes_left, IsAtByte, after_bytes}
-use Rattle.cmap_binary.specs.TableReading.{BeginsWithNoTable, TakesMost, TakesNumbers, TakesCounts}
-use Rattle.cmap_binary.specs.TableTaken.{TakesTable}
-use Rattle.cmap_binary.specs.WordsByLength.{IsTable, places_of}
-use Rattle.cmap_binary.proofs.BytesTaken.{bytes_left-moved, moved-twice, StaysAtByte-moved}
-use Rattle.cmap_binary.proofs.PlacesZipped.{map-len-zip_places}
-use Rattle.cmap_binary.proofs.TablesDecoded.{IsPrefixFree-table}
+use Rattle.cmap_files.specs.Only.{IsOnly}
+use Rattle.cmap_binary.specs.Fronts.{FieldAt, RowOf}
+use Rattle.cmap_binary.specs.PrefixWords.{CodeWord, lengths_from}
+use Rattle.cmap_binary.specs.Reader.{Reading, IsAtByte, after_bytes, bytes_left, number_at}
+use Rattle.cmap_binary.specs.TableFronts.{MostAt, TableAt}
+use Rattle.cmap_binary.specs.TableTaken.{TakesTable, counted, table_end}
+use Rattle.cmap_binary.specs.WordsByLength.{IsTable, words_of}
+use Rattle.cmap_binary.proofs.BytesTaken.{bytes_left-moved}
+use Rattle.cmap_binary.proofs.TablesDecoded.{IsPrefixFree-table, IsSound-table, lens_are}
 
--- ---- one number more
-pub TakesNumbers-more : (width i n : ℕ) (old new next : Reading) (taken : List ℕ) → IsAtByte old → TakesNumbers width i old taken new → (width ≤ length (bytes_left new)) × (n ≡ big_endian (take width (bytes_left new))) → next ≡ after_bytes new width → TakesNumbers width (i + 1) old (taken ++ n ∷ []) next
-TakesNumbers-more width i n old new next taken h t here moves =
-    let at = bytes_left-moved old new (width * i) h t.moves in
-    let up : width * (i + 1) ≡ width * i + width = ap (λ k. width * k) (add-one i) ∙ mul-suc width i in
-    record {
-      enough = omega (arith, ap length at, length-drop (width * i) (bytes_left old));
-      taken_is = ap (λ ns. ns ++ n ∷ []) t.taken_is ∙ ap (λ m. numbers width i (bytes_left old) ++ m ∷ []) (here.1 ∙ ap (λ bs. big_endian (take width bs)) at)
-          ∙ sym (map-range_with_len_more (λ j. big_endian (take width (drop (width * j) (bytes_left old)))) 0 i i (omega arith));
-      moves = rw up (moved-twice old new next (width * i) width t.moves moves);
-    }
+-- what follows so many bytes, which are there
+pub record IsAfter (text : List ℕ) (count : ℕ) (rest : List ℕ) : Type 0 where
+  pub enough : count ≤ length text
+  pub rest_is : rest ≡ drop count text
 
--- too few bytes for one more
-pub TakesNumbers-short : (width i count : ℕ) (old new : Reading) (taken : List ℕ) → IsAtByte old → TakesNumbers width i old taken new → i < count → length (bytes_left new) < width → length (bytes_left old) < width * count
-TakesNumbers-short width i count old new taken h t within short =
-    let up : width * suc i ≡ width * i + width = mul-suc width i in
-    omega (arith, up, mul-le-mul_left width within, short, ap length (bytes_left-moved old new (width * i) h t.moves), length-drop (width * i) (bytes_left old))
+IsAfter-more : (text mid rest : List ℕ) (a b : ℕ) → IsAfter text a mid → IsAfter mid b rest → IsAfter text (a + b) rest
+IsAfter-more text mid rest a b first second = record {
+  enough = omega (arith, first.enough, second.enough, ap length first.rest_is, length-drop a text);
+  rest_is = second.rest_is ∙ ap (drop b) first.rest_is ∙ drop-drop b a text;
+}
 
--- ---- the counts
-TakesCounts-read : (old mid new : Reading) (most : ℕ) (counts : List ℕ) → IsAtByte old → TakesMost old most mid → TakesNumbers 2 most mid counts new → TakesCounts old counts new
-TakesCounts-read old mid new most counts h m n =
-    let left = bytes_left-moved old mid 3 h m.moves in
-    record {
-      enough = omega (arith, m.enough, m.most_is, n.enough, ap length left, length-drop 3 (bytes_left old));
-      lengths = ap (lengths_from 1) (n.taken_is ∙ ap (λ k. numbers 2 k (bytes_left mid)) m.most_is ∙ ap (numbers 2 (counted (bytes_left old))) left);
-      moves = moved-twice old mid new 3 (2 * counted (bytes_left old)) m.moves (n.moves ∙ ap (λ k. after_bytes mid (2 * k)) m.most_is);
-    }
+number_at-some : (width n : ℕ) (bytes : List ℕ) → number_at width bytes ≡ Some n → (width ≤ length bytes) × (n ≡ big_endian (take width bytes))
+number_at-some width n bytes is = elim (cases_Bool (nat_le width (length bytes))) [
+  | inl within ↦ (leb-true width (length bytes) within, sym (same_Some _ _ (rw within at is)))
+  | inr past ↦ absurd (none-some n (rw past at is))
+]
 
-pub counts_read : {V E : Type 0} (items : V → List ℕ) (r : Result (Option V) E) (old mid new : Reading) (most : ℕ) → IsAtByte old → TakesMost old most mid
-    → IfOk r (λ o. MatchOption o (length (bytes_left mid) < 2 * most) (λ v. TakesNumbers 2 most mid (items v) new))
-    → IfOk r (λ o. MatchOption o (BeginsWithNoTable (bytes_left old)) (λ v. TakesCounts old (items v) new))
-unfolding TableFront
-counts_read items (Ok (Some v)) old mid new most h m n = TakesCounts-read old mid new most (items v) h m n
-counts_read items (Ok None) old mid new most h m short =
-    λ width table rest front. absurd (omega (arith, front.enough, m.most_is, short, ap length (bytes_left-moved old mid 3 h m.moves), length-drop 3 (bytes_left old)))
-counts_read items (Err e) old mid new most h m n = tt
+pub fields_after : (width count : ℕ) (text : List ℕ) (r : List ℕ × List ℕ) → RowOf (FieldAt width) count text r → IsAfter text (width * count) r.1 × (length r.0 ≡ count)
+fields_after width zero text r is = let none : width * 0 ≡ 0 = omega arith in rw (is, none) (record { enough = omega arith; rest_is = refl }, refl)
+fields_after width (suc count) text r (x, mid, (number, next), (xs, end, row, is)) =
+    let (more, size) = fields_after width count mid (xs, end) row in
+    let up : width + width * count ≡ width * suc count = omega (arith, mul-suc width count) in
+    rw is (rw up at (IsAfter-more text mid end width (width * count) (record { enough = (number_at-some width x text number).0; rest_is = next }) more), ap suc size)
 
--- ---- the table
-pub unsound : (width : ℕ) (old mid : Reading) (counts : List ℕ) → TakesCounts old counts mid → (AreWordLengths (lengths_from 1 counts) → ⊥) → (table : List Place) (rest : List ℕ) → TableFront width (bytes_left old) table rest → ⊥
-unfolding TableFront
-unsound width old mid counts t none table rest front = none (subst AreWordLengths (sym t.lengths) front.sound)
+most_after : (text : List ℕ) (r : ℕ × List ℕ) → MostAt text r → IsAfter text 3 r.1 × (r.0 ≡ counted text)
+most_after text r (filled, tail, (number, next), (most, rest, byte, is)) =
+    let (enough, filled_is) = number_at-some 2 filled text number in
+    let third : most ≡ slice_index text 2 = ap (λ bs. get_or bs 0 0) (sym (sym next ∙ byte)) ∙ get_or-drop 2 text 0 0 in
+    let second : IsAfter tail 1 rest = record { enough = omega (arith, ap length byte); rest_is = ap (drop 1) (sym byte) } in
+    rw (is, third, filled_is) (IsAfter-more text tail rest 2 1 (record { enough = enough; rest_is = next }) second, refl)
 
-pub no_symbols : (width : ℕ) (old mid : Reading) (counts : List ℕ) → IsAtByte old → TakesCounts old counts mid → length (bytes_left mid) < width * length (lengths_from 1 counts) → (table : List Place) (rest : List ℕ) → TableFront width (bytes_left old) table rest → ⊥
-unfolding TableFront
-no_symbols width old mid counts h t over table rest front =
-    absurd (omega (arith, front.enough, t.enough, ap length (bytes_left-moved old mid (symbols_start (bytes_left old)) h t.moves), length-drop (symbols_start (bytes_left old)) (bytes_left old), ap (λ ls. width * length ls) t.lengths))
+-- what the bytes of a table say, and where it ends
+pub record Ends (width : ℕ) (text rest : List ℕ) (table : List CodeWord) : Type 0 where
+  pub counts : List ℕ
+  pub symbols : List ℕ
+  pub is_table : IsTable counts symbols
+  pub table_is : table ≡ words_of counts symbols
+  pub after : IsAfter text (table_end width text table) rest
 
-pub IsTable-taken : (width : ℕ) (old mid new : Reading) (counts symbols : List ℕ) → TakesCounts old counts mid → AreWordLengths (lengths_from 1 counts) → TakesNumbers width (length (lengths_from 1 counts)) mid symbols new → IsTable counts symbols
-IsTable-taken width old mid new counts symbols t sound n =
-    record { a_symbol_each = ap length n.taken_is ∙ length-map-range_with_len _ 0 (length (lengths_from 1 counts)); sound = sound }
+pub TableAt-ends : (width : ℕ) (text rest : List ℕ) (table : List CodeWord) → TableAt width text (table, rest) → Ends width text rest table
+TableAt-ends width text rest table (counts, mid, (most, tail, third, row), (symbols, end, fields, (sound, is))) =
+    let lens = lengths_from 1 counts in
+    let (first, most_is) = most_after text (most, tail) third in
+    let (last, each) = fields_after width (length lens) mid (symbols, end) fields in
+    let holds : IsTable counts symbols = record { a_symbol_each = each; sound = sound } in
+    let all = IsAfter-more text mid end (3 + 2 * most) (width * length lens) (IsAfter-more text tail mid 3 (2 * most) first (fields_after 2 most tail (counts, mid) row).0) last in
+    let size : length lens ≡ length (words_of counts symbols) = omega (arith, ap length (lens_are holds), length-map (words_of counts symbols) (λ (w : CodeWord). w.len)) in
+    record { counts = counts; symbols = symbols; is_table = holds; table_is = ap (λ r. r.0) is; after = rw (ap (λ r. r.0) is, ap (λ r. r.1) is) (rw (most_is, size) at all) }
 
-pub TakesTable-taken : (width : ℕ) (old mid new : Reading) (counts symbols : List ℕ) → IsAtByte old → TakesCounts old counts mid → AreWordLengths (lengths_from 1 counts) → TakesNumbers width (length (lengths_from 1 counts)) mid symbols new
-    → TakesTable width old (places_of counts symbols) new
-unfolding TableFront
-TakesTable-taken width old mid new counts symbols h t sound n =
-    let table = IsTable-taken width old mid new counts symbols t sound n in
+pub rest_within : (width : ℕ) (text rest : List ℕ) (table : List CodeWord) → TableAt width text (table, rest) → length rest ≤ length text
+rest_within width text rest table at = omega (arith, ap length (TableAt-ends width text rest table at).after.rest_is, length-drop (table_end width text table) text)
+
+-- so a reader moves past it
+pub TakesTable-passed : (width : ℕ) (old new : Reading) (rest : List ℕ) (table : List CodeWord) → IsAtByte old → IsOnly (TableAt width (bytes_left old)) (table, rest) → new ≡ after_bytes old (length (bytes_left old) - length rest) → TakesTable width old table new
+TakesTable-passed width old new rest table h only moves =
     let text = bytes_left old in
-    let left = bytes_left-moved old mid (symbols_start text) h t.moves in
-    let size : width * length (lengths_from 1 counts) ≡ width * length (word_lengths text) = ap (λ ls. width * length ls) t.lengths in
-    let moves = moved-twice old mid new (symbols_start text) (width * length (word_lengths text)) t.moves (n.moves ∙ ap (after_bytes mid) size) in
-    record {
-      front = record {
-        enough = omega (arith, t.enough, n.enough, size, ap length left, length-drop (symbols_start text) text);
-        sound = subst AreWordLengths t.lengths sound;
-        table_is = ap (places_of counts) (n.taken_is ∙ ap (numbers width (length (lengths_from 1 counts))) left) ∙ ap (λ ls. zip_places ls (numbers width (length ls) (drop (symbols_start text) text))) t.lengths;
-        rest_is = bytes_left-moved old new (table_end width text) h moves;
-      };
-      sound = subst AreWordLengths (sym (map-len-zip_places (lengths_from 1 counts) symbols table.a_symbol_each)) sound;
-      prefix_free = IsPrefixFree-table counts symbols table;
-      place = StaysAtByte-moved old new (table_end width text) h moves;
-    }
+    let ends = TableAt-ends width text rest table only.holds in
+    let size : length text - length rest ≡ table_end width text table = omega (arith, ends.after.enough, ap length ends.after.rest_is, length-drop (table_end width text table) text) in
+    let moved = moves ∙ ap (after_bytes old) size in
+    let left : rest ≡ bytes_left new = ends.after.rest_is ∙ sym (ap bytes_left moved ∙ bytes_left-moved old (table_end width text table) h) in
+    record { front = rw left at only; sound = rw ends.table_is (IsSound-table ends.is_table); prefix_free = rw ends.table_is (IsPrefixFree-table ends.is_table); moves = moved }

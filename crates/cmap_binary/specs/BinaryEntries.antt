@@ -1,6 +1,6 @@
 -- The entries of a segment of a binary file, each by what the one before leaves.
 use Rattle.std.specs.Prelude.{ℕ, zero, suc, ◌+◌, ◌-◌, ◌<◌, ◌^◌, List, [], Option, Some, None}
-use Rattle.cmap_binary.specs.PrefixWords.{Place, Decodes, bits}
+use Rattle.cmap_binary.specs.PrefixWords.{CodeWord, Decodes, bits}
 use Rattle.cmap_runs.specs.Ranges.{Span}
 use Rattle.cmap_files.specs.Files.{CidEntry, BfEntry}
 use Rattle.cmap_binary.specs.Bundles.{PrefixTables}
@@ -27,11 +27,11 @@ abbrev pub ColumnsAt : Shape → List ℕ → Columns × List ℕ → Type 0
 ColumnsAt shape text = Then (SizedAt text) (λ deltas mid. Then (CountsAt shape mid) (λ counts rest. Gives (record { deltas = bits deltas; counts = counts; base = 0 }, rest)))
 
 -- the symbol of the code word that the bits begin with
-abbrev pub SymbolAt : List Place → List ℕ → ℕ × List ℕ → Type 0
+abbrev pub SymbolAt : List CodeWord → List ℕ → ℕ × List ℕ → Type 0
 SymbolAt table stream r = (len : ℕ) × Decodes table stream r.0 len r.1
 
 -- how far an entry ends after its start: a range one more than its count, a single code there
-abbrev pub WidthAt : List Place → Option (List ℕ) → ℕ × Option (List ℕ) → Type 0
+abbrev pub WidthAt : List CodeWord → Option (List ℕ) → ℕ × Option (List ℕ) → Type 0
 WidthAt table None = Gives (0, None)
 WidthAt table (Some counts) = Then (SymbolAt table counts) (λ count rest. Gives (count + 1, Some rest))
 

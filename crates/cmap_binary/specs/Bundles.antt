@@ -1,21 +1,22 @@
--- Bundles: prefix tables, and files by their places.
+-- Bundles: prefix tables, and files by their indices.
 use Rattle.std.specs.Prelude.{ℕ, List}
-use Rattle.cmap_binary.specs.PrefixWords.{Place, TableFront}
-use Rattle.cmap_binary.specs.Fronts.{Then, AllOf, FramedAt, SizedAt}
+use Rattle.cmap_binary.specs.PrefixWords.{CodeWord}
+use Rattle.cmap_binary.specs.TableFronts.{TableAt}
+use Rattle.cmap_binary.specs.Fronts.{Then, Gives, AllOf, FramedAt, SizedAt}
 
 -- the prefix tables of a bundle: of deltas and of counts
 pub record PrefixTables : Type 0 where
-  pub delta : List Place
-  pub count : List Place
+  pub delta : List CodeWord
+  pub count : List CodeWord
 
--- its files, place by place
+-- its files, index by index
 pub record Bundle : Type 0 where
   pub tables : PrefixTables
   pub files : List (List ℕ)
 
 -- a text that begins with the two tables; what follows them is ignored
 abbrev pub HoldsTables : List ℕ → PrefixTables → Type 0
-HoldsTables text tables = (after_delta ignored : List ℕ) × TableFront 4 text tables.delta after_delta × TableFront 1 after_delta tables.count ignored
+HoldsTables text = Then (TableAt 4 text) (λ delta mid. Then (TableAt 1 mid) (λ count ignored. Gives (record { delta = delta; count = count })))
 
 -- files, each of which tells its length after six bytes, which aren't checked
 abbrev pub AreFiles : List ℕ → List (List ℕ) → Type 0

@@ -9,6 +9,6 @@ pub mod Fronts
 pub mod PrefixWords
 pub mod Reader
 pub mod TableTaken
-pub mod TableReading
+pub mod TableFronts
 pub mod WordsByLength
 pub mod WordsFound

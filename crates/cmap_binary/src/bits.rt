@@ -1,6 +1,6 @@
 //! Bits, and big-endian numbers of one to four bytes, read from bytes in order.
 
-ghost use Rattle.std.specs.Prelude.{◌≡◌, ℕ, ◌/◌, ◌≤◌, ◌↔◌, Bool, [], ◌∷◌, length, option_map, is_some, slice_get, take, IsTrue, IfSome, if◌then◌else◌, nat_le, ◌&&◌};
+ghost use Rattle.std.specs.Prelude.{◌≡◌, ℕ, ◌/◌, ◌≤◌, ◌↔◌, Bool, List, [], ◌∷◌, ◌++◌, length, option_map, is_some, slice_get, IsTrue, IfSome, if◌then◌else◌, nat_le, ◌&&◌};
 ghost use Rattle.std.specs.List.{before_first};
 ghost use Rattle.cmap_files.specs.BigEndian.{big_endian};
 ghost use Rattle.cmap_binary.specs.Reader.{bits_left, bytes_left, IsAtByte, after_bits, after_bytes, front, number_at, AnswersByByte, AnswersBy};
@@ -15,9 +15,9 @@ use std::marker::Model;
 #[derive(Debug, Drop)]
 pub struct Reader<'a> {
     bytes: &'a [u8],
-    // whole bytes passed
+    /// Whole bytes passed.
     byte: usize,
-    // bits taken of the next one
+    /// Bits taken of the next one.
     bit: u8,
 }
 
@@ -160,16 +160,33 @@ impl<'a> Reader<'a> {
         self.bit == 0
     }
 
-    // The next eight bits as a byte, where two bytes have them and the bits that go before.
+    /// The bytes that are left.
+    pub(crate) fn left(&self) -> &'a [u8]
+        ensures { result.now ≡ bytes_left self.now }
+    {
+        &self.bytes[self.byte..]
+    }
+
+    /// Moves past `n` bytes.
+    pub(crate) fn skip_bytes(&mut self, n: usize)
+        requires at_byte { IsAtByte self.old }
+        requires within { n ≤ length (bytes_left self.old) }
+        ensures { self.new ≡ after_bytes self.old n }
+    {
+        self.byte += n;
+    }
+
+    /// The next eight bits as a byte, where two bytes have them and the bits that go before.
     pub(crate) fn peek_u8(&self) -> Option<u8>
-        ensures { IfSome result (λ byte. take 8 (bits_left self.now) ≡ bits (byte ∷ [])) }
+        ensures { IfSome result
+            (λ byte. (later : List ℕ) × (bits_left self.now ≡ bits (byte ∷ []) ++ later)) }
     {
         let low = *self.bytes.get(self.byte + 1)?;
         let pair = u16::from_be_bytes([self.bytes[self.byte], low]);
         Some((pair >> (8 - self.bit) & 0xFF) as u8)
     }
 
-    // Moves past `count` bits.
+    /// Moves past `count` bits.
     pub(crate) fn skip_bits(&mut self, count: u8)
         requires { count ≤ length (bits_left self.old) }
         ensures { self.new ≡ after_bits self.old count }
@@ -179,7 +196,7 @@ impl<'a> Reader<'a> {
         self.bit = (bit % 8) as u8;
     }
 
-    // A reader at the same place, to try what may fail.
+    /// A reader at the same bit.
     pub(crate) fn fork(&self) -> Reader<'a>
         ensures { result ≡ self.now }
     {

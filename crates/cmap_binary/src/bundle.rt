@@ -14,7 +14,7 @@ use crate::prefix::PrefixTable;
 use cmap_files::names::CMapName;
 use std::alloc::{AllocError, Global};
 
-/// Prefix tables of binary CMap files, and such files by their places. The files are slices of the
+/// Prefix tables of binary CMap files, and such files by their indices. The files are slices of the
 /// bytes that were parsed.
 #[derive(Debug, Drop)]
 pub struct Bundle<'b> {
@@ -86,7 +86,7 @@ fn split_files<'b>(alloc: Global, mut bytes: &'b [u8]) -> Result<Option<Vec<&'b 
 }
 
 /// The file of this name; `None` without a bundle, for a `Custom` name, and where the bundle has no
-/// file at the place of the name. It takes no memory.
+/// file at the index of the name. It takes no memory.
 pub fn load_embedded<'b>(bundle: Option<&Bundle<'b>>, name: CMapName<'_>) -> Option<&'b [u8]>
     ensures { option_copied result ≡ option_and_then
         (λ b. option_and_then (λ at. slice_get (bundle_seen b).files at) (index_of_name name.entry))

@@ -1,4 +1,4 @@
-//! CMap files in the binary form bcmap: a header, and segments up to the end that it tells.
+//! CMap files in the binary form bcmap: a header, and segments up to the end that it gives.
 
 ghost use Rattle.std.specs.Prelude.{◌≡◌, ◌↔◌, ◌+◌, IfErr, IfOk, IsTrue, length};
 ghost use Rattle.cmap_binary.specs.BinaryFiles.{BodyOf, IsBinaryFile, IsMarkedBinary};

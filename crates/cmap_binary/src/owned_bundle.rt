@@ -65,7 +65,7 @@ impl OwnedBundle {
     }
 
     /// The file of this name, as `load_embedded` gives it: `None` for a `Custom` name, and where the
-    /// bundle has no file at the place of the name. It takes no memory.
+    /// bundle has no file at the index of the name. It takes no memory.
     pub fn file(&self, name: CMapName<'_>) -> Option<&[u8]>
         ensures { option_copied result
             ≡ option_and_then (λ at. slice_get self.now.files at) (index_of_name name.entry) }

@@ -1,11 +1,13 @@
-//! What a text begins with: numbers, codes, and pieces that tell their own length. Each call takes
+//! What a text begins with: numbers, codes, and pieces that give their own length. Each call takes
 //! off the text what it finds.
 
 ghost use Rattle.std.specs.Prelude.{◌<◌, ◌^◌};
 ghost use Rattle.cmap_binary.specs.Fronts.{ByteAt, CodeAt, FieldAt, FramedAt, SizedAt, TerminatedAt};
+ghost use Rattle.cmap_files.specs.CodeLengths.{IsCodeLength};
 ghost use Rattle.cmap_files.specs.Outcomes.{Finds};
 
 use crate::bits::Reader;
+use cmap_files::code_length::CodeLength;
 
 /// How many bytes the length of a piece has.
 const SIZE: usize = 4;
@@ -26,13 +28,22 @@ pub(crate) fn take_u16(text: &mut &[u8]) -> Option<u16>
     Some(number)
 }
 
+/// The number of this many bytes that the text begins with, one to four.
+pub(crate) fn take_field(text: &mut &[u8], width: u8) -> Option<u32>
+    requires { IsCodeLength width }
+    ensures { Finds (FieldAt width text.old.now) (λ number. (number, text.new.now)) result }
+{
+    let number = Reader::new(text).read_n_bytes(width)?;
+    *text = &text[usize::from(width)..];
+    Some(number)
+}
+
 /// The code of this width that the text begins with. Codes have one to four bytes.
 pub(crate) fn take_code(text: &mut &[u8], width: u8) -> Option<u32>
     ensures { Finds (CodeAt width text.old.now) (λ code. (code, text.new.now)) result }
 {
-    let code = Reader::new(text).read_n_bytes(width)?;
-    *text = &text[usize::from(width)..];
-    Some(code)
+    CodeLength::of(width)?;
+    take_field(text, width)
 }
 
 /// The piece after its length in four bytes.
@@ -44,7 +55,7 @@ pub(crate) fn take_sized<'b>(text: &mut &'b [u8]) -> Option<&'b [u8]>
     text.split_off(..size as usize)
 }
 
-/// The piece that tells its whole length in the four bytes after its first `before` ones.
+/// The piece that gives its whole length in the four bytes after its first `before` ones.
 pub(crate) fn take_framed<'b>(text: &mut &'b [u8], before: usize) -> Option<&'b [u8]>
     requires { before < 2 ^ 32 }
     ensures { Finds (FramedAt before text.old.now) (λ piece. (piece.now, text.new.now)) result }

@@ -9,7 +9,7 @@ mod reading;
 mod words;
 
 use self::reading::parse;
-use self::words::{Search, Word, find_from, look_up};
+use self::words::{Search, Word, next_word};
 use crate::bits::Reader;
 use std::alloc::{AllocError, Global};
 use std::marker::Model;
@@ -19,23 +19,23 @@ use std::marker::Model;
 /// each with the length of its word in bits.
 #[derive(Debug, Drop)]
 pub struct PrefixTable {
-    // how many words there are of each length, from 1 on
+    /// How many words there are of each length, from 1 on.
     counts: Vec<u32>,
     symbols: Vec<u32>,
-    // what is known of the word that comes next by each byte
+    /// What is known of the word that comes next, by each byte.
     known: Vec<Result<Word, Search>>,
 }
 
 impl Model for PrefixTable {
     ghost use Rattle.std.specs.Prelude.{◌≡◌, List, length};
-    ghost use Rattle.cmap_binary.specs.PrefixWords.{Place};
+    ghost use Rattle.cmap_binary.specs.PrefixWords.{CodeWord};
 
-    ghost Value = { List Place };
+    ghost Value = { List CodeWord };
 
-    ghost use Rattle.cmap_binary.specs.WordsByLength.{places_of, IsTable};
+    ghost use Rattle.cmap_binary.specs.WordsByLength.{words_of, IsTable};
     ghost use Rattle.cmap_binary.specs.WordsFound.{KnowBytes};
 
-    ghost view = { λ t. places_of t.counts.items t.symbols.items };
+    ghost view = { λ t. words_of t.counts.items t.symbols.items };
 
     ghost invariant = { λ t. record {
       table : IsTable t.counts.items t.symbols.items;
@@ -86,16 +86,7 @@ impl PrefixTable {
             → BeginsAt self.now (bits_left reader.old) j → i ≡ j }
         ensures unmoved { IfNone result (reader.new ≡ reader.old) }
     {
-        let word = match *look_up(&self.known, reader) {
-            Ok(word) => word,
-            Err(search) => {
-                let found = find_from(&self.counts, &self.symbols, reader.fork(), search);
-                let Some(word) = found else {
-                    return None;
-                };
-                word
-            }
-        };
+        let word = next_word(&self.counts, &self.symbols, &self.known, reader)?;
         reader.skip_bits(word.len);
         Some(word.symbol)
     }

@@ -2,10 +2,10 @@
 #![tactic(auto)]
 
 mod bundle;
+mod cids;
 mod files;
 mod handle;
 mod identity;
-mod lookups;
 mod loose;
 mod metadata;
 mod parse;
@@ -15,4 +15,5 @@ mod slot;
 mod status;
 #[cfg(test)]
 mod tests;
+mod utf8_text;
 mod version;

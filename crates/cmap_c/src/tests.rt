@@ -3,14 +3,15 @@
 use crate::bundle::{
     BundleHandle, hayro_cmap_bundle_free, hayro_cmap_bundle_open, hayro_cmap_bundle_share,
 };
+use crate::cids::{hayro_cmap_cid, hayro_cmap_cid_strict};
 use crate::handle::{MapHandle, hayro_cmap_free, hayro_cmap_share};
 use crate::identity::hayro_cmap_identity;
-use crate::lookups::{hayro_cmap_cid, hayro_cmap_cid_strict, hayro_cmap_text};
 use crate::metadata::{
     hayro_cmap_name, hayro_cmap_ordering, hayro_cmap_registry, hayro_cmap_supplement,
     hayro_cmap_writing_mode,
 };
 use crate::parse::{hayro_cmap_parse, hayro_cmap_parse_over};
+use crate::utf8_text::hayro_cmap_text;
 use crate::version::hayro_cmap_version;
 use std::alloc::Global;
 

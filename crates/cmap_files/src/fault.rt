@@ -25,7 +25,7 @@ pub enum Reason {
     BracketExpected,
     /// A `usecmap` without a literal name before it.
     UseWithoutName,
-    /// A binary file has no whole header of version 1, or fewer bytes than its header tells.
+    /// A binary file has no whole header of version 1, or fewer bytes than its header says.
     Header,
     /// The last segment of a binary file is cut short.
     SegmentLength,
@@ -43,7 +43,7 @@ pub enum Reason {
 
 impl Display for Reason {
     fn fmt<W: Write>(&self, f: &mut Formatter<W>) -> fmt::Result {
-        let told = match self {
+        let text = match self {
             Reason::MalformedToken => "no token stands here",
             Reason::EndWithinSection => "the file ends within a section",
             Reason::CodeExpected => "a code was expected",
@@ -67,7 +67,7 @@ impl Display for Reason {
                 return write!(f, "a code of the segment of {segment} passes 32 bits");
             }
         };
-        f.write_str(told)
+        f.write_str(text)
     }
 }
 
@@ -100,7 +100,7 @@ impl Display for Segment {
 pub enum Fault<R> {
     /// What was read is refused.
     Refused(R),
-    /// A growth was refused.
+    /// An allocation failed.
     Memory,
 }
 

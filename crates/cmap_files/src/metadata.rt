@@ -1,4 +1,4 @@
-//! What a CMap says of itself.
+//! What a CMap states about itself.
 
 ghost use Rattle.std.specs.Prelude.{◌≡◌, IfOk, OnErr};
 ghost use Rattle.cmap_files.specs.MetadataSeen.{metadata_seen, HoldsTexts};
@@ -7,7 +7,7 @@ use crate::character_collection::CharacterCollection;
 use crate::writing_mode::WritingMode;
 use std::alloc::{AllocError, Global};
 
-/// What a CMap says of itself, each part where it does.
+/// What a CMap states about itself, each part where it does.
 #[derive(Debug, Drop)]
 pub struct Metadata {
     /// The character collection that its CIDs belong to.

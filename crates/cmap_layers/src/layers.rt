@@ -10,7 +10,7 @@ use cmap_files::metadata::Metadata;
 use cmap_runs::runs::{Looks, Table};
 use std::alloc::{AllocError, Global};
 
-/// A layer of a map: what one file says of itself and of its codes, without the files that it uses.
+/// A layer of a map: what one file states about itself and its codes, without the files that it uses.
 /// ISO 32000-1, 9.7.5.
 #[derive(Debug, Drop)]
 pub struct Layer {
@@ -57,7 +57,7 @@ impl Layer {
         })
     }
 
-    /// What the file says of itself.
+    /// What the file states about itself.
     pub fn metadata(&self) -> &Metadata
         ensures { metadata_seen result.now ≡ (layer_seen self.now).metadata }
     {

@@ -3,8 +3,8 @@
 #![tactic(auto)]
 
 pub mod decode;
+pub mod fault_line;
 pub mod info;
-pub mod lines;
 pub mod lookup;
 pub mod refused;
 pub mod uses;

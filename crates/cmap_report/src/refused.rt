@@ -1,6 +1,6 @@
 //! Why a file is refused, as a line that a person reads or as an object of JSON.
 
-use crate::lines::line_after;
+use crate::fault_line::line_after;
 use cmap_binary::is_marked_binary;
 use cmap_escape::escape::{escaped_names, push_name};
 use cmap_escape::json::push_value;

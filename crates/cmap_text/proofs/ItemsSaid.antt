@@ -6,7 +6,7 @@ use Rattle.std.proofs.lemmas.Bool.{cases_Bool}
 use Rattle.cmap_tokens.specs.Tokens.{Token}
 use Rattle.cmap_files.specs.Files.{Lists, lists_of}
 use Rattle.cmap_files.specs.ListsAppended.{append_lists}
-use Rattle.cmap_text.specs.TextFiles.{Item, key, entries, use_of_base, other, declared_by, literal_head, names_used, value_under, last_value, Values, last_values}
+use Rattle.cmap_text.specs.TextFiles.{Item, key, entries, use_of_base, other, declared_by, literal_head, names_used, value_under, Values, last_values}
 use Rattle.cmap_text.specs.TextReading.{Said, no_values, with_key, with_lists, with_other, with_use, with_value}
 use Rattle.cmap_files.proofs.ListsMade.{append_lists-none, added_more}
 
@@ -25,9 +25,7 @@ says_all old (item ∷ items) = option_and_then (λ mid. says_all mid items) (sa
 pub values_after : Values → List Item → Values
 values_after values [] = values
 values_after values (key k value ∷ items) = values_after (with_value values k value) items
-values_after values (entries declared ∷ items) = values_after values items
-values_after values (use_of_base ∷ items) = values_after values items
-values_after values (other t ∷ items) = values_after values items
+values_after values (_ ∷ items) = values_after values items
 
 pub operand_after : Option (List ℕ) → List Item → Option (List ℕ)
 operand_after operand [] = operand
@@ -60,36 +58,21 @@ all_says (other t ∷ items) values lists uses operand = all_says items values l
 
 -- the last value of a key
 module _ (name : List ℕ) (value_of : Values → Option Token) (is_set : (values : Values) (k : List ℕ) (value : Option Token) → value_of (with_value values k value) ≡ (if bytes_eq k name then value else value_of values)) where
-  last_after : Option Token → List Item → Option (Option Token)
-  last_after value items = last_or (Some value) (filter_map (value_under name) items)
-
-  last_said : (items : List Item) (values : Values) → last_after (value_of values) items ≡ Some (value_of (values_after values items))
-  unfolding values_after last_after
-  last_said [] values = refl
-  last_said (key k value ∷ items) values =
-      let set = is_set values k value in
-      let later = last_said items (with_value values k value) in
+  last_said : (items : List Item) (values : Values) (last : Option (Option Token)) → option_and_then (λ v. v) last ≡ value_of values → option_and_then (λ v. v) (last_or last (filter_map (value_under name) items)) ≡ value_of (values_after values items)
+  unfolding values_after
+  last_said [] values last same = same
+  last_said (key k value ∷ items) values last same =
       elim (cases_Bool (bytes_eq k name)) [
-        | inl same ↦ rw same (ap (λ v. last_after v items) (sym (set ∙ ap (λ b. if b then value else value_of values) same)) ∙ later)
-        | inr differs ↦ rw differs (ap (λ v. last_after v items) (sym (set ∙ ap (λ b. if b then value else value_of values) differs)) ∙ later)
+        | inl is ↦ rw is (last_said items (with_value values k value) (Some value) (sym (rw is at (is_set values k value))))
+        | inr differs ↦ rw differs (last_said items (with_value values k value) last (same ∙ sym (rw differs at (is_set values k value))))
       ]
-  last_said (entries declared ∷ items) values = last_said items values
-  last_said (use_of_base ∷ items) values = last_said items values
-  last_said (other t ∷ items) values = last_said items values
-
-  from_none : (values : List (Option Token)) → option_and_then (λ v. v) (last_or None values) ≡ option_and_then (λ v. v) (last_or (Some None) values)
-  from_none [] = refl
-  from_none (value ∷ values) = refl
-
-  value_said : (items : List Item) → value_of no_values ≡ None → last_value name items ≡ value_of (values_after no_values items)
-  unfolding last_after
-  value_said items none = from_none (filter_map (value_under name) items) ∙ ap (λ v. option_and_then (λ w. w) (last_after v items)) (sym none) ∙ ap (option_and_then (λ w. w)) (last_said items no_values)
+  last_said (_ ∷ items) values last same = last_said items values last same
 
 pub values_said : (items : List Item) → last_values items ≡ values_after no_values items
 values_said items =
-    let registry = value_said (codes "Registry") (λ v. v.registry) (λ values k value. refl) items refl in
-    let ordering = value_said (codes "Ordering") (λ v. v.ordering) (λ values k value. refl) items refl in
-    let supplement = value_said (codes "Supplement") (λ v. v.supplement) (λ values k value. refl) items refl in
-    let name = value_said (codes "CMapName") (λ v. v.name) (λ values k value. refl) items refl in
-    let mode = value_said (codes "WMode") (λ v. v.mode) (λ values k value. refl) items refl in
+    let registry = last_said (codes "Registry") (λ v. v.registry) (λ values k value. refl) items no_values None refl in
+    let ordering = last_said (codes "Ordering") (λ v. v.ordering) (λ values k value. refl) items no_values None refl in
+    let supplement = last_said (codes "Supplement") (λ v. v.supplement) (λ values k value. refl) items no_values None refl in
+    let name = last_said (codes "CMapName") (λ v. v.name) (λ values k value. refl) items no_values None refl in
+    let mode = last_said (codes "WMode") (λ v. v.mode) (λ values k value. refl) items no_values None refl in
     rw (registry, ordering, supplement, name, mode) refl

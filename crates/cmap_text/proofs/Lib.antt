@@ -1,7 +1,7 @@
 pub mod Refusals
+pub mod TokenParsers
 pub mod TokensRead
 pub mod EntriesRead
-pub mod SectionsRead
 pub mod ItemsRead
 pub mod ItemsSaid
 pub mod TextRead

@@ -1,5 +1,5 @@
 -- What calls that read tokens answer.
-use Rattle.std.proofs.Common.{◌≡◌, ℕ, refl, sym}
+use Rattle.std.proofs.Common.{◌≡◌, ℕ, refl}
 use Rattle.std.specs.Prelude.{Option, Some, None, Result, Ok, Err, IsErrAnd, option_map}
 use Rattle.std.specs.Option.{ok_or}
 use Rattle.cmap_tokens.specs.TokensLeft.{Left}
@@ -9,11 +9,11 @@ use Rattle.cmap_files.specs.declared.fault.Fault.TheVariants.{Refused}
 use Rattle.cmap_files.specs.declared.fault.Reason.{Reason}
 use Rattle.cmap_files.proofs.Outcomes as outcomes
 use Rattle.cmap_text.specs.EntriesSeen.{RefusesAt}
-use Rattle.cmap_text.specs.TextReading.{or_refused}
+use Rattle.cmap_text.specs.TokenParsers.{or_refused}
 use Rattle.cmap_text.specs.declared.wrong_token.WrongToken.{WrongToken}
 use Rattle.cmap_text.specs.declared.wrong_token.WrongToken.TheVariants.{Last, Next}
 
--- what is refused in a part is refused in all, at the same place
+-- what is refused in a part is refused in all, at the same offset
 refused_as : {A B : Type 0} (here : Left) (part : Result A ℕ) (all : Result B ℕ) → ((e : ℕ) → part ≡ Err e → all ≡ Err e) → (wrong : WrongToken) → RefusesAt here part wrong → RefusesAt here all wrong
 refused_as here part all same (Last reason) refused = same here.passed refused
 refused_as here part all same (Next reason) (none, refused) = (none, same here.stop refused)
@@ -23,15 +23,8 @@ pub passed_on : {T A B : Type 0} (r : Result T (Fault WrongToken)) (fault : Faul
     → Outcome P (RefusesAt here all) r
 passed_on r fault P here part all is refused same = outcomes.passed_on P r fault is refused (refused_as here part all same)
 
--- the token that was read last is this, or is refused
-pub last_is : {A : Type 0} (found : Option A) (x : A) (old new : Left) → found ≡ Some x → old ≡ new → or_refused found old ≡ Ok (x, new)
-last_is found x old new is same = rw (is, same) refl
-
-pub last_wrong : {A : Type 0} (found : Option A) (old new : Left) → found ≡ None → old ≡ new → or_refused found old ≡ Err new.passed
-last_wrong found old new is same = rw (is, same) refl
-
 -- what is found in an option, or a refusal in its place
 pub given : {A B : Type 0} (seen : A → B) (o : Option A) (found : Option B) (old new : Left) (reason : Reason) → option_map seen o ≡ found → old ≡ new
     → Outcome (λ x. or_refused found old ≡ Ok (seen x, new)) (RefusesAt new (or_refused found old)) (ok_or o (Refused (Last reason)))
-given seen None found old new reason is same = (tt, last_wrong found old new (sym is) same)
-given seen (Some x) found old new reason is same = (last_is found (seen x) old new (sym is) same, tt)
+given seen None found old new reason is same = (tt, rw (← is, same) refl)
+given seen (Some x) found old new reason is same = (rw (← is, same) refl, tt)

@@ -1,14 +1,15 @@
 -- The file of a text is what its items say.
-use Rattle.std.proofs.Common.{◌≡◌, ℕ, refl, sym, ap, ◌∙◌, subst, List, arith}
-use Rattle.std.specs.Prelude.{flat_map, Ok, Err, Some, None, option_map}
+use Rattle.std.proofs.Common.{◌≡◌, ℕ, refl, sym, ap, ◌∙◌, subst, List}
+use Rattle.std.specs.Prelude.{Ok, Err, Some, None, option_map}
 use Rattle.cmap_tokens.specs.Tokens.{Token, Tokens}
 use Rattle.cmap_tokens.specs.TokensLeft.{HasTokens, Left}
 use Rattle.cmap_files.specs.Only.{IsOnly, HoldsOfNone}
-use Rattle.cmap_files.specs.Files.{FileMetadata, lists_of}
-use Rattle.cmap_text.specs.TextFiles.{Item, names_used, declared_by, last_values, IsMetadata, IsTextFile, AreItems}
+use Rattle.cmap_files.specs.Files.{FileMetadata}
+use Rattle.cmap_text.specs.TextFiles.{Item, names_used, last_values, IsMetadata, IsTextFile, AreItems}
 use Rattle.cmap_text.specs.TextReading.{Said, nothing_said, all_said}
-use Rattle.cmap_text.proofs.TokensRead.{err-ok, same_Ok, some_mapped}
-use Rattle.cmap_text.proofs.ItemsRead.{items_found, items_are}
+use Rattle.cmap_text.proofs.TokensRead.{some_mapped}
+use Rattle.cmap_text.proofs.TokenParsers.{err-ok, same_Ok}
+use Rattle.cmap_text.proofs.ItemsRead.{all_there, all_found}
 use Rattle.cmap_text.proofs.ItemsSaid.{said_after, says_all, all_says, values_said}
 
 module _ (text : List ℕ) (left : Left) (has : HasTokens text left) where
@@ -16,24 +17,22 @@ module _ (text : List ℕ) (left : Left) (has : HasTokens text left) where
   said_of items = all_says items nothing_said.values nothing_said.lists nothing_said.uses None
 
   -- the items of the tokens of the text say what is read
-  read_items : (tokens : List Token) (items : List Item) (names : List (List ℕ)) → Tokens text tokens → AreItems tokens items → names_used None items ≡ Some names → all_said nothing_said left ≡ Ok (said_after nothing_said items names)
-  unfolding all_said
+  read_items : (tokens : List Token) (items : List Item) (names : List (List ℕ)) → Tokens text tokens → AreItems tokens items → names_used None items ≡ Some names → (rest : Left) × (all_said nothing_said left ≡ Ok (said_after nothing_said items names, rest))
   read_items tokens items names at are used =
       let (same, ends) = (has tokens).0 at in
-      items_are items _ nothing_said left _ (subst (λ l. AreItems l items) (sym same) are) ends (omega arith) (said_of items ∙ ap (option_map (said_after nothing_said items)) used)
+      all_found items nothing_said left _ (subst (λ l. AreItems l items) (sym same) are) ends (said_of items ∙ ap (option_map (said_after nothing_said items)) used)
 
-  pub text_file : (said : Said) (metadata : FileMetadata) → all_said nothing_said left ≡ Ok said → IsOnly (IsMetadata said.values) metadata → IsOnly (IsTextFile text) (record { metadata = metadata; lists = said.lists; uses = said.uses })
-  unfolding IsTextFile all_said said_after
-  text_file said metadata is only =
-      let (ends, items, are, sayings) = items_found _ nothing_said left said is in
+  pub text_file : (said : Said) (rest : Left) (metadata : FileMetadata) → all_said nothing_said left ≡ Ok (said, rest) → IsOnly (IsMetadata said.values) metadata → IsOnly (IsTextFile text) (record { metadata = metadata; lists = said.lists; uses = said.uses })
+  unfolding IsTextFile said_after
+  text_file said rest metadata is only =
+      let (ends, items, are, sayings) = all_there nothing_said left (said, rest) is in
       let (names, used, after) = some_mapped (said_after nothing_said items) (names_used None items) said (sym (said_of items) ∙ sayings) in
       let values_are : last_values items ≡ said.values = values_said items ∙ ap (λ s. s.values) after in
-      let uses_are : names ≡ said.uses = ap (λ s. s.uses) after in
-      let lists_are : said.lists ≡ lists_of (flat_map declared_by items) = ap (λ s. s.lists) (sym after) in
       record {
-        holds = (_, items, (has _).1 (refl, ends), are, used ∙ ap Some uses_are, subst (λ v. IsMetadata v metadata) (sym values_are) only.holds, lists_are);
+        holds = (_, items, (has _).1 (refl, ends), are, used ∙ ap (λ s. Some s.uses) after, subst (λ v. IsMetadata v metadata) (sym values_are) only.holds, ap (λ s. s.lists) (sym after));
         alone = λ file (tokens, others, at, others_are, others_used, metadata_is, others_lists).
-            let same : said_after nothing_said others file.uses ≡ said = same_Ok _ said (sym (read_items tokens others file.uses at others_are others_used) ∙ is) in
+            let (end, reads) = read_items tokens others file.uses at others_are others_used in
+            let same : said_after nothing_said others file.uses ≡ said = ap (λ p. p.0) (same_Ok _ (said, rest) (sym reads ∙ is)) in
             let metadata_same : file.metadata ≡ metadata = only.alone file.metadata (subst (λ v. IsMetadata v file.metadata) (values_said others ∙ ap (λ s. s.values) same) metadata_is) in
             let lists_same : file.lists ≡ said.lists = others_lists ∙ ap (λ s. s.lists) same in
             let uses_same : file.uses ≡ said.uses = ap (λ s. s.uses) same in
@@ -44,4 +43,5 @@ module _ (text : List ℕ) (left : Left) (has : HasTokens text left) where
   pub no_file : (e : ℕ) → all_said nothing_said left ≡ Err e → HoldsOfNone (IsTextFile text)
   unfolding IsTextFile
   no_file e none file (tokens, items, at, are, used, metadata, lists) =
-      err-ok e _ (sym none ∙ read_items tokens items file.uses at are used)
+      let (rest, reads) = read_items tokens items file.uses at are used in
+      err-ok e _ (sym none ∙ reads)

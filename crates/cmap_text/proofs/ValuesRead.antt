@@ -4,7 +4,7 @@ use Rattle.std.specs.Prelude.{Option, Some}
 use Rattle.cmap_tokens.specs.Strings.{IsValue}
 use Rattle.cmap_tokens.specs.Tokens.{Token}
 use Rattle.cmap_files.specs.Only.{IsOnly}
-use Rattle.cmap_files.specs.Files.{Collection, FileMetadata, Mode}
+use Rattle.cmap_files.specs.Files.{Collection, Mode}
 use Rattle.cmap_text.specs.TextFiles.{GivesText, IsCollection, IsMetadata, mode_in, name_in, Values}
 
 -- the text of a string
@@ -22,7 +22,7 @@ pub metadata_is : (values : Values) (collection : Option Collection) (name : Opt
 metadata_is values collection name mode only name_is mode_is = record {
   holds = (only.holds, name_is, mode_is);
   alone = λ other (other_only, other_name, other_mode).
-      ap (λ c. let m : FileMetadata = record { collection = c; name = other.name; mode = other.mode } in m) (only.alone other.collection other_only)
-      ∙ ap (λ n. let m : FileMetadata = record { collection = collection; name = n; mode = other.mode } in m) (other_name ∙ sym name_is)
-      ∙ ap (λ k. let m : FileMetadata = record { collection = collection; name = name; mode = k } in m) (other_mode ∙ sym mode_is);
+      let same = only.alone other.collection other_only in
+      let other_is : other ≡ record { collection = other.collection; name = other.name; mode = other.mode } = refl in
+      other_is ∙ rw (same, other_name ∙ sym name_is, other_mode ∙ sym mode_is) refl;
 }

@@ -1,13 +1,13 @@
 -- Private aid: what the clauses of calls that read tokens say.
-use Rattle.std.specs.Prelude.{◌≡◌, ℕ, List, [], min, Result, Ok, Err}
+use Rattle.std.specs.Prelude.{◌≡◌, ℕ, [], min, Result, Ok, Err}
 use Rattle.cmap_tokens.specs.TokensLeft.{Left}
-use Rattle.cmap_files.specs.Files.{Declaration}
+use Rattle.cmap_files.specs.Files as files
 use Rattle.cmap_files.specs.DeclarationsSeen.{lists_seen}
 use Rattle.cmap_files.specs.Outcomes.{Outcome}
 use Rattle.cmap_files.specs.declared.declarations.Lists.{Lists}
 use Rattle.cmap_files.specs.declared.fault.Fault.{Fault}
 use Rattle.cmap_files.specs.declared.fault.Stop.{Stop}
-use Rattle.cmap_text.specs.TextReading.{Found, added}
+use Rattle.cmap_text.specs.TokenParsers.{Parser, run}
 use Rattle.cmap_text.specs.declared.wrong_token.WrongToken.{WrongToken}
 use Rattle.cmap_text.specs.declared.wrong_token.WrongToken.TheVariants.{Last, Next}
 
@@ -17,12 +17,12 @@ RefusesAt here found (Last reason) = found ≡ Err here.passed
 RefusesAt here found (Next reason) = (here.tokens ≡ []) × (found ≡ Err here.stop)
 
 -- the answer is what is found, as a clause sees it, and it refuses only where nothing is
-abbrev pub Gives : {A B : Type 0} → Result B ℕ → (A → B) → Left → Result A (Fault WrongToken) → Type 0
-Gives found seen here = Outcome (λ x. found ≡ Ok (seen x)) (RefusesAt here found)
+abbrev pub ReadsAs : {A B : Type 0} → Result B ℕ → (A → B) → Left → Result A (Fault WrongToken) → Type 0
+ReadsAs found seen here = Outcome (λ x. found ≡ Ok (seen x)) (RefusesAt here found)
 
--- what is found is added to the lists
-abbrev pub Adds : {A : Type 0} → Found (List Declaration) → Lists → Lists → Left → Result A (Fault WrongToken) → Type 0
-Adds found before after here = Gives (added (lists_seen before) found) (λ done. (lists_seen after, here)) here
+-- what is read from the lists as they were gives the lists as they are now
+abbrev pub AddsDeclarations : {A : Type 0} → (files.Lists → Parser files.Lists) → Left → Lists → Lists → Left → Result A (Fault WrongToken) → Type 0
+AddsDeclarations read old before after here = ReadsAs (run (read (lists_seen before)) old) (λ done. (lists_seen after, here)) here
 
 -- the token that was read last is wrong, and this holds
 abbrev pub IsLast : Type 0 → WrongToken → Type 0

@@ -2,3 +2,4 @@ pub mod TextFiles
 pub mod TextReading
 pub mod TextSeen
 pub mod EntriesSeen
+pub mod TokenParsers

@@ -1,6 +1,6 @@
 -- CMap files as text: tokens read as items, nothing executed. Adobe Technical Notes 5014 and 5411, with what PDF writers make of them.
 use Rattle.std.specs.Prelude.{◌≡◌, ◌≢◌, ℕ, ℤ, pos, negsuc, ◌+◌, ◌-◌, ◌<◌, ◌≤◌, ◌^◌, true, false, ◌&&◌, List, [], ◌∷◌, ◌++◌, ◌⊎◌, length, map, filter_map, flat_map, bytes_eq, codes, Contains, Option, Some, None, option_map, option_and_then, neg_ℤ, int_le, if◌then◌else◌}
-use Rattle.std.specs.List.{AllByRecursion, AllZip, last_or, enumerate_from}
+use Rattle.std.specs.List.{AllZip, last_or, enumerate_from}
 use Rattle.cmap_files.specs.BigEndian.{big_endian}
 use Rattle.cmap_tokens.specs.Numbers.{Number}
 use Rattle.cmap_tokens.specs.Tokens.{Token, Tokens}
@@ -13,30 +13,41 @@ use Rattle.cmap_files.specs.Files.{CidEntry, Declaration, Mode, Collection, File
 abbrev pub keys : List (List ℕ)
 keys = codes "Registry" ∷ codes "Ordering" ∷ codes "Supplement" ∷ codes "CMapName" ∷ codes "WMode" ∷ []
 
+-- which CIDs a section declares: those of its codes, or the one of all codes that have no other
+pub data CidKind : Type 0 where
+  mapped : CidKind
+  notdef : CidKind
+
+abbrev pub declares_cid : CidKind → ℕ → CidEntry → Declaration
+declares_cid mapped len entry = Declaration.cid len entry
+declares_cid notdef len entry = Declaration.notdef len entry
+
+-- whether each entry is for the codes of a range or for a single code
+pub data Extent : Type 0 where
+  range : Extent
+  single : Extent
+
 pub data Section : Type 0 where
   codespace_range : Section
-  cid_range : Section
-  cid_char : Section
-  notdef_range : Section
-  notdef_char : Section
+  cids : CidKind → Extent → Section
   bf_range : Section
   bf_char : Section
 
 abbrev pub opener : Section → List ℕ
 opener codespace_range = codes "begincodespacerange"
-opener cid_range = codes "begincidrange"
-opener cid_char = codes "begincidchar"
-opener notdef_range = codes "beginnotdefrange"
-opener notdef_char = codes "beginnotdefchar"
+opener (cids mapped range) = codes "begincidrange"
+opener (cids mapped single) = codes "begincidchar"
+opener (cids notdef range) = codes "beginnotdefrange"
+opener (cids notdef single) = codes "beginnotdefchar"
 opener bf_range = codes "beginbfrange"
 opener bf_char = codes "beginbfchar"
 
 abbrev pub closer : Section → List ℕ
 closer codespace_range = codes "endcodespacerange"
-closer cid_range = codes "endcidrange"
-closer cid_char = codes "endcidchar"
-closer notdef_range = codes "endnotdefrange"
-closer notdef_char = codes "endnotdefchar"
+closer (cids mapped range) = codes "endcidrange"
+closer (cids mapped single) = codes "endcidchar"
+closer (cids notdef range) = codes "endnotdefrange"
+closer (cids notdef single) = codes "endnotdefchar"
 closer bf_range = codes "endbfrange"
 closer bf_char = codes "endbfchar"
 
@@ -58,35 +69,27 @@ IsDestination t units = (piece bytes : List ℕ) × (t ≡ Token.String piece) �
 abbrev pub cid_entry : List ℕ → List ℕ → ℕ → CidEntry
 cid_entry start end cid = record { start = big_endian start; end = big_endian end; cid = cid }
 
--- code, code, CID, filed by the length of the first; or code, CID
-abbrev pub IsCidRange : (ℕ → CidEntry → Declaration) → List Token → List Declaration → Type 0
-IsCidRange kind tokens declared = (a b c : Token) × (start end : List ℕ) × (cid : ℕ) × (tokens ≡ a ∷ b ∷ c ∷ []) × IsCode a start × IsCode b end × IsCid c cid × (declared ≡ kind (length start) (cid_entry start end cid) ∷ [])
-
-abbrev pub IsCidChar : (ℕ → CidEntry → Declaration) → List Token → List Declaration → Type 0
-IsCidChar kind tokens declared = (a c : Token) × (code : List ℕ) × (cid : ℕ) × (tokens ≡ a ∷ c ∷ []) × IsCode a code × IsCid c cid × (declared ≡ kind (length code) (cid_entry code code cid) ∷ [])
-
 abbrev pub declares_bf : ℕ → ℕ → List ℕ → Declaration
 declares_bf start end units = Declaration.bf (record { start = start; end = end; units = units })
 
--- the tokens of one entry of a section, and what it declares
-abbrev pub IsEntry : Section → List Token → List Declaration → Type 0
-IsEntry codespace_range tokens declared = (a b : Token) × (low high : List ℕ) × (tokens ≡ a ∷ b ∷ []) × IsCode a low × IsCode b high × (length low ≡ length high)
+-- the entry of a section that tokens begin with, what it declares, and the tokens after it
+abbrev pub IsEntry : Section → List Token → List Declaration → List Token → Type 0
+IsEntry codespace_range tokens declared rest = (a b : Token) × (low high : List ℕ) × (tokens ≡ a ∷ b ∷ rest) × IsCode a low × IsCode b high × (length low ≡ length high)
     × (declared ≡ Declaration.codespace (record { len = length low; low = big_endian low; high = big_endian high }) ∷ [])
-IsEntry cid_range tokens declared = IsCidRange Declaration.cid tokens declared
-IsEntry cid_char tokens declared = IsCidChar Declaration.cid tokens declared
-IsEntry notdef_range tokens declared = IsCidRange Declaration.notdef tokens declared
-IsEntry notdef_char tokens declared = IsCidChar Declaration.notdef tokens declared
-IsEntry bf_char tokens declared = (a d : Token) × (code units : List ℕ) × (tokens ≡ a ∷ d ∷ []) × IsCode a code × IsDestination d units × (declared ≡ declares_bf (big_endian code) (big_endian code) units ∷ [])
-IsEntry bf_range tokens declared = (a b : Token) × (start end : List ℕ) × IsCode a start × IsCode b end
-    × (((d : Token) × (units : List ℕ) × (tokens ≡ a ∷ b ∷ d ∷ []) × IsDestination d units × (declared ≡ declares_bf (big_endian start) (big_endian end) units ∷ []))
+-- code, code, CID, filed by the length of the first; or code, CID
+IsEntry (cids kind range) tokens declared rest = (a b c : Token) × (start end : List ℕ) × (n : ℕ) × (tokens ≡ a ∷ b ∷ c ∷ rest) × IsCode a start × IsCode b end × IsCid c n × (declared ≡ declares_cid kind (length start) (cid_entry start end n) ∷ [])
+IsEntry (cids kind single) tokens declared rest = (a c : Token) × (code : List ℕ) × (n : ℕ) × (tokens ≡ a ∷ c ∷ rest) × IsCode a code × IsCid c n × (declared ≡ declares_cid kind (length code) (cid_entry code code n) ∷ [])
+IsEntry bf_char tokens declared rest = (a d : Token) × (code units : List ℕ) × (tokens ≡ a ∷ d ∷ rest) × IsCode a code × IsDestination d units × (declared ≡ declares_bf (big_endian code) (big_endian code) units ∷ [])
+IsEntry bf_range tokens declared rest = (a b : Token) × (start end : List ℕ) × IsCode a start × IsCode b end
+    × (((d : Token) × (units : List ℕ) × (tokens ≡ a ∷ b ∷ d ∷ rest) × IsDestination d units × (declared ≡ declares_bf (big_endian start) (big_endian end) units ∷ []))
     -- [ ] with one destination for each code from start to end
-    ⊎ ((ds : List Token) × (texts : List (List ℕ)) × (tokens ≡ a ∷ b ∷ Token.Name false (codes "[") ∷ ds ++ Token.Name false (codes "]") ∷ []) × AllZip IsDestination ds texts
+    ⊎ ((ds : List Token) × (texts : List (List ℕ)) × (tokens ≡ a ∷ b ∷ Token.Name false (codes "[") ∷ ds ++ Token.Name false (codes "]") ∷ rest) × AllZip IsDestination ds texts
     × (length texts ≡ big_endian end + 1 - big_endian start) × (declared ≡ map (λ p. declares_bf p.0 p.0 p.1) (enumerate_from (big_endian start) texts))))
 
--- the tokens between opener and closer are entries, and declare these in order
-abbrev pub IsBody : Section → List Token → List Declaration → Type 0
-IsBody section tokens declared = (es : List (List Token × List Declaration)) × AllByRecursion (λ e. IsEntry section e.0 e.1) es
-    × (tokens ≡ flat_map (λ e. e.0) es) × (declared ≡ flat_map (λ e. e.1) es)
+-- entries, what each declares, and the closer
+abbrev pub AreEntries : Section → List Token → List (List Declaration) → List Token → Type 0
+AreEntries section tokens [] rest = tokens ≡ Token.Name false (closer section) ∷ rest
+AreEntries section tokens (declared ∷ others) rest = (mid : List Token) × IsEntry section tokens declared mid × AreEntries section mid others rest
 
 -- what the tokens of a file are read as
 pub data Item : Type 0 where
@@ -99,41 +102,26 @@ pub data Item : Type 0 where
 
 -- a token that is an item by itself: no key, no opener and no use
 abbrev pub IsOtherToken : Token → Type 0
-IsOtherToken (Token.Name true bytes) = Contains keys bytes → ⊥
-IsOtherToken (Token.Name false bytes) = (bytes ≢ use_word) × ((section : Section) → bytes ≢ opener section)
-IsOtherToken (Token.String piece) = Unit {0}
-IsOtherToken (Token.Numeral x) = Unit {0}
+IsOtherToken t = ((k : List ℕ) → Contains keys k → t ≢ Token.Name true k) × ((section : Section) → t ≢ Token.Name false (opener section)) × (t ≢ Token.Name false use_word)
 
--- the tokens of one item
-abbrev pub IsItem : List Token → Item → Type 0
-IsItem tokens (key k None) = Contains keys k × (tokens ≡ Token.Name true k ∷ [])
-IsItem tokens (key k (Some value)) = Contains keys k × (tokens ≡ Token.Name true k ∷ value ∷ [])
-IsItem tokens (entries declared) = (section : Section) × (body : List Token) × (tokens ≡ Token.Name false (opener section) ∷ body ++ Token.Name false (closer section) ∷ []) × IsBody section body declared
-IsItem tokens use_of_base = tokens ≡ Token.Name false use_word ∷ []
-IsItem tokens (other t) = IsOtherToken t × (tokens ≡ t ∷ [])
-
--- only the last item may be a key without a value
-abbrev pub MayEnd : Item → List Token → Type 0
-MayEnd (key k None) rest = rest ≡ []
-MayEnd (key k (Some value)) rest = Unit {0}
-MayEnd (entries declared) rest = Unit {0}
-MayEnd use_of_base rest = Unit {0}
-MayEnd (other t) rest = Unit {0}
+-- the item that tokens begin with, and the tokens after it; only the last item may be a key without a value
+abbrev pub IsItem : List Token → Item → List Token → Type 0
+IsItem tokens (key k None) rest = Contains keys k × (tokens ≡ Token.Name true k ∷ []) × (rest ≡ [])
+IsItem tokens (key k (Some value)) rest = Contains keys k × (tokens ≡ Token.Name true k ∷ value ∷ rest)
+IsItem tokens (entries declared) rest = (section : Section) × (body : List Token) × (each : List (List Declaration)) × (tokens ≡ Token.Name false (opener section) ∷ body) × AreEntries section body each rest × (declared ≡ flat_map (λ ds. ds) each)
+IsItem tokens use_of_base rest = tokens ≡ Token.Name false use_word ∷ rest
+IsItem tokens (other t) rest = IsOtherToken t × (tokens ≡ t ∷ rest)
 
 -- the tokens, item by item
 abbrev pub AreItems : List Token → List Item → Type 0
 AreItems tokens [] = tokens ≡ []
-AreItems tokens (item ∷ items) = (front rest : List Token) × (tokens ≡ front ++ rest) × IsItem front item × MayEnd item rest × AreItems rest items
+AreItems tokens (item ∷ items) = (rest : List Token) × IsItem tokens item rest × AreItems rest items
 
 -- the literal name that an item begins with
 abbrev pub literal_head : Item → Option (List ℕ)
 literal_head (key k value) = Some k
-literal_head (entries declared) = None
-literal_head use_of_base = None
 literal_head (other (Token.Name true bytes)) = Some bytes
-literal_head (other (Token.Name false bytes)) = None
-literal_head (other (Token.String piece)) = None
-literal_head (other (Token.Numeral x)) = None
+literal_head _ = None
 
 -- the names that the items use, where each use comes right after an item that begins with a literal name
 abbrev pub names_used : Option (List ℕ) → List Item → Option (List (List ℕ))
@@ -144,17 +132,13 @@ names_used before (entries declared ∷ items) = names_used None items
 names_used before (other t ∷ items) = names_used (literal_head (other t)) items
 
 abbrev pub declared_by : Item → List Declaration
-declared_by (key k value) = []
 declared_by (entries declared) = declared
-declared_by use_of_base = []
-declared_by (other t) = []
+declared_by _ = []
 
 -- the value of an item with this key
 abbrev pub value_under : List ℕ → Item → Option (Option Token)
 value_under name (key k value) = if bytes_eq k name then Some value else None
-value_under name (entries declared) = None
-value_under name use_of_base = None
-value_under name (other t) = None
+value_under name _ = None
 
 -- the value of the last item with this key
 abbrev pub last_value : List ℕ → List Item → Option Token
@@ -180,17 +164,13 @@ last_values items = record {
 
 -- registry and ordering: the value of a string, or the bytes of a name
 abbrev pub GivesText : Option Token → Option (List ℕ) → Type 0
-GivesText None text = text ≡ None
 GivesText (Some (Token.Name literal bytes)) text = text ≡ Some bytes
 GivesText (Some (Token.String piece)) text = (value : List ℕ) × IsValue piece value × (text ≡ Some value)
-GivesText (Some (Token.Numeral x)) text = text ≡ None
+GivesText _ text = text ≡ None
 
 abbrev pub integer_in : Option Token → Option ℤ
 integer_in (Some (Token.Numeral (Number.Integer n))) = Some n
-integer_in (Some (Token.Numeral Number.Real)) = None
-integer_in (Some (Token.Name literal bytes)) = None
-integer_in (Some (Token.String piece)) = None
-integer_in None = None
+integer_in _ = None
 
 -- a supplement has 32 bits with sign
 abbrev pub supplement_in : Option Token → Option ℤ
@@ -198,9 +178,7 @@ supplement_in t = option_and_then (λ n. if int_le (neg_ℤ (pos (2 ^ 31))) n &&
 
 abbrev pub name_in : Option Token → Option (List ℕ)
 name_in (Some (Token.Name literal bytes)) = Some bytes
-name_in (Some (Token.String piece)) = None
-name_in (Some (Token.Numeral x)) = None
-name_in None = None
+name_in _ = None
 
 abbrev pub mode_of_integer : ℤ → Option Mode
 mode_of_integer (pos n) = mode_numbered n

@@ -4,15 +4,13 @@ use Rattle.std.specs.Option.{option_copied}
 use Rattle.cmap_tokens.specs.TokenSeen.{token_seen}
 use Rattle.cmap_files.specs.CodeLengths.{length_of}
 use Rattle.cmap_files.specs.DeclarationsSeen.{lists_seen}
-use Rattle.cmap_files.specs.Files.{CidEntry}
-use Rattle.cmap_tokens.specs.TokensLeft.{Left}
 use Rattle.cmap_files.specs.FilesSeen.{names_seen}
 use Rattle.cmap_text.specs.TextFiles as files
 use Rattle.cmap_text.specs.TextReading as reading
 use Rattle.cmap_text.specs.declared.entries.CidKind.{CidKind}
 use Rattle.cmap_text.specs.declared.entries.CidKind.TheVariants.{Cid, Notdef}
-use Rattle.cmap_text.specs.declared.entries.Shape.{Shape}
-use Rattle.cmap_text.specs.declared.entries.Shape.TheVariants.{Range, Single}
+use Rattle.cmap_text.specs.declared.entries.Extent.{Extent}
+use Rattle.cmap_text.specs.declared.entries.Extent.TheVariants.{Range, Single}
 use Rattle.cmap_text.specs.declared.sections.Section.{Section}
 use Rattle.cmap_text.specs.declared.sections.Section.TheVariants.{Codespaces, Cids, BfRange, BfChar}
 use Rattle.cmap_text.specs.declared.items.Said.{Said}
@@ -21,20 +19,17 @@ use Rattle.cmap_text.specs.declared.keys.Key.TheVariants.{Registry, Ordering, Su
 use Rattle.cmap_text.specs.declared.keys.Values.{Values}
 use Rattle.cmap_text.specs.declared.tokens.Code.{Code}
 
-abbrev pub cids_section : CidKind → Shape → files.Section
-cids_section Cid Range = files.cid_range
-cids_section Cid Single = files.cid_char
-cids_section Notdef Range = files.notdef_range
-cids_section Notdef Single = files.notdef_char
+abbrev pub kind_seen : CidKind → files.CidKind
+kind_seen Cid = files.mapped
+kind_seen Notdef = files.notdef
 
--- the CIDs of an entry of this shape
-abbrev pub cids_after : Shape → reading.Code → Left → reading.Found (ℕ × CidEntry)
-cids_after Range start left = reading.cid_range_after start left
-cids_after Single start left = reading.cid_char_after start left
+abbrev pub extent_seen : Extent → files.Extent
+extent_seen Range = files.range
+extent_seen Single = files.single
 
 abbrev pub section_seen : Section → files.Section
 section_seen Codespaces = files.codespace_range
-section_seen (Cids kind shape) = cids_section kind shape
+section_seen (Cids kind extent) = files.cids (kind_seen kind) (extent_seen extent)
 section_seen BfRange = files.bf_range
 section_seen BfChar = files.bf_char
 

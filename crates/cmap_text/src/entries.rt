@@ -4,16 +4,17 @@
 ghost use Rattle.std.specs.Prelude.{◌≡◌, ◌+◌, ◌-◌, OnOk};
 ghost use Rattle.cmap_files.specs.CodeLengths.{length_of};
 ghost use Rattle.cmap_files.specs.DeclarationsSeen.{cid_entry_seen, lists_seen};
-ghost use Rattle.cmap_text.specs.EntriesSeen.{Adds, Gives};
+ghost use Rattle.cmap_text.specs.EntriesSeen.{AddsDeclarations, ReadsAs};
 ghost use Rattle.cmap_files.specs.Files.{lists_of};
 ghost use Rattle.cmap_files.specs.ListsAppended.{append_lists};
 ghost use Rattle.cmap_files.specs.UnitsSeen.{units_seen};
 ghost use Rattle.cmap_text.specs.TextFiles as files;
-ghost use Rattle.cmap_text.specs.TextSeen.{cids_after, cids_section, code_seen};
-ghost use Rattle.cmap_text.specs.TextReading.{entry_after, list_in, text_of};
+ghost use Rattle.cmap_text.specs.TextSeen.{code_seen, extent_seen, kind_seen};
+ghost use Rattle.cmap_text.specs.TextReading.{cids_after, entry_after, list_in, text_of};
+ghost use Rattle.cmap_text.specs.TokenParsers.{run};
 
 use crate::tokens::{Code, TokenReader, is_executable};
-use crate::wrong_token::WrongToken;
+use crate::wrong_token::{WrongToken, wrong};
 use cmap_files::code_length::CodeLength;
 use cmap_files::declarations::{BfRange, CidRange, Codespace, Lists};
 use cmap_files::fault::{Fault, Reason};
@@ -30,7 +31,7 @@ pub(crate) enum CidKind {
 
 /// Whether an entry is for the codes of a range or for a single code.
 #[derive(Clone, Copy)]
-pub(crate) enum Shape {
+pub(crate) enum Extent {
     Range,
     Single,
 }
@@ -41,12 +42,12 @@ pub(crate) fn add_codespace_range(
     low: Code,
     lists: &mut Lists,
 ) -> Result<(), Fault<WrongToken>>
-    ensures { Adds (entry_after files.codespace_range (code_seen low) reader.old)
+    ensures { AddsDeclarations (entry_after files.codespace_range (code_seen low)) reader.old
         lists.old lists.new reader.new result }
 {
     let high = reader.next_code()?;
     if low.len != high.len {
-        return Err(Fault::Refused(WrongToken::Last(Reason::UnequalLengths)));
+        return Err(wrong(Reason::UnequalLengths));
     }
     lists.add_codespace(Codespace {
         len: low.len,
@@ -61,13 +62,14 @@ pub(crate) fn add_cids(
     reader: &mut TokenReader<'_>,
     start: Code,
     kind: CidKind,
-    shape: Shape,
+    extent: Extent,
     lists: &mut Lists,
 ) -> Result<(), Fault<WrongToken>>
-    ensures { Adds (entry_after (cids_section kind shape) (code_seen start) reader.old)
-        lists.old lists.new reader.new result }
+    ensures { AddsDeclarations
+        (entry_after (files.cids (kind_seen kind) (extent_seen extent)) (code_seen start))
+        reader.old lists.old lists.new reader.new result }
 {
-    let filed = read_cids(reader, start, shape)?;
+    let filed = read_cids(reader, start, extent)?;
     match kind {
         CidKind::Cid => lists.add_cid(filed.len, filed.range)?,
         CidKind::Notdef => lists.add_notdef(filed.len, filed.range)?,
@@ -81,7 +83,7 @@ pub(crate) fn add_bf_char(
     code: Code,
     lists: &mut Lists,
 ) -> Result<(), Fault<WrongToken>>
-    ensures { Adds (entry_after files.bf_char (code_seen code) reader.old)
+    ensures { AddsDeclarations (entry_after files.bf_char (code_seen code)) reader.old
         lists.old lists.new reader.new result }
 {
     let units = reader.next_destination()?;
@@ -95,7 +97,7 @@ pub(crate) fn add_bf_range(
     start: Code,
     lists: &mut Lists,
 ) -> Result<(), Fault<WrongToken>>
-    ensures { Adds (entry_after files.bf_range (code_seen start) reader.old)
+    ensures { AddsDeclarations (entry_after files.bf_range (code_seen start)) reader.old
         lists.old lists.new reader.new result }
 {
     let end = reader.next_code()?;
@@ -115,7 +117,8 @@ fn add_list(
     end: u32,
     lists: &mut Lists,
 ) -> Result<(), Fault<WrongToken>>
-    ensures { Adds (list_in (end + 1 - start) start reader.old) lists.old lists.new reader.new result }
+    ensures { AddsDeclarations (list_in (end + 1 - start) start) reader.old
+        lists.old lists.new reader.new result }
 {
     for code in u64::from(start)..u64::from(end) + 1 {
         let units = reader.next_destination()?;
@@ -123,7 +126,7 @@ fn add_list(
     }
     let token = reader.required_token()?;
     if !is_executable(&token, b"]") {
-        return Err(Fault::Refused(WrongToken::Last(Reason::BracketExpected)));
+        return Err(wrong(Reason::BracketExpected));
     }
     Ok(())
 }
@@ -149,14 +152,14 @@ struct Filed {
 fn read_cids(
     reader: &mut TokenReader<'_>,
     start: Code,
-    shape: Shape,
+    extent: Extent,
 ) -> Result<Filed, Fault<WrongToken>>
-    ensures { Gives (cids_after shape (code_seen start) reader.old)
+    ensures { ReadsAs (run (cids_after (extent_seen extent) (code_seen start)) reader.old)
         (λ filed. ((length_of filed.len, cid_entry_seen filed.range), reader.new)) reader.new result }
 {
-    let end = match shape {
-        Shape::Range => reader.next_code()?,
-        Shape::Single => start,
+    let end = match extent {
+        Extent::Range => reader.next_code()?,
+        Extent::Single => start,
     };
     let cid = reader.next_cid()?;
     let range = Range {

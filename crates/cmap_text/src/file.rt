@@ -5,7 +5,7 @@ ghost use Rattle.cmap_files.specs.FilesSeen.{file_seen};
 ghost use Rattle.cmap_files.specs.Only.{IsOnly};
 ghost use Rattle.cmap_files.specs.Outcomes.{DecidedBy, ReadsFile, RefusesWith};
 ghost use Rattle.cmap_files.specs.MetadataSeen.{metadata_seen};
-ghost use Rattle.cmap_tokens.specs.TokensLeft.{start_of, tokens_of};
+ghost use Rattle.cmap_tokens.specs.TokensLeft.{Left, start_of, tokens_of};
 ghost use Rattle.cmap_text.specs.EntriesSeen.{StopsAt};
 ghost use Rattle.cmap_text.specs.TextFiles.{IsMetadata, IsTextFile};
 ghost use Rattle.cmap_text.specs.TextReading.{all_said};
@@ -23,8 +23,8 @@ use std::alloc::Global;
 pub fn read_text<'d>(alloc: Global, text: &'d [u8]) -> Result<File<'d>, Fault<Stop>>
     ensures file { ReadsFile IsTextFile file_seen text.now result }
 
-    // Where it is refused before its end, no text is a file that begins with the same bytes, up to
-    // this offset and with the byte there.
+    // Where it is refused before its end, no text is a file that begins with the same bytes, up to and
+    // including the one at this offset.
     ensures decided { IfErr result (RefusesWith (DecidedBy IsTextFile text.now)) }
 {
     let mut said = Said::new(alloc);
@@ -43,13 +43,13 @@ fn read_said<'d>(
     said: &mut Said<'d>,
 ) -> Result<Metadata, Fault<Stop>>
     ensures says { IfOk result (λ metadata.
-        (all_said (said_seen said.old) (tokens_of (start_of text.now)) ≡ Ok (said_seen said.new))
+        ((rest : Left) × (all_said (said_seen said.old) (tokens_of (start_of text.now))
+        ≡ Ok (said_seen said.new, rest)))
         × IsOnly (IsMetadata (values_seen said.new.values)) (metadata_seen metadata)) }
     ensures stops { IfErr result (RefusesWith (StopsAt (length text.now)
         (all_said (said_seen said.old) (tokens_of (start_of text.now))))) }
 {
     let mut reader = TokenReader::new(alloc, text);
-    // A clause sees the tokens that are left of a reader, and not whose they are.
     match read_items(&mut reader, said) {
         Ok(()) => Ok(said.values.metadata(alloc)?),
         Err(Fault::Refused(WrongToken::Last(reason))) => {

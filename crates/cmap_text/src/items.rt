@@ -5,14 +5,14 @@ ghost use Rattle.std.specs.Borrow.{Bor};
 ghost use Rattle.std.specs.Option.{option_copied};
 ghost use Rattle.cmap_files.specs.Outcomes.{RefusesWith};
 ghost use Rattle.cmap_tokens.specs.TokenSeen.{token_seen};
-ghost use Rattle.cmap_text.specs.EntriesSeen.{Gives, IsLast};
+ghost use Rattle.cmap_text.specs.EntriesSeen.{IsLast, ReadsAs};
 ghost use Rattle.cmap_text.specs.TextReading.{all_said, item_said, nothing_said};
 ghost use Rattle.cmap_text.specs.TextSeen.{said_seen};
 
 use crate::keys::{Key, Values};
 use crate::sections::{Section, read_section};
 use crate::tokens::{TokenReader, is_executable, literal_name};
-use crate::wrong_token::WrongToken;
+use crate::wrong_token::{WrongToken, wrong};
 use cmap_files::declarations::Lists;
 use cmap_files::fault::{Fault, Reason};
 use cmap_tokens::token::Token;
@@ -50,7 +50,7 @@ fn add_use<'d>(uses: &mut Vec<&'d [u8]>, operand: Option<&'d [u8]>) -> Result<()
         (RefusesWith (IsLast (option_copied operand.entry ≡ None))) }
 {
     let Some(name) = operand else {
-        return Err(Fault::Refused(WrongToken::Last(Reason::UseWithoutName)));
+        return Err(wrong(Reason::UseWithoutName));
     };
     uses.push(name)?;
     Ok(())
@@ -61,7 +61,7 @@ pub(crate) fn read_items<'d>(
     reader: &mut TokenReader<'d>,
     said: &mut Said<'d>,
 ) -> Result<(), Fault<WrongToken>>
-    ensures { Gives (all_said (said_seen said.old) reader.old) (λ done. said_seen said.new)
+    ensures { ReadsAs (all_said (said_seen said.old) reader.old) (λ done. (said_seen said.new, reader.new))
         reader.new result }
 {
     while let Some(token) = reader.next_token()? {
@@ -76,7 +76,7 @@ fn read_item<'d>(
     first: &Token<'d>,
     said: &mut Said<'d>,
 ) -> Result<(), Fault<WrongToken>>
-    ensures { Gives (item_said (said_seen said.old) (token_seen first.now) reader.old)
+    ensures { ReadsAs (item_said (said_seen said.old) (token_seen first.now) reader.old)
         (λ done. (said_seen said.new, reader.new)) reader.new result }
 {
     let operand = said.operand;

@@ -15,7 +15,7 @@ use cmap_files::writing_mode::WritingMode;
 use cmap_tokens::token::{Number, Token};
 use std::alloc::{AllocError, Global};
 
-/// The keys of what a file says of itself.
+/// The keys of what a file states about itself.
 #[derive(Clone, Copy)]
 pub(crate) enum Key {
     Registry,

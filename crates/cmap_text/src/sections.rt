@@ -2,12 +2,13 @@
 
 ghost use Rattle.std.specs.Prelude.{◌≡◌, option_map};
 ghost use Rattle.cmap_tokens.specs.TokenSeen.{token_seen};
-ghost use Rattle.cmap_text.specs.EntriesSeen.{Adds, Gives};
+ghost use Rattle.cmap_text.specs.EntriesSeen.{AddsDeclarations, ReadsAs};
 ghost use Rattle.cmap_text.specs.TextFiles as files;
-ghost use Rattle.cmap_text.specs.TextReading.{body_in, entry_after, opened_by, start_in};
+ghost use Rattle.cmap_text.specs.TextReading.{body_in, code_or_closer, entry_after, opened_by};
 ghost use Rattle.cmap_text.specs.TextSeen.{code_seen, section_seen};
+ghost use Rattle.cmap_text.specs.TokenParsers.{head_in};
 
-use crate::entries::{CidKind, Shape, add_bf_char, add_bf_range, add_cids, add_codespace_range};
+use crate::entries::{CidKind, Extent, add_bf_char, add_bf_range, add_cids, add_codespace_range};
 use crate::tokens::{Code, TokenReader, is_executable};
 use crate::wrong_token::WrongToken;
 use cmap_files::declarations::Lists;
@@ -18,7 +19,7 @@ use cmap_tokens::token::Token;
 #[derive(Clone, Copy)]
 pub(crate) enum Section {
     Codespaces,
-    Cids(CidKind, Shape),
+    Cids(CidKind, Extent),
     BfRange,
     BfChar,
 }
@@ -29,17 +30,17 @@ impl Section {
         ensures { option_map section_seen result ≡ opened_by (token_seen token.now) }
     {
         if is_executable(token, b"begincidrange") {
-            Some(Section::Cids(CidKind::Cid, Shape::Range))
+            Some(Section::Cids(CidKind::Cid, Extent::Range))
         } else if is_executable(token, b"begincidchar") {
-            Some(Section::Cids(CidKind::Cid, Shape::Single))
+            Some(Section::Cids(CidKind::Cid, Extent::Single))
         } else if is_executable(token, b"beginbfrange") {
             Some(Section::BfRange)
         } else if is_executable(token, b"beginbfchar") {
             Some(Section::BfChar)
         } else if is_executable(token, b"beginnotdefrange") {
-            Some(Section::Cids(CidKind::Notdef, Shape::Range))
+            Some(Section::Cids(CidKind::Notdef, Extent::Range))
         } else if is_executable(token, b"beginnotdefchar") {
-            Some(Section::Cids(CidKind::Notdef, Shape::Single))
+            Some(Section::Cids(CidKind::Notdef, Extent::Single))
         } else if is_executable(token, b"begincodespacerange") {
             Some(Section::Codespaces)
         } else {
@@ -53,10 +54,10 @@ impl Section {
     {
         match self {
             Section::Codespaces => b"endcodespacerange",
-            Section::Cids(CidKind::Cid, Shape::Range) => b"endcidrange",
-            Section::Cids(CidKind::Cid, Shape::Single) => b"endcidchar",
-            Section::Cids(CidKind::Notdef, Shape::Range) => b"endnotdefrange",
-            Section::Cids(CidKind::Notdef, Shape::Single) => b"endnotdefchar",
+            Section::Cids(CidKind::Cid, Extent::Range) => b"endcidrange",
+            Section::Cids(CidKind::Cid, Extent::Single) => b"endcidchar",
+            Section::Cids(CidKind::Notdef, Extent::Range) => b"endnotdefrange",
+            Section::Cids(CidKind::Notdef, Extent::Single) => b"endnotdefchar",
             Section::BfRange => b"endbfrange",
             Section::BfChar => b"endbfchar",
         }
@@ -69,7 +70,8 @@ pub(crate) fn read_section(
     section: Section,
     lists: &mut Lists,
 ) -> Result<(), Fault<WrongToken>>
-    ensures { Adds (body_in (section_seen section) reader.old) lists.old lists.new reader.new result }
+    ensures { AddsDeclarations (body_in (section_seen section)) reader.old
+        lists.old lists.new reader.new result }
 {
     while let Some(start) = next_start(reader, section)? {
         read_entry(reader, section, start, lists)?;
@@ -82,7 +84,7 @@ fn next_start(
     reader: &mut TokenReader<'_>,
     section: Section,
 ) -> Result<Option<Code>, Fault<WrongToken>>
-    ensures { Gives (start_in (section_seen section) reader.old)
+    ensures { ReadsAs (head_in (code_or_closer (section_seen section)) reader.old)
         (λ start. (option_map code_seen start, reader.new)) reader.new result }
 {
     if let Some(code) = reader.plain_code() {
@@ -102,12 +104,12 @@ fn read_entry(
     start: Code,
     lists: &mut Lists,
 ) -> Result<(), Fault<WrongToken>>
-    ensures { Adds (entry_after (section_seen section) (code_seen start) reader.old)
+    ensures { AddsDeclarations (entry_after (section_seen section) (code_seen start)) reader.old
         lists.old lists.new reader.new result }
 {
     match section {
         Section::Codespaces => add_codespace_range(reader, start, lists),
-        Section::Cids(kind, shape) => add_cids(reader, start, kind, shape, lists),
+        Section::Cids(kind, extent) => add_cids(reader, start, kind, extent, lists),
         Section::BfRange => add_bf_range(reader, start, lists),
         Section::BfChar => add_bf_char(reader, start, lists),
     }

@@ -9,12 +9,13 @@ ghost use Rattle.cmap_tokens.specs.Texts.{units_of};
 ghost use Rattle.cmap_tokens.specs.Tokens.{String};
 ghost use Rattle.cmap_tokens.specs.TokenSeen.{token_seen};
 ghost use Rattle.cmap_tokens.specs.TokensLeft.{start_of, tokens_of};
-ghost use Rattle.cmap_text.specs.EntriesSeen.{Gives};
+ghost use Rattle.cmap_text.specs.EntriesSeen.{ReadsAs};
 ghost use Rattle.cmap_text.specs.TextFiles.{literal_head, other};
-ghost use Rattle.cmap_text.specs.TextReading.{cid_in, code_in, code_of, destination_in, head_in, is_executable, is_literal, next_in, or_refused, token_in};
+ghost use Rattle.cmap_text.specs.TextReading.{cid_in, code_in, code_of, destination_in, is_executable, is_literal};
 ghost use Rattle.cmap_text.specs.TextSeen.{code_seen};
+ghost use Rattle.cmap_text.specs.TokenParsers.{head_in, next_in, or_refused, token_in};
 
-use crate::wrong_token::WrongToken;
+use crate::wrong_token::{WrongToken, no_token, wrong};
 use cmap_files::code_length::{CodeLength, read_code};
 use cmap_files::fault::{Fault, Reason};
 use cmap_files::names::Cid;
@@ -36,7 +37,7 @@ pub(crate) struct Code {
 pub(crate) struct TokenReader<'d> {
     alloc: Global,
     scanner: Scanner<'d>,
-    // the bytes of the last string
+    /// the bytes of the last string
     string: Vec<u8>,
 }
 
@@ -61,41 +62,41 @@ impl<'d> TokenReader<'d> {
 
     /// The next token, `None` at the end of the text.
     pub(crate) fn next_token(&mut self) -> Result<Option<Token<'d>>, Fault<WrongToken>>
-        ensures { Gives (next_in self.old) (λ found. (option_map token_seen found, self.new)) self.new result }
+        ensures { ReadsAs (next_in self.old) (λ found. (option_map token_seen found, self.new)) self.new result }
     {
         let Ok(found) = self.scanner.next_token() else {
-            return Err(Fault::Refused(WrongToken::Next(Reason::MalformedToken)));
+            return Err(no_token(Reason::MalformedToken));
         };
         Ok(found)
     }
 
     /// The next token, which a section needs.
     pub(crate) fn required_token(&mut self) -> Result<Token<'d>, Fault<WrongToken>>
-        ensures { Gives (token_in self.old) (λ token. (token_seen token, self.new)) self.new result }
+        ensures { ReadsAs (token_in self.old) (λ token. (token_seen token, self.new)) self.new result }
     {
         match self.scanner.next_token() {
             Ok(Some(token)) => Ok(token),
-            Ok(None) => Err(Fault::Refused(WrongToken::Next(Reason::EndWithinSection))),
-            Err(_) => Err(Fault::Refused(WrongToken::Next(Reason::MalformedToken))),
+            Ok(None) => Err(no_token(Reason::EndWithinSection)),
+            Err(_) => Err(no_token(Reason::MalformedToken)),
         }
     }
 
     /// The code that a token is: a string of one to four bytes.
     pub(crate) fn code(&mut self, token: &Token<'_>) -> Result<Code, Fault<WrongToken>>
-        ensures { Gives (or_refused (code_in (token_seen token.now)) self.old)
+        ensures { ReadsAs (or_refused (code_in (token_seen token.now)) self.old)
             (λ code. (code_seen code, self.new)) self.new result }
     {
         let Token::String(string) = token else {
-            return Err(Fault::Refused(WrongToken::Last(Reason::CodeExpected)));
+            return Err(wrong(Reason::CodeExpected));
         };
         if let Some((count, number)) = string.plain_number() {
             let Some(len) = CodeLength::of(count) else {
-                return Err(Fault::Refused(WrongToken::Last(Reason::CodeLength)));
+                return Err(wrong(Reason::CodeLength));
             };
             return Ok(Code { len, number });
         }
         string.decode_into(&mut self.string)?;
-        code_of(&self.string).ok_or(Fault::Refused(WrongToken::Last(Reason::CodeLength)))
+        code_of(&self.string).ok_or(wrong(Reason::CodeLength))
     }
 
     /// The code of two bytes that comes next, where it stands as most do; `None` of any other token.
@@ -111,7 +112,7 @@ impl<'d> TokenReader<'d> {
 
     /// The code that comes next.
     pub(crate) fn next_code(&mut self) -> Result<Code, Fault<WrongToken>>
-        ensures { Gives (head_in code_in self.old) (λ code. (code_seen code, self.new)) self.new result }
+        ensures { ReadsAs (head_in code_in self.old) (λ code. (code_seen code, self.new)) self.new result }
     {
         if let Some(code) = self.plain_code() {
             return Ok(code);
@@ -122,18 +123,18 @@ impl<'d> TokenReader<'d> {
 
     /// The units of the destination that a token is: a string that isn't empty.
     pub(crate) fn destination(&mut self, token: &Token<'_>) -> Result<Units, Fault<WrongToken>>
-        ensures { Gives (or_refused (destination_in (token_seen token.now)) self.old)
+        ensures { ReadsAs (or_refused (destination_in (token_seen token.now)) self.old)
             (λ units. (units_seen units, self.new)) self.new result }
     {
         let Token::String(string) = token else {
-            return Err(Fault::Refused(WrongToken::Last(Reason::TextExpected)));
+            return Err(wrong(Reason::TextExpected));
         };
         if let Some((len, number)) = string.plain_number() {
             return Ok(units_of_number(len, number));
         }
         string.decode_into(&mut self.string)?;
         if self.string.is_empty() {
-            return Err(Fault::Refused(WrongToken::Last(Reason::TextExpected)));
+            return Err(wrong(Reason::TextExpected));
         }
         let units = units(self.alloc, &self.string)?;
         Ok(Units::from_slice(self.alloc, &units)?)
@@ -141,7 +142,7 @@ impl<'d> TokenReader<'d> {
 
     /// The units of the destination that comes next.
     pub(crate) fn next_destination(&mut self) -> Result<Units, Fault<WrongToken>>
-        ensures { Gives (head_in destination_in self.old)
+        ensures { ReadsAs (head_in destination_in self.old)
             (λ units. (units_seen units, self.new)) self.new result }
     {
         if let Some(number) = self.scanner.next_two_bytes() {
@@ -153,13 +154,13 @@ impl<'d> TokenReader<'d> {
 
     /// The CID that comes next: an integer of 32 bits without sign.
     pub(crate) fn next_cid(&mut self) -> Result<Cid, Fault<WrongToken>>
-        ensures { Gives (head_in cid_in self.old) (λ cid. (cid, self.new)) self.new result }
+        ensures { ReadsAs (head_in cid_in self.old) (λ cid. (cid, self.new)) self.new result }
     {
         let cid = match self.scanner.next_decimal() {
             Some(number) => u32::try_from(number).ok(),
             None => cid_of(&self.required_token()?),
         };
-        cid.ok_or(Fault::Refused(WrongToken::Last(Reason::CidExpected)))
+        cid.ok_or(wrong(Reason::CidExpected))
     }
 
     /// How many bytes of the text have been read.
@@ -169,7 +170,7 @@ impl<'d> TokenReader<'d> {
         self.scanner.offset()
     }
 
-    /// The place of the byte that shows that no token comes next, where none does.
+    /// The offset of the byte that shows that no token comes next, where none does.
     pub(crate) fn stop(&self) -> usize
         ensures { self.now.tokens ≡ [] → result ≡ self.now.stop }
     {

@@ -1,8 +1,12 @@
 //! Which token is wrong, and why.
 
-use cmap_files::fault::Reason;
+ghost use Rattle.std.specs.Prelude.{◌≡◌};
+ghost use Rattle.cmap_files.specs.declared.fault.Fault.TheVariants.{Refused};
+ghost use Rattle.cmap_text.specs.declared.wrong_token.WrongToken.TheVariants.{Last, Next};
 
-/// Why a reader of tokens goes no further. It tells where: after the last token, or where no token
+use cmap_files::fault::{Fault, Reason};
+
+/// Why a reader of tokens goes no further. It says where: after the last token, or where no token
 /// comes.
 #[derive(Clone, Copy)]
 pub(crate) enum WrongToken {
@@ -10,4 +14,18 @@ pub(crate) enum WrongToken {
     Last(Reason),
     /// No token comes where one is wanted.
     Next(Reason),
+}
+
+/// The refusal of the token that was read last.
+pub(crate) fn wrong(reason: Reason) -> Fault<WrongToken>
+    ensures { result ≡ Refused (Last reason) }
+{
+    Fault::Refused(WrongToken::Last(reason))
+}
+
+/// The refusal of a text where no token comes.
+pub(crate) fn no_token(reason: Reason) -> Fault<WrongToken>
+    ensures { result ≡ Refused (Next reason) }
+{
+    Fault::Refused(WrongToken::Next(reason))
 }

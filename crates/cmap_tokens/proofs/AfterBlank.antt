@@ -1,82 +1,88 @@
 -- A token that stands after one white byte.
-use Rattle.std.proofs.Common.{◌≡◌, ℕ, ◌+◌, ◌<◌, ◌≤◌, ◌^◌, ◌==◌, ◌-◌, true, false, List, [], ◌∷◌, ◌++◌, length, get_or, take, drop, Some, refl, sym, ap, ◌∙◌, subst, arith, length-take-le}
+use Rattle.std.proofs.Common.{◌≡◌, ℕ, ◌+◌, ◌<◌, ◌≤◌, ◌==◌, Bool, false, true, List, [], ◌∷◌, ◌++◌, length, get_or, take, drop, Some, inl, inr, refl, sym, ap, ◌∙◌, subst, arith, length-take-le}
 use Rattle.std.specs.Prelude.{IsTrue, pos}
 use Rattle.std.specs.Char.{is_digit}
-use Rattle.std.specs.List.{list_all, prefix_len}
+use Rattle.std.specs.List.{list_all}
+use Rattle.std.specs.Option.{option_map_or}
 use Rattle.std.proofs.Math.Seq.{drop-cons}
-use Rattle.std.proofs.Math.Nat.{pow-le-pow_right}
 use Rattle.std.proofs.lemmas.Bool.{or_right}
-use Rattle.std.proofs.lemmas.Int.Digits.{number_lt}
-use Rattle.std.proofs.lemmas.List.{drop_at, length-take, take-append-drop, take_rest}
+use Rattle.std.proofs.lemmas.Bool.Decides.{nat_tests}
+use Rattle.std.proofs.lemmas.List.{drop_at, take-append-drop}
 use Rattle.cmap_tokens.specs.Bytes.{is_white, is_regular}
-use Rattle.cmap_tokens.specs.Numbers.{EndsDigits, Integer, numeral}
-use Rattle.cmap_tokens.specs.Scanner.{BeginsDecimal, FirstToken, OnlyFront}
+use Rattle.cmap_tokens.specs.Numbers.{Integer, decimal_front, digits_len, digits_value, digits_number}
+use Rattle.cmap_tokens.specs.Scanner.{FirstToken, OnlyFront, spaced_decimal, spaced_two_bytes}
 use Rattle.cmap_tokens.specs.Strings.{WritesTwoBytes, hex_value}
-use Rattle.cmap_tokens.specs.Tokens.{Token, Front, IsHexString, IsRun, IsToken, begins_name, begins_regular, is_hex_body}
-use Rattle.cmap_tokens.proofs.ByteTests.{all_prefix, all_weaker, other_byte}
-use Rattle.cmap_tokens.proofs.Digits.{paired}
-use Rattle.cmap_tokens.proofs.Fronts.{only_front, reads_front}
-use Rattle.cmap_tokens.proofs.StringBodies.{hex_body}
-use Rattle.cmap_tokens.proofs.StringValues.{Answers, plain_value}
-use Rattle.cmap_tokens.proofs.TokenPieces.{run_stops}
+use Rattle.cmap_tokens.specs.Tokens.{Token, Name, Numeral, String, Front, IsHexString, IsToken, begins_name, begins_regular, is_hex_body}
+use Rattle.cmap_tokens.proofs.ByteTests.{all_front, all_weaker, other_byte}
+use Rattle.cmap_tokens.proofs.Digits.{digit_regular, digits_numeral, digits_small, paired, value_is}
+use Rattle.cmap_tokens.proofs.Fronts.{front_only}
+use Rattle.cmap_tokens.proofs.StringValues.{one_value}
 
-pub first_after_blank : (text : List ℕ) (blank len : ℕ) (piece rest : List ℕ) (token : Token) → text ≡ blank ∷ piece ++ rest → is_white blank ≡ true → IsToken piece token → (IsTrue (begins_name piece) → begins_regular rest ≡ false) → len ≡ 1 + length piece → FirstToken text token len
+first_after_blank : (text : List ℕ) (blank len : ℕ) (piece rest : List ℕ) (token : Token) → text ≡ blank ∷ piece ++ rest → is_white blank ≡ true → IsToken piece token → (IsTrue (begins_name piece) → begins_regular rest ≡ false) → len ≡ 1 + length piece → FirstToken text token len
 first_after_blank text blank len piece rest token whole white is longest long =
     let not_percent : (blank == 37) ≡ false = other_byte is_white 37 blank refl white in
     let front : Front text (blank ∷ []) piece token rest = record { whole = whole; gap_is = rw (not_percent, white) refl; piece_is = is; longest = longest } in
-    let read = reads_front text (blank ∷ []) piece token rest front in
     let after : rest ≡ drop len text = sym (ap (drop len) whole ∙ drop_at (blank ∷ piece) rest len (omega (arith, long))) in
-    (_, _, subst (OnlyFront text _ _ token) (sym read.rest_is ∙ after) (only_front text (token, length piece) read.first), omega (arith, long, ap length read.gap_is, ap length read.piece_is))
+    (_, _, subst (OnlyFront text _ piece token) after (front_only front), long)
 
--- two bytes write a number of 16 bits
-pub two_bytes_fit : (text : List ℕ) (count number : ℕ) → Answers (take 4 (drop 2 text)) (Some (count, number)) → number < 2 ^ 16
-two_bytes_fit text count number (are, counted, writes) =
-    let digits = take 4 (drop 2 text) in
-    let bytes = paired digits are.0 are.1 in
-    let most : 256 ^ length (hex_value digits) ≤ 256 ^ 2 = pow-le-pow_right {n = 256} (omega arith) {i = length (hex_value digits)} {j = 2} (omega (arith, bytes.long, length-take 4 (drop 2 text))) in
-    omega (arith, writes, most, number_lt 256 (hex_value digits) bytes.bytes)
-
-pub two_bytes_found : (text : List ℕ) (count number : ℕ) → 7 ≤ length text → is_white (get_or text 0 0) ≡ true → get_or text 1 0 ≡ 60 → get_or text 6 0 ≡ 62 → Answers (take 4 (drop 2 text)) (Some (count, number))
-    → (blank : ℕ) × (piece rest : List ℕ) × (text ≡ blank ∷ piece ++ rest) × IsTrue (is_white blank) × IsHexString piece × (length piece ≡ 6) × WritesTwoBytes piece number
-two_bytes_found (blank ∷ l ∷ a ∷ b ∷ c ∷ d ∷ g ∷ rest) count number long white less greater (are, counted, writes) =
+-- ---- < four digits >
+two_bytes_written : (a b c d n : ℕ) → let digits : List ℕ = a ∷ b ∷ c ∷ d ∷ [] in list_all (λ k. is_digit k 16) digits ≡ true → n ≡ digits_number 16 digits → WritesTwoBytes (60 ∷ a ∷ b ∷ c ∷ d ∷ 62 ∷ []) n × IsHexString (60 ∷ a ∷ b ∷ c ∷ d ∷ 62 ∷ [])
+two_bytes_written a b c d n all is =
     let digits : List ℕ = a ∷ b ∷ c ∷ d ∷ [] in
     let piece : List ℕ = 60 ∷ a ∷ b ∷ c ∷ d ∷ 62 ∷ [] in
-    let (value, only, bytes, many, number_is) = plain_value piece (Some (count, number)) (hex_body piece refl) (are, counted, writes) in (
-      blank,
-      piece,
-      rest,
-      rw (less, greater) refl,
-      white,
-      (digits, refl, all_weaker (λ c. is_digit c 16) is_hex_body digits (λ c digit. or_right (is_white c) (is_digit c 16) digit) are.0),
-      refl,
-      (value, only, bytes, omega (arith, many, counted, (paired digits are.0 are.1).long), number_is),
-    )
-two_bytes_found [] count number long white less greater are = absurd (omega (arith, long))
-two_bytes_found (a ∷ []) count number long white less greater are = absurd (omega (arith, long))
-two_bytes_found (a ∷ b ∷ []) count number long white less greater are = absurd (omega (arith, long))
-two_bytes_found (a ∷ b ∷ c ∷ []) count number long white less greater are = absurd (omega (arith, long))
-two_bytes_found (a ∷ b ∷ c ∷ d ∷ []) count number long white less greater are = absurd (omega (arith, long))
-two_bytes_found (a ∷ b ∷ c ∷ d ∷ e ∷ []) count number long white less greater are = absurd (omega (arith, long))
-two_bytes_found (a ∷ b ∷ c ∷ d ∷ e ∷ f ∷ []) count number long white less greater are = absurd (omega (arith, long))
+    let are = paired digits all refl in
+    let hex : IsHexString piece = (digits, refl, all_weaker (λ k. is_digit k 16) is_hex_body digits (λ k digit. or_right (is_white k) (is_digit k 16) digit) all) in
+    ((hex_value digits, record { holds = inl (hex, refl); alone = λ other other_is. one_value piece other _ other_is (inl (hex, refl)) }, are.bytes, omega (arith, are.long), is ∙ are.number 0), hex)
 
-pub decimal_found : (text : List ℕ) (len number : ℕ) → 1 ≤ length text → is_white (get_or text 0 0) ≡ true → 0 < len → len ≡ prefix_len is_regular (take (length text - 1) (drop 1 text)) → len ≤ length (take (length text - 1) (drop 1 text)) → numeral (take len (take (length text - 1) (drop 1 text))) ≡ Some (Integer (pos number))
-    → (blank : ℕ) × (piece rest : List ℕ) × (text ≡ blank ∷ piece ++ rest) × IsTrue (is_white blank) × IsRun piece × (begins_regular rest ≡ false) × (1 + len ≡ 1 + length piece) × (numeral piece ≡ Some (Integer (pos number)))
-decimal_found text len number long white some is within spelled =
-    let same = take_rest text 1 in
-    let after = drop 1 text in
-    let run : len ≡ prefix_len is_regular after = is ∙ ap (prefix_len is_regular) same in
-    let all : list_all is_regular (take len after) ≡ true = ap (λ n. list_all is_regular (take n after)) run ∙ all_prefix is_regular after in
-    let size : length (take len after) ≡ len = length-take-le len after (omega (arith, within, ap length same)) in (
-      get_or text 0 0,
-      take len after,
-      drop len after,
-      drop-cons text 0 0 (omega (arith, long)) ∙ ap (λ l. get_or text 0 0 ∷ l) (sym (take-append-drop len after)),
-      white,
-      (omega (arith, some, size), all),
-      ap (λ n. begins_regular (drop n after)) run ∙ run_stops after,
-      omega (arith, size),
-      sym (ap (λ l. numeral (take len l)) same) ∙ spelled,
-    )
+pub two_bytes_first : (text : List ℕ) (n : ℕ) → spaced_two_bytes text ≡ Some n → (piece : List ℕ) × FirstToken text (String piece) 7 × WritesTwoBytes piece n
+two_bytes_first (blank ∷ l ∷ a ∷ b ∷ c ∷ d ∷ g ∷ rest) n e =
+    let digits : List ℕ = a ∷ b ∷ c ∷ d ∷ [] in
+    let greater : g ≡ 62 = grind (arith, nat_tests, e) in
+    let less : l ≡ 60 = grind (arith, nat_tests, e) in
+    let white : is_white blank ≡ true = grind (arith, nat_tests, e) in
+    let read : digits_value 16 digits ≡ Some n = grind (arith, nat_tests, e) in
+    let (some, all, number, small) = value_is 16 4 n digits (omega arith) (omega arith) read in
+    let (writes, hex) = two_bytes_written a b c d n all number in
+    (_, first_after_blank _ blank 7 _ rest _ (rw (greater, less) refl) white (inr (inr (inr (inl hex, refl)))) (λ h. cc) refl, writes)
+two_bytes_first [] n e = cc
+two_bytes_first (a ∷ []) n e = cc
+two_bytes_first (a ∷ b ∷ []) n e = cc
+two_bytes_first (a ∷ b ∷ c ∷ []) n e = cc
+two_bytes_first (a ∷ b ∷ c ∷ d ∷ []) n e = cc
+two_bytes_first (a ∷ b ∷ c ∷ d ∷ f ∷ []) n e = cc
+two_bytes_first (a ∷ b ∷ c ∷ d ∷ f ∷ g ∷ []) n e = cc
 
-pub decimal_ends : (text : List ℕ) → BeginsDecimal text → (len : ℕ) × (1 ≤ len) × (len ≤ 18) × EndsDigits (take (length text - 1) (drop 1 text)) len
-decimal_ends text (blank, rest, whole, white, len, some, few, ends) = (len, some, few, subst (λ t. EndsDigits t len) (sym (take_rest text 1 ∙ ap (drop 1) whole)) ends)
+-- ---- decimal digits
+record Decimal (text : List ℕ) (number len : ℕ) : Type 0 where
+  len_is : digits_len 10 text ≡ len
+  number_is : digits_number 10 (take len text) ≡ number
+  filled : 0 < len
+  few : len ≤ 18
+  within : len < length text
+  special : is_regular (get_or text len 0) ≡ false
+
+decimal_is : (text : List ℕ) (first : ℕ × ℕ) → decimal_front text ≡ Some first → Decimal text first.0 first.1
+decimal_is text first e = record {
+  len_is = grind (arith, nat_tests, e);
+  number_is = grind (arith, nat_tests, e);
+  filled = grind (arith, nat_tests, e);
+  few = grind (arith, nat_tests, e);
+  within = grind (arith, nat_tests, e);
+  special = grind (arith, nat_tests, e);
+}
+
+pub decimal_first : (text : List ℕ) (number len : ℕ) → spaced_decimal text ≡ Some (number, len) → FirstToken text (Numeral (Integer (pos number))) (1 + len)
+decimal_first [] number len e = cc
+decimal_first (blank ∷ text) number len e =
+    let p : ℕ → Bool = λ c. is_digit c 10 in
+    let white : is_white blank ≡ true = grind (arith, nat_tests, e) in
+    let front : decimal_front text ≡ Some (number, len) = rw white at e in
+    let is = decimal_is text (number, len) front in
+    let piece = take len text in
+    let long : length piece ≡ len = length-take-le len text (omega (arith, is.within)) in
+    let digits : list_all p piece ≡ true = all_front p len text (omega (arith, is.len_is)) in
+    let small = digits_small 10 18 piece (omega arith) digits (omega (arith, long, is.few)) in
+    let spelled = digits_numeral piece (omega (arith, long, is.filled)) digits (omega (arith, small)) in
+    first_after_blank (blank ∷ text) blank (1 + len) piece (drop len text) (Numeral (Integer (pos number))) (ap (λ t. blank ∷ t) (sym (take-append-drop len text))) white
+    (inl ((omega (arith, long, is.filled), all_weaker p is_regular piece digit_regular digits), sym (ap (λ n. option_map_or Numeral n (Name false piece)) (spelled ∙ ap (λ n. Some (Integer (pos n))) is.number_is))))
+    (λ _. ap begins_regular (drop-cons text len 0 is.within) ∙ is.special) (omega (arith, long))

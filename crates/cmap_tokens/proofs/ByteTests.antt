@@ -1,16 +1,14 @@
 -- What a test of bytes tells of a byte, and of the bytes that a text begins with.
-use Rattle.std.proofs.Common.{◌≡◌, ℕ, ◌+◌, Bool, true, false, ◌==◌, List, [], ◌∷◌, ◌++◌, length, take, suc, refl, sym, ap, subst, inl, inr, arith}
+use Rattle.std.proofs.Common.{◌≡◌, ℕ, ◌+◌, ◌≤◌, Bool, true, false, ◌==◌, List, [], ◌∷◌, ◌++◌, length, take, drop, zero, suc, one-add, refl, sym, ap, subst, inl, inr, arith}
 use Rattle.std.specs.List.{list_any, list_all, prefix_len}
-use Rattle.std.proofs.lemmas.Bool.{both_ways, cases_Bool, eqb-true, false≢true, and_from, and_parts, or_from, or_parts}
+use Rattle.std.proofs.lemmas.Bool.{cases_Bool, eqb-true, false≢true}
+use Rattle.std.proofs.lemmas.Bool.Decides.{nat_tests}
+use Rattle.cmap_tokens.specs.Bytes.{begins}
 use Rattle.cmap_tokens.specs.Strings.{begins_with}
 
 -- a byte that passes is none that fails
 pub other_byte : (p : ℕ → Bool) (k c : ℕ) → p k ≡ false → p c ≡ true → (c == k) ≡ false
-other_byte p k c fails passes =
-    elim (cases_Bool (c == k)) [
-      | inl same ↦ absurd (both_ways (p k) fails (subst (λ b. p b ≡ true) (eqb-true c k same) passes))
-      | inr other ↦ other
-    ]
+other_byte p k c fails passes = grind (arith, nat_tests, fails, passes)
 
 -- by whether a byte is this one
 pub by_byte : (b k : ℕ) (P : ℕ → Type 0) → P k → ((b == k) ≡ false → P b) → P b
@@ -21,37 +19,38 @@ begins_with_is c [] e = absurd (false≢true e)
 begins_with_is c (b ∷ rest) e = (rest, ap (λ k. k ∷ rest) (eqb-true b c e))
 
 -- the longest front that passes
+pub all_front : (p : ℕ → Bool) (n : ℕ) (text : List ℕ) → n ≤ prefix_len p text → list_all p (take n text) ≡ true
+all_front p zero text few = refl
+all_front p (suc n) [] few = refl
+all_front p (suc n) (b ∷ text) few = grind (arith, nat_tests, few, all_front p n text)
+
 pub all_prefix : (p : ℕ → Bool) (text : List ℕ) → list_all p (take (prefix_len p text) text) ≡ true
-all_prefix p [] = refl
-all_prefix p (b ∷ text) =
-    elim (cases_Bool (p b)) [
-      | inl passes ↦ rw passes (let longer : 1 + prefix_len p text ≡ suc (prefix_len p text) = omega arith in rw longer (and_from _ _ passes (all_prefix p text)))
-      | inr fails ↦ rw fails refl
-    ]
+all_prefix p text = all_front p (prefix_len p text) text (omega arith)
+
+pub prefix_none : (p : ℕ → Bool) (text : List ℕ) → begins p text ≡ false → prefix_len p text ≡ 0
+prefix_none p [] stops = refl
+prefix_none p (b ∷ text) stops = rw stops refl
 
 pub prefix_len-append_all : (p : ℕ → Bool) (front rest : List ℕ) → list_all p front ≡ true → prefix_len p (front ++ rest) ≡ length front + prefix_len p rest
 prefix_len-append_all p [] rest all = omega arith
-prefix_len-append_all p (b ∷ front) rest all =
-    let (passes, more) = and_parts _ _ all in
-    let first : p b ≡ true = passes in
-    rw first (omega (arith, prefix_len-append_all p front rest more))
+prefix_len-append_all p (b ∷ front) rest all = grind (arith, nat_tests, all, prefix_len-append_all p front rest)
+
+-- a front that passes is the longest one where what follows doesn't
+pub prefix_ends : (p : ℕ → Bool) (front rest : List ℕ) → list_all p front ≡ true → begins p rest ≡ false → prefix_len p (front ++ rest) ≡ length front
+prefix_ends p front rest all stops = omega (arith, prefix_len-append_all p front rest all, prefix_none p rest stops)
+
+pub prefix_stops : (p : ℕ → Bool) (text : List ℕ) → begins p (drop (prefix_len p text) text) ≡ false
+prefix_stops p [] = refl
+prefix_stops p (b ∷ text) = grind (arith, nat_tests, one-add (prefix_len p text), prefix_stops p text)
 
 -- nor one of several that fail
 pub none_of : (p : ℕ → Bool) (c : ℕ) (bytes : List ℕ) → list_any p bytes ≡ false → p c ≡ true → list_any (λ k. c == k) bytes ≡ false
 none_of p c [] fail passes = refl
-none_of p c (k ∷ bytes) fail passes =
-    let (here, later) = or_parts (p k) (list_any p bytes) fail in
-    or_from _ _ (other_byte p k c here passes) (none_of p c bytes later passes)
+none_of p c (k ∷ bytes) fail passes = grind (arith, nat_tests, fail, other_byte p k c, none_of p c bytes)
 
 pub one_of : (p : ℕ → Bool) (c : ℕ) (bytes : List ℕ) → list_any p bytes ≡ false → list_any (λ k. c == k) bytes ≡ true → p c ≡ false
-one_of p c bytes fail is =
-    elim (cases_Bool (p c)) [
-      | inl passes ↦ absurd (both_ways _ (none_of p c bytes fail passes) is)
-      | inr fails ↦ fails
-    ]
+one_of p c bytes fail is = grind (arith, nat_tests, is, none_of p c bytes fail)
 
 pub all_weaker : (p q : ℕ → Bool) (text : List ℕ) → ((c : ℕ) → p c ≡ true → q c ≡ true) → list_all p text ≡ true → list_all q text ≡ true
 all_weaker p q [] weaker all = refl
-all_weaker p q (b ∷ text) weaker all =
-    let (first, more) = and_parts (p b) (list_all p text) all in
-    and_from _ _ (weaker b first) (all_weaker p q text weaker more)
+all_weaker p q (b ∷ text) weaker all = grind (arith, nat_tests, all, weaker b, all_weaker p q text weaker)

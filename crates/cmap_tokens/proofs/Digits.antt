@@ -1,25 +1,21 @@
 -- The numbers that digits write.
-use Rattle.std.proofs.Common.{◌≡◌, ℕ, ◌+◌, ◌*◌, ◌-◌, ◌^◌, ◌<◌, ◌≤◌, min, List, length, get_or, take, true, ap, sym, ◌∙◌, ⊎_elim, inl, inr, arith, [], ◌∷◌, map, refl, ◌%◌, ◌/◌, subst, pos, false, ◌==◌, drop, Some, length-take-le}
+use Rattle.std.proofs.Common.{◌≡◌, ℕ, ◌+◌, ◌*◌, ◌-◌, ◌^◌, ◌<◌, ◌≤◌, min, List, length, get_or, take, true, ap, sym, ◌∙◌, ⊎_elim, arith, [], ◌∷◌, map, refl, ◌%◌, ◌/◌, subst, pos, false, ◌==◌, Some}
 use Rattle.std.specs.Char.{digit_value, is_digit}
-use Rattle.std.specs.List.{list_all, prefix_len}
-use Rattle.std.proofs.lemmas.Bool.{and_from, lt-ltb, cases_Bool, cases_lt, and_parts, ltb-true, le-leb, not_from_false}
+use Rattle.std.specs.List.{list_all}
+use Rattle.std.proofs.lemmas.Bool.{and_from, lt-ltb, cases_lt, and_parts, ltb-true, le-leb}
+use Rattle.std.proofs.lemmas.Bool.Decides.{nat_tests}
 use Rattle.std.proofs.lemmas.Int.Digits.{digits_value_is, digits_value_more, number_lt}
 use Rattle.std.proofs.Math.Nat.{mul-le-mul_left, pow-le-pow_right}
-use Rattle.cmap_tokens.specs.Numbers.{digits_number, are_digits, digits_value, Integer, digits_len, integer, numeral}
-use Rattle.std.specs.Prelude.{Option, None, option_map, unwrap_or, codes, nat_le, nat_lt}
+use Rattle.cmap_tokens.specs.Numbers.{digits_number, are_digits, digits_value, Integer, integer, numeral}
+use Rattle.std.specs.Prelude.{Option, option_map, unwrap_or, nat_le}
 use Rattle.std.specs.Int.Digits.{AllBelowBase, number_from_digits_after}
-use Rattle.std.proofs.lemmas.List.{take-take, length-map, length-take, take-append-drop}
-use Rattle.std.proofs.lemmas.List.Sums.{prefix_len-le-length}
+use Rattle.std.proofs.lemmas.List.{length-map, length-take}
 use Rattle.cmap_tokens.specs.TokenReading.{octal_len}
-use Rattle.cmap_tokens.proofs.ByteTests.{all_prefix, other_byte, none_of, all_weaker}
+use Rattle.cmap_tokens.proofs.ByteTests.{all_front, other_byte}
 use Rattle.std.specs.Int.Digits.{number_from_digits}
 use Rattle.std.specs.List.{AllByRecursion}
 use Rattle.cmap_tokens.specs.Strings.{ArePairs, hex_value}
-use Rattle.std.proofs.Math.Seq.{drop-cons}
-use Rattle.cmap_tokens.specs.Ascii.{nul, tab, line_feed, form_feed, carriage_return, space}
-use Rattle.cmap_tokens.specs.Bytes.{is_white, is_delimiter, is_regular}
-use Rattle.cmap_tokens.specs.Tokens.{begins_regular}
-use Rattle.cmap_tokens.proofs.TokenPieces.{run_ends}
+use Rattle.cmap_tokens.specs.Bytes.{is_regular}
 
 -- ---- a number kept within 64 bits
 -- a number within the limit m goes on by a digit
@@ -41,27 +37,33 @@ digits_number_more base text i h =
 -- ---- up to three octal digits
 pub below_base : (base : ℕ) (digits : List ℕ) → list_all (λ c. is_digit c base) digits ≡ true → AllBelowBase base (map digit_value digits)
 below_base base [] all = tt
-below_base base (c ∷ digits) all =
-    let (first, more) = and_parts (is_digit c base) (list_all (λ k. is_digit k base) digits) all in
-    (ltb-true (digit_value c) base first, below_base base digits more)
+below_base base (c ∷ digits) all = (grind (arith, nat_tests, all), below_base base digits (grind (arith, nat_tests, all)))
 
--- no cap of 64 bits is met
-capped_value : (digits : List ℕ) → length digits ≤ 3 → list_all (λ c. is_digit c 8) digits ≡ true → unwrap_or (option_map (λ n. min n (2 ^ 64 - 1)) (digits_value 8 digits)) 0 ≡ digits_number 8 digits
-capped_value [] few all = refl
-capped_value (c ∷ digits) few all =
-    let is : are_digits 8 (c ∷ digits) ≡ true = and_from _ _ (lt-ltb 0 (length (c ∷ digits)) (omega arith)) all in
-    let size = length-map (c ∷ digits) digit_value in
-    let most : 8 ^ length (map digit_value (c ∷ digits)) ≤ 8 ^ 3 = pow-le-pow_right {n = 8} (omega arith) {i = length (map digit_value (c ∷ digits))} {j = 3} (omega (arith, size, few)) in
-    rw is (omega (arith, most, number_lt 8 (map digit_value (c ∷ digits)) (below_base 8 (c ∷ digits) all)))
+-- so many digits write a number below this one
+pub digits_small : (base m : ℕ) (digits : List ℕ) → 0 < base → list_all (λ c. is_digit c base) digits ≡ true → length digits ≤ m → digits_number base digits < base ^ m
+digits_small base m digits some all few =
+    let size = length-map digits digit_value in
+    omega (arith, pow-le-pow_right {n = base} some {i = length (map digit_value digits)} {j = m} (omega (arith, size, few)), number_lt base (map digit_value digits) (below_base base digits all))
 
-pub octal_few : (text : List ℕ) → octal_len text ≤ 3
-octal_few text = omega (arith, prefix_len-le-length (λ c. is_digit c 8) (take 3 text), length-take 3 text)
+-- what a text of digits writes, where no cap of 64 bits is met
+abbrev pub capped : ℕ → List ℕ → Option ℕ
+capped base digits = option_map (λ n. min n (2 ^ 64 - 1)) (digits_value base digits)
 
-pub octal_all : (text : List ℕ) → list_all (λ c. is_digit c 8) (take (octal_len text) text) ≡ true
-octal_all text = ap (list_all (λ c. is_digit c 8)) (sym (take-take (octal_len text) 3 text (octal_few text))) ∙ all_prefix (λ c. is_digit c 8) (take 3 text)
+pub uncapped : (base m : ℕ) (digits : List ℕ) → 0 < base → length digits ≤ m → base ^ m ≤ 2 ^ 64 → capped base digits ≡ digits_value base digits
+uncapped base m digits some few fits = grind (arith, nat_tests, digits_small base m digits some)
 
-pub octal_value : (text : List ℕ) → unwrap_or (option_map (λ n. min n (2 ^ 64 - 1)) (digits_value 8 (take (octal_len text) text))) 0 ≡ digits_number 8 (take (octal_len text) text)
-octal_value text = capped_value (take (octal_len text) text) (omega (arith, length-take (octal_len text) text, octal_few text)) (octal_all text)
+-- the digits of a number that is read
+pub value_is : (base m n : ℕ) (digits : List ℕ) → 0 < base → length digits ≤ m → digits_value base digits ≡ Some n → (0 < length digits) × (list_all (λ c. is_digit c base) digits ≡ true) × (n ≡ digits_number base digits) × (n < base ^ m)
+value_is base m n digits some few is = (grind (arith, nat_tests, is), grind (arith, nat_tests, is), grind (arith, nat_tests, is), grind (arith, nat_tests, is, digits_small base m digits some))
+
+unwrapped : (digits : List ℕ) → list_all (λ c. is_digit c 8) digits ≡ true → unwrap_or (digits_value 8 digits) 0 ≡ digits_number 8 digits
+unwrapped [] all = refl
+unwrapped (c ∷ digits) all = grind (arith, nat_tests, all)
+
+pub octal_value : (text : List ℕ) → unwrap_or (capped 8 (take (octal_len text) text)) 0 ≡ digits_number 8 (take (octal_len text) text)
+octal_value text =
+    rw (uncapped 8 3 (take (octal_len text) text) (omega arith) (omega (arith, length-take (octal_len text) text)) (omega arith))
+    (unwrapped (take (octal_len text) text) (all_front (λ c. is_digit c 8) (octal_len text) text (omega arith)))
 
 -- ---- the bytes of paired hexadecimal digits
 abbrev pub all_digits : List ℕ → Type 0
@@ -96,39 +98,19 @@ paired (a ∷ b ∷ more) all even =
       bytes = subst (AllByRecursion (λ b. b < 2 ^ 8)) (sym value) (byte, rest.bytes);
     }
 
--- the number of up to eight digits, which no cap of 64 bits is met by
-abbrev pub capped : List ℕ → Option ℕ
-capped digits = option_map (λ n. min n (2 ^ 64 - 1)) (digits_value 16 digits)
-
-pub eight_digits : (digits : List ℕ) (n : ℕ) → Some n ≡ capped digits → length digits ≤ 8 → (0 < length digits) × all_digits digits × (n ≡ digits_number 16 digits) × (n < 2 ^ 32)
-eight_digits digits n is few =
-    elim (cases_Bool (are_digits 16 digits)) [
-      | inl are ↦
-          let (some, all) = and_parts (nat_lt 0 (length digits)) (list_all (λ c. is_digit c 16) digits) are in
-          let size = length-map digits digit_value in
-          let most : 16 ^ length (map digit_value digits) ≤ 16 ^ 8 = pow-le-pow_right {n = 16} (omega arith) {i = length (map digit_value digits)} {j = 8} (omega (arith, size, few)) in
-          let below : digits_number 16 digits < 2 ^ 32 = omega (arith, most, number_lt 16 (map digit_value digits) (below_base 16 digits all)) in
-          let same : Some n ≡ Some (min (digits_number 16 digits) (2 ^ 64 - 1)) = rw are at is in
-          let number : n ≡ min (digits_number 16 digits) (2 ^ 64 - 1) = cc in
-          (ltb-true 0 (length digits) some, all, omega (arith, number, below), omega (arith, number, below))
-      | inr other ↦ let none : Some n ≡ None = rw other at is in cc
-    ]
-
 -- digits in pairs are read
-pub pairs_read : (digits : List ℕ) (n : ℕ) → Some n ≡ capped digits → length digits ≤ 8 → length digits % 2 ≡ 0
+pub pairs_read : (digits : List ℕ) (n : ℕ) → digits_value 16 digits ≡ Some n → length digits ≤ 8 → length digits % 2 ≡ 0
     → ArePairs digits × (length digits / 2 ≡ length (hex_value digits)) × (n ≡ number_from_digits 256 (hex_value digits))
 pairs_read digits n is few even =
-    let (some, all, number, small) = eight_digits digits n is few in
+    let (some, all, number, small) = value_is 16 8 n digits (omega arith) few is in
     let are = paired digits all even in
     ((all, even, some, few), omega (arith, are.long), number ∙ are.number 0)
 
 -- ---- a run of decimal digits is the number that they write
-digit_regular : (b : ℕ) → is_digit b 10 ≡ true → is_regular b ≡ true
-digit_regular b digit =
-    let test = λ (c : ℕ). is_digit c 10 in
-    and_from _ _ (not_from_false (is_white b) (none_of test b (nul ∷ tab ∷ line_feed ∷ form_feed ∷ carriage_return ∷ space ∷ []) refl digit)) (not_from_false (is_delimiter b) (none_of test b (codes "()<>[]{}/%") refl digit))
+pub digit_regular : (b : ℕ) → is_digit b 10 ≡ true → is_regular b ≡ true
+digit_regular b digit = grind (arith, nat_tests, digit)
 
-digits_numeral : (digits : List ℕ) → 0 < length digits → list_all (λ c. is_digit c 10) digits ≡ true → digits_number 10 digits < 2 ^ 63 → numeral digits ≡ Some (Integer (pos (digits_number 10 digits)))
+pub digits_numeral : (digits : List ℕ) → 0 < length digits → list_all (λ c. is_digit c 10) digits ≡ true → digits_number 10 digits < 2 ^ 63 → numeral digits ≡ Some (Integer (pos (digits_number 10 digits)))
 unfolding numeral integer
 digits_numeral [] some all small = absurd (omega (arith, some))
 digits_numeral (b ∷ digits) some all small =
@@ -138,13 +120,3 @@ digits_numeral (b ∷ digits) some all small =
     let are : are_digits 10 (b ∷ digits) ≡ true = and_from _ _ (lt-ltb 0 (length (b ∷ digits)) some) all in
     let fits : nat_le (digits_number 10 (b ∷ digits)) (2 ^ 63 - 1) ≡ true = le-leb _ (2 ^ 63 - 1) (omega (arith, small)) in
     rw (not_minus, not_plus, are, fits) refl
-
--- m digits, and then a byte that is not regular
-pub decimal_run : (text : List ℕ) (m number : ℕ) → 0 < m → m < length text → m ≡ digits_len 10 text → number ≡ digits_number 10 (take m text) → is_regular (get_or text m 0) ≡ false → number < 2 ^ 63
-    → (m ≡ prefix_len is_regular text) × (numeral (take m text) ≡ Some (Integer (pos number)))
-decimal_run text m number some within len is special small =
-    let digits : list_all (λ c. is_digit c 10) (take m text) ≡ true = ap (λ n. list_all (λ c. is_digit c 10) (take n text)) len ∙ all_prefix (λ c. is_digit c 10) text in
-    let long : length (take m text) ≡ m = length-take-le m text (omega (arith, within)) in
-    let stops : begins_regular (drop m text) ≡ false = ap begins_regular (drop-cons text m 0 within) ∙ special in
-    let run = run_ends (take m text) (drop m text) (all_weaker (λ c. is_digit c 10) is_regular (take m text) digit_regular digits) stops in
-    (sym (sym (ap (prefix_len is_regular) (take-append-drop m text)) ∙ run ∙ long), digits_numeral (take m text) (omega (arith, long, some)) digits (omega (arith, is, small)) ∙ ap (λ n. Some (Integer (pos n))) (sym is))

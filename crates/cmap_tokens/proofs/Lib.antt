@@ -4,7 +4,6 @@ pub mod Decided
 pub mod Digits
 pub mod Fronts
 pub mod Gaps
-pub mod StringBodies
 pub mod StringCuts
 pub mod StringLengths
 pub mod StringValues

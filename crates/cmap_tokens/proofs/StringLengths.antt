@@ -1,62 +1,86 @@
 -- How far strings reach: what the code measures is what the grammar says, both ways.
-use Rattle.std.proofs.Common.{◌≡◌, ℕ, ◌+◌, ◌<◌, ◌≤◌, Bool, true, false, ◌==◌, List, [], ◌∷◌, ◌++◌, length, get_or, take, drop, suc, Option, Some, None, one-add, refl, sym, ap, ◌∙◌, inl, inr, arith}
+use Rattle.std.proofs.Common.{◌≡◌, ℕ, ◌+◌, ◌-◌, ◌<◌, ◌≤◌, Bool, true, false, ◌==◌, List, [], ◌∷◌, ◌++◌, length, get_or, take, drop, suc, Option, Some, None, one-add, refl, sym, ap, ◌∙◌, inl, inr, arith, append_assoc, append-nil, length-append}
 use Rattle.std.specs.Prelude.{IsTrue, option_map}
-use Rattle.std.specs.List.{list_all}
-use Rattle.std.proofs.lemmas.Bool.{and_from, and_parts, cases_Bool, cond_both, eqb-true}
-use Rattle.std.proofs.lemmas.List.{at_drop_more, nil_from_length}
-use Rattle.cmap_tokens.specs.Tokens.{Inside, after_byte, closes_at_end, is_hex_body}
-use Rattle.cmap_tokens.specs.TokenReading.{is_paired}
-use Rattle.cmap_tokens.specs.TokenReading.{one_more, hex_len, text_len}
+use Rattle.std.specs.List.{list_all, prefix_len}
+use Rattle.std.specs.Option.{option_map_or}
+use Rattle.std.proofs.Math.Seq.{get_or-append_seam}
+use Rattle.std.proofs.lemmas.Bool.{cases_Bool, eq-eqb, eqb-true}
+use Rattle.std.proofs.lemmas.List.{at_drop_more, get_or_past, nil_from_length, take_all, take_more}
+use Rattle.cmap_tokens.specs.Tokens.{Inside, after_byte, closes_at_end, opened, is_hex_body, IsHexString, IsString}
+use Rattle.cmap_tokens.specs.TokenReading.{one_more, hex_len, text_len, string_len, is_string, is_paired}
+use Rattle.cmap_tokens.proofs.ByteTests.{all_prefix, by_byte, prefix_len-append_all}
 
-pub one_more_some : (count : Option ℕ) (m : ℕ) → one_more count ≡ Some m → (k : ℕ) × (count ≡ Some k) × (m ≡ suc k)
+one_more_some : (count : Option ℕ) (m : ℕ) → one_more count ≡ Some m → (k : ℕ) × (count ≡ Some k) × (m ≡ suc k)
 one_more_some None m e = cc
 one_more_some (Some k) m e = (k, refl, let next = one-add k in cc)
 
--- the first m bytes are digits and >
-pub record HasHex (text : List ℕ) (m : ℕ) (body : List ℕ) : Type 0 where
-  pub front : take m text ≡ body ++ 62 ∷ []
-  pub is_body : IsTrue (list_all is_hex_body body)
-  pub within : m ≤ length text
-
-pub has_hex : (text : List ℕ) (m : ℕ) → hex_len text ≡ Some m → (body : List ℕ) × HasHex text m body
-has_hex [] m e = cc
-has_hex (b ∷ text) m e =
-    elim (cases_Bool (is_hex_body b)) [
-      | inl is_hex ↦
-          let (k, less, more) = one_more_some (hex_len text) m (rw is_hex at e) in
-          let (body, found) = has_hex text k less in
-          (b ∷ body, record { front = ap (λ n. take n (b ∷ text)) more ∙ ap (λ t. b ∷ t) found.front; is_body = and_from _ _ is_hex found.is_body; within = omega (arith, more, found.within) })
-      | inr not_hex ↦
-          elim (cases_Bool (b == 62)) [
-            | inl ends ↦
-                let one : m ≡ 1 = let at = rw (not_hex, ends) at e in cc in
-                ([], record { front = ap (λ n. take n (b ∷ text)) one ∙ ap (λ c. c ∷ []) (eqb-true b 62 ends); is_body = refl; within = omega (arith, one) })
-            | inr other ↦ let at = rw (not_hex, other) at e in cc
-          ]
+-- ---- < digits >
+hex_is : (text : List ℕ) (n : ℕ) → hex_len text ≡ Some n → IsHexString (60 ∷ take n text) × (n ≤ length text)
+hex_is text n e =
+    let len = prefix_len is_hex_body text in
+    elim (cases_Bool (get_or text len 0 == 62)) [
+      | inl ends ↦
+          let last : get_or text len 0 ≡ 62 = eqb-true _ 62 ends in
+          let at : 1 + len ≡ n = let some = rw ends at e in cc in
+          let long : n ≡ len + 1 = omega (arith, at) in
+          let within : len < length text = grind (arith, last, get_or_past text len 0) in
+          ((take len text, rw (long, take_more text len 0 within, last) refl, all_prefix is_hex_body text), omega (arith, long, within))
+      | inr other ↦ let at = rw other at e in cc
     ]
 
-pub hex_len-append : (body rest : List ℕ) → IsTrue (list_all is_hex_body body) → hex_len (body ++ 62 ∷ rest) ≡ Some (1 + length body)
-hex_len-append [] rest is_body = refl
-hex_len-append (b ∷ body) rest is_body =
-    let (first, more) = and_parts (is_hex_body b) (list_all is_hex_body body) is_body in
-    let is_hex : is_hex_body b ≡ true = first in
-    let longer : 1 + (1 + length body) ≡ 1 + length (b ∷ body) = omega arith in
-    rw is_hex (ap one_more (hex_len-append body rest more) ∙ ap Some longer)
+hex_len-append : (body rest : List ℕ) → IsTrue (list_all is_hex_body body) → hex_len (body ++ 62 ∷ rest) ≡ Some (1 + length body)
+hex_len-append body rest is_body =
+    let len : prefix_len is_hex_body (body ++ 62 ∷ rest) ≡ length body = omega (arith, prefix_len-append_all is_hex_body body (62 ∷ rest) is_body) in
+    rw (len, get_or-append_seam body 62 rest 0) refl
 
-pub has_text : (place : Option Inside) (text : List ℕ) (m : ℕ) → text_len place text ≡ Some m → (closes_at_end place (take m text) ≡ true) × (m ≤ length text)
-has_text None text m e = let none : m ≡ 0 = cc in (rw none refl, omega (arith, none))
-has_text (Some place) [] m e = cc
-has_text (Some place) (b ∷ text) m e =
-    let (k, less, more) = one_more_some (text_len (after_byte place b) text) m e in
-    let found = has_text (after_byte place b) text k less in
-    (rw more found.0, omega (arith, more, found.1))
+-- ---- ( .. )
+text_is : (state : Option Inside) (text : List ℕ) (n : ℕ) → text_len state text ≡ Some n → (closes_at_end state (take n text) ≡ true) × (n ≤ length text)
+text_is None text n e = let none : n ≡ 0 = cc in (rw none refl, omega (arith, none))
+text_is (Some state) [] n e = cc
+text_is (Some state) (b ∷ text) n e =
+    let (k, less, more) = one_more_some (text_len (after_byte state b) text) n e in
+    let (closes, within) = text_is (after_byte state b) text k less in
+    (rw more closes, omega (arith, more, within))
 
-pub text_len-append : (place : Option Inside) (bytes rest : List ℕ) → closes_at_end place bytes ≡ true → text_len place (bytes ++ rest) ≡ Some (length bytes)
+text_len-append : (state : Option Inside) (bytes rest : List ℕ) → closes_at_end state bytes ≡ true → text_len state (bytes ++ rest) ≡ Some (length bytes)
 text_len-append None bytes rest closes = ap Some (sym (eqb-true (length bytes) 0 closes))
-text_len-append (Some place) [] rest closes = cc
-text_len-append (Some place) (b ∷ bytes) rest closes =
-    let longer : 1 + length bytes ≡ length (b ∷ bytes) = omega arith in
-    ap one_more (text_len-append (after_byte place b) bytes rest closes) ∙ ap Some longer
+text_len-append (Some state) [] rest closes = cc
+text_len-append (Some state) (b ∷ bytes) rest closes = ap one_more (text_len-append (after_byte state b) bytes rest closes) ∙ ap Some (one-add (length bytes))
+
+-- ---- strings
+-- what is measured is a string
+pub string_is : (text : List ℕ) (n : ℕ) → string_len text ≡ Some n → IsString (take n text) × (n ≤ length text)
+string_is [] n = λ e. cc
+string_is (b ∷ text) n =
+    let P : ℕ → Type 0 = λ c. string_len (c ∷ text) ≡ Some n → IsString (take n (c ∷ text)) × (n ≤ length (c ∷ text)) in
+    by_byte b 60 P (λ e. let (k, is, more) = one_more_some (hex_len text) n e in let (hex, within) = hex_is text k is in (rw more (inl hex), omega (arith, more, within))) (λ not_less.
+    by_byte b 40 P (λ e. let (k, is, more) = one_more_some (text_len opened text) n e in let (closes, within) = text_is opened text k is in (rw more (inr (take k text, refl, closes)), omega (arith, more, within))) (λ not_open e.
+    let at = rw (not_less, not_open) at e in cc))
+
+-- and a string is measured
+pub string_len-append : (piece rest : List ℕ) → IsString piece → string_len (piece ++ rest) ≡ Some (length piece)
+string_len-append piece rest (inl (body, shape, all)) =
+    let long : 1 + (1 + length body) ≡ length (60 ∷ body ++ 62 ∷ []) = omega (arith, length-append body (62 ∷ [])) in
+    rw (shape, append_assoc body (62 ∷ []) rest) (ap one_more (hex_len-append body rest all) ∙ ap Some long)
+string_len-append piece rest (inr (bytes, shape, closes)) = rw shape (ap one_more (text_len-append opened bytes rest closes) ∙ ap Some (one-add (length bytes)))
+
+pub is_string-from : (piece : List ℕ) → IsString piece → is_string piece ≡ true
+unfolding is_string
+is_string-from piece is = rw (sym (ap string_len (append-nil piece)) ∙ string_len-append piece [] is) (eq-eqb (length piece) (length piece) refl)
+
+string_by_len : (piece : List ℕ) (count : Option ℕ) → string_len piece ≡ count → option_map_or (λ n. n == length piece) count false ≡ true → IsString piece
+string_by_len piece None e is = cc
+string_by_len piece (Some n) e is =
+    let whole : n ≡ length piece = eqb-true n (length piece) is in
+    rw (← take_all n piece (omega (arith, whole))) (string_is piece n e).0
+
+pub IsString-from : (piece : List ℕ) → is_string piece ≡ true → IsString piece
+unfolding is_string
+IsString-from piece is = string_by_len piece _ refl is
+
+-- what is measured is a whole string
+pub is_string-front : (text : List ℕ) (n : ℕ) → Some n ≡ string_len text → is_string (take n text) ≡ true
+is_string-front text n e = is_string-from (take n text) (string_is text n (sym e)).0
 
 -- a step over one byte
 one_more_from : (i : ℕ) (count : Option ℕ) → option_map (λ n. i + n) (one_more count) ≡ option_map (λ n. i + 1 + n) count
@@ -68,28 +92,21 @@ pub count_step : (f : List ℕ → Option ℕ) (text : List ℕ) (i : ℕ) (rest
 count_step f text i rest within is = sym (ap (option_map (λ n. i + n)) (at_drop_more f text i 0 within ∙ is) ∙ one_more_from i rest)
 
 -- what closes ends with ), and each backslash before it has a byte after it
-abbrev pub EndsFrom : Option Inside → List ℕ → Type 0
-EndsFrom None bytes = bytes ≡ []
-EndsFrom (Some place) bytes = (body : List ℕ) × (bytes ≡ body ++ 41 ∷ []) × (is_paired place.escaped body ≡ true)
+abbrev pub EndsPaired : Bool → List ℕ → Type 0
+EndsPaired escaped bytes = (body : List ℕ) × (bytes ≡ body ++ 41 ∷ []) × (is_paired escaped body ≡ true)
 
-abbrev Follows : Inside → ℕ → Option Inside → Type 0
-Follows place b None = (b ≡ 41) × (place.escaped ≡ false)
-Follows place b (Some next) = (text : List ℕ) → is_paired place.escaped (b ∷ text) ≡ is_paired next.escaped text
+byte_before : (b : ℕ) (escaped next : Bool) (bytes : List ℕ) → ((body : List ℕ) → is_paired escaped (b ∷ body) ≡ is_paired next body) → EndsPaired next bytes → EndsPaired escaped (b ∷ bytes)
+byte_before b escaped next bytes same (body, whole, paired) = (b ∷ body, ap (λ t. b ∷ t) whole, same body ∙ paired)
 
-follows : (escaped : Bool) (depth b : ℕ) → let place : Inside = record { escaped = escaped; depth = depth } in Follows place b (after_byte place b)
-follows true depth b = λ text. refl
-follows false depth b =
-    let place : Inside = record { escaped = false; depth = depth } in
-    let P : Option Inside → Type 0 = Follows place b in
-    cond_both (b == 92) _ _ P (λ escape text. ap (λ t. is_paired t text) escape)
-    (λ plain. let same = λ (text : List ℕ). ap (λ t. is_paired t text) plain in
-    cond_both (b == 40) _ _ P (λ _. same) (λ _. cond_both (b == 41) _ _ P (λ close. cond_both (depth == 1) _ _ P (λ _. (eqb-true b 41 close, refl)) (λ _. same)) (λ _. same)))
-
-ends_more : (place : Inside) (b : ℕ) (bytes : List ℕ) (next : Option Inside) → Follows place b next → EndsFrom next bytes → EndsFrom (Some place) (b ∷ bytes)
-ends_more place b bytes None (close, plain) none = ([], rw (close, none) refl, ap (λ e. is_paired e []) plain)
-ends_more place b bytes (Some next) same (body, whole, paired) = (b ∷ body, ap (λ t. b ∷ t) whole, same body ∙ paired)
-
-pub ends_from : (place : Option Inside) (bytes : List ℕ) → closes_at_end place bytes ≡ true → EndsFrom place bytes
-ends_from None bytes closes = nil_from_length bytes (eqb-true (length bytes) 0 closes)
-ends_from (Some place) [] closes = cc
-ends_from (Some place) (b ∷ bytes) closes = ends_more place b bytes (after_byte place b) (follows place.escaped place.depth b) (ends_from (after_byte place b) bytes closes)
+pub ends_from : (escaped : Bool) (depth : ℕ) (bytes : List ℕ) → closes_at_end (Some (record { escaped = escaped; depth = depth })) bytes ≡ true → EndsPaired escaped bytes
+ends_from escaped depth [] = λ closes. cc
+ends_from true depth (b ∷ bytes) = λ closes. byte_before b true false bytes (λ _. refl) (ends_from false depth bytes closes)
+ends_from false depth (b ∷ bytes) =
+    let P : ℕ → Type 0 = λ c. closes_at_end (Some (record { escaped = false; depth = depth })) (c ∷ bytes) ≡ true → EndsPaired false (c ∷ bytes) in
+    by_byte b 92 P (λ closes. byte_before 92 false true bytes (λ _. refl) (ends_from true depth bytes closes)) (λ plain.
+    by_byte b 41 P (elim (cases_Bool (depth == 1)) [
+      | inl last ↦ λ closes. ([], ap (λ t. 41 ∷ t) (nil_from_length bytes (eqb-true (length bytes) 0 (rw (last, closes_at_end) at closes))), refl)
+      | inr deeper ↦ λ closes. byte_before 41 false false bytes (λ _. refl) (ends_from false (depth - 1) bytes (rw (deeper, closes_at_end) at closes))
+    ]) (λ not_close.
+    by_byte b 40 P (λ closes. byte_before 40 false false bytes (λ _. refl) (ends_from false (depth + 1) bytes closes)) (λ not_open closes.
+    byte_before b false false bytes (λ body. ap (λ t. is_paired t body) plain) (ends_from false depth bytes (rw (plain, not_open, not_close, closes_at_end) at closes)))))

@@ -1,5 +1,5 @@
 -- The classes of bytes. PostScript Language Reference, third edition, 3.2.1 and 3.2.2.
-use Rattle.std.specs.Prelude.{ℕ, Bool, not, ◌&&◌, ◌==◌, [], ◌∷◌, codes}
+use Rattle.std.specs.Prelude.{ℕ, Bool, false, not, ◌&&◌, ◌==◌, List, [], ◌∷◌, codes}
 use Rattle.std.specs.List.{list_any}
 use Rattle.cmap_tokens.specs.Ascii.{nul, tab, line_feed, form_feed, carriage_return, space}
 
@@ -12,3 +12,8 @@ is_delimiter b = list_any (λ c. b == c) (codes "()<>[]{}/%")
 -- every other byte, from 128 on included
 abbrev pub is_regular : ℕ → Bool
 is_regular b = not (is_white b) && not (is_delimiter b)
+
+-- the text begins with a byte that passes
+abbrev pub begins : (ℕ → Bool) → List ℕ → Bool
+begins p [] = false
+begins p (b ∷ text) = p b

@@ -10,5 +10,4 @@ pub mod NumberSeen
 pub mod TokenSeen
 pub mod TextSeen
 pub mod TokenReading
-pub mod LastUnits
 pub mod TokensLeft

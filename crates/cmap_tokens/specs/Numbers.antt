@@ -1,5 +1,5 @@
 -- How numbers are spelled. PostScript Language Reference, third edition, 3.2.2, over whole runs of regular bytes.
-use Rattle.std.specs.Prelude.{◌≡◌, ℕ, ℤ, pos, neg_ℤ, ◌+◌, ◌-◌, ◌^◌, ◌<◌, get_or, ◌||◌, ◌&&◌, ◌==◌, nat_lt, nat_le, Bool, false, List, [], ◌∷◌, length, drop, map, Option, Some, None, option_map, option_and_then, int_le, if◌then◌else◌}
+use Rattle.std.specs.Prelude.{ℕ, ℤ, pos, neg_ℤ, ◌+◌, ◌-◌, ◌^◌, get_or, ◌||◌, ◌&&◌, ◌==◌, nat_lt, nat_le, Bool, false, List, [], ◌∷◌, length, take, drop, map, not, Option, Some, None, option_map, option_and_then, int_le, if◌then◌else◌}
 use Rattle.std.specs.List.{list_all, prefix_len}
 use Rattle.std.specs.Option.{option_or}
 use Rattle.std.specs.Char.{digit_value, is_digit}
@@ -80,8 +80,9 @@ is_real text = ends_real (digits_len 10 (without_sign text)) (drop (digits_len 1
 unfoldable pub numeral : List ℕ → Option Number
 numeral text = option_or (integer text) (option_or (radix_integer text) (if is_real text then Some Real else None))
 
--- the text begins with len decimal digits, and after them stands a byte that is not regular
-pub record EndsDigits (text : List ℕ) (len : ℕ) : Type 0 where
-  pub digits : digits_len 10 text ≡ len
-  pub within : len < length text
-  pub special : is_regular (get_or text len 0) ≡ false
+-- one to 18 decimal digits that a text begins with, and after them a byte that is not regular: the number that they write, and how many they are
+abbrev pub decimal_front : List ℕ → Option (ℕ × ℕ)
+decimal_front text =
+    if nat_le 1 (digits_len 10 text) && nat_le (digits_len 10 text) 18 && nat_lt (digits_len 10 text) (length text) && not (is_regular (get_or text (digits_len 10 text) 0))
+    then Some (digits_number 10 (take (digits_len 10 text) text), digits_len 10 text)
+    else None

@@ -1,9 +1,8 @@
 -- What contracts see of a scanner.
-use Rattle.std.specs.Prelude.{◌≡◌, ℕ, ◌+◌, ◌≤◌, List, ◌∷◌, length, get_or, take, drop, IsTrue}
+use Rattle.std.specs.Prelude.{◌≡◌, ℕ, ◌+◌, ◌&&◌, ◌==◌, List, length, get_or, take, drop, Option, None, if◌then◌else◌}
 use Rattle.cmap_tokens.specs.Ascii.{less, greater}
 use Rattle.cmap_tokens.specs.Bytes.{is_white}
-use Rattle.cmap_tokens.specs.Numbers.{EndsDigits}
-use Rattle.cmap_tokens.specs.Strings.{ArePairs}
+use Rattle.cmap_tokens.specs.Numbers.{digits_value, decimal_front}
 use Rattle.cmap_tokens.specs.Tokens.{Token, Front}
 
 -- the source, and how far the scanner has come in it
@@ -13,7 +12,7 @@ pub record Place : Type 0 where
 
 -- what is left of the source
 abbrev pub rest_of : Place → List ℕ
-rest_of place = drop place.passed place.source
+rest_of cursor = drop cursor.passed cursor.source
 
 -- the text has this front and no other
 pub record OnlyFront (text gap piece : List ℕ) (token : Token) (rest : List ℕ) : Type 0 where
@@ -24,15 +23,19 @@ pub record OnlyFront (text gap piece : List ℕ) (token : Token) (rest : List �
 abbrev pub FirstToken : List ℕ → Token → ℕ → Type 0
 FirstToken text token len = (gap piece : List ℕ) × OnlyFront text gap piece token (drop len text) × (len ≡ length gap + length piece)
 
--- the token is that of the one front of what is left, and the new place is after its piece
+-- the token is that of the one front of what is left, and the new cursor stands after its piece
 abbrev pub ReadsToken : Place → Token → Place → Type 0
 ReadsToken old token new =
     (gap piece : List ℕ) × OnlyFront (rest_of old) gap piece token (rest_of new) × (new ≡ record { source = old.source; passed = old.passed + (length gap + length piece) })
 
--- one white byte, < four digits >, and more
-abbrev pub BeginsTwoBytes : List ℕ → Type 0
-BeginsTwoBytes text = (7 ≤ length text) × IsTrue (is_white (get_or text 0 0)) × (get_or text 1 0 ≡ less) × ArePairs (take 4 (drop 2 text)) × (get_or text 6 0 ≡ greater)
+-- the cursor moved on by so many bytes
+abbrev pub past : ℕ → Place → Place
+past len cursor = record { source = cursor.source; passed = cursor.passed + len }
 
--- one white byte, and then one to 18 decimal digits that no regular byte follows
-abbrev pub BeginsDecimal : List ℕ → Type 0
-BeginsDecimal text = (blank : ℕ) × (rest : List ℕ) × (text ≡ blank ∷ rest) × IsTrue (is_white blank) × (len : ℕ) × (1 ≤ len) × (len ≤ 18) × EndsDigits rest len
+-- a text that begins with one white byte, < four hexadecimal digits >: the number that the digits write
+abbrev pub spaced_two_bytes : List ℕ → Option ℕ
+spaced_two_bytes text = if get_or text 6 0 == greater && get_or text 1 0 == less && is_white (get_or text 0 0) then digits_value 16 (take 4 (drop 2 text)) else None
+
+-- a text that begins with one white byte, one to 18 decimal digits, and a byte that is not regular: the number that the digits write, and how many they are
+abbrev pub spaced_decimal : List ℕ → Option (ℕ × ℕ)
+spaced_decimal text = if is_white (get_or text 0 0) then decimal_front (drop 1 text) else None

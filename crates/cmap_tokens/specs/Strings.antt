@@ -1,10 +1,12 @@
 -- The bytes that a string token stands for. PostScript Language Reference, third edition, 3.2.2.
-use Rattle.std.specs.Prelude.{◌≡◌, ℕ, ◌+◌, ◌-◌, ◌*◌, ◌%◌, ◌^◌, ◌<◌, ◌≤◌, ◌||◌, ◌==◌, ◌&&◌, ◌⊎◌, nat_le, Bool, false, List, [], ◌∷◌, ◌++◌, length, get_or, take, drop, map, filter, IsTrue, if◌then◌else◌}
+use Rattle.std.specs.Prelude.{◌≡◌, ℕ, ◌+◌, ◌-◌, ◌*◌, ◌%◌, ◌^◌, ◌<◌, ◌≤◌, ◌||◌, ◌==◌, ◌⊎◌, Bool, false, List, [], ◌∷◌, ◌++◌, length, take, drop, map, filter, IsTrue, if◌then◌else◌}
 use Rattle.std.specs.Int.Digits.{number_from_digits}
 use Rattle.std.specs.List.{AllByRecursion, list_all}
 use Rattle.std.specs.Char.{digit_value, is_digit}
-use Rattle.cmap_tokens.specs.Ascii.{backspace, tab, line_feed, form_feed, carriage_return, open_parenthesis, close_parenthesis, less, greater, backslash, letter_b, letter_f, letter_n, letter_r, letter_t}
+use Rattle.cmap_tokens.specs.Ascii.{backspace, tab, line_feed, form_feed, carriage_return, backslash, letter_b, letter_f, letter_n, letter_r, letter_t}
+use Rattle.cmap_tokens.specs.Bytes.{begins}
 use Rattle.cmap_tokens.specs.Numbers.{are_digits, digits_number}
+use Rattle.cmap_tokens.specs.Tokens.{IsHexString, IsTextString}
 
 -- two digits make a byte, and after an odd last digit stands 0
 abbrev pub digit_pairs : List ℕ → List ℕ
@@ -28,12 +30,10 @@ escape_value c =
 
 -- the text begins with this byte
 abbrev pub begins_with : ℕ → List ℕ → Bool
-begins_with c [] = false
-begins_with c (b ∷ bytes) = b == c
+begins_with c text = begins (λ b. b == c) text
 
 abbrev pub begins_octal : List ℕ → Bool
-begins_octal [] = false
-begins_octal (b ∷ bytes) = is_digit b 8
+begins_octal text = begins (λ b. is_digit b 8) text
 
 -- CR LF, LF, or a CR that no LF follows
 abbrev pub IsLineEnd : List ℕ → List ℕ → Type 0
@@ -57,19 +57,15 @@ abbrev pub IsCut : List (List ℕ × List ℕ) → List ℕ → List ℕ → Typ
 IsCut [] body value = (body ≡ []) × (value ≡ [])
 IsCut (part ∷ parts) body value = (next more : List ℕ) × (body ≡ part.0 ++ next) × (value ≡ part.1 ++ more) × IsPart part.0 part.1 next × IsCut parts next more
 
--- the piece stands between these two bytes
-abbrev pub is_between : ℕ → ℕ → List ℕ → Bool
-is_between first last piece = get_or piece 0 0 == first && nat_le 2 (length piece) && get_or piece (length piece - 1) 0 == last
-
 -- what stands between its first and its last byte
 abbrev pub inside : List ℕ → List ℕ
 inside piece = drop 1 (take (length piece - 1) piece)
 
--- the bytes that a string token stands for
+-- the bytes that a string token stands for, and no other piece stands for any
 abbrev pub IsValue : List ℕ → List ℕ → Type 0
 IsValue piece value =
-    (IsTrue (is_between less greater piece) × (value ≡ hex_value (inside piece)))
-    ⊎ (IsTrue (is_between open_parenthesis close_parenthesis piece) × (parts : List (List ℕ × List ℕ)) × IsCut parts (inside piece) value)
+    (IsHexString piece × (value ≡ hex_value (inside piece)))
+    ⊎ (IsTextString piece × (parts : List (List ℕ × List ℕ)) × IsCut parts (inside piece) value)
 
 -- two digits for each of one to four bytes, and nothing between them
 abbrev pub ArePairs : List ℕ → Type 0
@@ -77,7 +73,7 @@ ArePairs digits = IsTrue (list_all (λ c. is_digit c 16) digits) × (length digi
 
 -- < such digits >
 abbrev pub IsPlain : List ℕ → Type 0
-IsPlain piece = IsTrue (is_between less greater piece) × ArePairs (inside piece)
+IsPlain piece = IsHexString piece × ArePairs (inside piece)
 
 -- the piece stands for these bytes alone
 pub record IsOnlyValue (piece value : List ℕ) : Type 0 where

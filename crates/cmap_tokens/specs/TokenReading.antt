@@ -1,14 +1,14 @@
 -- Private aid: what the code reads, as functions on lists. Public contracts speak of Tokens, Numbers and Strings alone.
-use Rattle.std.specs.Prelude.{zero, suc, ◌%◌, ◌&&◌, ◌++◌, length, drop, ℕ, ◌+◌, ◌==◌, Bool, true, false, not, List, [], ◌∷◌, take, map, option_map, filter, Option, Some, None, codes, if◌then◌else◌}
+use Rattle.std.specs.Prelude.{zero, suc, ◌%◌, ◌++◌, length, min, get_or, drop, ℕ, ◌+◌, ◌==◌, Bool, true, false, not, List, [], ◌∷◌, take, map, option_map, filter, Option, Some, None, codes, if◌then◌else◌}
 use Rattle.std.specs.List.{prefix_len}
-use Rattle.std.specs.Option.{option_to_list}
+use Rattle.std.specs.Option.{option_map_or, option_to_list}
 use Rattle.std.specs.Char.{digit_value, is_digit}
-use Rattle.cmap_tokens.specs.Ascii.{line_feed, carriage_return, close_parenthesis, backslash, percent, open_parenthesis, slash, less, greater}
+use Rattle.cmap_tokens.specs.Ascii.{line_feed, carriage_return, backslash, percent, open_parenthesis, slash, less, greater}
 use Rattle.cmap_tokens.specs.Bytes.{is_white, is_regular}
 use Rattle.cmap_tokens.specs.Gaps.{ends_comment}
 use Rattle.cmap_tokens.specs.Tokens.{Token, Name, String, Inside, after_byte, opened, is_bracket, is_hex_body, name_or_number}
 use Rattle.cmap_tokens.specs.Numbers.{digits_len, digits_number}
-use Rattle.cmap_tokens.specs.Strings.{begins_with, digit_pairs, escape_value, hex_value, inside, is_between}
+use Rattle.cmap_tokens.specs.Strings.{begins_with, digit_pairs, escape_value, hex_value, inside}
 
 -- one more, where there is a count
 abbrev pub one_more : Option ℕ → Option ℕ
@@ -20,16 +20,15 @@ gap_len in_comment [] = 0
 gap_len true (b ∷ text) = 1 + gap_len (not (ends_comment b)) text
 gap_len false (b ∷ text) = if b == percent then 1 + gap_len true text else if is_white b then 1 + gap_len false text else 0
 
--- how many bytes up to > and with it
+-- how many bytes up to and including >, where only digits and white bytes stand before it
 abbrev pub hex_len : List ℕ → Option ℕ
-hex_len [] = None
-hex_len (b ∷ text) = if is_hex_body b then one_more (hex_len text) else if b == greater then Some 1 else None
+hex_len text = if get_or text (prefix_len is_hex_body text) 0 == greater then Some (1 + prefix_len is_hex_body text) else None
 
--- how many bytes up to the ) that closes the first parenthesis and with it
+-- how many bytes up to and including the ) that closes the first parenthesis
 abbrev pub text_len : Option Inside → List ℕ → Option ℕ
 text_len None text = Some 0
-text_len (Some place) [] = None
-text_len (Some place) (b ∷ text) = one_more (text_len (after_byte place b) text)
+text_len (Some state) [] = None
+text_len (Some state) (b ∷ text) = one_more (text_len (after_byte state b) text)
 
 -- how many bytes the string takes that a text begins with
 abbrev pub string_len : List ℕ → Option ℕ
@@ -47,12 +46,12 @@ string_of text len = option_map (λ n. (String (take n text), n)) len
 unfoldable pub first_piece : List ℕ → Option (Token × ℕ)
 first_piece [] = None
 first_piece (b ∷ text) =
-    if is_bracket b then Some (Name false (b ∷ []), 1)
+    if is_regular b then Some (name_or_number (take (prefix_len is_regular (b ∷ text)) (b ∷ text)), prefix_len is_regular (b ∷ text))
+    else if is_bracket b then Some (Name false (b ∷ []), 1)
+    else if b == slash then Some (Name true (take (prefix_len is_regular text) text), 1 + prefix_len is_regular text)
     else if b == less then (if begins_with less text then Some (Name false (codes "<<"), 2) else string_of (b ∷ text) (string_len (b ∷ text)))
     else if b == greater then (if begins_with greater text then Some (Name false (codes ">>"), 2) else None)
     else if b == open_parenthesis then string_of (b ∷ text) (string_len (b ∷ text))
-    else if b == slash then Some (Name true (take (prefix_len is_regular text) text), 1 + prefix_len is_regular text)
-    else if is_regular b then Some (name_or_number (take (prefix_len is_regular (b ∷ text)) (b ∷ text)), prefix_len is_regular (b ∷ text))
     else None
 
 -- how many bytes show that no token comes, where a text begins with none: all of them, where only its end shows it
@@ -74,7 +73,7 @@ pairs_after (Some high) digits = digit_pairs (high ∷ digits)
 
 -- the digits of an octal escape: three at the most
 abbrev pub octal_len : List ℕ → ℕ
-octal_len text = digits_len 8 (take 3 text)
+octal_len text = min 3 (digits_len 8 text)
 
 -- their value modulo 256, and how many there are
 abbrev pub octal : List ℕ → ℕ × ℕ
@@ -116,9 +115,14 @@ is_paired escaped [] = not escaped
 is_paired true (b ∷ text) = is_paired false text
 is_paired false (b ∷ text) = is_paired (b == backslash) text
 
--- the value of a string, where it is one
+-- the text is a string and nothing more
+unfoldable pub is_string : List ℕ → Bool
+is_string text = option_map_or (λ n. n == length text) (string_len text) false
+
+-- the bytes of a string, by its first bracket
+abbrev pub string_value : List ℕ → List ℕ
+string_value piece = if get_or piece 0 0 == less then hex_value (inside piece) else text_value (inside piece)
+
+-- the value of a piece, where it is a string
 unfoldable pub value_of : List ℕ → Option (List ℕ)
-value_of piece =
-    if is_between less greater piece then Some (hex_value (inside piece))
-    else if is_between open_parenthesis close_parenthesis piece && is_paired false (inside piece) then Some (text_value (inside piece))
-    else None
+value_of piece = if is_string piece then Some (string_value piece) else None

@@ -4,7 +4,7 @@ use Rattle.std.specs.List.{list_any, list_all}
 use Rattle.std.specs.Option.{option_map_or}
 use Rattle.std.specs.Char.{is_digit}
 use Rattle.cmap_tokens.specs.Ascii.{open_parenthesis, close_parenthesis, slash, less, greater, backslash}
-use Rattle.cmap_tokens.specs.Bytes.{is_white, is_regular}
+use Rattle.cmap_tokens.specs.Bytes.{begins, is_white, is_regular}
 use Rattle.cmap_tokens.specs.Gaps.{IsGap, IsBlank}
 use Rattle.cmap_tokens.specs.Numbers.{Number, numeral}
 
@@ -38,25 +38,25 @@ is_hex_body b = is_white b || is_digit b 16
 abbrev pub IsHexString : List ℕ → Type 0
 IsHexString piece = (body : List ℕ) × (piece ≡ less ∷ body ++ greater ∷ []) × IsTrue (list_all is_hex_body body)
 
--- a place in ( .. ): whether it stands after a backslash, so that the next byte doesn't count, and how many parentheses are open
+-- the state within ( .. ): whether the last byte is a backslash that escapes the next one, and how many parentheses are open
 pub record Inside : Type 0 where
   pub escaped : Bool
   pub depth : ℕ
 
--- the place after one more byte; none after the ) that closes the first parenthesis
+-- the state after one more byte; None after the ) that closes the first parenthesis
 abbrev pub after_byte : Inside → ℕ → Option Inside
-after_byte place b =
-    if place.escaped then Some (record { escaped = false; depth = place.depth })
-    else if b == backslash then Some (record { escaped = true; depth = place.depth })
-    else if b == open_parenthesis then Some (record { escaped = false; depth = place.depth + 1 })
-    else if b == close_parenthesis then (if place.depth == 1 then None else Some (record { escaped = false; depth = place.depth - 1 }))
-    else Some (record { escaped = false; depth = place.depth })
+after_byte state b =
+    if state.escaped then Some (record { escaped = false; depth = state.depth })
+    else if b == backslash then Some (record { escaped = true; depth = state.depth })
+    else if b == open_parenthesis then Some (record { escaped = false; depth = state.depth + 1 })
+    else if b == close_parenthesis then (if state.depth == 1 then None else Some (record { escaped = false; depth = state.depth - 1 }))
+    else Some (record { escaped = false; depth = state.depth })
 
--- from this place the first parenthesis is closed by the last byte, and not before
+-- from this state the first parenthesis is closed by the last byte, and not before
 abbrev pub closes_at_end : Option Inside → List ℕ → Bool
 closes_at_end None bytes = length bytes == 0
-closes_at_end (Some place) [] = false
-closes_at_end (Some place) (b ∷ bytes) = closes_at_end (after_byte place b) bytes
+closes_at_end (Some state) [] = false
+closes_at_end (Some state) (b ∷ bytes) = closes_at_end (after_byte state b) bytes
 
 -- after the (
 abbrev pub opened : Option Inside
@@ -66,23 +66,25 @@ opened = Some (record { escaped = false; depth = 1 })
 abbrev pub IsTextString : List ℕ → Type 0
 IsTextString piece = (bytes : List ℕ) × (piece ≡ open_parenthesis ∷ bytes) × IsTrue (closes_at_end opened bytes)
 
+-- a string with its brackets
+abbrev pub IsString : List ℕ → Type 0
+IsString piece = IsHexString piece ⊎ IsTextString piece
+
 -- a whole piece of text is this token
 abbrev pub IsToken : List ℕ → Token → Type 0
 IsToken piece token =
     (IsRun piece × (token ≡ name_or_number piece))
     ⊎ (((name : List ℕ) × (piece ≡ slash ∷ name) × IsTrue (list_all is_regular name) × (token ≡ Name true name))
     ⊎ ((IsBracket piece × (token ≡ Name false piece))
-    ⊎ ((IsHexString piece ⊎ IsTextString piece) × (token ≡ String piece))))
+    ⊎ (IsString piece × (token ≡ String piece))))
 
 -- a regular byte comes next
 abbrev pub begins_regular : List ℕ → Bool
-begins_regular [] = false
-begins_regular (b ∷ bytes) = is_regular b
+begins_regular text = begins is_regular text
 
 -- what a name or a number begins with: a regular byte or /
 abbrev pub begins_name : List ℕ → Bool
-begins_name [] = false
-begins_name (b ∷ bytes) = is_regular b || b == slash
+begins_name text = begins (λ b. is_regular b || b == slash) text
 
 -- the text is a gap, then a piece that is this token and as long as can be, then the rest
 pub record Front (text gap piece : List ℕ) (token : Token) (rest : List ℕ) : Type 0 where

@@ -9,7 +9,7 @@ pub record Placed : Type 0 where
   pub token : Token
   pub end : ℕ
 
--- what is left of a text from a place on: the tokens up to its end, or up to the first place where no token stands
+-- what is left of a text from an offset on: the tokens up to its end, or up to the first offset where no token stands
 pub record Left : Type 0 where
   pub passed : ℕ
   pub tokens : List Placed
@@ -17,7 +17,7 @@ pub record Left : Type 0 where
   -- the byte that shows that no token comes after them, or the length of the text
   pub stop : ℕ
 
--- this token, which comes next from a place on, and what is left after it
+-- this token, which comes next from an offset on, and what is left after it
 abbrev pub with_token : Token → ℕ → Left → Left
 with_token token passed next = record { passed = passed; tokens = record { token = token; end = next.passed } ∷ next.tokens; ends = next.ends; stop = next.stop }
 
@@ -39,7 +39,7 @@ tokens_within (suc n) passed text =
     ]
 
 unfoldable pub tokens_of : Place → Left
-tokens_of place = tokens_within (length (rest_of place)) place.passed (rest_of place)
+tokens_of cursor = tokens_within (length (rest_of cursor)) cursor.passed (rest_of cursor)
 
 abbrev pub start_of : List ℕ → Place
 start_of text = record { source = text; passed = 0 }
@@ -48,16 +48,16 @@ start_of text = record { source = text; passed = 0 }
 abbrev pub HasTokens : List ℕ → Left → Type 0
 HasTokens text left = (tokens : List Token) → Tokens text tokens ↔ ((map (λ p. p.token) left.tokens ≡ tokens) × (left.ends ≡ true))
 
--- the token comes first of those that are left in the old place, and then those of the new one
+-- the token comes first of those that are left from the old cursor on, and then those from the new one on
 abbrev pub LeavesAfter : Token → Place → Place → Type 0
 LeavesAfter token old new = tokens_of old ≡ with_token token old.passed (tokens_of new)
 
 -- no token is left, and the text ends or doesn't
 abbrev pub LeavesNone : Bool → Place → Type 0
-LeavesNone ends place = ((tokens_of place).tokens ≡ []) × ((tokens_of place).ends ≡ ends)
+LeavesNone ends cursor = ((tokens_of cursor).tokens ≡ []) × ((tokens_of cursor).ends ≡ ends)
 
 -- ---- which bytes decide on the tokens
--- tokens that end one after another, from a place on and up to another
+-- tokens that end one after another, from an offset on and up to another
 abbrev pub AreInOrder : ℕ → List Placed → ℕ → Type 0
 AreInOrder passed [] stop = passed ≤ stop
 AreInOrder passed (p ∷ tokens) stop = (passed ≤ p.end) × AreInOrder p.end tokens stop
@@ -73,6 +73,6 @@ Agree k (p ∷ tokens) left others other = p.end ≤ k → (rest : List Placed) 
 abbrev pub AgreesTo : ℕ → Left → Left → Type 0
 AgreesTo k left other = (other.passed ≡ left.passed) × Agree k left.tokens left other.tokens other
 
--- what ends by the byte k is decided by the bytes up to it and with it, and so is it that no more come
+-- what ends by the byte k is decided by the bytes up to and including it, and so is that no more tokens come
 abbrev pub IsDecidedByFronts : List ℕ → Type 0
 IsDecidedByFronts text = (k : ℕ) (more : List ℕ) → k < length text → AgreesTo k (tokens_of (start_of text)) (tokens_of (start_of (take (1 + k) text ++ more)))

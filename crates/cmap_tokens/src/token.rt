@@ -1,7 +1,7 @@
 //! Tokens of PostScript text, one after another: names, strings and numbers.
 
-ghost use Rattle.std.specs.Prelude.{IsTrue, is_some};
-ghost use Rattle.cmap_tokens.specs.TokenReading.{value_of};
+ghost use Rattle.std.specs.Prelude.{IsTrue};
+ghost use Rattle.cmap_tokens.specs.TokenReading.{is_string};
 
 mod byte_class;
 mod gaps;
@@ -61,15 +61,15 @@ impl<'a> Name<'a> {
 #[derive(Clone, Copy, Debug)]
 pub struct StringToken<'a> {
     raw: &'a [u8],
-    ghost whole: { IsTrue (is_some (value_of raw.now)) },
+    ghost whole: { IsTrue (is_string raw.now) },
 }
 
 impl<'a> StringToken<'a> {
-    ghost use Rattle.std.specs.Prelude.{◌≡◌, ◌↔◌, ◌<◌, ◌≤◌, ◌^◌, ℕ, List, length, vec_capacity, is_some, IfSome, IsTrue, IsOk, OnOk, OnErr};
+    ghost use Rattle.std.specs.Prelude.{◌≡◌, ◌↔◌, ◌<◌, ◌≤◌, ◌^◌, ◌==◌, ℕ, List, get_or, length, vec_capacity, is_some, IfSome, IsTrue, IsOk, OnOk, OnErr};
     ghost use Rattle.std.specs.Int.Digits.{number_from_digits};
     ghost use Rattle.std.specs.List.{AllByRecursion};
-    ghost use Rattle.cmap_tokens.specs.Ascii.{less, greater};
-    ghost use Rattle.cmap_tokens.specs.Strings.{IsValue, IsOnlyValue, IsPlain, inside, is_between};
+    ghost use Rattle.cmap_tokens.specs.Ascii.{less};
+    ghost use Rattle.cmap_tokens.specs.Strings.{IsValue, IsOnlyValue, IsPlain, inside};
     ghost use Rattle.cmap_tokens.specs.TokenSeen.{string_raw};
 
     /// The bytes of the string in the text, with its brackets.
@@ -123,7 +123,7 @@ impl<'a> StringToken<'a> {
 
     // Whether it stands between `<` and `>`, and not in parentheses.
     fn is_hexadecimal(&self) -> bool
-        ensures { result ≡ is_between less greater (string_raw self.now) }
+        ensures { result ≡ (get_or (string_raw self.now) 0 0 == less) }
     {
         matches!(self.raw, [b'<', ..])
     }
@@ -156,7 +156,7 @@ pub struct Malformed;
 #[derive(Debug, Drop)]
 pub struct Scanner<'a> {
     source: &'a [u8],
-    place: usize,
+    offset: usize,
 }
 
 impl<'a> Model for Scanner<'a> {
@@ -165,18 +165,18 @@ impl<'a> Model for Scanner<'a> {
 
     ghost Value = { Place };
 
-    ghost view = { λ scanner. record { source = scanner.source.now; passed = scanner.place } };
+    ghost view = { λ scanner. record { source = scanner.source.now; passed = scanner.offset } };
 
-    ghost invariant = { λ scanner. scanner.place ≤ length scanner.source.now };
+    ghost invariant = { λ scanner. scanner.offset ≤ length scanner.source.now };
 }
 
 impl<'a> Scanner<'a> {
-    ghost use Rattle.std.specs.Prelude.{◌≡◌, ℕ, ◌↔◌, ◌≤◌, List, [], false, true, length, None, Ok, pos, IfOk, IfSome, IsSome, IsErr, MatchOption, MatchResult, OnErr};
+    ghost use Rattle.std.specs.Prelude.{◌≡◌, ℕ, ◌↔◌, ◌+◌, ◌≤◌, List, [], false, true, length, None, Some, Ok, pos, IfOk, IfSome, IsErr, MatchOption, MatchResult, OnErr};
     ghost use Rattle.cmap_tokens.specs.Gaps.{IsBlank};
     ghost use Rattle.cmap_tokens.specs.Tokens.{IsMalformed};
     ghost use Rattle.cmap_tokens.specs.TokensLeft.{HasTokens, IsDecidedByFronts, IsInOrder, LeavesAfter, LeavesNone, start_of, tokens_of};
     ghost use Rattle.cmap_tokens.specs.Numbers.{Integer};
-    ghost use Rattle.cmap_tokens.specs.Scanner.{BeginsDecimal, BeginsTwoBytes, ReadsToken, rest_of};
+    ghost use Rattle.cmap_tokens.specs.Scanner.{ReadsToken, past, rest_of, spaced_decimal, spaced_two_bytes};
     ghost use Rattle.cmap_tokens.specs.Strings.{WritesTwoBytes};
     ghost use Rattle.cmap_tokens.specs.Tokens as tokens;
     ghost use Rattle.cmap_tokens.specs.TokenSeen.{token_seen};
@@ -192,7 +192,7 @@ impl<'a> Scanner<'a> {
         ensures order { IsInOrder (tokens_of (start_of source.now)) }
         ensures fronts { IsDecidedByFronts source.now }
     {
-        Scanner { source, place: 0 }
+        Scanner { source, offset: 0 }
     }
 
     /// How many bytes of the text have been passed.
@@ -200,19 +200,19 @@ impl<'a> Scanner<'a> {
         ensures passed { result ≡ self.now.passed }
         ensures left { result ≡ (tokens_of self.now).passed }
     {
-        self.place
+        self.offset
     }
 
-    /// The place of the byte that shows that no token comes next, where none does: after the bytes up
-    /// to that one and that one itself none comes, whatever follows. It is the length of the text where
-    /// only its end shows it, as of a string in parentheses that isn't closed.
+    /// The offset of the byte that shows that no token comes next, where none does: after the bytes up
+    /// to and including that one none comes, whatever follows. It is the length of the text where only
+    /// its end shows it, as of a string in parentheses that isn't closed.
     pub fn stop(&self) -> usize
-        ensures place { (tokens_of self.now).tokens ≡ [] → result ≡ (tokens_of self.now).stop }
+        ensures offset { (tokens_of self.now).tokens ≡ [] → result ≡ (tokens_of self.now).stop }
         ensures within { result ≤ length self.now.source }
     {
-        let rest = &self.source[self.place..];
+        let rest = &self.source[self.offset..];
         let gap = gap_len(rest);
-        self.place + gap + malformed_len(&rest[gap..])
+        self.offset + gap + malformed_len(&rest[gap..])
     }
 
     /// The number that the two bytes of the next string write, the high one first, where one white
@@ -222,25 +222,27 @@ impl<'a> Scanner<'a> {
         ensures token { IfSome result (λ number. (piece : List ℕ)
             × ReadsToken self.old (tokens.String piece) self.new × WritesTwoBytes piece number
             × LeavesAfter (tokens.String piece) self.old self.new) }
-        ensures some { BeginsTwoBytes (rest_of self.old) → IsSome result }
+        ensures front { result ≡ spaced_two_bytes (rest_of self.old) }
+        ensures moves { IfSome result (λ _. self.new ≡ past 7 self.old) }
         ensures stays { result ≡ None → self.new ≡ self.old }
     {
-        let number = two_bytes(&self.source[self.place..])?;
-        self.place += TWO_BYTES_LEN;
+        let number = two_bytes(&self.source[self.offset..])?;
+        self.offset += TWO_BYTES_LEN;
         Some(number)
     }
 
-    /// The next number, where one white byte and then one to 18 decimal digits come next. The scanner
-    /// is moved past it. `None` of any other text, and then nothing moves.
+    /// The next number, where one white byte, one to 18 decimal digits and then a byte that ends them
+    /// come next. The scanner is moved past the digits. `None` of any other text, and then nothing moves.
     pub fn next_decimal(&mut self) -> Option<u64>
         ensures token { IfSome result (λ number.
             ReadsToken self.old (tokens.Numeral (Integer (pos number))) self.new
             × LeavesAfter (tokens.Numeral (Integer (pos number))) self.old self.new) }
-        ensures some { BeginsDecimal (rest_of self.old) → IsSome result }
+        ensures front { MatchOption result (spaced_decimal (rest_of self.old) ≡ None) (λ number. (len : ℕ)
+            × (spaced_decimal (rest_of self.old) ≡ Some (number, len)) × (self.new ≡ past (1 + len) self.old)) }
         ensures stays { result ≡ None → self.new ≡ self.old }
     {
-        let (number, len) = blank_decimal(&self.source[self.place..])?;
-        self.place += len;
+        let (number, len) = blank_decimal(&self.source[self.offset..])?;
+        self.offset += 1 + len;
         Some(number)
     }
 
@@ -263,11 +265,11 @@ impl<'a> Scanner<'a> {
         ensures left { MatchResult result (λ found. MatchOption found (LeavesNone true self.old)
             (λ token. LeavesAfter (token_seen token) self.old self.new)) (λ _. LeavesNone false self.old) }
     {
-        let rest = &self.source[self.place..];
+        let rest = &self.source[self.offset..];
         let Some((token, len)) = first_token(rest)? else {
             return Ok(None);
         };
-        self.place += len;
+        self.offset += len;
         Ok(Some(token))
     }
 }

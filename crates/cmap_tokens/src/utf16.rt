@@ -1,13 +1,12 @@
 //! Texts in UTF-16, as The Unicode Standard, 3.9, D91 defines it.
 
-ghost use Rattle.std.specs.Prelude.{◌≡◌, ℕ, List, [], ◌∷◌, ◌<◌, ◌≤◌, true, length, drop, Some, IfOk, OnErr, IfSome, IsSomeAnd, MatchOption, option_map, is_some};
+ghost use Rattle.std.specs.Prelude.{◌≡◌, ◌+◌, ◌&&◌, ℕ, List, [], ◌∷◌, ◌++◌, ◌<◌, ◌≤◌, true, get_or, length, drop, Some, None, IfOk, OnErr, IfSome, IsSomeAnd, option_and_then, option_map, is_some, if◌then◌else◌};
 ghost use Rattle.std.specs.Char.{IsScalar};
-ghost use Rattle.std.specs.Char.Utf16.{utf16_chars, surrogate_pair_char};
-ghost use Rattle.std.specs.List.{filter_map, list_all};
+ghost use Rattle.std.specs.Char.Utf16.{is_high_surrogate, is_low_surrogate, surrogate_pair_char};
 ghost use Rattle.std.specs.Str.{chars};
 ghost use Rattle.std.specs.String.{string_bytes};
-ghost use Rattle.cmap_tokens.specs.Texts.{units_of, text_at, text_of, characters, only_character};
-ghost use Rattle.cmap_tokens.specs.LastUnits.{with_last, moved_last, IsPair, IsStuck};
+ghost use Rattle.cmap_tokens.specs.Texts as texts;
+ghost use Rattle.cmap_tokens.specs.Texts.{characters, units_of, text_at, text_of, only_character};
 ghost use Rattle.cmap_tokens.specs.TextSeen.{text_seen};
 
 use std::alloc::{AllocError, Global};
@@ -71,76 +70,77 @@ pub fn text(alloc: Global, units: &[u16], offset: u32) -> Result<Option<BfString
         (λ t. option_map text_seen t ≡ option_map text_of (text_at units.now offset)) }
     ensures err { OnErr result (IsSomeAnd (text_at units.now offset) (λ cs. 1 < length cs)) }
 {
-    let Some(last) = last_unit(units, offset) else {
+    let Some((front, last)) = shifted(units, offset) else {
         return Ok(None);
     };
-    if let Some(c) = only_char(units, last) {
+    if let Some(c) = only_char(front, last) {
         return Ok(Some(BfString::Char(c)));
     }
-    if !is_well_formed(units, last) {
+    if !is_well_formed(front, last) {
         return Ok(None);
     }
-    Ok(Some(BfString::String(string(alloc, units, last)?)))
+    Ok(Some(BfString::String(string(alloc, front, last)?)))
 }
 
 /// The character of the text that `text` gives, where it is just one. It takes no memory.
 pub fn one_char(units: &[u16], offset: u32) -> Option<char>
     ensures { result ≡ only_character (text_at units.now offset) }
 {
-    only_char(units, last_unit(units, offset)?)
+    let (front, last) = shifted(units, offset)?;
+    only_char(front, last)
 }
 
-// The last unit with the offset added.
-fn last_unit(units: &[u16], offset: u32) -> Option<u16>
-    ensures { result ≡ moved_last units.now offset }
+// The units before the last one, and the last one with the offset added.
+fn shifted(units: &[u16], offset: u32) -> Option<(&[u16], u16)>
+    ensures { texts.shifted units.now offset ≡ option_map (λ x. x.0.now ++ x.1 ∷ []) result }
 {
-    let last = u64::from(*units.last()?) + u64::from(offset);
-    u16::try_from(last).ok()
-}
-
-// The character that units spell, `last` in the place of the last one, where it is just one.
-fn only_char(units: &[u16], last: u16) -> Option<char>
-    ensures { result ≡ only_character (characters (with_last units.now last)) }
-{
-    let (first, rest) = next_char(units, last)?;
-    rest.is_empty().then_some(first)
-}
-
-// The first character of units, `last` in the place of the last one, and the units after it.
-fn next_char(units: &[u16], last: u16) -> Option<(char, &[u16])>
-    ensures value { MatchOption result (IsStuck (with_last units.now last))
-        (λ x. utf16_chars (with_last units.now last)
-        ≡ Some x.0 ∷ utf16_chars (with_last x.1.now last)) }
-    ensures shorter { IfSome result (λ x. length x.1.now < length units.now) }
-    ensures scalar { IfSome result (λ x. IsScalar x.0) }
-{
-    let [_, rest @ ..] = units else {
+    let [front @ .., last] = units else {
         return None;
     };
-    let first = first_unit(units, last);
-    if let [_, after @ ..] = rest {
-        if let Some(c) = pair(first, first_unit(rest, last)) {
-            return Some((c, after));
-        }
-    }
-    Some((char::from_u32(u32::from(first))?, rest))
+    let last = u16::try_from(u64::from(*last) + u64::from(offset)).ok()?;
+    Some((front, last))
 }
 
-// The first of one or more units, `last` in the place of the last one.
-fn first_unit(units: &[u16], last: u16) -> u16
-    requires { 0 < length units.now }
-    ensures { with_last units.now last ≡ result ∷ with_last (drop 1 units.now) last }
+// The character that the units of `front` and `last` spell, where it is just one.
+fn only_char(front: &[u16], last: u16) -> Option<char>
+    ensures { result ≡ only_character (characters (front.now ++ last ∷ [])) }
 {
-    match units {
-        [first, _, ..] => *first,
-        _ => last,
+    let (first, after) = char_at(front, last, 0)?;
+    (after > front.len()).then_some(first)
+}
+
+// The character that begins at an index of the units of `front` and `last`, and the index after it.
+fn char_at(front: &[u16], last: u16, index: usize) -> Option<(char, usize)>
+    requires { index ≤ length front.now }
+    ensures value { characters (drop index (front.now ++ last ∷ [])) ≡ option_and_then (λ x.
+        option_map (λ cs. x.0 ∷ cs) (characters (drop x.1 (front.now ++ last ∷ [])))) result }
+    ensures after { IfSome result (λ x. (index < x.1) × (x.1 ≤ 1 + length front.now)) }
+    ensures scalar { IfSome result (λ x. IsScalar x.0) }
+{
+    let first = unit_at(front, last, index);
+    if let Some(c) = pair(first, unit_at(front, last, index + 1)) {
+        return Some((c, index + 2));
+    }
+    Some((char::from_u32(u32::from(first))?, index + 1))
+}
+
+// The unit at an index, and 0 past the end.
+fn unit_at(front: &[u16], last: u16, index: usize) -> u16
+    ensures { result ≡ get_or (front.now ++ last ∷ []) index 0 }
+{
+    if index < front.len() {
+        front[index]
+    } else if index == front.len() {
+        last
+    } else {
+        0
     }
 }
 
 // The character of a surrogate pair.
 fn pair(high: u16, low: u16) -> Option<char>
-    ensures value { MatchOption result (IsPair high low → ⊥)
-        (λ c. IsPair high low × (c ≡ surrogate_pair_char high low)) }
+    ensures value { result ≡ (if is_high_surrogate high && is_low_surrogate low
+        then Some (surrogate_pair_char high low) else None) }
     ensures scalar { IfSome result IsScalar }
 {
     if (0xD800..0xDC00).contains(&high) && (0xDC00..0xE000).contains(&low) {
@@ -151,28 +151,34 @@ fn pair(high: u16, low: u16) -> Option<char>
 }
 
 // No surrogate stands alone.
-fn is_well_formed(units: &[u16], last: u16) -> bool
-    ensures { result ≡ list_all is_some (utf16_chars (with_last units.now last)) }
+fn is_well_formed(front: &[u16], last: u16) -> bool
+    ensures { result ≡ is_some (characters (front.now ++ last ∷ [])) }
 {
-    let mut rest = units;
-    while let Some((_, after)) = next_char(rest, last) {
-        rest = after;
+    let mut index = 0;
+    while index <= front.len() {
+        let Some((_, after)) = char_at(front, last, index) else {
+            return false;
+        };
+        index = after;
     }
-    rest.is_empty()
+    true
 }
 
-// All the characters that units spell.
-fn string(alloc: Global, units: &[u16], last: u16) -> Result<String, AllocError>
-    requires { list_all is_some (utf16_chars (with_last units.now last)) ≡ true }
-    ensures { IfOk result (λ s. chars (string_bytes s)
-        ≡ filter_map (λ c. c) (utf16_chars (with_last units.now last))) }
+// All the characters of the units of `front` and `last`.
+fn string(alloc: Global, front: &[u16], last: u16) -> Result<String, AllocError>
+    requires { is_some (characters (front.now ++ last ∷ [])) ≡ true }
+    ensures { IfOk result
+        (λ s. characters (front.now ++ last ∷ []) ≡ Some (chars (string_bytes s))) }
 {
     // A unit takes three bytes at most.
-    let mut text = String::with_capacity(alloc, 3 * units.len())?;
-    let mut rest = units;
-    while let Some((c, after)) = next_char(rest, last) {
+    let mut text = String::with_capacity(alloc, 3 * (front.len() + 1))?;
+    let mut index = 0;
+    while index <= front.len() {
+        let Some((c, after)) = char_at(front, last, index) else {
+            unreachable!();
+        };
         text.push(c)?;
-        rest = after;
+        index = after;
     }
     Ok(text)
 }

@@ -1,5 +1,5 @@
 -- What it says of a file, and of a use, that the search for layers below it fails.
-use Rattle.std.proofs.Common.{◌≡◌, ℕ, suc, ◌<◌, refl, sym, ap, ◌∙◌, subst, List, [], ◌∷◌, ◌++◌, length, get_or, true, inl, inr, append_assoc}
+use Rattle.std.proofs.Common.{◌≡◌, ℕ, suc, ◌<◌, refl, sym, ap, ◌∙◌, subst, List, [], ◌∷◌, ◌++◌, length, get_or, true, inl, inr, append-nil, append_assoc}
 use Rattle.std.specs.Prelude.{◌⊎◌, Contains, Option, Some}
 use Rattle.std.specs.Borrow.{Bor}
 use Rattle.std.proofs.Math.ListN.{length-map}
@@ -8,14 +8,14 @@ use Rattle.std.proofs.lemmas.List.Elements.{Contains-get_or}
 use Rattle.cmap_files.specs.Files.{File}
 use Rattle.cmap_files.specs.FilesSeen.{names_seen}
 use Rattle.cmap_files.specs.Only.{HoldsOfNone}
-use Rattle.hayro_cmap.specs.BytesSpent.{About, Refuses, GoesOver, of_file}
-use Rattle.hayro_cmap.specs.Budgets.{StaysWithin}
+use Rattle.hayro_cmap.specs.BytesSpent.{About, Refuses, GoesOver, GoesOverAt, of_file, of_use}
+use Rattle.hayro_cmap.specs.Budgets.{IsOver, StaysWithin}
 use Rattle.cmap_binary.specs.Bundles.{PrefixTables}
 use Rattle.hayro_cmap.specs.Layers.{AreLayers, Means}
-use Rattle.hayro_cmap.specs.Refusals.{Blames, Fails, IsFault, IsMissing, IsUseFault}
+use Rattle.hayro_cmap.specs.Refusals.{Blames, Fails, IsFault, IsFaultWithin, IsMissing, IsUseFault, IsUseFaultWithin}
 use Rattle.hayro_cmap.specs.declared.refusal.Cause.{Cause}
 use Rattle.hayro_cmap.specs.declared.refusal.Cause.TheVariants.{Malformed, NoFile, ChainLength, OverBudget}
-use Rattle.hayro_cmap.proofs.WholeFile.{StaysWithin-from_spent}
+use Rattle.hayro_cmap.proofs.WholeFile.{GoesOverAt-here, StaysWithin-from_spent}
 
 pub fails_as : {K L : Type 0} {a : About K} {b : About L} {k : K} {l : L} {budget left start : Option ℕ} → (Refuses a k budget left → Refuses b l start left) → (GoesOver a k budget → GoesOver b l start) → (cause : Cause) → Fails a k budget left cause → Fails b l start left cause
 fails_as refuses over (Malformed stop) fails = refuses fails
@@ -28,25 +28,60 @@ module _ (tables : Option PrefixTables) (answer : List ℕ → Option (List ℕ)
   one_more : (old : List (Bor (List ℕ))) (name : Bor (List ℕ)) → names_seen (old ++ name ∷ []) ≡ names_seen old ++ name.now ∷ []
   one_more old name = map-append (λ x. x.now) old (name ∷ [])
 
-  pub blames_missing : (below : ℕ) (old new : List (Bor (List ℕ))) (name : Bor (List ℕ)) (cause : Cause) → new ≡ old ++ name ∷ [] → IsMissing tables answer below name.now cause → Blames (IsUseFault tables answer below name.now) old new cause
-  blames_missing below old new name cause is missing = (name.now ∷ [], ap names_seen is ∙ one_more old name, (refl, inl (missing, refl)))
+  pub blames_missing : (budget : Option ℕ) (below : ℕ) (old new : List (Bor (List ℕ))) (name : Bor (List ℕ)) (cause : Cause) → new ≡ old ++ name ∷ [] → IsMissing tables answer below name.now cause → Blames (IsUseFaultWithin tables answer budget below name.now) old new cause
+  blames_missing budget below old new name (Malformed stop) is missing = absurd missing
+  blames_missing budget below old new name NoFile is missing = (name.now ∷ [], ap names_seen is ∙ one_more old name, (refl, inl (missing, refl)))
+  blames_missing budget below old new name ChainLength is missing = (name.now ∷ [], ap names_seen is ∙ one_more old name, (refl, inl (missing, refl)))
+  blames_missing budget below old new name OverBudget is missing = absurd missing
 
-  pub blames_use : (below n : ℕ) (old mid new : List (Bor (List ℕ))) (name : Bor (List ℕ)) (base : List ℕ) → suc n ≡ below → mid ≡ old ++ name ∷ [] → answer name.now (Some base)
-      → (cause : Cause) → Blames (IsFault tables answer (suc n) base) mid new cause → Blames (IsUseFault tables answer below name.now) old new cause
-  blames_use below n old mid new name base room is said cause (names, same, fault) = (
+  -- what leads from the file of a use leads from the use
+  module _ (budget : Option ℕ) (below n : ℕ) (name base : List ℕ) (room : suc n ≡ below) (said : answer name (Some base)) where
+    of_file_used : (cause : Cause) (names : List (List ℕ)) → IsFault tables answer (suc n) base names cause → IsUseFault tables answer below name (name ∷ names) cause
+    of_file_used cause names fault = (refl, inr (base, said, subst (λ m. IsFault tables answer m base names cause) room fault))
+
+    leads_use : ((names : List (List ℕ)) → GoesOverAt (of_file (Means tables) answer (suc n)) base budget names → GoesOverAt (of_use (Means tables) answer below) name budget (name ∷ names))
+        → (cause : Cause) (names : List (List ℕ)) → IsFaultWithin tables answer budget (suc n) base names cause → IsUseFaultWithin tables answer budget below name (name ∷ names) cause
+    leads_use over (Malformed stop) names fault = of_file_used (Malformed stop) names fault
+    leads_use over NoFile names fault = of_file_used NoFile names fault
+    leads_use over ChainLength names fault = of_file_used ChainLength names fault
+    leads_use over OverBudget names fault = over names fault
+
+  pub blames_use : (budget : Option ℕ) (below n : ℕ) (old mid new : List (Bor (List ℕ))) (name : Bor (List ℕ)) (base : List ℕ) → suc n ≡ below → mid ≡ old ++ name ∷ [] → answer name.now (Some base)
+      → ((names : List (List ℕ)) → GoesOverAt (of_file (Means tables) answer (suc n)) base budget names → GoesOverAt (of_use (Means tables) answer below) name.now budget (name.now ∷ names))
+      → (cause : Cause) → Blames (IsFaultWithin tables answer budget (suc n) base) mid new cause → Blames (IsUseFaultWithin tables answer budget below name.now) old new cause
+  blames_use budget below n old mid new name base room is said over cause (names, same, fault) = (
     name.now ∷ names,
     same ∙ ap (λ l. names_seen l ++ names) is ∙ ap (λ l. l ++ names) (one_more old name) ∙ append_assoc (names_seen old) (name.now ∷ []) names,
-    (refl, inr (base, said, subst (λ m. IsFault tables answer m base names cause) room fault)),
+    leads_use budget below n name.now base room said over cause names fault,
   )
 
-  pub blames_file : (below : ℕ) (bytes : List ℕ) (old mid new : List (Bor (List ℕ))) (file : File) (name : List ℕ) → names_seen mid ≡ names_seen old → Means tables bytes file → Contains file.uses name
-      → (cause : Cause) → Blames (IsUseFault tables answer below name) mid new cause → Blames (IsFault tables answer (suc below) bytes) old new cause
-  blames_file below bytes old mid new file name same meant uses cause ([], is, fault) = absurd fault
-  blames_file below bytes old mid new file name same meant uses cause (first ∷ names, is, (first_is, fault)) = (
-    first ∷ names,
-    is ∙ ap (λ l. l ++ first ∷ names) same,
-    (file, meant, subst (Contains file.uses) (sym first_is) uses, subst (λ n. (IsMissing tables answer below n cause × (names ≡ [])) ⊎ ((base : List ℕ) × answer n (Some base) × IsFault tables answer below base names cause)) (sym first_is) fault),
-  )
+  -- what leads from a use leads from the file that has it
+  module _ (budget left : Option ℕ) (below : ℕ) (bytes : List ℕ) (file : File) (name : List ℕ) (meant : Means tables bytes file) (uses : Contains file.uses name) where
+    of_use_here : (cause : Cause) (names : List (List ℕ)) → IsUseFault tables answer below name names cause → IsFault tables answer (suc below) bytes names cause
+    of_use_here cause [] fault = absurd fault
+    of_use_here cause (first ∷ names) (first_is, fault) = (
+      file,
+      meant,
+      subst (Contains file.uses) (sym first_is) uses,
+      subst (λ n. (IsMissing tables answer below n cause × (names ≡ [])) ⊎ ((base : List ℕ) × answer n (Some base) × IsFault tables answer below base names cause)) (sym first_is) fault,
+    )
+
+    pub leads_file : ((names : List (List ℕ)) → GoesOverAt (of_use (Means tables) answer below) name left names → GoesOverAt (of_file (Means tables) answer (suc below)) bytes budget names)
+        → (cause : Cause) (names : List (List ℕ)) → IsUseFaultWithin tables answer left below name names cause → IsFaultWithin tables answer budget (suc below) bytes names cause
+    leads_file over (Malformed stop) names fault = of_use_here (Malformed stop) names fault
+    leads_file over NoFile names fault = of_use_here NoFile names fault
+    leads_file over ChainLength names fault = of_use_here ChainLength names fault
+    leads_file over OverBudget names fault = over names fault
+
+  pub blames_file : (budget left : Option ℕ) (below : ℕ) (bytes : List ℕ) (old mid new : List (Bor (List ℕ))) (file : File) (name : List ℕ) → names_seen mid ≡ names_seen old → Means tables bytes file → Contains file.uses name
+      → ((names : List (List ℕ)) → GoesOverAt (of_use (Means tables) answer below) name left names → GoesOverAt (of_file (Means tables) answer (suc below)) bytes budget names)
+      → (cause : Cause) → Blames (IsUseFaultWithin tables answer left below name) mid new cause → Blames (IsFaultWithin tables answer budget (suc below) bytes) old new cause
+  blames_file budget left below bytes old mid new file name same meant uses over cause (names, is, fault) =
+      (names, is ∙ ap (λ l. l ++ names) same, leads_file budget left below bytes file name meant uses over cause names fault)
+
+  -- the file passes the budget by itself
+  pub blames_here : (budget : Option ℕ) (below : ℕ) (bytes : List ℕ) (names : List (Bor (List ℕ))) → IsOver budget (length bytes) → Blames (IsFaultWithin tables answer budget (suc below) bytes) names names OverBudget
+  blames_here budget below bytes names over = ([], sym (append-nil (names_seen names)), GoesOverAt-here (Means tables) answer below bytes budget over)
 
 -- all causes but one say that there are no layers
 pub no_layers : (means : List ℕ → File → Type 0) (answer : List ℕ → Option (List ℕ) → Type 0) (most : ℕ) (bytes : List ℕ) (budget left : Option ℕ) (cause : Cause) → Fails (of_file means answer most) bytes budget left cause

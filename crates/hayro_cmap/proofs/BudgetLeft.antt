@@ -1,7 +1,7 @@
 -- What is left of a budget.
-use Rattle.std.proofs.Common.{◌≡◌, refl, sym, subst, ℕ, ◌+◌, ◌≤◌, List, [], ◌∷◌, ◌++◌, Option, Some, None, arith, sum, zero-add}
+use Rattle.std.proofs.Common.{◌≡◌, refl, sym, subst, ℕ, ◌+◌, ◌≤◌, List, [], ◌∷◌, ◌++◌, Option, Some, None, append_assoc, arith, sum, zero-add}
 use Rattle.std.proofs.lemmas.List.Sums.{sum_by-append}
-use Rattle.hayro_cmap.specs.Budgets.{IsOver}
+use Rattle.hayro_cmap.specs.Budgets.{IsOver, PassesAt}
 use Rattle.hayro_cmap.specs.BytesSpent.{Leaves}
 
 pub sum-append : (front back : List ℕ) → sum (front ++ back) ≡ sum front + sum back
@@ -37,6 +37,28 @@ Leaves-over (Some budget) (Some left) first second h k = omega arith
 
 pub Leaves-over_append : (budget left : Option ℕ) (front back : List ℕ) → Leaves budget (sum front) left → IsOver left (sum back) → IsOver budget (sum (front ++ back))
 Leaves-over_append budget left front back h k = subst (λ n. IsOver budget n) (sym (sum-append front back)) (Leaves-over budget left (sum front) (sum back) h k)
+
+Leaves-within : (budget left : Option ℕ) (first second : ℕ) → Leaves budget first left → (IsOver left second → ⊥) → IsOver budget (first + second) → ⊥
+Leaves-within None left first second h within over = over
+Leaves-within (Some budget) None first second h within over = h
+Leaves-within (Some budget) (Some left) first second h within over = within (omega arith)
+
+pub IsOver-none : (budget : Option ℕ) → IsOver budget 0 → ⊥
+IsOver-none None over = over
+IsOver-none (Some budget) over = absurd (omega arith)
+
+-- the file that is the first to pass what other files leave is the first to pass the budget
+pub PassesAt-after : {P Q : List (List ℕ) → List ℕ → Type 0} {budget left : Option ℕ} (front : List ℕ) (names others : List (List ℕ)) → Leaves budget (sum front) left
+    → ((lengths : List ℕ) → P names lengths → Q others (front ++ lengths)) → PassesAt P left names → PassesAt Q budget others
+PassesAt-after {P} {Q} {budget} {left} front names others leaves moved past =
+    let all = append_assoc front past.before (past.last ∷ []) in
+    record {
+      before = front ++ past.before;
+      last = past.last;
+      opened = subst (Q others) (sym all) (moved (past.before ++ past.last ∷ []) past.opened);
+      within = λ over. Leaves-within budget left (sum front) (sum past.before) leaves past.within (subst (IsOver budget) (sum-append front past.before) over);
+      over = subst (λ lengths. IsOver budget (sum lengths)) (sym all) (Leaves-over_append budget left front (past.before ++ past.last ∷ []) leaves past.over);
+    }
 
 pub not_over : (budget left : Option ℕ) (count : ℕ) → Leaves budget count left → IsOver budget count → ⊥
 not_over None left count h k = k

@@ -1,6 +1,6 @@
 -- What the bytes of a file mean.
 use Rattle.std.proofs.Common.{ℕ, List, Ok, Err, inl, inr}
-use Rattle.std.specs.Prelude.{IfErr, Result, Some}
+use Rattle.std.specs.Prelude.{IfErr, Option, Result, Some}
 use Rattle.cmap_files.specs.FilesSeen.{file_seen}
 use Rattle.cmap_files.specs.Only.{IsOnly, HoldsOfNone}
 use Rattle.cmap_files.specs.Outcomes.{DecidedBy, ReadsFile, RefusesWith}

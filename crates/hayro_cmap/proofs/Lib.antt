@@ -1,6 +1,7 @@
 pub mod Blamed
 pub mod BudgetLeft
 pub mod FilesMeant
+pub mod FirstFiles
 pub mod LayersFit
 pub mod OneName
 pub mod OneUse

@@ -1,9 +1,9 @@
 -- What one use finds and opens is what the file does that answers its name.
-use Rattle.std.proofs.Common.{◌≡◌, refl, subst, ℕ, suc, Bool, true, false, List, [], Option, Some, None, inl, inr}
+use Rattle.std.proofs.Common.{◌≡◌, refl, subst, ℕ, suc, Bool, true, false, List, [], ◌∷◌, Option, Some, None, inl, inr}
 use Rattle.cmap_files.specs.Files.{File}
 use Rattle.hayro_cmap.specs.Answers.{IsByName}
 use Rattle.hayro_cmap.specs.Budgets.{Trail, Opens, OpensUse}
-use Rattle.hayro_cmap.specs.BytesSpent.{Spends, Resolves, Refuses, GoesOver, of_file, of_use}
+use Rattle.hayro_cmap.specs.BytesSpent.{Spends, Resolves, Refuses, GoesOver, GoesOverAt, of_file, of_use}
 use Rattle.cmap_layers.specs.Layers.{Layer}
 use Rattle.hayro_cmap.specs.Layers.{AreLayers, OfAnswer}
 use Rattle.hayro_cmap.proofs.BudgetLeft.{Leaves-none}
@@ -39,9 +39,15 @@ module _ (means : List ℕ → File → Type 0) (answer : List ℕ → Option (L
     })
 
     pub GoesOver-answered : GoesOver (of_file means answer (suc n)) bytes budget → GoesOver (of_use means answer most) name budget
-    GoesOver-answered past = subst (λ m. GoesOver (of_use means answer m) name budget) is (record {
-      first = (past.first.0, (bytes, said, past.first.1), past.first.2);
-      all = λ trail o. past.all trail (opens_bytes trail o);
+    GoesOver-answered past = subst (λ m. GoesOver (of_use means answer m) name budget) is (λ trail o. past trail (opens_bytes trail o))
+
+    pub GoesOverAt-answered : (names : List (List ℕ)) → GoesOverAt (of_file means answer (suc n)) bytes budget names → GoesOverAt (of_use means answer most) name budget (name ∷ names)
+    GoesOverAt-answered names past = subst (λ m. GoesOverAt (of_use means answer m) name budget (name ∷ names)) is (record {
+      before = past.before;
+      last = past.last;
+      opened = (names, refl, (bytes, said, past.opened));
+      within = past.within;
+      over = past.over;
     })
 
   pub Refuses-unanswered : answer name None → Refuses (of_use means answer most) name budget budget

@@ -8,9 +8,9 @@ use Rattle.std.proofs.lemmas.List.{drop_more, drop_all, get_or-map}
 use Rattle.cmap_files.specs.FilesSeen.{names_seen}
 use Rattle.cmap_files.specs.Only.{IsOnly, HoldsOfNone}
 use Rattle.hayro_cmap.specs.Budgets.{IsOver, Trail}
-use Rattle.hayro_cmap.specs.BytesSpent.{About, Leaves, Spends, Resolves, Refuses, GoesOver, of_uses}
+use Rattle.hayro_cmap.specs.BytesSpent.{About, Leaves, Spends, Resolves, Refuses, GoesOver, GoesOverAt, of_uses}
 use Rattle.cmap_layers.specs.Layers.{Layer}
-use Rattle.hayro_cmap.proofs.BudgetLeft.{sum-append, IsOver-more, Leaves-none, Leaves-append, Leaves-over_append}
+use Rattle.hayro_cmap.proofs.BudgetLeft.{sum-append, IsOver-more, Leaves-none, Leaves-append, Leaves-over_append, PassesAt-after}
 
 -- a trail after files of these lengths
 abbrev trail_after : List ℕ → Trail → Trail
@@ -49,7 +49,7 @@ module _ (use_of : About (List ℕ)) where
     pub lengths : List ℕ
     pub names_open : (trail : Trail) → (of_uses use_of).opens rest trail → (of_uses use_of).opens names (trail_after lengths trail)
     pub rest_opens : (trail : Trail) → (of_uses use_of).opens names trail → (more : Trail) × (of_uses use_of).opens rest more × (trail ≡ trail_after lengths more)
-    pub names_open_first : (more : List ℕ) → (of_uses use_of).opens_first rest more → (of_uses use_of).opens_first names (lengths ++ more)
+    pub names_open_first : (leading : List (List ℕ)) (more : List ℕ) → (of_uses use_of).opens_first rest leading more → (of_uses use_of).opens_first names leading (lengths ++ more)
     pub leaves : Leaves budget (sum lengths) left
 
 module _ {use_of : About (List ℕ)} where
@@ -62,7 +62,7 @@ module _ {use_of : About (List ℕ)} where
     lengths = [];
     names_open = λ trail o. o;
     rest_opens = λ trail o. (trail, o, refl);
-    names_open_first = λ more o. o;
+    names_open_first = λ leading more o. o;
     leaves = Leaves-none budget;
   }
 
@@ -100,8 +100,8 @@ module _ {use_of : About (List ℕ)} where
           (used.names_open (trail_after first trail) (inr (first, trail, found.spent.opened.holds, o, refl)));
       rest_opens = λ trail o. let more = used.rest_opens trail o in let next = opens-next use_of name rest first more.0 found.spent.opened more.1 in
           (next.0, next.1, more.2 ∙ ap (λ (t : Trail). trail_after used.lengths t) next.2 ∙ ap (λ (l : List ℕ). (l, next.0.1)) (sym (append_assoc used.lengths first next.0.0)));
-      names_open_first = λ more o. subst (λ (l : List ℕ). (of_uses use_of).opens_first names l) (sym (append_assoc used.lengths first more))
-          (used.names_open_first (first ++ more) (inr (first, more, found.spent.opened.holds, o, refl)));
+      names_open_first = λ leading more o. subst (λ (l : List ℕ). (of_uses use_of).opens_first names leading l) (sym (append_assoc used.lengths first more))
+          (used.names_open_first leading (first ++ more) (inr (first, more, found.spent.opened.holds, o, refl)));
       leaves = Leaves-append budget left after used.lengths first used.leaves found.spent.leaves;
     }
 
@@ -124,16 +124,17 @@ module _ {use_of : About (List ℕ)} where
 
     -- a name that passes what is left
     pub GoesOver-used : GoesOver use_of name left → GoesOver (of_uses use_of) names budget
-    GoesOver-used past = record {
-      first = (used.lengths ++ past.first.0, used.names_open_first past.first.0 (inl past.first.1), Leaves-over_append budget left used.lengths past.first.0 used.leaves past.first.2);
-      all = λ trail o. let more = used.rest_opens trail o in
-          let over : IsOver left (sum more.0.0) = elim more.1 [
-            | inl x ↦ past.all more.0 x.0
-            | inr y ↦ (let e : sum more.0.0 ≡ sum (y.0 ++ y.1.0) = ap (λ (t : Trail). sum t.0) y.4 in
-                IsOver-more left (sum y.0) (sum more.0.0) (omega (arith, e, sum-append y.0 y.1.0)) (past.all (y.0, false) y.2))
-          ] in
-          subst (λ (t : Trail). IsOver budget (sum t.0)) (sym more.2) (Leaves-over_append budget left used.lengths more.0.0 used.leaves over);
-    }
+    GoesOver-used past = λ trail o.
+        let more = used.rest_opens trail o in
+        let over : IsOver left (sum more.0.0) = elim more.1 [
+          | inl x ↦ past more.0 x.0
+          | inr y ↦ (let e : sum more.0.0 ≡ sum (y.0 ++ y.1.0) = ap (λ (t : Trail). sum t.0) y.4 in
+              IsOver-more left (sum y.0) (sum more.0.0) (omega (arith, e, sum-append y.0 y.1.0)) (past (y.0, false) y.2))
+        ] in
+        subst (λ (t : Trail). IsOver budget (sum t.0)) (sym more.2) (Leaves-over_append budget left used.lengths more.0.0 used.leaves over)
+
+    pub GoesOverAt-used : (leading : List (List ℕ)) → GoesOverAt use_of name left leading → GoesOverAt (of_uses use_of) names budget leading
+    GoesOverAt-used leading past = PassesAt-after used.lengths leading leading used.leaves (λ lengths o. used.names_open_first leading lengths (inl o)) past
 
   -- the names are those of the items of a slice
   module _ {items uses : List (Bor (List ℕ))} (i : ℕ) {base : List Layer} {budget left : Option ℕ} (same : items ≡ uses)

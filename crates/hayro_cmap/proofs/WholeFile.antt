@@ -3,9 +3,9 @@ use Rattle.std.proofs.Common.{◌≡◌, refl, sym, ap, subst, ◌∙◌, ℕ, s
 use Rattle.cmap_files.specs.Files.{File}
 use Rattle.cmap_files.specs.Only.{IsOnly, HoldsOfNone}
 use Rattle.hayro_cmap.specs.Budgets.{IsOver, Trail, Opens, StaysWithin}
-use Rattle.hayro_cmap.specs.BytesSpent.{About, Leaves, Spends, Resolves, Refuses, GoesOver, of_file, of_use, of_uses}
+use Rattle.hayro_cmap.specs.BytesSpent.{About, Leaves, Spends, Resolves, Refuses, GoesOver, GoesOverAt, of_file, of_use, of_uses}
 use Rattle.cmap_layers.specs.Layers.{Layer, layer_of}
-use Rattle.hayro_cmap.proofs.BudgetLeft.{sum-append, IsOver-more, Leaves-one, Leaves-append, Leaves-over_append, not_over}
+use Rattle.hayro_cmap.proofs.BudgetLeft.{sum-append, IsOver-more, IsOver-none, Leaves-one, Leaves-append, Leaves-over_append, PassesAt-after, not_over}
 
 module _ (means : List ℕ → File → Type 0) (answer : List ℕ → Option (List ℕ) → Type 0) (most : ℕ) (bytes : List ℕ) (budget : Option ℕ) where
   pub StaysWithin-from_spent : (broken : Bool) (left : Option ℕ) → Spends (of_file means answer most) bytes broken budget left → StaysWithin means answer most bytes budget
@@ -15,13 +15,19 @@ module _ (means : List ℕ → File → Type 0) (answer : List ℕ → Option (L
   pub GoesOver-here : IsOver budget (length bytes) → GoesOver (of_file means answer (suc most)) bytes budget
   GoesOver-here over =
       let more : (rest : List ℕ) → IsOver budget (sum (length bytes ∷ rest)) = λ rest. IsOver-more budget (length bytes) (sum (length bytes ∷ rest)) (omega (arith, sum-append (length bytes ∷ []) rest)) over in
-      record {
-        first = (length bytes ∷ [], inl refl, more []);
-        all = λ trail o. elim o [
-          | inl x ↦ subst (λ (t : Trail). IsOver budget (sum t.0)) (sym x.1) (more [])
-          | inr y ↦ subst (λ (t : Trail). IsOver budget (sum t.0)) (sym y.4) (more y.1.0)
-        ];
-      }
+      λ trail o. elim o [
+        | inl x ↦ subst (λ (t : Trail). IsOver budget (sum t.0)) (sym x.1) (more [])
+        | inr y ↦ subst (λ (t : Trail). IsOver budget (sum t.0)) (sym y.4) (more y.1.0)
+      ]
+
+  pub GoesOverAt-here : IsOver budget (length bytes) → GoesOverAt (of_file means answer (suc most)) bytes budget []
+  GoesOverAt-here over = record {
+    before = [];
+    last = length bytes;
+    opened = inl (refl, refl);
+    within = IsOver-none budget;
+    over = IsOver-more budget (length bytes) (sum (length bytes ∷ [])) (omega arith) over;
+  }
 
   pub Refuses-no_file : (left : Option ℕ) → HoldsOfNone (means bytes) → Leaves budget (length bytes) left → Refuses (of_file means answer (suc most)) bytes budget left
   Refuses-no_file left none leaves = record {
@@ -76,8 +82,9 @@ module _ (means : List ℕ → File → Type 0) (answer : List ℕ → Option (L
 
     pub GoesOver-file : GoesOver under file.uses rest → GoesOver (of_file means answer (suc most)) bytes budget
     GoesOver-file past =
-        let more : (lengths : List ℕ) → IsOver rest (sum lengths) → IsOver budget (sum (length bytes ∷ lengths)) = λ lengths o. Leaves-over_append budget rest (length bytes ∷ []) lengths leaves o in
-        record {
-          first = (length bytes ∷ past.first.0, inr (file, past.first.0, only.holds, past.first.1, refl), more past.first.0 past.first.2);
-          all = λ trail o. let whole = after_file trail o in subst (λ (t : Trail). IsOver budget (sum t.0)) (sym whole.2) (more whole.0.0 (past.all whole.0 whole.1));
-        }
+        λ trail o.
+        let whole = after_file trail o in
+        subst (λ (t : Trail). IsOver budget (sum t.0)) (sym whole.2) (Leaves-over_append budget rest (length bytes ∷ []) whole.0.0 leaves (past whole.0 whole.1))
+
+    pub GoesOverAt-file : (names : List (List ℕ)) → GoesOverAt under file.uses rest names → GoesOverAt (of_file means answer (suc most)) bytes budget names
+    GoesOverAt-file names past = PassesAt-after (length bytes ∷ []) names names leaves (λ lengths o. inr (file, lengths, only.holds, o, refl)) past

@@ -2,7 +2,7 @@
 use Rattle.std.specs.Prelude.{◌≡◌, ℕ, ◌+◌, List, Bool, true, false, sum, Option, Some, None}
 use Rattle.cmap_files.specs.Files.{File}
 use Rattle.cmap_files.specs.Only.{IsOnly, HoldsOfNone}
-use Rattle.hayro_cmap.specs.Budgets.{Trail, Opens, OpensFirst, OpensUse, OpensUseFirst, OpensEach, OpensEachFirst, Passes}
+use Rattle.hayro_cmap.specs.Budgets.{IsOver, Trail, Opens, OpensFirst, OpensUse, OpensUseFirst, OpensEach, OpensEachFirst, PassesAt}
 use Rattle.cmap_layers.specs.Layers.{Layer}
 use Rattle.hayro_cmap.specs.Layers.{AreLayers, OfAnswer, IsBase}
 
@@ -16,7 +16,7 @@ Leaves (Some budget) count (Some left) = left + count ≡ budget
 pub record About (Key : Type 0) : Type 1 where
   pub layers : Key → List Layer → Type 0
   pub opens : Key → Trail → Type 0
-  pub opens_first : Key → List ℕ → Type 0
+  pub opens_first : Key → List (List ℕ) → List ℕ → Type 0
 
 -- at most this many files stand in a chain
 abbrev pub of_file : (List ℕ → File → Type 0) → (List ℕ → Option (List ℕ) → Type 0) → ℕ → About (List ℕ)
@@ -53,4 +53,8 @@ module _ {Key : Type 0} (about : About Key) (key : Key) where
 
   -- the files that are opened for it are more than the budget
   abbrev pub GoesOver : Option ℕ → Type 0
-  GoesOver budget = Passes (about.opens key) (about.opens_first key) budget
+  GoesOver budget = (trail : Trail) → about.opens key trail → IsOver budget (sum trail.0)
+
+  -- and the one that the names lead to is the first that passes it
+  abbrev pub GoesOverAt : Option ℕ → List (List ℕ) → Type 0
+  GoesOverAt budget names = PassesAt (about.opens_first key) budget names

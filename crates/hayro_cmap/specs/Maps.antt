@@ -5,7 +5,7 @@ use Rattle.cmap_files.specs.Only.{IsOnly, HoldsOfNone}
 use Rattle.cmap_layers.specs.Layers.{Layer}
 use Rattle.hayro_cmap.specs.Budgets.{PassesBudget, StaysWithin}
 use Rattle.hayro_cmap.specs.Layers.{AreLayers, Means}
-use Rattle.hayro_cmap.specs.Refusals.{IsFault}
+use Rattle.hayro_cmap.specs.Refusals.{IsFaultWithin}
 use Rattle.hayro_cmap.specs.declared.chain.TheConstants.{MOST_FILES}
 use Rattle.hayro_cmap.specs.declared.refusal.Cause.{Cause}
 
@@ -24,6 +24,6 @@ module _ (tables : Option PrefixTables) (answers : List ℕ → Option (List ℕ
   abbrev pub ExceedsBudget : Option ℕ → Type 0
   ExceedsBudget budget = PassesBudget (Means tables) answers MOST_FILES bytes budget
 
-  -- the names lead from the file to the one at fault
-  abbrev pub LeadsToFault : List (List ℕ) → Cause → Type 0
-  LeadsToFault names cause = IsFault tables answers MOST_FILES bytes names cause
+  -- the names lead from the file to the one at fault; where the budget is passed, to the first file that passes it
+  abbrev pub LeadsToFault : Option ℕ → List (List ℕ) → Cause → Type 0
+  LeadsToFault budget names cause = IsFaultWithin tables answers budget MOST_FILES bytes names cause

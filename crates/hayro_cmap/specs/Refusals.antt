@@ -9,6 +9,7 @@ use Rattle.cmap_files.specs.Only.{HoldsOfNone}
 use Rattle.cmap_files.specs.Outcomes.{DecidedBy}
 use Rattle.cmap_files.specs.declared.fault.Stop.{Stop}
 use Rattle.cmap_text.specs.TextFiles.{IsTextFile}
+use Rattle.hayro_cmap.specs.Budgets.{OpensFirst, OpensUseFirst, PassesAt}
 use Rattle.hayro_cmap.specs.BytesSpent.{About, Refuses, GoesOver}
 use Rattle.hayro_cmap.specs.Layers.{Means}
 use Rattle.hayro_cmap.specs.declared.refusal.Cause.{Cause}
@@ -27,7 +28,7 @@ module _ (tables : Option PrefixTables) (answer : List ℕ → Option (List ℕ)
   -- what is wrong with a file by itself
   abbrev pub IsOwnFault : List ℕ → Cause → Type 0
   IsOwnFault bytes (Malformed stop) = HoldsOfNone (Means tables bytes) × (stop.offset ≤ length bytes) × IsDecidedAsText tables bytes stop
-  IsOwnFault bytes OverBudget = Unit {0}
+  IsOwnFault bytes OverBudget = ⊥
   IsOwnFault bytes NoFile = ⊥
   IsOwnFault bytes ChainLength = ⊥
 
@@ -49,6 +50,15 @@ module _ (tables : Option PrefixTables) (answer : List ℕ → Option (List ℕ)
   abbrev pub IsUseFault : ℕ → List ℕ → List (List ℕ) → Cause → Type 0
   IsUseFault most name [] cause = ⊥
   IsUseFault most name (first ∷ names) cause = (first ≡ name) × ((IsMissing most name cause × (names ≡ [])) ⊎ ((base : List ℕ) × answer name (Some base) × IsFault most base names cause))
+
+  -- the same of a file and of a use within a budget: where this is passed, the names lead to the first file that passes it
+  abbrev pub IsFaultWithin : Option ℕ → ℕ → List ℕ → List (List ℕ) → Cause → Type 0
+  IsFaultWithin budget most bytes names OverBudget = PassesAt (OpensFirst (Means tables) answer most bytes) budget names
+  IsFaultWithin budget most bytes names cause = IsFault most bytes names cause
+
+  abbrev pub IsUseFaultWithin : Option ℕ → ℕ → List ℕ → List (List ℕ) → Cause → Type 0
+  IsUseFaultWithin budget most name names OverBudget = PassesAt (OpensUseFirst answer (OpensFirst (Means tables) answer most) most name) budget names
+  IsUseFaultWithin budget most name names cause = IsUseFault most name names cause
 
 -- ---- private aid
 -- how a search for the layers of a file or of a use fails

@@ -13,7 +13,7 @@ use std::alloc::AllocError;
 /// Why a map couldn't be read within a budget.
 #[derive(Clone, Copy, Debug, PartialEq, Eq)]
 pub enum ParseError {
-    /// A growth was refused.
+    /// An allocation failed.
     Memory,
     /// The files that are opened have more bytes than the budget.
     OverBudget,

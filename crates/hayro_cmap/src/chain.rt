@@ -9,7 +9,7 @@ ghost use Rattle.hayro_cmap.specs.BytesSpent.{Resolves, of_file, of_use};
 ghost use Rattle.cmap_layers.specs.Layers.{layer_of};
 ghost use Rattle.hayro_cmap.specs.Layers.{Means};
 ghost use Rattle.cmap_layers.specs.LayersSeen.{layers_seen};
-ghost use Rattle.hayro_cmap.specs.Refusals.{Blames, Fails, IsDecidedAsText, IsFault, IsUseFault};
+ghost use Rattle.hayro_cmap.specs.Refusals.{Blames, Fails, IsDecidedAsText, IsFaultWithin, IsUseFaultWithin};
 
 use crate::budget::spend;
 use crate::refusal::Cause;
@@ -51,7 +51,7 @@ pub(crate) fn find_layers<'a, S: Source>(
         (of_file (Means (tables_given bundle.entry)) (S.answers source.now) (suc below))
         bytes.now left.old left.new)) }
     ensures blames { IfErr result (RefusesWith (Blames
-        (IsFault (tables_given bundle.entry) (S.answers source.now) (suc below) bytes.now)
+        (IsFaultWithin (tables_given bundle.entry) (S.answers source.now) left.old (suc below) bytes.now)
         names.old.items names.new.items)) }
 {
     spend(left, bytes.len())?;
@@ -89,7 +89,7 @@ fn find_used<'a, S: Source>(
         (of_use (Means (tables_given bundle.entry)) (S.answers source.now) below)
         name.now left.old left.new)) }
     ensures blames { IfErr result (RefusesWith (Blames
-        (IsUseFault (tables_given bundle.entry) (S.answers source.now) below name.now)
+        (IsUseFaultWithin (tables_given bundle.entry) (S.answers source.now) left.old below name.now)
         names.old.items names.new.items)) }
 {
     names.push(name)?;

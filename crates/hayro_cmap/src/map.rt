@@ -165,9 +165,9 @@ impl CMap {
         ensures over { IfErr result (RefusesWith (λ refusal. refusal.cause ≡ Cause.OverBudget
             → ExceedsBudget (tables_given bundle.entry) (S.answers source.now) «data».now budget)) }
 
-        // The names lead to the file that is at fault.
+        // The names lead to the file that is at fault; over a budget, to the first that passes it.
         ensures blames { IfErr result (RefusesWith (λ refusal.
-            LeadsToFault (tables_given bundle.entry) (S.answers source.now) «data».now
+            LeadsToFault (tables_given bundle.entry) (S.answers source.now) «data».now budget
             (names_seen refusal.names.items) refusal.cause)) }
     {
         let mut left = budget;
@@ -214,7 +214,7 @@ impl CMap {
         CMap::identity(alloc, b"Identity-V", WritingMode::Vertical)
     }
 
-    /// What the file says of itself, and not what those say that it is based on.
+    /// What the file states about itself, without those that it is based on.
     pub fn metadata(&self) -> &Metadata
         ensures top { top_metadata self.now ≡ Some (metadata_seen result.now) }
         ensures few { length self.now ≤ 16 }

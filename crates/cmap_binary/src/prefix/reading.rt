@@ -1,53 +1,50 @@
 //! The table that comes next in bytes.
 
-ghost use Rattle.std.specs.Prelude.{◌≡◌, ℕ, ◌+◌, ◌*◌, ◌<◌, ◌≤◌, List, length, IfOk, MatchOption};
-ghost use Rattle.cmap_binary.specs.PrefixWords.{Place, TableFront};
-ghost use Rattle.cmap_binary.specs.Reader.{bytes_left, IsAtByte};
-ghost use Rattle.cmap_binary.specs.TableReading.{TakesMost, TakesNumbers, TakesCounts, BeginsWithNoTable};
-ghost use Rattle.cmap_binary.specs.TableTaken.{ParsesTable, TakesTable};
+ghost use Rattle.std.specs.Prelude.{IfOk};
+ghost use Rattle.cmap_binary.specs.Fronts.{FieldAt, RowOf};
+ghost use Rattle.cmap_binary.specs.Reader.{IsAtByte};
+ghost use Rattle.cmap_binary.specs.TableFronts.{LengthCountsAt, MostAt, TableAt};
+ghost use Rattle.cmap_binary.specs.TableTaken.{ParsesTable};
+ghost use Rattle.cmap_files.specs.CodeLengths.{IsCodeLength};
+ghost use Rattle.cmap_files.specs.Outcomes.{Finds};
 
 use super::PrefixTable;
 use super::words::{count_words, search_bytes};
 use crate::bits::Reader;
+use crate::pieces::{take_byte, take_field, take_u16};
 use std::alloc::{AllocError, Global};
 
-// The table that comes next, with symbols of `width` bytes. The reader stays where none does.
+/// The table that comes next, with symbols of `width` bytes. The reader stays where none does.
 pub(super) fn parse(
     alloc: Global,
     reader: &mut Reader<'_>,
     width: u8,
 ) -> Result<Option<PrefixTable>, AllocError>
     requires at_byte { IsAtByte reader.old }
-    requires width { (1 ≤ width) × (width ≤ 4) }
+    requires width { IsCodeLength width }
     ensures { ParsesTable width reader.old reader.new result }
 {
-    let mut ahead = reader.fork();
-    let Some(table) = read_table(alloc, &mut ahead, width)? else {
+    let mut text = reader.left();
+    let size = text.len();
+    let Some(table) = take_table(alloc, &mut text, width)? else {
         return Ok(None);
     };
-    *reader = ahead;
+    reader.skip_bytes(size - text.len());
     Ok(Some(table))
 }
 
-// The table that comes next, where the reader need not stay.
-fn read_table(
-    alloc: Global,
-    reader: &mut Reader<'_>,
-    width: u8,
-) -> Result<Option<PrefixTable>, AllocError>
-    requires at_byte { IsAtByte reader.old }
-    requires width { (1 ≤ width) × (width ≤ 4) }
-    ensures { IfOk result (λ o. MatchOption o
-        ((table : List Place) (rest : List ℕ) → TableFront width (bytes_left reader.old) table rest → ⊥)
-        (λ table. TakesTable width reader.old table reader.new)) }
+/// The table that the text begins with.
+fn take_table(alloc: Global, text: &mut &[u8], width: u8) -> Result<Option<PrefixTable>, AllocError>
+    requires { IsCodeLength width }
+    ensures { IfOk result (Finds (TableAt width text.old.now) (λ table. (table, text.new.now))) }
 {
-    let Some(counts) = read_counts(alloc, reader)? else {
+    let Some(counts) = take_length_counts(alloc, text)? else {
         return Ok(None);
     };
     let Some(count) = count_words(&counts) else {
         return Ok(None);
     };
-    let Some(symbols) = read_numbers(alloc, reader, count, width)? else {
+    let Some(symbols) = take_fields(alloc, text, count, width)? else {
         return Ok(None);
     };
     let known = search_bytes(alloc, &counts, &symbols)?;
@@ -58,45 +55,40 @@ fn read_table(
     }))
 }
 
-// How many words there are of each length.
-#[tactic(auto, unfolding(crate::specs::PrefixWords::TableFront))]
-fn read_counts(alloc: Global, reader: &mut Reader<'_>) -> Result<Option<Vec<u32>>, AllocError>
-    requires { IsAtByte reader.old }
-    ensures { IfOk result (λ o. MatchOption o (BeginsWithNoTable (bytes_left reader.old))
-        (λ counts. TakesCounts reader.old counts.items reader.new)) }
+/// How many words there are of each length.
+fn take_length_counts(alloc: Global, text: &mut &[u8]) -> Result<Option<Vec<u32>>, AllocError>
+    ensures { IfOk result
+        (Finds (LengthCountsAt text.old.now) (λ counts. (counts.items, text.new.now))) }
 {
-    let Some(most) = read_most(reader) else {
+    let Some(most) = take_most(text) else {
         return Ok(None);
     };
-    read_numbers(alloc, reader, most, 2)
+    take_fields(alloc, text, most, 2)
 }
 
-// How many lengths are counted: none where the table has no symbols.
-fn read_most(reader: &mut Reader<'_>) -> Option<usize>
-    requires { IsAtByte reader.old }
-    ensures { MatchOption result (length (bytes_left reader.old) < 3)
-        (λ most. TakesMost reader.old most reader.new) }
+/// How many lengths are counted: none where the table has no symbols.
+fn take_most(text: &mut &[u8]) -> Option<usize>
+    ensures { Finds (MostAt text.old.now) (λ most. (most, text.new.now)) result }
 {
-    let filled = reader.read_u16()?;
-    let most = reader.read_u8()?;
+    let filled = take_u16(text)?;
+    let most = take_byte(text)?;
     Some(if filled == 0 { 0 } else { usize::from(most) })
 }
 
-// `count` numbers of `width` bytes each.
-fn read_numbers(
+/// `count` numbers of `width` bytes each.
+fn take_fields(
     alloc: Global,
-    reader: &mut Reader<'_>,
+    text: &mut &[u8],
     count: usize,
     width: u8,
 ) -> Result<Option<Vec<u32>>, AllocError>
-    requires at_byte { IsAtByte reader.old }
-    requires width { (1 ≤ width) × (width ≤ 4) }
-    ensures { IfOk result (λ o. MatchOption o (length (bytes_left reader.old) < width * count)
-        (λ numbers. TakesNumbers width count reader.old numbers.items reader.new)) }
+    requires { IsCodeLength width }
+    ensures { IfOk result (Finds (RowOf (FieldAt width) count text.old.now)
+        (λ numbers. (numbers.items, text.new.now))) }
 {
     let mut numbers = Vec::new(alloc);
     for _ in 0..count {
-        let Some(number) = reader.read_n_bytes(width) else {
+        let Some(number) = take_field(text, width) else {
             return Ok(None);
         };
         numbers.push(number)?;

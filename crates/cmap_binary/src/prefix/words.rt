@@ -1,67 +1,78 @@
 //! The words of a table, by how many there are of each length.
 
-ghost use Rattle.std.specs.Prelude.{◌≡◌, ℕ, List, length, IfErr, IfNone, IfOk, IfSome, MatchOption};
-ghost use Rattle.cmap_binary.specs.PrefixWords.{AreWordLengths, BeginsAt, lengths_from};
+ghost use Rattle.std.specs.Prelude.{◌≡◌, ℕ, List, None, length, IfErr, IfOk, MatchOption};
+ghost use Rattle.cmap_binary.specs.PrefixWords.{AreWordLengths, lengths_from};
 ghost use Rattle.cmap_binary.specs.Reader.{bits_left};
-ghost use Rattle.cmap_binary.specs.WordsByLength.{IsNext, IsSearched, IsTable, places_of};
-ghost use Rattle.cmap_binary.specs.WordsFound.{IsKnown, KnowBytes};
+ghost use Rattle.cmap_binary.specs.WordsByLength.{IsSearched, IsTable, first_word};
+ghost use Rattle.cmap_binary.specs.WordsFound.{FindsFirst, IsKnown, KnowBytes, search_seen};
 
 use crate::bits::Reader;
 use std::alloc::{AllocError, Global};
 
-// The most bits that a word has.
+/// The most bits that a word has.
 pub(super) const LONGEST: usize = 32;
 
-// How many bytes there are.
+/// How many bytes there are.
 const BYTES: usize = 256;
 
-// A symbol whose word begins bits, and how many bits that word has.
+/// A symbol whose word begins bits, and how many bits that word has.
 #[derive(Clone, Copy, Debug)]
 pub(super) struct Word {
     pub(super) symbol: u32,
     pub(super) len: u8,
 }
 
-// How far the word that begins bits has been looked for: it has more than `len` bits. `place` words
-// have no more, and `past` is how far the first `len` bits, as a number, are past these words.
+/// How far the word that begins bits has been looked for: it has more than `len` bits. `rank` words
+/// have no more, and `past` is how far the first `len` bits, as a number, are past these words.
 #[derive(Clone, Copy, Debug)]
 pub(super) struct Search {
     len: u8,
-    place: usize,
+    rank: usize,
     past: usize,
 }
 
-// No bit has been looked at.
+/// No bit has been looked at.
 const START: Search = Search {
     len: 0,
-    place: 0,
+    rank: 0,
     past: 0,
 };
 
-// Nothing is known of the word that comes next.
+/// Nothing is known of the word that comes next.
 static UNKNOWN: Result<Word, Search> = Err(START);
 
-// The word that comes next, which is looked for from there on; `None` where none does.
-#[inline(never)]
-pub(super) fn find_from(
+/// The word that comes next; `None` where none does.
+#[inline(always)]
+pub(super) fn next_word(
     counts: &[u32],
     symbols: &[u32],
-    reader: Reader<'_>,
-    start: Search,
+    known: &[Result<Word, Search>],
+    reader: &Reader<'_>,
 ) -> Option<Word>
     requires table { IsTable counts.now symbols.now }
-    requires start { IsSearched counts.now (bits_left reader) start.len start.place start.past }
-    ensures found { IfSome result (λ word.
-        IsNext (places_of counts.now symbols.now) (bits_left reader.entry) word.symbol word.len) }
-    ensures none { IfNone result ((i : ℕ) →
-        BeginsAt (places_of counts.now symbols.now) (bits_left reader.entry) i → ⊥) }
+    requires bytes { length known.now ≡ 256 }
+    requires knows { KnowBytes counts.now symbols.now known.now }
+    ensures { FindsFirst counts.now symbols.now (bits_left reader.now) result }
+{
+    match *look_up(known, reader) {
+        Ok(word) => Some(word),
+        Err(search) => find_from(counts, symbols, reader.fork(), search),
+    }
+}
+
+/// The word that comes next, which is looked for from there on; `None` where none does.
+#[inline(never)]
+fn find_from(counts: &[u32], symbols: &[u32], reader: Reader<'_>, start: Search) -> Option<Word>
+    requires table { IsTable counts.now symbols.now }
+    requires start { IsSearched counts.now (bits_left reader) (search_seen start) }
+    ensures { FindsFirst counts.now symbols.now (bits_left reader.entry) result }
 {
     find(counts, symbols, reader, start).ok()
 }
 
-// The word that comes next, which is looked for from there on; or how far it has been looked for,
-// where none does. Words of one length are numbers in a row, and after the last one comes twice its
-// follower among the longer words.
+/// The word that comes next, which is looked for from there on; or how far it has been looked for,
+/// where none does. Words of one length are numbers in a row, and after the last one comes twice its
+/// follower among the longer words.
 fn find(
     counts: &[u32],
     symbols: &[u32],
@@ -69,42 +80,41 @@ fn find(
     start: Search,
 ) -> Result<Word, Search>
     requires table { IsTable counts.now symbols.now }
-    requires start { IsSearched counts.now (bits_left reader) start.len start.place start.past }
+    requires start { IsSearched counts.now (bits_left reader) (search_seen start) }
     ensures known { IsKnown counts.now symbols.now (bits_left reader.entry) result }
-    ensures none { IfErr result (λ _. (i : ℕ) →
-        BeginsAt (places_of counts.now symbols.now) (bits_left reader.entry) i → ⊥) }
+    ensures none { IfErr result (λ _. first_word counts.now (bits_left reader.entry) ≡ None) }
 {
     reader.skip_bits(start.len);
-    let mut place = start.place;
+    let mut rank = start.rank;
     let mut past = start.past;
     for i in usize::from(start.len)..LONGEST {
         let len = i as u8;
         let Some(count) = counts.get(i) else {
-            return Err(Search { len, place, past });
+            return Err(Search { len, rank, past });
         };
         let Some(bit) = reader.read_bit() else {
-            return Err(Search { len, place, past });
+            return Err(Search { len, rank, past });
         };
         let count = *count as usize;
         past = past * 2 + usize::from(bit);
         if past < count {
-            let symbol = symbols[place + past];
+            let symbol = symbols[rank + past];
             return Ok(Word {
                 symbol,
                 len: len + 1,
             });
         }
         past -= count;
-        place += count;
+        rank += count;
     }
     Err(Search {
         len: LONGEST as u8,
-        place,
+        rank,
         past,
     })
 }
 
-// What is known of the word that comes next by each byte.
+/// What is known of the word that comes next by each byte.
 pub(super) fn search_bytes(
     alloc: Global,
     counts: &[u32],
@@ -120,11 +130,8 @@ pub(super) fn search_bytes(
     Ok(known)
 }
 
-// What is known of the word that comes next by the next eight bits.
-pub(super) fn look_up<'k>(
-    known: &'k [Result<Word, Search>],
-    reader: &Reader<'_>,
-) -> &'k Result<Word, Search>
+/// What is known of the word that comes next by the next eight bits.
+fn look_up<'k>(known: &'k [Result<Word, Search>], reader: &Reader<'_>) -> &'k Result<Word, Search>
     requires { length known.now ≡ 256 }
     ensures { (counts symbols : List ℕ) → KnowBytes counts symbols known.now
         → IsKnown counts symbols (bits_left reader.now) result.now }
@@ -135,8 +142,8 @@ pub(super) fn look_up<'k>(
     }
 }
 
-// How many words there are, where none is longer than `LONGEST`, and there is room for each: a word
-// of one bit takes half of it.
+/// How many words there are, where none is longer than `LONGEST`, and there is room for each: a word
+/// of one bit takes half of it.
 pub(super) fn count_words(counts: &[u32]) -> Option<usize>
     ensures { let lens = lengths_from 1 counts.now in MatchOption result (AreWordLengths lens → ⊥)
         (λ total. (total ≡ length lens) × AreWordLengths lens) }

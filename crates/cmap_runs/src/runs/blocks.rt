@@ -7,31 +7,31 @@ ghost use Rattle.cmap_runs.specs.Ranges.{Holds};
 use super::HasRange;
 use super::held::Held;
 
-// How many codes a block has.
+/// How many codes a block has.
 pub(super) const BLOCK_LEN: u32 = 32;
 
-// The blocks of the codes of two bytes.
+/// The blocks of the codes of two bytes.
 pub(super) const MOST_BLOCKS: usize = 2048;
 
-// A shorter list of runs has hardly any blocks.
+/// A shorter list of runs has hardly any blocks.
 pub(super) const FEWEST_RUNS: usize = 512;
 
-// As many runs as `run_count`, from the index `ended` on, are all that hold a code of the block.
+/// As many runs as `run_count`, from the index `ended` on, are all that hold a code of the block.
 #[derive(Clone, Copy, Debug)]
 pub(super) struct Block {
     pub(super) ended: u32,
     pub(super) run_count: u32,
 }
 
-// The first blocks of codes.
+/// The first blocks of codes.
 #[derive(Debug, Drop)]
 pub(super) struct Blocks {
     pub(super) list: Vec<Block>,
-    // How many runs end before the first code after the blocks.
+    /// How many runs end before the first code after the blocks.
     pub(super) ended: usize,
 }
 
-// A search looks at the runs from the index `low` on and before `high`, at `first` first.
+/// A search looks at the runs from the index `low` on and before `high`, at `first` first.
 #[derive(Drop)]
 pub(super) struct Window {
     pub(super) low: usize,
@@ -40,8 +40,8 @@ pub(super) struct Window {
 }
 
 impl Blocks {
-    // Where a search for the run that holds `code` looks; `None` where no run holds it. A run of the
-    // block has one code at least, so it looks first as far in as the code is in the block.
+    /// Where a search for the run that holds `code` looks; `None` where no run holds it. A run of the
+    /// block has one code at least, so it looks first as far in as the code is in the block.
     pub(super) fn window<T: HasRange>(&self, held: &Held<T>, code: u32) -> Option<Window>
         requires { AreBlocks held.now.runs self.now }
         ensures some { IfSome result (IsWindow held.now.runs code) }
@@ -60,7 +60,7 @@ impl Blocks {
     }
 }
 
-// All the runs from the index `low` on, the middle first; `None` where there is none.
+/// All the runs from the index `low` on, the middle first; `None` where there is none.
 fn window_after<T: HasRange>(held: &Held<T>, low: usize) -> Option<Window>
     ensures none { IfNone result (length held.now.runs ≤ low) }
     ensures low { IfSome result (λ window. window.low ≡ low) }

@@ -14,7 +14,7 @@ use super::ranges::range_at;
 use std::alloc::{AllocError, Global};
 use std::marker::Model;
 
-// The codes from `low` to `high`, which the declaration at `index` decides.
+/// The codes from `low` to `high`, which the declaration at `index` decides.
 #[derive(Debug, Drop)]
 pub(super) struct Run {
     pub(super) low: u32,
@@ -61,7 +61,7 @@ impl Runs {
         }
     }
 
-    // Adds a run at the end. Where it goes on from the last one, with its index, the two are one.
+    /// Adds a run at the end. Where it goes on from the last one, with its index, the two are one.
     pub(super) fn add(&mut self, low: u32, high: u32, index: usize) -> Result<(), AllocError>
         ensures added { OnOk result
             (self.new ≡ joined self.old (record { low = low; high = high; index = index })) }
@@ -78,7 +78,7 @@ impl Runs {
         Ok(())
     }
 
-    // Whether the run begins just after the last one, with its index.
+    /// Whether the run begins just after the last one, with its index.
     fn is_continued_by(&self, run: &Run) -> bool
         ensures answer { result ≡ goes_on (slice_get self.now (length self.now - 1)) run.now }
         ensures some { result ≡ true → 0 < length self.now }
@@ -92,15 +92,15 @@ impl Runs {
     }
 }
 
-// The runs of declarations.
+/// The runs of declarations.
 #[derive(Debug, Drop)]
 pub(super) enum RunList {
-    // The indices of declarations whose ranges are the runs.
+    /// The indices of declarations whose ranges are the runs.
     Ranges(Vec<u32>),
     Swept(Runs),
 }
 
-// Declarations, each at its index, with their runs.
+/// Declarations, each at its index, with their runs.
 #[derive(Debug, Drop)]
 pub(super) struct Held<T: HasRange> {
     declarations: Vec<T>,
@@ -141,7 +141,7 @@ impl<T: HasRange> Held<T> {
         }
     }
 
-    // The run at `i`.
+    /// The run at `i`.
     pub(super) fn run(&self, i: usize, looks: &mut Looks) -> Run
         requires { i < length self.now.runs }
         ensures run { slice_get self.now.runs i ≡ Some result }
@@ -165,9 +165,9 @@ impl<T: HasRange> Held<T> {
         }
     }
 
-    // The blocks of the first codes, up to the end of the last run; none where one has most of the
-    // runs. It counts no look, and takes `&mut self` so that no search, which has `&self`, can call
-    // it.
+    /// The blocks of the first codes, up to the end of the last run; none where one has most of the
+    /// runs. It counts no look, and takes `&mut self` so that no search, which has `&self`, can call
+    /// it.
     pub(super) fn blocks(&mut self, alloc: Global) -> Result<Blocks, AllocError>
         requires { IsInOrder self.old.runs }
         ensures blocks { IfOk result (λ blocks. AreBlocks self.old.runs blocks) }
@@ -195,8 +195,8 @@ impl<T: HasRange> Held<T> {
         Ok(Blocks { list, ended })
     }
 
-    // How many blocks may be made. Few runs need none but those of the first codes, where the notdefs
-    // of most files lie.
+    /// How many blocks may be made. Few runs need none but those of the first codes, where the notdefs
+    /// of most files lie.
     fn most_blocks(&self) -> usize
         ensures { result ≤ 2048 }
     {
@@ -208,7 +208,7 @@ impl<T: HasRange> Held<T> {
         }
     }
 
-    // How many runs begin before the code. The first `begun` are known to.
+    /// How many runs begin before the code. The first `begun` are known to.
     fn begun_before(&self, begun: usize, code: u32) -> usize
         requires order { IsInOrder self.now.runs }
         requires within { begun ≤ length self.now.runs }
@@ -227,8 +227,8 @@ impl<T: HasRange> Held<T> {
         index
     }
 
-    // How many runs end before the code, before which the first `begun` begin, and the first `ended`
-    // are known to end.
+    /// How many runs end before the code, before which the first `begun` begin, and the first `ended`
+    /// are known to end.
     fn ended_before(&self, ended: usize, begun: usize, code: u32) -> usize
         requires order { IsInOrder self.now.runs }
         requires within { begun ≤ length self.now.runs }
@@ -251,7 +251,7 @@ impl<T: HasRange> Held<T> {
         self.declarations.len()
     }
 
-    // The declaration at `index`.
+    /// The declaration at `index`.
     pub(super) fn declaration(&self, index: usize, looks: &mut Looks) -> &T
         requires { index < length self.now.declarations }
         ensures declaration { slice_get self.now.declarations index ≡ Some result.now }

@@ -10,17 +10,17 @@ use super::HasRange;
 use super::ranges::{range_at, start_at};
 use std::alloc::{AllocError, Global};
 
-// Indices of declarations, in an order in which their ranges lie apart.
+/// Indices of declarations, in an order in which their ranges lie apart.
 #[derive(Drop)]
 struct Apart {
     indices: Vec<u32>,
-    // The code after the last one of their ranges.
+    /// The code after the last one of their ranges.
     next: u64,
 }
 
 impl Apart {
-    // Adds the indices from `first` on and before `end`, up to one whose range doesn't lie between
-    // the ranges before it and `limit`, and answers where it came to.
+    /// Adds the indices from `first` on and before `end`, up to one whose range doesn't lie between
+    /// the ranges before it and `limit`, and answers where it came to.
     fn add_part<T: HasRange>(&mut self, declarations: &[T], first: u32, end: u32, limit: u64) -> u32
         requires first { first ≤ end }
         requires end { end ≤ length declarations.now }
@@ -47,8 +47,8 @@ impl Apart {
     }
 }
 
-// The indices of the declarations, in the order of their codes, where they are one or two parts
-// that ascend, as single codes and then ranges do, and all ranges lie apart.
+/// The indices of the declarations, in the order of their codes, where they are one or two parts
+/// that ascend, as single codes and then ranges do, and all ranges lie apart.
 pub(super) fn indices_of_parts<T: HasRange>(
     alloc: Global,
     declarations: &[T],
@@ -75,7 +75,7 @@ pub(super) fn indices_of_parts<T: HasRange>(
     Ok(Some(apart.indices))
 }
 
-// Where the first part ends, in which the first codes ascend.
+/// Where the first part ends, in which the first codes ascend.
 fn part_end<T: HasRange>(declarations: &[T], count: u32) -> u32
     requires { count ≡ length declarations.now }
     ensures { result ≤ count }
@@ -91,7 +91,7 @@ fn part_end<T: HasRange>(declarations: &[T], count: u32) -> u32
     count
 }
 
-// The first code of the range at `index`, where this is before `end`, else one above all codes.
+/// The first code of the range at `index`, where this is before `end`, else one above all codes.
 fn start_before<T: HasRange>(declarations: &[T], index: u32, end: u32) -> u64
     requires { end ≤ length declarations.now }
     ensures before { index < end → result ≡ (range_at (map T.span declarations.now) index).low }
@@ -104,7 +104,7 @@ fn start_before<T: HasRange>(declarations: &[T], index: u32, end: u32) -> u64
     }
 }
 
-// The indices of the declarations, in the order of the first codes of their ranges.
+/// The indices of the declarations, in the order of the first codes of their ranges.
 pub(super) fn indices_in_order<T: HasRange>(
     alloc: Global,
     declarations: &[T],
@@ -121,7 +121,7 @@ pub(super) fn indices_in_order<T: HasRange>(
     Ok(indices)
 }
 
-// Whether no range is empty, and each ends before the next one begins.
+/// Whether no range is empty, and each ends before the next one begins.
 pub(super) fn are_apart<T: HasRange>(declarations: &[T], indices: &[u32]) -> bool
     requires { All (λ index. index < length declarations.now) indices.now }
     ensures { result ≡ true

@@ -9,7 +9,7 @@ use super::HasRange;
 use super::held::Run;
 use std::alloc::{AllocError, Global};
 
-// The ranges that aren't empty.
+/// The ranges that aren't empty.
 pub(super) fn ranges_of<T: HasRange>(
     alloc: Global,
     declarations: &[T],
@@ -27,7 +27,7 @@ pub(super) fn ranges_of<T: HasRange>(
     Ok(ranges)
 }
 
-// The ranges of the declarations at the indices, in this order, but for empty ones.
+/// The ranges of the declarations at the indices, in this order, but for empty ones.
 pub(super) fn ranges_at<T: HasRange>(
     alloc: Global,
     declarations: &[T],
@@ -50,7 +50,7 @@ pub(super) fn ranges_at<T: HasRange>(
     Ok(ranges)
 }
 
-// The range of the declaration at the index.
+/// The range of the declaration at the index.
 pub(super) fn range_at<T: HasRange>(declarations: &[T], index: u32) -> Run
     requires { index < length declarations.now }
     ensures { result ≡ range_at (map T.span declarations.now) index }
@@ -60,7 +60,7 @@ pub(super) fn range_at<T: HasRange>(declarations: &[T], index: u32) -> Run
     Run::new(range.start, range.end, index)
 }
 
-// The first code of the range of the declaration at the index, and 1 where there is none.
+/// The first code of the range of the declaration at the index, and 1 where there is none.
 pub(super) fn start_at<T: HasRange>(declarations: &[T], index: u32) -> u32
     ensures { result ≡ (range_at (map T.span declarations.now) index).low }
 {

@@ -10,7 +10,7 @@ use super::blocks::Window;
 use super::held::Held;
 use super::looks::Looks;
 
-// The index of the declaration of the run that holds `code`. Only the runs in the window may.
+/// The index of the declaration of the run that holds `code`. Only the runs in the window may.
 pub(super) fn find_index<T: HasRange>(
     held: &Held<T>,
     code: u32,

@@ -15,10 +15,10 @@ use super::ranges::{ranges_at, ranges_of};
 use std::alloc::{AllocError, Global};
 use std::collections::BinaryHeap;
 
-// How many codes there are.
+/// How many codes there are.
 const CODE_COUNT: u64 = 1 << 32;
 
-// The runs of the declarations.
+/// The runs of the declarations.
 pub(super) fn runs_of<T: HasRange>(alloc: Global, declarations: &[T]) -> Result<RunList, AllocError>
     ensures runs { IfOk result (λ runs. runs_held (map T.span declarations.now) runs
         ≡ runs_of (map T.span declarations.now)) }
@@ -41,7 +41,7 @@ pub(super) fn runs_of<T: HasRange>(alloc: Global, declarations: &[T]) -> Result<
     Ok(RunList::Swept(sweep(alloc, ranges.as_slice())?))
 }
 
-// The runs of the declarations that the ranges belong to.
+/// The runs of the declarations that the ranges belong to.
 fn sorted_and_swept(alloc: Global, ranges: Vec<Run>) -> Result<Runs, AllocError>
     ensures runs { IfOk result (λ runs. (spans : List Span)
         → AreRanges spans (length spans) ranges.items → runs ≡ runs_of spans) }
@@ -52,7 +52,7 @@ fn sorted_and_swept(alloc: Global, ranges: Vec<Run>) -> Result<Runs, AllocError>
     sweep(alloc, ranges.as_slice())
 }
 
-// The runs, where the ranges come in order.
+/// The runs, where the ranges come in order.
 fn sweep(alloc: Global, ranges: &[Run]) -> Result<Runs, AllocError>
     requires { IsNonDecreasingBy (λ range. range.low) ranges.now }
     ensures runs { IfOk result
@@ -74,8 +74,8 @@ fn sweep(alloc: Global, ranges: &[Run]) -> Result<Runs, AllocError>
     Ok(runs)
 }
 
-// Opens the range, unless one with a greater index that ends no earlier is open, so that this one
-// decides no code.
+/// Opens the range, unless one with a greater index that ends no earlier is open, so that this one
+/// decides no code.
 fn open_range(ends: &mut BinaryHeap<(usize, u32)>, range: &Run) -> Result<(), AllocError>
     requires { HasGreatestOnTop (heap_items ends.old) }
     ensures heap { OnOk result (HasGreatestOnTop (heap_items ends.new)) }
@@ -92,9 +92,9 @@ fn open_range(ends: &mut BinaryHeap<(usize, u32)>, range: &Run) -> Result<(), Al
     Ok(())
 }
 
-// Adds the runs of the codes from `from` on and before `to`. The greatest index of an open range
-// decides a code. `ends` has each with its last code, and those that have ended are closed on the
-// way.
+/// Adds the runs of the codes from `from` on and before `to`. The greatest index of an open range
+/// decides a code. `ends` has each with its last code, and those that have ended are closed on the
+/// way.
 fn add_runs(
     runs: &mut Runs,
     ends: &mut BinaryHeap<(usize, u32)>,

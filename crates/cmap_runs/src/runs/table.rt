@@ -49,7 +49,7 @@ impl<T: HasRange> Table<T> {
     pub fn build(alloc: Global, list: Vec<T>) -> Result<Table<T>, AllocError>
         ensures { IfOk result (λ table. table ≡ list.items) }
     {
-        // Gives back the room that growth left over.
+        // Gives back the capacity that wasn't used.
         let mut list = list;
         list.shrink_to_fit();
         let runs = runs_of(alloc, list.as_slice())?;

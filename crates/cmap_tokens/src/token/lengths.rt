@@ -64,12 +64,11 @@ fn hex_len(text: &[u8]) -> Option<usize>
     ensures exact { result ≡ reading.one_more (reading.hex_len text.now) }
     ensures within { IfSome result (λ len. len ≤ 1 + length text.now) }
 {
-    for (i, byte) in text.iter().enumerate() {
-        if digit_value(*byte) >= 16 && !is_white(*byte) {
-            return if *byte == b'>' { Some(i + 2) } else { None };
-        }
+    let len = hex_body_len(text);
+    match text.get(len) {
+        Some(b'>') => Some(len + 2),
+        _ => None,
     }
-    None
 }
 
 // How many bytes a string in parentheses takes, by the bytes after its `(`.

@@ -3,44 +3,29 @@
 ghost use Rattle.std.specs.Prelude.{◌≡◌, ℕ, ◌+◌, ◌-◌, ◌<◌, ◌≤◌, ◌^◌, false, List, ◌∷◌, ◌++◌, min, length, take, IfSome, IsSome, IsTrue, Some, option_map, pos, neg_ℤ, if◌then◌else◌};
 ghost use Rattle.std.specs.List.{prefix_len};
 ghost use Rattle.cmap_tokens.specs.Numbers as numbers;
-ghost use Rattle.cmap_tokens.specs.Numbers.{EndsDigits};
-ghost use Rattle.cmap_tokens.specs.Bytes.{is_regular, is_white};
-ghost use Rattle.cmap_tokens.specs.Scanner.{BeginsDecimal};
-ghost use Rattle.cmap_tokens.specs.Tokens.{IsRun, begins_regular};
+ghost use Rattle.cmap_tokens.specs.Scanner.{spaced_decimal};
 ghost use Rattle.cmap_tokens.specs.NumberSeen.{number_seen};
 
 use super::Number;
 use super::byte_class::{digit_value, is_regular, is_white};
 
-// The decimal number that a text begins with after one white byte, and how many bytes both take.
+// The decimal number that a text begins with after one white byte, and how many digits it has.
+#[tactic(auto, using(std::proofs::lemmas::List::take_rest))]
 pub(super) fn blank_decimal(text: &[u8]) -> Option<(u64, usize)>
-    ensures found { IfSome result (λ first. (blank : ℕ) × (piece rest : List ℕ)
-        × (text.now ≡ blank ∷ piece ++ rest) × IsTrue (is_white blank) × IsRun piece
-        × (begins_regular rest ≡ false) × (first.1 ≡ 1 + length piece)
-        × (numbers.numeral piece ≡ Some (numbers.Integer (pos first.0)))) }
-    ensures within { IfSome result (λ first. first.1 ≤ length text.now) }
-    ensures some { BeginsDecimal text.now → IsSome result }
+    ensures front { result ≡ spaced_decimal text.now }
+    ensures within { IfSome result (λ first. 1 + first.1 ≤ length text.now) }
 {
     match text {
-        [blank, rest @ ..] if is_white(*blank) => {
-            let (number, len) = decimal(rest)?;
-            Some((number, 1 + len))
-        }
+        [blank, rest @ ..] if is_white(*blank) => decimal(rest),
         _ => None,
     }
 }
 
-// A smaller number has room for one more digit.
-const SMALL: u64 = 1 << 58;
-
-// The number of a run of decimal digits that a text begins with, and how many digits these are.
-// `None` where the run is no digits alone, where the text ends with it, and where it has more than
-// 18.
+// The number of one to 18 decimal digits that a text begins with, and how many these are. `None`
+// where more digits come, or a regular byte, or nothing.
 fn decimal(text: &[u8]) -> Option<(u64, usize)>
-    ensures piece { IfSome result (λ first. (0 < first.1) × (first.1 ≡ prefix_len is_regular text.now)
-        × (numbers.numeral (take first.1 text.now) ≡ Some (numbers.Integer (pos first.0)))) }
+    ensures front { result ≡ numbers.decimal_front text.now }
     ensures within { IfSome result (λ first. first.1 ≤ length text.now) }
-    ensures few { (n : ℕ) → 1 ≤ n → n ≤ 18 → EndsDigits text.now n → IsSome result }
 {
     let mut number: u64 = 0;
     for (i, byte) in text.iter().enumerate() {
@@ -51,7 +36,7 @@ fn decimal(text: &[u8]) -> Option<(u64, usize)>
             }
             return Some((number, i));
         }
-        if number >= SMALL {
+        if i == 18 {
             return None;
         }
         number = number * 10 + u64::from(digit);

@@ -2,20 +2,18 @@
 
 ghost use Rattle.std.specs.Prelude.{◌≡◌, ℕ, ◌+◌, ◌≤◌, false, true, List, ◌∷◌, ◌++◌, length, take, option_map, IfOk, IfSome, IsSome, IsTrue, MatchOption, MatchResult};
 ghost use Rattle.std.specs.List.{prefix_len};
-ghost use Rattle.cmap_tokens.specs.Bytes.{is_regular, is_white};
+ghost use Rattle.cmap_tokens.specs.Bytes.{is_regular};
 ghost use Rattle.cmap_tokens.specs.Gaps.{IsBlank};
 ghost use Rattle.cmap_tokens.specs.Tokens as tokens;
-ghost use Rattle.cmap_tokens.specs.Tokens.{IsHexString, IsMalformed, name_or_number};
-ghost use Rattle.cmap_tokens.specs.Scanner.{BeginsTwoBytes, FirstToken};
-ghost use Rattle.cmap_tokens.specs.Strings.{WritesTwoBytes};
+ghost use Rattle.cmap_tokens.specs.Tokens.{IsMalformed, name_or_number};
+ghost use Rattle.cmap_tokens.specs.Scanner.{FirstToken, spaced_two_bytes};
 ghost use Rattle.cmap_tokens.specs.TokenReading as reading;
 ghost use Rattle.cmap_tokens.specs.TokenSeen.{token_seen};
 
 use super::byte_class::{is_regular, is_white};
 use super::gaps::gap_len;
 use super::lengths::{run_len, string_len};
-use super::numerals::number_of;
-use super::values::pairs_number;
+use super::numerals::{digits_number, number_of};
 use super::{Malformed, Name, StringToken, Token};
 
 // The token that a text begins with, and how many bytes it takes with the gap before it.
@@ -104,16 +102,12 @@ pub(super) const TWO_BYTES_LEN: usize = 7;
 // The number that two bytes write, whose string, such as `<8140>`, a text begins with after one white
 // byte.
 pub(super) fn two_bytes(text: &[u8]) -> Option<u16>
-    ensures found { IfSome result (λ number. (blank : ℕ) × (piece rest : List ℕ)
-        × (text.now ≡ blank ∷ piece ++ rest) × IsTrue (is_white blank) × IsHexString piece
-        × (length piece ≡ 6) × WritesTwoBytes piece number) }
+    ensures front { result ≡ spaced_two_bytes text.now }
     ensures within { IfSome result (λ _. 7 ≤ length text.now) }
-    ensures some { BeginsTwoBytes text.now → IsSome result }
 {
     match text {
         [blank, b'<', _, _, _, _, b'>', ..] if is_white(*blank) => {
-            let (_, number) = pairs_number(&text[2..6])?;
-            Some(number as u16)
+            Some(digits_number(16, &text[2..6])? as u16)
         }
         _ => None,
     }

@@ -1,6 +1,6 @@
 //! The bytes that strings stand for.
 
-ghost use Rattle.std.specs.Prelude.{◌≡◌, ◌+◌, ◌≤◌, ◌<◌, ◌++◌, length, vec_len, vec_capacity, MatchOption};
+ghost use Rattle.std.specs.Prelude.{◌≡◌, ◌+◌, ◌≤◌, ◌<◌, ◌++◌, length, vec_len, vec_capacity, IfSome, MatchOption};
 ghost use Rattle.cmap_tokens.specs.TokenReading as reading;
 ghost use Rattle.std.specs.Int.Digits.{number_from_digits};
 ghost use Rattle.cmap_tokens.specs.Strings.{ArePairs, escape_value, hex_value};
@@ -13,9 +13,11 @@ use super::numerals::{digits_len, digits_number};
 // How many bytes digits in pairs stand for, one to four, and the number that the bytes write, the
 // high one first.
 pub(super) fn pairs_number(digits: &[u8]) -> Option<(u8, u32)>
-    ensures { MatchOption result (ArePairs digits.now → ⊥)
+    ensures value { MatchOption result (ArePairs digits.now → ⊥)
         (λ first. ArePairs digits.now × (first.0 ≡ length (hex_value digits.now))
         × (first.1 ≡ number_from_digits 256 (hex_value digits.now))) }
+    ensures some { IfSome result (λ first. 1 ≤ first.0) }
+    ensures few { IfSome result (λ first. first.0 ≤ 4) }
 {
     let len = digits.len();
     if len > 8 || len % 2 != 0 {
@@ -134,7 +136,7 @@ fn octal(text: &[u8]) -> (u8, usize)
     ensures exact { result ≡ reading.octal text.now }
     ensures within { result.1 ≤ length text.now }
 {
-    let len = digits_len(8, &text[..text.len().min(3)]);
+    let len = digits_len(8, text).min(3);
     let value = digits_number(8, &text[..len]).unwrap_or(0);
     ((value % 256) as u8, len)
 }

@@ -1,26 +1,34 @@
-use Rattle.std.proofs.Common.{◌+◌, ◌-◌, ◌∙◌, Ok, refl, sym, ap, arith}
-use Rattle.cmap_files.specs.DeclarationsSeen.{lists_seen}
-use Rattle.cmap_files.proofs.ListsMade.{append_lists-none}
-use Rattle.cmap_text.specs.TextReading.{added, list_in}
-use Rattle.cmap_text.proofs.EntriesRead.{list_more, list_short, list_closed}
+use Rattle.std.proofs.Common.{◌≡◌, suc, ◌+◌, ◌-◌, refl, arith}
+use Rattle.cmap_text.specs.TextReading.{list_in}
 use Rattle.cmap_text.proofs.Refusals.{passed_on}
 use Rattle.cmap_text.proofs.entries.add_list.Goals as goal
 
 pub returns-in_err-units : goal.returns-in_err-units
+unfolding list_in
 returns-in_err-units c =
-    passed_on c.from_residual.result _ _ c.next_destination.new.self _ _ c.from_residual.ensures.1 c.in_err-units.ensures.1 (λ e is. c.loop-code.invariant ∙ list_short _ _ (c.args.end + 1 - (c.loop-code.code + 1)) _ _ e (omega arith) is)
+    let more : c.args.end + 1 - c.loop-code.code ≡ suc (c.args.end + 1 - (c.loop-code.code + 1)) = omega arith in
+    passed_on c.from_residual.result _ _ c.next_destination.new.self _ _ c.from_residual.ensures.1 c.in_err-units.ensures.1 (λ e is. rw (c.loop-code.invariant, more, is) refl)
 
 pub loop-code-preserved : goal.loop-code-preserved
+unfolding list_in
 loop-code-preserved c =
-    c.loop-code.invariant ∙ list_more _ _ (c.args.end + 1 - (c.loop-code.code + 1)) _ _ _ _ (omega arith) c.in_ok-units.ensures.0
-    ∙ ap (λ l. added l (list_in (c.args.end + 1 - (c.loop-code.code + 1)) (c.loop-code.code + 1) c.next_destination.new.self)) (sym c.in_ok-add_text.ensures)
+    let more : c.args.end + 1 - c.loop-code.code ≡ suc (c.args.end + 1 - (c.loop-code.code + 1)) = omega arith in
+    rw (c.loop-code.invariant, more, c.in_ok-units.ensures.0, c.in_ok-add_text.ensures) refl
 
 pub returns-in_err-token : goal.returns-in_err-token
+unfolding list_in
 returns-in_err-token c =
-    passed_on c.from_residual-in_err-token.result _ _ c.required_token.new.self _ _ c.from_residual-in_err-token.ensures.1 c.in_err-token.ensures.1 (λ e is. c.loop-code.invariant ∙ list_closed _ _ _ _ (omega arith) ∙ rw is refl)
+    let done : c.args.end + 1 - c.loop-code.code ≡ 0 = omega arith in
+    passed_on c.from_residual-in_err-token.result _ _ c.required_token.new.self _ _ c.from_residual-in_err-token.ensures.1 c.in_err-token.ensures.1 (λ e is. rw (c.loop-code.invariant, done, is) refl)
 
 pub returns-then-not-is_executable : goal.returns-then-not-is_executable
-returns-then-not-is_executable c = (tt, c.loop-code.invariant ∙ list_closed _ _ _ _ (omega arith) ∙ rw (c.in_ok-token.ensures.0, ← c.if-not-is_executable.ensures) refl)
+unfolding list_in
+returns-then-not-is_executable c =
+    let done : c.args.end + 1 - c.loop-code.code ≡ 0 = omega arith in
+    (tt, rw (c.wrong.ensures, c.loop-code.invariant, done, c.in_ok-token.ensures.0, ← c.if-not-is_executable.ensures) refl)
 
 pub returns : goal.returns
-returns c = (c.loop-code.invariant ∙ list_closed _ _ _ _ (omega arith) ∙ rw (c.in_ok-token.ensures.0, ← c.if-not-is_executable.ensures) (ap (λ l. Ok (l, c.required_token.new.self)) (append_lists-none (lists_seen c.loop-code.lists))), tt)
+unfolding list_in
+returns c =
+    let done : c.args.end + 1 - c.loop-code.code ≡ 0 = omega arith in
+    (rw (c.loop-code.invariant, done, c.in_ok-token.ensures.0, ← c.if-not-is_executable.ensures) refl, tt)

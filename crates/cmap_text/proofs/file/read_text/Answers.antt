@@ -37,5 +37,5 @@ returns-in_err-metadata-clause-decided c =
 
 pub returns-clause-file : goal.returns-clause-file
 returns-clause-file c =
-    let (said, metadata) = rw c.new-said.ensures at c.in_ok-metadata.ensures.says in
-    (text_file _ _ (has_tokens c.args.text.now) _ _ said metadata, tt)
+    let ((rest, said), metadata) = rw c.new-said.ensures at c.in_ok-metadata.ensures.says in
+    (text_file _ _ (has_tokens c.args.text.now) _ rest _ said metadata, tt)

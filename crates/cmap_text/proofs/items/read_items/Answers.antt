@@ -1,30 +1,31 @@
-use Rattle.cmap_text.proofs.ItemsRead.{IsSaying-none, IsSaying-more, IsSaying-end, IsSaying-shorter, IsSaying-stop, IsSaying-wrong}
+use Rattle.std.proofs.Common.{refl, arith}
+use Rattle.cmap_text.specs.TextReading.{item_after}
+use Rattle.cmap_text.specs.TextSeen.{said_seen}
+use Rattle.cmap_tokens.specs.TokenSeen.{token_seen}
+use Rattle.cmap_text.proofs.ItemsRead.{item-shorter, next-shorter, said_next}
 use Rattle.cmap_text.proofs.Refusals.{passed_on}
 use Rattle.cmap_text.proofs.items.read_items.Goals as goal
 
-pub loop-token-init : goal.loop-token-init
-loop-token-init c = IsSaying-none _ _
-
 pub returns-in_err-token : goal.returns-in_err-token
 returns-in_err-token c =
-    passed_on c.from_residual.result _ _ c.next_token.new.self _ _ c.from_residual.ensures.1 c.in_err-token.ensures.1 (λ e is. IsSaying-stop _ _ _ _ c.loop-token.invariant e is)
+    passed_on c.from_residual.result _ _ c.next_token.new.self _ _ c.from_residual.ensures.1 c.in_err-token.ensures.1 (λ e is. rw (c.loop-token.invariant, said_next, is) refl)
 
 pub loop-token-smaller : goal.loop-token-smaller
 loop-token-smaller c =
     let token = rw c.in-Some.is at c.in_ok-token.ensures.0 in
-    IsSaying-shorter _ _ _ _ c.loop-token.invariant _ _ token _ _ c.in_ok-read_item.ensures.0
+    omega (arith, next-shorter c.loop-token.reader _ _ token, item-shorter (item_after (said_seen c.loop-token.said) (token_seen c.in-Some.token)) c.next_token.new.self _ c.in_ok-read_item.ensures.0)
 
 pub loop-token-preserved : goal.loop-token-preserved
 loop-token-preserved c =
     let token = rw c.in-Some.is at c.in_ok-token.ensures.0 in
-    IsSaying-more _ _ _ _ c.loop-token.invariant _ _ token _ _ c.in_ok-read_item.ensures.0
+    rw (c.loop-token.invariant, said_next, token, c.in_ok-read_item.ensures.0) refl
 
 pub returns-in_err-read_item : goal.returns-in_err-read_item
 returns-in_err-read_item c =
     let token = rw c.in-Some.is at c.in_ok-token.ensures.0 in
-    passed_on c.from_residual-in_err-read_item.result _ _ c.read_item.new.reader _ _ c.from_residual-in_err-read_item.ensures.1 c.in_err-read_item.ensures.1 (λ e is. IsSaying-wrong _ _ _ _ c.loop-token.invariant _ _ token e is)
+    passed_on c.from_residual-in_err-read_item.result _ _ c.read_item.new.reader _ _ c.from_residual-in_err-read_item.ensures.1 c.in_err-read_item.ensures.1 (λ e is. rw (c.loop-token.invariant, said_next, token, is) refl)
 
 pub returns : goal.returns
 returns c =
     let end = rw c.in_default.is at c.in_ok-token.ensures.0 in
-    (IsSaying-end _ _ _ _ c.loop-token.invariant _ end, tt)
+    (rw (c.loop-token.invariant, said_next, end) refl, tt)

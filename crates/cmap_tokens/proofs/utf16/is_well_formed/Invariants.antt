@@ -1,12 +1,13 @@
-use Rattle.std.proofs.Common.{◌≡◌, length, is_some}
-use Rattle.std.specs.Char.Utf16.{utf16_chars}
-use Rattle.std.specs.List.{list_all}
-use Rattle.cmap_tokens.specs.LastUnits.{with_last}
+use Rattle.std.proofs.Common.{◌≡◌, ◌+◌, ◌-◌, ◌≤◌, [], ◌∷◌, ◌++◌, length, is_some}
+use Rattle.cmap_tokens.specs.Texts.{characters}
+use Rattle.cmap_tokens.proofs.TextsOfUnits.{characters_from}
 use Rattle.cmap_tokens.proofs.utf16.is_well_formed.Given as goal
 
-abbrev pub invariant-loop-after : goal.invariant-loop-after
-invariant-loop-after l =
-    list_all is_some (utf16_chars (with_last l.rest l.last)) ≡ list_all is_some (utf16_chars (with_last l.units l.last))
+abbrev pub invariant-loop-index : goal.invariant-loop-index
+invariant-loop-index l = record {
+  within : l.index ≤ 1 + length l.front;
+  same : is_some (characters_from (l.front ++ l.last ∷ []) l.index) ≡ is_some (characters (l.front ++ l.last ∷ []));
+}
 
-abbrev pub decreases-loop-after : goal.decreases-loop-after
-decreases-loop-after l = length l.rest
+abbrev pub decreases-loop-index : goal.decreases-loop-index
+decreases-loop-index l = 1 + length l.front - l.index

@@ -1,13 +1,9 @@
-use Rattle.std.proofs.Common.{◌∙◌, ap}
-use Rattle.std.specs.Bool.{then_some}
-use Rattle.cmap_tokens.proofs.TextsOfUnits.{only_character-stuck, only_character-begun}
+use Rattle.std.proofs.Common.{◌≡◌, suc, leb, [], ◌∷◌, ◌++◌, length, ap, ◌∙◌, arith, length-append}
+use Rattle.cmap_tokens.proofs.TextsOfUnits.{only_first}
 use Rattle.cmap_tokens.proofs.utf16.only_char.Goals as goal
-
-pub returns-in_err-first : goal.returns-in_err-first
-returns-in_err-first c = c.from_residual.ensures ∙ only_character-stuck _ c.in_err-first.ensures.value
 
 pub returns : goal.returns
 returns c =
-    c.then_some.ensures
-    ∙ ap (λ b. then_some b c.in_ok-first.first) c.is_empty.ensures
-    ∙ only_character-begun _ c.in_ok-first.rest.now c.args.last c.in_ok-first.first c.in_ok-first.ensures.value
+    let us = c.args.front.now ++ c.args.last ∷ [] in
+    let long : suc (length c.args.front.now) ≡ length us = omega (arith, length-append c.args.front.now (c.args.last ∷ [])) in
+    c.then_some.ensures ∙ only_first us c.in_ok-first.first c.in_ok-first.after _ (ap (λ n. leb n c.in_ok-first.after) long) c.in_ok-first.ensures.value

@@ -3,10 +3,10 @@ use Rattle.cmap_binary.specs.BundleSeen.{tables_given}
 use Rattle.cmap_files.specs.FilesSeen.{file_seen, names_seen}
 use Rattle.hayro_cmap.specs.Layers.{Means}
 use Rattle.cmap_files.proofs.Outcomes.{refuses_on}
-use Rattle.hayro_cmap.proofs.Blamed.{blames_file, blames_missing, blames_use, fails_as, used_at}
-use Rattle.hayro_cmap.proofs.OneUse.{Resolves-answered, Refuses-answered, Refuses-unanswered, GoesOver-answered}
-use Rattle.hayro_cmap.proofs.UsesInOrder.{AreUsed-none, AreUsed-at, AreUsed-end, AreUsed-more, Resolves-used, Refuses-used, GoesOver-used}
-use Rattle.hayro_cmap.proofs.WholeFile.{Refuses-no_file, Resolves-file, Refuses-file, GoesOver-file, GoesOver-here}
+use Rattle.hayro_cmap.proofs.Blamed.{blames_file, blames_here, blames_missing, blames_use, fails_as, used_at}
+use Rattle.hayro_cmap.proofs.OneUse.{Resolves-answered, Refuses-answered, Refuses-unanswered, GoesOver-answered, GoesOverAt-answered}
+use Rattle.hayro_cmap.proofs.UsesInOrder.{AreUsed-none, AreUsed-at, AreUsed-end, AreUsed-more, Resolves-used, Refuses-used, GoesOver-used, GoesOverAt-used}
+use Rattle.hayro_cmap.proofs.WholeFile.{Refuses-no_file, Resolves-file, Refuses-file, GoesOver-file, GoesOver-here, GoesOverAt-file}
 use Rattle.hayro_cmap.specs.declared.refusal.Cause.TheVariants.{NoFile, ChainLength}
 use Rattle.hayro_cmap.proofs.chain.+layers.Goals as goal
 
@@ -14,6 +14,11 @@ pub find_layers-returns-in_err-spend-clause-fails : goal.find_layers-returns-in_
 find_layers-returns-in_err-spend-clause-fails g t c =
     let over = GoesOver-here (Means (tables_given c.args.bundle)) (g.S.Source.answers c.args.source.now) c.args.below c.args.bytes.now c.args.left.now c.in_err-spend.ensures.over.1 in
     refuses_on _ _ c.from_residual.ensures.1 (rw c.in_err-spend.ensures.over.0 over) (λ cause fails. fails)
+
+pub find_layers-returns-in_err-spend-clause-blames : goal.find_layers-returns-in_err-spend-clause-blames
+find_layers-returns-in_err-spend-clause-blames g t c =
+    let here = blames_here (tables_given c.args.bundle) (g.S.Source.answers c.args.source.now) c.args.left.now c.args.below c.args.bytes.now c.args.names.now.items c.in_err-spend.ensures.over.1 in
+    refuses_on _ _ c.from_residual.ensures.1 (rw c.in_err-spend.ensures.over.0 here) (λ cause blames. blames)
 
 pub find_layers-returns-in-Err-Refused-clause-fails : goal.find_layers-returns-in-Err-Refused-clause-fails
 find_layers-returns-in-Err-Refused-clause-fails g t c =
@@ -43,8 +48,10 @@ find_layers-returns-in_err-base-clause-fails g t c =
 pub find_layers-returns-in_err-base-clause-blames : goal.find_layers-returns-in_err-base-clause-blames
 find_layers-returns-in_err-base-clause-blames g t c =
     let uses = used_at _ _ c.loop-name.name-index c.deref-name-items.ensures.value c.loop-name-test.true in
+    let used = AreUsed-at c.loop-name.name-index c.deref-name-items.ensures.value c.loop-name.invariant.0 c.loop-name-test.true in
     refuses_on _ _ c.from_residual-in_err-base.ensures.1 c.in_err-base.ensures.blames
-    (blames_file (tables_given c.args.bundle) (g.S.Source.answers c.args.source.now) c.args.below c.args.bytes.now _ _ _ (file_seen c.in-Ok.file) _ c.loop-name.invariant.1 c.in-Ok.ensures.reads.0.holds uses)
+    (blames_file (tables_given c.args.bundle) (g.S.Source.answers c.args.source.now) c.args.left.now _ c.args.below c.args.bytes.now _ _ _ (file_seen c.in-Ok.file) _ c.loop-name.invariant.1 c.in-Ok.ensures.reads.0.holds uses
+    (λ names over. GoesOverAt-file (Means (tables_given c.args.bundle)) (g.S.Source.answers c.args.source.now) c.args.below c.args.bytes.now c.args.left.now (file_seen c.in-Ok.file) c.spend.new.left c.in-Ok.ensures.reads.0 c.in_ok-spend.ensures.spent names (GoesOverAt-used used names over)))
 
 pub find_layers-returns-clause-found : goal.find_layers-returns-clause-found
 find_layers-returns-clause-found g t c =
@@ -56,7 +63,7 @@ find_layers-returns-clause-stays g t c = c.loop-name.invariant.1
 
 pub find_used-returns-then-below-eq0-clause-blames : goal.find_used-returns-then-below-eq0-clause-blames
 find_used-returns-then-below-eq0-clause-blames g t c =
-    blames_missing (tables_given c.args.bundle) (g.S.Source.answers c.args.source.now) c.args.below _ _ c.args.name ChainLength c.in_ok-push.ensures.items c.if-below-eq0.true
+    blames_missing (tables_given c.args.bundle) (g.S.Source.answers c.args.source.now) c.args.left.now c.args.below _ _ c.args.name ChainLength c.in_ok-push.ensures.items c.if-below-eq0.true
 
 pub find_used-returns-in_default-clause-fails : goal.find_used-returns-in_default-clause-fails
 find_used-returns-in_default-clause-fails g t c =
@@ -64,7 +71,7 @@ find_used-returns-in_default-clause-fails g t c =
 
 pub find_used-returns-in_default-clause-blames : goal.find_used-returns-in_default-clause-blames
 find_used-returns-in_default-clause-blames g t c =
-    blames_missing (tables_given c.args.bundle) (g.S.Source.answers c.args.source.now) c.args.below _ _ c.args.name NoFile c.in_ok-push.ensures.items (omega arith, rw c.in_default.is at c.file.ensures)
+    blames_missing (tables_given c.args.bundle) (g.S.Source.answers c.args.source.now) c.args.left.now c.args.below _ _ c.args.name NoFile c.in_ok-push.ensures.items (omega arith, rw c.in_default.is at c.file.ensures)
 
 pub find_used-returns-in_err-layers-clause-fails : goal.find_used-returns-in_err-layers-clause-fails
 find_used-returns-in_err-layers-clause-fails g t c =
@@ -77,7 +84,8 @@ pub find_used-returns-in_err-layers-clause-blames : goal.find_used-returns-in_er
 find_used-returns-in_err-layers-clause-blames g t c =
     let said = rw c.in-Some.is at c.file.ensures in
     refuses_on _ _ c.from_residual-in_err-layers.ensures.1 c.in_err-layers.ensures.blames
-    (blames_use (tables_given c.args.bundle) (g.S.Source.answers c.args.source.now) c.args.below (c.args.below - 1) _ _ _ c.args.name c.in-Some.bytes.now (omega arith) c.in_ok-push.ensures.items said)
+    (blames_use (tables_given c.args.bundle) (g.S.Source.answers c.args.source.now) _ c.args.below (c.args.below - 1) _ _ _ c.args.name c.in-Some.bytes.now (omega arith) c.in_ok-push.ensures.items said
+    (GoesOverAt-answered (Means (tables_given c.args.bundle)) (g.S.Source.answers c.args.source.now) c.requires.by_name c.args.name.now c.args.left.now c.args.below (c.args.below - 1) (omega arith) c.in-Some.bytes.now said))
 
 pub find_used-returns-clause-found : goal.find_used-returns-clause-found
 find_used-returns-clause-found g t c =

@@ -1,3 +1,4 @@
+use Rattle.cmap_binary.specs.BundleSeen.{tables_seen}
 use Rattle.hayro_cmap.proofs.FilesMeant.{binary_decided, reads_binary, reads_text, text_decided}
 use Rattle.hayro_cmap.proofs.chain.read_file.Goals.{in_default-via-in-Some+else-is_marked_binary, in_default-via-in_default}
 use Rattle.hayro_cmap.proofs.chain.read_file.Goals as goal
@@ -5,7 +6,7 @@ use Rattle.hayro_cmap.proofs.chain.read_file.Goals as goal
 pub returns-in-Some : goal.returns-in-Some
 returns-in-Some c =
     let marked = c.is_marked_binary.ensures.0 c.if-is_marked_binary.true in
-    record { reads = rw c.in-Some.is (reads_binary _ _ _ marked c.read_binary.ensures); decided = rw c.in-Some.is (binary_decided _ _ _ marked) }
+    record { reads = rw c.in-Some.is (reads_binary _ _ _ marked c.read_binary.ensures); decided = rw c.in-Some.is (binary_decided (tables_seen c.in-Some.bundle.now.tables) _ _ marked) }
 
 pub returns-in_default : goal.returns-in_default
 returns-in_default c = record {

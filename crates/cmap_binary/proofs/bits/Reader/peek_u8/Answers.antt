@@ -1,4 +1,4 @@
-use Rattle.std.proofs.Common.{◌≡◌, ◌<◌, ◌+◌, ◌/◌, ◌^◌, ◌-◌, [], ◌∷◌, length, get_or, refl, ap, sym, ◌∙◌, arith}
+use Rattle.std.proofs.Common.{◌≡◌, ◌<◌, ◌+◌, ◌/◌, ◌^◌, ◌-◌, [], ◌∷◌, ◌++◌, length, get_or, refl, ap, sym, ◌∙◌, arith}
 use Rattle.std.proofs.lemmas.Nat.{and_mask}
 use Rattle.cmap_binary.specs.PrefixWords.{bits}
 use Rattle.cmap_binary.proofs.BitsPeeked.{peeked}
@@ -10,4 +10,5 @@ returns c =
     let low = c.in_ok-low.field-0.now in
     let there : (r.byte + 1 < length r.bytes.now) × (low ≡ get_or r.bytes.now (r.byte + 1) 0) = grind (arith, c.in_ok-low.ensures) in
     let pair = c.from_be_bytes-pair.ensures in
-    rw (← c.self.view_is) (peeked r.bytes.now r.byte r.bit _ low c.self.invariant.0 there.0 refl there.1 (omega arith) (omega arith) ∙ ap (λ n. bits (n ∷ [])) (rw (← pair) (sym (and_mask (c.from_be_bytes-pair.result / 2 ^ (8 - r.bit)) 8))))
+    let (later, parts) = peeked r.bytes.now r.byte r.bit _ low c.self.invariant.0 there.0 refl there.1 (omega arith) (omega arith) in
+    rw (← c.self.view_is) (later, parts ∙ ap (λ n. bits (n ∷ []) ++ later) (rw (← pair) (sym (and_mask (c.from_be_bytes-pair.result / 2 ^ (8 - r.bit)) 8))))

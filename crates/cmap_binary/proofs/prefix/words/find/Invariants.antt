@@ -6,5 +6,5 @@ use Rattle.cmap_binary.proofs.prefix.words.find.Given as goal
 abbrev pub invariant-loop-i : goal.invariant-loop-i
 invariant-loop-i l = record {
   moves : l.reader ≡ after_bits l.fn.reader l.i;
-  searched : IsSearched l.counts (bits_left l.fn.reader) l.i l.place l.past;
+  searched : IsSearched l.counts (bits_left l.fn.reader) (record { len = l.i; rank = l.rank; past = l.past });
 }

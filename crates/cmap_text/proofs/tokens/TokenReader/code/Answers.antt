@@ -2,7 +2,7 @@ use Rattle.std.proofs.Common.{ap, ◌∙◌, refl, sym, arith}
 use Rattle.cmap_tokens.specs.TokenSeen.{token_seen}
 use Rattle.cmap_text.specs.TextReading.{code_of}
 use Rattle.cmap_text.specs.TextSeen.{code_seen}
-use Rattle.cmap_text.proofs.Refusals.{given, last_is}
+use Rattle.cmap_text.proofs.Refusals.{given}
 use Rattle.cmap_text.proofs.TokensRead.{read_value, code_of-is}
 use Rattle.cmap_text.proofs.tokens.TokenReader.code.Goals as goal
 
@@ -11,9 +11,9 @@ returns-in-Some c =
     let (bytes, only, are, count, number) = c.in-Some.ensures.value in
     let read = read_value code_of _ _ bytes (ap token_seen c.in-String.is) only.holds in
     let ((least, most), len) = c.in-Some-of.ensures in
-    (last_is _ _ _ _ (read ∙ code_of-is bytes (omega (arith, count, least)) (omega (arith, count, most)) ∙ rw (← count, ← number, len) refl) refl, tt)
+    (rw (read ∙ code_of-is bytes (omega (arith, count, least)) (omega (arith, count, most)), ← count, ← number, len) refl, tt)
 
 pub returns : goal.returns
 returns c =
     let read = read_value code_of _ _ _ (ap token_seen c.in-String.is) c.in_ok-decode_into.ensures.value in
-    rw (c.ok_or.ensures.value, read) (given code_seen c.code_of.result _ _ _ _ (rw c.deref.ensures.value at c.code_of.ensures) (sym c.self.view_is))
+    rw (c.ok_or.ensures.value, c.wrong-2.ensures, read) (given code_seen c.code_of.result _ _ _ _ (rw c.deref.ensures.value at c.code_of.ensures) (sym c.self.view_is))

@@ -1,6 +1,7 @@
 use Rattle.std.proofs.Common.{refl, sym, ap, ◌∙◌, arith}
 use Rattle.cmap_tokens.specs.Tokens.{String}
-use Rattle.cmap_text.specs.TextReading.{destination_in, destination_of, head_in}
+use Rattle.cmap_text.specs.TextReading.{destination_in, destination_of}
+use Rattle.cmap_text.specs.TokenParsers.{head_in}
 use Rattle.cmap_text.proofs.TokensRead.{read_value, destination_of-is}
 use Rattle.cmap_text.proofs.tokens.TokenReader.next_destination.Goals as goal
 

@@ -1,6 +1,7 @@
 use Rattle.std.proofs.Common.{refl, sym, ap, ◌∙◌, arith}
 use Rattle.cmap_tokens.specs.Tokens.{String}
-use Rattle.cmap_text.specs.TextReading.{code_of, token_in}
+use Rattle.cmap_text.specs.TextReading.{code_of}
+use Rattle.cmap_text.specs.TokenParsers.{token_in}
 use Rattle.cmap_text.proofs.TokensRead.{read_value, code_of-is}
 use Rattle.cmap_text.proofs.tokens.TokenReader.plain_code.Goals as goal
 

@@ -4,6 +4,6 @@ use Rattle.cmap_tokens.specs.Scanner.{rest_of}
 use Rattle.cmap_tokens.proofs.Fronts.{stop_is}
 use Rattle.cmap_tokens.proofs.token.Scanner.stop.Goals as goal
 
-pub returns-clause-place : goal.returns-clause-place
-returns-clause-place c = λ empty.
-    omega (arith, ap (λ p. p.passed) c.self.view_is, stop_is c.args.self.now _ c.gap_len-gap.result c.malformed_len.result (take_rest _ c.self.inside.place ∙ ap rest_of c.self.view_is) c.gap_len-gap.ensures.exact c.malformed_len.ensures.exact empty)
+pub returns-clause-offset : goal.returns-clause-offset
+returns-clause-offset c = λ empty.
+    omega (arith, ap (λ p. p.passed) c.self.view_is, stop_is c.args.self.now _ c.gap_len-gap.result c.malformed_len.result (take_rest _ c.self.inside.offset ∙ ap rest_of c.self.view_is) c.gap_len-gap.ensures.exact c.malformed_len.ensures.exact empty)

@@ -9,7 +9,7 @@ pub loop-i-preserved : goal.loop-i-preserved
 loop-i-preserved c =
     let text = c.args.text.now in
     let i = c.loop-i.i in
-    let place : Inside = record { escaped = c.loop-i.escaped; depth = c.loop-i.depth } in
+    let state : Inside = record { escaped = c.loop-i.escaped; depth = c.loop-i.depth } in
     let next : Inside = record { escaped = c.if-escaped.escaped; depth = c.if-escaped.depth } in
-    let step : (0 < next.depth) × (next.depth ≤ 1 + (i + 1)) × (after_byte place (get_or text i 0) ≡ Some next) = grind (arith, nat_tests) in
-    record { inside = step.0; within = step.1; rest = count_step (text_len (Some place)) text i _ c.loop-i-test.true (ap (λ o. one_more (text_len o (drop (i + 1) text))) step.2) ∙ c.loop-i.invariant.rest }
+    let step : (0 < next.depth) × (next.depth ≤ 1 + (i + 1)) × (after_byte state (get_or text i 0) ≡ Some next) = grind (arith, nat_tests) in
+    record { inside = step.0; within = step.1; rest = count_step (text_len (Some state)) text i _ c.loop-i-test.true (ap (λ o. one_more (text_len o (drop (i + 1) text))) step.2) ∙ c.loop-i.invariant.rest }

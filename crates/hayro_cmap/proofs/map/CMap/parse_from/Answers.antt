@@ -22,7 +22,8 @@ returns-in-Err-Refused-clause-refuses g c =
 pub returns-in-Err-Refused-clause-over : goal.returns-in-Err-Refused-clause-over
 returns-in-Err-Refused-clause-over g c over =
     let is = c.in-Err-Refused.field-0-is in
-    rw (is, over) at c.in-Err-Refused.ensures.fails
+    let (names, same, passes) = rw (is, over) at c.in-Err-Refused.ensures.blames in
+    record { first = (names, passes); all = rw (is, over) at c.in-Err-Refused.ensures.fails }
 
 pub returns-in-Err-Refused-clause-blames : goal.returns-in-Err-Refused-clause-blames
 returns-in-Err-Refused-clause-blames g c =

@@ -1,0 +1,23 @@
+use Rattle.std.proofs.Common.{◌≡◌, ◌+◌, [], ◌∷◌, ◌++◌, drop, arith, length-append}
+use Rattle.std.specs.Char.Utf16.{utf16_chars, lone_unit_char}
+use Rattle.std.proofs.lemmas.Grind.{common_steps}
+use Rattle.cmap_tokens.specs.Texts.{all_some, characters}
+use Rattle.cmap_tokens.proofs.TextsOfUnits.{lone_at, pair_at}
+use Rattle.cmap_tokens.proofs.utf16.char_at.Goals as goal
+use Rattle.cmap_tokens.proofs.utf16.char_at.Goals.{After-from_u32}
+
+alone : (c : After-from_u32) → let us = c.args.front.now ++ c.args.last ∷ [] in characters (drop c.args.index us) ≡ all_some (lone_unit_char c.unit_at-first.result ∷ utf16_chars (drop (c.args.index + 1) us))
+alone c =
+    let us = c.args.front.now ++ c.args.last ∷ [] in
+    lone_at us c.args.index _ _ (omega (arith, c.requires, length-append c.args.front.now (c.args.last ∷ []))) c.unit_at-first.ensures c.unit_at.ensures c.in_default.ensures.value
+
+pub returns-in-Some-clause-value : goal.returns-in-Some-clause-value
+returns-in-Some-clause-value c =
+    let us = c.args.front.now ++ c.args.last ∷ [] in
+    pair_at us c.args.index _ _ _ (omega (arith, c.requires, length-append c.args.front.now (c.args.last ∷ []))) c.unit_at-first.ensures c.unit_at.ensures c.in-Some.ensures.value
+
+pub returns-in_err-from_u32-clause-value : goal.returns-in_err-from_u32-clause-value
+returns-in_err-from_u32-clause-value c = let lone = alone (goal.at.returns-in_err-from_u32-clause-value c).After-from_u32 in grind (arith, common_steps)
+
+pub returns-clause-value : goal.returns-clause-value
+returns-clause-value c = let lone = alone (goal.at.returns-clause-value c).After-from_u32 in grind (arith, common_steps)
