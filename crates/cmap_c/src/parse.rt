@@ -20,8 +20,8 @@ use hayro_cmap::{BundleFiles, CMap, Cause, Fault, NamedFiles};
 use std::alloc::Global;
 
 /// The map of the file `data`, over files by their names: the first of `files` with the name, else
-/// that of the bundle. An empty `bundle` is no bundle, and a `budget` of 2^64 - 1 is none. A map that
-/// the handle has is freed.
+/// that of the bundle. Without bytes there is no bundle, and a `budget` of 2^64 - 1 is no budget. A map
+/// that the handle has is freed.
 #[unsafe(no_mangle)]
 pub extern "C" fn hayro_cmap_parse<'a>(
     map: &mut MapHandle,

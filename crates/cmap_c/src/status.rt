@@ -10,7 +10,7 @@ pub(crate) enum Status {
     Done,
     /// The file, or one that it uses, is outside the grammar or missing.
     Refused,
-    /// A growth was refused.
+    /// Out of memory: an allocation failed.
     NoMemory,
     /// The files that are opened have more bytes than the budget.
     OverBudget,

@@ -1,4 +1,4 @@
-//! What words ask of a map.
+//! What queries ask of a map.
 
 ghost use Rattle.std.specs.Prelude.{OnOk, string_bytes};
 ghost use Rattle.cmap_escape.specs.Escapes.{AddsLine, AddsOfLine};
