@@ -51,8 +51,8 @@ pub extern "C" fn hayro_cmap_parse<'a>(
     }
 }
 
-/// The map of the file `data`, as `hayro_cmap_parse` gives it, over a bundle that is read already. An
-/// empty handle is no bundle.
+/// The map of the file `data`, as `hayro_cmap_parse` gives it, over a bundle that is open already, or
+/// over none where its handle is empty.
 #[unsafe(no_mangle)]
 pub extern "C" fn hayro_cmap_parse_over(
     map: &mut MapHandle,

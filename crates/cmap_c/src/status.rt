@@ -14,7 +14,7 @@ pub(crate) enum Status {
     NoMemory,
     /// The files that are opened have more bytes than the budget.
     OverBudget,
-    /// The bytes of the bundle are none.
+    /// The bundle is invalid.
     NotABundle,
     /// There is no answer.
     Absent,

@@ -13,7 +13,8 @@ use std::io::{self, ErrorKind};
 /// error.
 #[derive(Clone, Copy, Debug, PartialEq, Eq)]
 pub enum Failure {
-    /// The input is no CMap file, or uses one that isn't known, or has no such bundle in front.
+    /// The input isn't a CMap file, or uses one that is missing, or doesn't begin with a bundle of the
+    /// given length.
     Refused = 1,
     /// The arguments are wrong.
     Usage = 2,

@@ -1,4 +1,4 @@
-//! The order in which the files are asked for that others use.
+//! The order in which used files are asked for.
 
 use hayro_cmap::{CMap, CMapName};
 use std::cell::Cell;
