@@ -32,7 +32,7 @@ static void open_bundle(hayro_cmap_bundle *bundle, const char *path) {
     uint8_t *bytes = read_all(path, &len);
     hayro_cmap_status status = hayro_cmap_bundle_open(bundle, bytes, len);
     free(bytes);
-    if (status != HAYRO_CMAP_OK) fail(status == HAYRO_CMAP_NO_MEMORY ? "no memory" : "no bundle");
+    if (status != HAYRO_CMAP_OK) fail(status == HAYRO_CMAP_NO_MEMORY ? "no memory" : "invalid bundle");
 }
 
 /* Prints the CID that a word asks for, by a map that is read for it. */

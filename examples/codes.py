@@ -44,7 +44,7 @@ def library(path):
 class CMap:
     """The map of a file over `files`, a dict of bytes by their names in bytes; freed at the end of `with`.
 
-    ValueError where the file is refused. No null pointer is passed: that of b"" is none.
+    ValueError where the file is refused. No null pointer is passed: that of b"" isn't null.
     """
 
     def __init__(self, library, data, files={}, bundle=b"", budget=NO_BUDGET):

@@ -8,24 +8,29 @@
  *         printf("%u\n", cid);
  *     hayro_cmap_free(&map);
  *
- * Every call returns on any bytes, and what it answers is proved. What a caller owes is checked by
- * nothing:
+ * Every call returns on any bytes, and what it answers is proved. Nothing checks that the caller keeps
+ * these rules:
  *
- * - A handle, of a map or of a bundle, begins as HAYRO_CMAP_EMPTY. Only the calls below change it,
- *   and it isn't copied by assignment, which would free what it has twice.
- * - A handle is used by one call at a time: to look up in a map, or to read a file over a bundle,
- *   counts as a write to the handle, not to the map or the bundle. Any number of threads use one at
- *   once, each by a handle of its own, which hayro_cmap_share and hayro_cmap_bundle_share make. A
- *   handle may go to another thread, where a lock, or a start or a join of a thread, orders the calls.
- * - A pointer isn't null, not even where its length is 0, also those in a hayro_cmap_file. Where it
- *   may be, hayro_cmap_bytes, hayro_cmap_files and hayro_cmap_room give one in its place. `cid`,
- *   `supplement` and `needed` point to a value, which may be any.
+ * - A handle, of a map or of a bundle, begins as HAYRO_CMAP_EMPTY. Only the calls below change it.
+ *   It isn't copied: two copies would free one map twice. It may be moved to another place in memory,
+ *   between calls, if the old place is never used again, or is set to HAYRO_CMAP_EMPTY.
+ * - A handle is used by one call at a time: a lookup in a map, or reading a file over a bundle, counts
+ *   as a write to the handle, though not to the map or the bundle. Any number of threads may use one
+ *   map or bundle at once, each by a handle of its own, which hayro_cmap_share and
+ *   hayro_cmap_bundle_share make. A handle may go to another thread, where a lock, or the start or the
+ *   join of a thread, orders the calls.
+ * - No pointer is null, not even where its length is 0; nor are those in a hayro_cmap_file. Where one
+ *   may be null, hayro_cmap_bytes, hayro_cmap_files and hayro_cmap_room give one to use in its place.
+ *   Each points to as many bytes or files as its length says.
+ * - A room, and what `cid`, `supplement` and `needed` point to, may hold anything, as an uninitialised
+ *   variable or a fresh block of malloc does: no answer depends on it. What a call doesn't write there
+ *   stays as it is.
  * - What one parameter of a call points to doesn't overlap what another one points to, if the call
- *   writes to one of them. The bytes of a file, of a bundle and of names are read during the call
- *   only, and nobody writes to them meanwhile.
+ *   writes to one of them. The bytes of a file, of a bundle and of names are read only during the
+ *   call, and nobody writes to them meanwhile. They needn't stay after it.
  * - Each handle with a map or a bundle is freed once, or memory is lost. To free an empty handle does
  *   nothing.
- * - malloc, realloc and free come from one allocator, which aligns blocks as C asks.
+ * - malloc, realloc and free come from one allocator, which aligns blocks as C requires.
  * - No call from a signal handler, nor from the forked child of a process with threads. */
 #ifndef HAYRO_CMAP_H
 #define HAYRO_CMAP_H
@@ -69,9 +74,9 @@ typedef struct hayro_cmap_file {
 typedef enum hayro_cmap_status {
     HAYRO_CMAP_OK = 0,           /* there is an answer, and it is written */
     HAYRO_CMAP_REFUSED = 1,      /* the file, or one that it uses, is outside the grammar or missing */
-    HAYRO_CMAP_NO_MEMORY = 2,    /* a request for memory was refused */
+    HAYRO_CMAP_NO_MEMORY = 2,    /* out of memory: an allocation failed */
     HAYRO_CMAP_OVER_BUDGET = 3,  /* the files that are opened have more bytes than the budget */
-    HAYRO_CMAP_NOT_A_BUNDLE = 4, /* the bytes of the bundle are none */
+    HAYRO_CMAP_NOT_A_BUNDLE = 4, /* the bundle is invalid */
     HAYRO_CMAP_ABSENT = 5,       /* there is no answer */
     HAYRO_CMAP_NO_ROOM = 6       /* there is an answer, and it is longer than its room */
 } hayro_cmap_status;
@@ -83,8 +88,7 @@ typedef enum hayro_cmap_mode {
     HAYRO_CMAP_NO_MODE = 2 /* the file gives none, or there is no map */
 } hayro_cmap_mode;
 
-/* Pointers for calls that take none that is null: the one that is handed in, or where that is null,
- * one that serves with the length 0. */
+/* Pointers that aren't null: the argument, or where that is null, one to use with the length 0. */
 static inline const uint8_t *hayro_cmap_bytes(const void *bytes) {
     return bytes ? (const uint8_t *)bytes : (const uint8_t *)"";
 }
@@ -99,14 +103,15 @@ static inline uint8_t *hayro_cmap_room(void *room) {
     return room ? (uint8_t *)room : &none;
 }
 
-/* The budget that is none. */
+/* No budget. */
 #define HAYRO_CMAP_NO_BUDGET UINT64_MAX
 
 /* Reads the CMap file `data`, a text or, with a bundle, also one in binary form.
  *
  * A file that it uses is the first of `files` with the name, else that of the bundle. It is refused
- * where it or a file that it uses is outside the grammar, a use has no file, or more than 16 files
- * stand in a chain. A bundle of length 0 is no bundle. The files that are opened may have no more
+ * where it or a file that it uses is outside the grammar, where a use has no file, and where the
+ * sixteenth file of a chain uses another one, which would be the seventeenth. A length of 0 means that
+ * there is no bundle. The files that are opened may have no more
  * bytes than `budget` together; the bytes of the bundle don't count.
  *
  * A map that the handle has is freed. With HAYRO_CMAP_OK the handle has the map, else it is empty.
@@ -116,14 +121,14 @@ hayro_cmap_status hayro_cmap_parse(hayro_cmap *map, const uint8_t *data, size_t 
                                    const hayro_cmap_file *files, size_t files_len,
                                    uint64_t budget);
 
-/* Reads the CMap file `data` as hayro_cmap_parse does, over a bundle that is read already; an empty
- * handle is no bundle. The status is one of the first four. */
+/* Reads the CMap file `data` as hayro_cmap_parse does, over a bundle that is open already; an empty
+ * handle means that there is none. The status is one of the first four. */
 hayro_cmap_status hayro_cmap_parse_over(hayro_cmap *map, const uint8_t *data, size_t data_len,
                                         hayro_cmap_bundle *bundle,
                                         const hayro_cmap_file *files, size_t files_len,
                                         uint64_t budget);
 
-/* Reads a bundle, and copies its files, so that its bytes needn't stay. A bundle that the handle has
+/* Opens a bundle, and copies its files, so that its bytes needn't stay. A bundle that the handle has
  * is freed. HAYRO_CMAP_OK; or HAYRO_CMAP_NO_MEMORY or HAYRO_CMAP_NOT_A_BUNDLE, and an empty handle. */
 hayro_cmap_status hayro_cmap_bundle_open(hayro_cmap_bundle *bundle, const uint8_t *bytes,
                                          size_t bytes_len);

@@ -9,7 +9,7 @@ import struct
 from collections import Counter, namedtuple
 from itertools import count, groupby
 
-# in the order of their texts, which gives each its place
+# in the order of their texts, which gives each its index
 KNOWN_NAMES = """
 83pv-RKSJ-H 90ms-RKSJ-H 90ms-RKSJ-V 90msp-RKSJ-H 90msp-RKSJ-V 90pv-RKSJ-H Add-RKSJ-H Add-RKSJ-V
 Adobe-CNS1-UCS2 Adobe-GB1-UCS2 Adobe-Japan1-UCS2 Adobe-Korea1-UCS2 B5pc-H B5pc-V CNS-EUC-H

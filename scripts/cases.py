@@ -223,7 +223,7 @@ def is_like(expected, found):
 
 
 def harmful(output):
-    """The characters of an output that a terminal would obey, or that hide what stands there."""
+    """The characters of an output that would control a terminal, or that hide what stands there."""
     text = set(output.decode(errors="backslashreplace")) - {"\n"}
     return sorted(it for it in text if unicodedata.category(it) in ("Cc", "Cf", "Zl", "Zp", "Co"))
 

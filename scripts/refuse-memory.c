@@ -20,7 +20,7 @@ enum { INTERRUPTED = 4, FAILED = 5, NO_MEMORY = 12 };
 /* standard input, output and error, and the descriptor behind them, which reports go to */
 enum { DESCRIPTORS = 3, REPORTS = 3 };
 
-/* What is done to the calls on one of the three descriptors, counted from 1 on; 0 is none. */
+/* What is done to the calls on one of the three descriptors, counted from 1 on; 0 means none. */
 struct faults {
     long count;
     long failed;

@@ -8,20 +8,20 @@ use std::alloc::{AllocError, Global};
 struct Subcommand {
     name: &'static str,
     about: &'static str,
-    /// Whether one file stands before the words.
+    /// Whether one file stands before the other arguments.
     has_file: bool,
-    /// What the words are found by. There is one at least.
+    /// What the other arguments are found by. There is one at least.
     id: &'static str,
-    /// What the help calls a word.
+    /// What the help calls such an argument.
     value_name: &'static str,
-    /// What the help says of the words.
+    /// What the help says of them.
     help: &'static str,
 }
 
 const SUBCOMMANDS: &[Subcommand] = &[
     Subcommand {
         name: "info",
-        about: "Tells what files say: their names, codespace ranges, declarations and layers",
+        about: "Prints what files say: their names, codespace ranges, declarations and layers",
         has_file: false,
         id: "FILE",
         value_name: "FILE",
@@ -29,7 +29,7 @@ const SUBCOMMANDS: &[Subcommand] = &[
     },
     Subcommand {
         name: "check",
-        about: "Says of each file whether it is right, or where it is wrong and why",
+        about: "Prints for each file that it is ok, or where it is wrong and why",
         has_file: false,
         id: "FILE",
         value_name: "FILE|FOLDER",
@@ -37,18 +37,18 @@ const SUBCOMMANDS: &[Subcommand] = &[
     },
     Subcommand {
         name: "decode",
-        about: "Tells the codes of strings, with their CIDs and their texts",
+        about: "Prints the codes of strings, with their CIDs and their texts",
         has_file: true,
-        id: "WORD",
+        id: "ARGUMENT",
         value_name: "HEX",
-        help: "Strings, two hexadecimal digits a byte; - reads them from the standard input",
+        help: "Strings, two hexadecimal digits for each byte; - reads them from the standard input",
     },
     Subcommand {
         name: "lookup",
-        about: "Tells the CIDs and the texts of single codes",
+        about: "Prints the CIDs and the texts of single codes",
         has_file: true,
-        id: "WORD",
-        value_name: "WORD",
+        id: "ARGUMENT",
+        value_name: "CODE",
         help: "L:HEX for the CID of a code of L bytes, bf:HEX for the text of a code",
     },
 ];
@@ -64,7 +64,7 @@ pub(crate) fn command<'a>(alloc: Global) -> Result<Command<'a>, AllocError> {
 
 fn program<'a>(alloc: Global) -> Result<Command<'a>, AllocError> {
     Command::new(alloc, "cmap")
-        .about("Tells what is in CMap files, where they are wrong, and what strings say")
+        .about("Prints what is in CMap files, where they are wrong, and what strings say")
         .version("0.1.1")
         .subcommand_required(true)
         .arg_required_else_help(true)
@@ -80,10 +80,10 @@ impl Subcommand {
         if self.has_file {
             command = command.arg(file(alloc))?;
         }
-        command.arg(self.words(alloc))
+        command.arg(self.arguments(alloc))
     }
 
-    fn words<'a>(self, alloc: Global) -> Arg<'a> {
+    fn arguments<'a>(self, alloc: Global) -> Arg<'a> {
         Arg::new(alloc, self.id)
             .value_name(self.value_name)
             .help(self.help)
@@ -110,7 +110,7 @@ fn base<'a>(alloc: Global) -> Arg<'a> {
         .long("base")
         .value_name("FOLDER")
         .action(ArgAction::Append)
-        .help("A folder of the files that CMap files use, by their names, with its subfolders")
+        .help("A folder with the files that CMap files use by their names, also in its subfolders")
 }
 
 fn bundle<'a>(alloc: Global) -> Arg<'a> {
@@ -118,7 +118,7 @@ fn bundle<'a>(alloc: Global) -> Arg<'a> {
         .long("bundle")
         .value_name("FILE")
         .action(ArgAction::Set)
-        .help("A bundle: its tables for binary files, and its files for names that no folder has")
+        .help("A bundle: its tables are for binary files, its files for names that no folder has")
 }
 
 fn budget<'a>(alloc: Global) -> Arg<'a> {
@@ -127,12 +127,12 @@ fn budget<'a>(alloc: Global) -> Arg<'a> {
         .value_name("N")
         .value_parser(value_parser!(u64))
         .action(ArgAction::Set)
-        .help("How many bytes the files that one file opens, itself too, may have together")
+        .help("The most bytes that a file and the files that it uses may have together")
 }
 
 fn json<'a>(alloc: Global) -> Arg<'a> {
     Arg::new(alloc, "json")
         .long("json")
         .action(ArgAction::SetTrue)
-        .help("One object of JSON a line")
+        .help("One JSON object per line")
 }

@@ -14,7 +14,7 @@ pub(crate) fn decode(
     options: &Options<'_, '_>,
     bases: &Bases<'_>,
 ) -> anyhow::Result<u8> {
-    let strings = strings_of(rt, options.words)?;
+    let strings = strings_of(rt, options.arguments)?;
     match map_asked(rt, options, bases)? {
         Some(map) => decode_by(rt, &map, &strings, options, bases),
         None => Ok(REFUSED),
@@ -78,27 +78,31 @@ fn decode_all(
     Ok(ACCEPTED)
 }
 
-/// The strings that the words spell, and for `-` those of the standard input.
-fn strings_of(rt: &HostRuntime, words: &[&str]) -> anyhow::Result<Vec<Vec<u8>>> {
+/// The strings that the arguments spell, and for `-` those of the standard input.
+fn strings_of(rt: &HostRuntime, arguments: &[&str]) -> anyhow::Result<Vec<Vec<u8>>> {
     let mut strings = Vec::new(rt.alloc());
-    for word in words {
-        add_word(rt, word, &mut strings)?;
+    for argument in arguments {
+        add_argument(rt, argument, &mut strings)?;
     }
     Ok(strings)
 }
 
-/// Adds the string that a word spells, and for `-` those of the standard input.
-fn add_word(rt: &HostRuntime, word: &str, strings: &mut Vec<Vec<u8>>) -> anyhow::Result<()> {
-    if word == STANDARD_INPUT {
-        return add_strings(rt, &needed(rt, word)?, strings);
+/// Adds the string that an argument spells, and for `-` those of the standard input.
+fn add_argument(
+    rt: &HostRuntime,
+    argument: &str,
+    strings: &mut Vec<Vec<u8>>,
+) -> anyhow::Result<()> {
+    if argument == STANDARD_INPUT {
+        return add_strings(rt, &needed(rt, argument)?, strings);
     }
-    Ok(strings.push(string_of(rt, word)?)?)
+    Ok(strings.push(string_of(rt, argument)?)?)
 }
 
 /// Adds the strings of the standard input.
 fn add_strings(rt: &HostRuntime, input: &[u8], strings: &mut Vec<Vec<u8>>) -> anyhow::Result<()> {
     let Ok(text) = str::from_utf8(input) else {
-        return Err(fault(rt, STANDARD_INPUT, "no text"));
+        return Err(fault(rt, STANDARD_INPUT, "not UTF-8"));
     };
     for spelled in text.split_whitespace() {
         strings.push(string_of(rt, spelled)?)?;
@@ -106,10 +110,10 @@ fn add_strings(rt: &HostRuntime, input: &[u8], strings: &mut Vec<Vec<u8>>) -> an
     Ok(())
 }
 
-/// The bytes that hexadecimal digits spell, two a byte.
-fn string_of(rt: &HostRuntime, word: &str) -> anyhow::Result<Vec<u8>> {
-    match hex::decode(rt.alloc(), word.as_bytes()) {
+/// The bytes that hexadecimal digits spell, two for each.
+fn string_of(rt: &HostRuntime, digits: &str) -> anyhow::Result<Vec<u8>> {
+    match hex::decode(rt.alloc(), digits.as_bytes()) {
         Ok(string) => Ok(string),
-        Err(_) => Err(fault(rt, word, "no hexadecimal digits in pairs")),
+        Err(_) => Err(fault(rt, digits, "not hexadecimal digits in pairs")),
     }
 }

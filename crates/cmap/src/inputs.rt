@@ -48,13 +48,13 @@ pub(crate) fn unreadable(rt: &HostRuntime, path: &str) -> anyhow::Error {
     fault(rt, path, "can't be read")
 }
 
-/// Tells that a path can't be read, and gives the status.
+/// Reports that a path can't be read, and gives the status.
 pub(crate) fn report_unreadable(rt: &HostRuntime, path: &str) -> anyhow::Result<u8> {
     report(rt, &unreadable(rt, path))?;
     Ok(FAILED)
 }
 
-/// The map of the one file that is asked for; where it is refused, the standard error is told why.
+/// The map of the one file that is asked for. Why it is refused goes to the standard error.
 pub(crate) fn map_asked(
     rt: &HostRuntime,
     options: &Options<'_, '_>,
@@ -64,7 +64,7 @@ pub(crate) fn map_asked(
     map_of(rt, options.file, &bytes, options.budget, bases)
 }
 
-/// The map of a file of these bytes; where it is refused, the standard error is told why.
+/// The map of a file of these bytes. Why it is refused goes to the standard error.
 pub(crate) fn map_of(
     rt: &HostRuntime,
     path: &str,

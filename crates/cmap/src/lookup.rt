@@ -10,13 +10,13 @@ use cmap_report::lookup::{push_answer, push_json};
 use hayro_cmap::CMap;
 use std::alloc::{AllocError, Global};
 
-/// Prints the answer of each word, and gives the status.
+/// Prints the answer to each query, and gives the status.
 pub(crate) fn lookup(
     rt: &HostRuntime,
     options: &Options<'_, '_>,
     bases: &Bases<'_>,
 ) -> anyhow::Result<u8> {
-    let queries = queries_of(rt, options.words)?;
+    let queries = queries_of(rt, options.arguments)?;
     let Some(map) = map_asked(rt, options, bases)? else {
         return Ok(REFUSED);
     };
@@ -43,13 +43,13 @@ fn lines_of(
     Ok(lines)
 }
 
-/// The queries that the words spell.
-fn queries_of<'w>(rt: &HostRuntime, words: &[&'w str]) -> anyhow::Result<Vec<Query<'w>>> {
+/// The queries that the arguments spell.
+fn queries_of<'w>(rt: &HostRuntime, arguments: &[&'w str]) -> anyhow::Result<Vec<Query<'w>>> {
     let mut queries = Vec::new(rt.alloc());
-    for word in words {
-        match Query::parse(word) {
+    for argument in arguments {
+        match Query::parse(argument) {
             Some(query) => queries.push(query)?,
-            None => return Err(fault(rt, word, "neither L:HEX nor bf:HEX")),
+            None => return Err(fault(rt, argument, "neither L:HEX nor bf:HEX")),
         }
     }
     Ok(queries)

@@ -30,7 +30,7 @@ const ACCEPTED: u8 = 0;
 /// The status where a file is refused.
 const REFUSED: u8 = 1;
 
-/// The status where a word is wrong, or something can't be read or written.
+/// The status where an argument is wrong, or something can't be read or written.
 const FAILED: u8 = 2;
 
 fn main(rt: HostRuntime) -> ExitCode {
@@ -45,20 +45,20 @@ fn main(rt: HostRuntime) -> ExitCode {
 }
 
 fn run(rt: &HostRuntime) -> anyhow::Result<u8> {
-    let words: Vec<String> = env::args(rt)?.collect(rt.alloc())?;
+    let arguments: Vec<String> = env::args(rt)?.collect(rt.alloc())?;
     let command = command(rt.alloc())?;
-    match command.try_get_matches_from(words.as_slice()) {
+    match command.try_get_matches_from(arguments.as_slice()) {
         Ok(matches) => run_command(rt, &matches),
         Err(error) => print_usage(rt, &error),
     }
 }
 
-/// Does what the words ask for, and gives the status.
+/// Does what the arguments ask for, and gives the status.
 fn run_command(rt: &HostRuntime, matches: &ArgMatches<'_>) -> anyhow::Result<u8> {
-    let Some((name, words)) = matches.subcommand() else {
+    let Some((name, arguments)) = matches.subcommand() else {
         return Ok(FAILED);
     };
-    let options = Options::of(words);
+    let options = Options::of(arguments);
     if options.asks_twice_for_standard_input() {
         return Err(anyhow!("the standard input is asked for twice"));
     }
@@ -68,7 +68,7 @@ fn run_command(rt: &HostRuntime, matches: &ArgMatches<'_>) -> anyhow::Result<u8>
     let bytes = needed(rt, path)?;
     match Bundle::parse(rt.alloc(), &bytes)? {
         Some(bundle) => run_subcommand(rt, name, &options, Some(&bundle)),
-        None => Err(fault(rt, path, "no bundle")),
+        None => Err(fault(rt, path, "invalid bundle")),
     }
 }
 

@@ -1,31 +1,31 @@
-//! What the standard error is told. Words and paths are escaped, since nobody vetted them.
+//! Messages on the standard error. Arguments and paths are untrusted, so they are escaped.
 
 use clap::Error;
 use cmap_escape::escape::push_text;
 use std::alloc::{AllocError, Global};
 use std::io;
 
-/// The error of a word or a path, of which something is wrong.
-pub(crate) fn fault(rt: &HostRuntime, word: &str, wrong: &str) -> anyhow::Error {
-    match line_of(rt.alloc(), word, wrong) {
+/// The error of an argument or a path in which something is wrong.
+pub(crate) fn fault(rt: &HostRuntime, argument: &str, wrong: &str) -> anyhow::Error {
+    match line_of(rt.alloc(), argument, wrong) {
         Ok(line) => anyhow::Error::msg(line),
         Err(error) => anyhow::Error::from(error),
     }
 }
 
-fn line_of(alloc: Global, word: &str, wrong: &str) -> Result<String, AllocError> {
+fn line_of(alloc: Global, argument: &str, wrong: &str) -> Result<String, AllocError> {
     let mut line = String::new(alloc);
-    push_text(&mut line, word)?;
+    push_text(&mut line, argument)?;
     write!(line, ": {wrong}")?;
     Ok(line)
 }
 
-/// Tells an error.
+/// Prints an error.
 pub(crate) fn report(rt: &HostRuntime, error: &anyhow::Error) -> io::Result<()> {
     eprintln!(rt; "cmap: {error}")
 }
 
-/// Prints the help, the version, or what is wrong with the words and how they go, and gives the
+/// Prints the help, the version, or what is wrong with the arguments and the usage, and gives the
 /// status.
 pub(crate) fn print_usage(rt: &HostRuntime, error: &Error) -> anyhow::Result<u8> {
     let text = format!(in rt.alloc(); "{error}")?;

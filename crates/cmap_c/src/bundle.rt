@@ -57,7 +57,7 @@ impl BundleHandle {
         };
     }
 
-    /// Gives an empty handle the bundle that was made, or none where there was no memory for it.
+    /// Gives an empty handle the bundle that was made, or none where memory ran out.
     fn keep(&mut self, made: Result<Box<Shared<OwnedBundle>>, AllocError>) -> u32
         requires { self.old.slot.bundle ≡ None }
         ensures { MatchResult made

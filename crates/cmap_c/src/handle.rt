@@ -55,7 +55,7 @@ impl MapHandle {
         };
     }
 
-    /// Gives an empty handle the map that was made, or none where there was no memory for it.
+    /// Gives an empty handle the map that was made, or none where memory ran out.
     pub(crate) fn keep(&mut self, made: Result<Box<Shared<CMap>>, AllocError>) -> u32
         requires { self.old.slot.map ≡ None }
         ensures { MatchResult made

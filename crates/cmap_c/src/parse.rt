@@ -20,8 +20,8 @@ use hayro_cmap::{BundleFiles, CMap, Cause, Fault, NamedFiles};
 use std::alloc::Global;
 
 /// The map of the file `data`, over files by their names: the first of `files` with the name, else
-/// that of the bundle. An empty `bundle` is no bundle, and a `budget` of 2^64 - 1 is none. A map that
-/// the handle has is freed.
+/// that of the bundle. Without bytes there is no bundle, and a `budget` of 2^64 - 1 is no budget. A map
+/// that the handle has is freed.
 #[unsafe(no_mangle)]
 pub extern "C" fn hayro_cmap_parse<'a>(
     map: &mut MapHandle,
@@ -51,8 +51,8 @@ pub extern "C" fn hayro_cmap_parse<'a>(
     }
 }
 
-/// The map of the file `data`, as `hayro_cmap_parse` gives it, over a bundle that is read already. An
-/// empty handle is no bundle.
+/// The map of the file `data`, as `hayro_cmap_parse` gives it, over a bundle that is open already, or
+/// over none where its handle is empty.
 #[unsafe(no_mangle)]
 pub extern "C" fn hayro_cmap_parse_over(
     map: &mut MapHandle,

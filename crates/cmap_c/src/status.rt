@@ -10,11 +10,11 @@ pub(crate) enum Status {
     Done,
     /// The file, or one that it uses, is outside the grammar or missing.
     Refused,
-    /// A growth was refused.
+    /// Out of memory: an allocation failed.
     NoMemory,
     /// The files that are opened have more bytes than the budget.
     OverBudget,
-    /// The bytes of the bundle are none.
+    /// The bundle is invalid.
     NotABundle,
     /// There is no answer.
     Absent,

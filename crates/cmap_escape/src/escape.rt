@@ -17,7 +17,7 @@ pub fn push_name(out: &mut String, name: &[u8]) -> Result<(), AllocError>
     ensures shown { OnOk result (string_bytes out.new
         ≡ string_bytes out.old ++ name_shown name.now) }
 
-    // Also where there is no memory.
+    // Also where memory runs out.
     ensures printable { AddsPrintable (string_bytes out.old) (string_bytes out.new) }
 {
     for byte in name {
@@ -68,7 +68,7 @@ pub fn push_text(out: &mut String, text: &str) -> Result<(), AllocError>
     ensures shown { OnOk result (string_bytes out.new
         ≡ string_bytes out.old ++ text_shown text.now) }
 
-    // Also where there is no memory.
+    // Also where memory runs out.
     ensures harmless { AddsShown (string_bytes out.old) (string_bytes out.new) }
 {
     for character in text.chars() {
@@ -82,7 +82,7 @@ pub fn push_quoted(out: &mut String, text: &str) -> Result<(), AllocError>
     ensures shown { OnOk result (string_bytes out.new
         ≡ string_bytes out.old ++ quoted_shown text.now) }
 
-    // Also where there is no memory.
+    // Also where memory runs out.
     ensures harmless { AddsShown (string_bytes out.old) (string_bytes out.new) }
 {
     out.push('"')?;

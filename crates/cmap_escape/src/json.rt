@@ -18,7 +18,7 @@ pub fn push_value(alloc: Global, out: &mut String, value: &Value) -> Result<(), 
     ensures text { OnOk result (has_float (view value.now) ≡ false → string_bytes out.new
         ≡ string_bytes out.old ++ escaped (compact_text (view value.now))) }
 
-    // Also where there is no memory.
+    // Also where memory runs out.
     ensures printable { AddsPrintable (string_bytes out.old) (string_bytes out.new) }
 {
     let text = value.to_string(alloc)?;
@@ -31,7 +31,7 @@ pub fn push_line(alloc: Global, out: &mut String, value: &Value) -> Result<(), A
         ≡ string_bytes out.old ++ escaped (compact_text (view value.now)) ++ 0x0A ∷ []) }
     ensures line { OnOk result (AddsLine (string_bytes out.old) (string_bytes out.new)) }
 
-    // Also where there is no memory.
+    // Also where memory runs out.
     ensures printable { AddsOfLine (string_bytes out.old) (string_bytes out.new) }
 {
     push_value(alloc, out, value)?;

@@ -9,14 +9,16 @@ use std::alloc::{AllocError, AllocFailed};
 use std::fmt;
 use std::io::{self, ErrorKind};
 
-/// Why a run gives no answers. Its number is the exit status, and its text the line on the standard error.
+/// Why a run gives no answers. Its number is the exit status, and its text the line on the standard
+/// error.
 #[derive(Clone, Copy, Debug, PartialEq, Eq)]
 pub enum Failure {
-    /// The input is no CMap file, or uses one that isn't known, or has no such bundle in front.
+    /// The input isn't a CMap file, or uses one that is missing, or doesn't begin with a bundle of the
+    /// given length.
     Refused = 1,
     /// The arguments are wrong.
     Usage = 2,
-    /// A growth was refused.
+    /// Out of memory: an allocation failed.
     NoMemory = 3,
     /// The arguments or the input could not be read, or the answers not written.
     Unreadable = 4,

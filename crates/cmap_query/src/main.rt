@@ -3,8 +3,8 @@
 #![tactic(auto)]
 
 use cmap_queries::answers::run;
-use cmap_queries::output::report;
 use cmap_queries::arguments::arguments;
+use cmap_queries::output::report;
 use std::process::ExitCode;
 
 fn main(rt: HostRuntime) -> ExitCode {

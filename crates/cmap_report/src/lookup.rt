@@ -1,4 +1,4 @@
-//! What words ask of a map.
+//! What queries ask of a map.
 
 ghost use Rattle.std.specs.Prelude.{OnOk, string_bytes};
 ghost use Rattle.cmap_escape.specs.Escapes.{AddsLine, AddsOfLine};
@@ -17,7 +17,7 @@ enum Answer {
     Text(Option<String>),
 }
 
-/// Adds a line: the word of the query in thirteen columns, and its answer.
+/// Adds a line: the argument of the query in thirteen columns, and its answer.
 pub fn push_answer(
     alloc: Global,
     out: &mut String,
@@ -56,7 +56,7 @@ pub fn push_json(
 ) -> Result<(), AllocError>
     ensures line { OnOk result (AddsLine (string_bytes out.old) (string_bytes out.new)) }
 
-    // Also where there is no memory.
+    // Also where memory runs out.
     ensures printable { AddsOfLine (string_bytes out.old) (string_bytes out.new) }
 {
     let object = query_object(alloc, map, query)?;
@@ -89,7 +89,7 @@ fn answer_of(alloc: Global, map: &CMap, query: &Query<'_>) -> Result<Answer, All
     }
 }
 
-/// The word that spells a query.
+/// The argument that spells a query.
 fn word_of(alloc: Global, query: &Query<'_>) -> Result<String, AllocError> {
     match query.asked {
         Asked::Cid { byte_len } => format!(in alloc; "{byte_len}:{}", query.digits),

@@ -143,7 +143,7 @@ pub(crate) fn begin_named<'r>(
 ) -> Result<(), RowError> {
     let (name, text) = split_word(rest);
     if bytes_of(all, name).is_some() {
-        return Err(RowError::Wrong("a name that is there"));
+        return Err(RowError::Wrong("a name that exists"));
     }
     let spelled = Spelled::new(alloc, text)?;
     Ok(all.push(Named { name, spelled })?)

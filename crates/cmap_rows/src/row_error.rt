@@ -7,7 +7,7 @@ use std::io::{self, ErrorKind};
 /// Why rows can't be run. No row passes by one.
 #[derive(Clone, Copy)]
 pub enum RowError {
-    /// A growth was refused.
+    /// Out of memory: an allocation failed.
     NoMemory,
     /// A file could not be read, or a line not be written.
     Unreadable,

@@ -1,10 +1,10 @@
-//! Bytes that rows spell, a line after another.
+//! Bytes that rows spell, line by line.
 
 use crate::escapes::{hexadecimal, unescaped};
 use crate::row_error::RowError;
 use std::alloc::Global;
 
-/// Bytes, and whether they are a binary file, whose head tells its length.
+/// Bytes, and whether they are a binary file, whose head has its length.
 #[derive(Drop)]
 pub struct Spelled {
     pub bytes: Vec<u8>,

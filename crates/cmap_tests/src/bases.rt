@@ -1,4 +1,4 @@
-//! The order in which the files are asked for that others use.
+//! The order in which used files are asked for.
 
 use hayro_cmap::{CMap, CMapName};
 use std::cell::Cell;
@@ -6,7 +6,7 @@ use std::test::Fail;
 
 #[test]
 fn files_are_asked_for_in_the_order_of_the_uses(rt: HostRuntime) -> Result<(), Fail> {
-    // the names that were asked, a digit each
+    // The names that were asked, a digit each.
     let asked = Cell::new(0u32);
     let map = CMap::parse(
         rt.alloc(),

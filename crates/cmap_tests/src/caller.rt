@@ -1,4 +1,4 @@
-//! Callers of the library, as the README shows them.
+//! Callers of the library, one of which the README shows.
 
 use hayro_cmap::bcmap::Bundle;
 use hayro_cmap::{CMap, CMapName, Cid, Fault, NamedFiles, load_embedded};

@@ -1,5 +1,5 @@
-//! What rows of data can't show: the callers of the README with their tests, and tests of the order of
-//! calls, of names by their variants, of a call over a closure, and of many ranges.
+//! What rows of data can't show: the callers that the pages show, and tests of the order of calls, of
+//! names by their variants, of a call over a closure, and of many ranges.
 #![tactic(auto)]
 
 #[cfg(test)]
@@ -10,6 +10,8 @@ mod bits;
 mod caller;
 #[cfg(test)]
 mod cid_ranges;
+#[cfg(test)]
+mod examples;
 #[cfg(test)]
 mod names;
 #[cfg(test)]

@@ -21,7 +21,7 @@ pub enum Outcome {
     Refused,
     /// The files have more bytes than the budget.
     OverBudget,
-    /// What stands for a bundle is none.
+    /// The bundle is invalid.
     NoBundle,
 }
 
@@ -42,7 +42,7 @@ impl Outcome {
 pub struct Around<'r> {
     /// Files by their names. Where there are any, those of the bundle have none.
     bases: Vec<NamedBytes<'r>>,
-    /// The bundle; `None` also where what stands for one is none.
+    /// The bundle; `None` also where it is invalid.
     bundle: Option<Bundle<'r>>,
     is_no_bundle: bool,
     /// How many bytes the files may have together.
@@ -167,12 +167,12 @@ impl<'r> Around<'r> {
             .ok_or(RowError::Wrong("least budget N"))?;
         let least = number(digits)?;
         write!(line, " budget {least}")?;
-        line.push_str(self.told_of_least(alloc, file, least)?)?;
+        line.push_str(self.fault_of_least(alloc, file, least)?)?;
         Ok(())
     }
 
     /// What is wrong with the least budget that a line has.
-    fn told_of_least(
+    fn fault_of_least(
         &self,
         alloc: Global,
         file: &[u8],
@@ -235,7 +235,7 @@ impl<'s> Source for CountedFiles<'s> {
     }
 }
 
-/// What a result means; where memory ran out it is an error.
+/// What a result means. Out of memory is an error.
 fn outcome_of(map: Result<Option<CMap>, ParseError>) -> Result<Outcome, AllocError> {
     match map {
         Ok(Some(map)) => Ok(Outcome::Map(map)),

@@ -82,8 +82,7 @@ fn run_rows<'r>(alloc: Global, rows: &mut Rows<'r>, text: &'r str) -> Result<u32
     rows.end()
 }
 
-/// What comes of a row, instead of what is expected. Where there is no memory, it is asked once
-/// again.
+/// What comes of a row, instead of what is expected. Where memory runs out, it is asked once again.
 fn answer_again(
     alloc: Global,
     row: Option<&Row<'_>>,

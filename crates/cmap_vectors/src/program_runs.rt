@@ -5,10 +5,10 @@ use cmap_rows::escapes::unescaped;
 use cmap_rows::row_error::RowError;
 use std::alloc::{AllocError, Global};
 
-/// Adds how a run on these words and this input ends, and the lines that it writes.
+/// Adds how a run on these arguments and this input ends, and the lines that it writes.
 pub fn push_answer(
     alloc: Global,
-    words: &str,
+    arguments: &str,
     input: &[u8],
     word: &str,
     line: &mut String,
@@ -16,11 +16,11 @@ pub fn push_answer(
     if word != "ends" {
         return Err(RowError::Wrong("an unknown word"));
     }
-    let words = words_of(alloc, words)?;
+    let arguments = arguments_of(alloc, arguments)?;
     let mut rest = input;
     let mut out = Vec::new(alloc);
     let mut err = Vec::new(alloc);
-    let status = run(alloc, &words, &mut rest, &mut out, &mut err);
+    let status = run(alloc, &arguments, &mut rest, &mut out, &mut err);
     write!(line, " {status}")?;
     push_lines(out, line)?;
     push_lines(err, line)?;
@@ -30,23 +30,23 @@ pub fn push_answer(
     Ok(())
 }
 
-/// The words of a line, of which `""` is the empty one.
-fn words_of(alloc: Global, line: &str) -> Result<Vec<String>, RowError> {
-    let mut words = Vec::new(alloc);
+/// The arguments of a line, of which `""` is the empty one.
+fn arguments_of(alloc: Global, line: &str) -> Result<Vec<String>, RowError> {
+    let mut arguments = Vec::new(alloc);
     for word in line.split_whitespace() {
         let bytes = unescaped(alloc, if word == "\"\"" { "" } else { word })?;
-        words.push(text_of(bytes)?)?;
+        arguments.push(text_of(bytes)?)?;
     }
-    Ok(words)
+    Ok(arguments)
 }
 
 fn text_of(bytes: Vec<u8>) -> Result<String, RowError> {
     String::from_utf8(bytes)
         .ok()
-        .ok_or(RowError::Wrong("bytes that are no text"))
+        .ok_or(RowError::Wrong("not UTF-8"))
 }
 
-/// Adds lines, parted by ` / `. A last one without an end is told.
+/// Adds lines, parted by ` / `, and `cut` where the last one has no end.
 fn push_lines(bytes: Vec<u8>, line: &mut String) -> Result<(), RowError> {
     let text = text_of(bytes)?;
     for (i, part) in text.lines().enumerate() {

@@ -7,7 +7,7 @@ use cmap_binary::bits::Reader;
 use cmap_binary::prefix::PrefixTable;
 use std::alloc::{AllocError, Global};
 
-/// The table at the head of these bytes, and how many of them are read; none where there is no memory.
+/// The table at the head of these bytes, and how many of them are read; none where memory runs out.
 fn table_of(
     alloc: Global,
     symbols: Symbols,

@@ -3,7 +3,7 @@
 use cmap_tokens::utf16::BfString;
 use std::alloc::AllocError;
 
-/// Adds the characters of a text; a string of fewer than two is none that there can be.
+/// Adds the characters of a text. A string of fewer than two characters is a mismatch.
 pub fn push_text(text: Option<&BfString>, line: &mut String) -> Result<(), AllocError> {
     match text {
         Some(BfString::Char(character)) => push_character(*character, line),

@@ -113,7 +113,7 @@ fn push_piece(bytes: &[u8], line: &mut String) -> Result<(), AllocError> {
     push_escaped(bytes, line)
 }
 
-/// The value of a string, in a vector that held other bytes, which stay where there is no memory.
+/// The value of a string, in a vector that held other bytes, which stay where memory runs out.
 fn value_of(alloc: Global, string: StringToken<'_>) -> Result<Vec<u8>, RowError> {
     let before = b"replaced".as_slice();
     let mut value = Vec::from_slice(alloc, before)?;

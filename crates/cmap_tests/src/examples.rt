@@ -1,0 +1,51 @@
+//! Callers that the crates' pages show.
+
+use hayro_cmap::bcmap::Bundle;
+use hayro_cmap::runs::{Looks, Table};
+use hayro_cmap::token::{Scanner, Token};
+use hayro_cmap::{CMap, CMapName, CharacterCollection, Cid, CidRange, load_embedded};
+use std::alloc::{AllocError, Global};
+
+/// Whether a text begins with a name after a slash.
+pub fn begins_with_literal_name(text: &[u8]) -> bool {
+    match Scanner::new(text).next_token() {
+        Ok(Some(Token::Name(name))) => name.is_literal(),
+        _ => false,
+    }
+}
+
+/// The first CID of the last declaration that contains a code.
+pub fn first_cid(
+    alloc: Global,
+    declarations: Vec<CidRange>,
+    code: u32,
+) -> Result<Option<Cid>, AllocError> {
+    let table = Table::build(alloc, declarations)?;
+    let mut looks = Looks::new();
+    match table.find(code, &mut looks) {
+        Some(declaration) => Ok(Some(declaration.cid)),
+        None => Ok(None),
+    }
+}
+
+/// The name of the CMap from Unicode to the CIDs of a collection.
+pub fn name_of_unicode_cmap(collection: &CharacterCollection) -> Option<&'static [u8]> {
+    let name = collection.family.unicode_cmap()?;
+    Some(name.to_bytes())
+}
+
+/// Whether these bytes are a bundle with a file for UniJIS-UTF16-H.
+pub fn has_unijis(alloc: Global, bytes: &[u8]) -> Result<bool, AllocError> {
+    let Some(bundle) = Bundle::parse(alloc, bytes)? else {
+        return Ok(false);
+    };
+    Ok(load_embedded(Some(&bundle), CMapName::UniJisUtf16H).is_some())
+}
+
+/// How many declarations of texts the top file of a map has.
+pub fn count_of_texts(map: &CMap) -> usize {
+    match map.layers() {
+        [top, ..] => top.counts().bfs,
+        [] => 0,
+    }
+}
