@@ -28,21 +28,21 @@ module _ {counts symbols : List ℕ} (table : IsTable counts symbols) where
   pub IsSound-table : IsSound (words_of counts symbols)
   IsSound-table = rw lens_are table.sound
 
-  IsWord-begins : (stream : List ℕ) (i : ℕ) (entry : CodeWord) (word rest : List ℕ) → IsWord (words_of counts symbols) i entry word → stream ≡ word ++ rest → Begins start counts stream i entry.len
+  IsWord-begins : (stream : List ℕ) (i : ℕ) (entry : CodeWord) (word rest : List ℕ) → IsWord (words_of counts symbols) i entry word → stream ≡ word ++ rest → Begins start counts stream i entry.len entry.len
   IsWord-begins stream i entry word rest is cut =
       let within : i < length (lengths_from 1 counts) = omega (arith, slice_get_within (words_of counts symbols) i entry is.entry_is, ap length lens_are, length-map (words_of counts symbols) (λ (w : CodeWord). w.len)) in
       let front : take entry.len stream ≡ word = ap (take entry.len) cut ∙ take_at word rest entry.len is.length_is in
-      let len : 0 + entry.len ≡ entry.len = omega arith in
       record {
+        longer = omega arith;
         within = within;
-        length_is = ap (λ (w : CodeWord). w.len) (same_Some _ _ (sym (slice_get-zip_words (lengths_from 1 counts) symbols i table.a_symbol_each within) ∙ is.entry_is)) ∙ sym len;
+        length_is = ap (λ (w : CodeWord). w.len) (same_Some _ _ (sym (slice_get-zip_words (lengths_from 1 counts) symbols i table.a_symbol_each within) ∙ is.entry_is));
         enough = omega (arith, ap length cut, length-append word rest, is.length_is);
-        number_is = rw (front, len, ← lens_are) is.number_is;
+        number_is = rw (front, ← lens_are) is.number_is;
       }
 
   -- a word that begins the bits is found
   begun : (stream : List ℕ) (i : ℕ) → AreBits stream → BeginsAt (words_of counts symbols) stream i → (len : ℕ) × (first_word counts stream ≡ Some (record { rank = 0 + i; len = len }))
-  begun stream i bits (word, rest, (entry, is), cut) = (0 + entry.len, begun_is_found counts stream start i entry.len bits (IsWord-begins stream i entry word rest is cut))
+  begun stream i bits (word, rest, (entry, is), cut) = (entry.len, begun_is_found counts stream start i entry.len entry.len bits (IsWord-begins stream i entry word rest is cut))
 
   pub BeginsAt-only : (stream : List ℕ) → AreBits stream → (i j : ℕ) → BeginsAt (words_of counts symbols) stream i → BeginsAt (words_of counts symbols) stream j → i ≡ j
   BeginsAt-only stream bits i j p q = omega (arith, ap (λ (w : Ranked). w.rank) (same_Some _ _ (sym (begun stream i bits p).1 ∙ (begun stream j bits q).1)))
@@ -57,19 +57,17 @@ module _ {counts symbols : List ℕ} (table : IsTable counts symbols) where
   pub first_decodes : (stream : List ℕ) (symbol len : ℕ) → AreBits stream → IsFirst counts symbols stream symbol len → Decodes (words_of counts symbols) stream symbol len (drop len stream) × (len ≤ length stream)
   first_decodes stream symbol len bits (rank, is, symbol_is) =
       let (k, more, found, b) = found_begins counts stream start _ is in
-      let at : k ≡ rank = omega (arith, ap (λ (w : Ranked). w.rank) found) in
-      let size : more ≡ len = omega (arith, ap (λ (w : Ranked). w.len) found) in
-      let whole : 0 + len ≡ len = omega arith in
-      let word = rw (at, size) at b in
-      let entry : get_or (lengths_from 1 counts) rank 0 ≡ len = word.length_is ∙ whole in (
+      let at : k ≡ rank = omega (arith, found) in
+      let size : more ≡ len = omega (arith, b.longer) in
+      let word = rw (at, size) at b in (
         record {
           index = rank;
           word = take len stream;
           word_is = record {
-            entry_is = rw (entry, ← symbol_is) at (slice_get-zip_words (lengths_from 1 counts) symbols rank table.a_symbol_each word.within);
+            entry_is = rw (word.length_is, ← symbol_is) at (slice_get-zip_words (lengths_from 1 counts) symbols rank table.a_symbol_each word.within);
             are_bits = All-take (λ d. d < 2) len stream bits;
             length_is = length-take-le len stream word.enough;
-            number_is = rw (whole, ← lens_are) at word.number_is;
+            number_is = rw (← lens_are) at word.number_is;
           };
           bits_are = sym (take-append-drop len stream);
         },

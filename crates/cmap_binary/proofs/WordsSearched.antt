@@ -46,9 +46,9 @@ module _ {counts s : List ℕ} {p : Progress} (h : IsSearched counts s p) where
   none_longer : {symbols : List ℕ} → IsTable counts symbols → 32 ≤ p.len → (o : Option Ranked) → first_word counts s ≡ o → o ≡ None
   none_longer table end None is = refl
   none_longer table end (Some found) is =
-      let (k, more, same, word) = found_begins counts s start found is in
-      let (j, further, here, after) = found_begins (drop p.len counts) (drop p.len s) p found (sym from_here ∙ is) in
-      absurd (omega (arith, ap (λ (w : Ranked). w.len) same, ap (λ (w : Ranked). w.len) here, Begins-more p _ _ j further after, word.length_is, table.sound.lengths k 0 word.within))
+      let (k, more, rank, word) = found_begins counts s start found is in
+      let (j, further, later, after) = found_begins (drop p.len counts) (drop p.len s) p found (sym from_here ∙ is) in
+      absurd (omega (arith, Begins-more after, word.length_is, table.sound.lengths k 0 word.within))
 
   pub searched_all : {symbols : List ℕ} → IsTable counts symbols → 32 ≤ p.len → first_word counts s ≡ None
   searched_all table end = none_longer table end _ refl
@@ -65,8 +65,8 @@ module _ {counts s : List ℕ} {p : Progress} (h : IsSearched counts s p) where
 
     pub symbol_within : {symbols : List ℕ} → IsTable counts symbols → p.past * 2 + bit < count → p.rank + (p.past * 2 + bit) < length symbols
     symbol_within table below =
-        let (k, more, same, word) = found_begins counts (s ++ []) start _ (searched_hit below []) in
-        omega (arith, ap (λ (w : Ranked). w.rank) same, word.within, table.a_symbol_each)
+        let (k, more, rank, word) = found_begins counts (s ++ []) start _ (searched_hit below []) in
+        omega (arith, rank, word.within, table.a_symbol_each)
 
     pub searched_next : count < 2 ^ 32 → p.len < 32 → count ≤ p.past * 2 + bit → IsSearched counts s (with_bit p count bit)
     searched_next fits room above = record {

@@ -96,8 +96,8 @@ impl<'a> Reader<'a> {
         ensures moves { self.new ≡ (if is_some result then after_bytes self.old n else self.old) }
     {
         let n = usize::from(n);
-        let (_, number) = read_code(self.bytes[self.byte..].get(..n)?)?;
-        self.byte += n;
+        let (_, number) = read_code(self.left().get(..n)?)?;
+        self.skip_bytes(n);
         Some(number)
     }
 
@@ -107,12 +107,9 @@ impl<'a> Reader<'a> {
         ensures value { option_map (λ s. s.now) result ≡ front n (bytes_left self.old) }
         ensures moves { self.new ≡ (if is_some result then after_bytes self.old n else self.old) }
     {
-        let left = &self.bytes[self.byte..];
-        if n > left.len() {
-            return None;
-        }
-        self.byte += n;
-        Some(&left[..n])
+        let bytes = self.left().get(..n)?;
+        self.skip_bytes(n);
+        Some(bytes)
     }
 
     /// The bytes up to the first one for which `f` is true, which is not taken, or all that are
@@ -126,7 +123,7 @@ impl<'a> Reader<'a> {
             result.now ≡ before_first p (bytes_left self.old) }
         ensures moves { self.new ≡ after_bytes self.old (length result.now) }
     {
-        let left = &self.bytes[self.byte..];
+        let left = self.left();
         let mut count = 0;
         for byte in left {
             if f(*byte) {
@@ -134,7 +131,7 @@ impl<'a> Reader<'a> {
             }
             count += 1;
         }
-        self.byte += count;
+        self.skip_bytes(count);
         &left[..count]
     }
 

@@ -5,7 +5,7 @@ use Rattle.std.specs.Char.{encode_utf8}
 use Rattle.std.specs.String.{string_bytes}
 use Rattle.std.proofs.lemmas.List.{append-nil}
 use Rattle.std.proofs.lemmas.Str.{encodes-chars, IsUtf8-string_bytes}
-use Rattle.cmap_tokens.specs.Texts.{Text, one, more, text_of}
+use Rattle.cmap_tokens.specs.Texts.{Text, one, more, text_of_characters}
 use Rattle.cmap_tokens.specs.TextSeen.{text_seen}
 use Rattle.cmap_tokens.specs.declared.utf16.BfString.{BfString}
 use Rattle.cmap_tokens.specs.declared.utf16.BfString.TheVariants as bf
@@ -15,7 +15,7 @@ abbrev characters_of : Text → List ℕ
 characters_of (one c) = c ∷ []
 characters_of (more cs) = cs
 
-characters_of_text : (cs : List ℕ) → characters_of (text_of cs) ≡ cs
+characters_of_text : (cs : List ℕ) → characters_of (text_of_characters cs) ≡ cs
 characters_of_text [] = refl
 characters_of_text (c ∷ []) = refl
 characters_of_text (c ∷ d ∷ cs) = refl
@@ -25,11 +25,11 @@ encoded (bf.Char c) = refl
 encoded (bf.String s) = encodes-chars (string_bytes s) (IsUtf8-string_bytes s)
 
 -- what holds of the bytes of the text that is found holds of those of its characters
-pub holds_of_bytes : (Q : List ℕ → Type 0) (N : Type 0) (found : Option (List ℕ)) (text : BfString) → Some (text_seen text) ≡ option_map text_of found
+pub holds_of_bytes : (Q : List ℕ → Type 0) (N : Type 0) (found : Option (List ℕ)) (text : BfString) → Some (text_seen text) ≡ option_map text_of_characters found
     → Q (utf8_of text) → MatchOption found N (λ characters. Q (encode_utf8_all characters))
 holds_of_bytes Q N None text same q = absurd (cc)
 holds_of_bytes Q N (Some cs) text same q =
-    let same : text_seen text ≡ text_of cs = cc in
+    let same : text_seen text ≡ text_of_characters cs = cc in
     let of : encode_utf8_all cs ≡ utf8_of text = ap encode_utf8_all (sym (ap characters_of same ∙ characters_of_text cs)) ∙ encoded text in
     subst Q (sym of) q
 

@@ -3,7 +3,7 @@
 ghost use Rattle.std.specs.Prelude.{◌≡◌, ◌*◌, ◌<◌, ◌≤◌, length, map, option_and_then, option_map, is_some, IfOk, IfSome, IsSomeAnd, OnErr};
 ghost use Rattle.std.specs.Option.{option_copied};
 ghost use Rattle.cmap_runs.specs.SearchLooks.{LooksAtMost};
-ghost use Rattle.cmap_tokens.specs.Texts.{only_character, text_of};
+ghost use Rattle.cmap_tokens.specs.Texts.{only_character, text_of_characters};
 ghost use Rattle.cmap_tokens.specs.TextSeen.{text_seen};
 ghost use Rattle.cmap_files.specs.CodeLengths.{IsCodeLength, length_of};
 ghost use Rattle.cmap_files.specs.DeclarationsSeen.{bf_entry_seen, cid_entry_seen};
@@ -51,7 +51,7 @@ pub fn bf_of(
     looks: &mut Looks,
 ) -> Result<Option<BfString>, AllocError>
     ensures value { IfOk result (λ text. option_map text_seen text
-        ≡ option_map text_of (bf_of (layers_seen layers.now) code)) }
+        ≡ option_map text_of_characters (bf_of (layers_seen layers.now) code)) }
     ensures err { OnErr result (IsSomeAnd (bf_of (layers_seen layers.now) code)
         (λ characters. 1 < length characters)) }
     ensures looks { LooksAtMost looks.old looks.new (bf_looks (layers_seen layers.now))

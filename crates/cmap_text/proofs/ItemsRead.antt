@@ -4,7 +4,7 @@ use Rattle.std.proofs.lemmas.Bool.{cases_Bool, false≢true}
 use Rattle.std.proofs.lemmas.Option.{none-some, same_Some}
 use Rattle.std.specs.Prelude.{◌⊎◌, Contains, find, flat_map, Option, Some, None, Ok, option_map}
 use Rattle.cmap_tokens.specs.Tokens.{Token}
-use Rattle.cmap_tokens.specs.TokensLeft.{Placed, Left}
+use Rattle.cmap_tokens.specs.TokensLeft.{EndedToken, Left}
 use Rattle.cmap_text.specs.TextFiles.{Section, cids, mapped, notdef, range, keys, opener, use_word, Item, key, entries, use_of_base, other, IsOtherToken, IsItem, AreItems}
 use Rattle.cmap_text.specs.TokenParsers.{after, followed_by, ItemParser, reads, giving, wanted, takes_value, next_in, repeated, repeated_within, round, run_item}
 use Rattle.cmap_text.specs.TextReading.{adding, all_said, body_in, is_executable, is_literal, item_after, item_said, key_in, opened_by, Said, sections, with_key, with_lists, with_other, with_use}
@@ -112,7 +112,7 @@ ending ends left = record { passed = left.passed; tokens = left.tokens; ends = e
 next_there : (left : Left) (p : Option Token × Left) → next_in left ≡ Ok p → IsThere (IsNext left.ends) left p
 next_there left p is = at left.tokens left.ends is
   where
-    at : (tokens : List Placed) (ends : Bool) → next_in (ending ends (having tokens left)) ≡ Ok p → IsThere (IsNext ends) (ending ends (having tokens left)) p
+    at : (tokens : List EndedToken) (ends : Bool) → next_in (ending ends (having tokens left)) ≡ Ok p → IsThere (IsNext ends) (ending ends (having tokens left)) p
     at [] true e = subst (IsThere (IsNext true) (ending true (having [] left))) (same_Ok _ p e) ((refl, refl, refl), refl, omega arith)
     at [] false e = absurd (err-ok _ p e)
     at (q ∷ rest) ends e = subst (IsThere (IsNext ends) (ending ends (having (q ∷ rest) left))) (same_Ok _ p e) (refl, refl, omega arith)
@@ -120,7 +120,7 @@ next_there left p is = at left.tokens left.ends is
 next_found : (left : Left) (tokens : List Token) (value : Option Token) (rest : List Token) → words left ≡ tokens → IsNext left.ends tokens value rest → IsFound (next_in left) value rest left
 next_found left tokens value rest whole is = at left.tokens value whole is
   where
-    at : (placed : List Placed) (v : Option Token) → words (having placed left) ≡ tokens → IsNext left.ends tokens v rest → IsFound (next_in (having placed left)) v rest (having placed left)
+    at : (placed : List EndedToken) (v : Option Token) → words (having placed left) ≡ tokens → IsNext left.ends tokens v rest → IsFound (next_in (having placed left)) v rest (having placed left)
     at [] None e (none, end, ends) = rw ends (known refl (sym end))
     at (q ∷ others) None e (none, end, ends) = absurd (cc)
     at [] (Some t) e comes = absurd (cc)

@@ -6,7 +6,7 @@ use Rattle.cmap_tokens.specs.Tokens.{Token}
 use Rattle.cmap_tokens.proofs.Decided.{in_order}
 use Rattle.cmap_tokens.proofs.Decided as fronts
 use Rattle.cmap_tokens.proofs.Fronts.{has_tokens}
-use Rattle.cmap_tokens.specs.TokensLeft.{Placed, Left, AreInOrder, IsInOrder, Agree, AgreesTo, start_of, tokens_of}
+use Rattle.cmap_tokens.specs.TokensLeft.{EndedToken, Left, AreInOrder, EndInOrder, Agree, AgreesTo, start_of, tokens_of}
 use Rattle.cmap_files.specs.Only.{HoldsOfNone}
 use Rattle.cmap_text.specs.TextFiles.{IsTextFile}
 use Rattle.cmap_text.specs.TokenParsers.{Found, after, followed_by, head_in, next_in, or_refused, token_in, Parser, wanted, head, giving, chain, repeat, round, run, ItemParser, reads, takes_value, run_item}
@@ -18,9 +18,9 @@ use Rattle.cmap_text.proofs.TextRead.{no_file}
 module _ (k : ℕ) where
   -- ---- tokens that are left of two texts, which agree up to k; past it nothing has to agree
   abbrev Alike : Left → Left → Type 0
-  Alike left other = IsInOrder left × (left.passed ≤ k → AgreesTo k left other)
+  Alike left other = EndInOrder left × (left.passed ≤ k → AgreesTo k left other)
 
-  agree_after : (p : Placed) (r s : List Placed) (left other : Left) (tokens others : List Placed) → Agree k tokens left others other → Agree k tokens (after p r left) others (after p s other)
+  agree_after : (p : EndedToken) (r s : List EndedToken) (left other : Left) (tokens others : List EndedToken) → Agree k tokens left others other → Agree k tokens (after p r left) others (after p s other)
   agree_after p r s left other [] others agree = agree
   agree_after p r s left other (t ∷ tokens) others agree = λ within.
       let (rest, same, more) = agree within in
@@ -30,7 +30,7 @@ module _ (k : ℕ) where
   -- what is found in the one and in the other; of what is left after it only if that matters
   abbrev Agrees : {A : Type 0} → Bool → Left → Found A → Found A → Type 0
   Agrees matters left (Err e) other = (left.passed ≤ e) × (e ≤ k → other ≡ Err e)
-  Agrees true left (Ok p) other = (left.passed ≤ p.1.passed) × IsInOrder p.1 × (p.1.passed ≤ k → (next : Left) × (other ≡ Ok (p.0, next)) × AgreesTo k p.1 next)
+  Agrees true left (Ok p) other = (left.passed ≤ p.1.passed) × EndInOrder p.1 × (p.1.passed ≤ k → (next : Left) × (other ≡ Ok (p.0, next)) × AgreesTo k p.1 next)
   Agrees false left (Ok p) other = Unit {0}
 
   from_earlier : {A : Type 0} (matters : Bool) (left mid : Left) (found other any : Found A) → left.passed ≤ mid.passed → Agrees matters mid found other → (mid.passed ≤ k → any ≡ other) → Agrees matters left found any
@@ -61,7 +61,7 @@ module _ (k : ℕ) where
   token_local : IsLocal token_in
   token_local left other (order, agrees) = at left.tokens order (λ within. (agrees within).1)
     where
-      at : (tokens : List Placed) → AreInOrder left.passed tokens left.stop → (left.passed ≤ k → Agree k tokens left other.tokens other) → Agrees true left (token_in (having tokens left)) (token_in other)
+      at : (tokens : List EndedToken) → AreInOrder left.passed tokens left.stop → (left.passed ≤ k → Agree k tokens left other.tokens other) → Agrees true left (token_in (having tokens left)) (token_in other)
       at [] o a = (o, λ within. let (ends, none, also, same) = a (omega (arith, o, within)) within in rw (none, same) refl)
       at (p ∷ rest) o a = (o.0, o.1, λ within. let (others, begins, more) = a (omega (arith, o.0, within)) within in (after p others other, rw begins refl, (refl, agree_after p rest others left other rest others more)))
 
@@ -99,7 +99,7 @@ module _ (k : ℕ) where
   next_local : (left other : Left) → Alike left other → (next_in left ≡ Ok (None, left)) ⊎ Agrees true left (next_in left) (next_in other)
   next_local left other (order, agrees) = at left.tokens left.ends order (λ within. (agrees within).1)
     where
-      at : (tokens : List Placed) (ends : Bool) → AreInOrder left.passed tokens left.stop → let l : Left = record { passed = left.passed; tokens = tokens; ends = ends; stop = left.stop } in (left.passed ≤ k → Agree k tokens l other.tokens other)
+      at : (tokens : List EndedToken) (ends : Bool) → AreInOrder left.passed tokens left.stop → let l : Left = record { passed = left.passed; tokens = tokens; ends = ends; stop = left.stop } in (left.passed ≤ k → Agree k tokens l other.tokens other)
           → (next_in l ≡ Ok (None, l)) ⊎ Agrees true left (next_in l) (next_in other)
       at [] true o a = inl refl
       at [] false o a = inr (o, λ within. let (ends, none, also, same) = a (omega (arith, o, within)) within in rw (none, also, same) refl)

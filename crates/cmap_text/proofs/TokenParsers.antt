@@ -3,7 +3,7 @@ use Rattle.std.proofs.Common.{◌≡◌, ℕ, zero, suc, ◌+◌, ◌<◌, ◌�
 use Rattle.std.proofs.lemmas.List.{length-map}
 use Rattle.std.specs.Prelude.{map, Option, Some, None, Result, Ok, Err}
 use Rattle.cmap_tokens.specs.Tokens.{Token}
-use Rattle.cmap_tokens.specs.TokensLeft.{Placed, Left}
+use Rattle.cmap_tokens.specs.TokensLeft.{EndedToken, Left}
 use Rattle.cmap_text.specs.TokenParsers.{Found, after, followed_by, head_in, or_refused, Parser, wanted, head, giving, chain, repeat, repeated, repeated_within, round, run}
 
 pub err-ok : {A : Type 0} (e : ℕ) (x : A) → ◌≡◌ {A = Result A ℕ} (Err e) (Ok x) → ⊥
@@ -21,9 +21,9 @@ abbrev pub words : Left → List Token
 words left = map (λ p. p.token) left.tokens
 
 pub length-words : (left : Left) → length (words left) ≡ length left.tokens
-length-words left = length-map left.tokens (λ (p : Placed). p.token)
+length-words left = length-map left.tokens (λ (p : EndedToken). p.token)
 
-abbrev pub having : List Placed → Left → Left
+abbrev pub having : List EndedToken → Left → Left
 having tokens left = record { passed = left.passed; tokens = tokens; ends = left.ends; stop = left.stop }
 
 -- ---- what tokens begin with, and those after it
@@ -60,7 +60,7 @@ wanted_there (Some x) left p is = subst (IsThere (Means (wanted (Some x))) left)
 head_there : {A : Type 0} (read : Token → Option A) → FindsOnly (head_in read) (Means (head read))
 head_there read left p is = at left.tokens is
   where
-    at : (tokens : List Placed) → head_in read (having tokens left) ≡ Ok p → IsThere (Means (head read)) (having tokens left) p
+    at : (tokens : List EndedToken) → head_in read (having tokens left) ≡ Ok p → IsThere (Means (head read)) (having tokens left) p
     at [] e = absurd (err-ok _ p e)
     at (q ∷ rest) e = let ((gives, same), ends, fewer) = wanted_there (read q.token) (after q rest left) p e in ((q.token, ap (λ ts. q.token ∷ ts) same, gives), ends, omega (arith, fewer))
 
@@ -154,7 +154,7 @@ then_found more first second =
 head_found : {A : Type 0} (read : Token → Option A) {x : A} (tokens rest : List Token) (left : Left) → words left ≡ tokens → Means (head read) tokens x rest → IsFound (head_in read left) x rest left
 head_found read {x} tokens rest left at_left (t, whole, gives) = at left.tokens (at_left ∙ whole)
   where
-    at : (placed : List Placed) → words (having placed left) ≡ t ∷ rest → IsFound (head_in read (having placed left)) x rest (having placed left)
+    at : (placed : List EndedToken) → words (having placed left) ≡ t ∷ rest → IsFound (head_in read (having placed left)) x rest (having placed left)
     at [] e = absurd (cc)
     at (q ∷ others) e =
         let token : q.token ≡ t = cc in

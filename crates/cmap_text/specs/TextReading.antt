@@ -3,7 +3,7 @@ use Rattle.std.specs.Prelude.{ℕ, zero, suc, ◌+◌, ◌-◌, ◌^◌, ◌==�
 use Rattle.cmap_files.specs.BigEndian.{big_endian}
 use Rattle.cmap_tokens.specs.Numbers.{Number}
 use Rattle.cmap_tokens.specs.Texts.{units_of}
-use Rattle.cmap_tokens.specs.TokenReading.{value_of}
+use Rattle.cmap_tokens.specs.TokenReading.{string_value}
 use Rattle.cmap_tokens.specs.Tokens.{Token}
 use Rattle.cmap_tokens.specs.TokensLeft.{Left}
 use Rattle.cmap_files.specs.Files.{CidEntry, Declaration, Lists, lists_of}
@@ -23,7 +23,7 @@ is_literal name _ = false
 
 -- the bytes of a string
 abbrev pub value_in : Token → Option (List ℕ)
-value_in (Token.String piece) = value_of piece
+value_in (Token.String piece) = string_value piece
 value_in _ = None
 
 -- a code, by the number of its bytes and the number that they write

@@ -1,7 +1,7 @@
 -- Private aid: parsers of tokens, and what each finds in the tokens that are left of a text.
 use Rattle.std.specs.Prelude.{ℕ, zero, suc, ◌+◌, List, [], ◌∷◌, length, Option, Some, None, Result, Ok, Err, option_map, ok_or, if◌then◌else◌}
 use Rattle.cmap_tokens.specs.Tokens.{Token}
-use Rattle.cmap_tokens.specs.TokensLeft.{Placed, Left}
+use Rattle.cmap_tokens.specs.TokensLeft.{EndedToken, Left}
 
 -- ---- what is found
 -- this, and what is left after it; or the offset at which it is refused
@@ -18,7 +18,7 @@ abbrev pub or_refused : {A : Type 0} → Option A → Left → Found A
 or_refused found left = ok_or (option_map (λ x. (x, left)) found) left.passed
 
 -- what is left after this token, before those
-abbrev pub after : Placed → List Placed → Left → Left
+abbrev pub after : EndedToken → List EndedToken → Left → Left
 after p rest left = record { passed = p.end; tokens = rest; ends = left.ends; stop = left.stop }
 
 -- the next token

@@ -14,7 +14,7 @@ use Rattle.cmap_tokens.specs.Scanner.{FirstToken, OnlyFront, spaced_decimal, spa
 use Rattle.cmap_tokens.specs.Strings.{WritesTwoBytes, hex_value}
 use Rattle.cmap_tokens.specs.Tokens.{Token, Name, Numeral, String, Front, IsHexString, IsToken, begins_name, begins_regular, is_hex_body}
 use Rattle.cmap_tokens.proofs.ByteTests.{all_front, all_weaker, other_byte}
-use Rattle.cmap_tokens.proofs.Digits.{digit_regular, digits_numeral, digits_small, paired, value_is}
+use Rattle.cmap_tokens.proofs.Digits.{digit_regular, digits_numeral, digits_small, paired, written}
 use Rattle.cmap_tokens.proofs.Fronts.{front_only}
 use Rattle.cmap_tokens.proofs.StringValues.{one_value}
 
@@ -32,7 +32,7 @@ two_bytes_written a b c d n all is =
     let piece : List ℕ = 60 ∷ a ∷ b ∷ c ∷ d ∷ 62 ∷ [] in
     let are = paired digits all refl in
     let hex : IsHexString piece = (digits, refl, all_weaker (λ k. is_digit k 16) is_hex_body digits (λ k digit. or_right (is_white k) (is_digit k 16) digit) all) in
-    ((hex_value digits, record { holds = inl (hex, refl); alone = λ other other_is. one_value piece other _ other_is (inl (hex, refl)) }, are.bytes, omega (arith, are.long), is ∙ are.number 0), hex)
+    ((hex_value digits, record { holds = inl (hex, refl); alone = λ other other_is. one_value piece other _ other_is (inl (hex, refl)) }, are.2, omega (arith, are.1), is ∙ are.0 0), hex)
 
 pub two_bytes_first : (text : List ℕ) (n : ℕ) → spaced_two_bytes text ≡ Some n → (piece : List ℕ) × FirstToken text (String piece) 7 × WritesTwoBytes piece n
 two_bytes_first (blank ∷ l ∷ a ∷ b ∷ c ∷ d ∷ g ∷ rest) n e =
@@ -41,8 +41,8 @@ two_bytes_first (blank ∷ l ∷ a ∷ b ∷ c ∷ d ∷ g ∷ rest) n e =
     let less : l ≡ 60 = grind (arith, nat_tests, e) in
     let white : is_white blank ≡ true = grind (arith, nat_tests, e) in
     let read : digits_value 16 digits ≡ Some n = grind (arith, nat_tests, e) in
-    let (some, all, number, small) = value_is 16 4 n digits (omega arith) (omega arith) read in
-    let (writes, hex) = two_bytes_written a b c d n all number in
+    let is = written 16 4 digits n (omega arith) (omega arith) read in
+    let (writes, hex) = two_bytes_written a b c d n is.all is.number in
     (_, first_after_blank _ blank 7 _ rest _ (rw (greater, less) refl) white (inr (inr (inr (inl hex, refl)))) (λ h. cc) refl, writes)
 two_bytes_first [] n e = cc
 two_bytes_first (a ∷ []) n e = cc

@@ -10,7 +10,7 @@ use Rattle.std.proofs.lemmas.List.{drop-append-le, take-append-drop}
 use Rattle.cmap_tokens.specs.Gaps.{ends_comment}
 use Rattle.cmap_tokens.specs.Tokens.{Token, Front, begins_regular, is_hex_body}
 use Rattle.cmap_tokens.specs.TokenReading.{one_more, gap_len, hex_len, string_of, first_piece, malformed_len}
-use Rattle.cmap_tokens.specs.TokensLeft.{after_gap, Agree, AgreesTo, IsDecidedByFronts, IsInOrder, Left, Placed, start_of, tokens_of, with_token}
+use Rattle.cmap_tokens.specs.TokensLeft.{after_gap, Agree, AgreesTo, IsDecidedByFronts, EndInOrder, Left, EndedToken, start_of, tokens_of, with_token}
 use Rattle.cmap_tokens.proofs.ByteTests.{by_byte}
 use Rattle.cmap_tokens.proofs.Fronts.{front_long, left_from, left_front, left_none, next, none, one, passed_is}
 
@@ -72,7 +72,7 @@ none_kept front s t text is e short =
     (gap, ap first_piece other_after ∙ kept.0, ap malformed_len other_after ∙ kept.1 ∙ sym (ap malformed_len after))
 
 -- ---- the tokens that are left
-order : (n passed : ℕ) (text : List ℕ) → length text < n → IsInOrder (left_from passed text)
+order : (n passed : ℕ) (text : List ℕ) → length text < n → EndInOrder (left_from passed text)
 order zero passed text few = absurd (omega (arith, few))
 order (suc n) passed text few =
     elim (next text) [
@@ -82,12 +82,12 @@ order (suc n) passed text few =
           rw (left_front front passed) (omega (arith, passed_is at rest), order n at rest (omega (arith, few, front_long front)))
     ]
 
-pub in_order : (text : List ℕ) → IsInOrder (tokens_of (start_of text))
+pub in_order : (text : List ℕ) → EndInOrder (tokens_of (start_of text))
 unfolding tokens_of
 in_order text = order (suc (length text)) 0 text (omega arith)
 
 -- a token before both
-one_agrees : (k : ℕ) (token : Token) (passed : ℕ) (tokens others : List Placed) (next other : Left) → Agree k tokens next others other
+one_agrees : (k : ℕ) (token : Token) (passed : ℕ) (tokens others : List EndedToken) (next other : Left) → Agree k tokens next others other
     → Agree k tokens (with_token token passed next) others (with_token token passed other)
 one_agrees k token passed [] others next other same = same
 one_agrees k token passed (p ∷ tokens) others next other same = λ by. let (rest, is, more) = same by in (rest, is, one_agrees k token passed tokens rest next other more)
@@ -138,7 +138,7 @@ agrees (suc n) k passed text more few within =
                 let later = left_from at (take (1 + j) rest ++ more) in
                 let end : at + j ≡ passed + k = omega (arith, sum) in
                 let both : AgreesTo (passed + k) (left_from at rest) later = subst (λ m. AgreesTo m (left_from at rest) later) end (agrees n j at rest more (omega (arith, few, sum, front_long is)) left) in
-                rw (left_front kept passed) (later.tokens, ap (λ m. let p : Placed = record { token = token; end = m } in p ∷ later.tokens) both.0, one_agrees (passed + k) token passed (left_from at rest).tokens later.tokens (left_from at rest) later both.1),
+                rw (left_front kept passed) (later.tokens, ap (λ m. let p : EndedToken = record { token = token; end = m } in p ∷ later.tokens) both.0, one_agrees (passed + k) token passed (left_from at rest).tokens later.tokens (left_from at rest) later both.1),
           )
     ]
 

@@ -1,5 +1,5 @@
 -- The numbers that digits write.
-use Rattle.std.proofs.Common.{◌≡◌, ℕ, ◌+◌, ◌*◌, ◌-◌, ◌^◌, ◌<◌, ◌≤◌, min, List, length, get_or, take, true, ap, sym, ◌∙◌, ⊎_elim, arith, [], ◌∷◌, map, refl, ◌%◌, ◌/◌, subst, pos, false, ◌==◌, Some}
+use Rattle.std.proofs.Common.{◌≡◌, ℕ, ◌+◌, ◌*◌, ◌-◌, ◌^◌, ◌<◌, ◌≤◌, min, List, length, get_or, take, true, ap, sym, ◌∙◌, ⊎_elim, arith, [], ◌∷◌, map, refl, ◌%◌, ◌/◌, pos, false, ◌==◌, Some}
 use Rattle.std.specs.Char.{digit_value, is_digit}
 use Rattle.std.specs.List.{list_all}
 use Rattle.std.proofs.lemmas.Bool.{and_from, lt-ltb, cases_lt, and_parts, ltb-true, le-leb}
@@ -49,12 +49,29 @@ digits_small base m digits some all few =
 abbrev pub capped : ℕ → List ℕ → Option ℕ
 capped base digits = option_map (λ n. min n (2 ^ 64 - 1)) (digits_value base digits)
 
-pub uncapped : (base m : ℕ) (digits : List ℕ) → 0 < base → length digits ≤ m → base ^ m ≤ 2 ^ 64 → capped base digits ≡ digits_value base digits
+uncapped : (base m : ℕ) (digits : List ℕ) → 0 < base → length digits ≤ m → base ^ m ≤ 2 ^ 64 → capped base digits ≡ digits_value base digits
 uncapped base m digits some few fits = grind (arith, nat_tests, digits_small base m digits some)
 
--- the digits of a number that is read
-pub value_is : (base m n : ℕ) (digits : List ℕ) → 0 < base → length digits ≤ m → digits_value base digits ≡ Some n → (0 < length digits) × (list_all (λ c. is_digit c base) digits ≡ true) × (n ≡ digits_number base digits) × (n < base ^ m)
-value_is base m n digits some few is = (grind (arith, nat_tests, is), grind (arith, nat_tests, is), grind (arith, nat_tests, is), grind (arith, nat_tests, is, digits_small base m digits some))
+-- at most m digits that write a number
+pub record Written (base m : ℕ) (digits : List ℕ) (n : ℕ) : Type 0 where
+  pub value : digits_value base digits ≡ Some n
+  pub filled : 0 < length digits
+  pub all : list_all (λ c. is_digit c base) digits ≡ true
+  pub number : n ≡ digits_number base digits
+  pub small : n < base ^ m
+
+pub written : (base m : ℕ) (digits : List ℕ) (n : ℕ) → 0 < base → length digits ≤ m → digits_value base digits ≡ Some n → Written base m digits n
+written base m digits n some few is = record {
+  value = is;
+  filled = grind (arith, nat_tests, is);
+  all = grind (arith, nat_tests, is);
+  number = grind (arith, nat_tests, is);
+  small = grind (arith, nat_tests, is, digits_small base m digits some);
+}
+
+-- and no cap is met
+pub written_uncapped : (base m : ℕ) (digits : List ℕ) (n : ℕ) → 0 < base → length digits ≤ m → base ^ m ≤ 2 ^ 64 → Some n ≡ capped base digits → Written base m digits n
+written_uncapped base m digits n some few fits is = written base m digits n some few (sym (is ∙ uncapped base m digits some few fits))
 
 unwrapped : (digits : List ℕ) → list_all (λ c. is_digit c 8) digits ≡ true → unwrap_or (digits_value 8 digits) 0 ≡ digits_number 8 digits
 unwrapped [] all = refl
@@ -66,45 +83,28 @@ octal_value text =
     (unwrapped (take (octal_len text) text) (all_front (λ c. is_digit c 8) (octal_len text) text (omega arith)))
 
 -- ---- the bytes of paired hexadecimal digits
-abbrev pub all_digits : List ℕ → Type 0
-all_digits digits = list_all (λ c. is_digit c 16) digits ≡ true
-
--- the value of two digits and more
-pub value_more : (a b : ℕ) (more : List ℕ) → is_digit a 16 ≡ true → is_digit b 16 ≡ true → hex_value (a ∷ b ∷ more) ≡ (16 * digit_value a + digit_value b) ∷ hex_value more
-value_more a b more first second = rw (first, second) refl
-
 -- digits in pairs, and the bytes that they stand for
-pub record Paired (digits : List ℕ) : Type 0 where
-  pub number : (n : ℕ) → number_from_digits_after 16 n (map digit_value digits) ≡ number_from_digits_after 256 n (hex_value digits)
-  pub long : 2 * length (hex_value digits) ≡ length digits
-  pub bytes : AllByRecursion (λ b. b < 2 ^ 8) (hex_value digits)
+abbrev pub Pairs : List ℕ → List ℕ → Type 0
+Pairs digits bytes =
+    ((n : ℕ) → number_from_digits_after 16 n (map digit_value digits) ≡ number_from_digits_after 256 n bytes) × (2 * length bytes ≡ length digits) × AllByRecursion (λ b. b < 2 ^ 8) bytes
 
-pub paired : (digits : List ℕ) → all_digits digits → length digits % 2 ≡ 0 → Paired digits
-paired [] all even = record { number = λ n. refl; long = refl; bytes = tt }
+pub paired : (digits : List ℕ) → list_all (λ c. is_digit c 16) digits ≡ true → length digits % 2 ≡ 0 → Pairs digits (hex_value digits)
+paired [] all even = (λ n. refl, refl, tt)
 paired (a ∷ []) all even = absurd (omega (arith, even))
 paired (a ∷ b ∷ more) all even =
-    let (first, later) = and_parts (is_digit a 16) _ all in
-    let (second, others) = and_parts (is_digit b 16) (list_all (λ c. is_digit c 16) more) later in
-    let rest = paired more others (omega (arith, even)) in
-    let value = value_more a b more first second in
+    let first : is_digit a 16 ≡ true = grind (arith, nat_tests, all) in
+    let second : is_digit b 16 ≡ true = grind (arith, nat_tests, all) in
+    let (number, long, bytes) = paired more (grind (arith, nat_tests, all)) (omega (arith, even)) in
     let byte : 16 * digit_value a + digit_value b < 2 ^ 8 = omega (arith, ltb-true (digit_value a) 16 first, ltb-true (digit_value b) 16 second) in
-    record {
-      number = λ n.
-          let same : (n * 16 + digit_value a) * 16 + digit_value b ≡ n * 256 + (16 * digit_value a + digit_value b) = omega arith in
-          ap (λ k. number_from_digits_after 16 k (map digit_value more)) same
-          ∙ rest.number (n * 256 + (16 * digit_value a + digit_value b))
-          ∙ ap (number_from_digits_after 256 n) (sym value);
-      long = omega (arith, ap length value, rest.long);
-      bytes = subst (AllByRecursion (λ b. b < 2 ^ 8)) (sym value) (byte, rest.bytes);
-    }
+    let joined : (n : ℕ) → (n * 16 + digit_value a) * 16 + digit_value b ≡ n * 256 + (16 * digit_value a + digit_value b) = λ n. omega arith in
+    rw (first, second) (λ n. ap (λ k. number_from_digits_after 16 k (map digit_value more)) (joined n) ∙ number (n * 256 + (16 * digit_value a + digit_value b)), omega (arith, long), (byte, bytes))
 
 -- digits in pairs are read
-pub pairs_read : (digits : List ℕ) (n : ℕ) → digits_value 16 digits ≡ Some n → length digits ≤ 8 → length digits % 2 ≡ 0
+pub pairs_read : (digits : List ℕ) (n : ℕ) → Written 16 8 digits n → length digits ≤ 8 → length digits % 2 ≡ 0
     → ArePairs digits × (length digits / 2 ≡ length (hex_value digits)) × (n ≡ number_from_digits 256 (hex_value digits))
 pairs_read digits n is few even =
-    let (some, all, number, small) = value_is 16 8 n digits (omega arith) few is in
-    let are = paired digits all even in
-    ((all, even, some, few), omega (arith, are.long), number ∙ are.number 0)
+    let are = paired digits is.all even in
+    ((is.all, even, is.filled, few), omega (arith, are.1), is.number ∙ are.0 0)
 
 -- ---- a run of decimal digits is the number that they write
 pub digit_regular : (b : ℕ) → is_digit b 10 ≡ true → is_regular b ≡ true

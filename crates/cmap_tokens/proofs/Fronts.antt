@@ -5,7 +5,7 @@ use Rattle.std.proofs.lemmas.Bool.{cases_lt, le-leb, lt-leb, leb-true}
 use Rattle.std.proofs.lemmas.List.{take_at, drop_at, drop_all, take-append-drop, take_rest, drop-drop}
 use Rattle.cmap_tokens.specs.Gaps.{IsBlank}
 use Rattle.cmap_tokens.specs.Tokens.{Token, Front, IsMalformed, Tokens}
-use Rattle.cmap_tokens.specs.Scanner.{OnlyFront, Place, FirstToken, ReadsToken, rest_of, past}
+use Rattle.cmap_tokens.specs.Scanner.{OnlyFront, Cursor, FirstToken, ReadsToken, rest_of, past}
 use Rattle.cmap_tokens.specs.TokenReading.{gap_len, first_piece, malformed_len}
 use Rattle.cmap_tokens.specs.TokensLeft.{after_gap, HasTokens, Left, LeavesAfter, LeavesNone, no_token, start_of, with_token, tokens_within, tokens_of}
 use Rattle.cmap_tokens.proofs.Gaps.{measured, gap_len-append, gap_len-blank}
@@ -61,7 +61,7 @@ module _ {text gap piece : List ℕ} {token : Token} {rest : List ℕ} (front : 
   no_front : first_piece (after_gap text) ≡ None → ⊥
   no_front e = let clash = sym (reads_front front).first ∙ e in cc
 
-  front_not_blank : IsBlank text → ⊥
+  pub front_not_blank : IsBlank text → ⊥
   front_not_blank blank = omega (arith, front_long front, (reads_front front).long, gap_len-blank text blank)
 
 -- what is read is a front
@@ -117,7 +117,7 @@ malformed_is text n gap more e =
     )
 
 -- the token of what is left
-pub read_token : (here old : Place) (text : List ℕ) (len : ℕ) (token : Token) → here ≡ old → text ≡ rest_of here → FirstToken text token len → ReadsToken old token (past len here)
+pub read_token : (here old : Cursor) (text : List ℕ) (len : ℕ) (token : Token) → here ≡ old → text ≡ rest_of here → FirstToken text token len → ReadsToken old token (past len here)
 read_token here old text len token same is first =
     let (gap, piece, only, long) = subst (λ text. FirstToken text token len) is first in
     subst (λ cursor. ReadsToken cursor token (past len here)) same (gap, piece, subst (OnlyFront (rest_of here) gap piece token) (drop-drop len here.passed here.source) only, ap (λ n. past n here) long)
@@ -200,11 +200,11 @@ unfolding tokens_of
 has_tokens text tokens = (are_left tokens 0 text, λ both. subst (Tokens text) both.0 (left_are (suc (length text)) 0 text (omega arith) both.1))
 
 -- ---- what the reading of a token says
-pub leaves_blank : (cursor : Place) → IsBlank (rest_of cursor) → LeavesNone true cursor
+pub leaves_blank : (cursor : Cursor) → IsBlank (rest_of cursor) → LeavesNone true cursor
 unfolding tokens_of
 leaves_blank cursor blank = left_blank cursor.passed (rest_of cursor) blank
 
-pub leaves_malformed : (cursor : Place) → IsMalformed (rest_of cursor) → LeavesNone false cursor
+pub leaves_malformed : (cursor : Cursor) → IsMalformed (rest_of cursor) → LeavesNone false cursor
 unfolding tokens_of
 leaves_malformed cursor malformed =
     elim (next (rest_of cursor)) [
@@ -217,23 +217,17 @@ leaves_malformed cursor malformed =
     ]
 
 -- what is left after the first token of what was left, which is neither blank nor malformed
-pub left_after : (old new : Place) (token : Token) → ReadsToken old token new → LeavesAfter token old new
+pub left_after : (old new : Cursor) (token : Token) → ReadsToken old token new → LeavesAfter token old new
 unfolding tokens_of
 left_after old new token (gap, piece, only, is) =
     left_front only.front old.passed ∙ ap (λ n. with_token token old.passed (left_from n (rest_of new))) (sym (ap (λ p. p.passed) is))
 
-pub not_blank : (old new : Place) (token : Token) → ReadsToken old token new → IsBlank (rest_of old) → ⊥
-not_blank old new token (gap, piece, only, is) = front_not_blank only.front
-
-pub not_malformed : (old new : Place) (token : Token) → ReadsToken old token new → IsMalformed (rest_of old) → ⊥
-not_malformed old new token (gap, piece, only, is) malformed = malformed.1 gap piece (rest_of new) token only.front
-
-pub passed_of : (cursor : Place) → (tokens_of cursor).passed ≡ cursor.passed
+pub passed_of : (cursor : Cursor) → (tokens_of cursor).passed ≡ cursor.passed
 unfolding tokens_of
 passed_of cursor = passed_is cursor.passed (rest_of cursor)
 
 -- n bytes of gap are passed, and then m that show that no token comes
-pub stop_is : (cursor : Place) (text : List ℕ) (n m : ℕ) → text ≡ rest_of cursor → n ≡ gap_len false text → m ≡ malformed_len (rest_from text n) → (tokens_of cursor).tokens ≡ [] → cursor.passed + n + m ≡ (tokens_of cursor).stop
+pub stop_is : (cursor : Cursor) (text : List ℕ) (n m : ℕ) → text ≡ rest_of cursor → n ≡ gap_len false text → m ≡ malformed_len (rest_from text n) → (tokens_of cursor).tokens ≡ [] → cursor.passed + n + m ≡ (tokens_of cursor).stop
 unfolding tokens_of
 stop_is cursor text n m is gap len empty =
     elim (next (rest_of cursor)) [

@@ -79,8 +79,8 @@ unfolding is_string
 IsString-from piece is = string_by_len piece _ refl is
 
 -- what is measured is a whole string
-pub is_string-front : (text : List ℕ) (n : ℕ) → Some n ≡ string_len text → is_string (take n text) ≡ true
-is_string-front text n e = is_string-from (take n text) (string_is text n (sym e)).0
+pub front_is_string : (text : List ℕ) (n : ℕ) → Some n ≡ string_len text → is_string (take n text) ≡ true
+front_is_string text n e = is_string-from (take n text) (string_is text n (sym e)).0
 
 -- a step over one byte
 one_more_from : (i : ℕ) (count : Option ℕ) → option_map (λ n. i + n) (one_more count) ≡ option_map (λ n. i + 1 + n) count

@@ -8,7 +8,7 @@ use Rattle.std.proofs.lemmas.Bool.Decides.{nat_tests}
 use Rattle.std.proofs.lemmas.List.{take_at}
 use Rattle.cmap_tokens.specs.Tokens.{IsHexString, IsTextString, IsString}
 use Rattle.cmap_tokens.specs.Strings.{IsValue, hex_value, inside, ArePairs, IsOnlyValue, IsPlain}
-use Rattle.cmap_tokens.specs.TokenReading.{is_paired, is_string, string_value, value_of}
+use Rattle.cmap_tokens.specs.TokenReading.{is_paired, is_string, value_by_bracket, string_value}
 use Rattle.cmap_tokens.proofs.Digits.{paired}
 use Rattle.cmap_tokens.proofs.StringCuts.{cut_read, has_cut}
 use Rattle.cmap_tokens.proofs.StringLengths.{ends_from, is_string-from, IsString-from}
@@ -32,13 +32,15 @@ inside_is first last body =
     let end : length (first ∷ body ++ last ∷ []) - 1 ≡ suc (length body) = omega (arith, length-append body (last ∷ [])) in
     rw end (take_at body (last ∷ []) (length body) refl)
 
-pub has_brackets : (piece : List ℕ) → IsString piece → 2 ≤ length piece
-has_brackets piece (inl (body, shape, all)) = omega (arith, ap length shape, length-append body (62 ∷ []))
-has_brackets piece (inr (bytes, shape, closes)) =
-    let (body, whole, paired) = ends_from false 1 bytes closes in omega (arith, ap length shape, ap length whole, length-append body (41 ∷ []))
+pub has_brackets : (piece : List ℕ) → is_string piece ≡ true → 2 ≤ length piece
+has_brackets piece is =
+    elim (IsString-from piece is) [
+      | inl (body, shape, all) ↦ omega (arith, ap length shape, length-append body (62 ∷ []))
+      | inr (bytes, shape, closes) ↦ let (body, whole, paired) = ends_from false 1 bytes closes in omega (arith, ap length shape, ap length whole, length-append body (41 ∷ []))
+    ]
 
 -- ---- the value
-pub value_holds : (piece : List ℕ) → IsString piece → IsValue piece (string_value piece)
+pub value_holds : (piece : List ℕ) → IsString piece → IsValue piece (value_by_bracket piece)
 value_holds piece (inl hex) = inl (hex, rw (hex_begins piece hex) refl)
 value_holds piece (inr text) =
     let (bytes, shape, closes) = text in
@@ -47,7 +49,7 @@ value_holds piece (inr text) =
     let (parts, cut) = has_cut (length (inside piece)) (inside piece) (omega arith) (ap (is_paired false) body_is ∙ paired) in
     rw (text_begins piece text) (inr (text, parts, cut))
 
-pub value_same : (piece value : List ℕ) → IsValue piece value → IsString piece × (value ≡ string_value piece)
+pub value_same : (piece value : List ℕ) → IsValue piece value → IsString piece × (value ≡ value_by_bracket piece)
 value_same piece value (inl (hex, is)) = (inl hex, is ∙ rw (hex_begins piece hex) refl)
 value_same piece value (inr (text, parts, cut)) = (inr text, cut_read parts (inside piece) value (length (inside piece)) cut (omega arith) ∙ rw (text_begins piece text) refl)
 
@@ -55,15 +57,15 @@ pub one_value : (piece value other : List ℕ) → IsValue piece value → IsVal
 one_value piece value other is other_is = (value_same piece value is).1 ∙ sym (value_same piece other other_is).1
 
 -- what is decoded
-pub decoded : (raw value : List ℕ) → is_string raw ≡ true → value ≡ string_value raw → IsValue raw value × ((other : List ℕ) → IsValue raw other → other ≡ value)
+pub decoded : (raw value : List ℕ) → is_string raw ≡ true → value ≡ value_by_bracket raw → IsValue raw value × ((other : List ℕ) → IsValue raw other → other ≡ value)
 decoded raw value string e = let is : IsValue raw value = rw e (value_holds raw (IsString-from raw string)) in (is, λ other other_is. one_value raw other value other_is is)
 
-pub IsValue-read : (piece value : List ℕ) → IsValue piece value → value_of piece ≡ Some value
-unfolding value_of
+pub IsValue-read : (piece value : List ℕ) → IsValue piece value → string_value piece ≡ Some value
+unfolding string_value
 IsValue-read piece value is = let (string, same) = value_same piece value is in rw (is_string-from piece string) (ap Some (sym same))
 
-pub IsValue-from : (piece value : List ℕ) → value_of piece ≡ Some value → IsValue piece value
-unfolding value_of
+pub IsValue-from : (piece value : List ℕ) → string_value piece ≡ Some value → IsValue piece value
+unfolding string_value
 IsValue-from piece value e = (decoded piece value (grind (arith, nat_tests, e)) (grind (arith, nat_tests, e))).0
 
 -- ---- a hexadecimal string whose digits stand in pairs, and the number that they write
@@ -76,7 +78,7 @@ pub plain_value : (raw : List ℕ) (found : Option (ℕ × ℕ)) → IsHexString
 plain_value raw None hex is = tt
 plain_value raw (Some first) hex is =
     let (all, even, some, few) = is.0 in
-    (hex_value (inside raw), record { holds = inl (hex, refl); alone = λ other other_is. one_value raw other _ other_is (inl (hex, refl)) }, (paired (inside raw) all even).bytes, is.1, is.2)
+    (hex_value (inside raw), record { holds = inl (hex, refl); alone = λ other other_is. one_value raw other _ other_is (inl (hex, refl)) }, (paired (inside raw) all even).2, is.1, is.2)
 
 pub plain_is : (raw : List ℕ) (found : Option (ℕ × ℕ)) → IsHexString raw → Answers (inside raw) found → IsTrue (is_some found) ↔ IsPlain raw
 plain_is raw None hex is = (λ some. absurd (false≢true some), λ plain. absurd (is plain.1))

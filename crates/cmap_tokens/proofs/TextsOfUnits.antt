@@ -1,5 +1,5 @@
 -- Texts in UTF-16, character by character.
-use Rattle.std.proofs.Common.{◌≡◌, ℕ, ◌+◌, ◌<◌, ◌≤◌, true, ◌&&◌, Bool, leb, List, [], ◌∷◌, ◌++◌, inl, inr, length, get_or, drop, Option, Some, None, Result, Ok, Err, is_some, option_map, refl, ap, ◌∙◌, sym, arith, append_assoc, append-nil, length-append, length-drop}
+use Rattle.std.proofs.Common.{◌≡◌, ℕ, ◌+◌, ◌<◌, true, ◌&&◌, ltb, List, [], ◌∷◌, ◌++◌, inl, inr, length, get_or, drop, Option, Some, None, Result, Ok, Err, is_some, option_map, refl, ap, ◌∙◌, sym, arith, append_assoc, append-nil, length-append, length-drop}
 use Rattle.std.specs.Prelude.{if◌then◌else◌}
 use Rattle.std.specs.Bool.{then_some}
 use Rattle.std.specs.Option.{IsSomeAnd}
@@ -7,7 +7,7 @@ use Rattle.std.specs.Result.{OnErr}
 use Rattle.std.specs.Char.{IsScalar, encode_utf8}
 use Rattle.std.specs.Char.Utf16.{utf16_chars, lone_unit_char, surrogate_pair_char, is_high_surrogate, is_low_surrogate}
 use Rattle.std.specs.Str.{chars, IsUtf8}
-use Rattle.std.proofs.lemmas.Bool.{and_parts, cases_Bool, cases_lt, le-leb, lt-leb}
+use Rattle.std.proofs.lemmas.Bool.{and_parts, cases_Bool, cases_lt, le-ltb, lt-ltb}
 use Rattle.std.proofs.lemmas.Bool.Decides.{nat_tests}
 use Rattle.std.proofs.lemmas.List.{drop_all, drop_more, get_or_past}
 use Rattle.std.proofs.lemmas.Str.{utf16_chars-nil, chars-append, chars-encodes}
@@ -17,8 +17,8 @@ use Rattle.cmap_tokens.specs.Texts.{all_some, characters, only_character}
 abbrev pub characters_from : List ℕ → ℕ → Option (List ℕ)
 characters_from us i = characters (drop i us)
 
-pub characters-end : (us : List ℕ) (i : ℕ) → length us ≤ i → characters_from us i ≡ Some []
-characters-end us i past = ap characters (drop_all i us past) ∙ ap all_some utf16_chars-nil
+pub characters_end : (front : List ℕ) (last i : ℕ) → length front < i → characters_from (front ++ last ∷ []) i ≡ Some []
+characters_end front last i past = ap characters (drop_all i (front ++ last ∷ []) (omega (arith, past, length-append front (last ∷ [])))) ∙ ap all_some utf16_chars-nil
 
 -- ---- the character at an index
 low_within : (us : List ℕ) (i v : ℕ) → v ≡ get_or us i 0 → is_low_surrogate v ≡ true → i < length us
@@ -77,11 +77,12 @@ more_follow c (Some []) some = absurd (some refl)
 more_follow c (Some (d ∷ cs)) some = refl
 
 -- the first character is the only one where nothing comes after it
-pub only_first : (us : List ℕ) (c after : ℕ) (ends : Bool) → ends ≡ leb (length us) after → characters us ≡ option_map (λ cs. c ∷ cs) (characters_from us after) → then_some ends c ≡ only_character (characters us)
-only_first us c after ends is e =
-    elim (cases_lt after (length us)) [
-      | inl less ↦ rw (is, lt-leb _ _ less, e) (sym (more_follow c _ (characters-some (drop after us) (omega (arith, less, length-drop after us)))))
-      | inr past ↦ rw (is, le-leb _ _ past, e, characters-end us after past) refl
+pub only_first : (front : List ℕ) (last c after : ℕ) → let us = front ++ last ∷ [] in characters us ≡ option_map (λ cs. c ∷ cs) (characters_from us after) → then_some (ltb (length front) after) c ≡ only_character (characters us)
+only_first front last c after e =
+    let us = front ++ last ∷ [] in
+    elim (cases_lt (length front) after) [
+      | inl past ↦ rw (lt-ltb _ _ past, e, characters_end front last after past) refl
+      | inr more ↦ rw (le-ltb _ _ more, e) (sym (more_follow c _ (characters-some (drop after us) (omega (arith, more, length-drop after us, length-append front (last ∷ []))))))
     ]
 
 long : (o : Option (List ℕ)) → (o ≡ Some [] → ⊥) → true ≡ is_some o → None ≡ only_character o → IsSomeAnd o (λ cs. 1 < length cs)
@@ -114,5 +115,5 @@ chars-push old new us c i j all utf8 scalar_c e first so_far =
     ∙ grown (chars old) (chars new) c _ (ap chars e ∙ chars-append old (encode_utf8 c) utf8 ∙ ap (λ cs. chars old ++ cs) (chars-encode c scalar_c))
 
 -- and all of them
-pub chars-all : (cs us : List ℕ) (i : ℕ) (all : Option (List ℕ)) → length us ≤ i → all ≡ option_map (λ rest. cs ++ rest) (characters_from us i) → all ≡ Some cs
-chars-all cs us i all past e = e ∙ ap (option_map (λ rest. cs ++ rest)) (characters-end us i past) ∙ ap Some (append-nil cs)
+pub chars-all : (cs front : List ℕ) (last i : ℕ) (all : Option (List ℕ)) → length front < i → all ≡ option_map (λ rest. cs ++ rest) (characters_from (front ++ last ∷ []) i) → all ≡ Some cs
+chars-all cs front last i all past e = e ∙ ap (option_map (λ rest. cs ++ rest)) (characters_end front last i past) ∙ ap Some (append-nil cs)

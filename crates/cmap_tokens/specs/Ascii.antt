@@ -1,8 +1,8 @@
 -- The bytes that have a meaning of their own.
 use Rattle.std.specs.Prelude.{ℕ}
 
-abbrev pub nul : ℕ
-nul = 0
+abbrev pub nul_byte : ℕ
+nul_byte = 0
 
 abbrev pub backspace : ℕ
 backspace = 8

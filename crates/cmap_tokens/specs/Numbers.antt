@@ -67,10 +67,9 @@ is_exponent (b ∷ text) = (b == letter_e || b == capital_e) && are_digits 10 (w
 
 -- what stands after the first len digits of a real: a dot, digits, and perhaps an exponent, or else an exponent. A digit stands before or after the dot
 abbrev pub ends_real : ℕ → List ℕ → Bool
-ends_real len [] = false
-ends_real len (b ∷ text) =
-    if b == dot then nat_lt 0 (len + digits_len 10 text) && (length (drop (digits_len 10 text) text) == 0 || is_exponent (drop (digits_len 10 text) text))
-    else nat_lt 0 len && is_exponent (b ∷ text)
+ends_real len text =
+    if get_or text 0 0 == dot then nat_lt 0 (len + digits_len 10 (drop 1 text)) && (length (drop (digits_len 10 (drop 1 text)) (drop 1 text)) == 0 || is_exponent (drop (digits_len 10 (drop 1 text)) (drop 1 text)))
+    else nat_lt 0 len && is_exponent text
 
 -- 4.5, -.5e3, 1E9
 unfoldable pub is_real : List ℕ → Bool

@@ -6,12 +6,12 @@ use Rattle.cmap_tokens.specs.Numbers.{digits_value, decimal_front}
 use Rattle.cmap_tokens.specs.Tokens.{Token, Front}
 
 -- the source, and how far the scanner has come in it
-pub record Place : Type 0 where
+pub record Cursor : Type 0 where
   pub source : List ℕ
   pub passed : ℕ
 
 -- what is left of the source
-abbrev pub rest_of : Place → List ℕ
+abbrev pub rest_of : Cursor → List ℕ
 rest_of cursor = drop cursor.passed cursor.source
 
 -- the text has this front and no other
@@ -24,12 +24,12 @@ abbrev pub FirstToken : List ℕ → Token → ℕ → Type 0
 FirstToken text token len = (gap piece : List ℕ) × OnlyFront text gap piece token (drop len text) × (len ≡ length gap + length piece)
 
 -- the token is that of the one front of what is left, and the new cursor stands after its piece
-abbrev pub ReadsToken : Place → Token → Place → Type 0
+abbrev pub ReadsToken : Cursor → Token → Cursor → Type 0
 ReadsToken old token new =
     (gap piece : List ℕ) × OnlyFront (rest_of old) gap piece token (rest_of new) × (new ≡ record { source = old.source; passed = old.passed + (length gap + length piece) })
 
 -- the cursor moved on by so many bytes
-abbrev pub past : ℕ → Place → Place
+abbrev pub past : ℕ → Cursor → Cursor
 past len cursor = record { source = cursor.source; passed = cursor.passed + len }
 
 -- a text that begins with one white byte, < four hexadecimal digits >: the number that the digits write

@@ -120,9 +120,9 @@ unfoldable pub is_string : List ℕ → Bool
 is_string text = option_map_or (λ n. n == length text) (string_len text) false
 
 -- the bytes of a string, by its first bracket
-abbrev pub string_value : List ℕ → List ℕ
-string_value piece = if get_or piece 0 0 == less then hex_value (inside piece) else text_value (inside piece)
+abbrev pub value_by_bracket : List ℕ → List ℕ
+value_by_bracket piece = if get_or piece 0 0 == less then hex_value (inside piece) else text_value (inside piece)
 
 -- the value of a piece, where it is a string
-unfoldable pub value_of : List ℕ → Option (List ℕ)
-value_of piece = if is_string piece then Some (string_value piece) else None
+unfoldable pub string_value : List ℕ → Option (List ℕ)
+string_value piece = if is_string piece then Some (value_by_bracket piece) else None

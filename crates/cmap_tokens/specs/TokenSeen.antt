@@ -11,14 +11,14 @@ abbrev pub name_is_literal : Name → Bool
 name_is_literal name = name.literal
 
 -- without the slash
-abbrev pub name_bytes : Name → List ℕ
-name_bytes name = name.bytes.now
+abbrev pub bytes_of_name : Name → List ℕ
+bytes_of_name name = name.bytes.now
 
 -- with its brackets
 abbrev pub string_raw : StringToken → List ℕ
 string_raw string = string.raw.now
 
 abbrev pub token_seen : Token → tokens.Token
-token_seen (token.Name name) = tokens.Name (name_is_literal name) (name_bytes name)
+token_seen (token.Name name) = tokens.Name (name_is_literal name) (bytes_of_name name)
 token_seen (token.String string) = tokens.String (string_raw string)
 token_seen (token.Number number) = tokens.Numeral (number_seen number)

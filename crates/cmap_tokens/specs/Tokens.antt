@@ -15,8 +15,8 @@ pub data Token : Type 0 where
   Numeral : Number → Token
 
 -- one or more regular bytes
-abbrev pub IsRun : List ℕ → Type 0
-IsRun text = (0 < length text) × IsTrue (list_all is_regular text)
+abbrev pub IsRegularRun : List ℕ → Type 0
+IsRegularRun text = (0 < length text) × IsTrue (list_all is_regular text)
 
 -- a run that is spelled as a number is that number, and else a name
 abbrev pub name_or_number : List ℕ → Token
@@ -73,7 +73,7 @@ IsString piece = IsHexString piece ⊎ IsTextString piece
 -- a whole piece of text is this token
 abbrev pub IsToken : List ℕ → Token → Type 0
 IsToken piece token =
-    (IsRun piece × (token ≡ name_or_number piece))
+    (IsRegularRun piece × (token ≡ name_or_number piece))
     ⊎ (((name : List ℕ) × (piece ≡ slash ∷ name) × IsTrue (list_all is_regular name) × (token ≡ Name true name))
     ⊎ ((IsBracket piece × (token ≡ Name false piece))
     ⊎ (IsString piece × (token ≡ String piece))))

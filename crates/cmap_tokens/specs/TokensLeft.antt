@@ -1,18 +1,18 @@
 -- The tokens that are left of a text: where each ends, whether the text ends after them, and the byte that shows that no more come.
 use Rattle.std.specs.Prelude.{◌≡◌, ◌↔◌, ◌+◌, ◌<◌, ◌≤◌, ℕ, zero, suc, nat_le, Bool, true, false, List, [], ◌∷◌, ◌++◌, length, map, take, drop, Some, None}
-use Rattle.cmap_tokens.specs.Scanner.{Place, rest_of}
+use Rattle.cmap_tokens.specs.Scanner.{Cursor, rest_of}
 use Rattle.cmap_tokens.specs.Tokens.{Token, Tokens}
 use Rattle.cmap_tokens.specs.TokenReading.{gap_len, first_piece, malformed_len}
 
 -- a token, and how many bytes of the text are passed after it
-pub record Placed : Type 0 where
+pub record EndedToken : Type 0 where
   pub token : Token
   pub end : ℕ
 
 -- what is left of a text from an offset on: the tokens up to its end, or up to the first offset where no token stands
 pub record Left : Type 0 where
   pub passed : ℕ
-  pub tokens : List Placed
+  pub tokens : List EndedToken
   pub ends : Bool
   -- the byte that shows that no token comes after them, or the length of the text
   pub stop : ℕ
@@ -38,10 +38,10 @@ tokens_within (suc n) passed text =
       | Some first ↦ with_token first.0 passed (tokens_within n (passed + (gap_len false text + first.1)) (drop first.1 (after_gap text)))
     ]
 
-unfoldable pub tokens_of : Place → Left
+unfoldable pub tokens_of : Cursor → Left
 tokens_of cursor = tokens_within (length (rest_of cursor)) cursor.passed (rest_of cursor)
 
-abbrev pub start_of : List ℕ → Place
+abbrev pub start_of : List ℕ → Cursor
 start_of text = record { source = text; passed = 0 }
 
 -- the tokens of the text are those that are left, if it ends after them
@@ -49,26 +49,26 @@ abbrev pub HasTokens : List ℕ → Left → Type 0
 HasTokens text left = (tokens : List Token) → Tokens text tokens ↔ ((map (λ p. p.token) left.tokens ≡ tokens) × (left.ends ≡ true))
 
 -- the token comes first of those that are left from the old cursor on, and then those from the new one on
-abbrev pub LeavesAfter : Token → Place → Place → Type 0
+abbrev pub LeavesAfter : Token → Cursor → Cursor → Type 0
 LeavesAfter token old new = tokens_of old ≡ with_token token old.passed (tokens_of new)
 
 -- no token is left, and the text ends or doesn't
-abbrev pub LeavesNone : Bool → Place → Type 0
+abbrev pub LeavesNone : Bool → Cursor → Type 0
 LeavesNone ends cursor = ((tokens_of cursor).tokens ≡ []) × ((tokens_of cursor).ends ≡ ends)
 
 -- ---- which bytes decide on the tokens
 -- tokens that end one after another, from an offset on and up to another
-abbrev pub AreInOrder : ℕ → List Placed → ℕ → Type 0
+abbrev pub AreInOrder : ℕ → List EndedToken → ℕ → Type 0
 AreInOrder passed [] stop = passed ≤ stop
 AreInOrder passed (p ∷ tokens) stop = (passed ≤ p.end) × AreInOrder p.end tokens stop
 
-abbrev pub IsInOrder : Left → Type 0
-IsInOrder left = AreInOrder left.passed left.tokens left.stop
+abbrev pub EndInOrder : Left → Type 0
+EndInOrder left = AreInOrder left.passed left.tokens left.stop
 
 -- the tokens that end by k are the other's too, and where it is seen by k that no more come, none come there either
-abbrev pub Agree : ℕ → List Placed → Left → List Placed → Left → Type 0
+abbrev pub Agree : ℕ → List EndedToken → Left → List EndedToken → Left → Type 0
 Agree k [] left others other = left.stop ≤ k → (left.ends ≡ false) × (others ≡ []) × (other.ends ≡ false) × (other.stop ≡ left.stop)
-Agree k (p ∷ tokens) left others other = p.end ≤ k → (rest : List Placed) × (others ≡ p ∷ rest) × Agree k tokens left rest other
+Agree k (p ∷ tokens) left others other = p.end ≤ k → (rest : List EndedToken) × (others ≡ p ∷ rest) × Agree k tokens left rest other
 
 abbrev pub AgreesTo : ℕ → Left → Left → Type 0
 AgreesTo k left other = (other.passed ≡ left.passed) × Agree k left.tokens left other.tokens other

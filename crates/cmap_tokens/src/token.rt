@@ -40,7 +40,7 @@ pub struct Name<'a> {
 
 impl<'a> Name<'a> {
     ghost use Rattle.std.specs.Prelude.{◌≡◌};
-    ghost use Rattle.cmap_tokens.specs.TokenSeen.{name_is_literal, name_bytes};
+    ghost use Rattle.cmap_tokens.specs.TokenSeen.{name_is_literal, bytes_of_name};
 
     /// Whether a slash stands before the name.
     pub fn is_literal(&self) -> bool
@@ -51,7 +51,7 @@ impl<'a> Name<'a> {
 
     /// The bytes of the name in the text, without the slash. `#` begins no escape among them.
     pub fn as_bytes(&self) -> &'a [u8]
-        ensures { result.now ≡ name_bytes self.now }
+        ensures { result.now ≡ bytes_of_name self.now }
     {
         self.bytes
     }
@@ -129,6 +129,7 @@ impl<'a> StringToken<'a> {
     }
 
     // What stands between the brackets.
+    #[tactic(auto, using(crate::proofs::StringValues::has_brackets))]
     fn body(&self) -> &'a [u8]
         ensures { result.now ≡ inside (string_raw self.now) }
     {
@@ -161,9 +162,9 @@ pub struct Scanner<'a> {
 
 impl<'a> Model for Scanner<'a> {
     ghost use Rattle.std.specs.Prelude.{◌≤◌, length};
-    ghost use Rattle.cmap_tokens.specs.Scanner.{Place};
+    ghost use Rattle.cmap_tokens.specs.Scanner.{Cursor};
 
-    ghost Value = { Place };
+    ghost Value = { Cursor };
 
     ghost view = { λ scanner. record { source = scanner.source.now; passed = scanner.offset } };
 
@@ -174,7 +175,7 @@ impl<'a> Scanner<'a> {
     ghost use Rattle.std.specs.Prelude.{◌≡◌, ℕ, ◌↔◌, ◌+◌, ◌≤◌, List, [], false, true, length, None, Some, Ok, pos, IfOk, IfSome, IsErr, MatchOption, MatchResult, OnErr};
     ghost use Rattle.cmap_tokens.specs.Gaps.{IsBlank};
     ghost use Rattle.cmap_tokens.specs.Tokens.{IsMalformed};
-    ghost use Rattle.cmap_tokens.specs.TokensLeft.{HasTokens, IsDecidedByFronts, IsInOrder, LeavesAfter, LeavesNone, start_of, tokens_of};
+    ghost use Rattle.cmap_tokens.specs.TokensLeft.{HasTokens, IsDecidedByFronts, EndInOrder, LeavesAfter, LeavesNone, start_of, tokens_of};
     ghost use Rattle.cmap_tokens.specs.Numbers.{Integer};
     ghost use Rattle.cmap_tokens.specs.Scanner.{ReadsToken, past, rest_of, spaced_decimal, spaced_two_bytes};
     ghost use Rattle.cmap_tokens.specs.Strings.{WritesTwoBytes};
@@ -189,13 +190,14 @@ impl<'a> Scanner<'a> {
         ensures tokens { HasTokens source.now (tokens_of (start_of source.now)) }
 
         // They end one after another, and those that end by a byte are decided by the bytes up to it.
-        ensures order { IsInOrder (tokens_of (start_of source.now)) }
+        ensures order { EndInOrder (tokens_of (start_of source.now)) }
         ensures fronts { IsDecidedByFronts source.now }
     {
         Scanner { source, offset: 0 }
     }
 
     /// How many bytes of the text have been passed.
+    #[tactic(auto, using(crate::proofs::Fronts::passed_of))]
     pub fn offset(&self) -> usize
         ensures passed { result ≡ self.now.passed }
         ensures left { result ≡ (tokens_of self.now).passed }

@@ -6,7 +6,7 @@ ghost use Rattle.std.specs.Char.Utf16.{is_high_surrogate, is_low_surrogate, surr
 ghost use Rattle.std.specs.Str.{chars};
 ghost use Rattle.std.specs.String.{string_bytes};
 ghost use Rattle.cmap_tokens.specs.Texts as texts;
-ghost use Rattle.cmap_tokens.specs.Texts.{characters, units_of, text_at, text_of, only_character};
+ghost use Rattle.cmap_tokens.specs.Texts.{characters, units_of, text_at, text_of_characters, only_character};
 ghost use Rattle.cmap_tokens.specs.TextSeen.{text_seen};
 
 use std::alloc::{AllocError, Global};
@@ -67,7 +67,7 @@ pub fn units(alloc: Global, bytes: &[u8]) -> Result<Vec<u16>, AllocError>
 /// It fails only where there is no memory. Only a `String` takes some.
 pub fn text(alloc: Global, units: &[u16], offset: u32) -> Result<Option<BfString>, AllocError>
     ensures value { IfOk result
-        (λ t. option_map text_seen t ≡ option_map text_of (text_at units.now offset)) }
+        (λ t. option_map text_seen t ≡ option_map text_of_characters (text_at units.now offset)) }
     ensures err { OnErr result (IsSomeAnd (text_at units.now offset) (λ cs. 1 < length cs)) }
 {
     let Some((front, last)) = shifted(units, offset) else {
@@ -151,6 +151,7 @@ fn pair(high: u16, low: u16) -> Option<char>
 }
 
 // No surrogate stands alone.
+#[tactic(auto, using(crate::proofs::TextsOfUnits::characters_end))]
 fn is_well_formed(front: &[u16], last: u16) -> bool
     ensures { result ≡ is_some (characters (front.now ++ last ∷ [])) }
 {

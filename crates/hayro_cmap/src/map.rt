@@ -4,7 +4,7 @@ ghost use Rattle.std.specs.Prelude.{◌≡◌, ◌≢◌, ◌*◌, [], ◌∷◌
 ghost use Rattle.cmap_files.specs.CodeLengths.{IsCodeLength};
 ghost use Rattle.cmap_runs.specs.SearchLooks.{LooksAtMost};
 ghost use Rattle.cmap_tokens.specs.TextSeen.{text_seen};
-ghost use Rattle.cmap_tokens.specs.Texts.{text_of};
+ghost use Rattle.cmap_tokens.specs.Texts.{text_of_characters};
 ghost use Rattle.hayro_cmap.specs.Answers.{Answers, AnswersByName, IsByName};
 ghost use Rattle.cmap_files.specs.DeclarationsSeen.{lists_seen};
 ghost use Rattle.cmap_files.specs.Files as files;
@@ -295,7 +295,7 @@ impl CMap {
     /// only a `String` takes some. ISO 32000-1, 9.10.3.
     pub fn lookup_bf_string(&self, alloc: Global, code: u32) -> Result<Option<BfString>, AllocError>
         ensures value { IfOk result
-            (λ text. option_map text_seen text ≡ option_map text_of (bf_of self.now code)) }
+            (λ text. option_map text_seen text ≡ option_map text_of_characters (bf_of self.now code)) }
         ensures err { OnErr result
             (IsSomeAnd (bf_of self.now code) (λ characters. 1 < length characters)) }
     {
@@ -310,7 +310,7 @@ impl CMap {
         looks: &mut Looks,
     ) -> Result<Option<BfString>, AllocError>
         ensures value { IfOk result
-            (λ text. option_map text_seen text ≡ option_map text_of (bf_of self.now code)) }
+            (λ text. option_map text_seen text ≡ option_map text_of_characters (bf_of self.now code)) }
         ensures err { OnErr result
             (IsSomeAnd (bf_of self.now code) (λ characters. 1 < length characters)) }
 

@@ -107,6 +107,7 @@ fn is_real(run: &[u8]) -> bool
 }
 
 // Whether a real may end so after `len` digits.
+#[tactic(auto, using(std::proofs::lemmas::List::take_rest))]
 fn ends_real(len: usize, text: &[u8]) -> bool
     requires { len + length text.now < 2 ^ 64 }
     ensures { result ≡ numbers.ends_real len text.now }

@@ -17,6 +17,7 @@ use super::numerals::{digits_number, number_of};
 use super::{Malformed, Name, StringToken, Token};
 
 // The token that a text begins with, and how many bytes it takes with the gap before it.
+#[tactic(auto, using(crate::proofs::Fronts::first_token_is, crate::proofs::Fronts::blank_is))]
 pub(super) fn first_token(text: &[u8]) -> Result<Option<(Token<'_>, usize)>, Malformed>
     ensures outcome { MatchResult result (λ found. MatchOption found (IsBlank text.now)
         (λ first. FirstToken text.now (token_seen first.0) first.1)) (λ _. IsMalformed text.now) }
@@ -49,6 +50,7 @@ fn first_piece(text: &[u8]) -> Option<(Token<'_>, usize)>
 }
 
 // The string that a text begins with, and how many bytes it takes.
+#[tactic(auto, using(crate::proofs::StringLengths::front_is_string))]
 fn string_piece(text: &[u8]) -> Option<(Token<'_>, usize)>
     ensures exact { option_map (λ first. (token_seen first.0, first.1)) result
         ≡ reading.string_of text.now (reading.string_len text.now) }

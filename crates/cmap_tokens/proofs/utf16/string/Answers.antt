@@ -1,4 +1,4 @@
-use Rattle.std.proofs.Common.{[], ◌∷◌, ◌++◌, sym, arith, length-append}
+use Rattle.std.proofs.Common.{[], ◌∷◌, ◌++◌, sym, arith}
 use Rattle.std.proofs.lemmas.Iterator.Adapters.{option_map_id}
 use Rattle.std.proofs.lemmas.Str.{chars-nil, IsUtf8-string_bytes}
 use Rattle.cmap_tokens.proofs.TextsOfUnits.{chars-push, chars-all}
@@ -14,7 +14,4 @@ loop-index-preserved c = record {
 }
 
 pub returns : goal.returns
-returns c =
-    let front = c.args.front.now in
-    let last = c.args.last ∷ [] in
-    chars-all _ (front ++ last) c.loop-index.index _ (omega (arith, c.loop-index-test.false, length-append front last)) c.loop-index.invariant.written
+returns c = chars-all _ c.args.front.now c.args.last c.loop-index.index _ c.loop-index-test.false c.loop-index.invariant.written

@@ -1,6 +1,5 @@
 use Rattle.std.proofs.Common.{arith}
 use Rattle.std.proofs.lemmas.Grind.{common_steps}
-use Rattle.cmap_binary.proofs.BytesTaken.{moved-past}
 use Rattle.cmap_binary.proofs.bits.Reader.eat_until.Goals as goal
 
 pub loop-byte-preserved : goal.loop-byte-preserved
@@ -8,6 +7,3 @@ loop-byte-preserved g c = grind (arith, common_steps)
 
 pub returns-clause-value : goal.returns-clause-value
 returns-clause-value g c = grind (arith, common_steps)
-
-pub returns-clause-moves : goal.returns-clause-moves
-returns-clause-moves g c = moved-past _ _ c.self.inside.byte c.self.inside.bit c.loop-byte.count c.self.view_is (omega arith)

@@ -5,7 +5,7 @@ use Rattle.std.proofs.lemmas.Result.{MatchResult-from_err}
 use Rattle.cmap_tokens.specs.Gaps.{IsBlank}
 use Rattle.cmap_tokens.specs.Tokens.{IsMalformed}
 use Rattle.cmap_tokens.specs.Scanner.{rest_of}
-use Rattle.cmap_tokens.proofs.Fronts.{read_token, not_blank, not_malformed, left_after, leaves_blank, leaves_malformed}
+use Rattle.cmap_tokens.proofs.Fronts.{front_not_blank, read_token, left_after, leaves_blank, leaves_malformed}
 use Rattle.cmap_tokens.proofs.token.Scanner.next_token.Goals as goal
 
 pub returns-in_err-token : goal.returns-in_err-token
@@ -38,8 +38,8 @@ returns c =
     let read = read_token _ _ _ c.in-Some.len _ c.self.view_is (take_rest _ c.self.inside.offset) (rw c.in-Some.is at c.in_ok-token.ensures.outcome) in
     record {
       token = read;
-      end = (λ e. cc, λ blank. absurd (not_blank _ _ _ read blank));
-      malformed = (λ e. absurd (false≢true e), λ malformed. absurd (not_malformed _ _ _ read malformed));
+      end = (λ e. cc, λ blank. absurd (front_not_blank read.2.front blank));
+      malformed = (λ e. absurd (false≢true e), λ malformed. absurd (malformed.1 _ _ _ _ read.2.front));
       end_stays = search rules;
       err_stays = search rules;
       left = left_after _ _ _ read;
