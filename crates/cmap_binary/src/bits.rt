@@ -2,7 +2,6 @@
 
 ghost use Rattle.std.specs.Prelude.{◌≡◌, ℕ, ◌/◌, ◌≤◌, ◌↔◌, Bool, List, [], ◌∷◌, ◌++◌, length, option_map, is_some, slice_get, IsTrue, IfSome, if◌then◌else◌, nat_le, ◌&&◌};
 ghost use Rattle.std.specs.List.{before_first};
-ghost use Rattle.cmap_files.specs.BigEndian.{big_endian};
 ghost use Rattle.cmap_binary.specs.Reader.{bits_left, bytes_left, IsAtByte, after_bits, after_bytes, front, number_at, AnswersByByte, AnswersBy};
 ghost use Rattle.cmap_binary.specs.PrefixWords.{bits};
 
