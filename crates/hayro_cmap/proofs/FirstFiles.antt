@@ -1,5 +1,5 @@
 -- The files that are opened first, up to the one that names lead to, are a front of all that are opened.
-use Rattle.std.proofs.Common.{◌≡◌, refl, sym, ap, ◌∙◌, subst, ℕ, zero, suc, true, false, true≢false, ◌⊎◌, List, [], ◌∷◌, ◌++◌, length, Option, Some, None, inl, inr, append-nil, append_assoc}
+use Rattle.std.proofs.Common.{◌≡◌, sym, ap, ◌∙◌, subst, ℕ, zero, suc, true, false, true≢false, List, [], ◌∷◌, ◌++◌, length, Option, Some, None, inl, inr, append-nil, append_assoc}
 use Rattle.cmap_files.specs.Files.{File}
 use Rattle.hayro_cmap.specs.Answers.{IsByName}
 use Rattle.hayro_cmap.specs.Budgets.{Trail, Opens, OpensEach, OpensEachFirst, OpensFirst, OpensUse, OpensUseFirst}
