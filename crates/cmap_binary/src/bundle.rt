@@ -33,9 +33,9 @@ pub(crate) struct Tables {
 
 impl<'b> Bundle<'b> {
     /// The bundle that the bytes are: four bytes that say how long the piece with the two prefix
-    /// tables is, that piece, and files up to the end. `None` where they are no bundle.
+    /// tables is, that piece, and files up to the end. `None` where they are invalid.
     ///
-    /// It fails only where there is no memory.
+    /// It fails only if memory runs out.
     pub fn parse(alloc: Global, mut bytes: &'b [u8]) -> Result<Option<Bundle<'b>>, AllocError>
         ensures { IfOk result (Finds (IsBundle bytes.now) bundle_seen) }
     {

@@ -36,9 +36,9 @@ impl Model for OwnedBundle {
 }
 
 impl OwnedBundle {
-    /// The bundle that the bytes are, as `Bundle::parse` has it; `None` where they are no bundle.
+    /// The bundle that the bytes are, as `Bundle::parse` has it; `None` where they are invalid.
     ///
-    /// It fails only where there is no memory.
+    /// It fails only if memory runs out.
     pub fn parse(alloc: Global, bytes: &[u8]) -> Result<Option<OwnedBundle>, AllocError>
         ensures { IfOk result (Finds (IsBundle bytes.now) (λ bundle. bundle)) }
     {

@@ -45,12 +45,12 @@ impl Model for PrefixTable {
 }
 
 impl PrefixTable {
-    /// The table that stands next, whose symbols have four bytes each: two bytes that are 0 where
+    /// The table that comes next, whose symbols have four bytes each: two bytes that are 0 where
     /// there is no symbol, a byte that says how many lengths are counted, the counts of two bytes
     /// each from length 1 on, and the symbols, all big-endian. `None` where none stands there:
     /// where bytes are missing, a word is longer than 32 bits, or there are more words than fit.
     ///
-    /// It fails only where there is no memory. Only a table moves the reader, to the byte after
+    /// It fails only if memory runs out. Only a table moves the reader, to the byte after
     /// it.
     pub fn parse_delta(
         alloc: Global,
@@ -62,7 +62,7 @@ impl PrefixTable {
         parse(alloc, reader, 4)
     }
 
-    /// The table that stands next, whose symbols have one byte each. All else is as in
+    /// The table that comes next, whose symbols have one byte each. All else is as in
     /// `parse_delta`.
     pub fn parse_count(
         alloc: Global,

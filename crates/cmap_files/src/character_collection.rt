@@ -47,7 +47,7 @@ pub enum CidFamily {
 impl CidFamily {
     /// The family of this registry and ordering; `Custom` unless it is one of the other five.
     ///
-    /// It fails only where there is no memory. Only a `Custom` takes some.
+    /// It fails only if memory runs out. Only a `Custom` takes some.
     pub fn from_registry_ordering(
         alloc: Global,
         registry: &[u8],
@@ -144,7 +144,7 @@ impl CidFamily {
 
     /// A copy of the family.
     ///
-    /// It fails only where there is no memory. Only a `Custom` takes some.
+    /// It fails only if memory runs out. Only a `Custom` takes some.
     pub fn clone(&self, alloc: Global) -> Result<CidFamily, AllocError>
         ensures same { IfOk result (λ copy. family_seen copy ≡ family_seen self.now) }
         ensures err { OnErr result (IsCustom (family_seen self.now)) }
@@ -182,7 +182,7 @@ pub struct CharacterCollection {
 impl CharacterCollection {
     /// A copy of the collection.
     ///
-    /// It fails only where there is no memory. Only one of a `Custom` family takes some.
+    /// It fails only if memory runs out. Only one of a `Custom` family takes some.
     pub fn clone(&self, alloc: Global) -> Result<CharacterCollection, AllocError>
         ensures same { IfOk result (λ copy. collection_seen copy ≡ collection_seen self.now) }
         ensures err { OnErr result (IsCustom (family_seen self.now.family)) }

@@ -136,7 +136,7 @@ impl Lists {
 
     /// Makes room for this number of further declarations of CIDs for codes of this length.
     ///
-    /// It fails only where there is no memory.
+    /// It fails only if memory runs out.
     pub fn reserve_cids(&mut self, len: CodeLength, additional: usize) -> Result<(), AllocError>
         ensures same { lists_seen self.new ≡ lists_seen self.old }
         ensures room { OnOk result (let list = slot self.new.cids len in

@@ -21,7 +21,7 @@ pub struct Metadata {
 impl Metadata {
     /// A copy of the metadata.
     ///
-    /// It fails only where there is no memory. Only a name and a `Custom` family take some.
+    /// It fails only if memory runs out. Only a name and a `Custom` family take some.
     pub fn clone(&self, alloc: Global) -> Result<Metadata, AllocError>
         ensures same { IfOk result (λ copy. metadata_seen copy ≡ metadata_seen self.now) }
         ensures err { OnErr result (HoldsTexts (metadata_seen self.now)) }

@@ -20,7 +20,7 @@ pub enum Units {
 impl Units {
     /// These units.
     ///
-    /// It fails only where there is no memory. Up to four units take none.
+    /// It fails only if memory runs out. Up to four units take none.
     pub fn from_slice(alloc: Global, units: &[u16]) -> Result<Units, AllocError>
         ensures units { IfOk result (λ made. units_seen made ≡ units.now) }
         ensures few { length units.now ≤ 4 → IsOk result }
@@ -54,7 +54,7 @@ impl Units {
 
     /// A copy of the units.
     ///
-    /// It fails only where there is no memory. A copy of up to four units takes none.
+    /// It fails only if memory runs out. A copy of up to four units takes none.
     pub fn clone(&self, alloc: Global) -> Result<Units, AllocError>
         ensures units { IfOk result (λ copy. units_seen copy ≡ units_seen self.now) }
         ensures few { length (units_seen self.now) ≤ 4 → IsOk result }

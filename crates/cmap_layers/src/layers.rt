@@ -35,7 +35,7 @@ pub struct DeclarationCounts {
 impl Layer {
     /// The layer of a file with this metadata and these declarations.
     ///
-    /// It fails only where there is no memory.
+    /// It fails only if memory runs out.
     pub fn build(alloc: Global, metadata: Metadata, lists: Lists) -> Result<Layer, AllocError>
         ensures { IfOk result (λ layer. layer_seen layer
             ≡ record { metadata = metadata_seen metadata; lists = lists_seen lists }) }

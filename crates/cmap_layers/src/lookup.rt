@@ -43,7 +43,7 @@ pub fn cid_of(layers: &[Layer], code: u32, byte_len: u8, looks: &mut Looks) -> O
 /// The text of a code; what is looked at is counted.
 ///
 /// It is `None` where no declaration contains the code, and where the one that decides gives no
-/// text. It fails only where there is no memory, and only a `String` takes some. ISO 32000-1, 9.10.3.
+/// text. It fails only if memory runs out, and only a `String` takes some. ISO 32000-1, 9.10.3.
 pub fn bf_of(
     alloc: Global,
     layers: &[Layer],

@@ -121,14 +121,14 @@ impl<'a> StringToken<'a> {
         Ok(())
     }
 
-    // Whether it stands between `<` and `>`, and not in parentheses.
+    /// Whether it stands between `<` and `>`, and not in parentheses.
     fn is_hexadecimal(&self) -> bool
         ensures { result ≡ (get_or (string_raw self.now) 0 0 == less) }
     {
         matches!(self.raw, [b'<', ..])
     }
 
-    // What stands between the brackets.
+    /// What stands between the brackets.
     #[tactic(auto, using(crate::proofs::StringValues::has_brackets))]
     fn body(&self) -> &'a [u8]
         ensures { result.now ≡ inside (string_raw self.now) }
@@ -142,16 +142,16 @@ impl<'a> StringToken<'a> {
 pub enum Number {
     /// `-17`, `08`, `16#1F`: an integer, in the base that it names or in base 10.
     Integer(i64),
-    /// `4.5`, `1E9`: a real, whose value isn't told, or an integer that `i64` doesn't hold.
+    /// `4.5`, `1E9`: a real, whose value isn't given, or an integer that `i64` doesn't hold.
     Real,
 }
 
-/// What stands next in a text is no token: a string without an end, another byte than a digit in a
+/// What comes next in a text isn't a token: a string without an end, another byte than a digit in a
 /// hexadecimal string, or a `)` or `>` alone.
 #[derive(Clone, Copy, Debug, PartialEq, Eq)]
 pub struct Malformed;
 
-/// Reads the tokens of a text in order. White space and comments separate them and are none
+/// Reads the tokens of a text in order. White space and comments separate them and aren't tokens
 /// (PostScript Language Reference, third edition, 3.2.1). A clause sees the text and how many of
 /// its bytes have been passed.
 #[derive(Debug, Drop)]

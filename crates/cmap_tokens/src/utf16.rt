@@ -28,7 +28,7 @@ impl BfString {
 
     /// Another text with the characters of this one.
     ///
-    /// It fails only where there is no memory. Only a `String` takes some.
+    /// It fails only if memory runs out. Only a `String` takes some.
     pub fn clone(&self, alloc: Global) -> Result<BfString, AllocError>
         ensures same { IfOk result (λ copy. text_seen copy ≡ text_seen self.now) }
         ensures err { OnErr result
@@ -44,7 +44,7 @@ impl BfString {
 /// The 16-bit units that the bytes of a destination write, the high byte of each first. Of an odd
 /// number of bytes the first one is a unit by itself.
 ///
-/// It fails only where there is no memory.
+/// It fails only if memory runs out.
 pub fn units(alloc: Global, bytes: &[u8]) -> Result<Vec<u16>, AllocError>
     ensures { IfOk result (λ v. v.items ≡ units_of bytes.now) }
 {
@@ -64,7 +64,7 @@ pub fn units(alloc: Global, bytes: &[u8]) -> Result<Vec<u16>, AllocError>
 /// these are. The offset is added to the last unit. `None` where there is no unit, where the sum
 /// is no unit, or where a surrogate stands alone.
 ///
-/// It fails only where there is no memory. Only a `String` takes some.
+/// It fails only if memory runs out. Only a `String` takes some.
 pub fn text(alloc: Global, units: &[u16], offset: u32) -> Result<Option<BfString>, AllocError>
     ensures value { IfOk result
         (λ t. option_map text_seen t ≡ option_map text_of_characters (text_at units.now offset)) }
@@ -90,7 +90,7 @@ pub fn one_char(units: &[u16], offset: u32) -> Option<char>
     only_char(front, last)
 }
 
-// The units before the last one, and the last one with the offset added.
+/// The units before the last one, and the last one with the offset added.
 fn shifted(units: &[u16], offset: u32) -> Option<(&[u16], u16)>
     ensures { texts.shifted units.now offset ≡ option_map (λ x. x.0.now ++ x.1 ∷ []) result }
 {
@@ -101,7 +101,7 @@ fn shifted(units: &[u16], offset: u32) -> Option<(&[u16], u16)>
     Some((front, last))
 }
 
-// The character that the units of `front` and `last` spell, where it is just one.
+/// The character that the units of `front` and `last` spell, where it is just one.
 fn only_char(front: &[u16], last: u16) -> Option<char>
     ensures { result ≡ only_character (characters (front.now ++ last ∷ [])) }
 {
@@ -109,7 +109,7 @@ fn only_char(front: &[u16], last: u16) -> Option<char>
     (after > front.len()).then_some(first)
 }
 
-// The character that begins at an index of the units of `front` and `last`, and the index after it.
+/// The character that begins at an index of the units of `front` and `last`, and the index after it.
 fn char_at(front: &[u16], last: u16, index: usize) -> Option<(char, usize)>
     requires { index ≤ length front.now }
     ensures value { characters (drop index (front.now ++ last ∷ [])) ≡ option_and_then (λ x.
@@ -124,7 +124,7 @@ fn char_at(front: &[u16], last: u16, index: usize) -> Option<(char, usize)>
     Some((char::from_u32(u32::from(first))?, index + 1))
 }
 
-// The unit at an index, and 0 past the end.
+/// The unit at an index, and 0 past the end.
 fn unit_at(front: &[u16], last: u16, index: usize) -> u16
     ensures { result ≡ get_or (front.now ++ last ∷ []) index 0 }
 {
@@ -137,7 +137,7 @@ fn unit_at(front: &[u16], last: u16, index: usize) -> u16
     }
 }
 
-// The character of a surrogate pair.
+/// The character of a surrogate pair.
 fn pair(high: u16, low: u16) -> Option<char>
     ensures value { result ≡ (if is_high_surrogate high && is_low_surrogate low
         then Some (surrogate_pair_char high low) else None) }
@@ -150,7 +150,7 @@ fn pair(high: u16, low: u16) -> Option<char>
     }
 }
 
-// No surrogate stands alone.
+/// No surrogate stands alone.
 #[tactic(auto, using(crate::proofs::TextsOfUnits::characters_end))]
 fn is_well_formed(front: &[u16], last: u16) -> bool
     ensures { result ≡ is_some (characters (front.now ++ last ∷ [])) }
@@ -165,7 +165,7 @@ fn is_well_formed(front: &[u16], last: u16) -> bool
     true
 }
 
-// All the characters of the units of `front` and `last`.
+/// All the characters of the units of `front` and `last`.
 fn string(alloc: Global, front: &[u16], last: u16) -> Result<String, AllocError>
     requires { is_some (characters (front.now ++ last ∷ [])) ≡ true }
     ensures { IfOk result

@@ -73,7 +73,7 @@ impl BundleFiles for OwnedBundle {
     }
 }
 
-/// The files of a bundle by their names; without a bundle there is none.
+/// The files of a bundle by their names; without a bundle no name has a file.
 impl<B: BundleFiles> Source for Option<&B> {
     ghost use Rattle.std.specs.Prelude.{⊤, option_map};
 

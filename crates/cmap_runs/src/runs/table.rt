@@ -44,7 +44,7 @@ impl<T: HasRange> Model for Table<T> {
 impl<T: HasRange> Table<T> {
     /// The table of the declarations of `list`, in this order.
     ///
-    /// It fails only where there is no memory, and `list` is dropped then. No other call takes
+    /// It fails only if memory runs out, and `list` is dropped then. No other call takes
     /// some.
     pub fn build(alloc: Global, list: Vec<T>) -> Result<Table<T>, AllocError>
         ensures { IfOk result (λ table. table ≡ list.items) }

@@ -10,7 +10,7 @@ const WHITE: u8 = 1;
 
 const REGULAR: u8 = 2;
 
-// The sum of the classes of each byte. A delimiter has none.
+/// The sum of the classes of each byte. A delimiter has none.
 static CLASSES: [u8; 256] = [
     1, 2, 2, 2, 2, 2, 2, 2, 2, 1, 1, 2, 1, 1, 2, 2, 2, 2, 2, 2, 2, 2, 2, 2, 2, 2, 2, 2, 2, 2, 2, 2,
     1, 2, 2, 2, 2, 0, 2, 2, 0, 0, 2, 2, 2, 2, 2, 0, 2, 2, 2, 2, 2, 2, 2, 2, 2, 2, 2, 2, 0, 2, 0, 2,
@@ -22,7 +22,7 @@ static CLASSES: [u8; 256] = [
     2, 2, 2, 2, 2, 2, 2, 2, 2, 2, 2, 2, 2, 2, 2, 2, 2, 2, 2, 2, 2, 2, 2, 2, 2, 2, 2, 2, 2, 2, 2, 2,
 ];
 
-// The value of each byte as a digit, and 36 for any other byte.
+/// The value of each byte as a digit, and 36 for any other byte.
 static DIGITS: [u8; 256] = [
     36, 36, 36, 36, 36, 36, 36, 36, 36, 36, 36, 36, 36, 36, 36, 36, 36, 36, 36, 36, 36, 36, 36, 36,
     36, 36, 36, 36, 36, 36, 36, 36, 36, 36, 36, 36, 36, 36, 36, 36, 36, 36, 36, 36, 36, 36, 36, 36,
@@ -49,7 +49,7 @@ pub(super) fn is_regular(byte: u8) -> bool
     CLASSES[byte as usize] & REGULAR != 0
 }
 
-// The value of a digit or letter, from 0 to 35, and 36 for any other byte.
+/// The value of a digit or letter, from 0 to 35, and 36 for any other byte.
 pub(super) fn digit_value(byte: u8) -> u8
     ensures { result ≡ digit_value byte }
 {

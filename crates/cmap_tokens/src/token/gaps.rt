@@ -9,7 +9,7 @@ use super::byte_class::is_white;
 
 pub(super) const FORM_FEED: u8 = 12;
 
-// How many bytes of white space and comments a text begins with.
+/// How many bytes of white space and comments a text begins with.
 pub(super) fn gap_len(text: &[u8]) -> usize
     ensures exact { result ≡ reading.gap_len false text.now }
     ensures within { result ≤ length text.now }
@@ -28,7 +28,7 @@ pub(super) fn gap_len(text: &[u8]) -> usize
     i
 }
 
-// How many bytes are left of a comment, with the byte that ends it.
+/// How many bytes are left of a comment, with the byte that ends it.
 fn comment_len(text: &[u8]) -> usize
     ensures exact { reading.gap_len true text.now
         ≡ result + reading.gap_len false (drop result text.now) }

@@ -8,7 +8,7 @@ ghost use Rattle.cmap_tokens.specs.TokenReading as reading;
 
 use super::byte_class::{digit_value, is_regular, is_white};
 
-// How many regular bytes a text begins with.
+/// How many regular bytes a text begins with.
 pub(super) fn run_len(text: &[u8]) -> usize
     ensures exact { result ≡ prefix_len is_regular text.now }
     ensures within { result ≤ length text.now }
@@ -21,7 +21,7 @@ pub(super) fn run_len(text: &[u8]) -> usize
     text.len()
 }
 
-// How many bytes the string takes that a text begins with, `None` where it begins with none.
+/// How many bytes the string takes that a text begins with, `None` where it begins with none.
 pub(super) fn string_len(text: &[u8]) -> Option<usize>
     ensures exact { result ≡ reading.string_len text.now }
     ensures within { IfSome result (λ len. len ≤ length text.now) }
@@ -33,7 +33,7 @@ pub(super) fn string_len(text: &[u8]) -> Option<usize>
     }
 }
 
-// How many bytes show that no token comes, where a text begins with none.
+/// How many bytes show that no token comes, where a text begins with none.
 pub(super) fn malformed_len(text: &[u8]) -> usize
     ensures exact { result ≡ reading.malformed_len text.now }
     ensures within { result ≤ length text.now }
@@ -46,7 +46,7 @@ pub(super) fn malformed_len(text: &[u8]) -> usize
     }
 }
 
-// How many digits and white bytes a text begins with.
+/// How many digits and white bytes a text begins with.
 fn hex_body_len(text: &[u8]) -> usize
     ensures exact { result ≡ prefix_len is_hex_body text.now }
     ensures within { result ≤ length text.now }
@@ -59,7 +59,7 @@ fn hex_body_len(text: &[u8]) -> usize
     text.len()
 }
 
-// How many bytes a hexadecimal string takes, by the bytes after its `<`.
+/// How many bytes a hexadecimal string takes, by the bytes after its `<`.
 fn hex_len(text: &[u8]) -> Option<usize>
     ensures exact { result ≡ reading.one_more (reading.hex_len text.now) }
     ensures within { IfSome result (λ len. len ≤ 1 + length text.now) }
@@ -71,7 +71,7 @@ fn hex_len(text: &[u8]) -> Option<usize>
     }
 }
 
-// How many bytes a string in parentheses takes, by the bytes after its `(`.
+/// How many bytes a string in parentheses takes, by the bytes after its `(`.
 fn text_len(text: &[u8]) -> Option<usize>
     ensures exact { result ≡ reading.one_more (reading.text_len opened text.now) }
     ensures within { IfSome result (λ len. len ≤ 1 + length text.now) }

@@ -9,7 +9,7 @@ ghost use Rattle.cmap_tokens.specs.NumberSeen.{number_seen};
 use super::Number;
 use super::byte_class::{digit_value, is_regular, is_white};
 
-// The decimal number that a text begins with after one white byte, and how many digits it has.
+/// The decimal number that a text begins with after one white byte, and how many digits it has.
 #[tactic(auto, using(std::proofs::lemmas::List::take_rest))]
 pub(super) fn blank_decimal(text: &[u8]) -> Option<(u64, usize)>
     ensures front { result ≡ spaced_decimal text.now }
@@ -21,8 +21,8 @@ pub(super) fn blank_decimal(text: &[u8]) -> Option<(u64, usize)>
     }
 }
 
-// The number of one to 18 decimal digits that a text begins with, and how many these are. `None`
-// where more digits come, or a regular byte, or nothing.
+/// The number of one to 18 decimal digits that a text begins with, and how many these are. `None`
+/// where more digits come, or a regular byte, or nothing.
 fn decimal(text: &[u8]) -> Option<(u64, usize)>
     ensures front { result ≡ numbers.decimal_front text.now }
     ensures within { IfSome result (λ first. first.1 ≤ length text.now) }
@@ -44,7 +44,7 @@ fn decimal(text: &[u8]) -> Option<(u64, usize)>
     None
 }
 
-// The number that a run of regular bytes is spelled as.
+/// The number that a run of regular bytes is spelled as.
 #[tactic(auto, unfolding(crate::specs::Numbers::numeral))]
 pub(super) fn number_of(run: &[u8]) -> Option<Number>
     ensures { option_map number_seen result ≡ numbers.numeral run.now }
@@ -60,7 +60,7 @@ pub(super) fn number_of(run: &[u8]) -> Option<Number>
     }
 }
 
-// `-17`, `+4`, `08`
+/// `-17`, `+4`, `08`
 #[tactic(auto, unfolding(crate::specs::Numbers::integer))]
 fn integer_of(run: &[u8]) -> Option<Number>
     ensures { option_map number_seen result ≡ numbers.integer run.now }
@@ -72,7 +72,7 @@ fn integer_of(run: &[u8]) -> Option<Number>
     }
 }
 
-// `16#1F`: a base of one or two digits.
+/// `16#1F`: a base of one or two digits.
 #[tactic(auto, unfolding(crate::specs::Numbers::radix_integer))]
 fn radix_integer_of(run: &[u8]) -> Option<Number>
     ensures { option_map number_seen result ≡ numbers.radix_integer run.now }
@@ -84,7 +84,7 @@ fn radix_integer_of(run: &[u8]) -> Option<Number>
     }
 }
 
-// The integer that digits write in a base from 2 to 36.
+/// The integer that digits write in a base from 2 to 36.
 #[tactic(auto, unfolding(crate::specs::Numbers::integer_in_base))]
 fn integer_in_base(base: &[u8], digits: &[u8]) -> Option<Number>
     ensures { option_map number_seen result ≡ numbers.integer_in_base base.now digits.now }
@@ -96,7 +96,7 @@ fn integer_in_base(base: &[u8], digits: &[u8]) -> Option<Number>
     integer(false, base, digits)
 }
 
-// `4.5`, `-.5e3`, `1E9`: with a dot or an exponent.
+/// `4.5`, `-.5e3`, `1E9`: with a dot or an exponent.
 #[tactic(auto, unfolding(crate::specs::Numbers::is_real))]
 fn is_real(run: &[u8]) -> bool
     ensures { result ≡ numbers.is_real run.now }
@@ -106,7 +106,7 @@ fn is_real(run: &[u8]) -> bool
     ends_real(len, &unsigned[len..])
 }
 
-// Whether a real may end so after `len` digits.
+/// Whether a real may end so after `len` digits.
 #[tactic(auto, using(std::proofs::lemmas::List::take_rest))]
 fn ends_real(len: usize, text: &[u8]) -> bool
     requires { len + length text.now < 2 ^ 64 }
@@ -122,7 +122,7 @@ fn ends_real(len: usize, text: &[u8]) -> bool
     }
 }
 
-// How many digits of a base a text begins with.
+/// How many digits of a base a text begins with.
 pub(super) fn digits_len(base: u8, text: &[u8]) -> usize
     ensures exact { result ≡ numbers.digits_len base text.now }
     ensures within { result ≤ length text.now }
@@ -135,7 +135,7 @@ pub(super) fn digits_len(base: u8, text: &[u8]) -> usize
     text.len()
 }
 
-// `e5`, `E-12`
+/// `e5`, `E-12`
 fn is_exponent(text: &[u8]) -> bool
     ensures { result ≡ numbers.is_exponent text.now }
 {
@@ -154,7 +154,7 @@ fn without_sign(text: &[u8]) -> &[u8]
     }
 }
 
-// The number that one or more digits of a base write, or `u64::MAX` where it is larger.
+/// The number that one or more digits of a base write, or `u64::MAX` where it is larger.
 pub(super) fn digits_number(base: u64, text: &[u8]) -> Option<u64>
     requires low { 2 ≤ base }
     requires high { base ≤ 36 }
@@ -174,7 +174,7 @@ pub(super) fn digits_number(base: u64, text: &[u8]) -> Option<u64>
     Some(number)
 }
 
-// The integer that digits of a base write after a sign.
+/// The integer that digits of a base write after a sign.
 fn integer(is_negative: bool, base: u64, digits: &[u8]) -> Option<Number>
     requires low { 2 ≤ base }
     requires high { base ≤ 36 }

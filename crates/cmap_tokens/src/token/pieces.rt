@@ -16,7 +16,7 @@ use super::lengths::{run_len, string_len};
 use super::numerals::{digits_number, number_of};
 use super::{Malformed, Name, StringToken, Token};
 
-// The token that a text begins with, and how many bytes it takes with the gap before it.
+/// The token that a text begins with, and how many bytes it takes with the gap before it.
 #[tactic(auto, using(crate::proofs::Fronts::first_token_is, crate::proofs::Fronts::blank_is))]
 pub(super) fn first_token(text: &[u8]) -> Result<Option<(Token<'_>, usize)>, Malformed>
     ensures outcome { MatchResult result (λ found. MatchOption found (IsBlank text.now)
@@ -32,7 +32,7 @@ pub(super) fn first_token(text: &[u8]) -> Result<Option<(Token<'_>, usize)>, Mal
     }
 }
 
-// The token that a text begins with, with no gap before it, and how many bytes it takes.
+/// The token that a text begins with, with no gap before it, and how many bytes it takes.
 #[tactic(auto, unfolding(crate::specs::TokenReading::first_piece))]
 fn first_piece(text: &[u8]) -> Option<(Token<'_>, usize)>
     ensures exact { option_map (λ first. (token_seen first.0, first.1)) result
@@ -49,7 +49,7 @@ fn first_piece(text: &[u8]) -> Option<(Token<'_>, usize)>
     }
 }
 
-// The string that a text begins with, and how many bytes it takes.
+/// The string that a text begins with, and how many bytes it takes.
 #[tactic(auto, using(crate::proofs::StringLengths::front_is_string))]
 fn string_piece(text: &[u8]) -> Option<(Token<'_>, usize)>
     ensures exact { option_map (λ first. (token_seen first.0, first.1)) result
@@ -60,7 +60,7 @@ fn string_piece(text: &[u8]) -> Option<(Token<'_>, usize)>
     Some((Token::String(StringToken { raw: &text[..len] }), len))
 }
 
-// The name after a slash, and how many bytes both take.
+/// The name after a slash, and how many bytes both take.
 fn literal_name(text: &[u8]) -> (Token<'_>, usize)
     ensures token { token_seen result.0
         ≡ tokens.Name true (take (prefix_len is_regular text.now) text.now) }
@@ -75,7 +75,7 @@ fn literal_name(text: &[u8]) -> (Token<'_>, usize)
     (Token::Name(name), 1 + len)
 }
 
-// The number or the name that a run is, which a text begins with, and how many bytes it takes.
+/// The number or the name that a run is, which a text begins with, and how many bytes it takes.
 fn run_piece(text: &[u8]) -> (Token<'_>, usize)
     ensures token { token_seen result.0
         ≡ name_or_number (take (prefix_len is_regular text.now) text.now) }
@@ -98,11 +98,11 @@ fn executable_name(bytes: &[u8]) -> Token<'_>
     })
 }
 
-// How many bytes one white byte and a string of two bytes take, whose digits stand in pairs.
+/// How many bytes one white byte and a string of two bytes take, whose digits stand in pairs.
 pub(super) const TWO_BYTES_LEN: usize = 7;
 
-// The number that two bytes write, whose string, such as `<8140>`, a text begins with after one white
-// byte.
+/// The number that two bytes write, whose string, such as `<8140>`, a text begins with after one white
+/// byte.
 pub(super) fn two_bytes(text: &[u8]) -> Option<u16>
     ensures front { result ≡ spaced_two_bytes text.now }
     ensures within { IfSome result (λ _. 7 ≤ length text.now) }

@@ -10,8 +10,8 @@ use super::byte_class::{BACKSPACE, digit_value};
 use super::gaps::FORM_FEED;
 use super::numerals::{digits_len, digits_number};
 
-// How many bytes digits in pairs stand for, one to four, and the number that the bytes write, the
-// high one first.
+/// How many bytes digits in pairs stand for, one to four, and the number that the bytes write, the
+/// high one first.
 pub(super) fn pairs_number(digits: &[u8]) -> Option<(u8, u32)>
     ensures value { MatchOption result (ArePairs digits.now → ⊥)
         (λ first. ArePairs digits.now × (first.0 ≡ length (hex_value digits.now))
@@ -27,7 +27,7 @@ pub(super) fn pairs_number(digits: &[u8]) -> Option<(u8, u32)>
     Some((len as u8 / 2, number as u32))
 }
 
-// Appends the bytes of hexadecimal digits, white space among them.
+/// Appends the bytes of hexadecimal digits, white space among them.
 pub(super) fn decode_hex(digits: &[u8], out: &mut Vec<u8>)
     requires { vec_len out.old + length digits.now ≤ vec_capacity out.old }
     ensures { out.new.items ≡ out.old.items ++ hex_value digits.now }
@@ -50,7 +50,7 @@ pub(super) fn decode_hex(digits: &[u8], out: &mut Vec<u8>)
     }
 }
 
-// Appends the bytes that the body of a string in parentheses stands for.
+/// Appends the bytes that the body of a string in parentheses stands for.
 pub(super) fn decode_text(body: &[u8], out: &mut Vec<u8>)
     requires { vec_len out.old + length body.now ≤ vec_capacity out.old }
     ensures { out.new.items ≡ out.old.items ++ text_value body.now }
@@ -65,7 +65,7 @@ pub(super) fn decode_text(body: &[u8], out: &mut Vec<u8>)
     }
 }
 
-// The byte that the first part of a body stands for, if any, and how many bytes the part takes.
+/// The byte that the first part of a body stands for, if any, and how many bytes the part takes.
 #[tactic(auto, unfolding(crate::specs::TokenReading::first_part))]
 fn first_part(body: &[u8]) -> (Option<u8>, usize)
     requires { 0 < length body.now }
@@ -86,7 +86,7 @@ fn first_part(body: &[u8]) -> (Option<u8>, usize)
     }
 }
 
-// The byte that is meant after a backslash, if any, and how many bytes tell it.
+/// The byte that is meant after a backslash, if any, and how many bytes it takes.
 #[tactic(auto, unfolding(crate::specs::TokenReading::escape))]
 fn escape(text: &[u8]) -> (Option<u8>, usize)
     ensures exact { result ≡ reading.escape text.now }
@@ -106,7 +106,7 @@ fn escape(text: &[u8]) -> (Option<u8>, usize)
     }
 }
 
-// How many bytes the end of a line takes, by what follows its carriage return.
+/// How many bytes the end of a line takes, by what follows its carriage return.
 fn return_len(text: &[u8]) -> usize
     ensures exact { result ≡ reading.return_len text.now }
     ensures within { result ≤ 1 + length text.now }
@@ -117,7 +117,7 @@ fn return_len(text: &[u8]) -> usize
     }
 }
 
-// The byte that a letter means after a backslash. Any other byte means itself.
+/// The byte that a letter means after a backslash. Any other byte means itself.
 fn escaped_byte(byte: u8) -> u8
     ensures { result ≡ escape_value byte }
 {
@@ -131,7 +131,7 @@ fn escaped_byte(byte: u8) -> u8
     }
 }
 
-// The value of up to three octal digits, modulo 256, and how many there are.
+/// The value of up to three octal digits, modulo 256, and how many there are.
 fn octal(text: &[u8]) -> (u8, usize)
     ensures exact { result ≡ reading.octal text.now }
     ensures within { result.1 ≤ length text.now }
