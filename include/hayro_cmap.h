@@ -44,7 +44,7 @@ extern "C" {
 #endif
 
 /* The version of this header. That of the library: hayro_cmap_version. */
-#define HAYRO_CMAP_VERSION "0.1.1"
+#define HAYRO_CMAP_VERSION "1.0.0"
 
 /* A map, or none. */
 typedef struct hayro_cmap {
@@ -70,6 +70,23 @@ typedef struct hayro_cmap_file {
     size_t bytes_len;
 } hayro_cmap_file;
 
+/* A code of a string, with its CID. */
+typedef struct hayro_cmap_code {
+    uint32_t code;        /* the number that its bytes write, the first one high */
+    uint32_t cid;         /* its CID, or 0 where it has none */
+    uint8_t byte_len;     /* how many bytes it has, 1 to 4 */
+    uint8_t in_codespace; /* 1 where it lies in a codespace range, else 0 */
+    uint8_t has_cid;      /* 1 where it has a CID, else 0 */
+    uint8_t cut_short;    /* 1 where the string ends before the code does, else 0 */
+} hayro_cmap_code;
+
+/* A codespace range: codes of `byte_len` bytes, each byte between those of `low` and `high`. */
+typedef struct hayro_cmap_codespace {
+    uint32_t low;
+    uint32_t high;
+    uint32_t byte_len; /* 1 to 4 */
+} hayro_cmap_codespace;
+
 /* How a call ends. It is an int of 32 bits. */
 typedef enum hayro_cmap_status {
     HAYRO_CMAP_OK = 0,           /* there is an answer, and it is written */
@@ -87,6 +104,59 @@ typedef enum hayro_cmap_mode {
     HAYRO_CMAP_VERTICAL = 1,
     HAYRO_CMAP_NO_MODE = 2 /* the file gives none, or there is no map */
 } hayro_cmap_mode;
+
+/* What is wrong with the file at fault. */
+typedef enum hayro_cmap_cause {
+    HAYRO_CMAP_MALFORMED = 1,    /* it is outside the grammar */
+    HAYRO_CMAP_NO_FILE = 2,      /* no file has its name */
+    HAYRO_CMAP_CHAIN_LENGTH = 3, /* it would be the seventeenth of a chain */
+    HAYRO_CMAP_PAST_BUDGET = 4   /* it has more bytes than are left of the budget */
+} hayro_cmap_cause;
+
+/* What is wrong where the reading of a malformed file stopped. */
+typedef enum hayro_cmap_reason {
+    HAYRO_CMAP_NO_REASON = 0,
+    HAYRO_CMAP_MALFORMED_TOKEN = 1,    /* no token stands here */
+    HAYRO_CMAP_END_WITHIN_SECTION = 2, /* the file ends within a section */
+    HAYRO_CMAP_CODE_EXPECTED = 3,      /* another token than a code */
+    HAYRO_CMAP_CODE_LENGTH = 4,        /* a code of no or of more than four bytes */
+    HAYRO_CMAP_UNEQUAL_LENGTHS = 5,    /* the ends of a codespace range have unequal lengths */
+    HAYRO_CMAP_CID_EXPECTED = 6,       /* another token than a CID */
+    HAYRO_CMAP_TEXT_EXPECTED = 7,      /* another token than the text of a code */
+    HAYRO_CMAP_BRACKET_EXPECTED = 8,   /* another token than the ] after the texts of a range */
+    HAYRO_CMAP_USE_WITHOUT_NAME = 9,   /* usecmap without a name before it */
+    HAYRO_CMAP_HEADER = 10,            /* no whole binary file of version 1 */
+    HAYRO_CMAP_SEGMENT_LENGTH = 11,    /* the last segment of a binary file is cut short */
+    HAYRO_CMAP_SEGMENT_TYPE = 12,      /* a segment of an unknown type */
+    HAYRO_CMAP_FIELD = 13,             /* a field of a segment is cut short */
+    HAYRO_CMAP_ENTRY = 14,             /* an entry of a segment is cut short */
+    HAYRO_CMAP_CODE_TOO_LARGE = 15,    /* a code of an entry of a segment passes 32 bits */
+    HAYRO_CMAP_CID_TOO_LARGE = 16      /* a CID of a binary file passes 32 bits */
+} hayro_cmap_reason;
+
+/* A segment of a binary file, by what it holds. */
+typedef enum hayro_cmap_segment {
+    HAYRO_CMAP_NO_SEGMENT = 0,
+    HAYRO_CMAP_CIDS = 1,
+    HAYRO_CMAP_TEXTS = 2,
+    HAYRO_CMAP_NOTDEFS = 3,
+    HAYRO_CMAP_MODE = 4,
+    HAYRO_CMAP_CODESPACES = 5,
+    HAYRO_CMAP_COLLECTION = 6
+} hayro_cmap_segment;
+
+/* At most so many names lead to a file at fault. */
+#define HAYRO_CMAP_MOST_NAMES 16
+
+/* Why a file gives no map. */
+typedef struct hayro_cmap_fault {
+    uint32_t cause;   /* a hayro_cmap_cause */
+    uint16_t reason;  /* of a malformed file a hayro_cmap_reason, else 0 */
+    uint16_t segment; /* with the reasons 13 to 15 a hayro_cmap_segment, else 0 */
+    size_t offset;    /* of a malformed file: where reading stopped, in bytes; else 0 */
+    size_t names;     /* how many names lead to the file at fault; 0 for the file itself */
+    size_t name_lens[HAYRO_CMAP_MOST_NAMES]; /* how many bytes each of them has; the others are 0 */
+} hayro_cmap_fault;
 
 /* Pointers that aren't null: the argument, or where that is null, one to use with the length 0. */
 static inline const uint8_t *hayro_cmap_bytes(const void *bytes) {
@@ -128,6 +198,46 @@ hayro_cmap_status hayro_cmap_parse_over(hayro_cmap *map, const uint8_t *data, si
                                         const hayro_cmap_file *files, size_t files_len,
                                         uint64_t budget);
 
+/* Reads the CMap file `data` as hayro_cmap_parse_over does, and says why there is no map.
+ *
+ * With HAYRO_CMAP_REFUSED and HAYRO_CMAP_OVER_BUDGET `fault` is why. The names that lead to the file
+ * at fault, each used by the file before it, are written to `room` one after another, whole or not at
+ * all; `fault` has their lengths, and `needed` is how many bytes they have together, more than
+ * `room_len` where they aren't written. With the other statuses nothing is written. Where a text is
+ * malformed before its end, no text that begins with the same bytes, up to and including the one at
+ * `offset`, is a CMap file. */
+hayro_cmap_status hayro_cmap_explain(hayro_cmap *map, const uint8_t *data, size_t data_len,
+                                     hayro_cmap_bundle *bundle,
+                                     const hayro_cmap_file *files, size_t files_len,
+                                     uint64_t budget, hayro_cmap_fault *fault,
+                                     uint8_t *room, size_t room_len, size_t *needed);
+
+/* What is wrong, in English, as "byte 27: a CID was expected", written as a text is. It is
+ * HAYRO_CMAP_ABSENT where the numbers of `fault` are none that hayro_cmap_explain gives. */
+hayro_cmap_status hayro_cmap_message(const hayro_cmap_fault *fault, uint8_t *room, size_t room_len,
+                                     size_t *needed);
+
+/* Reads the file of this name as hayro_cmap_parse_over does, so that what the file says of itself is
+ * what the map says: the first of `files` with the name, else that of the bundle. Where neither has
+ * one, Identity-H and Identity-V are made, and any other name is HAYRO_CMAP_ABSENT. */
+hayro_cmap_status hayro_cmap_open(hayro_cmap *map, const uint8_t *name, size_t name_len,
+                                  hayro_cmap_bundle *bundle,
+                                  const hayro_cmap_file *files, size_t files_len,
+                                  uint64_t budget);
+
+/* The names of the files that the CMap file `data` uses, in the order of the uses. None of them is
+ * asked for. A binary file is read by the tables of the bundle; an empty handle means that there is
+ * none.
+ *
+ * With HAYRO_CMAP_OK `room` begins with the names, one after another, and `name_lens` with their
+ * lengths; `names` is how many they are, and `needed` how many bytes they have together. With
+ * HAYRO_CMAP_NO_ROOM one of the two is too short: `names` and `needed` are written, and neither room
+ * is. With HAYRO_CMAP_REFUSED, where `data` is outside the grammar, and with HAYRO_CMAP_NO_MEMORY
+ * nothing is written. */
+hayro_cmap_status hayro_cmap_uses(const uint8_t *data, size_t data_len, hayro_cmap_bundle *bundle,
+                                  size_t *name_lens, size_t name_lens_len, size_t *names,
+                                  uint8_t *room, size_t room_len, size_t *needed);
+
 /* Opens a bundle, and copies its files, so that its bytes needn't stay. A bundle that the handle has
  * is freed. HAYRO_CMAP_OK; or HAYRO_CMAP_NO_MEMORY or HAYRO_CMAP_NOT_A_BUNDLE, and an empty handle. */
 hayro_cmap_status hayro_cmap_bundle_open(hayro_cmap_bundle *bundle, const uint8_t *bytes,
@@ -139,6 +249,12 @@ hayro_cmap_status hayro_cmap_bundle_share(hayro_cmap_bundle *bundle, hayro_cmap_
 /* Empties the handle, and frees the bundle if no other handle has it. Maps that were read over it
  * stay. */
 void hayro_cmap_bundle_free(hayro_cmap_bundle *bundle);
+
+/* The bytes of the file of this name in a bundle, written as a text is. HAYRO_CMAP_ABSENT where the
+ * bundle has none, and where the handle is empty. */
+hayro_cmap_status hayro_cmap_bundle_file(hayro_cmap_bundle *bundle, const uint8_t *name,
+                                         size_t name_len, uint8_t *room, size_t room_len,
+                                         size_t *needed);
 
 /* Makes the predefined CMap Identity-H, or Identity-V: codes of two bytes are CIDs. A map that the
  * handle has is freed. HAYRO_CMAP_OK, or HAYRO_CMAP_NO_MEMORY and an empty handle. */
@@ -159,6 +275,23 @@ bool hayro_cmap_cid(hayro_cmap *map, uint32_t code, uint8_t byte_len, uint32_t *
 /* The same, where the code lies in a codespace range of its length, byte by byte; else there is
  * none. */
 bool hayro_cmap_cid_strict(hayro_cmap *map, uint32_t code, uint8_t byte_len, uint32_t *cid);
+
+/* The CIDs of the codes of `byte_len` bytes from `first` on, one after another, as many as there is
+ * room for, each as hayro_cmap_cid gives it, with `absent` for a code that has none: whether the
+ * handle has a map. Without one nothing is written. A table of all codes of two bytes takes 256 KB. */
+bool hayro_cmap_cids(hayro_cmap *map, uint32_t first, uint8_t byte_len, uint32_t absent,
+                     uint32_t *cids, size_t cids_len);
+
+/* Cuts a string into codes, one after another, each with the CID that hayro_cmap_cid gives. That of
+ * hayro_cmap_cid_strict is the same where `in_codespace` is 1, and else there is none.
+ *
+ * As many codes as there is room for stand at the head of `codes`, and the rest of it is as it was;
+ * `made` is how many they are, and `taken` how many bytes of the string they have. With HAYRO_CMAP_OK
+ * these are all. With HAYRO_CMAP_NO_ROOM the room is full, and a call with the rest of the string goes
+ * on. An empty handle has no codes: HAYRO_CMAP_ABSENT, and both are 0. */
+hayro_cmap_status hayro_cmap_decode(hayro_cmap *map, const uint8_t *text, size_t text_len,
+                                    hayro_cmap_code *codes, size_t codes_len, size_t *made,
+                                    size_t *taken);
 
 /* The text of a code, in UTF-8 and without a zero byte at its end.
  *
@@ -188,7 +321,30 @@ bool hayro_cmap_supplement(hayro_cmap *map, int32_t *supplement);
 /* The writing mode that the file gives. */
 hayro_cmap_mode hayro_cmap_writing_mode(hayro_cmap *map);
 
-/* The version of the library, as 0.1.1, written as a text is. */
+/* How many layers the map has, 1 to 16: the file's own, which is layer 0, then that of the file that
+ * it is based on, and so on. An empty handle has none. */
+size_t hayro_cmap_layers(hayro_cmap *map);
+
+/* What the file of a layer gives, as the five calls above say it of layer 0. Where there is no such
+ * layer, it gives nothing. */
+hayro_cmap_status hayro_cmap_layer_name(hayro_cmap *map, size_t layer, uint8_t *room,
+                                        size_t room_len, size_t *needed);
+hayro_cmap_status hayro_cmap_layer_registry(hayro_cmap *map, size_t layer, uint8_t *room,
+                                            size_t room_len, size_t *needed);
+hayro_cmap_status hayro_cmap_layer_ordering(hayro_cmap *map, size_t layer, uint8_t *room,
+                                            size_t room_len, size_t *needed);
+bool hayro_cmap_layer_supplement(hayro_cmap *map, size_t layer, int32_t *supplement);
+hayro_cmap_mode hayro_cmap_layer_writing_mode(hayro_cmap *map, size_t layer);
+
+/* The codespace ranges of a layer, in order. With HAYRO_CMAP_OK they stand at the head of `ranges`,
+ * and `needed` is how many they are. With HAYRO_CMAP_NO_ROOM `needed` is how many there are, and
+ * `ranges` is as it was. Where there is no such layer it is HAYRO_CMAP_ABSENT, and nothing is
+ * written. */
+hayro_cmap_status hayro_cmap_codespaces(hayro_cmap *map, size_t layer,
+                                        hayro_cmap_codespace *ranges, size_t ranges_len,
+                                        size_t *needed);
+
+/* The version of the library, as 1.0.0, written as a text is. */
 hayro_cmap_status hayro_cmap_version(uint8_t *room, size_t room_len, size_t *needed);
 
 #ifdef __cplusplus

@@ -25,7 +25,7 @@ const SUBCOMMANDS: &[Subcommand] = &[
         has_file: false,
         id: "FILE",
         value_name: "FILE",
-        help: "CMap files; - is the standard input",
+        help: "CMap files, each by its path or its name; - is the standard input",
     },
     Subcommand {
         name: "check",
@@ -65,7 +65,7 @@ pub(crate) fn command<'a>(alloc: Global) -> Result<Command<'a>, AllocError> {
 fn program<'a>(alloc: Global) -> Result<Command<'a>, AllocError> {
     Command::new(alloc, "cmap")
         .about("Prints what is in CMap files, where they are wrong, and what strings say")
-        .version("0.1.1")
+        .version("1.0.0 (a port of hayro-cmap 0.1.1)")
         .subcommand_required(true)
         .arg_required_else_help(true)
         .bin_name("cmap")
@@ -97,7 +97,7 @@ fn file<'a>(alloc: Global) -> Arg<'a> {
     Arg::new(alloc, "FILE")
         .required(true)
         .action(ArgAction::Set)
-        .help("A CMap file; - is the standard input")
+        .help("A CMap file, by its path or its name; - is the standard input")
 }
 
 /// The options that each subcommand has.

@@ -1,7 +1,7 @@
 //! `cmap decode`: what strings say.
 
 use crate::bases::Bases;
-use crate::inputs::{STANDARD_INPUT, map_asked, map_of, needed};
+use crate::inputs::{STANDARD_INPUT, map_needed, map_of, needed};
 use crate::messages::fault;
 use crate::options::Options;
 use crate::{ACCEPTED, REFUSED};
@@ -15,7 +15,7 @@ pub(crate) fn decode(
     bases: &Bases<'_>,
 ) -> anyhow::Result<u8> {
     let strings = strings_of(rt, options.arguments)?;
-    match map_asked(rt, options, bases)? {
+    match map_needed(rt, options.file, options.budget, bases)? {
         Some(map) => decode_by(rt, &map, &strings, options, bases),
         None => Ok(REFUSED),
     }

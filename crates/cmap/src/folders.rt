@@ -11,6 +11,14 @@ pub(crate) fn is_folder(rt: &HostRuntime, path: &str) -> bool {
     }
 }
 
+/// Whether a file has this path.
+pub(crate) fn is_file(rt: &HostRuntime, path: &str) -> bool {
+    match fs::metadata(rt, path) {
+        Ok(metadata) => !metadata.is_dir(),
+        Err(_) => false,
+    }
+}
+
 /// The paths of the files in a folder and its subfolders, in the order of their bytes. A link to a
 /// file counts as a file, and a link to a folder isn't followed.
 pub(crate) fn files_in(rt: &HostRuntime, folder: &str) -> io::Result<Vec<String>> {

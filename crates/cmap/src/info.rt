@@ -1,7 +1,7 @@
 //! `cmap info`: what files say.
 
 use crate::bases::Bases;
-use crate::inputs::{map_of, read, report_unreadable};
+use crate::inputs::{Asked, open, report_unreadable};
 use crate::options::Options;
 use crate::{ACCEPTED, REFUSED};
 use cmap_report::info::{push_info, push_json};
@@ -32,15 +32,15 @@ fn info_of(
     options: &Options<'_, '_>,
     bases: &Bases<'_>,
 ) -> anyhow::Result<u8> {
-    let Some(bytes) = read(rt, path)? else {
-        return report_unreadable(rt, path);
-    };
-    let Some(map) = map_of(rt, path, &bytes, options.budget, bases)? else {
-        return Ok(REFUSED);
-    };
-    let lines = lines_of(rt.alloc(), path, &bytes, &map, options.json, bases)?;
-    print!(rt; "{lines}")?;
-    Ok(ACCEPTED)
+    match open(rt, path, options.budget, bases)? {
+        Asked::Map(file, map) => {
+            let lines = lines_of(rt.alloc(), path, file.bytes(), &map, options.json, bases)?;
+            print!(rt; "{lines}")?;
+            Ok(ACCEPTED)
+        }
+        Asked::Refused => Ok(REFUSED),
+        Asked::Unreadable => report_unreadable(rt, path),
+    }
 }
 
 /// What a file of these bytes says, whose map this is.

@@ -1,7 +1,7 @@
 //! `cmap lookup`: the CIDs and the texts of single codes.
 
 use crate::bases::Bases;
-use crate::inputs::map_asked;
+use crate::inputs::map_needed;
 use crate::messages::fault;
 use crate::options::Options;
 use crate::{ACCEPTED, REFUSED};
@@ -17,7 +17,7 @@ pub(crate) fn lookup(
     bases: &Bases<'_>,
 ) -> anyhow::Result<u8> {
     let queries = queries_of(rt, options.arguments)?;
-    let Some(map) = map_asked(rt, options, bases)? else {
+    let Some(map) = map_needed(rt, options.file, options.budget, bases)? else {
         return Ok(REFUSED);
     };
     let lines = lines_of(rt.alloc(), &map, &queries, options.json)?;

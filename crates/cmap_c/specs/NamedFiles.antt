@@ -6,8 +6,10 @@ use Rattle.cmap_binary.specs.Bundles.{Bundle, IsBundle}
 use Rattle.cmap_files.specs.Only.{IsOnly}
 use Rattle.cmap_layers.specs.Layers.{Layer}
 use Rattle.hayro_cmap.specs.Answers.{embedded}
+use Rattle.hayro_cmap.specs.Layers.{AreUses, Means}
 use Rattle.hayro_cmap.specs.Maps as maps
 use Rattle.hayro_cmap.specs.NamedFiles.{first_named}
+use Rattle.hayro_cmap.specs.declared.refusal.Cause.{Cause}
 use Rattle.cmap_c.specs.declared.files.BaseFile.{BaseFile}
 
 abbrev pub name_of : BaseFile → List ℕ
@@ -37,6 +39,13 @@ module _ (bundle : Option Bundle) (files : List BaseFile) (bytes : List ℕ) whe
 
   unfoldable pub ExceedsBudgetOver : Option ℕ → Type 0
   ExceedsBudgetOver = maps.ExceedsBudget (option_map (λ b. b.tables) bundle) (answers bundle files) bytes
+
+  unfoldable pub LeadsToFaultOver : Option ℕ → List (List ℕ) → Cause → Type 0
+  LeadsToFaultOver = maps.LeadsToFault (option_map (λ b. b.tables) bundle) (answers bundle files) bytes
+
+-- the names of the files that a file uses, read by the tables of a bundle, if there is one
+unfoldable pub AreUsesOver : Option Bundle → List ℕ → List (List ℕ) → Type 0
+AreUsesOver bundle bytes names = AreUses (Means (option_map (λ b. b.tables) bundle)) bytes names
 
 -- this holds of the bundle that the bytes are; no bytes are no bundle
 unfoldable pub OfGiven : List ℕ → (Option Bundle → Type 0) → Type 0

@@ -1,15 +1,19 @@
 //! Bundles that C holds.
 
-ghost use Rattle.std.specs.Prelude.{◌≡◌, ◌⊎◌, None, Some, IsSomeAnd, MatchResult, is_some, option_map};
+ghost use Rattle.std.specs.Prelude.{◌≡◌, ◌⊎◌, None, Some, IsSomeAnd, MatchOption, MatchResult, is_some, option_map};
 ghost use Rattle.cmap_binary.specs.Bundles.{IsBundle};
 ghost use Rattle.cmap_files.specs.Only.{IsOnly, HoldsOfNone};
+ghost use Rattle.hayro_cmap.specs.Answers.{embedded};
+ghost use Rattle.cmap_c.specs.Rooms.{IsPut};
 ghost use Rattle.cmap_c.specs.Statuses.{number};
-ghost use Rattle.cmap_c.specs.declared.status.Status.TheVariants.{Done, NoMemory, NotABundle};
+ghost use Rattle.cmap_c.specs.declared.status.Status.TheVariants.{Absent, Done, NoMemory, NotABundle};
 
 use crate::loose::Loose;
+use crate::room::put_bytes;
 use crate::shared::Shared;
 use crate::slot::BundleSlot;
 use crate::status::Status;
+use hayro_cmap::BundleFiles;
 use hayro_cmap::bcmap::OwnedBundle;
 use std::alloc::{AllocError, Global};
 use std::mem;
@@ -114,6 +118,31 @@ pub extern "C" fn hayro_cmap_bundle_share(
     let shared = found.share(alloc);
     bundle.put(found);
     other.keep(shared)
+}
+
+/// The bytes of the bundle's file of this name.
+#[unsafe(no_mangle)]
+pub extern "C" fn hayro_cmap_bundle_file(
+    bundle: &mut BundleHandle,
+    alloc: Global,
+    name: &[u8],
+    room: &mut [u8],
+    needed: &mut usize,
+) -> u32
+    ensures same { bundle.new.slot.bundle ≡ bundle.old.slot.bundle }
+    ensures file { MatchOption (embedded bundle.old.slot.bundle name.now)
+        ((result ≡ number Absent) × (room.new ≡ room.old) × (needed.new ≡ needed.old))
+        (λ bytes. IsPut bytes room.old room.new needed.new result) }
+{
+    let Some(found) = bundle.take(alloc) else {
+        return Status::Absent.number();
+    };
+    let status = match found.value().file_of(name) {
+        Some(bytes) => put_bytes(bytes, room, needed),
+        None => Status::Absent.number(),
+    };
+    bundle.put(found);
+    status
 }
 
 /// Frees the bundle, if there is one.

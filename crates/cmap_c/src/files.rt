@@ -6,8 +6,8 @@ use hayro_cmap::NamedFile;
 #[repr(C)]
 #[derive(Clone, Copy)]
 pub struct BaseFile<'a> {
-    name: &'a [u8],
-    bytes: &'a [u8],
+    pub(crate) name: &'a [u8],
+    pub(crate) bytes: &'a [u8],
 }
 
 impl<'a> NamedFile for BaseFile<'a> {

@@ -3,17 +3,26 @@
 
 mod bundle;
 mod cids;
+mod decode;
+mod explain;
+mod fault;
 mod files;
 mod handle;
 mod identity;
+mod layers;
 mod loose;
+mod message;
 mod metadata;
+mod names;
+mod open;
 mod parse;
 mod room;
+mod row;
 mod shared;
 mod slot;
 mod status;
 #[cfg(test)]
 mod tests;
+mod uses;
 mod utf8_text;
 mod version;

@@ -1,8 +1,10 @@
-//! What the file of a map says of itself, for C.
+//! What the file of a map, and that of each of its layers, says of itself, for C.
 
-ghost use Rattle.std.specs.Prelude.{◌≡◌, MatchOption, true, false};
+ghost use Rattle.std.specs.Prelude.{◌≡◌, MatchOption, option_and_then, option_map, slice_get, true, false};
+ghost use Rattle.std.specs.Option.{option_copied};
 ghost use Rattle.cmap_files.specs.Names.{ordering_of, registry_of};
-ghost use Rattle.cmap_c.specs.Handles.{handle_collection, handle_name, handle_mode, mode_number};
+ghost use Rattle.cmap_layers.specs.LayersSeen.{collection_seen, mode_seen};
+ghost use Rattle.cmap_c.specs.Handles.{handle_collection, handle_name, handle_mode, layer_collection, layer_mode, layer_name, metadata_at, mode_number};
 ghost use Rattle.cmap_c.specs.Rooms.{IsPut};
 ghost use Rattle.cmap_c.specs.Statuses.{number};
 ghost use Rattle.cmap_c.specs.declared.status.Status.TheVariants.{Absent};
@@ -10,10 +12,11 @@ ghost use Rattle.cmap_c.specs.declared.status.Status.TheVariants.{Absent};
 use crate::handle::MapHandle;
 use crate::room::put_bytes;
 use crate::status::Status;
-use hayro_cmap::WritingMode;
+use hayro_cmap::{CMap, CharacterCollection, WritingMode};
 use std::alloc::Global;
 
 /// The name that the file gives.
+#[tactic(auto, using(crate::proofs::TopLayer::top_layer))]
 #[unsafe(no_mangle)]
 pub extern "C" fn hayro_cmap_name(
     map: &mut MapHandle,
@@ -26,10 +29,27 @@ pub extern "C" fn hayro_cmap_name(
         ((result ≡ number Absent) × (room.new ≡ room.old) × (needed.new ≡ needed.old))
         (λ name. IsPut name room.old room.new needed.new result) }
 {
+    hayro_cmap_layer_name(map, alloc, 0, room, needed)
+}
+
+/// The name that the file of this layer gives.
+#[unsafe(no_mangle)]
+pub extern "C" fn hayro_cmap_layer_name(
+    map: &mut MapHandle,
+    alloc: Global,
+    layer: usize,
+    room: &mut [u8],
+    needed: &mut usize,
+) -> u32
+    ensures same { map.new.slot.map ≡ map.old.slot.map }
+    ensures name { MatchOption (layer_name map.old.slot.map layer)
+        ((result ≡ number Absent) × (room.new ≡ room.old) × (needed.new ≡ needed.old))
+        (λ name. IsPut name room.old room.new needed.new result) }
+{
     let Some(found) = map.take(alloc) else {
         return Status::Absent.number();
     };
-    let status = match &found.value().metadata().name {
+    let status = match name_at(found.value(), layer) {
         Some(name) => put_bytes(name, room, needed),
         None => Status::Absent.number(),
     };
@@ -38,6 +58,7 @@ pub extern "C" fn hayro_cmap_name(
 }
 
 /// The registry of the character collection that the file gives.
+#[tactic(auto, using(crate::proofs::TopLayer::top_layer))]
 #[unsafe(no_mangle)]
 pub extern "C" fn hayro_cmap_registry(
     map: &mut MapHandle,
@@ -50,10 +71,27 @@ pub extern "C" fn hayro_cmap_registry(
         ((result ≡ number Absent) × (room.new ≡ room.old) × (needed.new ≡ needed.old))
         (λ given. IsPut (registry_of given.family) room.old room.new needed.new result) }
 {
+    hayro_cmap_layer_registry(map, alloc, 0, room, needed)
+}
+
+/// The registry of the character collection that the file of this layer gives.
+#[unsafe(no_mangle)]
+pub extern "C" fn hayro_cmap_layer_registry(
+    map: &mut MapHandle,
+    alloc: Global,
+    layer: usize,
+    room: &mut [u8],
+    needed: &mut usize,
+) -> u32
+    ensures same { map.new.slot.map ≡ map.old.slot.map }
+    ensures registry { MatchOption (layer_collection map.old.slot.map layer)
+        ((result ≡ number Absent) × (room.new ≡ room.old) × (needed.new ≡ needed.old))
+        (λ given. IsPut (registry_of given.family) room.old room.new needed.new result) }
+{
     let Some(found) = map.take(alloc) else {
         return Status::Absent.number();
     };
-    let status = match &found.value().metadata().character_collection {
+    let status = match collection_at(found.value(), layer) {
         Some(given) => put_bytes(given.family.registry(), room, needed),
         None => Status::Absent.number(),
     };
@@ -62,6 +100,7 @@ pub extern "C" fn hayro_cmap_registry(
 }
 
 /// The ordering of the character collection that the file gives.
+#[tactic(auto, using(crate::proofs::TopLayer::top_layer))]
 #[unsafe(no_mangle)]
 pub extern "C" fn hayro_cmap_ordering(
     map: &mut MapHandle,
@@ -74,10 +113,27 @@ pub extern "C" fn hayro_cmap_ordering(
         ((result ≡ number Absent) × (room.new ≡ room.old) × (needed.new ≡ needed.old))
         (λ given. IsPut (ordering_of given.family) room.old room.new needed.new result) }
 {
+    hayro_cmap_layer_ordering(map, alloc, 0, room, needed)
+}
+
+/// The ordering of the character collection that the file of this layer gives.
+#[unsafe(no_mangle)]
+pub extern "C" fn hayro_cmap_layer_ordering(
+    map: &mut MapHandle,
+    alloc: Global,
+    layer: usize,
+    room: &mut [u8],
+    needed: &mut usize,
+) -> u32
+    ensures same { map.new.slot.map ≡ map.old.slot.map }
+    ensures ordering { MatchOption (layer_collection map.old.slot.map layer)
+        ((result ≡ number Absent) × (room.new ≡ room.old) × (needed.new ≡ needed.old))
+        (λ given. IsPut (ordering_of given.family) room.old room.new needed.new result) }
+{
     let Some(found) = map.take(alloc) else {
         return Status::Absent.number();
     };
-    let status = match &found.value().metadata().character_collection {
+    let status = match collection_at(found.value(), layer) {
         Some(given) => put_bytes(given.family.ordering(), room, needed),
         None => Status::Absent.number(),
     };
@@ -86,6 +142,7 @@ pub extern "C" fn hayro_cmap_ordering(
 }
 
 /// The supplement of the character collection that the file gives: whether it gives one, and which.
+#[tactic(auto, using(crate::proofs::TopLayer::top_layer))]
 #[unsafe(no_mangle)]
 pub extern "C" fn hayro_cmap_supplement(
     map: &mut MapHandle,
@@ -97,10 +154,27 @@ pub extern "C" fn hayro_cmap_supplement(
         ((result ≡ false) × (supplement.new ≡ supplement.old))
         (λ given. (result ≡ true) × (supplement.new ≡ given.supplement)) }
 {
+    hayro_cmap_layer_supplement(map, alloc, 0, supplement)
+}
+
+/// The supplement of the character collection that the file of this layer gives: whether it gives one,
+/// and which.
+#[unsafe(no_mangle)]
+pub extern "C" fn hayro_cmap_layer_supplement(
+    map: &mut MapHandle,
+    alloc: Global,
+    layer: usize,
+    supplement: &mut i32,
+) -> bool
+    ensures same { map.new.slot.map ≡ map.old.slot.map }
+    ensures supplement { MatchOption (layer_collection map.old.slot.map layer)
+        ((result ≡ false) × (supplement.new ≡ supplement.old))
+        (λ given. (result ≡ true) × (supplement.new ≡ given.supplement)) }
+{
     let Some(found) = map.take(alloc) else {
         return false;
     };
-    let has = match &found.value().metadata().character_collection {
+    let has = match collection_at(found.value(), layer) {
         Some(given) => {
             *supplement = given.supplement;
             true
@@ -112,19 +186,62 @@ pub extern "C" fn hayro_cmap_supplement(
 }
 
 /// The writing mode that the file gives: 0 horizontal, 1 vertical, 2 where it gives none.
+#[tactic(auto, using(crate::proofs::TopLayer::top_layer))]
 #[unsafe(no_mangle)]
 pub extern "C" fn hayro_cmap_writing_mode(map: &mut MapHandle, alloc: Global) -> u32
     ensures same { map.new.slot.map ≡ map.old.slot.map }
     ensures mode { result ≡ mode_number (handle_mode map.old.slot.map) }
 {
+    hayro_cmap_layer_writing_mode(map, alloc, 0)
+}
+
+/// The writing mode that the file of this layer gives, as a number.
+#[unsafe(no_mangle)]
+pub extern "C" fn hayro_cmap_layer_writing_mode(
+    map: &mut MapHandle,
+    alloc: Global,
+    layer: usize,
+) -> u32
+    ensures same { map.new.slot.map ≡ map.old.slot.map }
+    ensures mode { result ≡ mode_number (layer_mode map.old.slot.map layer) }
+{
     let Some(found) = map.take(alloc) else {
         return 2;
     };
-    let mode = found.value().metadata().writing_mode;
+    let mode = mode_at(found.value(), layer);
     map.put(found);
     match mode {
         Some(WritingMode::Horizontal) => 0,
         Some(WritingMode::Vertical) => 1,
         None => 2,
     }
+}
+
+/// The name that the file of a layer gives.
+fn name_at(map: &CMap, layer: usize) -> Option<&[u8]>
+    ensures { option_copied result
+        ≡ option_and_then (λ metadata. metadata.name) (metadata_at map.now layer) }
+{
+    let name = map.layers().get(layer)?.metadata().name.as_ref()?;
+    Some(name)
+}
+
+/// The character collection that the file of a layer gives.
+fn collection_at(map: &CMap, layer: usize) -> Option<&CharacterCollection>
+    ensures { option_map collection_seen (option_copied result)
+        ≡ option_and_then (λ metadata. metadata.collection) (metadata_at map.now layer) }
+{
+    map.layers()
+        .get(layer)?
+        .metadata()
+        .character_collection
+        .as_ref()
+}
+
+/// The writing mode that the file of a layer gives.
+fn mode_at(map: &CMap, layer: usize) -> Option<WritingMode>
+    ensures { option_map mode_seen result
+        ≡ option_and_then (λ metadata. metadata.mode) (metadata_at map.now layer) }
+{
+    map.layers().get(layer)?.metadata().writing_mode
 }

@@ -82,7 +82,7 @@ pub extern "C" fn hayro_cmap_parse_over(
 }
 
 /// The budget that a number stands for.
-fn limit(budget: u64) -> Option<u64>
+pub(crate) fn limit(budget: u64) -> Option<u64>
     ensures { result ≡ budget_of budget }
 {
     if budget == u64::MAX {
@@ -171,7 +171,7 @@ fn parse_owned(
 }
 
 /// The tables of a bundle, as one without files.
-fn tables_of(bundle: Option<&OwnedBundle>) -> Option<&Bundle<'static>>
+pub(crate) fn tables_of(bundle: Option<&OwnedBundle>) -> Option<&Bundle<'static>>
     ensures { tables_given result
         ≡ option_map (λ b. b.tables) (option_copied bundle.entry) }
 {

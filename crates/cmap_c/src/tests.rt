@@ -1,16 +1,26 @@
 //! Files are parsed and asked, through each call.
 
 use crate::bundle::{
-    BundleHandle, hayro_cmap_bundle_free, hayro_cmap_bundle_open, hayro_cmap_bundle_share,
+    BundleHandle, hayro_cmap_bundle_file, hayro_cmap_bundle_free, hayro_cmap_bundle_open,
+    hayro_cmap_bundle_share,
 };
 use crate::cids::{hayro_cmap_cid, hayro_cmap_cid_strict};
+use crate::decode::{Code, hayro_cmap_decode};
+use crate::explain::hayro_cmap_explain;
+use crate::fault::FaultNumbers;
+use crate::files::BaseFile;
 use crate::handle::{MapHandle, hayro_cmap_free, hayro_cmap_share};
 use crate::identity::hayro_cmap_identity;
+use crate::layers::{CodespaceRange, hayro_cmap_codespaces, hayro_cmap_layers};
+use crate::message::hayro_cmap_message;
 use crate::metadata::{
-    hayro_cmap_name, hayro_cmap_ordering, hayro_cmap_registry, hayro_cmap_supplement,
-    hayro_cmap_writing_mode,
+    hayro_cmap_layer_name, hayro_cmap_layer_writing_mode, hayro_cmap_name, hayro_cmap_ordering,
+    hayro_cmap_registry, hayro_cmap_supplement, hayro_cmap_writing_mode,
 };
+use crate::open::hayro_cmap_open;
 use crate::parse::{hayro_cmap_parse, hayro_cmap_parse_over};
+use crate::row::hayro_cmap_cids;
+use crate::uses::hayro_cmap_uses;
 use crate::utf8_text::hayro_cmap_text;
 use crate::version::hayro_cmap_version;
 use std::alloc::Global;
@@ -192,5 +202,243 @@ fn the_identity_answers_the_code(rt: HostRuntime) {
 fn the_version_fits(rt: HostRuntime) {
     let mut room = [0; 5];
     let mut needed = 0;
-    assert!(rt; hayro_cmap_version(&mut room, &mut needed) == 0 && room == *b"0.1.1");
+    assert!(rt; hayro_cmap_version(&mut room, &mut needed) == 0 && room == *b"1.0.0");
+}
+
+/// A code of a room that no call has written to.
+const UNWRITTEN: Code = Code {
+    code: 7,
+    cid: 7,
+    byte_len: 7,
+    in_codespace: 7,
+    has_cid: 7,
+    cut_short: 7,
+};
+
+#[test]
+fn a_string_is_cut_up_to_the_room(rt: HostRuntime) {
+    let alloc = rt.alloc();
+    let mut map = map_of_file(alloc);
+    let mut codes = [UNWRITTEN; 2];
+    let (mut made, mut taken) = (0, 0);
+    let text = b"\0A\x01\x02\0";
+    let status = hayro_cmap_decode(&mut map, alloc, text, &mut codes, &mut made, &mut taken);
+    assert!(rt; status == 6 && made == 2 && taken == 4);
+    assert!(rt; codes[0].cid == 0x41 && codes[0].in_codespace == 1);
+    assert!(rt; codes[1].cid == 0x102 && codes[1].in_codespace == 0);
+    hayro_cmap_free(&mut map, alloc);
+}
+
+#[test]
+fn a_string_may_end_before_its_last_code(rt: HostRuntime) {
+    let alloc = rt.alloc();
+    let mut map = map_of_file(alloc);
+    let mut codes = [UNWRITTEN; 2];
+    let (mut made, mut taken) = (0, 0);
+    let status = hayro_cmap_decode(&mut map, alloc, b"\0", &mut codes, &mut made, &mut taken);
+    assert!(rt; status == 0 && made == 1 && taken == 1);
+    assert!(rt; codes[0].byte_len == 1 && codes[0].has_cid == 0 && codes[0].cut_short == 1);
+    assert!(rt; codes[1].code == 7);
+    hayro_cmap_free(&mut map, alloc);
+}
+
+#[test]
+fn codes_in_a_row_have_their_cids(rt: HostRuntime) {
+    let alloc = rt.alloc();
+    let mut map = map_of_file(alloc);
+    let mut cids = [7; 3];
+    assert!(rt; hayro_cmap_cids(&mut map, alloc, 0x1FE, 2, 9, &mut cids));
+    assert!(rt; cids == [0x1FE, 0x1FF, 9]);
+    hayro_cmap_free(&mut map, alloc);
+}
+
+/// `FILE` by the name `Base`.
+const FILES: &[BaseFile<'static>] = &[BaseFile {
+    name: b"Base",
+    bytes: FILE,
+}];
+
+/// A handle, and the status that opening a name over `FILES` ended with.
+fn opened_by_name(alloc: Global, name: &[u8]) -> (MapHandle, u32) {
+    let mut map = MapHandle::empty(alloc);
+    let mut bundle = BundleHandle::empty(alloc);
+    let status = hayro_cmap_open(&mut map, alloc, name, &mut bundle, FILES, u64::MAX);
+    (map, status)
+}
+
+#[test]
+fn a_file_that_is_opened_by_its_name_is_the_top_one(rt: HostRuntime) {
+    let alloc = rt.alloc();
+    let (mut map, status) = opened_by_name(alloc, b"Base");
+    assert!(rt; status == 0 && hayro_cmap_writing_mode(&mut map, alloc) == 1);
+    hayro_cmap_free(&mut map, alloc);
+}
+
+#[test]
+fn an_identity_is_opened_without_a_file(rt: HostRuntime) {
+    let alloc = rt.alloc();
+    let (mut map, status) = opened_by_name(alloc, b"Identity-V");
+    let mut cid = 0;
+    assert!(rt; status == 0 && hayro_cmap_cid(&mut map, alloc, 0x1234, 2, &mut cid));
+    assert!(rt; cid == 0x1234 && hayro_cmap_writing_mode(&mut map, alloc) == 1);
+    hayro_cmap_free(&mut map, alloc);
+}
+
+#[test]
+fn another_name_is_absent(rt: HostRuntime) {
+    assert!(rt; opened_by_name(rt.alloc(), b"Identity").1 == 5);
+}
+
+/// A fault with these numbers, without names.
+fn fault_of(cause: u32, reason: u16, segment: u16, offset: usize) -> FaultNumbers {
+    FaultNumbers {
+        cause,
+        reason,
+        segment,
+        offset,
+        names: 0,
+        name_lens: [0; 16],
+    }
+}
+
+#[test]
+fn names_lead_to_the_file_at_fault(rt: HostRuntime) {
+    let alloc = rt.alloc();
+    let mut map = MapHandle::empty(alloc);
+    let mut bundle = BundleHandle::empty(alloc);
+    let mut fault = fault_of(0, 0, 0, 0);
+    let mut room = [0; 4];
+    let mut needed = 0;
+    let files = [
+        BaseFile {
+            name: b"A",
+            bytes: b"/BC usecmap",
+        },
+        BaseFile {
+            name: b"BC",
+            bytes: b"begincidchar <20> /X",
+        },
+    ];
+    let status = hayro_cmap_explain(
+        &mut map,
+        alloc,
+        b"/A usecmap",
+        &mut bundle,
+        &files,
+        u64::MAX,
+        &mut fault,
+        &mut room,
+        &mut needed,
+    );
+    assert!(rt; status == 1 && needed == 3 && room == *b"ABC\0");
+    assert!(rt; fault.names == 2 && fault.name_lens[0] == 1 && fault.name_lens[1] == 2);
+    assert!(rt; fault.cause == 1 && fault.reason == 6 && fault.offset == 20);
+}
+
+#[test]
+fn a_fault_has_a_message(rt: HostRuntime) {
+    let alloc = rt.alloc();
+    let mut room = [0; 27];
+    let mut needed = 0;
+    let status = hayro_cmap_message(&fault_of(1, 6, 0, 20), alloc, &mut room, &mut needed);
+    assert!(rt; status == 0 && room == *b"byte 20: a CID was expected");
+}
+
+#[test]
+fn a_message_of_other_numbers_is_absent(rt: HostRuntime) {
+    let alloc = rt.alloc();
+    let mut needed = 7;
+    let status = hayro_cmap_message(&fault_of(1, 6, 1, 20), alloc, &mut [], &mut needed);
+    assert!(rt; status == 5 && needed == 7);
+}
+
+#[test]
+fn a_file_says_which_files_it_uses(rt: HostRuntime) {
+    let alloc = rt.alloc();
+    let mut bundle = BundleHandle::empty(alloc);
+    let mut lens = [0; 2];
+    let mut room = [0; 4];
+    let (mut names, mut needed) = (0, 0);
+    let data = b"/AB usecmap /C usecmap";
+    let status = hayro_cmap_uses(
+        alloc,
+        data,
+        &mut bundle,
+        &mut lens,
+        &mut names,
+        &mut room,
+        &mut needed,
+    );
+    assert!(rt; status == 0 && names == 2 && lens == [2, 1]);
+    assert!(rt; needed == 3 && room == *b"ABC\0");
+}
+
+#[test]
+fn uses_with_room_for_fewer_lengths_are_not_written(rt: HostRuntime) {
+    let alloc = rt.alloc();
+    let mut bundle = BundleHandle::empty(alloc);
+    let mut room = [0; 4];
+    let (mut names, mut needed) = (0, 0);
+    let data = b"/AB usecmap /C usecmap";
+    let status = hayro_cmap_uses(
+        alloc,
+        data,
+        &mut bundle,
+        &mut [7],
+        &mut names,
+        &mut room,
+        &mut needed,
+    );
+    assert!(rt; status == 6 && names == 2 && needed == 3 && room == [0; 4]);
+}
+
+#[test]
+fn a_bundle_has_its_file(rt: HostRuntime) {
+    let alloc = rt.alloc();
+    let (mut bundle, _status) = opened(alloc, BUNDLE);
+    let mut room = [0; 26];
+    let mut needed = 0;
+    let name = b"83pv-RKSJ-H";
+    let status = hayro_cmap_bundle_file(&mut bundle, alloc, name, &mut room, &mut needed);
+    assert!(rt; status == 0 && needed == 26 && room[..] == BUNDLE[23..]);
+    hayro_cmap_bundle_free(&mut bundle, alloc);
+}
+
+/// The map of a file over `FILES`.
+fn map_over_base(alloc: Global) -> MapHandle {
+    let mut map = MapHandle::empty(alloc);
+    let file = b"/Base usecmap /CMapName /Top def begincodespacerange <20> <7E> endcodespacerange";
+    let _status = hayro_cmap_parse(&mut map, alloc, file, b"", FILES, u64::MAX);
+    map
+}
+
+#[test]
+fn a_lower_layer_has_its_name(rt: HostRuntime) {
+    let alloc = rt.alloc();
+    let mut map = map_over_base(alloc);
+    let mut room = [0; 4];
+    let mut needed = 0;
+    assert!(rt; hayro_cmap_layers(&mut map, alloc) == 2);
+    assert!(rt; hayro_cmap_layer_name(&mut map, alloc, 1, &mut room, &mut needed) == 0);
+    assert!(rt; room == *b"T\0\0\0" && hayro_cmap_layer_writing_mode(&mut map, alloc, 1) == 1);
+    hayro_cmap_free(&mut map, alloc);
+}
+
+#[test]
+fn a_layer_has_its_codespace_ranges(rt: HostRuntime) {
+    let alloc = rt.alloc();
+    let mut map = map_over_base(alloc);
+    let none = CodespaceRange {
+        low: 0,
+        high: 0,
+        byte_len: 0,
+    };
+    let mut ranges = [none; 2];
+    let mut needed = 0;
+    let status = hayro_cmap_codespaces(&mut map, alloc, 0, &mut ranges, &mut needed);
+    let [first, second] = ranges;
+    assert!(rt; status == 0 && needed == 1 && second.byte_len == 0);
+    assert!(rt; first.low == 0x20 && first.high == 0x7E && first.byte_len == 1);
+    assert!(rt; hayro_cmap_codespaces(&mut map, alloc, 2, &mut ranges, &mut needed) == 5);
+    hayro_cmap_free(&mut map, alloc);
 }

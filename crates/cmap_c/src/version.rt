@@ -8,7 +8,7 @@ use crate::room::put_bytes;
 /// The version of the library, in ASCII.
 #[unsafe(no_mangle)]
 pub extern "C" fn hayro_cmap_version(room: &mut [u8], needed: &mut usize) -> u32
-    ensures { IsPut (codes "0.1.1") room.old room.new needed.new result }
+    ensures { IsPut (codes "1.0.0") room.old room.new needed.new result }
 {
-    put_bytes(b"0.1.1", room, needed)
+    put_bytes(b"1.0.0", room, needed)
 }

@@ -1,5 +1,5 @@
 -- The code that a string begins with, by the codespace ranges of all layers. ISO 32000-1, 9.7.6.2 and 9.7.6.3.
-use Rattle.std.specs.Prelude.{◌≡◌, ℕ, suc, ◌-◌, ◌<◌, ◌≤◌, ◌⊎◌, min, List, [], length, take, slice_index, All, Any}
+use Rattle.std.specs.Prelude.{◌≡◌, ◌↔◌, IsTrue, ℕ, suc, ◌-◌, ◌<◌, ◌≤◌, ◌⊎◌, min, List, [], length, take, slice_index, All, Any}
 use Rattle.std.specs.Bool.{MatchBool}
 use Rattle.std.specs.List.{flat_map}
 use Rattle.cmap_files.specs.BigEndian.{big_endian}
@@ -44,8 +44,13 @@ Wants spaces text len = ((n : ℕ) × IsBestMatch spaces text n len) ⊎ ((space
 abbrev pub IsTakenOutside : List Layer → List ℕ → ℕ → Type 0
 IsTakenOutside layers text n = HoldsOfNone (BeginsInside layers text) × (wanted : ℕ) × Wants (ranges_of layers) text wanted × (n ≡ min wanted (length text))
 
+-- the string ends before its code does: no front of it lies in a range, and more bytes are wanted than it has
+abbrev pub IsCutShort : List Layer → List ℕ → Type 0
+IsCutShort layers text = HoldsOfNone (BeginsInside layers text) × (wanted : ℕ) × Wants (ranges_of layers) text wanted × (length text < wanted)
+
 -- a string, which isn't empty, begins with this code
 pub record IsNextCode (layers : List Layer) (text : List ℕ) (found : StringCode) : Type 0 where
   pub some : 0 < length text
   pub code : found.code ≡ front text found.byte_len
   pub taken : MatchBool found.in_codespace (IsShortestInside layers text found.byte_len) (IsTakenOutside layers text found.byte_len)
+  pub cut_short : IsTrue found.cut_short ↔ IsCutShort layers text

@@ -1,7 +1,7 @@
 //! The code that a string begins with, by the codespace ranges of all layers.
 //! ISO 32000-1, 9.7.6.2 and 9.7.6.3.
 
-ghost use Rattle.std.specs.Prelude.{◌≡◌, ◌↔◌, ◌≤◌, ℕ, min, true, List, [], ◌++◌, length, map, IfSome, IsTrue, MatchOption};
+ghost use Rattle.std.specs.Prelude.{◌≡◌, ◌↔◌, ◌≤◌, true, false, List, [], ◌++◌, length, map, IfSome, IsTrue, MatchOption};
 ghost use Rattle.cmap_files.specs.CodeLengths.{IsCodeLength};
 ghost use Rattle.cmap_files.specs.DeclarationsSeen.{codespace_seen};
 ghost use Rattle.cmap_files.specs.Files as files;
@@ -24,6 +24,9 @@ pub struct StringCode {
     pub byte_len: u8,
     /// Whether it lies in a codespace range.
     pub in_codespace: bool,
+    /// Whether the string ends before it does: no front of the string lies in a codespace range, and
+    /// the range that decides how many bytes are taken has longer codes than the string has bytes.
+    pub cut_short: bool,
 }
 
 /// The code that a string begins with; `None` where it is empty.
@@ -43,12 +46,14 @@ pub fn next_code(layers: &[Layer], text: &[u8]) -> Option<StringCode>
             return Some(found);
         }
     }
-    let byte_len = bytes_outside(layers, text);
+    let wanted = bytes_wanted(layers, text);
+    let byte_len = text.len().min(usize::from(wanted)) as u8;
     let (_, code) = read_code(&text[..usize::from(byte_len)])?;
     Some(StringCode {
         code,
         byte_len,
         in_codespace: false,
+        cut_short: byte_len < wanted,
     })
 }
 
@@ -56,7 +61,8 @@ pub fn next_code(layers: &[Layer], text: &[u8]) -> Option<StringCode>
 fn code_inside(layers: &[Layer], text: &[u8], byte_len: u8) -> Option<StringCode>
     ensures { MatchOption result (BeginsInside (layers_seen layers.now) text.now byte_len → ⊥)
         (λ found. BeginsInside (layers_seen layers.now) text.now byte_len × (found
-        ≡ record { code = front text.now byte_len; byte_len = byte_len; in_codespace = true })) }
+        ≡ record { code = front text.now byte_len; byte_len = byte_len; in_codespace = true;
+        cut_short = false })) }
 {
     let (_, code) = read_code(text.get(..usize::from(byte_len))?)?;
     if contains(layers, code, byte_len) {
@@ -64,22 +70,22 @@ fn code_inside(layers: &[Layer], text: &[u8], byte_len: u8) -> Option<StringCode
             code,
             byte_len,
             in_codespace: true,
+            cut_short: false,
         })
     } else {
         None
     }
 }
 
-/// How many bytes are taken of a string that begins with no code in a codespace range.
-fn bytes_outside(layers: &[Layer], text: &[u8]) -> u8
-    ensures { (wanted : ℕ) × Wants (ranges_of (layers_seen layers.now)) text.now wanted
-        × IsCodeLength wanted × (result ≡ min wanted (length text.now)) }
+/// How many bytes a string wants for its code where it begins with none in a codespace range.
+fn bytes_wanted(layers: &[Layer], text: &[u8]) -> u8
+    ensures wanted { Wants (ranges_of (layers_seen layers.now)) text.now result }
+    ensures length { IsCodeLength result }
 {
-    let wanted = match best_match(layers, text) {
+    match best_match(layers, text) {
         Some(best) => best.len.count(),
         None => 1,
-    };
-    text.len().min(usize::from(wanted)) as u8
+    }
 }
 
 /// How a codespace range matches a string.

@@ -5,7 +5,7 @@ ghost use Rattle.cmap_escape.specs.Escapes.{AddsLine, AddsOfLine};
 
 mod codes;
 
-use self::codes::{CodespaceStatus, codes_of, status_of};
+use self::codes::codes_of;
 use cmap_escape::digits::{byte_digits, code_digits, push_code};
 use cmap_escape::{escape, json};
 use hayro_cmap::{BfString, CMap, StringCode};
@@ -38,7 +38,6 @@ impl Decoded {
 #[derive(Drop)]
 struct DecodedCode {
     code: StringCode,
-    status: CodespaceStatus,
     cid: Option<u32>,
     text: Option<String>,
 }
@@ -117,32 +116,25 @@ fn decode(
         codes: Vec::with_capacity(alloc, found.len())?,
         text: String::new(alloc),
     };
-    for (index, code) in found.iter().enumerate() {
-        let is_last = index.saturating_add(1) == found.len();
-        decoded.add(decode_code(alloc, map, texts, *code, is_last)?)?;
+    for code in &found {
+        decoded.add(decode_code(alloc, map, texts, *code)?)?;
     }
     Ok(decoded)
 }
 
-/// What a code of a string stands for; it is perhaps the last one.
+/// What a code of a string stands for.
 fn decode_code(
     alloc: Global,
     map: &CMap,
     texts: Option<&CMap>,
     code: StringCode,
-    is_last: bool,
 ) -> Result<DecodedCode, AllocError> {
     let cid = map.lookup_cid_code(code.code, code.byte_len);
     let text = match text_of(alloc, map, code.code)? {
         Some(text) => Some(text),
         None => text_of_cid(alloc, texts, cid)?,
     };
-    Ok(DecodedCode {
-        code,
-        status: status_of(map, code, is_last),
-        cid,
-        text,
-    })
+    Ok(DecodedCode { code, cid, text })
 }
 
 /// The text of a CID, where there are one and a CMap of the texts of CIDs.
@@ -181,10 +173,10 @@ fn push_code_line(out: &mut String, decoded: &DecodedCode) -> Result<(), AllocEr
         None => write!(out, "{:>12}  ", "-")?,
     }
     push_text_or_dash(out, &decoded.text)?;
-    out.push_str(match decoded.status {
-        CodespaceStatus::Inside => "\n",
-        CodespaceStatus::Outside => "  in no codespace range\n",
-        CodespaceStatus::CutShort => "  cut short\n",
+    out.push_str(match (decoded.code.in_codespace, decoded.code.cut_short) {
+        (true, _) => "\n",
+        (false, false) => "  in no codespace range\n",
+        (false, true) => "  cut short\n",
     })
 }
 
@@ -218,24 +210,19 @@ fn put_code(
     object: &mut Map<String, Value>,
     decoded: DecodedCode,
 ) -> Result<(), AllocError> {
-    let DecodedCode {
-        code,
-        status,
-        cid,
-        text,
-    } = decoded;
+    let DecodedCode { code, cid, text } = decoded;
     put(object, alloc, "text", Value::from(text))?;
     put(object, alloc, "cid", Value::from(cid))?;
     let digits = code_digits(alloc, code.byte_len, code.code)?;
     put(object, alloc, "code", Value::from(digits))?;
-    let range = String::from_str(alloc, range_word(status))?;
+    let range = String::from_str(alloc, range_word(code))?;
     put(object, alloc, "range", Value::from(range))
 }
 
-fn range_word(status: CodespaceStatus) -> &'static str {
-    match status {
-        CodespaceStatus::Inside => "inside",
-        CodespaceStatus::Outside => "outside",
-        CodespaceStatus::CutShort => "cut short",
+fn range_word(code: StringCode) -> &'static str {
+    match (code.in_codespace, code.cut_short) {
+        (true, _) => "inside",
+        (false, false) => "outside",
+        (false, true) => "cut short",
     }
 }

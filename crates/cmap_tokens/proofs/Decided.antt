@@ -60,7 +60,7 @@ nothing_kept (b ∷ front) s t =
     by_byte b 40 P (λ e short. absurd (omega (arith, short, length-append front s))) (λ not_open e short.
     grind (arith, nat_tests, e, not_less, not_greater, not_open))))
 
-none_kept : (front s t text : List ℕ) → text ≡ front ++ s → first_piece (after_gap text) ≡ None → gap_len false text + malformed_len (after_gap text) < length front
+pub none_kept : (front s t text : List ℕ) → text ≡ front ++ s → first_piece (after_gap text) ≡ None → gap_len false text + malformed_len (after_gap text) < length front
     → (gap_len false (front ++ t) ≡ gap_len false text) × (first_piece (after_gap (front ++ t)) ≡ None) × (malformed_len (after_gap (front ++ t)) ≡ malformed_len (after_gap text))
 none_kept front s t text is e short =
     let n = gap_len false text in

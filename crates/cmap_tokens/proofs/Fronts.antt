@@ -58,7 +58,7 @@ module _ {text gap piece : List ℕ} {token : Token} {rest : List ℕ} (front : 
         );
   }
 
-  no_front : first_piece (after_gap text) ≡ None → ⊥
+  pub no_front : first_piece (after_gap text) ≡ None → ⊥
   no_front e = let clash = sym (reads_front front).first ∙ e in cc
 
   pub front_not_blank : IsBlank text → ⊥
@@ -95,7 +95,7 @@ next text = next_by text (first_piece (after_gap text)) refl
 abbrev pub rest_from : List ℕ → ℕ → List ℕ
 rest_from text n = take (length text - n) (drop n text)
 
-rest_is : (text : List ℕ) (n : ℕ) → n ≡ gap_len false text → rest_from text n ≡ after_gap text
+pub rest_is : (text : List ℕ) (n : ℕ) → n ≡ gap_len false text → rest_from text n ≡ after_gap text
 rest_is text n gap = take_rest text n ∙ ap (λ k. drop k text) gap
 
 pub first_token_is : (text : List ℕ) (n m : ℕ) (token : Token) → n ≡ gap_len false text → m ≤ length (rest_from text n) → Some (token, m) ≡ first_piece (rest_from text n) → FirstToken text token (n + m)

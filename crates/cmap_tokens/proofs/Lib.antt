@@ -4,6 +4,7 @@ pub mod Decided
 pub mod Digits
 pub mod Fronts
 pub mod Gaps
+pub mod Stops
 pub mod StringCuts
 pub mod StringLengths
 pub mod StringValues

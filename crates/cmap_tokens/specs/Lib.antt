@@ -11,3 +11,4 @@ pub mod TokenSeen
 pub mod TextSeen
 pub mod TokenReading
 pub mod TokensLeft
+pub mod Stops

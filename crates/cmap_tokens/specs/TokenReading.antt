@@ -54,7 +54,7 @@ first_piece (b ∷ text) =
     else if b == open_parenthesis then string_of (b ∷ text) (string_len (b ∷ text))
     else None
 
--- how many bytes show that no token comes, where a text begins with none: all of them, where only its end shows it
+-- how many bytes stand before the first one that shows that no token comes, where a text begins with none: all of them, where none shows it. Stops says which byte that is
 abbrev pub malformed_len : List ℕ → ℕ
 malformed_len [] = 0
 malformed_len (b ∷ text) =

@@ -93,9 +93,17 @@ pub record Front (text gap piece : List ℕ) (token : Token) (rest : List ℕ) :
   pub piece_is : IsToken piece token
   pub longest : IsTrue (begins_name piece) → begins_regular rest ≡ false
 
+-- a token comes next in the text
+abbrev pub HasFront : List ℕ → Type 0
+HasFront text = (gap piece rest : List ℕ) × (token : Token) × Front text gap piece token rest
+
+-- none comes next
+abbrev pub HasNoFront : List ℕ → Type 0
+HasNoFront text = (gap piece rest : List ℕ) (token : Token) → Front text gap piece token rest → ⊥
+
 -- the text has no front, and is no gap either
 abbrev pub IsMalformed : List ℕ → Type 0
-IsMalformed text = (IsBlank text → ⊥) × ((gap piece rest : List ℕ) (token : Token) → Front text gap piece token rest → ⊥)
+IsMalformed text = (IsBlank text → ⊥) × HasNoFront text
 
 -- all the tokens of a text, in order
 abbrev pub Tokens : List ℕ → List Token → Type 0

@@ -14,7 +14,7 @@ pub record Left : Type 0 where
   pub passed : ℕ
   pub tokens : List EndedToken
   pub ends : Bool
-  -- the byte that shows that no token comes after them, or the length of the text
+  -- an aid: the offset of the byte that shows that no token comes after them, or the length of the text, as the code measures it. Stops says which byte that is
   pub stop : ℕ
 
 -- this token, which comes next from an offset on, and what is left after it

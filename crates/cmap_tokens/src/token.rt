@@ -174,7 +174,8 @@ impl<'a> Model for Scanner<'a> {
 impl<'a> Scanner<'a> {
     ghost use Rattle.std.specs.Prelude.{◌≡◌, ℕ, ◌↔◌, ◌+◌, ◌≤◌, List, [], false, true, length, None, Some, Ok, pos, IfOk, IfSome, IsErr, MatchOption, MatchResult, OnErr};
     ghost use Rattle.cmap_tokens.specs.Gaps.{IsBlank};
-    ghost use Rattle.cmap_tokens.specs.Tokens.{IsMalformed};
+    ghost use Rattle.cmap_tokens.specs.Tokens.{HasNoFront, IsMalformed};
+    ghost use Rattle.cmap_tokens.specs.Stops.{StopsAt};
     ghost use Rattle.cmap_tokens.specs.TokensLeft.{HasTokens, IsDecidedByFronts, EndInOrder, LeavesAfter, LeavesNone, start_of, tokens_of};
     ghost use Rattle.cmap_tokens.specs.Numbers.{Integer};
     ghost use Rattle.cmap_tokens.specs.Scanner.{ReadsToken, past, rest_of, spaced_decimal, spaced_two_bytes};
@@ -205,10 +206,15 @@ impl<'a> Scanner<'a> {
         self.offset
     }
 
-    /// The offset of the byte that shows that no token comes next, where none does: after the bytes up
-    /// to and including that one none comes, whatever follows. It is the length of the text where only
-    /// its end shows it, as of a string in parentheses that isn't closed.
+    /// Where no token comes next, the offset of the first byte that shows it: after the bytes up to and
+    /// including that one none comes, whatever follows, and after fewer bytes one may still come. It is
+    /// the length of the text where none of its bytes shows it, as in white space and comments up to the
+    /// end, or in a string that isn't closed.
     pub fn stop(&self) -> usize
+        ensures first { HasNoFront (rest_of self.now) → StopsAt self.now result }
+        ensures only { HasNoFront (rest_of self.now)
+            → (other : ℕ) → StopsAt self.now other → other ≡ result }
+        // The same offset, in the words of the tokens that are left.
         ensures offset { (tokens_of self.now).tokens ≡ [] → result ≡ (tokens_of self.now).stop }
         ensures within { result ≤ length self.now.source }
     {

@@ -109,6 +109,9 @@ fn push_codes(alloc: Global, map: &CMap, rest: &str, line: &mut String) -> Resul
         if !next.in_codespace {
             line.push_str(" outside")?;
         }
+        if next.cut_short {
+            line.push_str(" cut")?;
+        }
         push_number(Some((next.byte_len, next.code)), line)?;
         left = &left[usize::from(next.byte_len)..];
     }

@@ -1,5 +1,6 @@
 pub mod Blamed
 pub mod BudgetLeft
+pub mod FewNames
 pub mod FilesMeant
 pub mod FirstFiles
 pub mod LayersFit

@@ -6,3 +6,4 @@ pub mod BytesSpent
 pub mod Refusals
 pub mod Maps
 pub mod NamedFiles
+pub mod Opened

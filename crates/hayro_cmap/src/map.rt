@@ -13,6 +13,7 @@ ghost use Rattle.hayro_cmap.specs.Identity.{identity_layer};
 ghost use Rattle.cmap_binary.specs.BundleSeen.{tables_given};
 ghost use Rattle.hayro_cmap.specs.Layers.{AreUses, Means};
 ghost use Rattle.hayro_cmap.specs.Maps.{ExceedsBudget, FitsBudget, HasNoMap, IsMapOf, LeadsToFault};
+ghost use Rattle.hayro_cmap.specs.Opened.{ExceedsBudgetNamed, FitsBudgetNamed, HasNoMapNamed, IsIdentity, IsMapNamed, IsNoIdentity, IsUnknown, LeadsToFaultNamed};
 ghost use Rattle.cmap_layers.specs.LayersSeen.{layers_seen, metadata_seen, mode_seen};
 ghost use Rattle.cmap_layers.specs.Layers.{top_metadata};
 ghost use Rattle.cmap_layers.specs.Lookups.{InCodespace, bf_of, cid_of};
@@ -169,6 +170,7 @@ impl CMap {
         ensures blames { IfErr result (RefusesWith (λ refusal.
             LeadsToFault (tables_given bundle.entry) (S.answers source.now) «data».now budget
             (names_seen refusal.names.items) refusal.cause)) }
+        ensures few { IfErr result (RefusesWith (λ refusal. length refusal.names.items ≤ 16)) }
     {
         let mut left = budget;
         let mut names = Vec::new(alloc);
@@ -177,6 +179,47 @@ impl CMap {
             Ok(layers) => Ok(CMap { layers }),
             Err(Fault::Refused(cause)) => Err(Fault::Refused(Refusal { names, cause })),
             Err(Fault::Memory) => Err(Fault::Memory),
+        }
+    }
+
+    /// The map of the file of this name, which `source` answers: it is read as `parse_from` reads it, so
+    /// that its metadata is what that file says. Where no file has the name, Identity-H and Identity-V
+    /// are made without one, and any other name has no map: `None`. ISO 32000-1, 9.7.5.2.
+    pub fn open<'a, S: Source>(
+        alloc: Global,
+        budget: Option<u64>,
+        name: &[u8],
+        bundle: Option<&Bundle<'_>>,
+        source: &'a S,
+    ) -> Result<Option<CMap>, Fault<Refusal<'a>>>
+        requires can_ask { S.can_ask source.now }
+        requires by_name { IsByName (S.answers source.now) }
+        ensures accepts { IfOk result (λ found. IfSome found
+            (IsMapNamed (tables_given bundle.entry) (S.answers source.now) name.now)) }
+        ensures absent { IfOk result
+            (λ found. IfNone found (IsUnknown (S.answers source.now) name.now)) }
+        ensures within { OnOk result
+            (FitsBudgetNamed (tables_given bundle.entry) (S.answers source.now) name.now budget) }
+
+        // A file has the name. There is no map, or what is opened passes the budget.
+        ensures refuses { IfErr result (RefusesWith (λ refusal. refusal.cause ≢ Cause.OverBudget
+            → HasNoMapNamed (tables_given bundle.entry) (S.answers source.now) name.now
+            × FitsBudgetNamed (tables_given bundle.entry) (S.answers source.now) name.now budget)) }
+        ensures over { IfErr result (RefusesWith (λ refusal. refusal.cause ≡ Cause.OverBudget
+            → ExceedsBudgetNamed (tables_given bundle.entry) (S.answers source.now) name.now budget)) }
+
+        // The names lead from that file to the one that is at fault.
+        ensures blames { IfErr result (RefusesWith (λ refusal.
+            LeadsToFaultNamed (tables_given bundle.entry) (S.answers source.now) name.now budget
+            (names_seen refusal.names.items) refusal.cause)) }
+        ensures few { IfErr result (RefusesWith (λ refusal. length refusal.names.items ≤ 16)) }
+    {
+        match source.file(name) {
+            Some(data) => {
+                let map = CMap::parse_from(alloc, budget, data, bundle, source)?;
+                Ok(Some(map))
+            }
+            None => Ok(CMap::identity_named(alloc, name)?),
         }
     }
 
@@ -225,7 +268,8 @@ impl CMap {
     /// The layers of the map: the file's own first, then those of the file that it is based on, and so
     /// on. There are at least one and at most 16.
     pub fn layers(&self) -> &[Layer]
-        ensures { layers_seen result.now ≡ self.now }
+        ensures layers { layers_seen result.now ≡ self.now }
+        ensures few { (0 < length result.now) × (length result.now ≤ 16) }
     {
         self.layers.as_slice()
     }
@@ -331,6 +375,18 @@ impl CMap {
             layers.push(layer.clone(alloc)?)?;
         }
         Ok(CMap { layers })
+    }
+
+    /// The predefined identity of this name, if it is the name of one.
+    fn identity_named(alloc: Global, name: &[u8]) -> Result<Option<CMap>, AllocError>
+        ensures { IfOk result
+            (λ found. MatchOption found (IsNoIdentity name.now) (IsIdentity name.now)) }
+    {
+        match name {
+            b"Identity-H" => Ok(Some(CMap::identity_h(alloc)?)),
+            b"Identity-V" => Ok(Some(CMap::identity_v(alloc)?)),
+            _ => Ok(None),
+        }
     }
 
     fn identity(alloc: Global, name: &[u8], mode: WritingMode) -> Result<CMap, AllocError>

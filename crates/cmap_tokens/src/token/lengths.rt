@@ -33,7 +33,8 @@ pub(super) fn string_len(text: &[u8]) -> Option<usize>
     }
 }
 
-/// How many bytes show that no token comes, where a text begins with none.
+/// How many bytes stand before the first one that shows that no token comes, where a text begins with
+/// none.
 pub(super) fn malformed_len(text: &[u8]) -> usize
     ensures exact { result ≡ reading.malformed_len text.now }
     ensures within { result ≤ length text.now }

@@ -1,4 +1,4 @@
-use Rattle.std.proofs.Common.{◌≡◌, ℕ, ◌≤◌, length, true, sym, ap, subst, arith}
+use Rattle.std.proofs.Common.{◌≡◌, ℕ, ◌≤◌, length, true, false, sym, ap, subst, arith}
 use Rattle.std.proofs.lemmas.Bool.{false≢true}
 use Rattle.std.proofs.lemmas.Grind.{common_steps}
 use Rattle.cmap_layers.specs.LayersSeen.{layers_seen}
@@ -18,7 +18,7 @@ pub returns-then-contains : goal.returns-then-contains
 returns-then-contains c =
     let (within, is) = read (goal.at.returns-then-contains c).In_ok-code in (
       (within, subst (λ code. InCodespace (layers_seen c.args.layers.now) code c.args.byte_len) is (c.contains.ensures.0 c.if-contains.true)),
-      ap (λ (code : ℕ). let found : StringCode = record { code = code; byte_len = c.args.byte_len; in_codespace = true } in found) is,
+      ap (λ (code : ℕ). let found : StringCode = record { code = code; byte_len = c.args.byte_len; in_codespace = true; cut_short = false } in found) is,
     )
 
 pub returns-else-contains : goal.returns-else-contains

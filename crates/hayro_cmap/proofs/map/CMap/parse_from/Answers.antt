@@ -1,7 +1,10 @@
+use Rattle.std.proofs.Common.{◌≡◌, ◌≤◌, ap, arith, length}
+use Rattle.std.proofs.Math.ListN.{length-map}
 use Rattle.std.specs.Prelude.{false}
 use Rattle.cmap_binary.specs.BundleSeen.{tables_given}
 use Rattle.hayro_cmap.specs.Layers.{Means}
 use Rattle.hayro_cmap.proofs.Blamed.{no_layers}
+use Rattle.hayro_cmap.proofs.FewNames.{IsFaultWithin-few}
 use Rattle.hayro_cmap.proofs.LayersFit.{layers-fit}
 use Rattle.hayro_cmap.proofs.WholeFile.{StaysWithin-from_spent}
 use Rattle.hayro_cmap.proofs.map.CMap.parse_from.Goals as goal
@@ -30,3 +33,10 @@ returns-in-Err-Refused-clause-blames g c =
     let is = c.in-Err-Refused.field-0-is in
     let (names, same, fault) = rw (is, c.new-names.ensures.items) at c.in-Err-Refused.ensures.blames in
     rw same fault
+
+pub returns-in-Err-Refused-clause-few : goal.returns-in-Err-Refused-clause-few
+returns-in-Err-Refused-clause-few g c =
+    let is = c.in-Err-Refused.field-0-is in
+    let (names, same, fault) = rw (is, c.new-names.ensures.items) at c.in-Err-Refused.ensures.blames in
+    let few : length names ≤ 16 = IsFaultWithin-few (tables_given c.args.bundle) (g.S.Source.answers c.args.source.now) c.args.budget 16 c.args.«data».now names c.in-Err-Refused.cause fault in
+    omega (arith, few, simp length-map at (ap length same))

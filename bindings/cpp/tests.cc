@@ -1,0 +1,224 @@
+// Tests of hayro_cmap.hpp. It prints `ok`, or the lines of the checks that failed, with status 1.
+#include "hayro_cmap.hpp"
+#include <array>
+#include <cstdio>
+#include <thread>
+
+static int failed = 0;
+
+#define CHECK(holds)                                                                               \
+    do {                                                                                           \
+        if (!(holds)) {                                                                            \
+            std::fprintf(stderr, "%s:%d: %s\n", __FILE__, __LINE__, #holds);                       \
+            failed = 1;                                                                            \
+        }                                                                                          \
+    } while (false)
+
+static_assert(!std::is_copy_constructible_v<hayro::Map> && !std::is_copy_assignable_v<hayro::Map>);
+static_assert(!std::is_copy_constructible_v<hayro::Bundle>);
+static_assert(std::is_nothrow_move_constructible_v<hayro::Map>);
+static_assert(std::is_nothrow_move_assignable_v<hayro::Map>);
+static_assert(std::is_nothrow_move_constructible_v<hayro::Bundle>);
+static_assert(sizeof(hayro::Map) == sizeof(hayro_cmap));
+
+using namespace std::string_literals;
+using Names = std::vector<std::string>;
+
+static bool same(const hayro::Code &code, std::uint32_t number, int byte_len, std::optional<hayro::Cid> cid,
+                 bool in_codespace, bool cut_short) {
+    return code.code == number && code.byte_len == byte_len && code.has_cid == cid.has_value() &&
+           code.cid == cid.value_or(0) && code.in_codespace == in_codespace && code.cut_short == cut_short;
+}
+
+static void maps_are_moved() {
+    hayro::Map empty;
+    CHECK(empty.empty() && !empty.cid(0x41, 1) && !empty.text(0x41) && !empty.name());
+    CHECK(empty.layers() == 0 && empty.decode("A").empty() && empty.codespaces().empty());
+    auto made = hayro::Map::identity(hayro::WritingMode::vertical);
+    hayro::Map map = std::move(made);
+    CHECK(made.empty() && map.cid(0x1234, 2) == 0x1234u && !map.cid(0x12, 1));
+    made = std::move(map);
+    CHECK(map.empty() && made.writing_mode() == hayro::WritingMode::vertical);
+    made = hayro::Map::identity(hayro::WritingMode::horizontal);
+    CHECK(made.writing_mode() == hayro::WritingMode::horizontal && made.name() == "Identity-H");
+    auto &self = made;
+    made = std::move(self);
+    CHECK(made.cid(1, 2) == 1u);
+}
+
+static void files_use_files() {
+    auto base = "begincidchar <01> 1 endcidchar beginbfchar <02> <00660066> endbfchar"s;
+    auto map = hayro::Map::parse("/Base usecmap", {{"Base", base}});
+    CHECK(map && map->cid(1, 1) == 1u && map->text(2) == "ff" && !map->text(3));
+    CHECK(map->layers() == 2 && !map->metadata(1).name && !map->metadata(7).writing_mode);
+    std::map<std::string, std::string> files{{"Top", "/Base usecmap"}, {"Base", base}};
+    auto opened = hayro::Map::open("Top", files);
+    CHECK(opened && *opened && (*opened)->cid(1, 1) == 1u);
+    CHECK(!hayro::Map::open("Else", files));
+    CHECK(hayro::Map::open("Identity-V") && hayro::Map::open("Identity-V").value()->name() == "Identity-V");
+    hayro::Map read;
+    CHECK(read.read(base) == HAYRO_CMAP_OK && read.cid(1, 1) == 1u);
+    CHECK(read.read("begincidchar") == HAYRO_CMAP_REFUSED && read.empty());
+    CHECK(read.read(base, "no bundle") == HAYRO_CMAP_NOT_A_BUNDLE && read.empty());
+    auto kept = *hayro::Map::parse(base);
+    CHECK(kept.cid(1, 1) == 1u);
+}
+
+static void long_texts_are_whole() {
+    std::string units;
+    for (int count = 0; count < 200; count++) units += "0061";
+    auto map = hayro::Map::parse("/CMapName /" + std::string(100, 'N') + " beginbfchar <01> <" + units + "> endbfchar");
+    CHECK(map && map->text(1) == std::string(200, 'a') && map->name() == std::string(100, 'N'));
+}
+
+static void refusals_say_why() {
+    auto map = hayro::Map::parse("begincidchar <01> x");
+    CHECK(!map && map.refusal().cause() == hayro::Cause::malformed);
+    CHECK(map.refusal().reason() == hayro::Reason::cid_expected);
+    CHECK(map.refusal().segment() == hayro::Segment::none);
+    CHECK(map.refusal().offset() == 19u && map.refusal().names().empty());
+    CHECK(map.refusal().message() == "byte 19: a CID was expected");
+
+    auto missing = hayro::Map::parse("/A usecmap", {{"A", "/B usecmap"}});
+    CHECK(!missing && missing.refusal().cause() == hayro::Cause::no_file);
+    CHECK(missing.refusal().names() == (Names{"A", "B"}) && !missing.refusal().offset());
+
+    auto endless = hayro::Map::parse("/A usecmap", {{"A", "/A usecmap"}});
+    CHECK(!endless && endless.refusal().cause() == hayro::Cause::chain_length);
+    CHECK(endless.refusal().names() == Names(16, "A"));
+
+    std::string name(1000, 'N');
+    CHECK(hayro::Map::parse('/' + name + " usecmap").refusal().names() == Names{name});
+
+    hayro::Files files{{"B", "% only"}};
+    CHECK(hayro::Map::parse("/B usecmap /B usecmap", files, 33));
+    auto over = hayro::Map::parse("/B usecmap /B usecmap", files, 32);
+    CHECK(!over && over.refusal().cause() == hayro::Cause::past_budget);
+
+    auto opened = hayro::Map::open("Bad", {{"Bad", "begincidchar"}});
+    CHECK(opened && !*opened && opened->refusal().offset() == 12u);
+}
+
+static void strings_are_cut() {
+    auto map = hayro::Map::parse("begincodespacerange <00> <7F> <8140> <9FFC> endcodespacerange "
+                                 "begincidrange <00> <7F> 1 <8140> <9FFC> 200 endcidrange");
+    CHECK(bool(map));
+    auto codes = map->decode("A\x81\x40\x82\xFF\x81"s);
+    CHECK(codes.size() == 4);
+    CHECK(same(codes[0], 0x41, 1, 66, true, false) && same(codes[1], 0x8140, 2, 200, true, false));
+    CHECK(same(codes[2], 0x82FF, 2, 647, false, false) && same(codes[3], 0x81, 1, std::nullopt, false, true));
+    CHECK(map->cid(0x82FF, 2) == 647u && !map->cid_strict(0x82FF, 2) && map->cid_strict(0x8140, 2) == 200u);
+
+    std::array<hayro::Code, 2> room;
+    auto part = map->decode("AAA", room);
+    CHECK(part.made == 2 && part.taken == 2 && !part.whole);
+    part = map->decode("A", room);
+    CHECK(part.made == 1 && part.taken == 1 && part.whole);
+    part = map->decode("A", hayro::Span<hayro::Code>());
+    CHECK(part.made == 0 && part.taken == 0 && !part.whole);
+    CHECK(map->decode(std::string_view()).empty() && map->decode(std::vector<std::uint8_t>()).empty());
+    CHECK(map->decode(std::string(1000, 'A')).size() == 1000);
+
+    std::array<hayro::Cid, 4> cids{};
+    CHECK(map->cids(0x7E, 1, 7, cids) && cids == (std::array<hayro::Cid, 4>{127, 128, 7, 7}));
+    CHECK(map->cids(0, 1, 7, {}));
+    auto ranges = map->codespaces();
+    CHECK(ranges.size() == 2 && ranges[1].low == 0x8140 && ranges[1].high == 0x9FFC && ranges[1].byte_len == 2);
+    std::string many;
+    for (int count = 0; count < 50; count++) many += "<00> <01> ";
+    auto long_map = hayro::Map::parse("begincodespacerange " + many + "endcodespacerange");
+    CHECK(long_map && long_map->codespaces().size() == 50 && long_map->codespaces(1).empty());
+}
+
+static void files_speak_of_themselves() {
+    auto map = hayro::Map::parse("/Registry (Adobe) /Ordering (Japan1) /Supplement 6 /CMapName /Own /WMode 1");
+    CHECK(map && map->registry() == "Adobe" && map->ordering() == "Japan1" && map->supplement() == 6);
+    CHECK(map->name() == "Own" && map->writing_mode() == hayro::WritingMode::vertical);
+    auto said = map->metadata();
+    CHECK(said.registry == "Adobe" && said.ordering == "Japan1" && said.supplement == 6);
+    CHECK(said.name == "Own" && said.writing_mode == hayro::WritingMode::vertical);
+    auto silent = hayro::Map::parse("");
+    CHECK(silent && !silent->registry() && !silent->supplement() && !silent->writing_mode());
+}
+
+// A bundle of one table of deltas, whose one symbol is 32, one of counts, and a file.
+static const std::uint8_t tables[] = {0, 0, 0, 16, 0, 2, 1, 0, 2, 0, 0, 0, 32, 0, 0, 0, 0, 0, 0, 0};
+// A binary file with the CID 5 for the code 0020 of two bytes and 6 for 0021.
+static const std::uint8_t binary[] = {'b', 'c', 'm', 'a', 'p', 1, 0, 0, 0,    0x1A, 4, 0, 0,
+                                      0,   16,  0,   2,   0,   0, 0, 1, 0x40, 0,    5, 0, 0};
+
+static void bundles_have_files() {
+    std::vector<std::uint8_t> bytes(std::begin(tables), std::end(tables));
+    bytes.insert(bytes.end(), std::begin(binary), std::end(binary));
+    auto bundle = hayro::Bundle::open(bytes);
+    CHECK(bundle && !bundle->empty() && bundle->file("83pv-RKSJ-H").value_or("").size() == sizeof binary);
+    CHECK(!bundle->file("H") && !hayro::Bundle::open("") && !hayro::Bundle().file("H"));
+    auto map = hayro::Map::parse(binary, *bundle);
+    CHECK(map && map->cid(0x20, 2) == 5u && map->cid(0x21, 2) == 6u);
+    auto used = hayro::Map::parse("/83pv-RKSJ-H usecmap", *bundle);
+    CHECK(used && used->cid(0x20, 2) == 5u);
+    auto other = bundle->share();
+    bundle->share();
+    bundle.reset();
+    auto opened = hayro::Map::open("83pv-RKSJ-H", other);
+    CHECK(opened && *opened && (*opened)->cid(0x20, 2) == 5u);
+    hayro::Map over;
+    CHECK(over.read(binary, bytes) == HAYRO_CMAP_OK && over.cid(0x21, 2) == 6u);
+    CHECK(over.read_over(binary, other) == HAYRO_CMAP_OK && over.cid(0x20, 2) == 5u);
+    auto cut = hayro::Map::parse(hayro::Bytes(binary, 25), other);
+    CHECK(!cut && cut.refusal().reason() == hayro::Reason::header && cut.refusal().offset() == 0u);
+}
+
+static void uses_are_named() {
+    CHECK(hayro::uses("/B usecmap /A usecmap /B usecmap") == (Names{"B", "A", "B"}));
+    CHECK(hayro::uses("") == Names{} && !hayro::uses("begincidchar"));
+    std::string many;
+    for (int count = 0; count < 100; count++) many += "/Some-Name usecmap\n";
+    CHECK(hayro::uses(many) == Names(100, "Some-Name"));
+
+    Names asked;
+    auto get = [&](const std::string &name) -> std::optional<std::string> {
+        asked.push_back(name);
+        if (name == "A") return "/B usecmap /A usecmap";
+        if (name == "B") return "";
+        return std::nullopt;
+    };
+    auto files = hayro::used_files("/A usecmap /Missing usecmap", get);
+    CHECK(asked == (Names{"A", "Missing", "B"}) && files.size() == 2 && files.count("A") == 1);
+    // A chain without an end is cut where no map can be.
+    asked.clear();
+    hayro::used_files("/N usecmap", [&](const std::string &name) {
+        asked.push_back(name);
+        return std::optional('/' + name + "N usecmap");
+    });
+    CHECK(asked.size() == 15 && asked.back() == std::string(15, 'N'));
+}
+
+static void threads_share_a_map() {
+    auto map = hayro::Map::parse("begincidrange <0000> <FFFF> 5 endcidrange");
+    std::vector<std::thread> threads;
+    std::array<bool, 4> right{};
+    for (std::size_t at = 0; at < right.size(); at++)
+        threads.emplace_back([&place = right[at], own = map->share()]() mutable {
+            bool all = true;
+            for (std::uint32_t code = 0; code < 10000; code++) all = all && own.cid(code, 2) == code + 5;
+            place = all;
+        });
+    for (auto &thread : threads) thread.join();
+    for (bool it : right) CHECK(it);
+}
+
+int main() {
+    maps_are_moved();
+    files_use_files();
+    long_texts_are_whole();
+    refusals_say_why();
+    strings_are_cut();
+    files_speak_of_themselves();
+    bundles_have_files();
+    uses_are_named();
+    threads_share_a_map();
+    CHECK(!hayro::version().empty());
+    std::puts(failed ? "failed" : "ok");
+    return failed;
+}

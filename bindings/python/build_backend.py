@@ -1,0 +1,120 @@
+"""Builds the wheel and the source archive of the package (PEP 517), by the standard library alone.
+
+The C library goes into the wheel where the environment variable HAYRO_CMAP_LIBRARY names it, or where it lies in the
+package's folder as libhayro_cmap.so. The wheel is then for Linux on x86-64, else for any system, and finds the library
+when it is imported. The version is that of the file VERSION, here in a source archive and else at the top of the
+project.
+"""
+
+import base64
+import hashlib
+import io
+import os
+import tarfile
+import time
+import zipfile
+from pathlib import Path
+
+HERE = Path(__file__).resolve().parent
+TOP = HERE if (HERE / "VERSION").exists() else HERE.parent.parent
+VERSION = (TOP / "VERSION").read_text().strip()
+LICENCES = ["LICENSE-APACHE", "LICENSE-MIT"]
+PACKAGE = "hayro_cmap"
+LIBRARY = "libhayro_cmap.so"
+
+METADATA = f"""\
+Metadata-Version: 2.1
+Name: hayro-cmap
+Version: {VERSION}
+Summary: CMap files: which CID a character code stands for, and which Unicode text
+License: MIT OR Apache-2.0
+Requires-Python: >=3.8
+Classifier: Operating System :: POSIX :: Linux
+Classifier: Programming Language :: Python :: 3
+Classifier: Typing :: Typed
+Description-Content-Type: text/markdown
+
+"""
+
+
+def metadata():
+    return (METADATA + (HERE / "README.md").read_text()).encode()
+
+
+def sources():
+    """The files of the package, but the library."""
+    folder = HERE / PACKAGE
+    return [path for path in sorted(folder.iterdir()) if path.suffix == ".py" or path.name == "py.typed"]
+
+
+def library():
+    """The path of the C library that goes into the wheel, or None."""
+    asked = os.environ.get("HAYRO_CMAP_LIBRARY")
+    beside = HERE / PACKAGE / LIBRARY
+    return Path(asked) if asked else beside if beside.exists() else None
+
+
+def wheel_files(tag, shared):
+    """The names and the bytes of what a wheel has, but for the list of them."""
+    about = f"{PACKAGE}-{VERSION}.dist-info"
+    files = {f"{PACKAGE}/{path.name}": path.read_bytes() for path in sources()}
+    if shared:
+        files[f"{PACKAGE}/{LIBRARY}"] = shared.read_bytes()
+    files[f"{about}/METADATA"] = metadata()
+    is_pure = str(shared is None).lower()
+    wheel = f"Wheel-Version: 1.0\nGenerator: build_backend\nRoot-Is-Purelib: {is_pure}\nTag: {tag}\n"
+    files[f"{about}/WHEEL"] = wheel.encode()
+    for name in LICENCES:
+        files[f"{about}/licenses/{name}"] = (TOP / name).read_bytes()
+    return files, f"{about}/RECORD"
+
+
+def record_of(files, record):
+    """The list of the files, with their sums and lengths."""
+    lines = []
+    for name, data in files.items():
+        sum = base64.urlsafe_b64encode(hashlib.sha256(data).digest()).rstrip(b"=").decode()
+        lines.append(f"{name},sha256={sum},{len(data)}\n")
+    return "".join([*lines, f"{record},,\n"]).encode()
+
+
+def written_at():
+    """When the files of an archive say that they were written: the time that SOURCE_DATE_EPOCH gives, or 1980."""
+    return max(int(os.environ.get("SOURCE_DATE_EPOCH", "0")), 315532800)
+
+
+def write_wheel(folder, files, tag):
+    name = f"{PACKAGE}-{VERSION}-{tag}.whl"
+    with zipfile.ZipFile(Path(folder, name), "w", zipfile.ZIP_DEFLATED) as archive:
+        for path, data in files.items():
+            entry = zipfile.ZipInfo(path, time.gmtime(written_at())[:6])
+            entry.compress_type = zipfile.ZIP_DEFLATED
+            entry.external_attr = (0o100755 if path.endswith(".so") else 0o100644) << 16
+            archive.writestr(entry, data)
+    return name
+
+
+def build_wheel(wheel_directory, config_settings=None, metadata_directory=None):
+    """Writes the wheel, and gives its name."""
+    shared = library()
+    tag = "py3-none-linux_x86_64" if shared else "py3-none-any"
+    files, record = wheel_files(tag, shared)
+    files[record] = record_of(files, record)
+    return write_wheel(wheel_directory, files, tag)
+
+
+def build_sdist(sdist_directory, config_settings=None):
+    """Writes the source archive, and gives its name."""
+    root = f"{PACKAGE}-{VERSION}"
+    here = ["pyproject.toml", "build_backend.py", "README.md"]
+    files = {name: (HERE / name).read_bytes() for name in here}
+    files.update({f"{PACKAGE}/{path.name}": path.read_bytes() for path in sources()})
+    files.update({f"tests/{path.name}": path.read_bytes() for path in sorted((HERE / "tests").glob("*.py"))})
+    files.update({name: (TOP / name).read_bytes() for name in ["VERSION", *LICENCES]})
+    files["PKG-INFO"] = metadata()
+    with tarfile.open(Path(sdist_directory, f"{root}.tar.gz"), "w:gz") as archive:
+        for path, data in files.items():
+            entry = tarfile.TarInfo(f"{root}/{path}")
+            entry.size, entry.mtime = len(data), written_at()
+            archive.addfile(entry, io.BytesIO(data))
+    return f"{root}.tar.gz"

@@ -1,0 +1,39 @@
+"""CMap files: which CID a character code of a composite font stands for, and which Unicode text.
+
+    import hayro_cmap
+
+    files = hayro_cmap.folder("/usr/share/poppler/cMap/Adobe-Japan1")
+    with hayro_cmap.CMap.open("90ms-RKSJ-H", files) as cmap:
+        print([code.cid for code in cmap.decode(bytes.fromhex("93FA967B8CEA"))])
+
+A file may come from anyone: each call returns on any bytes. What is refused is a `Refused`, and MemoryError says that
+memory ran out. The calls are those of the C library of this project, which has to be found: the path in the
+environment variable HAYRO_CMAP_LIBRARY, else the file in this package's folder, else the system's.
+"""
+
+from ._bundle import Bundle
+from ._faults import Cause, NotABundle, Reason, Refused, Segment
+from ._folder import folder
+from ._map import CMap, Code, Codespace, Layer, Metadata, WritingMode
+from ._owned import library, put
+from ._reading import uses
+
+__all__ = [
+    "Bundle",
+    "CMap",
+    "Cause",
+    "Code",
+    "Codespace",
+    "Layer",
+    "Metadata",
+    "NotABundle",
+    "Reason",
+    "Refused",
+    "Segment",
+    "WritingMode",
+    "folder",
+    "uses",
+]
+
+#: The version of the library.
+__version__: str = put(library.hayro_cmap_version).decode()

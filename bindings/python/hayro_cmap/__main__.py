@@ -1,0 +1,97 @@
+"""Prints the codes of strings, with their CIDs and texts.
+
+FILE is the path of a CMap file, or the name of one in the folders of --base or in the bundle, or Identity-H or
+Identity-V. A code without a text of its own has that of its CID in the CMap to Unicode of its collection, as
+Adobe-Japan1-UCS2, if that is there.
+"""
+
+import argparse
+import os
+import sys
+import unicodedata
+
+from . import Bundle, CMap, NotABundle, Refused, __version__, folder
+
+#: Categories of characters that control a terminal, or that stand for nothing.
+HARMFUL = {"Cc", "Cf", "Cn", "Co", "Cs", "Zl", "Zp"}
+
+
+def arguments():
+    parser = argparse.ArgumentParser(
+        prog="python3 -m hayro_cmap", description=__doc__, formatter_class=argparse.RawDescriptionHelpFormatter
+    )
+    parser.add_argument("file", metavar="FILE", type=os.fsencode)
+    parser.add_argument("strings", metavar="HEX", nargs="+", type=bytes.fromhex, help="two digits for each byte")
+    parser.add_argument("--base", metavar="FOLDER", action="append", default=[], help="where used files are")
+    parser.add_argument("--bundle", metavar="FILE", help="a bundle, for files in binary form and for used files")
+    parser.add_argument("--budget", metavar="N", type=int, help="the most bytes that all files may have together")
+    parser.add_argument("--version", action="version", version=f"hayro_cmap {__version__}")
+    return parser.parse_args()
+
+
+def read(path):
+    with open(path, "rb") as file:
+        return file.read()
+
+
+def map_of(file, **over):
+    """The map of a path, or of a name."""
+    return CMap.parse(read(file), **over) if os.path.isfile(file) else CMap.open(file, **over)
+
+
+def texts_of(cmap, over):
+    """The map of CIDs to texts of the collection of the first layer that gives one, or None."""
+    for layer in cmap.layers:
+        it = layer.metadata
+        if it.registry is not None and it.ordering is not None:
+            try:
+                return CMap.open(b"%b-%b-UCS2" % (it.registry, it.ordering), **over)
+            except Refused:
+                return None
+    return None
+
+
+def shown(text):
+    """A text in quotes, with what would control a terminal as \\u{HEX}."""
+    return '"' + "".join(escaped(it) for it in text) + '"'
+
+
+def escaped(character):
+    if character in '"\\':
+        return "\\" + character
+    return f"\\u{{{ord(character):X}}}" if unicodedata.category(character) in HARMFUL else character
+
+
+def print_string(cmap, texts, string):
+    """A line for each code of a string."""
+    for code in cmap.decode(string):
+        text = cmap.text(code.code)
+        if text is None and texts is not None and code.cid is not None:
+            text = texts.text(code.cid)
+        cid = "-" if code.cid is None else str(code.cid)
+        note = "" if code.in_codespace else "  cut short" if code.cut_short else "  in no codespace range"
+        print(f"{f'<{bytes(code).hex().upper()}>':10}{cid:>12}  {'-' if text is None else shown(text)}{note}")
+
+
+def main():
+    it = arguments()
+    sys.stdout.reconfigure(errors="backslashreplace")
+    name = os.fsdecode(it.file)
+    try:
+        over = {"files": folder(*it.base), "budget": it.budget}
+        over["bundle"] = None if it.bundle is None else Bundle.open(read(it.bundle))
+        with map_of(it.file, **over) as cmap:
+            texts = texts_of(cmap, over)
+            for string in it.strings:
+                print_string(cmap, texts, string)
+    except Refused as fault:
+        print(f"hayro_cmap: {ascii(name)[1:-1]}: {fault}", file=sys.stderr)
+        return 1
+    except (OSError, NotABundle, ValueError) as fault:
+        print(f"hayro_cmap: {fault}", file=sys.stderr)
+        return 2
+    return 0
+
+
+if __name__ == "__main__":
+    sys.exit(main())

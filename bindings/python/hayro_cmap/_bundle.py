@@ -1,0 +1,46 @@
+"""Bundles: predefined CMap files, and the tables of the binary form."""
+
+import contextlib
+from typing import Iterator, Optional
+
+from ._faults import NotABundle
+from ._library import NOT_A_BUNDLE, Handle
+from ._owned import Owned, checked, library, put
+from ._values import Buffer, Name, bytes_of, name_of
+
+
+class Bundle(Owned):
+    """A bundle, opened once for any number of maps. It is freed by `close`, by `with`, or with its last reference.
+
+    Several threads may use one bundle, one at a time. `share` gives a thread a bundle of its own.
+    """
+
+    _what = "the bundle"
+    _free = staticmethod(library.hayro_cmap_bundle_free)
+    _share = staticmethod(library.hayro_cmap_bundle_share)
+
+    @classmethod
+    def open(cls, data: Buffer) -> "Bundle":
+        """Opens a bundle, and copies its files. NotABundle where the bytes are none."""
+        data, handle = bytes_of(data), Handle()
+        if checked(library.hayro_cmap_bundle_open(handle, data, len(data))) == NOT_A_BUNDLE:
+            raise NotABundle("the bytes are no bundle")
+        return cls(handle)
+
+    def file(self, name: Name) -> Optional[bytes]:
+        """The bytes of the file of this name, or None."""
+        name = name_of(name)
+        with self._held() as handle:
+            return put(library.hayro_cmap_bundle_file, handle, name, len(name))
+
+
+@contextlib.contextmanager
+def held(bundle: Optional[Bundle]) -> Iterator[Handle]:
+    """The handle of a bundle, or an empty one where there is no bundle."""
+    if bundle is None:
+        yield Handle()
+    elif isinstance(bundle, Bundle):
+        with bundle._held() as handle:
+            yield handle
+    else:
+        raise TypeError(f"a bundle is a Bundle or None, and not of type {type(bundle).__name__}")

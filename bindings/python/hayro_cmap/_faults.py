@@ -1,0 +1,89 @@
+"""Why a file gives no map."""
+
+import enum
+from typing import Optional, Tuple
+
+from ._values import shown
+
+
+class Cause(enum.IntEnum):
+    """What is wrong with the file at fault."""
+
+    MALFORMED = 1
+    """It is outside the grammar."""
+    NO_FILE = 2
+    """No file has its name."""
+    CHAIN_LENGTH = 3
+    """It would be the seventeenth of a chain of files that use each other."""
+    PAST_BUDGET = 4
+    """It has more bytes than are left of the budget."""
+
+
+class Reason(enum.IntEnum):
+    """What is wrong where the reading of a malformed file stopped."""
+
+    MALFORMED_TOKEN = 1
+    END_WITHIN_SECTION = 2
+    CODE_EXPECTED = 3
+    CODE_LENGTH = 4
+    UNEQUAL_LENGTHS = 5
+    CID_EXPECTED = 6
+    TEXT_EXPECTED = 7
+    BRACKET_EXPECTED = 8
+    USE_WITHOUT_NAME = 9
+    HEADER = 10
+    SEGMENT_LENGTH = 11
+    SEGMENT_TYPE = 12
+    FIELD = 13
+    ENTRY = 14
+    CODE_TOO_LARGE = 15
+    CID_TOO_LARGE = 16
+
+
+class Segment(enum.IntEnum):
+    """A segment of a binary file, by what it holds."""
+
+    CIDS = 1
+    TEXTS = 2
+    NOTDEFS = 3
+    MODE = 4
+    CODESPACES = 5
+    COLLECTION = 6
+
+
+class Refused(ValueError):
+    """A file, or one that it uses, is malformed or missing, or passes a limit. Its text says which and why."""
+
+    def __init__(
+        self,
+        message: str,
+        cause: Cause,
+        names: Tuple[bytes, ...] = (),
+        offset: Optional[int] = None,
+        reason: Optional[Reason] = None,
+        segment: Optional[Segment] = None,
+        opened: Optional[bytes] = None,
+    ):
+        super().__init__(message, cause, names, offset, reason, segment, opened)
+        #: What is wrong, in English, as the library says it.
+        self.message = message
+        #: What is wrong with the file at fault.
+        self.cause = cause
+        #: The names that lead to it, each used by the file before; none for the file itself.
+        self.names = names
+        #: Where the reading of a malformed file stopped, in bytes from its start; else None.
+        self.offset = offset
+        #: What is wrong there; None where the file isn't malformed.
+        self.reason = reason
+        #: The segment of a binary file in which that is; else None.
+        self.segment = segment
+        #: The name by which the first file was opened, if it was.
+        self.opened = opened
+
+    def __str__(self) -> str:
+        at_fault = self.names[-1] if self.names else self.opened
+        return self.message if at_fault is None else f"{shown(at_fault)}: {self.message}"
+
+
+class NotABundle(ValueError):
+    """The bytes are no bundle."""

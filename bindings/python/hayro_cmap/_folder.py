@@ -1,0 +1,39 @@
+"""Files of folders, read when they are asked for."""
+
+import os
+from typing import Callable, Dict, Optional, Union
+
+Path = Union[str, "os.PathLike[str]"]
+
+
+def folder(*paths: Path) -> Callable[[bytes], Optional[bytes]]:
+    """Gives the files in these folders and their subfolders, each when it is asked for by its name.
+
+    A name stands for a file that was there when the folders were gone through, and for nothing outside of them. The
+    first folder that has it counts, and in a folder the first path. OSError where a folder can't be read.
+    """
+    found: Dict[bytes, bytes] = {}
+    for path in paths:
+        for file in sorted(files_below(os.fsencode(path))):
+            found.setdefault(os.path.basename(file), file)
+
+    def file_of(name: bytes) -> Optional[bytes]:
+        if name not in found:
+            return None
+        with open(found[name], "rb") as file:
+            return file.read()
+
+    return file_of
+
+
+def files_below(path):
+    """The paths of all files in a folder and its subfolders. A link to a folder isn't followed."""
+
+    def stop(fault):
+        raise fault
+
+    for below, _, names in os.walk(path, onerror=stop):
+        for name in names:
+            file = os.path.join(below, name)
+            if os.path.isfile(file):
+                yield file

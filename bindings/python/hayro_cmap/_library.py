@@ -1,0 +1,132 @@
+"""The C library: where it is found, and the types of its calls."""
+
+import ctypes
+import os
+import site
+import sys
+from ctypes import POINTER, Structure, c_bool, c_char_p, c_int, c_size_t, c_uint8, c_uint16, c_uint32, c_uint64, c_void_p
+from pathlib import Path
+
+#: The name of the library in a system: its number is the first one of the project's version.
+SONAME = "libhayro_cmap.so.1"
+
+#: The file in the package's folder, where a wheel brings the library.
+IN_PACKAGE = "libhayro_cmap.so"
+
+# hayro_cmap_status
+OK, REFUSED, NO_MEMORY, OVER_BUDGET, NOT_A_BUNDLE, ABSENT, NO_ROOM = range(7)
+
+# a hayro_cmap_mode
+NO_MODE = 2
+
+NO_BUDGET = 2**64 - 1
+MOST_NAMES = 16
+
+
+class Handle(Structure):
+    """A hayro_cmap or a hayro_cmap_bundle."""
+
+    _fields_ = [("full", c_bool), ("owned", c_void_p)]
+
+
+class File(Structure):
+    """A hayro_cmap_file."""
+
+    _fields_ = [("name", c_char_p), ("name_len", c_size_t), ("bytes", c_char_p), ("bytes_len", c_size_t)]
+
+
+class CodeInString(Structure):
+    """A hayro_cmap_code."""
+
+    _fields_ = [
+        ("code", c_uint32),
+        ("cid", c_uint32),
+        ("byte_len", c_uint8),
+        ("in_codespace", c_uint8),
+        ("has_cid", c_uint8),
+        ("cut_short", c_uint8),
+    ]
+
+
+class CodespaceRange(Structure):
+    """A hayro_cmap_codespace."""
+
+    _fields_ = [("low", c_uint32), ("high", c_uint32), ("byte_len", c_uint32)]
+
+
+class Fault(Structure):
+    """A hayro_cmap_fault."""
+
+    _fields_ = [
+        ("cause", c_uint32),
+        ("reason", c_uint16),
+        ("segment", c_uint16),
+        ("offset", c_size_t),
+        ("names", c_size_t),
+        ("name_lens", c_size_t * MOST_NAMES),
+    ]
+
+
+HANDLE, SIZE = POINTER(Handle), POINTER(c_size_t)
+DATA, FILES = [c_char_p, c_size_t], [POINTER(File), c_size_t]
+ROOM = [c_char_p, c_size_t, SIZE]
+OVER_FILES = [HANDLE, *FILES, c_uint64]
+CODE = [HANDLE, c_uint32, c_uint8]
+
+CALLS = {
+    "hayro_cmap_bundle_file": (c_int, [HANDLE, *DATA, *ROOM]),
+    "hayro_cmap_bundle_free": (None, [HANDLE]),
+    "hayro_cmap_bundle_open": (c_int, [HANDLE, *DATA]),
+    "hayro_cmap_bundle_share": (c_int, [HANDLE, HANDLE]),
+    "hayro_cmap_cid": (c_bool, [*CODE, POINTER(c_uint32)]),
+    "hayro_cmap_cid_strict": (c_bool, [*CODE, POINTER(c_uint32)]),
+    "hayro_cmap_cids": (c_bool, [*CODE, c_uint32, POINTER(c_uint32), c_size_t]),
+    "hayro_cmap_codespaces": (c_int, [HANDLE, c_size_t, POINTER(CodespaceRange), c_size_t, SIZE]),
+    "hayro_cmap_decode": (c_int, [HANDLE, *DATA, POINTER(CodeInString), c_size_t, SIZE, SIZE]),
+    "hayro_cmap_explain": (c_int, [HANDLE, *DATA, *OVER_FILES, POINTER(Fault), *ROOM]),
+    "hayro_cmap_free": (None, [HANDLE]),
+    "hayro_cmap_identity": (c_int, [HANDLE, c_bool]),
+    "hayro_cmap_layer_name": (c_int, [HANDLE, c_size_t, *ROOM]),
+    "hayro_cmap_layer_ordering": (c_int, [HANDLE, c_size_t, *ROOM]),
+    "hayro_cmap_layer_registry": (c_int, [HANDLE, c_size_t, *ROOM]),
+    "hayro_cmap_layer_supplement": (c_bool, [HANDLE, c_size_t, POINTER(ctypes.c_int32)]),
+    "hayro_cmap_layer_writing_mode": (c_int, [HANDLE, c_size_t]),
+    "hayro_cmap_layers": (c_size_t, [HANDLE]),
+    "hayro_cmap_message": (c_int, [POINTER(Fault), *ROOM]),
+    "hayro_cmap_open": (c_int, [HANDLE, *DATA, *OVER_FILES]),
+    "hayro_cmap_share": (c_int, [HANDLE, HANDLE]),
+    "hayro_cmap_text": (c_int, [HANDLE, c_uint32, *ROOM]),
+    "hayro_cmap_uses": (c_int, [*DATA, HANDLE, SIZE, c_size_t, SIZE, *ROOM]),
+    "hayro_cmap_version": (c_int, ROOM),
+}
+
+
+def places():
+    """The paths at which the library is looked for, in this order."""
+    asked = os.environ.get("HAYRO_CMAP_LIBRARY")
+    if asked:
+        return [asked]
+    beside = Path(__file__).with_name(IN_PACKAGE)
+    if beside.exists():
+        return [str(beside)]
+    folders = [sys.prefix, site.getuserbase(), "/usr/local"]
+    return [SONAME, *(str(Path(folder, "lib", SONAME)) for folder in folders)]
+
+
+def load():
+    """The library, with the types of its calls. ImportError where there is none, or one that lacks a call."""
+    faults = []
+    for path in places():
+        try:
+            return typed(ctypes.CDLL(path))
+        except (OSError, AttributeError) as fault:
+            faults.append(str(fault))
+    raise ImportError("the C library of hayro_cmap isn't found: " + "; ".join(faults))
+
+
+def typed(library):
+    """The library, with the types of its calls."""
+    for name, (result, parameters) in CALLS.items():
+        call = getattr(library, name)
+        call.restype, call.argtypes = result, parameters
+    return library

@@ -1,0 +1,205 @@
+"""Maps of codes."""
+
+import enum
+import struct
+from ctypes import c_int32, c_size_t, c_uint32, string_at
+from typing import List, NamedTuple, Optional
+
+from ._bundle import Bundle, held
+from ._library import ABSENT, NO_MODE, NO_ROOM, OK, CodeInString, CodespaceRange, Handle
+from ._owned import Owned, checked, library, put
+from ._reading import MOST_IN_CHAIN, NO_FILES, Files, budget_of, explained, fetched, gathered, no_file, table_of
+from ._reading import uses as uses_of
+from ._values import Buffer, Name, bytes_of, code_length, code_number, name_of, number
+
+#: A hayro_cmap_code: its fields have no gaps between them.
+CODE = struct.Struct("=IIBBBB")
+
+
+class WritingMode(enum.IntEnum):
+    """The writing mode that a file gives."""
+
+    HORIZONTAL = 0
+    VERTICAL = 1
+
+
+class Code(NamedTuple):
+    """A code of a string."""
+
+    #: The number that its bytes write, the first one high.
+    code: int
+    #: How many bytes it has, 1 to 4.
+    byte_len: int
+    #: Its CID, or None where it has none. Codespace ranges aren't looked at.
+    cid: Optional[int]
+    #: Whether it lies in a codespace range.
+    in_codespace: bool
+    #: Whether the string ends before the code does.
+    cut_short: bool
+
+    def __bytes__(self) -> bytes:
+        return self.code.to_bytes(self.byte_len, "big")
+
+
+class Codespace(NamedTuple):
+    """A codespace range: codes of `byte_len` bytes, each byte between those of `low` and `high`."""
+
+    low: int
+    high: int
+    byte_len: int
+
+
+class Metadata(NamedTuple):
+    """What a file says of itself; None for what it doesn't say."""
+
+    #: The name that it gives itself.
+    name: Optional[bytes]
+    #: The registry of its character collection, as b"Adobe".
+    registry: Optional[bytes]
+    #: The ordering of its character collection, as b"Japan1".
+    ordering: Optional[bytes]
+    #: The supplement of its character collection.
+    supplement: Optional[int]
+    writing_mode: Optional[WritingMode]
+
+
+class Layer(NamedTuple):
+    """What one file of a map gives."""
+
+    metadata: Metadata
+    #: Its codespace ranges, in order.
+    codespaces: List[Codespace]
+
+
+class CMap(Owned):
+    """The map of a CMap file and the files that it uses. It is freed by `close`, by `with`, or with its last reference.
+
+    Several threads may use one map, one at a time. `share` gives a thread a map of its own, so that both look up at
+    the same time. The bytes of names are not decoded; where a call takes a name, a str stands for its UTF-8.
+    """
+
+    _what = "the map"
+    _free = staticmethod(library.hayro_cmap_free)
+    _share = staticmethod(library.hayro_cmap_share)
+
+    uses = staticmethod(uses_of)
+
+    @classmethod
+    def parse(
+        cls, data: Buffer, files: Files = NO_FILES, bundle: Optional[Bundle] = None, budget: Optional[int] = None
+    ) -> "CMap":
+        """Reads a CMap file: a text or, with a bundle, also one in binary form.
+
+        A file that it uses is that of `files` with the name, else that of the bundle. `files` is a mapping, or a
+        callable that is asked for the file of a name, once for each name, and gives None where there is none. The
+        files that are read may have no more bytes than `budget` together; those of the bundle don't count.
+
+        Refused where the file, or one that it uses, is malformed, missing or past a limit.
+        """
+        data, most = bytes_of(data), budget_of(budget)
+        return cls(explained(data, gathered(data, files, bundle), bundle, most))
+
+    @classmethod
+    def open(
+        cls, name: Name, files: Files = NO_FILES, bundle: Optional[Bundle] = None, budget: Optional[int] = None
+    ) -> "CMap":
+        """Reads the file of a name, as `parse` does: that of `files`, else that of the bundle.
+
+        Where neither has one, Identity-H and Identity-V are made, and any other name is Refused.
+        """
+        name, most = name_of(name), budget_of(budget)
+        is_asked = callable(files)
+        found = fetched([name], MOST_IN_CHAIN, files, bundle) if is_asked else gathered(b"", files, bundle)
+        handle = Handle()
+        with held(bundle) as over:
+            status = checked(library.hayro_cmap_open(handle, name, len(name), over, table_of(found), len(found), most))
+        if status == OK:
+            return cls(handle)
+        if status == ABSENT:
+            raise no_file(name)
+        data = found[name] if name in found else bundle.file(name)
+        return cls(explained(data, found, bundle, most, opened=name))
+
+    @classmethod
+    def identity(cls, vertical: bool = False) -> "CMap":
+        """The predefined CMap Identity-H, or Identity-V: codes of two bytes are CIDs."""
+        handle = Handle()
+        checked(library.hayro_cmap_identity(handle, bool(vertical)))
+        return cls(handle)
+
+    def decode(self, text: Buffer) -> List[Code]:
+        """The codes of a string, one after another (ISO 32000-1, 9.7.6.2)."""
+        text = bytes_of(text)
+        codes, made, taken = (CodeInString * (len(text) + 1))(), c_size_t(), c_size_t()
+        self._ask(library.hayro_cmap_decode, text, len(text), codes, len(codes), made, taken)
+        found = string_at(codes, made.value * CODE.size)
+        return [
+            Code(code, byte_len, cid if has_cid else None, bool(in_codespace), bool(cut_short))
+            for code, cid, byte_len, in_codespace, has_cid, cut_short in CODE.iter_unpack(found)
+        ]
+
+    def cid(self, code: int, byte_len: int) -> Optional[int]:
+        """The CID of a code of `byte_len` bytes, or None. Codespace ranges aren't looked at."""
+        return self._cid(library.hayro_cmap_cid, code, byte_len)
+
+    def cid_strict(self, code: int, byte_len: int) -> Optional[int]:
+        """The CID of a code of `byte_len` bytes that lies in a codespace range of this length, or None."""
+        return self._cid(library.hayro_cmap_cid_strict, code, byte_len)
+
+    def _cid(self, call, code, byte_len):
+        cid = c_uint32()
+        has_cid = self._ask(call, code_number(code), code_length(byte_len), cid)
+        return cid.value if has_cid else None
+
+    def cids(self, first: int, count: int, byte_len: int) -> List[Optional[int]]:
+        """What `cid` gives for `count` codes in a row, of which `first` is the first."""
+        first, byte_len = code_number(first), code_length(byte_len)
+        count = number(count, 0, 2**32 - first, "the number of codes")
+        one, other = (self._row(first, count, byte_len, absent) for absent in (0, 1))
+        return [cid if cid == same else None for cid, same in zip(one, other)]
+
+    def _row(self, first, count, byte_len, absent):
+        """The CIDs of codes in a row, with `absent` for a code that has none."""
+        row = (c_uint32 * (count + 1))()
+        self._ask(library.hayro_cmap_cids, first, byte_len, absent, row, count)
+        return row[:count]
+
+    def text(self, code: int) -> Optional[str]:
+        """The Unicode text of a code, or None."""
+        text = self._put(library.hayro_cmap_text, code_number(code))
+        return None if text is None else text.decode()
+
+    @property
+    def metadata(self) -> Metadata:
+        """What the file says of itself: that of layer 0."""
+        return self._metadata(0)
+
+    @property
+    def layers(self) -> List[Layer]:
+        """The layers, 1 to 16: the file's own, then that of the file that it is based on, and so on."""
+        count = self._ask(library.hayro_cmap_layers)
+        return [Layer(self._metadata(layer), self._codespaces(layer)) for layer in range(count)]
+
+    def _put(self, call, *arguments):
+        """The bytes that a call on the map puts to a room, or None."""
+        with self._held() as handle:
+            return put(call, handle, *arguments)
+
+    def _metadata(self, layer):
+        supplement = c_int32()
+        has_supplement = self._ask(library.hayro_cmap_layer_supplement, layer, supplement)
+        mode = self._ask(library.hayro_cmap_layer_writing_mode, layer)
+        return Metadata(
+            name=self._put(library.hayro_cmap_layer_name, layer),
+            registry=self._put(library.hayro_cmap_layer_registry, layer),
+            ordering=self._put(library.hayro_cmap_layer_ordering, layer),
+            supplement=supplement.value if has_supplement else None,
+            writing_mode=None if mode == NO_MODE else WritingMode(mode),
+        )
+
+    def _codespaces(self, layer):
+        needed, status = c_size_t(16), NO_ROOM
+        while status == NO_ROOM:
+            ranges = (CodespaceRange * needed.value)()
+            status = self._ask(library.hayro_cmap_codespaces, layer, ranges, len(ranges), needed)
+        return [Codespace(it.low, it.high, it.byte_len) for it in ranges[: needed.value]]

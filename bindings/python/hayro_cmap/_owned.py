@@ -1,0 +1,79 @@
+"""What the library hands out, and how it is called."""
+
+import contextlib
+import ctypes
+import threading
+
+from ._library import ABSENT, NO_MEMORY, NO_ROOM, Handle, load
+
+library = load()
+
+
+def checked(status):
+    """The status, unless it says that memory ran out."""
+    if status == NO_MEMORY:
+        raise MemoryError("out of memory")
+    return status
+
+
+def put(call, *arguments):
+    """The bytes that a call puts to a room, its last three parameters; None where it has no answer."""
+    needed, status = ctypes.c_size_t(64), NO_ROOM
+    while status == NO_ROOM:
+        room = ctypes.create_string_buffer(needed.value)
+        status = checked(call(*arguments, room, len(room), needed))
+    return None if status == ABSENT else room.raw[: needed.value]
+
+
+class Owned:
+    """A handle of the library, which one call at a time uses, and which is freed once."""
+
+    _what = "the handle"
+    _free = None
+    _share = None
+
+    def __init__(self, handle):
+        self._handle = handle
+        self._lock = threading.Lock()
+
+    @contextlib.contextmanager
+    def _held(self):
+        """The handle, for this thread alone. ValueError where it is freed."""
+        with self._lock:
+            if self._handle is None:
+                raise ValueError(f"{self._what} is closed")
+            yield self._handle
+
+    def _ask(self, call, *arguments):
+        """What a call answers whose first parameter is the handle."""
+        with self._lock:
+            if self._handle is None:
+                raise ValueError(f"{self._what} is closed")
+            return call(self._handle, *arguments)
+
+    def share(self):
+        """Another handle of the same, for lookups in another thread at the same time. Nothing is copied."""
+        other = Handle()
+        checked(self._ask(type(self)._share, other))
+        return type(self)(other)
+
+    def close(self):
+        """Frees it, unless others share it. Each later use is a ValueError, but for a second `close`."""
+        with self._lock:
+            handle, self._handle = self._handle, None
+        if handle is not None:
+            type(self)._free(handle)
+
+    def __enter__(self):
+        with self._held():
+            return self
+
+    def __exit__(self, *_):
+        self.close()
+
+    def __del__(self):
+        if hasattr(self, "_lock"):
+            self.close()
+
+    def __reduce__(self):
+        raise TypeError(f"{self._what} can't be copied or pickled: share() gives another handle")

@@ -1,0 +1,130 @@
+"""CMap files over the files that they use."""
+
+import ctypes
+from ctypes import c_size_t
+from types import MappingProxyType
+from typing import Callable, Dict, List, Mapping, Optional, Union
+
+from ._bundle import Bundle, held
+from ._faults import Cause, Reason, Refused, Segment
+from ._library import NO_BUDGET, NO_ROOM, OK, REFUSED, Fault, File, Handle
+from ._owned import checked, library, put
+from ._values import Buffer, Name, bytes_of, name_of, number
+
+#: Files by their names, or what gives the file of a name, and None where there is none.
+Files = Union[Mapping[Name, Buffer], Callable[[bytes], Optional[Buffer]]]
+
+NO_FILES: Files = MappingProxyType({})
+
+#: How many files a chain of files that use each other may have.
+MOST_IN_CHAIN = 16
+
+
+def budget_of(budget: Optional[int]) -> int:
+    """The budget as the library takes it."""
+    return NO_BUDGET if budget is None else number(budget, 0, NO_BUDGET, "the budget")
+
+
+def table_of(files: Dict[bytes, bytes]):
+    """The files as an array, with one entry more, so that it is never empty."""
+    entries = (File(name, len(name), data, len(data)) for name, data in files.items())
+    return (File * (len(files) + 1))(*entries)
+
+
+def explained(data: bytes, files: Dict[bytes, bytes], bundle: Optional[Bundle], budget: int, opened=None) -> Handle:
+    """The handle of the map of a file. Refused where there is none."""
+    table, handle, fault, needed, room_len = table_of(files), Handle(), Fault(), c_size_t(256), 0
+    while needed.value > room_len:
+        room_len = needed.value
+        room = ctypes.create_string_buffer(room_len)
+        with held(bundle) as over:
+            status = library.hayro_cmap_explain(
+                handle, data, len(data), over, table, len(files), budget, fault, room, room_len, needed
+            )
+        if checked(status) == OK:
+            return handle
+    raise refusal(fault, room.raw, opened)
+
+
+def refusal(fault: Fault, names: bytes, opened: Optional[bytes]) -> Refused:
+    """What the library says of a fault."""
+    lens = fault.name_lens[: fault.names]
+    is_malformed = fault.cause == Cause.MALFORMED
+    return Refused(
+        message=put(library.hayro_cmap_message, fault).decode(),
+        cause=Cause(fault.cause),
+        names=tuple(pieces(names, lens)),
+        offset=fault.offset if is_malformed else None,
+        reason=Reason(fault.reason) if is_malformed else None,
+        segment=Segment(fault.segment) if fault.segment else None,
+        opened=opened,
+    )
+
+
+def no_file(name: bytes) -> Refused:
+    """That no file has this name."""
+    fault = Fault(cause=Cause.NO_FILE, names=1)
+    fault.name_lens[0] = len(name)
+    return refusal(fault, name, None)
+
+
+def pieces(text: bytes, lens: List[int]) -> List[bytes]:
+    """The first bytes of a text in pieces of these lengths."""
+    found, start = [], 0
+    for length in lens:
+        found.append(text[start : start + length])
+        start += length
+    return found
+
+
+def uses(data: Buffer, bundle: Optional[Bundle] = None) -> List[bytes]:
+    """The names of the files that a CMap file uses, in order. None of them is asked for.
+
+    A file in binary form is read by the tables of the bundle. Refused where the file is malformed.
+    """
+    data = bytes_of(data)
+    names, needed, status = c_size_t(16), c_size_t(512), NO_ROOM
+    while status == NO_ROOM:
+        lens, room = (c_size_t * names.value)(), ctypes.create_string_buffer(needed.value)
+        with held(bundle) as over:
+            status = library.hayro_cmap_uses(data, len(data), over, lens, len(lens), names, room, len(room), needed)
+    if checked(status) == REFUSED:
+        library.hayro_cmap_free(explained(data, {}, bundle, NO_BUDGET))
+    return pieces(room.raw, lens[: names.value])
+
+
+def gathered(data: bytes, files: Files, bundle: Optional[Bundle]) -> Dict[bytes, bytes]:
+    """The files that a file may use: all of a mapping, or those that a callable gives."""
+    if callable(files):
+        return fetched(names_in(data, bundle), MOST_IN_CHAIN - 1, files, bundle)
+    found: Dict[bytes, bytes] = {}
+    for name, file in files.items():
+        found.setdefault(name_of(name), bytes_of(file))
+    return found
+
+
+def fetched(names: List[bytes], most: int, ask, bundle: Optional[Bundle]) -> Dict[bytes, bytes]:
+    """The files of these names and of those that they use, up to `most` in a chain. Each name is asked for once."""
+    found: Dict[bytes, bytes] = {}
+    asked = set()
+    for _ in range(most):
+        new = [name for name in dict.fromkeys(names) if name not in asked]
+        asked.update(new)
+        names = []
+        for name in new:
+            file = ask(name)
+            if file is not None:
+                file = found[name] = bytes_of(file)
+            elif bundle is not None:
+                file = bundle.file(name)
+            if file is not None:
+                names += names_in(file, bundle)
+    return found
+
+
+def names_in(data: bytes, bundle: Optional[Bundle]) -> List[bytes]:
+    """The names that a file uses; none where it is malformed, which its parsing says."""
+    try:
+        return uses(data, bundle)
+    except Refused:
+        return []

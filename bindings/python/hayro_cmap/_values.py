@@ -1,0 +1,45 @@
+"""Values that calls take: checked here, since ctypes cuts an integer to its type without a word."""
+
+import operator
+from typing import Union
+
+#: What holds bytes: bytes, bytearray, memoryview, mmap and the like.
+Buffer = Union[bytes, bytearray, memoryview]
+
+#: A name of a file, which is bytes. A str stands for its UTF-8.
+Name = Union[str, Buffer]
+
+
+def number(value, least, most, what):
+    """The integer, which lies from `least` to `most`. ValueError where it doesn't, TypeError for what is no integer."""
+    value = operator.index(value)
+    if not least <= value <= most:
+        raise ValueError(f"{what} is {value}, and not from {least} to {most}")
+    return value
+
+
+def code_number(code):
+    """A code, which has 32 bits at the most."""
+    return number(code, 0, 2**32 - 1, "the code")
+
+
+def code_length(byte_len):
+    """How many bytes a code has."""
+    return number(byte_len, 1, 4, "the length of a code in bytes")
+
+
+def bytes_of(data):
+    """The bytes of a buffer; a copy of those that could change. TypeError for what holds no bytes."""
+    return data if type(data) is bytes else bytes(memoryview(data))
+
+
+def name_of(name):
+    """The bytes of a name."""
+    return name.encode() if isinstance(name, str) else bytes_of(name)
+
+
+def shown(name):
+    """A name as a message shows it: bytes that aren't printable ASCII as \\xHH, and a backslash twice."""
+    return "/" + "".join(
+        "\\\\" if byte == 0x5C else chr(byte) if 0x20 <= byte <= 0x7E else f"\\x{byte:02X}" for byte in name
+    )

@@ -1,0 +1,147 @@
+"""Files that others use, and bundles."""
+
+import os
+import tempfile
+import unittest
+from pathlib import Path
+
+from hayro_cmap import Bundle, Cause, CMap, Refused, WritingMode, folder
+from hayro_cmap import uses as uses_of
+
+from .files import BINARY, BROKEN, BUNDLE, FIRST, SMALL, SMALL_V, bundle_of, uses
+
+
+class Recorded:
+    """Files by their names, and the names that were asked for."""
+
+    def __init__(self, files):
+        self.files, self.asked = files, []
+
+    def __call__(self, name):
+        self.asked.append(name)
+        return self.files.get(name)
+
+
+class Uses(unittest.TestCase):
+    def test_in_order(self):
+        self.assertEqual(uses_of(uses(b"B", b"A", b"B")), [b"B", b"A", b"B"])
+        self.assertEqual(CMap.uses(SMALL), [])
+
+    def test_many_and_long(self):
+        names = [b"N%d" % number for number in range(100)] + [b"x" * 1000]
+        self.assertEqual(uses_of(uses(*names)), names)
+
+    def test_binary(self):
+        name = bytes.fromhex("62636D617001 00000010 09 00000006 41")
+        with Bundle.open(BUNDLE) as bundle:
+            self.assertEqual(uses_of(name, bundle), [b"A"])
+            self.assertEqual(uses_of(BINARY, bundle), [])
+
+
+class Callables(unittest.TestCase):
+    def test_each_name_once(self):
+        files = Recorded({b"A": uses(b"C", b"B"), b"B": uses(b"C"), b"C": SMALL})
+        with CMap.parse(uses(b"A", b"B", b"A"), files) as cmap:
+            self.assertEqual(cmap.cid(0x41, 1), 34)
+        self.assertEqual(files.asked, [b"A", b"B", b"C"])
+
+    def test_open(self):
+        files = Recorded({b"Small-V": SMALL_V, b"Small-H": SMALL})
+        with CMap.open("Small-V", files) as cmap:
+            self.assertEqual([cmap.cid(0x8140, 2), cmap.cid(0x8141, 2)], [633, 7887])
+            self.assertEqual(cmap.metadata.writing_mode, WritingMode.VERTICAL)
+        self.assertEqual(files.asked, [b"Small-V", b"Small-H"])
+
+    def test_identity(self):
+        for files in [{}, Recorded({})]:
+            with CMap.open("Identity-V", files) as cmap:
+                self.assertEqual((cmap.cid(0x3042, 2), cmap.metadata.writing_mode), (0x3042, WritingMode.VERTICAL))
+        with CMap.open("Identity-V", {"Identity-V": SMALL}) as cmap:
+            self.assertEqual(cmap.cid(0x41, 1), 34)
+
+    def test_chain(self):
+        """A chain of 16 files is read, and no file beyond a chain of 16 is asked for."""
+        for length, call in [(15, CMap.parse), (16, CMap.open)]:
+            files = {b"%d" % number: uses(b"%d" % (number + 1)) for number in range(1, 100)}
+            first = uses(b"1") if call == CMap.parse else b"1"
+            asked = Recorded(files)
+            with self.assertRaises(Refused) as found:
+                call(first, asked)
+            self.assertEqual(found.exception.cause, Cause.CHAIN_LENGTH)
+            self.assertEqual(asked.asked, [b"%d" % number for number in range(1, length + 1)])
+            files[b"%d" % length] = SMALL
+            with call(first, Recorded(files)) as cmap:
+                self.assertEqual((cmap.cid(0x41, 1), len(cmap.layers)), (34, 16))
+
+    def test_malformed(self):
+        files = Recorded({b"A": uses(b"B") + b" )"})
+        self.assertRaises(Refused, CMap.parse, uses(b"A"), files)
+        self.assertEqual(files.asked, [b"A"])
+
+    def test_what_it_raises(self):
+        def files(name):
+            raise KeyError(name)
+
+        self.assertRaises(KeyError, CMap.parse, uses(b"A"), files)
+        self.assertRaises(TypeError, CMap.parse, uses(b"A"), lambda name: 5)
+
+    def test_calls_within(self):
+        """A callable may use the bundle and other maps."""
+        with Bundle.open(BUNDLE) as bundle:
+            with CMap.parse(uses(b"A"), lambda name: uses(FIRST) if bundle.file(FIRST) else None, bundle) as cmap:
+                self.assertEqual(cmap.cid(0x20, 2), 5)
+
+
+class Bundles(unittest.TestCase):
+    def test_file(self):
+        with Bundle.open(bytearray(BUNDLE)) as bundle:
+            self.assertEqual(bundle.file(FIRST), BINARY)
+            self.assertEqual(bundle.file(FIRST.decode()), BINARY)
+            self.assertIsNone(bundle.file("90ms-RKSJ-H"))
+            self.assertIsNone(bundle.file(b""))
+
+    def test_maps(self):
+        with Bundle.open(BUNDLE) as bundle:
+            maps = [CMap.parse(BINARY, bundle=bundle), CMap.open(FIRST, bundle=bundle)]
+            maps.append(CMap.parse(uses(FIRST), bundle=bundle))
+        for cmap in maps:
+            self.assertEqual([cmap.cid(code, 2) for code in (0x1F, 0x20, 0x21, 0x22)], [None, 5, 6, None])
+            cmap.close()
+
+    def test_files_before_the_bundle(self):
+        with Bundle.open(BUNDLE) as bundle:
+            for files in [{FIRST: SMALL}, Recorded({FIRST: SMALL})]:
+                with CMap.open(FIRST, files, bundle) as cmap:
+                    self.assertEqual((cmap.cid(0x41, 1), cmap.cid(0x20, 2)), (34, None))
+
+    def test_uses_of_its_files(self):
+        """What a file of the bundle uses is asked for too."""
+        with Bundle.open(bundle_of(uses(b"Small-H"))) as bundle:
+            files = Recorded({b"Small-H": SMALL})
+            with CMap.parse(uses(FIRST), files, bundle) as cmap:
+                self.assertEqual(cmap.cid(0x41, 1), 34)
+            self.assertEqual(files.asked, [FIRST, b"Small-H"])
+
+    def test_refused(self):
+        with Bundle.open(bundle_of(BROKEN)) as bundle:
+            with self.assertRaises(Refused) as found:
+                CMap.open(FIRST, bundle=bundle)
+        self.assertEqual(str(found.exception).split(":")[0], "/83pv-RKSJ-H")
+
+
+class Folders(unittest.TestCase):
+    def test_folder(self):
+        with tempfile.TemporaryDirectory() as name:
+            top = Path(name)
+            for path, data in {"a/Small-H": SMALL, "b/deep/Small-H": b"", "b/Small-V": SMALL_V, "Outside": b""}.items():
+                (top / path).parent.mkdir(parents=True, exist_ok=True)
+                (top / path).write_bytes(data)
+            files = folder(top / "a", os.fsencode(top / "b").decode())
+            self.assertEqual([files(b"Small-H"), files(b"Small-V")], [SMALL, SMALL_V])
+            for outside in [b"../Outside", b"Outside", b"deep/Small-H", b"", b".", b"..", b"a\0"]:
+                self.assertIsNone(files(outside))
+            self.assertRaises(OSError, folder, top / "nowhere")
+
+
+if __name__ == "__main__":
+    unittest.main()

@@ -1,0 +1,181 @@
+"""What maps answer."""
+
+import unittest
+
+import hayro_cmap
+from hayro_cmap import CMap, Code, Codespace, Metadata, WritingMode
+
+from .files import RESOURCES, SMALL, SMALL_V, known_files, needs_resources, predefined, uses
+
+
+class Lookups(unittest.TestCase):
+    def setUp(self):
+        self.cmap = CMap.parse(SMALL)
+        self.addCleanup(self.cmap.close)
+
+    def test_cid(self):
+        self.assertEqual([self.cmap.cid(0x41, 1), self.cmap.cid(0x8140, 2), self.cmap.cid(0x817E, 2)], [34, 633, 695])
+        self.assertIsNone(self.cmap.cid(0x42, 2))
+        self.assertIsNone(self.cmap.cid(0x817F, 2))
+
+    def test_cid_strict(self):
+        self.assertEqual(self.cmap.cid_strict(0x41, 1), 34)
+        with CMap.parse(b"1 begincodespacerange <00> <40> endcodespacerange 1 begincidchar <41> 7 endcidchar") as cmap:
+            self.assertEqual(cmap.cid(0x41, 1), 7)
+            self.assertIsNone(cmap.cid_strict(0x41, 1))
+
+    def test_cids(self):
+        self.assertEqual(self.cmap.cids(0x7D, 4, 1), [94, 95, None, None])
+        self.assertEqual(self.cmap.cids(0x8140, 0, 2), [])
+        self.assertEqual(self.cmap.cids(2**32 - 1, 1, 4), [None])
+
+    def test_cids_of_the_greatest_numbers(self):
+        with CMap.parse(b"3 begincidchar <00> 0 <01> 1 <02> 4294967295 endcidchar") as cmap:
+            self.assertEqual(cmap.cids(0, 4, 1), [0, 1, 2**32 - 1, None])
+
+    def test_text(self):
+        self.assertEqual(self.cmap.text(0x41), "A")
+        self.assertIsNone(self.cmap.text(0x42))
+
+    def test_long_text(self):
+        with CMap.parse(b"1 begincidchar <00> 1 endcidchar 1 beginbfchar <01> <" + b"65E5" * 500 + b"> endbfchar") as cmap:
+            self.assertEqual(cmap.text(1), "日" * 500)
+
+    def test_decode(self):
+        codes = [
+            Code(0x41, 1, 34, True, False),
+            Code(0x8140, 2, 633, True, False),
+            Code(0xFF, 1, None, False, False),
+            Code(0x81, 1, None, False, True),
+        ]
+        found = self.cmap.decode(bytes.fromhex("418140FF81"))
+        self.assertEqual(found, codes)
+        self.assertEqual(b"".join(map(bytes, found)), bytes.fromhex("418140FF81"))
+
+    def test_decode_of_many(self):
+        self.assertEqual(self.cmap.decode(b""), [])
+        self.assertEqual([code.cid for code in self.cmap.decode(b"AB" * 50000)], [34, 35] * 50000)
+
+    def test_identity(self):
+        with CMap.identity() as horizontal, CMap.identity(vertical=True) as vertical:
+            self.assertEqual(horizontal.cid(0x3042, 2), 0x3042)
+            self.assertEqual(vertical.cid(0x3042, 2), 0x3042)
+            self.assertEqual(horizontal.metadata.writing_mode, WritingMode.HORIZONTAL)
+            self.assertEqual(vertical.metadata.writing_mode, WritingMode.VERTICAL)
+
+
+class Values(unittest.TestCase):
+    """Integers out of range are refused, and bytes are taken in any form."""
+
+    def setUp(self):
+        self.cmap = CMap.parse(SMALL)
+        self.addCleanup(self.cmap.close)
+
+    def test_codes_out_of_range(self):
+        for code in [-1, 2**32, 2**32 + 0x41, 2**64 + 0x41, -(2**32) + 0x41]:
+            with self.subTest(code=code):
+                for call in [lambda: self.cmap.cid(code, 1), lambda: self.cmap.cid_strict(code, 1)]:
+                    self.assertRaises(ValueError, call)
+                self.assertRaises(ValueError, self.cmap.text, code)
+                self.assertRaises(ValueError, self.cmap.cids, code, 1, 1)
+
+    def test_lengths_out_of_range(self):
+        for byte_len in [-1, 0, 5, 257, 256 + 1, 2**64 + 1]:
+            with self.subTest(byte_len=byte_len):
+                self.assertRaises(ValueError, self.cmap.cid, 0x41, byte_len)
+                self.assertRaises(ValueError, self.cmap.cid_strict, 0x41, byte_len)
+                self.assertRaises(ValueError, self.cmap.cids, 0x41, 1, byte_len)
+
+    def test_counts_out_of_range(self):
+        for first, count in [(0, -1), (0, 2**32 + 1), (2**32 - 1, 2), (0, 2**64)]:
+            with self.subTest(first=first, count=count):
+                self.assertRaises(ValueError, self.cmap.cids, first, count, 4)
+
+    def test_budgets_out_of_range(self):
+        for budget in [-1, 2**64, 2**64 + 10**6]:
+            with self.subTest(budget=budget):
+                self.assertRaises(ValueError, CMap.parse, SMALL, budget=budget)
+                self.assertRaises(ValueError, CMap.open, "Identity-H", budget=budget)
+
+    def test_other_types(self):
+        for value in [1.0, "1", None, b"1"]:
+            with self.subTest(value=value):
+                self.assertRaises(TypeError, self.cmap.cid, value, 1)
+                self.assertRaises(TypeError, self.cmap.cid, 1, value)
+        for value in [5, "text", None, [65]]:
+            with self.subTest(value=value):
+                self.assertRaises(TypeError, self.cmap.decode, value)
+                self.assertRaises(TypeError, CMap.parse, value)
+        self.assertRaises(TypeError, CMap.parse, SMALL, bundle=b"")
+
+    def test_bytes_in_any_form(self):
+        forms = [bytes, bytearray, memoryview, lambda it: memoryview(b"".join(bytes([one, 0]) for one in it))[::2]]
+        for form in forms:
+            with CMap.parse(form(SMALL)) as cmap:
+                self.assertEqual([code.cid for code in cmap.decode(form(b"\x81\x40"))], [633])
+
+    def test_names_as_text(self):
+        with CMap.parse(SMALL_V, {"Small-H": bytearray(SMALL)}) as cmap:
+            self.assertEqual(cmap.cid(0x41, 1), 34)
+        with CMap.parse(uses("あ".encode()), {"あ": SMALL}) as cmap:
+            self.assertEqual(cmap.cid(0x41, 1), 34)
+
+
+class WhatFilesSay(unittest.TestCase):
+    def test_layers(self):
+        with CMap.parse(SMALL_V, {b"Small-H": SMALL}) as cmap:
+            own, below = cmap.layers
+            self.assertEqual(own.metadata, Metadata(b"Small-V", None, None, None, WritingMode.VERTICAL))
+            self.assertEqual(own.codespaces, [])
+            self.assertEqual(below.metadata, Metadata(b"Small-H", b"Adobe", b"Japan1", 1, WritingMode.HORIZONTAL))
+            self.assertEqual(below.codespaces, [Codespace(0, 0x80, 1), Codespace(0x8140, 0x9FFC, 2)])
+            self.assertEqual(cmap.metadata, own.metadata)
+
+    def test_nothing_said(self):
+        with CMap.parse(b"") as cmap:
+            self.assertEqual(cmap.metadata, Metadata(None, None, None, None, None))
+            self.assertEqual([layer.codespaces for layer in cmap.layers], [[]])
+
+    def test_many_codespaces(self):
+        ranges = [(code, code, 1) for code in range(100)]
+        text = b" ".join(b"<%02X> <%02X>" % it[:2] for it in ranges)
+        with CMap.parse(b"100 begincodespacerange " + text + b" endcodespacerange") as cmap:
+            self.assertEqual(cmap.layers[0].codespaces, ranges)
+
+    def test_long_name(self):
+        with CMap.parse(b"/CMapName /" + b"x" * 1000 + b" def") as cmap:
+            self.assertEqual(cmap.metadata.name, b"x" * 1000)
+
+    def test_version(self):
+        self.assertRegex(hayro_cmap.__version__, r"^\d+\.\d+\.\d+$")
+
+
+@needs_resources
+class Predefined(unittest.TestCase):
+    """Known answers of the files of poppler-data."""
+
+    def test_decode(self):
+        with CMap.parse(predefined("90ms-RKSJ-H")) as cmap:
+            codes = cmap.decode(bytes.fromhex("93FA967B8CEA"))
+            self.assertEqual([code.cid for code in codes], [3284, 3722, 1952])
+            self.assertEqual([bytes(code).hex() for code in codes], ["93fa", "967b", "8cea"])
+            self.assertTrue(all(code.in_codespace and not code.cut_short for code in codes))
+
+    def test_files_one_by_one(self):
+        files, asked = known_files()
+        with CMap.open("UniJIS-UTF16-V", files) as cmap:
+            self.assertEqual([cmap.cid(0x3042, 2), cmap.cid(0xFF08, 2)], [843, 7899])
+            self.assertEqual(cmap.metadata.writing_mode, WritingMode.VERTICAL)
+        self.assertEqual(asked, [b"UniJIS-UTF16-V", b"UniJIS-UTF16-H"])
+
+    def test_folder(self):
+        with CMap.open("Adobe-Japan1-UCS2", hayro_cmap.folder(RESOURCES)) as cmap:
+            self.assertEqual([cmap.text(0x34B), cmap.text(0xFFFFFFF)], ["あ", None])
+
+    def test_all_codes(self):
+        with CMap.parse(predefined("UniJIS-UTF16-H")) as cmap:
+            self.assertEqual(sum(cid is not None for cid in cmap.cids(0, 65536, 2)), 15391)
+
+
+if __name__ == "__main__":
+    unittest.main()

@@ -1,0 +1,107 @@
+"""Why files are refused."""
+
+import copy
+import pickle
+import re
+import unittest
+
+from hayro_cmap import Bundle, Cause, CMap, NotABundle, Reason, Refused, Segment
+
+from .files import BINARY, BROKEN, BUNDLE, FIRST, SMALL, needs_resources, predefined, uses
+
+
+class Refusals(unittest.TestCase):
+    def refusal(self, call, *arguments, **named):
+        with self.assertRaises(Refused) as found:
+            call(*arguments, **named)
+        self.assertIsInstance(found.exception, ValueError)
+        return found.exception
+
+    def test_malformed(self):
+        fault = self.refusal(CMap.parse, BROKEN)
+        self.assertEqual((fault.cause, fault.reason, fault.offset), (Cause.MALFORMED, Reason.CID_EXPECTED, 27))
+        self.assertEqual((fault.names, fault.segment), ((), None))
+        self.assertEqual(str(fault), "byte 27: a CID was expected")
+
+    def test_below(self):
+        fault = self.refusal(CMap.parse, uses(b"A"), {"A": uses(b"B"), "B": BROKEN})
+        self.assertEqual((fault.cause, fault.reason, fault.offset), (Cause.MALFORMED, Reason.CID_EXPECTED, 27))
+        self.assertEqual(fault.names, (b"A", b"B"))
+        self.assertEqual(str(fault), "/B: byte 27: a CID was expected")
+
+    def test_no_file(self):
+        fault = self.refusal(CMap.parse, uses(b"Nowhere"))
+        self.assertEqual((fault.cause, fault.reason, fault.offset), (Cause.NO_FILE, None, None))
+        self.assertEqual(fault.names, (b"Nowhere",))
+        self.assertTrue(str(fault).startswith("/Nowhere: "), str(fault))
+
+    def test_chain_length(self):
+        for files in [{"Loop": uses(b"Loop")}, {b"Loop": uses(b"Loop")}.get]:
+            fault = self.refusal(CMap.parse, uses(b"Loop"), files)
+            self.assertEqual((fault.cause, fault.names), (Cause.CHAIN_LENGTH, (b"Loop",) * 16))
+
+    def test_budget(self):
+        files = {"A": uses(b"B"), "B": SMALL}
+        for budget, names in [(9, ()), (19, (b"A",)), (20, (b"A", b"B")), (19 + len(SMALL), (b"A", b"B"))]:
+            fault = self.refusal(CMap.parse, uses(b"A"), files, budget=budget)
+            self.assertEqual((fault.cause, fault.names, fault.offset), (Cause.PAST_BUDGET, names, None))
+        CMap.parse(uses(b"A"), files, budget=20 + len(SMALL)).close()
+
+    def test_binary(self):
+        with Bundle.open(BUNDLE) as bundle:
+            fault = self.refusal(CMap.parse, BINARY[:17] + BINARY[18:], bundle=bundle)
+            self.assertEqual((fault.cause, fault.reason, fault.segment), (Cause.MALFORMED, Reason.HEADER, None))
+            cut = bytes.fromhex("62636D617001 00000010 0B 00000006 01 0C 00000006 01")
+            cut = cut[:6] + len(cut).to_bytes(4, "big") + cut[10:]
+            fault = self.refusal(CMap.parse, cut, bundle=bundle)
+            self.assertEqual((fault.reason, fault.segment, fault.offset), (Reason.FIELD, Segment.CODESPACES, 16))
+
+    def test_names_of_any_bytes(self):
+        fault = self.refusal(CMap.parse, uses(b"\xff\x1bJ\\"))
+        self.assertEqual(fault.names, (b"\xff\x1bJ\\",))
+        self.assertTrue(str(fault).startswith(r"/\xFF\x1BJ\\: "), str(fault))
+
+    def test_long_names(self):
+        names = [bytes([0x41 + index]) * 1000 for index in range(3)]
+        files = {names[0]: uses(names[1]), names[1]: uses(names[2])}
+        self.assertEqual(self.refusal(CMap.parse, uses(names[0]), files).names, tuple(names))
+
+    def test_open(self):
+        fault = self.refusal(CMap.open, "Nowhere")
+        self.assertEqual((fault.cause, fault.names), (Cause.NO_FILE, (b"Nowhere",)))
+        fault = self.refusal(CMap.open, "Broken", {"Broken": BROKEN})
+        self.assertEqual((fault.reason, fault.offset, fault.names), (Reason.CID_EXPECTED, 27, ()))
+        self.assertEqual(str(fault), "/Broken: byte 27: a CID was expected")
+        fault = self.refusal(CMap.open, "Over", {"Over": uses(b"Broken"), "Broken": BROKEN})
+        self.assertEqual((fault.names, str(fault)), ((b"Broken",), "/Broken: byte 27: a CID was expected"))
+        fault = self.refusal(CMap.open, "Broken", {"Broken": BROKEN}, budget=10)
+        self.assertEqual((fault.cause, fault.names), (Cause.PAST_BUDGET, ()))
+        CMap.open("Empty", {"Empty": b""}, budget=0).close()
+
+    def test_uses(self):
+        fault = self.refusal(CMap.uses, uses(b"A") + b" )")
+        self.assertEqual((fault.cause, fault.reason), (Cause.MALFORMED, Reason.MALFORMED_TOKEN))
+
+    def test_bundle(self):
+        for data in [b"", b"\0\0\0\1", BUNDLE[:-1]]:
+            with self.subTest(data=data):
+                self.assertRaises(NotABundle, Bundle.open, data)
+        self.assertTrue(issubclass(NotABundle, ValueError))
+
+    def test_pickle(self):
+        fault = self.refusal(CMap.parse, uses(b"A"), {"A": BROKEN})
+        for same in [pickle.loads(pickle.dumps(fault)), copy.copy(fault)]:
+            self.assertEqual((str(same), same.names, same.offset), (str(fault), fault.names, fault.offset))
+            self.assertEqual((same.cause, same.reason), (fault.cause, fault.reason))
+
+    @needs_resources
+    def test_spoiled(self):
+        """A predefined file whose first CID follows an x without a space: the byte after this token is at fault."""
+        data = predefined("90ms-RKSJ-H")
+        at = re.search(rb"begincidrange\s+<\w+>\s+<\w+>\s+", data).end()
+        fault = self.refusal(CMap.parse, data[:at] + b"x" + data[at:])
+        self.assertEqual((fault.reason, fault.offset), (Reason.CID_EXPECTED, at + len(b"x231")))
+
+
+if __name__ == "__main__":
+    unittest.main()

@@ -1,0 +1,75 @@
+//! Character collections, and the CMaps that lead from and to Unicode.
+
+use crate::CMapName;
+
+/// A family of character collections: the registry and the ordering of a CIDSystemInfo dictionary.
+/// Adobe Technical Note 5014.
+///
+/// Families are equal by their variant, and `Custom` ones by both texts.
+#[derive(Clone, Debug, PartialEq, Eq, Hash)]
+pub enum CidFamily {
+    /// Adobe-Japan1
+    AdobeJapan1,
+    /// Adobe-GB1
+    AdobeGB1,
+    /// Adobe-CNS1
+    AdobeCNS1,
+    /// Adobe-Korea1
+    AdobeKorea1,
+    /// Adobe-Identity
+    AdobeIdentity,
+    /// Any other registry and ordering.
+    Custom {
+        /// The registry, as it stands in the file.
+        registry: Vec<u8>,
+        /// The ordering, as it stands in the file.
+        ordering: Vec<u8>,
+    },
+}
+
+impl CidFamily {
+    /// The family of a registry and an ordering.
+    pub fn from_registry_ordering(registry: &[u8], ordering: &[u8]) -> CidFamily {
+        match (registry, ordering) {
+            (b"Adobe", b"Japan1") => CidFamily::AdobeJapan1,
+            (b"Adobe", b"GB1") => CidFamily::AdobeGB1,
+            (b"Adobe", b"CNS1") => CidFamily::AdobeCNS1,
+            (b"Adobe", b"Korea1") => CidFamily::AdobeKorea1,
+            (b"Adobe", b"Identity") => CidFamily::AdobeIdentity,
+            _ => CidFamily::Custom { registry: registry.to_vec(), ordering: ordering.to_vec() },
+        }
+    }
+
+    /// The CMap from Unicode, in UTF-16, to the CIDs of the family, for horizontal text.
+    /// ISO 32000-1, 9.7.5.2.
+    pub fn unicode_cmap(&self) -> Option<CMapName<'static>> {
+        match self {
+            CidFamily::AdobeJapan1 => Some(CMapName::UniJisUtf16H),
+            CidFamily::AdobeGB1 => Some(CMapName::UniGbUtf16H),
+            CidFamily::AdobeCNS1 => Some(CMapName::UniCnsUtf16H),
+            CidFamily::AdobeKorea1 => Some(CMapName::UniKsUtf16H),
+            CidFamily::AdobeIdentity | CidFamily::Custom { .. } => None,
+        }
+    }
+
+    /// The CMap from the CIDs of the family to Unicode, in UCS-2. ISO 32000-1, 9.10.2, and Adobe
+    /// Technical Note 5411.
+    pub fn ucs2_cmap(&self) -> Option<CMapName<'static>> {
+        match self {
+            CidFamily::AdobeJapan1 => Some(CMapName::AdobeJapan1Ucs2),
+            CidFamily::AdobeGB1 => Some(CMapName::AdobeGb1Ucs2),
+            CidFamily::AdobeCNS1 => Some(CMapName::AdobeCns1Ucs2),
+            CidFamily::AdobeKorea1 => Some(CMapName::AdobeKorea1Ucs2),
+            CidFamily::AdobeIdentity | CidFamily::Custom { .. } => None,
+        }
+    }
+}
+
+/// A character collection. Adobe Technical Note 5014.
+#[derive(Clone, Debug, PartialEq, Eq, Hash)]
+pub struct CharacterCollection {
+    /// Its registry and ordering.
+    pub family: CidFamily,
+    /// The number of its supplement.
+    pub supplement: i32,
+}

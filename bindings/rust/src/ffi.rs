@@ -1,0 +1,610 @@
+//! The C library. All unsafe code of the crate is in this module.
+//!
+//! What `hayro_cmap.h` requires of a caller holds by these types. A handle begins empty, is neither
+//! cloned nor copied, and is freed once, when it is dropped. Each call has it as `&mut`, so one call
+//! at a time uses it. Pointers come from references and slices: they aren't null, what is behind them
+//! outlives the call, and what is behind a `&mut` overlaps with nothing else.
+
+use crate::Codespace;
+use std::alloc::{Layout, handle_alloc_error};
+use std::ffi::c_void;
+use std::marker::PhantomData;
+use std::ptr;
+
+const OK: u32 = 0;
+const REFUSED: u32 = 1;
+const NO_MEMORY: u32 = 2;
+const OVER_BUDGET: u32 = 3;
+const NO_ROOM: u32 = 6;
+
+/// At most so many names lead to a file at fault.
+const MOST_NAMES: usize = 16;
+
+/// A map, or none.
+#[repr(C)]
+struct RawMap {
+    full: bool,
+    map: *mut c_void,
+}
+
+/// A bundle, or none.
+#[repr(C)]
+struct RawBundle {
+    full: bool,
+    bundle: *mut c_void,
+}
+
+/// A file and its name, both lent for `'a`.
+#[repr(C)]
+pub(crate) struct File<'a> {
+    name: *const u8,
+    name_len: usize,
+    bytes: *const u8,
+    bytes_len: usize,
+    lent: PhantomData<&'a [u8]>,
+}
+
+impl<'a> File<'a> {
+    pub(crate) fn new(name: &'a [u8], bytes: &'a [u8]) -> File<'a> {
+        File {
+            name: name.as_ptr(),
+            name_len: name.len(),
+            bytes: bytes.as_ptr(),
+            bytes_len: bytes.len(),
+            lent: PhantomData,
+        }
+    }
+}
+
+/// A code of a string.
+#[repr(C)]
+#[derive(Clone, Copy, Default)]
+pub(crate) struct RawCode {
+    pub(crate) code: u32,
+    pub(crate) cid: u32,
+    pub(crate) byte_len: u8,
+    pub(crate) in_codespace: u8,
+    pub(crate) has_cid: u8,
+    pub(crate) cut_short: u8,
+}
+
+/// Why a file gives no map.
+#[repr(C)]
+#[derive(Default)]
+struct RawFault {
+    cause: u32,
+    reason: u16,
+    segment: u16,
+    offset: usize,
+    names: usize,
+    name_lens: [usize; MOST_NAMES],
+}
+
+/// A call on a layer of a map that writes bytes to a room.
+type LayerText = unsafe extern "C" fn(*mut RawMap, usize, *mut u8, usize, *mut usize) -> u32;
+
+unsafe extern "C" {
+    fn hayro_cmap_explain(
+        map: *mut RawMap,
+        data: *const u8,
+        data_len: usize,
+        bundle: *mut RawBundle,
+        files: *const File<'_>,
+        files_len: usize,
+        budget: u64,
+        fault: *mut RawFault,
+        room: *mut u8,
+        room_len: usize,
+        needed: *mut usize,
+    ) -> u32;
+    fn hayro_cmap_message(
+        fault: *const RawFault,
+        room: *mut u8,
+        room_len: usize,
+        needed: *mut usize,
+    ) -> u32;
+    fn hayro_cmap_open(
+        map: *mut RawMap,
+        name: *const u8,
+        name_len: usize,
+        bundle: *mut RawBundle,
+        files: *const File<'_>,
+        files_len: usize,
+        budget: u64,
+    ) -> u32;
+    fn hayro_cmap_uses(
+        data: *const u8,
+        data_len: usize,
+        bundle: *mut RawBundle,
+        name_lens: *mut usize,
+        name_lens_len: usize,
+        names: *mut usize,
+        room: *mut u8,
+        room_len: usize,
+        needed: *mut usize,
+    ) -> u32;
+    fn hayro_cmap_bundle_open(bundle: *mut RawBundle, bytes: *const u8, bytes_len: usize) -> u32;
+    fn hayro_cmap_bundle_share(bundle: *mut RawBundle, other: *mut RawBundle) -> u32;
+    fn hayro_cmap_bundle_free(bundle: *mut RawBundle);
+    fn hayro_cmap_bundle_file(
+        bundle: *mut RawBundle,
+        name: *const u8,
+        name_len: usize,
+        room: *mut u8,
+        room_len: usize,
+        needed: *mut usize,
+    ) -> u32;
+    fn hayro_cmap_identity(map: *mut RawMap, vertical: bool) -> u32;
+    fn hayro_cmap_share(map: *mut RawMap, other: *mut RawMap) -> u32;
+    fn hayro_cmap_free(map: *mut RawMap);
+    fn hayro_cmap_cid(map: *mut RawMap, code: u32, byte_len: u8, cid: *mut u32) -> bool;
+    fn hayro_cmap_cid_strict(map: *mut RawMap, code: u32, byte_len: u8, cid: *mut u32) -> bool;
+    fn hayro_cmap_cids(
+        map: *mut RawMap,
+        first: u32,
+        byte_len: u8,
+        absent: u32,
+        cids: *mut u32,
+        cids_len: usize,
+    ) -> bool;
+    fn hayro_cmap_decode(
+        map: *mut RawMap,
+        text: *const u8,
+        text_len: usize,
+        codes: *mut RawCode,
+        codes_len: usize,
+        made: *mut usize,
+        taken: *mut usize,
+    ) -> u32;
+    fn hayro_cmap_text(
+        map: *mut RawMap,
+        code: u32,
+        room: *mut u8,
+        room_len: usize,
+        needed: *mut usize,
+    ) -> u32;
+    fn hayro_cmap_layers(map: *mut RawMap) -> usize;
+    fn hayro_cmap_layer_name(
+        map: *mut RawMap,
+        layer: usize,
+        room: *mut u8,
+        room_len: usize,
+        needed: *mut usize,
+    ) -> u32;
+    fn hayro_cmap_layer_registry(
+        map: *mut RawMap,
+        layer: usize,
+        room: *mut u8,
+        room_len: usize,
+        needed: *mut usize,
+    ) -> u32;
+    fn hayro_cmap_layer_ordering(
+        map: *mut RawMap,
+        layer: usize,
+        room: *mut u8,
+        room_len: usize,
+        needed: *mut usize,
+    ) -> u32;
+    fn hayro_cmap_layer_supplement(map: *mut RawMap, layer: usize, supplement: *mut i32) -> bool;
+    fn hayro_cmap_layer_writing_mode(map: *mut RawMap, layer: usize) -> u32;
+    fn hayro_cmap_codespaces(
+        map: *mut RawMap,
+        layer: usize,
+        ranges: *mut Codespace,
+        ranges_len: usize,
+        needed: *mut usize,
+    ) -> u32;
+    fn hayro_cmap_version(room: *mut u8, room_len: usize, needed: *mut usize) -> u32;
+}
+
+/// Ends the program as Rust's collections do. The library doesn't say how much it asked for.
+fn out_of_memory() -> ! {
+    handle_alloc_error(Layout::new::<RawMap>())
+}
+
+/// The answer of a call that either has one or is out of memory.
+fn expect_memory(status: u32) {
+    if status == NO_MEMORY {
+        out_of_memory();
+    }
+}
+
+/// What a call writes to a room: `ask` is called again where the first room is too short.
+fn written<T: Clone + Default>(
+    first: usize,
+    mut ask: impl FnMut(&mut [T], &mut usize) -> u32,
+) -> Option<Vec<T>> {
+    let mut room = vec![T::default(); first];
+    let mut needed = 0;
+    loop {
+        match ask(&mut room, &mut needed) {
+            OK => {
+                room.truncate(needed);
+                return Some(room);
+            }
+            NO_ROOM => room.resize(needed, T::default()),
+            NO_MEMORY => out_of_memory(),
+            _ => return None,
+        }
+    }
+}
+
+/// The bytes that most names and texts fit in.
+const SHORT: usize = 64;
+
+/// A map of the library.
+pub(crate) struct MapHandle(RawMap);
+
+// SAFETY: a handle may go to another thread, where something orders the calls. `&mut` does.
+unsafe impl Send for MapHandle {}
+
+impl Drop for MapHandle {
+    fn drop(&mut self) {
+        // SAFETY: see the head of the module. This is the one call that frees the handle.
+        unsafe { hayro_cmap_free(&mut self.0) }
+    }
+}
+
+/// Why a file gives no map, by the numbers of the library, and the names that lead to the file at
+/// fault.
+#[derive(Clone, Debug, PartialEq, Eq)]
+pub(crate) struct Fault {
+    pub(crate) cause: u32,
+    pub(crate) reason: u16,
+    pub(crate) segment: u16,
+    pub(crate) offset: usize,
+    pub(crate) names: Vec<Vec<u8>>,
+}
+
+impl Fault {
+    fn of(raw: &RawFault, room: &[u8]) -> Fault {
+        let lens = raw.name_lens.iter().take(raw.names);
+        Fault {
+            cause: raw.cause,
+            reason: raw.reason,
+            segment: raw.segment,
+            offset: raw.offset,
+            names: split(room, lens.copied()),
+        }
+    }
+
+    fn raw(&self) -> RawFault {
+        let mut name_lens = [0; MOST_NAMES];
+        for (len, name) in name_lens.iter_mut().zip(&self.names) {
+            *len = name.len();
+        }
+        RawFault {
+            cause: self.cause,
+            reason: self.reason,
+            segment: self.segment,
+            offset: self.offset,
+            names: self.names.len(),
+            name_lens,
+        }
+    }
+
+    /// What is wrong, in English.
+    pub(crate) fn message(&self) -> Option<Vec<u8>> {
+        let raw = self.raw();
+        written(2 * SHORT, |room, needed| {
+            // SAFETY: see the head of the module.
+            unsafe { hayro_cmap_message(&raw, room.as_mut_ptr(), room.len(), needed) }
+        })
+    }
+}
+
+/// What `hayro_cmap_open` answers.
+pub(crate) enum Opened {
+    Map(MapHandle),
+    /// It, or a file under it, is refused.
+    Refused,
+    /// There is no file of this name.
+    Absent,
+}
+
+impl MapHandle {
+    fn empty() -> MapHandle {
+        MapHandle(RawMap { full: false, map: ptr::null_mut() })
+    }
+
+    /// The map of a file. The bundle may be empty.
+    pub(crate) fn read(
+        data: &[u8],
+        bundle: &mut BundleHandle,
+        files: &[File<'_>],
+        budget: u64,
+    ) -> Result<MapHandle, Fault> {
+        let mut map = MapHandle::empty();
+        let mut fault = RawFault::default();
+        let mut room = vec![0; SHORT];
+        loop {
+            let mut needed = 0;
+            // SAFETY: see the head of the module.
+            let status = unsafe {
+                hayro_cmap_explain(
+                    &mut map.0,
+                    data.as_ptr(),
+                    data.len(),
+                    &mut bundle.0,
+                    files.as_ptr(),
+                    files.len(),
+                    budget,
+                    &mut fault,
+                    room.as_mut_ptr(),
+                    room.len(),
+                    &mut needed,
+                )
+            };
+            match status {
+                OK => return Ok(map),
+                REFUSED | OVER_BUDGET if needed <= room.len() => {
+                    return Err(Fault::of(&fault, &room));
+                }
+                REFUSED | OVER_BUDGET => room.resize(needed, 0),
+                _ => out_of_memory(),
+            }
+        }
+    }
+
+    /// The map of the file of a name.
+    pub(crate) fn open(
+        name: &[u8],
+        bundle: &mut BundleHandle,
+        files: &[File<'_>],
+        budget: u64,
+    ) -> Opened {
+        let mut map = MapHandle::empty();
+        // SAFETY: see the head of the module.
+        let status = unsafe {
+            hayro_cmap_open(
+                &mut map.0,
+                name.as_ptr(),
+                name.len(),
+                &mut bundle.0,
+                files.as_ptr(),
+                files.len(),
+                budget,
+            )
+        };
+        match status {
+            OK => Opened::Map(map),
+            REFUSED | OVER_BUDGET => Opened::Refused,
+            NO_MEMORY => out_of_memory(),
+            _ => Opened::Absent,
+        }
+    }
+
+    /// Identity-H, or Identity-V.
+    pub(crate) fn identity(vertical: bool) -> MapHandle {
+        let mut map = MapHandle::empty();
+        // SAFETY: see the head of the module.
+        expect_memory(unsafe { hayro_cmap_identity(&mut map.0, vertical) });
+        map
+    }
+
+    pub(crate) fn cid(&mut self, code: u32, byte_len: u8) -> Option<u32> {
+        let mut cid = 0;
+        // SAFETY: see the head of the module.
+        unsafe { hayro_cmap_cid(&mut self.0, code, byte_len, &mut cid) }.then_some(cid)
+    }
+
+    pub(crate) fn cid_strict(&mut self, code: u32, byte_len: u8) -> Option<u32> {
+        let mut cid = 0;
+        // SAFETY: see the head of the module.
+        unsafe { hayro_cmap_cid_strict(&mut self.0, code, byte_len, &mut cid) }.then_some(cid)
+    }
+
+    /// Writes the CIDs of codes in a row.
+    pub(crate) fn cids(&mut self, first: u32, byte_len: u8, absent: u32, cids: &mut [u32]) {
+        // SAFETY: see the head of the module.
+        unsafe {
+            hayro_cmap_cids(&mut self.0, first, byte_len, absent, cids.as_mut_ptr(), cids.len())
+        };
+    }
+
+    /// Cuts a string into codes, as many as there is room for: how many these are, and how many bytes
+    /// they take.
+    pub(crate) fn decode(&mut self, string: &[u8], codes: &mut [RawCode]) -> (usize, usize) {
+        let (mut made, mut taken) = (0, 0);
+        // SAFETY: see the head of the module.
+        unsafe {
+            hayro_cmap_decode(
+                &mut self.0,
+                string.as_ptr(),
+                string.len(),
+                codes.as_mut_ptr(),
+                codes.len(),
+                &mut made,
+                &mut taken,
+            )
+        };
+        (made, taken)
+    }
+
+    /// Hands on the text of a code, in UTF-8.
+    pub(crate) fn text<R>(&mut self, code: u32, take: impl FnOnce(&str) -> R) -> Option<R> {
+        let mut room = [0; SHORT];
+        let mut needed = 0;
+        match self.ask_text(code, &mut room, &mut needed) {
+            OK => std::str::from_utf8(&room[..needed]).ok().map(take),
+            NO_ROOM => {
+                let text = written(needed, |room, needed| self.ask_text(code, room, needed))?;
+                std::str::from_utf8(&text).ok().map(take)
+            }
+            status => {
+                expect_memory(status);
+                None
+            }
+        }
+    }
+
+    fn ask_text(&mut self, code: u32, room: &mut [u8], needed: &mut usize) -> u32 {
+        // SAFETY: see the head of the module.
+        unsafe { hayro_cmap_text(&mut self.0, code, room.as_mut_ptr(), room.len(), needed) }
+    }
+
+    pub(crate) fn layers(&mut self) -> usize {
+        // SAFETY: see the head of the module.
+        unsafe { hayro_cmap_layers(&mut self.0) }
+    }
+
+    pub(crate) fn name(&mut self, layer: usize) -> Option<Vec<u8>> {
+        self.layer_text(hayro_cmap_layer_name, layer)
+    }
+
+    pub(crate) fn registry(&mut self, layer: usize) -> Option<Vec<u8>> {
+        self.layer_text(hayro_cmap_layer_registry, layer)
+    }
+
+    pub(crate) fn ordering(&mut self, layer: usize) -> Option<Vec<u8>> {
+        self.layer_text(hayro_cmap_layer_ordering, layer)
+    }
+
+    fn layer_text(&mut self, call: LayerText, layer: usize) -> Option<Vec<u8>> {
+        written(SHORT, |room, needed| {
+            // SAFETY: see the head of the module. `call` is one of the library.
+            unsafe { call(&mut self.0, layer, room.as_mut_ptr(), room.len(), needed) }
+        })
+    }
+
+    pub(crate) fn supplement(&mut self, layer: usize) -> Option<i32> {
+        let mut supplement = 0;
+        // SAFETY: see the head of the module.
+        unsafe { hayro_cmap_layer_supplement(&mut self.0, layer, &mut supplement) }
+            .then_some(supplement)
+    }
+
+    /// 0 for horizontal, 1 for vertical, 2 for neither.
+    pub(crate) fn writing_mode(&mut self, layer: usize) -> u32 {
+        // SAFETY: see the head of the module.
+        unsafe { hayro_cmap_layer_writing_mode(&mut self.0, layer) }
+    }
+
+    pub(crate) fn codespaces(&mut self, layer: usize) -> Vec<Codespace> {
+        let ranges = written(8, |ranges: &mut [Codespace], needed| {
+            // SAFETY: see the head of the module.
+            unsafe {
+                hayro_cmap_codespaces(&mut self.0, layer, ranges.as_mut_ptr(), ranges.len(), needed)
+            }
+        });
+        ranges.unwrap_or_default()
+    }
+}
+
+/// A bundle of the library, or none.
+pub(crate) struct BundleHandle(RawBundle);
+
+// SAFETY: as for `MapHandle`.
+unsafe impl Send for BundleHandle {}
+
+impl Drop for BundleHandle {
+    fn drop(&mut self) {
+        // SAFETY: see the head of the module. This is the one call that frees the handle.
+        unsafe { hayro_cmap_bundle_free(&mut self.0) }
+    }
+}
+
+impl BundleHandle {
+    pub(crate) fn empty() -> BundleHandle {
+        BundleHandle(RawBundle { full: false, bundle: ptr::null_mut() })
+    }
+
+    /// The bundle of these bytes, which are copied.
+    pub(crate) fn open(bytes: &[u8]) -> Option<BundleHandle> {
+        let mut bundle = BundleHandle::empty();
+        // SAFETY: see the head of the module.
+        let status = unsafe { hayro_cmap_bundle_open(&mut bundle.0, bytes.as_ptr(), bytes.len()) };
+        expect_memory(status);
+        (status == OK).then_some(bundle)
+    }
+
+    /// The bytes of the file of a name.
+    pub(crate) fn file(&mut self, name: &[u8]) -> Option<Vec<u8>> {
+        written(0, |room, needed| {
+            // SAFETY: see the head of the module.
+            unsafe {
+                hayro_cmap_bundle_file(
+                    &mut self.0,
+                    name.as_ptr(),
+                    name.len(),
+                    room.as_mut_ptr(),
+                    room.len(),
+                    needed,
+                )
+            }
+        })
+    }
+
+    /// The names that a file uses; `None` where it is outside the grammar.
+    pub(crate) fn uses(&mut self, data: &[u8]) -> Option<Vec<Vec<u8>>> {
+        let (mut lens, mut room) = (vec![0; 4], vec![0; SHORT]);
+        let (mut names, mut needed) = (0, 0);
+        loop {
+            // SAFETY: see the head of the module.
+            let status = unsafe {
+                hayro_cmap_uses(
+                    data.as_ptr(),
+                    data.len(),
+                    &mut self.0,
+                    lens.as_mut_ptr(),
+                    lens.len(),
+                    &mut names,
+                    room.as_mut_ptr(),
+                    room.len(),
+                    &mut needed,
+                )
+            };
+            match status {
+                OK => return Some(split(&room, lens.into_iter().take(names))),
+                NO_ROOM => {
+                    lens.resize(names, 0);
+                    room.resize(needed, 0);
+                }
+                NO_MEMORY => out_of_memory(),
+                _ => return None,
+            }
+        }
+    }
+}
+
+/// Names that stand one after another.
+fn split(mut room: &[u8], lens: impl Iterator<Item = usize>) -> Vec<Vec<u8>> {
+    lens.map(|len| {
+        let (name, rest) = room.split_at(len);
+        room = rest;
+        name.to_vec()
+    })
+    .collect()
+}
+
+/// A handle of which there can be others.
+pub(crate) trait Share: Sized {
+    /// Another handle of the same map or bundle. Nothing is copied.
+    fn share(&mut self) -> Self;
+}
+
+impl Share for MapHandle {
+    fn share(&mut self) -> MapHandle {
+        let mut other = MapHandle::empty();
+        // SAFETY: see the head of the module.
+        expect_memory(unsafe { hayro_cmap_share(&mut self.0, &mut other.0) });
+        other
+    }
+}
+
+impl Share for BundleHandle {
+    fn share(&mut self) -> BundleHandle {
+        let mut other = BundleHandle::empty();
+        // SAFETY: see the head of the module.
+        expect_memory(unsafe { hayro_cmap_bundle_share(&mut self.0, &mut other.0) });
+        other
+    }
+}
+
+/// The version of the library.
+pub(crate) fn version() -> Option<Vec<u8>> {
+    written(SHORT, |room, needed| {
+        // SAFETY: see the head of the module.
+        unsafe { hayro_cmap_version(room.as_mut_ptr(), room.len(), needed) }
+    })
+}

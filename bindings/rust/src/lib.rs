@@ -1,0 +1,30 @@
+#![doc = include_str!("../README.md")]
+#![deny(unsafe_code, unsafe_op_in_unsafe_fn)]
+#![warn(missing_docs)]
+
+mod bundle;
+mod collection;
+#[allow(unsafe_code)]
+mod ffi;
+mod map;
+mod metadata;
+mod names;
+mod pool;
+mod reading;
+mod refusal;
+mod text;
+
+pub use bundle::{Bundle, load_embedded};
+pub use collection::{CharacterCollection, CidFamily};
+pub use map::{CMap, Cid, CidRange, Codespace, Layer, StringCode};
+pub use metadata::{Metadata, WritingMode};
+pub use names::CMapName;
+pub use reading::ParseOptions;
+pub use refusal::{Cause, Reason, Refusal, Segment};
+pub use text::BfString;
+
+/// The version of the library that the crate is built over, which is the project's.
+pub fn library_version() -> String {
+    let version = ffi::version().unwrap_or_default();
+    String::from_utf8_lossy(&version).into_owned()
+}

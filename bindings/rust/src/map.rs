@@ -1,0 +1,284 @@
+//! Maps.
+
+use crate::collection::{CharacterCollection, CidFamily};
+use crate::ffi::{MapHandle, RawCode};
+use crate::metadata::{Metadata, WritingMode};
+use crate::names::CMapName;
+use crate::pool::Pool;
+use crate::reading::ParseOptions;
+use crate::refusal::Refusal;
+use crate::text::BfString;
+use std::fmt::{self, Debug, Formatter};
+use std::sync::Arc;
+
+/// The number of a character in a character collection. Adobe Technical Note 5014.
+pub type Cid = u32;
+
+/// What the codes of a font stand for: which CIDs, and which texts.
+///
+/// # Threads and clones
+///
+/// Any number of threads may look up in one map, and up to eight at once don't wait for each other. A
+/// lookup takes a lock of its thread, which nobody else holds then: two atomic operations, some ten
+/// nanoseconds. [`CMap::decode`] and [`CMap::fill_cids`] take it once for all their codes. A clone
+/// copies nothing, and has locks of its own.
+///
+/// # Out of memory
+///
+/// Where memory runs out the program ends, as with Rust's own collections.
+#[derive(Clone)]
+pub struct CMap {
+    pool: Pool<MapHandle>,
+    metadata: Arc<Metadata>,
+}
+
+impl CMap {
+    /// Reads a CMap file: a text, or one in binary form where a bundle is in the crate
+    /// ([`load_embedded`](crate::load_embedded)).
+    ///
+    /// `get_cmap` gives the bytes of the files that it uses, and of those that they use. It is asked
+    /// for a name once, after the file that uses it has been read. The answer is `None` where a file is
+    /// outside the grammar, or missing, or would be the seventeenth of a chain;
+    /// [`CMap::parse_explained`] says which.
+    ///
+    /// ```
+    /// use hayro_cmap::{CMap, CMapName};
+    ///
+    /// let base = b"begincidrange <20> <7E> 1 endcidrange";
+    /// let map = CMap::parse(b"/Base usecmap", |name| match name {
+    ///     CMapName::Custom(b"Base") => Some(base),
+    ///     _ => None,
+    /// });
+    /// assert_eq!(map.unwrap().lookup_cid_code(0x41, 1), Some(34));
+    /// ```
+    pub fn parse<'a>(
+        data: &[u8],
+        get_cmap: impl Fn(CMapName<'_>) -> Option<&'a [u8]> + Clone + 'a,
+    ) -> Option<CMap> {
+        CMap::parse_explained(data, get_cmap).ok()
+    }
+
+    /// Reads a CMap file as [`CMap::parse`] does, and says why there is no map.
+    ///
+    /// ```
+    /// use hayro_cmap::{CMap, Reason};
+    ///
+    /// let refusal = CMap::parse_explained(b"begincidchar <01> x endcidchar", |_| None).unwrap_err();
+    /// assert_eq!(refusal.offset(), Some(19));
+    /// assert_eq!(refusal.reason(), Some(Reason::CidExpected));
+    /// assert_eq!(refusal.to_string(), "byte 19: a CID was expected");
+    /// ```
+    pub fn parse_explained<'a>(
+        data: &[u8],
+        get_cmap: impl Fn(CMapName<'_>) -> Option<&'a [u8]>,
+    ) -> Result<CMap, Refusal> {
+        ParseOptions::new().parse(data, get_cmap)
+    }
+
+    /// Reads the file of a name, which `get_cmap` gives as those that it uses. So what the file says of
+    /// itself is the map's [metadata](CMap::metadata). Without a file Identity-H and Identity-V are
+    /// made, and any other name is `Ok(None)`.
+    ///
+    /// ```
+    /// use hayro_cmap::{CMap, CMapName};
+    ///
+    /// let map = CMap::open(CMapName::IdentityV, |_| None)?.unwrap();
+    /// assert_eq!(map.lookup_cid_code(0x1234, 2), Some(0x1234));
+    /// assert!(CMap::open(CMapName::Custom(b"Else"), |_| None)?.is_none());
+    /// # Ok::<(), hayro_cmap::Refusal>(())
+    /// ```
+    pub fn open<'a>(
+        name: CMapName<'_>,
+        get_cmap: impl Fn(CMapName<'_>) -> Option<&'a [u8]>,
+    ) -> Result<Option<CMap>, Refusal> {
+        ParseOptions::new().open(name, get_cmap)
+    }
+
+    /// The names of the files that a file uses, in the order of the uses; `None` where it is outside
+    /// the grammar.
+    ///
+    /// ```
+    /// let names = hayro_cmap::CMap::uses(b"/Base usecmap");
+    /// assert_eq!(names, Some(vec![b"Base".to_vec()]));
+    /// ```
+    pub fn uses(data: &[u8]) -> Option<Vec<Vec<u8>>> {
+        ParseOptions::new().uses(data)
+    }
+
+    /// The predefined CMap Identity-H: codes of two bytes are CIDs, for horizontal text.
+    pub fn identity_h() -> CMap {
+        CMap::of(MapHandle::identity(false))
+    }
+
+    /// The predefined CMap Identity-V: codes of two bytes are CIDs, for vertical text.
+    pub fn identity_v() -> CMap {
+        CMap::of(MapHandle::identity(true))
+    }
+
+    /// What the file says of itself, whatever the files say that it uses.
+    pub fn metadata(&self) -> &Metadata {
+        &self.metadata
+    }
+
+    /// The CID of a code of `byte_len` bytes, which write the number `code`, the first one high.
+    /// Codespace ranges aren't looked at.
+    pub fn lookup_cid_code(&self, code: u32, byte_len: u8) -> Option<Cid> {
+        self.pool.ask(|map| map.cid(code, byte_len))
+    }
+
+    /// The CID of a code, as [`CMap::lookup_cid_code`] gives it, where the code lies in a codespace
+    /// range of its length, byte by byte; else there is none.
+    ///
+    /// ```
+    /// let file = b"begincodespacerange <8140> <9FFC> endcodespacerange
+    ///              begincidrange <8140> <9FFC> 100 endcidrange";
+    /// let map = hayro_cmap::CMap::parse(file, |_| None).unwrap();
+    /// assert_eq!(map.lookup_cid_code_strict(0x8240, 2), Some(356));
+    /// assert_eq!(map.lookup_cid_code_strict(0x82FF, 2), None);
+    /// assert_eq!(map.lookup_cid_code(0x82FF, 2), Some(547));
+    /// ```
+    pub fn lookup_cid_code_strict(&self, code: u32, byte_len: u8) -> Option<Cid> {
+        self.pool.ask(|map| map.cid_strict(code, byte_len))
+    }
+
+    /// The text of a code, or of a CID where the map is one of a
+    /// [`CidFamily::ucs2_cmap`](crate::CidFamily::ucs2_cmap).
+    pub fn lookup_bf_string(&self, code: u32) -> Option<BfString> {
+        self.pool.ask(|map| map.text(code, BfString::of))
+    }
+
+    /// Writes the CIDs of the codes of `byte_len` bytes from `first` on, one for each place, as
+    /// [`CMap::lookup_cid_code`] gives them, and `absent` where there is none.
+    ///
+    /// ```
+    /// let map = hayro_cmap::CMap::parse(b"begincidrange <20> <7E> 1 endcidrange", |_| None).unwrap();
+    /// let mut cids = [0; 4];
+    /// map.fill_cids(0x1E, 1, u32::MAX, &mut cids);
+    /// assert_eq!(cids, [u32::MAX, u32::MAX, 1, 2]);
+    /// ```
+    pub fn fill_cids(&self, first: u32, byte_len: u8, absent: Cid, cids: &mut [Cid]) {
+        self.pool.ask(|map| map.cids(first, byte_len, absent, cids));
+    }
+
+    /// Cuts a string into codes by the codespace ranges, and gives each its CID.
+    ///
+    /// ```
+    /// let codes = hayro_cmap::CMap::identity_h().decode(b"\x12\x34\x56");
+    /// assert_eq!((codes[0].code, codes[0].byte_len, codes[0].cid), (0x1234, 2, Some(0x1234)));
+    /// assert_eq!((codes[1].code, codes[1].cut_short), (0x56, true));
+    /// ```
+    pub fn decode(&self, string: &[u8]) -> Vec<StringCode> {
+        let mut codes = Vec::new();
+        self.pool.ask(|map| {
+            let (mut room, mut rest) = ([RawCode::default(); 64], string);
+            while !rest.is_empty() {
+                let (made, taken) = map.decode(rest, &mut room);
+                codes.extend(room[..made].iter().map(StringCode::of));
+                rest = &rest[taken..];
+            }
+        });
+        codes
+    }
+
+    /// The layers of the map, 1 to 16: the file's own, then that of the file that it is based on, and so
+    /// on.
+    pub fn layers(&self) -> Vec<Layer> {
+        self.pool.ask(|map| {
+            (0..map.layers())
+                .map(|index| Layer {
+                    metadata: metadata_of(map, index),
+                    codespaces: map.codespaces(index),
+                })
+                .collect()
+        })
+    }
+
+    pub(crate) fn of(mut map: MapHandle) -> CMap {
+        let metadata = Arc::new(metadata_of(&mut map, 0));
+        CMap { pool: Pool::new(map), metadata }
+    }
+}
+
+fn metadata_of(map: &mut MapHandle, layer: usize) -> Metadata {
+    Metadata {
+        character_collection: collection_of(map, layer),
+        name: map.name(layer),
+        writing_mode: match map.writing_mode(layer) {
+            0 => Some(WritingMode::Horizontal),
+            1 => Some(WritingMode::Vertical),
+            _ => None,
+        },
+    }
+}
+
+fn collection_of(map: &mut MapHandle, layer: usize) -> Option<CharacterCollection> {
+    let (registry, ordering) = (map.registry(layer)?, map.ordering(layer)?);
+    Some(CharacterCollection {
+        family: CidFamily::from_registry_ordering(&registry, &ordering),
+        supplement: map.supplement(layer)?,
+    })
+}
+
+impl Debug for CMap {
+    fn fmt(&self, f: &mut Formatter<'_>) -> fmt::Result {
+        f.debug_struct("CMap").field("metadata", &self.metadata).finish_non_exhaustive()
+    }
+}
+
+/// A code of a string.
+#[derive(Clone, Copy, Debug, PartialEq, Eq, Hash)]
+#[non_exhaustive]
+pub struct StringCode {
+    /// The number that its bytes write, the first one high.
+    pub code: u32,
+    /// How many bytes it has, 1 to 4.
+    pub byte_len: u8,
+    /// Its CID, as [`CMap::lookup_cid_code`] gives it.
+    pub cid: Option<Cid>,
+    /// Whether it lies in a codespace range. Only then [`CMap::lookup_cid_code_strict`] gives a CID.
+    pub in_codespace: bool,
+    /// Whether the string ends before the code does.
+    pub cut_short: bool,
+}
+
+impl StringCode {
+    fn of(raw: &RawCode) -> StringCode {
+        StringCode {
+            code: raw.code,
+            byte_len: raw.byte_len,
+            cid: (raw.has_cid != 0).then_some(raw.cid),
+            in_codespace: raw.in_codespace != 0,
+            cut_short: raw.cut_short != 0,
+        }
+    }
+}
+
+/// What one of the files of a map says.
+#[derive(Clone, Debug)]
+#[non_exhaustive]
+pub struct Layer {
+    /// What it says of itself.
+    pub metadata: Metadata,
+    /// Its codespace ranges, in order.
+    pub codespaces: Vec<Codespace>,
+}
+
+/// A codespace range: codes of `byte_len` bytes, each byte between those of `low` and `high`.
+#[repr(C)]
+#[derive(Clone, Copy, Debug, Default, PartialEq, Eq, Hash)]
+pub struct Codespace {
+    /// The lowest bytes, as a number.
+    pub low: u32,
+    /// The highest bytes, as a number.
+    pub high: u32,
+    /// How many bytes a code has, 1 to 4.
+    pub byte_len: u32,
+}
+
+/// A range of codes with CIDs.
+///
+/// No call gives one. It is here for programs that name the type.
+#[derive(Clone, Debug)]
+pub struct CidRange {
+    _none: (),
+}

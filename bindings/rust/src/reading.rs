@@ -1,0 +1,180 @@
+//! Reading a file over the files that it uses.
+
+use crate::bundle::Bundle;
+use crate::ffi::{File, MapHandle, Opened};
+use crate::map::CMap;
+use crate::names::CMapName;
+use crate::refusal::Refusal;
+use std::borrow::Cow;
+use std::collections::HashMap;
+
+/// How many files a chain has at most, the top one included.
+const MOST_FILES: usize = 16;
+
+/// How a file is read: over a bundle, and within a budget.
+///
+/// ```
+/// use hayro_cmap::{Cause, ParseOptions};
+///
+/// let file = b"/Base usecmap";
+/// let within = ParseOptions::new().budget(20);
+/// assert!(within.parse(file, |_| Some(b"% bytes")).is_ok());
+/// let refusal = within.parse(file, |_| Some(b"% more bytes")).unwrap_err();
+/// assert_eq!(refusal.cause(), Cause::OverBudget);
+/// ```
+#[derive(Clone, Copy, Debug, Default)]
+pub struct ParseOptions<'b> {
+    bundle: Option<&'b Bundle>,
+    budget: Option<u64>,
+}
+
+impl<'b> ParseOptions<'b> {
+    /// Neither a bundle nor a budget.
+    pub fn new() -> ParseOptions<'b> {
+        ParseOptions::default()
+    }
+
+    /// Over a bundle: binary files are read by its tables, and it has the files whose names `get_cmap`
+    /// doesn't answer.
+    pub fn bundle(self, bundle: &'b Bundle) -> ParseOptions<'b> {
+        ParseOptions { bundle: Some(bundle), ..self }
+    }
+
+    /// Within a budget: the files that are opened may have no more bytes together. A file counts as
+    /// often as it is used. The bytes of the bundle don't count.
+    pub fn budget(self, bytes: u64) -> ParseOptions<'b> {
+        ParseOptions { budget: Some(bytes), ..self }
+    }
+
+    /// Reads a file, as [`CMap::parse_explained`] does.
+    pub fn parse<'a>(
+        &self,
+        data: &[u8],
+        get_cmap: impl Fn(CMapName<'_>) -> Option<&'a [u8]>,
+    ) -> Result<CMap, Refusal> {
+        let mut used = Used::new(self, get_cmap);
+        used.gather(data);
+        self.read(data, &used.files())
+    }
+
+    /// Reads the file of a name, as [`CMap::open`] does.
+    pub fn open<'a>(
+        &self,
+        name: CMapName<'_>,
+        get_cmap: impl Fn(CMapName<'_>) -> Option<&'a [u8]>,
+    ) -> Result<Option<CMap>, Refusal> {
+        let mut used = Used::new(self, get_cmap);
+        let data = used.file(name.to_bytes());
+        if let Some(data) = &data {
+            used.gather(data);
+        }
+        let files = used.files();
+        let open = |bundle: &mut _| MapHandle::open(name.to_bytes(), bundle, &files, self.most());
+        match (self.tables().ask(open), data) {
+            (Opened::Map(map), _) => Ok(Some(CMap::of(map))),
+            (Opened::Refused, Some(data)) => self.read(&data, &files).map(Some),
+            _ => Ok(None),
+        }
+    }
+
+    /// The names of the files that a file uses, in the order of the uses; `None` where it is outside
+    /// the grammar.
+    pub fn uses(&self, data: &[u8]) -> Option<Vec<Vec<u8>>> {
+        self.tables().ask(|bundle| bundle.uses(data))
+    }
+
+    fn read(&self, data: &[u8], files: &[File<'_>]) -> Result<CMap, Refusal> {
+        let read = |bundle: &mut _| MapHandle::read(data, bundle, files, self.most());
+        self.tables().ask(read).map(CMap::of).map_err(Refusal::of)
+    }
+
+    fn tables(&self) -> &'b Bundle {
+        self.bundle.unwrap_or_else(|| Bundle::none())
+    }
+
+    fn most(&self) -> u64 {
+        self.budget.unwrap_or(u64::MAX)
+    }
+}
+
+/// The files that a file uses, and those that they use. Each name is asked for once.
+struct Used<'a, 'o, F> {
+    options: &'o ParseOptions<'o>,
+    get_cmap: F,
+    answers: HashMap<Vec<u8>, Option<&'a [u8]>>,
+    /// How many bytes they have, each file counted once.
+    bytes: u64,
+}
+
+/// There is no map: a file is missing or malformed, a chain is too long, or the budget is passed.
+/// Which of these it is the library says, by the files that were asked for until then.
+struct NoMap;
+
+impl<'a, 'o, F: Fn(CMapName<'_>) -> Option<&'a [u8]>> Used<'a, 'o, F> {
+    fn new(options: &'o ParseOptions<'o>, get_cmap: F) -> Used<'a, 'o, F> {
+        Used { options, get_cmap, answers: HashMap::new(), bytes: 0 }
+    }
+
+    /// Asks for the files that a file uses, and for what they use, in the order in which they are read.
+    fn gather(&mut self, data: &[u8]) {
+        self.bytes = data.len() as u64;
+        let _: Result<(), NoMap> = self.gather_under(data, 1);
+    }
+
+    /// The same of a file to which a chain of so many files leads, itself counted.
+    fn gather_under(&mut self, data: &[u8], files: usize) -> Result<(), NoMap> {
+        if self.bytes > self.options.most() {
+            return Err(NoMap);
+        }
+        for name in self.uses(data).ok_or(NoMap)? {
+            if files == MOST_FILES {
+                return Err(NoMap);
+            }
+            if !self.answers.contains_key(&name) {
+                let file = self.file(&name).ok_or(NoMap)?;
+                self.gather_under(&file, files + 1)?;
+            }
+        }
+        Ok(())
+    }
+
+    fn uses(&self, data: &[u8]) -> Option<Vec<Vec<u8>>> {
+        if may_use(data) { self.options.uses(data) } else { Some(Vec::new()) }
+    }
+
+    /// The file of a name: what `get_cmap` answers, else that of the bundle.
+    fn file(&mut self, name: &[u8]) -> Option<Cow<'a, [u8]>> {
+        let answer = (self.get_cmap)(CMapName::from_bytes(name));
+        self.answers.insert(name.to_vec(), answer);
+        if let Some(bytes) = answer {
+            self.bytes = self.bytes.saturating_add(bytes.len() as u64);
+            return Some(Cow::Borrowed(bytes));
+        }
+        self.options.bundle?.ask(|bundle| bundle.file(name)).map(Cow::Owned)
+    }
+
+    fn files(&self) -> Vec<File<'_>> {
+        let answered = self.answers.iter();
+        answered.filter_map(|(name, bytes)| Some(File::new(name, (*bytes)?))).collect()
+    }
+}
+
+/// Whether a file may use another one. A text has the word `usecmap` where it does.
+fn may_use(data: &[u8]) -> bool {
+    const WORD: &[u8] = b"usecmap";
+    data.starts_with(b"bcmap") || data.windows(WORD.len()).any(|bytes| bytes == WORD)
+}
+
+#[cfg(test)]
+mod tests {
+    use super::*;
+
+    #[test]
+    fn a_text_without_the_word_uses_no_file() {
+        assert!(may_use(b"/Base usecmap"));
+        assert!(may_use(b"% usecmap"));
+        assert!(may_use(b"bcmap"));
+        assert!(!may_use(b"begincidchar <01> 1 endcidchar"));
+        assert!(!may_use(b"usecma"));
+    }
+}

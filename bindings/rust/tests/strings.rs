@@ -1,0 +1,145 @@
+//! Strings, layers, threads, and the files of Debian's package `poppler-data`.
+
+use hayro_cmap::{BfString, CMap, CMapName, CidFamily, Codespace, WritingMode};
+use std::collections::HashMap;
+use std::fs;
+use std::path::Path;
+use std::sync::Arc;
+
+const JAPANESE: &str = "/usr/share/poppler/cMap/Adobe-Japan1";
+
+/// The files of these names, or none where the package isn't installed.
+fn files(names: &[&str]) -> Option<HashMap<Vec<u8>, Vec<u8>>> {
+    if !Path::new(JAPANESE).is_dir() {
+        eprintln!("skipped: {JAPANESE} isn't there");
+        return None;
+    }
+    let read = |name: &&str| {
+        let bytes = fs::read(Path::new(JAPANESE).join(name)).expect("it can be read");
+        (name.as_bytes().to_vec(), bytes)
+    };
+    Some(names.iter().map(read).collect())
+}
+
+fn map_of(files: &HashMap<Vec<u8>, Vec<u8>>, name: &[u8]) -> CMap {
+    let get_cmap = |name: CMapName<'_>| files.get(name.to_bytes()).map(Vec::as_slice);
+    CMap::open(CMapName::from_bytes(name), get_cmap).unwrap().unwrap()
+}
+
+#[test]
+fn a_string_of_shift_jis_has_these_cids() {
+    let Some(files) = files(&["90ms-RKSJ-H"]) else { return };
+    let map = map_of(&files, b"90ms-RKSJ-H");
+    let codes = map.decode(b"\x93\xFA\x96\x7B\x8C\xEAA");
+    let found: Vec<_> = codes.iter().map(|code| (code.code, code.byte_len, code.cid)).collect();
+    let expected = [
+        (0x93FA, 2, Some(3284)),
+        (0x967B, 2, Some(3722)),
+        (0x8CEA, 2, Some(1952)),
+        (0x41, 1, Some(264)),
+    ];
+    assert_eq!(found, expected);
+    assert!(codes.iter().all(|code| code.in_codespace && !code.cut_short));
+}
+
+#[test]
+fn a_vertical_file_stands_on_the_horizontal_one() {
+    let Some(files) = files(&["UniJIS-UTF16-V", "UniJIS-UTF16-H", "Adobe-Japan1-UCS2"]) else {
+        return;
+    };
+    let map = map_of(&files, b"UniJIS-UTF16-V");
+    assert_eq!(map.lookup_cid_code(0x3042, 2), Some(843));
+    assert_eq!(map.lookup_cid_code(0xFF08, 2), Some(7899));
+    assert_eq!(map.metadata().writing_mode, Some(WritingMode::Vertical));
+    let layers = map.layers();
+    let names: Vec<_> = layers.iter().filter_map(|layer| layer.metadata.name.clone()).collect();
+    assert_eq!(names, [b"UniJIS-UTF16-V", b"UniJIS-UTF16-H"]);
+    let japan = layers[1].metadata.character_collection.as_ref().unwrap();
+    assert_eq!(japan.family, CidFamily::AdobeJapan1);
+    assert_eq!(japan.family.unicode_cmap(), Some(CMapName::UniJisUtf16H));
+    let texts = map_of(&files, b"Adobe-Japan1-UCS2");
+    assert_eq!(texts.lookup_bf_string(843), Some(BfString::Char('あ')));
+}
+
+#[test]
+fn codes_outside_the_codespace_are_told() {
+    let file = b"begincodespacerange <00> <7F> <8140> <9FFC> endcodespacerange
+        begincidrange <00> <7F> 1 <8140> <9FFC> 200 endcidrange";
+    let map = CMap::parse(file, |_| None).unwrap();
+    let codes = map.decode(b"A\x81\x40\x82\xFF\x81");
+    let seen =
+        codes.iter().map(|code| (code.code, code.byte_len, code.in_codespace, code.cut_short));
+    let expected = [
+        (0x41, 1, true, false),
+        (0x8140, 2, true, false),
+        (0x82FF, 2, false, false),
+        (0x81, 1, false, true),
+    ];
+    assert_eq!(seen.collect::<Vec<_>>(), expected);
+    assert_eq!(map.lookup_cid_code_strict(0x82FF, 2), None);
+    assert_eq!(map.lookup_cid_code_strict(0x8140, 2), Some(200));
+}
+
+#[test]
+fn a_long_string_is_whole() {
+    let string: Vec<u8> = (0..=u16::MAX).flat_map(u16::to_be_bytes).collect();
+    let codes = CMap::identity_h().decode(&string);
+    assert_eq!(codes.len(), 0x10000);
+    assert!(codes.iter().zip(0..).all(|(code, cid)| code.cid == Some(cid) && code.code == cid));
+    assert!(CMap::identity_h().decode(b"").is_empty());
+}
+
+#[test]
+fn cids_in_a_row_are_those_of_single_codes() {
+    let Some(files) = files(&["UniJIS-UTF16-H"]) else { return };
+    let map = map_of(&files, b"UniJIS-UTF16-H");
+    let mut cids = vec![0; 0x10000];
+    map.fill_cids(0, 2, u32::MAX, &mut cids);
+    assert_eq!(cids.iter().filter(|cid| **cid != u32::MAX).count(), 15391);
+    for (code, cid) in (0..).zip(cids) {
+        assert_eq!(map.lookup_cid_code(code, 2).unwrap_or(u32::MAX), cid);
+    }
+    map.fill_cids(0, 2, 0, &mut []);
+}
+
+#[test]
+fn layers_have_their_codespaces() {
+    let file = b"begincodespacerange <00> <80> <8140> <9FFC> endcodespacerange /H usecmap";
+    let map = CMap::parse(file, |_| Some(b"/CMapName /Base")).unwrap();
+    let [top, base] = &map.layers()[..] else { panic!("two files are two layers") };
+    let range = |low, high, byte_len| Codespace { low, high, byte_len };
+    assert_eq!(top.codespaces, [range(0, 0x80, 1), range(0x8140, 0x9FFC, 2)]);
+    assert!(base.codespaces.is_empty());
+    assert_eq!(base.metadata.name.as_deref(), Some(&b"Base"[..]));
+    let many = format!("begincodespacerange {} endcodespacerange", "<00> <01> ".repeat(50));
+    let map = CMap::parse(many.as_bytes(), |_| None).unwrap();
+    assert_eq!(map.layers()[0].codespaces, [range(0, 1, 1); 50]);
+}
+
+#[test]
+fn threads_share_a_map() {
+    let map =
+        Arc::new(CMap::parse(b"begincidrange <0000> <FFFF> 5 endcidrange", |_| None).unwrap());
+    std::thread::scope(|scope| {
+        for _ in 0..8 {
+            scope.spawn(|| {
+                for code in 0..20_000 {
+                    assert_eq!(map.lookup_cid_code(code, 2), Some(code + 5));
+                    assert_eq!(map.lookup_bf_string(code), None);
+                }
+            });
+        }
+    });
+    let clones: Vec<CMap> = (0..4).map(|_| CMap::clone(&map)).collect();
+    drop(map);
+    let threads =
+        clones.into_iter().map(|map| std::thread::spawn(move || map.lookup_cid_code(1, 2)));
+    for thread in threads.collect::<Vec<_>>() {
+        assert_eq!(thread.join().unwrap(), Some(6));
+    }
+}
+
+#[test]
+fn the_library_has_a_version() {
+    assert!(hayro_cmap::library_version().starts_with(|first: char| first.is_ascii_digit()));
+}

@@ -1,0 +1,44 @@
+use Rattle.std.proofs.Common.{rules, ◌≡◌, ℕ, ◌+◌, ◌-◌, ◌<◌, ◌≤◌, length, drop, take, List, ◌∙◌, ap, subst, sym, arith, inl, inr}
+use Rattle.std.proofs.Math.ListN.{set}
+use Rattle.std.proofs.lemmas.List.{take_rest}
+use Rattle.cmap_c.proofs.StringsCut.{IsCutting, cuts, first_codes}
+use Rattle.cmap_c.proofs.decode.decode.Goals as goal
+use Rattle.cmap_c.proofs.decode.decode.Goals.{else-loop-count-test, then-loop-count-test+in_default}
+
+pub loop-count-preserved : goal.loop-count-preserved
+loop-count-preserved c =
+    let within : c.in-Some.next.byte_len ≤ length c.loop-count.left.now = c.in-Some.ensures.length.1 in
+    let room : c.loop-count.count < length c.args.codes.now = omega arith in
+    let more : IsCutting c.args.map.now c.args.text.now (drop c.in-Some.next.byte_len c.loop-count.left.now) c.args.codes.now (set c.loop-count.codes c.loop-count.count c.with_cid.result) (c.loop-count.count + 1) =
+    rw c.with_cid.ensures (cuts c.args.map.now c.args.text.now c.loop-count.left.now c.args.codes.now c.loop-count.codes c.loop-count.count c.in-Some.next c.loop-count.invariant c.in-Some.ensures.code within room) in
+    let rest : take (length c.loop-count.left.now - c.from.result) (drop c.from.result c.loop-count.left.now) ≡ drop c.in-Some.next.byte_len c.loop-count.left.now =
+    take_rest c.loop-count.left.now c.from.result ∙ ap (λ (n : ℕ). drop n c.loop-count.left.now) c.from.ensures in
+    let P : List ℕ → Type 0 = λ left. IsCutting c.args.map.now c.args.text.now left c.args.codes.now (set c.loop-count.codes c.loop-count.count c.with_cid.result) (c.loop-count.count + 1) in
+    subst P (sym rest) more
+
+pub returns-then-is_empty : goal.returns-then-is_empty
+returns-then-is_empty c =
+    let cutting = c.loop-count.invariant in
+    let none : length c.loop-count.left.now ≡ 0 = search rules in
+    record {
+      found = cutting.found;
+      codes = first_codes _ _ _ _ _ _ cutting;
+      within = omega arith;
+      count = cutting.counted;
+      written = cutting.written;
+      end = inl (c.number.ensures, omega arith);
+    }
+
+pub returns-else-is_empty : goal.returns-else-is_empty
+returns-else-is_empty c =
+    let cutting = c.loop-count.invariant in
+    let some : 0 < length c.loop-count.left.now = search rules in
+    let full : c.loop-count.count ≡ length c.args.codes.now = elim c.loop-count-test.branch [ else-loop-count-test w ↦ omega arith | then-loop-count-test+in_default w ↦ absurd (omega (arith, ap length w.in_default.ensures.code)) ] in
+    record {
+      found = cutting.found;
+      codes = first_codes _ _ _ _ _ _ cutting;
+      within = omega arith;
+      count = cutting.counted;
+      written = cutting.written;
+      end = inr (c.number-else-is_empty.ensures, omega arith, full);
+    }

@@ -1,0 +1,126 @@
+//! Maps of files, or why there is none, for C.
+
+ghost use Rattle.std.specs.Prelude.{◌≡◌, ◌≢◌, ◌⊎◌, ◌≤◌, None, IfErr, IfOk, IsSomeAnd, OnOk};
+ghost use Rattle.std.specs.Option.{option_copied};
+ghost use Rattle.cmap_files.specs.Outcomes.{RefusesWith};
+ghost use Rattle.hayro_cmap.specs.declared.refusal.Cause.TheVariants as Cause;
+ghost use Rattle.cmap_c.specs.Faults.{IsExplained, IsToldWith};
+ghost use Rattle.cmap_c.specs.NamedFiles.{ExceedsBudgetOver, FitsBudgetOver, HasNoMapOver, IsMapOver, LeadsToFaultOver, budget_of};
+ghost use Rattle.cmap_c.specs.Statuses.{number};
+ghost use Rattle.cmap_c.specs.declared.status.Status.TheVariants.{Done, Refused, NoMemory, OverBudget};
+
+use crate::bundle::BundleHandle;
+use crate::fault::{FaultNumbers, Told, status_of};
+use crate::files::BaseFile;
+use crate::handle::MapHandle;
+use crate::parse::{limit, tables_of};
+use crate::room::put_bytes;
+use crate::shared::Shared;
+use crate::status::Status;
+use hayro_cmap::bcmap::OwnedBundle;
+use hayro_cmap::{CMap, Fault, NamedFiles};
+use std::alloc::Global;
+
+/// The map of the file `data`, as `hayro_cmap_parse_over` gives it, or why there is none: what is
+/// wrong, and the names that lead to the file at fault, one after another.
+#[unsafe(no_mangle)]
+pub extern "C" fn hayro_cmap_explain(
+    map: &mut MapHandle,
+    alloc: Global,
+    data: &[u8],
+    bundle: &mut BundleHandle,
+    files: &[BaseFile<'_>],
+    budget: u64,
+    fault: &mut FaultNumbers,
+    room: &mut [u8],
+    needed: &mut usize,
+) -> u32
+    ensures same { bundle.new.slot.bundle ≡ bundle.old.slot.bundle }
+    ensures accepts { result ≡ number Done → IsSomeAnd map.new.slot.map
+        (IsMapOver bundle.old.slot.bundle files.now «data».now) }
+    ensures refuses { result ≡ number Refused
+        → HasNoMapOver bundle.old.slot.bundle files.now «data».now }
+    ensures over { result ≡ number OverBudget
+        → ExceedsBudgetOver bundle.old.slot.bundle files.now «data».now (budget_of budget) }
+    ensures within { ((result ≡ number Done) ⊎ (result ≡ number Refused))
+        → FitsBudgetOver bundle.old.slot.bundle files.now «data».now (budget_of budget) }
+    ensures explains { ((result ≡ number Refused) ⊎ (result ≡ number OverBudget)) → IsExplained
+        (LeadsToFaultOver bundle.old.slot.bundle files.now «data».now (budget_of budget))
+        fault.new room.old room.new needed.new result }
+    ensures unwritten { ((result ≡ number Done) ⊎ (result ≡ number NoMemory))
+        → (fault.new ≡ fault.old) × (room.new ≡ room.old) × (needed.new ≡ needed.old) }
+    ensures failed { (result ≡ number Done)
+        ⊎ ((result ≤ number OverBudget) × (map.new.slot.map ≡ None)) }
+{
+    let _old = map.take(alloc);
+    match explain_over(alloc, limit(budget), data, bundle, files) {
+        Ok(parsed) => map.keep(Shared::new(alloc, parsed)),
+        Err(Fault::Refused(told)) => {
+            *fault = told.fault;
+            put_bytes(&told.names, room, needed);
+            status_of(told.cause).number()
+        }
+        Err(Fault::Memory) => Status::NoMemory.number(),
+    }
+}
+
+/// The map of a file over these files and those of a handle's bundle, if it has one; or why there is
+/// none.
+fn explain_over(
+    alloc: Global,
+    budget: Option<u64>,
+    data: &[u8],
+    bundle: &mut BundleHandle,
+    files: &[BaseFile<'_>],
+) -> Result<CMap, Fault<Told>>
+    ensures same { bundle.new.slot.bundle ≡ bundle.old.slot.bundle }
+    ensures accepts { IfOk result
+        (IsMapOver bundle.old.slot.bundle files.now «data».now) }
+    ensures within { OnOk result
+        (FitsBudgetOver bundle.old.slot.bundle files.now «data».now budget) }
+    ensures refuses { IfErr result (RefusesWith (λ told. told.cause ≢ Cause.OverBudget
+        → HasNoMapOver bundle.old.slot.bundle files.now «data».now
+        × FitsBudgetOver bundle.old.slot.bundle files.now «data».now budget)) }
+    ensures over { IfErr result (RefusesWith (λ told. told.cause ≡ Cause.OverBudget
+        → ExceedsBudgetOver bundle.old.slot.bundle files.now «data».now budget)) }
+    ensures explains { IfErr result (RefusesWith (IsToldWith
+        (LeadsToFaultOver bundle.old.slot.bundle files.now «data».now budget))) }
+{
+    let Some(found) = bundle.take(alloc) else {
+        return explain_owned(alloc, budget, data, None, files);
+    };
+    let explained = explain_owned(alloc, budget, data, Some(found.value()), files);
+    bundle.put(found);
+    explained
+}
+
+/// The map of a file over these files and those of a bundle, if there is one; or why there is none.
+fn explain_owned(
+    alloc: Global,
+    budget: Option<u64>,
+    data: &[u8],
+    bundle: Option<&OwnedBundle>,
+    files: &[BaseFile<'_>],
+) -> Result<CMap, Fault<Told>>
+    ensures accepts { IfOk result
+        (IsMapOver (option_copied bundle.entry) files.now «data».now) }
+    ensures within { OnOk result
+        (FitsBudgetOver (option_copied bundle.entry) files.now «data».now budget) }
+    ensures refuses { IfErr result (RefusesWith (λ told. told.cause ≢ Cause.OverBudget
+        → HasNoMapOver (option_copied bundle.entry) files.now «data».now
+        × FitsBudgetOver (option_copied bundle.entry) files.now «data».now budget)) }
+    ensures over { IfErr result (RefusesWith (λ told. told.cause ≡ Cause.OverBudget
+        → ExceedsBudgetOver (option_copied bundle.entry) files.now «data».now budget)) }
+    ensures explains { IfErr result (RefusesWith (IsToldWith
+        (LeadsToFaultOver (option_copied bundle.entry) files.now «data».now budget))) }
+{
+    let source = NamedFiles { files, bundle };
+    match CMap::parse_from(alloc, budget, data, tables_of(bundle), &source) {
+        Ok(map) => Ok(map),
+        Err(Fault::Refused(refusal)) => match Told::of(alloc, &refusal) {
+            Ok(told) => Err(Fault::Refused(told)),
+            Err(_) => Err(Fault::Memory),
+        },
+        Err(Fault::Memory) => Err(Fault::Memory),
+    }
+}

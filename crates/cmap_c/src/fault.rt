@@ -1,0 +1,221 @@
+//! Why a file gives no map, by the numbers of the header.
+
+ghost use Rattle.std.specs.Prelude.{◌≡◌, ◌≤◌, IfOk, length};
+ghost use Rattle.std.specs.List.{concat};
+ghost use Rattle.cmap_files.specs.FilesSeen.{names_seen};
+ghost use Rattle.cmap_files.specs.Outcomes.{Finds};
+ghost use Rattle.cmap_c.specs.Faults.{HasNames, HasNumbers, IsToldOf, numbers_of, possible_cause, possible_reason, reason_number, segment_number, segment_numbered, segment_of, status_of};
+
+use crate::names::{joined, put_lengths};
+use crate::status::Status;
+use hayro_cmap::{Cause, Reason, Refusal, Segment, Stop};
+use std::alloc::{AllocError, Global};
+
+/// At most so many names lead to a file at fault.
+const MOST_NAMES: usize = 16;
+
+/// Why a file gives no map, by the numbers of the header. All its bytes are in a field.
+#[repr(C)]
+#[derive(Clone, Copy)]
+pub struct FaultNumbers {
+    /// What is wrong with the file at fault.
+    pub(crate) cause: u32,
+    /// Of a malformed file, what is wrong where reading stopped; else 0.
+    pub(crate) reason: u16,
+    /// The segment that the reason names, or 0.
+    pub(crate) segment: u16,
+    /// Of a malformed file, where reading stopped, in bytes; else 0.
+    pub(crate) offset: usize,
+    /// How many names lead to the file at fault. The top file itself has none.
+    pub(crate) names: usize,
+    /// How many bytes each of them has; the others are 0.
+    pub(crate) name_lens: [usize; MOST_NAMES],
+}
+
+impl FaultNumbers {
+    /// Those of a file at the end of these names.
+    fn of(names: &[&[u8]], cause: Cause) -> FaultNumbers
+        requires { length names.now ≤ 16 }
+        ensures numbers { HasNumbers result cause }
+        ensures names { HasNames result (names_seen names.now) }
+    {
+        let mut name_lens = [0; MOST_NAMES];
+        put_lengths(names, &mut name_lens);
+        let (cause, reason, segment, offset) = numbers_of(cause);
+        FaultNumbers {
+            cause,
+            reason,
+            segment,
+            offset,
+            names: names.len(),
+            name_lens,
+        }
+    }
+
+    /// The cause that has these numbers. The names don't count.
+    pub(crate) fn cause(&self) -> Option<Cause>
+        ensures { Finds (HasNumbers self.now) (λ cause. cause) result }
+    {
+        let found = self.possible_cause()?;
+        let (cause, reason, segment, offset) = numbers_of(found);
+        let same = self.cause == cause
+            && self.reason == reason
+            && self.segment == segment
+            && self.offset == offset;
+        if same { Some(found) } else { None }
+    }
+
+    /// The one cause that may have these numbers.
+    fn possible_cause(&self) -> Option<Cause>
+        ensures { result ≡ possible_cause self.now }
+    {
+        match self.cause {
+            1 => Some(Cause::Malformed(Stop {
+                offset: self.offset,
+                reason: possible_reason(self.reason, self.segment)?,
+            })),
+            2 => Some(Cause::NoFile),
+            3 => Some(Cause::ChainLength),
+            4 => Some(Cause::OverBudget),
+            _ => None,
+        }
+    }
+}
+
+/// What C is told of a refusal.
+#[derive(Drop)]
+pub(crate) struct Told {
+    pub(crate) cause: Cause,
+    pub(crate) fault: FaultNumbers,
+    /// The names, one after another.
+    pub(crate) names: Vec<u8>,
+}
+
+impl Told {
+    pub(crate) fn of(alloc: Global, refusal: &Refusal<'_>) -> Result<Told, AllocError>
+        requires { length refusal.now.names.items ≤ 16 }
+        ensures { IfOk result
+            (IsToldOf (names_seen refusal.now.names.items) refusal.now.cause) }
+    {
+        Ok(Told {
+            cause: refusal.cause,
+            fault: FaultNumbers::of(&refusal.names, refusal.cause),
+            names: joined(alloc, &refusal.names)?,
+        })
+    }
+}
+
+/// How a call ends that finds no map.
+pub(crate) fn status_of(cause: Cause) -> Status
+    ensures { result ≡ status_of cause }
+{
+    match cause {
+        Cause::Malformed(_) | Cause::NoFile | Cause::ChainLength => Status::Refused,
+        Cause::OverBudget => Status::OverBudget,
+    }
+}
+
+/// The numbers of a cause, of its reason and of the segment that this names, and the offset.
+fn numbers_of(cause: Cause) -> (u32, u16, u16, usize)
+    ensures { result ≡ numbers_of cause }
+{
+    match cause {
+        Cause::Malformed(stop) => {
+            let reason = reason_number(stop.reason);
+            (1, reason, segment_of(stop.reason), stop.offset)
+        }
+        Cause::NoFile => (2, 0, 0, 0),
+        Cause::ChainLength => (3, 0, 0, 0),
+        Cause::OverBudget => (4, 0, 0, 0),
+    }
+}
+
+/// The number of a reason in the header.
+fn reason_number(reason: Reason) -> u16
+    ensures { result ≡ reason_number reason }
+{
+    match reason {
+        Reason::MalformedToken => 1,
+        Reason::EndWithinSection => 2,
+        Reason::CodeExpected => 3,
+        Reason::CodeLength => 4,
+        Reason::UnequalLengths => 5,
+        Reason::CidExpected => 6,
+        Reason::TextExpected => 7,
+        Reason::BracketExpected => 8,
+        Reason::UseWithoutName => 9,
+        Reason::Header => 10,
+        Reason::SegmentLength => 11,
+        Reason::SegmentType => 12,
+        Reason::Field(_) => 13,
+        Reason::Entry(_) => 14,
+        Reason::CodeTooLarge(_) => 15,
+        Reason::CidTooLarge => 16,
+    }
+}
+
+/// The number of the segment that a reason names, or 0.
+fn segment_of(reason: Reason) -> u16
+    ensures { result ≡ segment_of reason }
+{
+    match reason {
+        Reason::Field(segment) | Reason::Entry(segment) | Reason::CodeTooLarge(segment) => {
+            segment_number(segment)
+        }
+        _ => 0,
+    }
+}
+
+/// The number of a segment in the header.
+fn segment_number(segment: Segment) -> u16
+    ensures { result ≡ segment_number segment }
+{
+    match segment {
+        Segment::Cids => 1,
+        Segment::Texts => 2,
+        Segment::Notdefs => 3,
+        Segment::WritingMode => 4,
+        Segment::Codespaces => 5,
+        Segment::Collection => 6,
+    }
+}
+
+/// The one reason that may have these numbers, its own and that of its segment.
+fn possible_reason(reason: u16, segment: u16) -> Option<Reason>
+    ensures { result ≡ possible_reason reason segment }
+{
+    match reason {
+        1 => Some(Reason::MalformedToken),
+        2 => Some(Reason::EndWithinSection),
+        3 => Some(Reason::CodeExpected),
+        4 => Some(Reason::CodeLength),
+        5 => Some(Reason::UnequalLengths),
+        6 => Some(Reason::CidExpected),
+        7 => Some(Reason::TextExpected),
+        8 => Some(Reason::BracketExpected),
+        9 => Some(Reason::UseWithoutName),
+        10 => Some(Reason::Header),
+        11 => Some(Reason::SegmentLength),
+        12 => Some(Reason::SegmentType),
+        13 => Some(Reason::Field(segment_numbered(segment)?)),
+        14 => Some(Reason::Entry(segment_numbered(segment)?)),
+        15 => Some(Reason::CodeTooLarge(segment_numbered(segment)?)),
+        16 => Some(Reason::CidTooLarge),
+        _ => None,
+    }
+}
+
+/// The segment of a number.
+fn segment_numbered(number: u16) -> Option<Segment>
+    ensures { result ≡ segment_numbered number }
+{
+    match number {
+        1 => Some(Segment::Cids),
+        2 => Some(Segment::Texts),
+        3 => Some(Segment::Notdefs),
+        4 => Some(Segment::WritingMode),
+        5 => Some(Segment::Codespaces),
+        6 => Some(Segment::Collection),
+        _ => None,
+    }
+}

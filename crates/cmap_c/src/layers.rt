@@ -1,0 +1,89 @@
+//! The layers of a map and their codespace ranges, for C.
+
+ghost use Rattle.std.specs.Prelude.{◌≡◌, ◌≤◌, ◌++◌, MatchOption, drop, length};
+ghost use Rattle.cmap_c.specs.Handles.{layer_in, ranges_seen, spaces_seen};
+ghost use Rattle.cmap_c.specs.Rooms.{IsPut};
+ghost use Rattle.cmap_c.specs.Statuses.{number};
+ghost use Rattle.cmap_c.specs.declared.status.Status.TheVariants.{Absent};
+
+use crate::handle::MapHandle;
+use crate::status::Status;
+use hayro_cmap::Codespace;
+use std::alloc::Global;
+
+/// A codespace range: codes of `byte_len` bytes, each byte between those of `low` and `high`.
+#[repr(C)]
+#[derive(Clone, Copy)]
+pub struct CodespaceRange {
+    pub(crate) low: u32,
+    pub(crate) high: u32,
+    pub(crate) byte_len: u32,
+}
+
+/// How many layers the map has.
+#[unsafe(no_mangle)]
+pub extern "C" fn hayro_cmap_layers(map: &mut MapHandle, alloc: Global) -> usize
+    ensures same { map.new.slot.map ≡ map.old.slot.map }
+    ensures count { MatchOption map.old.slot.map (result ≡ 0)
+        (λ layers. (result ≡ length layers) × (1 ≤ result) × (result ≤ 16)) }
+{
+    let Some(found) = map.take(alloc) else {
+        return 0;
+    };
+    let count = found.value().layers().len();
+    map.put(found);
+    count
+}
+
+/// The codespace ranges of a layer, in the order of its file. ISO 32000-1, 9.7.6.2.
+#[unsafe(no_mangle)]
+pub extern "C" fn hayro_cmap_codespaces(
+    map: &mut MapHandle,
+    alloc: Global,
+    layer: usize,
+    ranges: &mut [CodespaceRange],
+    needed: &mut usize,
+) -> u32
+    ensures same { map.new.slot.map ≡ map.old.slot.map }
+    ensures ranges { MatchOption (layer_in map.old.slot.map layer)
+        ((result ≡ number Absent) × (ranges.new ≡ ranges.old) × (needed.new ≡ needed.old))
+        (λ given. IsPut (ranges_seen given.lists.spaces) ranges.old ranges.new needed.new result) }
+{
+    let Some(found) = map.take(alloc) else {
+        return Status::Absent.number();
+    };
+    let status = match found.value().layers().get(layer) {
+        Some(given) => put_ranges(given.codespaces(), ranges, needed),
+        None => Status::Absent.number(),
+    };
+    map.put(found);
+    status
+}
+
+/// Writes the ranges at the head of the room, where all of them have room, and how many they are.
+fn put_ranges(spaces: &[Codespace], ranges: &mut [CodespaceRange], needed: &mut usize) -> u32
+    ensures { IsPut (ranges_seen (spaces_seen spaces.now)) ranges.old ranges.new
+        needed.new result }
+{
+    *needed = spaces.len();
+    if spaces.len() > ranges.len() {
+        return Status::NoRoom.number();
+    }
+    fill(spaces, ranges);
+    Status::Done.number()
+}
+
+/// Writes the ranges at the head of the room.
+fn fill(spaces: &[Codespace], ranges: &mut [CodespaceRange])
+    requires { length spaces.now ≤ length ranges.old }
+    ensures { ranges.new ≡ ranges_seen (spaces_seen spaces.now)
+        ++ drop (length spaces.now) ranges.old }
+{
+    for (index, space) in spaces.iter().enumerate() {
+        ranges[index] = CodespaceRange {
+            low: space.low,
+            high: space.high,
+            byte_len: u32::from(space.len.count()),
+        };
+    }
+}

@@ -1,0 +1,188 @@
+/* Decodes a string by a CMap file: prints each code with its CID and its text.
+ *
+ *     decode FOLDER FILE HEX
+ *
+ * FILE is in the folder, and so are the files that it uses, which are read as they are named. The text
+ * is that of the CID by the file REGISTRY-ORDERING-UCS2 of the folder, where there is one, else that of
+ * the code by FILE itself. */
+#include <hayro_cmap.h>
+#include <inttypes.h>
+#include <stdio.h>
+#include <stdlib.h>
+#include <string.h>
+
+/* The most files that are read, and the most names that one of them uses. */
+enum { MOST_FILES = 64, MOST_NAMES = 64, ROOM = 4096 };
+
+/* Files with their names, of which this program owns the bytes. */
+struct files {
+    hayro_cmap_file items[MOST_FILES];
+    size_t len;
+};
+
+static _Noreturn void fail(const char *what, const char *why) {
+    fprintf(stderr, "%s: %s\n", what, why);
+    exit(1);
+}
+
+static void *allocated(size_t len) {
+    void *bytes = malloc(len + 1);
+    if (!bytes) fail("decode", "out of memory");
+    return bytes;
+}
+
+/* The bytes of a file of the folder, with their length. Null where there is none; a name may come from
+ * a file, and mustn't lead out of the folder. */
+static uint8_t *read_file(const char *folder, const char *name, size_t *len) {
+    if (strchr(name, '/')) return NULL;
+    char *path = allocated(strlen(folder) + 1 + strlen(name));
+    sprintf(path, "%s/%s", folder, name);
+    FILE *file = fopen(path, "rb");
+    free(path);
+    if (!file) return NULL;
+    uint8_t *bytes = NULL;
+    long end = fseek(file, 0, SEEK_END) == 0 ? ftell(file) : -1;
+    if (end >= 0) {
+        bytes = allocated((size_t)end);
+        rewind(file);
+        *len = fread(bytes, 1, (size_t)end, file);
+    }
+    fclose(file);
+    return bytes;
+}
+
+static bool is_known(const struct files *files, const uint8_t *name, size_t len) {
+    for (size_t i = 0; i < files->len; i++) {
+        const hayro_cmap_file *file = &files->items[i];
+        if (file->name_len == len && memcmp(file->name, name, len) == 0) return true;
+    }
+    return false;
+}
+
+/* Adds the file of this name, if the folder has it. */
+static void add_file(struct files *files, const char *folder, const uint8_t *name, size_t len) {
+    if (is_known(files, name, len) || memchr(name, 0, len)) return;
+    if (files->len == MOST_FILES) fail("decode", "too many files are used");
+    char *copy = allocated(len);
+    memcpy(copy, name, len);
+    copy[len] = 0;
+    hayro_cmap_file file = {(uint8_t *)copy, len, NULL, 0};
+    file.bytes = read_file(folder, copy, &file.bytes_len);
+    if (file.bytes) files->items[files->len++] = file;
+    else free(copy);
+}
+
+/* Adds the files that a file uses. A file that is refused uses none; its parsing says why. */
+static void add_used(struct files *files, const char *folder, const uint8_t *data, size_t len) {
+    hayro_cmap_bundle none = HAYRO_CMAP_EMPTY;
+    uint8_t room[ROOM];
+    size_t lens[MOST_NAMES], names, needed;
+    hayro_cmap_status status =
+        hayro_cmap_uses(data, len, &none, lens, MOST_NAMES, &names, room, ROOM, &needed);
+    if (status == HAYRO_CMAP_NO_MEMORY) fail("decode", "out of memory");
+    if (status == HAYRO_CMAP_NO_ROOM) fail("decode", "too many files are used");
+    if (status != HAYRO_CMAP_OK) return;
+    const uint8_t *name = room;
+    for (size_t i = 0; i < names; name += lens[i++]) add_file(files, folder, name, lens[i]);
+}
+
+static void free_files(struct files *files) {
+    for (size_t i = 0; i < files->len; i++) {
+        free((void *)files->items[i].name);
+        free((void *)files->items[i].bytes);
+    }
+}
+
+/* Prints why a file is refused: the one at fault, and what is wrong with it. */
+static _Noreturn void fail_refused(const char *name, const hayro_cmap_fault *fault,
+                                   const uint8_t *names) {
+    uint8_t message[256];
+    size_t before = 0, needed = 0;
+    if (hayro_cmap_message(fault, message, sizeof message, &needed) != HAYRO_CMAP_OK) needed = 0;
+    for (size_t i = 0; i + 1 < fault->names; i++) before += fault->name_lens[i];
+    if (fault->names == 0) fprintf(stderr, "%s", name);
+    else fwrite(names + before, 1, fault->name_lens[fault->names - 1], stderr);
+    fprintf(stderr, ": %.*s\n", (int)needed, (const char *)message);
+    exit(1);
+}
+
+/* Reads the map of a file of the folder: whether it is there. */
+static bool open_map(hayro_cmap *map, const char *folder, const char *name) {
+    struct files files = {.len = 0};
+    size_t len = 0, needed;
+    uint8_t *data = read_file(folder, name, &len);
+    if (!data) return false;
+    add_used(&files, folder, data, len);
+    for (size_t i = 0; i < files.len; i++)
+        add_used(&files, folder, files.items[i].bytes, files.items[i].bytes_len);
+    hayro_cmap_bundle none = HAYRO_CMAP_EMPTY;
+    hayro_cmap_fault fault;
+    uint8_t names[ROOM];
+    hayro_cmap_status status =
+        hayro_cmap_explain(map, data, len, &none, files.items, files.len, HAYRO_CMAP_NO_BUDGET,
+                           &fault, names, sizeof names, &needed);
+    if (status == HAYRO_CMAP_NO_MEMORY) fail(name, "out of memory");
+    if (status != HAYRO_CMAP_OK) fail_refused(name, &fault, names);
+    free_files(&files);
+    free(data);
+    return true;
+}
+
+/* Reads the map from the CIDs of a map's collection to Unicode, by ISO 32000-1, 9.10.2. */
+static bool open_texts(hayro_cmap *texts, hayro_cmap *map, const char *folder) {
+    char registry[64], ordering[64], name[160];
+    size_t registry_len, ordering_len;
+    if (hayro_cmap_registry(map, (uint8_t *)registry, sizeof registry, &registry_len) != HAYRO_CMAP_OK
+        || hayro_cmap_ordering(map, (uint8_t *)ordering, sizeof ordering, &ordering_len)
+               != HAYRO_CMAP_OK)
+        return false;
+    snprintf(name, sizeof name, "%.*s-%.*s-UCS2", (int)registry_len, registry, (int)ordering_len,
+             ordering);
+    return open_map(texts, folder, name);
+}
+
+static void print_code(const hayro_cmap_code *code, hayro_cmap *map, hayro_cmap *texts) {
+    uint8_t text[256];
+    size_t len;
+    hayro_cmap_status status = texts && code->has_cid
+                                   ? hayro_cmap_text(texts, code->cid, text, sizeof text, &len)
+                                   : hayro_cmap_text(map, code->code, text, sizeof text, &len);
+    printf("<%0*" PRIX32 ">  ", 2 * code->byte_len, code->code);
+    if (code->has_cid) printf("%" PRIu32 "  ", code->cid);
+    else printf("-  ");
+    if (status == HAYRO_CMAP_OK) printf("\"%.*s\"\n", (int)len, (const char *)text);
+    else printf("-\n");
+}
+
+/* Prints the codes of a string, some at a time. */
+static void decode(const uint8_t *string, size_t len, hayro_cmap *map, hayro_cmap *texts) {
+    hayro_cmap_code codes[32];
+    size_t made, taken;
+    hayro_cmap_status status = HAYRO_CMAP_NO_ROOM;
+    while (status == HAYRO_CMAP_NO_ROOM) {
+        status = hayro_cmap_decode(map, string, len, codes, 32, &made, &taken);
+        for (size_t i = 0; i < made; i++) print_code(&codes[i], map, texts);
+        string += taken;
+        len -= taken;
+    }
+}
+
+/* The bytes that hexadecimal digits spell, in place; how many they are. */
+static size_t spelled(char *digits) {
+    size_t len = 0;
+    for (unsigned byte; sscanf(digits + 2 * len, "%2x", &byte) == 1; len++)
+        digits[len] = (char)byte;
+    return len;
+}
+
+int main(int argc, char **argv) {
+    if (argc != 4) fail("usage", "decode FOLDER FILE HEX");
+    hayro_cmap map = HAYRO_CMAP_EMPTY, texts = HAYRO_CMAP_EMPTY;
+    if (!open_map(&map, argv[1], argv[2])) fail(argv[2], "no such file");
+    bool has_texts = open_texts(&texts, &map, argv[1]);
+    size_t len = spelled(argv[3]);
+    decode((const uint8_t *)argv[3], len, &map, has_texts ? &texts : NULL);
+    hayro_cmap_free(&texts);
+    hayro_cmap_free(&map);
+    return 0;
+}

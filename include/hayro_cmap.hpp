@@ -1,0 +1,595 @@
+// CMap files in C++17: which CID a character code of a composite font stands for, and which text.
+//
+//     auto map = hayro::Map::parse(data);
+//     if (!map) std::cerr << map.refusal().message() << '\n';
+//     else if (auto cid = map->cid(0x3042, 2)) std::cout << *cid << '\n';
+//
+// It is hayro_cmap.h with classes that free what they own. A refused file is a value; the one exception
+// is std::bad_alloc, where memory ran out. What is noexcept takes no memory.
+//
+// - A Map or a Bundle is moved and not copied. One that was moved from is empty, and answers nothing.
+// - One thread at a time uses a Map or a Bundle: a lookup isn't const. Other threads take another of
+//   the same, by share(), which copies nothing.
+// - Bytes, Files and Span only show what they were made of, as std::string_view does.
+// - Texts are std::string: in UTF-8 those of codes, of any bytes those of names.
+#ifndef HAYRO_CMAP_HPP
+#define HAYRO_CMAP_HPP
+
+#include "hayro_cmap.h"
+
+#include <cstddef>
+#include <cstdint>
+#include <initializer_list>
+#include <iterator>
+#include <map>
+#include <new>
+#include <optional>
+#include <string>
+#include <string_view>
+#include <type_traits>
+#include <utility>
+#include <variant>
+#include <vector>
+
+namespace hayro {
+
+using Cid = std::uint32_t;
+using Code = hayro_cmap_code;
+using Codespace = hayro_cmap_codespace;
+using Status = hayro_cmap_status;
+
+// No budget.
+inline constexpr std::uint64_t no_budget = HAYRO_CMAP_NO_BUDGET;
+
+// How many files a chain has at most, the top one included.
+inline constexpr int most_files = 16;
+
+enum class WritingMode { horizontal = HAYRO_CMAP_HORIZONTAL, vertical = HAYRO_CMAP_VERTICAL };
+
+// What is wrong with the file at fault.
+enum class Cause : std::uint32_t {
+    malformed = HAYRO_CMAP_MALFORMED,       // it is outside the grammar
+    no_file = HAYRO_CMAP_NO_FILE,           // no file has its name
+    chain_length = HAYRO_CMAP_CHAIN_LENGTH, // it would be the seventeenth of a chain
+    past_budget = HAYRO_CMAP_PAST_BUDGET    // it has more bytes than are left of the budget
+};
+
+// What is wrong where the reading of a malformed file stopped.
+enum class Reason : std::uint16_t {
+    none = HAYRO_CMAP_NO_REASON,
+    malformed_token = HAYRO_CMAP_MALFORMED_TOKEN,       // no token stands here
+    end_within_section = HAYRO_CMAP_END_WITHIN_SECTION, // the file ends within a section
+    code_expected = HAYRO_CMAP_CODE_EXPECTED,           // another token than a code
+    code_length = HAYRO_CMAP_CODE_LENGTH,               // a code of no or of more than four bytes
+    unequal_lengths = HAYRO_CMAP_UNEQUAL_LENGTHS,       // the ends of a codespace range differ in length
+    cid_expected = HAYRO_CMAP_CID_EXPECTED,             // another token than a CID
+    text_expected = HAYRO_CMAP_TEXT_EXPECTED,           // another token than the text of a code
+    bracket_expected = HAYRO_CMAP_BRACKET_EXPECTED,     // another token than the ] after texts
+    use_without_name = HAYRO_CMAP_USE_WITHOUT_NAME,     // usecmap without a name before it
+    header = HAYRO_CMAP_HEADER,                         // no whole binary file of version 1
+    segment_length = HAYRO_CMAP_SEGMENT_LENGTH,         // the last segment is cut short
+    segment_type = HAYRO_CMAP_SEGMENT_TYPE,             // a segment of an unknown type
+    field = HAYRO_CMAP_FIELD,                           // a field of a segment is cut short
+    entry = HAYRO_CMAP_ENTRY,                           // an entry of a segment is cut short
+    code_too_large = HAYRO_CMAP_CODE_TOO_LARGE,         // a code of a segment passes 32 bits
+    cid_too_large = HAYRO_CMAP_CID_TOO_LARGE            // a CID of a binary file passes 32 bits
+};
+
+// A segment of a binary file, by what it holds.
+enum class Segment : std::uint16_t {
+    none = HAYRO_CMAP_NO_SEGMENT,
+    cids = HAYRO_CMAP_CIDS,
+    texts = HAYRO_CMAP_TEXTS,
+    notdefs = HAYRO_CMAP_NOTDEFS,
+    writing_mode = HAYRO_CMAP_MODE,
+    codespaces = HAYRO_CMAP_CODESPACES,
+    collection = HAYRO_CMAP_COLLECTION
+};
+
+// Values in a row, which belong to someone else.
+template <class T> class Span {
+public:
+    constexpr Span() noexcept = default;
+    constexpr Span(T *data, std::size_t size) noexcept : data_(data), size_(size) {}
+    template <std::size_t Count> constexpr Span(T (&values)[Count]) noexcept : Span(values, Count) {}
+    // Of a container, as std::vector<T> or std::array<T, N>.
+    template <class Container, class = std::enable_if_t<std::is_convertible_v<
+                                   decltype(std::declval<Container &>().data()), T *>>>
+    constexpr Span(Container &values) noexcept : Span(values.data(), values.size()) {}
+
+    constexpr T *data() const noexcept { return data_; }
+    constexpr std::size_t size() const noexcept { return size_; }
+    constexpr bool empty() const noexcept { return size_ == 0; }
+    constexpr T *begin() const noexcept { return data_; }
+    constexpr T *end() const noexcept { return data_ + size_; }
+    constexpr T &operator[](std::size_t index) const noexcept { return data_[index]; }
+
+private:
+    T *data_ = nullptr;
+    std::size_t size_ = 0;
+};
+
+// Bytes of a text, or of a container of char, unsigned char or std::byte.
+class Bytes {
+public:
+    constexpr Bytes() noexcept = default;
+    Bytes(const void *data, std::size_t size) noexcept : data_(data), size_(size) {}
+    Bytes(std::string_view text) noexcept : Bytes(text.data(), text.size()) {}
+    Bytes(const std::string &text) noexcept : Bytes(text.data(), text.size()) {}
+    // Up to the first zero byte.
+    Bytes(const char *text) noexcept : Bytes(std::string_view(text)) {}
+    template <std::size_t Count>
+    Bytes(const std::uint8_t (&bytes)[Count]) noexcept : Bytes(bytes, Count) {}
+    template <class Container,
+              class = std::enable_if_t<
+                  sizeof(*std::declval<const Container &>().data()) == 1 &&
+                  std::is_trivially_copyable_v<
+                      std::remove_reference_t<decltype(*std::declval<const Container &>().data())>>>>
+    Bytes(const Container &bytes) noexcept : Bytes(bytes.data(), bytes.size()) {}
+
+    // It is never null.
+    const std::uint8_t *data() const noexcept { return hayro_cmap_bytes(data_); }
+    std::size_t size() const noexcept { return size_; }
+    std::string_view text() const noexcept {
+        return {reinterpret_cast<const char *>(data()), size_};
+    }
+
+private:
+    const void *data_ = nullptr;
+    std::size_t size_ = 0;
+};
+
+// Files by their names, for those that use them. The first of several with a name counts.
+class Files {
+public:
+    Files() noexcept = default;
+    Files(std::initializer_list<std::pair<Bytes, Bytes>> files) {
+        for (const auto &[name, bytes] : files) add(name, bytes);
+    }
+    // Of pairs of a name and bytes, as a std::map<std::string, std::string> has them.
+    template <class Pairs, class = std::enable_if_t<std::is_convertible_v<
+                               decltype(std::begin(std::declval<const Pairs &>())->first), Bytes>>>
+    Files(const Pairs &files) {
+        for (const auto &[name, bytes] : files) add(name, bytes);
+    }
+
+    void add(Bytes name, Bytes bytes) {
+        files_.push_back({name.data(), name.size(), bytes.data(), bytes.size()});
+    }
+    std::optional<Bytes> find(Bytes name) const noexcept {
+        for (const auto &file : files_)
+            if (Bytes(file.name, file.name_len).text() == name.text())
+                return Bytes(file.bytes, file.bytes_len);
+        return std::nullopt;
+    }
+    // It is never null.
+    const hayro_cmap_file *data() const noexcept { return hayro_cmap_files(files_.data()); }
+    std::size_t size() const noexcept { return files_.size(); }
+
+private:
+    std::vector<hayro_cmap_file> files_;
+};
+
+namespace detail {
+
+// A handle of the library, which is freed once.
+template <class Handle, void (*free)(Handle *)> class Owned {
+public:
+    Owned() noexcept = default;
+    Owned(Owned &&other) noexcept : handle_(std::exchange(other.handle_, Handle HAYRO_CMAP_EMPTY)) {}
+    Owned &operator=(Owned &&other) noexcept {
+        Owned taken(std::move(other));
+        std::swap(handle_, taken.handle_);
+        return *this;
+    }
+    ~Owned() { free(&handle_); }
+
+    Handle *get() noexcept { return &handle_; }
+    const Handle *get() const noexcept { return &handle_; }
+
+private:
+    Handle handle_ = HAYRO_CMAP_EMPTY;
+};
+
+inline Status with_memory(Status status) {
+    if (status == HAYRO_CMAP_NO_MEMORY) throw std::bad_alloc();
+    return status;
+}
+
+// A pointer that isn't null, also where a span has no values.
+template <class T> T *room_of(Span<T> room) noexcept {
+    static T none{};
+    return room.data() ? room.data() : &none;
+}
+
+inline std::uint8_t *room_of(std::string &room) noexcept { return hayro_cmap_room(room.data()); }
+
+// What a call writes to a room, which is asked again where the first room is too short.
+template <class Ask> std::optional<std::string> written(Ask ask) {
+    std::uint8_t first[64];
+    std::size_t needed = 0;
+    Status status = ask(first, sizeof first, &needed);
+    if (status == HAYRO_CMAP_OK) return std::string(reinterpret_cast<const char *>(first), needed);
+    std::string room;
+    while (status == HAYRO_CMAP_NO_ROOM) {
+        room.resize(needed);
+        status = ask(room_of(room), room.size(), &needed);
+    }
+    if (with_memory(status) != HAYRO_CMAP_OK) return std::nullopt;
+    room.resize(needed);
+    return room;
+}
+
+// Names that stand one after another.
+inline std::vector<std::string> split(std::string_view room, Span<const std::size_t> lens) {
+    std::vector<std::string> names;
+    for (std::size_t len : lens) {
+        names.emplace_back(room.substr(0, len));
+        room.remove_prefix(len);
+    }
+    return names;
+}
+
+inline std::optional<WritingMode> mode_of(hayro_cmap_mode mode) noexcept {
+    if (mode == HAYRO_CMAP_NO_MODE) return std::nullopt;
+    return static_cast<WritingMode>(mode);
+}
+
+} // namespace detail
+
+// Predefined CMap files, which files use by their names, and the tables of the binary form.
+class Bundle {
+public:
+    // None.
+    Bundle() noexcept = default;
+
+    // The bundle of these bytes, which needn't stay; nothing where they are invalid.
+    static std::optional<Bundle> open(Bytes bytes) {
+        Bundle bundle;
+        Status status = hayro_cmap_bundle_open(bundle.handle(), bytes.data(), bytes.size());
+        if (detail::with_memory(status) != HAYRO_CMAP_OK) return std::nullopt;
+        return bundle;
+    }
+
+    // Another one of the same files, for another thread.
+    Bundle share() {
+        Bundle other;
+        detail::with_memory(hayro_cmap_bundle_share(handle(), other.handle()));
+        return other;
+    }
+
+    // The bytes of the file of a name.
+    std::optional<std::string> file(Bytes name) {
+        return detail::written([&](auto room, auto len, auto needed) {
+            return hayro_cmap_bundle_file(handle(), name.data(), name.size(), room, len, needed);
+        });
+    }
+
+    bool empty() const noexcept { return !handle_.get()->full; }
+
+    // For the calls of hayro_cmap.h. It stays the bundle's.
+    hayro_cmap_bundle *handle() noexcept { return handle_.get(); }
+
+private:
+    detail::Owned<hayro_cmap_bundle, hayro_cmap_bundle_free> handle_;
+};
+
+// Why a file gives no map.
+class Refusal {
+public:
+    Refusal(const hayro_cmap_fault &fault, std::string_view names)
+        : fault_(fault), names_(detail::split(names, {fault.name_lens, fault.names})) {}
+
+    Cause cause() const noexcept { return static_cast<Cause>(fault_.cause); }
+
+    // Of a malformed file; else Reason::none.
+    Reason reason() const noexcept { return static_cast<Reason>(fault_.reason); }
+
+    // Of a malformed binary file, where the reason speaks of one; else Segment::none.
+    Segment segment() const noexcept { return static_cast<Segment>(fault_.segment); }
+
+    // Where the reading of a malformed file stopped, in bytes.
+    std::optional<std::size_t> offset() const noexcept {
+        return cause() == Cause::malformed ? std::optional(fault_.offset) : std::nullopt;
+    }
+
+    // The names that lead to the file at fault, each used by the file before it; none where the fault
+    // is in the file itself.
+    const std::vector<std::string> &names() const noexcept { return names_; }
+
+    // What is wrong, in English, as "byte 27: a CID was expected". The names aren't in it.
+    std::string message() const {
+        auto text = detail::written([&](auto room, auto len, auto needed) {
+            return hayro_cmap_message(&fault_, room, len, needed);
+        });
+        return std::move(text).value_or("");
+    }
+
+private:
+    hayro_cmap_fault fault_;
+    std::vector<std::string> names_;
+};
+
+class Result;
+
+// How far a string is decoded.
+struct Decoded {
+    std::size_t made;  // how many codes are written
+    std::size_t taken; // how many bytes of the string they have
+    bool whole;        // whether that is the whole string
+};
+
+// What a file says of itself. What it doesn't say is absent.
+struct Metadata {
+    std::optional<std::string> name;
+    std::optional<std::string> registry;
+    std::optional<std::string> ordering;
+    std::optional<std::int32_t> supplement;
+    std::optional<WritingMode> writing_mode;
+};
+
+// What the codes of a font stand for.
+class Map {
+public:
+    // None, which answers nothing.
+    Map() noexcept = default;
+
+    // Reads a CMap file over the files that it uses. A name is that of the first of `files` with it,
+    // else of the bundle. The files that are opened may have no more bytes than the budget together; a
+    // file counts as often as it is used.
+    static Result parse(Bytes data, const Files &files = {}, std::uint64_t budget = no_budget);
+    static Result parse(Bytes data, Bundle &bundle, const Files &files = {},
+                        std::uint64_t budget = no_budget);
+
+    // Reads the file of a name, so that what the file says of itself is what the map says. Without a
+    // file Identity-H and Identity-V are made, and of any other name there is no answer.
+    static std::optional<Result> open(Bytes name, const Files &files = {},
+                                      std::uint64_t budget = no_budget);
+    static std::optional<Result> open(Bytes name, Bundle &bundle, const Files &files = {},
+                                      std::uint64_t budget = no_budget);
+
+    // Reads a file in place of the map, and doesn't say why there is none. The bundle, or no bytes,
+    // serves for this file alone, and nothing of it is copied.
+    Status read(Bytes data, Bytes bundle = {}, const Files &files = {},
+                std::uint64_t budget = no_budget) {
+        return detail::with_memory(hayro_cmap_parse(handle(), data.data(), data.size(),
+                                                    bundle.data(), bundle.size(), files.data(),
+                                                    files.size(), budget));
+    }
+    Status read_over(Bytes data, Bundle &bundle, const Files &files = {},
+                     std::uint64_t budget = no_budget) {
+        return detail::with_memory(hayro_cmap_parse_over(handle(), data.data(), data.size(),
+                                                         bundle.handle(), files.data(),
+                                                         files.size(), budget));
+    }
+
+    // Identity-H, or Identity-V: codes of two bytes are CIDs.
+    static Map identity(WritingMode mode) {
+        Map map;
+        detail::with_memory(hayro_cmap_identity(map.handle(), mode == WritingMode::vertical));
+        return map;
+    }
+
+    // Another one of the same map, for another thread.
+    Map share() {
+        Map other;
+        detail::with_memory(hayro_cmap_share(handle(), other.handle()));
+        return other;
+    }
+
+    bool empty() const noexcept { return !handle_.get()->full; }
+
+    // The CID of a code of `byte_len` bytes. Codespace ranges aren't looked at.
+    std::optional<Cid> cid(std::uint32_t code, std::uint8_t byte_len) noexcept {
+        Cid cid;
+        return hayro_cmap_cid(handle(), code, byte_len, &cid) ? std::optional(cid) : std::nullopt;
+    }
+
+    // The same, where the code lies in a codespace range of its length; else there is none.
+    std::optional<Cid> cid_strict(std::uint32_t code, std::uint8_t byte_len) noexcept {
+        Cid cid;
+        return hayro_cmap_cid_strict(handle(), code, byte_len, &cid) ? std::optional(cid)
+                                                                     : std::nullopt;
+    }
+
+    // Writes the CIDs of the codes from `first` on, and `absent` for those that have none: whether there
+    // is a map.
+    bool cids(std::uint32_t first, std::uint8_t byte_len, Cid absent, Span<Cid> cids) noexcept {
+        return hayro_cmap_cids(handle(), first, byte_len, absent, detail::room_of(cids),
+                               cids.size());
+    }
+
+    // Cuts a string into codes, as many as there is room for, each with its CID. To go on, the rest of
+    // the string is handed in.
+    Decoded decode(Bytes string, Span<Code> codes) noexcept {
+        Decoded decoded{};
+        Status status =
+            hayro_cmap_decode(handle(), string.data(), string.size(), detail::room_of(codes),
+                              codes.size(), &decoded.made, &decoded.taken);
+        decoded.whole = status == HAYRO_CMAP_OK;
+        return decoded;
+    }
+
+    // All codes of a string.
+    std::vector<Code> decode(Bytes string) {
+        std::vector<Code> codes;
+        Code room[64];
+        for (bool more = true; more;) {
+            Decoded decoded = decode(string, room);
+            codes.insert(codes.end(), room, room + decoded.made);
+            more = !decoded.whole && decoded.taken > 0;
+            string = Bytes(string.data() + decoded.taken, string.size() - decoded.taken);
+        }
+        return codes;
+    }
+
+    // The text of a code, in UTF-8.
+    std::optional<std::string> text(std::uint32_t code) {
+        return detail::written([&](auto room, auto len, auto needed) {
+            return hayro_cmap_text(handle(), code, room, len, needed);
+        });
+    }
+
+    // What the file says of itself.
+    std::optional<std::string> name() { return text_of(hayro_cmap_name); }
+    std::optional<std::string> registry() { return text_of(hayro_cmap_registry); }
+    std::optional<std::string> ordering() { return text_of(hayro_cmap_ordering); }
+    std::optional<std::int32_t> supplement() noexcept {
+        std::int32_t number;
+        return hayro_cmap_supplement(handle(), &number) ? std::optional(number) : std::nullopt;
+    }
+    std::optional<WritingMode> writing_mode() noexcept {
+        return detail::mode_of(hayro_cmap_writing_mode(handle()));
+    }
+
+    // How many layers the map has: the file's own is layer 0, then that of the file that it is based
+    // on, and so on.
+    std::size_t layers() noexcept { return hayro_cmap_layers(handle()); }
+
+    // What the file of a layer says of itself.
+    Metadata metadata(std::size_t layer = 0) {
+        std::int32_t number;
+        bool numbered = hayro_cmap_layer_supplement(handle(), layer, &number);
+        return {text_of(hayro_cmap_layer_name, layer), text_of(hayro_cmap_layer_registry, layer),
+                text_of(hayro_cmap_layer_ordering, layer),
+                numbered ? std::optional(number) : std::nullopt,
+                detail::mode_of(hayro_cmap_layer_writing_mode(handle(), layer))};
+    }
+
+    // The codespace ranges of a layer, in order; none where there is no such layer.
+    std::vector<Codespace> codespaces(std::size_t layer = 0) {
+        std::vector<Codespace> ranges(8);
+        for (;;) {
+            std::size_t needed = 0;
+            Status status = hayro_cmap_codespaces(
+                handle(), layer, detail::room_of(Span<Codespace>(ranges)), ranges.size(), &needed);
+            ranges.resize(needed);
+            if (detail::with_memory(status) != HAYRO_CMAP_NO_ROOM) return ranges;
+        }
+    }
+
+    // For the calls of hayro_cmap.h. It stays the map's.
+    hayro_cmap *handle() noexcept { return handle_.get(); }
+
+private:
+    template <class Call, class... Layer>
+    std::optional<std::string> text_of(Call call, Layer... layer) {
+        return detail::written([&](auto room, auto len, auto needed) {
+            return call(handle(), layer..., room, len, needed);
+        });
+    }
+
+    detail::Owned<hayro_cmap, hayro_cmap_free> handle_;
+};
+
+// A map, or why there is none. As with std::optional, what isn't there isn't asked for.
+class Result {
+public:
+    Result(Map map) noexcept : either_(std::move(map)) {}
+    Result(Refusal refusal) noexcept : either_(std::move(refusal)) {}
+
+    explicit operator bool() const noexcept { return std::holds_alternative<Map>(either_); }
+    Map &operator*() & noexcept { return *std::get_if<Map>(&either_); }
+    Map &&operator*() && noexcept { return std::move(**this); }
+    Map *operator->() noexcept { return std::get_if<Map>(&either_); }
+    const Refusal &refusal() const noexcept { return *std::get_if<Refusal>(&either_); }
+
+private:
+    std::variant<Map, Refusal> either_;
+};
+
+inline Result Map::parse(Bytes data, Bundle &bundle, const Files &files, std::uint64_t budget) {
+    Map map;
+    hayro_cmap_fault fault{};
+    for (std::string names(64, '\0');;) {
+        std::size_t needed = 0;
+        Status status = hayro_cmap_explain(map.handle(), data.data(), data.size(), bundle.handle(),
+                                           files.data(), files.size(), budget, &fault,
+                                           detail::room_of(names), names.size(), &needed);
+        if (detail::with_memory(status) == HAYRO_CMAP_OK) return map;
+        if (needed <= names.size()) return Refusal(fault, names);
+        names.resize(needed);
+    }
+}
+
+inline Result Map::parse(Bytes data, const Files &files, std::uint64_t budget) {
+    Bundle none;
+    return parse(data, none, files, budget);
+}
+
+inline std::optional<Result> Map::open(Bytes name, Bundle &bundle, const Files &files,
+                                       std::uint64_t budget) {
+    Map map;
+    Status status = hayro_cmap_open(map.handle(), name.data(), name.size(), bundle.handle(),
+                                    files.data(), files.size(), budget);
+    if (detail::with_memory(status) == HAYRO_CMAP_OK) return map;
+    if (status == HAYRO_CMAP_ABSENT) return std::nullopt;
+    if (auto data = files.find(name)) return parse(*data, bundle, files, budget);
+    return parse(bundle.file(name).value_or(""), bundle, files, budget);
+}
+
+inline std::optional<Result> Map::open(Bytes name, const Files &files, std::uint64_t budget) {
+    Bundle none;
+    return open(name, none, files, budget);
+}
+
+// The names of the files that a file uses, in the order of the uses; nothing where it is outside the
+// grammar.
+inline std::optional<std::vector<std::string>> uses(Bytes data, Bundle &bundle) {
+    std::vector<std::size_t> lens(4);
+    std::string room(64, '\0');
+    for (;;) {
+        std::size_t names = 0, needed = 0;
+        Status status = hayro_cmap_uses(data.data(), data.size(), bundle.handle(),
+                                        detail::room_of(Span<std::size_t>(lens)), lens.size(),
+                                        &names, detail::room_of(room), room.size(), &needed);
+        if (detail::with_memory(status) == HAYRO_CMAP_OK)
+            return detail::split(room, {lens.data(), names});
+        if (status != HAYRO_CMAP_NO_ROOM) return std::nullopt;
+        lens.resize(names);
+        room.resize(needed);
+    }
+}
+
+inline std::optional<std::vector<std::string>> uses(Bytes data) {
+    Bundle none;
+    return uses(data, none);
+}
+
+// The files that a file uses, and those that they use, each asked for once: `get` answers a name, a
+// std::string, by std::optional<std::string>, the bytes of its file. What a file of the bundle uses is
+// asked for too.
+template <class Get>
+std::map<std::string, std::string> used_files(Bytes data, Bundle &bundle, Get get) {
+    std::map<std::string, std::string> found, of_bundle;
+    std::vector<std::string> row = uses(data, bundle).value_or(std::vector<std::string>());
+    // What the first file uses, what these use, and so on, as far as a chain may go.
+    for (int files = 1; files < most_files && !row.empty(); files++) {
+        std::vector<std::string> next;
+        for (const auto &name : row) {
+            if (found.count(name) + of_bundle.count(name) > 0) continue;
+            auto file = get(name);
+            auto &place = file ? found : of_bundle;
+            if (!file) file = bundle.file(name);
+            const auto &bytes = place[name] = std::move(file).value_or("");
+            auto names = uses(bytes, bundle).value_or(std::vector<std::string>());
+            next.insert(next.end(), names.begin(), names.end());
+        }
+        row = std::move(next);
+    }
+    return found;
+}
+
+template <class Get> std::map<std::string, std::string> used_files(Bytes data, Get get) {
+    Bundle none;
+    return used_files(data, none, std::move(get));
+}
+
+// The version of the library.
+inline std::string version() {
+    return detail::written(hayro_cmap_version).value_or("");
+}
+
+} // namespace hayro
+
+#endif
