@@ -16,6 +16,24 @@ struct task {
     uint32_t count;
 };
 
+static _Noreturn void fail(const char *why) {
+    fprintf(stderr, "threads: %s\n", why);
+    exit(1);
+}
+
+/* Reads the map of a file. */
+static void read_map(hayro_cmap *map, const char *path) {
+    static uint8_t data[MOST];
+    FILE *in = fopen(path, "rb");
+    if (!in) fail("the file can't be opened");
+    size_t data_len = fread(data, 1, sizeof data, in);
+    fclose(in);
+    hayro_cmap_status status =
+        hayro_cmap_parse(map, data, data_len, hayro_cmap_bytes(NULL), 0, hayro_cmap_files(NULL), 0,
+                         HAYRO_CMAP_NO_BUDGET);
+    if (status != HAYRO_CMAP_OK) fail(status == HAYRO_CMAP_NO_MEMORY ? "out of memory" : "refused");
+}
+
 static void *count_codes(void *argument) {
     struct task *task = argument;
     uint32_t cid;
@@ -26,20 +44,15 @@ static void *count_codes(void *argument) {
 }
 
 int main(int argc, char **argv) {
-    static uint8_t data[MOST];
-    FILE *in = argc == 2 ? fopen(argv[1], "rb") : NULL;
-    if (!in) return 2;
-    size_t data_len = fread(data, 1, sizeof data, in);
-    fclose(in);
+    if (argc != 2) fail("usage: threads FILE");
     hayro_cmap map = HAYRO_CMAP_EMPTY;
-    if (hayro_cmap_parse(&map, data, data_len, hayro_cmap_bytes(NULL), 0, hayro_cmap_files(NULL), 0,
-                         HAYRO_CMAP_NO_BUDGET) != HAYRO_CMAP_OK)
-        return 1;
+    read_map(&map, argv[1]);
     static struct task tasks[THREADS];
     for (int i = 0; i < THREADS; i++) {
         tasks[i].map = (hayro_cmap)HAYRO_CMAP_EMPTY;
-        if (hayro_cmap_share(&map, &tasks[i].map) != HAYRO_CMAP_OK) return 1;
-        if (pthread_create(&tasks[i].thread, NULL, count_codes, &tasks[i]) != 0) return 1;
+        if (hayro_cmap_share(&map, &tasks[i].map) != HAYRO_CMAP_OK) fail("out of memory");
+        if (pthread_create(&tasks[i].thread, NULL, count_codes, &tasks[i]) != 0)
+            fail("a thread can't be started");
     }
     hayro_cmap_free(&map);
     for (int i = 0; i < THREADS; i++) {

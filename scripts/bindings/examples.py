@@ -1,0 +1,111 @@
+"""The examples that decode a string, in C, C++, Rust and Python; and those of a bundle and of threads."""
+
+import os
+
+from .checks import needs, run
+from .known import REFUSED, STRINGS, WORDS, has_debian_files, refused_files, rows_of_strings
+from .library import EXAMPLES, HELGRIND, MEMCHECK
+
+NATIVE = {"C": EXAMPLES / "decode.c", "C++": EXAMPLES / "decode.cc"}
+BUNDLE = EXAMPLES / "bundle.c"
+THREADS = EXAMPLES / "threads.c"
+
+
+def check_strings(checks, setting, what, command, **environment):
+    """A command gives the known codes, CIDs and texts."""
+    for files in setting.files:
+        for name, digits, lines in STRINGS:
+            ran = run(*command, files.folder, name, digits, **environment)
+            checks.ended(f"{what}: {digits} by {files.folder}/{name}", ran, lines)
+
+
+def check_refusals(checks, setting, what, command, **environment):
+    """A command says which file it refuses, where and why."""
+    folder = setting.once(refused_files)
+    for name, (_, message) in REFUSED.items():
+        ran = run(*command, folder, name, "41", **environment)
+        checks.ended(f"{what}: {name}, which is refused", ran, "", status=1)
+        checks.holds(f"{what}: why {name} is refused", message in ran.err, f"expected {message!r}, found {ran.err!r}")
+    ran = run(*command, folder, "Absent", "41", **environment)
+    checks.holds(f"{what}: a file that isn't there", ran.status == 1 and "Absent: " in ran.err, ran)
+
+
+def check_texts(checks, what, command, **environment):
+    """A command gives the texts of fonts' strings in each language that poppler-data has files for."""
+    for folder, name, digits, text in rows_of_strings() if has_debian_files() else []:
+        ran = run(*command, folder, name, digits, **environment)
+        texts = "".join(line.split(" ", 2)[2] for line in ran.out.splitlines() if line.count(" ") >= 2)
+        checks.holds(f"{what}: {digits} by {name}", (ran.status, texts) == (0, text), f"expected {text!r}, found {ran}")
+
+
+@needs("gcc", "g++")
+def test_c_and_cpp_decode(checks, setting):
+    """Over the archive."""
+    for language, source in NATIVE.items():
+        command = [setting.programs.path(source)]
+        check_strings(checks, setting, language, command)
+        check_refusals(checks, setting, language, command)
+        check_texts(checks, language, command)
+
+
+@needs("gcc", "g++", "pkg-config")
+def test_c_and_cpp_decode_over_the_shared_library(checks, setting):
+    """As pkg-config says, with the library found by its soname."""
+    for language, source in NATIVE.items():
+        command = [setting.programs.over_shared(source)]
+        folder = str(setting.library.folder)
+        check_strings(checks, setting, f"{language}, shared library", command, LD_LIBRARY_PATH=folder)
+
+
+@needs("gcc", "g++")
+def test_c_and_cpp_decode_with_sanitizers(checks, setting):
+    """No address is wrong, and no behaviour undefined."""
+    for language, source in NATIVE.items():
+        command = [setting.programs.sanitized(source)]
+        check_strings(checks, setting, f"{language}, sanitizers", command)
+
+
+@needs("gcc", "g++", "valgrind")
+def test_c_and_cpp_decode_under_memcheck(checks, setting):
+    """Every block is freed, and no address is wrong."""
+    for language, source in NATIVE.items():
+        check_strings(checks, setting, f"{language}, memcheck", [*MEMCHECK, setting.programs.path(source)])
+
+
+@needs("cargo")
+def test_rust_decodes(checks, setting):
+    """The example of the crate, as cargo builds it."""
+    command = [setting.crate.example("decode")]
+    check_strings(checks, setting, "Rust", command)
+    check_refusals(checks, setting, "Rust", command)
+    check_texts(checks, "Rust", command)
+
+
+def test_python_decodes(checks, setting):
+    """The example, over the package as pip installs it."""
+    command = [setting.package.python, EXAMPLES / "decode.py"]
+    environment = setting.package.installed()
+    check_strings(checks, setting, "Python", command, **environment)
+    check_refusals(checks, setting, "Python", command, **environment)
+    check_texts(checks, "Python", command, **environment)
+
+
+@needs("gcc", "valgrind")
+def test_c_reads_a_bundle_once(checks, setting):
+    """The example of a bundle, plain, with the sanitizers and under memcheck."""
+    lines = "".join(f"{word} {cid}\n" for word, cid in WORDS.items())
+    program = setting.programs.path(BUNDLE)
+    for command in [[program], [setting.programs.sanitized(BUNDLE)], [*MEMCHECK, program]]:
+        for files in setting.files:
+            ran = run(*command, files.bundle, *WORDS)
+            checks.ended(f"{command[0]}: the bundle {files.bundle.name}", ran, lines)
+
+
+@needs("gcc", "valgrind")
+def test_c_threads_share_a_map(checks, setting):
+    """The example of threads, plain, with the sanitizers, under memcheck and under helgrind."""
+    program = setting.programs.path(THREADS)
+    for command in [[program], [setting.programs.sanitized(THREADS)], [*MEMCHECK, program], [*HELGRIND, program]]:
+        for files in setting.files:
+            ran = run(*command, os.path.join(files.folder, "UniJIS-UTF16-H"))
+            checks.ended(f"threads: {' '.join(map(str, command))}", ran, f"{files.count}\n" * 4)

@@ -1,0 +1,203 @@
+"""The header against crate cmap_c: calls, structs, enums, version; and against the libraries."""
+
+import ctypes
+import re
+
+from .checks import needs, run
+from .library import COMPILERS, TOP, WARNINGS
+
+HEADER = re.sub(r"/\*.*?\*/", "", (TOP / "include" / "hayro_cmap.h").read_text(), flags=re.S)
+CRATE = TOP / "crates" / "cmap_c" / "src"
+VERSION = (TOP / "VERSION").read_text().strip()
+
+# how a type of the crate is written in the header
+VALUES = {
+    "u8": "uint8_t",
+    "u16": "uint16_t",
+    "u32": "uint32_t",
+    "u64": "uint64_t",
+    "i32": "int32_t",
+    "usize": "size_t",
+    "bool": "bool",
+}
+NAMED = {
+    "MapHandle": "hayro_cmap",
+    "BundleHandle": "hayro_cmap_bundle",
+    "BaseFile<'a>": "hayro_cmap_file",
+    "BaseFile<'_>": "hayro_cmap_file",
+    "Code": "hayro_cmap_code",
+    "CodespaceRange": "hayro_cmap_codespace",
+    "FaultNumbers": "hayro_cmap_fault",
+}
+RESULTS = {
+    "u32": {"hayro_cmap_status", "hayro_cmap_mode"},
+    "usize": {"size_t"},
+    "bool": {"bool"},
+    "": {"void"},
+}
+# structs of the header, and the files and the names of the crate that they have there
+STRUCTS = [
+    ("hayro_cmap_file", "files.rt", "BaseFile"),
+    ("hayro_cmap_code", "decode.rt", "Code"),
+    ("hayro_cmap_codespace", "layers.rt", "CodespaceRange"),
+    ("hayro_cmap_fault", "fault.rt", "FaultNumbers"),
+]
+# the same of handles, which the crate writes with the slot that they hold
+HANDLES = [("hayro_cmap", "handle.rt", "Map"), ("hayro_cmap_bundle", "bundle.rt", "Bundle")]
+NUMBERED = r"(?P<number>\d+) => Some\({}::(?P<name>\w+)"
+# enums of the header: what the crate has no variant for, how and where it writes a variant and its number, and what the
+# header calls otherwise, since another enum has the name
+ENUMS = [
+    ("hayro_cmap_status", {}, r"Status::(?P<name>\w+) => (?P<number>\d+),", "status.rt", {"DONE": "OK"}),
+    ("hayro_cmap_mode", {"NO_MODE": "2"}, r"WritingMode::(?P<name>\w+)\) => (?P<number>\d+),", "metadata.rt", {}),
+    ("hayro_cmap_cause", {}, NUMBERED.format("Cause"), "fault.rt", {"OVER_BUDGET": "PAST_BUDGET"}),
+    ("hayro_cmap_reason", {"NO_REASON": "0"}, NUMBERED.format("Reason"), "fault.rt", {}),
+    ("hayro_cmap_segment", {"NO_SEGMENT": "0"}, NUMBERED.format("Segment"), "fault.rt", {"WRITING_MODE": "MODE"}),
+]
+EXPORT = re.compile(
+    r"#\[unsafe\(no_mangle\)\]\s(?:#\[.*\]\s)?pub extern \"C\" fn (\w+)(?:<'a>)?\((.*?)\)(?: -> (\w+))?\s*(?:ensures|\{)",
+    re.S,
+)
+# what the libraries call of the C library, and what a linker adds to a shared one
+CALLED = {"free", "malloc", "memcpy", "memmove", "memset", "realloc"}
+ADDED = {"_ITM_deregisterTMCloneTable", "_ITM_registerTMCloneTable", "__cxa_finalize", "__gmon_start__"}
+
+
+def source(name):
+    """A file of the crate."""
+    return (CRATE / name).read_text()
+
+
+def as_in_c(name, kind):
+    """What the header declares for a parameter or a field of the crate."""
+    if kind == "Global":
+        return []
+    if pointed := re.fullmatch(r"&(mut )?(\w+)", kind):
+        return [f"{'' if pointed[1] else 'const '}{NAMED.get(pointed[2], VALUES.get(pointed[2]))} *{name}"]
+    if array := re.fullmatch(r"\[(\w+); (\w+)\]", kind):
+        return [f"{VALUES[array[1]]} {name}[HAYRO_CMAP_{array[2]}]"]
+    if items := re.fullmatch(r"&(?:'a )?(mut )?\[(.*)\]", kind):
+        item = NAMED.get(items[2], VALUES.get(items[2]))
+        return [f"{'' if items[1] else 'const '}{item} *{name}", f"size_t {name}_len"]
+    return [f"{VALUES.get(kind)} {name}"]
+
+
+def exports():
+    """The exports of the crate: what the header may give as the result of each, and its parameters."""
+    found = {}
+    for path in CRATE.glob("*.rt"):
+        for name, parameters, result in EXPORT.findall(path.read_text()):
+            parts = [part.strip().split(": ", 1) for part in parameters.split(",") if part.strip()]
+            found[name] = RESULTS[result], [c for part in parts for c in as_in_c(*part)]
+    return found
+
+
+def declarations():
+    """The calls of the header: the result and the parameters of each."""
+    found = re.findall(r"^(\w+) (hayro_cmap_\w+)\((.*?)\);", HEADER, re.M | re.S)
+    return {
+        name: (result, [" ".join(part.split()) for part in parameters.split(",")]) for result, name, parameters in found
+    }
+
+
+def fields_of_crate(file, struct):
+    """The fields of a struct of the crate, each with its type."""
+    body = re.search(rf"struct {struct}\b.*?\{{(.*?)\n\}}", source(file), re.S)[1]
+    return re.findall(r"^ +(?:pub(?:\(crate\))? )?(\w+): (.*),$", body, re.M)
+
+
+def fields_of_header(struct):
+    """The fields of a struct of the header."""
+    body = re.search(rf"typedef struct {struct} \{{(.*?)\}}", HEADER, re.S)[1]
+    return [field.strip() for field in body.split(";") if field.strip()]
+
+
+def numbers_of_header(enum):
+    """The names of an enum of the header, with their numbers."""
+    body = re.search(rf"enum {enum} \{{(.*?)\}}", HEADER, re.S)[1]
+    return dict(re.findall(r"HAYRO_CMAP_(\w+) = (\d+)", body))
+
+
+def numbers_of_crate(absent, variant, file, others):
+    """The same as the crate has them."""
+    numbers = dict(absent)
+    for found in re.finditer(variant, source(file)):
+        snake = re.sub(r"(?<!^)([A-Z])", r"_\1", found["name"]).upper()
+        numbers[others.get(snake, snake)] = found["number"]
+    return numbers
+
+
+def public_names(library, *flags):
+    """The names that a library shows."""
+    return set(re.findall(r" T (\w+)", run("nm", "--defined-only", *flags, library).out))
+
+
+def test_calls_are_those_of_the_crate(checks, _setting):
+    """The names, the results and the parameters."""
+    declared, exported = declarations(), exports()
+    checks.same("the calls of the header", sorted(declared), sorted(exported))
+    for name in sorted(set(declared) & set(exported)):
+        results, parameters = exported[name]
+        checks.holds(f"the result of {name}", declared[name][0] in results, f"{declared[name][0]}, not of {results}")
+        checks.same(f"the parameters of {name}", declared[name][1], parameters)
+
+
+def test_structs_are_those_of_the_crate(checks, _setting):
+    """Their fields, in order."""
+    for name, file, struct in STRUCTS:
+        fields = [c for field, kind in fields_of_crate(file, struct) for c in as_in_c(field, kind)]
+        checks.same(f"the fields of {name}", fields_of_header(name), fields)
+    most = re.search(r"MOST_NAMES: usize = (\d+);", source("fault.rt"))[1]
+    checks.same("HAYRO_CMAP_MOST_NAMES", re.search(r"#define HAYRO_CMAP_MOST_NAMES (.*)", HEADER)[1], most)
+
+
+def test_handles_are_those_of_the_crate(checks, _setting):
+    """A flag and a pointer."""
+    for name, file, kind in HANDLES:
+        crate = fields_of_crate(file, f"{kind}Handle") + fields_of_crate("slot.rt", f"{kind}Slot")
+        expected = [("full", "bool"), ("slot", f"{kind}Slot"), ("at", "*mut u8"), ("alloc", "Global")]
+        checks.same(f"the fields of {kind}Handle", crate, expected)
+        checks.same(f"the fields of {name}", fields_of_header(name), ["bool full", f"void *{kind.lower()}"])
+
+
+def test_numbers_are_those_of_the_crate(checks, _setting):
+    """Statuses, modes, causes, reasons and segments."""
+    for enum, *of_crate in ENUMS:
+        checks.same(f"the numbers of {enum}", numbers_of_header(enum), numbers_of_crate(*of_crate))
+
+
+def test_versions_are_one(checks, setting):
+    """That of the header, of the crate and of the library."""
+    checks.same("HAYRO_CMAP_VERSION", re.search(r'HAYRO_CMAP_VERSION "(.*)"', HEADER)[1], VERSION)
+    checks.same("the version of the crate", re.search(r'put_bytes\(b"(.*?)"', source("version.rt"))[1], VERSION)
+    room, needed = ctypes.create_string_buffer(64), ctypes.c_size_t()
+    status = ctypes.CDLL(str(setting.library.shared)).hayro_cmap_version(room, ctypes.c_size_t(64), ctypes.byref(needed))
+    checks.same("the version of the library", (status, room.raw[: needed.value]), (0, VERSION.encode()))
+
+
+def test_installed_headers_are_those_of_the_project(checks, setting):
+    """Byte by byte."""
+    for name in ["hayro_cmap.h", "hayro_cmap.hpp"]:
+        is_same = (setting.library.include / name).read_bytes() == (TOP / "include" / name).read_bytes()
+        checks.holds(f"the header {name} that is installed", is_same, "it isn't that of the project")
+
+
+@needs("gcc", "g++")
+def test_headers_compile_alone(checks, setting):
+    """As C and as C++, with nothing before them."""
+    for header, suffix in [("hayro_cmap.h", ".c"), ("hayro_cmap.h", ".cc"), ("hayro_cmap.hpp", ".cc")]:
+        path = setting.work / f"alone{suffix}"
+        path.write_text(f"#include <{header}>\nint main() {{ return 0; }}\n")
+        flags = ["-Wconversion", f"-I{setting.library.include}", "-fsyntax-only"]
+        checks.ended(f"{header} as {suffix}", run(*COMPILERS[suffix], *WARNINGS, *flags, path), "")
+
+
+@needs("nm")
+def test_libraries_show_the_calls_alone(checks, setting):
+    """And they need little of the C library."""
+    names = sorted(declarations())
+    checks.same("the names of the archive", sorted(public_names(setting.library.archive)), names)
+    checks.same("the names of the shared library", sorted(public_names(setting.library.shared, "-D")), names)
+    needed = run("nm", "-D", "--undefined-only", "--just-symbols", setting.library.shared).out.split()
+    beyond = {name.partition("@")[0] for name in needed} - CALLED - ADDED
+    checks.same("what the shared library calls beyond the C library's memory", sorted(beyond), [])

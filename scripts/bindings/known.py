@@ -1,0 +1,116 @@
+"""CMap files with known answers: those of Debian's package poppler-data, and small ones under the same names."""
+
+import functools
+from pathlib import Path
+
+from bundles import KNOWN_NAMES, binary_bundle
+
+from .checks import Failed
+from .library import EXAMPLES, TOP
+
+RESOURCES = Path("/usr/share/poppler/cMap")
+JAPANESE = "Adobe-Japan1"
+OWN = TOP / "crates" / "cmap" / "data" / "japanese"
+
+COLLECTION = b"/CIDSystemInfo 3 dict dup begin /Registry (Adobe) def /Ordering (Japan1) def /Supplement 7 def end def "
+HORIZONTAL = COLLECTION + b"""/CMapName /UniJIS-UTF16-H def /WMode 0 def
+3 begincodespacerange <0000> <D7FF> <D800DC00> <DBFFDFFF> <E000> <FFFF> endcodespacerange
+2 begincidrange <3041> <3093> 842 <FF08> <FF09> 674 endcidrange
+"""
+VERTICAL = COLLECTION + b"""/UniJIS-UTF16-H usecmap /CMapName /UniJIS-UTF16-V def /WMode 1 def
+1 begincidrange <FF08> <FF09> 7899 endcidrange
+"""
+TEXTS = b"2 beginbfrange <034A> <039C> <3041> <1EDB> <1EDC> <FF08> endbfrange\n"
+
+# a file, a string, and what an example prints of it over the files of Adobe-Japan1
+STRINGS = [
+    ("90ms-RKSJ-H", "93FA967B8CEA", "<93FA> 3284 日\n<967B> 3722 本\n<8CEA> 1952 語\n"),
+    ("UniJIS-UTF16-V", "3042FF08", "<3042> 843 あ\n<FF08> 7899 （\n"),
+    ("UniJIS-UTF16-H", "3042FFFF", "<3042> 843 あ\n<FFFF> none\n"),
+]
+# words over a bundle of the predefined files, and their CIDs
+WORDS = {
+    "UniJIS-UTF16-H:2:3042": "843",
+    "UniJIS-UTF16-V:2:FF08": "7899",
+    "90ms-RKSJ-H:2:93FA": "3284",
+    "90ms-RKSJ-H:2:FFFF": "none",
+}
+# how many codes of two bytes have a CID in UniJIS-UTF16-H, that of poppler-data and the small one
+COUNT, SMALL_COUNT = 15391, 85
+
+# files that are refused, and what each example says of them
+REFUSED = {
+    "Broken": (b"1 begincidrange <00> <FF> x endcidrange", "Broken: byte 27: a CID was expected"),
+    "Cut": (b"/A usecmap\nbegincodespacerange <00>", "Cut: byte 35: the file ends within a section"),
+    "Based": (b"/Middle usecmap", "Broken: byte 27: a CID was expected"),
+    "Unfounded": (b"/Nowhere usecmap", "Nowhere: no file has this name"),
+}
+MIDDLE = {"Middle": b"/Broken usecmap", "A": b""}
+
+
+class Files:
+    """The files of a folder, of which UniJIS-UTF16-H has so many codes of two bytes with a CID."""
+
+    def __init__(self, folder, texts, path, count):
+        self.folder, self.texts, self.path, self.count = folder, texts, path, count
+
+    @functools.cached_property
+    def bundle(self):
+        """A bundle of the predefined files, those that are missing being empty; written when it is first asked for."""
+        self.path.write_bytes(binary_bundle([self.texts.get(name, b"") for name in KNOWN_NAMES]))
+        return self.path
+
+
+def small_files(work):
+    """Small files of the project's own."""
+    texts = {
+        "90ms-RKSJ-H": (OWN / "Sample-RKSJ-H").read_bytes(),
+        "Adobe-Japan1-UCS2": (OWN / "Adobe-Japan1-UCS2").read_bytes() + TEXTS,
+        "UniJIS-UTF16-H": HORIZONTAL,
+        "UniJIS-UTF16-V": VERTICAL,
+    }
+    write_files(work / "small", texts)
+    return Files(work / "small", texts, work / "small-bundle", SMALL_COUNT)
+
+
+def debian_files(work):
+    """The files of poppler-data, or none where it isn't installed."""
+    if not has_debian_files():
+        return None
+    texts = {path.name: path.read_bytes() for path in RESOURCES.rglob("*") if path.is_file()}
+    return Files(RESOURCES / JAPANESE, texts, work / "bundle", COUNT)
+
+
+def has_debian_files():
+    """Whether poppler-data is installed."""
+    return (RESOURCES / JAPANESE / "UniJIS-UTF16-H").is_file()
+
+
+def write_files(folder, texts):
+    """Writes files into a new folder."""
+    folder.mkdir()
+    for name, text in texts.items():
+        (folder / name).write_bytes(text)
+
+
+def refused_files(work):
+    """A folder of the files that are refused."""
+    folder = work / "refused"
+    write_files(folder, {**MIDDLE, **{name: text for name, (text, _) in REFUSED.items()}})
+    return folder
+
+
+def rows_of_strings():
+    """Fonts' strings: the folder of the CMap, its name, the string, and its text."""
+    lines = (EXAMPLES / "strings.rows").read_text().splitlines()
+    for line in lines:
+        if line and not line.startswith("#"):
+            name, digits, text = line.split(" ", 2)
+            yield folder_of(name), name, digits, text
+
+
+def folder_of(name):
+    """The folder of poppler-data that has this file."""
+    for path in RESOURCES.glob(f"*/{name}"):
+        return path.parent
+    raise Failed(f"poppler-data has no {name}")

@@ -1,0 +1,71 @@
+"""Requests for memory that are refused in turn: each example then ends with a message and a status."""
+
+from .checks import Failed, needs, run
+from .library import EXAMPLES, TOP
+
+# all that a program asks for afterwards
+ALL = 10**9
+# more requests than an example has
+MOST = 5000
+
+
+def refuser(work):
+    """The library that refuses requests, built."""
+    path = work / "refuse-memory.so"
+    ran = run("gcc", "-shared", "-fPIC", "-O2", "-o", path, TOP / "scripts" / "refuse-memory.c")
+    if ran.status != 0:
+        raise Failed(f"refuse-memory.c isn't built: {ran.err}")
+    return path
+
+
+def run_refusing(setting, first, last, command):
+    """Runs a program with these requests refused; gives how it ended, and whether any was."""
+    refusing = [f"LD_PRELOAD={setting.once(refuser)}", f"REFUSED_FROM={first}", f"REFUSED_TO={last}"]
+    reports = setting.work / "reports"
+    ran = run("sh", "-c", 'exec 3>"$0" env "$@"', reports, *refusing, *command)
+    return ran, "m" in reports.read_text()
+
+
+def refuse_each(checks, setting, what, command, answer):
+    """Refuses the first, second, .. request, alone and with all after it, while there are so many."""
+    for first in range(1, MOST):
+        for last in [first, ALL]:
+            ran, is_refused = run_refusing(setting, first, last, command)
+            which = f"{what}: request {first} refused{'' if last == first else ' and all after it'}"
+            check_end(checks, which, ran, answer)
+        if not is_refused:
+            checks.holds(f"{what}: the requests", first > 1, "none was refused")
+            print(f"{what}: {first - 1} requests for memory, each refused", flush=True)
+            return
+    raise Failed(f"{what}: more than {MOST} requests for memory")
+
+
+def check_end(checks, which, ran, answer):
+    """A program has its answer, or a message, the status 1 and no wrong line."""
+    has_failed = ran.status == 1 and bool(ran.err.strip()) and answer.startswith(ran.out)
+    expected = f"expected the output {answer!r}, or status 1 with a message and what the output begins with"
+    checks.holds(which, has_failed or (ran.status, ran.out) == (0, answer), f"{expected}, found {ran}")
+
+
+@needs("gcc", "g++")
+def test_c_and_cpp_decode_without_memory(checks, setting):
+    """A map over a base, and texts, of small files."""
+    for language, name in [("C", "decode.c"), ("C++", "decode.cc")]:
+        program = setting.programs.path(EXAMPLES / name)
+        command = [program, setting.files[0].folder, "UniJIS-UTF16-V", "3042FF08"]
+        refuse_each(checks, setting, language, command, "<3042> 843 あ\n<FF08> 7899 （\n")
+
+
+@needs("gcc")
+def test_c_reads_a_bundle_without_memory(checks, setting):
+    """A bundle of small files."""
+    word = "90ms-RKSJ-H:2:93FA"
+    command = [setting.programs.path(EXAMPLES / "bundle.c"), setting.files[0].bundle, word]
+    refuse_each(checks, setting, "bundle.c", command, f"{word} 3284\n")
+
+
+@needs("gcc")
+def test_c_threads_without_memory(checks, setting):
+    """Four threads over a small file."""
+    command = [setting.programs.path(EXAMPLES / "threads.c"), setting.files[0].folder / "UniJIS-UTF16-H"]
+    refuse_each(checks, setting, "threads.c", command, f"{setting.files[0].count}\n" * 4)

@@ -1,0 +1,120 @@
+"""The tests that are written in C++, Rust and Python, and how the crate and the package are built."""
+
+import functools
+import os
+import re
+import sys
+
+from .checks import Failed, needs, run
+from .known import has_debian_files
+from .library import CPP_TESTS, MEMCHECK, TOP
+
+CRATE = TOP / "bindings" / "rust"
+PACKAGE = TOP / "bindings" / "python"
+
+
+class Crate:
+    """The Rust crate, as cargo builds it over the library, without a network."""
+
+    def __init__(self, library, work):
+        self.library, self.work = library, work
+
+    def cargo(self, *words, **environment):
+        """Runs cargo with these words."""
+        environment = {"CARGO_TARGET_DIR": str(self.work / "target"), "CARGO_TERM_COLOR": "never", **environment}
+        return run("cargo", *words, "--offline", folder=CRATE, **environment)
+
+    def over_library(self):
+        """The variable that names the folder of the library."""
+        return {"HAYRO_CMAP_LIB_DIR": str(self.library.folder)}
+
+    @functools.cache
+    def example(self, name):
+        """The program of an example."""
+        ran = self.cargo("build", "--examples", **self.over_library())
+        if ran.status != 0:
+            raise Failed(f"the examples of the crate aren't built: {ran.err}")
+        return self.work / "target" / "debug" / "examples" / name
+
+
+class Package:
+    """The Python package, over the library."""
+
+    python = sys.executable
+
+    def __init__(self, library, work):
+        self.library, self.work = library, work
+
+    @functools.cache
+    def folder(self):
+        """Where pip has installed the package, with the library in it."""
+        folder = self.work / "python"
+        pip = [self.python, "-m", "pip", "install", "--quiet", "--no-build-isolation", "--no-index", "--no-deps"]
+        ran = run(*pip, "--target", folder, PACKAGE, **self.over_library())
+        if ran.status != 0:
+            raise Failed(f"pip installs no package: {ran.err}")
+        return folder
+
+    def over_library(self):
+        """The variable that names the library."""
+        return {"HAYRO_CMAP_LIBRARY": str(self.library.shared), "PYTHONIOENCODING": "utf-8"}
+
+    def installed(self):
+        """The variables by which Python finds the package that pip has installed, and this the library in it."""
+        return {"HAYRO_CMAP_LIBRARY": "", "PYTHONPATH": str(self.folder()), "PYTHONIOENCODING": "utf-8"}
+
+
+def check_crate(checks, setting, what, **environment):
+    """Runs the tests of the crate, those of its pages too."""
+    ran = setting.crate.cargo("test", **setting.crate.over_library(), **environment)
+    counts = re.findall(r"(\d+) passed; (\d+) failed", ran.out)
+    passed = sum(int(number) for number, _ in counts)
+    checks.holds(f"cargo test, {what}", ran.status == 0 and passed > 0, ran)
+    print(f"cargo test, {what}: {passed} passed", flush=True)
+
+
+@needs("g++", "valgrind")
+def test_cpp_suite(checks, setting):
+    """The tests of hayro_cmap.hpp, plain, with the sanitizers and under memcheck."""
+    program = setting.programs.path(CPP_TESTS)
+    for command in [[program], [setting.programs.sanitized(CPP_TESTS)], [*MEMCHECK, program]]:
+        checks.ended(f"the tests in C++: {' '.join(map(str, command))}", run(*command), "ok\n")
+
+
+@needs("cargo")
+def test_rust_suite(checks, setting):
+    """The tests of the crate, without a bundle in it and with one."""
+    check_crate(checks, setting, "no bundle", HAYRO_CMAP_BUNDLE="")
+    for files in setting.files:
+        check_crate(checks, setting, f"the bundle {files.bundle.name}", HAYRO_CMAP_BUNDLE=str(files.bundle))
+
+
+@needs("cargo", "pkg-config")
+def test_rust_finds_the_library(checks, setting):
+    """By pkg-config; and where there is none, cargo says what to do."""
+    folder = str(setting.library.folder / "pkgconfig")
+    ran = setting.crate.cargo("build", HAYRO_CMAP_BUNDLE="", PKG_CONFIG_PATH=folder)
+    checks.holds("cargo build by pkg-config", ran.status == 0, ran)
+    ran = setting.crate.cargo("build", HAYRO_CMAP_LIB_DIR="/nowhere")
+    checks.holds("cargo build without a library", ran.status != 0 and "scripts/c-library PREFIX" in ran.err, ran)
+
+
+def test_python_suite(checks, setting):
+    """The tests of the package, in the project and as pip installs it."""
+    for where, environment in [("project", setting.package.over_library()), ("pip", setting.package.installed())]:
+        folder = PACKAGE if where == "project" else installed_tests(setting)
+        ran = run(sys.executable, "-m", "unittest", folder=folder, **environment)
+        is_whole = not has_debian_files() or "skipped" not in ran.err
+        number = re.search(r"^Ran (\d+) tests", ran.err, re.M)
+        checks.holds(f"unittest, {where}", ran.status == 0 and is_whole and number and int(number[1]) > 0, ran)
+        print(f"unittest, {where}: {number[1] if number else 'no'} tests", flush=True)
+
+
+def installed_tests(setting):
+    """A folder with the tests of the package, and not the package."""
+    folder = setting.work / "python-tests"
+    folder.mkdir(exist_ok=True)
+    link = folder / "tests"
+    if not link.exists():
+        os.symlink(PACKAGE / "tests", link)
+    return folder
