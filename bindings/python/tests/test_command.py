@@ -9,7 +9,7 @@ from pathlib import Path
 
 import hayro_cmap
 
-from .files import BROKEN, BUNDLE, FIRST, RESOURCES, SMALL, SMALL_V, needs_resources
+from .files import BROKEN, FIRST, RESOURCES, SMALL, SMALL_V, bundle_of, needs_resources
 
 PACKAGES = str(Path(hayro_cmap.__file__).parent.parent)
 
@@ -25,7 +25,7 @@ class Command(unittest.TestCase):
         folder = tempfile.TemporaryDirectory()
         self.addCleanup(folder.cleanup)
         self.folder = Path(folder.name)
-        for name, data in {"Small-H": SMALL, "Small-V": SMALL_V, "Broken": BROKEN, "bundle": BUNDLE}.items():
+        for name, data in {"Small-H": SMALL, "Small-V": SMALL_V, "Broken": BROKEN, "bundle": bundle_of(SMALL)}.items():
             (self.folder / name).write_bytes(data)
         (self.folder / "Adobe-Japan1-UCS2").write_bytes(b"1 begincidchar <00> 1 endcidchar 1 beginbfchar <0279> <001B> endbfchar")
 
@@ -44,8 +44,8 @@ class Command(unittest.TestCase):
         self.assertEqual(ran.stdout.splitlines(), lines)
 
     def test_names(self):
-        ran = self.decode("--bundle", str(self.folder / "bundle"), FIRST.decode(), "0021")
-        self.assertEqual((ran.returncode, ran.stdout.split()[:2]), (0, ["<0021>", "6"]))
+        ran = self.decode("--bundle", str(self.folder / "bundle"), FIRST.decode(), "8140")
+        self.assertEqual((ran.returncode, ran.stdout.split()[:2]), (0, ["<8140>", "633"]))
         ran = self.decode("Identity-H", "0021")
         self.assertEqual((ran.returncode, ran.stdout.split()[:2]), (0, ["<0021>", "33"]))
 

@@ -88,7 +88,7 @@ class Callables(unittest.TestCase):
     def test_calls_within(self):
         """A callable may use the bundle and other maps."""
         with Bundle.open(BUNDLE) as bundle:
-            with CMap.parse(uses(b"A"), lambda name: uses(FIRST) if bundle.file(FIRST) else None, bundle) as cmap:
+            with CMap.parse(uses(b"A"), lambda name: bundle.file(FIRST) if name == b"A" else None, bundle) as cmap:
                 self.assertEqual(cmap.cid(0x20, 2), 5)
 
 

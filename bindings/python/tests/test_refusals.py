@@ -51,10 +51,12 @@ class Refusals(unittest.TestCase):
         with Bundle.open(BUNDLE) as bundle:
             fault = self.refusal(CMap.parse, BINARY[:17] + BINARY[18:], bundle=bundle)
             self.assertEqual((fault.cause, fault.reason, fault.segment), (Cause.MALFORMED, Reason.HEADER, None))
-            cut = bytes.fromhex("62636D617001 00000010 0B 00000006 01 0C 00000006 01")
-            cut = cut[:6] + len(cut).to_bytes(4, "big") + cut[10:]
-            fault = self.refusal(CMap.parse, cut, bundle=bundle)
-            self.assertEqual((fault.reason, fault.segment, fault.offset), (Reason.FIELD, Segment.CODESPACES, 16))
+            # after the writing mode, codespace ranges without their number, and with it
+            for ranges, reason in [("0C 00000005", Reason.FIELD), ("0C 00000006 01", Reason.ENTRY)]:
+                cut = bytes.fromhex("62636D617001 00000000 0B 00000006 01" + ranges)
+                cut = cut[:6] + len(cut).to_bytes(4, "big") + cut[10:]
+                fault = self.refusal(CMap.parse, cut, bundle=bundle)
+                self.assertEqual((fault.reason, fault.segment, fault.offset), (reason, Segment.CODESPACES, 16))
 
     def test_names_of_any_bytes(self):
         fault = self.refusal(CMap.parse, uses(b"\xff\x1bJ\\"))
