@@ -11,7 +11,7 @@ CPP_TESTS = TOP / "bindings" / "cpp" / "tests.cc"
 
 WARNINGS = ["-Wall", "-Wextra", "-Wpedantic", "-Werror"]
 COMPILERS = {".c": ["gcc", "-std=c11"], ".cc": ["g++", "-std=c++17"]}
-SANITIZERS = ["-g", "-fsanitize=address,undefined", "-fno-sanitize-recover=all"]
+SANITIZERS = ["-O1", "-g", "-fsanitize=address,undefined", "-fno-sanitize-recover=all"]
 MEMCHECK = ["valgrind", "--quiet", "--leak-check=full", "--error-exitcode=9"]
 HELGRIND = ["valgrind", "--quiet", "--tool=helgrind", "--error-exitcode=9"]
 
@@ -43,7 +43,7 @@ class Programs:
     @functools.cache
     def path(self, source):
         """The program of a source, over the archive."""
-        return self.built(source, "archive", [f"-I{self.library.include}", self.library.archive])
+        return self.built(source, "archive", ["-O2", f"-I{self.library.include}", self.library.archive])
 
     @functools.cache
     def sanitized(self, source):
@@ -53,13 +53,13 @@ class Programs:
     @functools.cache
     def over_shared(self, source):
         """The program over the shared library, as pkg-config says; it finds the library by LD_LIBRARY_PATH."""
-        return self.built(source, "shared", self.library.pkg_config())
+        return self.built(source, "shared", ["-O2", *self.library.pkg_config()])
 
     def built(self, source, kind, flags):
         """Builds a program."""
         program = self.work / f"{source.name}-{kind}"
         compiler = COMPILERS[source.suffix]
-        ran = run(*compiler, "-O2", *WARNINGS, "-pthread", "-o", program, source, *flags)
+        ran = run(*compiler, *WARNINGS, "-pthread", "-o", program, source, *flags)
         if ran.status != 0:
             raise Failed(f"{source.relative_to(TOP)} isn't built: {ran.err}")
         return program
