@@ -1,12 +1,15 @@
-/* Decodes a string by a CMap file: prints each code with its CID and its text.
+/* Prints the codes of a string by a CMap file of a folder, with their CIDs and texts.
  *
  *     decode FOLDER FILE HEX
  *
- * FILE is in the folder, and so are the files that it uses, which are read as they are named. The text
- * is that of the CID by the file REGISTRY-ORDERING-UCS2 of the folder, where there is one, else that of
- * the code by FILE itself. */
+ * A line is a code, its CID or none, and its text if it has one, as `<93FA> 3284 日`. Only the files that
+ * FILE uses are read. A CMap of a composite font mostly has CIDs alone: the text is then that of the CID
+ * in the CMap to Unicode of its character collection, as Adobe-Japan1-UCS2 (ISO 32000-1, 9.10.2). Where
+ * the folder has no such file it is that of the code in FILE itself. */
 #include <hayro_cmap.h>
+#include <errno.h>
 #include <inttypes.h>
+#include <limits.h>
 #include <stdio.h>
 #include <stdlib.h>
 #include <string.h>
@@ -38,15 +41,14 @@ static uint8_t *read_file(const char *folder, const char *name, size_t *len) {
     char *path = allocated(strlen(folder) + 1 + strlen(name));
     sprintf(path, "%s/%s", folder, name);
     FILE *file = fopen(path, "rb");
+    if (!file && errno != ENOENT) fail(name, strerror(errno));
     free(path);
     if (!file) return NULL;
-    uint8_t *bytes = NULL;
     long end = fseek(file, 0, SEEK_END) == 0 ? ftell(file) : -1;
-    if (end >= 0) {
-        bytes = allocated((size_t)end);
-        rewind(file);
-        *len = fread(bytes, 1, (size_t)end, file);
-    }
+    if (end < 0 || end == LONG_MAX) fail(name, "not a file that can be read");
+    rewind(file);
+    uint8_t *bytes = allocated((size_t)end);
+    *len = fread(bytes, 1, (size_t)end, file);
     fclose(file);
     return bytes;
 }
@@ -117,7 +119,8 @@ static bool open_map(hayro_cmap *map, const char *folder, const char *name) {
         add_used(&files, folder, files.items[i].bytes, files.items[i].bytes_len);
     hayro_cmap_bundle none = HAYRO_CMAP_EMPTY;
     hayro_cmap_fault fault;
-    uint8_t names[ROOM];
+    /* No name is longer than ROOM, or add_used has failed. */
+    uint8_t names[HAYRO_CMAP_MOST_NAMES * ROOM];
     hayro_cmap_status status =
         hayro_cmap_explain(map, data, len, &none, files.items, files.len, HAYRO_CMAP_NO_BUDGET,
                            &fault, names, sizeof names, &needed);
@@ -141,17 +144,25 @@ static bool open_texts(hayro_cmap *texts, hayro_cmap *map, const char *folder) {
     return open_map(texts, folder, name);
 }
 
-static void print_code(const hayro_cmap_code *code, hayro_cmap *map, hayro_cmap *texts) {
-    uint8_t text[256];
+/* Prints the text of a code, if it has one. */
+static void print_text(hayro_cmap *map, uint32_t code) {
+    uint8_t text[ROOM];
     size_t len;
-    hayro_cmap_status status = texts && code->has_cid
-                                   ? hayro_cmap_text(texts, code->cid, text, sizeof text, &len)
-                                   : hayro_cmap_text(map, code->code, text, sizeof text, &len);
-    printf("<%0*" PRIX32 ">  ", 2 * code->byte_len, code->code);
-    if (code->has_cid) printf("%" PRIu32 "  ", code->cid);
-    else printf("-  ");
-    if (status == HAYRO_CMAP_OK) printf("\"%.*s\"\n", (int)len, (const char *)text);
-    else printf("-\n");
+    hayro_cmap_status status = hayro_cmap_text(map, code, text, sizeof text, &len);
+    if (status == HAYRO_CMAP_NO_MEMORY) fail("decode", "out of memory");
+    if (status == HAYRO_CMAP_NO_ROOM) fail("decode", "a text is too long");
+    if (status != HAYRO_CMAP_OK) return;
+    putchar(' ');
+    fwrite(text, 1, len, stdout);
+}
+
+static void print_code(const hayro_cmap_code *code, hayro_cmap *map, hayro_cmap *texts) {
+    printf("<%0*" PRIX32 "> ", 2 * code->byte_len, code->code);
+    if (code->has_cid) printf("%" PRIu32, code->cid);
+    else printf("none");
+    if (texts && code->has_cid) print_text(texts, code->cid);
+    else print_text(map, code->code);
+    putchar('\n');
 }
 
 /* Prints the codes of a string, some at a time. */
@@ -169,9 +180,13 @@ static void decode(const uint8_t *string, size_t len, hayro_cmap *map, hayro_cma
 
 /* The bytes that hexadecimal digits spell, in place; how many they are. */
 static size_t spelled(char *digits) {
-    size_t len = 0;
-    for (unsigned byte; sscanf(digits + 2 * len, "%2x", &byte) == 1; len++)
-        digits[len] = (char)byte;
+    size_t len = strlen(digits) / 2;
+    if (digits[2 * len]) fail(digits, "an odd number of digits");
+    for (size_t i = 0; i < len; i++) {
+        unsigned byte;
+        if (sscanf(digits + 2 * i, "%2x", &byte) != 1) fail(digits, "not hexadecimal");
+        digits[i] = (char)byte;
+    }
     return len;
 }
 

@@ -1,23 +1,27 @@
-// Decodes a string by a CMap file: each code with its CID and its text.
+// Prints the codes of a string by a CMap file of a folder, with their CIDs and texts.
 //
 //     decode FOLDER FILE HEX
 //
-// FILE is in the folder, and so are the files that it uses, which are read as they are named. The text
-// is that of the CID by the file REGISTRY-ORDERING-UCS2 of the folder, where there is one, else that of
-// the code by FILE itself.
-#include "hayro_cmap.hpp"
-#include <cstdio>
-#include <cstdlib>
+// A line is a code, its CID or none, and its text if it has one, as `<93FA> 3284 日`. Only the files that
+// FILE uses are read. A CMap of a composite font mostly has CIDs alone: the text is then that of the CID
+// in the CMap to Unicode of its character collection, as Adobe-Japan1-UCS2 (ISO 32000-1, 9.10.2). Where
+// the folder has no such file it is that of the code in FILE itself.
+#include <hayro_cmap.hpp>
+#include <cerrno>
 #include <fstream>
+#include <iomanip>
 #include <iostream>
 #include <iterator>
 #include <optional>
+#include <stdexcept>
 #include <string>
+#include <system_error>
 
 // The file of a name in a folder. A name may come from a file, and mustn't lead out of the folder.
 static std::optional<std::string> read(const std::string &folder, const std::string &name) {
     if (name.find('/') != std::string::npos) return std::nullopt;
     std::ifstream in(folder + '/' + name, std::ios::binary);
+    if (!in && errno != ENOENT) throw std::system_error(errno, std::generic_category(), name);
     std::string bytes{std::istreambuf_iterator<char>(in), {}};
     return in ? std::optional(bytes) : std::nullopt;
 }
@@ -34,35 +38,45 @@ static std::string bytes_of(const std::string &hex) {
     return bytes;
 }
 
-// The map of a file of the folder over those that it uses.
-static hayro::Result map_of(const std::string &folder, const std::string &file) {
-    auto get = [&](const std::string &name) { return read(folder, name); };
-    return hayro::Map::parse(file, hayro::used_files(file, get));
+// The file at fault, and what is wrong with it.
+static std::string message_of(const std::string &name, const hayro::Refusal &refusal) {
+    const auto &names = refusal.names();
+    return (names.empty() ? name : names.back()) + ": " + refusal.message();
 }
 
-static std::optional<hayro::Map> texts_of(const std::string &folder, hayro::Map &map) {
-    auto file = read(folder, map.registry().value_or("") + '-' + map.ordering().value_or("") + "-UCS2");
+// The map of a file of the folder over those that it uses; nothing where there is no such file.
+static std::optional<hayro::Map> map_of(const std::string &folder, const std::string &name) {
+    auto get = [&](const std::string &used) { return read(folder, used); };
+    auto file = get(name);
     if (!file) return std::nullopt;
-    auto texts = map_of(folder, *file);
-    return texts ? std::optional(*std::move(texts)) : std::nullopt;
+    auto map = hayro::Map::parse(*file, hayro::used_files(*file, get));
+    if (!map) throw std::runtime_error(message_of(name, map.refusal()));
+    return *std::move(map);
+}
+
+// The name of the CMap from the CIDs of a map's collection to Unicode.
+static std::string texts_of(hayro::Map &map) {
+    return map.registry().value_or("") + '-' + map.ordering().value_or("") + "-UCS2";
+}
+
+static void print(const hayro::Code &code, const std::optional<std::string> &text) {
+    std::cout << '<' << std::hex << std::uppercase << std::setfill('0')
+              << std::setw(2 * code.byte_len) << code.code << "> " << std::dec;
+    if (code.has_cid) std::cout << code.cid;
+    else std::cout << "none";
+    if (text) std::cout << ' ' << *text;
+    std::cout << '\n';
 }
 
 int main(int argc, char **argv) try {
     if (argc != 4) return fail("usage: decode FOLDER FILE HEX");
     const std::string folder = argv[1], name = argv[2], string = bytes_of(argv[3]);
-    auto file = read(folder, name);
-    if (!file) return fail(name + ": no such file");
-    auto map = map_of(folder, *file);
-    if (!map) {
-        const auto &names = map.refusal().names();
-        return fail((names.empty() ? name : names.back()) + ": " + map.refusal().message());
-    }
-    auto texts = texts_of(folder, *map);
+    auto map = map_of(folder, name);
+    if (!map) return fail(name + ": no such file");
+    auto texts = map_of(folder, texts_of(*map));
     for (const auto &code : map->decode(string)) {
         auto text = texts && code.has_cid ? texts->text(code.cid) : map->text(code.code);
-        std::printf("<%0*X>  %s  %s\n", 2 * code.byte_len, code.code,
-                    code.has_cid ? std::to_string(code.cid).c_str() : "-",
-                    text ? ('"' + *text + '"').c_str() : "-");
+        print(code, text);
     }
     return 0;
 } catch (const std::exception &fault) {

@@ -1,10 +1,12 @@
 #!/usr/bin/env python3
 """Prints the codes of a string by a CMap file of a folder, with their CIDs and texts.
 
-    decode.py FOLDER NAME HEX
+    decode.py FOLDER FILE HEX
 
-Only the files that the CMap uses are read. A CMap of a composite font mostly has CIDs alone: the texts are those of
-the CIDs in the CMap to Unicode of its character collection, as Adobe-Japan1-UCS2 (ISO 32000-1, 9.10.2).
+A line is a code, its CID or none, and its text if it has one, as `<93FA> 3284 日`. Only the files that FILE uses are
+read. A CMap of a composite font mostly has CIDs alone: the text is then that of the CID in the CMap to Unicode of its
+character collection, as Adobe-Japan1-UCS2 (ISO 32000-1, 9.10.2). Where the folder has no such file it is that of the
+code in FILE itself.
 """
 
 import sys
@@ -13,25 +15,33 @@ import hayro_cmap
 
 
 def texts_of(cmap, files):
-    """The texts of CIDs, by the first layer of the map that gives a collection."""
-    for layer in cmap.layers:
-        if layer.metadata.ordering is not None:
-            collection = b"%b-%b" % (layer.metadata.registry, layer.metadata.ordering)
-            return hayro_cmap.CMap.open(collection + b"-UCS2", files)
-    return None
+    """The map from the CIDs of a map's collection to Unicode, if there is a file of it."""
+    said = cmap.metadata
+    if said.registry is None or said.ordering is None:
+        return None
+    name = b"%b-%b-UCS2" % (said.registry, said.ordering)
+    return None if files(name) is None else hayro_cmap.CMap.open(name, files)
 
 
-def main(folder, name, digits):
+def line_of(code, text):
+    """The line of a code."""
+    cid = "none" if code.cid is None else code.cid
+    return f"<{bytes(code).hex().upper()}> {cid}" + ("" if text is None else f" {text}")
+
+
+def main(folder, file, digits):
     files = hayro_cmap.folder(folder)
-    with hayro_cmap.CMap.open(name, files) as cmap:
+    with hayro_cmap.CMap.open(file, files) as cmap:
         texts = texts_of(cmap, files)
         for code in cmap.decode(bytes.fromhex(digits)):
-            has_text = texts is not None and code.cid is not None
-            print(f"<{bytes(code).hex().upper()}>", code.cid, texts.text(code.cid) if has_text else None)
+            by_cid = texts is not None and code.cid is not None
+            print(line_of(code, texts.text(code.cid) if by_cid else cmap.text(code.code)))
 
 
 if __name__ == "__main__":
+    if len(sys.argv) != 4:
+        sys.exit("usage: decode.py FOLDER FILE HEX")
     try:
         main(*sys.argv[1:])
     except hayro_cmap.Refused as fault:
-        sys.exit(f"refused: {fault}")
+        sys.exit(str(fault))

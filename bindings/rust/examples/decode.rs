@@ -1,12 +1,13 @@
-//! Decodes a string by a CMap file: each code with its CID and its text.
+//! Prints the codes of a string by a CMap file of a folder, with their CIDs and texts.
 //!
 //!     decode FOLDER FILE HEX
 //!
-//! FILE is in the folder, and so are the files that it uses, which are read as they are named. The text
-//! is that of the CID by the file REGISTRY-ORDERING-UCS2 of the folder, where there is one, else that
-//! of the code by FILE itself.
+//! A line is a code, its CID or none, and its text if it has one, as `<93FA> 3284 日`. Only the files
+//! that FILE uses are read. A CMap of a composite font mostly has CIDs alone: the text is then that of
+//! the CID in the CMap to Unicode of its character collection, as Adobe-Japan1-UCS2 (ISO 32000-1,
+//! 9.10.2). Where the folder has no such file it is that of the code in FILE itself.
 
-use hayro_cmap::{BfString, CMap, CMapName, Refusal};
+use hayro_cmap::{BfString, CMap, CMapName, Refusal, StringCode};
 use std::collections::HashMap;
 use std::error::Error;
 use std::path::Path;
@@ -34,19 +35,44 @@ fn read(folder: &Path, name: &[u8]) -> Option<Vec<u8>> {
     fs::read(folder.join(name)).ok()
 }
 
-fn map_of(folder: &Path, name: CMapName<'_>) -> Result<Option<CMap>, Refusal> {
+/// The map of a file of the folder; `None` where there is no such file.
+fn map_of(folder: &Path, name: CMapName<'_>) -> Result<Option<CMap>, String> {
     let files = files_of(folder, name.to_bytes());
     CMap::open(name, |name| files.get(name.to_bytes()).map(Vec::as_slice))
+        .map_err(|refusal| message_of(name, &refusal))
 }
 
-fn texts_of(folder: &Path, map: &CMap) -> Option<CMap> {
-    let collection = map.metadata().character_collection.as_ref()?;
-    map_of(folder, collection.family.ucs2_cmap()?).ok()?
+/// The file at fault, and what is wrong with it.
+fn message_of(name: CMapName<'_>, refusal: &Refusal) -> String {
+    match refusal.names() {
+        [] => format!("{}: {refusal}", name.to_bytes().escape_ascii()),
+        _ => refusal.to_string(),
+    }
+}
+
+/// The map from the CIDs of a map's collection to Unicode, if there is a file of it.
+fn texts_of(folder: &Path, map: &CMap) -> Result<Option<CMap>, String> {
+    let collection = map.metadata().character_collection.as_ref();
+    match collection.and_then(|collection| collection.family.ucs2_cmap()) {
+        Some(name) => map_of(folder, name),
+        None => Ok(None),
+    }
 }
 
 fn bytes_of(hex: &str) -> Result<Vec<u8>, Box<dyn Error>> {
     let pairs = hex.as_bytes().chunks(2);
     pairs.map(|pair| Ok(u8::from_str_radix(std::str::from_utf8(pair)?, 16)?)).collect()
+}
+
+fn line_of(code: &StringCode, text: Option<BfString>) -> String {
+    let digits = 2 * usize::from(code.byte_len);
+    let cid = code.cid.map_or("none".into(), |cid| cid.to_string());
+    let text = match text {
+        Some(BfString::Char(character)) => format!(" {character}"),
+        Some(BfString::String(text)) => format!(" {text}"),
+        None => String::new(),
+    };
+    format!("<{:0digits$X}> {cid}{text}", code.code)
 }
 
 fn run() -> Result<(), Box<dyn Error>> {
@@ -55,29 +81,15 @@ fn run() -> Result<(), Box<dyn Error>> {
         return Err("usage: decode FOLDER FILE HEX".into());
     };
     let (folder, string) = (Path::new(folder), bytes_of(hex)?);
-    let map = map_of(folder, CMapName::from_bytes(file.as_bytes()))
-        .map_err(|refusal| match refusal.names() {
-            [] => format!("{file}: {refusal}"),
-            _ => refusal.to_string(),
-        })?
-        .ok_or_else(|| format!("{file}: no such file"))?;
-    let texts = texts_of(folder, &map);
+    let map = map_of(folder, CMapName::from_bytes(file.as_bytes()))?;
+    let map = map.ok_or_else(|| format!("{file}: no such file"))?;
+    let texts = texts_of(folder, &map)?;
     for code in map.decode(&string) {
         let text = match (&texts, code.cid) {
             (Some(texts), Some(cid)) => texts.lookup_bf_string(cid),
             _ => map.lookup_bf_string(code.code),
         };
-        let text = match text {
-            Some(BfString::Char(character)) => format!("\"{character}\""),
-            Some(BfString::String(text)) => format!("\"{text}\""),
-            None => "-".into(),
-        };
-        let cid = code.cid.map_or("-".into(), |cid| cid.to_string());
-        println!(
-            "<{:0digits$X}>  {cid}  {text}",
-            code.code,
-            digits = 2 * usize::from(code.byte_len)
-        );
+        println!("{}", line_of(&code, text));
     }
     Ok(())
 }

@@ -1,6 +1,6 @@
 -- A string begins with one code.
 use Rattle.std.proofs.Common.{◌≡◌, ℕ, Bool, true, false, min, List, [], length, Option, Some, None, refl, sym, ap, ◌∙◌, inl, inr, arith}
-use Rattle.std.specs.Prelude.{◌<◌, ◌↔◌, IsTrue, MatchOption, nat_lt}
+use Rattle.std.specs.Prelude.{◌↔◌, IsTrue, MatchOption, nat_lt}
 use Rattle.std.specs.Bool.{MatchBool}
 use Rattle.std.proofs.lemmas.Bool.{cases_lt, false≢true}
 use Rattle.std.proofs.lemmas.Bool.Decides.{Decides-ltb, same_from_decides}

@@ -61,8 +61,12 @@ pub fn next_code(layers: &[Layer], text: &[u8]) -> Option<StringCode>
 fn code_inside(layers: &[Layer], text: &[u8], byte_len: u8) -> Option<StringCode>
     ensures { MatchOption result (BeginsInside (layers_seen layers.now) text.now byte_len → ⊥)
         (λ found. BeginsInside (layers_seen layers.now) text.now byte_len × (found
-        ≡ record { code = front text.now byte_len; byte_len = byte_len; in_codespace = true;
-        cut_short = false })) }
+        ≡ record {
+          code = front text.now byte_len;
+          byte_len = byte_len;
+          in_codespace = true;
+          cut_short = false;
+        })) }
 {
     let (_, code) = read_code(text.get(..usize::from(byte_len))?)?;
     if contains(layers, code, byte_len) {
