@@ -1,6 +1,7 @@
 """What all tests of the bindings use: checks that are counted, and programs that are run."""
 
 import functools
+import importlib.util
 import os
 import shutil
 import subprocess
@@ -9,6 +10,8 @@ from dataclasses import dataclass
 
 # a test that hangs fails
 SECONDS = 600
+# languages, as the names of tests have them
+LANGUAGES = {"c": "C", "cpp": "C++", "python": "Python", "rust": "Rust"}
 
 
 class Failed(Exception):
@@ -65,18 +68,27 @@ class Checks:
         expected = f"expected status {status} and output {out!r}"
         self.holds(what, (ran.status, ran.out) == (status, out), f"{expected}, found {ran}")
 
+    def counts(self):
+        """How many checks passed, and how many failed."""
+        return self.passed, self.failed
+
     def tally(self):
         """The line that says how many checks passed and failed."""
         return f"{self.passed} passed, {self.failed} failed"
 
 
+def is_there(tool):
+    """Whether the machine has a program, or this Python has pip."""
+    return bool(importlib.util.find_spec("pip") if tool == "pip" else shutil.which(tool))
+
+
 def needs(*tools):
-    """Has a test skipped where the machine lacks one of these programs."""
+    """Has a test skipped where the machine lacks one of these."""
 
     def decorated(test):
         @functools.wraps(test)
         def checked(*arguments):
-            lacking = [tool for tool in tools if not shutil.which(tool)]
+            lacking = [tool for tool in tools if not is_there(tool)]
             if lacking:
                 print(f"skipped: {spoken(test)}, for lack of {', '.join(lacking)}", flush=True)
             else:
@@ -89,4 +101,5 @@ def needs(*tools):
 
 def spoken(test):
     """The name of a test, as words."""
-    return test.__name__.removeprefix("test_").replace("_", " ")
+    words = test.__name__.removeprefix("test_").split("_")
+    return " ".join(LANGUAGES.get(word, word) for word in words)

@@ -1,7 +1,5 @@
 """The examples that decode a string, in C, C++, Rust and Python; and those of a bundle and of threads."""
 
-import os
-
 from .checks import needs, run
 from .known import REFUSED, STRINGS, WORDS, has_debian_files, refused_files, rows_of_strings
 from .library import EXAMPLES, HELGRIND, MEMCHECK
@@ -81,6 +79,7 @@ def test_rust_decodes(checks, setting):
     check_texts(checks, "Rust", command)
 
 
+@needs("pip")
 def test_python_decodes(checks, setting):
     """The example, over the package as pip installs it."""
     command = [setting.package.python, EXAMPLES / "decode.py"]
@@ -90,22 +89,48 @@ def test_python_decodes(checks, setting):
     check_texts(checks, "Python", command, **environment)
 
 
-@needs("gcc", "valgrind")
-def test_c_reads_a_bundle_once(checks, setting):
-    """The example of a bundle, plain, with the sanitizers and under memcheck."""
+def check_bundle(checks, setting, command):
+    """A command gives the CIDs of words over a bundle."""
     lines = "".join(f"{word} {cid}\n" for word, cid in WORDS.items())
-    program = setting.programs.path(BUNDLE)
-    for command in [[program], [setting.programs.sanitized(BUNDLE)], [*MEMCHECK, program]]:
-        for files in setting.files:
-            ran = run(*command, files.bundle, *WORDS)
-            checks.ended(f"{command[0]}: the bundle {files.bundle.name}", ran, lines)
+    for files in setting.files:
+        ran = run(*command, files.bundle, *WORDS)
+        checks.ended(f"{command_line(command)}: the bundle {files.bundle.name}", ran, lines)
+
+
+def check_threads(checks, setting, command):
+    """Each of four threads counts the codes with a CID."""
+    for files in setting.files:
+        ran = run(*command, files.folder / "UniJIS-UTF16-H")
+        checks.ended(f"{command_line(command)}: {files.folder}", ran, f"{files.count}\n" * 4)
+
+
+def command_line(command):
+    """A command as one types it."""
+    return " ".join(map(str, command))
+
+
+@needs("gcc")
+def test_c_reads_a_bundle_once(checks, setting):
+    """The example of a bundle, plain and with the sanitizers."""
+    for program in [setting.programs.path(BUNDLE), setting.programs.sanitized(BUNDLE)]:
+        check_bundle(checks, setting, [program])
 
 
 @needs("gcc", "valgrind")
+def test_c_reads_a_bundle_under_memcheck(checks, setting):
+    """Every block is freed, and no address is wrong."""
+    check_bundle(checks, setting, [*MEMCHECK, setting.programs.path(BUNDLE)])
+
+
+@needs("gcc")
 def test_c_threads_share_a_map(checks, setting):
-    """The example of threads, plain, with the sanitizers, under memcheck and under helgrind."""
-    program = setting.programs.path(THREADS)
-    for command in [[program], [setting.programs.sanitized(THREADS)], [*MEMCHECK, program], [*HELGRIND, program]]:
-        for files in setting.files:
-            ran = run(*command, os.path.join(files.folder, "UniJIS-UTF16-H"))
-            checks.ended(f"threads: {' '.join(map(str, command))}", ran, f"{files.count}\n" * 4)
+    """The example of threads, plain and with the sanitizers."""
+    for program in [setting.programs.path(THREADS), setting.programs.sanitized(THREADS)]:
+        check_threads(checks, setting, [program])
+
+
+@needs("gcc", "valgrind")
+def test_c_threads_under_memcheck_and_helgrind(checks, setting):
+    """Every block is freed, and no two threads use one place without order."""
+    for checker in [MEMCHECK, HELGRIND]:
+        check_threads(checks, setting, [*checker, setting.programs.path(THREADS)])

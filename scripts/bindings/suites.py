@@ -1,7 +1,6 @@
 """The tests that are written in C++, Rust and Python, and how the crate and the package are built."""
 
 import functools
-import os
 import re
 import sys
 
@@ -73,12 +72,18 @@ def check_crate(checks, setting, what, **environment):
     print(f"cargo test, {what}: {passed} passed", flush=True)
 
 
-@needs("g++", "valgrind")
+@needs("g++")
 def test_cpp_suite(checks, setting):
-    """The tests of hayro_cmap.hpp, plain, with the sanitizers and under memcheck."""
-    program = setting.programs.path(CPP_TESTS)
-    for command in [[program], [setting.programs.sanitized(CPP_TESTS)], [*MEMCHECK, program]]:
-        checks.ended(f"the tests in C++: {' '.join(map(str, command))}", run(*command), "ok\n")
+    """The tests of hayro_cmap.hpp, plain and with the sanitizers."""
+    checks.ended("the tests in C++", run(setting.programs.path(CPP_TESTS)), "ok\n")
+    checks.ended("the tests in C++ with the sanitizers", run(setting.programs.sanitized(CPP_TESTS)), "ok\n")
+
+
+@needs("g++", "valgrind")
+def test_cpp_suite_under_memcheck(checks, setting):
+    """Every block is freed, and no address is wrong."""
+    ran = run(*MEMCHECK, setting.programs.path(CPP_TESTS))
+    checks.ended("the tests in C++ under memcheck", ran, "ok\n")
 
 
 @needs("cargo")
@@ -99,22 +104,24 @@ def test_rust_finds_the_library(checks, setting):
     checks.holds("cargo build without a library", ran.status != 0 and "scripts/c-library PREFIX" in ran.err, ran)
 
 
+def check_unittest(checks, where, folder, environment):
+    """Runs the tests of the package in a folder."""
+    ran = run(Package.python, "-m", "unittest", folder=folder, **environment)
+    found = re.search(r"^Ran ([1-9]\d*) tests", ran.err, re.M)
+    is_whole = not has_debian_files() or "skipped" not in ran.err
+    checks.holds(f"unittest, {where}", ran.status == 0 and is_whole and found, ran)
+    print(f"unittest, {where}: {found[1] if found else 'no'} tests", flush=True)
+
+
 def test_python_suite(checks, setting):
-    """The tests of the package, in the project and as pip installs it."""
-    for where, environment in [("project", setting.package.over_library()), ("pip", setting.package.installed())]:
-        folder = PACKAGE if where == "project" else installed_tests(setting)
-        ran = run(sys.executable, "-m", "unittest", folder=folder, **environment)
-        is_whole = not has_debian_files() or "skipped" not in ran.err
-        number = re.search(r"^Ran (\d+) tests", ran.err, re.M)
-        checks.holds(f"unittest, {where}", ran.status == 0 and is_whole and number and int(number[1]) > 0, ran)
-        print(f"unittest, {where}: {number[1] if number else 'no'} tests", flush=True)
+    """The tests of the package, as it stands in the project."""
+    check_unittest(checks, "in the project", PACKAGE, setting.package.over_library())
 
 
-def installed_tests(setting):
-    """A folder with the tests of the package, and not the package."""
+@needs("pip")
+def test_python_suite_installed(checks, setting):
+    """The same tests, over the package as pip installs it."""
     folder = setting.work / "python-tests"
-    folder.mkdir(exist_ok=True)
-    link = folder / "tests"
-    if not link.exists():
-        os.symlink(PACKAGE / "tests", link)
-    return folder
+    folder.mkdir()
+    (folder / "tests").symlink_to(PACKAGE / "tests")
+    check_unittest(checks, "as pip installs it", folder, setting.package.installed())
