@@ -55,7 +55,8 @@ ENUMS = [
     ("hayro_cmap_segment", {"NO_SEGMENT": "0"}, NUMBERED.format("Segment"), "fault.rt", {"WRITING_MODE": "MODE"}),
 ]
 EXPORT = re.compile(
-    r"#\[unsafe\(no_mangle\)\]\s(?:#\[.*\]\s)?pub extern \"C\" fn (\w+)(?:<'a>)?\((.*?)\)(?: -> (\w+))?\s*(?:ensures|\{)",
+    r"#\[unsafe\(no_mangle\)\]\s(?:#\[.*\]\s)?pub extern \"C\" fn (\w+)(?:<'a>)?"
+    r"\((.*?)\)(?: -> (\w+))?\s*(?:ensures|\{)",
     re.S,
 )
 # what the libraries call of the C library, and what a linker adds to a shared one
@@ -171,7 +172,8 @@ def test_versions_are_one(checks, setting):
     checks.same("HAYRO_CMAP_VERSION", re.search(r'HAYRO_CMAP_VERSION "(.*)"', HEADER)[1], VERSION)
     checks.same("the version of the crate", re.search(r'put_bytes\(b"(.*?)"', source("version.rt"))[1], VERSION)
     room, needed = ctypes.create_string_buffer(64), ctypes.c_size_t()
-    status = ctypes.CDLL(str(setting.library.shared)).hayro_cmap_version(room, ctypes.c_size_t(64), ctypes.byref(needed))
+    version = ctypes.CDLL(str(setting.library.shared)).hayro_cmap_version
+    status = version(room, ctypes.c_size_t(len(room)), ctypes.byref(needed))
     checks.same("the version of the library", (status, room.raw[: needed.value]), (0, VERSION.encode()))
 
 
