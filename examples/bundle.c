@@ -21,7 +21,7 @@ static uint8_t *read_all(const char *path, size_t *len) {
     rewind(in);
     *len = (size_t)end;
     uint8_t *bytes = malloc(*len + 1);
-    if (!bytes) fail("no memory");
+    if (!bytes) fail("out of memory");
     if (fread(bytes, 1, *len, in) != *len) fail("the bundle can't be read");
     fclose(in);
     return bytes;
@@ -32,7 +32,7 @@ static void open_bundle(hayro_cmap_bundle *bundle, const char *path) {
     uint8_t *bytes = read_all(path, &len);
     hayro_cmap_status status = hayro_cmap_bundle_open(bundle, bytes, len);
     free(bytes);
-    if (status != HAYRO_CMAP_OK) fail(status == HAYRO_CMAP_NO_MEMORY ? "no memory" : "invalid bundle");
+    if (status != HAYRO_CMAP_OK) fail(status == HAYRO_CMAP_NO_MEMORY ? "out of memory" : "invalid bundle");
 }
 
 /* Prints the CID that a word asks for, by a map that is read for it. */
@@ -47,7 +47,7 @@ static void print_cid(hayro_cmap_bundle *bundle, const char *word) {
     hayro_cmap_status status =
         hayro_cmap_parse_over(&map, hayro_cmap_bytes(data), (size_t)data_len, bundle,
                               hayro_cmap_files(NULL), 0, HAYRO_CMAP_NO_BUDGET);
-    if (status != HAYRO_CMAP_OK) fail(status == HAYRO_CMAP_NO_MEMORY ? "no memory" : "refused");
+    if (status != HAYRO_CMAP_OK) fail(status == HAYRO_CMAP_NO_MEMORY ? "out of memory" : "refused");
     uint32_t cid;
     if (hayro_cmap_cid(&map, (uint32_t)strtoul(code + 1, NULL, 16), byte_len, &cid))
         printf("%s %" PRIu32 "\n", word, cid);
