@@ -145,7 +145,7 @@ typedef enum hayro_cmap_segment {
     HAYRO_CMAP_COLLECTION = 6
 } hayro_cmap_segment;
 
-/* At most so many names lead to a file at fault. */
+/* The most names that lead to a file at fault. */
 #define HAYRO_CMAP_MOST_NAMES 16
 
 /* Why a file gives no map. */

@@ -11,7 +11,7 @@ use crate::status::Status;
 use hayro_cmap::{Cause, Reason, Refusal, Segment, Stop};
 use std::alloc::{AllocError, Global};
 
-/// At most so many names lead to a file at fault.
+/// The most names that lead to a file at fault.
 const MOST_NAMES: usize = 16;
 
 /// Why a file gives no map, by the numbers of the header. All its bytes are in a field.
