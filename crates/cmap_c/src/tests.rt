@@ -15,14 +15,13 @@ use crate::layers::{CodespaceRange, hayro_cmap_codespaces, hayro_cmap_layers};
 use crate::message::hayro_cmap_message;
 use crate::metadata::{
     hayro_cmap_layer_name, hayro_cmap_layer_writing_mode, hayro_cmap_name, hayro_cmap_ordering,
-    hayro_cmap_registry, hayro_cmap_supplement, hayro_cmap_writing_mode,
+    hayro_cmap_supplement, hayro_cmap_writing_mode,
 };
 use crate::open::hayro_cmap_open;
 use crate::parse::{hayro_cmap_parse, hayro_cmap_parse_over};
 use crate::row::hayro_cmap_cids;
 use crate::uses::hayro_cmap_uses;
 use crate::utf8_text::hayro_cmap_text;
-use crate::version::hayro_cmap_version;
 use std::alloc::Global;
 
 const FILE: &[u8] = b"begincmap /CIDSystemInfo 3 dict dup begin /Registry (Adobe) def
@@ -79,17 +78,6 @@ fn a_file_has_its_name(rt: HostRuntime) {
     let mut needed = 0;
     let status = hayro_cmap_name(&mut map, alloc, &mut room, &mut needed);
     assert!(rt; status == 0 && needed == 1 && room == *b"T\0\0\0\0\0");
-    hayro_cmap_free(&mut map, alloc);
-}
-
-#[test]
-fn a_file_has_its_registry(rt: HostRuntime) {
-    let alloc = rt.alloc();
-    let mut map = map_of_file(alloc);
-    let mut room = [0; 6];
-    let mut needed = 0;
-    let status = hayro_cmap_registry(&mut map, alloc, &mut room, &mut needed);
-    assert!(rt; status == 0 && needed == 5 && room == *b"Adobe\0");
     hayro_cmap_free(&mut map, alloc);
 }
 
@@ -196,13 +184,6 @@ fn the_identity_answers_the_code(rt: HostRuntime) {
     assert!(rt; hayro_cmap_identity(&mut map, alloc, false) == 0);
     assert!(rt; hayro_cmap_cid(&mut map, alloc, 0x1234, 2, &mut cid) && cid == 0x1234);
     hayro_cmap_free(&mut map, alloc);
-}
-
-#[test]
-fn the_version_fits(rt: HostRuntime) {
-    let mut room = [0; 5];
-    let mut needed = 0;
-    assert!(rt; hayro_cmap_version(&mut room, &mut needed) == 0 && room == *b"1.0.0");
 }
 
 /// A code of a room that no call has written to.
