@@ -3,7 +3,14 @@ use Rattle.std.proofs.Common.{◌≡◌, ℕ, List, [], ◌∷◌, Option, Some,
 use Rattle.std.specs.Prelude.{option_map, option_and_then, slice_get, unwrap_or}
 use Rattle.std.proofs.lemmas.Option.{slice_get-map}
 use Rattle.cmap_runs.specs.Ranges.{Span, last_index, last_of}
-use Rattle.cmap_files.specs.Files.{CidEntry}
+use Rattle.cmap_files.specs.CodeLengths.{length_of}
+use Rattle.cmap_files.specs.DeclarationsSeen.{entries_seen, slot}
+use Rattle.cmap_files.specs.Files.{CidEntry, of_length}
+use Rattle.cmap_files.specs.declared.code_length.CodeLength.{CodeLength}
+use Rattle.cmap_files.specs.declared.code_length.CodeLength.TheVariants.{One, Two, Three, Four}
+use Rattle.cmap_files.specs.declared.declarations.ByLength.{ByLength}
+use Rattle.cmap_files.specs.declared.declarations.CidRange.{CidRange}
+use Rattle.cmap_layers.specs.LayersSeen.{by_length_seen}
 use Rattle.cmap_layers.specs.Lookups.{decided_cid}
 use Rattle.cmap_layers.specs.LayersDecide.{decided_in}
 
@@ -20,6 +27,13 @@ last_of-map span g xs code = ap (λ spans. option_and_then (slice_get (map g xs)
 
 pub spans-map : {A B : Type 0} (span : B → Span) (g : A → B) (xs : List A) → map span (map g xs) ≡ map (λ x. span (g x)) xs
 spans-map span g xs = map-of-map span g xs
+
+-- the table for codes of a length is that of the length
+pub searched : (tables : ByLength (List CidRange)) (len : CodeLength) → of_length (by_length_seen tables) (length_of len) ≡ entries_seen (slot tables len)
+searched tables One = refl
+searched tables Two = refl
+searched tables Three = refl
+searched tables Four = refl
 
 -- a layer decides, or those below it do
 pub decided_cid-decided_in : (code : ℕ) (cid notdef : Option CidEntry) (character below : Option ℕ) → decided_cid code cid notdef character below ≡ unwrap_or (decided_in code cid notdef character) below

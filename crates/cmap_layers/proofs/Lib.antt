@@ -3,4 +3,5 @@ pub mod BytesWithin
 pub mod LastFound
 pub mod LayersSearched
 pub mod OneStringCode
+pub mod RowWritten
 pub mod TablesCopied

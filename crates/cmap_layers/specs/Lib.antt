@@ -6,3 +6,5 @@ pub mod Searches
 pub mod Counts
 pub mod StringCodes
 pub mod PartialMatches
+pub mod Rows
+pub mod RowsWritten

@@ -5,4 +5,5 @@
 pub mod codespaces;
 pub mod layers;
 pub mod lookup;
+pub mod row;
 pub mod string_codes;

@@ -4,4 +4,5 @@ pub mod DeclaredRanges
 pub mod OpenRanges
 pub mod Blocks
 pub mod SearchLooks
+pub mod Stretches
 pub mod HeldRuns

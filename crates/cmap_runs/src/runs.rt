@@ -9,10 +9,12 @@ mod indices;
 mod looks;
 mod ranges;
 mod search;
+mod stretch;
 mod sweep;
 mod table;
 
 pub use looks::Looks;
+pub use stretch::{Stretch, Stretches};
 pub use table::Table;
 
 /// The codes from `start` to `end`, both among them; none where `start` is above `end`.

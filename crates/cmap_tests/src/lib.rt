@@ -1,5 +1,5 @@
 //! What rows of data can't show: the callers that the pages show, and tests of the order of calls, of
-//! names by their variants, of a call over a closure, and of many ranges.
+//! names by their variants, of a call over a closure, of codes in a row, and of many ranges.
 #![tactic(auto)]
 
 #[cfg(test)]
@@ -10,6 +10,8 @@ mod bits;
 mod caller;
 #[cfg(test)]
 mod cid_ranges;
+#[cfg(test)]
+mod codes_in_a_row;
 #[cfg(test)]
 mod examples;
 #[cfg(test)]

@@ -17,6 +17,7 @@ ghost use Rattle.hayro_cmap.specs.Opened.{ExceedsBudgetNamed, FitsBudgetNamed, H
 ghost use Rattle.cmap_layers.specs.LayersSeen.{layers_seen, metadata_seen, mode_seen};
 ghost use Rattle.cmap_layers.specs.Layers.{top_metadata};
 ghost use Rattle.cmap_layers.specs.Lookups.{InCodespace, bf_of, cid_of};
+ghost use Rattle.cmap_layers.specs.Rows.{AreCidsOf};
 ghost use Rattle.cmap_files.specs.Only.{IsOnly};
 ghost use Rattle.cmap_files.specs.Outcomes.{Finds, RefusesWith};
 ghost use Rattle.cmap_layers.specs.StringCodes.{IsNextCode};
@@ -38,7 +39,7 @@ use cmap_files::names::{CMapName, Cid};
 use cmap_files::writing_mode::WritingMode;
 use cmap_layers::layers::Layer;
 use cmap_layers::string_codes::StringCode;
-use cmap_layers::{codespaces, lookup, string_codes};
+use cmap_layers::{codespaces, lookup, row, string_codes};
 use cmap_runs::runs::{Looks, Range};
 use cmap_tokens::utf16::BfString;
 use std::alloc::{AllocError, Global};
@@ -282,6 +283,17 @@ impl CMap {
         ensures { result ≡ cid_of self.now code byte_len }
     {
         lookup::cid_of(&self.layers, code, byte_len, &mut Looks::new())
+    }
+
+    /// Fills `cids` with the CIDs of the codes of `byte_len` bytes from `first` on, one after another, as
+    /// `lookup_cid_code` gives them. `absent` stands for a code without a CID, and for each number past
+    /// 32 bits.
+    ///
+    /// The first code is searched for in each list of declarations, and no other one.
+    pub fn fill_cids(&self, first: u32, byte_len: u8, absent: Cid, cids: &mut [Cid])
+        ensures { AreCidsOf self.now byte_len absent first cids.new }
+    {
+        row::fill_cids(&self.layers, first, byte_len, absent, cids)
     }
 
     /// The answer of `lookup_cid_code`, and what is looked at is counted.

@@ -10,6 +10,7 @@ use super::blocks::Blocks;
 use super::held::Held;
 use super::looks::Looks;
 use super::search::find_index;
+use super::stretch::Stretches;
 use super::sweep::runs_of;
 use std::alloc::{AllocError, Global};
 use std::marker::Model;
@@ -74,6 +75,18 @@ impl<T: HasRange> Table<T> {
         let window = self.blocks.window(&self.held, code)?;
         let index = find_index(&self.held, code, window, looks)?;
         Some(self.held.declaration(index, looks))
+    }
+
+    /// The stretches of the codes from `first` on. The first of them is searched for, and the rest of
+    /// them are not.
+    pub fn stretches(&self, first: u32, looks: &mut Looks) -> Stretches<'_, T>
+        ensures declarations { result.declarations ≡ self.now }
+        ensures next { result.next ≡ first }
+        ensures runs { looks.new.runs
+            ≤ looks.old.runs + digits (length (runs_of (map T.span self.now))) }
+        ensures none { looks.new.declarations ≡ looks.old.declarations }
+    {
+        Stretches::of(&self.held, first, looks)
     }
 
     /// How many declarations the table has.

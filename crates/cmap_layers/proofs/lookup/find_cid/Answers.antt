@@ -1,25 +1,11 @@
-use Rattle.std.proofs.Common.{◌≡◌, List, refl, sym, ap, ◌∙◌, subst, map}
+use Rattle.std.proofs.Common.{sym, ap, ◌∙◌, subst, map}
 use Rattle.std.specs.Prelude.{is_some, option_map}
 use Rattle.cmap_runs.specs.SearchLooks.{LooksAtMost}
-use Rattle.cmap_files.specs.CodeLengths.{length_of}
-use Rattle.cmap_files.specs.Files.{of_length}
 use Rattle.cmap_layers.specs.Lookups.{cid_span, last_cid}
 use Rattle.cmap_layers.specs.Searches.{search_looks}
-use Rattle.cmap_files.specs.DeclarationsSeen.{slot, cid_entry_seen, entries_seen}
-use Rattle.cmap_layers.specs.LayersSeen.{by_length_seen}
-use Rattle.cmap_files.specs.declared.code_length.CodeLength.{CodeLength}
-use Rattle.cmap_files.specs.declared.code_length.CodeLength.TheVariants.{One, Two, Three, Four}
-use Rattle.cmap_files.specs.declared.declarations.ByLength.{ByLength}
-use Rattle.cmap_files.specs.declared.declarations.CidRange.{CidRange}
-use Rattle.cmap_layers.proofs.LastFound.{last_of-map, spans-map}
+use Rattle.cmap_files.specs.DeclarationsSeen.{cid_entry_seen, entries_seen}
+use Rattle.cmap_layers.proofs.LastFound.{last_of-map, searched, spans-map}
 use Rattle.cmap_layers.proofs.lookup.find_cid.Goals as goal
-
--- the table that is searched is that of the length
-searched : (tables : ByLength (List CidRange)) (len : CodeLength) → of_length (by_length_seen tables) (length_of len) ≡ entries_seen (slot tables len)
-searched tables One = refl
-searched tables Two = refl
-searched tables Three = refl
-searched tables Four = refl
 
 pub returns-clause-found : goal.returns-clause-found
 returns-clause-found c =

@@ -1,0 +1,47 @@
+use Rattle.std.proofs.Common.{◌≡◌, ◌+◌, ◌-◌, Some, None, sym, ap, ◌∙◌, subst, rules, arith}
+use borrow.Rule.Slice.PartMut.{mid_of}
+use Rattle.std.specs.Prelude.{slice_index, unwrap_or}
+use Rattle.std.specs.Option.{option_copied}
+use Rattle.std.proofs.lemmas.List.{places}
+use Rattle.cmap_runs.specs.Stretches.{IsStretch}
+use Rattle.cmap_files.specs.DeclarationsSeen.{cid_entry_seen, cid_range_span, entries_seen}
+use Rattle.cmap_layers.specs.RowsWritten.{cid_said, given}
+use Rattle.cmap_layers.proofs.RowWritten.{cid_said_in, gap_written, part_written}
+use Rattle.cmap_layers.proofs.row.write_cids.Goals as goal
+
+pub loop-from-preserved-in-Some-declaration : goal.loop-from-preserved-in-Some-declaration
+loop-from-preserved-in-Some-declaration c =
+    let said = cid_said c.args.kind (entries_seen c.args.table.now) in let stretches = c.loop-from.stretches in let last = c.in-Some.stretch.last in
+    let d = c.in-Some-declaration.declaration.now in let first = c.args.first in let from = c.loop-from.from in let end = c.end_in_row-end.result in let old = c.loop-from.invariant in
+    let begins : stretches.next ≡ first + from = old.next c.loop-from-test.true in
+    let same = subst (λ o. IsStretch cid_range_span stretches.declarations stretches.next last (option_copied o)) c.in-Some-declaration.is c.in-Some.ensures.same in
+    let here = subst (λ list. IsStretch cid_range_span list stretches.next last (Some d)) old.declarations same in
+    let within = c.in-Some.ensures.within in
+    record {
+      declarations = c.in-Some.ensures.declarations ∙ old.declarations;
+      next = λ more. omega (arith, c.in-Some.ensures.next);
+      within = omega arith;
+      fits = omega arith;
+      written = part_written said first c.args.cids.now c.loop-from.cids c.write_declared.new.cids from end old.written (search (rules, places)) (omega arith) (omega arith)
+          (λ j lt.
+          let is = cid_said_in c.args.kind c.args.table.now stretches.next last (first + (from + j)) (Some d) here (omega arith) (omega arith) in
+          let at : first + from + j ≡ first + (from + j) = omega arith in
+          c.write_declared.ensures j lt ∙ ap (given c.args.kind (cid_entry_seen d)) at ∙ sym (ap (λ o. unwrap_or o (slice_index (mid_of from (end - from) c.loop-from.cids) j)) is));
+    }
+
+pub loop-from-preserved : goal.loop-from-preserved
+loop-from-preserved c =
+    let said = cid_said c.args.kind (entries_seen c.args.table.now) in let stretches = c.loop-from.stretches in let last = c.in-Some.stretch.last in
+    let first = c.args.first in let from = c.loop-from.from in let end = c.end_in_row-end.result in let old = c.loop-from.invariant in
+    let begins : stretches.next ≡ first + from = old.next c.loop-from-test.true in
+    let same = subst (λ o. IsStretch cid_range_span stretches.declarations stretches.next last (option_copied o)) c.in_default-declaration.is c.in-Some.ensures.same in
+    let here = subst (λ list. IsStretch cid_range_span list stretches.next last None) old.declarations same in
+    let within = c.in-Some.ensures.within in
+    record {
+      declarations = c.in-Some.ensures.declarations ∙ old.declarations;
+      next = λ more. omega (arith, c.in-Some.ensures.next);
+      within = omega arith;
+      fits = omega arith;
+      written = gap_written said first c.args.cids.now c.loop-from.cids from end old.written
+          (λ k le lt. cid_said_in c.args.kind c.args.table.now stretches.next last (first + k) None here (omega arith) (omega arith)) (omega arith);
+    }
