@@ -29,7 +29,7 @@ pub fn contains(layers: &[Layer], code: u32, byte_len: u8) -> bool
 fn fits_in(code: u32, len: CodeLength) -> bool
     ensures { IsTrue result ↔ code < 256 ^ length_of len }
 {
-    u64::from(code) < 256u64.pow(u32::from(len.count()))
+    u64::from(code) >> (8 * len.count()) == 0
 }
 
 /// Whether one of the codespace ranges contains a code of this length.
