@@ -7,3 +7,4 @@ pub mod MaximalRuns
 pub mod OpenDecide
 pub mod RangesDecide
 pub mod RunsInOrder
+pub mod StartBits
