@@ -7,10 +7,11 @@ ghost use Rattle.cmap_files.specs.DeclarationsSeen.{codespace_seen};
 ghost use Rattle.cmap_files.specs.Files as files;
 ghost use Rattle.cmap_files.specs.Only.{IsOnly};
 ghost use Rattle.cmap_layers.specs.LayersSeen.{layers_seen};
+ghost use Rattle.cmap_layers.specs.Lookups.{HaveNoShorter};
 ghost use Rattle.cmap_layers.specs.PartialMatches.{IsBestOf, IsBetter, MatchesMost};
 ghost use Rattle.cmap_layers.specs.StringCodes.{BeginsInside, IsNextCode, Wants, front, ranges_of};
 
-use crate::codespaces::{byte_at, contains};
+use crate::codespaces::{byte_at, contains, has_len};
 use crate::layers::Layer;
 use cmap_files::code_length::{CodeLength, read_code};
 use cmap_files::declarations::Codespace;
@@ -41,8 +42,31 @@ pub fn next_code(layers: &[Layer], text: &[u8]) -> Option<StringCode>
     ensures length { IfSome result
         (λ found. IsCodeLength found.byte_len × (found.byte_len ≤ length text.now)) }
 {
+    next_code_from(layers, text, 1)
+}
+
+/// How many bytes the codes in codespace ranges have at least; 2 also where none has so few.
+pub fn fewest_bytes(layers: &[Layer]) -> u8
+    ensures { HaveNoShorter (layers_seen layers.now) result }
+{
+    if has_len(layers, CodeLength::One) {
+        1
+    } else {
+        2
+    }
+}
+
+/// The answer of `next_code`, where no code in a codespace range has fewer bytes than `fewest`.
+#[inline(always)]
+pub fn next_code_from(layers: &[Layer], text: &[u8], fewest: u8) -> Option<StringCode>
+    requires { HaveNoShorter (layers_seen layers.now) fewest }
+    ensures code { MatchOption result (text.now ≡ [])
+        (IsOnly (IsNextCode (layers_seen layers.now) text.now)) }
+    ensures length { IfSome result
+        (λ found. IsCodeLength found.byte_len × (found.byte_len ≤ length text.now)) }
+{
     for byte_len in 1..5 {
-        if let Some(found) = code_inside(layers, text, byte_len) {
+        if let Some(found) = code_inside_from(layers, text, byte_len, fewest) {
             return Some(found);
         }
     }
@@ -55,6 +79,25 @@ pub fn next_code(layers: &[Layer], text: &[u8]) -> Option<StringCode>
         in_codespace: false,
         cut_short: byte_len < wanted,
     })
+}
+
+/// The answer of `code_inside`, where no code in a codespace range has fewer bytes than `fewest`.
+#[inline(always)]
+fn code_inside_from(layers: &[Layer], text: &[u8], byte_len: u8, fewest: u8) -> Option<StringCode>
+    requires { HaveNoShorter (layers_seen layers.now) fewest }
+    ensures { MatchOption result (BeginsInside (layers_seen layers.now) text.now byte_len → ⊥)
+        (λ found. BeginsInside (layers_seen layers.now) text.now byte_len × (found
+        ≡ record {
+          code = front text.now byte_len;
+          byte_len = byte_len;
+          in_codespace = true;
+          cut_short = false;
+        })) }
+{
+    if byte_len < fewest {
+        return None;
+    }
+    code_inside(layers, text, byte_len)
 }
 
 /// The first `byte_len` bytes of a string, where they are a code in a codespace range.
@@ -82,6 +125,8 @@ fn code_inside(layers: &[Layer], text: &[u8], byte_len: u8) -> Option<StringCode
 }
 
 /// How many bytes a string wants for its code where it begins with none in a codespace range.
+#[cold]
+#[inline(never)]
 fn bytes_wanted(layers: &[Layer], text: &[u8]) -> u8
     ensures wanted { Wants (ranges_of (layers_seen layers.now)) text.now result }
     ensures length { IsCodeLength result }

@@ -5,7 +5,7 @@ use Rattle.cmap_layers.specs.LayersSeen.{layers_seen}
 use Rattle.cmap_layers.specs.StringCodes.{BeginsInside}
 use Rattle.cmap_layers.specs.declared.string_codes.StringCode.{StringCode}
 use Rattle.cmap_layers.proofs.OneStringCode.{cut_short_outside, one_code}
-use Rattle.cmap_layers.proofs.string_codes.next_code.Goals as goal
+use Rattle.cmap_layers.proofs.string_codes.next_code_from.Goals as goal
 
 pub returns-clause-code : goal.returns-clause-code
 returns-clause-code c =
