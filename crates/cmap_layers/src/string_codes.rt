@@ -5,11 +5,11 @@ ghost use Rattle.std.specs.Prelude.{◌≡◌, ◌↔◌, ◌≤◌, true, false
 ghost use Rattle.cmap_files.specs.CodeLengths.{IsCodeLength};
 ghost use Rattle.cmap_files.specs.DeclarationsSeen.{codespace_seen};
 ghost use Rattle.cmap_files.specs.Files as files;
-ghost use Rattle.cmap_files.specs.Only.{IsOnly};
+ghost use Rattle.cmap_files.specs.Only.{HoldsOfNone, IsOnly};
 ghost use Rattle.cmap_layers.specs.LayersSeen.{layers_seen};
 ghost use Rattle.cmap_layers.specs.Lookups.{HaveNoShorter};
 ghost use Rattle.cmap_layers.specs.PartialMatches.{IsBestOf, IsBetter, MatchesMost};
-ghost use Rattle.cmap_layers.specs.StringCodes.{BeginsInside, IsNextCode, Wants, front, ranges_of};
+ghost use Rattle.cmap_layers.specs.StringCodes.{BeginsInside, IsNextCode, IsShortestInside, Wants, front, ranges_of};
 
 use crate::codespaces::{byte_at, contains, has_len};
 use crate::layers::Layer;
@@ -65,34 +65,49 @@ pub fn next_code_from(layers: &[Layer], text: &[u8], fewest: u8) -> Option<Strin
     ensures length { IfSome result
         (λ found. IsCodeLength found.byte_len × (found.byte_len ≤ length text.now)) }
 {
-    for byte_len in 1..5 {
-        if let Some(found) = code_inside_from(layers, text, byte_len, fewest) {
-            return Some(found);
+    let inside = shortest_inside(layers, text, fewest);
+    let (byte_len, code, wanted) = match inside {
+        Some((byte_len, code)) => (byte_len, code, byte_len),
+        None => {
+            let wanted = bytes_wanted(layers, text);
+            let byte_len = text.len().min(usize::from(wanted)) as u8;
+            let (_, code) = read_code(&text[..usize::from(byte_len)])?;
+            (byte_len, code, wanted)
         }
-    }
-    let wanted = bytes_wanted(layers, text);
-    let byte_len = text.len().min(usize::from(wanted)) as u8;
-    let (_, code) = read_code(&text[..usize::from(byte_len)])?;
+    };
     Some(StringCode {
         code,
         byte_len,
-        in_codespace: false,
+        in_codespace: inside.is_some(),
         cut_short: byte_len < wanted,
     })
 }
 
+/// The shortest front of a string that is a code in a codespace range: how many bytes it has, and its
+/// number. No such code has fewer bytes than `fewest`.
+#[inline(always)]
+fn shortest_inside(layers: &[Layer], text: &[u8], fewest: u8) -> Option<(u8, u32)>
+    requires { HaveNoShorter (layers_seen layers.now) fewest }
+    ensures { MatchOption result
+        (HoldsOfNone (BeginsInside (layers_seen layers.now) text.now))
+        (λ found. IsShortestInside (layers_seen layers.now) text.now found.0
+        × (found.1 ≡ front text.now found.0)) }
+{
+    for byte_len in 1..5 {
+        if let Some(code) = code_inside_from(layers, text, byte_len, fewest) {
+            return Some((byte_len, code));
+        }
+    }
+    None
+}
+
 /// The answer of `code_inside`, where no code in a codespace range has fewer bytes than `fewest`.
 #[inline(always)]
-fn code_inside_from(layers: &[Layer], text: &[u8], byte_len: u8, fewest: u8) -> Option<StringCode>
+fn code_inside_from(layers: &[Layer], text: &[u8], byte_len: u8, fewest: u8) -> Option<u32>
     requires { HaveNoShorter (layers_seen layers.now) fewest }
     ensures { MatchOption result (BeginsInside (layers_seen layers.now) text.now byte_len → ⊥)
-        (λ found. BeginsInside (layers_seen layers.now) text.now byte_len × (found
-        ≡ record {
-          code = front text.now byte_len;
-          byte_len = byte_len;
-          in_codespace = true;
-          cut_short = false;
-        })) }
+        (λ code. BeginsInside (layers_seen layers.now) text.now byte_len
+        × (code ≡ front text.now byte_len)) }
 {
     if byte_len < fewest {
         return None;
@@ -100,25 +115,15 @@ fn code_inside_from(layers: &[Layer], text: &[u8], byte_len: u8, fewest: u8) -> 
     code_inside(layers, text, byte_len)
 }
 
-/// The first `byte_len` bytes of a string, where they are a code in a codespace range.
-fn code_inside(layers: &[Layer], text: &[u8], byte_len: u8) -> Option<StringCode>
+/// The number of the first `byte_len` bytes of a string, where they are a code in a codespace range.
+fn code_inside(layers: &[Layer], text: &[u8], byte_len: u8) -> Option<u32>
     ensures { MatchOption result (BeginsInside (layers_seen layers.now) text.now byte_len → ⊥)
-        (λ found. BeginsInside (layers_seen layers.now) text.now byte_len × (found
-        ≡ record {
-          code = front text.now byte_len;
-          byte_len = byte_len;
-          in_codespace = true;
-          cut_short = false;
-        })) }
+        (λ code. BeginsInside (layers_seen layers.now) text.now byte_len
+        × (code ≡ front text.now byte_len)) }
 {
     let (_, code) = read_code(text.get(..usize::from(byte_len))?)?;
     if contains(layers, code, byte_len) {
-        Some(StringCode {
-            code,
-            byte_len,
-            in_codespace: true,
-            cut_short: false,
-        })
+        Some(code)
     } else {
         None
     }
