@@ -1,6 +1,6 @@
 -- A string begins with one code.
-use Rattle.std.proofs.Common.{◌≡◌, ℕ, Bool, true, false, min, List, [], length, Option, Some, None, refl, sym, ap, ◌∙◌, inl, inr, arith}
-use Rattle.std.specs.Prelude.{◌↔◌, IsTrue, MatchOption, nat_lt}
+use Rattle.std.proofs.Common.{◌≡◌, ℕ, Bool, true, false, min, List, [], length, Option, Some, None, refl, sym, ap, ◌∙◌, subst, inl, inr, arith}
+use Rattle.std.specs.Prelude.{◌<◌, ◌↔◌, IsTrue, MatchOption, nat_lt}
 use Rattle.std.specs.Bool.{MatchBool}
 use Rattle.std.proofs.lemmas.Bool.{cases_lt, false≢true}
 use Rattle.std.proofs.lemmas.Bool.Decides.{Decides-ltb, same_from_decides}
@@ -49,3 +49,32 @@ one_code layers text (Some found) is = record {
       let cut_short = same_from_decides other.cut_short found.cut_short of_other.cut_short is.cut_short in
       λ i. record { code = code i; byte_len = byte_len i; in_codespace = inside i; cut_short = cut_short i };
 }
+
+-- a string that begins with a code in a range, and one that begins with none
+pub next_inside : (layers : List Layer) (text : List ℕ) (byte_len code : ℕ) → IsShortestInside layers text byte_len → code ≡ front text byte_len
+    → IsNextCode layers text (record { code = code; byte_len = byte_len; in_codespace = true; cut_short = nat_lt byte_len byte_len })
+next_inside layers text byte_len code shortest is = record {
+  some = omega (arith, shortest.0.0, shortest.0.1.0);
+  code = is;
+  taken = shortest;
+  cut_short = (λ yes. absurd (omega (arith, (Decides-ltb byte_len byte_len).0 yes)), λ cut. absurd (cut.0 byte_len shortest.0));
+}
+
+pub next_outside : (layers : List Layer) (text : List ℕ) (byte_len code wanted : ℕ) → 0 < length text → HoldsOfNone (BeginsInside layers text) → Wants (ranges_of layers) text wanted
+    → byte_len ≡ min wanted (length text) → code ≡ front text byte_len
+    → IsNextCode layers text (record { code = code; byte_len = byte_len; in_codespace = false; cut_short = nat_lt byte_len wanted })
+next_outside layers text byte_len code wanted some none wants taken is = record {
+  some = some;
+  code = is;
+  taken = (none, wanted, wants, taken);
+  cut_short = cut_short_outside layers text wanted byte_len none wants taken;
+}
+
+-- what is known of a code by how it was found
+pub next_found : (layers : List Layer) (text : List ℕ) (found was : ℕ × ℕ × ℕ) (inside is_inside : Bool) → found ≡ was → inside ≡ is_inside
+    → IsNextCode layers text (record { code = was.1; byte_len = was.0; in_codespace = is_inside; cut_short = nat_lt was.0 was.2 })
+    → IsOnly (IsNextCode layers text) (record { code = found.1; byte_len = found.0; in_codespace = inside; cut_short = nat_lt found.0 found.2 })
+next_found layers text found was inside is_inside same also is =
+    let seen = λ (n : ℕ × ℕ × ℕ) (b : Bool). IsNextCode layers text (record { code = n.1; byte_len = n.0; in_codespace = b; cut_short = nat_lt n.0 n.2 }) in
+    one_code layers text (Some (record { code = found.1; byte_len = found.0; in_codespace = inside; cut_short = nat_lt found.0 found.2 }))
+    (subst (λ n. seen n inside) (sym same) (subst (λ b. seen was b) (sym also) is))

@@ -62,3 +62,11 @@ IsWithin space code len = (space.len ≡ len) × ((k : ℕ) → k < len → (byt
 -- a codespace range of some layer contains the code of len bytes
 abbrev pub InCodespace : List Layer → ℕ → ℕ → Type 0
 InCodespace layers code len = (1 ≤ len) × (len ≤ 4) × (code < 256 ^ len) × Any (λ layer. Any (λ space. IsWithin space code len) layer.lists.spaces) layers
+
+-- a codespace range of some layer has codes of len bytes
+abbrev pub HasLength : List Layer → ℕ → Type 0
+HasLength layers len = Any (λ layer. Any (λ space. space.len ≡ len) layer.lists.spaces) layers
+
+-- no code in a codespace range has fewer bytes
+abbrev pub HaveNoShorter : List Layer → ℕ → Type 0
+HaveNoShorter layers fewest = (code len : ℕ) → len < fewest → InCodespace layers code len → ⊥

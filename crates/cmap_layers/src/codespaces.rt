@@ -5,7 +5,7 @@ ghost use Rattle.std.specs.Prelude.{◌≡◌, ◌↔◌, ◌<◌, ◌≤◌, �
 ghost use Rattle.cmap_files.specs.CodeLengths.{length_of};
 ghost use Rattle.cmap_files.specs.DeclarationsSeen.{codespace_seen};
 ghost use Rattle.cmap_layers.specs.LayersSeen.{layers_seen};
-ghost use Rattle.cmap_layers.specs.Lookups.{InCodespace, IsWithin, byte_at};
+ghost use Rattle.cmap_layers.specs.Lookups.{HasLength, InCodespace, IsWithin, byte_at};
 
 use crate::layers::Layer;
 use cmap_files::code_length::CodeLength;
@@ -25,11 +25,26 @@ pub fn contains(layers: &[Layer], code: u32, byte_len: u8) -> bool
             .any(|layer| any_contains(&layer.spaces, code, len))
 }
 
+/// Whether a codespace range of some layer has codes of this length.
+pub(crate) fn has_len(layers: &[Layer], len: CodeLength) -> bool
+    ensures { IsTrue result ↔ HasLength (layers_seen layers.now) (length_of len) }
+{
+    layers.iter().any(|layer| any_has_len(&layer.spaces, len))
+}
+
+/// Whether one of the codespace ranges has codes of this length.
+fn any_has_len(spaces: &[Codespace], len: CodeLength) -> bool
+    ensures { IsTrue result
+        ↔ Any (λ space. space.len ≡ length_of len) (map codespace_seen spaces.now) }
+{
+    spaces.iter().any(|space| space.len.count() == len.count())
+}
+
 /// Whether a code fits in this many bytes.
 fn fits_in(code: u32, len: CodeLength) -> bool
     ensures { IsTrue result ↔ code < 256 ^ length_of len }
 {
-    u64::from(code) < 256u64.pow(u32::from(len.count()))
+    u64::from(code) >> (8 * len.count()) == 0
 }
 
 /// Whether one of the codespace ranges contains a code of this length.

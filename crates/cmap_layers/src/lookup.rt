@@ -25,6 +25,7 @@ use std::alloc::{AllocError, Global};
 ///
 /// It is `None` where no layer decides, for a `byte_len` outside 1 to 4, and where the CID that is
 /// declared passes 32 bits. Codespace ranges aren't looked at. Adobe Technical Note 5014.
+#[inline(always)]
 pub fn cid_of(layers: &[Layer], code: u32, byte_len: u8, looks: &mut Looks) -> Option<Cid>
     ensures value { result ≡ cid_of (layers_seen layers.now) code byte_len }
     ensures looks { LooksAtMost looks.old looks.new (cid_looks (layers_seen layers.now) byte_len)
@@ -80,6 +81,7 @@ fn find_bf<'l>(layers: &'l [Layer], code: u32, looks: &mut Looks) -> Option<&'l 
 }
 
 /// The last declaration of a text that contains the code.
+#[inline(always)]
 fn last_bf<'t>(table: &'t Table<BfRange>, code: u32, looks: &mut Looks) -> Option<&'t BfRange>
     ensures found { option_map bf_entry_seen (option_copied result)
         ≡ last_bf (map bf_entry_seen table.now) code }
@@ -91,15 +93,17 @@ fn last_bf<'t>(table: &'t Table<BfRange>, code: u32, looks: &mut Looks) -> Optio
 }
 
 /// What a layer decides for a code, if it does: its CID, or that it has none.
+#[inline(always)]
 fn decided_by(layer: &Layer, code: u32, len: CodeLength, looks: &mut Looks) -> Option<Option<Cid>>
     ensures value { result ≡ layer_cid (layer_seen layer.now) code (length_of len) }
     ensures looks { LooksAtMost looks.old looks.new
         (layer_looks (layer_seen layer.now) (length_of len)) 3 (is_some result) }
 {
-    if let Some(found) = find_cid(&layer.cids, code, len, looks) {
+    let (cids, notdefs) = (table_of(&layer.cids, len), table_of(&layer.notdefs, len));
+    if let Some(found) = find_cid(cids, code, looks) {
         return Some(found.cid.checked_add(code - found.range.start));
     }
-    if let Some(found) = find_cid(&layer.notdefs, code, len, looks) {
+    if let Some(found) = find_cid(notdefs, code, looks) {
         return Some(Some(found.cid));
     }
     let character = character_of(&layer.bfs, code, looks)?;
@@ -117,19 +121,22 @@ fn character_of(table: &Table<BfRange>, code: u32, looks: &mut Looks) -> Option<
     one_char(found.units.as_slice(), code - found.range.start)
 }
 
-/// The last declaration of CIDs for codes of this length that contains the code.
-fn find_cid<'t>(
-    tables: &'t ByLength<Table<CidRange>>,
-    code: u32,
-    len: CodeLength,
-    looks: &mut Looks,
-) -> Option<&'t CidRange>
+/// The table of the codes of this length.
+fn table_of(tables: &ByLength<Table<CidRange>>, len: CodeLength) -> &Table<CidRange>
+    ensures { map cid_entry_seen result.now
+        ≡ of_length (by_length_seen tables.now) (length_of len) }
+{
+    tables.get(len)
+}
+
+/// The last declaration of a CID that contains the code.
+#[inline(always)]
+fn find_cid<'t>(cids: &'t Table<CidRange>, code: u32, looks: &mut Looks) -> Option<&'t CidRange>
     ensures found { option_map cid_entry_seen (option_copied result)
-        ≡ last_cid (of_length (by_length_seen tables.now) (length_of len)) code }
+        ≡ last_cid (map cid_entry_seen cids.now) code }
     ensures start { IfSome result (λ found. found.now.range.start ≤ code) }
     ensures looks { LooksAtMost looks.old looks.new
-        (search_looks (map cid_span (of_length (by_length_seen tables.now) (length_of len)))) 1
-        (is_some result) }
+        (search_looks (map cid_span (map cid_entry_seen cids.now))) 1 (is_some result) }
 {
-    tables.get(len).find(code, looks)
+    cids.find(code, looks)
 }

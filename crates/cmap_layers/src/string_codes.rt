@@ -5,12 +5,13 @@ ghost use Rattle.std.specs.Prelude.{◌≡◌, ◌↔◌, ◌≤◌, true, false
 ghost use Rattle.cmap_files.specs.CodeLengths.{IsCodeLength};
 ghost use Rattle.cmap_files.specs.DeclarationsSeen.{codespace_seen};
 ghost use Rattle.cmap_files.specs.Files as files;
-ghost use Rattle.cmap_files.specs.Only.{IsOnly};
+ghost use Rattle.cmap_files.specs.Only.{HoldsOfNone, IsOnly};
 ghost use Rattle.cmap_layers.specs.LayersSeen.{layers_seen};
+ghost use Rattle.cmap_layers.specs.Lookups.{HaveNoShorter};
 ghost use Rattle.cmap_layers.specs.PartialMatches.{IsBestOf, IsBetter, MatchesMost};
-ghost use Rattle.cmap_layers.specs.StringCodes.{BeginsInside, IsNextCode, Wants, front, ranges_of};
+ghost use Rattle.cmap_layers.specs.StringCodes.{BeginsInside, IsNextCode, IsShortestInside, Wants, front, ranges_of};
 
-use crate::codespaces::{byte_at, contains};
+use crate::codespaces::{byte_at, contains, has_len};
 use crate::layers::Layer;
 use cmap_files::code_length::{CodeLength, read_code};
 use cmap_files::declarations::Codespace;
@@ -41,47 +42,96 @@ pub fn next_code(layers: &[Layer], text: &[u8]) -> Option<StringCode>
     ensures length { IfSome result
         (λ found. IsCodeLength found.byte_len × (found.byte_len ≤ length text.now)) }
 {
-    for byte_len in 1..5 {
-        if let Some(found) = code_inside(layers, text, byte_len) {
-            return Some(found);
-        }
+    next_code_from(layers, text, 1)
+}
+
+/// How many bytes the codes in codespace ranges have at least; 2 also where none has so few.
+pub fn fewest_bytes(layers: &[Layer]) -> u8
+    ensures { HaveNoShorter (layers_seen layers.now) result }
+{
+    if has_len(layers, CodeLength::One) {
+        1
+    } else {
+        2
     }
-    let wanted = bytes_wanted(layers, text);
-    let byte_len = text.len().min(usize::from(wanted)) as u8;
-    let (_, code) = read_code(&text[..usize::from(byte_len)])?;
+}
+
+/// The answer of `next_code`, where no code in a codespace range has fewer bytes than `fewest`.
+#[inline(always)]
+pub fn next_code_from(layers: &[Layer], text: &[u8], fewest: u8) -> Option<StringCode>
+    requires { HaveNoShorter (layers_seen layers.now) fewest }
+    ensures code { MatchOption result (text.now ≡ [])
+        (IsOnly (IsNextCode (layers_seen layers.now) text.now)) }
+    ensures length { IfSome result
+        (λ found. IsCodeLength found.byte_len × (found.byte_len ≤ length text.now)) }
+{
+    let inside = shortest_inside(layers, text, fewest);
+    let (byte_len, code, wanted) = match inside {
+        Some((byte_len, code)) => (byte_len, code, byte_len),
+        None => {
+            let wanted = bytes_wanted(layers, text);
+            let byte_len = text.len().min(usize::from(wanted)) as u8;
+            let (_, code) = read_code(&text[..usize::from(byte_len)])?;
+            (byte_len, code, wanted)
+        }
+    };
     Some(StringCode {
         code,
         byte_len,
-        in_codespace: false,
+        in_codespace: inside.is_some(),
         cut_short: byte_len < wanted,
     })
 }
 
-/// The first `byte_len` bytes of a string, where they are a code in a codespace range.
-fn code_inside(layers: &[Layer], text: &[u8], byte_len: u8) -> Option<StringCode>
+/// The shortest front of a string that is a code in a codespace range: how many bytes it has, and its
+/// number. No such code has fewer bytes than `fewest`.
+#[inline(always)]
+fn shortest_inside(layers: &[Layer], text: &[u8], fewest: u8) -> Option<(u8, u32)>
+    requires { HaveNoShorter (layers_seen layers.now) fewest }
+    ensures { MatchOption result
+        (HoldsOfNone (BeginsInside (layers_seen layers.now) text.now))
+        (λ found. IsShortestInside (layers_seen layers.now) text.now found.0
+        × (found.1 ≡ front text.now found.0)) }
+{
+    for byte_len in 1..5 {
+        if let Some(code) = code_inside_from(layers, text, byte_len, fewest) {
+            return Some((byte_len, code));
+        }
+    }
+    None
+}
+
+/// The answer of `code_inside`, where no code in a codespace range has fewer bytes than `fewest`.
+#[inline(always)]
+fn code_inside_from(layers: &[Layer], text: &[u8], byte_len: u8, fewest: u8) -> Option<u32>
+    requires { HaveNoShorter (layers_seen layers.now) fewest }
     ensures { MatchOption result (BeginsInside (layers_seen layers.now) text.now byte_len → ⊥)
-        (λ found. BeginsInside (layers_seen layers.now) text.now byte_len × (found
-        ≡ record {
-          code = front text.now byte_len;
-          byte_len = byte_len;
-          in_codespace = true;
-          cut_short = false;
-        })) }
+        (λ code. BeginsInside (layers_seen layers.now) text.now byte_len
+        × (code ≡ front text.now byte_len)) }
+{
+    if byte_len < fewest {
+        return None;
+    }
+    code_inside(layers, text, byte_len)
+}
+
+/// The number of the first `byte_len` bytes of a string, where they are a code in a codespace range.
+fn code_inside(layers: &[Layer], text: &[u8], byte_len: u8) -> Option<u32>
+    ensures { MatchOption result (BeginsInside (layers_seen layers.now) text.now byte_len → ⊥)
+        (λ code. BeginsInside (layers_seen layers.now) text.now byte_len
+        × (code ≡ front text.now byte_len)) }
 {
     let (_, code) = read_code(text.get(..usize::from(byte_len))?)?;
     if contains(layers, code, byte_len) {
-        Some(StringCode {
-            code,
-            byte_len,
-            in_codespace: true,
-            cut_short: false,
-        })
+        Some(code)
     } else {
         None
     }
 }
 
 /// How many bytes a string wants for its code where it begins with none in a codespace range.
+#[cold]
+#[inline(never)]
 fn bytes_wanted(layers: &[Layer], text: &[u8]) -> u8
     ensures wanted { Wants (ranges_of (layers_seen layers.now)) text.now result }
     ensures length { IsCodeLength result }

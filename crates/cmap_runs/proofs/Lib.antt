@@ -7,4 +7,5 @@ pub mod MaximalRuns
 pub mod OpenDecide
 pub mod RangesDecide
 pub mod RunsInOrder
+pub mod StartBits
 pub mod StretchesEnd

@@ -322,8 +322,9 @@ impl CMap {
             → result ≡ cid_of self.now code byte_len }
         ensures outside { (InCodespace self.now code byte_len → ⊥) → result ≡ None }
     {
+        let cid = self.lookup_cid_code(code, byte_len)?;
         if codespaces::contains(&self.layers, code, byte_len) {
-            self.lookup_cid_code(code, byte_len)
+            Some(cid)
         } else {
             None
         }

@@ -1,11 +1,7 @@
-//! For blocks of codes, where in a list of runs a search begins and ends.
+//! For blocks of codes, which runs begin in them.
 
-ghost use Rattle.std.specs.Prelude.{◌≡◌, ◌+◌, ◌-◌, ◌/◌, ◌<◌, ◌≤◌, All, IfNone, IfSome, length};
-ghost use Rattle.cmap_runs.specs.Blocks.{AreBlocks, IsWindow};
-ghost use Rattle.cmap_runs.specs.Ranges.{Holds};
-
-use super::HasRange;
-use super::held::Held;
+ghost use Rattle.std.specs.Prelude.{◌≡◌, ◌*◌, ◌/◌, ◌%◌, ◌<◌, ◌≤◌, MatchOption, get_or, length};
+ghost use Rattle.cmap_runs.specs.Blocks.{begun_by};
 
 /// How many codes a block has.
 pub(super) const BLOCK_LEN: u32 = 32;
@@ -16,61 +12,42 @@ pub(super) const MOST_BLOCKS: usize = 2048;
 /// A shorter list of runs has hardly any blocks.
 pub(super) const FEWEST_RUNS: usize = 512;
 
-/// As many runs as `run_count`, from the index `ended` on, are all that hold a code of the block.
+/// Where runs begin among the codes of a block. One that no run holds a code of says that none has
+/// begun by then.
 #[derive(Clone, Copy, Debug)]
 pub(super) struct Block {
-    pub(super) ended: u32,
-    pub(super) run_count: u32,
+    /// How many runs begin before the block.
+    pub(super) begun: u32,
+    /// A bit for each code at which a run begins, that of the first code high.
+    pub(super) starts: u32,
+}
+
+impl Block {
+    /// How many runs begin up to and including a code of the block.
+    pub(super) fn begun_by(&self, code: u32) -> usize
+        ensures { result ≡ begun_by self.now (code % 32) }
+    {
+        let starts = self.starts >> (BLOCK_LEN - 1 - code % BLOCK_LEN);
+        self.begun as usize + starts.count_ones() as usize
+    }
 }
 
 /// The first blocks of codes.
 #[derive(Debug, Drop)]
 pub(super) struct Blocks {
     pub(super) list: Vec<Block>,
-    /// How many runs end before the first code after the blocks.
-    pub(super) ended: usize,
-}
-
-/// A search looks at the runs from the index `low` on and before `high`, at `first` first.
-#[derive(Drop)]
-pub(super) struct Window {
-    pub(super) low: usize,
-    pub(super) first: usize,
-    pub(super) high: usize,
+    /// How many runs don't end before the first code after the blocks.
+    pub(super) left: usize,
 }
 
 impl Blocks {
-    /// Where a search for the run that holds `code` looks; `None` where no run holds it. A run of the
-    /// block has one code at least, so it looks first as far in as the code is in the block.
-    pub(super) fn window<T: HasRange>(&self, held: &Held<T>, code: u32) -> Option<Window>
-        requires { AreBlocks held.now.runs self.now }
-        ensures some { IfSome result (IsWindow held.now.runs code) }
-        ensures none { IfNone result (All (λ run. ¬ (Holds code run)) held.now.runs) }
+    /// The block of the code; `None` where the code comes after all blocks.
+    pub(super) fn block(&self, code: u32) -> Option<&Block>
+        ensures { MatchOption result
+            (32 * length self.now.list.items ≤ code)
+            (λ block. (code / 32 < length self.now.list.items)
+            × (block.now ≡ get_or self.now.list.items (code / 32) block.now)) }
     {
-        let Some(block) = self.list.get((code / BLOCK_LEN) as usize) else {
-            return window_after(held, self.ended);
-        };
-        let (low, run_count) = (block.ended as usize, block.run_count as usize);
-        if run_count == 0 {
-            return None;
-        }
-        let first = low + ((code % BLOCK_LEN) as usize).min(run_count - 1);
-        let high = low + run_count;
-        Some(Window { low, first, high })
+        self.list.get((code / BLOCK_LEN) as usize)
     }
-}
-
-/// All the runs from the index `low` on, the middle first; `None` where there is none.
-fn window_after<T: HasRange>(held: &Held<T>, low: usize) -> Option<Window>
-    ensures none { IfNone result (length held.now.runs ≤ low) }
-    ensures low { IfSome result (λ window. window.low ≡ low) }
-    ensures first { IfSome result (λ window. window.first ≡ low + (window.high - low) / 2) }
-    ensures high { IfSome result (λ window. (window.high ≡ length held.now.runs) × (low < window.high)) }
-{
-    let high = held.run_count();
-    if low >= high {
-        return None;
-    }
-    let first = low + (high - low) / 2;
-    Some(Window { low, first, high })
 }

@@ -1,8 +1,8 @@
 //! What a table holds: runs and declarations. Outside of this module each look at one is counted.
 
-ghost use Rattle.std.specs.Prelude.{◌≡◌, ◌+◌, ◌-◌, ◌<◌, ◌≤◌, true, [], Some, IfOk, OnOk, OnErr, length, map, slice_get};
+ghost use Rattle.std.specs.Prelude.{◌≡◌, ℕ, ◌+◌, ◌-◌, ◌/◌, ◌%◌, ◌^◌, ◌<◌, ◌≤◌, true, [], Some, IfOk, OnOk, OnErr, count_ones, length, map, slice_get};
 ghost use Rattle.std.specs.List.{AllWithin};
-ghost use Rattle.cmap_runs.specs.Blocks.{AreBlocks};
+ghost use Rattle.cmap_runs.specs.Blocks.{AreBlocks, HaveBegun, MayHold, begun_by};
 ghost use Rattle.cmap_runs.specs.HeldRuns.{indices_within, runs_held};
 ghost use Rattle.cmap_runs.specs.Order.{IsInOrder};
 ghost use Rattle.cmap_runs.specs.Ranges.{goes_on, joined};
@@ -165,9 +165,8 @@ impl<T: HasRange> Held<T> {
         }
     }
 
-    /// The blocks of the first codes, up to the end of the last run; none where one has most of the
-    /// runs. It counts no look, and takes `&mut self` so that no search, which has `&self`, can call
-    /// it.
+    /// The blocks of the first codes, up to the end of the last run. It counts no look, and takes
+    /// `&mut self` so that no search, which has `&self`, can call it.
     pub(super) fn blocks(&mut self, alloc: Global) -> Result<Blocks, AllocError>
         requires { IsInOrder self.old.runs }
         ensures blocks { IfOk result (λ blocks. AreBlocks self.old.runs blocks) }
@@ -179,20 +178,45 @@ impl<T: HasRange> Held<T> {
         let (mut ended, mut begun, mut code) = (0, 0, 0);
         while ended < run_count && list.len() < most {
             code += BLOCK_LEN;
-            begun = self.begun_before(begun, code);
-            if begun - ended > run_count / 2 + 1 {
-                return Ok(Blocks {
-                    list: Vec::new(alloc),
-                    ended: 0,
-                });
-            }
-            list.push_reserved(Block {
-                ended: ended as u32,
-                run_count: (begun - ended) as u32,
-            });
+            let (block, count) = self.next_block(ended, begun, code);
+            list.push_reserved(block);
+            begun = count;
             ended = self.ended_before(ended, begun, code);
         }
-        Ok(Blocks { list, ended })
+        let left = run_count - ended;
+        Ok(Blocks { list, left })
+    }
+
+    /// The block that ends before `code`, and how many runs begin before its end. The first `begun` begin
+    /// before it, and the first `ended` are known to end before it.
+    fn next_block(&self, ended: usize, begun: usize, code: u32) -> (Block, usize)
+        requires order { IsInOrder self.now.runs }
+        requires code { (32 ≤ code) × (code % 32 ≡ 0) }
+        requires within { (ended ≤ begun) × (begun ≤ length self.now.runs) }
+        requires begun { AllWithin (λ run. run.low < code - 32) self.now.runs 0 begun }
+        requires later { AllWithin (λ run. code - 32 ≤ run.low) self.now.runs begun
+            (length self.now.runs) }
+        requires ended { AllWithin (λ run. run.high < code - 32) self.now.runs 0 ended }
+        ensures block { (place : ℕ) → place < 32
+            → MayHold self.now.runs (code - 32 + place) (begun_by result.0 place) }
+        ensures within { (begun ≤ result.1) × (result.1 ≤ length self.now.runs) }
+        ensures before { AllWithin (λ run. run.low < code) self.now.runs 0 result.1 }
+        ensures after { AllWithin (λ run. code ≤ run.low) self.now.runs result.1
+            (length self.now.runs) }
+    {
+        let (starts, count) = self.starts_before(begun, code);
+        let block = if count == ended {
+            Block {
+                begun: 0,
+                starts: 0,
+            }
+        } else {
+            Block {
+                begun: begun as u32,
+                starts,
+            }
+        };
+        (block, count)
     }
 
     /// How many blocks may be made. Few runs need none but those of the first codes, where the notdefs
@@ -208,23 +232,34 @@ impl<T: HasRange> Held<T> {
         }
     }
 
-    /// How many runs begin before the code. The first `begun` are known to.
-    fn begun_before(&self, begun: usize, code: u32) -> usize
+    /// Where runs begin in the block that ends before `code`, and how many begin before its end. The first
+    /// `begun` begin before it.
+    fn starts_before(&self, begun: usize, code: u32) -> (u32, usize)
         requires order { IsInOrder self.now.runs }
+        requires code { (32 ≤ code) × (code % 32 ≡ 0) }
         requires within { begun ≤ length self.now.runs }
-        requires begun { AllWithin (λ run. run.low < code) self.now.runs 0 begun }
-        ensures within { result ≤ length self.now.runs }
-        ensures more { begun ≤ result }
-        ensures before { AllWithin (λ run. run.low < code) self.now.runs 0 result }
-        ensures after { AllWithin (λ run. code ≤ run.low) self.now.runs result (length self.now.runs) }
-        ensures few { result ≤ code }
+        requires begun { AllWithin (λ run. run.low < code - 32) self.now.runs 0 begun }
+        requires later { AllWithin (λ run. code - 32 ≤ run.low) self.now.runs begun
+            (length self.now.runs) }
+        ensures starts { (place : ℕ) → place < 32
+            → HaveBegun self.now.runs (length self.now.runs) (code - 32 + place)
+            (begun + count_ones (result.0 / 2 ^ (31 - place))) }
+        ensures within { (begun ≤ result.1) × (result.1 ≤ length self.now.runs) }
+        ensures before { AllWithin (λ run. run.low < code) self.now.runs 0 result.1 }
+        ensures after { AllWithin (λ run. code ≤ run.low) self.now.runs result.1
+            (length self.now.runs) }
     {
         let run_count = self.run_count();
-        let mut index = begun;
-        while index < run_count && self.run_at(index).low < code {
+        let (mut starts, mut index) = (0, begun);
+        while index < run_count {
+            let low = self.run_at(index).low;
+            if low >= code {
+                break;
+            }
+            starts |= 1 << (BLOCK_LEN - 1 - low % BLOCK_LEN);
             index += 1;
         }
-        index
+        (starts, index)
     }
 
     /// How many runs end before the code, before which the first `begun` begin, and the first `ended`

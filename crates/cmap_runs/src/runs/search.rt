@@ -1,24 +1,26 @@
-//! The search for the run that holds a code, by halving.
+//! The search for the run that holds a code.
 
-ghost use Rattle.std.specs.Prelude.{◌≡◌, ◌+◌, ◌≤◌, All, Any, IfNone, IfSome, OnSome, length};
-ghost use Rattle.cmap_runs.specs.Blocks.{IsWindow};
+ghost use Rattle.std.specs.Prelude.{◌≡◌, ◌+◌, ◌-◌, ◌<◌, ◌≤◌, All, Any, IfNone, IfSome, OnSome, length};
+ghost use Rattle.std.specs.List.{AllWithin};
+ghost use Rattle.cmap_runs.specs.Blocks.{AreBlocks, MayHold};
 ghost use Rattle.cmap_runs.specs.Order.{IsInOrder};
 ghost use Rattle.cmap_runs.specs.Ranges.{Holds, digits};
 
 use super::HasRange;
-use super::blocks::Window;
+use super::blocks::Blocks;
 use super::held::Held;
 use super::looks::Looks;
 
-/// The index of the declaration of the run that holds `code`. Only the runs in the window may.
+/// The index of the declaration of the run that holds `code`.
+#[inline(always)]
 pub(super) fn find_index<T: HasRange>(
     held: &Held<T>,
+    blocks: &Blocks,
     code: u32,
-    window: Window,
     looks: &mut Looks,
 ) -> Option<usize>
     requires order { IsInOrder held.now.runs }
-    requires window { IsWindow held.now.runs code window }
+    requires blocks { AreBlocks held.now.runs blocks.now }
     ensures none { IfNone result (All (λ run. ¬ (Holds code run)) held.now.runs) }
     ensures found { IfSome result
         (λ index. Any (λ run. Holds code run × (run.index ≡ index)) held.now.runs) }
@@ -27,8 +29,67 @@ pub(super) fn find_index<T: HasRange>(
     ensures looked { OnSome result (looks.old.runs + 1 ≤ looks.new.runs) }
     ensures declarations { looks.new.declarations ≡ looks.old.declarations }
 {
-    let (mut low, mut middle, mut high) = (window.low, window.first, window.high);
+    match blocks.block(code) {
+        Some(block) => index_of_last(held, block.begun_by(code), code, looks),
+        None if blocks.left == 0 => None,
+        None => find_among_last(held, blocks.left, code, looks),
+    }
+}
+
+/// The index of the declaration of the last one of the first runs, where it holds `code`. No other run
+/// may.
+#[inline(always)]
+fn index_of_last<T: HasRange>(
+    held: &Held<T>,
+    begun: usize,
+    code: u32,
+    looks: &mut Looks,
+) -> Option<usize>
+    requires order { IsInOrder held.now.runs }
+    requires may_hold { MayHold held.now.runs code begun }
+    ensures none { IfNone result (All (λ run. ¬ (Holds code run)) held.now.runs) }
+    ensures found { IfSome result
+        (λ index. Any (λ run. Holds code run × (run.index ≡ index)) held.now.runs) }
+    ensures bound { looks.new.runs ≤ looks.old.runs + digits (length held.now.runs) }
+    ensures grows { looks.old.runs ≤ looks.new.runs }
+    ensures looked { OnSome result (looks.old.runs + 1 ≤ looks.new.runs) }
+    ensures declarations { looks.new.declarations ≡ looks.old.declarations }
+{
+    if begun == 0 {
+        return None;
+    }
+    let last = held.run(begun - 1, looks);
+    if last.high < code {
+        return None;
+    }
+    Some(last.index)
+}
+
+/// The index of the declaration of the run that holds `code`, by halving. Only the last runs, as many as
+/// `left`, may.
+#[inline(never)]
+fn find_among_last<T: HasRange>(
+    held: &Held<T>,
+    left: usize,
+    code: u32,
+    looks: &mut Looks,
+) -> Option<usize>
+    requires order { IsInOrder held.now.runs }
+    requires within { left ≤ length held.now.runs }
+    requires before { AllWithin (λ run. run.high < code) held.now.runs 0
+        (length held.now.runs - left) }
+    ensures none { IfNone result (All (λ run. ¬ (Holds code run)) held.now.runs) }
+    ensures found { IfSome result
+        (λ index. Any (λ run. Holds code run × (run.index ≡ index)) held.now.runs) }
+    ensures bound { looks.new.runs ≤ looks.old.runs + digits (length held.now.runs) }
+    ensures grows { looks.old.runs ≤ looks.new.runs }
+    ensures looked { OnSome result (looks.old.runs + 1 ≤ looks.new.runs) }
+    ensures declarations { looks.new.declarations ≡ looks.old.declarations }
+{
+    let mut high = held.run_count();
+    let mut low = high - left;
     while low < high {
+        let middle = low + (high - low) / 2;
         let candidate = held.run(middle, looks);
         if code < candidate.low {
             high = middle;
@@ -37,7 +98,6 @@ pub(super) fn find_index<T: HasRange>(
         } else {
             return Some(candidate.index);
         }
-        middle = low + (high - low) / 2;
     }
     None
 }

@@ -60,6 +60,7 @@ impl<T: HasRange> Table<T> {
     }
 
     /// The last declaration of the list that contains `code`; `None` where there is none.
+    #[inline(always)]
     pub fn find(&self, code: u32, looks: &mut Looks) -> Option<&T>
         ensures found { option_copied result ≡ last_of T.span self.now code }
         ensures contains { IfSome result
@@ -72,8 +73,7 @@ impl<T: HasRange> Table<T> {
         ensures no_declaration { IfNone result
             (looks.new.declarations ≡ looks.old.declarations) }
     {
-        let window = self.blocks.window(&self.held, code)?;
-        let index = find_index(&self.held, code, window, looks)?;
+        let index = find_index(&self.held, &self.blocks, code, looks)?;
         Some(self.held.declaration(index, looks))
     }
 

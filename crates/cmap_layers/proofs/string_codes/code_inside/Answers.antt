@@ -1,10 +1,9 @@
-use Rattle.std.proofs.Common.{◌≡◌, ℕ, ◌≤◌, length, true, false, sym, ap, subst, arith}
+use Rattle.std.proofs.Common.{◌≡◌, ◌≤◌, length, sym, subst, arith}
 use Rattle.std.proofs.lemmas.Bool.{false≢true}
 use Rattle.std.proofs.lemmas.Grind.{common_steps}
 use Rattle.cmap_layers.specs.LayersSeen.{layers_seen}
 use Rattle.cmap_layers.specs.Lookups.{InCodespace}
 use Rattle.cmap_layers.specs.StringCodes.{front}
-use Rattle.cmap_layers.specs.declared.string_codes.StringCode.{StringCode}
 use Rattle.cmap_layers.proofs.string_codes.code_inside.Goals as goal
 use Rattle.cmap_layers.proofs.string_codes.code_inside.Goals.{In_ok-code}
 
@@ -16,10 +15,8 @@ read c = grind (arith, common_steps)
 
 pub returns-then-contains : goal.returns-then-contains
 returns-then-contains c =
-    let (within, is) = read (goal.at.returns-then-contains c).In_ok-code in (
-      (within, subst (λ code. InCodespace (layers_seen c.args.layers.now) code c.args.byte_len) is (c.contains.ensures.0 c.if-contains.true)),
-      ap (λ (code : ℕ). let found : StringCode = record { code = code; byte_len = c.args.byte_len; in_codespace = true; cut_short = false } in found) is,
-    )
+    let (within, is) = read (goal.at.returns-then-contains c).In_ok-code in
+    ((within, subst (λ code. InCodespace (layers_seen c.args.layers.now) code c.args.byte_len) is (c.contains.ensures.0 c.if-contains.true)), is)
 
 pub returns-else-contains : goal.returns-else-contains
 returns-else-contains c = λ begins.

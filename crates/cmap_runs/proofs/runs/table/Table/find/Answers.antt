@@ -5,15 +5,10 @@ use Rattle.cmap_runs.proofs.runs.table.Table.find.Goals as goal
 pub find_index-requires-clause-order : goal.find_index-requires-clause-order
 find_index-requires-clause-order g c = runs_in_order (map g.T.HasRange.span c.self.inside.held.declarations) c.self.invariant.0
 
-pub returns-in_err-window-clause-found : goal.returns-in_err-window-clause-found
-returns-in_err-window-clause-found g c =
-    let none = no_index (map g.T.HasRange.span c.self.inside.held.declarations) c.args.code c.self.invariant.0 (omega (arith, c.ranges.code.fits)) c.in_err-window.ensures.none in
-    rw c.from_residual.ensures (none_last g.T.HasRange.span c.self.inside.held.declarations c.args.self.now c.args.code none c.self.view_is)
-
 pub returns-in_err-index-clause-found : goal.returns-in_err-index-clause-found
 returns-in_err-index-clause-found g c =
     let none = no_index (map g.T.HasRange.span c.self.inside.held.declarations) c.args.code c.self.invariant.0 (omega (arith, c.ranges.code.fits)) c.in_err-index.ensures.none in
-    rw c.from_residual-in_err-index.ensures (none_last g.T.HasRange.span c.self.inside.held.declarations c.args.self.now c.args.code none c.self.view_is)
+    rw c.from_residual.ensures (none_last g.T.HasRange.span c.self.inside.held.declarations c.args.self.now c.args.code none c.self.view_is)
 
 pub declaration-requires : goal.declaration-requires
 declaration-requires g c =

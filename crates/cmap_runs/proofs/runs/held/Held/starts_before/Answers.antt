@@ -1,0 +1,40 @@
+use Rattle.std.proofs.Common.{◌≡◌, ◌-◌, ◌%◌, ◌<◌, ◌≤◌, length, get_or, sym, ap, ◌∙◌, inl, inr, arith}
+use Rattle.std.proofs.lemmas.Bool.{cases_lt}
+use Rattle.std.proofs.lemmas.Option.{get_or_from_slice_get}
+use Rattle.cmap_runs.specs.Ranges.{Run}
+use Rattle.cmap_runs.proofs.BlocksMade.{last_start, next_start, none_begun}
+use Rattle.cmap_runs.proofs.runs.held.Held.starts_before.Goals as goal
+
+pub loop-index-preserved : goal.loop-index-preserved
+loop-index-preserved g c =
+    let runs = c.args.self.now.runs in let index = c.loop-index.index in let first = c.args.code - 32 in let old = c.loop-index.invariant in
+    let low = λ (d : Run). ap (λ (run : Run). run.low) (c.low.view_is ∙ sym (get_or_from_slice_get runs index _ d c.run_at.ensures)) in
+    let d : Run = record { low = 0; high = 0; index = 0 } in
+    let inside : index < length runs = omega arith in
+    let from : first ≤ c.low.inside.low = omega (arith, low d, c.requires.later index d old.more inside) in
+    let place = c.low.inside.low % 32 in
+    record {
+      within = omega arith;
+      more = omega (arith, old.more);
+      before = λ k d le below.
+          elim (cases_lt k index) [
+            | inl inner ↦ old.before k d le inner
+            | inr last ↦ let same : k ≡ index = omega arith in omega (arith, ap (λ i. (get_or runs i d).low) same, low d, c.if-low-code.false)
+          ];
+      starts = next_start runs first c.args.begun index c.loop-index.starts place c.requires.order old.more inside c.requires.begun
+          (λ d. omega (arith, low d, from, c.requires.code, c.if-low-code.false)) (omega arith) old.starts;
+    }
+
+pub returns-then-low-code-clause-starts : goal.returns-then-low-code-clause-starts
+returns-then-low-code-clause-starts g c =
+    let runs = c.args.self.now.runs in let index = c.loop-index.index in let code = c.args.code in
+    let later = none_begun runs code index c.requires.order (omega arith)
+    (λ d. omega (arith, ap (λ (run : Run). run.low) (c.low.view_is ∙ sym (get_or_from_slice_get runs index _ d c.run_at.ensures)))) in
+    last_start runs (code - 32) c.args.begun index c.loop-index.starts c.loop-index.invariant.within
+    (λ k d le below. omega (arith, later k d le below, c.requires.code)) c.loop-index.invariant.starts
+
+pub returns-then-low-code-clause-after : goal.returns-then-low-code-clause-after
+returns-then-low-code-clause-after g c =
+    let runs = c.args.self.now.runs in let index = c.loop-index.index in
+    none_begun runs c.args.code index c.requires.order (omega arith)
+    (λ d. omega (arith, ap (λ (run : Run). run.low) (c.low.view_is ∙ sym (get_or_from_slice_get runs index _ d c.run_at.ensures))))

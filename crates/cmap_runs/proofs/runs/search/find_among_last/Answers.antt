@@ -1,0 +1,61 @@
+use Rattle.std.proofs.Common.{rules, ◌≡◌, ◌+◌, ◌-◌, ◌/◌, ◌≤◌, length, sym, ap, ◌∙◌, refl, arith}
+use Rattle.std.proofs.lemmas.Option.{get_or_from_slice_get}
+use Rattle.cmap_runs.specs.Ranges.{Run, digits}
+use Rattle.cmap_runs.proofs.BinaryDigits.{digits_least, digits_room, looks_half}
+use Rattle.cmap_runs.proofs.RunsInOrder.{before_later, after_earlier}
+use Rattle.cmap_runs.proofs.runs.search.find_among_last.Goals as goal
+
+pub loop-low-init : goal.loop-low-init
+loop-low-init g c =
+    let number = length c.args.held.now.runs in let count = c.run_count-high.result in
+    let left : count - (count - c.args.left) ≡ c.args.left = omega (arith, c.requires.within) in
+    let fewer : digits c.args.left ≤ digits number = digits_least c.args.left (digits number) (omega (arith, c.requires.within, digits_room number)) in
+    record {
+      within = omega arith;
+      below = λ k d le lt. c.requires.before k d le (omega (arith, lt));
+      above = λ k d le lt. absurd (omega arith);
+      most = omega (arith, ap digits left, fewer);
+      grows = omega arith;
+      declarations = refl;
+    }
+
+pub loop-low-preserved-then-code-candidate : goal.loop-low-preserved-then-code-candidate
+loop-low-preserved-then-code-candidate g c =
+    let low = c.loop-low.low in let high = c.loop-low.high in let runs = c.args.held.now.runs in let old = c.loop-low.invariant in
+    let middle = low + (high - low) / 2 in let looked = c.run-candidate.ensures in
+    record {
+      within = omega (arith, old.within);
+      below = old.below;
+      above = λ k d le lt.
+          before_later runs c.args.code middle k d c.requires.order le lt
+          (omega (arith, c.if-code-candidate.true, ap (λ (run : Run). run.low) (c.candidate.view_is ∙ sym (get_or_from_slice_get runs middle _ d looked.run))));
+      most = omega (arith, looked.runs, (looks_half low high _ _ c.loop-low-test.true old.most).0);
+      grows = omega (arith, looked.runs, old.grows);
+      declarations = search rules;
+    }
+
+pub loop-low-preserved : goal.loop-low-preserved
+loop-low-preserved g c =
+    let low = c.loop-low.low in let high = c.loop-low.high in let runs = c.args.held.now.runs in let old = c.loop-low.invariant in
+    let middle = low + (high - low) / 2 in let looked = c.run-candidate.ensures in
+    record {
+      within = old.within;
+      below = λ k d le lt.
+          after_earlier runs c.args.code middle k d c.requires.order (omega arith) (omega (arith, old.within))
+          (omega (arith, c.if-candidate-code.true, ap (λ (run : Run). run.high) (c.candidate.view_is ∙ sym (get_or_from_slice_get runs middle _ d looked.run))));
+      above = old.above;
+      most = omega (arith, looked.runs, (looks_half low high _ _ c.loop-low-test.true old.most).1);
+      grows = omega (arith, looked.runs, old.grows);
+      declarations = search rules;
+    }
+
+pub returns-else-candidate-code-clause-found : goal.returns-else-candidate-code-clause-found
+returns-else-candidate-code-clause-found g c =
+    let middle = c.loop-low.low + (c.loop-low.high - c.loop-low.low) / 2 in
+    let run : Run = c.run-candidate.result in
+    let low = ap (λ (run : Run). run.low) c.candidate.view_is in let high = ap (λ (run : Run). run.high) c.candidate.view_is in
+    (middle, run, omega (arith, c.loop-low.invariant.within), get_or_from_slice_get c.args.held.now.runs middle run run c.run-candidate.ensures.run, (((omega arith, omega arith), ap (λ (run : Run). run.index) (sym c.candidate.view_is))))
+
+pub returns-else-candidate-code-clause-bound : goal.returns-else-candidate-code-clause-bound
+returns-else-candidate-code-clause-bound g c =
+    omega (arith, c.run-candidate.ensures.runs, (looks_half c.loop-low.low c.loop-low.high _ _ c.loop-low-test.true c.loop-low.invariant.most).0)
