@@ -1,13 +1,17 @@
 //! The codes of a string, for C.
 
 ghost use Rattle.std.specs.Prelude.{◌≡◌, MatchOption};
+ghost use Rattle.cmap_layers.specs.LayersSeen.{layers_seen};
 ghost use Rattle.cmap_c.specs.Statuses.{number};
 ghost use Rattle.cmap_c.specs.Strings.{IsDecoded, code_seen};
 ghost use Rattle.cmap_c.specs.declared.status.Status.TheVariants.{Absent};
 
 use crate::handle::MapHandle;
 use crate::status::Status;
-use hayro_cmap::{CMap, StringCode};
+use cmap_layers::layers::Layer;
+use cmap_layers::lookup::cid_of;
+use cmap_layers::string_codes::{StringCode, fewest_bytes, next_code_from};
+use cmap_runs::runs::Looks;
 use std::alloc::Global;
 
 /// A code of a string, with its CID. It has no padding, and each of its fields may have any value,
@@ -50,22 +54,29 @@ pub extern "C" fn hayro_cmap_decode(
         *taken = 0;
         return Status::Absent.number();
     };
-    let status = decode(found.value(), text, codes, made, taken);
+    let status = decode(found.value().layers(), text, codes, made, taken);
     map.put(found);
     status
 }
 
 /// Cuts a string into codes, as many as there is room for.
-fn decode(map: &CMap, text: &[u8], codes: &mut [Code], made: &mut usize, taken: &mut usize) -> u32
-    ensures { IsDecoded map.now text.now codes.old codes.new made.new taken.new result }
+fn decode(
+    layers: &[Layer],
+    text: &[u8],
+    codes: &mut [Code],
+    made: &mut usize,
+    taken: &mut usize,
+) -> u32
+    ensures { IsDecoded (layers_seen layers.now) text.now codes.old codes.new made.new taken.new result }
 {
+    let fewest = fewest_bytes(layers);
     let mut left = text;
     let mut count = 0;
     while count < codes.len() {
-        let Some(next) = map.next_code(left) else {
+        let Some(next) = next_code_from(layers, left, fewest) else {
             break;
         };
-        codes[count] = with_cid(map, next);
+        codes[count] = with_cid(layers, next);
         left = &left[usize::from(next.byte_len)..];
         count += 1;
     }
@@ -79,10 +90,10 @@ fn decode(map: &CMap, text: &[u8], codes: &mut [Code], made: &mut usize, taken: 
 }
 
 /// A code with its CID.
-fn with_cid(map: &CMap, found: StringCode) -> Code
-    ensures { result ≡ code_seen map.now found }
+fn with_cid(layers: &[Layer], found: StringCode) -> Code
+    ensures { result ≡ code_seen (layers_seen layers.now) found }
 {
-    let cid = map.lookup_cid_code(found.code, found.byte_len);
+    let cid = cid_of(layers, found.code, found.byte_len, &mut Looks::new());
     Code {
         code: found.code,
         cid: cid.unwrap_or(0),

@@ -279,6 +279,7 @@ impl CMap {
     ///
     /// It is `None` where no layer decides, for a `byte_len` outside 1 to 4, and where the CID that is
     /// declared passes 32 bits. Codespace ranges aren't looked at.
+    #[inline(always)]
     pub fn lookup_cid_code(&self, code: u32, byte_len: u8) -> Option<Cid>
         ensures { result ≡ cid_of self.now code byte_len }
     {

@@ -1,6 +1,7 @@
 use Rattle.std.proofs.Common.{rules, ◌≡◌, ℕ, ◌+◌, ◌-◌, ◌<◌, ◌≤◌, length, drop, take, List, ◌∙◌, ap, subst, sym, arith, inl, inr}
 use Rattle.std.proofs.Math.ListN.{set}
 use Rattle.std.proofs.lemmas.List.{take_rest}
+use Rattle.cmap_layers.specs.LayersSeen.{layers_seen}
 use Rattle.cmap_c.proofs.StringsCut.{IsCutting, cuts, first_codes}
 use Rattle.cmap_c.proofs.decode.decode.Goals as goal
 use Rattle.cmap_c.proofs.decode.decode.Goals.{else-loop-count-test, then-loop-count-test+in_default}
@@ -9,11 +10,11 @@ pub loop-count-preserved : goal.loop-count-preserved
 loop-count-preserved c =
     let within : c.in-Some.next.byte_len ≤ length c.loop-count.left.now = c.in-Some.ensures.length.1 in
     let room : c.loop-count.count < length c.args.codes.now = omega arith in
-    let more : IsCutting c.args.map.now c.args.text.now (drop c.in-Some.next.byte_len c.loop-count.left.now) c.args.codes.now (set c.loop-count.codes c.loop-count.count c.with_cid.result) (c.loop-count.count + 1) =
-    rw c.with_cid.ensures (cuts c.args.map.now c.args.text.now c.loop-count.left.now c.args.codes.now c.loop-count.codes c.loop-count.count c.in-Some.next c.loop-count.invariant c.in-Some.ensures.code within room) in
+    let more : IsCutting (layers_seen c.args.layers.now) c.args.text.now (drop c.in-Some.next.byte_len c.loop-count.left.now) c.args.codes.now (set c.loop-count.codes c.loop-count.count c.with_cid.result) (c.loop-count.count + 1) =
+    rw c.with_cid.ensures (cuts (layers_seen c.args.layers.now) c.args.text.now c.loop-count.left.now c.args.codes.now c.loop-count.codes c.loop-count.count c.in-Some.next c.loop-count.invariant c.in-Some.ensures.code within room) in
     let rest : take (length c.loop-count.left.now - c.from.result) (drop c.from.result c.loop-count.left.now) ≡ drop c.in-Some.next.byte_len c.loop-count.left.now =
     take_rest c.loop-count.left.now c.from.result ∙ ap (λ (n : ℕ). drop n c.loop-count.left.now) c.from.ensures in
-    let P : List ℕ → Type 0 = λ left. IsCutting c.args.map.now c.args.text.now left c.args.codes.now (set c.loop-count.codes c.loop-count.count c.with_cid.result) (c.loop-count.count + 1) in
+    let P : List ℕ → Type 0 = λ left. IsCutting (layers_seen c.args.layers.now) c.args.text.now left c.args.codes.now (set c.loop-count.codes c.loop-count.count c.with_cid.result) (c.loop-count.count + 1) in
     subst P (sym rest) more
 
 pub returns-then-is_empty : goal.returns-then-is_empty
