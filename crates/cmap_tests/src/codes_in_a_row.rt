@@ -71,8 +71,18 @@ fn a_row_ends_with_the_codes_and_the_cids_of_32_bits(rt: HostRuntime) -> Result<
     let map = map_of_two_layers(rt.alloc())?.expect(&rt, "refused");
     let mut cids = [0; 18];
     map.fill_cids(0xFFFF_FFEF, 4, ABSENT, &mut cids);
-    assert!(rt; cids[..7] == [ABSENT, 4_294_967_290, 4_294_967_291, 4_294_967_292, 4_294_967_293,
-        4_294_967_294, u32::MAX]);
+    assert!(rt;
+        cids[..7]
+            == [
+                ABSENT,
+                4_294_967_290,
+                4_294_967_291,
+                4_294_967_292,
+                4_294_967_293,
+                4_294_967_294,
+                u32::MAX
+            ]
+    );
     assert!(rt; cids[7..].iter().all(|cid| *cid == ABSENT));
     Ok(())
 }
