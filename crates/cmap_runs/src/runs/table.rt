@@ -15,9 +15,10 @@ use super::sweep::runs_of;
 use std::alloc::{AllocError, Global};
 use std::marker::Model;
 
-/// A list of declarations, in which the last one that contains a code is found by halving a list
-/// of runs. A run is a row of codes that one declaration decides, as long as can be. A clause
-/// sees the list. Indices count from 0, and codes are numbers of 32 bits.
+/// A list of declarations, in which the last one that contains a code is found in a list of runs: by a
+/// count of bits for the first codes, and by halving for others. A run is a row of codes that one
+/// declaration decides, as long as can be. A clause sees the list. Indices count from 0, and codes are
+/// numbers of 32 bits.
 ///
 /// Where the ranges lie apart, they are the runs, and nothing but their order is held beside the
 /// declarations. A look at such a run reads the range of its declaration, and counts as a look at
