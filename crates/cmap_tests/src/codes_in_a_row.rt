@@ -28,13 +28,25 @@ fn map_of_two_layers(alloc: Global) -> Result<Option<CMap>, Fail> {
     Ok(CMap::parse(alloc, FILE, None, &get_cmap)?)
 }
 
+/// What a lookup gives for the code that comes `index` codes after the first.
+fn cid_by_lookup(map: &CMap, first: u32, index: usize, byte_len: u8) -> u32 {
+    let Ok(index) = u32::try_from(index) else {
+        return ABSENT;
+    };
+    match first.checked_add(index) {
+        Some(code) => map.lookup_cid_code(code, byte_len).unwrap_or(ABSENT),
+        None => ABSENT,
+    }
+}
+
 /// Whether each code from `first` on has the CID that a lookup gives.
 fn are_those_of_lookups(map: &CMap, first: u32, byte_len: u8, cids: &[u32]) -> bool {
-    cids.iter().enumerate().all(|(index, cid)| {
-        let code = first.checked_add(index as u32);
-        let found = code.and_then(|code| map.lookup_cid_code(code, byte_len));
-        *cid == found.unwrap_or(ABSENT)
-    })
+    for (index, cid) in cids.iter().enumerate() {
+        if *cid != cid_by_lookup(map, first, index, byte_len) {
+            return false;
+        }
+    }
+    true
 }
 
 #[test]
@@ -71,8 +83,18 @@ fn a_row_ends_with_the_codes_and_the_cids_of_32_bits(rt: HostRuntime) -> Result<
     let map = map_of_two_layers(rt.alloc())?.expect(&rt, "refused");
     let mut cids = [0; 18];
     map.fill_cids(0xFFFF_FFEF, 4, ABSENT, &mut cids);
-    assert!(rt; cids[..7] == [ABSENT, 4_294_967_290, 4_294_967_291, 4_294_967_292, 4_294_967_293,
-        4_294_967_294, u32::MAX]);
+    assert!(rt;
+        cids[..7]
+            == [
+                ABSENT,
+                4_294_967_290,
+                4_294_967_291,
+                4_294_967_292,
+                4_294_967_293,
+                4_294_967_294,
+                u32::MAX
+            ]
+    );
     assert!(rt; cids[7..].iter().all(|cid| *cid == ABSENT));
     Ok(())
 }
