@@ -28,13 +28,25 @@ fn map_of_two_layers(alloc: Global) -> Result<Option<CMap>, Fail> {
     Ok(CMap::parse(alloc, FILE, None, &get_cmap)?)
 }
 
+/// What a lookup gives for the code that comes `index` codes after the first.
+fn cid_by_lookup(map: &CMap, first: u32, index: usize, byte_len: u8) -> u32 {
+    let Ok(index) = u32::try_from(index) else {
+        return ABSENT;
+    };
+    match first.checked_add(index) {
+        Some(code) => map.lookup_cid_code(code, byte_len).unwrap_or(ABSENT),
+        None => ABSENT,
+    }
+}
+
 /// Whether each code from `first` on has the CID that a lookup gives.
 fn are_those_of_lookups(map: &CMap, first: u32, byte_len: u8, cids: &[u32]) -> bool {
-    cids.iter().enumerate().all(|(index, cid)| {
-        let code = first.checked_add(index as u32);
-        let found = code.and_then(|code| map.lookup_cid_code(code, byte_len));
-        *cid == found.unwrap_or(ABSENT)
-    })
+    for (index, cid) in cids.iter().enumerate() {
+        if *cid != cid_by_lookup(map, first, index, byte_len) {
+            return false;
+        }
+    }
+    true
 }
 
 #[test]
