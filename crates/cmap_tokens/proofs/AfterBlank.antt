@@ -1,13 +1,13 @@
 -- A token that stands after one white byte.
 use Rattle.std.proofs.Common.{◌≡◌, ℕ, ◌+◌, ◌<◌, ◌≤◌, ◌==◌, Bool, false, true, List, [], ◌∷◌, ◌++◌, length, get_or, take, drop, Some, inl, inr, refl, sym, ap, ◌∙◌, subst, arith, length-take-le}
-use Rattle.std.specs.Prelude.{IsTrue, pos}
+use Rattle.std.specs.Prelude.{IfSome, IsTrue, None, Option, ◌&&◌, if◌then◌else◌, nat_le, nat_lt, not, pos}
 use Rattle.std.specs.Char.{is_digit}
 use Rattle.std.specs.List.{list_all}
 use Rattle.std.specs.Option.{option_map_or}
 use Rattle.std.proofs.Math.Seq.{drop-cons}
-use Rattle.std.proofs.lemmas.Bool.{or_right}
-use Rattle.std.proofs.lemmas.Bool.Decides.{nat_tests}
+use Rattle.std.proofs.lemmas.Bool.{and_parts, eqb-true, false≢true, leb-true, ltb-true, or_right}
 use Rattle.std.proofs.lemmas.List.{drop_at, take-append-drop}
+use Rattle.std.proofs.lemmas.Option.{none-some}
 use Rattle.cmap_tokens.specs.Bytes.{is_white, is_regular}
 use Rattle.cmap_tokens.specs.Numbers.{Integer, decimal_front, digits_len, digits_value, digits_number}
 use Rattle.cmap_tokens.specs.Scanner.{FirstToken, OnlyFront, spaced_decimal, spaced_two_bytes}
@@ -17,6 +17,15 @@ use Rattle.cmap_tokens.proofs.ByteTests.{all_front, all_weaker, other_byte}
 use Rattle.cmap_tokens.proofs.Digits.{digit_regular, digits_numeral, digits_small, paired, written}
 use Rattle.cmap_tokens.proofs.Fronts.{front_only}
 use Rattle.cmap_tokens.proofs.StringValues.{one_value}
+
+-- what a test chose in place of nothing
+chosen : {A : Type 0} (test : Bool) (x : Option A) (y : A) → (if test then x else None) ≡ Some y → (test ≡ true) × (x ≡ Some y)
+chosen true x y e = (refl, e)
+chosen false x y e = absurd (none-some y e)
+
+fails : (test : Bool) → not test ≡ true → test ≡ false
+fails false e = refl
+fails true e = absurd (false≢true e)
 
 first_after_blank : (text : List ℕ) (blank len : ℕ) (piece rest : List ℕ) (token : Token) → text ≡ blank ∷ piece ++ rest → is_white blank ≡ true → IsToken piece token → (IsTrue (begins_name piece) → begins_regular rest ≡ false) → len ≡ 1 + length piece → FirstToken text token len
 first_after_blank text blank len piece rest token whole white is longest long =
@@ -37,10 +46,11 @@ two_bytes_written a b c d n all is =
 pub two_bytes_first : (text : List ℕ) (n : ℕ) → spaced_two_bytes text ≡ Some n → (piece : List ℕ) × FirstToken text (String piece) 7 × WritesTwoBytes piece n
 two_bytes_first (blank ∷ l ∷ a ∷ b ∷ c ∷ d ∷ g ∷ rest) n e =
     let digits : List ℕ = a ∷ b ∷ c ∷ d ∷ [] in
-    let greater : g ≡ 62 = grind (arith, nat_tests, e) in
-    let less : l ≡ 60 = grind (arith, nat_tests, e) in
-    let white : is_white blank ≡ true = grind (arith, nat_tests, e) in
-    let read : digits_value 16 digits ≡ Some n = grind (arith, nat_tests, e) in
+    let (tests, read) = chosen ((g == 62) && (l == 60) && is_white blank) (digits_value 16 digits) n e in
+    let (ends, white) = and_parts ((g == 62) && (l == 60)) (is_white blank) tests in
+    let (ends, opens) = and_parts (g == 62) (l == 60) ends in
+    let greater : g ≡ 62 = eqb-true g 62 ends in
+    let less : l ≡ 60 = eqb-true l 60 opens in
     let is = written 16 4 digits n (omega arith) (omega arith) read in
     let (writes, hex) = two_bytes_written a b c d n is.all is.number in
     (_, first_after_blank _ blank 7 _ rest _ (rw (greater, less) refl) white (inr (inr (inr (inl hex, refl)))) (λ h. cc) refl, writes)
@@ -62,21 +72,30 @@ record Decimal (text : List ℕ) (number len : ℕ) : Type 0 where
   special : is_regular (get_or text len 0) ≡ false
 
 decimal_is : (text : List ℕ) (first : ℕ × ℕ) → decimal_front text ≡ Some first → Decimal text first.0 first.1
-decimal_is text first e = record {
-  len_is = grind (arith, nat_tests, e);
-  number_is = grind (arith, nat_tests, e);
-  filled = grind (arith, nat_tests, e);
-  few = grind (arith, nat_tests, e);
-  within = grind (arith, nat_tests, e);
-  special = grind (arith, nat_tests, e);
-}
+decimal_is text first e =
+    let len = digits_len 10 text in
+    let number = digits_number 10 (take len text) in
+    let many : Bool = nat_le 1 len && nat_le len 18 in
+    let last : Bool = not (is_regular (get_or text len 0)) in
+    let (tests, read) = chosen (many && nat_lt len (length text) && last) (Some (number, len)) first e in
+    let (others, special) = and_parts (many && nat_lt len (length text)) last tests in
+    let (few, within) = and_parts many (nat_lt len (length text)) others in
+    let (filled, few) = and_parts (nat_le 1 len) (nat_le len 18) few in
+    let is : Decimal text number len = record {
+      len_is = refl;
+      number_is = refl;
+      filled = leb-true 1 len filled;
+      few = leb-true len 18 few;
+      within = ltb-true len (length text) within;
+      special = fails (is_regular (get_or text len 0)) special;
+    } in
+    subst (λ (r : Option (ℕ × ℕ)). IfSome r (λ k. Decimal text k.0 k.1)) read is
 
 pub decimal_first : (text : List ℕ) (number len : ℕ) → spaced_decimal text ≡ Some (number, len) → FirstToken text (Numeral (Integer (pos number))) (1 + len)
 decimal_first [] number len e = cc
 decimal_first (blank ∷ text) number len e =
     let p : ℕ → Bool = λ c. is_digit c 10 in
-    let white : is_white blank ≡ true = grind (arith, nat_tests, e) in
-    let front : decimal_front text ≡ Some (number, len) = rw white at e in
+    let (white, front) = chosen (is_white blank) (decimal_front text) (number, len) e in
     let is = decimal_is text (number, len) front in
     let piece = take len text in
     let long : length piece ≡ len = length-take-le len text (omega (arith, is.within)) in
