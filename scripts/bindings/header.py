@@ -4,7 +4,7 @@ import ctypes
 import re
 
 from .checks import needs, run
-from .library import COMPILERS, TOP, WARNINGS
+from .library import C_TESTS, COMPILERS, TOP, WARNINGS
 
 HEADER = re.sub(r"/\*.*?\*/", "", (TOP / "include" / "hayro_cmap.h").read_text(), flags=re.S)
 CRATE = TOP / "crates" / "cmap_c" / "src"
@@ -141,6 +141,12 @@ def test_calls_are_those_of_the_crate(checks, _setting):
         results, parameters = exported[name]
         checks.holds(f"the result of {name}", declared[name][0] in results, f"{declared[name][0]}, not of {results}")
         checks.same(f"the parameters of {name}", declared[name][1], parameters)
+
+
+def test_calls_are_tested_from_c(checks, _setting):
+    """Each stands in the tests in C."""
+    tests = C_TESTS.read_text()
+    checks.same("the calls without a test in C", [name for name in sorted(declarations()) if f"{name}(" not in tests], [])
 
 
 def test_structs_are_those_of_the_crate(checks, _setting):

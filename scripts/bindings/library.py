@@ -7,6 +7,7 @@ from .checks import Failed, run
 
 TOP = Path(__file__).resolve().parent.parent.parent
 EXAMPLES = TOP / "examples"
+C_TESTS = TOP / "bindings" / "c" / "tests.c"
 CPP_TESTS = TOP / "bindings" / "cpp" / "tests.cc"
 
 WARNINGS = ["-Wall", "-Wextra", "-Wpedantic", "-Werror"]

@@ -1,4 +1,4 @@
-"""The tests that are written in C++, Rust and Python, and how the crate and the package are built."""
+"""The tests that are written in C, C++, Rust and Python, and how the crate and the package are built."""
 
 import functools
 import re
@@ -6,7 +6,7 @@ import sys
 
 from .checks import Failed, needs, run
 from .known import has_debian_files
-from .library import CPP_TESTS, MEMCHECK, TOP
+from .library import C_TESTS, CPP_TESTS, MEMCHECK, TOP
 
 CRATE = TOP / "bindings" / "rust"
 PACKAGE = TOP / "bindings" / "python"
@@ -70,6 +70,20 @@ def check_crate(checks, setting, what, **environment):
     passed = sum(int(number) for number, _ in counts)
     checks.holds(f"cargo test, {what}", ran.status == 0 and passed > 0, ran)
     print(f"cargo test, {what}: {passed} passed", flush=True)
+
+
+@needs("gcc")
+def test_c_suite(checks, setting):
+    """The tests of hayro_cmap.h, plain and with the sanitizers."""
+    checks.ended("the tests in C", run(setting.programs.path(C_TESTS)), "ok\n")
+    checks.ended("the tests in C with the sanitizers", run(setting.programs.sanitized(C_TESTS)), "ok\n")
+
+
+@needs("gcc", "valgrind")
+def test_c_suite_under_memcheck(checks, setting):
+    """Every block is freed, and no address is wrong."""
+    ran = run(*MEMCHECK, setting.programs.path(C_TESTS))
+    checks.ended("the tests in C under memcheck", ran, "ok\n")
 
 
 @needs("g++")

@@ -21,8 +21,6 @@ mod row;
 mod shared;
 mod slot;
 mod status;
-#[cfg(test)]
-mod tests;
 mod uses;
 mod utf8_text;
 mod version;

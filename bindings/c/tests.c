@@ -1,0 +1,344 @@
+// Tests of hayro_cmap.h: each call, and what it leaves unwritten. It prints `ok`, or the lines of the checks that
+// failed, with status 1.
+#include "hayro_cmap.h"
+#include <stdio.h>
+#include <string.h>
+
+static int failed = 0;
+
+#define CHECK(holds)                                                                               \
+    do {                                                                                           \
+        if (!(holds)) {                                                                            \
+            fprintf(stderr, "%s:%d: %s\n", __FILE__, __LINE__, #holds);                            \
+            failed = 1;                                                                            \
+        }                                                                                          \
+    } while (0)
+
+// The bytes of a literal, and how many they are.
+#define TEXT(literal) hayro_cmap_bytes(literal), sizeof(literal) - 1
+#define BYTES(bytes) (bytes), sizeof(bytes)
+
+#define FILE_TEXT                                                                                  \
+    "begincmap /CIDSystemInfo 3 dict dup begin /Registry (Adobe) def "                             \
+    "/Ordering (Japan1) def /Supplement 6 def end def /CMapName /T def /WMode 1 def "              \
+    "begincodespacerange <0000> <00FF> endcodespacerange "                                         \
+    "begincidrange <0000> <01FF> 0 endcidrange beginbfchar <41> <00420043> endbfchar endcmap"
+
+// Two tables, and from byte 23 on the file of the codes 0020 and 0021, whose CIDs are 5 and 6, under the first name.
+static const uint8_t BUNDLE[] = {0, 0, 0, 19,  0,   2,   1,   0,   2, 0, 0, 0,  0x20, 0, 0, 0,  0,
+                                 0, 1, 1, 0,   1,   4,   'b', 'c', 'm', 'a', 'p', 1,  0, 0, 0, 26,
+                                 4, 0, 0, 0,   16,  0,   2,   0,   0, 0, 1, 0x40, 0, 5, 0, 0};
+
+// A file that uses the one of the bundle.
+#define OVER_IT "/83pv-RKSJ-H usecmap"
+
+static bool same(const void *bytes, const void *expected, size_t len) {
+    return memcmp(bytes, expected, len) == 0;
+}
+
+static hayro_cmap map_of_file(void) {
+    hayro_cmap map = HAYRO_CMAP_EMPTY;
+    CHECK(hayro_cmap_parse(&map, TEXT(FILE_TEXT), TEXT(""), hayro_cmap_files(NULL), 0,
+                           HAYRO_CMAP_NO_BUDGET) == HAYRO_CMAP_OK);
+    return map;
+}
+
+static hayro_cmap_bundle opened_bundle(void) {
+    hayro_cmap_bundle bundle = HAYRO_CMAP_EMPTY;
+    CHECK(hayro_cmap_bundle_open(&bundle, BYTES(BUNDLE)) == HAYRO_CMAP_OK);
+    return bundle;
+}
+
+static void codes_have_cids(void) {
+    hayro_cmap map = map_of_file();
+    uint32_t cid = 7;
+    CHECK(hayro_cmap_cid(&map, 0x141, 2, &cid) && cid == 0x141);
+    CHECK(!hayro_cmap_cid_strict(&map, 0x142, 2, &cid) && cid == 0x141);
+    CHECK(hayro_cmap_cid_strict(&map, 0x42, 2, &cid) && cid == 0x42);
+    uint32_t cids[3] = {7, 7, 7};
+    CHECK(hayro_cmap_cids(&map, 0x1FE, 2, 9, cids, 3));
+    CHECK(cids[0] == 0x1FE && cids[1] == 0x1FF && cids[2] == 9);
+    hayro_cmap_free(&map);
+    CHECK(!hayro_cmap_cids(&map, 0x1FE, 2, 8, cids, 3) && cids[2] == 9);
+}
+
+static void codes_have_texts(void) {
+    hayro_cmap map = map_of_file();
+    uint8_t room[6] = {0};
+    size_t needed = 0;
+    CHECK(hayro_cmap_text(&map, 0x41, room, 6, &needed) == HAYRO_CMAP_OK && needed == 2);
+    CHECK(same(room, "BC\0\0\0\0", 6));
+    CHECK(hayro_cmap_text(&map, 0x42, room, 6, &needed) == HAYRO_CMAP_ABSENT);
+    hayro_cmap_free(&map);
+}
+
+static void files_speak_of_themselves(void) {
+    hayro_cmap map = map_of_file();
+    uint8_t room[6] = {0};
+    size_t needed = 0;
+    CHECK(hayro_cmap_name(&map, room, 6, &needed) == HAYRO_CMAP_OK && needed == 1);
+    CHECK(same(room, "T\0\0\0\0\0", 6));
+    CHECK(hayro_cmap_registry(&map, room, 6, &needed) == HAYRO_CMAP_OK && needed == 5);
+    CHECK(same(room, "Adobe\0", 6));
+    int32_t supplement = 0;
+    CHECK(hayro_cmap_supplement(&map, &supplement) && supplement == 6);
+    CHECK(hayro_cmap_writing_mode(&map) == HAYRO_CMAP_VERTICAL);
+    hayro_cmap_free(&map);
+}
+
+static void what_is_longer_than_its_room_is_not_written(void) {
+    hayro_cmap map = map_of_file();
+    uint8_t room[5] = {7, 7, 7, 7, 7};
+    size_t needed = 0;
+    CHECK(hayro_cmap_ordering(&map, room, 5, &needed) == HAYRO_CMAP_NO_ROOM && needed == 6);
+    CHECK(same(room, "\7\7\7\7\7", 5));
+    hayro_cmap_free(&map);
+}
+
+static void a_shared_map_outlives_its_first_handle(void) {
+    hayro_cmap map = map_of_file(), other = HAYRO_CMAP_EMPTY;
+    CHECK(hayro_cmap_share(&map, &other) == HAYRO_CMAP_OK);
+    hayro_cmap_free(&map);
+    uint32_t cid = 0;
+    CHECK(!hayro_cmap_cid(&map, 0x41, 2, &cid));
+    CHECK(hayro_cmap_cid(&other, 0x41, 2, &cid) && cid == 0x41);
+    hayro_cmap_free(&other);
+}
+
+// The status of a file that is read over a bundle, and the CID of the code 0021.
+static hayro_cmap_status read_over(const uint8_t *data, size_t len, hayro_cmap_bundle *bundle,
+                                   uint32_t *cid) {
+    hayro_cmap map = HAYRO_CMAP_EMPTY;
+    hayro_cmap_status status = hayro_cmap_parse_over(&map, data, len, bundle, hayro_cmap_files(NULL),
+                                                     0, HAYRO_CMAP_NO_BUDGET);
+    *cid = 0;
+    hayro_cmap_cid(&map, 0x21, 2, cid);
+    hayro_cmap_free(&map);
+    return status;
+}
+
+static void a_bundle_is_read_once_for_several_maps(void) {
+    hayro_cmap_bundle bundle = opened_bundle();
+    uint32_t cid;
+    CHECK(read_over(TEXT(OVER_IT), &bundle, &cid) == HAYRO_CMAP_OK && cid == 6);
+    CHECK(read_over(TEXT(OVER_IT " begincidchar <0021> 9 endcidchar"), &bundle, &cid) == HAYRO_CMAP_OK);
+    CHECK(cid == 9);
+    CHECK(read_over(BUNDLE + 23, sizeof BUNDLE - 23, &bundle, &cid) == HAYRO_CMAP_OK && cid == 6);
+    hayro_cmap_bundle_free(&bundle);
+    CHECK(read_over(TEXT(OVER_IT), &bundle, &cid) == HAYRO_CMAP_REFUSED && cid == 0);
+}
+
+static void a_shared_bundle_outlives_its_first_handle(void) {
+    hayro_cmap_bundle bundle = opened_bundle(), other = HAYRO_CMAP_EMPTY;
+    CHECK(hayro_cmap_bundle_share(&bundle, &other) == HAYRO_CMAP_OK);
+    hayro_cmap_bundle_free(&bundle);
+    uint32_t cid;
+    CHECK(read_over(TEXT(OVER_IT), &other, &cid) == HAYRO_CMAP_OK && cid == 6);
+    hayro_cmap_bundle_free(&other);
+}
+
+static void bytes_that_are_no_bundle_leave_none(void) {
+    hayro_cmap_bundle bundle = opened_bundle();
+    CHECK(hayro_cmap_bundle_open(&bundle, TEXT("no bundle")) == HAYRO_CMAP_NOT_A_BUNDLE);
+    uint32_t cid;
+    CHECK(read_over(TEXT(OVER_IT), &bundle, &cid) == HAYRO_CMAP_REFUSED && cid == 0);
+    hayro_cmap_bundle_free(&bundle);
+}
+
+static void a_bundle_has_its_files(void) {
+    hayro_cmap_bundle bundle = opened_bundle();
+    uint8_t room[26] = {0};
+    size_t needed = 0;
+    CHECK(hayro_cmap_bundle_file(&bundle, TEXT("83pv-RKSJ-H"), room, 26, &needed) == HAYRO_CMAP_OK);
+    CHECK(needed == 26 && same(room, BUNDLE + 23, 26));
+    CHECK(hayro_cmap_bundle_file(&bundle, TEXT("H"), room, 26, &needed) == HAYRO_CMAP_ABSENT);
+    hayro_cmap_bundle_free(&bundle);
+}
+
+// The status of a file that is read over the bytes of a bundle.
+static hayro_cmap_status status_of(const uint8_t *data, size_t len, const char *bundle, size_t bundle_len,
+                                   uint64_t budget) {
+    hayro_cmap map = HAYRO_CMAP_EMPTY;
+    hayro_cmap_status status = hayro_cmap_parse(&map, data, len, hayro_cmap_bytes(bundle), bundle_len,
+                                                hayro_cmap_files(NULL), 0, budget);
+    CHECK(status == HAYRO_CMAP_OK || !map.full);
+    hayro_cmap_free(&map);
+    return status;
+}
+
+static void statuses_say_why_there_is_no_map(void) {
+    CHECK(status_of(TEXT("/A usecmap"), NULL, 0, HAYRO_CMAP_NO_BUDGET) == HAYRO_CMAP_REFUSED);
+    CHECK(status_of(TEXT(FILE_TEXT), NULL, 0, 9) == HAYRO_CMAP_OVER_BUDGET);
+    CHECK(status_of(TEXT(FILE_TEXT), NULL, 0, sizeof FILE_TEXT - 1) == HAYRO_CMAP_OK);
+    CHECK(status_of(TEXT(FILE_TEXT), "no bundle", 9, HAYRO_CMAP_NO_BUDGET) == HAYRO_CMAP_NOT_A_BUNDLE);
+}
+
+static void an_identity_answers_the_code(void) {
+    hayro_cmap map = HAYRO_CMAP_EMPTY;
+    uint32_t cid = 0;
+    CHECK(hayro_cmap_identity(&map, false) == HAYRO_CMAP_OK);
+    CHECK(hayro_cmap_cid(&map, 0x1234, 2, &cid) && cid == 0x1234);
+    CHECK(hayro_cmap_writing_mode(&map) == HAYRO_CMAP_HORIZONTAL);
+    CHECK(hayro_cmap_identity(&map, true) == HAYRO_CMAP_OK);
+    CHECK(hayro_cmap_writing_mode(&map) == HAYRO_CMAP_VERTICAL);
+    hayro_cmap_free(&map);
+}
+
+static void a_string_is_cut_up_to_the_room(void) {
+    hayro_cmap map = map_of_file();
+    hayro_cmap_code codes[2];
+    size_t made = 0, taken = 0;
+    CHECK(hayro_cmap_decode(&map, TEXT("\0A\x01\x02\0"), codes, 2, &made, &taken) == HAYRO_CMAP_NO_ROOM);
+    CHECK(made == 2 && taken == 4);
+    CHECK(codes[0].cid == 0x41 && codes[0].in_codespace == 1);
+    CHECK(codes[1].cid == 0x102 && codes[1].in_codespace == 0);
+    hayro_cmap_free(&map);
+}
+
+static void a_string_may_end_before_its_last_code(void) {
+    hayro_cmap map = map_of_file();
+    hayro_cmap_code codes[2] = {{0, 0, 0, 0, 0, 0}, {7, 7, 7, 7, 7, 7}};
+    size_t made = 0, taken = 0;
+    CHECK(hayro_cmap_decode(&map, TEXT("\0"), codes, 2, &made, &taken) == HAYRO_CMAP_OK);
+    CHECK(made == 1 && taken == 1);
+    CHECK(codes[0].byte_len == 1 && codes[0].has_cid == 0 && codes[0].cut_short == 1);
+    CHECK(codes[1].code == 7);
+    hayro_cmap_free(&map);
+}
+
+// The status of a name that is opened over one file, `Base`.
+static hayro_cmap_status open_name(hayro_cmap *map, const uint8_t *name, size_t len) {
+    hayro_cmap_file base = {TEXT("Base"), TEXT(FILE_TEXT)};
+    hayro_cmap_bundle none = HAYRO_CMAP_EMPTY;
+    return hayro_cmap_open(map, name, len, &none, &base, 1, HAYRO_CMAP_NO_BUDGET);
+}
+
+static void files_are_opened_by_their_names(void) {
+    hayro_cmap map = HAYRO_CMAP_EMPTY;
+    CHECK(open_name(&map, TEXT("Base")) == HAYRO_CMAP_OK);
+    CHECK(hayro_cmap_layers(&map) == 1 && hayro_cmap_writing_mode(&map) == HAYRO_CMAP_VERTICAL);
+    uint32_t cid = 0;
+    CHECK(open_name(&map, TEXT("Identity-V")) == HAYRO_CMAP_OK);
+    CHECK(hayro_cmap_cid(&map, 0x1234, 2, &cid) && cid == 0x1234);
+    CHECK(hayro_cmap_writing_mode(&map) == HAYRO_CMAP_VERTICAL);
+    CHECK(open_name(&map, TEXT("Identity")) == HAYRO_CMAP_ABSENT);
+    CHECK(!hayro_cmap_cid(&map, 0x1234, 2, &cid) && hayro_cmap_layers(&map) == 0);
+    hayro_cmap_free(&map);
+}
+
+static void names_lead_to_the_file_at_fault(void) {
+    hayro_cmap map = HAYRO_CMAP_EMPTY;
+    hayro_cmap_bundle none = HAYRO_CMAP_EMPTY;
+    hayro_cmap_fault fault;
+    uint8_t room[4] = {0};
+    size_t needed = 0;
+    hayro_cmap_file files[] = {{TEXT("A"), TEXT("/BC usecmap")}, {TEXT("BC"), TEXT("begincidchar <20> /X")}};
+    CHECK(hayro_cmap_explain(&map, TEXT("/A usecmap"), &none, files, 2, HAYRO_CMAP_NO_BUDGET, &fault, room,
+                             4, &needed) == HAYRO_CMAP_REFUSED);
+    CHECK(needed == 3 && same(room, "ABC\0", 4));
+    CHECK(fault.names == 2 && fault.name_lens[0] == 1 && fault.name_lens[1] == 2 && fault.name_lens[2] == 0);
+    CHECK(fault.cause == HAYRO_CMAP_MALFORMED && fault.reason == HAYRO_CMAP_CID_EXPECTED);
+    CHECK(fault.offset == 20);
+    hayro_cmap_free(&map);
+}
+
+static void faults_have_messages(void) {
+    hayro_cmap_fault fault = {1, 6, 0, 20, 0, {0}};
+    uint8_t room[27] = {0};
+    size_t needed = 0;
+    CHECK(hayro_cmap_message(&fault, room, 27, &needed) == HAYRO_CMAP_OK && needed == 27);
+    CHECK(same(room, "byte 20: a CID was expected", 27));
+    fault.segment = 1;
+    needed = 7;
+    CHECK(hayro_cmap_message(&fault, hayro_cmap_room(NULL), 0, &needed) == HAYRO_CMAP_ABSENT);
+    CHECK(needed == 7);
+}
+
+static void uses_are_named(void) {
+    hayro_cmap_bundle none = HAYRO_CMAP_EMPTY;
+    size_t lens[2] = {0}, names = 0, needed = 0;
+    uint8_t room[4] = {0};
+    CHECK(hayro_cmap_uses(TEXT("/AB usecmap /C usecmap"), &none, lens, 2, &names, room, 4, &needed) ==
+          HAYRO_CMAP_OK);
+    CHECK(names == 2 && lens[0] == 2 && lens[1] == 1 && needed == 3 && same(room, "ABC\0", 4));
+}
+
+static void uses_with_room_for_fewer_lengths_are_not_written(void) {
+    hayro_cmap_bundle none = HAYRO_CMAP_EMPTY;
+    size_t len = 7, names = 0, needed = 0;
+    uint8_t room[4] = {0};
+    CHECK(hayro_cmap_uses(TEXT("/AB usecmap /C usecmap"), &none, &len, 1, &names, room, 4, &needed) ==
+          HAYRO_CMAP_NO_ROOM);
+    CHECK(names == 2 && needed == 3 && len == 7 && same(room, "\0\0\0\0", 4));
+}
+
+static hayro_cmap map_over_base(void) {
+    hayro_cmap map = HAYRO_CMAP_EMPTY;
+    hayro_cmap_file base = {TEXT("Base"), TEXT(FILE_TEXT)};
+    CHECK(hayro_cmap_parse(&map,
+                           TEXT("/Base usecmap /CMapName /Top def begincodespacerange <20> <7E> "
+                                "endcodespacerange"),
+                           TEXT(""), &base, 1, HAYRO_CMAP_NO_BUDGET) == HAYRO_CMAP_OK);
+    return map;
+}
+
+static void layers_speak_of_themselves(void) {
+    hayro_cmap map = map_over_base();
+    uint8_t room[6] = {0};
+    size_t needed = 0;
+    int32_t supplement = 0;
+    CHECK(hayro_cmap_layers(&map) == 2);
+    CHECK(hayro_cmap_layer_name(&map, 1, room, 6, &needed) == HAYRO_CMAP_OK && same(room, "T\0\0\0\0\0", 6));
+    CHECK(hayro_cmap_layer_writing_mode(&map, 1) == HAYRO_CMAP_VERTICAL);
+    CHECK(hayro_cmap_layer_registry(&map, 1, room, 6, &needed) == HAYRO_CMAP_OK && same(room, "Adobe", 5));
+    CHECK(hayro_cmap_layer_ordering(&map, 1, room, 6, &needed) == HAYRO_CMAP_OK && same(room, "Japan1", 6));
+    CHECK(hayro_cmap_layer_supplement(&map, 1, &supplement) && supplement == 6);
+    CHECK(hayro_cmap_layer_name(&map, 2, room, 6, &needed) == HAYRO_CMAP_ABSENT);
+    CHECK(!hayro_cmap_layer_supplement(&map, 0, &supplement));
+    CHECK(hayro_cmap_layer_writing_mode(&map, 0) == HAYRO_CMAP_NO_MODE);
+    hayro_cmap_free(&map);
+}
+
+static void layers_have_codespace_ranges(void) {
+    hayro_cmap map = map_over_base();
+    hayro_cmap_codespace ranges[2] = {{0, 0, 0}, {0, 0, 0}};
+    size_t needed = 0;
+    CHECK(hayro_cmap_codespaces(&map, 0, ranges, 2, &needed) == HAYRO_CMAP_OK && needed == 1);
+    CHECK(ranges[0].low == 0x20 && ranges[0].high == 0x7E && ranges[0].byte_len == 1);
+    CHECK(ranges[1].byte_len == 0);
+    CHECK(hayro_cmap_codespaces(&map, 2, ranges, 2, &needed) == HAYRO_CMAP_ABSENT);
+    hayro_cmap_free(&map);
+}
+
+static void the_library_has_its_version(void) {
+    uint8_t room[16] = {0};
+    size_t needed = 0;
+    CHECK(hayro_cmap_version(room, 16, &needed) == HAYRO_CMAP_OK && needed == sizeof HAYRO_CMAP_VERSION - 1);
+    CHECK(same(room, HAYRO_CMAP_VERSION, needed));
+}
+
+int main(void) {
+    codes_have_cids();
+    codes_have_texts();
+    files_speak_of_themselves();
+    what_is_longer_than_its_room_is_not_written();
+    a_shared_map_outlives_its_first_handle();
+    a_bundle_is_read_once_for_several_maps();
+    a_shared_bundle_outlives_its_first_handle();
+    bytes_that_are_no_bundle_leave_none();
+    a_bundle_has_its_files();
+    statuses_say_why_there_is_no_map();
+    an_identity_answers_the_code();
+    a_string_is_cut_up_to_the_room();
+    a_string_may_end_before_its_last_code();
+    files_are_opened_by_their_names();
+    names_lead_to_the_file_at_fault();
+    faults_have_messages();
+    uses_are_named();
+    uses_with_room_for_fewer_lengths_are_not_written();
+    layers_speak_of_themselves();
+    layers_have_codespace_ranges();
+    the_library_has_its_version();
+    puts(failed ? "failed" : "ok");
+    return failed;
+}
