@@ -14,7 +14,7 @@ pub(super) const FEWEST_RUNS: usize = 512;
 
 /// Where runs begin among the codes of a block. One that no run holds a code of says that none has
 /// begun by then.
-#[derive(Clone, Copy, Debug)]
+#[derive(Clone, Copy)]
 pub(super) struct Block {
     /// How many runs begin before the block.
     pub(super) begun: u32,
@@ -33,7 +33,7 @@ impl Block {
 }
 
 /// The first blocks of codes.
-#[derive(Debug, Drop)]
+#[derive(Drop)]
 pub(super) struct Blocks {
     pub(super) list: Vec<Block>,
     /// How many runs don't end before the first code after the blocks.

@@ -12,10 +12,11 @@ use super::blocks::{BLOCK_LEN, Block, Blocks, FEWEST_RUNS, MOST_BLOCKS};
 use super::looks::Looks;
 use super::ranges::range_at;
 use std::alloc::{AllocError, Global};
+use std::fmt;
 use std::marker::Model;
 
 /// The codes from `low` to `high`, which the declaration at `index` decides.
-#[derive(Debug, Drop)]
+#[derive(Drop)]
 pub(super) struct Run {
     pub(super) low: u32,
     pub(super) high: u32,
@@ -38,7 +39,7 @@ impl Run {
     }
 }
 
-#[derive(Debug, Drop)]
+#[derive(Drop)]
 pub(super) struct Runs {
     list: Vec<Run>,
 }
@@ -93,7 +94,7 @@ impl Runs {
 }
 
 /// The runs of declarations.
-#[derive(Debug, Drop)]
+#[derive(Drop)]
 pub(super) enum RunList {
     /// The indices of declarations whose ranges are the runs.
     Ranges(Vec<u32>),
@@ -101,7 +102,7 @@ pub(super) enum RunList {
 }
 
 /// Declarations, each at its index, with their runs.
-#[derive(Debug, Drop)]
+#[derive(Drop)]
 pub(super) struct Held<T: HasRange> {
     declarations: Vec<T>,
     runs: RunList,
@@ -121,6 +122,12 @@ impl<T: HasRange> Model for Held<T> {
     } };
 
     ghost invariant = { λ held. indices_within (length held.declarations.items) held.runs };
+}
+
+impl<T: HasRange + fmt::Debug> fmt::Debug for Held<T> {
+    fn fmt<W: fmt::Write>(&self, f: &mut fmt::Formatter<W>) -> fmt::Result {
+        fmt::Debug::fmt(&self.declarations, f)
+    }
 }
 
 impl<T: HasRange> Held<T> {

@@ -13,6 +13,7 @@ use super::search::find_index;
 use super::stretch::Stretches;
 use super::sweep::runs_of;
 use std::alloc::{AllocError, Global};
+use std::fmt;
 use std::marker::Model;
 
 /// A list of declarations, in which the last one that contains a code is found in a list of runs: by a
@@ -23,7 +24,7 @@ use std::marker::Model;
 /// Where the ranges lie apart, they are the runs, and nothing but their order is held beside the
 /// declarations. A look at such a run reads the range of its declaration, and counts as a look at
 /// a run alone.
-#[derive(Debug, Drop)]
+#[derive(Drop)]
 pub struct Table<T: HasRange> {
     held: Held<T>,
     blocks: Blocks,
@@ -41,6 +42,13 @@ impl<T: HasRange> Model for Table<T> {
     ghost invariant = { λ table. (table.held.runs ≡ runs_of (map T.span table.held.declarations))
         × AreBlocks table.held.runs table.blocks
         × (length table.held.runs ≤ 2 * length table.held.declarations - 1) };
+}
+
+/// The list of the declarations.
+impl<T: HasRange + fmt::Debug> fmt::Debug for Table<T> {
+    fn fmt<W: fmt::Write>(&self, f: &mut fmt::Formatter<W>) -> fmt::Result {
+        fmt::Debug::fmt(&self.held, f)
+    }
 }
 
 impl<T: HasRange> Table<T> {
