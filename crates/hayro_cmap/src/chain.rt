@@ -2,21 +2,24 @@
 
 ghost use Rattle.std.specs.Prelude.{◌≡◌, ◌∷◌, length, suc, IfErr, IfOk};
 ghost use Rattle.cmap_binary.specs.BundleSeen.{tables_given};
+ghost use Rattle.cmap_files.specs.DeclarationsSeen.{lists_seen};
 ghost use Rattle.cmap_files.specs.FilesSeen.{file_seen, names_seen};
 ghost use Rattle.cmap_files.specs.Outcomes.{ReadsFile, RefusesWith};
 ghost use Rattle.hayro_cmap.specs.Answers.{IsByName};
 ghost use Rattle.hayro_cmap.specs.BytesSpent.{Resolves, of_file, of_use};
 ghost use Rattle.cmap_layers.specs.Layers.{layer_of};
 ghost use Rattle.hayro_cmap.specs.Layers.{Means};
-ghost use Rattle.cmap_layers.specs.LayersSeen.{layers_seen};
+ghost use Rattle.cmap_layers.specs.LayersSeen.{layers_seen, metadata_seen};
 ghost use Rattle.hayro_cmap.specs.Refusals.{Blames, Fails, IsDecidedAsText, IsFaultWithin, IsUseFaultWithin};
 
 use crate::budget::spend;
 use crate::refusal::Cause;
 use crate::source::Source;
 use cmap_binary::{Bundle, is_marked_binary, read_binary};
+use cmap_files::declarations::Lists;
 use cmap_files::fault::{Fault, Stop};
 use cmap_files::file::File;
+use cmap_files::metadata::Metadata;
 use cmap_layers::layers::Layer;
 use cmap_text::read_text;
 use std::alloc::{AllocError, Global};
@@ -105,12 +108,27 @@ fn find_used<'a, S: Source>(
 }
 
 /// The layer of a file over the layers that it is based on.
-fn put_over(alloc: Global, file: File<'_>, mut base: Vec<Layer>) -> Result<Vec<Layer>, AllocError>
+fn put_over(alloc: Global, file: File<'_>, base: Vec<Layer>) -> Result<Vec<Layer>, AllocError>
     ensures { IfOk result
         (λ layers. layers_seen layers.items
         ≡ layer_of (file_seen file.entry) ∷ layers_seen base.items) }
 {
-    base.insert(0, Layer::build(alloc, file.metadata, file.lists)?)?;
+    layer_over(alloc, file.metadata, file.lists, base)
+}
+
+/// A layer over those that it is based on.
+pub(crate) fn layer_over(
+    alloc: Global,
+    metadata: Metadata,
+    lists: Lists,
+    mut base: Vec<Layer>,
+) -> Result<Vec<Layer>, AllocError>
+    ensures { IfOk result
+        (λ layers. layers_seen layers.items
+        ≡ record { metadata = metadata_seen metadata; lists = lists_seen lists }
+        ∷ layers_seen base.items) }
+{
+    base.insert(0, Layer::build(alloc, metadata, lists)?)?;
     Ok(base)
 }
 

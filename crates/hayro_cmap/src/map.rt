@@ -8,6 +8,7 @@ ghost use Rattle.cmap_tokens.specs.Texts.{text_of_characters};
 ghost use Rattle.hayro_cmap.specs.Answers.{Answers, AnswersByName, IsByName};
 ghost use Rattle.cmap_files.specs.DeclarationsSeen.{lists_seen};
 ghost use Rattle.cmap_files.specs.Files as files;
+ghost use Rattle.cmap_files.specs.ListsAppended.{no_lists};
 ghost use Rattle.cmap_files.specs.FilesSeen.{names_seen};
 ghost use Rattle.hayro_cmap.specs.Identity.{identity_layer};
 ghost use Rattle.cmap_binary.specs.BundleSeen.{tables_given};
@@ -26,7 +27,7 @@ ghost use Rattle.hayro_cmap.specs.declared.budget.ParseError.TheVariants.{OverBu
 ghost use Rattle.hayro_cmap.specs.declared.refusal.Cause.TheVariants as Cause;
 
 use crate::budget::ParseError;
-use crate::chain::{MOST_FILES, find_layers, read_file};
+use crate::chain::{MOST_FILES, find_layers, layer_over, read_file};
 use crate::refusal::{Cause, Refusal};
 use crate::source::{FilesByName, Source};
 use cmap_binary::Bundle;
@@ -64,6 +65,11 @@ impl Model for CMap {
 
     ghost invariant = { λ map. (0 < length map.layers.items) × (length map.layers.items ≤ 16) };
 }
+
+/// The names of the predefined identities.
+const HORIZONTAL: &[u8] = b"Identity-H";
+
+const VERTICAL: &[u8] = b"Identity-V";
 
 impl CMap {
     /// The map of the CMap file `data`; `None` where it is refused: it or a file that it uses is
@@ -217,10 +223,15 @@ impl CMap {
     {
         match source.file(name) {
             Some(data) => {
-                let map = CMap::parse_from(alloc, budget, data, bundle, source)?;
-                Ok(Some(map))
+                match CMap::parse_from(alloc, budget, data, bundle, source) {
+                    Ok(map) => Ok(Some(map)),
+                    Err(fault) => Err(fault),
+                }
             }
-            None => Ok(CMap::identity_named(alloc, name)?),
+            None => match CMap::identity_named(alloc, name) {
+                Ok(identity) => Ok(identity),
+                Err(AllocError) => Err(Fault::Memory),
+            },
         }
     }
 
@@ -247,7 +258,7 @@ impl CMap {
         ensures { IfOk result
             (λ map. map ≡ identity_layer (codes "Identity-H") files.horizontal ∷ []) }
     {
-        CMap::identity(alloc, b"Identity-H", WritingMode::Horizontal)
+        CMap::identity(alloc, HORIZONTAL, WritingMode::Horizontal)
     }
 
     /// The predefined CMap Identity-V: codes of two bytes are CIDs, of vertical text. ISO 32000-1, 9.7.5.2.
@@ -255,7 +266,7 @@ impl CMap {
         ensures { IfOk result
             (λ map. map ≡ identity_layer (codes "Identity-V") files.vertical ∷ []) }
     {
-        CMap::identity(alloc, b"Identity-V", WritingMode::Vertical)
+        CMap::identity(alloc, VERTICAL, WritingMode::Vertical)
     }
 
     /// What the file states about itself, without those that it is based on.
@@ -396,33 +407,27 @@ impl CMap {
         ensures { IfOk result
             (λ found. MatchOption found (IsNoIdentity name.now) (IsIdentity name.now)) }
     {
-        match name {
-            b"Identity-H" => Ok(Some(CMap::identity_h(alloc)?)),
-            b"Identity-V" => Ok(Some(CMap::identity_v(alloc)?)),
-            _ => Ok(None),
+        if name == HORIZONTAL {
+            return Ok(Some(CMap::identity_h(alloc)?));
         }
+        if name == VERTICAL {
+            return Ok(Some(CMap::identity_v(alloc)?));
+        }
+        Ok(None)
     }
 
     fn identity(alloc: Global, name: &[u8], mode: WritingMode) -> Result<CMap, AllocError>
         ensures { IfOk result (λ map. map ≡ identity_layer name.now (mode_seen mode) ∷ []) }
     {
+        let name = Vec::from_slice(alloc, name)?;
         let mut lists = Lists::new(alloc);
-        let range = Range {
-            start: 0,
-            end: 0xFFFF,
-        };
-        lists.add_cid(CodeLength::Two, CidRange { range, cid: 0 })?;
-        lists.spaces.push(Codespace {
-            len: CodeLength::Two,
-            low: 0,
-            high: 0xFFFF,
-        })?;
+        add_two_bytes(&mut lists)?;
         let metadata = Metadata {
             character_collection: Some(CharacterCollection {
                 family: CidFamily::AdobeIdentity,
                 supplement: 0,
             }),
-            name: Some(Vec::from_slice(alloc, name)?),
+            name: Some(name),
             writing_mode: Some(mode),
         };
         CMap::of_lists(alloc, metadata, lists)
@@ -433,8 +438,24 @@ impl CMap {
         ensures { IfOk result (λ map. map
             ≡ record { metadata = metadata_seen metadata; lists = lists_seen lists } ∷ []) }
     {
-        let mut layers = Vec::new(alloc);
-        layers.push(Layer::build(alloc, metadata, lists)?)?;
+        let layers = layer_over(alloc, metadata, lists, Vec::new(alloc))?;
         Ok(CMap { layers })
     }
+}
+
+/// Adds what says that codes of two bytes are CIDs.
+fn add_two_bytes(lists: &mut Lists) -> Result<(), AllocError>
+    requires { lists_seen lists.old ≡ no_lists }
+    ensures { OnOk result
+        (lists_seen lists.new ≡ (identity_layer [] files.horizontal).lists) }
+{
+    let (start, end) = (0, 0xFFFF);
+    let len = CodeLength::Two;
+    let range = Range { start, end };
+    lists.add_cid(len, CidRange { range, cid: 0 })?;
+    lists.add_codespace(Codespace {
+        len,
+        low: start,
+        high: end,
+    })
 }
