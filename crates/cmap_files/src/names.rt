@@ -5,6 +5,8 @@ ghost use Rattle.cmap_files.specs.CMapNames.{IsNameOf, IsSameName, index_of_name
 ghost use Rattle.cmap_files.specs.Names.{known_names, index_of_text};
 ghost use Rattle.cmap_files.specs.declared.names.CMapName.{CMapName};
 
+use std::{fmt, str};
+
 /// The number of a character in a character collection. Adobe Technical Note 5014.
 pub type Cid = u32;
 
@@ -13,7 +15,7 @@ pub type Cid = u32;
 ///
 /// Equality is the derived one: by the variant, and of `Custom` by its bytes. So a `Custom` that was
 /// made by hand of a known text isn't equal to the known name; `from_bytes` makes none.
-#[derive(Clone, Copy, Debug, PartialEq, Eq)]
+#[derive(Clone, Copy, PartialEq, Eq)]
 pub enum CMapName<'a> {
     /// `83pv-RKSJ-H`
     N83pvRksjH,
@@ -220,6 +222,16 @@ const KNOWN_NAMES: &[CMapName<'static>] = &[
 
 /// How many names are known.
 const KNOWN_COUNT: usize = 65;
+
+/// The text of the name, as a string.
+impl fmt::Debug for CMapName<'_> {
+    fn fmt<W: fmt::Write>(&self, f: &mut fmt::Formatter<W>) -> fmt::Result {
+        match str::from_utf8(self.text()) {
+            Ok(text) => fmt::Debug::fmt(text, f),
+            Err(_) => fmt::Debug::fmt(self.text(), f),
+        }
+    }
+}
 
 impl<'a> CMapName<'a> {
     /// The name whose text these bytes are; `Custom` of every other text, the empty one too.

@@ -4,10 +4,11 @@ ghost use Rattle.std.specs.Prelude.{◌≡◌, ◌≤◌, IfOk, IsOk, length};
 ghost use Rattle.cmap_files.specs.UnitsSeen.{units_seen};
 
 use std::alloc::{AllocError, Global};
+use std::fmt;
 
 /// The units of a text in UTF-16. Up to four lie in the value itself; more lie in memory of their own,
 /// over one pointer, so that a value stays small.
-#[derive(Debug, Drop)]
+#[derive(Drop)]
 pub enum Units {
     Empty,
     One([u16; 1]),
@@ -15,6 +16,12 @@ pub enum Units {
     Three([u16; 3]),
     Four([u16; 4]),
     More(Box<Vec<u16>>),
+}
+
+impl fmt::Debug for Units {
+    fn fmt<W: fmt::Write>(&self, f: &mut fmt::Formatter<W>) -> fmt::Result {
+        fmt::Debug::fmt(self.as_slice(), f)
+    }
 }
 
 impl Units {
