@@ -1,10 +1,13 @@
 //! The layers of a map: what each file in a chain says, its declarations in tables.
 
 ghost use Rattle.std.specs.Prelude.{◌≡◌, IfOk, map};
-ghost use Rattle.cmap_files.specs.DeclarationsSeen.{bf_entry_seen, codespace_seen, lists_seen};
+ghost use Rattle.cmap_files.specs.CodeLengths.{length_of};
+ghost use Rattle.cmap_files.specs.DeclarationsSeen.{bf_entry_seen, codespace_seen, entries_seen, lists_seen};
+ghost use Rattle.cmap_files.specs.Files.{of_length};
 ghost use Rattle.cmap_layers.specs.Counts.{counts_of, lengths_of};
 ghost use Rattle.cmap_layers.specs.LayersSeen.{by_length_seen, layer_seen, lists_held, metadata_seen};
 
+use cmap_files::code_length::CodeLength;
 use cmap_files::declarations::{BfRange, ByLength, CidRange, Codespace, Lists};
 use cmap_files::metadata::Metadata;
 use cmap_runs::runs::{Looks, Table};
@@ -69,6 +72,31 @@ impl Layer {
         ensures { map codespace_seen result.now ≡ (layer_seen self.now).lists.spaces }
     {
         self.spaces.as_slice()
+    }
+
+    /// The declarations of CIDs for codes of this length, in the order of the file, with the runs of
+    /// codes that each of them decides.
+    pub fn cids(&self, len: CodeLength) -> &Table<CidRange>
+        ensures { entries_seen result.now
+            ≡ of_length (layer_seen self.now).lists.cids (length_of len) }
+    {
+        self.cids.get(len)
+    }
+
+    /// The declarations of the CID of a character that isn't defined, for codes of this length, in the
+    /// order of the file, with their runs.
+    pub fn notdefs(&self, len: CodeLength) -> &Table<CidRange>
+        ensures { entries_seen result.now
+            ≡ of_length (layer_seen self.now).lists.notdefs (length_of len) }
+    {
+        self.notdefs.get(len)
+    }
+
+    /// The declarations of texts, in the order of the file, with their runs.
+    pub fn texts(&self) -> &Table<BfRange>
+        ensures { map bf_entry_seen result.now ≡ (layer_seen self.now).lists.bfs }
+    {
+        &self.bfs
     }
 
     /// How many declarations there are of each kind. Codespace ranges don't count.

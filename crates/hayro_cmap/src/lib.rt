@@ -23,7 +23,7 @@ pub use cmap_layers::layers::{DeclarationCounts, Layer};
 pub use cmap_layers::string_codes::StringCode;
 pub use cmap_runs::runs;
 pub use cmap_tokens::token;
-pub use cmap_tokens::utf16::BfString;
+pub use cmap_tokens::utf16::{self, BfString};
 pub use map::CMap;
 pub use named_files::{BundleFiles, NamedFile, NamedFiles};
 pub use refusal::{Cause, Refusal};
