@@ -1,6 +1,9 @@
 pub mod BestMatch
 pub mod BytesWithin
+pub mod CharactersInRow
+pub mod CodesOfCids
 pub mod LastFound
+pub mod LayerStretches
 pub mod LayersSearched
 pub mod OneStringCode
 pub mod RowWritten

@@ -8,3 +8,4 @@ pub mod StringCodes
 pub mod PartialMatches
 pub mod Rows
 pub mod RowsWritten
+pub mod CodeStretches

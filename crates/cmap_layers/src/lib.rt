@@ -6,4 +6,5 @@ pub mod codespaces;
 pub mod layers;
 pub mod lookup;
 pub mod row;
+pub mod stretches;
 pub mod string_codes;

@@ -1,0 +1,14 @@
+use Rattle.std.proofs.Common.{◌-◌, ◌≤◌}
+use Rattle.cmap_files.specs.CodeLengths.{length_of}
+use Rattle.cmap_layers.specs.CodeStretches.{AreCodesBelow}
+use Rattle.cmap_layers.specs.LayersSeen.{layers_seen}
+use Rattle.cmap_layers.proofs.stretches.codes_of_cid.Given as goal
+
+abbrev pub invariant-loop-next : goal.invariant-loop-next
+invariant-loop-next l = record {
+  within : l.next ≤ l.end;
+  codes : AreCodesBelow (layers_seen l.layers) (length_of l.len) l.cid l.next l.ranges.items;
+}
+
+abbrev pub decreases-loop-next : goal.decreases-loop-next
+decreases-loop-next l = l.end - l.next

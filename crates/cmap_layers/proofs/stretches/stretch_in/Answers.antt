@@ -1,0 +1,44 @@
+use Rattle.std.proofs.Common.{◌≡◌, ◌-◌, Some, None, ap, ◌∙◌, subst, arith}
+use Rattle.std.specs.Prelude.{option_map}
+use Rattle.std.specs.Option.{option_copied}
+use Rattle.cmap_runs.specs.Stretches.{IsStretch}
+use Rattle.cmap_files.specs.CodeLengths.{length_of}
+use Rattle.cmap_files.specs.DeclarationsSeen.{cid_range_span}
+use Rattle.cmap_files.specs.Files.{of_length}
+use Rattle.cmap_layers.specs.CodeStretches.{cid_after}
+use Rattle.cmap_layers.specs.LayersDecide.{decided_in}
+use Rattle.cmap_layers.specs.LayersSeen.{layer_seen}
+use Rattle.cmap_layers.specs.Lookups.{last_cid}
+use Rattle.cmap_layers.specs.RowsWritten.{character_said}
+use Rattle.cmap_layers.proofs.LayerStretches.{found_in, undecided}
+use Rattle.cmap_layers.proofs.stretches.stretch_in.Goals as goal
+
+pub returns-in-Some-clause-cids : goal.returns-in-Some-clause-cids
+returns-in-Some-clause-cids c = λ code le lt.
+    let first = c.args.first in let layer = layer_seen c.args.layer.now in let len = length_of c.args.len in
+    let table = c.cids.result.now in let last = c.stretch_of-cids.result.last in let d = c.in-Some.declaration.now in
+    let here = subst (λ o. IsStretch cid_range_span table first last (option_copied o)) c.in-Some.is c.stretch_of-cids.ensures.same in
+    let found = found_in table (of_length layer.lists.cids len) first last code (Some d) c.cids.ensures here le (omega (arith, lt, c.declared_cids.ensures.within)) in
+    ap (λ o. decided_in code o (last_cid (of_length layer.lists.notdefs len) code) (character_said layer.lists.bfs code)) found ∙ c.declared_cids.ensures.cids code le lt
+
+pub returns-in-Some-declaration-clause-cids : goal.returns-in-Some-declaration-clause-cids
+returns-in-Some-declaration-clause-cids c = λ code le lt.
+    let first = c.args.first in let layer = layer_seen c.args.layer.now in let len = length_of c.args.len in
+    let none = subst (λ o. IsStretch cid_range_span c.cids.result.now first c.stretch_of-cids.result.last (option_copied o)) c.in_default.is c.stretch_of-cids.ensures.same in
+    let d = c.in-Some-declaration.declaration.now in
+    let here = subst (λ o. IsStretch cid_range_span c.notdefs.result.now first c.stretch_of-notdefs.result.last (option_copied o)) c.in-Some-declaration.is c.stretch_of-notdefs.ensures.same in
+    let missed = found_in c.cids.result.now (of_length layer.lists.cids len) first c.stretch_of-cids.result.last code None c.cids.ensures none le (omega arith) in
+    let found = found_in c.notdefs.result.now (of_length layer.lists.notdefs len) first c.stretch_of-notdefs.result.last code (Some d) c.notdefs.ensures here le (omega arith) in
+    ap (λ o. decided_in code o (last_cid (of_length layer.lists.notdefs len) code) (character_said layer.lists.bfs code)) missed
+    ∙ ap (λ o. decided_in code None o (character_said layer.lists.bfs code)) found
+
+pub returns-clause-cids : goal.returns-clause-cids
+returns-clause-cids c = λ code le lt.
+    let first = c.args.first in let layer = layer_seen c.args.layer.now in let len = length_of c.args.len in
+    let none = subst (λ o. IsStretch cid_range_span c.cids.result.now first c.stretch_of-cids.result.last (option_copied o)) c.in_default.is c.stretch_of-cids.ensures.same in
+    let neither = subst (λ o. IsStretch cid_range_span c.notdefs.result.now first c.stretch_of-notdefs.result.last (option_copied o)) c.in_default-declaration.is c.stretch_of-notdefs.ensures.same in
+    let missed = found_in c.cids.result.now (of_length layer.lists.cids len) first c.stretch_of-cids.result.last code None c.cids.ensures none le (omega arith) in
+    let missed_too = found_in c.notdefs.result.now (of_length layer.lists.notdefs len) first c.stretch_of-notdefs.result.last code None c.notdefs.ensures neither le (omega arith) in
+    let characters = subst (λ entries. option_map (λ x. Some x) (character_said entries code) ≡ option_map (λ these. cid_after these (code - first)) c.characters_in-characters.result.cids) c.texts.ensures (c.characters_in-characters.ensures.cids code le (omega arith)) in
+    ap (λ o. decided_in code o (last_cid (of_length layer.lists.notdefs len) code) (character_said layer.lists.bfs code)) missed
+    ∙ ap (λ o. decided_in code None o (character_said layer.lists.bfs code)) missed_too ∙ undecided code (character_said layer.lists.bfs code) ∙ characters

@@ -1,0 +1,281 @@
+//! What codes in a row stand for over all layers, by stretches of codes for which the same declarations
+//! decide; and so the codes of a CID.
+
+ghost use Rattle.std.specs.Prelude.{◌≡◌, ◌+◌, ◌-◌, ◌^◌, ◌<◌, ◌≤◌, ℕ, IfOk, IfSome, Some, map, option_map};
+ghost use Rattle.std.specs.Option.{option_copied};
+ghost use Rattle.cmap_runs.specs.Stretches.{IsStretch};
+ghost use Rattle.cmap_tokens.specs.Texts.{only_character, text_at};
+ghost use Rattle.cmap_files.specs.CodeLengths.{length_of};
+ghost use Rattle.cmap_files.specs.DeclarationsSeen.{bf_entry_seen, cid_entry_seen};
+ghost use Rattle.cmap_layers.specs.CodeStretches.{AreCodesAmong, AreCodesBelow, Decides, IsCidStretch, IsTextStretch};
+ghost use Rattle.cmap_layers.specs.LayersDecide.{layer_cid};
+ghost use Rattle.cmap_layers.specs.LayersSeen.{layer_seen, layers_seen};
+ghost use Rattle.cmap_layers.specs.Lookups.{bf_at, cid_at};
+ghost use Rattle.cmap_layers.specs.RowsWritten.{character_said};
+
+use crate::layers::Layer;
+use cmap_files::code_length::CodeLength;
+use cmap_files::declarations::{BfRange, CidRange};
+use cmap_files::names::Cid;
+use cmap_runs::runs::{HasRange, Looks, Range, Stretch, Table};
+use cmap_tokens::utf16::one_char;
+use std::alloc::{AllocError, Global};
+
+/// The CIDs that codes in a row have.
+#[derive(Clone, Copy, Debug, PartialEq, Eq)]
+pub enum Cids {
+    /// No code has one.
+    Absent,
+    /// All codes have this one.
+    Same(Cid),
+    /// The first code has this one, and each further code the next.
+    CountOn(Cid),
+}
+
+/// Codes in a row, with their CIDs.
+#[derive(Clone, Copy, Debug)]
+pub struct CidStretch {
+    /// Their CIDs.
+    pub cids: Cids,
+    /// The last of the codes.
+    pub last: u32,
+}
+
+/// Codes in a row, with the declaration that decides their texts, the same for all of them.
+#[derive(Clone, Copy, Debug)]
+pub struct TextStretch<'l> {
+    /// The declaration; without one no code has a text.
+    pub declaration: Option<&'l BfRange>,
+    /// The last of the codes.
+    pub last: u32,
+}
+
+/// Codes in a row, and what a layer decides by itself for each of them, if it does.
+#[derive(Clone, Copy)]
+struct LayerStretch {
+    cids: Option<Cids>,
+    last: u32,
+}
+
+/// The CIDs of the codes of this length from `first` on, as `cid_of` gives them, as far as one
+/// declaration of each list decides.
+pub fn cid_stretch(layers: &[Layer], first: u32, len: CodeLength) -> CidStretch
+    ensures within { first ≤ result.last }
+    ensures cids { IsCidStretch (layers_seen layers.now) (length_of len) first result }
+{
+    let mut last = u32::MAX;
+    for layer in layers {
+        let stretch = stretch_in(layer, first, len);
+        last = last.min(stretch.last);
+        if let Some(cids) = stretch.cids {
+            return CidStretch { cids, last };
+        }
+    }
+    CidStretch {
+        cids: Cids::Absent,
+        last,
+    }
+}
+
+/// The declaration that decides the texts of the codes from `first` on, as `bf_of` gives them, as far
+/// as it does or none does.
+pub fn text_stretch(layers: &[Layer], first: u32) -> TextStretch<'_>
+    ensures within { first ≤ result.last }
+    ensures start { IfSome result.declaration
+        (λ declaration. declaration.now.range.start ≤ first) }
+    ensures texts { IsTextStretch (layers_seen layers.now) first result.last
+        (option_map bf_entry_seen (option_copied result.declaration)) }
+{
+    let mut last = u32::MAX;
+    for layer in layers {
+        let stretch = stretch_of(layer.texts(), first);
+        last = last.min(stretch.last);
+        if let Some(declaration) = stretch.declaration {
+            return TextStretch {
+                declaration: Some(declaration),
+                last,
+            };
+        }
+    }
+    TextStretch {
+        declaration: None,
+        last,
+    }
+}
+
+/// What a layer decides for codes from `first` on.
+fn stretch_in(layer: &Layer, first: u32, len: CodeLength) -> LayerStretch
+    ensures within { first ≤ result.last }
+    ensures cids { Decides (λ code. layer_cid (layer_seen layer.now) code (length_of len))
+        first result.last result.cids }
+{
+    let cids = stretch_of(layer.cids(len), first);
+    if let Some(declaration) = cids.declaration {
+        return declared_cids(declaration, first, cids.last);
+    }
+    let notdefs = stretch_of(layer.notdefs(len), first);
+    let last = cids.last.min(notdefs.last);
+    if let Some(declaration) = notdefs.declaration {
+        return LayerStretch {
+            cids: Some(Cids::Same(declaration.cid)),
+            last,
+        };
+    }
+    let characters = characters_in(layer.texts(), first);
+    LayerStretch {
+        cids: characters.cids,
+        last: last.min(characters.last),
+    }
+}
+
+/// The codes of a table from `first` on.
+fn stretch_of<T: HasRange>(table: &Table<T>, first: u32) -> Stretch<'_, T>
+    ensures within { first ≤ result.last }
+    ensures same { IsStretch T.span table.now first result.last (option_copied result.declaration) }
+    ensures start { IfSome result.declaration
+        (λ declaration. (T.span declaration.now).start ≤ first) }
+{
+    let mut looks = Looks::new();
+    match table.stretches(first, &mut looks).next(&mut looks) {
+        Some(stretch) => stretch,
+        None => unreachable!(),
+    }
+}
+
+/// The CIDs that a declaration gives to codes from `first` to `last`, which it contains, as far as these
+/// have some or none has.
+fn declared_cids(declaration: &CidRange, first: u32, last: u32) -> LayerStretch
+    requires start { declaration.now.range.start ≤ first }
+    requires last { first ≤ last }
+    ensures within { (first ≤ result.last) × (result.last ≤ last) }
+    ensures cids { Decides (λ code. Some (cid_at (cid_entry_seen declaration.now) code))
+        first result.last result.cids }
+{
+    match declaration.cid.checked_add(first - declaration.range.start) {
+        Some(cid) => LayerStretch {
+            cids: Some(Cids::CountOn(cid)),
+            last: first + (last - first).min(u32::MAX - cid),
+        },
+        None => LayerStretch {
+            cids: Some(Cids::Absent),
+            last,
+        },
+    }
+}
+
+/// The characters of codes from `first` on whose texts are just one.
+fn characters_in(texts: &Table<BfRange>, first: u32) -> LayerStretch
+    ensures within { first ≤ result.last }
+    ensures cids { Decides (λ code. option_map Some (character_said (map bf_entry_seen texts.now) code))
+        first result.last result.cids }
+{
+    let stretch = stretch_of(texts, first);
+    match stretch.declaration {
+        Some(declaration) => declared_characters(declaration, first, stretch.last),
+        None => LayerStretch {
+            cids: None,
+            last: stretch.last,
+        },
+    }
+}
+
+/// The characters that a declaration gives to codes from `first` to `last`, which it contains, as far
+/// as they count on or none has just one.
+fn declared_characters(declaration: &BfRange, first: u32, last: u32) -> LayerStretch
+    requires start { declaration.now.range.start ≤ first }
+    requires last { first ≤ last }
+    ensures within { (first ≤ result.last) × (result.last ≤ last) }
+    ensures cids { Decides (λ code. option_map Some
+        (only_character (bf_at (bf_entry_seen declaration.now) code))) first result.last result.cids }
+{
+    let units = declaration.units.as_slice();
+    let offset = first - declaration.range.start;
+    let cids = match one_char(units, offset) {
+        Some(character) => Some(Cids::CountOn(u32::from(character))),
+        None => None,
+    };
+    let more = further_characters(units, offset);
+    LayerStretch {
+        cids,
+        last: first + (last - first).min(more),
+    }
+}
+
+/// How many further offsets have characters that count on from that of this one, or none as it has
+/// none.
+fn further_characters(units: &[u16], offset: u32) -> u32
+    ensures { (k : ℕ) → k ≤ result → only_character (text_at units.now (offset + k))
+        ≡ option_map (λ character. character + k) (only_character (text_at units.now offset)) }
+{
+    let [.., last] = units else {
+        return u32::MAX;
+    };
+    let unit = u64::from(*last) + u64::from(offset);
+    if unit < 0x1_0000 {
+        0x3FF - (unit % 0x400) as u32
+    } else {
+        u32::MAX
+    }
+}
+
+/// The codes of this length that have the CID, as ranges in order.
+///
+/// It fails only if memory runs out.
+pub fn codes_of_cid(
+    alloc: Global,
+    layers: &[Layer],
+    cid: Cid,
+    len: CodeLength,
+) -> Result<Vec<Range>, AllocError>
+    ensures { IfOk result (λ ranges. AreCodesBelow (layers_seen layers.now) (length_of len) cid
+        (256 ^ length_of len) ranges.items) }
+{
+    let end = code_count(len);
+    let mut ranges = Vec::new(alloc);
+    let mut next = 0;
+    while next < end {
+        let first = next as u32;
+        let stretch = cid_stretch(layers, first, len);
+        let last = u64::from(stretch.last).min(end - 1) as u32;
+        if let Some(range) = codes_among(stretch.cids, cid, first, last) {
+            ranges.push(range)?;
+        }
+        next = u64::from(last) + 1;
+    }
+    Ok(ranges)
+}
+
+/// How many codes have this length.
+fn code_count(len: CodeLength) -> u64
+    ensures count { result ≡ 256 ^ length_of len }
+    ensures fits { result ≤ 2 ^ 32 }
+{
+    match len {
+        CodeLength::One => 0x100,
+        CodeLength::Two => 0x1_0000,
+        CodeLength::Three => 0x100_0000,
+        CodeLength::Four => 0x1_0000_0000,
+    }
+}
+
+/// The codes from `first` to `last` that have the CID, of codes from `first` on with these CIDs.
+fn codes_among(cids: Cids, cid: Cid, first: u32, last: u32) -> Option<Range>
+    requires { first ≤ last }
+    ensures { AreCodesAmong cids cid first last result }
+{
+    match cids {
+        Cids::Absent => None,
+        Cids::Same(same) => (same == cid).then_some(Range {
+            start: first,
+            end: last,
+        }),
+        Cids::CountOn(begin) => {
+            let offset = cid.checked_sub(begin)?;
+            let code = first.checked_add(offset)?;
+            (code <= last).then_some(Range {
+                start: code,
+                end: code,
+            })
+        }
+    }
+}
