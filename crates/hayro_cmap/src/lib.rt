@@ -20,6 +20,7 @@ pub use cmap_files::names::{CMapName, Cid};
 pub use cmap_files::units::Units;
 pub use cmap_files::writing_mode::WritingMode;
 pub use cmap_layers::layers::{DeclarationCounts, Layer};
+pub use cmap_layers::stretches::{CidStretch, Cids, TextStretch};
 pub use cmap_layers::string_codes::StringCode;
 pub use cmap_runs::runs;
 pub use cmap_tokens::token;

@@ -1,12 +1,13 @@
 //! Maps: what the codes of a CMap file stand for.
 
-ghost use Rattle.std.specs.Prelude.{◌≡◌, ◌≢◌, ◌*◌, [], ◌∷◌, ◌≤◌, ◌<◌, IfErr, IfOk, IfSome, IfNone, IsErrOf, IsSome, IsSomeAnd, OnErr, OnOk, MatchOption, Some, codes, is_some, length, option_map};
-ghost use Rattle.cmap_files.specs.CodeLengths.{IsCodeLength};
+ghost use Rattle.std.specs.Prelude.{◌≡◌, ◌≢◌, ◌*◌, ◌^◌, [], ◌∷◌, ◌≤◌, ◌<◌, IfErr, IfOk, IfSome, IfNone, IsErrOf, IsSome, IsSomeAnd, OnErr, OnOk, MatchOption, Some, codes, is_some, length, option_map};
+ghost use Rattle.std.specs.Option.{option_copied};
+ghost use Rattle.cmap_files.specs.CodeLengths.{IsCodeLength, length_of};
 ghost use Rattle.cmap_runs.specs.SearchLooks.{LooksAtMost};
 ghost use Rattle.cmap_tokens.specs.TextSeen.{text_seen};
 ghost use Rattle.cmap_tokens.specs.Texts.{text_of_characters};
 ghost use Rattle.hayro_cmap.specs.Answers.{Answers, AnswersByName, IsByName};
-ghost use Rattle.cmap_files.specs.DeclarationsSeen.{lists_seen};
+ghost use Rattle.cmap_files.specs.DeclarationsSeen.{bf_entry_seen, lists_seen};
 ghost use Rattle.cmap_files.specs.Files as files;
 ghost use Rattle.cmap_files.specs.ListsAppended.{no_lists};
 ghost use Rattle.cmap_files.specs.FilesSeen.{names_seen};
@@ -18,6 +19,7 @@ ghost use Rattle.hayro_cmap.specs.Opened.{ExceedsBudgetNamed, FitsBudgetNamed, H
 ghost use Rattle.cmap_layers.specs.LayersSeen.{layers_seen, metadata_seen, mode_seen};
 ghost use Rattle.cmap_layers.specs.Layers.{top_metadata};
 ghost use Rattle.cmap_layers.specs.Lookups.{InCodespace, bf_of, cid_of};
+ghost use Rattle.cmap_layers.specs.CodeStretches.{AreCodesBelow, IsCidStretch, IsTextStretch};
 ghost use Rattle.cmap_layers.specs.Rows.{AreCidsOf};
 ghost use Rattle.cmap_files.specs.Only.{IsOnly};
 ghost use Rattle.cmap_files.specs.Outcomes.{Finds, RefusesWith};
@@ -39,8 +41,9 @@ use cmap_files::metadata::Metadata;
 use cmap_files::names::{CMapName, Cid};
 use cmap_files::writing_mode::WritingMode;
 use cmap_layers::layers::Layer;
+use cmap_layers::stretches::{CidStretch, TextStretch};
 use cmap_layers::string_codes::StringCode;
-use cmap_layers::{codespaces, lookup, row, string_codes};
+use cmap_layers::{codespaces, lookup, row, stretches, string_codes};
 use cmap_runs::runs::{Looks, Range};
 use cmap_tokens::utf16::BfString;
 use std::alloc::{AllocError, Global};
@@ -306,6 +309,44 @@ impl CMap {
         ensures { AreCidsOf self.now byte_len absent first cids.new }
     {
         row::fill_cids(&self.layers, first, byte_len, absent, cids)
+    }
+
+    /// The CIDs of the codes of this length from `first` on, as `lookup_cid_code` gives them, as far as one
+    /// declaration of each list decides. A caller who goes on with the code after the last one has
+    /// those of all codes.
+    pub fn cid_stretch(&self, first: u32, len: CodeLength) -> CidStretch
+        ensures within { first ≤ result.last }
+        ensures cids { IsCidStretch self.now (length_of len) first result }
+    {
+        stretches::cid_stretch(&self.layers, first, len)
+    }
+
+    /// The declaration that decides the texts of the codes from `first` on, as `lookup_bf_string` gives
+    /// them, as far as it does or none does.
+    pub fn text_stretch(&self, first: u32) -> TextStretch<'_>
+        ensures within { first ≤ result.last }
+        ensures start { IfSome result.declaration
+            (λ declaration. declaration.now.range.start ≤ first) }
+        ensures texts { IsTextStretch self.now first result.last
+            (option_map bf_entry_seen (option_copied result.declaration)) }
+    {
+        stretches::text_stretch(&self.layers, first)
+    }
+
+    /// The codes of this length that have the CID, as `lookup_cid_code` gives it: ranges in order, of
+    /// which no two have a code together.
+    ///
+    /// It fails only if memory runs out.
+    pub fn codes_of_cid(
+        &self,
+        alloc: Global,
+        cid: Cid,
+        len: CodeLength,
+    ) -> Result<Vec<Range>, AllocError>
+        ensures { IfOk result (λ ranges.
+            AreCodesBelow self.now (length_of len) cid (256 ^ length_of len) ranges.items) }
+    {
+        stretches::codes_of_cid(alloc, &self.layers, cid, len)
     }
 
     /// The answer of `lookup_cid_code`, and what is looked at is counted.
