@@ -4,7 +4,7 @@ _cmap() {
     local current=${COMP_WORDS[COMP_CWORD]} before=${COMP_WORDS[COMP_CWORD - 1]} subcommand=${COMP_WORDS[1]}
     COMPREPLY=()
     if ((COMP_CWORD == 1)); then
-        mapfile -t COMPREPLY < <(compgen -W "info check decode lookup --help --version" -- "$current")
+        mapfile -t COMPREPLY < <(compgen -W "info list find check decode lookup --help --version" -- "$current")
         return
     fi
     case $before in
@@ -21,11 +21,14 @@ _cmap() {
     --budget) return ;;
     esac
     case $subcommand in
-    info | check | decode | lookup) ;;
+    info | list | find | check | decode | lookup) ;;
     *) return ;;
     esac
     if [[ $current == -* ]]; then
         mapfile -t COMPREPLY < <(compgen -W "--base --bundle --budget --json --help" -- "$current")
+        if [[ $subcommand == list ]]; then
+            mapfile -t -O "${#COMPREPLY[@]}" COMPREPLY < <(compgen -W "--effective" -- "$current")
+        fi
     else
         compopt -o filenames 2>/dev/null
         mapfile -t COMPREPLY < <(compgen -f -- "$current")

@@ -10,9 +10,16 @@ struct Subcommand {
     about: &'static str,
     /// Whether one file stands before the other arguments.
     has_file: bool,
-    /// What the other arguments are found by. There is one at least.
+    /// The other arguments; `list` has an option in their place.
+    arguments: Option<Arguments>,
+}
+
+/// Arguments of a subcommand, of which there is one at least.
+#[derive(Clone, Copy)]
+struct Arguments {
+    /// What they are found by.
     id: &'static str,
-    /// What the help calls such an argument.
+    /// What the help calls one of them.
     value_name: &'static str,
     /// What the help says of them.
     help: &'static str,
@@ -23,33 +30,57 @@ const SUBCOMMANDS: &[Subcommand] = &[
         name: "info",
         about: "Prints what files say: their names, codespace ranges, declarations and layers",
         has_file: false,
-        id: "FILE",
-        value_name: "FILE",
-        help: "CMap files, each by its path or its name; - is the standard input",
+        arguments: Some(Arguments {
+            id: "FILE",
+            value_name: "FILE",
+            help: "CMap files, each by its path or its name; - is the standard input",
+        }),
+    },
+    Subcommand {
+        name: "list",
+        about: "Prints each declaration of a file and of those that it is based on",
+        has_file: true,
+        arguments: None,
+    },
+    Subcommand {
+        name: "find",
+        about: "Prints the codes that have a CID or a text",
+        has_file: true,
+        arguments: Some(Arguments {
+            id: "ARGUMENT",
+            value_name: "WANTED",
+            help: "cid:N for the codes of a CID, text:TEXT for those of a text",
+        }),
     },
     Subcommand {
         name: "check",
         about: "Prints for each file that it is ok, or where it is wrong and why",
         has_file: false,
-        id: "FILE",
-        value_name: "FILE|FOLDER",
-        help: "CMap files, and folders of them; - is the standard input",
+        arguments: Some(Arguments {
+            id: "FILE",
+            value_name: "FILE|FOLDER",
+            help: "CMap files, and folders of them; - is the standard input",
+        }),
     },
     Subcommand {
         name: "decode",
         about: "Prints the codes of strings, with their CIDs and their texts",
         has_file: true,
-        id: "ARGUMENT",
-        value_name: "HEX",
-        help: "Strings, two hexadecimal digits for each byte; - reads them from the standard input",
+        arguments: Some(Arguments {
+            id: "ARGUMENT",
+            value_name: "HEX",
+            help: "Strings, two hexadecimal digits for each byte; - reads them from the standard input",
+        }),
     },
     Subcommand {
         name: "lookup",
         about: "Prints the CIDs and the texts of single codes",
         has_file: true,
-        id: "ARGUMENT",
-        value_name: "CODE",
-        help: "L:HEX for the CID of a code of L bytes, bf:HEX for the text of a code",
+        arguments: Some(Arguments {
+            id: "ARGUMENT",
+            value_name: "CODE",
+            help: "L:HEX for the CID of a code of L bytes, bf:HEX for the text of a code",
+        }),
     },
 ];
 
@@ -80,10 +111,15 @@ impl Subcommand {
         if self.has_file {
             command = command.arg(file(alloc))?;
         }
-        command.arg(self.arguments(alloc))
+        match self.arguments {
+            Some(arguments) => command.arg(arguments.arg(alloc)),
+            None => command.arg(effective(alloc)),
+        }
     }
+}
 
-    fn arguments<'a>(self, alloc: Global) -> Arg<'a> {
+impl Arguments {
+    fn arg<'a>(self, alloc: Global) -> Arg<'a> {
         Arg::new(alloc, self.id)
             .value_name(self.value_name)
             .help(self.help)
@@ -135,4 +171,12 @@ fn json<'a>(alloc: Global) -> Arg<'a> {
         .long("json")
         .action(ArgAction::SetTrue)
         .help("One JSON object per line")
+}
+
+/// The option that `list` alone has.
+fn effective<'a>(alloc: Global) -> Arg<'a> {
+    Arg::new(alloc, "effective")
+        .long("effective")
+        .action(ArgAction::SetTrue)
+        .help("What codes have over all layers, in place of what each layer declares")
 }

@@ -5,9 +5,11 @@ mod bases;
 mod check;
 mod command_line;
 mod decode;
+mod find;
 mod folders;
 mod info;
 mod inputs;
+mod list;
 mod lookup;
 mod messages;
 mod options;
@@ -86,6 +88,8 @@ fn run_subcommand(
     };
     match name {
         "info" => info::info(rt, options, &bases),
+        "find" => find::find(rt, options, &bases),
+        "list" => list::list(rt, options, &bases),
         "check" => check::check(rt, options, &bases),
         "decode" => decode::decode(rt, options, &bases),
         _ => lookup::lookup(rt, options, &bases),

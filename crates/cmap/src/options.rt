@@ -8,9 +8,10 @@ use clap::ArgMatches;
 pub(crate) struct Options<'m, 'w> {
     /// The files, and with `check` the folders.
     pub(crate) paths: &'m [&'w str],
-    /// The first of the files, which is the only one of `decode` and of `lookup`.
+    /// The first of the files, which is the only one of `list`, `find`, `decode` and
+    /// `lookup`.
     pub(crate) file: &'w str,
-    /// The strings of `decode`, and the codes of `lookup`.
+    /// The strings of `decode`, the codes of `lookup`, and what `find` looks for.
     pub(crate) arguments: &'m [&'w str],
     /// The folders of the files that others use.
     pub(crate) bases: &'m [&'w str],
@@ -20,6 +21,8 @@ pub(crate) struct Options<'m, 'w> {
     pub(crate) budget: Option<u64>,
     /// Whether each line is a JSON object.
     pub(crate) json: bool,
+    /// Whether `list` prints what codes have over all layers.
+    pub(crate) effective: bool,
 }
 
 impl<'m, 'w> Options<'m, 'w> {
@@ -33,6 +36,7 @@ impl<'m, 'w> Options<'m, 'w> {
             bundle: matches.get_str("bundle"),
             budget: matches.get_one::<u64>("budget"),
             json: matches.get_flag("json"),
+            effective: matches.get_flag("effective"),
         }
     }
 

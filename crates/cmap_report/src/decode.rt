@@ -154,7 +154,15 @@ fn text_of_cid(
 
 /// The text of a code.
 pub(crate) fn text_of(alloc: Global, map: &CMap, code: u32) -> Result<Option<String>, AllocError> {
-    match map.lookup_bf_string(alloc, code)? {
+    text_string(alloc, map.lookup_bf_string(alloc, code)?)
+}
+
+/// A text as a string.
+pub(crate) fn text_string(
+    alloc: Global,
+    text: Option<BfString>,
+) -> Result<Option<String>, AllocError> {
+    match text {
         None => Ok(None),
         Some(BfString::String(text)) => Ok(Some(text)),
         Some(BfString::Char(character)) => {

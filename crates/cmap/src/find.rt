@@ -1,0 +1,45 @@
+//! `cmap find`: the codes that have a CID or a text.
+
+use crate::bases::Bases;
+use crate::inputs::map_needed;
+use crate::messages::fault;
+use crate::options::Options;
+use crate::{ACCEPTED, REFUSED};
+use cmap_report::find::{Wanted, push_codes, push_json};
+
+/// Prints the codes that each argument asks for, and gives the status.
+pub(crate) fn find(
+    rt: &HostRuntime,
+    options: &Options<'_, '_>,
+    bases: &Bases<'_>,
+) -> anyhow::Result<u8> {
+    let wanted = wanted_of(rt, options.arguments)?;
+    let Some(map) = map_needed(rt, options.file, options.budget, bases)? else {
+        return Ok(REFUSED);
+    };
+    let mut lines = String::new(rt.alloc());
+    for (argument, wanted) in &wanted {
+        if options.json {
+            push_json(rt.alloc(), &mut lines, &map, argument, *wanted)?;
+        } else {
+            push_codes(rt.alloc(), &mut lines, &map, argument, *wanted)?;
+        }
+    }
+    print!(rt; "{lines}")?;
+    Ok(ACCEPTED)
+}
+
+/// What the arguments ask for, each with its argument.
+fn wanted_of<'w>(
+    rt: &HostRuntime,
+    arguments: &[&'w str],
+) -> anyhow::Result<Vec<(&'w str, Wanted<'w>)>> {
+    let mut asked = Vec::new(rt.alloc());
+    for argument in arguments {
+        match Wanted::parse(argument) {
+            Some(wanted) => asked.push((*argument, wanted))?,
+            None => return Err(fault(rt, argument, "neither cid:N nor text:TEXT")),
+        }
+    }
+    Ok(asked)
+}

@@ -1,0 +1,68 @@
+//! `cmap list`: what a file and those that it is based on declare.
+
+use crate::bases::Bases;
+use crate::inputs::map_needed;
+use crate::options::Options;
+use crate::{ACCEPTED, REFUSED};
+use cmap_report::effective::effective_lines;
+use cmap_report::line::{Line, push_json, push_line};
+use cmap_report::list::lines_by_layer;
+use hayro_cmap::CMap;
+use std::alloc::{AllocError, Global};
+
+/// Prints each declaration, layer by layer, or what codes have over all layers, and gives the status.
+pub(crate) fn list(
+    rt: &HostRuntime,
+    options: &Options<'_, '_>,
+    bases: &Bases<'_>,
+) -> anyhow::Result<u8> {
+    let Some(map) = map_needed(rt, options.file, options.budget, bases)? else {
+        return Ok(REFUSED);
+    };
+    let printed = if options.effective {
+        effective(rt.alloc(), &map, options.json)?
+    } else {
+        declared(rt.alloc(), &map, options.json)?
+    };
+    print!(rt; "{printed}")?;
+    Ok(ACCEPTED)
+}
+
+/// What codes have over all layers.
+fn effective(alloc: Global, map: &CMap, json: bool) -> Result<String, AllocError> {
+    let mut printed = String::new(alloc);
+    let lines = effective_lines(alloc, map)?;
+    push_lines(alloc, &mut printed, lines, None, json)?;
+    Ok(printed)
+}
+
+/// The declarations. Each layer but the top one has its number over them.
+fn declared(alloc: Global, map: &CMap, json: bool) -> Result<String, AllocError> {
+    let mut printed = String::new(alloc);
+    let layers = lines_by_layer(alloc, map)?;
+    for (index, lines) in layers.into_iter().enumerate() {
+        let layer = index.saturating_add(1);
+        if index > 0 && !json {
+            writeln!(printed, "layer {layer}")?;
+        }
+        push_lines(alloc, &mut printed, lines, Some(layer), json)?;
+    }
+    Ok(printed)
+}
+
+fn push_lines(
+    alloc: Global,
+    printed: &mut String,
+    lines: Vec<Line>,
+    layer: Option<usize>,
+    json: bool,
+) -> Result<(), AllocError> {
+    for line in lines {
+        if json {
+            push_json(alloc, printed, line, layer)?;
+        } else {
+            push_line(printed, &line)?;
+        }
+    }
+    Ok(())
+}

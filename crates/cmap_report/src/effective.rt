@@ -1,0 +1,128 @@
+//! What codes have over all layers, run by run.
+
+use crate::decode::text_string;
+use crate::line::{Given, Line};
+use crate::list::{LENGTHS, text_code_len};
+use hayro_cmap::runs::Range;
+use hayro_cmap::{CMap, CidStretch, Cids, CodeLength, Layer, TextStretch, utf16};
+use std::alloc::{AllocError, Global};
+
+/// What codes have: their CIDs, for each length that codes of the map have, and then their texts.
+pub fn effective_lines(alloc: Global, map: &CMap) -> Result<Vec<Line>, AllocError> {
+    let mut lines = Vec::new(alloc);
+    for len in LENGTHS {
+        if has_codes(map, *len) {
+            add_cids(&mut lines, map, *len)?;
+        }
+    }
+    add_texts(alloc, &mut lines, map)?;
+    Ok(lines)
+}
+
+/// Whether a codespace range, or a declaration of CIDs or notdefs, of some layer has codes of this
+/// length.
+pub(crate) fn has_codes(map: &CMap, len: CodeLength) -> bool {
+    map.layers().iter().any(|layer| declares_codes(layer, len))
+}
+
+fn declares_codes(layer: &Layer, len: CodeLength) -> bool {
+    layer.cids(len).decl_count() > 0
+        || layer.notdefs(len).decl_count() > 0
+        || layer.codespaces().iter().any(|space| space.len == len)
+}
+
+/// Adds the CIDs of the codes of a length, in runs that are as long as can be.
+fn add_cids(lines: &mut Vec<Line>, map: &CMap, len: CodeLength) -> Result<(), AllocError> {
+    let end = u64::from(last_code(len));
+    let mut next: u64 = 0;
+    while next <= end {
+        let first = next as u32;
+        let stretch = map.cid_stretch(first, len);
+        add_stretch(lines, stretch, first, len)?;
+        next = u64::from(stretch.last) + 1;
+    }
+    Ok(())
+}
+
+/// The last code of a length.
+fn last_code(len: CodeLength) -> u32 {
+    match len {
+        CodeLength::One => 0xFF,
+        CodeLength::Two => 0xFFFF,
+        CodeLength::Three => 0xFF_FFFF,
+        CodeLength::Four => u32::MAX,
+    }
+}
+
+/// Adds the CIDs of a stretch of codes from `first` on, where they have some.
+fn add_stretch(
+    lines: &mut Vec<Line>,
+    stretch: CidStretch,
+    first: u32,
+    len: CodeLength,
+) -> Result<(), AllocError> {
+    let given = match stretch.cids {
+        Cids::Absent => return Ok(()),
+        Cids::Same(cid) => Given::Notdef(cid),
+        Cids::CountOn(cid) => Given::Cids(cid),
+    };
+    let line = Line {
+        byte_len: len.count(),
+        range: Range {
+            start: first,
+            end: stretch.last.min(last_code(len)),
+        },
+        given,
+    };
+    add_line(lines, line)
+}
+
+/// Adds a line, or where the last one goes on with it, makes that longer.
+fn add_line(lines: &mut Vec<Line>, line: Line) -> Result<(), AllocError> {
+    if let Some(last) = lines.last_mut() {
+        if last.is_continued_by(&line) {
+            last.range.end = line.range.end;
+            return Ok(());
+        }
+    }
+    lines.push(line)?;
+    Ok(())
+}
+
+/// Adds the texts of codes, declaration by declaration.
+fn add_texts(alloc: Global, lines: &mut Vec<Line>, map: &CMap) -> Result<(), AllocError> {
+    let end = u64::from(u32::MAX);
+    let mut next: u64 = 0;
+    while next <= end {
+        let first = next as u32;
+        let stretch = map.text_stretch(first);
+        add_text(alloc, lines, map, stretch, first)?;
+        next = u64::from(stretch.last) + 1;
+    }
+    Ok(())
+}
+
+/// Adds the texts of a stretch of codes from `first` on, where they have a declaration.
+fn add_text(
+    alloc: Global,
+    lines: &mut Vec<Line>,
+    map: &CMap,
+    stretch: TextStretch<'_>,
+    first: u32,
+) -> Result<(), AllocError> {
+    let Some(declaration) = stretch.declaration else {
+        return Ok(());
+    };
+    let offset = first.saturating_sub(declaration.range.start);
+    let text = utf16::text(alloc, declaration.units.as_slice(), offset)?;
+    let range = Range {
+        start: first,
+        end: stretch.last,
+    };
+    lines.push(Line {
+        byte_len: text_code_len(map.layers(), range),
+        range,
+        given: Given::Texts(text_string(alloc, text)?),
+    })?;
+    Ok(())
+}

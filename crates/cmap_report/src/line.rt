@@ -1,0 +1,159 @@
+//! Declarations as they are printed, and what codes in a row have.
+
+ghost use Rattle.std.specs.Prelude.{OnOk, string_bytes};
+ghost use Rattle.cmap_escape.specs.Escapes.{AddsLine, AddsOfLine};
+
+use crate::decode::push_text_or_dash;
+use cmap_escape::digits::{code_digits, push_code};
+use cmap_escape::json;
+use hayro_cmap::runs::Range;
+use serde_json::{Map, Value, put};
+use std::alloc::{AllocError, Global};
+
+/// A declaration of a layer, or what codes in a row have over all layers.
+#[derive(Drop)]
+pub struct Line {
+    /// How many bytes its codes have.
+    pub(crate) byte_len: u8,
+    /// Its first code and its last one.
+    pub(crate) range: Range,
+    pub(crate) given: Given,
+}
+
+impl Line {
+    /// Whether the codes and the CIDs of another line go on from those of this one.
+    pub(crate) fn is_continued_by(&self, next: &Line) -> bool {
+        if self.byte_len != next.byte_len
+            || self.range.end.checked_add(1) != Some(next.range.start)
+        {
+            return false;
+        }
+        match (&self.given, &next.given) {
+            (Given::Cids(first), Given::Cids(further)) => {
+                let offset = next.range.start.saturating_sub(self.range.start);
+                first.checked_add(offset) == Some(*further)
+            }
+            (Given::Notdef(cid), Given::Notdef(same)) => cid == same,
+            _ => false,
+        }
+    }
+}
+
+/// What codes are given.
+#[derive(Drop)]
+pub(crate) enum Given {
+    /// They lie in a codespace range.
+    Codespace,
+    /// CIDs, of which this is the first.
+    Cids(u32),
+    /// This CID, each of them.
+    Notdef(u32),
+    /// Texts, of which this is the first.
+    Texts(Option<String>),
+}
+
+impl Given {
+    /// The word for it.
+    fn kind(&self) -> &'static str {
+        match self {
+            Given::Codespace => "codespace",
+            Given::Cids(_) => "cid",
+            Given::Notdef(_) => "notdef",
+            Given::Texts(_) => "text",
+        }
+    }
+}
+
+/// Adds a declaration, as `cid <8140> <817E> 633`, and ends the line.
+pub fn push_line(out: &mut String, line: &Line) -> Result<(), AllocError> {
+    out.push_str(line.given.kind())?;
+    out.push(' ')?;
+    push_range(out, line.byte_len, line.range)?;
+    push_given(out, &line.given)?;
+    out.push('\n')
+}
+
+/// Adds a range of codes as `<8140> <817E>`.
+pub(crate) fn push_range(out: &mut String, byte_len: u8, range: Range) -> Result<(), AllocError> {
+    out.push('<')?;
+    push_code(out, byte_len, range.start)?;
+    out.push_str("> <")?;
+    push_code(out, byte_len, range.end)?;
+    out.push('>')
+}
+
+/// Adds the first CID or the first text.
+fn push_given(out: &mut String, given: &Given) -> Result<(), AllocError> {
+    match given {
+        Given::Codespace => Ok(()),
+        Given::Cids(cid) => write!(out, " {cid}"),
+        Given::Notdef(cid) => write!(out, " {cid}"),
+        Given::Texts(text) => {
+            out.push(' ')?;
+            push_text_or_dash(out, text)
+        }
+    }
+}
+
+/// Adds the object of a declaration, and ends the line. The top layer is layer 1; what codes have over
+/// all layers has no layer.
+pub fn push_json(
+    alloc: Global,
+    out: &mut String,
+    line: Line,
+    layer: Option<usize>,
+) -> Result<(), AllocError>
+    ensures line { OnOk result (AddsLine (string_bytes out.old) (string_bytes out.new)) }
+
+    // Also where memory runs out.
+    ensures printable { AddsOfLine (string_bytes out.old) (string_bytes out.new) }
+{
+    let object = line_object(alloc, line, layer)?;
+    json::push_line(alloc, out, &object)
+}
+
+fn line_object(alloc: Global, line: Line, layer: Option<usize>) -> Result<Value, AllocError> {
+    let mut object = Map::new(alloc);
+    if let Some(layer) = layer {
+        put(&mut object, alloc, "layer", Value::from(layer))?;
+    }
+    put_line(alloc, &mut object, line)?;
+    Ok(Value::Object(object))
+}
+
+fn put_line(alloc: Global, object: &mut Map<String, Value>, line: Line) -> Result<(), AllocError> {
+    let Line {
+        byte_len,
+        range,
+        given,
+    } = line;
+    let kind = String::from_str(alloc, given.kind())?;
+    put(object, alloc, "kind", Value::from(kind))?;
+    put_code(alloc, object, "first", byte_len, range.start)?;
+    put_code(alloc, object, "last", byte_len, range.end)?;
+    put_given(alloc, object, given)
+}
+
+fn put_code(
+    alloc: Global,
+    object: &mut Map<String, Value>,
+    key: &str,
+    byte_len: u8,
+    code: u32,
+) -> Result<(), AllocError> {
+    let digits = code_digits(alloc, byte_len, code)?;
+    put(object, alloc, key, Value::from(digits))
+}
+
+fn put_given(
+    alloc: Global,
+    object: &mut Map<String, Value>,
+    given: Given,
+) -> Result<(), AllocError> {
+    match given {
+        Given::Codespace => Ok(()),
+        Given::Cids(cid) => put(object, alloc, "cid", Value::from(cid)),
+        Given::Notdef(cid) => put(object, alloc, "cid", Value::from(cid)),
+        Given::Texts(text) => put(object, alloc, "text", Value::from(text)),
+    }
+}
