@@ -44,21 +44,21 @@ module _ (layers : List Layer) (len cid next last : ℕ) (stretch : CidStretch) 
     codes = λ code lt.
         elim (cases_lt code next) [
           | inl before ↦ (
-              λ is. Any-old (IsIn code) ranges range ((are.codes code before).0 is),
-              λ found.
-                  elim (Contains-push_cases ranges range found.1 (found.0, found.2, found.3)) [
-                    | inl old ↦ (are.codes code before).1 (old.0, found.1, old.1, old.2, found.4)
-                    | inr here ↦ absurd (let starts : range.start ≤ code = rw (← here) at found.4.0 in omega (arith, starts, among.0, before))
-                  ],
-            )
+            λ is. Any-old (IsIn code) ranges range ((are.codes code before).0 is),
+            λ found.
+                elim (Contains-push_cases ranges range found.1 (found.0, found.2, found.3)) [
+                  | inl old ↦ (are.codes code before).1 (old.0, found.1, old.1, old.2, found.4)
+                  | inr here ↦ absurd (let starts : range.start ≤ code = rw (← here) at found.4.0 in omega (arith, starts, among.0, before))
+                ],
+          )
           | inr from ↦ (
-              λ is. Any-push (IsIn code) ranges range ((among.3 code from (omega arith)).0 (sym (same code from (omega arith)) ∙ is)),
-              λ found.
-                  elim (Contains-push_cases ranges range found.1 (found.0, found.2, found.3)) [
-                    | inl old ↦ absurd (not_before code from (old.0, found.1, old.1, old.2, found.4))
-                    | inr here ↦ same code from (omega arith) ∙ (among.3 code from (omega arith)).1 (rw (← here) at found.4)
-                  ],
-            )
+            λ is. Any-push (IsIn code) ranges range ((among.3 code from (omega arith)).0 (sym (same code from (omega arith)) ∙ is)),
+            λ found.
+                elim (Contains-push_cases ranges range found.1 (found.0, found.2, found.3)) [
+                  | inl old ↦ absurd (not_before code from (old.0, found.1, old.1, old.2, found.4))
+                  | inr here ↦ same code from (omega arith) ∙ (among.3 code from (omega arith)).1 (rw (← here) at found.4)
+                ],
+          )
         ];
     within = All-push (λ (r : Range). (r.start ≤ r.end) × (r.end < last + 1)) ranges range earlier (among.1, omega (arith, among.2));
     ordered = all_pairs_push (λ (r later : Range). r.end < later.start) ranges range are.ordered (λ k d lt. omega (arith, (are.within k d lt).1, among.0));

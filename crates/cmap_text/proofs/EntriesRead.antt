@@ -10,9 +10,9 @@ use Rattle.cmap_tokens.specs.TokensLeft.{Left}
 use Rattle.cmap_files.specs.Files.{Declaration, Lists}
 use Rattle.cmap_files.proofs.ListsMade.{added_more, append_lists-none}
 use Rattle.cmap_text.specs.TextFiles.{Section, codespace_range, cids, range, single, bf_range, bf_char, closer, declares_bf, declares_cid, IsCode, IsDestination, IsEntry, AreEntries}
-use Rattle.cmap_text.specs.TextReading.{adding, body_in, Code, code_in, code_or_closer, codespace, entry_after, is_executable, list_in, text_of, texts_from}
+use Rattle.cmap_text.specs.TextReading.{adding, body_in, Code, code_fault, code_in, code_or_closer, codespace, codespace_to, destination_in, entry_after, is_executable, list_in, list_or_destination, text_of, texts_from}
 use Rattle.cmap_text.specs.TokenParsers.{followed_by, head_in, round, run}
-use Rattle.cmap_text.proofs.TokensRead.{some_mapped, tested, written, code_is, code_found, cid_is, cid_found, destination_is, destination_found, is_executable-found, is_executable-own}
+use Rattle.cmap_text.proofs.TokensRead.{some_bound, some_mapped, tested, written, code_is, code_found, cid_is, cid_found, destination_is, destination_found, is_executable-found, is_executable-own}
 use Rattle.cmap_text.proofs.TokenParsers.{Implies, Means, Relation, Rounds, repeat_next}
 
 abbrev opening_bracket : Token
@@ -57,13 +57,13 @@ list_found _ _ start lists rest all = absurd all
 -- ---- what is read is an entry
 module _ (t : Token) (bytes : List ℕ) (is_code : IsCode t bytes) (lists : Lists) where
   pub entry_there : (section : Section) → Implies (Means (entry_after section (written bytes) lists)) (Adds (λ tokens. IsEntry section (t ∷ tokens)) lists)
-  entry_there codespace_range tokens new rest (high, mid, (b, b_at, b_is), (gives, mid_is)) =
+  entry_there codespace_range tokens new rest (declared, (b, at, gives), new_is) =
+      let (high, b_is, of_codes) = some_bound (codespace (written bytes)) (code_in b) declared gives in
       let (high_bytes, is_high, same) = code_found b high b_is in
-      let (declared, of_codes, added) = some_mapped (adding lists) (codespace (written bytes) high) new gives in
       let (equal, declares) = tested (length bytes == high.len) _ declared of_codes in (
         _,
         (t, b, bytes, high_bytes, cc, is_code, is_high, eqb-true (length bytes) high.len equal ∙ ap (λ k. k.len) same, refl),
-        sym added ∙ ap (adding lists) (sym declares ∙ ap (λ k. Declaration.codespace (record { len = length bytes; low = big_endian bytes; high = k.number }) ∷ []) same),
+        new_is ∙ ap (adding lists) (sym declares ∙ ap (λ k. Declaration.codespace (record { len = length bytes; low = big_endian bytes; high = k.number }) ∷ []) same),
       )
   entry_there (cids kind range) tokens new rest (p, (end, mid, (b, b_at, b_is), (n, (c, c_at, c_is), filed_is)), new_is) =
       let (end_bytes, is_end, same) = code_found b end b_is in (
@@ -73,16 +73,20 @@ module _ (t : Token) (bytes : List ℕ) (is_code : IsCode t bytes) (lists : List
       )
   entry_there (cids kind single) tokens new rest (p, (n, (c, c_at, c_is), filed_is), new_is) = (_, (t, c, bytes, n, cc, is_code, cid_found c n c_is, refl), rw (new_is, filed_is) refl)
   entry_there bf_char tokens new rest (units, (d, at, is), new_is) = (_, (t, d, bytes, units, cc, is_code, destination_found d units is, refl), new_is)
-  entry_there bf_range tokens new rest (end, mid, (b, b_at, b_is), (u, later, (d, d_at, d_is), texts)) =
+  entry_there bf_range tokens new rest (end, mid, (b, b_at, b_is), (found, later, (d, d_at, d_is), texts)) =
       let (end_bytes, is_end, same) = code_found b end b_is in
-      let read = subst (λ k. Means (texts_from (big_endian bytes) k.number lists u) later new rest) same texts in
-      let begins : t ∷ tokens ≡ t ∷ b ∷ u ∷ later = cc in
-      elim (cases_Bool (is_executable (codes "[") u)) [
+      let read = subst (λ k. Means (texts_from (big_endian bytes) k.number lists found) later new rest) same texts in
+      let begins : t ∷ tokens ≡ t ∷ b ∷ d ∷ later = cc in
+      elim (cases_Bool (is_executable (codes "[") d)) [
         | inl opens ↦
-            let (declared, (ds, units, shape, all, counted, declares), new_is) = list_there _ (big_endian bytes) lists later new rest (rw (opens, Means) at read) in
-            let bracket = is_executable-found (codes "[") u opens in
+            let is_list = rw (sym (same_Some None found (rw opens at d_is)), Means) at read in
+            let (declared, (ds, units, shape, all, counted, declares), new_is) = list_there _ (big_endian bytes) lists later new rest is_list in
+            let bracket = is_executable-found (codes "[") d opens in
             (declared, (t, b, bytes, end_bytes, is_code, is_end, inr (ds, units, begins ∙ cc, all, counted, declares)), new_is)
-        | inr one ↦ let (units, (is, whole), new_is) = rw (one, Means) at read in (_, (t, b, bytes, end_bytes, is_code, is_end, inl (u, units, cc, destination_found u units is, refl)), new_is)
+        | inr one ↦
+            let (units, is, gives) = some_mapped Some (destination_in d) found (rw one at d_is) in
+            let (new_is, whole) = rw (sym gives, Means) at read in
+            (_, (t, b, bytes, end_bytes, is_code, is_end, inl (d, units, cc, destination_found d units is, refl)), sym new_is)
       ]
 
 -- ---- each entry is read
@@ -92,7 +96,7 @@ Enters section tokens declared rest = (t : Token) × (bytes : List ℕ) × (late
 
 pub entry_found : (section : Section) → Implies (IsEntry section) (Enters section)
 entry_found codespace_range tokens declared rest (a, b, low, high, shape, is_low, is_high, same, declares) =
-    (a, low, _, shape, is_low, λ lists. (_, _, (b, refl, code_is b high is_high), (rw (declares, eq-eqb (length low) (length high) same) refl, refl)))
+    (a, low, _, shape, is_low, λ lists. (declared, (b, refl, rw (code_is b high is_high, eq-eqb (length low) (length high) same, declares) refl), refl))
 entry_found (cids kind range) tokens declared rest (a, b, c, start, end, n, shape, is_start, is_end, is_cid, declares) =
     (a, start, _, shape, is_start, λ lists. (_, (_, _, (b, refl, code_is b end is_end), (n, (c, refl, cid_is c n is_cid), refl)), rw declares refl))
 entry_found (cids kind single) tokens declared rest (a, c, code, n, shape, is_code, is_cid, declares) =
@@ -101,9 +105,9 @@ entry_found bf_char tokens declared rest (a, d, code, units, shape, is_code, is_
     (a, code, _, shape, is_code, λ lists. (units, (d, refl, destination_is d units is_d), rw declares refl))
 entry_found bf_range tokens declared rest (a, b, start, end, is_start, is_end, inl (d, units, shape, is_d, declares)) =
     let other = ap (is_executable (codes "[")) is_d.2 in
-    (a, start, _, shape, is_start, λ lists. (_, _, (b, refl, code_is b end is_end), (_, _, (d, refl, refl), rw other (units, (destination_is d units is_d, refl), rw declares refl))))
+    (a, start, _, shape, is_start, λ lists. (_, _, (b, refl, code_is b end is_end), (Some units, _, (d, refl, rw (other, destination_is d units is_d) refl), (rw declares refl, refl))))
 entry_found bf_range tokens declared rest (a, b, start, end, is_start, is_end, inr (ds, texts, shape, all, count, declares)) =
-    (a, start, _, shape, is_start, λ lists. (_, _, (b, refl, code_is b end is_end), (opening_bracket, _, (opening_bracket, refl, refl), rw (declares, ← count) (list_found ds texts (big_endian start) lists rest all))))
+    (a, start, _, shape, is_start, λ lists. (_, _, (b, refl, code_is b end is_end), (None, _, (opening_bracket, refl, refl), rw (declares, ← count) (list_found ds texts (big_endian start) lists rest all))))
 
 -- ---- sections
 module _ (section : Section) where
@@ -141,5 +145,5 @@ module _ (section : Section) where
       let all = subst (λ l. Entries (length each) (adding lists declared) mid l rest) (added_more lists (adding lists declared) _ declared (flat_map (λ ds. ds) each) refl refl) rounds in
       (t, written bytes, later, mid, adding lists declared, shape, rw (other, code_is t bytes is_code) refl, means lists, all)
 
-pub body_next : (section : Section) (lists : Lists) (here : Left) → run (body_in section lists) here ≡ followed_by (round (λ now. run (body_in section now)) (λ now code. run (entry_after section code now)) lists) (head_in (code_or_closer section) here)
-body_next section = repeat_next (code_or_closer section) (λ now code. entry_after section code now)
+pub body_next : (section : Section) (lists : Lists) (here : Left) → run (body_in section lists) here ≡ followed_by (round (λ now. run (body_in section now)) (λ now code. run (entry_after section code now)) lists) (head_in code_fault (code_or_closer section) here)
+body_next section = repeat_next code_fault (code_or_closer section) (λ now code. entry_after section code now)

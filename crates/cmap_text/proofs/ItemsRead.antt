@@ -5,11 +5,12 @@ use Rattle.std.proofs.lemmas.Option.{none-some, same_Some}
 use Rattle.std.specs.Prelude.{◌⊎◌, Contains, find, flat_map, Option, Some, None, Ok, option_map}
 use Rattle.cmap_tokens.specs.Tokens.{Token}
 use Rattle.cmap_tokens.specs.TokensLeft.{EndedToken, Left}
+use Rattle.cmap_files.specs.declared.fault.Reason.TheVariants.{UseWithoutName}
 use Rattle.cmap_text.specs.TextFiles.{Section, cids, mapped, notdef, range, keys, opener, use_word, Item, key, entries, use_of_base, other, IsOtherToken, IsItem, AreItems}
-use Rattle.cmap_text.specs.TokenParsers.{after, followed_by, ItemParser, reads, giving, wanted, takes_value, next_in, repeated, repeated_within, round, run_item}
+use Rattle.cmap_text.specs.TokenParsers.{after, followed_by, ItemParser, reads, done, giving, wanted, takes_value, next_in, repeated, repeated_within, round, run_item}
 use Rattle.cmap_text.specs.TextReading.{adding, all_said, body_in, is_executable, is_literal, item_after, item_said, key_in, opened_by, Said, sections, with_key, with_lists, with_other, with_use}
 use Rattle.cmap_text.proofs.TokensRead.{some_bound, is_executable-found, is_literal-found}
-use Rattle.cmap_text.proofs.TokenParsers.{bound, same_Ok, err-ok, having, length-words, words, Implies, Means, Relation, IsThere, is_there, IsFound, is_found, known, then_found, repeated_next}
+use Rattle.cmap_text.proofs.TokenParsers.{bound, same_Ok, err-ok, having, length-words, words, Implies, Means, Relation, IsThere, is_there, IsFound, is_found, known, then_found, repeated_next, wrong_there}
 use Rattle.cmap_text.proofs.EntriesRead.{entries_there, entries_found}
 use Rattle.cmap_text.proofs.ItemsSaid.{says, says_all}
 
@@ -74,16 +75,16 @@ kind_of t =
 
 abbrev item_of : Said → {t : Token} → Kind t → ItemParser Said
 item_of old (opens section) = reads (giving (with_lists old) (body_in section old.lists))
-item_of old uses = reads (wanted (option_map (with_use old) old.operand))
+item_of old uses = wanted UseWithoutName (option_map (with_use old) old.operand)
 item_of old (takes k contained) = takes_value (with_key old k)
-item_of old (alone t plain) = reads (wanted (Some (with_other old t)))
+item_of old (alone t plain) = reads (done (with_other old t))
 
 -- none where none can be
 no_answer : {A : Type 0} (o : Option A) → ((x : A) → o ≡ Some x → ⊥) → o ≡ None
 no_answer None none = refl
 no_answer (Some x) none = absurd (none x refl)
 
-other_after : (old : Said) (t : Token) → IsOtherToken t → item_after old t ≡ reads (wanted (Some (with_other old t)))
+other_after : (old : Said) (t : Token) → IsOtherToken t → item_after old t ≡ reads (done (with_other old t))
 other_after old t (no_key, no_opener, no_use) =
     let key_none = no_answer (key_in t) (λ k is. let (contained, named) = key_in-found t k is in no_key k contained named) in
     let section_none = no_answer (opened_by t) (λ section is. no_opener section (opened_by-found t section is)) in
@@ -104,6 +105,7 @@ IsNext ends tokens (Some t) rest = tokens ≡ t ∷ rest
 
 abbrev MeansItem : {A : Type 0} → Bool → ItemParser A → Relation A
 MeansItem ends (reads parser) tokens x rest = Means parser tokens x rest
+MeansItem ends (wanted reason found) tokens x rest = (found ≡ Some x) × (tokens ≡ rest)
 MeansItem ends (takes_value set) tokens x rest = (value : Option Token) × IsNext ends tokens value rest × (x ≡ set value)
 
 abbrev ending : Bool → Left → Left
@@ -128,16 +130,18 @@ next_found left tokens value rest whole is = at left.tokens value whole is
         let token : q.token ≡ t = cc in
         record { next = after q others left; is = ap (λ u. Ok (Some u, after q others left)) token; whole = cc; ends = refl }
 
-item_there : {A : Type 0} (i : ItemParser A) (left : Left) (p : A × Left) → run_item i left ≡ Ok p → IsThere (MeansItem left.ends i) left p
-item_there (reads parser) left p is = is_there parser left p is
-item_there (takes_value set) left p is =
+item_there : {A : Type 0} (t : Token) (i : ItemParser A) (left : Left) (p : A × Left) → run_item t i left ≡ Ok p → IsThere (MeansItem left.ends i) left p
+item_there t (reads parser) left p is = is_there parser left p is
+item_there t (wanted reason found) left p is = wrong_there reason found t left p is
+item_there t (takes_value set) left p is =
     let (q, next, later) = bound _ (next_in left) p is in
     let (means, ends, fewer) = next_there left q next in
     subst (IsThere (MeansItem left.ends (takes_value set)) left) (same_Ok (set q.0, q.1) p later) ((q.0, means, refl), ends, fewer)
 
-item_found : {A : Type 0} (i : ItemParser A) (left : Left) (tokens : List Token) (x : A) (rest : List Token) → words left ≡ tokens → MeansItem left.ends i tokens x rest → IsFound (run_item i left) x rest left
-item_found (reads parser) left tokens x rest at means = is_found parser tokens x rest means left at
-item_found (takes_value set) left tokens x rest at (value, next, same) = then_found (λ v n. Ok (set v, n)) (next_found left tokens value rest at next) (λ n. known (sym same))
+item_found : {A : Type 0} (t : Token) (i : ItemParser A) (left : Left) (tokens : List Token) (x : A) (rest : List Token) → words left ≡ tokens → MeansItem left.ends i tokens x rest → IsFound (run_item t i left) x rest left
+item_found t (reads parser) left tokens x rest at means = is_found parser tokens x rest means left at
+item_found t (wanted reason found) left tokens x rest at (is, whole) = rw is (known refl (at ∙ whole))
+item_found t (takes_value set) left tokens x rest at (value, next, same) = then_found (λ v n. Ok (set v, n)) (next_found left tokens value rest at next) (λ n. known (sym same))
 
 -- ---- items
 -- an item that says this
@@ -155,7 +159,7 @@ is_item ends old tokens new rest (t, opens section, later, begins, (lists, (n, r
 is_item ends old tokens new rest (t, uses, later, begins, (said, whole)) = (use_of_base, cc, said)
 is_item ends old tokens new rest (t, takes k contained, later, begins, (None, (none, end, is), same)) = (key k None, (contained, cc, end), ap Some (sym same))
 is_item ends old tokens new rest (t, takes k contained, later, begins, (Some value, whole, same)) = (key k (Some value), (contained, cc), ap Some (sym same))
-is_item ends old tokens new rest (t, alone u plain, later, begins, (same, whole)) = (other u, (plain, cc), same)
+is_item ends old tokens new rest (t, alone u plain, later, begins, (same, whole)) = (other u, (plain, cc), ap Some same)
 
 is_begun : (old : Said) → Implies (Says old) (IsBegun true old)
 is_begun old tokens new rest (key k None, (contained, shape, none), said) = (_, takes k contained, _, shape, (None, (refl, none, refl), sym (same_Some _ new said)))
@@ -163,7 +167,7 @@ is_begun old tokens new rest (key k (Some value), (contained, shape), said) = (_
 is_begun old tokens new rest (entries declared, (section, body, each, shape, are, declares), said) =
     (_, opens section, _, shape, (adding old.lists (flat_map (λ ds. ds) each), (length each, entries_found section each old.lists body rest are), sym (same_Some _ new said) ∙ ap (λ ds. with_lists old (adding old.lists ds)) declares))
 is_begun old tokens new rest (use_of_base, shape, said) = (_, uses, _, shape, (said, refl))
-is_begun old tokens new rest (other t, (plain, shape), said) = (_, alone t plain, _, shape, (said, refl))
+is_begun old tokens new rest (other t, (plain, shape), said) = (_, alone t plain, _, shape, (same_Some _ new said, refl))
 
 -- the items that say this
 abbrev Say : Said → Left → Said → Type 0
@@ -182,7 +186,7 @@ items_there (suc count) old here p is =
     from None next (none, end, is_end) ends e again = (is_end, [], none, ap (λ r. Some r.0) (same_Ok (old, next) p e))
     from (Some t) next whole ends e again =
         let (r, goes_on, later) = bound _ (item_said old t next) p e in
-        let (means, item_ends, fewer) = item_there (item_after old t) next r goes_on in
+        let (means, item_ends, fewer) = item_there t (item_after old t) next r goes_on in
         let kind = kind_of t in
         let (item, is_one, said) = is_item next.ends old (words here) r.0 (words r.1) (t, kind, words next, whole, subst (λ i. MeansItem next.ends i (words next) r.0 (words r.1)) (item_as old kind) means) in
         let (end, items, are, sayings) = again r.0 r.1 p later in
@@ -195,12 +199,12 @@ all_there old here p is = items_there _ old here p is
 pub next-shorter : (left : Left) (t : Token) (next : Left) → next_in left ≡ Ok (Some t, next) → length next.tokens < length left.tokens
 next-shorter left t next is = omega (arith, length-words left, length-words next, ap length (next_there left (Some t, next) is).0)
 
-pub item-shorter : {A : Type 0} (i : ItemParser A) (left : Left) (p : A × Left) → run_item i left ≡ Ok p → length p.1.tokens ≤ length left.tokens
-item-shorter i left p is = (item_there i left p is).2
+pub item-shorter : {A : Type 0} (t : Token) (i : ItemParser A) (left : Left) (p : A × Left) → run_item t i left ≡ Ok p → length p.1.tokens ≤ length left.tokens
+item-shorter t i left p is = (item_there t i left p is).2
 
 pub said_next : (now : Said) (here : Left) → all_said now here ≡ followed_by (round all_said item_said now) (next_in here)
 unfolding all_said
-said_next = repeated_next next_in item_said next-shorter (λ s t. item-shorter (item_after s t))
+said_next = repeated_next next_in item_said next-shorter (λ s t. item-shorter t (item_after s t))
 
 pub all_found : (items : List Item) (old : Said) (here : Left) (said : Said) → AreItems (words here) items → here.ends ≡ true → says_all old items ≡ Some said → (left : Left) × (all_said old here ≡ Ok (said, left))
 all_found [] old here said are ends sayings =
@@ -211,6 +215,6 @@ all_found (item ∷ items) old here said (rest, is, are) ends sayings =
     let (t, kind, later, shape, means) = is_begun old (words here) mid rest (item, is, says_item) in
     let first = next_found here (words here) (Some t) later refl shape in
     let still_ends = first.ends ∙ ends in
-    let read = item_found (item_after old t) first.next later mid rest first.whole (rw (item_as old kind, still_ends) means) in
+    let read = item_found t (item_after old t) first.next later mid rest first.whole (rw (item_as old kind, still_ends) means) in
     let (left, others) = all_found items mid read.next said (rw read.whole are) (rw read.ends still_ends) says_rest in
     (left, rw (said_next old here, first.is, read.is) others)

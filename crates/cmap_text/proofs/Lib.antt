@@ -7,3 +7,4 @@ pub mod ItemsSaid
 pub mod TextRead
 pub mod ValuesRead
 pub mod Local
+mod TextsAdded

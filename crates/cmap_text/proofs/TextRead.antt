@@ -7,6 +7,7 @@ use Rattle.cmap_files.specs.Only.{IsOnly, HoldsOfNone}
 use Rattle.cmap_files.specs.Files.{FileMetadata}
 use Rattle.cmap_text.specs.TextFiles.{Item, names_used, last_values, IsMetadata, IsTextFile, AreItems}
 use Rattle.cmap_text.specs.TextReading.{Said, nothing_said, all_said}
+use Rattle.cmap_text.specs.TokenParsers.{Refused}
 use Rattle.cmap_text.proofs.TokensRead.{some_mapped}
 use Rattle.cmap_text.proofs.TokenParsers.{err-ok, same_Ok}
 use Rattle.cmap_text.proofs.ItemsRead.{all_there, all_found}
@@ -40,7 +41,7 @@ module _ (text : List ℕ) (left : Left) (has : HasTokens text left) where
             file_is ∙ rw (metadata_same, lists_same, uses_same) refl;
       }
 
-  pub no_file : (e : ℕ) → all_said nothing_said left ≡ Err e → HoldsOfNone (IsTextFile text)
+  pub no_file : (e : Refused) → all_said nothing_said left ≡ Err e → HoldsOfNone (IsTextFile text)
   unfolding IsTextFile
   no_file e none file (tokens, items, at, are, used, metadata, lists) =
       let (rest, reads) = read_items tokens items file.uses at are used in

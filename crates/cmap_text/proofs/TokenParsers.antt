@@ -4,17 +4,22 @@ use Rattle.std.proofs.lemmas.List.{length-map}
 use Rattle.std.specs.Prelude.{map, Option, Some, None, Result, Ok, Err}
 use Rattle.cmap_tokens.specs.Tokens.{Token}
 use Rattle.cmap_tokens.specs.TokensLeft.{EndedToken, Left}
-use Rattle.cmap_text.specs.TokenParsers.{Found, after, followed_by, head_in, or_refused, Parser, wanted, head, giving, chain, repeat, repeated, repeated_within, round, run}
+use Rattle.cmap_files.specs.declared.fault.Reason.{Reason}
+use Rattle.cmap_text.specs.TokenParsers.{Found, Refused, after, followed_by, head_in, in_a_list, listed_so, or_wrong, Parser, done, head, giving, chain, repeat, listed, repeated, repeated_within, round, run}
 
-pub err-ok : {A : Type 0} (e : ℕ) (x : A) → ◌≡◌ {A = Result A ℕ} (Err e) (Ok x) → ⊥
+pub err-ok : {A E : Type 0} (e : E) (x : A) → ◌≡◌ {A = Result A E} (Err e) (Ok x) → ⊥
 err-ok e x is = cc
 
-pub same_Ok : {A : Type 0} (x y : A) → ◌≡◌ {A = Result A ℕ} (Ok x) (Ok y) → x ≡ y
+pub same_Ok : {A E : Type 0} (x y : A) → ◌≡◌ {A = Result A E} (Ok x) (Ok y) → x ≡ y
 same_Ok x y is = cc
 
 pub bound : {A B : Type 0} (more : A → Left → Found B) (found : Found A) (y : B × Left) → followed_by more found ≡ Ok y → (p : A × Left) × (found ≡ Ok p) × (more p.0 p.1 ≡ Ok y)
 bound more (Err e) y is = absurd (err-ok e y is)
 bound more (Ok p) y is = (p, refl, is)
+
+pub listed_ok : {A : Type 0} (found : Found A) (p : A × Left) → listed_so found ≡ Ok p → found ≡ Ok p
+listed_ok (Err e) p is = absurd (err-ok (in_a_list e) p is)
+listed_ok (Ok q) p is = is
 
 -- the tokens that are left
 abbrev pub words : Left → List Token
@@ -39,11 +44,12 @@ Rounds begins More zero now tokens new rest = (t : Token) × (tokens ≡ t ∷ r
 Rounds begins More (suc n) now tokens new rest = (t : Token) × (x : _) × (later mid : List Token) × (next : _) × (tokens ≡ t ∷ later) × (begins t ≡ Some (Some x)) × More now x later next mid × Rounds begins More n next mid new rest
 
 abbrev pub Means : {A : Type 0} → Parser A → Relation A
-Means (wanted found) tokens x rest = (found ≡ Some x) × (tokens ≡ rest)
-Means (head read) tokens x rest = (t : Token) × (tokens ≡ t ∷ rest) × (read t ≡ Some x)
+Means (done y) tokens x rest = (y ≡ x) × (tokens ≡ rest)
+Means (head fault read) tokens x rest = (t : Token) × (tokens ≡ t ∷ rest) × (read t ≡ Some x)
 Means (giving f parser) tokens y rest = (x : _) × Means parser tokens x rest × (y ≡ f x)
 Means (chain first more) tokens y rest = (x : _) × (mid : List Token) × Means first tokens x mid × Means (more x) mid y rest
-Means (repeat begins more start) tokens new rest = (n : ℕ) × Rounds begins (λ now x. Means (more now x)) n start tokens new rest
+Means (listed parser) tokens x rest = Means parser tokens x rest
+Means (repeat fault begins more start) tokens new rest = (n : ℕ) × Rounds begins (λ now x. Means (more now x)) n start tokens new rest
 
 -- ---- what is found is there
 -- the tokens begin with what is found, and those after it are left
@@ -53,31 +59,35 @@ IsThere Is left p = Is (words left) p.0 (words p.1) × (p.1.ends ≡ left.ends) 
 abbrev pub FindsOnly : {A : Type 0} → (Left → Found A) → Relation A → Type 0
 FindsOnly read Is = (left : Left) (p : _ × Left) → read left ≡ Ok p → IsThere Is left p
 
-wanted_there : {A : Type 0} (found : Option A) → FindsOnly (or_refused found) (Means (wanted found))
-wanted_there None left p is = absurd (err-ok _ p is)
-wanted_there (Some x) left p is = subst (IsThere (Means (wanted (Some x))) left) (same_Ok _ p is) ((refl, refl), refl, omega arith)
+-- this, if it is there, and all tokens are left
+abbrev IsGiven : {A : Type 0} → Option A → Relation A
+IsGiven found tokens x rest = (found ≡ Some x) × (tokens ≡ rest)
 
-head_there : {A : Type 0} (read : Token → Option A) → FindsOnly (head_in read) (Means (head read))
-head_there read left p is = at left.tokens is
+pub wrong_there : {A : Type 0} (reason : Reason) (found : Option A) (t : Token) → FindsOnly (or_wrong reason found t) (IsGiven found)
+wrong_there reason None t left p is = absurd (err-ok _ p is)
+wrong_there reason (Some x) t left p is = subst (IsThere (IsGiven (Some x)) left) (same_Ok (x, left) p is) ((refl, refl), refl, omega arith)
+
+head_there : {A : Type 0} (fault : Token → Reason) (read : Token → Option A) → FindsOnly (head_in fault read) (Means (head fault read))
+head_there fault read left p is = at left.tokens is
   where
-    at : (tokens : List EndedToken) → head_in read (having tokens left) ≡ Ok p → IsThere (Means (head read)) (having tokens left) p
+    at : (tokens : List EndedToken) → head_in fault read (having tokens left) ≡ Ok p → IsThere (Means (head fault read)) (having tokens left) p
     at [] e = absurd (err-ok _ p e)
-    at (q ∷ rest) e = let ((gives, same), ends, fewer) = wanted_there (read q.token) (after q rest left) p e in ((q.token, ap (λ ts. q.token ∷ ts) same, gives), ends, omega (arith, fewer))
+    at (q ∷ rest) e = let ((gives, same), ends, fewer) = wrong_there (fault q.token) (read q.token) q.token (after q rest left) p e in ((q.token, ap (λ ts. q.token ∷ ts) same, gives), ends, omega (arith, fewer))
 
-module _ {S X : Type 0} (begins : Token → Option (Option X)) (more : S → X → Left → Found S) (More : S → X → Relation S) (there : (now : S) (x : X) → FindsOnly (more now x) (More now x)) where
+module _ {S X : Type 0} (fault : Token → Reason) (begins : Token → Option (Option X)) (more : S → X → Left → Found S) (More : S → X → Relation S) (there : (now : S) (x : X) → FindsOnly (more now x) (More now x)) where
   abbrev SomeRounds : S → Relation S
   SomeRounds now tokens new rest = (n : ℕ) × Rounds begins More n now tokens new rest
 
-  rounds_there : (count : ℕ) (now : S) → FindsOnly (repeated_within count (head_in begins) more now) (SomeRounds now)
+  rounds_there : (count : ℕ) (now : S) → FindsOnly (repeated_within count (head_in fault begins) more now) (SomeRounds now)
   unfolding repeated_within
   rounds_there zero now left p is = absurd (err-ok _ p is)
   rounds_there (suc count) now left p is =
-      let (q, first, later) = bound _ (head_in begins left) p is in
-      let ((t, whole, begun), ends, fewer) = head_there begins left q first in
+      let (q, first, later) = bound _ (head_in fault begins left) p is in
+      let ((t, whole, begun), ends, fewer) = head_there fault begins left q first in
       from q.0 q.1 begun (whole, ends, fewer) later (rounds_there count)
     where
-      from : {t : Token} (begun : Option X) (next : Left) → begins t ≡ Some begun → (words left ≡ t ∷ words next) × (next.ends ≡ left.ends) × (length next.tokens ≤ length left.tokens) → round (repeated_within count (head_in begins) more) more now begun next ≡ Ok p
-          → ((new : S) → FindsOnly (repeated_within count (head_in begins) more new) (SomeRounds new)) → IsThere (SomeRounds now) left p
+      from : {t : Token} (begun : Option X) (next : Left) → begins t ≡ Some begun → (words left ≡ t ∷ words next) × (next.ends ≡ left.ends) × (length next.tokens ≤ length left.tokens) → round (repeated_within count (head_in fault begins) more) more now begun next ≡ Ok p
+          → ((new : S) → FindsOnly (repeated_within count (head_in fault begins) more new) (SomeRounds new)) → IsThere (SomeRounds now) left p
       from {t} None next begun (whole, ends, fewer) e again = subst (IsThere (SomeRounds now) left) (same_Ok (now, next) p e) ((zero, (t, whole, begun, refl)), ends, fewer)
       from {t} (Some x) next begun (whole, ends, fewer) e again =
           let (q, goes_on, later) = bound _ (more now x next) p e in
@@ -87,8 +97,8 @@ module _ {S X : Type 0} (begins : Token → Option (Option X)) (more : S → X �
 
 pub is_there : {A : Type 0} (r : Parser A) → FindsOnly (run r) (Means r)
 unfolding repeated
-is_there (wanted found) left p is = wanted_there found left p is
-is_there (head read) left p is = head_there read left p is
+is_there (done x) left p is = subst (IsThere (Means (done x)) left) (same_Ok (x, left) p is) ((refl, refl), refl, omega arith)
+is_there (head fault read) left p is = head_there fault read left p is
 is_there (giving f parser) left p is =
     let (q, goes_on, later) = bound _ (run parser left) p is in
     let (means, ends, fewer) = is_there parser left q goes_on in
@@ -98,10 +108,11 @@ is_there (chain first more) left p is =
     let (first_is, first_ends, first_fewer) = is_there first left q goes_on in
     let (more_is, more_ends, more_fewer) = is_there (more q.0) q.1 p later in
     ((q.0, words q.1, first_is, more_is), more_ends ∙ first_ends, omega (arith, first_fewer, more_fewer))
-is_there (repeat begins more start) left p is = rounds_there begins (λ now x. run (more now x)) (λ now x. Means (more now x)) (λ now x. is_there (more now x)) _ start left p is
+is_there (listed parser) left p is = is_there parser left p (listed_ok (run parser left) p is)
+is_there (repeat fault begins more start) left p is = rounds_there fault begins (λ now x. run (more now x)) (λ now x. Means (more now x)) (λ now x. is_there (more now x)) _ start left p is
 
-pub head-shorter : {A : Type 0} (read : Token → Option A) (left : Left) (p : A × Left) → head_in read left ≡ Ok p → length p.1.tokens < length left.tokens
-head-shorter read left p is = let (t, whole, gives) = (head_there read left p is).0 in omega (arith, length-words left, length-words p.1, ap length whole)
+pub head-shorter : {A : Type 0} (fault : Token → Reason) (read : Token → Option A) (left : Left) (p : A × Left) → head_in fault read left ≡ Ok p → length p.1.tokens < length left.tokens
+head-shorter fault read left p is = let (t, whole, gives) = (head_there fault read left p is).0 in omega (arith, length-words left, length-words p.1, ap length whole)
 
 -- ---- one round after another
 module _ {S X : Type 0} (begins : Left → Found (Option X)) (more : S → X → Left → Found S)
@@ -132,8 +143,8 @@ module _ {S X : Type 0} (begins : Left → Found (Option X)) (more : S → X →
       let n = length left.tokens in
       same_within (1 + n) (suc n) now left (omega arith) (omega arith) ∙ round_same _ _ now left (λ new mid less. same_within n (1 + length mid.tokens) new mid less (omega arith))
 
-pub repeat_next : {S X : Type 0} (begins : Token → Option (Option X)) (more : S → X → Parser S) (now : S) (left : Left) → run (repeat begins more now) left ≡ followed_by (round (λ s. run (repeat begins more s)) (λ s x. run (more s x)) now) (head_in begins left)
-repeat_next begins more = repeated_next (head_in begins) (λ s x. run (more s x)) (λ l x next is. head-shorter begins l (Some x, next) is) (λ s x l p is. (is_there (more s x) l p is).2)
+pub repeat_next : {S X : Type 0} (fault : Token → Reason) (begins : Token → Option (Option X)) (more : S → X → Parser S) (now : S) (left : Left) → run (repeat fault begins more now) left ≡ followed_by (round (λ s. run (repeat fault begins more s)) (λ s x. run (more s x)) now) (head_in fault begins left)
+repeat_next fault begins more = repeated_next (head_in fault begins) (λ s x. run (more s x)) (λ l x next is. head-shorter fault begins l (Some x, next) is) (λ s x l p is. (is_there (more s x) l p is).2)
 
 -- ---- what is there is found
 -- this is found, and those tokens are left
@@ -151,33 +162,37 @@ then_found more first second =
     let later = second first.next first.whole in
     record { next = later.next; is = ap (followed_by more) first.is ∙ later.is; whole = later.whole; ends = later.ends ∙ first.ends }
 
-head_found : {A : Type 0} (read : Token → Option A) {x : A} (tokens rest : List Token) (left : Left) → words left ≡ tokens → Means (head read) tokens x rest → IsFound (head_in read left) x rest left
-head_found read {x} tokens rest left at_left (t, whole, gives) = at left.tokens (at_left ∙ whole)
+head_found : {A : Type 0} (fault : Token → Reason) (read : Token → Option A) {x : A} (tokens rest : List Token) (left : Left) → words left ≡ tokens → Means (head fault read) tokens x rest → IsFound (head_in fault read left) x rest left
+head_found fault read {x} tokens rest left at_left (t, whole, gives) = at left.tokens (at_left ∙ whole)
   where
-    at : (placed : List EndedToken) → words (having placed left) ≡ t ∷ rest → IsFound (head_in read (having placed left)) x rest (having placed left)
+    at : (placed : List EndedToken) → words (having placed left) ≡ t ∷ rest → IsFound (head_in fault read (having placed left)) x rest (having placed left)
     at [] e = absurd (cc)
     at (q ∷ others) e =
         let token : q.token ≡ t = cc in
         record { next = after q others left; is = rw (token, gives) refl; whole = cc; ends = refl }
 
+listed_found : {A : Type 0} {found : Found A} {x : A} {rest : List Token} {left : Left} → IsFound found x rest left → IsFound (listed_so found) x rest left
+listed_found is = record { next = is.next; is = ap listed_so is.is; whole = is.whole; ends = is.ends }
+
 -- what finds all that is there
 abbrev FindsAll : {A : Type 0} → Parser A → Type 0
 FindsAll r = Implies (Means r) (λ tokens x rest. (left : Left) → words left ≡ tokens → IsFound (run r left) x rest left)
 
-module _ {S X : Type 0} (begins : Token → Option (Option X)) (more : S → X → Parser S) (all : (now : S) (x : X) → FindsAll (more now x)) where
+module _ {S X : Type 0} (fault : Token → Reason) (begins : Token → Option (Option X)) (more : S → X → Parser S) (all : (now : S) (x : X) → FindsAll (more now x)) where
   abbrev again : S → Left → Found S
-  again now = run (repeat begins more now)
+  again now = run (repeat fault begins more now)
 
   rounds_found : (n : ℕ) (now : S) (tokens : List Token) (new : S) (rest : List Token) (left : Left) → words left ≡ tokens → Rounds begins (λ s x. Means (more s x)) n now tokens new rest → IsFound (again now left) new rest left
-  rounds_found zero now tokens new rest left at (t, whole, begun, same) = rw (repeat_next begins more now left) (then_found (round again (λ s x. run (more s x)) now) (head_found begins tokens rest left at (t, whole, begun)) (λ next. known same))
+  rounds_found zero now tokens new rest left at (t, whole, begun, same) = rw (repeat_next fault begins more now left) (then_found (round again (λ s x. run (more s x)) now) (head_found fault begins tokens rest left at (t, whole, begun)) (λ next. known same))
   rounds_found (suc n) now tokens new rest left at (t, x, later, mid, next, whole, begun, goes_on, rounds) =
-      rw (repeat_next begins more now left) (then_found (round again (λ s y. run (more s y)) now) (head_found begins tokens later left at (t, whole, begun)) (
+      rw (repeat_next fault begins more now left) (then_found (round again (λ s y. run (more s y)) now) (head_found fault begins tokens later left at (t, whole, begun)) (
       λ here after. then_found again (all now x later next mid goes_on here after) (λ there after_round. rounds_found n next mid new rest there after_round rounds)
       ))
 
 pub is_found : {A : Type 0} (r : Parser A) → FindsAll r
-is_found (wanted found) tokens x rest (is, whole) left at = rw is (known refl (at ∙ whole))
-is_found (head read) tokens x rest means left at = head_found read tokens rest left at means
+is_found (done x) tokens y rest (is, whole) left at = known is (at ∙ whole)
+is_found (head fault read) tokens x rest means left at = head_found fault read tokens rest left at means
 is_found (giving f parser) tokens y rest (x, is, same) left at = then_found (λ z next. Ok (f z, next)) (is_found parser tokens x rest is left at) (λ next. known (sym same))
 is_found (chain first more) tokens y rest (x, mid, first_is, more_is) left at = then_found (λ z. run (more z)) (is_found first tokens x mid first_is left at) (is_found (more x) mid y rest more_is)
-is_found (repeat begins more start) tokens new rest (n, rounds) left at = rounds_found begins more (λ now x. is_found (more now x)) n start tokens new rest left at rounds
+is_found (listed parser) tokens x rest means left at = listed_found (is_found parser tokens x rest means left at)
+is_found (repeat fault begins more start) tokens new rest (n, rounds) left at = rounds_found fault begins more (λ now x. is_found (more now x)) n start tokens new rest left at rounds

@@ -1,34 +1,41 @@
 -- Private aid: what the clauses of calls that read tokens say.
-use Rattle.std.specs.Prelude.{◌≡◌, ℕ, [], min, Result, Ok, Err}
+use Rattle.std.specs.Prelude.{◌≡◌, [], ◌++◌, List, None, Result, Ok, Err, option_map}
 use Rattle.cmap_tokens.specs.TokensLeft.{Left}
+use Rattle.cmap_tokens.specs.TokenSeen.{token_seen}
 use Rattle.cmap_files.specs.Files as files
 use Rattle.cmap_files.specs.DeclarationsSeen.{lists_seen}
 use Rattle.cmap_files.specs.Outcomes.{Outcome}
 use Rattle.cmap_files.specs.declared.declarations.Lists.{Lists}
 use Rattle.cmap_files.specs.declared.fault.Fault.{Fault}
-use Rattle.cmap_files.specs.declared.fault.Stop.{Stop}
+use Rattle.cmap_files.specs.declared.fault.Fault.TheVariants.{Refused}
 use Rattle.cmap_text.specs.TokenParsers.{Parser, run}
+use Rattle.cmap_text.specs.TokenParsers as parsers
 use Rattle.cmap_text.specs.declared.wrong_token.WrongToken.{WrongToken}
-use Rattle.cmap_text.specs.declared.wrong_token.WrongToken.TheVariants.{Last, Next}
 
--- it is refused where the reader has come to by now, after the token that was read last, or where no token comes
-abbrev pub RefusesAt : {A : Type 0} → Left → Result A ℕ → WrongToken → Type 0
-RefusesAt here found (Last reason) = found ≡ Err here.passed
-RefusesAt here found (Next reason) = (here.tokens ≡ []) × (found ≡ Err here.stop)
+-- a wrong token, where that is left after it
+abbrev pub refused_seen : WrongToken → Left → parsers.Refused
+refused_seen wrong here = record { token = option_map token_seen wrong.token; reason = wrong.reason; in_list = wrong.in_list; left = here }
+
+-- it is refused so, where the reader has come to by now; where no token is wrong, none comes there
+abbrev pub RefusesAt : {A : Type 0} → Left → Result A parsers.Refused → WrongToken → Type 0
+RefusesAt here found wrong = (found ≡ Err (refused_seen wrong here)) × (wrong.token ≡ None → here.tokens ≡ [])
+
+-- the lists with these texts at their end
+abbrev pub with_texts : files.Lists → List files.BfEntry → files.Lists
+with_texts lists more = record { cids = lists.cids; notdefs = lists.notdefs; bfs = lists.bfs ++ more; spaces = lists.spaces }
 
 -- the answer is what is found, as a clause sees it, and it refuses only where nothing is
-abbrev pub ReadsAs : {A B : Type 0} → Result B ℕ → (A → B) → Left → Result A (Fault WrongToken) → Type 0
+abbrev pub ReadsAs : {A B : Type 0} → Result B parsers.Refused → (A → B) → Left → Result A (Fault WrongToken) → Type 0
 ReadsAs found seen here = Outcome (λ x. found ≡ Ok (seen x)) (RefusesAt here found)
 
 -- what is read from the lists as they were gives the lists as they are now
 abbrev pub AddsDeclarations : {A : Type 0} → (files.Lists → Parser files.Lists) → Left → Lists → Lists → Left → Result A (Fault WrongToken) → Type 0
 AddsDeclarations read old before after here = ReadsAs (run (read (lists_seen before)) old) (λ done. (lists_seen after, here)) here
 
--- the token that was read last is wrong, and this holds
-abbrev pub IsLast : Type 0 → WrongToken → Type 0
-IsLast holds (Last reason) = holds
-IsLast holds (Next reason) = ⊥
+-- this holds where it is refused
+abbrev pub WhereRefused : {A : Type 0} → Type 0 → Result A (Fault WrongToken) → Type 0
+WhereRefused holds result = (wrong : WrongToken) → result ≡ Err (Refused wrong) → holds
 
--- a file of this length is refused where nothing is found
-abbrev pub StopsAt : {A : Type 0} → ℕ → Result A ℕ → Stop → Type 0
-StopsAt len found stop = (e : ℕ) × (found ≡ Err e) × (stop.offset ≡ min e len)
+-- the lists are as they were, but for texts at their end
+abbrev pub AddsTexts : Lists → Lists → Type 0
+AddsTexts before after = (more : List files.BfEntry) × (lists_seen after ≡ with_texts (lists_seen before) more)

@@ -1,5 +1,5 @@
--- Private aid: how the tokens of a text are read, and what they are read as. Public contracts speak of TextFiles alone.
-use Rattle.std.specs.Prelude.{ℕ, zero, suc, ◌+◌, ◌-◌, ◌^◌, ◌==◌, ◌&&◌, nat_lt, nat_le, pos, Bool, true, false, List, [], ◌∷◌, ◌++◌, length, codes, bytes_eq, find, Option, Some, None, option_map, option_and_then, if◌then◌else◌}
+-- How the tokens of a text are read, and what they are read as, or which token is wrong and why. What a file means is said by TextFiles alone.
+use Rattle.std.specs.Prelude.{◌≡◌, ℕ, zero, suc, ◌+◌, ◌-◌, ◌^◌, ◌==◌, ◌&&◌, nat_lt, nat_le, pos, Bool, true, false, List, [], ◌∷◌, ◌++◌, length, codes, bytes_eq, find, Option, Some, None, option_map, option_and_then, is_some, min, Result, Err, if◌then◌else◌}
 use Rattle.cmap_files.specs.BigEndian.{big_endian}
 use Rattle.cmap_tokens.specs.Numbers.{Number}
 use Rattle.cmap_tokens.specs.Texts.{units_of}
@@ -8,7 +8,10 @@ use Rattle.cmap_tokens.specs.Tokens.{Token}
 use Rattle.cmap_tokens.specs.TokensLeft.{Left}
 use Rattle.cmap_files.specs.Files.{CidEntry, Declaration, Lists, lists_of}
 use Rattle.cmap_files.specs.ListsAppended.{no_lists, append_lists}
-use Rattle.cmap_text.specs.TokenParsers.{Found, Parser, wanted, head, giving, chain, repeat, ItemParser, reads, takes_value, run_item, next_in, repeated}
+use Rattle.cmap_files.specs.declared.fault.Reason.{Reason}
+use Rattle.cmap_files.specs.declared.fault.Reason.TheVariants.{BracketExpected, CidExpected, CodeExpected, CodeLength, TextExpected, UnequalLengths, UseWithoutName}
+use Rattle.cmap_files.specs.declared.fault.Stop.{Stop}
+use Rattle.cmap_text.specs.TokenParsers.{Found, Refused, offset_of, Parser, done, head, giving, chain, repeat, listed, ItemParser, reads, takes_value, wanted, run_item, next_in, repeated}
 use Rattle.cmap_text.specs.TextFiles.{Extent, range, single, Section, codespace_range, cids, bf_range, bf_char, mapped, notdef, keys, opener, closer, use_word, declares_bf, declares_cid, other, literal_head, Values}
 
 -- ---- single tokens
@@ -37,15 +40,29 @@ code_of bytes = if nat_le 1 (length bytes) && nat_le (length bytes) 4 then Some 
 abbrev pub code_in : Token → Option Code
 code_in t = option_and_then code_of (value_in t)
 
+-- why a token is no code
+abbrev pub code_fault : Token → Reason
+code_fault (Token.String piece) = CodeLength
+code_fault _ = CodeExpected
+
+abbrev pub next_code : Parser Code
+next_code = head code_fault code_in
+
 abbrev pub cid_in : Token → Option ℕ
 cid_in (Token.Numeral (Number.Integer (pos n))) = if nat_lt n (2 ^ 32) then Some n else None
 cid_in t = None
+
+abbrev pub next_cid : Parser ℕ
+next_cid = head (λ t. CidExpected) cid_in
 
 abbrev pub destination_of : List ℕ → Option (List ℕ)
 destination_of bytes = if nat_lt 0 (length bytes) then Some (units_of bytes) else None
 
 abbrev pub destination_in : Token → Option (List ℕ)
 destination_in t = option_and_then destination_of (value_in t)
+
+abbrev pub next_destination : Parser (List ℕ)
+next_destination = head (λ t. TextExpected) destination_in
 
 -- ---- entries: the lists of a file with what they declare
 abbrev pub adding : Lists → List Declaration → Lists
@@ -57,12 +74,19 @@ filed start end cid = (start.len, record { start = start.number; end = end; cid 
 
 -- after the first code: a code and a CID, or a CID
 abbrev pub cids_after : Extent → Code → Parser (ℕ × CidEntry)
-cids_after range start = chain (head code_in) (λ end. giving (filed start end.number) (head cid_in))
-cids_after single code = giving (filed code code.number) (head cid_in)
+cids_after range start = chain next_code (λ end. giving (filed start end.number) next_cid)
+cids_after single start = giving (filed start start.number) next_cid
 
--- the codes from low to high, which have one length
+-- the codes from low to high, which must have one length
 abbrev pub codespace : Code → Code → Option (List Declaration)
 codespace low high = if low.len == high.len then Some (Declaration.codespace (record { len = low.len; low = low.number; high = high.number }) ∷ []) else None
+
+-- the codes from low to the code that this token is
+abbrev pub codespace_to : Code → Token → Option (List Declaration)
+codespace_to low t = option_and_then (codespace low) (code_in t)
+
+abbrev pub codespace_fault : Token → Reason
+codespace_fault t = if is_some (code_in t) then UnequalLengths else code_fault t
 
 -- the codes from start to end have this destination
 abbrev pub text_of : ℕ → ℕ → List ℕ → List Declaration
@@ -70,22 +94,23 @@ text_of start end units = declares_bf start end units ∷ []
 
 -- a destination for each of count codes from this one on, and the ] after them
 unfoldable pub list_in : ℕ → ℕ → Lists → Parser Lists
-list_in zero start lists = head (λ t. if is_executable (codes "]") t then Some lists else None)
-list_in (suc count) start lists = chain (head destination_in) (λ units. list_in count (start + 1) (adding lists (text_of start start units)))
+list_in zero start lists = head (λ t. BracketExpected) (λ t. if is_executable (codes "]") t then Some lists else None)
+list_in (suc count) start lists = chain next_destination (λ units. list_in count (start + 1) (adding lists (text_of start start units)))
 
--- one destination, which is this token, or [ and a list of them
-abbrev pub texts_from : ℕ → ℕ → Lists → Token → Parser Lists
-texts_from start end lists t = elim (is_executable (codes "[") t) [
-  | true ↦ list_in (end + 1 - start) start lists
-  | false ↦ giving (λ units. adding lists (text_of start end units)) (wanted (destination_in t))
-]
+-- one destination, or none at the [ of a list of them
+abbrev pub list_or_destination : Token → Option (Option (List ℕ))
+list_or_destination t = if is_executable (codes "[") t then Some None else option_map Some (destination_in t)
+
+abbrev pub texts_from : ℕ → ℕ → Lists → Option (List ℕ) → Parser Lists
+texts_from start end lists None = listed (list_in (end + 1 - start) start lists)
+texts_from start end lists (Some units) = done (adding lists (text_of start end units))
 
 -- what comes after the first code of an entry
 abbrev pub entry_after : Section → Code → Lists → Parser Lists
-entry_after codespace_range start lists = chain (head code_in) (λ high. wanted (option_map (adding lists) (codespace start high)))
+entry_after codespace_range start lists = giving (adding lists) (head codespace_fault (codespace_to start))
 entry_after (cids kind extent) start lists = giving (λ p. adding lists (declares_cid kind p.0 p.1 ∷ [])) (cids_after extent start)
-entry_after bf_range start lists = chain (head code_in) (λ end. chain (head Some) (texts_from start.number end.number lists))
-entry_after bf_char start lists = giving (λ units. adding lists (text_of start.number start.number units)) (head destination_in)
+entry_after bf_range start lists = chain next_code (λ end. chain (head (λ t. TextExpected) list_or_destination) (texts_from start.number end.number lists))
+entry_after bf_char start lists = giving (λ units. adding lists (text_of start.number start.number units)) next_destination
 
 -- the code that an entry of a section begins with, or none at the closer
 abbrev pub code_or_closer : Section → Token → Option (Option Code)
@@ -93,7 +118,7 @@ code_or_closer section t = if is_executable (closer section) t then Some None el
 
 -- the entries of a section and its closer
 abbrev pub body_in : Section → Lists → Parser Lists
-body_in section lists = repeat (code_or_closer section) (λ now code. entry_after section code now) lists
+body_in section lists = repeat code_fault (code_or_closer section) (λ now start. entry_after section start now) lists
 
 -- ---- items
 -- the section that a token opens
@@ -149,14 +174,18 @@ abbrev pub item_after : Said → Token → ItemParser Said
 item_after old t = elim (opened_by t) [
   | Some section ↦ reads (giving (with_lists old) (body_in section old.lists))
   | None ↦ elim (is_executable use_word t) [
-    | true ↦ reads (wanted (option_map (with_use old) old.operand))
-    | false ↦ elim (key_in t) [ Some k ↦ takes_value (with_key old k) | None ↦ reads (wanted (Some (with_other old t))) ]
+    | true ↦ wanted UseWithoutName (option_map (with_use old) old.operand)
+    | false ↦ elim (key_in t) [ Some k ↦ takes_value (with_key old k) | None ↦ reads (done (with_other old t)) ]
   ]
 ]
 
 abbrev pub item_said : Said → Token → Left → Found Said
-item_said old t left = run_item (item_after old t) left
+item_said old t left = run_item t (item_after old t) left
 
 -- what is said after all the items that are left
 unfoldable pub all_said : Said → Left → Found Said
 all_said old left = repeated next_in item_said old left
+
+-- a text of this length is refused where nothing is found, for that reason
+abbrev pub StopsAt : {A : Type 0} → ℕ → Result A Refused → Stop → Type 0
+StopsAt len found stop = (e : Refused) × (found ≡ Err e) × (stop.offset ≡ min (offset_of e) len) × (stop.reason ≡ e.reason)

@@ -1,21 +1,43 @@
--- Private aid: parsers of tokens, and what each finds in the tokens that are left of a text.
-use Rattle.std.specs.Prelude.{ℕ, zero, suc, ◌+◌, List, [], ◌∷◌, length, Option, Some, None, Result, Ok, Err, option_map, ok_or, if◌then◌else◌}
+-- Parsers of tokens: what each finds in the tokens that are left of a text, or else which token is wrong and why.
+use Rattle.std.specs.Prelude.{ℕ, zero, suc, ◌+◌, Bool, true, false, List, [], ◌∷◌, length, Option, Some, None, Result, Ok, Err, option_map, ok_or, if◌then◌else◌}
 use Rattle.cmap_tokens.specs.Tokens.{Token}
 use Rattle.cmap_tokens.specs.TokensLeft.{EndedToken, Left}
+use Rattle.cmap_files.specs.declared.fault.Reason.{Reason}
+use Rattle.cmap_files.specs.declared.fault.Reason.TheVariants.{EndWithinSection, MalformedToken}
 
 -- ---- what is found
--- this, and what is left after it; or the offset at which it is refused
+-- why nothing is found
+pub record Refused : Type 0 where
+  -- the token that can't stand where it does, or none where no token comes
+  pub token : Option Token
+  pub reason : Reason
+  -- whether this is within a list of texts
+  pub in_list : Bool
+  -- what is left after the token
+  pub left : Left
+
+abbrev pub wrong : Reason → Token → Left → Refused
+wrong reason t left = record { token = Some t; reason = reason; in_list = false; left = left }
+
+abbrev pub missing : Reason → Left → Refused
+missing reason left = record { token = None; reason = reason; in_list = false; left = left }
+
+-- the offset of the end of the wrong token, or of the byte that shows that none comes
+abbrev pub offset_of : Refused → ℕ
+offset_of e = elim e.token [ Some t ↦ e.left.passed | None ↦ e.left.stop ]
+
+-- this, and what is left after it; or why there is nothing
 abbrev pub Found : Type 0 → Type 0
-Found A = Result (A × Left) ℕ
+Found A = Result (A × Left) Refused
 
 -- first this, and then what is found in what is left
 abbrev pub followed_by : {A B : Type 0} → (A → Left → Found B) → Found A → Found B
 followed_by more (Ok p) = more p.0 p.1
 followed_by more (Err e) = Err e
 
--- this; where there is none, the token that was read last is refused
-abbrev pub or_refused : {A : Type 0} → Option A → Left → Found A
-or_refused found left = ok_or (option_map (λ x. (x, left)) found) left.passed
+-- this; where it is nothing, the token that was read last is wrong
+abbrev pub or_wrong : {A : Type 0} → Reason → Option A → Token → Left → Found A
+or_wrong reason found t left = ok_or (option_map (λ x. (x, left)) found) (wrong reason t left)
 
 -- what is left after this token, before those
 abbrev pub after : EndedToken → List EndedToken → Left → Left
@@ -24,20 +46,20 @@ after p rest left = record { passed = p.end; tokens = rest; ends = left.ends; st
 -- the next token
 abbrev pub token_in : Left → Found Token
 token_in left = elim left.tokens [
-  | [] ↦ Err left.stop
+  | [] ↦ Err (missing (if left.ends then EndWithinSection else MalformedToken) left)
   | p ∷ rest ↦ Ok (p.token, after p rest left)
 ]
 
 -- the next token, or none where the text ends
 abbrev pub next_in : Left → Found (Option Token)
 next_in left = elim left.tokens [
-  | [] ↦ if left.ends then Ok (None, left) else Err left.stop
+  | [] ↦ if left.ends then Ok (None, left) else Err (missing MalformedToken left)
   | p ∷ rest ↦ Ok (Some p.token, after p rest left)
 ]
 
--- what the next token is
-abbrev pub head_in : {A : Type 0} → (Token → Option A) → Left → Found A
-head_in read left = followed_by (λ t. or_refused (read t)) (token_in left)
+-- what the next token is, or why it is wrong
+abbrev pub head_in : {A : Type 0} → (Token → Reason) → (Token → Option A) → Left → Found A
+head_in fault read left = followed_by (λ t. or_wrong (fault t) (read t) t) (token_in left)
 
 -- a round that begins with this, and then the later ones; or none more
 abbrev pub round : {S X : Type 0} → (S → Left → Found S) → (S → X → Left → Found S) → S → Option X → Left → Found S
@@ -46,38 +68,51 @@ round later more now (Some x) next = followed_by later (more now x next)
 
 -- again and again, fewer than count times, from this on: what begins a round, and what follows; up to where none begins
 unfoldable pub repeated_within : {S X : Type 0} → ℕ → (Left → Found (Option X)) → (S → X → Left → Found S) → S → Left → Found S
-repeated_within zero begins more now left = Err left.stop
+repeated_within zero begins more now left = Err (missing EndWithinSection left)
 repeated_within (suc count) begins more now left = followed_by (round (repeated_within count begins more) more now) (begins left)
 
 -- each round takes a token
 unfoldable pub repeated : {S X : Type 0} → (Left → Found (Option X)) → (S → X → Left → Found S) → S → Left → Found S
 repeated begins more now left = repeated_within (1 + length left.tokens) begins more now left
 
+-- the same, and where there is nothing it is in a list
+abbrev pub in_a_list : Refused → Refused
+in_a_list e = record { token = e.token; reason = e.reason; in_list = true; left = e.left }
+
+abbrev pub listed_so : {A : Type 0} → Found A → Found A
+listed_so (Ok p) = Ok p
+listed_so (Err e) = Err (in_a_list e)
+
 -- ---- what finds it
 pub data Parser : Type 0 → Type 1 where
-  -- this, or the token that was read last is refused
-  wanted : {A : Type 0} → Option A → Parser A
-  -- what the next token is
-  head : {A : Type 0} → (Token → Option A) → Parser A
+  -- this, without a token
+  done : {A : Type 0} → A → Parser A
+  -- what the next token is, or why it is wrong
+  head : {A : Type 0} → (Token → Reason) → (Token → Option A) → Parser A
   -- what this gives, by a function of it
   giving : {A B : Type 0} → (A → B) → Parser A → Parser B
   -- first this, and then that
   chain : {A B : Type 0} → Parser A → (A → Parser B) → Parser B
   -- again and again, from this on: what the next token begins, and what follows; up to a token that begins none
-  repeat : {S X : Type 0} → (Token → Option (Option X)) → (S → X → Parser S) → S → Parser S
+  repeat : {S X : Type 0} → (Token → Reason) → (Token → Option (Option X)) → (S → X → Parser S) → S → Parser S
+  -- this, within a list
+  listed : {A : Type 0} → Parser A → Parser A
 
 abbrev pub run : {A : Type 0} → Parser A → Left → Found A
-run (wanted found) left = or_refused found left
-run (head read) left = head_in read left
+run (done x) left = Ok (x, left)
+run (head fault read) left = head_in fault read left
 run (giving f parser) left = followed_by (λ x next. Ok (f x, next)) (run parser left)
 run (chain first more) left = followed_by (λ x. run (more x)) (run first left)
-run (repeat begins more start) left = repeated (head_in begins) (λ now x. run (more now x)) start left
+run (repeat fault begins more start) left = repeated (head_in fault begins) (λ now x. run (more now x)) start left
+run (listed parser) left = listed_so (run parser left)
 
--- what follows the first token of an item: tokens that are read so; or one token, which is its value, unless the text ends
+-- what follows the first token of an item: tokens that are read so; one token, which is its value, unless the text ends; or nothing, but the first token may be wrong
 pub data ItemParser : Type 0 → Type 1 where
   reads : {A : Type 0} → Parser A → ItemParser A
   takes_value : {A : Type 0} → (Option Token → A) → ItemParser A
+  wanted : {A : Type 0} → Reason → Option A → ItemParser A
 
-abbrev pub run_item : {A : Type 0} → ItemParser A → Left → Found A
-run_item (reads parser) left = run parser left
-run_item (takes_value set) left = followed_by (λ value next. Ok (set value, next)) (next_in left)
+abbrev pub run_item : {A : Type 0} → Token → ItemParser A → Left → Found A
+run_item t (reads parser) left = run parser left
+run_item t (takes_value set) left = followed_by (λ value next. Ok (set value, next)) (next_in left)
+run_item t (wanted reason found) left = or_wrong reason found t left

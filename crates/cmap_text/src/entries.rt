@@ -4,14 +4,14 @@
 ghost use Rattle.std.specs.Prelude.{◌≡◌, ◌+◌, ◌-◌, OnOk};
 ghost use Rattle.cmap_files.specs.CodeLengths.{length_of};
 ghost use Rattle.cmap_files.specs.DeclarationsSeen.{cid_entry_seen, lists_seen};
-ghost use Rattle.cmap_text.specs.EntriesSeen.{AddsDeclarations, ReadsAs};
+ghost use Rattle.cmap_text.specs.EntriesSeen.{AddsDeclarations, AddsTexts, ReadsAs, WhereRefused};
 ghost use Rattle.cmap_files.specs.Files.{lists_of};
 ghost use Rattle.cmap_files.specs.ListsAppended.{append_lists};
 ghost use Rattle.cmap_files.specs.UnitsSeen.{units_seen};
 ghost use Rattle.cmap_text.specs.TextFiles as files;
 ghost use Rattle.cmap_text.specs.TextSeen.{code_seen, extent_seen, kind_seen};
 ghost use Rattle.cmap_text.specs.TextReading.{cids_after, entry_after, list_in, text_of};
-ghost use Rattle.cmap_text.specs.TokenParsers.{run};
+ghost use Rattle.cmap_text.specs.TokenParsers.{listed, run};
 
 use crate::tokens::{Code, TokenReader, is_executable};
 use crate::wrong_token::{WrongToken, wrong};
@@ -37,17 +37,19 @@ pub(crate) enum Extent {
 }
 
 /// code, code of the same length
-pub(crate) fn add_codespace_range(
-    reader: &mut TokenReader<'_>,
+pub(crate) fn add_codespace_range<'d>(
+    reader: &mut TokenReader<'d>,
     low: Code,
     lists: &mut Lists,
-) -> Result<(), Fault<WrongToken>>
-    ensures { AddsDeclarations (entry_after files.codespace_range (code_seen low)) reader.old
+) -> Result<(), Fault<WrongToken<'d>>>
+    ensures adds { AddsDeclarations (entry_after files.codespace_range (code_seen low)) reader.old
         lists.old lists.new reader.new result }
+    ensures stays { WhereRefused (lists_seen lists.new ≡ lists_seen lists.old) result }
 {
-    let high = reader.next_code()?;
+    let token = reader.required_token()?;
+    let high = reader.code(&token)?;
     if low.len != high.len {
-        return Err(wrong(Reason::UnequalLengths));
+        return Err(wrong(Reason::UnequalLengths, &token));
     }
     lists.add_codespace(Codespace {
         len: low.len,
@@ -58,16 +60,17 @@ pub(crate) fn add_codespace_range(
 }
 
 /// One entry of CIDs or of notdef CIDs.
-pub(crate) fn add_cids(
-    reader: &mut TokenReader<'_>,
+pub(crate) fn add_cids<'d>(
+    reader: &mut TokenReader<'d>,
     start: Code,
     kind: CidKind,
     extent: Extent,
     lists: &mut Lists,
-) -> Result<(), Fault<WrongToken>>
-    ensures { AddsDeclarations
+) -> Result<(), Fault<WrongToken<'d>>>
+    ensures adds { AddsDeclarations
         (entry_after (files.cids (kind_seen kind) (extent_seen extent)) (code_seen start))
         reader.old lists.old lists.new reader.new result }
+    ensures stays { WhereRefused (lists_seen lists.new ≡ lists_seen lists.old) result }
 {
     let filed = read_cids(reader, start, extent)?;
     match kind {
@@ -78,13 +81,14 @@ pub(crate) fn add_cids(
 }
 
 /// code, destination
-pub(crate) fn add_bf_char(
-    reader: &mut TokenReader<'_>,
+pub(crate) fn add_bf_char<'d>(
+    reader: &mut TokenReader<'d>,
     code: Code,
     lists: &mut Lists,
-) -> Result<(), Fault<WrongToken>>
-    ensures { AddsDeclarations (entry_after files.bf_char (code_seen code)) reader.old
+) -> Result<(), Fault<WrongToken<'d>>>
+    ensures adds { AddsDeclarations (entry_after files.bf_char (code_seen code)) reader.old
         lists.old lists.new reader.new result }
+    ensures stays { WhereRefused (lists_seen lists.new ≡ lists_seen lists.old) result }
 {
     let units = reader.next_destination()?;
     add_text(lists, code.number, code.number, units)?;
@@ -92,13 +96,14 @@ pub(crate) fn add_bf_char(
 }
 
 /// code, code, and one destination or a list of them
-pub(crate) fn add_bf_range(
-    reader: &mut TokenReader<'_>,
+pub(crate) fn add_bf_range<'d>(
+    reader: &mut TokenReader<'d>,
     start: Code,
     lists: &mut Lists,
-) -> Result<(), Fault<WrongToken>>
-    ensures { AddsDeclarations (entry_after files.bf_range (code_seen start)) reader.old
+) -> Result<(), Fault<WrongToken<'d>>>
+    ensures adds { AddsDeclarations (entry_after files.bf_range (code_seen start)) reader.old
         lists.old lists.new reader.new result }
+    ensures stays { WhereRefused (lists_seen lists.new ≡ lists_seen lists.old) result }
 {
     let end = reader.next_code()?;
     let token = reader.required_token()?;
@@ -110,15 +115,39 @@ pub(crate) fn add_bf_range(
     Ok(())
 }
 
-/// One destination for each code from `start` to `end`, and the closing bracket.
-fn add_list(
-    reader: &mut TokenReader<'_>,
+/// One destination for each code from `start` to `end`, and the closing bracket. A list that is refused
+/// adds nothing.
+fn add_list<'d>(
+    reader: &mut TokenReader<'d>,
     start: u32,
     end: u32,
     lists: &mut Lists,
-) -> Result<(), Fault<WrongToken>>
-    ensures { AddsDeclarations (list_in (end + 1 - start) start) reader.old
+) -> Result<(), Fault<WrongToken<'d>>>
+    ensures adds { AddsDeclarations (λ old. listed (list_in (end + 1 - start) start old)) reader.old
         lists.old lists.new reader.new result }
+    ensures stays { WhereRefused (lists_seen lists.new ≡ lists_seen lists.old) result }
+{
+    let count = lists.bfs.len();
+    match add_destinations(reader, start, end, lists) {
+        Ok(()) => Ok(()),
+        Err(Fault::Memory) => Err(Fault::Memory),
+        Err(Fault::Refused(wrong)) => {
+            lists.bfs.truncate(count);
+            Err(Fault::Refused(wrong.within_list()))
+        }
+    }
+}
+
+/// Adds the destinations of a list, also those before a token that is wrong.
+fn add_destinations<'d>(
+    reader: &mut TokenReader<'d>,
+    start: u32,
+    end: u32,
+    lists: &mut Lists,
+) -> Result<(), Fault<WrongToken<'d>>>
+    ensures adds { AddsDeclarations (list_in (end + 1 - start) start) reader.old
+        lists.old lists.new reader.new result }
+    ensures texts { WhereRefused (AddsTexts lists.old lists.new) result }
 {
     for code in u64::from(start)..u64::from(end) + 1 {
         let units = reader.next_destination()?;
@@ -126,7 +155,7 @@ fn add_list(
     }
     let token = reader.required_token()?;
     if !is_executable(&token, b"]") {
-        return Err(wrong(Reason::BracketExpected));
+        return Err(wrong(Reason::BracketExpected, &token));
     }
     Ok(())
 }
@@ -149,11 +178,11 @@ struct Filed {
 
 /// What an entry of CIDs declares: code, code, CID for a range and code, CID for a single code,
 /// filed by the length of the first code.
-fn read_cids(
-    reader: &mut TokenReader<'_>,
+fn read_cids<'d>(
+    reader: &mut TokenReader<'d>,
     start: Code,
     extent: Extent,
-) -> Result<Filed, Fault<WrongToken>>
+) -> Result<Filed, Fault<WrongToken<'d>>>
     ensures { ReadsAs (run (cids_after (extent_seen extent) (code_seen start)) reader.old)
         (λ filed. ((length_of filed.len, cid_entry_seen filed.range), reader.new)) reader.new result }
 {

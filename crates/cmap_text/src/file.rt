@@ -1,14 +1,16 @@
 //! CMap files as text.
 
-ghost use Rattle.std.specs.Prelude.{◌≡◌, length, Ok, IfErr, IfOk};
+ghost use Rattle.std.specs.Prelude.{◌≡◌, length, Ok, IfErr, IfOk, Result};
 ghost use Rattle.cmap_files.specs.FilesSeen.{file_seen};
 ghost use Rattle.cmap_files.specs.Only.{IsOnly};
 ghost use Rattle.cmap_files.specs.Outcomes.{DecidedBy, ReadsFile, RefusesWith};
 ghost use Rattle.cmap_files.specs.MetadataSeen.{metadata_seen};
 ghost use Rattle.cmap_tokens.specs.TokensLeft.{Left, start_of, tokens_of};
-ghost use Rattle.cmap_text.specs.EntriesSeen.{StopsAt};
+ghost use Rattle.cmap_text.specs.EntriesSeen.{RefusesAt};
 ghost use Rattle.cmap_text.specs.TextFiles.{IsMetadata, IsTextFile};
-ghost use Rattle.cmap_text.specs.TextReading.{all_said};
+ghost use Rattle.cmap_text.specs.TextReading.{StopsAt, all_said, nothing_said};
+ghost use Rattle.cmap_text.specs.TextReading as reading;
+ghost use Rattle.cmap_text.specs.TokenParsers.{Refused};
 ghost use Rattle.cmap_text.specs.TextSeen.{said_seen, values_seen};
 
 use crate::items::{Said, read_items};
@@ -22,6 +24,10 @@ use std::alloc::Global;
 /// What a text file says.
 pub fn read_text<'d>(alloc: Global, text: &'d [u8]) -> Result<File<'d>, Fault<Stop>>
     ensures file { ReadsFile IsTextFile file_seen text.now result }
+
+    // The offset and the reason are those of the token that is wrong.
+    ensures place { IfErr result (RefusesWith (StopsAt (length text.now)
+        (all_said nothing_said (tokens_of (start_of text.now))))) }
 
     // Where it is refused before its end, no text is a file that begins with the same bytes, up to and
     // including the one at this offset.
@@ -52,14 +58,22 @@ fn read_said<'d>(
     let mut reader = TokenReader::new(alloc, text);
     match read_items(&mut reader, said) {
         Ok(()) => Ok(said.values.metadata(alloc)?),
-        Err(Fault::Refused(WrongToken::Last(reason))) => {
-            let offset = reader.offset().min(text.len());
-            Err(Fault::Refused(Stop { offset, reason }))
-        }
-        Err(Fault::Refused(WrongToken::Next(reason))) => {
-            let offset = reader.stop().min(text.len());
-            Err(Fault::Refused(Stop { offset, reason }))
-        }
+        Err(Fault::Refused(wrong)) => Err(Fault::Refused(stop_of(&reader, wrong, text.len()))),
         Err(Fault::Memory) => Err(Fault::Memory),
+    }
+}
+
+/// Where a text of `len` bytes is refused, and why.
+fn stop_of(reader: &TokenReader<'_>, wrong: WrongToken<'_>, len: usize) -> Stop
+    ensures { (found : Result (reading.Said × Left) Refused)
+        → RefusesAt reader.now found wrong.entry → StopsAt len found result }
+{
+    let offset = match wrong.token {
+        Some(_) => reader.offset(),
+        None => reader.stop(),
+    };
+    Stop {
+        offset: offset.min(len),
+        reason: wrong.reason,
     }
 }

@@ -1,11 +1,12 @@
 //! The items of a text: keys with their values, sections, uses of other files, and tokens by themselves.
 
-ghost use Rattle.std.specs.Prelude.{◌≡◌, ◌++◌, ℕ, List, [], ◌∷◌, None, Some, IfErr, OnOk};
+ghost use Rattle.std.specs.Prelude.{◌≡◌, ◌++◌, ℕ, List, [], ◌∷◌, None, Some, false, IfErr, OnOk};
 ghost use Rattle.std.specs.Borrow.{Bor};
 ghost use Rattle.std.specs.Option.{option_copied};
 ghost use Rattle.cmap_files.specs.Outcomes.{RefusesWith};
+ghost use Rattle.cmap_files.specs.declared.fault.Reason.TheVariants.{UseWithoutName};
 ghost use Rattle.cmap_tokens.specs.TokenSeen.{token_seen};
-ghost use Rattle.cmap_text.specs.EntriesSeen.{IsLast, ReadsAs};
+ghost use Rattle.cmap_text.specs.EntriesSeen.{ReadsAs};
 ghost use Rattle.cmap_text.specs.TextReading.{all_said, item_said, nothing_said};
 ghost use Rattle.cmap_text.specs.TextSeen.{said_seen};
 
@@ -42,15 +43,19 @@ impl<'d> Said<'d> {
     }
 }
 
-/// Adds a use of the file that the last item names.
-fn add_use<'d>(uses: &mut Vec<&'d [u8]>, operand: Option<&'d [u8]>) -> Result<(), Fault<WrongToken>>
+/// Adds a use of the file that the last item names; `token` is the use.
+fn add_use<'d>(
+    uses: &mut Vec<&'d [u8]>,
+    operand: Option<&'d [u8]>,
+    token: &Token<'d>,
+) -> Result<(), Fault<WrongToken<'d>>>
     ensures added { OnOk result ((name : Bor (List ℕ)) × (operand.entry ≡ Some name)
         × (uses.new.items ≡ uses.old.items ++ name ∷ [])) }
-    ensures refused { IfErr result
-        (RefusesWith (IsLast (option_copied operand.entry ≡ None))) }
+    ensures refused { IfErr result (RefusesWith (λ wrong. (option_copied operand.entry ≡ None)
+        × (wrong ≡ record { token = Some token.now; reason = UseWithoutName; in_list = false }))) }
 {
     let Some(name) = operand else {
-        return Err(wrong(Reason::UseWithoutName));
+        return Err(wrong(Reason::UseWithoutName, token));
     };
     uses.push(name)?;
     Ok(())
@@ -60,7 +65,7 @@ fn add_use<'d>(uses: &mut Vec<&'d [u8]>, operand: Option<&'d [u8]>) -> Result<()
 pub(crate) fn read_items<'d>(
     reader: &mut TokenReader<'d>,
     said: &mut Said<'d>,
-) -> Result<(), Fault<WrongToken>>
+) -> Result<(), Fault<WrongToken<'d>>>
     ensures { ReadsAs (all_said (said_seen said.old) reader.old) (λ done. (said_seen said.new, reader.new))
         reader.new result }
 {
@@ -75,7 +80,7 @@ fn read_item<'d>(
     reader: &mut TokenReader<'d>,
     first: &Token<'d>,
     said: &mut Said<'d>,
-) -> Result<(), Fault<WrongToken>>
+) -> Result<(), Fault<WrongToken<'d>>>
     ensures { ReadsAs (item_said (said_seen said.old) (token_seen first.now) reader.old)
         (λ done. (said_seen said.new, reader.new)) reader.new result }
 {
@@ -85,7 +90,7 @@ fn read_item<'d>(
         return read_section(reader, section, &mut said.lists);
     }
     if is_executable(first, b"usecmap") {
-        return add_use(&mut said.uses, operand);
+        return add_use(&mut said.uses, operand, first);
     }
     if let Some(key) = Key::of(first) {
         said.values.set(key, reader.next_token()?);

@@ -2,9 +2,10 @@
 
 ghost use Rattle.std.specs.Prelude.{◌≡◌, option_map};
 ghost use Rattle.cmap_tokens.specs.TokenSeen.{token_seen};
-ghost use Rattle.cmap_text.specs.EntriesSeen.{AddsDeclarations, ReadsAs};
+ghost use Rattle.cmap_files.specs.DeclarationsSeen.{lists_seen};
+ghost use Rattle.cmap_text.specs.EntriesSeen.{AddsDeclarations, ReadsAs, WhereRefused};
 ghost use Rattle.cmap_text.specs.TextFiles as files;
-ghost use Rattle.cmap_text.specs.TextReading.{body_in, code_or_closer, entry_after, opened_by};
+ghost use Rattle.cmap_text.specs.TextReading.{body_in, code_fault, code_or_closer, entry_after, opened_by};
 ghost use Rattle.cmap_text.specs.TextSeen.{code_seen, section_seen};
 ghost use Rattle.cmap_text.specs.TokenParsers.{head_in};
 
@@ -65,11 +66,11 @@ impl Section {
 }
 
 /// Reads the entries of a section and its closer.
-pub(crate) fn read_section(
-    reader: &mut TokenReader<'_>,
+pub(crate) fn read_section<'d>(
+    reader: &mut TokenReader<'d>,
     section: Section,
     lists: &mut Lists,
-) -> Result<(), Fault<WrongToken>>
+) -> Result<(), Fault<WrongToken<'d>>>
     ensures { AddsDeclarations (body_in (section_seen section)) reader.old
         lists.old lists.new reader.new result }
 {
@@ -80,11 +81,12 @@ pub(crate) fn read_section(
 }
 
 /// The code that the next entry of a section begins with; `None` at the closer.
-fn next_start(
-    reader: &mut TokenReader<'_>,
+#[inline(always)]
+fn next_start<'d>(
+    reader: &mut TokenReader<'d>,
     section: Section,
-) -> Result<Option<Code>, Fault<WrongToken>>
-    ensures { ReadsAs (head_in (code_or_closer (section_seen section)) reader.old)
+) -> Result<Option<Code>, Fault<WrongToken<'d>>>
+    ensures { ReadsAs (head_in code_fault (code_or_closer (section_seen section)) reader.old)
         (λ start. (option_map code_seen start, reader.new)) reader.new result }
 {
     if let Some(code) = reader.plain_code() {
@@ -98,14 +100,16 @@ fn next_start(
 }
 
 /// Reads what follows the first code of an entry, and adds what the entry declares.
-fn read_entry(
-    reader: &mut TokenReader<'_>,
+#[inline(always)]
+fn read_entry<'d>(
+    reader: &mut TokenReader<'d>,
     section: Section,
     start: Code,
     lists: &mut Lists,
-) -> Result<(), Fault<WrongToken>>
-    ensures { AddsDeclarations (entry_after (section_seen section) (code_seen start)) reader.old
+) -> Result<(), Fault<WrongToken<'d>>>
+    ensures adds { AddsDeclarations (entry_after (section_seen section) (code_seen start)) reader.old
         lists.old lists.new reader.new result }
+    ensures stays { WhereRefused (lists_seen lists.new ≡ lists_seen lists.old) result }
 {
     match section {
         Section::Codespaces => add_codespace_range(reader, start, lists),

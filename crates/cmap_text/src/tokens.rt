@@ -1,19 +1,21 @@
 //! The tokens of a text in order, and what single tokens stand for.
 
-ghost use Rattle.std.specs.Prelude.{◌≡◌, ◌<◌, ◌≤◌, ◌^◌, ℕ, List, [], length, Ok, Some, MatchOption, option_map};
+ghost use Rattle.std.specs.Prelude.{◌≡◌, ◌<◌, ◌≤◌, ◌^◌, ℕ, List, [], length, pos, Ok, Some, MatchOption, option_map};
 ghost use Rattle.std.specs.Int.Digits.{number_from_digits};
 ghost use Rattle.std.specs.List.{AllByRecursion};
 ghost use Rattle.std.specs.Option.{option_copied};
 ghost use Rattle.cmap_files.specs.UnitsSeen.{units_seen};
+ghost use Rattle.cmap_files.specs.declared.fault.Reason.TheVariants.{CidExpected, TextExpected};
 ghost use Rattle.cmap_tokens.specs.Texts.{units_of};
-ghost use Rattle.cmap_tokens.specs.Tokens.{String};
+ghost use Rattle.cmap_tokens.specs.Numbers.{Integer};
+ghost use Rattle.cmap_tokens.specs.Tokens.{Numeral, String};
 ghost use Rattle.cmap_tokens.specs.TokenSeen.{token_seen};
-ghost use Rattle.cmap_tokens.specs.TokensLeft.{start_of, tokens_of};
+ghost use Rattle.cmap_tokens.specs.TokensLeft.{Left, start_of, tokens_of};
 ghost use Rattle.cmap_text.specs.EntriesSeen.{ReadsAs};
 ghost use Rattle.cmap_text.specs.TextFiles.{literal_head, other};
-ghost use Rattle.cmap_text.specs.TextReading.{cid_in, code_in, code_of, destination_in, is_executable, is_literal};
+ghost use Rattle.cmap_text.specs.TextReading.{cid_in, code_fault, code_in, code_of, destination_in, is_executable, is_literal, next_cid, next_code, next_destination};
 ghost use Rattle.cmap_text.specs.TextSeen.{code_seen};
-ghost use Rattle.cmap_text.specs.TokenParsers.{head_in, next_in, or_refused, token_in};
+ghost use Rattle.cmap_text.specs.TokenParsers.{next_in, or_wrong, run, token_in};
 
 use crate::wrong_token::{WrongToken, no_token, wrong};
 use cmap_files::code_length::{CodeLength, read_code};
@@ -61,7 +63,7 @@ impl<'d> TokenReader<'d> {
     }
 
     /// The next token, `None` at the end of the text.
-    pub(crate) fn next_token(&mut self) -> Result<Option<Token<'d>>, Fault<WrongToken>>
+    pub(crate) fn next_token(&mut self) -> Result<Option<Token<'d>>, Fault<WrongToken<'d>>>
         ensures { ReadsAs (next_in self.old) (λ found. (option_map token_seen found, self.new)) self.new result }
     {
         let Ok(found) = self.scanner.next_token() else {
@@ -71,7 +73,7 @@ impl<'d> TokenReader<'d> {
     }
 
     /// The next token, which a section needs.
-    pub(crate) fn required_token(&mut self) -> Result<Token<'d>, Fault<WrongToken>>
+    pub(crate) fn required_token(&mut self) -> Result<Token<'d>, Fault<WrongToken<'d>>>
         ensures { ReadsAs (token_in self.old) (λ token. (token_seen token, self.new)) self.new result }
     {
         match self.scanner.next_token() {
@@ -82,21 +84,21 @@ impl<'d> TokenReader<'d> {
     }
 
     /// The code that a token is: a string of one to four bytes.
-    pub(crate) fn code(&mut self, token: &Token<'_>) -> Result<Code, Fault<WrongToken>>
-        ensures { ReadsAs (or_refused (code_in (token_seen token.now)) self.old)
+    pub(crate) fn code(&mut self, token: &Token<'d>) -> Result<Code, Fault<WrongToken<'d>>>
+        ensures { ReadsAs (or_wrong (code_fault (token_seen token.now)) (code_in (token_seen token.now)) (token_seen token.now) self.old)
             (λ code. (code_seen code, self.new)) self.new result }
     {
         let Token::String(string) = token else {
-            return Err(wrong(Reason::CodeExpected));
+            return Err(wrong(Reason::CodeExpected, token));
         };
         if let Some((count, number)) = string.plain_number() {
             let Some(len) = CodeLength::of(count) else {
-                return Err(wrong(Reason::CodeLength));
+                return Err(wrong(Reason::CodeLength, token));
             };
             return Ok(Code { len, number });
         }
         string.decode_into(&mut self.string)?;
-        code_of(&self.string).ok_or(wrong(Reason::CodeLength))
+        code_of(&self.string).ok_or(wrong(Reason::CodeLength, token))
     }
 
     /// The code of two bytes that comes next, where it stands as most do; `None` of any other token.
@@ -111,8 +113,9 @@ impl<'d> TokenReader<'d> {
     }
 
     /// The code that comes next.
-    pub(crate) fn next_code(&mut self) -> Result<Code, Fault<WrongToken>>
-        ensures { ReadsAs (head_in code_in self.old) (λ code. (code_seen code, self.new)) self.new result }
+    #[inline(always)]
+    pub(crate) fn next_code(&mut self) -> Result<Code, Fault<WrongToken<'d>>>
+        ensures { ReadsAs (run next_code self.old) (λ code. (code_seen code, self.new)) self.new result }
     {
         if let Some(code) = self.plain_code() {
             return Ok(code);
@@ -122,27 +125,28 @@ impl<'d> TokenReader<'d> {
     }
 
     /// The units of the destination that a token is: a string that isn't empty.
-    pub(crate) fn destination(&mut self, token: &Token<'_>) -> Result<Units, Fault<WrongToken>>
-        ensures { ReadsAs (or_refused (destination_in (token_seen token.now)) self.old)
+    pub(crate) fn destination(&mut self, token: &Token<'d>) -> Result<Units, Fault<WrongToken<'d>>>
+        ensures { ReadsAs (or_wrong TextExpected (destination_in (token_seen token.now)) (token_seen token.now) self.old)
             (λ units. (units_seen units, self.new)) self.new result }
     {
         let Token::String(string) = token else {
-            return Err(wrong(Reason::TextExpected));
+            return Err(wrong(Reason::TextExpected, token));
         };
         if let Some((len, number)) = string.plain_number() {
             return Ok(units_of_number(len, number));
         }
         string.decode_into(&mut self.string)?;
         if self.string.is_empty() {
-            return Err(wrong(Reason::TextExpected));
+            return Err(wrong(Reason::TextExpected, token));
         }
         let units = units(self.alloc, &self.string)?;
         Ok(Units::from_slice(self.alloc, &units)?)
     }
 
     /// The units of the destination that comes next.
-    pub(crate) fn next_destination(&mut self) -> Result<Units, Fault<WrongToken>>
-        ensures { ReadsAs (head_in destination_in self.old)
+    #[inline(always)]
+    pub(crate) fn next_destination(&mut self) -> Result<Units, Fault<WrongToken<'d>>>
+        ensures { ReadsAs (run next_destination self.old)
             (λ units. (units_seen units, self.new)) self.new result }
     {
         if let Some(number) = self.scanner.next_two_bytes() {
@@ -153,14 +157,15 @@ impl<'d> TokenReader<'d> {
     }
 
     /// The CID that comes next: an integer of 32 bits without sign.
-    pub(crate) fn next_cid(&mut self) -> Result<Cid, Fault<WrongToken>>
-        ensures { ReadsAs (head_in cid_in self.old) (λ cid. (cid, self.new)) self.new result }
+    #[inline(always)]
+    pub(crate) fn next_cid(&mut self) -> Result<Cid, Fault<WrongToken<'d>>>
+        ensures { ReadsAs (run next_cid self.old) (λ cid. (cid, self.new)) self.new result }
     {
-        let cid = match self.scanner.next_decimal() {
-            Some(number) => u32::try_from(number).ok(),
-            None => cid_of(&self.required_token()?),
-        };
-        cid.ok_or(wrong(Reason::CidExpected))
+        if let Some(number) = self.scanner.next_decimal() {
+            return cid_of_number(number);
+        }
+        let token = self.required_token()?;
+        cid_of(&token).ok_or(wrong(Reason::CidExpected, &token))
     }
 
     /// How many bytes of the text have been read.
@@ -196,6 +201,21 @@ fn units_of_number(len: u8, number: u32) -> Units
         Units::One([low])
     } else {
         Units::Two([high, low])
+    }
+}
+
+/// The CID that a number without sign is, which is below 10^18.
+fn cid_of_number<'d>(number: u64) -> Result<Cid, Fault<WrongToken<'d>>>
+    requires { number < 10 ^ 18 }
+    ensures { (next : Left) → ReadsAs (or_wrong CidExpected (cid_in (Numeral (Integer (pos number))))
+        (Numeral (Integer (pos number))) next) (λ cid. (cid, next)) next result }
+{
+    match u32::try_from(number) {
+        Ok(cid) => Ok(cid),
+        Err(_) => Err(wrong(
+            Reason::CidExpected,
+            &Token::Number(Number::Integer(number as i64)),
+        )),
     }
 }
 

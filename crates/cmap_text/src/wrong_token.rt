@@ -1,31 +1,52 @@
 //! Which token is wrong, and why.
 
-ghost use Rattle.std.specs.Prelude.{◌≡◌};
+ghost use Rattle.std.specs.Prelude.{◌≡◌, None, Some, false, true};
 ghost use Rattle.cmap_files.specs.declared.fault.Fault.TheVariants.{Refused};
-ghost use Rattle.cmap_text.specs.declared.wrong_token.WrongToken.TheVariants.{Last, Next};
 
 use cmap_files::fault::{Fault, Reason};
+use cmap_tokens::token::Token;
 
-/// Why a reader of tokens goes no further. It says where: after the last token, or where no token
-/// comes.
+/// Why a reader of tokens goes no further.
 #[derive(Clone, Copy)]
-pub(crate) enum WrongToken {
-    /// The token that was read last is wrong.
-    Last(Reason),
-    /// No token comes where one is wanted.
-    Next(Reason),
+pub(crate) struct WrongToken<'d> {
+    /// The token that can't stand where it does, which was read last; `None` where no token comes.
+    pub(crate) token: Option<Token<'d>>,
+    pub(crate) reason: Reason,
+    /// Whether this is within a list of texts.
+    pub(crate) in_list: bool,
+}
+
+impl<'d> WrongToken<'d> {
+    /// The same, within a list of texts.
+    pub(crate) fn within_list(self) -> Self
+        ensures { result ≡ record { token = self.entry.token; reason = self.entry.reason; in_list = true } }
+    {
+        WrongToken {
+            token: self.token,
+            reason: self.reason,
+            in_list: true,
+        }
+    }
 }
 
 /// The refusal of the token that was read last.
-pub(crate) fn wrong(reason: Reason) -> Fault<WrongToken>
-    ensures { result ≡ Refused (Last reason) }
+pub(crate) fn wrong<'d>(reason: Reason, token: &Token<'d>) -> Fault<WrongToken<'d>>
+    ensures { result ≡ Refused (record { token = Some token.now; reason = reason; in_list = false }) }
 {
-    Fault::Refused(WrongToken::Last(reason))
+    Fault::Refused(WrongToken {
+        token: Some(*token),
+        reason,
+        in_list: false,
+    })
 }
 
 /// The refusal of a text where no token comes.
-pub(crate) fn no_token(reason: Reason) -> Fault<WrongToken>
-    ensures { result ≡ Refused (Next reason) }
+pub(crate) fn no_token<'d>(reason: Reason) -> Fault<WrongToken<'d>>
+    ensures { result ≡ Refused (record { token = None; reason = reason; in_list = false }) }
 {
-    Fault::Refused(WrongToken::Next(reason))
+    Fault::Refused(WrongToken {
+        token: None,
+        reason,
+        in_list: false,
+    })
 }

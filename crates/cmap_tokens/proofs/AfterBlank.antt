@@ -1,5 +1,5 @@
 -- A token that stands after one white byte.
-use Rattle.std.proofs.Common.{◌≡◌, ℕ, ◌+◌, ◌<◌, ◌≤◌, ◌==◌, Bool, false, true, List, [], ◌∷◌, ◌++◌, length, get_or, take, drop, Some, inl, inr, refl, sym, ap, ◌∙◌, subst, arith, length-take-le}
+use Rattle.std.proofs.Common.{◌≡◌, ℕ, ◌+◌, ◌<◌, ◌≤◌, ◌^◌, ◌==◌, Bool, false, true, List, [], ◌∷◌, ◌++◌, length, get_or, take, drop, Some, inl, inr, refl, sym, ap, ◌∙◌, subst, arith, length-take-le}
 use Rattle.std.specs.Prelude.{IfSome, IsTrue, None, Option, ◌&&◌, if◌then◌else◌, nat_le, nat_lt, not, pos}
 use Rattle.std.specs.Char.{is_digit}
 use Rattle.std.specs.List.{list_all}
@@ -91,7 +91,7 @@ decimal_is text first e =
     } in
     subst (λ (r : Option (ℕ × ℕ)). IfSome r (λ k. Decimal text k.0 k.1)) read is
 
-pub decimal_first : (text : List ℕ) (number len : ℕ) → spaced_decimal text ≡ Some (number, len) → FirstToken text (Numeral (Integer (pos number))) (1 + len)
+pub decimal_first : (text : List ℕ) (number len : ℕ) → spaced_decimal text ≡ Some (number, len) → FirstToken text (Numeral (Integer (pos number))) (1 + len) × (number < 10 ^ 18)
 decimal_first [] number len e = cc
 decimal_first (blank ∷ text) number len e =
     let p : ℕ → Bool = λ c. is_digit c 10 in
@@ -101,7 +101,9 @@ decimal_first (blank ∷ text) number len e =
     let long : length piece ≡ len = length-take-le len text (omega (arith, is.within)) in
     let digits : list_all p piece ≡ true = all_front p len text (omega (arith, is.len_is)) in
     let small = digits_small 10 18 piece (omega arith) digits (omega (arith, long, is.few)) in
-    let spelled = digits_numeral piece (omega (arith, long, is.filled)) digits (omega (arith, small)) in
-    first_after_blank (blank ∷ text) blank (1 + len) piece (drop len text) (Numeral (Integer (pos number))) (ap (λ t. blank ∷ t) (sym (take-append-drop len text))) white
-    (inl ((omega (arith, long, is.filled), all_weaker p is_regular piece digit_regular digits), sym (ap (λ n. option_map_or Numeral n (Name false piece)) (spelled ∙ ap (λ n. Some (Integer (pos n))) is.number_is))))
-    (λ _. ap begins_regular (drop-cons text len 0 is.within) ∙ is.special) (omega (arith, long))
+    let spelled = digits_numeral piece (omega (arith, long, is.filled)) digits (omega (arith, small)) in (
+      first_after_blank (blank ∷ text) blank (1 + len) piece (drop len text) (Numeral (Integer (pos number))) (ap (λ t. blank ∷ t) (sym (take-append-drop len text))) white
+          (inl ((omega (arith, long, is.filled), all_weaker p is_regular piece digit_regular digits), sym (ap (λ n. option_map_or Numeral n (Name false piece)) (spelled ∙ ap (λ n. Some (Integer (pos n))) is.number_is))))
+          (λ _. ap begins_regular (drop-cons text len 0 is.within) ∙ is.special) (omega (arith, long)),
+      omega (arith, small, is.number_is),
+    )

@@ -172,7 +172,7 @@ impl<'a> Model for Scanner<'a> {
 }
 
 impl<'a> Scanner<'a> {
-    ghost use Rattle.std.specs.Prelude.{◌≡◌, ℕ, ◌↔◌, ◌+◌, ◌≤◌, List, [], false, true, length, None, Some, Ok, pos, IfOk, IfSome, IsErr, MatchOption, MatchResult, OnErr};
+    ghost use Rattle.std.specs.Prelude.{◌≡◌, ℕ, ◌↔◌, ◌+◌, ◌<◌, ◌≤◌, ◌^◌, List, [], false, true, length, None, Some, Ok, pos, IfOk, IfSome, IsErr, MatchOption, MatchResult, OnErr};
     ghost use Rattle.cmap_tokens.specs.Gaps.{IsBlank};
     ghost use Rattle.cmap_tokens.specs.Tokens.{HasNoFront, IsMalformed};
     ghost use Rattle.cmap_tokens.specs.Stops.{StopsAt};
@@ -247,6 +247,7 @@ impl<'a> Scanner<'a> {
             × LeavesAfter (tokens.Numeral (Integer (pos number))) self.old self.new) }
         ensures front { MatchOption result (spaced_decimal (rest_of self.old) ≡ None) (λ number. (len : ℕ)
             × (spaced_decimal (rest_of self.old) ≡ Some (number, len)) × (self.new ≡ past (1 + len) self.old)) }
+        ensures few { IfSome result (λ number. number < 10 ^ 18) }
         ensures stays { result ≡ None → self.new ≡ self.old }
     {
         let (number, len) = blank_decimal(&self.source[self.offset..])?;

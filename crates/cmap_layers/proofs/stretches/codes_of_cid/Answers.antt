@@ -11,13 +11,13 @@ loop-next-preserved c =
     let next = c.loop-next.next in let last = c.min-last.result in let stretch = c.cid_stretch-stretch.result in
     elim c.match-codes_among.branch [
       | in-Some+in_ok-push w ↦ record {
-          within = omega arith;
-          codes = rw (w.ranges-is, c.from-next.ensures, w.in_ok-push.ensures.items)
-              (added layers len cid next last stretch c.loop-next.ranges.items c.loop-next.invariant.codes c.cid_stretch-stretch.ensures.cids (omega arith) (omega arith) w.in-Some.range (rw w.in-Some.is at c.codes_among.ensures));
-        }
+        within = omega arith;
+        codes = rw (w.ranges-is, c.from-next.ensures, w.in_ok-push.ensures.items)
+            (added layers len cid next last stretch c.loop-next.ranges.items c.loop-next.invariant.codes c.cid_stretch-stretch.ensures.cids (omega arith) (omega arith) w.in-Some.range (rw w.in-Some.is at c.codes_among.ensures));
+      }
       | in_default w ↦ record {
-          within = omega arith;
-          codes = rw (w.ranges-is, c.from-next.ensures)
-              (passed_over layers len cid next last stretch c.loop-next.ranges.items c.loop-next.invariant.codes c.cid_stretch-stretch.ensures.cids (omega arith) (omega arith) (rw w.in_default.is at c.codes_among.ensures));
-        }
+        within = omega arith;
+        codes = rw (w.ranges-is, c.from-next.ensures)
+            (passed_over layers len cid next last stretch c.loop-next.ranges.items c.loop-next.invariant.codes c.cid_stretch-stretch.ensures.cids (omega arith) (omega arith) (rw w.in_default.is at c.codes_among.ensures));
+      }
     ]

@@ -13,7 +13,7 @@ returns-in_err-token c =
 pub loop-token-smaller : goal.loop-token-smaller
 loop-token-smaller c =
     let token = rw c.in-Some.is at c.in_ok-token.ensures.0 in
-    omega (arith, next-shorter c.loop-token.reader _ _ token, item-shorter (item_after (said_seen c.loop-token.said) (token_seen c.in-Some.token)) c.next_token.new.self _ c.in_ok-read_item.ensures.0)
+    omega (arith, next-shorter c.loop-token.reader _ _ token, item-shorter (token_seen c.in-Some.token) (item_after (said_seen c.loop-token.said) (token_seen c.in-Some.token)) c.next_token.new.self _ c.in_ok-read_item.ensures.0)
 
 pub loop-token-preserved : goal.loop-token-preserved
 loop-token-preserved c =

@@ -1,6 +1,6 @@
 use Rattle.std.proofs.Common.{ap, ◌∙◌, refl, sym, arith}
 use Rattle.cmap_tokens.specs.TokenSeen.{token_seen}
-use Rattle.cmap_text.specs.TextReading.{code_of}
+use Rattle.cmap_text.specs.TextReading.{code_fault, code_of}
 use Rattle.cmap_text.specs.TextSeen.{code_seen}
 use Rattle.cmap_text.proofs.Refusals.{given}
 use Rattle.cmap_text.proofs.TokensRead.{read_value, code_of-is}
@@ -16,4 +16,5 @@ returns-in-Some c =
 pub returns : goal.returns
 returns c =
     let read = read_value code_of _ _ _ (ap token_seen c.in-String.is) c.in_ok-decode_into.ensures.value in
-    rw (c.ok_or.ensures.value, c.wrong-2.ensures, read) (given code_seen c.code_of.result _ _ _ _ (rw c.deref.ensures.value at c.code_of.ensures) (sym c.self.view_is))
+    let is_string = ap code_fault (ap token_seen c.in-String.is) in
+    rw (c.ok_or.ensures.value, c.wrong-2.ensures, read, is_string) (given code_seen c.code_of.result _ _ _ _ _ (rw c.deref.ensures.value at c.code_of.ensures) (sym c.self.view_is))

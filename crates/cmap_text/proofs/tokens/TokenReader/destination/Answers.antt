@@ -1,4 +1,5 @@
 use Rattle.std.proofs.Common.{◌<◌, length, ap, ◌∙◌, refl, sym, arith, rules}
+use Rattle.std.proofs.lemmas.Option.{none-some}
 use Rattle.std.proofs.lemmas.Bool.{eqb-true, eqb-false}
 use Rattle.cmap_tokens.specs.TokenSeen.{token_seen}
 use Rattle.cmap_text.specs.TextReading.{destination_of}
@@ -15,7 +16,7 @@ returns-in-Some c =
 pub returns-then-is_empty : goal.returns-then-is_empty
 returns-then-is_empty c =
     let read = read_value destination_of _ _ _ (ap token_seen c.in-String.is) c.in_ok-decode_into.ensures.value in
-    (tt, rw (c.wrong-then-is_empty.ensures, read ∙ destination_of-none _ (omega (arith, eqb-true _ 0 (sym c.if-is_empty.ensures))), c.self.view_is) refl)
+    (tt, rw (c.wrong-then-is_empty.ensures, read ∙ destination_of-none _ (omega (arith, eqb-true _ 0 (sym c.if-is_empty.ensures))), c.self.view_is) (refl, λ none. absurd (none-some _ (sym none))))
 
 pub returns : goal.returns
 returns c =

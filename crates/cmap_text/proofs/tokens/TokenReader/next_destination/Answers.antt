@@ -1,7 +1,7 @@
 use Rattle.std.proofs.Common.{refl, sym, ap, ◌∙◌, arith}
 use Rattle.cmap_tokens.specs.Tokens.{String}
-use Rattle.cmap_text.specs.TextReading.{destination_in, destination_of}
-use Rattle.cmap_text.specs.TokenParsers.{head_in}
+use Rattle.cmap_text.specs.TextReading.{destination_of, next_destination}
+use Rattle.cmap_text.specs.TokenParsers.{run}
 use Rattle.cmap_text.proofs.TokensRead.{read_value, destination_of-is}
 use Rattle.cmap_text.proofs.tokens.TokenReader.next_destination.Goals as goal
 
@@ -10,4 +10,4 @@ returns-in-Some c =
     let (piece, reads, (value, only, are, two, number), left) = c.in-Some.ensures.token in
     let read = read_value destination_of (String piece) piece value refl only.holds ∙ destination_of-is value (omega (arith, two)) in
     let units = c.units_of_number.ensures value are (omega arith) (omega arith) (sym two) (c.from.ensures ∙ number) in
-    (ap (head_in destination_in) (sym c.self.view_is ∙ left) ∙ rw (read, ← units) refl, tt)
+    (ap (run next_destination) (sym c.self.view_is ∙ left) ∙ rw (read, ← units) refl, tt)

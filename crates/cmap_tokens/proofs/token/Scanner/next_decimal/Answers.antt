@@ -7,7 +7,7 @@ use Rattle.cmap_tokens.proofs.token.Scanner.next_decimal.Goals as goal
 
 pub returns-clause-token : goal.returns-clause-token
 returns-clause-token c =
-    let first = decimal_first _ c.in_ok-number.number c.in_ok-number.len (sym c.in_ok-number.ensures.front) in
+    let (first, small) = decimal_first _ c.in_ok-number.number c.in_ok-number.len (sym c.in_ok-number.ensures.front) in
     let read = read_token _ _ _ (1 + c.in_ok-number.len) _ c.self.view_is (take_rest _ c.self.inside.offset) first in
     (read, left_after _ _ _ read)
 
@@ -17,3 +17,9 @@ returns-clause-front c = (
   ap spaced_decimal (sym (take_rest _ c.self.inside.offset ∙ ap rest_of c.self.view_is)) ∙ sym c.in_ok-number.ensures.front,
   ap (past (1 + c.in_ok-number.len)) c.self.view_is,
 )
+
+pub returns-clause-few : goal.returns-clause-few
+returns-clause-few c =
+    let (first, small) = decimal_first _ c.in_ok-number.number c.in_ok-number.len (sym c.in_ok-number.ensures.front) in
+    let read = read_token _ _ _ (1 + c.in_ok-number.len) _ c.self.view_is (take_rest _ c.self.inside.offset) first in
+    small
