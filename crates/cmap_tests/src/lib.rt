@@ -1,5 +1,6 @@
 //! What rows of data can't show: the callers that the pages show, and tests of the order of calls, of
-//! names by their variants, of a call over a closure, of codes in a row, and of many ranges.
+//! names by their variants, of a call over a closure, of codes in a row, of many ranges, and of texts
+//! that are read past their faults.
 #![tactic(auto)]
 
 #[cfg(test)]
@@ -16,5 +17,7 @@ mod codes_in_a_row;
 mod examples;
 #[cfg(test)]
 mod names;
+#[cfg(test)]
+mod salvage;
 #[cfg(test)]
 mod tables;

@@ -121,7 +121,7 @@ module _ (section : Section) where
         | inr one ↦ let (code, gives, clash) = some_mapped Some (code_in t) None (rw one at is) in absurd (none-some code (sym clash))
       ]
 
-  starts : (t : Token) (code : Code) → code_or_closer section t ≡ Some (Some code) → code_in t ≡ Some code
+  pub starts : (t : Token) (code : Code) → code_or_closer section t ≡ Some (Some code) → code_in t ≡ Some code
   starts t code is =
       elim (cases_Bool (is_executable (closer section) t)) [
         | inl closer_is ↦ absurd (none-some code (same_Some None (Some code) (rw closer_is at is)))

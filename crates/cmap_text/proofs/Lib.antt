@@ -8,3 +8,8 @@ pub mod TextRead
 pub mod ValuesRead
 pub mod Local
 mod TextsAdded
+mod Moves
+mod PartsRead
+mod Faulted
+mod PartsDeclare
+mod WholeRead

@@ -3,3 +3,5 @@ pub mod TextReading
 pub mod TextSeen
 pub mod EntriesSeen
 pub mod TokenParsers
+pub mod Salvage
+pub mod SalvageSeen

@@ -64,7 +64,7 @@ fn read_said<'d>(
 }
 
 /// Where a text of `len` bytes is refused, and why.
-fn stop_of(reader: &TokenReader<'_>, wrong: WrongToken<'_>, len: usize) -> Stop
+pub(crate) fn stop_of(reader: &TokenReader<'_>, wrong: WrongToken<'_>, len: usize) -> Stop
     ensures { (found : Result (reading.Said × Left) Refused)
         → RefusesAt reader.now found wrong.entry → StopsAt len found result }
 {

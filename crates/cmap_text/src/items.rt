@@ -6,8 +6,8 @@ ghost use Rattle.std.specs.Option.{option_copied};
 ghost use Rattle.cmap_files.specs.Outcomes.{RefusesWith};
 ghost use Rattle.cmap_files.specs.declared.fault.Reason.TheVariants.{UseWithoutName};
 ghost use Rattle.cmap_tokens.specs.TokenSeen.{token_seen};
-ghost use Rattle.cmap_text.specs.EntriesSeen.{ReadsAs};
-ghost use Rattle.cmap_text.specs.TextReading.{all_said, item_said, nothing_said};
+ghost use Rattle.cmap_text.specs.EntriesSeen.{ReadsAs, WhereRefused};
+ghost use Rattle.cmap_text.specs.TextReading.{all_said, item_said, nothing_said, opened_by, with_other};
 ghost use Rattle.cmap_text.specs.TextSeen.{said_seen};
 
 use crate::keys::{Key, Values};
@@ -27,7 +27,7 @@ pub(crate) struct Said<'d> {
     /// The names of the files that are used.
     pub(crate) uses: Vec<&'d [u8]>,
     /// The literal name that the last item begins with, which a use takes.
-    operand: Option<&'d [u8]>,
+    pub(crate) operand: Option<&'d [u8]>,
 }
 
 impl<'d> Said<'d> {
@@ -53,6 +53,7 @@ fn add_use<'d>(
         × (uses.new.items ≡ uses.old.items ++ name ∷ [])) }
     ensures refused { IfErr result (RefusesWith (λ wrong. (option_copied operand.entry ≡ None)
         × (wrong ≡ record { token = Some token.now; reason = UseWithoutName; in_list = false }))) }
+    ensures stays { WhereRefused (uses.new.items ≡ uses.old.items) result }
 {
     let Some(name) = operand else {
         return Err(wrong(Reason::UseWithoutName, token));
@@ -76,13 +77,17 @@ pub(crate) fn read_items<'d>(
 }
 
 /// Reads what follows the first token of an item.
-fn read_item<'d>(
+pub(crate) fn read_item<'d>(
     reader: &mut TokenReader<'d>,
     first: &Token<'d>,
     said: &mut Said<'d>,
 ) -> Result<(), Fault<WrongToken<'d>>>
-    ensures { ReadsAs (item_said (said_seen said.old) (token_seen first.now) reader.old)
+    ensures reads { ReadsAs (item_said (said_seen said.old) (token_seen first.now) reader.old)
         (λ done. (said_seen said.new, reader.new)) reader.new result }
+
+    // An item at fault says no more than its first token by itself, but a section keeps its entries.
+    ensures fault { WhereRefused (opened_by (token_seen first.now) ≡ None
+        → said_seen said.new ≡ with_other (said_seen said.old) (token_seen first.now)) result }
 {
     let operand = said.operand;
     said.operand = literal_name(first);

@@ -5,8 +5,10 @@ mod entries;
 mod file;
 mod items;
 mod keys;
+mod salvage;
 mod sections;
 mod tokens;
 mod wrong_token;
 
 pub use file::read_text;
+pub use salvage::{Salvaged, salvage_text};

@@ -50,7 +50,7 @@ impl Section {
     }
 
     /// The name that closes it.
-    fn closer(self) -> &'static [u8]
+    pub(crate) fn closer(self) -> &'static [u8]
         ensures { result.now ≡ files.closer (section_seen self) }
     {
         match self {
@@ -82,7 +82,7 @@ pub(crate) fn read_section<'d>(
 
 /// The code that the next entry of a section begins with; `None` at the closer.
 #[inline(always)]
-fn next_start<'d>(
+pub(crate) fn next_start<'d>(
     reader: &mut TokenReader<'d>,
     section: Section,
 ) -> Result<Option<Code>, Fault<WrongToken<'d>>>
@@ -101,7 +101,7 @@ fn next_start<'d>(
 
 /// Reads what follows the first code of an entry, and adds what the entry declares.
 #[inline(always)]
-fn read_entry<'d>(
+pub(crate) fn read_entry<'d>(
     reader: &mut TokenReader<'d>,
     section: Section,
     start: Code,

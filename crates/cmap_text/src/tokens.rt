@@ -1,17 +1,19 @@
 //! The tokens of a text in order, and what single tokens stand for.
 
-ghost use Rattle.std.specs.Prelude.{◌≡◌, ◌<◌, ◌≤◌, ◌^◌, ℕ, List, [], length, pos, Ok, Some, MatchOption, option_map};
+ghost use Rattle.std.specs.Prelude.{◌≡◌, ◌<◌, ◌≤◌, ◌^◌, ℕ, List, [], bytes_eq, length, min, pos, Ok, Some, MatchOption, option_map};
 ghost use Rattle.std.specs.Int.Digits.{number_from_digits};
-ghost use Rattle.std.specs.List.{AllByRecursion};
+ghost use Rattle.std.specs.List.{AllByRecursion, list_any};
 ghost use Rattle.std.specs.Option.{option_copied};
 ghost use Rattle.cmap_files.specs.UnitsSeen.{units_seen};
 ghost use Rattle.cmap_files.specs.declared.fault.Reason.TheVariants.{CidExpected, TextExpected};
 ghost use Rattle.cmap_tokens.specs.Texts.{units_of};
 ghost use Rattle.cmap_tokens.specs.Numbers.{Integer};
+ghost use Rattle.cmap_tokens.specs.Resumption.{resumed};
 ghost use Rattle.cmap_tokens.specs.Tokens.{Numeral, String};
 ghost use Rattle.cmap_tokens.specs.TokenSeen.{token_seen};
 ghost use Rattle.cmap_tokens.specs.TokensLeft.{Left, start_of, tokens_of};
 ghost use Rattle.cmap_text.specs.EntriesSeen.{ReadsAs};
+ghost use Rattle.cmap_text.specs.Salvage.{brackets, is_word};
 ghost use Rattle.cmap_text.specs.TextFiles.{literal_head, other};
 ghost use Rattle.cmap_text.specs.TextReading.{cid_in, code_fault, code_in, code_of, destination_in, is_executable, is_literal, next_cid, next_code, next_destination};
 ghost use Rattle.cmap_text.specs.TextSeen.{code_seen};
@@ -168,6 +170,15 @@ impl<'d> TokenReader<'d> {
         cid_of(&token).ok_or(wrong(Reason::CidExpected, &token))
     }
 
+    /// Goes on after the piece that is no token, where none comes; `text` is the text that is read.
+    pub(crate) fn resume(&mut self, text: &'d [u8])
+        ensures { self.new ≡ tokens_of (resumed
+            (record { source = text.now; passed = min self.old.passed (length text.now) })) }
+    {
+        let offset = self.scanner.offset().min(text.len());
+        self.scanner = Scanner::after_malformed(text, offset);
+    }
+
     /// How many bytes of the text have been read.
     pub(crate) fn offset(&self) -> usize
         ensures { result ≡ self.now.passed }
@@ -235,6 +246,27 @@ pub(crate) fn is_executable(token: &Token<'_>, name: &[u8]) -> bool
 {
     match token {
         Token::Name(found) => !found.is_literal() && found.as_bytes() == name,
+        _ => false,
+    }
+}
+
+/// Whether a token is an executable name that is no bracket.
+pub(crate) fn is_word(token: &Token<'_>) -> bool
+    ensures { result ≡ is_word (token_seen token.now) }
+{
+    match token {
+        Token::Name(name) => !name.is_literal() && !is_bracket(name.as_bytes()),
+        _ => false,
+    }
+}
+
+fn is_bracket(name: &[u8]) -> bool
+    ensures { result ≡ list_any (bytes_eq name.now) brackets }
+{
+    let single: &[u8] = b"[]{}";
+    match name {
+        [byte] => single.contains(byte),
+        [b'<', b'<'] | [b'>', b'>'] => true,
         _ => false,
     }
 }

@@ -10,3 +10,4 @@ pub mod StringLengths
 pub mod StringValues
 pub mod TextsOfUnits
 pub mod TokenPieces
+pub mod Within

@@ -12,3 +12,4 @@ pub mod TextSeen
 pub mod TokenReading
 pub mod TokensLeft
 pub mod Stops
+pub mod Resumption

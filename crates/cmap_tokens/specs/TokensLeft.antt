@@ -76,3 +76,12 @@ AgreesTo k left other = (other.passed ≡ left.passed) × Agree k left.tokens le
 -- what ends by the byte k is decided by the bytes up to and including it, and so is that no more tokens come
 abbrev pub IsDecidedByFronts : List ℕ → Type 0
 IsDecidedByFronts text = (k : ℕ) (more : List ℕ) → k < length text → AgreesTo k (tokens_of (start_of text)) (tokens_of (start_of (take (1 + k) text ++ more)))
+
+-- ---- where they lie
+-- each token takes a byte or more of a text of so many bytes, and where a byte shows that none comes, bytes are left
+abbrev pub AreWithin : ℕ → Bool → ℕ → List EndedToken → ℕ → Type 0
+AreWithin len ends passed [] stop = (passed ≤ stop) × (stop ≤ len) × (ends ≡ false → passed < len)
+AreWithin len ends passed (p ∷ tokens) stop = (passed < p.end) × AreWithin len ends p.end tokens stop
+
+abbrev pub IsWithin : ℕ → Left → Type 0
+IsWithin len left = AreWithin len left.ends left.passed left.tokens left.stop

@@ -11,7 +11,7 @@ mod pieces;
 mod values;
 
 use self::gaps::gap_len;
-use self::lengths::malformed_len;
+use self::lengths::{malformed_len, piece_len};
 use self::numerals::blank_decimal;
 use self::pieces::{TWO_BYTES_LEN, first_token, two_bytes};
 use self::values::{decode_hex, decode_text, pairs_number};
@@ -175,6 +175,7 @@ impl<'a> Scanner<'a> {
     ghost use Rattle.std.specs.Prelude.{◌≡◌, ℕ, ◌↔◌, ◌+◌, ◌<◌, ◌≤◌, ◌^◌, List, [], false, true, length, None, Some, Ok, pos, IfOk, IfSome, IsErr, MatchOption, MatchResult, OnErr};
     ghost use Rattle.cmap_tokens.specs.Gaps.{IsBlank};
     ghost use Rattle.cmap_tokens.specs.Tokens.{HasNoFront, IsMalformed};
+    ghost use Rattle.cmap_tokens.specs.Resumption.{resumed};
     ghost use Rattle.cmap_tokens.specs.Stops.{StopsAt};
     ghost use Rattle.cmap_tokens.specs.TokensLeft.{HasTokens, IsDecidedByFronts, EndInOrder, LeavesAfter, LeavesNone, start_of, tokens_of};
     ghost use Rattle.cmap_tokens.specs.Numbers.{Integer};
@@ -195,6 +196,22 @@ impl<'a> Scanner<'a> {
         ensures fronts { IsDecidedByFronts source.now }
     {
         Scanner { source, offset: 0 }
+    }
+
+    /// A scanner of a text after a piece that is no token and comes next at this offset, in bytes: after
+    /// a hexadecimal string up to its `>`, or after the byte that shows that another piece is none. So
+    /// reading can go on where `next_token` answers `Malformed`.
+    pub fn after_malformed(source: &'a [u8], offset: usize) -> Self
+        requires { offset ≤ length source.now }
+        ensures { result ≡ resumed (record { source = source.now; passed = offset }) }
+    {
+        let rest = &source[offset..];
+        let gap = gap_len(rest);
+        let len = gap + piece_len(&rest[gap..]);
+        Scanner {
+            source,
+            offset: offset + len,
+        }
     }
 
     /// How many bytes of the text have been passed.
