@@ -31,6 +31,7 @@ ghost use Rattle.hayro_cmap.specs.declared.refusal.Cause.TheVariants as Cause;
 use crate::budget::ParseError;
 use crate::chain::{MOST_FILES, find_layers, layer_over, read_file};
 use crate::refusal::{Cause, Refusal};
+use crate::salvage::{SalvagedMap, Walk, salvage_layers};
 use crate::source::{FilesByName, Source};
 use cmap_binary::Bundle;
 use cmap_files::character_collection::{CharacterCollection, CidFamily};
@@ -236,6 +237,33 @@ impl CMap {
                 Err(AllocError) => Err(Fault::Memory),
             },
         }
+    }
+
+    /// What the CMap file `data` says over the files that it uses, apart from their faults, and the
+    /// faults. Of a file that `parse_from` accepts it is that map, and there is no fault; of another
+    /// one, the first fault is the one for which it is refused.
+    ///
+    /// A file is read past its faults. A use without a file, or for which the chain has no room, is a
+    /// fault too, and gives no layers. After a chain that is too long no further file is opened. A
+    /// file that would pass the budget isn't read, and gives a layer that says nothing.
+    ///
+    /// It fails only if memory runs out.
+    pub fn salvage<'a, S: Source>(
+        alloc: Global,
+        budget: Option<u64>,
+        data: &'a [u8],
+        bundle: Option<&Bundle<'_>>,
+        source: &'a S,
+    ) -> Result<SalvagedMap<'a>, AllocError>
+        requires can_ask { S.can_ask source.now }
+        requires by_name { IsByName (S.answers source.now) }
+    {
+        let mut walk = Walk::new(alloc, budget);
+        let layers = salvage_layers(alloc, data, bundle, source, MOST_FILES - 1, &mut walk)?;
+        Ok(SalvagedMap {
+            map: CMap { layers },
+            faults: walk.faults,
+        })
     }
 
     /// The names of the files that the CMap file `data` uses, in order; `None` where it is outside the
