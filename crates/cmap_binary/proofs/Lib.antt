@@ -12,3 +12,4 @@ pub mod SegmentsSaid
 pub mod TablesDecoded
 pub mod TablesTaken
 pub mod WordsSearched
+pub mod BinaryFaults

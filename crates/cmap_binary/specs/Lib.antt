@@ -12,3 +12,4 @@ pub mod TableTaken
 pub mod TableFronts
 pub mod WordsByLength
 pub mod WordsFound
+pub mod BinarySalvage

@@ -3,6 +3,7 @@
 ghost use Rattle.std.specs.Prelude.{◌≡◌, ◌↔◌, ◌+◌, IfErr, IfOk, IsTrue, length};
 ghost use Rattle.cmap_binary.specs.BinaryFiles.{BodyOf, IsBinaryFile, IsMarkedBinary};
 ghost use Rattle.cmap_binary.specs.BinarySeen.{SegmentsSay};
+ghost use Rattle.cmap_binary.specs.BinarySalvage.{SalvagesBinary};
 ghost use Rattle.cmap_binary.specs.BundleSeen.{bundle_seen, tables_seen};
 ghost use Rattle.cmap_files.specs.Only.{IsOnly, HoldsOfNone};
 ghost use Rattle.cmap_files.specs.Outcomes.{Finds, ReadsFile, StopsWithin};
@@ -13,8 +14,8 @@ use crate::bundle::{Bundle, Tables};
 use crate::pieces::take_framed;
 use crate::segments::read_segment;
 use cmap_files::fault::{Fault, Reason, Stop};
-use cmap_files::file::File;
-use std::alloc::Global;
+use cmap_files::file::{File, Salvaged};
+use std::alloc::{AllocError, Global};
 
 /// What begins a binary file.
 const MAGIC: &[u8] = b"bcmap";
@@ -95,4 +96,23 @@ fn read_segments<'d>(
         }
     }
     Ok(())
+}
+
+/// Stub.
+pub fn salvage_binary<'d>(
+    alloc: Global,
+    bundle: &Bundle<'_>,
+    bytes: &'d [u8],
+) -> Result<Salvaged<'d>, AllocError>
+    ensures { IfOk result (λ found. SalvagesBinary (bundle_seen bundle.now).tables bytes.now (file_seen found.file) found.faults.items) }
+{
+    match read_binary(alloc, bundle, bytes) {
+        Ok(file) => Ok(Salvaged { file, faults: Vec::new(alloc) }),
+        Err(Fault::Refused(stop)) => {
+            let mut faults = Vec::new(alloc);
+            faults.push(stop)?;
+            Ok(Salvaged { file: File::new(alloc), faults })
+        }
+        Err(Fault::Memory) => Err(AllocError),
+    }
 }

@@ -15,5 +15,5 @@ pub mod prefix;
 mod segments;
 
 pub use bundle::{Bundle, load_embedded};
-pub use file::{is_marked_binary, read_binary};
+pub use file::{is_marked_binary, read_binary, salvage_binary};
 pub use owned_bundle::OwnedBundle;

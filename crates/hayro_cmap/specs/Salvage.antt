@@ -12,6 +12,8 @@ use Rattle.cmap_text.specs.Salvage.{SalvagesFile}
 use Rattle.hayro_cmap.specs.Budgets.{IsOver}
 use Rattle.hayro_cmap.specs.BytesSpent.{Leaves}
 use Rattle.hayro_cmap.specs.Layers.{Means}
+use Rattle.hayro_cmap.specs.Maps.{FitsBudget, IsMapOf, LeadsToFault}
+use Rattle.hayro_cmap.specs.declared.chain.TheConstants.{MOST_FILES}
 use Rattle.hayro_cmap.specs.declared.refusal.Cause.{Cause}
 use Rattle.hayro_cmap.specs.declared.refusal.Cause.TheVariants.{Malformed, NoFile, ChainLength, OverBudget}
 
@@ -59,7 +61,7 @@ no_layers faults after = record { layers = []; faults = faults; after = after }
 -- uses one after another, from these layers on: the layers are those of the last one
 abbrev pub SalvagesEach : (List ℕ → Opening → Found → Type 0) → List (List ℕ) → List Layer → Opening → Found → Type 0
 SalvagesEach salvages [] base opening found = found ≡ record { layers = base; faults = []; after = opening }
-SalvagesEach salvages (name ∷ names) base opening found = (first last : Found) × salvages name opening first × SalvagesEach salvages names first.layers first.after last
+SalvagesEach salvages (name ∷ names) base opening found = (first : Found) × (last : Found) × salvages name opening first × SalvagesEach salvages names first.layers first.after last
     × (found ≡ record { layers = last.layers; faults = first.faults ++ last.faults; after = last.after })
 
 module _ (answer : List ℕ → Option (List ℕ) → Type 0) (salvages : List (List ℕ) → List ℕ → Opening → Found → Type 0) where
@@ -77,6 +79,20 @@ module _ (tables : Option PrefixTables) (answer : List ℕ → Option (List ℕ)
   -- the file of these bytes, to which the names lead, over the layers of the last file that it uses; no chain is longer than this
   abbrev pub Salvages : ℕ → List (List ℕ) → List ℕ → Opening → Found → Type 0
   Salvages zero names bytes opening found = ⊥
-  Salvages (suc most) names bytes opening found = (file : File) (causes : List Cause) (rest : Option ℕ) (below : Found) × IsReadWithin tables opening.left bytes file causes rest
+  Salvages (suc most) names bytes opening found = (file : File) × (causes : List Cause) × (rest : Option ℕ) × (below : Found) × IsReadWithin tables opening.left bytes file causes rest
       × SalvagesEach (SalvagesUse answer (Salvages most) most names) file.uses [] (record { left = rest; closed = opening.closed }) below
       × (found ≡ record { layers = layer_of file ∷ below.layers; faults = faults_of names causes ++ below.faults; after = below.after })
+
+-- ---- a map
+module _ (tables : Option PrefixTables) (answers : List ℕ → Option (List ℕ) → Type 0) (bytes : List ℕ) (budget : Option ℕ) where
+  -- what is read of a file over those that it uses
+  abbrev pub SalvagesMap : List Layer → List NamedFault → Type 0
+  SalvagesMap layers faults = (after : Opening) × Salvages tables answers MOST_FILES [] bytes (record { left = budget; closed = false }) (record { layers = layers; faults = faults; after = after })
+
+  -- the first fault is one for which the file is refused
+  abbrev pub BeginsWithFault : List NamedFault → Type 0
+  BeginsWithFault faults = (first : NamedFault) × (more : List NamedFault) × (faults ≡ first ∷ more) × LeadsToFault tables answers bytes budget first.names first.cause
+
+  -- of a file that has a map, for which the budget suffices, it is that map, and there is no fault
+  abbrev pub GivesMap : List Layer → List NamedFault → Type 0
+  GivesMap layers faults = (map : List Layer) → IsMapOf tables answers bytes map → FitsBudget tables answers bytes budget → (layers ≡ map) × (faults ≡ [])

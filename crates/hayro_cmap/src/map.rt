@@ -1,6 +1,6 @@
 //! Maps: what the codes of a CMap file stand for.
 
-ghost use Rattle.std.specs.Prelude.{◌≡◌, ◌≢◌, ◌*◌, ◌^◌, [], ◌∷◌, ◌≤◌, ◌<◌, IfErr, IfOk, IfSome, IfNone, IsErrOf, IsSome, IsSomeAnd, OnErr, OnOk, MatchOption, Some, codes, is_some, length, option_map};
+ghost use Rattle.std.specs.Prelude.{◌⊎◌, ◌≡◌, ◌≢◌, ◌*◌, ◌^◌, [], ◌∷◌, ◌≤◌, ◌<◌, IfErr, IfOk, IfSome, IfNone, IsErrOf, IsSome, IsSomeAnd, OnErr, OnOk, MatchOption, Some, codes, is_some, length, option_map};
 ghost use Rattle.std.specs.Option.{option_copied};
 ghost use Rattle.cmap_files.specs.CodeLengths.{IsCodeLength, length_of};
 ghost use Rattle.cmap_runs.specs.SearchLooks.{LooksAtMost};
@@ -18,6 +18,8 @@ ghost use Rattle.hayro_cmap.specs.Maps.{ExceedsBudget, FitsBudget, HasNoMap, IsM
 ghost use Rattle.hayro_cmap.specs.Opened.{ExceedsBudgetNamed, FitsBudgetNamed, HasNoMapNamed, IsIdentity, IsMapNamed, IsNoIdentity, IsUnknown, LeadsToFaultNamed};
 ghost use Rattle.cmap_layers.specs.LayersSeen.{layers_seen, metadata_seen, mode_seen};
 ghost use Rattle.cmap_layers.specs.Layers.{top_metadata};
+ghost use Rattle.hayro_cmap.specs.Salvage.{BeginsWithFault, GivesMap, SalvagesMap};
+ghost use Rattle.hayro_cmap.specs.SalvageSeen.{faults_seen};
 ghost use Rattle.cmap_layers.specs.Lookups.{InCodespace, bf_of, cid_of};
 ghost use Rattle.cmap_layers.specs.CodeStretches.{AreCodesBelow, IsCidStretch, IsTextStretch};
 ghost use Rattle.cmap_layers.specs.Rows.{AreCidsOf};
@@ -257,6 +259,21 @@ impl CMap {
     ) -> Result<SalvagedMap<'a>, AllocError>
         requires can_ask { S.can_ask source.now }
         requires by_name { IsByName (S.answers source.now) }
+        ensures says { IfOk result (λ found.
+            SalvagesMap (tables_given bundle.entry) (S.answers source.now) «data».now budget
+            found.map (faults_seen found.faults.items)) }
+
+        // Of a file that has a map, for which the budget suffices, it gives that map and no fault.
+        ensures right { IfOk result (λ found.
+            GivesMap (tables_given bundle.entry) (S.answers source.now) «data».now budget
+            found.map (faults_seen found.faults.items)) }
+
+        // Of another one, the first fault is one for which it is refused.
+        ensures wrong { IfOk result (λ found.
+            HasNoMap (tables_given bundle.entry) (S.answers source.now) «data».now
+            ⊎ ExceedsBudget (tables_given bundle.entry) (S.answers source.now) «data».now budget
+            → BeginsWithFault (tables_given bundle.entry) (S.answers source.now) «data».now budget
+            (faults_seen found.faults.items)) }
     {
         let mut walk = Walk::new(alloc, budget);
         let layers = salvage_layers(alloc, data, bundle, source, MOST_FILES - 1, &mut walk)?;

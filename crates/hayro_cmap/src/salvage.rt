@@ -1,15 +1,24 @@
 //! Files over the files that they use, read past their faults.
 
+ghost use Rattle.std.specs.Prelude.{◌≡◌, ◌∷◌, [], false, map, suc, IfOk, OnOk};
+ghost use Rattle.cmap_binary.specs.BundleSeen.{tables_given};
+ghost use Rattle.cmap_files.specs.FilesSeen.{file_seen, names_seen};
+ghost use Rattle.cmap_layers.specs.LayersSeen.{layers_seen};
+ghost use Rattle.hayro_cmap.specs.Answers.{IsByName};
+ghost use Rattle.hayro_cmap.specs.Salvage.{IsReadPast, Salvages, SalvagesBytes, SalvagesNamed, SalvagesUse, faults_of};
+ghost use Rattle.hayro_cmap.specs.SalvageSeen.{GoesOn, ReadsOn, Walks, opening_seen};
+ghost use Rattle.hayro_cmap.specs.declared.refusal.Cause.TheVariants.{Malformed};
+
 use crate::budget::spend;
-use crate::chain::{layer_over, read_file};
+use crate::chain::{put_over, read_file};
 use crate::map::CMap;
 use crate::refusal::{Cause, Refusal};
 use crate::source::Source;
-use cmap_binary::{Bundle, is_marked_binary};
-use cmap_files::fault::Fault;
-use cmap_files::file::File;
+use cmap_binary::{Bundle, is_marked_binary, salvage_binary};
+use cmap_files::fault::{Fault, Stop};
+use cmap_files::file::{File, Salvaged};
 use cmap_layers::layers::Layer;
-use cmap_text::{Salvaged, salvage_text};
+use cmap_text::salvage_text;
 use std::alloc::{AllocError, Global};
 
 /// What a file says over the files that it uses, apart from their faults, and the faults.
@@ -35,7 +44,11 @@ pub(crate) struct Walk<'a> {
 
 impl<'a> Walk<'a> {
     /// Before the first file.
-    pub(crate) fn new(alloc: Global, budget: Option<u64>) -> Self {
+    pub(crate) fn new(alloc: Global, budget: Option<u64>) -> Self
+        ensures names { result.names.items ≡ [] }
+        ensures faults { result.faults.items ≡ [] }
+        ensures opening { opening_seen result ≡ record { left = budget; closed = false } }
+    {
         Walk {
             names: Vec::new(alloc),
             faults: Vec::new(alloc),
@@ -45,9 +58,25 @@ impl<'a> Walk<'a> {
     }
 
     /// Adds a fault of the file that the names lead to.
-    fn add_fault(&mut self, alloc: Global, cause: Cause) -> Result<(), AllocError> {
+    fn add_fault(&mut self, alloc: Global, cause: Cause) -> Result<(), AllocError>
+        ensures added { OnOk result
+            (GoesOn self.old self.new (faults_of (names_seen self.old.names.items) (cause ∷ []))) }
+        ensures same { opening_seen self.new ≡ opening_seen self.old }
+    {
         let names = Vec::from_slice(alloc, &self.names)?;
         self.faults.push(Refusal { names, cause })?;
+        Ok(())
+    }
+
+    /// Adds what is wrong with that file.
+    fn add_stops(&mut self, alloc: Global, stops: &[Stop]) -> Result<(), AllocError>
+        ensures added { OnOk result (GoesOn self.old self.new
+            (faults_of (names_seen self.old.names.items) (map Malformed stops.now))) }
+        ensures same { OnOk result (opening_seen self.new ≡ opening_seen self.old) }
+    {
+        for stop in stops {
+            self.add_fault(alloc, Cause::Malformed(*stop))?;
+        }
         Ok(())
     }
 }
@@ -62,13 +91,20 @@ pub(crate) fn salvage_layers<'a, S: Source>(
     source: &'a S,
     below: u8,
     walk: &mut Walk<'a>,
-) -> Result<Vec<Layer>, AllocError> {
+) -> Result<Vec<Layer>, AllocError>
+    requires can_ask { S.can_ask source.now }
+    requires by_name { IsByName (S.answers source.now) }
+    ensures { IfOk result (λ layers. Walks
+        (Salvages (tables_given bundle.entry) (S.answers source.now) (suc below)
+        (names_seen walk.old.names.items) bytes.now)
+        walk.old walk.new (layers_seen layers.items)) }
+{
     let file = read_within(alloc, bytes, bundle, walk)?;
     let mut base = Vec::new(alloc);
     for name in &file.uses {
         base = salvage_used(alloc, *name, bundle, source, below, walk)?;
     }
-    layer_over(alloc, file.metadata, file.lists, base)
+    Ok(put_over(alloc, file, base)?)
 }
 
 /// The layers of what can be read of the file that a use names; none once a chain was too long.
@@ -80,7 +116,15 @@ fn salvage_used<'a, S: Source>(
     source: &'a S,
     below: u8,
     walk: &mut Walk<'a>,
-) -> Result<Vec<Layer>, AllocError> {
+) -> Result<Vec<Layer>, AllocError>
+    requires can_ask { S.can_ask source.now }
+    requires by_name { IsByName (S.answers source.now) }
+    ensures { IfOk result (λ layers. Walks
+        (SalvagesUse (S.answers source.now)
+        (Salvages (tables_given bundle.entry) (S.answers source.now) below)
+        below (names_seen walk.old.names.items) name.now)
+        walk.old walk.new (layers_seen layers.items)) }
+{
     if walk.is_closed {
         return Ok(Vec::new(alloc));
     }
@@ -100,7 +144,15 @@ fn salvage_named<'a, S: Source>(
     source: &'a S,
     below: u8,
     walk: &mut Walk<'a>,
-) -> Result<Vec<Layer>, AllocError> {
+) -> Result<Vec<Layer>, AllocError>
+    requires can_ask { S.can_ask source.now }
+    requires by_name { IsByName (S.answers source.now) }
+    ensures { IfOk result (λ layers. Walks
+        (SalvagesNamed (S.answers source.now)
+        (Salvages (tables_given bundle.entry) (S.answers source.now) below)
+        below (names_seen walk.old.names.items) name.now)
+        walk.old walk.new (layers_seen layers.items)) }
+{
     if below == 0 {
         walk.is_closed = true;
         walk.add_fault(alloc, Cause::ChainLength)?;
@@ -120,15 +172,16 @@ fn read_within<'a>(
     bytes: &'a [u8],
     bundle: Option<&Bundle<'_>>,
     walk: &mut Walk<'a>,
-) -> Result<File<'a>, AllocError> {
-    if spend(&mut walk.left, bytes.len()).is_err() {
+) -> Result<File<'a>, AllocError>
+    ensures { IfOk result (λ file. ReadsOn (tables_given bundle.entry) bytes.now
+        walk.old walk.new (file_seen file)) }
+{
+    let Ok(()) = spend(&mut walk.left, bytes.len()) else {
         walk.add_fault(alloc, Cause::OverBudget)?;
         return Ok(File::new(alloc));
-    }
+    };
     let read = read_past(alloc, bytes, bundle)?;
-    for stop in &read.faults {
-        walk.add_fault(alloc, Cause::Malformed(*stop))?;
-    }
+    walk.add_stops(alloc, &read.faults)?;
     Ok(read.file)
 }
 
@@ -137,7 +190,10 @@ fn read_past<'a>(
     alloc: Global,
     bytes: &'a [u8],
     bundle: Option<&Bundle<'_>>,
-) -> Result<Salvaged<'a>, AllocError> {
+) -> Result<Salvaged<'a>, AllocError>
+    ensures { IfOk result (λ read. IsReadPast (tables_given bundle.entry) bytes.now
+        (file_seen read.file) read.faults.items) }
+{
     match read_file(alloc, bytes, bundle) {
         Ok(file) => Ok(Salvaged {
             file,
@@ -153,12 +209,12 @@ fn salvage_bytes<'a>(
     alloc: Global,
     bytes: &'a [u8],
     bundle: Option<&Bundle<'_>>,
-) -> Result<Salvaged<'a>, AllocError> {
+) -> Result<Salvaged<'a>, AllocError>
+    ensures { IfOk result (λ read. SalvagesBytes (tables_given bundle.entry) bytes.now
+        (file_seen read.file) read.faults.items) }
+{
     match bundle {
-        Some(_bundle) if is_marked_binary(bytes) => Ok(Salvaged {
-            file: File::new(alloc),
-            faults: Vec::new(alloc),
-        }),
+        Some(bundle) if is_marked_binary(bytes) => salvage_binary(alloc, bundle, bytes),
         _ => salvage_text(alloc, bytes),
     }
 }
