@@ -1,5 +1,6 @@
 pub mod BinaryEntries
 pub mod BinaryFiles
+pub mod BinarySalvage
 pub mod BinarySeen
 pub mod BundleSeen
 pub mod Bundles
@@ -12,4 +13,3 @@ pub mod TableTaken
 pub mod TableFronts
 pub mod WordsByLength
 pub mod WordsFound
-pub mod BinarySalvage

@@ -3,7 +3,6 @@
 ghost use Rattle.std.specs.Prelude.{◌≡◌, ◌↔◌, ◌+◌, IfErr, IfOk, IsTrue, length};
 ghost use Rattle.cmap_binary.specs.BinaryFiles.{BodyOf, IsBinaryFile, IsMarkedBinary};
 ghost use Rattle.cmap_binary.specs.BinarySeen.{SegmentsSay};
-ghost use Rattle.cmap_binary.specs.BinarySalvage.{SalvagesBinary};
 ghost use Rattle.cmap_binary.specs.BundleSeen.{bundle_seen, tables_seen};
 ghost use Rattle.cmap_files.specs.Only.{IsOnly, HoldsOfNone};
 ghost use Rattle.cmap_files.specs.Outcomes.{Finds, ReadsFile, StopsWithin};
@@ -14,23 +13,23 @@ use crate::bundle::{Bundle, Tables};
 use crate::pieces::take_framed;
 use crate::segments::read_segment;
 use cmap_files::fault::{Fault, Reason, Stop};
-use cmap_files::file::{File, Salvaged};
-use std::alloc::{AllocError, Global};
+use cmap_files::file::File;
+use std::alloc::Global;
 
 /// What begins a binary file.
 const MAGIC: &[u8] = b"bcmap";
 
 /// What begins one of version 1.
-const HEAD: &[u8] = b"bcmap\x01";
+pub(crate) const HEAD: &[u8] = b"bcmap\x01";
 
 /// How many bytes the header of a file has.
-const HEADER_LEN: usize = 10;
+pub(crate) const HEADER_LEN: usize = 10;
 
 /// How many bytes of a segment, its type, stand before its length.
-const TYPE_LEN: usize = 1;
+pub(crate) const TYPE_LEN: usize = 1;
 
 /// How many bytes of a segment, its type and its length, stand before its payload.
-const SEGMENT_HEAD: usize = 5;
+pub(crate) const SEGMENT_HEAD: usize = 5;
 
 /// Whether the bytes are marked as a binary file.
 pub fn is_marked_binary(bytes: &[u8]) -> bool
@@ -58,7 +57,7 @@ pub fn read_binary<'d>(
 }
 
 /// The segments of a file, which stand after its header; bytes after its length are ignored.
-fn split_body(mut bytes: &[u8]) -> Option<&[u8]>
+pub(crate) fn split_body(mut bytes: &[u8]) -> Option<&[u8]>
     ensures { Finds (BodyOf bytes.now) (λ body. body.now) result }
 {
     let file = take_framed(&mut bytes, HEAD.len())?;
@@ -96,23 +95,4 @@ fn read_segments<'d>(
         }
     }
     Ok(())
-}
-
-/// Stub.
-pub fn salvage_binary<'d>(
-    alloc: Global,
-    bundle: &Bundle<'_>,
-    bytes: &'d [u8],
-) -> Result<Salvaged<'d>, AllocError>
-    ensures { IfOk result (λ found. SalvagesBinary (bundle_seen bundle.now).tables bytes.now (file_seen found.file) found.faults.items) }
-{
-    match read_binary(alloc, bundle, bytes) {
-        Ok(file) => Ok(Salvaged { file, faults: Vec::new(alloc) }),
-        Err(Fault::Refused(stop)) => {
-            let mut faults = Vec::new(alloc);
-            faults.push(stop)?;
-            Ok(Salvaged { file: File::new(alloc), faults })
-        }
-        Err(Fault::Memory) => Err(AllocError),
-    }
 }

@@ -1,5 +1,5 @@
 -- What a text says apart from its faults: how reading goes on after each.
-use Rattle.std.specs.Prelude.{◌≡◌, ◌&&◌, ℕ, zero, suc, not, nat_lt, min, Bool, true, false, List, [], ◌∷◌, ◌++◌, length, bytes_eq, codes, flat_map, map, Option, Some, None, Ok, Err, if◌then◌else◌}
+use Rattle.std.specs.Prelude.{◌≡◌, ◌&&◌, ℕ, zero, suc, not, nat_lt, min, Bool, false, List, [], ◌∷◌, ◌++◌, length, bytes_eq, codes, flat_map, map, Option, Some, None, Ok, Err, if◌then◌else◌}
 use Rattle.std.specs.List.{AllByRecursion, list_any}
 use Rattle.cmap_tokens.specs.Resumption.{resumed}
 use Rattle.cmap_tokens.specs.Tokens.{Token}

@@ -1,6 +1,6 @@
 -- A walk through files over files that are read past their faults: what is found, and which faults are added.
 use Rattle.std.proofs.Common.{◌≡◌, ℕ, suc, ◌+◌, ◌<◌, ◌≤◌, refl, sym, ap, ◌∙◌, subst, true, false, List, [], ◌∷◌, ◌++◌, drop, get_or, length, inl, inr, append-nil, append_assoc}
-use Rattle.std.specs.Prelude.{Option, Some, map}
+use Rattle.std.specs.Prelude.{IfOk, Option, Some, Result, Ok, Err, map}
 use Rattle.std.specs.Borrow.{Bor}
 use Rattle.std.proofs.Math.ListN.{length-map}
 use Rattle.std.proofs.lemmas.List.{drop_more, drop_all, get_or-map, map-append}
@@ -11,6 +11,11 @@ use Rattle.cmap_layers.specs.Layers.{Layer, layer_of}
 use Rattle.hayro_cmap.specs.Salvage.{Found, IsReadWithin, NamedFault, Opening, Salvages, SalvagesEach, SalvagesMap, SalvagesNamed, SalvagesUse, faults_of}
 use Rattle.hayro_cmap.specs.SalvageSeen.{GoesOn, ReadsOn, Walks, faults_seen, opening_seen}
 use Rattle.hayro_cmap.specs.declared.salvage.Walk.{Walk}
+
+-- what holds of an answer, by what else holds of it
+pub ok_as : {A E : Type 0} {P Q : A → Type 0} (result : Result A E) → IfOk result P → ((x : A) → P x → Q x) → IfOk result Q
+ok_as (Ok x) holds gives = gives x holds
+ok_as (Err error) holds gives = tt
 
 pub GoesOn-none : (walk : Walk) → GoesOn walk walk []
 GoesOn-none walk = record { names = refl; added = sym (append-nil (faults_seen walk.faults.items)) }

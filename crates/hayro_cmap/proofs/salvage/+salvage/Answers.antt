@@ -1,9 +1,8 @@
 use Rattle.std.proofs.Common.{refl, sym, ◌-◌, arith}
 use Rattle.cmap_binary.specs.BundleSeen.{tables_given}
-use Rattle.cmap_files.proofs.Outcomes.{ok_as}
 use Rattle.cmap_files.specs.FilesSeen.{file_seen, names_seen}
 use Rattle.cmap_layers.specs.LayersSeen.{layers_seen}
-use Rattle.hayro_cmap.proofs.Walked.{use_under, walked_at, walked_end, walked_more, walked_none, walks_file, walks_named}
+use Rattle.hayro_cmap.proofs.Walked.{ok_as, use_under, walked_at, walked_end, walked_more, walked_none, walks_file, walks_named}
 use Rattle.hayro_cmap.proofs.salvage.+salvage.Goals as goal
 
 pub salvage_layers-loop-name-init : goal.salvage_layers-loop-name-init
