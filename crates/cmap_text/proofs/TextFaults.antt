@@ -7,7 +7,7 @@ use Rattle.cmap_files.specs.Outcomes.{DecidedBy}
 use Rattle.cmap_files.specs.declared.fault.Stop.{Stop}
 use Rattle.cmap_tokens.proofs.Fronts.{has_tokens}
 use Rattle.cmap_tokens.specs.TokensLeft.{start_of, tokens_of}
-use Rattle.cmap_text.specs.Salvage.{SalvagesFile, Salvages, stop_of}
+use Rattle.cmap_text.specs.Salvage.{SalvagesFile, stop_of}
 use Rattle.cmap_text.specs.TextFiles.{IsMetadata, IsTextFile}
 use Rattle.cmap_text.specs.TextReading.{Said, all_said, nothing_said}
 use Rattle.cmap_text.specs.TokenParsers.{Found}

@@ -1,5 +1,5 @@
 -- What the faults of bytes say of them: without one they mean a file; else the first is what is wrong with them.
-use Rattle.std.proofs.Common.{◌≡◌, ◌≤◌, ◌∷◌, [], inl, inr, ℕ, List, length}
+use Rattle.std.proofs.Common.{◌≤◌, ◌∷◌, [], inl, inr, ℕ, List, length}
 use Rattle.std.specs.Prelude.{Option, Some, None}
 use Rattle.cmap_files.specs.Files.{File}
 use Rattle.cmap_files.specs.Only.{HoldsOfNone}
@@ -8,9 +8,8 @@ use Rattle.cmap_binary.specs.Bundles.{PrefixTables}
 use Rattle.cmap_binary.proofs.BinarySalvaged.{file_where_no_fault, no_file_where_fault}
 use Rattle.cmap_text.proofs.TextFaults as text
 use Rattle.hayro_cmap.specs.Layers.{Means}
-use Rattle.hayro_cmap.specs.Refusals.{IsOwnFault, IsDecidedAsText}
+use Rattle.hayro_cmap.specs.Refusals.{IsDecidedAsText}
 use Rattle.hayro_cmap.specs.Salvage.{SalvagesBytes}
-use Rattle.hayro_cmap.specs.declared.refusal.Cause.TheVariants.{Malformed}
 
 module _ (bytes : List ℕ) (file : File) where
   pub no_fault : (tables : Option PrefixTables) → SalvagesBytes tables bytes file [] → Means tables bytes file

@@ -1,17 +1,16 @@
 -- What the faults say of a file and of those that it uses: without one it has the layers that are found; else the first is why it has none.
-use Rattle.std.proofs.Common.{◌≡◌, ℕ, zero, suc, ◌≤◌, refl, sym, ap, ◌∙◌, subst, Bool, true, false, List, [], ◌∷◌, ◌++◌, length, inl, inr, arith, append-nil, append_assoc}
-use Rattle.std.specs.Prelude.{◌⊎◌, Contains, map, Option, Some, None}
+use Rattle.std.proofs.Common.{◌≡◌, ℕ, zero, suc, refl, sym, ap, ◌∙◌, subst, false, List, [], ◌∷◌, ◌++◌, length, inl, inr, arith, append-nil, append_assoc}
+use Rattle.std.specs.Prelude.{Contains, map, Option, Some}
 use Rattle.cmap_files.specs.Files.{File}
 use Rattle.cmap_files.specs.Only.{IsOnly, HoldsOfNone}
 use Rattle.cmap_files.specs.declared.fault.Stop.{Stop}
 use Rattle.cmap_binary.specs.Bundles.{PrefixTables}
 use Rattle.cmap_layers.specs.Layers.{Layer, layer_of}
 use Rattle.hayro_cmap.specs.Answers.{IsByName}
-use Rattle.hayro_cmap.specs.Budgets.{IsOver}
-use Rattle.hayro_cmap.specs.BytesSpent.{About, Leaves, Resolves, Refuses, GoesOver, GoesOverAt, of_file, of_use, of_uses}
+use Rattle.hayro_cmap.specs.BytesSpent.{About, Leaves, Resolves, GoesOverAt, of_file, of_use, of_uses}
 use Rattle.hayro_cmap.specs.Layers.{Means}
 use Rattle.hayro_cmap.specs.Refusals.{Fails, IsFaultWithin, IsUseFaultWithin}
-use Rattle.hayro_cmap.specs.Salvage.{Found, IsReadPast, IsReadWithin, NamedFault, Opening, Salvages, SalvagesEach, SalvagesBytes, SalvagesNamed, SalvagesUse, faults_of, no_layers}
+use Rattle.hayro_cmap.specs.Salvage.{Found, IsReadWithin, NamedFault, Opening, Salvages, SalvagesEach, SalvagesBytes, SalvagesNamed, SalvagesUse, faults_of}
 use Rattle.hayro_cmap.specs.declared.refusal.Cause.{Cause}
 use Rattle.hayro_cmap.specs.declared.refusal.Cause.TheVariants.{Malformed, NoFile, ChainLength, OverBudget}
 use Rattle.hayro_cmap.proofs.Blamed.{fails_as, leads_file, leads_use}

@@ -1,15 +1,13 @@
 -- A map that is read past faults: of a file that has a map it is that one, and else the first fault is why it has none.
 use Rattle.std.proofs.Common.{◌≡◌, ℕ, zero, suc, ◌<◌, ◌≤◌, refl, sym, ap, subst, ◌++◌, false, List, [], ◌∷◌, length, inl, inr, arith}
-use Rattle.std.specs.Prelude.{◌⊎◌, map, Option}
+use Rattle.std.specs.Prelude.{◌⊎◌, Option}
 use Rattle.std.proofs.Math.ListN.{length-map}
-use Rattle.cmap_files.specs.Only.{HoldsOfNone}
 use Rattle.cmap_binary.specs.Bundles.{PrefixTables}
 use Rattle.cmap_layers.specs.Layers.{Layer}
 use Rattle.cmap_layers.specs.LayersSeen.{layers_seen}
 use Rattle.cmap_layers.specs.declared.layers.Layer as declared
 use Rattle.hayro_cmap.specs.Answers.{IsByName}
-use Rattle.hayro_cmap.specs.Budgets.{IsOver}
-use Rattle.hayro_cmap.specs.BytesSpent.{GoesOver, of_file}
+use Rattle.hayro_cmap.specs.BytesSpent.{of_file}
 use Rattle.hayro_cmap.specs.Layers.{Means}
 use Rattle.hayro_cmap.specs.Maps.{ExceedsBudget, FitsBudget, HasNoMap, IsMapOf}
 use Rattle.hayro_cmap.specs.Refusals.{Fails, IsFaultWithin}
@@ -17,7 +15,7 @@ use Rattle.hayro_cmap.specs.Salvage.{BeginsWithFault, Found, GivesMap, NamedFaul
 use Rattle.hayro_cmap.specs.declared.refusal.Cause.{Cause}
 use Rattle.hayro_cmap.specs.declared.refusal.Cause.TheVariants.{Malformed, NoFile, ChainLength, OverBudget}
 use Rattle.hayro_cmap.proofs.BudgetLeft.{not_over}
-use Rattle.hayro_cmap.proofs.PastFaults.{Ends, right, wrong, Refuted, salvages_end}
+use Rattle.hayro_cmap.proofs.PastFaults.{Ends, right, wrong, salvages_end}
 
 module _ (tables : Option PrefixTables) (answers : List ℕ → Option (List ℕ) → Type 0) (bytes : List ℕ) (budget : Option ℕ) where
   -- a file that fails has no map, or the budget doesn't suffice

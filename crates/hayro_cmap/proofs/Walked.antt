@@ -1,14 +1,14 @@
 -- A walk through files over files that are read past their faults: what is found, and which faults are added.
-use Rattle.std.proofs.Common.{◌≡◌, ℕ, suc, ◌+◌, ◌<◌, ◌≤◌, refl, sym, ap, ◌∙◌, subst, true, false, List, [], ◌∷◌, ◌++◌, drop, get_or, length, inl, inr, append-nil, append_assoc}
-use Rattle.std.specs.Prelude.{IfOk, Option, Some, Result, Ok, Err, map}
+use Rattle.std.proofs.Common.{◌≡◌, ℕ, suc, ◌+◌, ◌<◌, ◌≤◌, refl, sym, ap, ◌∙◌, subst, false, List, [], ◌∷◌, ◌++◌, drop, get_or, length, inr, append-nil, append_assoc}
+use Rattle.std.specs.Prelude.{IfOk, Option, Some, Result, Ok, Err}
 use Rattle.std.specs.Borrow.{Bor}
 use Rattle.std.proofs.Math.ListN.{length-map}
-use Rattle.std.proofs.lemmas.List.{drop_more, drop_all, get_or-map, map-append}
+use Rattle.std.proofs.lemmas.List.{drop_more, drop_all, get_or-map}
 use Rattle.cmap_files.specs.Files.{File}
 use Rattle.cmap_files.specs.FilesSeen.{names_seen}
 use Rattle.cmap_binary.specs.Bundles.{PrefixTables}
 use Rattle.cmap_layers.specs.Layers.{Layer, layer_of}
-use Rattle.hayro_cmap.specs.Salvage.{Found, IsReadWithin, NamedFault, Opening, Salvages, SalvagesEach, SalvagesMap, SalvagesNamed, SalvagesUse, faults_of}
+use Rattle.hayro_cmap.specs.Salvage.{Found, NamedFault, Opening, Salvages, SalvagesEach, SalvagesMap, SalvagesNamed, SalvagesUse, faults_of}
 use Rattle.hayro_cmap.specs.SalvageSeen.{GoesOn, ReadsOn, Walks, faults_seen, opening_seen}
 use Rattle.hayro_cmap.specs.declared.salvage.Walk.{Walk}
 

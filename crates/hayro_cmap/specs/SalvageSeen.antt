@@ -1,5 +1,5 @@
 -- Private aid: what contracts see of files that are read past their faults.
-use Rattle.std.specs.Prelude.{◌≡◌, ℕ, Bool, List, ◌++◌, map, Option}
+use Rattle.std.specs.Prelude.{◌≡◌, ℕ, List, ◌++◌, map, Option}
 use Rattle.cmap_files.specs.FilesSeen.{names_seen}
 use Rattle.cmap_files.specs.Files.{File}
 use Rattle.cmap_binary.specs.Bundles.{PrefixTables}

@@ -1,4 +1,4 @@
-use Rattle.std.proofs.Common.{refl, sym, ◌-◌, arith}
+use Rattle.std.proofs.Common.{refl, ◌-◌, arith}
 use Rattle.std.specs.Global.{Vec}
 use Rattle.cmap_binary.specs.BundleSeen.{tables_given}
 use Rattle.cmap_files.specs.FilesSeen.{file_seen, names_seen}
