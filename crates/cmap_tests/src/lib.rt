@@ -22,4 +22,6 @@ mod salvage;
 #[cfg(test)]
 mod salvage_binary;
 #[cfg(test)]
+mod salvage_map;
+#[cfg(test)]
 mod tables;

@@ -95,16 +95,16 @@ module _ (tables : Option PrefixTables) (answer : List ℕ → Option (List ℕ)
       all_right : found.faults ≡ [] → Resolves (of_uses (use_about room)) uses found.layers budget found.after.left → found.after.closed ≡ false → UsesEnd uses budget found
       one_wrong : (fault : NamedFault) (more : List NamedFault) → found.faults ≡ fault ∷ more → UseRefuted uses budget fault → UsesEnd uses budget found
 
-    abbrev EachEnds : (List ℕ → Opening → Found → Type 0) → Type 0
-    EachEnds salvages = (name : List ℕ) (opening : Opening) (found : Found) → opening.closed ≡ false → salvages name opening found → Ends (use_about room) name (leads_from room name opening.left) names opening.left found
+    abbrev EachEnds : (List ℕ → List Layer → Opening → Found → Type 0) → Type 0
+    EachEnds salvages = (name : List ℕ) (base : List Layer) (opening : Opening) (found : Found) → opening.closed ≡ false → salvages name base opening found → Ends (use_about room) name (leads_from room name opening.left) names opening.left found
 
-    module _ (salvages : List ℕ → Opening → Found → Type 0) (each : EachEnds salvages) (uses : List (List ℕ)) (budget : Option ℕ) where
+    module _ (salvages : List ℕ → List Layer → Opening → Found → Type 0) (each : EachEnds salvages) (uses : List (List ℕ)) (budget : Option ℕ) where
       uses_end : (rest : List (List ℕ)) (base : List Layer) (opening : Opening) (found : Found) → ((name : List ℕ) → Contains rest name → Contains uses name) → opening.closed ≡ false → AreUsed (use_about room) uses rest base budget opening.left
           → SalvagesEach salvages rest base opening found → UsesEnd uses budget found
       uses_end [] base opening found within is_open used is =
           all_right (ap (λ f. f.faults) is) (subst (λ f. Resolves (of_uses (use_about room)) uses f.layers budget f.after.left) (sym is) (Resolves-used used)) (ap (λ f. f.after.closed) is ∙ is_open)
       uses_end (name ∷ rest) base opening found within is_open used (first, last, finds, others, is) =
-          by (λ still_open resolves. uses_end rest first.layers first.after last (λ other h. within other (suc h.0, omega (arith, h.1), h.2)) still_open (AreUsed-more used resolves) others) (each name opening first is_open finds)
+          by (λ still_open resolves. uses_end rest first.layers first.after last (λ other h. within other (suc h.0, omega (arith, h.1), h.2)) still_open (AreUsed-more used resolves) others) (each name base opening first is_open finds)
         where
           after : first.faults ≡ [] → UsesEnd uses budget last → UsesEnd uses budget found
           after none (all_right no_more resolved at_end) =
@@ -128,7 +128,7 @@ module _ (tables : Option PrefixTables) (answer : List ℕ → Option (List ℕ)
 
   -- ---- a file over those that it uses
   module _ (by_name : IsByName answer) where
-    module _ (most : ℕ) (names : List (List ℕ)) (bytes : List ℕ) (opening : Opening) (is_open : opening.closed ≡ false) (salvages : List ℕ → Opening → Found → Type 0) (each : EachEnds most names salvages) where
+    module _ (most : ℕ) (names : List (List ℕ)) (bytes : List ℕ) (opening : Opening) (is_open : opening.closed ≡ false) (salvages : List ℕ → List Layer → Opening → Found → Type 0) (each : EachEnds most names salvages) where
       -- what its uses end in
       over_uses : (file : File) (rest : Option ℕ) (below found : Found) → IsOnly (Means tables bytes) file → Leaves opening.left (length bytes) rest → UsesEnd most names file.uses rest below
           → found ≡ record { layers = layer_of file ∷ below.layers; faults = below.faults; after = below.after } → Ends (file_about (suc most)) bytes (leads_in (suc most) bytes opening.left) names opening.left found
@@ -189,7 +189,7 @@ module _ (tables : Option PrefixTables) (answer : List ℕ → Option (List ℕ)
     pub salvages_end : (most : ℕ) (names : List (List ℕ)) (bytes : List ℕ) (opening : Opening) (found : Found) → opening.closed ≡ false → Salvages tables answer most names bytes opening found → Ends (file_about most) bytes (leads_in most bytes opening.left) names opening.left found
     salvages_end zero names bytes opening found is_open salvages = absurd salvages
     salvages_end (suc most) names bytes opening found is_open (file, causes, rest, below, reads, uses, is) =
-        let each : EachEnds most names (SalvagesUse answer (Salvages tables answer most) most names) = λ name now one still_open finds. elim finds [
+        let each : EachEnds most names (SalvagesUse answer (Salvages tables answer most) most names) = λ name under now one still_open finds. elim finds [
           | inl (closed, none) ↦ absurd (cc)
           | inr (opens, named) ↦ named_ends names name now (Salvages tables answer most) most one (λ base salvaged. salvages_end most (names ++ name ∷ []) base now one opens salvaged) named
         ] in

@@ -51,11 +51,11 @@ module _ (tables : Option PrefixTables) (answers : List ℕ → Option (List ℕ
 
 -- ---- how many layers there are
 module _ (tables : Option PrefixTables) (answers : List ℕ → Option (List ℕ) → Type 0) where
-  each_fits : (salvages : List ℕ → Opening → Found → Type 0) (most : ℕ) → ((name : List ℕ) (opening : Opening) (found : Found) → salvages name opening found → length found.layers ≤ most)
+  each_fits : (salvages : List ℕ → List Layer → Opening → Found → Type 0) (most : ℕ) → ((name : List ℕ) (base : List Layer) (opening : Opening) (found : Found) → length base ≤ most → salvages name base opening found → length found.layers ≤ most)
       → (names : List (List ℕ)) (base : List Layer) (opening : Opening) (found : Found) → length base ≤ most → SalvagesEach salvages names base opening found → length found.layers ≤ most
   each_fits salvages most fits [] base opening found short is = let same : length found.layers ≡ length base = ap (λ f. length f.layers) is in omega (arith, same, short)
   each_fits salvages most fits (name ∷ names) base opening found short (first, last, finds, others, is) =
-      let rest = each_fits salvages most fits names first.layers first.after last (fits name opening first finds) others in
+      let rest = each_fits salvages most fits names first.layers first.after last (fits name base opening first short finds) others in
       let same : length found.layers ≡ length last.layers = ap (λ f. length f.layers) is in
       omega (arith, same, rest)
 
@@ -70,9 +70,9 @@ module _ (tables : Option PrefixTables) (answers : List ℕ → Option (List ℕ
   salvages_fit : (most : ℕ) (names : List (List ℕ)) (bytes : List ℕ) (opening : Opening) (found : Found) → Salvages tables answers most names bytes opening found → (0 < length found.layers) × (length found.layers ≤ most)
   salvages_fit zero names bytes opening found salvages = absurd salvages
   salvages_fit (suc most) names bytes opening found (file, causes, rest, below, reads, uses, is) =
-      let use_fits : (name : List ℕ) (now : Opening) (one : Found) → SalvagesUse answers (Salvages tables answers most) most names name now one → length one.layers ≤ most = λ name now one finds. elim finds [
-        | inl (closed, none) ↦ (let same : length one.layers ≡ 0 = ap (λ f. length f.layers) none in omega (arith, same))
-        | inr (opens, named) ↦ named_fits (Salvages tables answers most) most most (names ++ name ∷ []) name now one (λ base salvaged. (salvages_fit most (names ++ name ∷ []) base now one salvaged).1) named
+      let use_fits : (name : List ℕ) (base : List Layer) (now : Opening) (one : Found) → length base ≤ most → SalvagesUse answers (Salvages tables answers most) most names name base now one → length one.layers ≤ most = λ name base now one fits finds. elim finds [
+        | inl (closed, stays) ↦ (let same : length one.layers ≡ length base = ap (λ f. length f.layers) stays in omega (arith, same, fits))
+        | inr (opens, named) ↦ named_fits (Salvages tables answers most) most most (names ++ name ∷ []) name now one (λ under salvaged. (salvages_fit most (names ++ name ∷ []) under now one salvaged).1) named
       ] in
       let short = each_fits (SalvagesUse answers (Salvages tables answers most) most names) most use_fits file.uses [] _ below (omega arith) uses in
       let same : length found.layers ≡ suc (length below.layers) = ap (λ f. length f.layers) is in

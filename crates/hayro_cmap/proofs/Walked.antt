@@ -27,7 +27,7 @@ GoesOn-more {a} {b} {c} {first} {second} on later = record {
 }
 
 -- ---- uses
-module _ (use_from : List (List ℕ) → List ℕ → Opening → Found → Type 0) where
+module _ (use_from : List (List ℕ) → List ℕ → List Layer → Opening → Found → Type 0) where
   -- of all names but the rest what is found: who reads the rest from here on has read all
   abbrev pub ReadsAll : List (List ℕ) → (names rest : List (List ℕ)) → List Layer → Opening → Opening → List NamedFault → Type 0
   ReadsAll leading names rest base start here done = (last : Found) → SalvagesEach (use_from leading) rest base here last
@@ -40,14 +40,14 @@ module _ (use_from : List (List ℕ) → List ℕ → Opening → Found → Type
   pub walked_none : (names : List (List ℕ)) (start : Walk) → Walked names names [] start start
   walked_none names start = ([], GoesOn-none start, λ last h. h)
 
-  pub walked_more : (names rest : List (List ℕ)) (base layers : List Layer) (start here later : Walk) (name : List ℕ) → Walked names (name ∷ rest) base start here → Walks (use_from (names_seen here.names.items) name) here later layers → Walked names rest layers start later
+  pub walked_more : (names rest : List (List ℕ)) (base layers : List Layer) (start here later : Walk) (name : List ℕ) → Walked names (name ∷ rest) base start here → Walks (use_from (names_seen here.names.items) name base) here later layers → Walked names rest layers start later
   walked_more names rest base layers start here later name (done, on, all) (faults, more, finds) = (
     done ++ faults,
     GoesOn-more on more,
     λ last h.
         let first : Found = record { layers = layers; faults = faults; after = opening_seen later } in
         let whole : Found = record { layers = last.layers; faults = faults ++ last.faults; after = last.after } in
-        let found = subst (λ leading. use_from leading name (opening_seen here) first) on.names finds in
+        let found = subst (λ leading. use_from leading name base (opening_seen here) first) on.names finds in
         subst (λ f. SalvagesEach (use_from (names_seen start.names.items)) names [] (opening_seen start) (record { layers = last.layers; faults = f; after = last.after }))
         (sym (append_assoc done faults last.faults)) (all whole (first, last, found, h, refl)),
   )
@@ -72,7 +72,7 @@ module _ (use_from : List (List ℕ) → List ℕ → Opening → Found → Type
 
 -- ---- files
 module _ (tables : Option PrefixTables) (answer : List ℕ → Option (List ℕ) → Type 0) (below : ℕ) where
-  abbrev pub use_under : List (List ℕ) → List ℕ → Opening → Found → Type 0
+  abbrev pub use_under : List (List ℕ) → List ℕ → List Layer → Opening → Found → Type 0
   use_under leading = SalvagesUse answer (Salvages tables answer below) below leading
 
   -- a file, then its uses

@@ -59,9 +59,9 @@ abbrev pub no_layers : List NamedFault → Opening → Found
 no_layers faults after = record { layers = []; faults = faults; after = after }
 
 -- uses one after another, from these layers on: the layers are those of the last one
-abbrev pub SalvagesEach : (List ℕ → Opening → Found → Type 0) → List (List ℕ) → List Layer → Opening → Found → Type 0
+abbrev pub SalvagesEach : (List ℕ → List Layer → Opening → Found → Type 0) → List (List ℕ) → List Layer → Opening → Found → Type 0
 SalvagesEach salvages [] base opening found = found ≡ record { layers = base; faults = []; after = opening }
-SalvagesEach salvages (name ∷ names) base opening found = (first : Found) × (last : Found) × salvages name opening first × SalvagesEach salvages names first.layers first.after last
+SalvagesEach salvages (name ∷ names) base opening found = (first : Found) × (last : Found) × salvages name base opening first × SalvagesEach salvages names first.layers first.after last
     × (found ≡ record { layers = last.layers; faults = first.faults ++ last.faults; after = last.after })
 
 module _ (answer : List ℕ → Option (List ℕ) → Type 0) (salvages : List (List ℕ) → List ℕ → Opening → Found → Type 0) where
@@ -71,9 +71,10 @@ module _ (answer : List ℕ → Option (List ℕ) → Type 0) (salvages : List (
   SalvagesNamed (suc room) names name opening found = (answer name None × (found ≡ no_layers (faults_of names (NoFile ∷ [])) opening))
       ⊎ ((bytes : List ℕ) × answer name (Some bytes) × salvages names bytes opening found)
 
-  -- a use, where the names lead to the file that has it
-  abbrev pub SalvagesUse : ℕ → List (List ℕ) → List ℕ → Opening → Found → Type 0
-  SalvagesUse room leading name opening found = ((opening.closed ≡ true) × (found ≡ no_layers [] opening)) ⊎ ((opening.closed ≡ false) × SalvagesNamed room (leading ++ name ∷ []) name opening found)
+  -- a use, where the names lead to the file that has it. Once a chain was too long it is passed over, and the layers stay
+  abbrev pub SalvagesUse : ℕ → List (List ℕ) → List ℕ → List Layer → Opening → Found → Type 0
+  SalvagesUse room leading name base opening found = ((opening.closed ≡ true) × (found ≡ record { layers = base; faults = []; after = opening }))
+      ⊎ ((opening.closed ≡ false) × SalvagesNamed room (leading ++ name ∷ []) name opening found)
 
 module _ (tables : Option PrefixTables) (answer : List ℕ → Option (List ℕ) → Type 0) where
   -- the file of these bytes, to which the names lead, over the layers of the last file that it uses; no chain is longer than this

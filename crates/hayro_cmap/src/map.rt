@@ -246,8 +246,9 @@ impl CMap {
     /// one, the first fault is the one for which it is refused.
     ///
     /// A file is read past its faults. A use without a file, or for which the chain has no room, is a
-    /// fault too, and gives no layers. After a chain that is too long no further file is opened. A
-    /// file that would pass the budget isn't read, and gives a layer that says nothing.
+    /// fault too, and gives no layers. After a chain that is too long no further file is opened, and
+    /// the uses that follow are passed over. A file that would pass the budget isn't read, and gives a
+    /// layer that says nothing.
     ///
     /// It fails only if memory runs out.
     pub fn salvage<'a, S: Source>(

@@ -102,16 +102,18 @@ pub(crate) fn salvage_layers<'a, S: Source>(
     let file = read_within(alloc, bytes, bundle, walk)?;
     let mut base = Vec::new(alloc);
     for name in &file.uses {
-        base = salvage_used(alloc, *name, bundle, source, below, walk)?;
+        base = salvage_used(alloc, *name, base, bundle, source, below, walk)?;
     }
     Ok(put_over(alloc, file, base)?)
 }
 
-/// The layers of what can be read of the file that a use names; none once a chain was too long.
+/// The layers of what can be read of the file that a use names. Once a chain was too long, those that
+/// are there stay.
 #[cycle(salvage)]
 fn salvage_used<'a, S: Source>(
     alloc: Global,
     name: &'a [u8],
+    base: Vec<Layer>,
     bundle: Option<&Bundle<'_>>,
     source: &'a S,
     below: u8,
@@ -122,11 +124,11 @@ fn salvage_used<'a, S: Source>(
     ensures { IfOk result (λ layers. Walks
         (SalvagesUse (S.answers source.now)
         (Salvages (tables_given bundle.entry) (S.answers source.now) below)
-        below (names_seen walk.old.names.items) name.now)
+        below (names_seen walk.old.names.items) name.now (layers_seen base.items))
         walk.old walk.new (layers_seen layers.items)) }
 {
     if walk.is_closed {
-        return Ok(Vec::new(alloc));
+        return Ok(base);
     }
     walk.names.push(name)?;
     let layers = salvage_named(alloc, name, bundle, source, below, walk)?;
