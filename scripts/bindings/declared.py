@@ -41,6 +41,9 @@ PYTHON_STRUCTS = {
     "CodeInString": "hayro_cmap_code",
     "Fault": "hayro_cmap_fault",
     "CodespaceRange": "hayro_cmap_codespace",
+    "DeclaredCids": "hayro_cmap_cid_range",
+    "DeclaredTexts": "hayro_cmap_text_range",
+    "CodesInRow": "hayro_cmap_code_range",
 }
 ENUMS = {"hayro_cmap_status", "hayro_cmap_mode"}
 
