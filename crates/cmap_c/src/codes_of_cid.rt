@@ -25,9 +25,9 @@ impl Items for Vec<Range> {
     type Item = CodeRange;
 
     ghost use Rattle.std.specs.Prelude.{map};
-    ghost use Rattle.cmap_c.specs.Ranges.{code_range};
+    ghost use Rattle.cmap_c.specs.Ranges.{code_range_seen};
 
-    ghost items = { λ ranges. map code_range ranges.items };
+    ghost items = { λ ranges. map code_range_seen ranges.items };
 
     fn count(&self) -> usize {
         self.len()

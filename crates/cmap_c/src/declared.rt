@@ -41,9 +41,9 @@ impl Items for Table<CidRange> {
 
     ghost use Rattle.std.specs.Prelude.{map};
     ghost use Rattle.cmap_files.specs.DeclarationsSeen.{entries_seen};
-    ghost use Rattle.cmap_c.specs.Ranges.{cid_range};
+    ghost use Rattle.cmap_c.specs.Ranges.{cid_range_seen};
 
-    ghost items = { λ table. map cid_range (entries_seen table) };
+    ghost items = { λ table. map cid_range_seen (entries_seen table) };
 
     fn count(&self) -> usize {
         self.decl_count()
@@ -65,9 +65,9 @@ impl Items for Table<BfRange> {
 
     ghost use Rattle.std.specs.Prelude.{map};
     ghost use Rattle.cmap_files.specs.DeclarationsSeen.{bf_entry_seen};
-    ghost use Rattle.cmap_c.specs.Ranges.{text_range};
+    ghost use Rattle.cmap_c.specs.Ranges.{text_range_seen};
 
-    ghost items = { λ table. map text_range (map bf_entry_seen table) };
+    ghost items = { λ table. map text_range_seen (map bf_entry_seen table) };
 
     fn count(&self) -> usize {
         self.decl_count()

@@ -5,7 +5,7 @@ ghost use Rattle.cmap_c.specs.Rooms.{IsPut};
 
 use crate::status::Status;
 
-/// A list whose items C gets as structs.
+/// A list of which C gets each item in a form of its own.
 pub(crate) trait Items {
     /// An item as C has it.
     type Item: Copy;
