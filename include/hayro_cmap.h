@@ -365,8 +365,9 @@ hayro_cmap_status hayro_cmap_codespaces(hayro_cmap *map, size_t layer,
                                         size_t *needed);
 
 /* The declarations of CIDs of a layer, and those of notdefs, for codes of `byte_len` bytes, in the order
- * of its file; written as codespace ranges are. The CIDs of a declaration count on from code to code,
- * and all codes of a notdef have the same. No code has a length outside 1 to 4, and so there are none. */
+ * of its file; written as codespace ranges are. From code to code the CID of a declaration counts on,
+ * and all codes of a notdef have the same one. Where several declarations of a kind contain a code, the
+ * last one decides. For a length outside 1 to 4 there are none. */
 hayro_cmap_status hayro_cmap_cid_ranges(hayro_cmap *map, size_t layer, uint8_t byte_len,
                                         hayro_cmap_cid_range *ranges, size_t ranges_len,
                                         size_t *needed);
@@ -374,8 +375,8 @@ hayro_cmap_status hayro_cmap_notdef_ranges(hayro_cmap *map, size_t layer, uint8_
                                            hayro_cmap_cid_range *ranges, size_t ranges_len,
                                            size_t *needed);
 
-/* The declarations of texts of a layer, in the order of its file; written as codespace ranges are. Of a
- * text, hayro_cmap_text_units gives the units. */
+/* The declarations of texts of a layer, in the order of its file; written as codespace ranges are.
+ * hayro_cmap_text_units gives the text of each. */
 hayro_cmap_status hayro_cmap_text_ranges(hayro_cmap *map, size_t layer,
                                          hayro_cmap_text_range *ranges, size_t ranges_len,
                                          size_t *needed);
