@@ -105,7 +105,9 @@ fn add_span(finding: &mut Finding<'_>, map: &CMap, span: &TextSpan) {
             start: *start,
             end: *end,
         };
-        add_codes(finding, map, codes_with(span.codes, u32::from(last), area));
+        if let Some(codes) = codes_with(span.codes, u32::from(last), area) {
+            add_codes(finding, map, codes);
+        }
     }
 }
 
@@ -117,7 +119,7 @@ fn is_among(character: char, points: &[Points]) -> bool {
 }
 
 /// The codes whose last character is one of an area, where the first code has this one.
-fn codes_with(codes: Range, first: u32, area: Range) -> Range {
+fn codes_with(codes: Range, first: u32, area: Range) -> Option<Range> {
     let further = codes.end.saturating_sub(codes.start);
     let found = common(
         area,
@@ -126,15 +128,12 @@ fn codes_with(codes: Range, first: u32, area: Range) -> Range {
             end: first.saturating_add(further),
         },
     );
-    Range {
+    Some(Range {
         start: codes
             .start
             .saturating_add(found.start.saturating_sub(first)),
-        end: match found.end.checked_sub(first) {
-            Some(offset) => codes.start.saturating_add(offset),
-            None => 0,
-        },
-    }
+        end: codes.start.saturating_add(found.end.checked_sub(first)?),
+    })
 }
 
 fn add_codes(finding: &mut Finding<'_>, map: &CMap, codes: Range) {
