@@ -1,8 +1,9 @@
-//! `cmap check`: one line for each file.
+//! `cmap check`: one line for each file, and one for each warning.
 
 use crate::bases::Bases;
 use crate::folders::{files_in, is_folder};
 use crate::inputs::{STANDARD_INPUT, push_reason, read, readable, report_unreadable};
+use crate::lint::{push_warnings, subject_of};
 use crate::options::Options;
 use crate::progress::Progress;
 use crate::{ACCEPTED, REFUSED};
@@ -18,6 +19,7 @@ pub(crate) fn check(
     options: &Options<'_, '_>,
     bases: &Bases<'_>,
 ) -> anyhow::Result<u8> {
+    options.lint.check_names(rt)?;
     let mut files = Vec::new(rt.alloc());
     let mut status = ACCEPTED;
     for path in options.paths {
@@ -56,7 +58,7 @@ fn add_files(rt: &HostRuntime, path: &str, files: &mut Vec<String>) -> anyhow::R
     Ok(ACCEPTED)
 }
 
-/// Prints the line of a file, and gives its status.
+/// Prints the lines of a file, and gives its status.
 fn check_file(
     rt: &HostRuntime,
     path: &str,
@@ -68,28 +70,31 @@ fn check_file(
         progress.clear(rt)?;
         return report_unreadable(rt, path);
     };
-    let mut line = String::new(rt.alloc());
-    let status = push_checked(rt.alloc(), &mut line, path, &bytes, options, bases)?;
-    println!(rt; "{line}")?;
+    let mut lines = String::new(rt.alloc());
+    let status = push_checked(rt.alloc(), &mut lines, path, &bytes, options, bases)?;
+    print!(rt; "{lines}")?;
     Ok(status)
 }
 
-/// Adds the line of a file, and gives its status.
+/// Adds the lines of a file, and gives its status.
 fn push_checked(
     alloc: Global,
-    line: &mut String,
+    lines: &mut String,
     path: &str,
     bytes: &[u8],
     options: &Options<'_, '_>,
     bases: &Bases<'_>,
 ) -> Result<u8, AllocError> {
     match CMap::parse_from(alloc, options.budget, bytes, bases.bundle, bases) {
-        Ok(_map) => {
-            push_accepted(alloc, line, path, options.json)?;
-            Ok(ACCEPTED)
+        Ok(map) => {
+            push_accepted(alloc, lines, path, options.json)?;
+            lines.push('\n')?;
+            let subject = subject_of(&map, path, bytes, options.lint, bases);
+            push_warnings(alloc, lines, &subject, options.lint, path, options.json)
         }
         Err(Fault::Refused(refusal)) => {
-            push_refused(alloc, line, path, bytes, options.json, bases, &refusal)?;
+            push_refused(alloc, lines, path, bytes, options.json, bases, &refusal)?;
+            lines.push('\n')?;
             Ok(REFUSED)
         }
         Err(Fault::Memory) => Err(AllocError),

@@ -1,5 +1,6 @@
 //! The command line.
 
+use crate::lint;
 use clap::{Arg, ArgAction, Command, value_parser};
 use std::alloc::{AllocError, Global};
 
@@ -110,6 +111,9 @@ impl Subcommand {
             .args(options)?;
         if self.has_file {
             command = command.arg(file(alloc))?;
+        }
+        if self.name == "check" {
+            command = command.args(lint::options(alloc)?)?;
         }
         match self.arguments {
             Some(arguments) => command.arg(arguments.arg(alloc)),

@@ -5,7 +5,7 @@ use crate::inputs::map_needed;
 use crate::messages::fault;
 use crate::options::Options;
 use crate::{ACCEPTED, REFUSED};
-use cmap_report::find::{Wanted, push_codes, push_json};
+use cmap_listing::find::{Wanted, push_codes, push_json};
 
 /// Prints the codes that each argument asks for, and gives the status.
 pub(crate) fn find(

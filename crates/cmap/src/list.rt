@@ -4,9 +4,9 @@ use crate::bases::Bases;
 use crate::inputs::map_needed;
 use crate::options::Options;
 use crate::{ACCEPTED, REFUSED};
-use cmap_report::effective::effective_lines;
-use cmap_report::line::{Line, push_json, push_line};
-use cmap_report::list::lines_by_layer;
+use cmap_listing::effective::effective_lines;
+use cmap_listing::line::{Line, push_json, push_line};
+use cmap_listing::list::lines_by_layer;
 use hayro_cmap::CMap;
 use std::alloc::{AllocError, Global};
 

@@ -9,6 +9,7 @@ mod find;
 mod folders;
 mod info;
 mod inputs;
+mod lint;
 mod list;
 mod lookup;
 mod messages;

@@ -1,6 +1,7 @@
 //! What the arguments of a subcommand ask for.
 
 use crate::inputs::STANDARD_INPUT;
+use crate::lint::LintOptions;
 use clap::ArgMatches;
 
 /// What the arguments of a subcommand ask for.
@@ -23,6 +24,8 @@ pub(crate) struct Options<'m, 'w> {
     pub(crate) json: bool,
     /// Whether `list` prints what codes have over all layers.
     pub(crate) effective: bool,
+    /// The warnings that `check` prints.
+    pub(crate) lint: LintOptions<'m, 'w>,
 }
 
 impl<'m, 'w> Options<'m, 'w> {
@@ -37,6 +40,7 @@ impl<'m, 'w> Options<'m, 'w> {
             budget: matches.get_one::<u64>("budget"),
             json: matches.get_flag("json"),
             effective: matches.get_flag("effective"),
+            lint: LintOptions::of(matches),
         }
     }
 
@@ -59,7 +63,7 @@ fn count_asking(arguments: &[&str]) -> usize {
 }
 
 /// The arguments, none where there are none.
-fn given<'m, T>(arguments: Option<&'m [T]>) -> &'m [T] {
+pub(crate) fn given<'m, T>(arguments: Option<&'m [T]>) -> &'m [T] {
     match arguments {
         Some(arguments) => arguments,
         None => &[],

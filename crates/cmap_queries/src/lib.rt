@@ -4,8 +4,10 @@
 
 pub mod answers;
 pub mod arguments;
+pub mod code_lengths;
 pub mod failure;
 pub mod input;
 pub mod options;
 pub mod output;
 pub mod query;
+pub mod texts;

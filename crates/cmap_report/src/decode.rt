@@ -8,7 +8,8 @@ mod codes;
 use self::codes::codes_of;
 use cmap_escape::digits::{byte_digits, code_digits, push_code};
 use cmap_escape::{escape, json};
-use hayro_cmap::{BfString, CMap, StringCode};
+use cmap_queries::texts::text_of;
+use hayro_cmap::{CMap, StringCode};
 use serde_json::{Map, Value, put};
 use std::alloc::{AllocError, Global};
 
@@ -149,27 +150,6 @@ fn text_of_cid(
     match cid {
         Some(cid) => text_of(alloc, texts, cid),
         None => Ok(None),
-    }
-}
-
-/// The text of a code.
-pub(crate) fn text_of(alloc: Global, map: &CMap, code: u32) -> Result<Option<String>, AllocError> {
-    text_string(alloc, map.lookup_bf_string(alloc, code)?)
-}
-
-/// A text as a string.
-pub(crate) fn text_string(
-    alloc: Global,
-    text: Option<BfString>,
-) -> Result<Option<String>, AllocError> {
-    match text {
-        None => Ok(None),
-        Some(BfString::String(text)) => Ok(Some(text)),
-        Some(BfString::Char(character)) => {
-            let mut text = String::new(alloc);
-            text.push(character)?;
-            Ok(Some(text))
-        }
     }
 }
 

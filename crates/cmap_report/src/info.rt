@@ -5,19 +5,12 @@ ghost use Rattle.cmap_escape.specs.Escapes.{AddsLine, AddsOfLine};
 
 use cmap_escape::digits::{code_digits, push_code};
 use cmap_escape::{escape, json};
+use cmap_queries::code_lengths::LENGTHS;
 use hayro_cmap::{
     ByLength, CMap, CharacterCollection, CodeLength, Codespace, Layer, Metadata, WritingMode,
 };
 use serde_json::{Map, Value, put};
 use std::alloc::{AllocError, Global};
-
-/// The lengths that codes have.
-const LENGTHS: &[CodeLength] = &[
-    CodeLength::One,
-    CodeLength::Two,
-    CodeLength::Three,
-    CodeLength::Four,
-];
 
 /// Adds the paragraph of a file: what it says, and what those say that it is based on. `uses` has the
 /// names that the file of each layer uses.

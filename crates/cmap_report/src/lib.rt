@@ -3,12 +3,8 @@
 #![tactic(auto)]
 
 pub mod decode;
-pub mod effective;
 pub mod fault_line;
-pub mod find;
 pub mod info;
-pub mod line;
-pub mod list;
 pub mod lookup;
 pub mod refused;
 pub mod uses;

@@ -3,9 +3,10 @@
 ghost use Rattle.std.specs.Prelude.{OnOk, string_bytes};
 ghost use Rattle.cmap_escape.specs.Escapes.{AddsLine, AddsOfLine};
 
-use crate::decode::{push_text_or_dash, text_of};
+use crate::decode::push_text_or_dash;
 use cmap_escape::json;
 use cmap_queries::query::{Asked, Query};
+use cmap_queries::texts::text_of;
 use hayro_cmap::CMap;
 use serde_json::{Map, Value, put};
 use std::alloc::{AllocError, Global};

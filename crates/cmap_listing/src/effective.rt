@@ -1,10 +1,10 @@
 //! What codes have over all layers, run by run.
 
-use crate::decode::text_string;
 use crate::line::{Given, Line};
-use crate::list::{LENGTHS, text_code_len};
+use cmap_queries::code_lengths::{LENGTHS, has_codes, last_code, text_code_len};
+use cmap_queries::texts::text_string;
 use hayro_cmap::runs::Range;
-use hayro_cmap::{CMap, CidStretch, Cids, CodeLength, Layer, TextStretch, utf16};
+use hayro_cmap::{CMap, CidStretch, Cids, CodeLength, TextStretch, utf16};
 use std::alloc::{AllocError, Global};
 
 /// What codes have: their CIDs, for each length that codes of the map have, and then their texts.
@@ -19,18 +19,6 @@ pub fn effective_lines(alloc: Global, map: &CMap) -> Result<Vec<Line>, AllocErro
     Ok(lines)
 }
 
-/// Whether a codespace range, or a declaration of CIDs or notdefs, of some layer has codes of this
-/// length.
-pub(crate) fn has_codes(map: &CMap, len: CodeLength) -> bool {
-    map.layers().iter().any(|layer| declares_codes(layer, len))
-}
-
-fn declares_codes(layer: &Layer, len: CodeLength) -> bool {
-    layer.cids(len).decl_count() > 0
-        || layer.notdefs(len).decl_count() > 0
-        || layer.codespaces().iter().any(|space| space.len == len)
-}
-
 /// Adds the CIDs of the codes of a length, in runs that are as long as can be.
 fn add_cids(lines: &mut Vec<Line>, map: &CMap, len: CodeLength) -> Result<(), AllocError> {
     let end = u64::from(last_code(len));
@@ -42,16 +30,6 @@ fn add_cids(lines: &mut Vec<Line>, map: &CMap, len: CodeLength) -> Result<(), Al
         next = u64::from(stretch.last) + 1;
     }
     Ok(())
-}
-
-/// The last code of a length.
-fn last_code(len: CodeLength) -> u32 {
-    match len {
-        CodeLength::One => 0xFF,
-        CodeLength::Two => 0xFFFF,
-        CodeLength::Three => 0xFF_FFFF,
-        CodeLength::Four => u32::MAX,
-    }
 }
 
 /// Adds the CIDs of a stretch of codes from `first` on, where they have some.

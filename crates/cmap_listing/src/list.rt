@@ -1,19 +1,11 @@
 //! What the layers of a map declare, declaration by declaration.
 
-use crate::decode::text_string;
 use crate::line::{Given, Line};
-use cmap_layers::codespaces;
+use cmap_queries::code_lengths::{LENGTHS, text_code_len};
+use cmap_queries::texts::text_string;
 use hayro_cmap::runs::{Looks, Range, Table};
 use hayro_cmap::{BfRange, CMap, CidRange, CodeLength, Codespace, Layer, utf16};
 use std::alloc::{AllocError, Global};
-
-/// The lengths that codes have.
-pub(crate) const LENGTHS: &[CodeLength] = &[
-    CodeLength::One,
-    CodeLength::Two,
-    CodeLength::Three,
-    CodeLength::Four,
-];
 
 /// What each layer declares, that of the top layer first: its codespace ranges, then its CIDs, its
 /// notdefs and its texts, each in the order of the file.
@@ -29,12 +21,8 @@ pub fn lines_by_layer(alloc: Global, map: &CMap) -> Result<Vec<Vec<Line>>, Alloc
 fn lines_of(alloc: Global, map: &CMap, layer: &Layer) -> Result<Vec<Line>, AllocError> {
     let mut lines = Vec::new(alloc);
     add_codespaces(&mut lines, layer.codespaces())?;
-    for len in LENGTHS {
-        add_cids(&mut lines, layer.cids(*len), *len)?;
-    }
-    for len in LENGTHS {
-        add_notdefs(&mut lines, layer.notdefs(*len), *len)?;
-    }
+    add_list(&mut lines, layer, CidList::Cids)?;
+    add_list(&mut lines, layer, CidList::Notdefs)?;
     add_texts(alloc, &mut lines, map, layer.texts())?;
     Ok(lines)
 }
@@ -53,37 +41,54 @@ fn add_codespaces(lines: &mut Vec<Line>, spaces: &[Codespace]) -> Result<(), All
     Ok(())
 }
 
-/// Adds the CIDs of codes of a length.
-fn add_cids(
-    lines: &mut Vec<Line>,
-    table: &Table<CidRange>,
-    len: CodeLength,
-) -> Result<(), AllocError> {
-    let mut looks = Looks::new();
-    for index in 0..table.decl_count() {
-        let declared = table.decl(index, &mut looks);
-        lines.push(Line {
-            byte_len: len.count(),
-            range: declared.range,
-            given: Given::Cids(declared.cid),
-        })?;
+/// The lists of a layer whose declarations give CIDs.
+#[derive(Clone, Copy)]
+enum CidList {
+    Cids,
+    Notdefs,
+}
+
+impl CidList {
+    /// The declarations of this list for codes of a length.
+    fn table(self, layer: &Layer, len: CodeLength) -> &Table<CidRange> {
+        match self {
+            CidList::Cids => layer.cids(len),
+            CidList::Notdefs => layer.notdefs(len),
+        }
+    }
+
+    /// What a declaration of this list gives, by its CID.
+    fn given(self, cid: u32) -> Given {
+        match self {
+            CidList::Cids => Given::Cids(cid),
+            CidList::Notdefs => Given::Notdef(cid),
+        }
+    }
+}
+
+/// Adds a list of a layer, the declarations for codes of one byte first.
+fn add_list(lines: &mut Vec<Line>, layer: &Layer, list: CidList) -> Result<(), AllocError> {
+    for len in LENGTHS {
+        add_declarations(lines, layer, list, *len)?;
     }
     Ok(())
 }
 
-/// Adds the notdefs of codes of a length.
-fn add_notdefs(
+/// Adds the declarations of a list for codes of a length.
+fn add_declarations(
     lines: &mut Vec<Line>,
-    table: &Table<CidRange>,
+    layer: &Layer,
+    list: CidList,
     len: CodeLength,
 ) -> Result<(), AllocError> {
+    let table = list.table(layer, len);
     let mut looks = Looks::new();
     for index in 0..table.decl_count() {
         let declared = table.decl(index, &mut looks);
         lines.push(Line {
             byte_len: len.count(),
             range: declared.range,
-            given: Given::Notdef(declared.cid),
+            given: list.given(declared.cid),
         })?;
     }
     Ok(())
@@ -106,23 +111,4 @@ fn add_texts(
         })?;
     }
     Ok(())
-}
-
-/// How many bytes the codes of a text are printed with, for which a file's declaration has no length:
-/// the fewest in which they fit, with which the first of them lies in a codespace range, if it does
-/// with any.
-pub(crate) fn text_code_len(layers: &[Layer], range: Range) -> u8 {
-    let highest = range.start.max(range.end);
-    let fewest = match highest {
-        0..0x100 => 1,
-        0x100..0x1_0000 => 2,
-        0x1_0000..0x100_0000 => 3,
-        _ => 4,
-    };
-    for byte_len in fewest..=4 {
-        if codespaces::contains(layers, range.start, byte_len) {
-            return byte_len;
-        }
-    }
-    fewest
 }

@@ -3,8 +3,8 @@
 ghost use Rattle.std.specs.Prelude.{OnOk, string_bytes};
 ghost use Rattle.cmap_escape.specs.Escapes.{AddsLine, AddsOfLine};
 
-use crate::decode::push_text_or_dash;
 use cmap_escape::digits::{code_digits, push_code};
+use cmap_escape::escape::push_quoted;
 use cmap_escape::json;
 use hayro_cmap::runs::Range;
 use serde_json::{Map, Value, put};
@@ -88,9 +88,10 @@ fn push_given(out: &mut String, given: &Given) -> Result<(), AllocError> {
         Given::Codespace => Ok(()),
         Given::Cids(cid) => write!(out, " {cid}"),
         Given::Notdef(cid) => write!(out, " {cid}"),
-        Given::Texts(text) => {
+        Given::Texts(None) => out.push_str(" -"),
+        Given::Texts(Some(text)) => {
             out.push(' ')?;
-            push_text_or_dash(out, text)
+            push_quoted(out, text.as_str())
         }
     }
 }

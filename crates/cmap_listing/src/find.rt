@@ -3,12 +3,11 @@
 ghost use Rattle.std.specs.Prelude.{OnOk, string_bytes};
 ghost use Rattle.cmap_escape.specs.Escapes.{AddsLine, AddsOfLine};
 
-use crate::decode::text_of;
-use crate::effective::has_codes;
 use crate::line::push_range;
-use crate::list::{LENGTHS, text_code_len};
 use cmap_escape::digits::code_digits;
 use cmap_escape::{escape, json};
+use cmap_queries::code_lengths::{LENGTHS, has_codes, text_code_len};
+use cmap_queries::texts::text_of;
 use hayro_cmap::runs::Range;
 use hayro_cmap::{BfRange, CMap, TextStretch};
 use serde_json::{Map, Value, put};

@@ -1,0 +1,176 @@
+//! Codes and codespace ranges that don't fit each other.
+
+use crate::boxes::{CodeBox, boxes_apart, count_outside, first_outside};
+use crate::declared::CID_LISTS;
+use crate::finding::{Finding, Place};
+use crate::ranges::{code_count, push_range, union};
+use crate::text_spans::spans_of;
+use crate::warning::Warning;
+use cmap_queries::code_lengths::LENGTHS;
+use hayro_cmap::runs::{Looks, Range, Table};
+use hayro_cmap::{CMap, CidRange, CodeLength, Codespace, Layer, TextStretch};
+use std::alloc::{AllocError, Global};
+
+/// That no layer has a codespace range.
+pub(crate) fn no_codespace<'m>(map: &CMap) -> Finding<'m> {
+    let mut finding = Finding::new(Warning::NoCodespace);
+    if map
+        .layers()
+        .iter()
+        .all(|layer| layer.codespaces().is_empty())
+    {
+        finding.add(1, Place::File);
+    }
+    finding
+}
+
+/// The codes that the top layer gives a CID or a notdef, and that lie in no codespace range.
+pub(crate) fn outside_codespace<'m>(
+    alloc: Global,
+    map: &CMap,
+    layer: &Layer,
+) -> Result<Finding<'m>, AllocError> {
+    let mut finding = Finding::new(Warning::OutsideCodespace);
+    for len in LENGTHS {
+        if let Some(boxes) = boxes_apart(alloc, &spaces_of(alloc, map, *len)?)? {
+            let ranges = declared_codes(alloc, layer, *len)?;
+            add_outside(&mut finding, &boxes, &ranges, *len);
+        }
+    }
+    Ok(finding)
+}
+
+/// Adds the codes of ranges that lie in none of the boxes.
+fn add_outside(finding: &mut Finding<'_>, boxes: &[CodeBox], ranges: &[Range], len: CodeLength) {
+    for range in ranges {
+        let count = count_outside(boxes, *range);
+        if count > 0 {
+            let code = first_outside(boxes, *range);
+            let byte_len = len.count();
+            finding.add(count, Place::Code { byte_len, code });
+        }
+    }
+}
+
+/// The codespace ranges of a length, those of all layers.
+fn spaces_of(alloc: Global, map: &CMap, len: CodeLength) -> Result<Vec<Codespace>, AllocError> {
+    let mut spaces = Vec::new(alloc);
+    for layer in map.layers() {
+        add_spaces(&mut spaces, layer.codespaces(), len)?;
+    }
+    Ok(spaces)
+}
+
+fn add_spaces(
+    spaces: &mut Vec<Codespace>,
+    declared: &[Codespace],
+    len: CodeLength,
+) -> Result<(), AllocError> {
+    for space in declared {
+        if space.len == len {
+            spaces.push(*space)?;
+        }
+    }
+    Ok(())
+}
+
+/// The codes of a length that a layer gives a CID or a notdef.
+fn declared_codes(alloc: Global, layer: &Layer, len: CodeLength) -> Result<Vec<Range>, AllocError> {
+    let mut ranges = Vec::new(alloc);
+    for list in CID_LISTS {
+        add_ranges(&mut ranges, list.table(layer, len))?;
+    }
+    union(alloc, ranges)
+}
+
+fn add_ranges(ranges: &mut Vec<Range>, table: &Table<CidRange>) -> Result<(), AllocError> {
+    let mut looks = Looks::new();
+    for index in 0..table.decl_count() {
+        push_range(ranges, table.decl(index, &mut looks).range)?;
+    }
+    Ok(())
+}
+
+/// The codes of one and of two bytes that lie in a codespace range and have no text.
+pub(crate) fn no_mapping<'m>(alloc: Global, map: &CMap) -> Result<Finding<'m>, AllocError> {
+    let mut finding = Finding::new(Warning::NoMapping);
+    for len in [CodeLength::One, CodeLength::Two] {
+        if let Some(boxes) = boxes_apart(alloc, &spaces_of(alloc, map, len)?)? {
+            add_unmapped(alloc, &mut finding, map, &boxes, len)?;
+        }
+    }
+    Ok(finding)
+}
+
+fn add_unmapped(
+    alloc: Global,
+    finding: &mut Finding<'_>,
+    map: &CMap,
+    boxes: &[CodeBox],
+    len: CodeLength,
+) -> Result<(), AllocError> {
+    for codes in boxes {
+        add_unmapped_of(alloc, finding, map, codes, len)?;
+    }
+    Ok(())
+}
+
+/// Adds the codes of a box, row by row.
+fn add_unmapped_of(
+    alloc: Global,
+    finding: &mut Finding<'_>,
+    map: &CMap,
+    codes: &CodeBox,
+    len: CodeLength,
+) -> Result<(), AllocError> {
+    for row in codes.rows() {
+        add_unmapped_in(alloc, finding, map, codes.row(row), len)?;
+    }
+    Ok(())
+}
+
+/// Adds the codes of a range, stretch by stretch.
+fn add_unmapped_in(
+    alloc: Global,
+    finding: &mut Finding<'_>,
+    map: &CMap,
+    range: Range,
+    len: CodeLength,
+) -> Result<(), AllocError> {
+    let end = u64::from(range.end);
+    let mut next = u64::from(range.start);
+    while next <= end {
+        let start = next as u32;
+        let stretch = map.text_stretch(start);
+        let codes = Range {
+            start,
+            end: stretch.last.min(range.end),
+        };
+        add_unmapped_stretch(alloc, finding, stretch, codes, len)?;
+        next = u64::from(stretch.last) + 1;
+    }
+    Ok(())
+}
+
+/// Adds the codes of a stretch for which its declaration has no text.
+fn add_unmapped_stretch(
+    alloc: Global,
+    finding: &mut Finding<'_>,
+    stretch: TextStretch<'_>,
+    codes: Range,
+    len: CodeLength,
+) -> Result<(), AllocError> {
+    let mut count = code_count(codes);
+    let mut code = codes.start;
+    if let Some(declared) = stretch.declaration {
+        for span in &spans_of(alloc, declared, codes)? {
+            count = count.saturating_sub(code_count(span.codes));
+            if span.codes.start == code {
+                code = span.codes.end.saturating_add(1);
+            }
+        }
+    }
+    let byte_len = len.count();
+    finding.add(count, Place::Code { byte_len, code });
+    Ok(())
+}

@@ -1,0 +1,41 @@
+//! What a file says of itself: its name and its writing mode.
+
+use crate::finding::{Finding, Place};
+use crate::warning::Warning;
+use hayro_cmap::{CMap, WritingMode};
+
+/// What the names of files for vertical writing end in.
+const VERTICAL_SUFFIX: &[u8] = b"-V";
+
+/// The name of the file, where it isn't the one that the file has on the disk.
+pub(crate) fn name_differs<'m>(map: &'m CMap, file_name: Option<&[u8]>) -> Finding<'m> {
+    let mut finding = Finding::new(Warning::NameDiffers);
+    let name = map.metadata().name.as_deref();
+    if let (Some(name), Some(file_name)) = (name, file_name) {
+        if name != file_name {
+            finding.add(1, Place::Name(name));
+        }
+    }
+    finding
+}
+
+/// The name of the file, where it is one for vertical writing and the map isn't.
+pub(crate) fn mode_differs<'m>(map: &'m CMap) -> Finding<'m> {
+    let mut finding = Finding::new(Warning::ModeDiffers);
+    if let Some(name) = map.metadata().name.as_deref() {
+        if name.ends_with(VERTICAL_SUFFIX) && mode_of(map) != Some(WritingMode::Vertical) {
+            finding.add(1, Place::Name(name));
+        }
+    }
+    finding
+}
+
+/// The writing mode of the first layer that has one.
+fn mode_of(map: &CMap) -> Option<WritingMode> {
+    for layer in map.layers() {
+        if let Some(mode) = layer.metadata().writing_mode {
+            return Some(mode);
+        }
+    }
+    None
+}

@@ -1,0 +1,17 @@
+//! What looks wrong in a CMap file that is accepted: warnings, each with a count and the first place.
+#![tactic(auto)]
+
+mod boxes;
+mod characters;
+mod codespaces;
+mod declared;
+pub mod finding;
+mod identity;
+pub mod lint;
+mod overlaps;
+pub mod printed;
+mod ranges;
+mod sections;
+mod shapes;
+mod text_spans;
+pub mod warning;

@@ -1,0 +1,200 @@
+//! Codes with two declarations of one list that disagree.
+
+use crate::declared::{CID_LISTS, CidList};
+use crate::finding::{Finding, Place};
+use crate::ranges::{code_count, join, push_range, union};
+use crate::warning::Warning;
+use cmap_queries::code_lengths::{LENGTHS, text_code_len};
+use hayro_cmap::runs::{Looks, Range, Table};
+use hayro_cmap::{BfRange, CMap, CidRange, CodeLength, Layer};
+use std::alloc::{AllocError, Global};
+
+/// A declaration by what it gives: two of one group agree on each code that both have.
+#[derive(Clone, Copy)]
+struct Grouped {
+    group: i64,
+    range: Range,
+}
+
+/// A declaration of texts by what two that agree have in common: all units but the last, and what the
+/// last one would be at code 0.
+#[derive(Clone, Copy, PartialEq, Eq, PartialOrd, Ord)]
+struct TextKey<'d> {
+    front: &'d [u16],
+    at_zero: i64,
+    start: u32,
+    end: u32,
+}
+
+/// The codes of the top layer with declarations that disagree.
+pub(crate) fn overlaps<'m>(
+    alloc: Global,
+    map: &CMap,
+    layer: &Layer,
+) -> Result<Finding<'m>, AllocError> {
+    let mut finding = Finding::new(Warning::Overlap);
+    for list in CID_LISTS {
+        add_list(alloc, &mut finding, layer, *list)?;
+    }
+    let ranges = disputed(alloc, grouped_texts(alloc, layer.texts())?)?;
+    for range in &ranges {
+        let byte_len = text_code_len(map.layers(), *range);
+        add_codes(&mut finding, byte_len, *range);
+    }
+    Ok(finding)
+}
+
+/// Adds the codes of a list.
+fn add_list(
+    alloc: Global,
+    finding: &mut Finding<'_>,
+    layer: &Layer,
+    list: CidList,
+) -> Result<(), AllocError> {
+    for len in LENGTHS {
+        add_of_length(alloc, finding, layer, list, *len)?;
+    }
+    Ok(())
+}
+
+/// Adds the codes of a list that have a length.
+fn add_of_length(
+    alloc: Global,
+    finding: &mut Finding<'_>,
+    layer: &Layer,
+    list: CidList,
+    len: CodeLength,
+) -> Result<(), AllocError> {
+    let grouped = grouped_cids(alloc, list, list.table(layer, len))?;
+    let ranges = disputed(alloc, grouped)?;
+    for range in &ranges {
+        add_codes(finding, len.count(), *range);
+    }
+    Ok(())
+}
+
+/// Adds the codes of a range.
+fn add_codes(finding: &mut Finding<'_>, byte_len: u8, range: Range) {
+    let code = range.start;
+    finding.add(code_count(range), Place::Code { byte_len, code });
+}
+
+/// The declarations of a list that have a code. Those of CIDs agree where they give the same CID to
+/// the same code, and those of notdefs where they have the same one.
+fn grouped_cids(
+    alloc: Global,
+    list: CidList,
+    table: &Table<CidRange>,
+) -> Result<Vec<Grouped>, AllocError> {
+    let mut grouped = Vec::new(alloc);
+    let mut looks = Looks::new();
+    for index in 0..table.decl_count() {
+        let declared = table.decl(index, &mut looks);
+        let range = declared.range;
+        let group = match list {
+            CidList::Cids => i64::from(declared.cid).saturating_sub(i64::from(range.start)),
+            CidList::Notdefs => i64::from(declared.cid),
+        };
+        push_grouped(&mut grouped, Grouped { group, range })?;
+    }
+    Ok(grouped)
+}
+
+/// Adds a declaration, but for one without a code.
+fn push_grouped(grouped: &mut Vec<Grouped>, declared: Grouped) -> Result<(), AllocError> {
+    if declared.range.start <= declared.range.end {
+        grouped.push(declared)?;
+    }
+    Ok(())
+}
+
+/// The declarations of texts that have a code, by groups.
+fn grouped_texts(alloc: Global, table: &Table<BfRange>) -> Result<Vec<Grouped>, AllocError> {
+    let keys = text_keys(alloc, table)?;
+    let mut grouped = Vec::with_capacity(alloc, keys.len())?;
+    let mut group: i64 = 0;
+    let mut before: Option<TextKey<'_>> = None;
+    for key in &keys {
+        if !is_of_group(before, key) {
+            group = group.saturating_add(1);
+        }
+        let range = Range {
+            start: key.start,
+            end: key.end,
+        };
+        push_grouped(&mut grouped, Grouped { group, range })?;
+        before = Some(*key);
+    }
+    Ok(grouped)
+}
+
+/// Whether a declaration agrees with the one before it.
+fn is_of_group(before: Option<TextKey<'_>>, key: &TextKey<'_>) -> bool {
+    match before {
+        Some(before) => before.front == key.front && before.at_zero == key.at_zero,
+        None => false,
+    }
+}
+
+/// The declarations of texts, those that agree one after another.
+fn text_keys(alloc: Global, table: &Table<BfRange>) -> Result<Vec<TextKey<'_>>, AllocError> {
+    let mut keys = Vec::with_capacity(alloc, table.decl_count())?;
+    let mut looks = Looks::new();
+    for index in 0..table.decl_count() {
+        if let Some(key) = text_key(table.decl(index, &mut looks)) {
+            keys.push(key)?;
+        }
+    }
+    keys.sort()?;
+    Ok(keys)
+}
+
+fn text_key(declared: &BfRange) -> Option<TextKey<'_>> {
+    let (last, front) = declared.units.as_slice().split_last()?;
+    let Range { start, end } = declared.range;
+    Some(TextKey {
+        front,
+        at_zero: i64::from(*last).saturating_sub(i64::from(start)),
+        start,
+        end,
+    })
+}
+
+/// The codes that lie in ranges of two groups, as ranges that lie apart, in order.
+fn disputed(alloc: Global, grouped: Vec<Grouped>) -> Result<Vec<Range>, AllocError> {
+    let ranges = ranges_of_groups(alloc, grouped)?;
+    let mut disputed = Vec::new(alloc);
+    let mut covered: Option<u32> = None;
+    for range in &ranges {
+        if let Some(last) = covered {
+            let end = range.end.min(last);
+            push_range(
+                &mut disputed,
+                Range {
+                    start: range.start,
+                    end,
+                },
+            )?;
+        }
+        covered = Some(range.end.max(covered.unwrap_or(0)));
+    }
+    union(alloc, disputed)
+}
+
+/// The codes of each group as ranges of which no two of one group have a code in common. They are in
+/// the order of their first codes.
+fn ranges_of_groups(alloc: Global, mut grouped: Vec<Grouped>) -> Result<Vec<Range>, AllocError> {
+    grouped.sort_by_key(|declared| (declared.group, declared.range.start))?;
+    let mut ranges: Vec<Range> = Vec::new(alloc);
+    let mut before: Option<i64> = None;
+    for declared in &grouped {
+        if before == Some(declared.group) {
+            join(&mut ranges, declared.range)?;
+        } else {
+            ranges.push(declared.range)?;
+        }
+        before = Some(declared.group);
+    }
+    ranges.sort_by_key(|range| range.start)?;
+    Ok(ranges)
+}

@@ -1,0 +1,151 @@
+//! Warnings as they are printed: as lines for people, and as objects of JSON.
+
+ghost use Rattle.std.specs.Prelude.{OnOk, string_bytes};
+ghost use Rattle.cmap_escape.specs.Escapes.{AddsLine, AddsOfLine};
+
+use crate::finding::{Finding, Place};
+use crate::warning::Warning;
+use cmap_escape::digits::{byte_digits, code_digits, push_code};
+use cmap_escape::{escape, json};
+use hayro_cmap::runs::Range;
+use serde_json::{Map, Value, put};
+use std::alloc::{AllocError, Global};
+
+/// Adds a warning about a file, as `FILE: warning: overlap: 25 codes, first <8140>`, and ends the line.
+pub fn push_finding(out: &mut String, file: &str, finding: &Finding<'_>) -> Result<(), AllocError> {
+    escape::push_text(out, file)?;
+    out.push_str(": warning: ")?;
+    out.push_str(finding.warning.name())?;
+    out.push_str(": ")?;
+    push_detail(out, finding)?;
+    out.push('\n')
+}
+
+/// Adds what a warning concerns.
+fn push_detail(out: &mut String, finding: &Finding<'_>) -> Result<(), AllocError> {
+    match finding.first {
+        Place::File => out.push_str(sentence_of(finding.warning)),
+        Place::Name(name) => {
+            out.push_str(sentence_of(finding.warning))?;
+            out.push_str(" /")?;
+            escape::push_name(out, name)
+        }
+        Place::Code { byte_len, code } => {
+            push_count(out, finding)?;
+            out.push_str(", first ")?;
+            push_code_in_brackets(out, byte_len, code)
+        }
+        Place::Range { byte_len, range } => {
+            push_count(out, finding)?;
+            out.push_str(", first ")?;
+            push_range(out, byte_len, range)
+        }
+        Place::Offset(offset) => {
+            push_count(out, finding)?;
+            write!(out, ", first at byte {offset}")
+        }
+    }
+}
+
+/// What a warning about a whole file says.
+fn sentence_of(warning: Warning) -> &'static str {
+    match warning {
+        Warning::NothingDeclared => {
+            "the file has no codespace range, no declaration and no use of another file"
+        }
+        Warning::NoCodespace => "no layer has a codespace range",
+        Warning::ModeDiffers => "the writing mode isn't vertical, but the name is",
+        _ => "the file has another name than",
+    }
+}
+
+/// Adds how many codes, declarations or sections a warning concerns.
+fn push_count(out: &mut String, finding: &Finding<'_>) -> Result<(), AllocError> {
+    let unit = unit_of(finding.warning);
+    let plural = if finding.count == 1 { "" } else { "s" };
+    write!(out, "{} {unit}{plural}", finding.count)
+}
+
+/// What is counted.
+fn unit_of(warning: Warning) -> &'static str {
+    match warning {
+        Warning::InvertedRange | Warning::CrossesRow | Warning::NoText => "declaration",
+        Warning::CountDiffers => "section",
+        _ => "code",
+    }
+}
+
+fn push_code_in_brackets(out: &mut String, byte_len: u8, code: u32) -> Result<(), AllocError> {
+    out.push('<')?;
+    push_code(out, byte_len, code)?;
+    out.push('>')
+}
+
+fn push_range(out: &mut String, byte_len: u8, range: Range) -> Result<(), AllocError> {
+    push_code_in_brackets(out, byte_len, range.start)?;
+    out.push(' ')?;
+    push_code_in_brackets(out, byte_len, range.end)
+}
+
+/// Adds the object of a warning about a file, and ends the line.
+pub fn push_json(
+    alloc: Global,
+    out: &mut String,
+    file: &str,
+    finding: &Finding<'_>,
+) -> Result<(), AllocError>
+    ensures line { OnOk result (AddsLine (string_bytes out.old) (string_bytes out.new)) }
+
+    // Also where memory runs out.
+    ensures printable { AddsOfLine (string_bytes out.old) (string_bytes out.new) }
+{
+    let object = finding_object(alloc, file, finding)?;
+    json::push_line(alloc, out, &object)
+}
+
+fn finding_object(alloc: Global, file: &str, finding: &Finding<'_>) -> Result<Value, AllocError> {
+    let mut object = Map::new(alloc);
+    let path = String::from_str(alloc, file)?;
+    put(&mut object, alloc, "file", Value::from(path))?;
+    let name = String::from_str(alloc, finding.warning.name())?;
+    put(&mut object, alloc, "warning", Value::from(name))?;
+    put(&mut object, alloc, "count", Value::from(finding.count))?;
+    put_place(alloc, &mut object, finding.first)?;
+    Ok(Value::Object(object))
+}
+
+fn put_place(
+    alloc: Global,
+    object: &mut Map<String, Value>,
+    place: Place<'_>,
+) -> Result<(), AllocError> {
+    match place {
+        Place::File => Ok(()),
+        Place::Name(name) => put_name(alloc, object, name),
+        Place::Code { byte_len, code } => put_code(alloc, object, "first", byte_len, code),
+        Place::Range { byte_len, range } => {
+            put_code(alloc, object, "first", byte_len, range.start)?;
+            put_code(alloc, object, "last", byte_len, range.end)
+        }
+        Place::Offset(offset) => put(object, alloc, "byte", Value::from(offset)),
+    }
+}
+
+/// Sets a name as it is printed, and its bytes in hexadecimal digits.
+fn put_name(alloc: Global, object: &mut Map<String, Value>, name: &[u8]) -> Result<(), AllocError> {
+    let escaped = escape::escaped_name(alloc, name)?;
+    put(object, alloc, "name", Value::from(escaped))?;
+    let digits = byte_digits(alloc, name)?;
+    put(object, alloc, "name_bytes", Value::from(digits))
+}
+
+fn put_code(
+    alloc: Global,
+    object: &mut Map<String, Value>,
+    key: &str,
+    byte_len: u8,
+    code: u32,
+) -> Result<(), AllocError> {
+    let digits = code_digits(alloc, byte_len, code)?;
+    put(object, alloc, key, Value::from(digits))
+}

@@ -1,0 +1,50 @@
+//! Ranges of codes as sets.
+
+use hayro_cmap::runs::Range;
+use std::alloc::{AllocError, Global};
+
+/// How many codes a range has.
+pub(crate) fn code_count(range: Range) -> u64 {
+    match range.end.checked_sub(range.start) {
+        Some(further) => u64::from(further) + 1,
+        None => 0,
+    }
+}
+
+/// The codes that lie in both ranges.
+pub(crate) fn common(one: Range, other: Range) -> Range {
+    Range {
+        start: one.start.max(other.start),
+        end: one.end.min(other.end),
+    }
+}
+
+/// Adds a range, but for one without a code.
+pub(crate) fn push_range(ranges: &mut Vec<Range>, range: Range) -> Result<(), AllocError> {
+    if range.start <= range.end {
+        ranges.push(range)?;
+    }
+    Ok(())
+}
+
+/// The codes of ranges, none of which is empty, as ranges that lie apart, in order.
+pub(crate) fn union(alloc: Global, mut ranges: Vec<Range>) -> Result<Vec<Range>, AllocError> {
+    ranges.sort_by_key(|range| range.start)?;
+    let mut apart = Vec::new(alloc);
+    for range in &ranges {
+        join(&mut apart, *range)?;
+    }
+    Ok(apart)
+}
+
+/// Adds a range to those that lie apart and don't start after it.
+pub(crate) fn join(apart: &mut Vec<Range>, range: Range) -> Result<(), AllocError> {
+    if let Some(last) = apart.last_mut() {
+        if range.start <= last.end.saturating_add(1) {
+            last.end = last.end.max(range.end);
+            return Ok(());
+        }
+    }
+    apart.push(range)?;
+    Ok(())
+}

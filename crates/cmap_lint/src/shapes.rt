@@ -1,0 +1,66 @@
+//! Ranges whose ends look wrong.
+
+use crate::declared::{CID_LISTS, CidList};
+use crate::finding::{Finding, Place};
+use crate::warning::Warning;
+use cmap_queries::code_lengths::{LENGTHS, text_code_len};
+use hayro_cmap::runs::{Looks, Range};
+use hayro_cmap::{CMap, CodeLength, Layer};
+
+/// The declarations of a layer whose ends look wrong, by what is wrong with them.
+#[derive(Clone, Copy)]
+pub(crate) struct Shapes<'m> {
+    pub(crate) inverted: Finding<'m>,
+    pub(crate) crossing: Finding<'m>,
+}
+
+impl<'m> Shapes<'m> {
+    /// Those of the top layer.
+    pub(crate) fn of(map: &CMap, layer: &Layer) -> Shapes<'m> {
+        let mut shapes = Shapes {
+            inverted: Finding::new(Warning::InvertedRange),
+            crossing: Finding::new(Warning::CrossesRow),
+        };
+        for list in CID_LISTS {
+            shapes.add_list(layer, *list);
+        }
+        shapes.add_texts(map, layer);
+        shapes
+    }
+
+    /// Looks at a list, the declarations for codes of one byte first.
+    fn add_list(&mut self, layer: &Layer, list: CidList) {
+        for len in LENGTHS {
+            self.add_cids(layer, list, *len);
+        }
+    }
+
+    /// Looks at the declarations of a list for codes of a length.
+    fn add_cids(&mut self, layer: &Layer, list: CidList, len: CodeLength) {
+        let table = list.table(layer, len);
+        let mut looks = Looks::new();
+        for index in 0..table.decl_count() {
+            self.add(len.count(), table.decl(index, &mut looks).range);
+        }
+    }
+
+    /// Looks at the declarations of texts.
+    fn add_texts(&mut self, map: &CMap, layer: &Layer) {
+        let table = layer.texts();
+        let mut looks = Looks::new();
+        for index in 0..table.decl_count() {
+            let range = table.decl(index, &mut looks).range;
+            self.add(text_code_len(map.layers(), range), range);
+        }
+    }
+
+    /// Looks at a declaration.
+    fn add(&mut self, byte_len: u8, range: Range) {
+        let place = Place::Range { byte_len, range };
+        if range.start > range.end {
+            self.inverted.add(1, place);
+        } else if range.start >> 8 != range.end >> 8 {
+            self.crossing.add(1, place);
+        }
+    }
+}

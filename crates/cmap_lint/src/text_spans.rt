@@ -1,0 +1,124 @@
+//! The codes of a declaration that have a text, in rows of which the last character counts on.
+
+use crate::finding::{Finding, Place};
+use crate::ranges::{code_count, common};
+use crate::warning::Warning;
+use cmap_queries::code_lengths::text_code_len;
+use cmap_queries::texts::text_string;
+use hayro_cmap::runs::{Looks, Range};
+use hayro_cmap::{BfRange, CMap, Layer, utf16};
+use std::alloc::{AllocError, Global};
+
+/// Codes in a row with texts that differ in their last character alone, which counts on.
+#[derive(Drop)]
+pub(crate) struct TextSpan {
+    pub(crate) codes: Range,
+    /// The text of the first code.
+    pub(crate) text: String,
+}
+
+/// The units of characters that are one unit: those below the surrogates, and those above. The
+/// Unicode Standard, 3.9.
+const SINGLE_UNITS: &[Range] = &[
+    Range {
+        start: 0,
+        end: 0xD7FF,
+    },
+    Range {
+        start: 0xE000,
+        end: 0xFFFF,
+    },
+];
+
+/// The units that end a character of two.
+const LOW_SURROGATES: &[Range] = &[Range {
+    start: 0xDC00,
+    end: 0xDFFF,
+}];
+
+/// The codes of these that have a text of a declaration, in order.
+pub(crate) fn spans_of(
+    alloc: Global,
+    declared: &BfRange,
+    codes: Range,
+) -> Result<Vec<TextSpan>, AllocError> {
+    let mut spans = Vec::new(alloc);
+    let Some((last, front)) = declared.units.as_slice().split_last() else {
+        return Ok(spans);
+    };
+    let areas = match front.last() {
+        Some(0xD800..=0xDBFF) => LOW_SURROGATES,
+        _ => SINGLE_UNITS,
+    };
+    for area in areas {
+        if let Some(offsets) = offsets_into(*last, *area) {
+            add_span(alloc, &mut spans, declared, codes, offsets)?;
+        }
+    }
+    Ok(spans)
+}
+
+/// The offsets by which a unit counts on into an area.
+fn offsets_into(unit: u16, area: Range) -> Option<Range> {
+    Some(Range {
+        start: area.start.saturating_sub(u32::from(unit)),
+        end: area.end.checked_sub(u32::from(unit))?,
+    })
+}
+
+/// Adds the codes at these offsets, where they have texts.
+fn add_span(
+    alloc: Global,
+    spans: &mut Vec<TextSpan>,
+    declared: &BfRange,
+    codes: Range,
+    offsets: Range,
+) -> Result<(), AllocError> {
+    let begin = declared.range.start;
+    let Some(start) = begin.checked_add(offsets.start) else {
+        return Ok(());
+    };
+    let end = begin.saturating_add(offsets.end);
+    let codes = common(codes, Range { start, end });
+    if codes.start > codes.end {
+        return Ok(());
+    }
+    let offset = codes.start.saturating_sub(begin);
+    let text = utf16::text(alloc, declared.units.as_slice(), offset)?;
+    if let Some(text) = text_string(alloc, text)? {
+        spans.push(TextSpan { codes, text })?;
+    }
+    Ok(())
+}
+
+/// The declarations of the top layer that have a code without a text.
+pub(crate) fn no_text<'m>(
+    alloc: Global,
+    map: &CMap,
+    layer: &Layer,
+) -> Result<Finding<'m>, AllocError> {
+    let mut finding = Finding::new(Warning::NoText);
+    let table = layer.texts();
+    let mut looks = Looks::new();
+    for index in 0..table.decl_count() {
+        let declared = table.decl(index, &mut looks);
+        if let Some(code) = first_without_text(alloc, declared)? {
+            let byte_len = text_code_len(map.layers(), declared.range);
+            finding.add(1, Place::Code { byte_len, code });
+        }
+    }
+    Ok(finding)
+}
+
+/// The first code of a declaration without a text.
+fn first_without_text(alloc: Global, declared: &BfRange) -> Result<Option<u32>, AllocError> {
+    let mut left = code_count(declared.range);
+    let mut code = declared.range.start;
+    for span in &spans_of(alloc, declared, declared.range)? {
+        left = left.saturating_sub(code_count(span.codes));
+        if span.codes.start == code {
+            code = span.codes.end.saturating_add(1);
+        }
+    }
+    Ok((left > 0).then_some(code))
+}
