@@ -13,7 +13,7 @@ _cmap() {
         mapfile -t COMPREPLY < <(compgen -d -- "$current")
         return
         ;;
-    --bundle)
+    --bundle | --files-from)
         compopt -o filenames 2>/dev/null
         mapfile -t COMPREPLY < <(compgen -f -- "$current")
         return
@@ -26,9 +26,10 @@ _cmap() {
     esac
     if [[ $current == -* ]]; then
         mapfile -t COMPREPLY < <(compgen -W "--base --bundle --budget --json --help" -- "$current")
-        if [[ $subcommand == list ]]; then
-            mapfile -t -O "${#COMPREPLY[@]}" COMPREPLY < <(compgen -W "--effective" -- "$current")
-        fi
+        case $subcommand in
+        list) mapfile -t -O "${#COMPREPLY[@]}" COMPREPLY < <(compgen -W "--effective" -- "$current") ;;
+        check) mapfile -t -O "${#COMPREPLY[@]}" COMPREPLY < <(compgen -W "--files-from --null --quiet" -- "$current") ;;
+        esac
     else
         compopt -o filenames 2>/dev/null
         mapfile -t COMPREPLY < <(compgen -f -- "$current")

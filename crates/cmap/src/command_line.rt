@@ -103,6 +103,11 @@ fn program<'a>(alloc: Global) -> Result<Command<'a>, AllocError> {
 }
 
 impl Subcommand {
+    /// Whether a list may name its files.
+    fn has_list(self) -> bool {
+        self.name == "check"
+    }
+
     fn command<'a>(self, alloc: Global) -> Result<Command<'a>, AllocError> {
         let options = options(alloc)?;
         let mut command = Command::new(alloc, self.name)
@@ -111,21 +116,29 @@ impl Subcommand {
         if self.has_file {
             command = command.arg(file(alloc))?;
         }
+        if self.has_list() {
+            command = command.args(list_options(alloc)?)?;
+        }
         match self.arguments {
-            Some(arguments) => command.arg(arguments.arg(alloc)),
+            Some(arguments) => command.arg(arguments.arg(alloc, self.has_list())?),
             None => command.arg(effective(alloc)),
         }
     }
 }
 
 impl Arguments {
-    fn arg<'a>(self, alloc: Global) -> Arg<'a> {
-        Arg::new(alloc, self.id)
+    /// The arguments, which a list may stand for.
+    fn arg<'a>(self, alloc: Global, has_list: bool) -> Result<Arg<'a>, AllocError> {
+        let arg = Arg::new(alloc, self.id)
             .value_name(self.value_name)
             .help(self.help)
-            .required(true)
             .action(ArgAction::Append)
-            .num_args(1..)
+            .num_args(1..);
+        if has_list {
+            arg.required_unless_present(FILES_FROM)
+        } else {
+            Ok(arg.required(true))
+        }
     }
 }
 
@@ -179,4 +192,36 @@ fn effective<'a>(alloc: Global) -> Arg<'a> {
         .long("effective")
         .action(ArgAction::SetTrue)
         .help("What codes have over all layers, in place of what each layer declares")
+}
+
+/// What the option that names a list is found by.
+const FILES_FROM: &str = "files-from";
+
+/// The options that `check` alone has.
+fn list_options<'a>(alloc: Global) -> Result<Vec<Arg<'a>>, AllocError> {
+    Ok(vec![in alloc; files_from(alloc), null(alloc), quiet(alloc)]?)
+}
+
+fn files_from<'a>(alloc: Global) -> Arg<'a> {
+    Arg::new(alloc, FILES_FROM)
+        .long(FILES_FROM)
+        .value_name("LIST")
+        .action(ArgAction::Set)
+        .help("A list of further files and folders, one per line; - is the standard input")
+}
+
+fn null<'a>(alloc: Global) -> Arg<'a> {
+    Arg::new(alloc, "null")
+        .short('0')
+        .long("null")
+        .action(ArgAction::SetTrue)
+        .help("A zero byte ends each path of the list, and not a line feed")
+}
+
+fn quiet<'a>(alloc: Global) -> Arg<'a> {
+    Arg::new(alloc, "quiet")
+        .short('q')
+        .long("quiet")
+        .action(ArgAction::SetTrue)
+        .help("Doesn't report how many files were checked")
 }
