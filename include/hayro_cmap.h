@@ -87,6 +87,26 @@ typedef struct hayro_cmap_codespace {
     uint32_t byte_len; /* 1 to 4 */
 } hayro_cmap_codespace;
 
+/* A declaration of CIDs: the codes from `first` to `last`; none where `first` is greater. */
+typedef struct hayro_cmap_cid_range {
+    uint32_t first;
+    uint32_t last;
+    uint32_t cid; /* the CID of `first` */
+} hayro_cmap_cid_range;
+
+/* A declaration of texts: the codes from `first` to `last`; none where `first` is greater. */
+typedef struct hayro_cmap_text_range {
+    uint32_t first;
+    uint32_t last;
+    size_t units; /* how many units of UTF-16 the text of `first` has */
+} hayro_cmap_text_range;
+
+/* The codes from `first` to `last`. */
+typedef struct hayro_cmap_code_range {
+    uint32_t first;
+    uint32_t last;
+} hayro_cmap_code_range;
+
 /* How a call ends. It is an int of 32 bits. */
 typedef enum hayro_cmap_status {
     HAYRO_CMAP_OK = 0,           /* there is an answer, and it is written */
@@ -343,6 +363,38 @@ hayro_cmap_mode hayro_cmap_layer_writing_mode(hayro_cmap *map, size_t layer);
 hayro_cmap_status hayro_cmap_codespaces(hayro_cmap *map, size_t layer,
                                         hayro_cmap_codespace *ranges, size_t ranges_len,
                                         size_t *needed);
+
+/* The declarations of CIDs of a layer, and those of notdefs, for codes of `byte_len` bytes, in the order
+ * of its file; written as codespace ranges are. From code to code the CID of a declaration counts on,
+ * and all codes of a notdef have the same one. Where several declarations of a kind contain a code, the
+ * last one decides. For a length outside 1 to 4 there are none. */
+hayro_cmap_status hayro_cmap_cid_ranges(hayro_cmap *map, size_t layer, uint8_t byte_len,
+                                        hayro_cmap_cid_range *ranges, size_t ranges_len,
+                                        size_t *needed);
+hayro_cmap_status hayro_cmap_notdef_ranges(hayro_cmap *map, size_t layer, uint8_t byte_len,
+                                           hayro_cmap_cid_range *ranges, size_t ranges_len,
+                                           size_t *needed);
+
+/* The declarations of texts of a layer, in the order of its file; written as codespace ranges are.
+ * hayro_cmap_text_units gives the text of each. */
+hayro_cmap_status hayro_cmap_text_ranges(hayro_cmap *map, size_t layer,
+                                         hayro_cmap_text_range *ranges, size_t ranges_len,
+                                         size_t *needed);
+
+/* The units of UTF-16 that the declaration at this index of hayro_cmap_text_ranges gives to its first
+ * code, written as a text is; from code to code the last unit counts on. They are as the file has them,
+ * so a surrogate may stand alone. HAYRO_CMAP_ABSENT where there is no such declaration. */
+hayro_cmap_status hayro_cmap_text_units(hayro_cmap *map, size_t layer, size_t index,
+                                        uint16_t *units, size_t units_len, size_t *needed);
+
+/* All codes of `byte_len` bytes that have this CID, as hayro_cmap_cid gives it: ranges in order, of
+ * which no two have a code together. With HAYRO_CMAP_OK they stand at the head of `ranges`, and `needed`
+ * is how many they are, 0 where no code has the CID. With HAYRO_CMAP_NO_ROOM `needed` is how many there
+ * are, and `ranges` is as it was. An empty handle is HAYRO_CMAP_ABSENT; then, and with
+ * HAYRO_CMAP_NO_MEMORY, nothing is written. */
+hayro_cmap_status hayro_cmap_codes_of_cid(hayro_cmap *map, uint32_t cid, uint8_t byte_len,
+                                          hayro_cmap_code_range *ranges, size_t ranges_len,
+                                          size_t *needed);
 
 /* The version of the library, as 1.0.0, written as a text is. */
 hayro_cmap_status hayro_cmap_version(uint8_t *room, size_t room_len, size_t *needed);

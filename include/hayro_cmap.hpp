@@ -36,6 +36,8 @@ namespace hayro {
 using Cid = std::uint32_t;
 using Code = hayro_cmap_code;
 using Codespace = hayro_cmap_codespace;
+using CidRange = hayro_cmap_cid_range;
+using CodeRange = hayro_cmap_code_range;
 using Status = hayro_cmap_status;
 
 // No budget.
@@ -220,6 +222,18 @@ template <class Ask> std::optional<std::string> written(Ask ask) {
     return room;
 }
 
+// The values that a call writes to a room, which is asked again where the first room is too short; none
+// where there is no answer.
+template <class T, class Ask> std::vector<T> listed(Ask ask) {
+    std::vector<T> values(8);
+    for (;;) {
+        std::size_t needed = 0;
+        Status status = with_memory(ask(values.data(), values.size(), &needed));
+        values.resize(needed);
+        if (status != HAYRO_CMAP_NO_ROOM) return values;
+    }
+}
+
 // Names that stand one after another.
 inline std::vector<std::string> split(std::string_view room, Span<const std::size_t> lens) {
     std::vector<std::string> names;
@@ -326,6 +340,15 @@ struct Metadata {
     std::optional<std::string> ordering;
     std::optional<std::int32_t> supplement;
     std::optional<WritingMode> writing_mode;
+};
+
+// A declaration of texts: the codes from `first` to `last`; none where `first` is greater.
+struct TextRange {
+    std::uint32_t first;
+    std::uint32_t last;
+    // The text of `first` as the file has it, so that a surrogate may stand alone. From code to code the
+    // last unit counts on.
+    std::u16string units;
 };
 
 // What the codes of a font stand for.
@@ -458,14 +481,43 @@ public:
 
     // The codespace ranges of a layer, in order; none where there is no such layer.
     std::vector<Codespace> codespaces(std::size_t layer = 0) {
-        std::vector<Codespace> ranges(8);
-        for (;;) {
-            std::size_t needed = 0;
-            Status status = hayro_cmap_codespaces(
-                handle(), layer, detail::room_of(Span<Codespace>(ranges)), ranges.size(), &needed);
-            ranges.resize(needed);
-            if (detail::with_memory(status) != HAYRO_CMAP_NO_ROOM) return ranges;
-        }
+        return detail::listed<Codespace>([&](auto room, auto len, auto needed) {
+            return hayro_cmap_codespaces(handle(), layer, room, len, needed);
+        });
+    }
+
+    // The declarations of CIDs of a layer for codes of `byte_len` bytes, in the order of its file; none
+    // where there is no such layer. The CIDs count on from code to code.
+    std::vector<CidRange> cid_ranges(std::uint8_t byte_len, std::size_t layer = 0) {
+        return detail::listed<CidRange>([&](auto room, auto len, auto needed) {
+            return hayro_cmap_cid_ranges(handle(), layer, byte_len, room, len, needed);
+        });
+    }
+
+    // The same of notdefs. All codes of one have the same CID.
+    std::vector<CidRange> notdef_ranges(std::uint8_t byte_len, std::size_t layer = 0) {
+        return detail::listed<CidRange>([&](auto room, auto len, auto needed) {
+            return hayro_cmap_notdef_ranges(handle(), layer, byte_len, room, len, needed);
+        });
+    }
+
+    // The declarations of texts of a layer, in the order of its file; none where there is no such layer.
+    std::vector<TextRange> text_ranges(std::size_t layer = 0) {
+        auto declared = detail::listed<hayro_cmap_text_range>([&](auto room, auto len, auto needed) {
+            return hayro_cmap_text_ranges(handle(), layer, room, len, needed);
+        });
+        std::vector<TextRange> ranges;
+        for (const auto &range : declared)
+            ranges.push_back({range.first, range.last, text_units(layer, ranges.size())});
+        return ranges;
+    }
+
+    // All codes of `byte_len` bytes that have this CID, whatever the layer that gives it: ranges in
+    // order, of which no two have a code together.
+    std::vector<CodeRange> codes_of_cid(Cid cid, std::uint8_t byte_len) {
+        return detail::listed<CodeRange>([&](auto room, auto len, auto needed) {
+            return hayro_cmap_codes_of_cid(handle(), cid, byte_len, room, len, needed);
+        });
     }
 
     // For the calls of hayro_cmap.h. It stays the map's.
@@ -477,6 +529,13 @@ private:
         return detail::written([&](auto room, auto len, auto needed) {
             return call(handle(), layer..., room, len, needed);
         });
+    }
+
+    std::u16string text_units(std::size_t layer, std::size_t index) {
+        auto units = detail::listed<std::uint16_t>([&](auto room, auto len, auto needed) {
+            return hayro_cmap_text_units(handle(), layer, index, room, len, needed);
+        });
+        return {units.begin(), units.end()};
     }
 
     detail::Owned<hayro_cmap, hayro_cmap_free> handle_;

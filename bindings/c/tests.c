@@ -310,6 +310,115 @@ static void layers_have_codespace_ranges(void) {
     hayro_cmap_free(&map);
 }
 
+// Codes of one byte and of two. The later declaration of 41 decides, and the text of 43 is half a pair of surrogates.
+#define DECLARING                                                                                  \
+    "begincidrange <20> <7E> 1 <8140> <817E> 633 endcidrange begincidchar <41> 7 endcidchar "      \
+    "beginnotdefrange <00> <1F> 99 endnotdefrange "                                                \
+    "beginbfrange <41> <42> <0061> <43> <43> <D83D> endbfrange beginbfchar <44> <00660069> endbfchar"
+
+static hayro_cmap map_that_declares(void) {
+    hayro_cmap map = HAYRO_CMAP_EMPTY;
+    CHECK(hayro_cmap_parse(&map, TEXT(DECLARING), TEXT(""), hayro_cmap_files(NULL), 0,
+                           HAYRO_CMAP_NO_BUDGET) == HAYRO_CMAP_OK);
+    return map;
+}
+
+static bool is_cid_range(const hayro_cmap_cid_range *range, uint32_t first, uint32_t last, uint32_t cid) {
+    return range->first == first && range->last == last && range->cid == cid;
+}
+
+static void layers_declare_cids(void) {
+    hayro_cmap map = map_that_declares();
+    hayro_cmap_cid_range ranges[3] = {{8, 8, 8}, {8, 8, 8}, {8, 8, 8}};
+    size_t needed = 9;
+    CHECK(hayro_cmap_cid_ranges(&map, 0, 1, ranges, 3, &needed) == HAYRO_CMAP_OK && needed == 2);
+    CHECK(is_cid_range(&ranges[0], 0x20, 0x7E, 1) && is_cid_range(&ranges[1], 0x41, 0x41, 7));
+    CHECK(is_cid_range(&ranges[2], 8, 8, 8));
+    CHECK(hayro_cmap_cid_ranges(&map, 0, 2, ranges, 3, &needed) == HAYRO_CMAP_OK && needed == 1);
+    CHECK(is_cid_range(&ranges[0], 0x8140, 0x817E, 633));
+    CHECK(hayro_cmap_cid_ranges(&map, 0, 0, ranges, 3, &needed) == HAYRO_CMAP_OK && needed == 0);
+    CHECK(hayro_cmap_cid_ranges(&map, 0, 5, ranges, 3, &needed) == HAYRO_CMAP_OK && needed == 0);
+    CHECK(hayro_cmap_notdef_ranges(&map, 0, 1, ranges, 3, &needed) == HAYRO_CMAP_OK && needed == 1);
+    CHECK(is_cid_range(&ranges[0], 0, 0x1F, 99));
+    CHECK(hayro_cmap_notdef_ranges(&map, 0, 2, ranges, 3, &needed) == HAYRO_CMAP_OK && needed == 0);
+    hayro_cmap_free(&map);
+}
+
+static void declarations_without_room_are_not_written(void) {
+    hayro_cmap map = map_that_declares();
+    hayro_cmap_cid_range cids = {8, 8, 8};
+    hayro_cmap_text_range texts[2] = {{8, 8, 8}, {8, 8, 8}};
+    uint16_t unit = 8;
+    size_t needed = 9;
+    CHECK(hayro_cmap_cid_ranges(&map, 0, 1, &cids, 1, &needed) == HAYRO_CMAP_NO_ROOM && needed == 2);
+    CHECK(hayro_cmap_notdef_ranges(&map, 0, 1, &cids, 0, &needed) == HAYRO_CMAP_NO_ROOM && needed == 1);
+    CHECK(hayro_cmap_text_ranges(&map, 0, texts, 2, &needed) == HAYRO_CMAP_NO_ROOM && needed == 3);
+    CHECK(hayro_cmap_text_units(&map, 0, 2, &unit, 1, &needed) == HAYRO_CMAP_NO_ROOM && needed == 2);
+    CHECK(hayro_cmap_cid_ranges(&map, 1, 1, &cids, 1, &needed) == HAYRO_CMAP_ABSENT);
+    CHECK(hayro_cmap_notdef_ranges(&map, 1, 1, &cids, 1, &needed) == HAYRO_CMAP_ABSENT);
+    CHECK(hayro_cmap_text_ranges(&map, 1, texts, 2, &needed) == HAYRO_CMAP_ABSENT);
+    CHECK(hayro_cmap_text_units(&map, 0, 3, &unit, 1, &needed) == HAYRO_CMAP_ABSENT);
+    CHECK(hayro_cmap_text_units(&map, 1, 0, &unit, 1, &needed) == HAYRO_CMAP_ABSENT);
+    CHECK(needed == 2 && unit == 8 && is_cid_range(&cids, 8, 8, 8));
+    CHECK(texts[0].first == 8 && texts[0].last == 8 && texts[0].units == 8 && texts[1].units == 8);
+    hayro_cmap_free(&map);
+}
+
+static void layers_declare_texts(void) {
+    hayro_cmap map = map_that_declares();
+    hayro_cmap_text_range ranges[4] = {{8, 8, 8}, {8, 8, 8}, {8, 8, 8}, {8, 8, 8}};
+    size_t needed = 9;
+    CHECK(hayro_cmap_text_ranges(&map, 0, ranges, 4, &needed) == HAYRO_CMAP_OK && needed == 3);
+    CHECK(ranges[0].first == 0x41 && ranges[0].last == 0x42 && ranges[0].units == 1);
+    CHECK(ranges[1].first == 0x43 && ranges[1].last == 0x43 && ranges[1].units == 1);
+    CHECK(ranges[2].first == 0x44 && ranges[2].last == 0x44 && ranges[2].units == 2);
+    CHECK(ranges[3].first == 8 && ranges[3].last == 8 && ranges[3].units == 8);
+    uint16_t units[3] = {8, 8, 8};
+    CHECK(hayro_cmap_text_units(&map, 0, 0, units, 3, &needed) == HAYRO_CMAP_OK && needed == 1);
+    CHECK(units[0] == 0x61 && units[1] == 8);
+    CHECK(hayro_cmap_text_units(&map, 0, 1, units, 3, &needed) == HAYRO_CMAP_OK && needed == 1);
+    CHECK(units[0] == 0xD83D);
+    CHECK(hayro_cmap_text_units(&map, 0, 2, units, 3, &needed) == HAYRO_CMAP_OK && needed == 2);
+    CHECK(units[0] == 0x66 && units[1] == 0x69 && units[2] == 8);
+    hayro_cmap_free(&map);
+}
+
+static void lower_layers_declare_too(void) {
+    hayro_cmap map = map_over_base();
+    hayro_cmap_cid_range cids = {8, 8, 8};
+    hayro_cmap_text_range texts = {8, 8, 8};
+    uint16_t units[2] = {8, 8};
+    size_t needed = 9;
+    CHECK(hayro_cmap_cid_ranges(&map, 0, 2, &cids, 1, &needed) == HAYRO_CMAP_OK && needed == 0);
+    CHECK(hayro_cmap_cid_ranges(&map, 1, 2, &cids, 1, &needed) == HAYRO_CMAP_OK && needed == 1);
+    CHECK(is_cid_range(&cids, 0, 0x1FF, 0));
+    CHECK(hayro_cmap_text_ranges(&map, 1, &texts, 1, &needed) == HAYRO_CMAP_OK && needed == 1);
+    CHECK(texts.first == 0x41 && texts.last == 0x41 && texts.units == 2);
+    CHECK(hayro_cmap_text_units(&map, 1, 0, units, 2, &needed) == HAYRO_CMAP_OK && needed == 2);
+    CHECK(units[0] == 0x42 && units[1] == 0x43);
+    hayro_cmap_free(&map);
+    CHECK(hayro_cmap_cid_ranges(&map, 0, 2, &cids, 1, &needed) == HAYRO_CMAP_ABSENT && needed == 2);
+}
+
+static void a_cid_has_its_codes(void) {
+    hayro_cmap map = map_that_declares();
+    hayro_cmap_code_range ranges[3] = {{8, 9}, {8, 9}, {8, 9}};
+    size_t needed = 9;
+    CHECK(hayro_cmap_codes_of_cid(&map, 7, 1, ranges, 1, &needed) == HAYRO_CMAP_NO_ROOM && needed == 2);
+    CHECK(ranges[0].first == 8 && ranges[0].last == 9);
+    CHECK(hayro_cmap_codes_of_cid(&map, 7, 1, ranges, 3, &needed) == HAYRO_CMAP_OK && needed == 2);
+    CHECK(ranges[0].first == 0x26 && ranges[0].last == 0x26 && ranges[1].first == 0x41 && ranges[1].last == 0x41);
+    CHECK(ranges[2].first == 8 && ranges[2].last == 9);
+    CHECK(hayro_cmap_codes_of_cid(&map, 34, 1, ranges, 3, &needed) == HAYRO_CMAP_OK && needed == 0);
+    CHECK(hayro_cmap_codes_of_cid(&map, 99, 1, ranges, 3, &needed) == HAYRO_CMAP_OK && needed == 1);
+    CHECK(ranges[0].first == 0x00 && ranges[0].last == 0x1F);
+    CHECK(hayro_cmap_codes_of_cid(&map, 634, 2, ranges, 3, &needed) == HAYRO_CMAP_OK && needed == 1);
+    CHECK(ranges[0].first == 0x8141 && ranges[0].last == 0x8141);
+    CHECK(hayro_cmap_codes_of_cid(&map, 7, 5, ranges, 3, &needed) == HAYRO_CMAP_OK && needed == 0);
+    hayro_cmap_free(&map);
+    CHECK(hayro_cmap_codes_of_cid(&map, 7, 1, ranges, 3, &needed) == HAYRO_CMAP_ABSENT && needed == 0);
+}
+
 static void the_library_has_its_version(void) {
     uint8_t room[16] = {0};
     size_t needed = 0;
@@ -338,6 +447,11 @@ int main(void) {
     uses_with_room_for_fewer_lengths_are_not_written();
     layers_speak_of_themselves();
     layers_have_codespace_ranges();
+    layers_declare_cids();
+    declarations_without_room_are_not_written();
+    layers_declare_texts();
+    lower_layers_declare_too();
+    a_cid_has_its_codes();
     the_library_has_its_version();
     puts(failed ? "failed" : "ok");
     return failed;

@@ -130,6 +130,54 @@ static void strings_are_cut() {
     CHECK(long_map && long_map->codespaces().size() == 50 && long_map->codespaces(1).empty());
 }
 
+static bool same(const hayro::CidRange &range, std::uint32_t first, std::uint32_t last, hayro::Cid cid) {
+    return range.first == first && range.last == last && range.cid == cid;
+}
+
+static bool same(const hayro::TextRange &range, std::uint32_t first, std::uint32_t last,
+                 const std::u16string &units) {
+    return range.first == first && range.last == last && range.units == units;
+}
+
+static void layers_declare_cids_and_texts() {
+    auto map = hayro::Map::parse("/Base usecmap begincidchar <41> 7 endcidchar",
+                                 {{"Base", "begincidrange <20> <7E> 1 <8140> <817E> 633 endcidrange "
+                                           "beginnotdefrange <00> <1F> 99 endnotdefrange "
+                                           "beginbfrange <41> <42> <0061> endbfrange "
+                                           "beginbfchar <43> <D83D> <44> <00660069> endbfchar"}});
+    CHECK(bool(map));
+    auto own = map->cid_ranges(1);
+    CHECK(own.size() == 1 && same(own[0], 0x41, 0x41, 7));
+    CHECK(map->cid_ranges(2).empty() && map->notdef_ranges(1).empty() && map->text_ranges().empty());
+    auto below = map->cid_ranges(1, 1);
+    CHECK(below.size() == 1 && same(below[0], 0x20, 0x7E, 1));
+    auto two_bytes = map->cid_ranges(2, 1);
+    CHECK(two_bytes.size() == 1 && same(two_bytes[0], 0x8140, 0x817E, 633));
+    auto notdefs = map->notdef_ranges(1, 1);
+    CHECK(notdefs.size() == 1 && same(notdefs[0], 0, 0x1F, 99));
+    auto texts = map->text_ranges(1);
+    CHECK(texts.size() == 3 && same(texts[0], 0x41, 0x42, u"a"));
+    CHECK(same(texts[1], 0x43, 0x43, std::u16string(1, 0xD83D)) && same(texts[2], 0x44, 0x44, u"fi"));
+    CHECK(map->cid_ranges(5).empty() && map->cid_ranges(1, 2).empty() && map->text_ranges(2).empty());
+
+    auto codes = map->codes_of_cid(7, 1);
+    CHECK(codes.size() == 2 && codes[0].first == 0x26 && codes[0].last == 0x26);
+    CHECK(codes[1].first == 0x41 && codes[1].last == 0x41);
+    CHECK(map->codes_of_cid(34, 1).empty() && hayro::Map().codes_of_cid(7, 1).empty());
+}
+
+static void many_declarations_are_whole() {
+    std::string cids, texts;
+    for (int count = 0; count < 50; count++) {
+        cids += "<20> " + std::to_string(count) + ' ';
+        texts += "<20> <" + std::string(4 * 30, '1') + "> ";
+    }
+    auto map = hayro::Map::parse("begincidchar " + cids + "endcidchar beginbfchar " + texts + "endbfchar");
+    CHECK(map && map->cid_ranges(1).size() == 50 && same(map->cid_ranges(1)[49], 0x20, 0x20, 49));
+    auto ranges = map->text_ranges();
+    CHECK(ranges.size() == 50 && same(ranges[49], 0x20, 0x20, std::u16string(30, 0x1111)));
+}
+
 static void files_speak_of_themselves() {
     auto map = hayro::Map::parse("/Registry (Adobe) /Ordering (Japan1) /Supplement 6 /CMapName /Own /WMode 1");
     CHECK(map && map->registry() == "Adobe" && map->ordering() == "Japan1" && map->supplement() == 6);
@@ -214,6 +262,8 @@ int main() {
     long_texts_are_whole();
     refusals_say_why();
     strings_are_cut();
+    layers_declare_cids_and_texts();
+    many_declarations_are_whole();
     files_speak_of_themselves();
     bundles_have_files();
     uses_are_named();

@@ -19,6 +19,7 @@ OF_RUST = {
     "i32": "int32_t",
     "usize": "size_t",
     "bool": "bool",
+    "Cid": "uint32_t",
     "c_void": "void",
     "RawMap": "hayro_cmap",
     "RawBundle": "hayro_cmap_bundle",
@@ -26,6 +27,9 @@ OF_RUST = {
     "RawCode": "hayro_cmap_code",
     "RawFault": "hayro_cmap_fault",
     "Codespace": "hayro_cmap_codespace",
+    "CidRange": "hayro_cmap_cid_range",
+    "RawTextRange": "hayro_cmap_text_range",
+    "RawCodeRange": "hayro_cmap_code_range",
 }
 # the structs of Rust and of Python, with those of the header
 RUST_STRUCTS = {
@@ -35,12 +39,18 @@ RUST_STRUCTS = {
     "RawCode": "hayro_cmap_code",
     "RawFault": "hayro_cmap_fault",
     "Codespace": "hayro_cmap_codespace",
+    "CidRange": "hayro_cmap_cid_range",
+    "RawTextRange": "hayro_cmap_text_range",
+    "RawCodeRange": "hayro_cmap_code_range",
 }
 PYTHON_STRUCTS = {
     "File": "hayro_cmap_file",
     "CodeInString": "hayro_cmap_code",
     "Fault": "hayro_cmap_fault",
     "CodespaceRange": "hayro_cmap_codespace",
+    "DeclaredCids": "hayro_cmap_cid_range",
+    "DeclaredTexts": "hayro_cmap_text_range",
+    "CodesInRow": "hayro_cmap_code_range",
 }
 ENUMS = {"hayro_cmap_status", "hayro_cmap_mode"}
 

@@ -1,12 +1,13 @@
-"""The examples that decode a string, in C, C++, Rust and Python; and those of a bundle and of threads."""
+"""The examples that decode a string, in C, C++, Rust and Python; those of a bundle, of threads and of declarations."""
 
 from .checks import needs, run
-from .known import REFUSED, STRINGS, WORDS, has_debian_files, refused_files, rows_of_strings
+from .known import DECLARED, REFUSED, STRINGS, WORDS, declaring_file, has_debian_files, refused_files, rows_of_strings
 from .library import EXAMPLES, HELGRIND, MEMCHECK
 
 NATIVE = {"C": EXAMPLES / "decode.c", "C++": EXAMPLES / "decode.cc"}
 BUNDLE = EXAMPLES / "bundle.c"
 THREADS = EXAMPLES / "threads.c"
+DECLARING = EXAMPLES / "declared.c"
 
 
 def check_strings(checks, setting, what, command, **environment):
@@ -134,3 +135,22 @@ def test_c_threads_under_memcheck_and_helgrind(checks, setting):
     """Every block is freed, and no two threads use one place without order."""
     for checker in [MEMCHECK, HELGRIND]:
         check_threads(checks, setting, [*checker, setting.programs.path(THREADS)])
+
+
+def check_declarations(checks, setting, command):
+    """A command gives the declarations of a file, and the codes of two CIDs, of which one has none."""
+    ran = run(*command, setting.once(declaring_file), "7", "34")
+    checks.ended(f"{command_line(command)}: what a file declares", ran, DECLARED)
+
+
+@needs("gcc")
+def test_c_lists_declarations(checks, setting):
+    """The example of declarations, plain and with the sanitizers."""
+    for program in [setting.programs.path(DECLARING), setting.programs.sanitized(DECLARING)]:
+        check_declarations(checks, setting, [program])
+
+
+@needs("gcc", "valgrind")
+def test_c_lists_declarations_under_memcheck(checks, setting):
+    """Every block is freed, and no address is wrong."""
+    check_declarations(checks, setting, [*MEMCHECK, setting.programs.path(DECLARING)])

@@ -27,6 +27,9 @@ NAMED = {
     "BaseFile<'_>": "hayro_cmap_file",
     "Code": "hayro_cmap_code",
     "CodespaceRange": "hayro_cmap_codespace",
+    "DeclaredCids": "hayro_cmap_cid_range",
+    "DeclaredTexts": "hayro_cmap_text_range",
+    "CodeRange": "hayro_cmap_code_range",
     "FaultNumbers": "hayro_cmap_fault",
 }
 RESULTS = {
@@ -40,6 +43,9 @@ STRUCTS = [
     ("hayro_cmap_file", "files.rt", "BaseFile"),
     ("hayro_cmap_code", "decode.rt", "Code"),
     ("hayro_cmap_codespace", "layers.rt", "CodespaceRange"),
+    ("hayro_cmap_cid_range", "declared.rt", "DeclaredCids"),
+    ("hayro_cmap_text_range", "declared.rt", "DeclaredTexts"),
+    ("hayro_cmap_code_range", "codes_of_cid.rt", "CodeRange"),
     ("hayro_cmap_fault", "fault.rt", "FaultNumbers"),
 ]
 # the same of handles, which the crate writes with the slot that they hold

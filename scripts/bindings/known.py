@@ -35,6 +35,19 @@ WORDS = {
     "90ms-RKSJ-H:2:93FA": "3284",
     "90ms-RKSJ-H:2:FFFF": "none",
 }
+# a file, and what the example prints that it declares, with the codes of the CIDs 7 and 34
+DECLARING = b"""begincidrange <20> <7E> 1 <8140> <817E> 633 endcidrange begincidchar <41> 7 endcidchar
+beginbfrange <41> <42> <0061> <43> <43> <D83D> endbfrange beginbfchar <44> <00660069> endbfchar
+"""
+DECLARED = """cid <20> <7E> 1
+cid <41> <41> 7
+cid <8140> <817E> 633
+text 41 42 0061
+text 43 43 D83D
+text 44 44 00660069
+7 <26> <26>
+7 <41> <41>
+"""
 # how many codes of two bytes have a CID in UniJIS-UTF16-H, that of poppler-data and the small one
 COUNT, SMALL_COUNT = 15391, 85
 
@@ -46,6 +59,13 @@ REFUSED = {
     "Unfounded": (b"/Nowhere usecmap", "Nowhere: no file has this name"),
 }
 MIDDLE = {"Middle": b"/Broken usecmap", "A": b""}
+
+
+def declaring_file(work):
+    """A file that declares CIDs and texts."""
+    path = work / "declaring"
+    path.write_bytes(DECLARING)
+    return path
 
 
 class Files:

@@ -1,6 +1,7 @@
 """Requests for memory that are refused in turn: each example then ends with a message and a status."""
 
 from .checks import Failed, needs, run
+from .known import DECLARED, declaring_file
 from .library import EXAMPLES, TOP
 
 # all that a program asks for afterwards
@@ -69,3 +70,10 @@ def test_c_threads_without_memory(checks, setting):
     """Four threads over a small file."""
     command = [setting.programs.path(EXAMPLES / "threads.c"), setting.files[0].folder / "UniJIS-UTF16-H"]
     refuse_each(checks, setting, "threads.c", command, f"{setting.files[0].count}\n" * 4)
+
+
+@needs("gcc")
+def test_c_lists_declarations_without_memory(checks, setting):
+    """A small file, and the codes of two CIDs."""
+    command = [setting.programs.path(EXAMPLES / "declared.c"), setting.once(declaring_file), "7", "34"]
+    refuse_each(checks, setting, "declared.c", command, DECLARED)

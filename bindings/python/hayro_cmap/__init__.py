@@ -14,7 +14,7 @@ environment variable HAYRO_CMAP_LIBRARY, else the file in this package's folder,
 from ._bundle import Bundle
 from ._faults import Cause, NotABundle, Reason, Refused, Segment
 from ._folder import folder
-from ._map import CMap, Code, Codespace, Layer, Metadata, WritingMode
+from ._map import CidRange, CMap, Code, CodeRange, Codespace, Layer, Metadata, TextRange, WritingMode
 from ._owned import library, put
 from ._reading import uses
 
@@ -22,7 +22,9 @@ __all__ = [
     "Bundle",
     "CMap",
     "Cause",
+    "CidRange",
     "Code",
+    "CodeRange",
     "Codespace",
     "Layer",
     "Metadata",
@@ -30,6 +32,7 @@ __all__ = [
     "Reason",
     "Refused",
     "Segment",
+    "TextRange",
     "WritingMode",
     "folder",
     "uses",

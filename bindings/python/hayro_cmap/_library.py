@@ -54,6 +54,24 @@ class CodespaceRange(Structure):
     _fields_ = [("low", c_uint32), ("high", c_uint32), ("byte_len", c_uint32)]
 
 
+class DeclaredCids(Structure):
+    """A hayro_cmap_cid_range."""
+
+    _fields_ = [("first", c_uint32), ("last", c_uint32), ("cid", c_uint32)]
+
+
+class DeclaredTexts(Structure):
+    """A hayro_cmap_text_range."""
+
+    _fields_ = [("first", c_uint32), ("last", c_uint32), ("units", c_size_t)]
+
+
+class CodesInRow(Structure):
+    """A hayro_cmap_code_range."""
+
+    _fields_ = [("first", c_uint32), ("last", c_uint32)]
+
+
 class Fault(Structure):
     """A hayro_cmap_fault."""
 
@@ -80,7 +98,9 @@ CALLS = {
     "hayro_cmap_bundle_share": (c_int, [HANDLE, HANDLE]),
     "hayro_cmap_cid": (c_bool, [*CODE, POINTER(c_uint32)]),
     "hayro_cmap_cid_strict": (c_bool, [*CODE, POINTER(c_uint32)]),
+    "hayro_cmap_cid_ranges": (c_int, [HANDLE, c_size_t, c_uint8, POINTER(DeclaredCids), c_size_t, SIZE]),
     "hayro_cmap_cids": (c_bool, [*CODE, c_uint32, POINTER(c_uint32), c_size_t]),
+    "hayro_cmap_codes_of_cid": (c_int, [*CODE, POINTER(CodesInRow), c_size_t, SIZE]),
     "hayro_cmap_codespaces": (c_int, [HANDLE, c_size_t, POINTER(CodespaceRange), c_size_t, SIZE]),
     "hayro_cmap_decode": (c_int, [HANDLE, *DATA, POINTER(CodeInString), c_size_t, SIZE, SIZE]),
     "hayro_cmap_explain": (c_int, [HANDLE, *DATA, *OVER_FILES, POINTER(Fault), *ROOM]),
@@ -93,9 +113,12 @@ CALLS = {
     "hayro_cmap_layer_writing_mode": (c_int, [HANDLE, c_size_t]),
     "hayro_cmap_layers": (c_size_t, [HANDLE]),
     "hayro_cmap_message": (c_int, [POINTER(Fault), *ROOM]),
+    "hayro_cmap_notdef_ranges": (c_int, [HANDLE, c_size_t, c_uint8, POINTER(DeclaredCids), c_size_t, SIZE]),
     "hayro_cmap_open": (c_int, [HANDLE, *DATA, *OVER_FILES]),
     "hayro_cmap_share": (c_int, [HANDLE, HANDLE]),
     "hayro_cmap_text": (c_int, [HANDLE, c_uint32, *ROOM]),
+    "hayro_cmap_text_ranges": (c_int, [HANDLE, c_size_t, POINTER(DeclaredTexts), c_size_t, SIZE]),
+    "hayro_cmap_text_units": (c_int, [HANDLE, c_size_t, c_size_t, POINTER(c_uint16), c_size_t, SIZE]),
     "hayro_cmap_uses": (c_int, [*DATA, HANDLE, SIZE, c_size_t, SIZE, *ROOM]),
     "hayro_cmap_version": (c_int, ROOM),
 }

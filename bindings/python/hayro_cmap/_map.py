@@ -2,15 +2,27 @@
 
 import enum
 import struct
-from ctypes import c_int32, c_size_t, c_uint32, string_at
-from typing import List, NamedTuple, Optional
+from ctypes import c_int32, c_size_t, c_uint16, c_uint32, string_at
+from functools import cached_property
+from typing import List, NamedTuple, Optional, Tuple
 
 from ._bundle import Bundle, held
-from ._library import ABSENT, NO_MODE, NO_ROOM, OK, CodeInString, CodespaceRange, Handle
+from ._library import (
+    ABSENT,
+    NO_MODE,
+    NO_ROOM,
+    OK,
+    CodeInString,
+    CodesInRow,
+    CodespaceRange,
+    DeclaredCids,
+    DeclaredTexts,
+    Handle,
+)
 from ._owned import Owned, checked, library, put
 from ._reading import MOST_IN_CHAIN, NO_FILES, Files, budget_of, explained, fetched, gathered, no_file, table_of
 from ._reading import uses as uses_of
-from ._values import Buffer, Name, bytes_of, code_length, code_number, name_of, number
+from ._values import CODE_LENGTHS, Buffer, Name, bytes_of, cid_number, code_length, code_number, name_of, number
 
 #: A hayro_cmap_code: its fields have no gaps between them.
 CODE = struct.Struct("=IIBBBB")
@@ -63,12 +75,73 @@ class Metadata(NamedTuple):
     writing_mode: Optional[WritingMode]
 
 
-class Layer(NamedTuple):
-    """What one file of a map gives."""
+class CidRange(NamedTuple):
+    """A declaration of CIDs: the codes of `byte_len` bytes from `first` to `last`; none where `first` is greater."""
 
-    metadata: Metadata
-    #: Its codespace ranges, in order.
-    codespaces: List[Codespace]
+    first: int
+    last: int
+    #: The CID of `first`. It counts on from code to code; all codes of a notdef have the same one.
+    cid: int
+    byte_len: int
+
+
+class TextRange(NamedTuple):
+    """A declaration of texts: the codes from `first` to `last`; none where `first` is greater."""
+
+    first: int
+    last: int
+    #: The text of `first` as the file has it, so that a surrogate may stand alone. Its last unit of UTF-16 counts on
+    #: from code to code.
+    text: str
+
+
+class CodeRange(NamedTuple):
+    """The codes from `first` to `last`."""
+
+    first: int
+    last: int
+
+
+class Layer:
+    """What one file of a map gives. What it declares is read when it is first asked for, while the map is open."""
+
+    def __init__(self, cmap: "CMap", index: int):
+        self._cmap, self._index = cmap, index
+        #: What it says of itself.
+        self.metadata: Metadata = cmap._metadata(index)
+        #: Its codespace ranges, in order.
+        self.codespaces: List[Codespace] = cmap._codespaces(index)
+
+    def __repr__(self) -> str:
+        return f"Layer(metadata={self.metadata!r}, codespaces={self.codespaces!r})"
+
+    @cached_property
+    def cids(self) -> Tuple[CidRange, ...]:
+        """Its declarations of CIDs: those for codes of one byte first, each list in the order of the file."""
+        return self._cid_ranges(library.hayro_cmap_cid_ranges)
+
+    @cached_property
+    def notdefs(self) -> Tuple[CidRange, ...]:
+        """Its declarations of notdefs, in the same order."""
+        return self._cid_ranges(library.hayro_cmap_notdef_ranges)
+
+    @cached_property
+    def texts(self) -> Tuple[TextRange, ...]:
+        """Its declarations of texts, in the order of the file."""
+        declared = self._cmap._listed(library.hayro_cmap_text_ranges, DeclaredTexts, self._index)
+        return tuple(TextRange(it.first, it.last, self._text(index)) for index, it in enumerate(declared))
+
+    def _cid_ranges(self, call):
+        return tuple(
+            CidRange(it.first, it.last, it.cid, byte_len)
+            for byte_len in CODE_LENGTHS
+            for it in self._cmap._listed(call, DeclaredCids, self._index, byte_len)
+        )
+
+    def _text(self, index):
+        """The text of the declaration at an index."""
+        units = self._cmap._listed(library.hayro_cmap_text_units, c_uint16, self._index, index)
+        return struct.pack(f"<{len(units)}H", *units).decode("utf-16-le", "surrogatepass")
 
 
 class CMap(Owned):
@@ -169,6 +242,11 @@ class CMap(Owned):
         text = self._put(library.hayro_cmap_text, code_number(code))
         return None if text is None else text.decode()
 
+    def codes_of_cid(self, cid: int, byte_len: int) -> List[CodeRange]:
+        """All codes of `byte_len` bytes that have this CID, as `cid` gives it: ranges in order, without a code in two."""
+        codes = self._listed(library.hayro_cmap_codes_of_cid, CodesInRow, cid_number(cid), code_length(byte_len))
+        return [CodeRange(it.first, it.last) for it in codes]
+
     @property
     def metadata(self) -> Metadata:
         """What the file says of itself: that of layer 0."""
@@ -178,7 +256,7 @@ class CMap(Owned):
     def layers(self) -> List[Layer]:
         """The layers, 1 to 16: the file's own, then that of the file that it is based on, and so on."""
         count = self._ask(library.hayro_cmap_layers)
-        return [Layer(self._metadata(layer), self._codespaces(layer)) for layer in range(count)]
+        return [Layer(self, index) for index in range(count)]
 
     def _put(self, call, *arguments):
         """The bytes that a call on the map puts to a room, or None."""
@@ -198,8 +276,13 @@ class CMap(Owned):
         )
 
     def _codespaces(self, layer):
+        ranges = self._listed(library.hayro_cmap_codespaces, CodespaceRange, layer)
+        return [Codespace(it.low, it.high, it.byte_len) for it in ranges]
+
+    def _listed(self, call, kind, *arguments):
+        """The values of this type that a call on the map puts to a room; none where it has no answer."""
         needed, status = c_size_t(16), NO_ROOM
         while status == NO_ROOM:
-            ranges = (CodespaceRange * needed.value)()
-            status = self._ask(library.hayro_cmap_codespaces, layer, ranges, len(ranges), needed)
-        return [Codespace(it.low, it.high, it.byte_len) for it in ranges[: needed.value]]
+            room = (kind * needed.value)()
+            status = checked(self._ask(call, *arguments, room, len(room), needed))
+        return room[: needed.value] if status == OK else []

@@ -6,6 +6,9 @@ from typing import Union
 #: What holds bytes: bytes, bytearray, memoryview, mmap and the like.
 Buffer = Union[bytes, bytearray, memoryview]
 
+#: How many bytes a code may have.
+CODE_LENGTHS = range(1, 5)
+
 #: A name of a file, which is bytes. A str stands for its UTF-8.
 Name = Union[str, Buffer]
 
@@ -23,9 +26,14 @@ def code_number(code):
     return number(code, 0, 2**32 - 1, "the code")
 
 
+def cid_number(cid):
+    """A CID, which has 32 bits at the most."""
+    return number(cid, 0, 2**32 - 1, "the CID")
+
+
 def code_length(byte_len):
     """How many bytes a code has."""
-    return number(byte_len, 1, 4, "the length of a code in bytes")
+    return number(byte_len, CODE_LENGTHS[0], CODE_LENGTHS[-1], "the length of a code in bytes")
 
 
 def bytes_of(data):

@@ -3,7 +3,7 @@
 import unittest
 
 import hayro_cmap
-from hayro_cmap import CMap, Code, Codespace, Metadata, WritingMode
+from hayro_cmap import CidRange, CMap, Code, CodeRange, Codespace, Metadata, TextRange, WritingMode
 
 from .files import RESOURCES, SMALL, SMALL_V, known_files, needs_resources, predefined, uses
 
@@ -41,6 +41,14 @@ class Lookups(unittest.TestCase):
         with CMap.parse(b"1 begincidchar <00> 1 endcidchar 1 beginbfchar <01> <" + b"65E5" * 500 + b"> endbfchar") as cmap:
             self.assertEqual(cmap.text(1), "日" * 500)
 
+    def test_codes_of_cid(self):
+        with CMap.parse(SMALL + b"1 begincidchar <41> 7 endcidchar") as cmap:
+            self.assertEqual(cmap.codes_of_cid(7, 1), [CodeRange(0x26, 0x26), CodeRange(0x41, 0x41)])
+            self.assertEqual(cmap.codes_of_cid(634, 2), [CodeRange(0x8141, 0x8141)])
+            self.assertEqual(cmap.codes_of_cid(34, 1), [])
+        with CMap.parse(b"1 beginnotdefrange <00000000> <FFFFFFFF> 1 endnotdefrange") as cmap:
+            self.assertEqual(cmap.codes_of_cid(1, 4), [CodeRange(0, 2**32 - 1)])
+
     def test_decode(self):
         codes = [
             Code(0x41, 1, 34, True, False),
@@ -77,6 +85,7 @@ class Values(unittest.TestCase):
                 for call in [lambda: self.cmap.cid(code, 1), lambda: self.cmap.cid_strict(code, 1)]:
                     self.assertRaises(ValueError, call)
                 self.assertRaises(ValueError, self.cmap.text, code)
+                self.assertRaises(ValueError, self.cmap.codes_of_cid, code, 1)
                 self.assertRaises(ValueError, self.cmap.cids, code, 1, 1)
 
     def test_lengths_out_of_range(self):
@@ -85,6 +94,7 @@ class Values(unittest.TestCase):
                 self.assertRaises(ValueError, self.cmap.cid, 0x41, byte_len)
                 self.assertRaises(ValueError, self.cmap.cid_strict, 0x41, byte_len)
                 self.assertRaises(ValueError, self.cmap.cids, 0x41, 1, byte_len)
+                self.assertRaises(ValueError, self.cmap.codes_of_cid, 1, byte_len)
 
     def test_counts_out_of_range(self):
         for first, count in [(0, -1), (0, 2**32 + 1), (2**32 - 1, 2), (0, 2**64)]:
@@ -130,6 +140,37 @@ class WhatFilesSay(unittest.TestCase):
             self.assertEqual(below.metadata, Metadata(b"Small-H", b"Adobe", b"Japan1", 1, WritingMode.HORIZONTAL))
             self.assertEqual(below.codespaces, [Codespace(0, 0x80, 1), Codespace(0x8140, 0x9FFC, 2)])
             self.assertEqual(cmap.metadata, own.metadata)
+
+    def test_declarations(self):
+        text = b"/Small-H usecmap 1 beginnotdefrange <00> <1F> 99 endnotdefrange 1 begincidchar <41> 7 endcidchar"
+        with CMap.parse(text, {"Small-H": SMALL}) as cmap:
+            own, below = cmap.layers
+            self.assertEqual(own.cids, (CidRange(0x41, 0x41, 7, 1),))
+            self.assertEqual(own.notdefs, (CidRange(0, 0x1F, 99, 1),))
+            self.assertEqual(own.texts, ())
+            self.assertEqual(below.cids, (CidRange(0x20, 0x7E, 1, 1), CidRange(0x8140, 0x817E, 633, 2)))
+            self.assertEqual(below.notdefs, ())
+            self.assertEqual(below.texts, (TextRange(0x41, 0x41, "A"),))
+
+    def test_declared_texts(self):
+        text = b"beginbfrange <01> <03> <D83DDE00> <04> <04> <D83D> endbfrange beginbfchar <05> <00660069> endbfchar"
+        with CMap.parse(text) as cmap:
+            expected = [(1, 3, "\U0001F600"), (4, 4, "\ud83d"), (5, 5, "fi")]
+            self.assertEqual(cmap.layers[0].texts, tuple(TextRange(*it) for it in expected))
+
+    def test_many_declarations(self):
+        cids, text = b"<20> 1 " * 99 + b"<20> 2", b"<20> <" + b"0061" * 99 + b">"
+        with CMap.parse(b"begincidchar " + cids + b" endcidchar beginbfchar " + text + b" endbfchar") as cmap:
+            self.assertEqual(cmap.layers[0].cids, (CidRange(0x20, 0x20, 1, 1),) * 99 + (CidRange(0x20, 0x20, 2, 1),))
+            self.assertEqual(cmap.layers[0].texts, (TextRange(0x20, 0x20, "a" * 99),))
+
+    def test_declarations_of_a_closed_map(self):
+        with CMap.parse(SMALL) as cmap:
+            [layer] = cmap.layers
+            cids = layer.cids
+        self.assertIs(layer.cids, cids)
+        with self.assertRaises(ValueError):
+            layer.texts
 
     def test_nothing_said(self):
         with CMap.parse(b"") as cmap:

@@ -5,10 +5,11 @@
 //! at a time uses it. Pointers come from references and slices: they aren't null, what is behind them
 //! outlives the call, and what is behind a `&mut` overlaps with nothing else.
 
-use crate::Codespace;
+use crate::{CidRange, Codespace, TextRange};
 use std::alloc::{Layout, handle_alloc_error};
 use std::ffi::c_void;
 use std::marker::PhantomData;
+use std::ops::RangeInclusive;
 use std::ptr;
 
 const OK: u32 = 0;
@@ -68,6 +69,23 @@ pub(crate) struct RawCode {
     pub(crate) cut_short: u8,
 }
 
+/// A declaration of texts.
+#[repr(C)]
+#[derive(Clone, Copy, Default)]
+struct RawTextRange {
+    first: u32,
+    last: u32,
+    units: usize,
+}
+
+/// Codes in a row.
+#[repr(C)]
+#[derive(Clone, Copy, Default)]
+struct RawCodeRange {
+    first: u32,
+    last: u32,
+}
+
 /// Why a file gives no map.
 #[repr(C)]
 #[derive(Default)]
@@ -82,6 +100,10 @@ struct RawFault {
 
 /// A call on a layer of a map that writes bytes to a room.
 type LayerText = unsafe extern "C" fn(*mut RawMap, usize, *mut u8, usize, *mut usize) -> u32;
+
+/// A call on a layer of a map that writes declarations for codes of a length to a room.
+type LayerCids =
+    unsafe extern "C" fn(*mut RawMap, usize, u8, *mut CidRange, usize, *mut usize) -> u32;
 
 unsafe extern "C" {
     fn hayro_cmap_explain(
@@ -191,6 +213,45 @@ unsafe extern "C" {
         map: *mut RawMap,
         layer: usize,
         ranges: *mut Codespace,
+        ranges_len: usize,
+        needed: *mut usize,
+    ) -> u32;
+    fn hayro_cmap_cid_ranges(
+        map: *mut RawMap,
+        layer: usize,
+        byte_len: u8,
+        ranges: *mut CidRange,
+        ranges_len: usize,
+        needed: *mut usize,
+    ) -> u32;
+    fn hayro_cmap_notdef_ranges(
+        map: *mut RawMap,
+        layer: usize,
+        byte_len: u8,
+        ranges: *mut CidRange,
+        ranges_len: usize,
+        needed: *mut usize,
+    ) -> u32;
+    fn hayro_cmap_text_ranges(
+        map: *mut RawMap,
+        layer: usize,
+        ranges: *mut RawTextRange,
+        ranges_len: usize,
+        needed: *mut usize,
+    ) -> u32;
+    fn hayro_cmap_text_units(
+        map: *mut RawMap,
+        layer: usize,
+        index: usize,
+        units: *mut u16,
+        units_len: usize,
+        needed: *mut usize,
+    ) -> u32;
+    fn hayro_cmap_codes_of_cid(
+        map: *mut RawMap,
+        cid: u32,
+        byte_len: u8,
+        ranges: *mut RawCodeRange,
         ranges_len: usize,
         needed: *mut usize,
     ) -> u32;
@@ -488,6 +549,81 @@ impl MapHandle {
             }
         });
         ranges.unwrap_or_default()
+    }
+
+    pub(crate) fn cid_ranges(&mut self, layer: usize, byte_len: u8) -> Vec<CidRange> {
+        self.layer_cids(hayro_cmap_cid_ranges, layer, byte_len)
+    }
+
+    pub(crate) fn notdef_ranges(&mut self, layer: usize, byte_len: u8) -> Vec<CidRange> {
+        self.layer_cids(hayro_cmap_notdef_ranges, layer, byte_len)
+    }
+
+    fn layer_cids(&mut self, call: LayerCids, layer: usize, byte_len: u8) -> Vec<CidRange> {
+        let ranges = written(8, |ranges: &mut [CidRange], needed| {
+            // SAFETY: see the head of the module. `call` is one of the library.
+            unsafe { call(&mut self.0, layer, byte_len, ranges.as_mut_ptr(), ranges.len(), needed) }
+        });
+        ranges.unwrap_or_default()
+    }
+
+    pub(crate) fn text_ranges(&mut self, layer: usize) -> Vec<TextRange> {
+        let ranges = written(8, |ranges: &mut [RawTextRange], needed| {
+            // SAFETY: see the head of the module.
+            unsafe {
+                hayro_cmap_text_ranges(
+                    &mut self.0,
+                    layer,
+                    ranges.as_mut_ptr(),
+                    ranges.len(),
+                    needed,
+                )
+            }
+        });
+        let ranges = ranges.unwrap_or_default().into_iter().enumerate();
+        ranges
+            .map(|(index, range)| TextRange {
+                first: range.first,
+                last: range.last,
+                units: self.text_units(layer, index, range.units),
+            })
+            .collect()
+    }
+
+    /// The units of the declaration of texts at an index, of which there are `count`.
+    fn text_units(&mut self, layer: usize, index: usize, count: usize) -> Vec<u16> {
+        let units = written(count, |units: &mut [u16], needed| {
+            // SAFETY: see the head of the module.
+            unsafe {
+                hayro_cmap_text_units(
+                    &mut self.0,
+                    layer,
+                    index,
+                    units.as_mut_ptr(),
+                    units.len(),
+                    needed,
+                )
+            }
+        });
+        units.unwrap_or_default()
+    }
+
+    pub(crate) fn codes_of_cid(&mut self, cid: u32, byte_len: u8) -> Vec<RangeInclusive<u32>> {
+        let ranges = written(8, |ranges: &mut [RawCodeRange], needed| {
+            // SAFETY: see the head of the module.
+            unsafe {
+                hayro_cmap_codes_of_cid(
+                    &mut self.0,
+                    cid,
+                    byte_len,
+                    ranges.as_mut_ptr(),
+                    ranges.len(),
+                    needed,
+                )
+            }
+        });
+        let ranges = ranges.unwrap_or_default().into_iter();
+        ranges.map(|range| range.first..=range.last).collect()
     }
 }
 

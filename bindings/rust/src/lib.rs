@@ -16,7 +16,7 @@ mod text;
 
 pub use bundle::{Bundle, load_embedded};
 pub use collection::{CharacterCollection, CidFamily};
-pub use map::{CMap, Cid, CidRange, Codespace, Layer, StringCode};
+pub use map::{CMap, Cid, CidRange, Codespace, Layer, StringCode, TextRange};
 pub use metadata::{Metadata, WritingMode};
 pub use names::CMapName;
 pub use reading::ParseOptions;

@@ -9,6 +9,7 @@ use crate::reading::ParseOptions;
 use crate::refusal::Refusal;
 use crate::text::BfString;
 use std::fmt::{self, Debug, Formatter};
+use std::ops::RangeInclusive;
 use std::sync::Arc;
 
 /// The number of a character in a character collection. Adobe Technical Note 5014.
@@ -193,6 +194,53 @@ impl CMap {
         })
     }
 
+    /// The declarations of CIDs that a layer makes for codes of `byte_len` bytes, in the order of its
+    /// file; none where there is no such layer. The last one that contains a code decides in its layer,
+    /// and its CIDs count on from code to code.
+    ///
+    /// ```
+    /// let file = b"begincidrange <20> <7E> 1 endcidrange begincidchar <41> 7 endcidchar";
+    /// let map = hayro_cmap::CMap::parse(file, |_| None).unwrap();
+    /// let ranges = map.cid_ranges(0, 1);
+    /// assert_eq!((ranges[0].first, ranges[0].last, ranges[0].cid), (0x20, 0x7E, 1));
+    /// assert_eq!((ranges[1].first, ranges[1].last, ranges[1].cid), (0x41, 0x41, 7));
+    /// ```
+    pub fn cid_ranges(&self, layer: usize, byte_len: u8) -> Vec<CidRange> {
+        self.pool.ask(|map| map.cid_ranges(layer, byte_len))
+    }
+
+    /// The declarations of notdefs that a layer makes for codes of `byte_len` bytes, in the order of its
+    /// file. All codes of one have the same CID, where no declaration of CIDs of the layer contains them.
+    pub fn notdef_ranges(&self, layer: usize, byte_len: u8) -> Vec<CidRange> {
+        self.pool.ask(|map| map.notdef_ranges(layer, byte_len))
+    }
+
+    /// The declarations of texts that a layer makes, in the order of its file; none where there is no
+    /// such layer.
+    ///
+    /// ```
+    /// let map = hayro_cmap::CMap::parse(b"beginbfrange <41> <5A> <0061> endbfrange", |_| None).unwrap();
+    /// let ranges = map.text_ranges(0);
+    /// assert_eq!((ranges[0].first, ranges[0].last), (0x41, 0x5A));
+    /// assert_eq!(String::from_utf16(&ranges[0].units).unwrap(), "a");
+    /// ```
+    pub fn text_ranges(&self, layer: usize) -> Vec<TextRange> {
+        self.pool.ask(|map| map.text_ranges(layer))
+    }
+
+    /// All codes of `byte_len` bytes that have this CID, as [`CMap::lookup_cid_code`] gives it: ranges in
+    /// order, of which no two have a code together.
+    ///
+    /// ```
+    /// let file = b"begincidrange <20> <7E> 1 endcidrange begincidchar <41> 7 endcidchar";
+    /// let map = hayro_cmap::CMap::parse(file, |_| None).unwrap();
+    /// assert_eq!(map.codes_of_cid(7, 1), [0x26..=0x26, 0x41..=0x41]);
+    /// assert_eq!(map.codes_of_cid(34, 1), []);
+    /// ```
+    pub fn codes_of_cid(&self, cid: Cid, byte_len: u8) -> Vec<RangeInclusive<u32>> {
+        self.pool.ask(|map| map.codes_of_cid(cid, byte_len))
+    }
+
     pub(crate) fn of(mut map: MapHandle) -> CMap {
         let metadata = Arc::new(metadata_of(&mut map, 0));
         CMap { pool: Pool::new(map), metadata }
@@ -275,10 +323,28 @@ pub struct Codespace {
     pub byte_len: u32,
 }
 
-/// A range of codes with CIDs.
-///
-/// No call gives one. It is here for programs that name the type.
-#[derive(Clone, Debug)]
+/// A declaration of CIDs: the codes from `first` to `last`; none where `first` is greater.
+#[repr(C)]
+#[derive(Clone, Copy, Debug, Default, PartialEq, Eq, Hash)]
+#[non_exhaustive]
 pub struct CidRange {
-    _none: (),
+    /// The first code.
+    pub first: u32,
+    /// The last code.
+    pub last: u32,
+    /// The CID of the first code.
+    pub cid: Cid,
+}
+
+/// A declaration of texts: the codes from `first` to `last`; none where `first` is greater.
+#[derive(Clone, Debug, PartialEq, Eq, Hash)]
+#[non_exhaustive]
+pub struct TextRange {
+    /// The first code.
+    pub first: u32,
+    /// The last code.
+    pub last: u32,
+    /// The text of the first code, in UTF-16 as the file has it, so that a surrogate may stand alone.
+    /// From code to code the last unit counts on.
+    pub units: Vec<u16>,
 }

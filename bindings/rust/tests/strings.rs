@@ -1,6 +1,6 @@
 //! Strings, layers, threads, and the files of Debian's package `poppler-data`.
 
-use hayro_cmap::{BfString, CMap, CMapName, CidFamily, Codespace, WritingMode};
+use hayro_cmap::{BfString, CMap, CMapName, CidFamily, CidRange, Codespace, WritingMode};
 use std::collections::HashMap;
 use std::fs;
 use std::path::Path;
@@ -114,6 +114,46 @@ fn layers_have_their_codespaces() {
     let many = format!("begincodespacerange {} endcodespacerange", "<00> <01> ".repeat(50));
     let map = CMap::parse(many.as_bytes(), |_| None).unwrap();
     assert_eq!(map.layers()[0].codespaces, [range(0, 1, 1); 50]);
+}
+
+#[test]
+fn layers_declare_cids_and_texts() {
+    let base = b"begincidrange <20> <7E> 1 <8140> <817E> 633 endcidrange
+        beginnotdefrange <00> <1F> 99 endnotdefrange
+        beginbfrange <41> <42> <0061> <43> <43> <D83D> endbfrange
+        beginbfchar <44> <00660069> endbfchar";
+    let map = CMap::parse(b"/Base usecmap begincidchar <41> 7 endcidchar", |_| Some(base)).unwrap();
+    let cids = |layer, byte_len| cids_of(map.cid_ranges(layer, byte_len));
+    assert_eq!(cids(0, 1), [(0x41, 0x41, 7)]);
+    assert_eq!(cids(1, 1), [(0x20, 0x7E, 1)]);
+    assert_eq!(cids(1, 2), [(0x8140, 0x817E, 633)]);
+    assert_eq!([cids(0, 2), cids(1, 5), cids(2, 1)], [[], [], []]);
+    assert_eq!(cids_of(map.notdef_ranges(1, 1)), [(0, 0x1F, 99)]);
+    assert!(map.notdef_ranges(0, 1).is_empty() && map.text_ranges(0).is_empty());
+    let texts = map.text_ranges(1).into_iter().map(|range| (range.first, range.last, range.units));
+    let expected =
+        [(0x41, 0x42, vec![0x61]), (0x43, 0x43, vec![0xD83D]), (0x44, 0x44, vec![0x66, 0x69])];
+    assert_eq!(texts.collect::<Vec<_>>(), expected);
+    assert_eq!(map.codes_of_cid(7, 1), [0x26..=0x26, 0x41..=0x41]);
+    assert!(map.codes_of_cid(34, 1).is_empty());
+}
+
+fn cids_of(ranges: Vec<CidRange>) -> Vec<(u32, u32, u32)> {
+    ranges.into_iter().map(|range| (range.first, range.last, range.cid)).collect()
+}
+
+#[test]
+fn many_declarations_are_whole() {
+    let text = "<20> 1 ".repeat(99) + "<20> 2";
+    let file = format!(
+        "begincidchar {text} endcidchar beginbfchar <20> <{}> endbfchar",
+        "0061".repeat(99)
+    );
+    let map = CMap::parse(file.as_bytes(), |_| None).unwrap();
+    let mut expected = vec![(0x20, 0x20, 1); 99];
+    expected.push((0x20, 0x20, 2));
+    assert_eq!(cids_of(map.cid_ranges(0, 1)), expected);
+    assert_eq!(map.text_ranges(0)[0].units, [0x61; 99]);
 }
 
 #[test]

@@ -1,5 +1,5 @@
 -- What bytes begin with, one thing after another: the parts have one value each, and so has the whole; or a part has none, and so has the whole.
-use Rattle.std.proofs.Common.{◌≡◌, true, false, ℕ, zero, suc, ◌<◌, ◌≤◌, ◌+◌, refl, sym, ap, ◌∙◌, subst, List, [], ◌∷◌, ◌++◌, length, drop, arith, append_assoc, append-nil}
+use Rattle.std.proofs.Common.{◌≡◌, true, false, ℕ, zero, suc, ◌<◌, ◌≤◌, ◌+◌, refl, sym, ap, ◌∙◌, subst, List, [], ◌∷◌, ◌++◌, length, take, drop, arith, append_assoc, append-nil}
 use Rattle.std.specs.Prelude.{◌==◌, ◌↔◌, IfOk, IsSome, MatchOption, Option, Result, Some, None, Ok, Err}
 use Rattle.std.specs.Borrow.{Bor}
 use Rattle.std.specs.List.{IsSplitAt}
@@ -60,6 +60,12 @@ no_field width bytes none other is = none-some other.0 (none ∙ is.0)
 pub bytes_found : (Kept : Type 0) (o : Option (Bor (List ℕ))) (after : List ℕ) (size : ℕ) (bytes : List ℕ) → MatchOption o Kept (λ piece. IsSplitAt bytes size piece.now after) → IsSome o ↔ (size ≤ length bytes) → Finds (BytesAt size bytes) (λ piece. (piece.now, after)) o
 bytes_found Kept None after size bytes kept fits = λ other is. let e : false ≡ true = fits.1 is.0 in cc
 bytes_found Kept (Some piece) after size bytes split fits = record { holds = split; alone = λ other is. pair_is other (piece.now, after) (is.1 ∙ sym split.1) (is.2 ∙ sym split.2) }
+
+-- a piece that gives its whole length is one
+pub framed_alone : (before : ℕ) {bytes : List ℕ} (p q : List ℕ × List ℕ) → FramedAt before bytes p → FramedAt before bytes q → p ≡ q
+framed_alone before {bytes} p q (size, rest, field, (filled, split)) (size_q, rest_q, field_q, (filled_q, split_q)) =
+    let same : size ≡ size_q = let is : Some size ≡ Some size_q = sym field.0 ∙ field_q.0 in cc in
+    pair_is p q (split.1 ∙ ap (λ n. take n bytes) same ∙ sym split_q.1) (split.2 ∙ ap (λ n. drop n bytes) same ∙ sym split_q.2)
 
 -- no more is left after a piece than before it
 pub framed_within : (before : ℕ) {bytes piece rest : List ℕ} → FramedAt before bytes (piece, rest) → length rest ≤ length bytes

@@ -43,6 +43,10 @@ pub record SaysContent (reads : Content → Type 0) (old new : File) : Type 0 wh
 abbrev pub Adds : (Content → Type 0) → File → File → Result Unit (Fault Reason) → Type 0
 Adds reads old new = Succeeds (SaysContent reads old new) (HoldsOfNone reads)
 
+-- the same, and where it adds nothing the file stays as it is
+abbrev pub AddsWhole : (Content → Type 0) → File → File → Result Unit (Fault Reason) → Type 0
+AddsWhole reads old new = Succeeds (SaysContent reads old new) (HoldsOfNone reads × (new ≡ old))
+
 -- the bytes are segments in a row, which say together what the file says
 abbrev pub SegmentsSay : PrefixTables → List ℕ → File → Type 0
 SegmentsSay tables bytes file = (contents : List Content) × AllOf (SegmentAt tables) bytes contents × (file ≡ file_of contents)

@@ -1,5 +1,6 @@
 pub mod BinaryEntries
 pub mod BinaryFiles
+pub mod BinarySalvage
 pub mod BinarySeen
 pub mod BundleSeen
 pub mod Bundles

@@ -20,16 +20,16 @@ use std::alloc::Global;
 const MAGIC: &[u8] = b"bcmap";
 
 /// What begins one of version 1.
-const HEAD: &[u8] = b"bcmap\x01";
+pub(crate) const HEAD: &[u8] = b"bcmap\x01";
 
 /// How many bytes the header of a file has.
-const HEADER_LEN: usize = 10;
+pub(crate) const HEADER_LEN: usize = 10;
 
 /// How many bytes of a segment, its type, stand before its length.
-const TYPE_LEN: usize = 1;
+pub(crate) const TYPE_LEN: usize = 1;
 
 /// How many bytes of a segment, its type and its length, stand before its payload.
-const SEGMENT_HEAD: usize = 5;
+pub(crate) const SEGMENT_HEAD: usize = 5;
 
 /// Whether the bytes are marked as a binary file.
 pub fn is_marked_binary(bytes: &[u8]) -> bool
@@ -57,7 +57,7 @@ pub fn read_binary<'d>(
 }
 
 /// The segments of a file, which stand after its header; bytes after its length are ignored.
-fn split_body(mut bytes: &[u8]) -> Option<&[u8]>
+pub(crate) fn split_body(mut bytes: &[u8]) -> Option<&[u8]>
     ensures { Finds (BodyOf bytes.now) (λ body. body.now) result }
 {
     let file = take_framed(&mut bytes, HEAD.len())?;

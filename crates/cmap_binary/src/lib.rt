@@ -12,8 +12,10 @@ mod kinds;
 mod owned_bundle;
 mod pieces;
 pub mod prefix;
+mod salvage;
 mod segments;
 
 pub use bundle::{Bundle, load_embedded};
 pub use file::{is_marked_binary, read_binary};
 pub use owned_bundle::OwnedBundle;
+pub use salvage::salvage_binary;

@@ -6,7 +6,8 @@ ghost use Rattle.cmap_files.specs.FilesSeen.{names_seen};
 ghost use Rattle.cmap_files.specs.Outcomes.{Finds};
 ghost use Rattle.cmap_c.specs.Faults.{HasNames, HasNumbers, IsToldOf, numbers_of, possible_cause, possible_reason, reason_number, segment_number, segment_numbered, segment_of, status_of};
 
-use crate::names::{joined, put_lengths};
+use crate::names::joined;
+use crate::room::fill;
 use crate::status::Status;
 use hayro_cmap::{Cause, Reason, Refusal, Segment, Stop};
 use std::alloc::{AllocError, Global};
@@ -40,7 +41,7 @@ impl FaultNumbers {
         ensures names { HasNames result (names_seen names.now) }
     {
         let mut name_lens = [0; MOST_NAMES];
-        put_lengths(names, &mut name_lens);
+        fill(&names, &mut name_lens);
         let (cause, reason, segment, offset) = numbers_of(cause);
         FaultNumbers {
             cause,

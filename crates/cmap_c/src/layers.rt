@@ -1,12 +1,13 @@
 //! The layers of a map and their codespace ranges, for C.
 
-ghost use Rattle.std.specs.Prelude.{◌≡◌, ◌≤◌, ◌++◌, MatchOption, drop, length};
-ghost use Rattle.cmap_c.specs.Handles.{layer_in, ranges_seen, spaces_seen};
+ghost use Rattle.std.specs.Prelude.{◌≡◌, ◌≤◌, MatchOption, length};
+ghost use Rattle.cmap_c.specs.Handles.{layer_in, ranges_seen};
 ghost use Rattle.cmap_c.specs.Rooms.{IsPut};
 ghost use Rattle.cmap_c.specs.Statuses.{number};
 ghost use Rattle.cmap_c.specs.declared.status.Status.TheVariants.{Absent};
 
 use crate::handle::MapHandle;
+use crate::room::{Items, put_items};
 use crate::status::Status;
 use hayro_cmap::Codespace;
 use std::alloc::Global;
@@ -18,6 +19,27 @@ pub struct CodespaceRange {
     pub(crate) low: u32,
     pub(crate) high: u32,
     pub(crate) byte_len: u32,
+}
+
+impl<'s> Items for &'s [Codespace] {
+    type Item = CodespaceRange;
+
+    ghost use Rattle.cmap_c.specs.Handles.{ranges_seen, spaces_seen};
+
+    ghost items = { λ spaces. ranges_seen (spaces_seen spaces.now) };
+
+    fn count(&self) -> usize {
+        self.len()
+    }
+
+    fn item(&self, index: usize) -> CodespaceRange {
+        let space = self[index];
+        CodespaceRange {
+            low: space.low,
+            high: space.high,
+            byte_len: u32::from(space.len.count()),
+        }
+    }
 }
 
 /// How many layers the map has.
@@ -53,37 +75,9 @@ pub extern "C" fn hayro_cmap_codespaces(
         return Status::Absent.number();
     };
     let status = match found.value().layers().get(layer) {
-        Some(given) => put_ranges(given.codespaces(), ranges, needed),
+        Some(given) => put_items(&given.codespaces(), ranges, needed),
         None => Status::Absent.number(),
     };
     map.put(found);
     status
-}
-
-/// Writes the ranges at the head of the room, where all of them have room, and how many they are.
-fn put_ranges(spaces: &[Codespace], ranges: &mut [CodespaceRange], needed: &mut usize) -> u32
-    ensures { IsPut (ranges_seen (spaces_seen spaces.now)) ranges.old ranges.new
-        needed.new result }
-{
-    *needed = spaces.len();
-    if spaces.len() > ranges.len() {
-        return Status::NoRoom.number();
-    }
-    fill(spaces, ranges);
-    Status::Done.number()
-}
-
-/// Writes the ranges at the head of the room.
-fn fill(spaces: &[Codespace], ranges: &mut [CodespaceRange])
-    requires { length spaces.now ≤ length ranges.old }
-    ensures { ranges.new ≡ ranges_seen (spaces_seen spaces.now)
-        ++ drop (length spaces.now) ranges.old }
-{
-    for (index, space) in spaces.iter().enumerate() {
-        ranges[index] = CodespaceRange {
-            low: space.low,
-            high: space.high,
-            byte_len: u32::from(space.len.count()),
-        };
-    }
 }

@@ -3,6 +3,8 @@
 
 mod bundle;
 mod cids;
+mod codes_of_cid;
+mod declared;
 mod decode;
 mod explain;
 mod fault;

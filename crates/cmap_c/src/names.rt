@@ -1,9 +1,10 @@
 //! Names of files that go to C: their bytes one after another, and their lengths.
 
-ghost use Rattle.std.specs.Prelude.{◌≡◌, ◌≤◌, ◌++◌, IfOk, drop, length, map};
+ghost use Rattle.std.specs.Prelude.{◌≡◌, IfOk};
 ghost use Rattle.std.specs.List.{concat};
 ghost use Rattle.cmap_files.specs.FilesSeen.{names_seen};
 
+use crate::room::Items;
 use std::alloc::{AllocError, Global};
 
 /// The names, one after another.
@@ -17,13 +18,20 @@ pub(crate) fn joined(alloc: Global, names: &[&[u8]]) -> Result<Vec<u8>, AllocErr
     Ok(bytes)
 }
 
-/// Writes the lengths of the names at the head of the room.
-pub(crate) fn put_lengths(names: &[&[u8]], room: &mut [usize])
-    requires { length names.now ≤ length room.old }
-    ensures { room.new
-        ≡ map length (names_seen names.now) ++ drop (length names.now) room.old }
-{
-    for (index, name) in names.iter().enumerate() {
-        room[index] = name.len();
+/// The lengths of the names.
+impl<'n> Items for &'n [&'n [u8]] {
+    type Item = usize;
+
+    ghost use Rattle.std.specs.Prelude.{length, map};
+    ghost use Rattle.cmap_files.specs.FilesSeen.{names_seen};
+
+    ghost items = { λ names. map length (names_seen names.now) };
+
+    fn count(&self) -> usize {
+        self.len()
+    }
+
+    fn item(&self, index: usize) -> usize {
+        self[index].len()
     }
 }

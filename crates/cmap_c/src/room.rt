@@ -1,8 +1,50 @@
 //! Room that C hands in.
 
+ghost use Rattle.std.specs.Prelude.{◌≡◌, ◌≤◌, ◌<◌, ◌++◌, List, Some, drop, length, slice_get};
 ghost use Rattle.cmap_c.specs.Rooms.{IsPut};
 
 use crate::status::Status;
+
+/// A list of which C gets each item in a form of its own.
+pub(crate) trait Items {
+    /// An item as C has it.
+    type Item: Copy;
+
+    /// All items, in order.
+    ghost items: { Self → List Self.Item };
+
+    /// How many items there are.
+    fn count(&self) -> usize
+        ensures { result ≡ length (items self.now) };
+
+    /// The item at an index.
+    fn item(&self, index: usize) -> Self::Item
+        requires { index < length (items self.now) }
+        ensures { slice_get (items self.now) index ≡ Some result };
+}
+
+/// Writes the items of a list at the head of the room, where all of them have room, and how many they
+/// are.
+pub(crate) fn put_items<L: Items>(list: &L, room: &mut [L::Item], needed: &mut usize) -> u32
+    ensures { IsPut (L.items list.now) room.old room.new needed.new result }
+{
+    *needed = list.count();
+    if list.count() > room.len() {
+        return Status::NoRoom.number();
+    }
+    fill(list, room);
+    Status::Done.number()
+}
+
+/// Writes the items of a list at the head of the room.
+pub(crate) fn fill<L: Items>(list: &L, room: &mut [L::Item])
+    requires { length (L.items list.now) ≤ length room.old }
+    ensures { room.new ≡ L.items list.now ++ drop (length (L.items list.now)) room.old }
+{
+    for index in 0..list.count() {
+        room[index] = list.item(index);
+    }
+}
 
 /// Writes the items at the head of the room, where all of them have room, and how many they are.
 pub(crate) fn put<T: Copy>(items: &[T], room: &mut [T], needed: &mut usize) -> u32

@@ -13,9 +13,9 @@ ghost use Rattle.cmap_c.specs.Statuses.{number};
 ghost use Rattle.cmap_c.specs.declared.status.Status.TheVariants.{Refused, NoMemory, Done, NoRoom};
 
 use crate::bundle::BundleHandle;
-use crate::names::{joined, put_lengths};
+use crate::names::joined;
 use crate::parse::tables_of;
-use crate::room::put_bytes;
+use crate::room::{fill, put_bytes};
 use crate::status::Status;
 use hayro_cmap::CMap;
 use hayro_cmap::bcmap::{Bundle, OwnedBundle};
@@ -130,6 +130,6 @@ fn put_names(
     if used.len() > name_lens.len() || bytes.len() > room.len() {
         return Status::NoRoom.number();
     }
-    put_lengths(used, name_lens);
+    fill(&used, name_lens);
     put_bytes(&bytes, room, needed)
 }

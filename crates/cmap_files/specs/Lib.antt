@@ -1,5 +1,6 @@
 pub mod Only
 pub mod Outcomes
+pub mod Faults
 pub mod Files
 pub mod UnitsSeen
 pub mod DeclarationsSeen

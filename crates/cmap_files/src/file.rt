@@ -5,6 +5,7 @@ ghost use Rattle.cmap_files.specs.ListsAppended.{no_file};
 ghost use Rattle.cmap_files.specs.FilesSeen.{file_seen};
 
 use crate::declarations::Lists;
+use crate::fault::Stop;
 use crate::metadata::Metadata;
 use std::alloc::Global;
 
@@ -31,4 +32,12 @@ impl<'d> File<'d> {
             uses: Vec::new(alloc),
         }
     }
+}
+
+/// What a file says apart from its faults, and the faults.
+#[derive(Drop)]
+pub struct Salvaged<'d> {
+    pub file: File<'d>,
+    /// In the order of the file. Each has the offset and the reason that a refused file has.
+    pub faults: Vec<Stop>,
 }

@@ -1,5 +1,5 @@
 //! What rows of data can't show: the callers that the pages show, and tests of the order of calls, of
-//! names by their variants, of a call over a closure, of codes in a row, of many ranges, and of texts
+//! names by their variants, of a call over a closure, of codes in a row, of many ranges, and of files
 //! that are read past their faults.
 #![tactic(auto)]
 
@@ -19,5 +19,9 @@ mod examples;
 mod names;
 #[cfg(test)]
 mod salvage;
+#[cfg(test)]
+mod salvage_binary;
+#[cfg(test)]
+mod salvage_map;
 #[cfg(test)]
 mod tables;

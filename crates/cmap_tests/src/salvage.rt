@@ -1,7 +1,8 @@
 //! Texts that are read past their faults.
 
 use cmap_files::fault::Reason;
-use cmap_text::{Salvaged, salvage_text};
+use cmap_files::file::Salvaged;
+use cmap_text::salvage_text;
 use std::alloc::{AllocError, Global};
 use std::test::Fail;
 

@@ -13,3 +13,5 @@ mod PartsRead
 mod Faulted
 mod PartsDeclare
 mod WholeRead
+mod Stops
+pub mod TextFaults

@@ -2,15 +2,15 @@
 use Rattle.std.proofs.Common.{◌≡◌, ℕ, Bool, true, false, refl, sym, ap, ◌∙◌, subst, List, [], ◌∷◌, ◌++◌, append-nil}
 use Rattle.std.proofs.lemmas.Grind.{flat_map-append}
 use Rattle.std.specs.List.{AllByRecursion}
-use Rattle.std.specs.Prelude.{codes, flat_map, map, Option, Some, None, Ok, Err, option_map}
+use Rattle.std.specs.Prelude.{codes, flat_map, Option, Some, None, Ok, Err}
 use Rattle.cmap_files.proofs.ListsMade.{lists_of-append}
 use Rattle.cmap_files.specs.Files.{Declaration, Lists, lists_of}
 use Rattle.cmap_files.specs.ListsAppended.{append_lists}
 use Rattle.cmap_tokens.specs.Tokens.{Token}
-use Rattle.cmap_tokens.specs.TokensLeft.{Left, tokens_of}
+use Rattle.cmap_tokens.specs.TokensLeft.{Left}
 use Rattle.cmap_text.specs.TextFiles.{IsEntry, Section, use_word}
-use Rattle.cmap_text.specs.TextReading.{adding, Code, code_fault, code_or_closer, entry_after, is_executable, item_after, item_said, key_in, opened_by, Said, with_key, with_lists, with_other, with_use}
-use Rattle.cmap_text.specs.TokenParsers.{Found, ItemParser, Parser, done, followed_by, head, head_in, next_in, or_wrong, reads, run, run_item, takes_value, token_in, wanted}
+use Rattle.cmap_text.specs.TextReading.{adding, Code, code_fault, code_or_closer, entry_after, is_executable, item_after, item_said, key_in, opened_by, Said, with_other, with_use}
+use Rattle.cmap_text.specs.TokenParsers.{Found, ItemParser, followed_by, head, head_in, next_in, or_wrong, reads, run, run_item, takes_value, token_in, wanted}
 use Rattle.cmap_text.specs.Salvage.{AreDeclared, IsDeclaredIn, Next, item, rest_of, entry, list_of, nothing, Part, after_entry, after_item, after_list, after_rest, is_word, read_so, step_from}
 use Rattle.cmap_text.proofs.EntriesRead.{entry_there, starts}
 use Rattle.cmap_text.proofs.Moves.{Lies}

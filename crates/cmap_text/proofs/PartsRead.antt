@@ -1,9 +1,10 @@
 -- A text that is read past its faults: each part brings the reading on.
-use Rattle.std.proofs.Common.{◌≡◌, ◌≢◌, ℕ, zero, suc, ◌+◌, ◌-◌, ◌*◌, ◌<◌, ◌≤◌, Bool, true, false, refl, sym, ap, ◌∙◌, subst, List, [], ◌∷◌, ◌++◌, length, arith, inl, inr, if◌then◌else◌}
+use Rattle.std.proofs.Common.{◌≡◌, ◌≢◌, ℕ, ◌+◌, ◌-◌, ◌*◌, ◌<◌, ◌≤◌, Bool, true, false, refl, sym, ap, ◌∙◌, subst, List, [], ◌∷◌, ◌++◌, length, arith, inl, inr, if◌then◌else◌}
 use Rattle.std.proofs.lemmas.Bool.{ltb-true}
 use Rattle.std.proofs.lemmas.Option.{none-some}
 use Rattle.std.specs.Prelude.{◌⊎◌, ◌&&◌, not, min, codes, nat_lt, Option, Some, None, Ok, Err}
 use Rattle.cmap_files.specs.Files.{Lists}
+use Rattle.cmap_files.specs.Faults.{Ascend}
 use Rattle.cmap_files.specs.declared.fault.Reason.{Reason}
 use Rattle.cmap_files.specs.declared.fault.Stop.{Stop}
 use Rattle.cmap_tokens.specs.Resumption.{resumed}
@@ -12,9 +13,9 @@ use Rattle.cmap_tokens.specs.TokensLeft.{Left, IsWithin, start_of, tokens_of}
 use Rattle.cmap_tokens.proofs.Fronts.{passed_of}
 use Rattle.cmap_tokens.proofs.Within.{at, lie_within, resumed_within}
 use Rattle.cmap_text.specs.TextFiles.{Section}
-use Rattle.cmap_text.specs.TextReading.{Code, Said, code_fault, code_or_closer, entry_after, is_executable, item_after, item_said, opened_by, with_lists, with_other}
-use Rattle.cmap_text.specs.TokenParsers.{Found, Refused, head_in, next_in, offset_of, or_wrong, run, token_in}
-use Rattle.cmap_text.specs.Salvage.{Ascend, Next, item, rest_of, entry, list_of, nothing, Part, after_entry, after_item, after_list, after_missing, after_rest, after_wrong, faulted, is_word, left_after, next_after, read_so, step, step_from, stop_of, within_section}
+use Rattle.cmap_text.specs.TextReading.{Code, Said, code_fault, code_or_closer, entry_after, is_executable, item_after, item_said, opened_by, with_other}
+use Rattle.cmap_text.specs.TokenParsers.{Found, Refused, head_in, next_in, or_wrong, run, token_in}
+use Rattle.cmap_text.specs.Salvage.{Next, item, rest_of, entry, list_of, nothing, Part, after_entry, after_item, after_list, after_missing, after_rest, after_wrong, faulted, is_word, next_after, step, within_section}
 use Rattle.cmap_text.proofs.Moves.{Lies, Moves, MovesItem, MovesNext, MovesOn, Stops, StopsLater, head_moves, item_moves, next_moves, run_moves, token_moves, wrong_moves}
 
 abbrev pub weight : Next → ℕ

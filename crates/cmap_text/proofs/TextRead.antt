@@ -23,14 +23,19 @@ module _ (text : List ℕ) (left : Left) (has : HasTokens text left) where
       let (same, ends) = (has tokens).0 at in
       all_found items nothing_said left _ (subst (λ l. AreItems l items) (sym same) are) ends (said_of items ∙ ap (option_map (said_after nothing_said items)) used)
 
-  pub text_file : (said : Said) (rest : Left) (metadata : FileMetadata) → all_said nothing_said left ≡ Ok (said, rest) → IsOnly (IsMetadata said.values) metadata → IsOnly (IsTextFile text) (record { metadata = metadata; lists = said.lists; uses = said.uses })
+  pub said_file : (said : Said) (rest : Left) (metadata : FileMetadata) → all_said nothing_said left ≡ Ok (said, rest) → IsMetadata said.values metadata → IsTextFile text (record { metadata = metadata; lists = said.lists; uses = said.uses })
   unfolding IsTextFile said_after
-  text_file said rest metadata is only =
+  said_file said rest metadata is metadata_is =
       let (ends, items, are, sayings) = all_there nothing_said left (said, rest) is in
       let (names, used, after) = some_mapped (said_after nothing_said items) (names_used None items) said (sym (said_of items) ∙ sayings) in
       let values_are : last_values items ≡ said.values = values_said items ∙ ap (λ s. s.values) after in
+      (_, items, (has _).1 (refl, ends), are, used ∙ ap (λ s. Some s.uses) after, subst (λ v. IsMetadata v metadata) (sym values_are) metadata_is, ap (λ s. s.lists) (sym after))
+
+  pub text_file : (said : Said) (rest : Left) (metadata : FileMetadata) → all_said nothing_said left ≡ Ok (said, rest) → IsOnly (IsMetadata said.values) metadata → IsOnly (IsTextFile text) (record { metadata = metadata; lists = said.lists; uses = said.uses })
+  unfolding IsTextFile said_after
+  text_file said rest metadata is only =
       record {
-        holds = (_, items, (has _).1 (refl, ends), are, used ∙ ap (λ s. Some s.uses) after, subst (λ v. IsMetadata v metadata) (sym values_are) only.holds, ap (λ s. s.lists) (sym after));
+        holds = said_file said rest metadata is only.holds;
         alone = λ file (tokens, others, at, others_are, others_used, metadata_is, others_lists).
             let (end, reads) = read_items tokens others file.uses at others_are others_used in
             let same : said_after nothing_said others file.uses ≡ said = ap (λ p. p.0) (same_Ok _ (said, rest) (sym reads ∙ is)) in

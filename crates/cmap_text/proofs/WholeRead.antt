@@ -1,7 +1,7 @@
 -- A text that is read past its faults is read as without: where there is none it says the same, and the first is the one that refuses it.
 use Rattle.std.proofs.Common.{◌≡◌, ℕ, zero, suc, ◌+◌, ◌<◌, Bool, true, false, refl, sym, ap, ◌∙◌, subst, List, [], ◌∷◌, ◌++◌, length, arith, inl, inr, ◌-◌, append-nil, append_assoc}
-use Rattle.std.proofs.lemmas.Bool.{cases_Bool, cases_lt}
-use Rattle.std.specs.Prelude.{codes, Option, Some, None, Result, Ok, Err}
+use Rattle.std.proofs.lemmas.Bool.{cases_lt}
+use Rattle.std.specs.Prelude.{codes, Option, Some, None, Ok, Err}
 use Rattle.cmap_tokens.specs.Tokens.{Token}
 use Rattle.cmap_tokens.specs.TokensLeft.{HasTokens, Left, start_of, tokens_of}
 use Rattle.cmap_files.specs.Files.{File, FileMetadata, Lists}
@@ -226,7 +226,7 @@ module _ (text : List ℕ) where
     abbrev left : Left
     left = tokens_of (start_of text)
 
-    salvage_ok : (p : Said × Left) → all_said nothing_said left ≡ Ok p → (said ≡ p.0) × (faults ≡ [])
+    pub salvage_ok : (p : Said × Left) → all_said nothing_said left ≡ Ok p → (said ≡ p.0) × (faults ≡ [])
     salvage_ok p is =
         let reaches = subst (λ f. Simulates f (at_next item nothing_said left []) [] (ends_all [])) is (all_sim [] nothing_said left) in
         let (n, end, there) = salvages in
@@ -234,7 +234,7 @@ module _ (text : List ℕ) where
         let ends : at_next nothing p.0 p.1 [] ≡ at_next nothing said end faults = sym (stays m p.0 p.1 []) ∙ same in
         (sym (ap (λ q. q.said) ends), sym (ap (λ q. q.faults) ends))
 
-    salvage_err : (e : Refused) → all_said nothing_said left ≡ Err e → (more : List Stop) × (faults ≡ stop_of (length text) e ∷ more)
+    pub salvage_err : (e : Refused) → all_said nothing_said left ≡ Err e → (more : List Stop) × (faults ≡ stop_of (length text) e ∷ more)
     salvage_err e is =
         let (q, reaches, adds) = subst (λ f. Simulates f (at_next item nothing_said left []) [] (ends_all [])) is (all_sim [] nothing_said left) in
         let (n, end, there) = salvages in

@@ -1,5 +1,5 @@
 -- What a text says apart from its faults: how reading goes on after each.
-use Rattle.std.specs.Prelude.{◌≡◌, ◌≤◌, ◌&&◌, ℕ, zero, suc, not, nat_lt, min, Bool, true, false, List, [], ◌∷◌, ◌++◌, length, bytes_eq, codes, flat_map, map, Option, Some, None, Ok, Err, if◌then◌else◌}
+use Rattle.std.specs.Prelude.{◌≡◌, ◌&&◌, ℕ, zero, suc, not, nat_lt, min, Bool, false, List, [], ◌∷◌, ◌++◌, length, bytes_eq, codes, flat_map, map, Option, Some, None, Ok, Err, if◌then◌else◌}
 use Rattle.std.specs.List.{AllByRecursion, list_any}
 use Rattle.cmap_tokens.specs.Resumption.{resumed}
 use Rattle.cmap_tokens.specs.Tokens.{Token}
@@ -130,11 +130,6 @@ Salvages text said faults = (n : ℕ) × (left : Left) × (parts text n (at_star
 
 abbrev pub SalvagesFile : List ℕ → File → List Stop → Type 0
 SalvagesFile text file faults = (said : Said) × Salvages text said faults × IsMetadata said.values file.metadata × (file.lists ≡ said.lists) × (file.uses ≡ said.uses)
-
--- the offsets ascend, from low to high
-abbrev pub Ascend : ℕ → List Stop → ℕ → Type 0
-Ascend low [] high = low ≤ high
-Ascend low (stop ∷ stops) high = (low ≤ stop.offset) × Ascend stop.offset stops high
 
 -- the first is the fault for which a text is refused that is read up to its first one
 abbrev pub BeginsRefused : List ℕ → List Stop → Type 0

@@ -11,4 +11,4 @@ mod tokens;
 mod wrong_token;
 
 pub use file::read_text;
-pub use salvage::{Salvaged, salvage_text};
+pub use salvage::salvage_text;

@@ -4,11 +4,12 @@ ghost use Rattle.std.specs.Prelude.{◌≡◌, ◌↔◌, [], None, false, lengt
 ghost use Rattle.cmap_tokens.specs.TokenSeen.{token_seen};
 ghost use Rattle.cmap_tokens.specs.TokensLeft.{start_of, tokens_of};
 ghost use Rattle.cmap_files.specs.DeclarationsSeen.{lists_seen};
+ghost use Rattle.cmap_files.specs.Faults.{Ascend};
 ghost use Rattle.cmap_files.specs.Files as files;
 ghost use Rattle.cmap_files.specs.FilesSeen.{file_seen};
 ghost use Rattle.cmap_files.specs.Only.{HoldsOfNone};
 ghost use Rattle.cmap_text.specs.EntriesSeen.{refused_seen};
-ghost use Rattle.cmap_text.specs.Salvage.{AreDeclared, Ascend, BeginsRefused, Salvages, SalvagesFile, entry, faulted, list_of, nothing, rest_of, step};
+ghost use Rattle.cmap_text.specs.Salvage.{AreDeclared, BeginsRefused, Salvages, SalvagesFile, entry, faulted, list_of, nothing, rest_of, step};
 ghost use Rattle.cmap_text.specs.Salvage as salvage;
 ghost use Rattle.cmap_text.specs.SalvageSeen.{ReadsPart, next_seen, part_of};
 ghost use Rattle.cmap_text.specs.TextFiles.{IsTextFile};
@@ -22,17 +23,9 @@ use crate::sections::{Section, next_start, read_entry};
 use crate::tokens::{TokenReader, is_executable, is_word};
 use crate::wrong_token::{WrongToken, wrong};
 use cmap_files::fault::{Fault, Reason, Stop};
-use cmap_files::file::File;
+use cmap_files::file::{File, Salvaged};
 use cmap_tokens::token::Token;
 use std::alloc::{AllocError, Global};
-
-/// What a text says apart from its faults, and the faults.
-#[derive(Drop)]
-pub struct Salvaged<'d> {
-    pub file: File<'d>,
-    /// In the order of the text. Each has the offset and the reason that a refused file has.
-    pub faults: Vec<Stop>,
-}
 
 /// What comes next.
 #[derive(Clone, Copy)]

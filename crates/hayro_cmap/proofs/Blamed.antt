@@ -39,7 +39,7 @@ module _ (tables : Option PrefixTables) (answer : List ℕ → Option (List ℕ)
     of_file_used : (cause : Cause) (names : List (List ℕ)) → IsFault tables answer (suc n) base names cause → IsUseFault tables answer below name (name ∷ names) cause
     of_file_used cause names fault = (refl, inr (base, said, subst (λ m. IsFault tables answer m base names cause) room fault))
 
-    leads_use : ((names : List (List ℕ)) → GoesOverAt (of_file (Means tables) answer (suc n)) base budget names → GoesOverAt (of_use (Means tables) answer below) name budget (name ∷ names))
+    pub leads_use : ((names : List (List ℕ)) → GoesOverAt (of_file (Means tables) answer (suc n)) base budget names → GoesOverAt (of_use (Means tables) answer below) name budget (name ∷ names))
         → (cause : Cause) (names : List (List ℕ)) → IsFaultWithin tables answer budget (suc n) base names cause → IsUseFaultWithin tables answer budget below name (name ∷ names) cause
     leads_use over (Malformed stop) names fault = of_file_used (Malformed stop) names fault
     leads_use over NoFile names fault = of_file_used NoFile names fault

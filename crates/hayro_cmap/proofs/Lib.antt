@@ -8,3 +8,7 @@ pub mod OneName
 pub mod OneUse
 pub mod UsesInOrder
 pub mod WholeFile
+pub mod BytesPastFaults
+pub mod PastFaults
+pub mod SalvagedMaps
+pub mod Walked

@@ -7,3 +7,5 @@ pub mod Refusals
 pub mod Maps
 pub mod NamedFiles
 pub mod Opened
+pub mod Salvage
+pub mod SalvageSeen

@@ -1,6 +1,6 @@
 //! A budget for the bytes of the files that are opened.
 
-ghost use Rattle.std.specs.Prelude.{◌≡◌, OnOk, IfErr};
+ghost use Rattle.std.specs.Prelude.{◌≡◌, OnErr, OnOk, IfErr};
 ghost use Rattle.hayro_cmap.specs.Budgets.{IsOver};
 ghost use Rattle.hayro_cmap.specs.BytesSpent.{Leaves};
 ghost use Rattle.hayro_cmap.specs.declared.refusal.Cause.TheVariants.{OverBudget};
@@ -35,6 +35,7 @@ pub(crate) fn spend(left: &mut Option<u64>, count: usize) -> Result<(), Fault<Ca
     ensures spent { OnOk result (Leaves left.old count left.new) }
     ensures over { IfErr result
         (λ error. (error ≡ Refused OverBudget) × IsOver left.old count) }
+    ensures same { OnErr result (left.new ≡ left.old) }
 {
     if let Some(budget) = *left {
         let count = count as u64;

@@ -108,7 +108,11 @@ fn find_used<'a, S: Source>(
 }
 
 /// The layer of a file over the layers that it is based on.
-fn put_over(alloc: Global, file: File<'_>, base: Vec<Layer>) -> Result<Vec<Layer>, AllocError>
+pub(crate) fn put_over(
+    alloc: Global,
+    file: File<'_>,
+    base: Vec<Layer>,
+) -> Result<Vec<Layer>, AllocError>
     ensures { IfOk result
         (λ layers. layers_seen layers.items
         ≡ layer_of (file_seen file.entry) ∷ layers_seen base.items) }

@@ -7,6 +7,7 @@ mod chain;
 mod map;
 mod named_files;
 mod refusal;
+mod salvage;
 mod source;
 
 pub use budget::ParseError;
@@ -28,6 +29,7 @@ pub use cmap_tokens::utf16::{self, BfString};
 pub use map::CMap;
 pub use named_files::{BundleFiles, NamedFile, NamedFiles};
 pub use refusal::{Cause, Refusal};
+pub use salvage::SalvagedMap;
 pub use source::Source;
 
 /// The parts of the binary form of CMap files: bits and numbers, prefix tables, bundles.

@@ -1,6 +1,6 @@
 //! Maps: what the codes of a CMap file stand for.
 
-ghost use Rattle.std.specs.Prelude.{◌≡◌, ◌≢◌, ◌*◌, ◌^◌, [], ◌∷◌, ◌≤◌, ◌<◌, IfErr, IfOk, IfSome, IfNone, IsErrOf, IsSome, IsSomeAnd, OnErr, OnOk, MatchOption, Some, codes, is_some, length, option_map};
+ghost use Rattle.std.specs.Prelude.{◌⊎◌, ◌≡◌, ◌≢◌, ◌*◌, ◌^◌, [], ◌∷◌, ◌≤◌, ◌<◌, IfErr, IfOk, IfSome, IfNone, IsErrOf, IsSome, IsSomeAnd, OnErr, OnOk, MatchOption, Some, codes, is_some, length, option_map};
 ghost use Rattle.std.specs.Option.{option_copied};
 ghost use Rattle.cmap_files.specs.CodeLengths.{IsCodeLength, length_of};
 ghost use Rattle.cmap_runs.specs.SearchLooks.{LooksAtMost};
@@ -18,6 +18,8 @@ ghost use Rattle.hayro_cmap.specs.Maps.{ExceedsBudget, FitsBudget, HasNoMap, IsM
 ghost use Rattle.hayro_cmap.specs.Opened.{ExceedsBudgetNamed, FitsBudgetNamed, HasNoMapNamed, IsIdentity, IsMapNamed, IsNoIdentity, IsUnknown, LeadsToFaultNamed};
 ghost use Rattle.cmap_layers.specs.LayersSeen.{layers_seen, metadata_seen, mode_seen};
 ghost use Rattle.cmap_layers.specs.Layers.{top_metadata};
+ghost use Rattle.hayro_cmap.specs.Salvage.{BeginsWithFault, GivesMap, SalvagesMap};
+ghost use Rattle.hayro_cmap.specs.SalvageSeen.{faults_seen};
 ghost use Rattle.cmap_layers.specs.Lookups.{InCodespace, bf_of, cid_of};
 ghost use Rattle.cmap_layers.specs.CodeStretches.{AreCodesBelow, IsCidStretch, IsTextStretch};
 ghost use Rattle.cmap_layers.specs.Rows.{AreCidsOf};
@@ -31,6 +33,7 @@ ghost use Rattle.hayro_cmap.specs.declared.refusal.Cause.TheVariants as Cause;
 use crate::budget::ParseError;
 use crate::chain::{MOST_FILES, find_layers, layer_over, read_file};
 use crate::refusal::{Cause, Refusal};
+use crate::salvage::{SalvagedMap, Walk, salvage_layers};
 use crate::source::{FilesByName, Source};
 use cmap_binary::Bundle;
 use cmap_files::character_collection::{CharacterCollection, CidFamily};
@@ -236,6 +239,49 @@ impl CMap {
                 Err(AllocError) => Err(Fault::Memory),
             },
         }
+    }
+
+    /// What the CMap file `data` says over the files that it uses, apart from their faults, and the
+    /// faults. Of a file that `parse_from` accepts it is that map, and there is no fault; of another
+    /// one, the first fault is the one for which it is refused.
+    ///
+    /// A file is read past its faults. A use without a file, or for which the chain has no room, is a
+    /// fault too, and gives no layers. After a chain that is too long no further file is opened, and
+    /// the uses that follow are passed over. A file that would pass the budget isn't read, and gives a
+    /// layer that says nothing.
+    ///
+    /// It fails only if memory runs out.
+    pub fn salvage<'a, S: Source>(
+        alloc: Global,
+        budget: Option<u64>,
+        data: &'a [u8],
+        bundle: Option<&Bundle<'_>>,
+        source: &'a S,
+    ) -> Result<SalvagedMap<'a>, AllocError>
+        requires can_ask { S.can_ask source.now }
+        requires by_name { IsByName (S.answers source.now) }
+        ensures says { IfOk result (λ found.
+            SalvagesMap (tables_given bundle.entry) (S.answers source.now) «data».now budget
+            found.map (faults_seen found.faults.items)) }
+
+        // Of a file that has a map, for which the budget suffices, it gives that map and no fault.
+        ensures right { IfOk result (λ found.
+            GivesMap (tables_given bundle.entry) (S.answers source.now) «data».now budget
+            found.map (faults_seen found.faults.items)) }
+
+        // Of another one, the first fault is one for which it is refused.
+        ensures wrong { IfOk result (λ found.
+            HasNoMap (tables_given bundle.entry) (S.answers source.now) «data».now
+            ⊎ ExceedsBudget (tables_given bundle.entry) (S.answers source.now) «data».now budget
+            → BeginsWithFault (tables_given bundle.entry) (S.answers source.now) «data».now budget
+            (faults_seen found.faults.items)) }
+    {
+        let mut walk = Walk::new(alloc, budget);
+        let layers = salvage_layers(alloc, data, bundle, source, MOST_FILES - 1, &mut walk)?;
+        Ok(SalvagedMap {
+            map: CMap { layers },
+            faults: walk.faults,
+        })
     }
 
     /// The names of the files that the CMap file `data` uses, in order; `None` where it is outside the

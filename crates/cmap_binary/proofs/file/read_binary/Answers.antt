@@ -1,11 +1,11 @@
-use Rattle.std.proofs.Common.{ℕ, ◌≤◌, ◌+◌, List, length, refl, ap, subst, arith}
-use Rattle.std.proofs.lemmas.List.{length-drop}
+use Rattle.std.proofs.Common.{ℕ, List, refl, subst, arith}
 use Rattle.cmap_files.specs.Only.{IsOnly, HoldsOfNone}
 use Rattle.cmap_binary.specs.Bundles.{PrefixTables}
 use Rattle.cmap_binary.specs.BundleSeen.{tables_seen}
 use Rattle.cmap_binary.specs.BinaryFiles.{BodyOf, IsBinaryFile, SegmentAt}
 use Rattle.cmap_binary.specs.BinarySeen.{SegmentsSay}
 use Rattle.cmap_binary.specs.Fronts.{AllOf}
+use Rattle.cmap_binary.proofs.Bodies.{body_within}
 use Rattle.cmap_binary.proofs.Fronts.{Continues, continues_only, continues_none}
 use Rattle.cmap_files.proofs.Outcomes.{passed_on}
 use Rattle.cmap_binary.proofs.file.read_binary.Goals as goal
@@ -20,10 +20,6 @@ body_says tables bytes body only = record {
   made = λ file (contents, all, is). (body, contents, only.holds, all, is);
   parts = λ file (other, contents, at, all, is). (file, (contents, subst (λ b. AllOf (SegmentAt tables) b contents) (only.alone other at) all, is), refl);
 }
-
--- the body stands after a header of ten bytes
-body_within : (bytes body : List ℕ) → BodyOf bytes body → 10 + length body ≤ length bytes
-body_within bytes body (file, after, (size, rest, field, (filled, split)), (head, is)) = omega (arith, split.3, split.4, filled, ap length is, length-drop 10 file)
 
 pub returns-in_default : goal.returns-in_default
 returns-in_default c = (tt, (no_body _ _ c.in_default.ensures, omega arith))

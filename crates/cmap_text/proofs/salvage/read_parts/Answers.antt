@@ -1,10 +1,10 @@
-use Rattle.std.proofs.Common.{◌≢◌, [], refl, sym, ap, ◌∙◌, subst, arith, length}
+use Rattle.std.proofs.Common.{◌≢◌, [], sym, ap, ◌∙◌, subst, arith, length}
 use Rattle.std.proofs.lemmas.Bool.{false≢true}
+use Rattle.cmap_files.specs.Faults.{Ascend}
 use Rattle.cmap_tokens.specs.TokensLeft.{start_of, tokens_of}
-use Rattle.cmap_text.specs.Salvage.{AreDeclared, Ascend, item, nothing}
+use Rattle.cmap_text.specs.Salvage.{AreDeclared, item, nothing}
 use Rattle.cmap_text.specs.SalvageSeen.{next_seen, part_of}
 use Rattle.cmap_text.specs.TextSeen.{said_seen}
-use Rattle.cmap_text.proofs.Moves.{Lies}
 use Rattle.cmap_text.proofs.PartsDeclare.{step_declares}
 use Rattle.cmap_text.proofs.PartsRead.{ascend_onward, lies_start, part_onward, reach_passed}
 use Rattle.cmap_text.proofs.WholeRead.{reaches_more, reaches_none}

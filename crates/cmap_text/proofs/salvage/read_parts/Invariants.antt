@@ -1,7 +1,8 @@
 use Rattle.std.proofs.Common.{◌≡◌, length, []}
 use Rattle.cmap_files.specs.DeclarationsSeen.{lists_seen}
+use Rattle.cmap_files.specs.Faults.{Ascend}
 use Rattle.cmap_tokens.specs.TokensLeft.{start_of, tokens_of}
-use Rattle.cmap_text.specs.Salvage.{AreDeclared, Ascend, item}
+use Rattle.cmap_text.specs.Salvage.{AreDeclared, item}
 use Rattle.cmap_text.specs.SalvageSeen.{next_seen, part_of}
 use Rattle.cmap_text.specs.TextReading.{nothing_said}
 use Rattle.cmap_text.specs.TextSeen.{said_seen}

@@ -1,0 +1,14 @@
+use Rattle.cmap_binary.proofs.BinarySalvaged.{fault_without_file, salvage_ascends, whole_salvaged}
+use Rattle.cmap_binary.proofs.salvage.salvage_binary.Goals as goal
+
+pub returns-clause-says : goal.returns-clause-says
+returns-clause-says c = (c.in_ok-body.body.now, c.salvage_body.new.faults.items, c.in_ok-body.ensures c.new-faults.ensures.items, c.in_ok-salvage_segments.ensures)
+
+pub returns-clause-file : goal.returns-clause-file
+returns-clause-file c = whole_salvaged (returns-clause-says c)
+
+pub returns-clause-first : goal.returns-clause-first
+returns-clause-first c = fault_without_file (returns-clause-says c)
+
+pub returns-clause-ascend : goal.returns-clause-ascend
+returns-clause-ascend c = salvage_ascends (returns-clause-says c)

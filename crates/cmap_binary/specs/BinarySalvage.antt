@@ -1,0 +1,57 @@
+-- What a binary file says apart from its faults: each segment by itself.
+use Rattle.std.specs.Prelude.{◌≡◌, ◌≢◌, ℕ, ◌+◌, ◌≤◌, List, [], ◌∷◌, ◌++◌, length, take, drop, slice_index}
+use Rattle.cmap_files.specs.Files.{File}
+use Rattle.cmap_files.specs.Only.{IsOnly, HoldsOfNone}
+use Rattle.cmap_files.specs.declared.fault.Reason.{Reason}
+use Rattle.cmap_files.specs.declared.fault.Reason.TheVariants.{Header, SegmentLength}
+use Rattle.cmap_files.specs.declared.fault.Stop.{Stop}
+use Rattle.cmap_binary.specs.Bundles.{PrefixTables}
+use Rattle.cmap_binary.specs.BinaryFiles.{BodyOf, Content, IsSegment, file_of, magic}
+use Rattle.cmap_binary.specs.Fronts.{BytesAt, FramedAt, GivesIf, Then}
+
+-- a segment, with its type and its length, says this
+abbrev pub SegmentSays : PrefixTables → List ℕ → Content → Type 0
+SegmentSays tables segment = IsSegment tables (slice_index segment 0) (drop 5 segment)
+
+-- the bytes stand at this offset of a file: what their segments say, and the faults
+pub data SegmentsFrom (tables : PrefixTables) : ℕ → List ℕ → List Content → List Stop → Type 0 where
+  -- the end
+  ended : {offset : ℕ} → SegmentsFrom tables offset [] [] []
+  -- what is no whole segment is the last fault
+  cut_short : {offset : ℕ} {bytes : List ℕ} → bytes ≢ [] → HoldsOfNone (FramedAt 1 bytes)
+      → SegmentsFrom tables offset bytes [] (record { offset = offset; reason = SegmentLength } ∷ [])
+  -- a segment that says something
+  said : {offset : ℕ} {bytes segment rest : List ℕ} {content : Content} {contents : List Content} {faults : List Stop} → FramedAt 1 bytes (segment, rest) → IsOnly (SegmentSays tables segment) content
+      → SegmentsFrom tables (offset + length segment) rest contents faults → SegmentsFrom tables offset bytes (content ∷ contents) faults
+  -- a segment at fault says nothing
+  at_fault : {offset : ℕ} {bytes segment rest : List ℕ} {contents : List Content} {faults : List Stop} → (reason : Reason) → FramedAt 1 bytes (segment, rest) → HoldsOfNone (SegmentSays tables segment)
+      → SegmentsFrom tables (offset + length segment) rest contents faults → SegmentsFrom tables offset bytes contents (record { offset = offset; reason = reason } ∷ faults)
+
+-- what follows a header of version 1, whatever length it gives
+abbrev pub AfterHeader : List ℕ → List ℕ → Type 0
+AfterHeader bytes = Then (BytesAt 10 bytes) (λ header rest. GivesIf (take 6 header ≡ magic ++ 1 ∷ []) rest)
+
+-- the fault of a header
+abbrev pub header_fault : Stop
+header_fault = record { offset = 0; reason = Header }
+
+-- the bytes that are read as segments, and the fault of the header, if there is one
+pub data BodyRead (bytes : List ℕ) : List ℕ → List Stop → Type 0 where
+  -- a file is read up to the length that its header gives
+  whole : {body : List ℕ} → BodyOf bytes body → BodyRead bytes body []
+  -- where the length is wrong, all that follows the header is read
+  wrong_length : {body : List ℕ} → HoldsOfNone (BodyOf bytes) → AfterHeader bytes body → BodyRead bytes body (header_fault ∷ [])
+  -- without a header nothing is read
+  no_header : HoldsOfNone (AfterHeader bytes) → BodyRead bytes [] (header_fault ∷ [])
+
+-- the segments after a header say together what the file says, and their faults come after the first ones
+abbrev pub SegmentsSalvaged : PrefixTables → List ℕ → File → List Stop → List Stop → Type 0
+SegmentsSalvaged tables body file first faults = (contents : List Content) × (later : List Stop) × SegmentsFrom tables 10 body contents later × (file ≡ file_of contents) × (faults ≡ first ++ later)
+
+-- what a binary file says apart from its faults, and the faults
+abbrev pub SalvagesBinary : PrefixTables → List ℕ → File → List Stop → Type 0
+SalvagesBinary tables bytes file faults = (body : List ℕ) × (first : List Stop) × BodyRead bytes body first × SegmentsSalvaged tables body file first faults
+
+-- there is a fault, and the first one lies within this many bytes
+abbrev pub BeginsWithin : ℕ → List Stop → Type 0
+BeginsWithin len faults = (stop : Stop) × (more : List Stop) × (faults ≡ stop ∷ more) × (stop.offset ≤ len)

@@ -1,0 +1,123 @@
+//! What a binary file says apart from its faults: reading goes on after each.
+
+ghost use Rattle.std.specs.Prelude.{◌≡◌, [], IfOk, OnOk, length};
+ghost use Rattle.cmap_files.specs.Faults.{Ascend};
+ghost use Rattle.cmap_files.specs.Files as files;
+ghost use Rattle.cmap_files.specs.FilesSeen.{file_seen};
+ghost use Rattle.cmap_files.specs.ListsAppended.{no_file};
+ghost use Rattle.cmap_files.specs.Only.{HoldsOfNone};
+ghost use Rattle.cmap_files.specs.Outcomes.{Finds};
+ghost use Rattle.cmap_binary.specs.BinaryFiles.{IsBinaryFile, IsSegment};
+ghost use Rattle.cmap_binary.specs.BinarySalvage.{AfterHeader, BeginsWithin, BodyRead, SalvagesBinary, SegmentsSalvaged};
+ghost use Rattle.cmap_binary.specs.BinarySeen.{AddsWhole};
+ghost use Rattle.cmap_binary.specs.BundleSeen.{bundle_seen, tables_seen};
+
+use crate::bundle::{Bundle, Tables};
+use crate::file::{HEAD, HEADER_LEN, SEGMENT_HEAD, TYPE_LEN, split_body};
+use crate::pieces::take_framed;
+use crate::segments::read_segment;
+use cmap_files::fault::{Fault, Reason, Stop};
+use cmap_files::file::{File, Salvaged};
+use std::alloc::{AllocError, Global};
+
+/// What a binary file says apart from its faults, by the tables of a bundle, and the faults. A segment
+/// at fault says nothing, and the others stay. Bytes that don't begin with a header of version 1 say
+/// nothing.
+///
+/// It fails only if memory runs out.
+pub fn salvage_binary<'d>(
+    alloc: Global,
+    bundle: &Bundle<'_>,
+    bytes: &'d [u8],
+) -> Result<Salvaged<'d>, AllocError>
+    // Each segment is read by itself, as `SegmentsFrom` says.
+    ensures says { IfOk result (λ found. SalvagesBinary (bundle_seen bundle.now).tables bytes.now
+        (file_seen found.file) found.faults.items) }
+
+    // Of a file it gives just that, and no fault.
+    ensures file { IfOk result (λ found. (file : files.File)
+        → IsBinaryFile (bundle_seen bundle.now).tables bytes.now file
+        → (file_seen found.file ≡ file) × (found.faults.items ≡ [])) }
+
+    // Of other bytes there is a fault.
+    ensures first { IfOk result (λ found. HoldsOfNone (IsBinaryFile (bundle_seen bundle.now).tables bytes.now)
+        → BeginsWithin (length bytes.now) found.faults.items) }
+
+    // The faults are in order, and in the bytes.
+    ensures ascend { IfOk result (λ found. Ascend 0 found.faults.items (length bytes.now)) }
+{
+    let mut faults = Vec::new(alloc);
+    let body = salvage_body(bytes, &mut faults)?;
+    let mut file = File::new(alloc);
+    salvage_segments(alloc, &bundle.tables, body, &mut file, &mut faults)?;
+    Ok(Salvaged { file, faults })
+}
+
+/// The bytes that are read as segments. A fault of the header is added.
+fn salvage_body<'d>(bytes: &'d [u8], faults: &mut Vec<Stop>) -> Result<&'d [u8], AllocError>
+    ensures { IfOk result (λ body. faults.old.items ≡ []
+        → BodyRead bytes.now body.now faults.new.items) }
+{
+    if let Some(body) = split_body(bytes) {
+        return Ok(body);
+    }
+    let (offset, reason) = (0, Reason::Header);
+    faults.push(Stop { offset, reason })?;
+    Ok(after_header(bytes).unwrap_or(&[]))
+}
+
+/// What follows a header of version 1, whatever length it gives.
+fn after_header(bytes: &[u8]) -> Option<&[u8]>
+    ensures { Finds (AfterHeader bytes.now) (λ rest. rest.now) result }
+{
+    let (header, rest) = bytes.split_at_checked(HEADER_LEN)?;
+    if !header.starts_with(HEAD) {
+        return None;
+    }
+    Some(rest)
+}
+
+/// Reads all the segments after the header, and adds what they say to a file that says nothing.
+fn salvage_segments<'d>(
+    alloc: Global,
+    tables: &Tables,
+    body: &'d [u8],
+    file: &mut File<'d>,
+    faults: &mut Vec<Stop>,
+) -> Result<(), AllocError>
+    requires { file_seen file.old ≡ no_file }
+    ensures { OnOk result (SegmentsSalvaged (tables_seen tables.now) body.now (file_seen file.new)
+        faults.old.items faults.new.items) }
+{
+    let mut segments = body;
+    while !segments.is_empty() {
+        let offset = HEADER_LEN + (body.len() - segments.len());
+        let Some(segment) = take_framed(&mut segments, TYPE_LEN) else {
+            let reason = Reason::SegmentLength;
+            faults.push(Stop { offset, reason })?;
+            return Ok(());
+        };
+        match try_segment(alloc, tables, segment[0], &segment[SEGMENT_HEAD..], file) {
+            Ok(()) => {}
+            Err(Fault::Refused(reason)) => faults.push(Stop { offset, reason })?,
+            Err(Fault::Memory) => return Err(AllocError),
+        }
+    }
+    Ok(())
+}
+
+/// Reads a segment, and adds what it says to the file. Where it is at fault the file stays as it is: so
+/// it is read into another file first.
+fn try_segment<'d>(
+    alloc: Global,
+    tables: &Tables,
+    number: u8,
+    payload: &'d [u8],
+    file: &mut File<'d>,
+) -> Result<(), Fault<Reason>>
+    ensures { AddsWhole (IsSegment (tables_seen tables.now) number payload.now)
+        (file_seen file.old) (file_seen file.new) result }
+{
+    read_segment(alloc, tables, number, payload, &mut File::new(alloc))?;
+    read_segment(alloc, tables, number, payload, file)
+}

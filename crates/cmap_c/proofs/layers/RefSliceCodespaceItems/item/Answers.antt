@@ -1,0 +1,11 @@
+use Rattle.cmap_files.specs.DeclarationsSeen.{codespace_seen}
+use Rattle.cmap_files.specs.declared.code_length.CodeLength.TheVariants.{One}
+use Rattle.cmap_c.specs.Handles.{range_seen}
+use Rattle.cmap_c.proofs.FilledRows.{mapped_index}
+use Rattle.cmap_c.proofs.layers.RefSliceCodespaceItems.item.Goals as goal
+
+pub returns : goal.returns
+returns c =
+    let from = c.from.ensures in
+    let count = c.count.ensures in
+    rw (from, count) (mapped_index codespace_seen range_seen c.args.self.now.now c.args.index (record { len = One; low = 0; high = 0 }) c.requires)

@@ -1,0 +1,222 @@
+//! What the file of a layer declares for its codes, for C.
+
+ghost use Rattle.std.specs.Prelude.{◌≡◌, MatchOption, Some, option_map};
+ghost use Rattle.std.specs.Option.{option_copied};
+ghost use Rattle.cmap_files.specs.DeclarationsSeen.{bf_entry_seen};
+ghost use Rattle.cmap_layers.specs.LayersSeen.{layer_seen};
+ghost use Rattle.cmap_c.specs.Ranges.{cids_declared, notdefs_declared, text_in, texts_declared};
+ghost use Rattle.cmap_c.specs.Handles.{layer_in};
+ghost use Rattle.cmap_c.specs.Rooms.{IsPut};
+ghost use Rattle.cmap_c.specs.Statuses.{number};
+ghost use Rattle.cmap_c.specs.declared.status.Status.TheVariants.{Absent};
+
+use crate::handle::MapHandle;
+use crate::room::{Items, put, put_items};
+use crate::status::Status;
+use cmap_runs::runs::{Looks, Table};
+use hayro_cmap::{BfRange, CMap, CidRange, CodeLength, Layer};
+use std::alloc::Global;
+
+/// A declaration of CIDs: the codes from `first` to `last`, and the CID of the first of them.
+#[repr(C)]
+#[derive(Clone, Copy)]
+pub struct DeclaredCids {
+    pub(crate) first: u32,
+    pub(crate) last: u32,
+    pub(crate) cid: u32,
+}
+
+/// A declaration of texts: the codes from `first` to `last`, and how many units of UTF-16 the text of
+/// the first of them has.
+#[repr(C)]
+#[derive(Clone, Copy)]
+pub struct DeclaredTexts {
+    pub(crate) first: u32,
+    pub(crate) last: u32,
+    pub(crate) units: usize,
+}
+
+impl Items for Table<CidRange> {
+    type Item = DeclaredCids;
+
+    ghost use Rattle.std.specs.Prelude.{map};
+    ghost use Rattle.cmap_files.specs.DeclarationsSeen.{entries_seen};
+    ghost use Rattle.cmap_c.specs.Ranges.{cid_range_seen};
+
+    ghost items = { λ table. map cid_range_seen (entries_seen table) };
+
+    fn count(&self) -> usize {
+        self.decl_count()
+    }
+
+    #[tactic(auto, using(crate::proofs::FilledRows::mapped_at))]
+    fn item(&self, index: usize) -> DeclaredCids {
+        let declared = self.decl(index, &mut Looks::new());
+        DeclaredCids {
+            first: declared.range.start,
+            last: declared.range.end,
+            cid: declared.cid,
+        }
+    }
+}
+
+impl Items for Table<BfRange> {
+    type Item = DeclaredTexts;
+
+    ghost use Rattle.std.specs.Prelude.{map};
+    ghost use Rattle.cmap_files.specs.DeclarationsSeen.{bf_entry_seen};
+    ghost use Rattle.cmap_c.specs.Ranges.{text_range_seen};
+
+    ghost items = { λ table. map text_range_seen (map bf_entry_seen table) };
+
+    fn count(&self) -> usize {
+        self.decl_count()
+    }
+
+    #[tactic(auto, using(crate::proofs::FilledRows::mapped_at))]
+    fn item(&self, index: usize) -> DeclaredTexts {
+        let declared = self.decl(index, &mut Looks::new());
+        DeclaredTexts {
+            first: declared.range.start,
+            last: declared.range.end,
+            units: declared.units.as_slice().len(),
+        }
+    }
+}
+
+/// The declarations of CIDs of a layer, for codes of `byte_len` bytes, in the order of its file.
+#[unsafe(no_mangle)]
+pub extern "C" fn hayro_cmap_cid_ranges(
+    map: &mut MapHandle,
+    alloc: Global,
+    layer: usize,
+    byte_len: u8,
+    ranges: &mut [DeclaredCids],
+    needed: &mut usize,
+) -> u32
+    ensures same { map.new.slot.map ≡ map.old.slot.map }
+    ensures ranges { MatchOption (layer_in map.old.slot.map layer)
+        ((result ≡ number Absent) × (ranges.new ≡ ranges.old) × (needed.new ≡ needed.old))
+        (λ given. IsPut (cids_declared given byte_len) ranges.old ranges.new needed.new result) }
+{
+    let Some(found) = map.take(alloc) else {
+        return Status::Absent.number();
+    };
+    let status = match found.value().layers().get(layer) {
+        Some(given) => put_cids(given, byte_len, ranges, needed),
+        None => Status::Absent.number(),
+    };
+    map.put(found);
+    status
+}
+
+/// The declarations of notdefs of a layer, for codes of `byte_len` bytes, in the order of its file.
+#[unsafe(no_mangle)]
+pub extern "C" fn hayro_cmap_notdef_ranges(
+    map: &mut MapHandle,
+    alloc: Global,
+    layer: usize,
+    byte_len: u8,
+    ranges: &mut [DeclaredCids],
+    needed: &mut usize,
+) -> u32
+    ensures same { map.new.slot.map ≡ map.old.slot.map }
+    ensures ranges { MatchOption (layer_in map.old.slot.map layer)
+        ((result ≡ number Absent) × (ranges.new ≡ ranges.old) × (needed.new ≡ needed.old))
+        (λ given. IsPut (notdefs_declared given byte_len) ranges.old ranges.new needed.new result) }
+{
+    let Some(found) = map.take(alloc) else {
+        return Status::Absent.number();
+    };
+    let status = match found.value().layers().get(layer) {
+        Some(given) => put_notdefs(given, byte_len, ranges, needed),
+        None => Status::Absent.number(),
+    };
+    map.put(found);
+    status
+}
+
+/// The declarations of texts of a layer, in the order of its file.
+#[unsafe(no_mangle)]
+pub extern "C" fn hayro_cmap_text_ranges(
+    map: &mut MapHandle,
+    alloc: Global,
+    layer: usize,
+    ranges: &mut [DeclaredTexts],
+    needed: &mut usize,
+) -> u32
+    ensures same { map.new.slot.map ≡ map.old.slot.map }
+    ensures ranges { MatchOption (layer_in map.old.slot.map layer)
+        ((result ≡ number Absent) × (ranges.new ≡ ranges.old) × (needed.new ≡ needed.old))
+        (λ given. IsPut (texts_declared given) ranges.old ranges.new needed.new result) }
+{
+    let Some(found) = map.take(alloc) else {
+        return Status::Absent.number();
+    };
+    let status = match found.value().layers().get(layer) {
+        Some(given) => put_items(given.texts(), ranges, needed),
+        None => Status::Absent.number(),
+    };
+    map.put(found);
+    status
+}
+
+/// The units of the declaration of texts at an index of a layer: those of the text of its first code.
+#[unsafe(no_mangle)]
+pub extern "C" fn hayro_cmap_text_units(
+    map: &mut MapHandle,
+    alloc: Global,
+    layer: usize,
+    index: usize,
+    units: &mut [u16],
+    needed: &mut usize,
+) -> u32
+    ensures same { map.new.slot.map ≡ map.old.slot.map }
+    ensures units { MatchOption (text_in map.old.slot.map layer index)
+        ((result ≡ number Absent) × (units.new ≡ units.old) × (needed.new ≡ needed.old))
+        (λ declared. IsPut declared.units units.old units.new needed.new result) }
+{
+    let Some(found) = map.take(alloc) else {
+        return Status::Absent.number();
+    };
+    let status = match text_at(found.value(), layer, index) {
+        Some(declared) => put(declared.units.as_slice(), units, needed),
+        None => Status::Absent.number(),
+    };
+    map.put(found);
+    status
+}
+
+/// Writes the declarations of CIDs of a layer.
+fn put_cids(layer: &Layer, byte_len: u8, ranges: &mut [DeclaredCids], needed: &mut usize) -> u32
+    ensures { IsPut (cids_declared (layer_seen layer.now) byte_len) ranges.old ranges.new
+        needed.new result }
+{
+    match CodeLength::of(byte_len) {
+        Some(len) => put_items(layer.cids(len), ranges, needed),
+        None => put(&[], ranges, needed),
+    }
+}
+
+/// Writes the declarations of notdefs of a layer.
+fn put_notdefs(layer: &Layer, byte_len: u8, ranges: &mut [DeclaredCids], needed: &mut usize) -> u32
+    ensures { IsPut (notdefs_declared (layer_seen layer.now) byte_len) ranges.old ranges.new
+        needed.new result }
+{
+    match CodeLength::of(byte_len) {
+        Some(len) => put_items(layer.notdefs(len), ranges, needed),
+        None => put(&[], ranges, needed),
+    }
+}
+
+/// The declaration of texts at an index of a layer.
+fn text_at(map: &CMap, layer: usize, index: usize) -> Option<&BfRange>
+    ensures { option_map bf_entry_seen (option_copied result) ≡ text_in (Some map.now) layer index }
+{
+    let texts = map.layers().get(layer)?.texts();
+    if index < texts.decl_count() {
+        Some(texts.decl(index, &mut Looks::new()))
+    } else {
+        None
+    }
+}

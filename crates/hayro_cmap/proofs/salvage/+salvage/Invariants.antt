@@ -1,0 +1,20 @@
+use Rattle.std.proofs.Common.{drop, ◌+◌, ◌*◌}
+use Rattle.cmap_binary.specs.BundleSeen.{tables_given}
+use Rattle.cmap_files.specs.FilesSeen.{names_seen}
+use Rattle.cmap_layers.specs.LayersSeen.{layers_seen}
+use Rattle.hayro_cmap.proofs.Walked.{Walked, use_under}
+use Rattle.hayro_cmap.proofs.salvage.+salvage.Given as goal
+
+abbrev pub decreases-salvage_layers : goal.decreases-salvage_layers
+decreases-salvage_layers g l = 3 * l.below + 2
+
+abbrev pub decreases-salvage_used : goal.decreases-salvage_used
+decreases-salvage_used g l = 3 * l.below + 1
+
+abbrev pub decreases-salvage_named : goal.decreases-salvage_named
+decreases-salvage_named g l = 3 * l.below
+
+abbrev pub invariant-salvage_layers-loop-name : goal.invariant-salvage_layers-loop-name
+invariant-salvage_layers-loop-name g l =
+    let uses = names_seen l.name-items in
+    Walked (use_under (tables_given l.bundle) (g.S.Source.answers l.source) l.below) uses (drop l.name-index uses) (layers_seen l.base.items) l.initial.walk l.walk

@@ -1,0 +1,11 @@
+use Rattle.std.proofs.Common.{refl, ap, ◌∙◌, [], ◌∷◌, inl}
+use Rattle.hayro_cmap.specs.declared.refusal.Cause.TheVariants.{OverBudget}
+use Rattle.hayro_cmap.proofs.salvage.read_within.Goals as goal
+
+pub returns-in_default : goal.returns-in_default
+returns-in_default c =
+    let (is, over) = rw c.in_default.is at c.spend.ensures.over in
+    let left = rw c.in_default.is at c.spend.ensures.same in
+    let on = c.in_ok-add_fault.ensures.added in
+    let after = c.add_fault.ensures.same in
+    (OverBudget ∷ [], inl (over, c.new.ensures, refl, ap (λ o. o.left) after ∙ left), record { names = on.names; added = on.added }, ap (λ o. o.closed) after)

@@ -1,0 +1,222 @@
+//! Files over the files that they use, read past their faults.
+
+ghost use Rattle.std.specs.Prelude.{◌≡◌, ◌∷◌, [], false, map, suc, IfOk, OnOk};
+ghost use Rattle.cmap_binary.specs.BundleSeen.{tables_given};
+ghost use Rattle.cmap_files.specs.FilesSeen.{file_seen, names_seen};
+ghost use Rattle.cmap_layers.specs.LayersSeen.{layers_seen};
+ghost use Rattle.hayro_cmap.specs.Answers.{IsByName};
+ghost use Rattle.hayro_cmap.specs.Salvage.{IsReadPast, Salvages, SalvagesBytes, SalvagesNamed, SalvagesUse, faults_of};
+ghost use Rattle.hayro_cmap.specs.SalvageSeen.{GoesOn, ReadsOn, Walks, opening_seen};
+ghost use Rattle.hayro_cmap.specs.declared.refusal.Cause.TheVariants.{Malformed};
+
+use crate::budget::spend;
+use crate::chain::{put_over, read_file};
+use crate::map::CMap;
+use crate::refusal::{Cause, Refusal};
+use crate::source::Source;
+use cmap_binary::{Bundle, is_marked_binary, salvage_binary};
+use cmap_files::fault::{Fault, Stop};
+use cmap_files::file::{File, Salvaged};
+use cmap_layers::layers::Layer;
+use cmap_text::salvage_text;
+use std::alloc::{AllocError, Global};
+
+/// What a file says over the files that it uses, apart from their faults, and the faults.
+#[derive(Debug, Drop)]
+pub struct SalvagedMap<'a> {
+    pub map: CMap,
+    /// In the order in which the files are read. Those of one file come in the order of their
+    /// offsets, before those of the files that it uses.
+    pub faults: Vec<Refusal<'a>>,
+}
+
+/// How far the reading of files over files has come.
+#[derive(Drop)]
+pub(crate) struct Walk<'a> {
+    /// The names that lead to the file that is being read.
+    pub(crate) names: Vec<&'a [u8]>,
+    pub(crate) faults: Vec<Refusal<'a>>,
+    /// What is left of the budget, if there is one.
+    pub(crate) left: Option<u64>,
+    /// A chain was too long, so that no further file is opened.
+    pub(crate) is_closed: bool,
+}
+
+impl<'a> Walk<'a> {
+    /// Before the first file.
+    pub(crate) fn new(alloc: Global, budget: Option<u64>) -> Self
+        ensures names { result.names.items ≡ [] }
+        ensures faults { result.faults.items ≡ [] }
+        ensures opening { opening_seen result ≡ record { left = budget; closed = false } }
+    {
+        Walk {
+            names: Vec::new(alloc),
+            faults: Vec::new(alloc),
+            left: budget,
+            is_closed: false,
+        }
+    }
+
+    /// Adds a fault of the file that the names lead to.
+    fn add_fault(&mut self, alloc: Global, cause: Cause) -> Result<(), AllocError>
+        ensures added { OnOk result
+            (GoesOn self.old self.new (faults_of (names_seen self.old.names.items) (cause ∷ []))) }
+        ensures same { opening_seen self.new ≡ opening_seen self.old }
+    {
+        let names = Vec::from_slice(alloc, &self.names)?;
+        self.faults.push(Refusal { names, cause })?;
+        Ok(())
+    }
+
+    /// Adds what is wrong with that file.
+    fn add_stops(&mut self, alloc: Global, stops: &[Stop]) -> Result<(), AllocError>
+        ensures added { OnOk result (GoesOn self.old self.new
+            (faults_of (names_seen self.old.names.items) (map Malformed stops.now))) }
+        ensures same { OnOk result (opening_seen self.new ≡ opening_seen self.old) }
+    {
+        for stop in stops {
+            self.add_fault(alloc, Cause::Malformed(*stop))?;
+        }
+        Ok(())
+    }
+}
+
+/// The layers of what can be read of a file, its own first. At most `below` files stand under it in a
+/// chain.
+#[cycle(salvage)]
+pub(crate) fn salvage_layers<'a, S: Source>(
+    alloc: Global,
+    bytes: &'a [u8],
+    bundle: Option<&Bundle<'_>>,
+    source: &'a S,
+    below: u8,
+    walk: &mut Walk<'a>,
+) -> Result<Vec<Layer>, AllocError>
+    requires can_ask { S.can_ask source.now }
+    requires by_name { IsByName (S.answers source.now) }
+    ensures { IfOk result (λ layers. Walks
+        (Salvages (tables_given bundle.entry) (S.answers source.now) (suc below)
+        (names_seen walk.old.names.items) bytes.now)
+        walk.old walk.new (layers_seen layers.items)) }
+{
+    let file = read_within(alloc, bytes, bundle, walk)?;
+    let mut base = Vec::new(alloc);
+    for name in &file.uses {
+        base = salvage_used(alloc, *name, base, bundle, source, below, walk)?;
+    }
+    Ok(put_over(alloc, file, base)?)
+}
+
+/// The layers of what can be read of the file that a use names. Once a chain was too long, those that
+/// are there stay.
+#[cycle(salvage)]
+fn salvage_used<'a, S: Source>(
+    alloc: Global,
+    name: &'a [u8],
+    base: Vec<Layer>,
+    bundle: Option<&Bundle<'_>>,
+    source: &'a S,
+    below: u8,
+    walk: &mut Walk<'a>,
+) -> Result<Vec<Layer>, AllocError>
+    requires can_ask { S.can_ask source.now }
+    requires by_name { IsByName (S.answers source.now) }
+    ensures { IfOk result (λ layers. Walks
+        (SalvagesUse (S.answers source.now)
+        (Salvages (tables_given bundle.entry) (S.answers source.now) below)
+        below (names_seen walk.old.names.items) name.now (layers_seen base.items))
+        walk.old walk.new (layers_seen layers.items)) }
+{
+    if walk.is_closed {
+        return Ok(base);
+    }
+    walk.names.push(name)?;
+    let layers = salvage_named(alloc, name, bundle, source, below, walk)?;
+    walk.names.pop();
+    Ok(layers)
+}
+
+/// The same, where the last of the names leads to the file. None where the chain has no room for it, or
+/// no file has the name.
+#[cycle(salvage)]
+fn salvage_named<'a, S: Source>(
+    alloc: Global,
+    name: &[u8],
+    bundle: Option<&Bundle<'_>>,
+    source: &'a S,
+    below: u8,
+    walk: &mut Walk<'a>,
+) -> Result<Vec<Layer>, AllocError>
+    requires can_ask { S.can_ask source.now }
+    requires by_name { IsByName (S.answers source.now) }
+    ensures { IfOk result (λ layers. Walks
+        (SalvagesNamed (S.answers source.now)
+        (Salvages (tables_given bundle.entry) (S.answers source.now) below)
+        below (names_seen walk.old.names.items) name.now)
+        walk.old walk.new (layers_seen layers.items)) }
+{
+    if below == 0 {
+        walk.is_closed = true;
+        walk.add_fault(alloc, Cause::ChainLength)?;
+        return Ok(Vec::new(alloc));
+    }
+    let Some(bytes) = source.file(name) else {
+        walk.add_fault(alloc, Cause::NoFile)?;
+        return Ok(Vec::new(alloc));
+    };
+    salvage_layers(alloc, bytes, bundle, source, below - 1, walk)
+}
+
+/// What a file says apart from its faults, which are added. One that would pass the budget isn't
+/// read, and says nothing.
+fn read_within<'a>(
+    alloc: Global,
+    bytes: &'a [u8],
+    bundle: Option<&Bundle<'_>>,
+    walk: &mut Walk<'a>,
+) -> Result<File<'a>, AllocError>
+    ensures { IfOk result (λ file. ReadsOn (tables_given bundle.entry) bytes.now
+        walk.old walk.new (file_seen file)) }
+{
+    let Ok(()) = spend(&mut walk.left, bytes.len()) else {
+        walk.add_fault(alloc, Cause::OverBudget)?;
+        return Ok(File::new(alloc));
+    };
+    let read = read_past(alloc, bytes, bundle)?;
+    walk.add_stops(alloc, &read.faults)?;
+    Ok(read.file)
+}
+
+/// What bytes say apart from their faults, and the faults. Of a file it is just that file.
+fn read_past<'a>(
+    alloc: Global,
+    bytes: &'a [u8],
+    bundle: Option<&Bundle<'_>>,
+) -> Result<Salvaged<'a>, AllocError>
+    ensures { IfOk result (λ read. IsReadPast (tables_given bundle.entry) bytes.now
+        (file_seen read.file) read.faults.items) }
+{
+    match read_file(alloc, bytes, bundle) {
+        Ok(file) => Ok(Salvaged {
+            file,
+            faults: Vec::new(alloc),
+        }),
+        Err(Fault::Refused(_stop)) => salvage_bytes(alloc, bytes, bundle),
+        Err(Fault::Memory) => Err(AllocError),
+    }
+}
+
+/// What bytes that are no file say apart from their faults, and the faults.
+fn salvage_bytes<'a>(
+    alloc: Global,
+    bytes: &'a [u8],
+    bundle: Option<&Bundle<'_>>,
+) -> Result<Salvaged<'a>, AllocError>
+    ensures { IfOk result (λ read. SalvagesBytes (tables_given bundle.entry) bytes.now
+        (file_seen read.file) read.faults.items) }
+{
+    match bundle {
+        Some(bundle) if is_marked_binary(bytes) => salvage_binary(alloc, bundle, bytes),
+        _ => salvage_text(alloc, bytes),
+    }
+}
