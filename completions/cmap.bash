@@ -25,11 +25,12 @@ _cmap() {
     *) return ;;
     esac
     if [[ $current == -* ]]; then
-        mapfile -t COMPREPLY < <(compgen -W "--base --bundle --budget --json --help" -- "$current")
         case $subcommand in
-        list) mapfile -t -O "${#COMPREPLY[@]}" COMPREPLY < <(compgen -W "--effective" -- "$current") ;;
-        check) mapfile -t -O "${#COMPREPLY[@]}" COMPREPLY < <(compgen -W "--files-from --null --quiet" -- "$current") ;;
+        list) mapfile -t COMPREPLY < <(compgen -W "--lenient --effective" -- "$current") ;;
+        check) mapfile -t COMPREPLY < <(compgen -W "--files-from --null --first --quiet" -- "$current") ;;
+        *) mapfile -t COMPREPLY < <(compgen -W "--lenient" -- "$current") ;;
         esac
+        mapfile -t -O "${#COMPREPLY[@]}" COMPREPLY < <(compgen -W "--base --bundle --budget --json --help" -- "$current")
     else
         compopt -o filenames 2>/dev/null
         mapfile -t COMPREPLY < <(compgen -f -- "$current")

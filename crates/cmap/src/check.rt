@@ -6,7 +6,7 @@ use crate::messages::Failure;
 use crate::options::Options;
 use crate::paths::paths_of;
 use crate::progress::Progress;
-use crate::reading::{Form, Input, Reading, read_over};
+use crate::reading::{Faults, Form, Input, Manner, Reading, read_over};
 use crate::{ACCEPTED, FAILED, REFUSED};
 use cmap_escape::{escape, json};
 use serde_json::{Map, Value, put};
@@ -81,16 +81,29 @@ fn check_file(
     progress: &Progress,
     tally: &mut Tally,
 ) -> Result<(), Failure> {
-    let form = if options.json { Form::Json } else { Form::Text };
-    let reading = read_over(rt, input, options.budget, form, bases)?;
+    let manner = manner_of(options);
+    let reading = read_over(rt, input, manner, bases)?;
     if bases.has_unreported() {
         progress.clear(rt)?;
         bases.report(rt)?;
     }
     tally.count(&reading);
-    let lines = lines_of(rt.alloc(), input.path, form, &reading)?;
+    let lines = lines_of(rt.alloc(), input.path, manner.form, &reading)?;
     print!(rt; "{lines}")?;
     Ok(())
+}
+
+/// How a file is read.
+fn manner_of(options: &Options<'_, '_>) -> Manner {
+    Manner {
+        budget: options.budget,
+        faults: if options.first {
+            Faults::First
+        } else {
+            Faults::All
+        },
+        form: if options.json { Form::Json } else { Form::Text },
+    }
 }
 
 impl Tally {

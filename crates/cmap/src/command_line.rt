@@ -103,8 +103,8 @@ fn program<'a>(alloc: Global) -> Result<Command<'a>, AllocError> {
 }
 
 impl Subcommand {
-    /// Whether a list may name its files.
-    fn has_list(self) -> bool {
+    /// Whether it is `check`, of which a list may name the files.
+    fn is_check(self) -> bool {
         self.name == "check"
     }
 
@@ -116,11 +116,13 @@ impl Subcommand {
         if self.has_file {
             command = command.arg(file(alloc))?;
         }
-        if self.has_list() {
-            command = command.args(list_options(alloc)?)?;
-        }
+        command = if self.is_check() {
+            command.args(check_options(alloc)?)?
+        } else {
+            command.arg(lenient(alloc))?
+        };
         match self.arguments {
-            Some(arguments) => command.arg(arguments.arg(alloc, self.has_list())?),
+            Some(arguments) => command.arg(arguments.arg(alloc, self.is_check())?),
             None => command.arg(effective(alloc)),
         }
     }
@@ -198,8 +200,8 @@ fn effective<'a>(alloc: Global) -> Arg<'a> {
 const FILES_FROM: &str = "files-from";
 
 /// The options that `check` alone has.
-fn list_options<'a>(alloc: Global) -> Result<Vec<Arg<'a>>, AllocError> {
-    Ok(vec![in alloc; files_from(alloc), null(alloc), quiet(alloc)]?)
+fn check_options<'a>(alloc: Global) -> Result<Vec<Arg<'a>>, AllocError> {
+    Ok(vec![in alloc; files_from(alloc), null(alloc), first(alloc), quiet(alloc)]?)
 }
 
 fn files_from<'a>(alloc: Global) -> Arg<'a> {
@@ -218,10 +220,25 @@ fn null<'a>(alloc: Global) -> Arg<'a> {
         .help("A zero byte ends each path of the list, and not a line feed")
 }
 
+fn first<'a>(alloc: Global) -> Arg<'a> {
+    Arg::new(alloc, "first")
+        .long("first")
+        .action(ArgAction::SetTrue)
+        .help("Only the first fault of each file")
+}
+
 fn quiet<'a>(alloc: Global) -> Arg<'a> {
     Arg::new(alloc, "quiet")
         .short('q')
         .long("quiet")
         .action(ArgAction::SetTrue)
         .help("Doesn't report how many files were checked")
+}
+
+/// The option that all but `check` have.
+fn lenient<'a>(alloc: Global) -> Arg<'a> {
+    Arg::new(alloc, "lenient")
+        .long("lenient")
+        .action(ArgAction::SetTrue)
+        .help("Reads files past their faults, which are reported")
 }

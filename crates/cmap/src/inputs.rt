@@ -5,7 +5,7 @@ use crate::bases::Bases;
 use crate::folders::is_file;
 use crate::messages::{Failure, fault, report};
 use crate::options::Options;
-use crate::reading::{Form, Input, read_over};
+use crate::reading::{Faults, Form, Input, Manner, read_over};
 use hayro_cmap::{CMap, Fault};
 use std::fs;
 use std::io::{self, ErrorKind, Read};
@@ -123,7 +123,8 @@ pub(crate) fn map_needed(
     }
 }
 
-/// The map of a file of these bytes. Why it is refused goes to the standard error.
+/// The map of a file of these bytes. Its faults go to the standard error: the first one where they aren't
+/// passed over, and there is then no map.
 pub(crate) fn map_of(
     rt: &HostRuntime,
     path: &str,
@@ -131,7 +132,16 @@ pub(crate) fn map_of(
     options: &Options<'_, '_>,
     bases: &mut Bases<'_>,
 ) -> Result<Option<CMap>, Failure> {
-    let reading = read_over(rt, Input { path, bytes }, options.budget, Form::Text, bases)?;
+    let manner = Manner {
+        budget: options.budget,
+        faults: if options.lenient {
+            Faults::All
+        } else {
+            Faults::First
+        },
+        form: Form::Text,
+    };
+    let reading = read_over(rt, Input { path, bytes }, manner, bases)?;
     bases.report(rt)?;
     for fault in &reading.faults {
         eprintln!(rt; "cmap: {fault}")?;

@@ -29,6 +29,10 @@ pub(crate) struct Options<'m, 'w> {
     pub(crate) null: bool,
     /// Whether `check` leaves out how many files it checked.
     pub(crate) quiet: bool,
+    /// Whether `check` prints only the first fault of a file.
+    pub(crate) first: bool,
+    /// Whether files are read past their faults, by all but `check`.
+    pub(crate) lenient: bool,
 }
 
 impl<'m, 'w> Options<'m, 'w> {
@@ -46,6 +50,8 @@ impl<'m, 'w> Options<'m, 'w> {
             files_from: matches.get_str("files-from"),
             null: matches.get_flag("null"),
             quiet: matches.get_flag("quiet"),
+            first: matches.get_flag("first"),
+            lenient: matches.get_flag("lenient"),
         }
     }
 

@@ -5,7 +5,7 @@ use crate::messages::Failure;
 use cmap_escape::escape::push_text;
 use cmap_report::fault_line::LineCounter;
 use cmap_report::refused::{push_refusal, push_refusal_json};
-use hayro_cmap::{CMap, Cause, Fault, Refusal};
+use hayro_cmap::{CMap, Cause, Fault, Refusal, SalvagedMap};
 use std::alloc::{AllocError, Global};
 
 /// A file that is read.
@@ -18,12 +18,21 @@ pub(crate) struct Input<'i> {
 /// What comes of a file over the files that it uses.
 #[derive(Drop)]
 pub(crate) struct Reading {
-    /// `None` where the file is refused.
+    /// Also of a file with faults, where all are looked for.
     pub(crate) map: Option<CMap>,
     /// A line for each fault, without an end of the line.
     pub(crate) faults: Vec<String>,
     /// The names of files that are used, but aren't read yet. If there are some, a further try is due.
     missing: Vec<Vec<u8>>,
+}
+
+/// Which faults of a file are looked for.
+#[derive(Clone, Copy)]
+pub(crate) enum Faults {
+    /// The first one, for which the file is refused.
+    First,
+    /// All: the file is read past each.
+    All,
 }
 
 /// How the lines of faults are printed.
@@ -33,21 +42,29 @@ pub(crate) enum Form {
     Json,
 }
 
+/// How a file is read.
+#[derive(Clone, Copy)]
+pub(crate) struct Manner {
+    /// The most bytes that the file and the files that it uses may have together.
+    pub(crate) budget: Option<u64>,
+    pub(crate) faults: Faults,
+    pub(crate) form: Form,
+}
+
 /// Reads a file over the files that it uses.
 pub(crate) fn read_over(
     rt: &HostRuntime,
     input: Input<'_>,
-    budget: Option<u64>,
-    form: Form,
+    manner: Manner,
     bases: &mut Bases<'_>,
 ) -> Result<Reading, Failure> {
-    let mut reading = read_over_known(rt.alloc(), input, budget, form, bases)?;
+    let mut reading = read_over_known(rt.alloc(), input, manner, bases)?;
     for _ in 0..u32::MAX {
         if reading.missing.is_empty() {
             break;
         }
         read_missing(rt, &reading.missing, bases)?;
-        reading = read_over_known(rt.alloc(), input, budget, form, bases)?;
+        reading = read_over_known(rt.alloc(), input, manner, bases)?;
     }
     Ok(reading)
 }
@@ -64,52 +81,68 @@ fn read_missing(rt: &HostRuntime, names: &[Vec<u8>], bases: &mut Bases<'_>) -> R
 fn read_over_known(
     alloc: Global,
     input: Input<'_>,
-    budget: Option<u64>,
-    form: Form,
+    manner: Manner,
     bases: &Bases<'_>,
 ) -> Result<Reading, AllocError> {
     let files = bases.read_files();
-    read_over_files(alloc, input, budget, form, bases, &files)
+    match manner.faults {
+        Faults::First => read_strictly(alloc, input, manner, bases, &files),
+        Faults::All => read_past(alloc, input, manner, bases, &files),
+    }
 }
 
-/// Reads a file over these files.
-fn read_over_files<'f>(
+/// Reads a file over these files up to its first fault.
+fn read_strictly<'f>(
     alloc: Global,
     input: Input<'f>,
-    budget: Option<u64>,
-    form: Form,
+    manner: Manner,
     bases: &Bases<'_>,
     files: &'f Files<'_>,
 ) -> Result<Reading, AllocError> {
-    let mut reading = Reading {
-        map: None,
-        faults: Vec::new(alloc),
-        missing: Vec::new(alloc),
-    };
-    match CMap::parse_from(alloc, budget, input.bytes, bases.bundle, files) {
-        Ok(map) => reading.map = Some(map),
-        Err(Fault::Refused(refusal)) => reading.add(alloc, input, form, bases, &[refusal])?,
-        Err(Fault::Memory) => return Err(AllocError),
+    match CMap::parse_from(alloc, manner.budget, input.bytes, bases.bundle, files) {
+        Ok(map) => Reading::new(alloc, Some(map), input, manner.form, bases, &[]),
+        Err(Fault::Refused(refusal)) => {
+            Reading::new(alloc, None, input, manner.form, bases, &[refusal])
+        }
+        Err(Fault::Memory) => Err(AllocError),
     }
-    Ok(reading)
+}
+
+/// Reads a file over these files past its faults.
+fn read_past<'f>(
+    alloc: Global,
+    input: Input<'f>,
+    manner: Manner,
+    bases: &Bases<'_>,
+    files: &'f Files<'_>,
+) -> Result<Reading, AllocError> {
+    let read = CMap::salvage(alloc, manner.budget, input.bytes, bases.bundle, files)?;
+    let SalvagedMap { map, faults } = read;
+    Reading::new(alloc, Some(map), input, manner.form, bases, &faults)
 }
 
 impl Reading {
-    /// Adds faults, or the names of files that aren't read yet, where some of the faults are that these
-    /// are missing.
-    fn add(
-        &mut self,
+    /// The map and the lines of the faults, or the names of files that aren't read yet, where some of the
+    /// faults are that these are missing.
+    fn new(
         alloc: Global,
+        map: Option<CMap>,
         input: Input<'_>,
         form: Form,
         bases: &Bases<'_>,
         faults: &[Refusal<'_>],
-    ) -> Result<(), AllocError> {
-        self.missing = missing_names(alloc, bases, faults)?;
-        if self.missing.is_empty() {
-            self.faults = lines_of(alloc, input, form, bases, faults)?;
-        }
-        Ok(())
+    ) -> Result<Reading, AllocError> {
+        let missing = missing_names(alloc, bases, faults)?;
+        let faults = if missing.is_empty() {
+            lines_of(alloc, input, form, bases, faults)?
+        } else {
+            Vec::new(alloc)
+        };
+        Ok(Reading {
+            map,
+            faults,
+            missing,
+        })
     }
 }
 
