@@ -16,7 +16,7 @@ _cmap() {
         mapfile -t COMPREPLY < <(compgen -d -- "$current")
         return
         ;;
-    --bundle)
+    --bundle | --files-from)
         compopt -o filenames 2>/dev/null
         mapfile -t COMPREPLY < <(compgen -f -- "$current")
         return
@@ -32,12 +32,12 @@ _cmap() {
     *) return ;;
     esac
     if [[ $current == -* ]]; then
-        mapfile -t COMPREPLY < <(compgen -W "--base --bundle --budget --json --help" -- "$current")
-        if [[ $subcommand == list ]]; then
-            mapfile -t -O "${#COMPREPLY[@]}" COMPREPLY < <(compgen -W "--effective" -- "$current")
-        elif [[ $subcommand == check ]]; then
-            mapfile -t -O "${#COMPREPLY[@]}" COMPREPLY < <(compgen -W "--lint --to-unicode --deny" -- "$current")
-        fi
+        case $subcommand in
+        list) mapfile -t COMPREPLY < <(compgen -W "--lenient --effective" -- "$current") ;;
+        check) mapfile -t COMPREPLY < <(compgen -W "--files-from --null --first --lint --to-unicode --deny --quiet" -- "$current") ;;
+        *) mapfile -t COMPREPLY < <(compgen -W "--lenient" -- "$current") ;;
+        esac
+        mapfile -t -O "${#COMPREPLY[@]}" COMPREPLY < <(compgen -W "--base --bundle --budget --json --help" -- "$current")
     else
         compopt -o filenames 2>/dev/null
         mapfile -t COMPREPLY < <(compgen -f -- "$current")

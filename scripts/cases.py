@@ -23,9 +23,10 @@ class Misspelled(Exception):
 
 @dataclass
 class File:
-    """The bytes of a file, and the place in them that is marked."""
+    """The bytes of a file, and the place in them that is marked; or what a link leads to."""
 
     path: bytes
+    target: bytes | None = None
     bytes: bytearray = field(default_factory=bytearray)
     mark: int | None = None
 
@@ -118,6 +119,9 @@ class Reader:
             self.steps.append(self.open)
         elif word in ("file", "let"):
             self.begin_bytes(word, rest)
+        elif word == "link":
+            path, target = rest.split(" ")
+            self.steps.append(File(unescape(path), target=unescape(target)))
         elif isinstance(self.open, Case):
             self.read_expected(word, rest)
         elif isinstance(self.open, File):
@@ -200,7 +204,10 @@ def write(folder, file):
         os.makedirs(path, exist_ok=True)
         return
     os.makedirs(os.path.dirname(path), exist_ok=True)
-    Path(os.fsdecode(path)).write_bytes(file.bytes)
+    if file.target is not None:
+        os.symlink(file.target, path)
+    else:
+        Path(os.fsdecode(path)).write_bytes(file.bytes)
 
 
 def run(program, folder, words, given=b""):

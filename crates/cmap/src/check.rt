@@ -1,118 +1,209 @@
-//! `cmap check`: one line for each file, and one for each warning.
+//! `cmap check`: for each file that it is ok, or what is wrong with it.
 
 use crate::bases::Bases;
-use crate::folders::{files_in, is_folder};
-use crate::inputs::{STANDARD_INPUT, push_reason, read, readable, report_unreadable};
+use crate::inputs::{read, report_unreadable};
 use crate::lint::{push_warnings, subject_of};
+use crate::messages::Failure;
 use crate::options::Options;
+use crate::paths::paths_of;
 use crate::progress::Progress;
-use crate::{ACCEPTED, REFUSED};
+use crate::reading::{Faults, Form, Input, Manner, Reading, read_over};
+use crate::{ACCEPTED, FAILED, REFUSED};
 use cmap_escape::{escape, json};
-use cmap_report::refused::push_refusal_json;
-use hayro_cmap::{CMap, Fault, Refusal};
 use serde_json::{Map, Value, put};
 use std::alloc::{AllocError, Global};
+use std::io;
+
+/// What a run over many files finds.
+#[derive(Drop)]
+struct Tally {
+    checked: usize,
+    refused: usize,
+    /// How many have a warning that is denied.
+    denied: usize,
+    /// How many paths can't be read.
+    unreadable: usize,
+}
 
 /// Checks the files and the files of the folders, and gives the status.
 pub(crate) fn check(
     rt: &HostRuntime,
     options: &Options<'_, '_>,
-    bases: &Bases<'_>,
-) -> anyhow::Result<u8> {
+    bases: &mut Bases<'_>,
+) -> Result<u8, Failure> {
     options.lint.check_names(rt)?;
-    let mut files = Vec::new(rt.alloc());
-    let mut status = ACCEPTED;
-    for path in options.paths {
-        status = status.max(add_files(rt, path, &mut files)?);
-    }
-    Ok(status.max(check_files(rt, &files, options, bases)?))
-}
-
-/// Prints the line of each file, and gives the status.
-fn check_files(
-    rt: &HostRuntime,
-    files: &[String],
-    options: &Options<'_, '_>,
-    bases: &Bases<'_>,
-) -> anyhow::Result<u8> {
-    let mut status = ACCEPTED;
-    let mut progress = Progress::new(rt, files.len());
-    for file in files {
-        status = status.max(check_file(rt, file.as_str(), options, bases, &progress)?);
+    let paths = paths_of(rt, options)?;
+    let mut tally = Tally {
+        checked: 0,
+        refused: 0,
+        denied: 0,
+        unreadable: paths.unreadable,
+    };
+    let mut progress = Progress::new(rt, paths.files.len());
+    for path in &paths.files {
+        check_path(rt, path.as_str(), options, bases, &progress, &mut tally)?;
         progress.advance(rt)?;
     }
     progress.clear(rt)?;
-    Ok(status)
-}
-
-/// Adds a file, or each file in a folder, and gives the status.
-fn add_files(rt: &HostRuntime, path: &str, files: &mut Vec<String>) -> anyhow::Result<u8> {
-    if path == STANDARD_INPUT || !is_folder(rt, path) {
-        files.push(String::from_str(rt.alloc(), path)?)?;
-        return Ok(ACCEPTED);
+    if !options.quiet {
+        tally.report(rt)?;
     }
-    let Some(mut found) = readable(files_in(rt, path))? else {
-        return report_unreadable(rt, path);
-    };
-    files.append(&mut found)?;
-    Ok(ACCEPTED)
+    Ok(tally.status())
 }
 
-/// Prints the lines of a file, and gives its status.
-fn check_file(
+/// Checks the file of a path, or reports that it can't be read.
+fn check_path(
     rt: &HostRuntime,
     path: &str,
     options: &Options<'_, '_>,
-    bases: &Bases<'_>,
+    bases: &mut Bases<'_>,
     progress: &Progress,
-) -> anyhow::Result<u8> {
-    let Some(bytes) = read(rt, path)? else {
-        progress.clear(rt)?;
-        return report_unreadable(rt, path);
-    };
-    let mut lines = String::new(rt.alloc());
-    let status = push_checked(rt.alloc(), &mut lines, path, &bytes, options, bases)?;
-    print!(rt; "{lines}")?;
-    Ok(status)
+    tally: &mut Tally,
+) -> Result<(), Failure> {
+    match read(rt, path)? {
+        Some(bytes) => {
+            let input = Input {
+                path,
+                bytes: &bytes,
+            };
+            check_file(rt, input, options, bases, progress, tally)
+        }
+        None => {
+            tally.unreadable = tally.unreadable.saturating_add(1);
+            progress.clear(rt)?;
+            report_unreadable(rt, path)?;
+            Ok(())
+        }
+    }
 }
 
-/// Adds the lines of a file, and gives its status.
-fn push_checked(
+/// Prints the lines of a file.
+fn check_file(
+    rt: &HostRuntime,
+    input: Input<'_>,
+    options: &Options<'_, '_>,
+    bases: &mut Bases<'_>,
+    progress: &Progress,
+    tally: &mut Tally,
+) -> Result<(), Failure> {
+    let manner = manner_of(options);
+    let reading = read_over(rt, input, manner, bases)?;
+    if bases.has_unreported() {
+        progress.clear(rt)?;
+        bases.report(rt)?;
+    }
+    let mut lines = lines_of(rt.alloc(), input.path, manner.form, &reading)?;
+    let is_denied = push_lint(rt.alloc(), &mut lines, input, &reading, options, bases)?;
+    tally.count(&reading, is_denied);
+    print!(rt; "{lines}")?;
+    Ok(())
+}
+
+/// Adds the warnings about a file that is accepted, and gives whether one of them is denied.
+fn push_lint(
     alloc: Global,
     lines: &mut String,
-    path: &str,
-    bytes: &[u8],
+    input: Input<'_>,
+    reading: &Reading,
     options: &Options<'_, '_>,
     bases: &Bases<'_>,
-) -> Result<u8, AllocError> {
-    match CMap::parse_from(alloc, options.budget, bytes, bases.bundle, bases) {
-        Ok(map) => {
-            push_accepted(alloc, lines, path, options.json)?;
-            lines.push('\n')?;
-            let subject = subject_of(&map, path, bytes, options.lint, bases);
-            push_warnings(alloc, lines, &subject, options.lint, path, options.json)
+) -> Result<bool, AllocError> {
+    match &reading.map {
+        Some(map) if reading.faults.is_empty() => {
+            let subject = subject_of(map, input, options.lint, bases);
+            push_warnings(
+                alloc,
+                lines,
+                &subject,
+                options.lint,
+                input.path,
+                options.json,
+            )
         }
-        Err(Fault::Refused(refusal)) => {
-            push_refused(alloc, lines, path, bytes, options.json, bases, &refusal)?;
-            lines.push('\n')?;
-            Ok(REFUSED)
-        }
-        Err(Fault::Memory) => Err(AllocError),
+        _ => Ok(false),
     }
+}
+
+/// How a file is read.
+fn manner_of(options: &Options<'_, '_>) -> Manner {
+    Manner {
+        budget: options.budget,
+        faults: if options.first {
+            Faults::First
+        } else {
+            Faults::All
+        },
+        form: if options.json { Form::Json } else { Form::Text },
+    }
+}
+
+impl Tally {
+    fn count(&mut self, reading: &Reading, is_denied: bool) {
+        self.checked = self.checked.saturating_add(1);
+        if !reading.faults.is_empty() {
+            self.refused = self.refused.saturating_add(1);
+        }
+        if is_denied {
+            self.denied = self.denied.saturating_add(1);
+        }
+    }
+
+    fn status(&self) -> u8 {
+        if self.unreadable > 0 {
+            FAILED
+        } else if self.refused > 0 || self.denied > 0 {
+            REFUSED
+        } else {
+            ACCEPTED
+        }
+    }
+
+    /// Reports how many files are checked.
+    fn report(&self, rt: &HostRuntime) -> io::Result<()> {
+        let files = if self.checked == 1 { "file" } else { "files" };
+        eprint!(rt;
+            "cmap: {} {files} checked, {} refused",
+            self.checked, self.refused
+        )?;
+        if self.unreadable > 0 {
+            eprint!(rt; ", {} can't be read", self.unreadable)?;
+        }
+        eprintln!(rt; "")
+    }
+}
+
+/// The lines of a file.
+fn lines_of(
+    alloc: Global,
+    path: &str,
+    form: Form,
+    reading: &Reading,
+) -> Result<String, AllocError> {
+    let mut lines = String::new(alloc);
+    if reading.faults.is_empty() {
+        push_accepted(alloc, &mut lines, path, form)?;
+    }
+    for fault in &reading.faults {
+        writeln!(lines, "{fault}")?;
+    }
+    Ok(lines)
 }
 
 /// Adds the line of a file that is accepted.
 fn push_accepted(
     alloc: Global,
-    line: &mut String,
+    lines: &mut String,
     path: &str,
-    json: bool,
+    form: Form,
 ) -> Result<(), AllocError> {
-    if json {
-        return push_accepted_json(alloc, line, path);
+    match form {
+        Form::Json => push_accepted_json(alloc, lines, path)?,
+        Form::Text => {
+            escape::push_text(lines, path)?;
+            lines.push_str(": ok")?;
+        }
     }
-    escape::push_text(line, path)?;
-    line.push_str(": ok")
+    lines.push_str("\n")
 }
 
 fn push_accepted_json(alloc: Global, line: &mut String, path: &str) -> Result<(), AllocError> {
@@ -121,20 +212,4 @@ fn push_accepted_json(alloc: Global, line: &mut String, path: &str) -> Result<()
     put(&mut object, alloc, "file", Value::from(file))?;
     put(&mut object, alloc, "ok", Value::from(true))?;
     json::push_value(alloc, line, &Value::Object(object))
-}
-
-/// Adds the line of a file that is refused.
-fn push_refused(
-    alloc: Global,
-    line: &mut String,
-    path: &str,
-    bytes: &[u8],
-    json: bool,
-    bases: &Bases<'_>,
-    refusal: &Refusal<'_>,
-) -> Result<(), AllocError> {
-    if json {
-        return push_refusal_json(alloc, line, path, bytes, bases, refusal);
-    }
-    push_reason(line, path, bytes, bases, refusal)
 }

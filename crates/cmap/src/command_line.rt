@@ -104,6 +104,11 @@ fn program<'a>(alloc: Global) -> Result<Command<'a>, AllocError> {
 }
 
 impl Subcommand {
+    /// Whether it is `check`, of which a list may name the files.
+    fn is_check(self) -> bool {
+        self.name == "check"
+    }
+
     fn command<'a>(self, alloc: Global) -> Result<Command<'a>, AllocError> {
         let options = options(alloc)?;
         let mut command = Command::new(alloc, self.name)
@@ -112,24 +117,33 @@ impl Subcommand {
         if self.has_file {
             command = command.arg(file(alloc))?;
         }
-        if self.name == "check" {
-            command = command.args(lint::options(alloc)?)?;
-        }
+        command = if self.is_check() {
+            command
+                .args(check_options(alloc)?)?
+                .args(lint::options(alloc)?)?
+        } else {
+            command.arg(lenient(alloc))?
+        };
         match self.arguments {
-            Some(arguments) => command.arg(arguments.arg(alloc)),
+            Some(arguments) => command.arg(arguments.arg(alloc, self.is_check())?),
             None => command.arg(effective(alloc)),
         }
     }
 }
 
 impl Arguments {
-    fn arg<'a>(self, alloc: Global) -> Arg<'a> {
-        Arg::new(alloc, self.id)
+    /// The arguments, which a list may stand for.
+    fn arg<'a>(self, alloc: Global, has_list: bool) -> Result<Arg<'a>, AllocError> {
+        let arg = Arg::new(alloc, self.id)
             .value_name(self.value_name)
             .help(self.help)
-            .required(true)
             .action(ArgAction::Append)
-            .num_args(1..)
+            .num_args(1..);
+        if has_list {
+            arg.required_unless_present(FILES_FROM)
+        } else {
+            Ok(arg.required(true))
+        }
     }
 }
 
@@ -183,4 +197,51 @@ fn effective<'a>(alloc: Global) -> Arg<'a> {
         .long("effective")
         .action(ArgAction::SetTrue)
         .help("What codes have over all layers, in place of what each layer declares")
+}
+
+/// What the option that names a list is found by.
+const FILES_FROM: &str = "files-from";
+
+/// The options that `check` alone has.
+fn check_options<'a>(alloc: Global) -> Result<Vec<Arg<'a>>, AllocError> {
+    Ok(vec![in alloc; files_from(alloc), null(alloc), first(alloc), quiet(alloc)]?)
+}
+
+fn files_from<'a>(alloc: Global) -> Arg<'a> {
+    Arg::new(alloc, FILES_FROM)
+        .long(FILES_FROM)
+        .value_name("LIST")
+        .action(ArgAction::Set)
+        .help("A list of further files and folders, one per line; - is the standard input")
+}
+
+fn null<'a>(alloc: Global) -> Arg<'a> {
+    Arg::new(alloc, "null")
+        .short('0')
+        .long("null")
+        .action(ArgAction::SetTrue)
+        .help("A zero byte ends each path of the list, and not a line feed")
+}
+
+fn first<'a>(alloc: Global) -> Arg<'a> {
+    Arg::new(alloc, "first")
+        .long("first")
+        .action(ArgAction::SetTrue)
+        .help("Only the first fault of each file")
+}
+
+fn quiet<'a>(alloc: Global) -> Arg<'a> {
+    Arg::new(alloc, "quiet")
+        .short('q')
+        .long("quiet")
+        .action(ArgAction::SetTrue)
+        .help("Doesn't report how many files were checked")
+}
+
+/// The option that all but `check` have.
+fn lenient<'a>(alloc: Global) -> Arg<'a> {
+    Arg::new(alloc, "lenient")
+        .long("lenient")
+        .action(ArgAction::SetTrue)
+        .help("Reads files past their faults, which are reported")
 }

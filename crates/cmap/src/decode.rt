@@ -2,7 +2,7 @@
 
 use crate::bases::Bases;
 use crate::inputs::{STANDARD_INPUT, map_needed, map_of, needed};
-use crate::messages::fault;
+use crate::messages::{Failure, fault};
 use crate::options::Options;
 use crate::{ACCEPTED, REFUSED};
 use cmap_report::decode::{push_codes, push_json};
@@ -12,10 +12,10 @@ use hayro_cmap::CMap;
 pub(crate) fn decode(
     rt: &HostRuntime,
     options: &Options<'_, '_>,
-    bases: &Bases<'_>,
-) -> anyhow::Result<u8> {
+    bases: &mut Bases<'_>,
+) -> Result<u8, Failure> {
     let strings = strings_of(rt, options.arguments)?;
-    match map_needed(rt, options.file, options.budget, bases)? {
+    match map_needed(rt, options, bases)? {
         Some(map) => decode_by(rt, &map, &strings, options, bases),
         None => Ok(REFUSED),
     }
@@ -27,21 +27,31 @@ fn decode_by(
     map: &CMap,
     strings: &[Vec<u8>],
     options: &Options<'_, '_>,
-    bases: &Bases<'_>,
-) -> anyhow::Result<u8> {
-    let Some((name, bytes)) = texts_file(map, bases) else {
+    bases: &mut Bases<'_>,
+) -> Result<u8, Failure> {
+    let Some((name, bytes)) = texts_file(rt, map, bases)? else {
         return decode_all(rt, map, None, strings, options.json);
     };
-    match map_of(rt, name, bytes, options.budget, bases)? {
+    match map_of(rt, name, &bytes, options, bases)? {
         Some(texts) => decode_all(rt, map, Some(&texts), strings, options.json),
         None => Ok(REFUSED),
     }
 }
 
-/// The CMap from the CIDs of a map's character collection to Unicode, by its name.
-fn texts_file<'b>(map: &CMap, bases: &Bases<'b>) -> Option<(&'static str, &'b [u8])> {
-    let name = texts_name(map)?;
-    Some((name, bases.find(name.as_bytes())?))
+/// The CMap from the CIDs of a map's character collection to Unicode, by its name, where the bases have
+/// it.
+fn texts_file(
+    rt: &HostRuntime,
+    map: &CMap,
+    bases: &mut Bases<'_>,
+) -> Result<Option<(&'static str, Vec<u8>)>, Failure> {
+    let Some(name) = texts_name(map) else {
+        return Ok(None);
+    };
+    match bases.file(rt, name.as_bytes())? {
+        Some(bytes) => Ok(Some((name, bytes))),
+        None => Ok(None),
+    }
 }
 
 /// The name of the CMap from the CIDs of a map's character collection to Unicode: of the first layer
@@ -62,7 +72,7 @@ fn decode_all(
     texts: Option<&CMap>,
     strings: &[Vec<u8>],
     json: bool,
-) -> anyhow::Result<u8> {
+) -> Result<u8, Failure> {
     for (index, string) in strings.iter().enumerate() {
         if index > 0 && !json {
             println!(rt; "")?;
@@ -79,7 +89,7 @@ fn decode_all(
 }
 
 /// The strings that the arguments spell, and for `-` those of the standard input.
-fn strings_of(rt: &HostRuntime, arguments: &[&str]) -> anyhow::Result<Vec<Vec<u8>>> {
+fn strings_of(rt: &HostRuntime, arguments: &[&str]) -> Result<Vec<Vec<u8>>, Failure> {
     let mut strings = Vec::new(rt.alloc());
     for argument in arguments {
         add_argument(rt, argument, &mut strings)?;
@@ -92,7 +102,7 @@ fn add_argument(
     rt: &HostRuntime,
     argument: &str,
     strings: &mut Vec<Vec<u8>>,
-) -> anyhow::Result<()> {
+) -> Result<(), Failure> {
     if argument == STANDARD_INPUT {
         return add_strings(rt, &needed(rt, argument)?, strings);
     }
@@ -100,7 +110,7 @@ fn add_argument(
 }
 
 /// Adds the strings of the standard input.
-fn add_strings(rt: &HostRuntime, input: &[u8], strings: &mut Vec<Vec<u8>>) -> anyhow::Result<()> {
+fn add_strings(rt: &HostRuntime, input: &[u8], strings: &mut Vec<Vec<u8>>) -> Result<(), Failure> {
     let Ok(text) = str::from_utf8(input) else {
         return Err(fault(rt, STANDARD_INPUT, "not UTF-8"));
     };
@@ -111,7 +121,7 @@ fn add_strings(rt: &HostRuntime, input: &[u8], strings: &mut Vec<Vec<u8>>) -> an
 }
 
 /// The bytes that hexadecimal digits spell, two for each.
-fn string_of(rt: &HostRuntime, digits: &str) -> anyhow::Result<Vec<u8>> {
+fn string_of(rt: &HostRuntime, digits: &str) -> Result<Vec<u8>, Failure> {
     match hex::decode(rt.alloc(), digits.as_bytes()) {
         Ok(string) => Ok(string),
         Err(_) => Err(fault(rt, digits, "not hexadecimal digits in pairs")),

@@ -2,7 +2,7 @@
 
 use crate::bases::Bases;
 use crate::inputs::map_needed;
-use crate::messages::fault;
+use crate::messages::{Failure, fault};
 use crate::options::Options;
 use crate::{ACCEPTED, REFUSED};
 use cmap_listing::find::{Wanted, push_codes, push_json};
@@ -11,10 +11,10 @@ use cmap_listing::find::{Wanted, push_codes, push_json};
 pub(crate) fn find(
     rt: &HostRuntime,
     options: &Options<'_, '_>,
-    bases: &Bases<'_>,
-) -> anyhow::Result<u8> {
+    bases: &mut Bases<'_>,
+) -> Result<u8, Failure> {
     let wanted = wanted_of(rt, options.arguments)?;
-    let Some(map) = map_needed(rt, options.file, options.budget, bases)? else {
+    let Some(map) = map_needed(rt, options, bases)? else {
         return Ok(REFUSED);
     };
     let mut lines = String::new(rt.alloc());
@@ -33,7 +33,7 @@ pub(crate) fn find(
 fn wanted_of<'w>(
     rt: &HostRuntime,
     arguments: &[&'w str],
-) -> anyhow::Result<Vec<(&'w str, Wanted<'w>)>> {
+) -> Result<Vec<(&'w str, Wanted<'w>)>, Failure> {
     let mut asked = Vec::new(rt.alloc());
     for argument in arguments {
         match Wanted::parse(argument) {

@@ -1,7 +1,20 @@
 //! The files in folders.
 
+use crate::inputs::{readable, report_unreadable};
+use crate::messages::Failure;
 use std::fs::{self, DirEntry, read_dir};
 use std::io;
+
+/// What lies in a folder and its subfolders.
+#[derive(Drop)]
+pub(crate) struct Found {
+    /// The paths of the files, in the order of their bytes.
+    pub(crate) files: Vec<String>,
+    /// How many folders can't be read.
+    pub(crate) unreadable: usize,
+    /// The folders that aren't read yet.
+    waiting: Vec<String>,
+}
 
 /// Whether a folder has this path.
 pub(crate) fn is_folder(rt: &HostRuntime, path: &str) -> bool {
@@ -19,50 +32,56 @@ pub(crate) fn is_file(rt: &HostRuntime, path: &str) -> bool {
     }
 }
 
-/// The paths of the files in a folder and its subfolders, in the order of their bytes. A link to a
-/// file counts as a file, and a link to a folder isn't followed.
-pub(crate) fn files_in(rt: &HostRuntime, folder: &str) -> io::Result<Vec<String>> {
+/// The files in a folder and its subfolders, but for hidden files and folders. A link to a file counts
+/// as a file, and a link to a folder isn't followed. Each folder that can't be read is reported.
+pub(crate) fn files_in(rt: &HostRuntime, folder: &str) -> Result<Found, Failure> {
     let alloc = rt.alloc();
-    let mut files = Vec::new(alloc);
-    let mut waiting = Vec::new(alloc);
-    waiting.push(String::from_str(alloc, folder)?)?;
+    let mut found = Found {
+        files: Vec::new(alloc),
+        unreadable: 0,
+        waiting: Vec::new(alloc),
+    };
+    found.waiting.push(String::from_str(alloc, folder)?)?;
     for _ in 0..u32::MAX {
-        let Some(next) = waiting.pop() else {
+        let Some(next) = found.waiting.pop() else {
             break;
         };
-        list(rt, next.as_str(), &mut files, &mut waiting)?;
+        found.add_folder(rt, next.as_str())?;
     }
-    files.sort()?;
-    Ok(files)
+    found.files.sort()?;
+    Ok(found)
 }
 
-/// Adds the files of one folder, and the folders in it.
-fn list(
-    rt: &HostRuntime,
-    folder: &str,
-    files: &mut Vec<String>,
-    folders: &mut Vec<String>,
-) -> io::Result<()> {
-    for entry in read_dir(rt, folder)? {
-        add(rt, &entry?, files, folders)?;
+impl Found {
+    /// Adds what lies in a folder, or reports that it can't be read.
+    fn add_folder(&mut self, rt: &HostRuntime, folder: &str) -> Result<(), Failure> {
+        if readable(self.add_entries(rt, folder))?.is_none() {
+            report_unreadable(rt, folder)?;
+            self.unreadable = self.unreadable.saturating_add(1);
+        }
+        Ok(())
     }
-    Ok(())
-}
 
-/// Adds an entry of a folder to the files or to the folders.
-fn add(
-    rt: &HostRuntime,
-    entry: &DirEntry,
-    files: &mut Vec<String>,
-    folders: &mut Vec<String>,
-) -> io::Result<()> {
-    let path = String::from_str(rt.alloc(), entry.path().as_str())?;
-    if entry.file_type()?.is_dir() {
-        folders.push(path)?;
-    } else if !is_folder(rt, path.as_str()) {
-        files.push(path)?;
+    fn add_entries(&mut self, rt: &HostRuntime, folder: &str) -> io::Result<()> {
+        for entry in read_dir(rt, folder)? {
+            self.add(rt, &entry?)?;
+        }
+        Ok(())
     }
-    Ok(())
+
+    /// Adds an entry of a folder, unless it is hidden.
+    fn add(&mut self, rt: &HostRuntime, entry: &DirEntry) -> io::Result<()> {
+        let path = String::from_str(rt.alloc(), entry.path().as_str())?;
+        if name_of(path.as_str()).starts_with('.') {
+            return Ok(());
+        }
+        if entry.file_type()?.is_dir() {
+            self.waiting.push(path)?;
+        } else if !is_folder(rt, path.as_str()) {
+            self.files.push(path)?;
+        }
+        Ok(())
+    }
 }
 
 /// The last part of a path.

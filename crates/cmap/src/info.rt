@@ -1,8 +1,10 @@
 //! `cmap info`: what files say.
 
-use crate::bases::Bases;
+use crate::bases::{Bases, Files};
 use crate::inputs::{Asked, open, report_unreadable};
+use crate::messages::Failure;
 use crate::options::Options;
+use crate::reading::Input;
 use crate::{ACCEPTED, REFUSED};
 use cmap_report::info::{push_info, push_json};
 use cmap_report::uses::uses_by_layer;
@@ -13,8 +15,8 @@ use std::alloc::{AllocError, Global};
 pub(crate) fn info(
     rt: &HostRuntime,
     options: &Options<'_, '_>,
-    bases: &Bases<'_>,
-) -> anyhow::Result<u8> {
+    bases: &mut Bases<'_>,
+) -> Result<u8, Failure> {
     let mut status = ACCEPTED;
     for (index, path) in options.paths.iter().enumerate() {
         if index > 0 && !options.json {
@@ -30,11 +32,15 @@ fn info_of(
     rt: &HostRuntime,
     path: &str,
     options: &Options<'_, '_>,
-    bases: &Bases<'_>,
-) -> anyhow::Result<u8> {
-    match open(rt, path, options.budget, bases)? {
-        Asked::Map(file, map) => {
-            let lines = lines_of(rt.alloc(), path, file.bytes(), &map, options.json, bases)?;
+    bases: &mut Bases<'_>,
+) -> Result<u8, Failure> {
+    match open(rt, path, options, bases)? {
+        Asked::Map(bytes, map) => {
+            let input = Input {
+                path,
+                bytes: &bytes,
+            };
+            let lines = lines_of(rt.alloc(), input, &map, options.json, &bases.files())?;
             print!(rt; "{lines}")?;
             Ok(ACCEPTED)
         }
@@ -43,21 +49,20 @@ fn info_of(
     }
 }
 
-/// What a file of these bytes says, whose map this is.
+/// What a file says, whose map this is.
 fn lines_of(
     alloc: Global,
-    path: &str,
-    bytes: &[u8],
+    input: Input<'_>,
     map: &CMap,
     json: bool,
-    bases: &Bases<'_>,
+    files: &Files<'_>,
 ) -> Result<String, AllocError> {
-    let uses = uses_by_layer(alloc, bytes, bases, map.layers().len())?;
+    let uses = uses_by_layer(alloc, input.bytes, files, map.layers().len())?;
     let mut lines = String::new(alloc);
     if json {
-        push_json(alloc, &mut lines, path, map, &uses)?;
+        push_json(alloc, &mut lines, input.path, map, &uses)?;
     } else {
-        push_info(&mut lines, path, map, &uses)?;
+        push_info(&mut lines, input.path, map, &uses)?;
     }
     Ok(lines)
 }

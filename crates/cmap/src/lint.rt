@@ -2,9 +2,9 @@
 
 use crate::bases::Bases;
 use crate::inputs::STANDARD_INPUT;
-use crate::messages::fault;
+use crate::messages::{Failure, fault};
 use crate::options::given;
-use crate::{ACCEPTED, REFUSED};
+use crate::reading::Input;
 use clap::{Arg, ArgAction, ArgMatches};
 use cmap_binary::is_marked_binary;
 use cmap_lint::finding::Finding;
@@ -40,7 +40,7 @@ impl<'m, 'w> LintOptions<'m, 'w> {
     }
 
     /// The error of an argument of `--deny` that names no warning.
-    pub(crate) fn check_names(&self, rt: &HostRuntime) -> anyhow::Result<()> {
+    pub(crate) fn check_names(&self, rt: &HostRuntime) -> Result<(), Failure> {
         for name in self.denied {
             if *name != ALL && Warning::of(name).is_none() {
                 return Err(fault(rt, name, "neither the name of a warning nor all"));
@@ -84,7 +84,8 @@ fn deny<'a>(alloc: Global) -> Arg<'a> {
         .help("As --lint, with status 1 where there is a warning of this name; all is each name")
 }
 
-/// Adds a line for each warning about a file of these bytes, whose map this is, and gives the status.
+/// Adds a line for each warning about a file of these bytes, whose map this is, and gives whether one of them
+/// is denied.
 pub(crate) fn push_warnings(
     alloc: Global,
     lines: &mut String,
@@ -92,22 +93,22 @@ pub(crate) fn push_warnings(
     options: LintOptions<'_, '_>,
     path: &str,
     json: bool,
-) -> Result<u8, AllocError> {
+) -> Result<bool, AllocError> {
     if !options.is_asked {
         let finding = nothing_declared(subject.map);
         if finding.count > 0 {
             push_line(alloc, lines, path, &finding, json)?;
         }
-        return Ok(ACCEPTED);
+        return Ok(false);
     }
-    let mut status = ACCEPTED;
+    let mut is_denied = false;
     for finding in &findings_of(alloc, subject)? {
         push_line(alloc, lines, path, finding, json)?;
         if options.denies(finding.warning) {
-            status = REFUSED;
+            is_denied = true;
         }
     }
-    Ok(status)
+    Ok(is_denied)
 }
 
 fn push_line(
@@ -123,19 +124,18 @@ fn push_line(
     push_finding(lines, path, finding)
 }
 
-/// A file of a path and of these bytes, whose map this is.
+/// A file whose map this is.
 pub(crate) fn subject_of<'m>(
     map: &'m CMap,
-    path: &'m str,
-    bytes: &'m [u8],
+    input: Input<'m>,
     options: LintOptions<'_, '_>,
     bases: &Bases<'_>,
 ) -> Subject<'m> {
-    let is_binary = bases.bundle.is_some() && is_marked_binary(bytes);
+    let is_binary = bases.bundle.is_some() && is_marked_binary(input.bytes);
     Subject {
         map,
-        text: (!is_binary).then_some(bytes),
-        file_name: file_name(path),
+        text: (!is_binary).then_some(input.bytes),
+        file_name: file_name(input.path),
         to_unicode: options.to_unicode,
     }
 }

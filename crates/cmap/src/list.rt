@@ -2,6 +2,7 @@
 
 use crate::bases::Bases;
 use crate::inputs::map_needed;
+use crate::messages::Failure;
 use crate::options::Options;
 use crate::{ACCEPTED, REFUSED};
 use cmap_listing::effective::effective_lines;
@@ -14,9 +15,9 @@ use std::alloc::{AllocError, Global};
 pub(crate) fn list(
     rt: &HostRuntime,
     options: &Options<'_, '_>,
-    bases: &Bases<'_>,
-) -> anyhow::Result<u8> {
-    let Some(map) = map_needed(rt, options.file, options.budget, bases)? else {
+    bases: &mut Bases<'_>,
+) -> Result<u8, Failure> {
+    let Some(map) = map_needed(rt, options, bases)? else {
         return Ok(REFUSED);
     };
     let printed = if options.effective {

@@ -2,7 +2,7 @@
 
 use crate::bases::Bases;
 use crate::inputs::map_needed;
-use crate::messages::fault;
+use crate::messages::{Failure, fault};
 use crate::options::Options;
 use crate::{ACCEPTED, REFUSED};
 use cmap_queries::query::Query;
@@ -14,10 +14,10 @@ use std::alloc::{AllocError, Global};
 pub(crate) fn lookup(
     rt: &HostRuntime,
     options: &Options<'_, '_>,
-    bases: &Bases<'_>,
-) -> anyhow::Result<u8> {
+    bases: &mut Bases<'_>,
+) -> Result<u8, Failure> {
     let queries = queries_of(rt, options.arguments)?;
-    let Some(map) = map_needed(rt, options.file, options.budget, bases)? else {
+    let Some(map) = map_needed(rt, options, bases)? else {
         return Ok(REFUSED);
     };
     let lines = lines_of(rt.alloc(), &map, &queries, options.json)?;
@@ -44,7 +44,7 @@ fn lines_of(
 }
 
 /// The queries that the arguments spell.
-fn queries_of<'w>(rt: &HostRuntime, arguments: &[&'w str]) -> anyhow::Result<Vec<Query<'w>>> {
+fn queries_of<'w>(rt: &HostRuntime, arguments: &[&'w str]) -> Result<Vec<Query<'w>>, Failure> {
     let mut queries = Vec::new(rt.alloc());
     for argument in arguments {
         match Query::parse(argument) {

@@ -14,15 +14,16 @@ mod list;
 mod lookup;
 mod messages;
 mod options;
+mod paths;
 mod progress;
+mod reading;
 
-use anyhow::anyhow;
-use bases::bases_in;
+use bases::Bases;
 use clap::ArgMatches;
 use command_line::command;
-use hayro_cmap::{Bundle, NamedFiles};
+use hayro_cmap::Bundle;
 use inputs::needed;
-use messages::{fault, print_usage, report};
+use messages::{Failure, fault, print_usage, report};
 use options::Options;
 use std::env;
 use std::process::ExitCode;
@@ -36,18 +37,22 @@ const REFUSED: u8 = 1;
 /// The status where an argument is wrong, or something can't be read or written.
 const FAILED: u8 = 2;
 
+/// The status where what reads the output has gone away: that which shells give a program that
+/// SIGPIPE ends.
+const READER_GONE: u8 = 141;
+
 fn main(rt: HostRuntime) -> ExitCode {
     let status = match run(&rt) {
         Ok(status) => status,
-        Err(error) => {
-            let _ = report(&rt, &error);
-            FAILED
+        Err(failure) => {
+            let _ = report(&rt, &failure);
+            failure.status()
         }
     };
     ExitCode::from(status)
 }
 
-fn run(rt: &HostRuntime) -> anyhow::Result<u8> {
+fn run(rt: &HostRuntime) -> Result<u8, Failure> {
     let arguments: Vec<String> = env::args(rt)?.collect(rt.alloc())?;
     let command = command(rt.alloc())?;
     match command.try_get_matches_from(arguments.as_slice()) {
@@ -57,13 +62,14 @@ fn run(rt: &HostRuntime) -> anyhow::Result<u8> {
 }
 
 /// Does what the arguments ask for, and gives the status.
-fn run_command(rt: &HostRuntime, matches: &ArgMatches<'_>) -> anyhow::Result<u8> {
+fn run_command(rt: &HostRuntime, matches: &ArgMatches<'_>) -> Result<u8, Failure> {
     let Some((name, arguments)) = matches.subcommand() else {
         return Ok(FAILED);
     };
     let options = Options::of(arguments);
     if options.asks_twice_for_standard_input() {
-        return Err(anyhow!("the standard input is asked for twice"));
+        let message = String::from_str(rt.alloc(), "the standard input is asked for twice")?;
+        return Err(Failure::Message(message));
     }
     let Some(path) = options.bundle else {
         return run_subcommand(rt, name, &options, None);
@@ -81,18 +87,15 @@ fn run_subcommand(
     name: &str,
     options: &Options<'_, '_>,
     bundle: Option<&Bundle<'_>>,
-) -> anyhow::Result<u8> {
-    let bases = bases_in(rt, options.bases)?;
-    let bases = NamedFiles {
-        files: bases.as_slice(),
-        bundle,
+) -> Result<u8, Failure> {
+    let mut bases = Bases::new(rt, options.bases, bundle)?;
+    let status = match name {
+        "info" => info::info(rt, options, &mut bases)?,
+        "find" => find::find(rt, options, &mut bases)?,
+        "list" => list::list(rt, options, &mut bases)?,
+        "check" => check::check(rt, options, &mut bases)?,
+        "decode" => decode::decode(rt, options, &mut bases)?,
+        _ => lookup::lookup(rt, options, &mut bases)?,
     };
-    match name {
-        "info" => info::info(rt, options, &bases),
-        "find" => find::find(rt, options, &bases),
-        "list" => list::list(rt, options, &bases),
-        "check" => check::check(rt, options, &bases),
-        "decode" => decode::decode(rt, options, &bases),
-        _ => lookup::lookup(rt, options, &bases),
-    }
+    Ok(status.max(bases.status()))
 }

@@ -26,6 +26,16 @@ pub(crate) struct Options<'m, 'w> {
     pub(crate) effective: bool,
     /// The warnings that `check` prints.
     pub(crate) lint: LintOptions<'m, 'w>,
+    /// The file that lists further files for `check`.
+    pub(crate) files_from: Option<&'w str>,
+    /// Whether a zero byte ends each path of the list, and not a line feed.
+    pub(crate) null: bool,
+    /// Whether `check` leaves out how many files it checked.
+    pub(crate) quiet: bool,
+    /// Whether `check` prints only the first fault of a file.
+    pub(crate) first: bool,
+    /// Whether files are read past their faults, by all but `check`.
+    pub(crate) lenient: bool,
 }
 
 impl<'m, 'w> Options<'m, 'w> {
@@ -41,13 +51,21 @@ impl<'m, 'w> Options<'m, 'w> {
             json: matches.get_flag("json"),
             effective: matches.get_flag("effective"),
             lint: LintOptions::of(matches),
+            files_from: matches.get_str("files-from"),
+            null: matches.get_flag("null"),
+            quiet: matches.get_flag("quiet"),
+            first: matches.get_flag("first"),
+            lenient: matches.get_flag("lenient"),
         }
     }
 
     /// Whether several arguments ask for the standard input, which can be read once.
     pub(crate) fn asks_twice_for_standard_input(&self) -> bool {
-        let count = count_asking(self.paths).saturating_add(count_asking(self.arguments));
-        count > 1 || count == 1 && self.bundle == Some(STANDARD_INPUT)
+        let count = count_asking(self.paths)
+            .saturating_add(count_asking(self.arguments))
+            .saturating_add(usize::from(self.bundle == Some(STANDARD_INPUT)))
+            .saturating_add(usize::from(self.files_from == Some(STANDARD_INPUT)));
+        count > 1
     }
 }
 

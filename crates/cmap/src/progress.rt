@@ -1,5 +1,6 @@
 //! How far a run over many files has come.
 
+use crate::messages::Failure;
 use std::io::{self, IsTerminal};
 
 /// How many characters the bar has.
@@ -25,7 +26,7 @@ impl Progress {
     }
 
     /// One more file is done: the bar is drawn anew.
-    pub(crate) fn advance(&mut self, rt: &HostRuntime) -> anyhow::Result<()> {
+    pub(crate) fn advance(&mut self, rt: &HostRuntime) -> Result<(), Failure> {
         self.done = self.done.saturating_add(1);
         if self.is_shown {
             let bar = self.bar(rt)?;
@@ -35,7 +36,7 @@ impl Progress {
     }
 
     /// The bar, filled as far as the files are done.
-    fn bar(&self, rt: &HostRuntime) -> anyhow::Result<String> {
+    fn bar(&self, rt: &HostRuntime) -> Result<String, Failure> {
         let mut bar = String::new(rt.alloc());
         bar.push('[')?;
         for cell in 0..WIDTH {

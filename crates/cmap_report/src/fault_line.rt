@@ -1,21 +1,69 @@
-//! The line of a byte at fault.
+//! The lines of bytes at fault.
 
-ghost use Rattle.std.specs.Prelude.{◌≡◌, ◌+◌, false};
+ghost use Rattle.std.specs.Prelude.{◌≡◌};
 ghost use Rattle.cmap_report.specs.LineEnds.{line_ends};
 
-/// The line that follows these bytes of a text, the first one 1. A line ends with LF, CR, or CR and
-/// LF.
-pub fn line_after(front: &[u8]) -> usize
-    ensures { result ≡ 1 + line_ends false front.now }
+/// How many line ends these bytes of a text have, which stand after a carriage return or not. A line
+/// ends with LF, CR, or CR and LF.
+pub fn ends_in(bytes: &[u8], is_after_return: bool) -> usize
+    ensures { result ≡ line_ends is_after_return bytes.now }
 {
     let mut ends = 0;
-    let mut after_return = false;
-    for (i, byte) in front.iter().enumerate() {
+    let mut after_return = is_after_return;
+    for (i, byte) in bytes.iter().enumerate() {
         let is_return = *byte == b'\r';
         if is_return || *byte == b'\n' && !after_return {
             ends += 1;
         }
         after_return = is_return;
     }
-    1 + ends
+    ends
+}
+
+/// Counts the lines of bytes in files. The bytes of one file in a row, each not before the last, cost one
+/// pass over the file together.
+#[derive(Drop)]
+pub struct LineCounter<'n> {
+    /// The name of the file, if it has one.
+    name: Option<&'n [u8]>,
+    /// How far the line ends are counted.
+    offset: usize,
+    ends: usize,
+    is_after_return: bool,
+}
+
+impl<'n> LineCounter<'n> {
+    /// Before any file.
+    pub fn new() -> Self {
+        LineCounter {
+            name: None,
+            offset: 0,
+            ends: 0,
+            is_after_return: false,
+        }
+    }
+
+    /// The line of the byte at this offset of a file, the first one 1; `None` where the offset is past the
+    /// end. A name stands for one file.
+    pub fn line_of(&mut self, name: Option<&'n [u8]>, file: &[u8], offset: usize) -> Option<usize> {
+        if name != self.name || offset < self.offset {
+            *self = LineCounter {
+                name,
+                ..LineCounter::new()
+            };
+        }
+        self.count(file.get(self.offset..offset)?);
+        Some(self.ends.saturating_add(1))
+    }
+
+    /// Counts the line ends of the bytes that follow.
+    fn count(&mut self, bytes: &[u8]) {
+        self.ends = self
+            .ends
+            .saturating_add(ends_in(bytes, self.is_after_return));
+        self.offset = self.offset.saturating_add(bytes.len());
+        if let Some(last) = bytes.last() {
+            self.is_after_return = *last == b'\r';
+        }
+    }
 }

@@ -1,6 +1,6 @@
 //! Why a file is refused, as a line that a person reads or as an object of JSON.
 
-use crate::fault_line::line_after;
+use crate::fault_line::LineCounter;
 use cmap_binary::is_marked_binary;
 use cmap_escape::escape::{escaped_names, push_name};
 use cmap_escape::json::push_value;
@@ -19,19 +19,22 @@ struct LocatedStop {
 
 /// Where reading stopped in the file at fault, which is that of these bytes or one that it uses;
 /// `None` where no file is outside the grammar.
-fn stop_of<N: NamedFile>(
+fn stop_of<'n, N: NamedFile>(
     bytes: &[u8],
     files: &NamedFiles<'_, N, Bundle<'_>>,
-    refusal: &Refusal<'_>,
+    refusal: &Refusal<'n>,
+    lines: &mut LineCounter<'n>,
 ) -> Option<LocatedStop> {
     let Cause::Malformed(stop) = refusal.cause else {
         return None;
     };
-    let file = file_at_fault(bytes, files, refusal.names.last().copied());
-    Some(LocatedStop {
-        stop,
-        line: line_of(file, stop.offset, files),
-    })
+    let name = refusal.names.last().copied();
+    let file = file_at_fault(bytes, files, name);
+    if files.bundle.is_some() && is_marked_binary(file) {
+        return Some(LocatedStop { stop, line: None });
+    }
+    let line = lines.line_of(name, file, stop.offset);
+    Some(LocatedStop { stop, line })
 }
 
 /// The bytes of the file at fault: the last one that is named, or the top file.
@@ -46,31 +49,21 @@ fn file_at_fault<'f, N: NamedFile>(
     }
 }
 
-/// The line of a byte; `None` in a file that is read as binary.
-fn line_of<N: NamedFile>(
-    file: &[u8],
-    offset: usize,
-    files: &NamedFiles<'_, N, Bundle<'_>>,
-) -> Option<usize> {
-    if files.bundle.is_some() && is_marked_binary(file) {
-        return None;
-    }
-    Some(line_after(file.get(..offset)?))
-}
-
 /// Adds why a file of these bytes is refused, which uses those of `files`: the byte and the line at
-/// which reading stopped and what is wrong there, and the file at fault where it is another one.
-pub fn push_refusal<N: NamedFile>(
+/// which reading stopped and what is wrong there, and the file at fault where it is another one. `lines`
+/// is the same for all faults of one file, and new for another one.
+pub fn push_refusal<'n, N: NamedFile>(
     out: &mut String,
     bytes: &[u8],
     files: &NamedFiles<'_, N, Bundle<'_>>,
-    refusal: &Refusal<'_>,
+    refusal: &Refusal<'n>,
+    lines: &mut LineCounter<'n>,
 ) -> Result<(), AllocError> {
     let last = refusal.names.last().copied();
     if let Cause::NoFile = refusal.cause {
         return push_named(out, "no file has the name /", last);
     }
-    match stop_of(bytes, files, refusal) {
+    match stop_of(bytes, files, refusal, lines) {
         Some(located) => push_stop(out, located)?,
         None => write!(out, "{}", refusal.cause)?,
     }
@@ -95,20 +88,26 @@ fn push_stop(out: &mut String, located: LocatedStop) -> Result<(), AllocError> {
     write!(out, ": {}", located.stop.reason)
 }
 
-/// Adds the object of a refused file, without an end of the line.
-pub fn push_refusal_json<N: NamedFile>(
+/// Adds the object of a refused file, without an end of the line. `lines` is as in `push_refusal`.
+pub fn push_refusal_json<'n, N: NamedFile>(
     alloc: Global,
     out: &mut String,
     path: &str,
     bytes: &[u8],
     files: &NamedFiles<'_, N, Bundle<'_>>,
-    refusal: &Refusal<'_>,
+    refusal: &Refusal<'n>,
+    lines: &mut LineCounter<'n>,
 ) -> Result<(), AllocError> {
     let mut object = Map::new(alloc);
     let file = String::from_str(alloc, path)?;
     put(&mut object, alloc, "file", Value::from(file))?;
     put(&mut object, alloc, "ok", Value::from(false))?;
-    put_refusal(alloc, &mut object, stop_of(bytes, files, refusal), refusal)?;
+    put_refusal(
+        alloc,
+        &mut object,
+        stop_of(bytes, files, refusal, lines),
+        refusal,
+    )?;
     push_value(alloc, out, &Value::Object(object))
 }
 

@@ -1,5 +1,8 @@
 //! The names that the files of a chain use.
 
+use cmap_binary::{is_marked_binary, salvage_binary};
+use cmap_files::file::Salvaged;
+use cmap_text::salvage_text;
 use hayro_cmap::{Bundle, CMap, NamedFile, NamedFiles};
 use std::alloc::{AllocError, Global};
 
@@ -17,13 +20,27 @@ pub fn uses_by_layer<'f, N: NamedFile>(
         let Some(file) = next else {
             break;
         };
-        let Some(names) = CMap::uses(alloc, file, files.bundle)? else {
-            break;
-        };
+        let names = uses_of(alloc, file, files.bundle)?;
         next = base_of(files, &names);
         uses.push(names)?;
     }
     Ok(uses)
+}
+
+/// The names that a file uses, also one with faults.
+fn uses_of<'d>(
+    alloc: Global,
+    file: &'d [u8],
+    bundle: Option<&Bundle<'_>>,
+) -> Result<Vec<&'d [u8]>, AllocError> {
+    if let Some(names) = CMap::uses(alloc, file, bundle)? {
+        return Ok(names);
+    }
+    let Salvaged { file, faults: _ } = match bundle {
+        Some(bundle) if is_marked_binary(file) => salvage_binary(alloc, bundle, file)?,
+        _ => salvage_text(alloc, file)?,
+    };
+    Ok(file.uses)
 }
 
 /// The file under one that uses these: the last of them.

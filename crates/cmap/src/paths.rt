@@ -1,0 +1,71 @@
+//! Which files `check` reads.
+
+use crate::folders::{files_in, is_folder};
+use crate::inputs::{STANDARD_INPUT, needed, report_unreadable};
+use crate::messages::Failure;
+use crate::options::Options;
+use cmap_escape::escape::escaped_name;
+
+/// The files that arguments and a list name, and those in folders that they name.
+#[derive(Drop)]
+pub(crate) struct Paths {
+    pub(crate) files: Vec<String>,
+    /// How many paths can't be read, which are reported.
+    pub(crate) unreadable: usize,
+}
+
+/// The files that the arguments name, and then those of the list.
+pub(crate) fn paths_of(rt: &HostRuntime, options: &Options<'_, '_>) -> Result<Paths, Failure> {
+    let mut paths = Paths {
+        files: Vec::new(rt.alloc()),
+        unreadable: 0,
+    };
+    for path in options.paths {
+        paths.add(rt, path)?;
+    }
+    if let Some(list) = options.files_from {
+        let end = if options.null { 0 } else { b'\n' };
+        paths.add_list(rt, &needed(rt, list)?, end)?;
+    }
+    Ok(paths)
+}
+
+impl Paths {
+    /// Adds what the paths of a list name, between which this byte stands. Empty ones are passed over.
+    fn add_list(&mut self, rt: &HostRuntime, list: &[u8], end: u8) -> Result<(), Failure> {
+        for path in list.split(|byte| *byte == end) {
+            if !path.is_empty() {
+                self.add_listed(rt, path)?;
+            }
+        }
+        Ok(())
+    }
+
+    /// Adds what a path of a list names, or reports that it can't be one.
+    fn add_listed(&mut self, rt: &HostRuntime, path: &[u8]) -> Result<(), Failure> {
+        match str::from_utf8(path) {
+            Ok(STANDARD_INPUT) => {
+                report_unreadable(rt, STANDARD_INPUT)?;
+            }
+            Ok(path) => return self.add(rt, path),
+            Err(_) => {
+                let shown = escaped_name(rt.alloc(), path)?;
+                eprintln!(rt; "cmap: {shown}: not UTF-8")?;
+            }
+        }
+        self.unreadable = self.unreadable.saturating_add(1);
+        Ok(())
+    }
+
+    /// Adds a file, or each file in a folder.
+    fn add(&mut self, rt: &HostRuntime, path: &str) -> Result<(), Failure> {
+        if path == STANDARD_INPUT || !is_folder(rt, path) {
+            self.files.push(String::from_str(rt.alloc(), path)?)?;
+            return Ok(());
+        }
+        let mut found = files_in(rt, path)?;
+        self.unreadable = self.unreadable.saturating_add(found.unreadable);
+        self.files.append(&mut found.files)?;
+        Ok(())
+    }
+}

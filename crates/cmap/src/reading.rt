@@ -1,0 +1,211 @@
+//! Files over the files that they use, each of which is read when it is first missing.
+
+use crate::bases::{Bases, Files};
+use crate::messages::Failure;
+use cmap_escape::escape::push_text;
+use cmap_report::fault_line::LineCounter;
+use cmap_report::refused::{push_refusal, push_refusal_json};
+use hayro_cmap::{CMap, Cause, Fault, Refusal, SalvagedMap};
+use std::alloc::{AllocError, Global};
+
+/// A file that is read.
+#[derive(Clone, Copy)]
+pub(crate) struct Input<'i> {
+    pub(crate) path: &'i str,
+    pub(crate) bytes: &'i [u8],
+}
+
+/// What comes of a file over the files that it uses.
+#[derive(Drop)]
+pub(crate) struct Reading {
+    /// Also of a file with faults, where all are looked for.
+    pub(crate) map: Option<CMap>,
+    /// A line for each fault, without an end of the line.
+    pub(crate) faults: Vec<String>,
+    /// The names of files that are used, but aren't read yet. If there are some, a further try is due.
+    missing: Vec<Vec<u8>>,
+}
+
+/// Which faults of a file are looked for.
+#[derive(Clone, Copy)]
+pub(crate) enum Faults {
+    /// The first one, for which the file is refused.
+    First,
+    /// All: the file is read past each.
+    All,
+}
+
+/// How the lines of faults are printed.
+#[derive(Clone, Copy)]
+pub(crate) enum Form {
+    Text,
+    Json,
+}
+
+/// How a file is read.
+#[derive(Clone, Copy)]
+pub(crate) struct Manner {
+    /// The most bytes that the file and the files that it uses may have together.
+    pub(crate) budget: Option<u64>,
+    pub(crate) faults: Faults,
+    pub(crate) form: Form,
+}
+
+/// Reads a file over the files that it uses.
+pub(crate) fn read_over(
+    rt: &HostRuntime,
+    input: Input<'_>,
+    manner: Manner,
+    bases: &mut Bases<'_>,
+) -> Result<Reading, Failure> {
+    let mut reading = read_over_known(rt.alloc(), input, manner, bases)?;
+    for _ in 0..u32::MAX {
+        if reading.missing.is_empty() {
+            break;
+        }
+        read_missing(rt, &reading.missing, bases)?;
+        reading = read_over_known(rt.alloc(), input, manner, bases)?;
+    }
+    Ok(reading)
+}
+
+/// Reads the files of these names.
+fn read_missing(rt: &HostRuntime, names: &[Vec<u8>], bases: &mut Bases<'_>) -> Result<(), Failure> {
+    for name in names {
+        bases.read(rt, name)?;
+    }
+    Ok(())
+}
+
+/// Reads a file over the files that are read.
+fn read_over_known(
+    alloc: Global,
+    input: Input<'_>,
+    manner: Manner,
+    bases: &Bases<'_>,
+) -> Result<Reading, AllocError> {
+    let files = bases.read_files();
+    match manner.faults {
+        Faults::First => read_strictly(alloc, input, manner, bases, &files),
+        Faults::All => read_past(alloc, input, manner, bases, &files),
+    }
+}
+
+/// Reads a file over these files up to its first fault.
+fn read_strictly<'f>(
+    alloc: Global,
+    input: Input<'f>,
+    manner: Manner,
+    bases: &Bases<'_>,
+    files: &'f Files<'_>,
+) -> Result<Reading, AllocError> {
+    match CMap::parse_from(alloc, manner.budget, input.bytes, bases.bundle, files) {
+        Ok(map) => Reading::new(alloc, Some(map), input, manner.form, bases, &[]),
+        Err(Fault::Refused(refusal)) => {
+            Reading::new(alloc, None, input, manner.form, bases, &[refusal])
+        }
+        Err(Fault::Memory) => Err(AllocError),
+    }
+}
+
+/// Reads a file over these files past its faults.
+fn read_past<'f>(
+    alloc: Global,
+    input: Input<'f>,
+    manner: Manner,
+    bases: &Bases<'_>,
+    files: &'f Files<'_>,
+) -> Result<Reading, AllocError> {
+    let read = CMap::salvage(alloc, manner.budget, input.bytes, bases.bundle, files)?;
+    let SalvagedMap { map, faults } = read;
+    Reading::new(alloc, Some(map), input, manner.form, bases, &faults)
+}
+
+impl Reading {
+    /// The map and the lines of the faults, or the names of files that aren't read yet, where some of the
+    /// faults are that these are missing.
+    fn new(
+        alloc: Global,
+        map: Option<CMap>,
+        input: Input<'_>,
+        form: Form,
+        bases: &Bases<'_>,
+        faults: &[Refusal<'_>],
+    ) -> Result<Reading, AllocError> {
+        let missing = missing_names(alloc, bases, faults)?;
+        let faults = if missing.is_empty() {
+            lines_of(alloc, input, form, bases, faults)?
+        } else {
+            Vec::new(alloc)
+        };
+        Ok(Reading {
+            map,
+            faults,
+            missing,
+        })
+    }
+}
+
+/// The names of the files that are missing, but can be read.
+fn missing_names(
+    alloc: Global,
+    bases: &Bases<'_>,
+    faults: &[Refusal<'_>],
+) -> Result<Vec<Vec<u8>>, AllocError> {
+    let mut names = Vec::new(alloc);
+    for fault in faults {
+        if let Some(name) = missing_name(fault)
+            && bases.has_unread(name)
+        {
+            names.push(Vec::from_slice(alloc, name)?)?;
+        }
+    }
+    Ok(names)
+}
+
+/// The name that no file has.
+fn missing_name<'n>(fault: &Refusal<'n>) -> Option<&'n [u8]> {
+    match fault.cause {
+        Cause::NoFile => fault.names.last().copied(),
+        _ => None,
+    }
+}
+
+/// The lines of faults.
+fn lines_of(
+    alloc: Global,
+    input: Input<'_>,
+    form: Form,
+    bases: &Bases<'_>,
+    faults: &[Refusal<'_>],
+) -> Result<Vec<String>, AllocError> {
+    let mut lines = Vec::new(alloc);
+    let mut counter = LineCounter::new();
+    for fault in faults {
+        lines.push(line_of(alloc, input, form, bases, fault, &mut counter)?)?;
+    }
+    Ok(lines)
+}
+
+/// The line of a fault.
+fn line_of<'n>(
+    alloc: Global,
+    input: Input<'_>,
+    form: Form,
+    bases: &Bases<'_>,
+    fault: &Refusal<'n>,
+    counter: &mut LineCounter<'n>,
+) -> Result<String, AllocError> {
+    let mut line = String::new(alloc);
+    let Input { path, bytes } = input;
+    let files = bases.files();
+    match form {
+        Form::Json => push_refusal_json(alloc, &mut line, path, bytes, &files, fault, counter)?,
+        Form::Text => {
+            push_text(&mut line, path)?;
+            line.push_str(": ")?;
+            push_refusal(&mut line, bytes, &files, fault, counter)?;
+        }
+    }
+    Ok(line)
+}

@@ -1,9 +1,0 @@
-use Rattle.std.proofs.Common.{◌≡◌, ◌+◌, ◌≤◌, false, drop}
-use Rattle.cmap_report.specs.LineEnds.{line_ends}
-use Rattle.cmap_report.proofs.fault_line.line_after.Given as goal
-
-abbrev pub invariant-loop-i : goal.invariant-loop-i
-invariant-loop-i l = record {
-  few : l.ends ≤ l.i;
-  rest : l.ends + line_ends l.after_return (drop l.i l.front) ≡ line_ends false l.front;
-}
