@@ -13,9 +13,13 @@ use std::alloc::{AllocError, Global};
 #[derive(Drop)]
 pub(crate) struct TextSpan {
     pub(crate) codes: Range,
-    /// The text of the first code.
+    /// The text of the first code; empty where it has more than 256 units.
     pub(crate) text: String,
 }
+
+/// The most units of a text that is looked at. A text is read once for each row of codes that it has
+/// left, so the work is bounded.
+const MOST_UNITS: usize = 256;
 
 /// The units of characters that are one unit: those below the surrogates, and those above. The
 /// Unicode Standard, 3.9.
@@ -36,13 +40,19 @@ const LOW_SURROGATES: &[Range] = &[Range {
     end: 0xDFFF,
 }];
 
-/// The codes of these that have a text of a declaration, in order.
+/// The codes of these that have a text of a declaration, in order. One of more than 256 units counts as
+/// a text of each code.
 pub(crate) fn spans_of(
     alloc: Global,
     declared: &BfRange,
     codes: Range,
 ) -> Result<Vec<TextSpan>, AllocError> {
     let mut spans = Vec::new(alloc);
+    if declared.units.as_slice().len() > MOST_UNITS {
+        let text = String::new(alloc);
+        spans.push(TextSpan { codes, text })?;
+        return Ok(spans);
+    }
     let Some((last, front)) = declared.units.as_slice().split_last() else {
         return Ok(spans);
     };
