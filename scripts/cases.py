@@ -10,7 +10,7 @@ from pathlib import Path
 
 ESCAPE = re.compile(r"\\(?:x([0-9A-Fa-f]{2})|u\{([0-9A-Fa-f]{1,6})\}|([nrtf0\\]))")
 SHORT = {"n": b"\n", "r": b"\r", "t": b"\t", "f": b"\f", "0": b"\0", "\\": b"\\"}
-PLACE = re.compile(r"\{(at|byte|line)(?: ([^{}\"]+))?\}")
+PLACE = re.compile(r"\{(at|byte|line)(?: ([^{}\"]+?))??(?: ([1-9][0-9]*))?\}")
 LINE_END = re.compile(rb"\r\n|\r|\n")
 BINARY_HEAD = b"bcmap\x01"
 PROGRAMS = ["cmap", "cmap_bench"]
@@ -23,20 +23,20 @@ class Misspelled(Exception):
 
 @dataclass
 class File:
-    """The bytes of a file, and the place in them that is marked; or what a link leads to."""
+    """The bytes of a file, and the places in them that are marked, in order; or what a link leads to."""
 
     path: bytes
     target: bytes | None = None
     bytes: bytearray = field(default_factory=bytearray)
-    mark: int | None = None
+    marks: list = field(default_factory=list)
 
     def add(self, text):
         """Adds a text with escapes; `\\@` marks the place where it stands."""
-        before, mark, after = text.partition("\\@")
-        self.bytes += unescape(before)
-        if mark:
-            self.mark = len(self.bytes)
-            self.bytes += unescape(after)
+        first, *others = text.split("\\@")
+        self.bytes += unescape(first)
+        for part in others:
+            self.marks.append(len(self.bytes))
+            self.bytes += unescape(part)
 
     def add_segment(self, kind, digits):
         """Adds a segment of a binary file, and keeps the length in the file's head right."""
@@ -44,14 +44,20 @@ class File:
         self.bytes += bytes.fromhex(kind) + (5 + len(payload)).to_bytes(4, "big") + payload
         self.bytes[6:10] = len(self.bytes).to_bytes(4, "big")
 
-    def place(self):
-        """The marked place, as the program says it."""
-        is_binary = self.bytes.startswith(BINARY_HEAD[:5])
-        return f"byte {self.mark}" if is_binary else f"byte {self.mark} (line {self.line()})"
+    def mark(self, number):
+        """The marked place of a number, the first one 1; without a number the only one."""
+        if number is None and len(self.marks) != 1:
+            raise Misspelled(f"a file with {len(self.marks)} marks, of which none is named")
+        return self.marks[int(number or 1) - 1]
 
-    def line(self):
-        """One more than the line ends before the marked place."""
-        return 1 + len(LINE_END.findall(bytes(self.bytes[: self.mark])))
+    def place(self, mark):
+        """A place in the file, as the program says it."""
+        is_binary = self.bytes.startswith(BINARY_HEAD[:5])
+        return f"byte {mark}" if is_binary else f"byte {mark} (line {self.line(mark)})"
+
+    def line(self, mark):
+        """One more than the line ends before a place."""
+        return 1 + len(LINE_END.findall(bytes(self.bytes[:mark])))
 
 
 @dataclass
@@ -104,7 +110,7 @@ class Reader:
         for number, line in enumerate(self.path.read_text().split("\n"), 1):
             try:
                 self.read_line(number, line)
-            except (Misspelled, ValueError, KeyError, AttributeError) as fault:
+            except (Misspelled, ValueError, LookupError, AttributeError) as fault:
                 raise Misspelled(f"{self.path.name}:{number}: can't be read: {fault}") from fault
         return self.steps
 
@@ -158,7 +164,7 @@ class Reader:
             file.add_segment(*rest.partition(" ")[::2])
         else:
             raise Misspelled(f"no word of a file: {word}")
-        if file.mark is not None:
+        if file.marks:
             self.marked = self.marks[file.path] = file
 
     def read_expected(self, word, rest):
@@ -178,15 +184,16 @@ class Reader:
             raise Misspelled(f"no word of a case: {word}")
 
     def fill(self, line):
-        """A line with the places of marked files: of the last one, or of the one that is named."""
+        """A line with the marked places of files: of the last one, or of the one that is named."""
         return PLACE.sub(lambda match: self.said(*match.groups()), line)
 
-    def said(self, what, path):
-        """What is said of the marked place of a file."""
+    def said(self, what, path, number):
+        """What is said of a marked place of a file."""
         file = self.marks[unescape(path)] if path else self.marked
+        mark = file.mark(number)
         if what == "at":
-            return file.place()
-        return str(file.mark if what == "byte" else file.line())
+            return file.place(mark)
+        return str(mark if what == "byte" else file.line(mark))
 
 
 def words_of(line):
