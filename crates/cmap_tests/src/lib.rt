@@ -20,8 +20,4 @@ mod names;
 #[cfg(test)]
 mod salvage;
 #[cfg(test)]
-mod salvage_binary;
-#[cfg(test)]
-mod salvage_map;
-#[cfg(test)]
 mod tables;

@@ -1,35 +1,15 @@
-//! Texts that are read past their faults.
+//! Maps that are read past the faults of their files.
 
-use cmap_files::fault::Reason;
-use cmap_files::file::Salvaged;
-use cmap_text::salvage_text;
-use std::alloc::{AllocError, Global};
+use hayro_cmap::{CMap, Cause, NamedFiles, Reason, SalvagedMap, Stop};
 use std::test::Fail;
 
-/// Whether a text has just one fault, this one at this offset, and declares texts for these codes alone.
-fn keeps(
-    alloc: Global,
-    text: &[u8],
-    offset: usize,
-    reason: Reason,
-    codes: &[u32],
-) -> Result<bool, AllocError> {
-    let found = salvage_text(alloc, text)?;
-    let one = match found.faults.as_slice() {
-        [fault] => fault.offset == offset && fault.reason == reason,
-        _ => false,
-    };
-    Ok(one && declares(&found, codes))
-}
-
-/// Whether texts are declared for these codes, in this order.
-fn declares(found: &Salvaged<'_>, codes: &[u32]) -> bool {
-    let bfs = found.file.lists.bfs.as_slice();
-    if bfs.len() != codes.len() {
+/// Whether these are the faults, in this order, each with the number of the names that lead to it.
+fn has_faults(found: &SalvagedMap<'_>, faults: &[(Cause, usize)]) -> bool {
+    if found.faults.len() != faults.len() {
         return false;
     }
-    for (declared, code) in bfs.iter().zip(codes.iter()) {
-        if declared.range.start != *code {
+    for (fault, (cause, names)) in found.faults.iter().zip(faults.iter()) {
+        if fault.cause != *cause || fault.names.len() != *names {
             return false;
         }
     }
@@ -37,66 +17,41 @@ fn declares(found: &Salvaged<'_>, codes: &[u32]) -> bool {
 }
 
 #[test]
-fn a_bad_entry_is_lost_alone(rt: HostRuntime) -> Result<(), Fail> {
-    let text = b"beginbfchar <41> <0041> <42> /x <44> <0044> endbfchar";
-    let kept = keeps(rt.alloc(), text, 31, Reason::TextExpected, &[0x41, 0x44])?;
-    assert!(rt; kept);
+fn reading_goes_on_after_each_fault(rt: HostRuntime) -> Result<(), Fail> {
+    let top = b"/Base usecmap begincidchar <41> /x <42> 7 endcidchar";
+    let base = b"/Gone usecmap begincidchar <41> 5 endcidchar";
+    let files: [(&[u8], &[u8]); 1] = [(b"Base", base)];
+    let source = NamedFiles::alone(&files);
+    let found = CMap::salvage(rt.alloc(), None, top, None, &source)?;
+    let (offset, reason) = (34, Reason::CidExpected);
+    let wrong = Cause::Malformed(Stop { offset, reason });
+    assert!(rt; has_faults(&found, &[(wrong, 0), (Cause::NoFile, 2)]));
+    assert!(rt; found.map.lookup_cid_code(0x41, 1) == Some(5));
+    assert!(rt; found.map.lookup_cid_code(0x42, 1) == Some(7));
     Ok(())
 }
 
+/// After the first chain that is too long no file is opened, so that there is one fault.
 #[test]
-fn a_bad_hexadecimal_string_is_one_fault(rt: HostRuntime) -> Result<(), Fail> {
-    let text = b"beginbfchar <41> <4G> <42> <0042> endbfchar";
-    let kept = keeps(rt.alloc(), text, 19, Reason::MalformedToken, &[0x42])?;
-    assert!(rt; kept);
+fn a_file_that_uses_itself_has_sixteen_layers(rt: HostRuntime) -> Result<(), Fail> {
+    let looped = b"/Loop usecmap /Loop usecmap";
+    let files: [(&[u8], &[u8]); 1] = [(b"Loop", looped)];
+    let source = NamedFiles::alone(&files);
+    let found = CMap::salvage(rt.alloc(), None, looped, None, &source)?;
+    assert!(rt; has_faults(&found, &[(Cause::ChainLength, 16)]));
+    assert!(rt; found.map.layers().len() == 16);
     Ok(())
 }
 
+/// The budget has room for the top file alone. The base isn't read, and is a layer that says nothing.
 #[test]
-fn a_bad_list_goes_up_to_its_bracket(rt: HostRuntime) -> Result<(), Fail> {
-    let text = b"beginbfrange <01> <02> [<0041> /x <0042>] <03> <03> <0043> endbfrange";
-    let kept = keeps(rt.alloc(), text, 33, Reason::TextExpected, &[3])?;
-    assert!(rt; kept);
-    Ok(())
-}
-
-#[test]
-fn a_name_ends_a_section(rt: HostRuntime) -> Result<(), Fail> {
-    let text = b"beginbfchar <41> <0041> <42> endcmap beginbfchar <43> <0043> endbfchar";
-    let kept = keeps(rt.alloc(), text, 36, Reason::TextExpected, &[0x41, 0x43])?;
-    assert!(rt; kept);
-    Ok(())
-}
-
-#[test]
-fn a_text_that_ends_in_a_section(rt: HostRuntime) -> Result<(), Fail> {
-    let text = b"beginbfchar <41> <0041> <42>";
-    let kept = keeps(rt.alloc(), text, 28, Reason::EndWithinSection, &[0x41])?;
-    assert!(rt; kept);
-    Ok(())
-}
-
-#[test]
-fn a_string_without_an_end(rt: HostRuntime) -> Result<(), Fail> {
-    let text = b"beginbfchar <41> <0041> <42> (abc endbfchar";
-    let kept = keeps(rt.alloc(), text, 43, Reason::MalformedToken, &[0x41])?;
-    assert!(rt; kept);
-    Ok(())
-}
-
-#[test]
-fn a_use_without_a_name(rt: HostRuntime) -> Result<(), Fail> {
-    let text = b"usecmap beginbfchar <41> <0041> endbfchar";
-    let kept = keeps(rt.alloc(), text, 7, Reason::UseWithoutName, &[0x41])?;
-    assert!(rt; kept);
-    Ok(())
-}
-
-#[test]
-fn a_right_text_has_no_fault(rt: HostRuntime) -> Result<(), Fail> {
-    let found = salvage_text(rt.alloc(), b"beginbfchar <41> <0041> endbfchar /A usecmap")?;
-    assert!(rt; found.faults.is_empty());
-    assert!(rt; found.file.uses.len() == 1);
-    assert!(rt; declares(&found, &[0x41]));
+fn a_base_past_the_budget_says_nothing(rt: HostRuntime) -> Result<(), Fail> {
+    let top = b"/Base usecmap";
+    let files: [(&[u8], &[u8]); 1] = [(b"Base", b"begincidchar <41> 5 endcidchar")];
+    let source = NamedFiles::alone(&files);
+    let found = CMap::salvage(rt.alloc(), Some(20), top, None, &source)?;
+    assert!(rt; has_faults(&found, &[(Cause::OverBudget, 1)]));
+    assert!(rt; found.map.layers().len() == 2);
+    assert!(rt; found.map.lookup_cid_code(0x41, 1).is_none());
     Ok(())
 }
