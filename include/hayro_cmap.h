@@ -232,8 +232,24 @@ hayro_cmap_status hayro_cmap_explain(hayro_cmap *map, const uint8_t *data, size_
                                      uint64_t budget, hayro_cmap_fault *fault,
                                      uint8_t *room, size_t room_len, size_t *needed);
 
+/* Reads the CMap file `data`, and those that it uses, past their faults: the map of what they say, and each
+ * fault. Of a file that hayro_cmap_explain accepts it gives the same map and no fault; of another one
+ * the first fault is one for which that is refused. docs/FORMATS.md says how reading goes on.
+ *
+ * With HAYRO_CMAP_OK the handle has a map. `found` is how many faults there are, and `faults` begins
+ * with them, as many as have room. The names that lead to the files at fault are written to `room`,
+ * those of the first fault first, all or none of them; `needed` is how many bytes they have together.
+ * With HAYRO_CMAP_NO_MEMORY, the only other status, the handle is empty and nothing is written. */
+hayro_cmap_status hayro_cmap_salvage(hayro_cmap *map, const uint8_t *data, size_t data_len,
+                                     hayro_cmap_bundle *bundle,
+                                     const hayro_cmap_file *files, size_t files_len,
+                                     uint64_t budget,
+                                     hayro_cmap_fault *faults, size_t faults_len, size_t *found,
+                                     uint8_t *room, size_t room_len, size_t *needed);
+
 /* What is wrong, in English, as "byte 27: a CID was expected", written as a text is. It is
- * HAYRO_CMAP_ABSENT where the numbers of `fault` are none that hayro_cmap_explain gives. */
+ * HAYRO_CMAP_ABSENT where the numbers of `fault` are none that hayro_cmap_explain or
+ * hayro_cmap_salvage gives. */
 hayro_cmap_status hayro_cmap_message(const hayro_cmap_fault *fault, uint8_t *room, size_t room_len,
                                      size_t *needed);
 

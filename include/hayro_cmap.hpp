@@ -17,13 +17,18 @@
 
 #include "hayro_cmap.h"
 
+#include <algorithm>
 #include <cstddef>
 #include <cstdint>
+#include <cstdlib>
+#include <filesystem>
+#include <fstream>
 #include <initializer_list>
 #include <iterator>
 #include <map>
 #include <new>
 #include <optional>
+#include <sstream>
 #include <string>
 #include <string_view>
 #include <type_traits>
@@ -325,6 +330,7 @@ private:
 };
 
 class Result;
+struct Salvaged;
 
 // How far a string is decoded.
 struct Decoded {
@@ -370,6 +376,15 @@ public:
                                       std::uint64_t budget = no_budget);
     static std::optional<Result> open(Bytes name, Bundle &bundle, const Files &files = {},
                                       std::uint64_t budget = no_budget);
+
+    // Reads the predefined CMap file of a name, and those that it uses, each as predefined_file finds it.
+    static std::optional<Result> open_predefined(const std::string &name);
+
+    // Reads a file and those that it uses past their faults: the map of what they say, and each fault.
+    // Of a file that parse accepts it is the same map, without a fault.
+    static Salvaged salvage(Bytes data, const Files &files = {}, std::uint64_t budget = no_budget);
+    static Salvaged salvage(Bytes data, Bundle &bundle, const Files &files = {},
+                            std::uint64_t budget = no_budget);
 
     // Reads a file in place of the map, and doesn't say why there is none. The bundle, or no bytes,
     // serves for this file alone, and nothing of it is copied.
@@ -557,6 +572,13 @@ private:
     std::variant<Map, Refusal> either_;
 };
 
+// A map, and the faults past which its files were read. Those of one file are in the order of their
+// offsets, before those of the files that it uses.
+struct Salvaged {
+    Map map;
+    std::vector<Refusal> faults;
+};
+
 inline Result Map::parse(Bytes data, Bundle &bundle, const Files &files, std::uint64_t budget) {
     Map map;
     hayro_cmap_fault fault{};
@@ -574,6 +596,33 @@ inline Result Map::parse(Bytes data, Bundle &bundle, const Files &files, std::ui
 inline Result Map::parse(Bytes data, const Files &files, std::uint64_t budget) {
     Bundle none;
     return parse(data, none, files, budget);
+}
+
+inline Salvaged Map::salvage(Bytes data, Bundle &bundle, const Files &files, std::uint64_t budget) {
+    Salvaged salvaged;
+    std::vector<hayro_cmap_fault> faults;
+    std::string names;
+    std::size_t found = 8, needed = 64;
+    while (found > faults.size() || needed > names.size()) {
+        faults.resize(found);
+        names.resize(needed);
+        detail::with_memory(hayro_cmap_salvage(
+            salvaged.map.handle(), data.data(), data.size(), bundle.handle(), files.data(),
+            files.size(), budget, detail::room_of(Span<hayro_cmap_fault>(faults)), faults.size(),
+            &found, detail::room_of(names), names.size(), &needed));
+    }
+    faults.resize(found);
+    std::string_view left = names;
+    for (const auto &fault : faults) {
+        salvaged.faults.emplace_back(fault, left);
+        for (const auto &name : salvaged.faults.back().names()) left.remove_prefix(name.size());
+    }
+    return salvaged;
+}
+
+inline Salvaged Map::salvage(Bytes data, const Files &files, std::uint64_t budget) {
+    Bundle none;
+    return salvage(data, none, files, budget);
 }
 
 inline std::optional<Result> Map::open(Bytes name, Bundle &bundle, const Files &files,
@@ -642,6 +691,63 @@ std::map<std::string, std::string> used_files(Bytes data, Bundle &bundle, Get ge
 template <class Get> std::map<std::string, std::string> used_files(Bytes data, Get get) {
     Bundle none;
     return used_files(data, none, std::move(get));
+}
+
+namespace detail {
+
+// The file of a name in a folder or, first come, first served, in its subfolders.
+inline std::optional<std::string> file_below(const std::filesystem::path &folder, const std::string &name) {
+    namespace fs = std::filesystem;
+    std::error_code fault;
+    if (fs::is_regular_file(folder / name, fault)) {
+        std::ifstream in(folder / name, std::ios::binary);
+        std::string bytes{std::istreambuf_iterator<char>(in), {}};
+        if (!in) throw fs::filesystem_error("a CMap file can't be read", folder / name, std::error_code());
+        return bytes;
+    }
+    std::vector<fs::path> below;
+    for (const auto &entry : fs::directory_iterator(folder, fault))
+        if (fs::is_directory(entry.symlink_status(fault))) below.push_back(entry.path());
+    std::sort(below.begin(), below.end());
+    for (const auto &subfolder : below)
+        if (auto bytes = file_below(subfolder, name)) return bytes;
+    return std::nullopt;
+}
+
+// The folders in which predefined CMap files are looked up.
+inline std::vector<std::string> predefined_folders() {
+    const char *asked = std::getenv("CMAP_PATH");
+    if (!asked)
+        return {"/usr/share/poppler/cMap", "/var/lib/ghostscript/CMap",
+                "/usr/share/texlive/texmf-dist/fonts/cmap/adobemapping"};
+    std::vector<std::string> folders;
+    std::istringstream path(asked);
+    for (std::string folder; std::getline(path, folder, ':');)
+        if (!folder.empty()) folders.push_back(folder);
+    return folders;
+}
+
+} // namespace detail
+
+// The predefined CMap file of a name, as 90ms-RKSJ-H; nothing where the system has none. It is looked up
+// in the folders of the environment variable CMAP_PATH, with colons between them, and without the
+// variable where packages of Linux put these files; in each folder first, and then in its subfolders. A
+// name stands for nothing outside of them. std::filesystem::filesystem_error where a file can't be read.
+inline std::optional<std::string> predefined_file(const std::string &name) {
+    if (name.empty() || name == "." || name == ".." || name.find('/') != std::string::npos ||
+        name.find('\0') != std::string::npos)
+        return std::nullopt;
+    for (const auto &folder : detail::predefined_folders())
+        if (auto bytes = detail::file_below(folder, name)) return bytes;
+    return std::nullopt;
+}
+
+inline std::optional<Result> Map::open_predefined(const std::string &name) {
+    auto file = predefined_file(name);
+    if (!file) return open(name);
+    auto files = used_files(*file, predefined_file);
+    files.emplace(name, *file);
+    return open(name, files);
 }
 
 // The version of the library.

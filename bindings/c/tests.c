@@ -242,6 +242,48 @@ static void names_lead_to_the_file_at_fault(void) {
     hayro_cmap_free(&map);
 }
 
+// A file at fault at byte 39, over one at fault at byte 15, which uses a file that is missing.
+#define SPOILED "/AB usecmap begincidchar <41> 5 <42> /X <43> 7 endcidchar"
+
+static void files_are_read_past_their_faults(void) {
+    hayro_cmap map = HAYRO_CMAP_EMPTY;
+    hayro_cmap_bundle none = HAYRO_CMAP_EMPTY;
+    hayro_cmap_fault faults[4];
+    uint8_t room[6] = {0};
+    size_t found = 0, needed = 0;
+    hayro_cmap_file file = {TEXT("AB"), TEXT("begincidchar <> <44> 9 endcidchar /C usecmap")};
+    CHECK(hayro_cmap_salvage(&map, TEXT(SPOILED), &none, &file, 1, HAYRO_CMAP_NO_BUDGET, faults, 4, &found,
+                             room, 6, &needed) == HAYRO_CMAP_OK);
+    CHECK(found == 3 && needed == 5 && same(room, "ABABC\0", 6));
+    CHECK(faults[0].cause == HAYRO_CMAP_MALFORMED && faults[0].reason == HAYRO_CMAP_CID_EXPECTED);
+    CHECK(faults[0].offset == 39 && faults[0].names == 0);
+    CHECK(faults[1].cause == HAYRO_CMAP_MALFORMED && faults[1].reason == HAYRO_CMAP_CODE_LENGTH);
+    CHECK(faults[1].offset == 15 && faults[1].names == 1 && faults[1].name_lens[0] == 2);
+    CHECK(faults[2].cause == HAYRO_CMAP_NO_FILE && faults[2].names == 2 && faults[2].name_lens[1] == 1);
+    uint32_t cid = 0;
+    CHECK(hayro_cmap_cid(&map, 0x41, 1, &cid) && cid == 5);
+    CHECK(!hayro_cmap_cid(&map, 0x42, 1, &cid));
+    CHECK(hayro_cmap_cid(&map, 0x43, 1, &cid) && cid == 7);
+    CHECK(hayro_cmap_cid(&map, 0x44, 1, &cid) && cid == 9);
+    hayro_cmap_free(&map);
+}
+
+static void faults_without_room_are_counted(void) {
+    hayro_cmap map = HAYRO_CMAP_EMPTY;
+    hayro_cmap_bundle none = HAYRO_CMAP_EMPTY;
+    hayro_cmap_fault fault = {0};
+    uint8_t room[1] = {7};
+    size_t found = 0, needed = 0;
+    CHECK(hayro_cmap_salvage(&map, TEXT("/A usecmap /B usecmap"), &none, hayro_cmap_files(NULL), 0,
+                             HAYRO_CMAP_NO_BUDGET, &fault, 1, &found, room, 1, &needed) == HAYRO_CMAP_OK);
+    CHECK(found == 2 && fault.cause == HAYRO_CMAP_NO_FILE && fault.names == 1);
+    CHECK(needed == 2 && room[0] == 7);
+    CHECK(hayro_cmap_salvage(&map, TEXT(FILE_TEXT), &none, hayro_cmap_files(NULL), 0, HAYRO_CMAP_NO_BUDGET,
+                             &fault, 1, &found, room, 1, &needed) == HAYRO_CMAP_OK);
+    CHECK(found == 0 && needed == 0 && hayro_cmap_layers(&map) == 1);
+    hayro_cmap_free(&map);
+}
+
 static void faults_have_messages(void) {
     hayro_cmap_fault fault = {1, 6, 0, 20, 0, {0}};
     uint8_t room[27] = {0};
@@ -442,6 +484,8 @@ int main(void) {
     a_string_may_end_before_its_last_code();
     files_are_opened_by_their_names();
     names_lead_to_the_file_at_fault();
+    files_are_read_past_their_faults();
+    faults_without_room_are_counted();
     faults_have_messages();
     uses_are_named();
     uses_with_room_for_fewer_lengths_are_not_written();

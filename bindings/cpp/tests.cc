@@ -2,7 +2,11 @@
 #include "hayro_cmap.hpp"
 #include <array>
 #include <cstdio>
+#include <cstdlib>
+#include <filesystem>
+#include <fstream>
 #include <thread>
+#include <unistd.h>
 
 static int failed = 0;
 
@@ -97,6 +101,24 @@ static void refusals_say_why() {
 
     auto opened = hayro::Map::open("Bad", {{"Bad", "begincidchar"}});
     CHECK(opened && !*opened && opened->refusal().offset() == 12u);
+}
+
+static void files_are_read_past_their_faults() {
+    auto base = "begincidchar <> <44> 9 endcidchar /C usecmap"s;
+    auto found = hayro::Map::salvage("/AB usecmap begincidchar <41> 5 <42> /X <43> 7 endcidchar", {{"AB", base}});
+    CHECK(found.map.cid(0x41, 1) == 5u && !found.map.cid(0x42, 1) && found.map.cid(0x43, 1) == 7u);
+    CHECK(found.map.cid(0x44, 1) == 9u && found.map.layers() == 2 && found.faults.size() == 3);
+    CHECK(found.faults[0].message() == "byte 39: a CID was expected" && found.faults[0].names().empty());
+    CHECK(found.faults[1].reason() == hayro::Reason::code_length && found.faults[1].names() == Names{"AB"});
+    CHECK(found.faults[2].cause() == hayro::Cause::no_file && found.faults[2].names() == (Names{"AB", "C"}));
+    CHECK(hayro::Map::salvage(base, {{"C", ""}}).faults.size() == 1);
+    CHECK(hayro::Map::salvage("begincidchar <44> 9 endcidchar").faults.empty());
+    std::string many;
+    for (int count = 0; count < 100; count++) many += " begincidchar <> endcidchar /nnnnnnnnn usecmap";
+    auto faults = hayro::Map::salvage(many).faults;
+    CHECK(faults.size() == 200 && faults[199].names() == Names{"nnnnnnnnn"});
+    auto over = hayro::Map::salvage("/A usecmap", {{"A", "% bytes"}}, 10);
+    CHECK(over.faults.size() == 1 && over.faults[0].cause() == hayro::Cause::past_budget);
 }
 
 static void strings_are_cut() {
@@ -242,6 +264,26 @@ static void uses_are_named() {
     CHECK(asked.size() == 15 && asked.back() == std::string(15, 'N'));
 }
 
+static void predefined_files_are_found() {
+    namespace fs = std::filesystem;
+    fs::path folder = fs::temp_directory_path() / ("cmap-" + std::to_string(getpid()));
+    fs::create_directories(folder / "below");
+    std::ofstream(folder / "below" / "Top") << "/Base usecmap begincidchar <02> 2 endcidchar";
+    std::ofstream(folder / "below" / "Base") << "begincidchar <01> 1 endcidchar";
+    std::ofstream(folder / "Outside") << "begincidchar <01> 1 endcidchar";
+    setenv("CMAP_PATH", ("/nowhere:" + folder.string()).c_str(), 1);
+    auto opened = hayro::Map::open_predefined("Top");
+    CHECK(opened && *opened && (*opened)->cid(1, 1) == 1u && (*opened)->cid(2, 1) == 2u);
+    CHECK(!hayro::Map::open_predefined("Else") && hayro::Map::open_predefined("Identity-V"));
+    CHECK(!hayro::predefined_file("below") && !hayro::predefined_file("") && !hayro::predefined_file(".."));
+    setenv("CMAP_PATH", (folder / "below").c_str(), 1);
+    CHECK(hayro::predefined_file("Top") && !hayro::predefined_file("../Outside"));
+    setenv("CMAP_PATH", "", 1);
+    CHECK(!hayro::predefined_file("Top"));
+    unsetenv("CMAP_PATH");
+    fs::remove_all(folder);
+}
+
 static void threads_share_a_map() {
     auto map = hayro::Map::parse("begincidrange <0000> <FFFF> 5 endcidrange");
     std::vector<std::thread> threads;
@@ -261,12 +303,14 @@ int main() {
     files_use_files();
     long_texts_are_whole();
     refusals_say_why();
+    files_are_read_past_their_faults();
     strings_are_cut();
     layers_declare_cids_and_texts();
     many_declarations_are_whole();
     files_speak_of_themselves();
     bundles_have_files();
     uses_are_named();
+    predefined_files_are_found();
     threads_share_a_map();
     CHECK(!hayro::version().empty());
     std::puts(failed ? "failed" : "ok");

@@ -2,8 +2,7 @@
 
     import hayro_cmap
 
-    files = hayro_cmap.folder("/usr/share/poppler/cMap/Adobe-Japan1")
-    with hayro_cmap.CMap.open("90ms-RKSJ-H", files) as cmap:
+    with hayro_cmap.CMap.open("90ms-RKSJ-H") as cmap:
         print([code.cid for code in cmap.decode(bytes.fromhex("93FA967B8CEA"))])
 
 A file may come from anyone: each call returns on any bytes. What is refused is a `Refused`, and MemoryError says that
@@ -14,8 +13,9 @@ environment variable HAYRO_CMAP_LIBRARY, else the file in this package's folder,
 from ._bundle import Bundle
 from ._faults import Cause, NotABundle, Reason, Refused, Segment
 from ._folder import folder
-from ._map import CidRange, CMap, Code, CodeRange, Codespace, Layer, Metadata, TextRange, WritingMode
+from ._map import CidRange, CMap, Code, CodeRange, Codespace, Layer, Metadata, Salvaged, TextRange, WritingMode
 from ._owned import library, put
+from ._predefined import predefined
 from ._reading import uses
 
 __all__ = [
@@ -31,10 +31,12 @@ __all__ = [
     "NotABundle",
     "Reason",
     "Refused",
+    "Salvaged",
     "Segment",
     "TextRange",
     "WritingMode",
     "folder",
+    "predefined",
     "uses",
 ]
 

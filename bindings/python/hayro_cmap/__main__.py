@@ -1,7 +1,7 @@
 """Prints the codes of strings, with their CIDs and texts.
 
-FILE is the path of a CMap file, or the name of one in the folders of --base or in the bundle, or Identity-H or
-Identity-V. A code without a text of its own has that of its CID in the CMap to Unicode of its collection, as
+FILE is the path of a CMap file, or the name of one in the folders of --base or in the bundle, or of a predefined CMap:
+one in the folders of the environment variable CMAP_PATH, else in those of the system. A code without a text of its own has that of its CID in the CMap to Unicode of its collection, as
 Adobe-Japan1-UCS2, if that is there.
 """
 
@@ -10,7 +10,7 @@ import os
 import sys
 import unicodedata
 
-from . import Bundle, CMap, NotABundle, Refused, __version__, folder
+from . import Bundle, CMap, NotABundle, Refused, __version__, folder, predefined
 
 #: Categories of characters that control a terminal, or that stand for nothing.
 HARMFUL = {"Cc", "Cf", "Cn", "Co", "Cs", "Zl", "Zp"}
@@ -37,6 +37,18 @@ def read(path):
 def map_of(file, **over):
     """The map of a path, or of a name."""
     return CMap.parse(read(file), **over) if os.path.isfile(file) else CMap.open(file, **over)
+
+
+def files_of(folders, bundle):
+    """The files of these folders, then those of the bundle, then the predefined CMaps."""
+    given = folder(*folders)
+
+    def file_of(name):
+        file = given(name)
+        in_bundle = file is None and bundle is not None and bundle.file(name) is not None
+        return predefined(name) if file is None and not in_bundle else file
+
+    return file_of
 
 
 def texts_of(cmap, over):
@@ -78,8 +90,8 @@ def main():
     sys.stdout.reconfigure(errors="backslashreplace")
     name = os.fsdecode(it.file)
     try:
-        over = {"files": folder(*it.base), "budget": it.budget}
-        over["bundle"] = None if it.bundle is None else Bundle.open(read(it.bundle))
+        bundle = None if it.bundle is None else Bundle.open(read(it.bundle))
+        over = {"files": files_of(it.base, bundle), "bundle": bundle, "budget": it.budget}
         with map_of(it.file, **over) as cmap:
             texts = texts_of(cmap, over)
             for string in it.strings:

@@ -7,6 +7,7 @@ from functools import cached_property
 from typing import List, NamedTuple, Optional, Tuple
 
 from ._bundle import Bundle, held
+from ._faults import Refused
 from ._library import (
     ABSENT,
     NO_MODE,
@@ -20,7 +21,19 @@ from ._library import (
     Handle,
 )
 from ._owned import Owned, checked, library, put
-from ._reading import MOST_IN_CHAIN, NO_FILES, Files, budget_of, explained, fetched, gathered, no_file, table_of
+from ._predefined import predefined
+from ._reading import (
+    MOST_IN_CHAIN,
+    NO_FILES,
+    Files,
+    budget_of,
+    explained,
+    fetched,
+    gathered,
+    no_file,
+    salvaged_over,
+    table_of,
+)
 from ._reading import uses as uses_of
 from ._values import CODE_LENGTHS, Buffer, Name, bytes_of, cid_number, code_length, code_number, name_of, number
 
@@ -173,12 +186,27 @@ class CMap(Owned):
         return cls(explained(data, gathered(data, files, bundle), bundle, most))
 
     @classmethod
+    def salvage(
+        cls, data: Buffer, files: Files = NO_FILES, bundle: Optional[Bundle] = None, budget: Optional[int] = None
+    ) -> "Salvaged":
+        """Reads a CMap file, and those that it uses, past their faults: the map of what they say, and each fault.
+
+        Of a file that `parse` reads it gives the same map, and no fault; of another one the first fault is why it is
+        refused. The parameters are those of `parse`; a callable isn't asked for a name that only a file at fault uses,
+        where the bundle has it.
+        """
+        data, most = bytes_of(data), budget_of(budget)
+        handle, faults = salvaged_over(data, files, bundle, most)
+        return Salvaged(cls(handle), faults)
+
+    @classmethod
     def open(
-        cls, name: Name, files: Files = NO_FILES, bundle: Optional[Bundle] = None, budget: Optional[int] = None
+        cls, name: Name, files: Files = predefined, bundle: Optional[Bundle] = None, budget: Optional[int] = None
     ) -> "CMap":
         """Reads the file of a name, as `parse` does: that of `files`, else that of the bundle.
 
-        Where neither has one, Identity-H and Identity-V are made, and any other name is Refused.
+        Where neither has one, Identity-H and Identity-V are made, and any other name is Refused. Without `files` they
+        are the predefined CMaps that the system has, as `predefined` finds them.
         """
         name, most = name_of(name), budget_of(budget)
         is_asked = callable(files)
@@ -286,3 +314,11 @@ class CMap(Owned):
             room = (kind * needed.value)()
             status = checked(self._ask(call, *arguments, room, len(room), needed))
         return room[: needed.value] if status == OK else []
+
+
+class Salvaged(NamedTuple):
+    """What is read of a file past its faults."""
+
+    cmap: CMap
+    #: Those of one file are in the order of their offsets, before those of the files that it uses.
+    faults: List[Refused]

@@ -1,9 +1,10 @@
 """CMap files over the files that they use."""
 
 import ctypes
+import functools
 from ctypes import c_size_t
 from types import MappingProxyType
-from typing import Callable, Dict, List, Mapping, Optional, Union
+from typing import Callable, Dict, List, Mapping, Optional, Tuple, Union
 
 from ._bundle import Bundle, held
 from ._faults import Cause, Reason, Refused, Segment
@@ -44,6 +45,47 @@ def explained(data: bytes, files: Dict[bytes, bytes], bundle: Optional[Bundle], 
         if checked(status) == OK:
             return handle
     raise refusal(fault, room.raw, opened)
+
+
+def salvaged(data: bytes, files: Dict[bytes, bytes], bundle: Optional[Bundle], budget: int) -> Tuple[Handle, List[Refused]]:
+    """The handle of the map of a file that is read past its faults, and the faults."""
+    table, handle, found, needed, faults, room = table_of(files), Handle(), c_size_t(8), c_size_t(256), [], b""
+    while found.value > len(faults) or needed.value > len(room):
+        faults, room = (Fault * (found.value + 1))(), ctypes.create_string_buffer(needed.value + 1)
+        with held(bundle) as over:
+            checked(
+                library.hayro_cmap_salvage(
+                    *(handle, data, len(data), over, table, len(files), budget),
+                    *(faults, len(faults), found, room, len(room), needed),
+                )
+            )
+    return handle, refusals(faults[: found.value], room.raw)
+
+
+def refusals(faults: List[Fault], names: bytes) -> List[Refused]:
+    """What the library says of faults, whose names stand one after another."""
+    found, start = [], 0
+    for fault in faults:
+        end = start + sum(fault.name_lens[: fault.names])
+        found.append(refusal(fault, names[start:end], None))
+        start = end
+    return found
+
+
+def salvaged_over(data: bytes, files: Files, bundle: Optional[Bundle], budget: int) -> Tuple[Handle, List[Refused]]:
+    """The same over all files of a mapping, or those that a callable gives. Each name is asked for once."""
+    if not callable(files):
+        return salvaged(data, gathered(data, files, bundle), bundle, budget)
+    ask = functools.lru_cache(maxsize=None)(files)
+    found = gathered(data, ask, bundle)
+    while True:
+        handle, faults = salvaged(data, found, bundle, budget)
+        answers = {name: ask(name) for name in (fault.names[-1] for fault in faults if fault.cause == Cause.NO_FILE)}
+        new = {name: bytes_of(file) for name, file in answers.items() if file is not None}
+        if not new:
+            return handle, faults
+        library.hayro_cmap_free(handle)
+        found.update(new)
 
 
 def refusal(fault: Fault, names: bytes, opened: Optional[bytes]) -> Refused:

@@ -3,12 +3,13 @@
 import os
 import tempfile
 import unittest
+import unittest.mock
 from pathlib import Path
 
-from hayro_cmap import Bundle, Cause, CMap, Refused, WritingMode, folder
+from hayro_cmap import Bundle, Cause, CMap, Refused, WritingMode, folder, predefined
 from hayro_cmap import uses as uses_of
 
-from .files import BINARY, BROKEN, BUNDLE, FIRST, SMALL, SMALL_V, bundle_of, uses
+from .files import BINARY, BROKEN, BUNDLE, FIRST, SMALL, SMALL_V, bundle_of, needs_resources, uses
 
 
 class Recorded:
@@ -36,6 +37,39 @@ class Uses(unittest.TestCase):
         with Bundle.open(BUNDLE) as bundle:
             self.assertEqual(uses_of(name, bundle), [b"A"])
             self.assertEqual(uses_of(BINARY, bundle), [])
+
+
+class Predefined(unittest.TestCase):
+    def setUp(self):
+        folder = tempfile.TemporaryDirectory()
+        self.addCleanup(folder.cleanup)
+        self.folder = folder.name
+        below = Path(self.folder, "Small")
+        below.mkdir()
+        (below / "Small-H").write_bytes(SMALL)
+        (below / "Small-V").write_bytes(SMALL_V)
+        Path(self.folder, "Secret").write_bytes(SMALL)
+
+    def path(self, *folders):
+        return unittest.mock.patch.dict(os.environ, {"CMAP_PATH": os.pathsep.join(folders)})
+
+    def test_path(self):
+        with self.path("/nowhere", self.folder), CMap.open("Small-V") as cmap:
+            self.assertEqual([cmap.cid(0x8140, 2), cmap.cid(0x8141, 2)], [633, 7887])
+
+    def test_nothing_outside(self):
+        with self.path(self.folder + "/Small"):
+            self.assertEqual([predefined(name) for name in [b"../Secret", b"..", b"", b"Small-H\0", b"Else"]], [None] * 5)
+            self.assertEqual(predefined(b"Small-H"), SMALL)
+        with self.path(), self.assertRaises(Refused):
+            CMap.open("Small-V")
+
+    @needs_resources
+    def test_system(self):
+        with unittest.mock.patch.dict(os.environ):
+            os.environ.pop("CMAP_PATH", None)
+            with CMap.open("90ms-RKSJ-V") as cmap:
+                self.assertEqual([code.cid for code in cmap.decode(b"\x93\xfa")], [3284])
 
 
 class Callables(unittest.TestCase):

@@ -40,6 +40,32 @@ class Refusals(unittest.TestCase):
             fault = self.refusal(CMap.parse, uses(b"Loop"), files)
             self.assertEqual((fault.cause, fault.names), (Cause.CHAIN_LENGTH, (b"Loop",) * 16))
 
+    def test_salvage(self):
+        data = uses(b"AB") + b" begincidchar <41> 5 <42> /X <43> 7 endcidchar"
+        files = {b"AB": b"begincidchar <> <44> 9 endcidchar /C usecmap"}
+        for given in [files, files.get]:
+            with CMap.salvage(data, given).cmap as cmap:
+                self.assertEqual([cmap.cid(code, 1) for code in b"ABCD"], [5, None, 7, 9])
+            faults = CMap.salvage(data, given).faults
+            self.assertEqual([fault.names for fault in faults], [(), (b"AB",), (b"AB", b"C")])
+            self.assertEqual([fault.reason for fault in faults], [Reason.CID_EXPECTED, Reason.CODE_LENGTH, None])
+            self.assertEqual([fault.offset for fault in faults], [data.index(b"/X") + 2, 15, None])
+            self.assertEqual(str(faults[1]), "/AB: byte 15: a code has one to four bytes")
+        self.assertEqual(CMap.salvage(SMALL).faults, [])
+
+    def test_salvage_asks_once(self):
+        asked = []
+
+        def ask(name):
+            asked.append(name)
+            return b"begincidchar <> endcidchar /B usecmap" if name == b"A" else None
+
+        faults = CMap.salvage(uses(b"A") + b" begincidchar <> endcidchar " + uses(b"C"), ask).faults
+        self.assertEqual(asked, [b"A", b"C", b"B"])
+        self.assertEqual([fault.cause for fault in faults if fault.offset is None], [Cause.NO_FILE] * 2)
+        many = CMap.salvage(b" begincidchar <> endcidchar" * 500).faults
+        self.assertEqual([fault.offset for fault in many], [27 * count + 16 for count in range(500)])
+
     def test_budget(self):
         files = {"A": uses(b"B"), "B": SMALL}
         for budget, names in [(9, ()), (19, (b"A",)), (20, (b"A", b"B")), (19 + len(SMALL), (b"A", b"B"))]:

@@ -119,6 +119,21 @@ unsafe extern "C" {
         room_len: usize,
         needed: *mut usize,
     ) -> u32;
+    fn hayro_cmap_salvage(
+        map: *mut RawMap,
+        data: *const u8,
+        data_len: usize,
+        bundle: *mut RawBundle,
+        files: *const File<'_>,
+        files_len: usize,
+        budget: u64,
+        faults: *mut RawFault,
+        faults_len: usize,
+        found: *mut usize,
+        room: *mut u8,
+        room_len: usize,
+        needed: *mut usize,
+    ) -> u32;
     fn hayro_cmap_message(
         fault: *const RawFault,
         room: *mut u8,
@@ -329,6 +344,16 @@ impl Fault {
         }
     }
 
+    /// Faults whose names stand one after another.
+    fn each(raw: &[RawFault], mut room: &[u8]) -> Vec<Fault> {
+        let next = |raw: &RawFault| {
+            let (names, rest) = room.split_at(raw.name_lens.iter().take(raw.names).sum());
+            room = rest;
+            Fault::of(raw, names)
+        };
+        raw.iter().map(next).collect()
+    }
+
     fn raw(&self) -> RawFault {
         let mut name_lens = [0; MOST_NAMES];
         for (len, name) in name_lens.iter_mut().zip(&self.names) {
@@ -405,6 +430,44 @@ impl MapHandle {
                 _ => out_of_memory(),
             }
         }
+    }
+
+    /// The map of a file that is read past its faults, and the faults.
+    pub(crate) fn salvage(
+        data: &[u8],
+        bundle: &mut BundleHandle,
+        files: &[File<'_>],
+        budget: u64,
+    ) -> (MapHandle, Vec<Fault>) {
+        let mut map = MapHandle::empty();
+        let (mut faults, mut room) = (Vec::new(), Vec::new());
+        let (mut found, mut needed) = (8, SHORT);
+        while found > faults.len() || needed > room.len() {
+            faults.resize_with(found, RawFault::default);
+            room.resize(needed, 0);
+            // SAFETY: see the head of the module.
+            let status = unsafe {
+                hayro_cmap_salvage(
+                    &mut map.0,
+                    data.as_ptr(),
+                    data.len(),
+                    &mut bundle.0,
+                    files.as_ptr(),
+                    files.len(),
+                    budget,
+                    faults.as_mut_ptr(),
+                    faults.len(),
+                    &mut found,
+                    room.as_mut_ptr(),
+                    room.len(),
+                    &mut needed,
+                )
+            };
+            if status != OK {
+                out_of_memory();
+            }
+        }
+        (map, Fault::each(&faults[..found], &room))
     }
 
     /// The map of the file of a name.

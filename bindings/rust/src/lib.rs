@@ -10,6 +10,7 @@ mod map;
 mod metadata;
 mod names;
 mod pool;
+mod predefined;
 mod reading;
 mod refusal;
 mod text;
@@ -19,7 +20,8 @@ pub use collection::{CharacterCollection, CidFamily};
 pub use map::{CMap, Cid, CidRange, Codespace, Layer, StringCode, TextRange};
 pub use metadata::{Metadata, WritingMode};
 pub use names::CMapName;
-pub use reading::ParseOptions;
+pub use predefined::{OpenError, predefined_file};
+pub use reading::{ParseOptions, Salvaged};
 pub use refusal::{Cause, Reason, Refusal, Segment};
 pub use text::BfString;
 

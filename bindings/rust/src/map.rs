@@ -5,7 +5,8 @@ use crate::ffi::{MapHandle, RawCode};
 use crate::metadata::{Metadata, WritingMode};
 use crate::names::CMapName;
 use crate::pool::Pool;
-use crate::reading::ParseOptions;
+use crate::predefined::{self, OpenError};
+use crate::reading::{ParseOptions, Salvaged};
 use crate::refusal::Refusal;
 use crate::text::BfString;
 use std::fmt::{self, Debug, Formatter};
@@ -76,6 +77,24 @@ impl CMap {
         ParseOptions::new().parse(data, get_cmap)
     }
 
+    /// Reads a file, and those that it uses, past their faults: the map of what they say, and each
+    /// fault. Of a file that [`CMap::parse`] accepts it gives the same map, and no fault; of another
+    /// one the first fault is why that is refused.
+    ///
+    /// ```
+    /// let file = b"begincidchar <41> 5 <42> x <43> 7 endcidchar";
+    /// let found = hayro_cmap::CMap::salvage(file, |_| None);
+    /// assert_eq!(found.map.lookup_cid_code(0x43, 1), Some(7));
+    /// assert_eq!(found.faults.len(), 1);
+    /// assert_eq!(found.faults[0].to_string(), "byte 26: a CID was expected");
+    /// ```
+    pub fn salvage<'a>(
+        data: &[u8],
+        get_cmap: impl Fn(CMapName<'_>) -> Option<&'a [u8]>,
+    ) -> Salvaged {
+        ParseOptions::new().salvage(data, get_cmap)
+    }
+
     /// Reads the file of a name, which `get_cmap` gives as those that it uses. So what the file says of
     /// itself is the map's [metadata](CMap::metadata). Without a file Identity-H and Identity-V are
     /// made, and any other name is `Ok(None)`.
@@ -93,6 +112,21 @@ impl CMap {
         get_cmap: impl Fn(CMapName<'_>) -> Option<&'a [u8]>,
     ) -> Result<Option<CMap>, Refusal> {
         ParseOptions::new().open(name, get_cmap)
+    }
+
+    /// Reads the predefined CMap of a name, and the files that it uses, each as
+    /// [`predefined_file`](crate::predefined_file) finds it. Where the system has no such file,
+    /// Identity-H and Identity-V are made, and any other name is `Ok(None)`.
+    ///
+    /// ```no_run
+    /// use hayro_cmap::{CMap, CMapName};
+    ///
+    /// let map = CMap::open_predefined(CMapName::N90msRksjH)?.expect("poppler-data isn't installed");
+    /// assert_eq!(map.lookup_cid_code(0x93FA, 2), Some(3284));
+    /// # Ok::<(), hayro_cmap::OpenError>(())
+    /// ```
+    pub fn open_predefined(name: CMapName<'_>) -> Result<Option<CMap>, OpenError> {
+        predefined::open(name)
     }
 
     /// The names of the files that a file uses, in the order of the uses; `None` where it is outside

@@ -4,12 +4,12 @@ use crate::bundle::Bundle;
 use crate::ffi::{File, MapHandle, Opened};
 use crate::map::CMap;
 use crate::names::CMapName;
-use crate::refusal::Refusal;
+use crate::refusal::{Cause, Refusal};
 use std::borrow::Cow;
 use std::collections::HashMap;
 
 /// How many files a chain has at most, the top one included.
-const MOST_FILES: usize = 16;
+pub(crate) const MOST_FILES: usize = 16;
 
 /// How a file is read: over a bundle, and within a budget.
 ///
@@ -57,6 +57,24 @@ impl<'b> ParseOptions<'b> {
         self.read(data, &used.files())
     }
 
+    /// Reads a file past its faults, as [`CMap::salvage`] does.
+    ///
+    /// `get_cmap` isn't asked for a name that only a file at fault uses, where the bundle has it.
+    pub fn salvage<'a>(
+        &self,
+        data: &[u8],
+        get_cmap: impl Fn(CMapName<'_>) -> Option<&'a [u8]>,
+    ) -> Salvaged {
+        let mut used = Used::new(self, get_cmap);
+        used.gather(data);
+        loop {
+            let (map, faults) = self.read_past(data, &used.files());
+            if !used.gather_missing(&faults) {
+                return Salvaged { map: CMap::of(map), faults };
+            }
+        }
+    }
+
     /// Reads the file of a name, as [`CMap::open`] does.
     pub fn open<'a>(
         &self,
@@ -88,6 +106,12 @@ impl<'b> ParseOptions<'b> {
         self.tables().ask(read).map(CMap::of).map_err(Refusal::of)
     }
 
+    fn read_past(&self, data: &[u8], files: &[File<'_>]) -> (MapHandle, Vec<Refusal>) {
+        let read = |bundle: &mut _| MapHandle::salvage(data, bundle, files, self.most());
+        let (map, faults) = self.tables().ask(read);
+        (map, faults.into_iter().map(Refusal::of).collect())
+    }
+
     fn tables(&self) -> &'b Bundle {
         self.bundle.unwrap_or_else(|| Bundle::none())
     }
@@ -95,6 +119,15 @@ impl<'b> ParseOptions<'b> {
     fn most(&self) -> u64 {
         self.budget.unwrap_or(u64::MAX)
     }
+}
+
+/// What is read of a file past its faults.
+#[derive(Clone, Debug)]
+pub struct Salvaged {
+    /// The map of what the file says apart from its faults.
+    pub map: CMap,
+    /// Those of one file are in the order of their offsets, before those of the files that it uses.
+    pub faults: Vec<Refusal>,
 }
 
 /// The files that a file uses, and those that they use. Each name is asked for once.
@@ -136,6 +169,18 @@ impl<'a, 'o, F: Fn(CMapName<'_>) -> Option<&'a [u8]>> Used<'a, 'o, F> {
             }
         }
         Ok(())
+    }
+
+    /// Asks for the files that are missing by these faults: whether one of them is there.
+    fn gather_missing(&mut self, faults: &[Refusal]) -> bool {
+        let missing = faults.iter().filter(|fault| fault.cause() == Cause::NoFile);
+        let mut is_found = false;
+        for name in missing.filter_map(|fault| fault.names().last()) {
+            if !self.answers.contains_key(name) {
+                is_found |= self.file(name).is_some();
+            }
+        }
+        is_found
     }
 
     fn uses(&self, data: &[u8]) -> Option<Vec<Vec<u8>>> {

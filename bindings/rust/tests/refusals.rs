@@ -1,6 +1,7 @@
 //! Why a file gives no map, and over what it is read.
 
 use hayro_cmap::{Bundle, CMap, CMapName, Cause, ParseOptions, Reason, Refusal, Segment};
+use std::cell::RefCell;
 
 fn refusal(data: &[u8], get_cmap: impl Fn(CMapName<'_>) -> Option<&'static [u8]>) -> Refusal {
     CMap::parse_explained(data, get_cmap).expect_err("it is accepted")
@@ -208,4 +209,36 @@ fn other_bytes_are_no_bundle() {
     let mut cut = bundle_of(&[BINARY]);
     cut.pop();
     assert!(Bundle::open(&cut).is_none());
+}
+
+#[test]
+fn files_are_read_past_their_faults() {
+    let data = b"/AB usecmap begincidchar <41> 5 <42> /X <43> 7 endcidchar";
+    let asked = RefCell::new(Vec::new());
+    let found = CMap::salvage(data, |name| {
+        asked.borrow_mut().push(name.to_bytes().to_vec());
+        match name.to_bytes() {
+            b"AB" => Some(b"begincidchar <> <44> 9 endcidchar /C usecmap"),
+            _ => None,
+        }
+    });
+    assert_eq!(asked.into_inner(), [b"AB".to_vec(), b"C".to_vec()]);
+    let cids = [0x41, 0x42, 0x43, 0x44].map(|code| found.map.lookup_cid_code(code, 1));
+    assert_eq!(cids, [Some(5), None, Some(7), Some(9)]);
+    let shown: Vec<String> = found.faults.iter().map(Refusal::to_string).collect();
+    assert_eq!(shown[0], "byte 39: a CID was expected");
+    assert_eq!(shown[1], "AB: byte 15: a code has one to four bytes");
+    assert_eq!((shown.len(), found.faults[2].cause()), (3, Cause::NoFile));
+    assert_eq!(found.faults[2].names(), [b"AB".to_vec(), b"C".to_vec()]);
+}
+
+#[test]
+fn many_faults_are_whole() {
+    let data = b" begincidchar <> endcidchar /nnnnnnnnn usecmap".repeat(100);
+    let faults = CMap::salvage(&data, |_| None).faults;
+    assert_eq!(faults.len(), 200);
+    assert_eq!(faults[99].offset(), Some(99 * 46 + 16));
+    assert_eq!(faults[199].names(), [b"nnnnnnnnn".to_vec()]);
+    let over = ParseOptions::new().budget(10).salvage(b"/A usecmap", |_| Some(b"% bytes"));
+    assert_eq!(over.faults[0].cause(), Cause::OverBudget);
 }

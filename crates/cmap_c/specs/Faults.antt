@@ -83,6 +83,17 @@ HasNumbers fault cause = (fault.cause, fault.reason, fault.segment, fault.offset
 abbrev pub HasNames : FaultNumbers → List (List ℕ) → Type 0
 HasNames fault names = (length names ≤ 16) × (fault.names ≡ length names) × (fault.name_lens ≡ map length names ++ replicate (16 - length names) 0)
 
+-- the fault of these names and this cause, by its numbers
+abbrev pub fault_numbers : List (List ℕ) → Cause → FaultNumbers
+fault_numbers names cause = record {
+  cause = (numbers_of cause).0;
+  reason = (numbers_of cause).1;
+  segment = (numbers_of cause).2;
+  offset = (numbers_of cause).3;
+  names = length names;
+  name_lens = map length names ++ replicate (16 - length names) 0;
+}
+
 -- what C is told of a cause and of the names that lead to the file at fault
 abbrev pub IsToldOf : List (List ℕ) → Cause → Told → Type 0
 IsToldOf names cause told = (told.cause ≡ cause) × HasNumbers told.fault cause × HasNames told.fault names × (told.names.items ≡ concat names)

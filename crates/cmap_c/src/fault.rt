@@ -4,7 +4,7 @@ ghost use Rattle.std.specs.Prelude.{◌≡◌, ◌≤◌, IfOk, length};
 ghost use Rattle.std.specs.List.{concat};
 ghost use Rattle.cmap_files.specs.FilesSeen.{names_seen};
 ghost use Rattle.cmap_files.specs.Outcomes.{Finds};
-ghost use Rattle.cmap_c.specs.Faults.{HasNames, HasNumbers, IsToldOf, numbers_of, possible_cause, possible_reason, reason_number, segment_number, segment_numbered, segment_of, status_of};
+ghost use Rattle.cmap_c.specs.Faults.{HasNames, HasNumbers, IsToldOf, fault_numbers, numbers_of, possible_cause, possible_reason, reason_number, segment_number, segment_numbered, segment_of, status_of};
 
 use crate::names::joined;
 use crate::room::fill;
@@ -35,10 +35,11 @@ pub struct FaultNumbers {
 
 impl FaultNumbers {
     /// Those of a file at the end of these names.
-    fn of(names: &[&[u8]], cause: Cause) -> FaultNumbers
+    pub(crate) fn of(names: &[&[u8]], cause: Cause) -> FaultNumbers
         requires { length names.now ≤ 16 }
         ensures numbers { HasNumbers result cause }
         ensures names { HasNames result (names_seen names.now) }
+        ensures whole { result ≡ fault_numbers (names_seen names.now) cause }
     {
         let mut name_lens = [0; MOST_NAMES];
         fill(&names, &mut name_lens);

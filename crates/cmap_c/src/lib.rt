@@ -20,6 +20,7 @@ mod open;
 mod parse;
 mod room;
 mod row;
+mod salvage;
 mod shared;
 mod slot;
 mod status;

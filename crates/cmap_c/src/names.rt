@@ -1,6 +1,6 @@
 //! Names of files that go to C: their bytes one after another, and their lengths.
 
-ghost use Rattle.std.specs.Prelude.{◌≡◌, IfOk};
+ghost use Rattle.std.specs.Prelude.{◌≡◌, ◌++◌, IfOk, OnOk};
 ghost use Rattle.std.specs.List.{concat};
 ghost use Rattle.cmap_files.specs.FilesSeen.{names_seen};
 
@@ -12,10 +12,19 @@ pub(crate) fn joined(alloc: Global, names: &[&[u8]]) -> Result<Vec<u8>, AllocErr
     ensures { IfOk result (λ bytes. bytes.items ≡ concat (names_seen names.now)) }
 {
     let mut bytes = Vec::new(alloc);
+    push_names(&mut bytes, names)?;
+    Ok(bytes)
+}
+
+/// Adds the names, one after another.
+pub(crate) fn push_names(bytes: &mut Vec<u8>, names: &[&[u8]]) -> Result<(), AllocError>
+    ensures { OnOk result
+        (bytes.new.items ≡ bytes.old.items ++ concat (names_seen names.now)) }
+{
     for name in names {
         bytes.extend_from_slice(name)?;
     }
-    Ok(bytes)
+    Ok(())
 }
 
 /// The lengths of the names.

@@ -1,6 +1,6 @@
 //! Room that C hands in.
 
-ghost use Rattle.std.specs.Prelude.{◌≡◌, ◌≤◌, ◌<◌, ◌++◌, List, Some, drop, length, slice_get};
+ghost use Rattle.std.specs.Prelude.{◌≡◌, ◌≤◌, ◌<◌, ◌++◌, List, Some, drop, length, slice_get, take};
 ghost use Rattle.cmap_c.specs.Rooms.{IsPut};
 
 use crate::status::Status;
@@ -56,6 +56,14 @@ pub(crate) fn put<T: Copy>(items: &[T], room: &mut [T], needed: &mut usize) -> u
     }
     room[..items.len()].copy_from_slice(items);
     Status::Done.number()
+}
+
+/// Writes the items at the head of the room, as many as have room.
+pub(crate) fn put_head<T: Copy>(items: &[T], room: &mut [T])
+    ensures { room.new ≡ take (length room.old) items.now ++ drop (length items.now) room.old }
+{
+    let count = items.len().min(room.len());
+    room[..count].copy_from_slice(&items[..count]);
 }
 
 /// Writes the bytes at the head of the room, where all of them have room, and how many they are.

@@ -1,6 +1,7 @@
 pub mod Blamed
 pub mod BudgetLeft
 pub mod FewNames
+pub mod NamesPastFaults
 pub mod FilesMeant
 pub mod FirstFiles
 pub mod LayersFit

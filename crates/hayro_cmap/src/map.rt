@@ -1,6 +1,7 @@
 //! Maps: what the codes of a CMap file stand for.
 
 ghost use Rattle.std.specs.Prelude.{◌⊎◌, ◌≡◌, ◌≢◌, ◌*◌, ◌^◌, [], ◌∷◌, ◌≤◌, ◌<◌, IfErr, IfOk, IfSome, IfNone, IsErrOf, IsSome, IsSomeAnd, OnErr, OnOk, MatchOption, Some, codes, is_some, length, option_map};
+ghost use Rattle.std.specs.List.{All};
 ghost use Rattle.std.specs.Option.{option_copied};
 ghost use Rattle.cmap_files.specs.CodeLengths.{IsCodeLength, length_of};
 ghost use Rattle.cmap_runs.specs.SearchLooks.{LooksAtMost};
@@ -275,6 +276,8 @@ impl CMap {
             ⊎ ExceedsBudget (tables_given bundle.entry) (S.answers source.now) «data».now budget
             → BeginsWithFault (tables_given bundle.entry) (S.answers source.now) «data».now budget
             (faults_seen found.faults.items)) }
+        ensures few { IfOk result
+            (λ found. All (λ fault. length fault.names.items ≤ 16) found.faults.items) }
     {
         let mut walk = Walk::new(alloc, budget);
         let layers = salvage_layers(alloc, data, bundle, source, MOST_FILES - 1, &mut walk)?;

@@ -1,6 +1,7 @@
 use Rattle.cmap_binary.specs.BundleSeen.{tables_given}
 use Rattle.cmap_layers.specs.LayersSeen.{layers_seen}
 use Rattle.hayro_cmap.specs.SalvageSeen.{faults_seen}
+use Rattle.hayro_cmap.proofs.NamesPastFaults.{map_few}
 use Rattle.hayro_cmap.proofs.SalvagedMaps.{map_fits, right_map, wrong_map}
 use Rattle.hayro_cmap.proofs.Walked.{walks_map}
 use Rattle.hayro_cmap.proofs.map.CMap.salvage.Goals as goal
@@ -21,3 +22,7 @@ returns-clause-right g c =
 pub returns-clause-wrong : goal.returns-clause-wrong
 returns-clause-wrong g c =
     wrong_map (tables_given c.args.bundle) (g.S.Source.answers c.args.source.now) c.args.«data».now c.args.budget c.requires.by_name (layers_seen c.in_ok-layers.layers.items) (faults_seen c.salvage_layers.new.walk.faults.items) (returns-clause-says g c)
+
+pub returns-clause-few : goal.returns-clause-few
+returns-clause-few g c =
+    map_few (tables_given c.args.bundle) (g.S.Source.answers c.args.source.now) c.args.«data».now c.args.budget (layers_seen c.in_ok-layers.layers.items) c.salvage_layers.new.walk.faults.items (returns-clause-says g c)

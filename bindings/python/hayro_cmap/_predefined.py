@@ -1,0 +1,42 @@
+"""The predefined CMap files that a system has."""
+
+import os
+from typing import Iterator, Optional
+
+#: The folders of Debian's packages poppler-data, ghostscript and texlive-lang-cjk, whose subfolders have the files too.
+SYSTEM_FOLDERS = (
+    "/usr/share/poppler/cMap",
+    "/var/lib/ghostscript/CMap",
+    "/usr/share/texlive/texmf-dist/fonts/cmap/adobemapping",
+)
+
+
+def predefined(name: bytes) -> Optional[bytes]:
+    """The predefined CMap file of a name, as 90ms-RKSJ-H; None where the system has none.
+
+    It is looked up in the folders of the environment variable CMAP_PATH, with colons between them, and without the
+    variable where packages of Linux put these files. A folder's own file counts before those of its subfolders. A name
+    stands for nothing outside of the folders. OSError where a file is there and can't be read.
+    """
+    for path in places(name):
+        if os.path.isfile(path):
+            with open(path, "rb") as file:
+                return file.read()
+    return None
+
+
+def places(name: bytes) -> Iterator[bytes]:
+    """Where the file of a name may be."""
+    if name in (b"", b".", b"..") or b"/" in name or b"\0" in name:
+        return
+    for folder in folders():
+        for below, subfolders, _ in os.walk(folder):
+            subfolders.sort()
+            yield os.path.join(below, name)
+
+
+def folders() -> list:
+    """The folders in which files are looked up."""
+    asked = os.environ.get("CMAP_PATH")
+    given = SYSTEM_FOLDERS if asked is None else asked.split(os.pathsep)
+    return [os.fsencode(folder) for folder in given if folder]

@@ -1,0 +1,135 @@
+//! The predefined CMap files that a system has.
+
+use crate::map::CMap;
+use crate::names::CMapName;
+use crate::reading::{MOST_FILES, ParseOptions};
+use crate::refusal::Refusal;
+use std::collections::BTreeMap;
+use std::ffi::OsStr;
+use std::fmt::{self, Display, Formatter};
+use std::os::unix::ffi::OsStrExt;
+use std::path::{Path, PathBuf};
+use std::{env, fs, io};
+
+/// The folders of Debian's packages poppler-data, ghostscript and texlive-lang-cjk.
+const SYSTEM_FOLDERS: [&str; 3] = [
+    "/usr/share/poppler/cMap",
+    "/var/lib/ghostscript/CMap",
+    "/usr/share/texlive/texmf-dist/fonts/cmap/adobemapping",
+];
+
+/// The predefined CMap file of a name, as 90ms-RKSJ-H; `None` where the system has none.
+///
+/// It is looked up in the folders of the environment variable `CMAP_PATH`, with colons between them, and
+/// without the variable where packages of Linux put these files; in each folder first, and then in its
+/// subfolders. A name stands for nothing outside of them.
+pub fn predefined_file(name: CMapName<'_>) -> io::Result<Option<Vec<u8>>> {
+    let name = name.to_bytes();
+    if matches!(name, b"" | b"." | b"..") || name.contains(&b'/') || name.contains(&0) {
+        return Ok(None);
+    }
+    for folder in folders() {
+        if let Some(bytes) = file_below(&folder, OsStr::from_bytes(name))? {
+            return Ok(Some(bytes));
+        }
+    }
+    Ok(None)
+}
+
+/// The folders in which files are looked up.
+fn folders() -> Vec<PathBuf> {
+    match env::var_os("CMAP_PATH") {
+        Some(path) => {
+            env::split_paths(&path).filter(|folder| !folder.as_os_str().is_empty()).collect()
+        }
+        None => SYSTEM_FOLDERS.iter().map(PathBuf::from).collect(),
+    }
+}
+
+/// The file of a name in a folder, else in one of its subfolders, in the order of their names.
+fn file_below(folder: &Path, name: &OsStr) -> io::Result<Option<Vec<u8>>> {
+    let path = folder.join(name);
+    if path.is_file() {
+        return fs::read(path).map(Some);
+    }
+    let Ok(entries) = fs::read_dir(folder) else {
+        return Ok(None);
+    };
+    let is_folder = |entry: &fs::DirEntry| entry.file_type().is_ok_and(|kind| kind.is_dir());
+    let mut below: Vec<PathBuf> =
+        entries.flatten().filter(is_folder).map(|entry| entry.path()).collect();
+    below.sort();
+    for subfolder in below {
+        if let Some(bytes) = file_below(&subfolder, name)? {
+            return Ok(Some(bytes));
+        }
+    }
+    Ok(None)
+}
+
+/// Why the predefined CMap of a name can't be read.
+#[derive(Debug)]
+#[non_exhaustive]
+pub enum OpenError {
+    /// Its file, or one that it uses, is refused.
+    Refused(Refusal),
+    /// A file is there, and can't be read.
+    Io(io::Error),
+}
+
+impl Display for OpenError {
+    fn fmt(&self, f: &mut Formatter<'_>) -> fmt::Result {
+        match self {
+            OpenError::Refused(refusal) => refusal.fmt(f),
+            OpenError::Io(fault) => fault.fmt(f),
+        }
+    }
+}
+
+impl std::error::Error for OpenError {
+    fn source(&self) -> Option<&(dyn std::error::Error + 'static)> {
+        match self {
+            OpenError::Refused(refusal) => Some(refusal),
+            OpenError::Io(fault) => Some(fault),
+        }
+    }
+}
+
+impl From<io::Error> for OpenError {
+    fn from(fault: io::Error) -> OpenError {
+        OpenError::Io(fault)
+    }
+}
+
+impl From<Refusal> for OpenError {
+    fn from(refusal: Refusal) -> OpenError {
+        OpenError::Refused(refusal)
+    }
+}
+
+/// The map of the predefined CMap of a name.
+pub(crate) fn open(name: CMapName<'_>) -> Result<Option<CMap>, OpenError> {
+    let files = files_of(name)?;
+    let get_cmap = |name: CMapName<'_>| files.get(name.to_bytes()).map(Vec::as_slice);
+    Ok(ParseOptions::new().open(name, get_cmap)?)
+}
+
+/// The file of a name, and those that it uses as far as a chain of files may go, by their names.
+fn files_of(name: CMapName<'_>) -> io::Result<BTreeMap<Vec<u8>, Vec<u8>>> {
+    let mut found = BTreeMap::new();
+    let mut names = vec![name.to_bytes().to_vec()];
+    for _ in 0..MOST_FILES {
+        let mut used = Vec::new();
+        for name in names {
+            if found.contains_key(&name) {
+                continue;
+            }
+            if let Some(bytes) = predefined_file(CMapName::from_bytes(&name))? {
+                used.extend(CMap::uses(&bytes).unwrap_or_default());
+                found.insert(name, bytes);
+            }
+        }
+        names = used;
+    }
+    Ok(found)
+}

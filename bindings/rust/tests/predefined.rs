@@ -1,0 +1,35 @@
+//! Predefined files, in folders that `CMAP_PATH` names. They are one test, since the variable is one for all threads.
+
+use hayro_cmap::{CMap, CMapName, predefined_file};
+use std::{env, fs, process};
+
+fn has_file(name: &[u8]) -> bool {
+    predefined_file(CMapName::from_bytes(name)).unwrap().is_some()
+}
+
+#[test]
+fn predefined_files_are_found() {
+    let folder = env::temp_dir().join(format!("cmap-{}", process::id()));
+    let below = folder.join("below");
+    fs::create_dir_all(&below).unwrap();
+    fs::write(below.join("Top"), "/Base usecmap begincidchar <02> 2 endcidchar").unwrap();
+    fs::write(below.join("Base"), "begincidchar <01> 1 endcidchar").unwrap();
+    fs::write(folder.join("Outside"), "begincidchar <01> 1 endcidchar").unwrap();
+
+    let path = env::join_paths(["/nowhere".as_ref(), folder.as_path()]).unwrap();
+    // SAFETY: no other thread reads the environment.
+    unsafe { env::set_var("CMAP_PATH", path) };
+    let map = CMap::open_predefined(CMapName::Custom(b"Top")).unwrap().unwrap();
+    assert_eq!([1, 2, 3].map(|code| map.lookup_cid_code(code, 1)), [Some(1), Some(2), None]);
+    assert!(CMap::open_predefined(CMapName::Custom(b"Else")).unwrap().is_none());
+    assert!(CMap::open_predefined(CMapName::IdentityV).unwrap().is_some());
+    assert!(!has_file(b"below") && !has_file(b"") && !has_file(b"..") && !has_file(b"Top\0"));
+
+    // SAFETY: as above.
+    unsafe { env::set_var("CMAP_PATH", &below) };
+    assert!(has_file(b"Top") && !has_file(b"../Outside"));
+    // SAFETY: as above.
+    unsafe { env::set_var("CMAP_PATH", "") };
+    assert!(!has_file(b"Top"));
+    fs::remove_dir_all(folder).unwrap();
+}
