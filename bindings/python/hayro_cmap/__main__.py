@@ -10,7 +10,8 @@ import os
 import sys
 import unicodedata
 
-from . import Bundle, CMap, NotABundle, Refused, __version__, folder, predefined
+from . import Bundle, CMap, NotABundle, Refused, __version__, folder
+from ._predefined import beside
 
 #: Categories of characters that control a terminal, or that stand for nothing.
 HARMFUL = {"Cc", "Cf", "Cn", "Co", "Cs", "Zl", "Zp"}
@@ -41,12 +42,11 @@ def map_of(file, **over):
 
 def files_of(folders, bundle):
     """The files of these folders, then those of the bundle, then the predefined CMaps."""
-    given = folder(*folders)
+    given, others = folder(*folders), beside(bundle)
 
     def file_of(name):
         file = given(name)
-        in_bundle = file is None and bundle is not None and bundle.file(name) is not None
-        return predefined(name) if file is None and not in_bundle else file
+        return others(name) if file is None else file
 
     return file_of
 

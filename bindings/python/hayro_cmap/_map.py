@@ -21,7 +21,7 @@ from ._library import (
     Handle,
 )
 from ._owned import Owned, checked, library, put
-from ._predefined import predefined
+from ._predefined import beside
 from ._reading import (
     MOST_IN_CHAIN,
     NO_FILES,
@@ -201,14 +201,19 @@ class CMap(Owned):
 
     @classmethod
     def open(
-        cls, name: Name, files: Files = predefined, bundle: Optional[Bundle] = None, budget: Optional[int] = None
+        cls,
+        name: Name,
+        files: Optional[Files] = None,
+        bundle: Optional[Bundle] = None,
+        budget: Optional[int] = None,
     ) -> "CMap":
         """Reads the file of a name, as `parse` does: that of `files`, else that of the bundle.
 
-        Where neither has one, Identity-H and Identity-V are made, and any other name is Refused. Without `files` they
-        are the predefined CMaps that the system has, as `predefined` finds them.
+        Where neither has one, Identity-H and Identity-V are made, and any other name is Refused. Without `files` the
+        system's predefined CMaps serve for names that the bundle doesn't have, as `predefined` finds them.
         """
         name, most = name_of(name), budget_of(budget)
+        files = beside(bundle) if files is None else files
         is_asked = callable(files)
         found = fetched([name], MOST_IN_CHAIN, files, bundle) if is_asked else gathered(b"", files, bundle)
         handle = Handle()

@@ -1,7 +1,7 @@
 """The predefined CMap files that a system has."""
 
 import os
-from typing import Iterator, Optional
+from typing import Callable, Iterator, List, Optional
 
 #: The folders of Debian's packages poppler-data, ghostscript and texlive-lang-cjk, whose subfolders have the files too.
 SYSTEM_FOLDERS = (
@@ -25,6 +25,16 @@ def predefined(name: bytes) -> Optional[bytes]:
     return None
 
 
+def beside(bundle) -> Callable[[bytes], Optional[bytes]]:
+    """Gives the predefined CMap files that a bundle doesn't have; all of them without a bundle."""
+
+    def file_of(name: bytes) -> Optional[bytes]:
+        in_bundle = bundle is not None and bundle.file(name) is not None
+        return None if in_bundle else predefined(name)
+
+    return file_of
+
+
 def places(name: bytes) -> Iterator[bytes]:
     """Where the file of a name may be."""
     if name in (b"", b".", b"..") or b"/" in name or b"\0" in name:
@@ -35,7 +45,7 @@ def places(name: bytes) -> Iterator[bytes]:
             yield os.path.join(below, name)
 
 
-def folders() -> list:
+def folders() -> List[bytes]:
     """The folders in which files are looked up."""
     asked = os.environ.get("CMAP_PATH")
     given = SYSTEM_FOLDERS if asked is None else asked.split(os.pathsep)

@@ -82,11 +82,11 @@ impl CMap {
     /// one the first fault is why that is refused.
     ///
     /// ```
-    /// let file = b"begincidchar <41> 5 <42> x <43> 7 endcidchar";
+    /// let file = b"begincidchar <41> 5 <42> /x <43> 7 endcidchar";
     /// let found = hayro_cmap::CMap::salvage(file, |_| None);
     /// assert_eq!(found.map.lookup_cid_code(0x43, 1), Some(7));
     /// assert_eq!(found.faults.len(), 1);
-    /// assert_eq!(found.faults[0].to_string(), "byte 26: a CID was expected");
+    /// assert_eq!(found.faults[0].to_string(), "byte 27: a CID was expected");
     /// ```
     pub fn salvage<'a>(
         data: &[u8],
