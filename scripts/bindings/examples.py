@@ -8,6 +8,7 @@ NATIVE = {"C": EXAMPLES / "decode.c", "C++": EXAMPLES / "decode.cc"}
 BUNDLE = EXAMPLES / "bundle.c"
 THREADS = EXAMPLES / "threads.c"
 DECLARING = EXAMPLES / "declared.c"
+PREDEFINED = EXAMPLES / "predefined.c"
 
 
 def check_strings(checks, setting, what, command, **environment):
@@ -154,3 +155,24 @@ def test_c_lists_declarations(checks, setting):
 def test_c_lists_declarations_under_memcheck(checks, setting):
     """Every block is freed, and no address is wrong."""
     check_declarations(checks, setting, [*MEMCHECK, setting.programs.path(DECLARING)])
+
+
+def predefined_files(work):
+    """A folder with a file that predefined.c finds, and one that it mustn't."""
+    folder = work / "predefined"
+    (folder / "below" / "Adobe-Japan1").mkdir(parents=True)
+    (folder / "below" / "Adobe-Japan1" / "Small-H").write_text("")
+    (folder / "Outside").write_text("")
+    return folder
+
+
+@needs("gcc")
+def test_c_finds_predefined_files(checks, setting):
+    """In the folders of CMAP_PATH and their subfolders alone."""
+    command, folder = [setting.programs.path(PREDEFINED)], setting.once(predefined_files)
+    path = f"/nowhere::{folder}/below"
+    ran = run(*command, "Small-H", CMAP_PATH=path)
+    checks.ended("predefined.c finds a file", ran, f"{folder}/below/Adobe-Japan1/Small-H\n")
+    for name in ["../Outside", "..", "", "Small-*", "Else"]:
+        checks.ended(f"predefined.c: {name}", run(*command, name, CMAP_PATH=path), "", status=1)
+    checks.ended("predefined.c without folders", run(*command, "Small-H", CMAP_PATH=""), "", status=1)

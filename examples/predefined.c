@@ -1,0 +1,45 @@
+/* Prints the paths of predefined CMap files.
+ *
+ *     predefined NAME..
+ *
+ * The library reads no files by itself: a program that wants a predefined CMap finds its file as here, reads
+ * it, and hands it in with those that it uses, as decode.c does with the files of a folder. */
+#include <glob.h>
+#include <stdbool.h>
+#include <stdio.h>
+#include <stdlib.h>
+#include <string.h>
+
+/* Finds the predefined CMap file of a name, in the folders of the environment variable CMAP_PATH or, without
+ * it, in those of the system, and in their subfolders: whether there is one. A name may come from a file,
+ * and stands for nothing outside of them. */
+static bool find_predefined(const char *name, char *path, size_t path_len) {
+    const char *folders = getenv("CMAP_PATH");
+    if (!folders) folders = "/usr/share/poppler/cMap:/var/lib/ghostscript/CMap";
+    if (!*name || !strcmp(name, ".") || !strcmp(name, "..") || strpbrk(name, "/*?[\\")) return false;
+    for (size_t len; *folders; folders += len + (folders[len] == ':')) {
+        len = strcspn(folders, ":");
+        for (int below = 0; len > 0 && below < 2; below++) {
+            const char *subfolders = below ? "*/" : "";
+            glob_t found;
+            int made = snprintf(path, path_len, "%.*s/%s%s", (int)len, folders, subfolders, name);
+            if (made < 0 || (size_t)made >= path_len) return false;
+            if (glob(path, 0, NULL, &found) != 0) continue;
+            bool fits = strlen(found.gl_pathv[0]) < path_len;
+            if (fits) strcpy(path, found.gl_pathv[0]);
+            globfree(&found);
+            return fits;
+        }
+    }
+    return false;
+}
+
+int main(int argc, char **argv) {
+    int missing = 0;
+    for (int i = 1; i < argc; i++) {
+        char path[4096];
+        if (find_predefined(argv[i], path, sizeof path)) puts(path);
+        else missing += fprintf(stderr, "%s: no such predefined CMap\n", argv[i]) > 0;
+    }
+    return missing > 0;
+}
