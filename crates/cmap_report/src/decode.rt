@@ -3,13 +3,11 @@
 ghost use Rattle.std.specs.Prelude.{OnOk, string_bytes};
 ghost use Rattle.cmap_escape.specs.Escapes.{AddsLine, AddsOfLine};
 
-mod codes;
-
-use self::codes::codes_of;
 use cmap_escape::digits::{byte_digits, code_digits, push_code};
 use cmap_escape::{escape, json};
-use cmap_queries::texts::text_of;
-use hayro_cmap::{CMap, StringCode};
+use cmap_queries::texts::text_string;
+use cmap_unicode::{Character, Extractor};
+use hayro_cmap::StringCode;
 use serde_json::{Map, Value, put};
 use std::alloc::{AllocError, Global};
 
@@ -43,17 +41,15 @@ struct DecodedCode {
     text: Option<String>,
 }
 
-/// Adds a line for each code of a string, and one for its text. A code without a text of its own has
-/// the one of its CID in `texts`, the CMap from the CIDs of the map's collection to Unicode. ISO
-/// 32000-1, 9.10.2.
+/// Adds a line for each code of a string, with its CID and its text, and one for the text of the
+/// string. ISO 32000-1, 9.10.2.
 pub fn push_codes(
     alloc: Global,
     out: &mut String,
-    map: &CMap,
-    texts: Option<&CMap>,
+    font: &Extractor<'_>,
     string: &[u8],
 ) -> Result<(), AllocError> {
-    let decoded = decode(alloc, map, texts, string)?;
+    let decoded = decode(alloc, font, string)?;
     for code in &decoded.codes {
         push_code_line(out, code)?;
     }
@@ -62,12 +58,11 @@ pub fn push_codes(
     out.push('\n')
 }
 
-/// Adds the object of a string, and ends the line. Texts are as `push_codes` has them.
+/// Adds the object of a string, and ends the line.
 pub fn push_json(
     alloc: Global,
     out: &mut String,
-    map: &CMap,
-    texts: Option<&CMap>,
+    font: &Extractor<'_>,
     string: &[u8],
 ) -> Result<(), AllocError>
     ensures line { OnOk result (AddsLine (string_bytes out.old) (string_bytes out.new)) }
@@ -75,20 +70,29 @@ pub fn push_json(
     // Also where memory runs out.
     ensures printable { AddsOfLine (string_bytes out.old) (string_bytes out.new) }
 {
-    let object = string_object(alloc, map, texts, string)?;
+    let object = string_object(alloc, font, string)?;
     json::push_line(alloc, out, &object)
 }
 
-fn string_object(
+/// Adds the text of a string as it is, with U+FFFD for a code without one, and ends the line: whether each
+/// code has a text.
+pub fn push_text(
     alloc: Global,
-    map: &CMap,
-    texts: Option<&CMap>,
+    out: &mut String,
+    font: &Extractor<'_>,
     string: &[u8],
-) -> Result<Value, AllocError> {
+) -> Result<bool, AllocError> {
+    let decoded = decode(alloc, font, string)?;
+    out.push_str(decoded.text.as_str())?;
+    out.push('\n')?;
+    Ok(decoded.codes.iter().all(|code| code.text.is_some()))
+}
+
+fn string_object(alloc: Global, font: &Extractor<'_>, string: &[u8]) -> Result<Value, AllocError> {
     let mut object = Map::new(alloc);
     let digits = byte_digits(alloc, string)?;
     put(&mut object, alloc, "string", Value::from(digits))?;
-    put_decoded(alloc, &mut object, decode(alloc, map, texts, string)?)?;
+    put_decoded(alloc, &mut object, decode(alloc, font, string)?)?;
     Ok(Value::Object(object))
 }
 
@@ -106,51 +110,17 @@ fn put_decoded(
     put(object, alloc, "codes", Value::Array(objects))
 }
 
-fn decode(
-    alloc: Global,
-    map: &CMap,
-    texts: Option<&CMap>,
-    string: &[u8],
-) -> Result<Decoded, AllocError> {
-    let found = codes_of(alloc, map, string)?;
+fn decode(alloc: Global, font: &Extractor<'_>, string: &[u8]) -> Result<Decoded, AllocError> {
+    let characters = font.characters(alloc, string)?;
     let mut decoded = Decoded {
-        codes: Vec::with_capacity(alloc, found.len())?,
+        codes: Vec::with_capacity(alloc, characters.len())?,
         text: String::new(alloc),
     };
-    for code in &found {
-        decoded.add(decode_code(alloc, map, texts, *code)?)?;
+    for Character { code, cid, text } in characters {
+        let text = text_string(alloc, text)?;
+        decoded.add(DecodedCode { code, cid, text })?;
     }
     Ok(decoded)
-}
-
-/// What a code of a string stands for.
-fn decode_code(
-    alloc: Global,
-    map: &CMap,
-    texts: Option<&CMap>,
-    code: StringCode,
-) -> Result<DecodedCode, AllocError> {
-    let cid = map.lookup_cid_code(code.code, code.byte_len);
-    let text = match text_of(alloc, map, code.code)? {
-        Some(text) => Some(text),
-        None => text_of_cid(alloc, texts, cid)?,
-    };
-    Ok(DecodedCode { code, cid, text })
-}
-
-/// The text of a CID, where there are one and a CMap of the texts of CIDs.
-fn text_of_cid(
-    alloc: Global,
-    texts: Option<&CMap>,
-    cid: Option<u32>,
-) -> Result<Option<String>, AllocError> {
-    let Some(texts) = texts else {
-        return Ok(None);
-    };
-    match cid {
-        Some(cid) => text_of(alloc, texts, cid),
-        None => Ok(None),
-    }
 }
 
 /// Adds a line: the code in ten columns, its CID in twelve, its text, and where it lies.
