@@ -1,45 +1,29 @@
 //! The command `cmap`: what is in a CMap file, where it is wrong, and what a string says.
 #![tactic(auto)]
 
-mod bases;
 mod check;
 mod command_line;
 mod decode;
 mod find;
-mod folders;
 mod info;
-mod inputs;
 mod lint;
 mod list;
 mod lookup;
 mod messages;
 mod options;
-mod paths;
 mod progress;
-mod reading;
 
-use bases::Bases;
 use clap::ArgMatches;
+use cmap_sources::bases::Bases;
+use cmap_sources::failure::{Failure, fault, report};
+use cmap_sources::inputs::needed;
+use cmap_sources::status::FAILED;
 use command_line::command;
 use hayro_cmap::Bundle;
-use inputs::needed;
-use messages::{Failure, fault, print_usage, report};
+use messages::print_usage;
 use options::Options;
 use std::env;
 use std::process::ExitCode;
-
-/// The status where all files are accepted.
-const ACCEPTED: u8 = 0;
-
-/// The status where a file is refused.
-const REFUSED: u8 = 1;
-
-/// The status where an argument is wrong, or something can't be read or written.
-const FAILED: u8 = 2;
-
-/// The status where what reads the output has gone away: that which shells give a program that
-/// SIGPIPE ends.
-const READER_GONE: u8 = 141;
 
 fn main(rt: HostRuntime) -> ExitCode {
     let status = match run(&rt) {

@@ -1,8 +1,10 @@
 //! What the arguments of a subcommand ask for.
 
-use crate::inputs::STANDARD_INPUT;
 use crate::lint::LintOptions;
 use clap::ArgMatches;
+use cmap_sources::inputs::STANDARD_INPUT;
+use cmap_sources::paths::PathList;
+use cmap_sources::reading::{Faults, Form, Manner};
 
 /// What the arguments of a subcommand ask for.
 #[derive(Clone, Copy)]
@@ -56,6 +58,26 @@ impl<'m, 'w> Options<'m, 'w> {
             quiet: matches.get_flag("quiet"),
             first: matches.get_flag("first"),
             lenient: matches.get_flag("lenient"),
+        }
+    }
+
+    /// The list of further files for `check`.
+    pub(crate) fn list(&self) -> Option<PathList<'w>> {
+        let path = self.files_from?;
+        let end = if self.null { 0 } else { b'\n' };
+        Some(PathList { path, end })
+    }
+
+    /// How all but `check` read files.
+    pub(crate) fn manner(&self) -> Manner {
+        Manner {
+            budget: self.budget,
+            faults: if self.lenient {
+                Faults::All
+            } else {
+                Faults::First
+            },
+            form: Form::Text,
         }
     }
 

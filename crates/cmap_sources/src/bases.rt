@@ -1,9 +1,9 @@
 //! The files that others use, by their names. Each is read when it is used for the first time.
 
+use crate::failure::Failure;
 use crate::folders::{files_in, is_folder, name_of};
 use crate::inputs::{read, report_unreadable, unreadable};
-use crate::messages::Failure;
-use crate::{ACCEPTED, FAILED};
+use crate::status::{ACCEPTED, FAILED};
 use hayro_cmap::{Bundle, BundleFiles, NamedFile, NamedFiles};
 use std::alloc::{AllocError, Global};
 use std::collections::BTreeMap;
@@ -11,7 +11,7 @@ use std::mem;
 
 /// A file that others use.
 #[derive(Drop)]
-pub(crate) struct Base {
+pub struct Base {
     name: Vec<u8>,
     bytes: Vec<u8>,
 }
@@ -31,13 +31,13 @@ impl NamedFile for Base {
 }
 
 /// The files that are read.
-pub(crate) type Files<'f> = NamedFiles<'f, Base, Bundle<'f>>;
+pub type Files<'f> = NamedFiles<'f, Base, Bundle<'f>>;
 
 /// The files that others may use: those of folders, and those of a bundle for the names that none of
 /// them has.
 #[derive(Drop)]
-pub(crate) struct Bases<'b> {
-    pub(crate) bundle: Option<&'b Bundle<'b>>,
+pub struct Bases<'b> {
+    pub bundle: Option<&'b Bundle<'b>>,
     /// The paths of the files of folders that aren't read yet, by their names.
     paths: BTreeMap<String, String>,
     /// The files that are read.
@@ -50,7 +50,7 @@ pub(crate) struct Bases<'b> {
 
 impl<'b> Bases<'b> {
     /// The files of these folders and of this bundle.
-    pub(crate) fn new(
+    pub fn new(
         rt: &HostRuntime,
         folders: &[&str],
         bundle: Option<&'b Bundle<'b>>,
@@ -91,7 +91,7 @@ impl<'b> Bases<'b> {
     }
 
     /// The files that are read, over the bundle.
-    pub(crate) fn files(&self) -> Files<'_> {
+    pub fn files(&self) -> Files<'_> {
         NamedFiles {
             files: self.read.as_slice(),
             bundle: self.bundle,
@@ -100,12 +100,12 @@ impl<'b> Bases<'b> {
 
     /// The files that are read, without the bundle: one of the bundle's files is among them once it is
     /// used, so that a file of a folder comes before it.
-    pub(crate) fn read_files(&self) -> Files<'_> {
+    pub fn read_files(&self) -> Files<'_> {
         NamedFiles::alone(self.read.as_slice())
     }
 
     /// Whether a file has this name that isn't read yet.
-    pub(crate) fn has_unread(&self, name: &[u8]) -> bool {
+    pub fn has_unread(&self, name: &[u8]) -> bool {
         if self.read_files().find(name).is_some() {
             return false;
         }
@@ -124,7 +124,7 @@ impl<'b> Bases<'b> {
     }
 
     /// Reads the file of this name, if it isn't read yet.
-    pub(crate) fn read(&mut self, rt: &HostRuntime, name: &[u8]) -> Result<(), Failure> {
+    pub fn read(&mut self, rt: &HostRuntime, name: &[u8]) -> Result<(), Failure> {
         if !self.has_unread(name) {
             return Ok(());
         }
@@ -157,11 +157,7 @@ impl<'b> Bases<'b> {
     }
 
     /// The bytes of the file of this name.
-    pub(crate) fn file(
-        &mut self,
-        rt: &HostRuntime,
-        name: &[u8],
-    ) -> Result<Option<Vec<u8>>, Failure> {
+    pub fn file(&mut self, rt: &HostRuntime, name: &[u8]) -> Result<Option<Vec<u8>>, Failure> {
         self.read(rt, name)?;
         self.report(rt)?;
         match self.read_files().find(name) {
@@ -171,12 +167,12 @@ impl<'b> Bases<'b> {
     }
 
     /// Whether a file can't be read, which isn't reported yet.
-    pub(crate) fn has_unreported(&self) -> bool {
+    pub fn has_unreported(&self) -> bool {
         !self.unreadable.is_empty()
     }
 
     /// Reports the files that can't be read, each once.
-    pub(crate) fn report(&mut self, rt: &HostRuntime) -> Result<(), Failure> {
+    pub fn report(&mut self, rt: &HostRuntime) -> Result<(), Failure> {
         for path in mem::replace(&mut self.unreadable, Vec::new(rt.alloc())) {
             self.has_failed = true;
             report_unreadable(rt, path.as_str())?;
@@ -185,7 +181,7 @@ impl<'b> Bases<'b> {
     }
 
     /// The status of what was read here.
-    pub(crate) fn status(&self) -> u8 {
+    pub fn status(&self) -> u8 {
         if self.has_failed { FAILED } else { ACCEPTED }
     }
 }
