@@ -80,6 +80,21 @@ typedef struct hayro_cmap_code {
     uint8_t cut_short;    /* 1 where the string ends before the code does, else 0 */
 } hayro_cmap_code;
 
+/* A code of a string, with its CID and its text. */
+typedef struct hayro_cmap_character {
+    hayro_cmap_code code; /* the code, and the CID that the map declares for it */
+    uint32_t has_text;    /* 1 where it has a text, else 0 */
+    size_t text_start;    /* the offset in the room for texts at which its text begins */
+    size_t text_len;      /* how many bytes its text has in UTF-8; 0 where it has none */
+} hayro_cmap_character;
+
+/* How far a string is extracted. */
+typedef struct hayro_cmap_extracted {
+    size_t made;  /* how many codes are written */
+    size_t taken; /* how many bytes of the string they have */
+    size_t used;  /* how many bytes their texts have in UTF-8 */
+} hayro_cmap_extracted;
+
 /* A codespace range: codes of `byte_len` bytes, each byte between those of `low` and `high`. */
 typedef struct hayro_cmap_codespace {
     uint32_t low;
@@ -328,6 +343,26 @@ bool hayro_cmap_cids(hayro_cmap *map, uint32_t first, uint8_t byte_len, uint32_t
 hayro_cmap_status hayro_cmap_decode(hayro_cmap *map, const uint8_t *text, size_t text_len,
                                     hayro_cmap_code *codes, size_t codes_len, size_t *made,
                                     size_t *taken);
+
+/* Cuts a string of a font into codes, one after another, each with its CID and its text, as ISO
+ * 32000-1, 9.10.2, gives it. `encoding` is the map of the font's CMap. `to_unicode` is that of its
+ * ToUnicode CMap, and `collection` one from CIDs to Unicode, as Adobe-Japan1-UCS2; an empty handle
+ * stands for one that there isn't. They are three handles, which hayro_cmap_share makes of one map.
+ *
+ * The codes are those of hayro_cmap_decode. The CID is the one that the map declares: a character of a
+ * text, which hayro_cmap_cid gives for a code that has nothing else, is no CID. The text is that of
+ * `to_unicode`, where it has one for the code; else that of the CID in `collection`; else there is none.
+ *
+ * As many codes as there is room for stand at the head of `characters`, and their texts, in UTF-8 and
+ * one after another, at the head of `text`; the rest of both is as it was. `extracted` says how far it
+ * went, and a call with the rest of the string goes on. With HAYRO_CMAP_OK that is all of the string.
+ * With HAYRO_CMAP_NO_ROOM one of the rooms is full: where nothing was made though `characters` has
+ * room, `text` is too short for the next text. With HAYRO_CMAP_NO_MEMORY memory ran out for the next
+ * code, whose text has more than one character. An empty `encoding` has no codes: HAYRO_CMAP_ABSENT. */
+hayro_cmap_status hayro_cmap_extract(hayro_cmap *encoding, hayro_cmap *to_unicode,
+                                     hayro_cmap *collection, const uint8_t *string, size_t string_len,
+                                     hayro_cmap_character *characters, size_t characters_len,
+                                     uint8_t *text, size_t text_len, hayro_cmap_extracted *extracted);
 
 /* The text of a code, in UTF-8 and without a zero byte at its end.
  *

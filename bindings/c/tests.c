@@ -213,6 +213,69 @@ static hayro_cmap_status open_name(hayro_cmap *map, const uint8_t *name, size_t 
     return hayro_cmap_open(map, name, len, &none, &base, 1, HAYRO_CMAP_NO_BUDGET);
 }
 
+static hayro_cmap map_of(const uint8_t *data, size_t len) {
+    hayro_cmap map = HAYRO_CMAP_EMPTY;
+    CHECK(hayro_cmap_parse(&map, data, len, TEXT(""), hayro_cmap_files(NULL), 0,
+                           HAYRO_CMAP_NO_BUDGET) == HAYRO_CMAP_OK);
+    return map;
+}
+
+static bool is_extracted(hayro_cmap_extracted extracted, size_t made, size_t taken, size_t used) {
+    return extracted.made == made && extracted.taken == taken && extracted.used == used;
+}
+
+// Codes of one byte with the CIDs 7 to 9, whose ToUnicode CMap has a text for the first and a malformed one for the
+// second, and whose collection has texts for the CID 8 and for the number of the third code, which is none of its CIDs.
+static void texts_come_from_the_code_or_the_cid(void) {
+    hayro_cmap encoding = map_of(TEXT("begincodespacerange <00> <7F> endcodespacerange "
+                                      "begincidrange <41> <43> 7 endcidrange"));
+    hayro_cmap to_unicode = map_of(TEXT("beginbfchar <41> <00660066> <42> <D800> endbfchar"));
+    hayro_cmap collection = map_of(TEXT("beginbfchar <0008> <65E5> <0043> <0078> endbfchar"));
+    hayro_cmap_character characters[5];
+    memset(characters, 7, sizeof characters);
+    uint8_t text[6] = {7, 7, 7, 7, 7, 7};
+    hayro_cmap_extracted extracted;
+    CHECK(hayro_cmap_extract(&encoding, &to_unicode, &collection, TEXT("ABC\x81"), characters, 5, text, 6,
+                             &extracted) == HAYRO_CMAP_OK);
+    CHECK(is_extracted(extracted, 4, 4, 5) && same(text, "ff\xE6\x97\xA5\7", 6));
+    const hayro_cmap_character *it = characters;
+    CHECK(it[0].code.code == 0x41 && it[0].code.cid == 7 && it[0].code.has_cid == 1);
+    CHECK(it[0].has_text == 1 && it[0].text_start == 0 && it[0].text_len == 2);
+    CHECK(it[1].code.cid == 8 && it[1].has_text == 1 && it[1].text_start == 2 && it[1].text_len == 3);
+    CHECK(it[2].code.cid == 9 && it[2].has_text == 0 && it[2].text_len == 0);
+    CHECK(it[3].code.has_cid == 0 && it[3].code.in_codespace == 0 && it[3].has_text == 0);
+    CHECK(it[4].has_text == 0x07070707);
+    hayro_cmap_free(&collection);
+    CHECK(hayro_cmap_extract(&encoding, &to_unicode, &collection, TEXT("B"), characters, 5, text, 6,
+                             &extracted) == HAYRO_CMAP_OK);
+    CHECK(is_extracted(extracted, 1, 1, 0) && it[0].code.cid == 8 && it[0].has_text == 0);
+    hayro_cmap_free(&to_unicode);
+    hayro_cmap_free(&encoding);
+}
+
+static void a_string_is_extracted_up_to_the_rooms(void) {
+    hayro_cmap encoding = map_of(TEXT("begincodespacerange <00> <7F> endcodespacerange"));
+    hayro_cmap to_unicode = map_of(TEXT("beginbfrange <41> <43> <00660066> endbfrange"));
+    hayro_cmap none = HAYRO_CMAP_EMPTY;
+    hayro_cmap_character characters[2];
+    uint8_t text[6] = {0};
+    hayro_cmap_extracted extracted;
+    CHECK(hayro_cmap_extract(&encoding, &to_unicode, &none, TEXT("ABC"), characters, 2, text, 6,
+                             &extracted) == HAYRO_CMAP_NO_ROOM);
+    CHECK(is_extracted(extracted, 2, 2, 4) && same(text, "fffg\0\0", 6));
+    CHECK(hayro_cmap_extract(&encoding, &to_unicode, &none, TEXT("ABC"), characters, 2, text, 3,
+                             &extracted) == HAYRO_CMAP_NO_ROOM);
+    CHECK(is_extracted(extracted, 1, 1, 2));
+    CHECK(hayro_cmap_extract(&encoding, &to_unicode, &none, TEXT("ABC"), characters, 2, text, 1,
+                             &extracted) == HAYRO_CMAP_NO_ROOM);
+    CHECK(is_extracted(extracted, 0, 0, 0));
+    CHECK(hayro_cmap_extract(&none, &to_unicode, &encoding, TEXT("ABC"), characters, 2, text, 6,
+                             &extracted) == HAYRO_CMAP_ABSENT);
+    CHECK(is_extracted(extracted, 0, 0, 0));
+    hayro_cmap_free(&to_unicode);
+    hayro_cmap_free(&encoding);
+}
+
 static void files_are_opened_by_their_names(void) {
     hayro_cmap map = HAYRO_CMAP_EMPTY;
     CHECK(open_name(&map, TEXT("Base")) == HAYRO_CMAP_OK);
@@ -482,6 +545,8 @@ int main(void) {
     an_identity_answers_the_code();
     a_string_is_cut_up_to_the_room();
     a_string_may_end_before_its_last_code();
+    texts_come_from_the_code_or_the_cid();
+    a_string_is_extracted_up_to_the_rooms();
     files_are_opened_by_their_names();
     names_lead_to_the_file_at_fault();
     files_are_read_past_their_faults();

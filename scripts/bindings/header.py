@@ -26,6 +26,8 @@ NAMED = {
     "BaseFile<'a>": "hayro_cmap_file",
     "BaseFile<'_>": "hayro_cmap_file",
     "Code": "hayro_cmap_code",
+    "ExtractedCharacter": "hayro_cmap_character",
+    "Extracted": "hayro_cmap_extracted",
     "CodespaceRange": "hayro_cmap_codespace",
     "DeclaredCids": "hayro_cmap_cid_range",
     "DeclaredTexts": "hayro_cmap_text_range",
@@ -42,6 +44,8 @@ RESULTS = {
 STRUCTS = [
     ("hayro_cmap_file", "files.rt", "BaseFile"),
     ("hayro_cmap_code", "decode.rt", "Code"),
+    ("hayro_cmap_character", "extract.rt", "ExtractedCharacter"),
+    ("hayro_cmap_extracted", "extract.rt", "Extracted"),
     ("hayro_cmap_codespace", "layers.rt", "CodespaceRange"),
     ("hayro_cmap_cid_range", "declared.rt", "DeclaredCids"),
     ("hayro_cmap_text_range", "declared.rt", "DeclaredTexts"),
@@ -86,7 +90,7 @@ def as_in_c(name, kind):
     if items := re.fullmatch(r"&(?:'a )?(mut )?\[(.*)\]", kind):
         item = NAMED.get(items[2], VALUES.get(items[2]))
         return [f"{'' if items[1] else 'const '}{item} *{name}", f"size_t {name}_len"]
-    return [f"{VALUES.get(kind)} {name}"]
+    return [f"{NAMED.get(kind, VALUES.get(kind))} {name}"]
 
 
 def exports():

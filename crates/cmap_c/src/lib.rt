@@ -7,6 +7,7 @@ mod codes_of_cid;
 mod declared;
 mod decode;
 mod explain;
+mod extract;
 mod fault;
 mod files;
 mod handle;
