@@ -556,6 +556,54 @@ private:
     detail::Owned<hayro_cmap, hayro_cmap_free> handle_;
 };
 
+// A code of a string of a font.
+struct Character {
+    // The code, and the CID that the font's CMap declares for it: a character of a text is no CID.
+    Code code;
+    // Its text, in UTF-8.
+    std::optional<std::string> text;
+};
+
+// The maps of a font, by which the texts of its strings are found (ISO 32000-1, 9.10.2): that of its CMap,
+// that of its ToUnicode CMap, and one from the CIDs of its character collection to Unicode. An empty map
+// stands for one that there isn't. Where one map serves twice, share() gives another one of it.
+class Extractor {
+public:
+    explicit Extractor(Map encoding, Map to_unicode = {}, Map collection = {}) noexcept
+        : encoding_(std::move(encoding)), to_unicode_(std::move(to_unicode)),
+          collection_(std::move(collection)) {}
+
+    // All codes of a string. The text of one is that of the ToUnicode CMap, where it has one for the code;
+    // else that of its CID in the map of the collection.
+    std::vector<Character> characters(Bytes string) {
+        std::vector<Character> characters;
+        hayro_cmap_character room[64];
+        std::string text(256, '\0');
+        for (;;) {
+            hayro_cmap_extracted extracted;
+            Status status = hayro_cmap_extract(
+                encoding_.handle(), to_unicode_.handle(), collection_.handle(), string.data(),
+                string.size(), room, std::size(room), detail::room_of(text), text.size(), &extracted);
+            for (const auto &it : Span<hayro_cmap_character>(room, extracted.made))
+                characters.push_back({it.code, text_of(it, text)});
+            if (detail::with_memory(status) != HAYRO_CMAP_NO_ROOM) return characters;
+            if (extracted.made == 0) text.resize(2 * text.size());
+            string = Bytes(string.data() + extracted.taken, string.size() - extracted.taken);
+        }
+    }
+
+private:
+    static std::optional<std::string> text_of(const hayro_cmap_character &it,
+                                              const std::string &text) {
+        if (!it.has_text) return std::nullopt;
+        return text.substr(it.text_start, it.text_len);
+    }
+
+    Map encoding_;
+    Map to_unicode_;
+    Map collection_;
+};
+
 // A map, or why there is none. As with std::optional, what isn't there isn't asked for.
 class Result {
 public:

@@ -152,6 +152,32 @@ static void strings_are_cut() {
     CHECK(long_map && long_map->codespaces().size() == 50 && long_map->codespaces(1).empty());
 }
 
+static hayro::Map map_of(const std::string &file) {
+    auto map = hayro::Map::parse(file);
+    CHECK(bool(map));
+    return map ? *std::move(map) : hayro::Map();
+}
+
+static void strings_have_texts() {
+    auto encoding = "begincodespacerange <00> <7F> endcodespacerange begincidrange <41> <43> 7 endcidrange"s;
+    auto to_unicode = "beginbfchar <41> <00660066> <42> <D800> endbfchar"s;
+    auto collection = "beginbfchar <0008> <65E5> <0043> <0078> endbfchar"s;
+    hayro::Extractor font(map_of(encoding), map_of(to_unicode), map_of(collection));
+    auto found = font.characters("ABC\x81"s);
+    CHECK(found.size() == 4 && found[0].text == "ff" && found[1].text == "\u65E5");
+    CHECK(same(found[1].code, 0x42, 1, 8, true, false) && !found[2].text && !found[3].text);
+    CHECK(same(found[2].code, 0x43, 1, 9, true, false) && same(found[3].code, 0x81, 1, std::nullopt, false, false));
+    CHECK(!hayro::Extractor(map_of(encoding)).characters("A").at(0).text);
+    CHECK(hayro::Extractor(hayro::Map()).characters("A").empty() && font.characters("").empty());
+
+    // Texts that pass the first room, and a text that passes it alone.
+    std::string many, text;
+    for (int count = 0; count < 500; count++) many += "0061", text += 'a';
+    hayro::Extractor longer(map_of(encoding), map_of("beginbfchar <41> <" + many + "> <42> <0062> endbfchar"));
+    found = longer.characters(std::string(100, 'B') + "AB");
+    CHECK(found.size() == 102 && found[99].text == "b" && found[100].text == text && found[101].text == "b");
+}
+
 static bool same(const hayro::CidRange &range, std::uint32_t first, std::uint32_t last, hayro::Cid cid) {
     return range.first == first && range.last == last && range.cid == cid;
 }
@@ -305,6 +331,7 @@ int main() {
     refusals_say_why();
     files_are_read_past_their_faults();
     strings_are_cut();
+    strings_have_texts();
     layers_declare_cids_and_texts();
     many_declarations_are_whole();
     files_speak_of_themselves();

@@ -11,6 +11,7 @@ environment variable HAYRO_CMAP_LIBRARY, else the file in this package's folder,
 """
 
 from ._bundle import Bundle
+from ._extractor import Character, Extractor
 from ._faults import Cause, NotABundle, Reason, Refused, Segment
 from ._folder import folder
 from ._map import CidRange, CMap, Code, CodeRange, Codespace, Layer, Metadata, Salvaged, TextRange, WritingMode
@@ -22,10 +23,12 @@ __all__ = [
     "Bundle",
     "CMap",
     "Cause",
+    "Character",
     "CidRange",
     "Code",
     "CodeRange",
     "Codespace",
+    "Extractor",
     "Layer",
     "Metadata",
     "NotABundle",

@@ -48,6 +48,18 @@ class CodeInString(Structure):
     ]
 
 
+class CharacterInString(Structure):
+    """A hayro_cmap_character."""
+
+    _fields_ = [("code", CodeInString), ("has_text", c_uint32), ("text_start", c_size_t), ("text_len", c_size_t)]
+
+
+class Extracted(Structure):
+    """A hayro_cmap_extracted."""
+
+    _fields_ = [("made", c_size_t), ("taken", c_size_t), ("used", c_size_t)]
+
+
 class CodespaceRange(Structure):
     """A hayro_cmap_codespace."""
 
@@ -90,6 +102,7 @@ DATA, FILES = [c_char_p, c_size_t], [POINTER(File), c_size_t]
 ROOM = [c_char_p, c_size_t, SIZE]
 OVER_FILES = [HANDLE, *FILES, c_uint64]
 CODE = [HANDLE, c_uint32, c_uint8]
+CHARACTERS = [POINTER(CharacterInString), c_size_t]
 
 CALLS = {
     "hayro_cmap_bundle_file": (c_int, [HANDLE, *DATA, *ROOM]),
@@ -104,6 +117,7 @@ CALLS = {
     "hayro_cmap_codespaces": (c_int, [HANDLE, c_size_t, POINTER(CodespaceRange), c_size_t, SIZE]),
     "hayro_cmap_decode": (c_int, [HANDLE, *DATA, POINTER(CodeInString), c_size_t, SIZE, SIZE]),
     "hayro_cmap_explain": (c_int, [HANDLE, *DATA, *OVER_FILES, POINTER(Fault), *ROOM]),
+    "hayro_cmap_extract": (c_int, [HANDLE, HANDLE, HANDLE, *DATA, *CHARACTERS, c_char_p, c_size_t, POINTER(Extracted)]),
     "hayro_cmap_free": (None, [HANDLE]),
     "hayro_cmap_identity": (c_int, [HANDLE, c_bool]),
     "hayro_cmap_layer_name": (c_int, [HANDLE, c_size_t, *ROOM]),

@@ -3,7 +3,7 @@
 import unittest
 
 import hayro_cmap
-from hayro_cmap import CidRange, CMap, Code, CodeRange, Codespace, Metadata, TextRange, WritingMode
+from hayro_cmap import CidRange, CMap, Code, CodeRange, Codespace, Extractor, Metadata, TextRange, WritingMode
 
 from .files import RESOURCES, SMALL, SMALL_V, known_files, needs_resources, predefined, uses
 
@@ -63,6 +63,26 @@ class Lookups(unittest.TestCase):
     def test_decode_of_many(self):
         self.assertEqual(self.cmap.decode(b""), [])
         self.assertEqual([code.cid for code in self.cmap.decode(b"AB" * 50000)], [34, 35] * 50000)
+
+    def test_texts(self):
+        to_unicode = b"beginbfchar <41> <00660066> <42> <D800> endbfchar"
+        collection = b"beginbfchar <0023> <65E5> <0043> <0078> endbfchar"
+        with CMap.parse(to_unicode) as codes, CMap.parse(collection) as cids, Extractor(self.cmap, codes, cids) as font:
+            found = font.characters(b"ABC\xFF")
+            self.assertEqual([character.text for character in found], ["ff", "日", None, None])
+            self.assertEqual([character.code.cid for character in found], [34, 35, 36, None])
+            self.assertEqual(found[3].code, Code(0xFF, 1, None, False, False))
+            self.assertEqual(font.characters(b""), [])
+        self.assertRaises(ValueError, font.characters, b"A")
+
+    def test_texts_of_many(self):
+        long = b"0061" * 5000
+        with CMap.parse(b"beginbfchar <41> <" + long + b"> <42> <0062> endbfchar") as codes:
+            with Extractor(self.cmap, codes) as font:
+                texts = [character.text for character in font.characters(b"B" * 5000 + b"ABC")]
+                self.assertEqual(texts, ["b"] * 5000 + ["a" * 5000, "b", None])
+            with Extractor(codes, codes, codes) as font:
+                self.assertEqual(font.characters(b"B")[0], ((0x42, 1, None, False, False), "b"))
 
     def test_identity(self):
         with CMap.identity() as horizontal, CMap.identity(vertical=True) as vertical:

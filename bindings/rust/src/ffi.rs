@@ -69,6 +69,33 @@ pub(crate) struct RawCode {
     pub(crate) cut_short: u8,
 }
 
+/// A code of a string, with its text in a room for texts.
+#[repr(C)]
+#[derive(Clone, Copy, Default)]
+pub(crate) struct RawCharacter {
+    pub(crate) code: RawCode,
+    has_text: u32,
+    text_start: usize,
+    text_len: usize,
+}
+
+impl RawCharacter {
+    /// Its text in the room; `None` where it has none.
+    pub(crate) fn text<'t>(&self, room: &'t [u8]) -> Option<&'t str> {
+        let bytes = room.get(self.text_start..)?.get(..self.text_len)?;
+        if self.has_text == 0 { None } else { std::str::from_utf8(bytes).ok() }
+    }
+}
+
+/// How far a string is extracted.
+#[repr(C)]
+#[derive(Clone, Copy, Default)]
+pub(crate) struct RawExtracted {
+    pub(crate) made: usize,
+    pub(crate) taken: usize,
+    used: usize,
+}
+
 /// A declaration of texts.
 #[repr(C)]
 #[derive(Clone, Copy, Default)]
@@ -192,6 +219,18 @@ unsafe extern "C" {
         codes_len: usize,
         made: *mut usize,
         taken: *mut usize,
+    ) -> u32;
+    fn hayro_cmap_extract(
+        encoding: *mut RawMap,
+        to_unicode: *mut RawMap,
+        collection: *mut RawMap,
+        string: *const u8,
+        string_len: usize,
+        characters: *mut RawCharacter,
+        characters_len: usize,
+        text: *mut u8,
+        text_len: usize,
+        extracted: *mut RawExtracted,
     ) -> u32;
     fn hayro_cmap_text(
         map: *mut RawMap,
@@ -389,7 +428,7 @@ pub(crate) enum Opened {
 }
 
 impl MapHandle {
-    fn empty() -> MapHandle {
+    pub(crate) fn empty() -> MapHandle {
         MapHandle(RawMap { full: false, map: ptr::null_mut() })
     }
 
@@ -543,6 +582,35 @@ impl MapHandle {
             )
         };
         (made, taken)
+    }
+
+    /// Cuts a string into codes with their texts, as many as there is room for. The other maps may be empty.
+    pub(crate) fn extract(
+        &mut self,
+        to_unicode: &mut MapHandle,
+        collection: &mut MapHandle,
+        string: &[u8],
+        characters: &mut [RawCharacter],
+        text: &mut [u8],
+    ) -> RawExtracted {
+        let mut extracted = RawExtracted::default();
+        // SAFETY: see the head of the module.
+        let status = unsafe {
+            hayro_cmap_extract(
+                &mut self.0,
+                &mut to_unicode.0,
+                &mut collection.0,
+                string.as_ptr(),
+                string.len(),
+                characters.as_mut_ptr(),
+                characters.len(),
+                text.as_mut_ptr(),
+                text.len(),
+                &mut extracted,
+            )
+        };
+        expect_memory(status);
+        extracted
     }
 
     /// Hands on the text of a code, in UTF-8.

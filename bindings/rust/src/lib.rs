@@ -4,6 +4,7 @@
 
 mod bundle;
 mod collection;
+mod extractor;
 #[allow(unsafe_code)]
 mod ffi;
 mod map;
@@ -17,6 +18,7 @@ mod text;
 
 pub use bundle::{Bundle, load_embedded};
 pub use collection::{CharacterCollection, CidFamily};
+pub use extractor::{Character, Extractor};
 pub use map::{CMap, Cid, CidRange, Codespace, Layer, StringCode, TextRange};
 pub use metadata::{Metadata, WritingMode};
 pub use names::CMapName;

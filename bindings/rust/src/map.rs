@@ -275,6 +275,11 @@ impl CMap {
         self.pool.ask(|map| map.codes_of_cid(cid, byte_len))
     }
 
+    /// Asks by a handle that no other call has. The call mustn't ask this map.
+    pub(crate) fn ask<R>(&self, call: impl FnOnce(&mut MapHandle) -> R) -> R {
+        self.pool.ask(call)
+    }
+
     pub(crate) fn of(mut map: MapHandle) -> CMap {
         let metadata = Arc::new(metadata_of(&mut map, 0));
         CMap { pool: Pool::new(map), metadata }
@@ -315,7 +320,7 @@ pub struct StringCode {
     pub code: u32,
     /// How many bytes it has, 1 to 4.
     pub byte_len: u8,
-    /// Its CID, as [`CMap::lookup_cid_code`] gives it.
+    /// Its CID, in what [`CMap::decode`] gives as [`CMap::lookup_cid_code`] gives it.
     pub cid: Option<Cid>,
     /// Whether it lies in a codespace range. Only then [`CMap::lookup_cid_code_strict`] gives a CID.
     pub in_codespace: bool,
@@ -324,7 +329,7 @@ pub struct StringCode {
 }
 
 impl StringCode {
-    fn of(raw: &RawCode) -> StringCode {
+    pub(crate) fn of(raw: &RawCode) -> StringCode {
         StringCode {
             code: raw.code,
             byte_len: raw.byte_len,

@@ -1,6 +1,8 @@
 //! Strings, layers, threads, and the files of Debian's package `poppler-data`.
 
-use hayro_cmap::{BfString, CMap, CMapName, CidFamily, CidRange, Codespace, WritingMode};
+use hayro_cmap::{
+    BfString, CMap, CMapName, CidFamily, CidRange, Codespace, Extractor, WritingMode,
+};
 use std::collections::HashMap;
 use std::fs;
 use std::path::Path;
@@ -40,6 +42,34 @@ fn a_string_of_shift_jis_has_these_cids() {
     ];
     assert_eq!(found, expected);
     assert!(codes.iter().all(|code| code.in_codespace && !code.cut_short));
+}
+
+#[test]
+fn a_text_is_that_of_the_code_or_else_of_the_cid() {
+    let map = |file: &[u8]| CMap::parse(file, |_| None);
+    let encoding = b"begincodespacerange <00> <7F> endcodespacerange
+                     begincidrange <41> <43> 7 endcidrange";
+    let to_unicode = b"beginbfchar <41> <00660066> <42> <D800> endbfchar";
+    let collection = b"beginbfchar <0008> <65E5> <0043> <0078> endbfchar";
+    let font = Extractor::new(map(encoding).unwrap(), map(to_unicode), map(collection));
+    let found = font.characters(b"ABC\x81");
+    let texts: Vec<_> = found.iter().map(|character| character.text.clone()).collect();
+    let ff = BfString::String("ff".into());
+    assert_eq!(texts, [Some(ff), Some(BfString::Char('日')), None, None]);
+    let cids: Vec<_> = found.iter().map(|character| character.code.cid).collect();
+    assert_eq!(cids, [Some(7), Some(8), Some(9), None]);
+}
+
+#[test]
+fn long_texts_are_extracted() {
+    let file = format!("beginbfchar <41> <{}> <42> <0062> endbfchar", "0061".repeat(1000));
+    let map = CMap::parse(file.as_bytes(), |_| None).unwrap();
+    let font = Extractor::new(map.clone(), Some(map.clone()), Some(map));
+    let found = font.characters(&[&[b'B'; 100][..], b"AB"].concat());
+    assert_eq!(found.len(), 102);
+    assert_eq!(found[99].text, Some(BfString::Char('b')));
+    assert_eq!(found[100].text, Some(BfString::String("a".repeat(1000))));
+    assert_eq!(found[101].text, Some(BfString::Char('b')));
 }
 
 #[test]
