@@ -346,8 +346,9 @@ hayro_cmap_status hayro_cmap_decode(hayro_cmap *map, const uint8_t *text, size_t
 
 /* Cuts a string of a font into codes, one after another, each with its CID and its text, as ISO
  * 32000-1, 9.10.2, gives it. `encoding` is the map of the font's CMap. `to_unicode` is that of its
- * ToUnicode CMap, and `collection` one from CIDs to Unicode, as Adobe-Japan1-UCS2; an empty handle
- * stands for one that there isn't. They are three handles, which hayro_cmap_share makes of one map.
+ * ToUnicode CMap, and `collection` one from CIDs to Unicode, as Adobe-Japan1-UCS2; either handle is
+ * empty where there is no such map. No two of the three are one handle: where one map serves twice,
+ * hayro_cmap_share makes another handle of it.
  *
  * The codes are those of hayro_cmap_decode. The CID is the one that the map declares: a character of a
  * text, which hayro_cmap_cid gives for a code that has nothing else, is no CID. The text is that of

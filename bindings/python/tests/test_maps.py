@@ -215,6 +215,12 @@ class WhatFilesSay(unittest.TestCase):
 class Predefined(unittest.TestCase):
     """Known answers of the files of poppler-data."""
 
+    def test_texts(self):
+        with CMap.parse(predefined("90ms-RKSJ-H")) as cmap, CMap.parse(predefined("Adobe-Japan1-UCS2")) as collection:
+            with Extractor(cmap, collection=collection) as font:
+                found = font.characters("日本語、PDF".encode("cp932"))
+                self.assertEqual("".join(character.text for character in found), "日本語、PDF")
+
     def test_decode(self):
         with CMap.parse(predefined("90ms-RKSJ-H")) as cmap:
             codes = cmap.decode(bytes.fromhex("93FA967B8CEA"))
