@@ -1,0 +1,13 @@
+pub mod BitsWritten
+pub mod BundlesWritten
+pub mod BytesWritten
+pub mod EntriesWritten
+pub mod FailuresTold
+pub mod FilesWritten
+pub mod FrontsWritten
+pub mod SegmentsMade
+pub mod TablesWritten
+pub mod WordsMade
+pub mod PiecesTold
+pub mod RangesTold
+pub mod Spelling
