@@ -9,12 +9,14 @@ use Rattle.std.proofs.lemmas.List.{append_assoc, append-nil, drop_more, length-m
 use Rattle.std.proofs.lemmas.List.Elements.{All-append, All-cons, All-head, All-nil, All-tail}
 use Rattle.cmap_runs.specs.Ranges.{Span, contains, last_index}
 use Rattle.cmap_files.specs.Files.{CidEntry}
-use Rattle.cmap_maker.specs.Pieces.{CanBeSplit, cid_told, entry_span, IsInPieces, IsShort, PushesPieces}
+use Rattle.cmap_layers.specs.Lookups.{cid_at}
+use Rattle.cmap_maker.specs.Held.{entry_span}
+use Rattle.cmap_maker.specs.Pieces.{ArePieces, CanBeSplit, cid_told, IsInPieces, IsShort, PushesPieces}
 use Rattle.cmap_files.specs.DeclarationsSeen.{cid_entry_seen, entries_seen}
 use Rattle.cmap_files.specs.declared.declarations.CidRange.{CidRange}
 
-abbrev told_by : CidEntry → ℕ → Option ℕ
-told_by e code = if contains (entry_span e) code then Some (e.cid + (code - e.start)) else None
+abbrev told_by : CidEntry → ℕ → Option (Option ℕ)
+told_by e code = if contains (entry_span e) code then Some (cid_at e code) else None
 
 -- ---- the last of a list that begins with a declaration
 within_more : (rest : List Span) (index : ℕ) (o : Option ℕ) (here : Bool) → ((i : ℕ) → o ≡ Some i → i < length rest) → option_or (option_map suc o) (if here then Some 0 else None) ≡ Some index → index < suc (length rest)
@@ -26,13 +28,13 @@ last_within : (spans : List Span) (code index : ℕ) → last_index spans code �
 last_within [] code index is = absurd (none-some index is)
 last_within (span ∷ rest) code index is = within_more rest index (last_index rest code) (contains span code) (λ i. last_within rest code i) is
 
-step : (e : CidEntry) (es : List CidEntry) (code : ℕ) (o : Option ℕ) (here : Bool) → ((index : ℕ) → o ≡ Some index → index < length es) → option_map (λ e. e.cid + (code - e.start)) (option_and_then (slice_get (e ∷ es)) (option_or (option_map suc o) (if here then Some 0 else None)))
-    ≡ option_or (option_map (λ e. e.cid + (code - e.start)) (option_and_then (slice_get es) o)) (if here then Some (e.cid + (code - e.start)) else None)
+step : (e : CidEntry) (es : List CidEntry) (code : ℕ) (o : Option ℕ) (here : Bool) → ((index : ℕ) → o ≡ Some index → index < length es) → option_map (λ e. cid_at e code) (option_and_then (slice_get (e ∷ es)) (option_or (option_map suc o) (if here then Some 0 else None)))
+    ≡ option_or (option_map (λ e. cid_at e code) (option_and_then (slice_get es) o)) (if here then Some (cid_at e code) else None)
 step e es code None true within = refl
 step e es code None false within = refl
 step e es code (Some index) here within =
     let there : slice_get es index ≡ Some (get_or es index e) = slice_get-get_or es index e (within index refl) in
-    ap (option_map (λ (e : CidEntry). e.cid + (code - e.start))) there ∙ sym (ap (λ (o : Option CidEntry). option_or (option_map (λ (e : CidEntry). e.cid + (code - e.start)) o) (if here then Some (e.cid + (code - e.start)) else None)) there)
+    ap (option_map (λ (e : CidEntry). cid_at e code)) there ∙ sym (ap (λ (o : Option CidEntry). option_or (option_map (λ (e : CidEntry). cid_at e code) o) (if here then Some (cid_at e code) else None)) there)
 
 pub cid_told-cons : (e : CidEntry) (es : List CidEntry) (code : ℕ) → cid_told (e ∷ es) code ≡ option_or (cid_told es code) (told_by e code)
 cid_told-cons e es code = step e es code (last_index (map entry_span es) code) (contains (entry_span e) code) (λ index is. rw (length-map es entry_span) at (last_within (map entry_span es) code index is))
@@ -45,6 +47,13 @@ cid_told-after (e ∷ before) es other code same = cid_told-cons e (before ++ es
 option_or-assoc : {A : Type 0} (a b c : Option A) → option_or (option_or a b) c ≡ option_or a (option_or b c)
 option_or-assoc None b c = refl
 option_or-assoc (Some x) b c = refl
+
+told_none : (e : CidEntry) (code : ℕ) → e.end < e.start → told_by e code ≡ None
+told_none e code empty = grind (arith, nat_tests)
+
+option_or-none : {A : Type 0} (o : Option A) → option_or o None ≡ o
+option_or-none None = refl
+option_or-none (Some x) = refl
 
 -- ---- one piece off
 abbrev pub entry : ℕ → ℕ → ℕ → CidEntry
@@ -85,7 +94,7 @@ to_more e s t cid old now new h long is = record {
   pieces = h.pieces ++ entry s (s + 255) cid ∷ [];
   new_is = is ∙ ap (λ es. es ++ entry s (s + 255) cid ∷ []) h.new_is ∙ append_assoc old h.pieces (entry s (s + 255) cid ∷ []);
   more = λ others more. subst (IsInPieces e) (sym (append_assoc h.pieces (entry s (s + 255) cid ∷ []) others)) (h.more (entry s (s + 255) cid ∷ others) (in_more s t cid others long h.can.1 (omega (arith, h.can.2)) more));
-  can = (long, h.can.1, omega (arith, h.can.2));
+  can = (omega (arith, long), h.can.1, omega (arith, h.can.2));
 }
 
 pub to_end : (e left : CidEntry) (old now new : List CidEntry) → PiecesTo e left old now → left.end - left.start ≤ 256 → new ≡ now ++ left ∷ [] → PushesPieces e old new
@@ -105,15 +114,19 @@ so_far_more es pieces new left e h (others, is, within) =
       told = λ code. ap (λ es. cid_told es code) parts ∙ cid_told-after pieces (others ++ left) (e ∷ left) code (within.told left code) ∙ h.told code;
     }
 
-can_at : (entries : List CidRange) (i : ℕ) (d : CidRange) → i < length entries → All CanBeSplit (entries_seen entries) → CanBeSplit (cid_entry_seen (get_or entries i d))
-can_at [] i d within all = absurd (omega arith)
-can_at (x ∷ entries) zero d within all = All-head CanBeSplit (cid_entry_seen x) (entries_seen entries) all
-can_at (x ∷ entries) (suc i) d within all = can_at entries i d (omega arith) (All-tail CanBeSplit (cid_entry_seen x) (entries_seen entries) all)
+-- a range without a code
+pub so_far_skip : (es pieces left : List CidEntry) (e : CidEntry) → e.end < e.start → PiecesSoFar es pieces (e ∷ left) → PiecesSoFar es pieces left
+so_far_skip es pieces left e empty h = record {
+  short = h.short;
+  told = λ code. cid_told-after pieces left (e ∷ left) code (sym (cid_told-cons e left code ∙ ap (option_or (cid_told left code)) (told_none e code empty) ∙ option_or-none (cid_told left code))) ∙ h.told code;
+}
+
+pub so_far_start : (es : List CidEntry) → PiecesSoFar es [] es
+so_far_start es = record { short = All-nil IsShort; told = λ code. refl }
+
+pub so_far_end : (es pieces : List CidEntry) → PiecesSoFar es pieces [] → ArePieces es pieces
+so_far_end es pieces h = record { short = h.short; told = λ code. ap (λ ps. cid_told ps code) (sym (append-nil pieces)) ∙ h.told code }
 
 -- the range that comes next
-pub record ComesNext (entries : List CidRange) (i : ℕ) (pieces : List CidEntry) (e : CidEntry) : Type 0 where
-  pub can : CanBeSplit e
-  pub so_far : PiecesSoFar (entries_seen entries) pieces (e ∷ entries_seen (drop (i + 1) entries))
-
-pub comes_next : (entries : List CidRange) (i : ℕ) (d : CidRange) (pieces : List CidEntry) → i < length entries → All CanBeSplit (entries_seen entries) → PiecesSoFar (entries_seen entries) pieces (entries_seen (drop i entries)) → ComesNext entries i pieces (cid_entry_seen (get_or entries i d))
-comes_next entries i d pieces within can h = record { can = can_at entries i d within can; so_far = subst (λ es. PiecesSoFar (entries_seen entries) pieces (entries_seen es)) (drop_more entries i d within) h }
+pub comes_next : (entries : List CidRange) (i : ℕ) (d : CidRange) (pieces : List CidEntry) → i < length entries → PiecesSoFar (entries_seen entries) pieces (entries_seen (drop i entries)) → PiecesSoFar (entries_seen entries) pieces (cid_entry_seen (get_or entries i d) ∷ entries_seen (drop (i + 1) entries))
+comes_next entries i d pieces within h = subst (λ es. PiecesSoFar (entries_seen entries) pieces (entries_seen es)) (drop_more entries i d within) h

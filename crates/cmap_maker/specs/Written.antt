@@ -1,8 +1,5 @@
 -- Bytes that are written, and what a reader finds in them.
 use Rattle.std.specs.Prelude.{◌≡◌, ℕ, zero, suc, length, ◌+◌, ◌<◌, ◌*◌, ◌/◌, ◌%◌, ◌^◌, List, [], ◌∷◌, ◌++◌}
-use Rattle.cmap_binary.specs.Bundles.{PrefixTables}
-use Rattle.cmap_binary.specs.BinaryFiles.{Content, IsBinaryFile, file_of}
-use Rattle.cmap_binary.specs.Fronts.{FramedAt}
 
 -- the last count bytes of a number, the high one first
 abbrev pub bytes_of : ℕ → ℕ → List ℕ
@@ -26,8 +23,3 @@ pub record IsFramed (front payload bytes : List ℕ) : Type 0 where
 abbrev pub WritesAll : {A : Type 0} → (List ℕ → A × List ℕ → Type 0) → List A → List ℕ → Type 0
 WritesAll item [] bytes = bytes ≡ []
 WritesAll item (x ∷ xs) bytes = (first : List ℕ) × (later : List ℕ) × (bytes ≡ first ++ later) × Writes item x first × WritesAll item xs later
-
--- the bytes are a binary file which says that, and they tell their own length, whatever follows
-pub record IsFileOf (tables : PrefixTables) (contents : List Content) (bytes : List ℕ) : Type 0 where
-  pub says : IsBinaryFile tables bytes (file_of contents)
-  pub framed : Writes (FramedAt 6) bytes bytes
