@@ -1,5 +1,8 @@
 -- What a file that is written keeps of the one that was handed in.
-use Rattle.std.specs.Prelude.{◌≡◌, ℕ, List, ◌∷◌, ◌++◌, map}
+use Rattle.std.specs.Prelude.{◌≡◌, ℕ, List, [], ◌∷◌, ◌++◌, map}
+use Rattle.cmap_files.specs.FilesSeen.{file_seen}
+use Rattle.cmap_files.specs.declared.file.File.{File as HeldFile}
+use Rattle.cmap_binary.specs.Fronts.{FramedAt}
 use Rattle.std.specs.Global.{Vec}
 use Rattle.cmap_files.specs.DeclarationsSeen.{entries_seen}
 use Rattle.cmap_files.specs.Files.{CidEntry, Declaration, File, Lists, lists_of}
@@ -7,11 +10,12 @@ use Rattle.cmap_files.specs.declared.declarations.ByLength.{ByLength}
 use Rattle.cmap_files.specs.declared.declarations.CidRange.{CidRange}
 use Rattle.cmap_layers.specs.Layers.{Layer, layer_of}
 use Rattle.cmap_layers.specs.Lookups.{bf_of, cid_of}
-use Rattle.cmap_binary.specs.Bundles.{PrefixTables}
+use Rattle.cmap_binary.specs.Bundles.{IsBundle, PrefixTables}
 use Rattle.cmap_binary.specs.BinaryFiles.{IsBinaryFile, SegmentAt}
 use Rattle.cmap_maker.specs.Bundled.{IsFramedFile}
 use Rattle.cmap_maker.specs.Pieces.{cid_told}
 use Rattle.cmap_maker.specs.SegmentsWritten.{DeclareAll}
+use Rattle.cmap_maker.specs.Written.{WritesAll}
 
 -- the same metadata, codespace ranges and names of files that are used; and over any layers each code of each length has the same CID, and each code the same text
 pub record Keeps (file made : File) : Type 0 where
@@ -28,7 +32,27 @@ pub record IsWritten (tables : PrefixTables) (file : File) (bytes : List ℕ) : 
   pub keeps : Keeps file made
   pub framed : IsFramedFile bytes
 
+-- these bytes are the files, each as it is written by these tables
+abbrev pub AreWritten : PrefixTables → List File → List (List ℕ) → Type 0
+AreWritten tables [] [] = Unit {0}
+AreWritten tables (file ∷ files) (text ∷ texts) = IsWritten tables file text × AreWritten tables files texts
+AreWritten tables files texts = ⊥
+
+-- the bytes are a bundle which has each of these files at its index, as it is written by the tables of the bundle
+pub record IsBundleOf (files : List File) (bytes : List ℕ) : Type 0 where
+  pub tables : PrefixTables
+  pub texts : List (List ℕ)
+  pub is : IsBundle bytes (record { tables = tables; files = texts })
+  pub each : AreWritten tables files texts
+
+abbrev pub files_seen : List HeldFile → List File
+files_seen files = map file_seen files
+
 -- ---- private aid
+-- files that are written one after another
+abbrev pub AreFilesOf : PrefixTables → List File → List ℕ → Type 0
+AreFilesOf tables files bytes = (texts : List (List ℕ)) × WritesAll (FramedAt 6) texts bytes × AreWritten tables files texts
+
 -- each code has the same CID
 abbrev pub HaveSameCids : List CidEntry → List CidEntry → Type 0
 HaveSameCids es made = (code : ℕ) → cid_told made code ≡ cid_told es code

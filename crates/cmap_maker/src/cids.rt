@@ -47,8 +47,8 @@ pub(crate) fn push_cids(
     Ok(())
 }
 
-// The shape of the next entry.
-fn first_shape(entries: &[CidRange]) -> Shape
+/// The shape of the next entry.
+pub(crate) fn first_shape(entries: &[CidRange]) -> Shape
     requires filled { 0 < length entries.now }
     requires short { All IsShort (entries_seen entries.now) }
     ensures { HasShapeOf (shape_seen result) entries.now 0 }
@@ -56,9 +56,9 @@ fn first_shape(entries: &[CidRange]) -> Shape
     Shape::of(entries[0].range)
 }
 
-// How many entries the next segment holds: all have one shape, each comes after the one before, and
-// only the first may have CID 0.
-fn segment_len(shape: Shape, entries: &[CidRange]) -> usize
+/// How many entries the next segment holds: all have one shape, each comes after the one before, and
+/// only the first may have CID 0.
+pub(crate) fn segment_len(shape: Shape, entries: &[CidRange]) -> usize
     requires first { HasShapeOf (shape_seen shape) entries.now 0 }
     requires short { All IsShort (entries_seen entries.now) }
     ensures some { 1 ≤ result }

@@ -95,8 +95,8 @@ fn push_column(
     Ok(())
 }
 
-// How many codes each entry leaves out after the one before.
-fn deltas(alloc: Global, entries: &[CidRange]) -> Result<Vec<u32>, AllocError>
+/// How many codes each entry leaves out after the one before.
+pub(crate) fn deltas(alloc: Global, entries: &[CidRange]) -> Result<Vec<u32>, AllocError>
     requires { AreInOrder 0 (spans_of (entries_seen entries.now)) }
     ensures { IfOk result (λ deltas. deltas.items ≡ deltas_of 0 (spans_of (entries_seen entries.now))) }
 {
@@ -110,8 +110,8 @@ fn deltas(alloc: Global, entries: &[CidRange]) -> Result<Vec<u32>, AllocError>
     Ok(deltas)
 }
 
-// How many codes more than two each range has.
-fn counts(alloc: Global, entries: &[CidRange]) -> Result<Vec<u32>, AllocError>
+/// How many codes more than two each range has.
+pub(crate) fn counts(alloc: Global, entries: &[CidRange]) -> Result<Vec<u32>, AllocError>
     requires { AreShaped ranges (spans_of (entries_seen entries.now)) }
     ensures { IfOk result (λ counts. counts.items ≡ counts_of (spans_of (entries_seen entries.now))) }
 {

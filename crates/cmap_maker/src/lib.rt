@@ -15,9 +15,10 @@ mod notdefs;
 mod obstacle;
 mod pieces;
 mod split;
+mod tables;
 mod words;
 
-pub use bundle::write_bundle;
+pub use bundle::make_bundle;
 pub use columns::Encoders;
 pub use file::write_file;
 pub use obstacle::Obstacle;

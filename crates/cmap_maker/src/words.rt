@@ -1,6 +1,6 @@
 //! The code words of symbols, and the bits that spell symbols by them.
 
-ghost use Rattle.std.specs.Prelude.{◌≡◌, ◌++◌, ◌≤◌, ◌<◌, ◌*◌, ◌-◌, ◌^◌, All, Any, IfNone, IfOk, IfSome, MatchOption, flat_map, length, replicate};
+ghost use Rattle.std.specs.Prelude.{◌≡◌, ◌++◌, ◌≤◌, ◌<◌, ◌*◌, ◌-◌, ◌^◌, All, Any, IfNone, IfOk, IfSome, IsTrue, MatchOption, flat_map, length, replicate};
 ghost use Rattle.cmap_binary.specs.TableFronts.{TableAt};
 ghost use Rattle.cmap_binary.specs.PrefixWords.{AreWordLengths, BeginWithWordsOf, bits, lengths_from, zip_words};
 ghost use Rattle.cmap_maker.specs.Spelled.{HasWord, IsNoSymbol, IsNoWordOf};
@@ -58,23 +58,37 @@ impl Model for Encoder {
 
 impl Encoder {
     /// The symbols, with as many code words of each length, from 1 on, as are counted; `None`
-    /// where these aren't those of a table: where a word has no bits, or there are more words
-    /// than fit.
+    /// where these aren't those of a table: where there isn't a word for each symbol, a word has
+    /// no bits, or there are more words than fit.
     pub fn new(
         alloc: Global,
         counts: Vec<u16>,
         symbols: &[u32],
     ) -> Result<Option<Encoder>, AllocError>
         requires few { length counts.items ≤ 32 }
-        requires each { length symbols.now ≡ length (lengths_from 1 counts.items) }
-        ensures { IfOk result (λ o. MatchOption o (AreWordLengths (lengths_from 1 counts.items) → ⊥)
+        ensures { IfOk result (λ o. MatchOption o (length symbols.now ≡ length (lengths_from 1 counts.items) → AreWordLengths (lengths_from 1 counts.items) → ⊥)
             (λ table. table ≡ zip_words (lengths_from 1 counts.items) symbols.now)) }
     {
         let lens = word_lengths(alloc, &counts)?;
+        if symbols.len() != lens.len() {
+            return Ok(None);
+        }
         let Some(words) = make_words(alloc, &lens, symbols)? else {
             return Ok(None);
         };
         Ok(Some(Encoder { counts, words }))
+    }
+
+    /// Whether no symbol is above this number.
+    pub fn fits(&self, most: u32) -> bool
+        ensures { IsTrue result → All (λ p. p.symbol ≤ most) self.now }
+    {
+        for word in &self.words {
+            if word.symbol > most {
+                return false;
+            }
+        }
+        true
     }
 
     /// Writes the table, as it stands in a bundle, with symbols of `width` bytes each.
