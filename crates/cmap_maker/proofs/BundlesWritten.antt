@@ -1,8 +1,8 @@
 -- The front of a bundle, and its files.
-use Rattle.std.proofs.Common.{◌≡◌, ℕ, ◌+◌, ◌^◌, ◌<◌, ◌≤◌, List, [], ◌∷◌, ◌++◌, length, get_or, map, take, refl, ap, ◌∙◌, sym, subst, arith}
+use Rattle.std.proofs.Common.{◌≡◌, ℕ, ◌+◌, ◌^◌, ◌<◌, ◌≤◌, List, [], ◌∷◌, ◌++◌, length, get_or, take, refl, ap, ◌∙◌, sym, subst, arith}
 use Rattle.std.specs.List.{All}
 use Rattle.std.proofs.lemmas.List.Elements.{All-weaker}
-use Rattle.std.proofs.lemmas.List.{append_assoc, append-nil, map-append, take_more}
+use Rattle.std.proofs.lemmas.List.{append-nil, map-append, take_more}
 use Rattle.cmap_files.specs.Files.{File}
 use Rattle.cmap_files.specs.FilesSeen.{file_seen}
 use Rattle.cmap_files.specs.declared.file.File.{File as HeldFile}
@@ -46,8 +46,7 @@ written_more tables (f ∷ files) (t ∷ texts) file text (first, each) here = (
 pub files_more : (tables : PrefixTables) (files : List HeldFile) (i : ℕ) (d : HeldFile) (now new text : List ℕ) → i < length files → AreFilesOf tables (files_seen (take i files)) now → IsWritten tables (file_seen (get_or files i d)) text → new ≡ now ++ text → AreFilesOf tables (files_seen (take (i + 1) files)) new
 files_more tables files i d now new text within (texts, all, each) here new_is =
     let file = file_seen (get_or files i d) in
-    let seen : files_seen (take (i + 1) files) ≡ files_seen (take i files) ++ file ∷ [] = ap files_seen (take_more files i d within) ∙ map-append file_seen (take i files) (get_or files i d ∷ []) in
-    (
+    let seen : files_seen (take (i + 1) files) ≡ files_seen (take i files) ++ file ∷ [] = ap files_seen (take_more files i d within) ∙ map-append file_seen (take i files) (get_or files i d ∷ []) in (
       texts ++ text ∷ [],
       subst (WritesAll (FramedAt 6) (texts ++ text ∷ [])) (sym new_is) (WritesAll-push (FramedAt 6) texts now text text all here.framed),
       subst (λ fs. AreWritten tables fs (texts ++ text ∷ [])) (sym seen) (written_more tables (files_seen (take i files)) texts file text each here),

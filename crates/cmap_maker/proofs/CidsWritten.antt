@@ -8,7 +8,7 @@ use Rattle.cmap_files.specs.Files.{CidEntry, Declaration}
 use Rattle.cmap_files.specs.declared.code_length.CodeLength.{CodeLength}
 use Rattle.cmap_files.specs.declared.code_length.CodeLength.TheVariants.{One, Two, Three, Four}
 use Rattle.cmap_binary.specs.Bundles.{PrefixTables}
-use Rattle.cmap_binary.specs.BinaryEntries.{CidColumns, CidEntriesIn, CidEntriesOf, CidEntryAt, Columns, Shape, cid_from, ranges, singles}
+use Rattle.cmap_binary.specs.BinaryEntries.{CidColumns, CidEntriesIn, CidEntriesOf, CidEntryAt, Columns, Shape, ranges, singles}
 use Rattle.cmap_binary.specs.BinaryFiles.{IsSegment, declares}
 use Rattle.cmap_binary.specs.Fronts.{RowOf}
 use Rattle.cmap_maker.specs.ColumnsWritten.{HaveSpans, WritesColumns}

@@ -1,14 +1,13 @@
 -- Spans of codes that are written in columns.
-use Rattle.std.proofs.Common.{◌≡◌, ℕ, suc, ◌+◌, ◌-◌, ◌^◌, ◌<◌, ◌≤◌, List, [], ◌∷◌, ◌++◌, Some, None, Option, refl, ap, ◌∙◌, sym, subst, arith}
+use Rattle.std.proofs.Common.{◌≡◌, ℕ, ◌+◌, ◌-◌, List, [], ◌∷◌, ◌++◌, Some, None, Option, refl, ap, ◌∙◌, sym, subst, arith}
 use Rattle.std.proofs.lemmas.List.{append_assoc}
 use Rattle.cmap_runs.specs.Ranges.{Span}
 use Rattle.cmap_binary.specs.PrefixWords.{BeginWithWordsOf, CodeWord, bits}
 use Rattle.cmap_binary.specs.Bundles.{PrefixTables}
-use Rattle.cmap_binary.specs.BinaryEntries.{Columns, ColumnsAt, SpanAt, WidthAt, ranges, singles}
-use Rattle.cmap_binary.specs.Fronts.{SizedAt}
+use Rattle.cmap_binary.specs.BinaryEntries.{Columns, ColumnsAt, WidthAt, ranges, singles}
 use Rattle.cmap_maker.specs.ColumnsWritten.{HaveSpans, WritesColumn, WritesColumns}
 use Rattle.cmap_maker.specs.Held.{AreInOrder, AreShaped, counts_of, deltas_of}
-use Rattle.cmap_maker.specs.Written.{Appends, Writes}
+use Rattle.cmap_maker.specs.Written.{Appends}
 
 -- how far each span ends after its start, as the counts have it
 HaveWidths : List CodeWord → List Span → Option (List ℕ) → Type 0

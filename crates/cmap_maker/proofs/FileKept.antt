@@ -1,21 +1,21 @@
 -- What a file keeps whose lists say the same.
-use Rattle.std.proofs.Common.{◌≡◌, ℕ, Bool, true, false, List, [], ◌∷◌, ◌++◌, Option, Some, None, length, drop, map, take, refl, ap, ◌∙◌, sym, subst}
+use Rattle.std.proofs.Common.{◌≡◌, ℕ, Bool, true, false, List, [], ◌∷◌, ◌++◌, Option, Some, None, drop, map, take, refl, ap, ◌∙◌, sym, subst}
 use Rattle.std.specs.Prelude.{◌==◌, ◌&&◌, nat_le, filter_map, flat_map, if◌then◌else◌, option_map}
 use Rattle.std.specs.List.{last_or}
 use Rattle.std.proofs.lemmas.List.{append-nil, append_assoc}
 use Rattle.std.proofs.lemmas.List.Concat.{flat_map-append}
 use Rattle.std.proofs.lemmas.List.Elements.{filter_map-append}
 use Rattle.std.proofs.lemmas.Option.{none-some, same_Some}
-use Rattle.cmap_files.specs.Files.{ByLength, CidEntry, Declaration, File, FileMetadata, Lists, lists_of, of_length}
+use Rattle.cmap_files.specs.Files.{CidEntry, Declaration, File, FileMetadata, Lists, lists_of, of_length}
 use Rattle.cmap_binary.specs.BinaryFiles.{BodyOf, Content, IsBinaryFile, SegmentAt, collection_set, declared_in, declares, file_of, magic, mode_set, name_set, name_used}
 use Rattle.cmap_binary.specs.BinaryFiles as files
 use Rattle.cmap_binary.specs.Bundles.{PrefixTables}
-use Rattle.cmap_layers.specs.Layers.{Layer, layer_of}
-use Rattle.cmap_layers.specs.Lookups.{bf_of, cid_at, cid_in, cid_of, decided_cid, last_cid}
-use Rattle.cmap_maker.specs.Keeps.{DeclareLists, HaveSameCids, IsWritten, KeepLists, Keeps}
-use Rattle.cmap_maker.specs.MetadataWritten.{from_option, metadata_contents}
+use Rattle.cmap_layers.specs.Layers.{Layer}
+use Rattle.cmap_layers.specs.Lookups.{bf_of, cid_at, cid_of, decided_cid, last_cid}
+use Rattle.cmap_maker.specs.Keeps.{DeclareLists, IsWritten, KeepLists, Keeps}
+use Rattle.cmap_maker.specs.MetadataWritten.{metadata_contents}
 use Rattle.cmap_maker.specs.Pieces.{cid_told}
-use Rattle.cmap_maker.specs.Written.{Appends, IsFramed, Writes, WritesAll}
+use Rattle.cmap_maker.specs.Written.{Appends, IsFramed, WritesAll}
 use Rattle.cmap_maker.proofs.FilesWritten.{AllOf-written, joined}
 use Rattle.cmap_maker.proofs.FrontsWritten.{FramedAt-written, payload-written}
 use Rattle.cmap_maker.proofs.ListsKept.{contents_by}

@@ -3,8 +3,7 @@ use Rattle.std.proofs.Common.{◌≡◌, ℕ, List, [], ◌∷◌, ◌++◌, map
 use Rattle.std.specs.List.{flat_map}
 use Rattle.std.proofs.lemmas.List.{append_assoc, append-nil, map-append}
 use Rattle.std.proofs.lemmas.List.Concat.{flat_map-append}
-use Rattle.cmap_files.specs.CodeLengths.{length_of}
-use Rattle.cmap_files.specs.Files.{BfEntry, ByLength, CidEntry, Codespace, Declaration, Lists, lists_of}
+use Rattle.cmap_files.specs.Files.{ByLength, CidEntry, Codespace, Declaration, Lists, lists_of}
 use Rattle.std.specs.Global.{Vec}
 use Rattle.cmap_files.specs.DeclarationsSeen.{entries_seen}
 use Rattle.cmap_files.specs.declared.declarations.ByLength.{ByLength as HeldByLength}
@@ -15,7 +14,7 @@ use Rattle.cmap_binary.specs.BinaryFiles.{Content, SegmentAt, declares}
 use Rattle.cmap_binary.specs.Bundles.{PrefixTables}
 use Rattle.cmap_maker.specs.Keeps.{DeclareCids, DeclareLists, DeclareSame, HaveSameCids, KeepLists, by_length}
 use Rattle.cmap_maker.specs.SegmentsWritten.{DeclareAll, SegmentByAny}
-use Rattle.cmap_maker.specs.Written.{Appends, Writes, WritesAll}
+use Rattle.cmap_maker.specs.Written.{Appends, WritesAll}
 use Rattle.cmap_maker.proofs.FilesWritten.{joined}
 
 -- ---- segments after others

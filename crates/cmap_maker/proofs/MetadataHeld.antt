@@ -1,11 +1,11 @@
 -- Metadata that is written, and read back.
-use Rattle.std.proofs.Common.{◌≡◌, ℕ, zero, suc, pos, ℤ, ◌+◌, ◌^◌, ◌<◌, Bool, true, false, List, inl, inr, [], ◌∷◌, ◌++◌, length, drop, get_or, map, take, refl, ap, ◌∙◌, sym, subst, arith}
+use Rattle.std.proofs.Common.{◌≡◌, ℕ, zero, suc, pos, ◌+◌, ◌^◌, ◌<◌, Bool, true, false, List, inl, inr, [], ◌∷◌, ◌++◌, length, drop, get_or, map, take, refl, ap, ◌∙◌, sym, subst, arith}
 use Rattle.std.specs.Prelude.{◌==◌, ◌&&◌, bytes_eq, codes, if◌then◌else◌}
 use Rattle.std.specs.List.{All, list_any, slice_index}
 use Rattle.std.proofs.lemmas.Bool.{eqb-false}
 use Rattle.std.proofs.lemmas.Bool.{cases_Bool}
 use Rattle.std.proofs.lemmas.List.Elements.{All-cons, All-nil}
-use Rattle.std.proofs.lemmas.List.{append_assoc, append-nil, drop_at, drop-drop, length-append, map-append, take_at, take_more}
+use Rattle.std.proofs.lemmas.List.{append_assoc, append-nil, length-append, map-append, take_at, take_more}
 use Rattle.std.specs.Borrow.{Bor}
 use Rattle.cmap_files.specs.FilesSeen.{names_seen}
 use Rattle.cmap_binary.specs.BinaryFiles as files

@@ -8,7 +8,7 @@ use std::marker::Model;
 
 /// Bits that have been written. A clause sees them all, in order.
 #[derive(Debug, Drop)]
-pub struct BitWriter {
+pub(crate) struct BitWriter {
     // the bytes that are full
     bytes: Vec<u8>,
     // how many bits of the next byte there are, and the number that they write
@@ -29,7 +29,7 @@ impl Model for BitWriter {
 
 impl BitWriter {
     /// No bits.
-    pub fn new(alloc: Global) -> BitWriter
+    pub(crate) fn new(alloc: Global) -> BitWriter
         ensures { result ≡ [] }
     {
         BitWriter {
@@ -40,7 +40,7 @@ impl BitWriter {
     }
 
     /// Writes the last `len` bits of a number, the high one first.
-    pub fn push(&mut self, value: u32, len: u8) -> Result<(), AllocError>
+    pub(crate) fn push(&mut self, value: u32, len: u8) -> Result<(), AllocError>
         requires { len ≤ 32 }
         ensures { IfOk result (λ _. self.new ≡ self.old ++ bits_of len value) }
     {
@@ -70,7 +70,7 @@ impl BitWriter {
     }
 
     /// The bytes that the bits begin. What follows them in the last byte are zero bits.
-    pub fn finish(self) -> Result<Vec<u8>, AllocError>
+    pub(crate) fn finish(self) -> Result<Vec<u8>, AllocError>
         ensures { IfOk result (λ bytes. (rest : List ℕ) × (bits bytes.items ≡ self ++ rest) × (length rest < 8)) }
     {
         let BitWriter {

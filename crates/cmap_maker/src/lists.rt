@@ -4,7 +4,6 @@ ghost use Rattle.std.specs.Prelude.{◌≡◌, [], IfOk};
 ghost use Rattle.cmap_files.specs.CodeLengths.{length_of};
 ghost use Rattle.cmap_files.specs.DeclarationsSeen.{entries_seen, lists_seen};
 ghost use Rattle.cmap_files.specs.Files.{Declaration};
-
 ghost use Rattle.cmap_maker.specs.EncodersSeen.{encoders_seen};
 ghost use Rattle.cmap_maker.specs.Keeps.{DeclareCids, DeclareLists, DeclareSame, notdefs_declared};
 ghost use Rattle.cmap_maker.specs.SegmentsWritten.{DeclareAll, SegmentByAny};

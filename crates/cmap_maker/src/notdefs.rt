@@ -75,11 +75,7 @@ fn push_entries(
 }
 
 // Writes a notdef declaration: start, end, and a CID of two bytes.
-fn push_notdef(
-    out: &mut Vec<u8>,
-    len: CodeLength,
-    entry: &CidRange,
-) -> Result<(), Fault<Obstacle>>
+fn push_notdef(out: &mut Vec<u8>, len: CodeLength, entry: &CidRange) -> Result<(), Fault<Obstacle>>
     ensures { IfOk result (λ _. Appends out.old.items out.new.items (Writes (NotdefAt (length_of len)) (cid_entry_seen entry.now))) }
 {
     if entry.cid > LARGEST_CID {

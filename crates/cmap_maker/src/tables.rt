@@ -31,10 +31,7 @@ struct Frequency {
 }
 
 /// Tables with a code word for each number that these files are spelled by.
-pub(crate) fn tables_for(
-    alloc: Global,
-    files: &[File<'_>],
-) -> Result<Encoders, Fault<Obstacle>> {
+pub(crate) fn tables_for(alloc: Global, files: &[File<'_>]) -> Result<Encoders, Fault<Obstacle>> {
     let mut symbols = Symbols {
         deltas: Vec::new(alloc),
         counts: Vec::new(alloc),

@@ -1,4 +1,4 @@
-use Rattle.std.proofs.Common.{◌∙◌, ◌++◌, [], ap, subst}
+use Rattle.std.proofs.Common.{◌∙◌, ◌++◌, ap, subst}
 use Rattle.cmap_binary.specs.Fronts.{SizedAt}
 use Rattle.cmap_maker.specs.EncodersSeen.{encoders_seen}
 use Rattle.cmap_maker.specs.Keeps.{files_seen}

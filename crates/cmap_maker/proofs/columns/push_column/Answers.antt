@@ -1,6 +1,5 @@
 use Rattle.std.proofs.Common.{subst}
 use Rattle.cmap_binary.specs.Fronts.{SizedAt}
-use Rattle.cmap_binary.specs.PrefixWords.{BeginWithWordsOf, bits}
 use Rattle.cmap_maker.specs.Written.{Appends, Writes}
 use Rattle.cmap_maker.proofs.columns.push_column.Goals as goal
 

@@ -1,6 +1,5 @@
-use Rattle.std.proofs.Common.{ap, sym, subst, ◌∙◌}
+use Rattle.std.proofs.Common.{sym, subst, ◌∙◌}
 use Rattle.cmap_files.specs.DeclarationsSeen.{entries_seen}
-use Rattle.cmap_binary.specs.BinaryEntries.{ranges, singles}
 use Rattle.cmap_maker.specs.ColumnsWritten.{WritesColumn, WritesColumns}
 use Rattle.cmap_maker.specs.EncodersSeen.{encoders_seen, shape_seen}
 use Rattle.cmap_maker.specs.Held.{AreShaped, spans_of}

@@ -1,6 +1,5 @@
 use Rattle.std.proofs.Common.{subst}
 use Rattle.cmap_files.specs.DeclarationsSeen.{entries_seen}
-use Rattle.cmap_binary.specs.BinaryFiles.{SegmentAt}
 use Rattle.cmap_maker.specs.EncodersSeen.{encoders_seen}
 use Rattle.cmap_maker.specs.Keeps.{DeclareSame}
 use Rattle.cmap_maker.specs.Written.{Appends}

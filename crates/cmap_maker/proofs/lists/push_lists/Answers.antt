@@ -1,5 +1,5 @@
 use Rattle.std.proofs.Common.{ap, map, subst}
-use Rattle.cmap_files.specs.DeclarationsSeen.{bf_entry_seen, codespace_seen, entries_seen, lists_seen}
+use Rattle.cmap_files.specs.DeclarationsSeen.{bf_entry_seen, codespace_seen, lists_seen}
 use Rattle.cmap_files.specs.Files.{Declaration}
 use Rattle.cmap_maker.specs.EncodersSeen.{encoders_seen}
 use Rattle.cmap_maker.specs.SegmentsWritten.{DeclareAll, SegmentByAny}

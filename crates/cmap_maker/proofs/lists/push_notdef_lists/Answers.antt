@@ -1,5 +1,4 @@
 use Rattle.std.proofs.Common.{map, subst}
-use Rattle.std.specs.Global.{Vec}
 use Rattle.cmap_files.specs.DeclarationsSeen.{entries_seen}
 use Rattle.cmap_files.specs.Files.{Declaration}
 use Rattle.cmap_maker.specs.SegmentsWritten.{DeclareAll, SegmentByAny}

@@ -1,7 +1,6 @@
-use Rattle.std.proofs.Common.{◌∙◌, ◌++◌, ◌≡◌, [], ap, pos, subst, sym}
-use Rattle.cmap_files.specs.Metadata.{Collection}
-use Rattle.cmap_files.specs.MetadataSeen.{collection_seen, family_seen}
-use Rattle.cmap_files.specs.Names.{family_of, ordering_of, registry_of}
+use Rattle.std.proofs.Common.{◌∙◌, ◌++◌, ap, subst}
+use Rattle.cmap_files.specs.MetadataSeen.{collection_seen}
+use Rattle.cmap_files.specs.Names.{ordering_of, registry_of}
 use Rattle.cmap_binary.specs.Fronts.{TerminatedAt}
 use Rattle.cmap_maker.specs.Written.{bytes_of, Appends, Writes}
 use Rattle.cmap_maker.proofs.MetadataHeld.{collection_written, seen_as}

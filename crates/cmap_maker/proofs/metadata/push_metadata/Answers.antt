@@ -1,5 +1,3 @@
-use Rattle.std.proofs.Common.{subst}
-use Rattle.cmap_files.specs.MetadataSeen.{metadata_seen}
 use Rattle.cmap_maker.proofs.MetadataHeld.{metadata_written}
 use Rattle.cmap_maker.proofs.metadata.push_metadata.Goals as goal
 

@@ -1,4 +1,4 @@
-use Rattle.std.proofs.Common.{List, ℕ, Vec, Global, ap, sym, subst}
+use Rattle.std.proofs.Common.{ℕ, Vec, Global, ap, sym, subst}
 use Rattle.cmap_binary.specs.BinaryFiles.{sets_name}
 use Rattle.cmap_maker.specs.MetadataWritten.{from_option}
 use Rattle.cmap_maker.specs.SegmentsWritten.{SegmentByAny}

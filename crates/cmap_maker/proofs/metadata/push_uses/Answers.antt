@@ -1,8 +1,4 @@
-use Rattle.std.proofs.Common.{List, ℕ, map, arith, refl, ap, sym, subst}
-use Rattle.std.specs.Borrow.{Bor}
-use Rattle.cmap_files.specs.FilesSeen.{names_seen}
-use Rattle.cmap_binary.specs.BinaryFiles as files
-use Rattle.cmap_maker.specs.SegmentsWritten.{SegmentByAny}
+use Rattle.std.proofs.Common.{arith, refl}
 use Rattle.cmap_maker.proofs.MetadataHeld.{by_any, uses_more}
 use Rattle.cmap_maker.proofs.metadata.push_uses.Goals as goal
 
