@@ -1,10 +1,14 @@
 //! Callers that the crates' pages show.
 
+use cmap_files::file::File;
+use cmap_maker::make_bundle;
 use cmap_unicode::Extractor;
 use hayro_cmap::bcmap::Bundle;
 use hayro_cmap::runs::{Looks, Table};
 use hayro_cmap::token::{Scanner, Token};
-use hayro_cmap::{BfString, CMap, CMapName, CharacterCollection, Cid, CidRange, load_embedded};
+use hayro_cmap::{
+    BfString, CMap, CMapName, CharacterCollection, Cid, CidRange, Fault, load_embedded,
+};
 use std::alloc::{AllocError, Global};
 
 /// Whether a text begins with a name after a slash.
@@ -41,6 +45,15 @@ pub fn has_unijis(alloc: Global, bytes: &[u8]) -> Result<bool, AllocError> {
         return Ok(false);
     };
     Ok(load_embedded(Some(&bundle), CMapName::UniJisUtf16H).is_some())
+}
+
+/// How many bytes a bundle of these files has; `None` where a bundle can't say what they say.
+pub fn bundle_len(alloc: Global, files: &[File<'_>]) -> Result<Option<usize>, AllocError> {
+    match make_bundle(alloc, files) {
+        Ok(bytes) => Ok(Some(bytes.len())),
+        Err(Fault::Refused(_obstacle)) => Ok(None),
+        Err(Fault::Memory) => Err(AllocError),
+    }
 }
 
 /// How many declarations of texts the top file of a map has.

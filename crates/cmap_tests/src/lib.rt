@@ -16,6 +16,8 @@ mod codes_in_a_row;
 #[cfg(test)]
 mod examples;
 #[cfg(test)]
+mod maker;
+#[cfg(test)]
 mod names;
 #[cfg(test)]
 mod salvage;

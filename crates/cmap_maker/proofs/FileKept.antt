@@ -1,0 +1,156 @@
+-- What a file keeps whose lists say the same.
+use Rattle.std.proofs.Common.{◌≡◌, ℕ, Bool, true, false, List, [], ◌∷◌, ◌++◌, Option, Some, None, drop, map, take, refl, ap, ◌∙◌, sym, subst}
+use Rattle.std.specs.Prelude.{◌==◌, ◌&&◌, nat_le, filter_map, flat_map, if◌then◌else◌, option_map}
+use Rattle.std.specs.List.{last_or}
+use Rattle.std.proofs.lemmas.List.{append-nil, append_assoc}
+use Rattle.std.proofs.lemmas.List.Concat.{flat_map-append}
+use Rattle.std.proofs.lemmas.List.Elements.{filter_map-append}
+use Rattle.std.proofs.lemmas.Option.{none-some, same_Some}
+use Rattle.cmap_files.specs.Files.{CidEntry, Declaration, File, FileMetadata, Lists, lists_of, of_length}
+use Rattle.cmap_binary.specs.BinaryFiles.{BodyOf, Content, IsBinaryFile, SegmentAt, collection_set, declared_in, declares, file_of, magic, mode_set, name_set, name_used}
+use Rattle.cmap_binary.specs.BinaryFiles as files
+use Rattle.cmap_binary.specs.Bundles.{PrefixTables}
+use Rattle.cmap_layers.specs.Layers.{Layer}
+use Rattle.cmap_layers.specs.Lookups.{bf_of, cid_at, cid_of, decided_cid, last_cid}
+use Rattle.cmap_maker.specs.Keeps.{DeclareLists, IsWritten, KeepLists, Keeps}
+use Rattle.cmap_maker.specs.MetadataWritten.{metadata_contents}
+use Rattle.cmap_maker.specs.Pieces.{cid_told}
+use Rattle.cmap_maker.specs.Written.{Appends, IsFramed, WritesAll}
+use Rattle.cmap_maker.proofs.FilesWritten.{AllOf-written, joined}
+use Rattle.cmap_maker.proofs.FrontsWritten.{FramedAt-written, payload-written}
+use Rattle.cmap_maker.proofs.ListsKept.{contents_by}
+use Rattle.cmap_maker.specs.SegmentsWritten.{SegmentByAny}
+use Rattle.cmap_files.specs.Metadata.{Collection, Mode}
+use Rattle.std.specs.Prelude.{option_and_then}
+
+-- ---- what contents say together
+nothing : {A B : Type 0} (f : Content → Option B) (say : A → Content) → ((x : A) → f (say x) ≡ None) → (xs : List A) → filter_map f (map say xs) ≡ []
+nothing f say none [] = refl
+nothing f say none (x ∷ xs) = rw (none x) (nothing f say none xs)
+
+each_name : (names : List (List ℕ)) → filter_map name_used (map files.uses names) ≡ names
+each_name [] = refl
+each_name (x ∷ names) = ap (λ ns. x ∷ ns) (each_name names)
+
+none_declared : (names : List (List ℕ)) → flat_map declared_in (map files.uses names) ≡ []
+none_declared [] = refl
+none_declared (x ∷ names) = none_declared names
+
+all_declared : (parts : List (List Declaration)) → flat_map declared_in (map declares parts) ≡ flat_map (λ part. part) parts
+all_declared [] = refl
+all_declared (part ∷ parts) = ap (λ ds. part ++ ds) (all_declared parts)
+
+module _ (m : FileMetadata) (names : List (List ℕ)) (parts : List (List Declaration)) where
+  later : List Content
+  later = map files.uses names ++ map declares parts
+
+  later_none : {B : Type 0} (f : Content → Option B) → ((x : List ℕ) → f (files.uses x) ≡ None) → ((x : List Declaration) → f (declares x) ≡ None) → filter_map f later ≡ []
+  unfolding later
+  later_none f first second = filter_map-append f (map files.uses names) (map declares parts) ∙ ap (λ xs. xs ++ filter_map f (map declares parts)) (nothing f files.uses first names) ∙ nothing f declares second parts
+
+  first_alone : {B : Type 0} (f : Content → Option B) → ((x : List ℕ) → f (files.uses x) ≡ None) → ((x : List Declaration) → f (declares x) ≡ None) → filter_map f (metadata_contents m ++ later) ≡ filter_map f (metadata_contents m)
+  first_alone f first second = filter_map-append f (metadata_contents m) later ∙ ap (λ xs. filter_map f (metadata_contents m) ++ xs) (later_none f first second) ∙ append-nil _
+
+-- what is said of metadata, and nothing else
+record IsSaid (c : Option Collection) (n : Option (List ℕ)) (w : Option Mode) (contents : List Content) : Type 0 where
+  collection : last_or None (filter_map collection_set contents) ≡ c
+  name : last_or None (filter_map name_set contents) ≡ n
+  mode : option_and_then (λ m. m) (last_or None (filter_map mode_set contents)) ≡ w
+  names : filter_map name_used contents ≡ []
+  declared : flat_map declared_in contents ≡ []
+
+is_said : (c : Option Collection) (n : Option (List ℕ)) (w : Option Mode) → IsSaid c n w (metadata_contents (record { collection = c; name = n; mode = w }))
+is_said None None None = record { collection = refl; name = refl; mode = refl; names = refl; declared = refl }
+is_said None None (Some w) = record { collection = refl; name = refl; mode = refl; names = refl; declared = refl }
+is_said None (Some n) None = record { collection = refl; name = refl; mode = refl; names = refl; declared = refl }
+is_said None (Some n) (Some w) = record { collection = refl; name = refl; mode = refl; names = refl; declared = refl }
+is_said (Some c) None None = record { collection = refl; name = refl; mode = refl; names = refl; declared = refl }
+is_said (Some c) None (Some w) = record { collection = refl; name = refl; mode = refl; names = refl; declared = refl }
+is_said (Some c) (Some n) None = record { collection = refl; name = refl; mode = refl; names = refl; declared = refl }
+is_said (Some c) (Some n) (Some w) = record { collection = refl; name = refl; mode = refl; names = refl; declared = refl }
+
+file_said : (m : FileMetadata) (names : List (List ℕ)) (parts : List (List Declaration)) → file_of (metadata_contents m ++ (map files.uses names ++ map declares parts)) ≡ record { metadata = m; lists = lists_of (flat_map (λ part. part) parts); uses = names }
+unfolding later
+file_said m names parts =
+    let said = is_said m.collection m.name m.mode in
+    let used : filter_map name_used (metadata_contents m ++ (map files.uses names ++ map declares parts)) ≡ names =
+    filter_map-append name_used (metadata_contents m) (map files.uses names ++ map declares parts) ∙ ap (λ xs. xs ++ filter_map name_used (map files.uses names ++ map declares parts)) said.names
+    ∙ filter_map-append name_used (map files.uses names) (map declares parts) ∙ ap (λ xs. xs ++ filter_map name_used (map declares parts)) (each_name names) ∙ ap (λ xs. names ++ xs) (nothing name_used declares (λ x. refl) parts) ∙ append-nil names in
+    let declared : flat_map declared_in (metadata_contents m ++ (map files.uses names ++ map declares parts)) ≡ flat_map (λ part. part) parts =
+    flat_map-append declared_in (metadata_contents m) (map files.uses names ++ map declares parts) ∙ ap (λ xs. xs ++ flat_map declared_in (map files.uses names ++ map declares parts)) said.declared
+    ∙ flat_map-append declared_in (map files.uses names) (map declares parts) ∙ ap (λ xs. xs ++ flat_map declared_in (map declares parts)) (none_declared names) ∙ all_declared parts in
+    rw (
+      first_alone m names parts collection_set (λ x. refl) (λ x. refl),
+      first_alone m names parts name_set (λ x. refl) (λ x. refl),
+      first_alone m names parts mode_set (λ x. refl) (λ x. refl),
+      said.collection,
+      said.name,
+      said.mode,
+      used,
+      declared,
+    ) refl
+
+-- ---- what codes stand for
+same_choice : (b : Bool) (x x' y y' : List CidEntry) (code : ℕ) → cid_told x code ≡ cid_told x' code → cid_told y code ≡ cid_told y' code → cid_told (if b then x else y) code ≡ cid_told (if b then x' else y') code
+same_choice true x x' y y' code first second = first
+same_choice false x x' y y' code first second = second
+
+same_decided : (code : ℕ) (o p notdef : Option CidEntry) (character below : Option ℕ) → option_map (λ e. cid_at e code) o ≡ option_map (λ e. cid_at e code) p → decided_cid code o notdef character below ≡ decided_cid code p notdef character below
+same_decided code None None notdef character below is = refl
+same_decided code None (Some e) notdef character below is = absurd (none-some _ is)
+same_decided code (Some e) None notdef character below is = absurd (none-some _ (sym is))
+same_decided code (Some e) (Some f) notdef character below is = same_Some _ _ is
+
+module _ (lists made : Lists) (keep : KeepLists lists made) where
+  same_lengths : (len code : ℕ) → cid_told (of_length made.cids len) code ≡ cid_told (of_length lists.cids len) code
+  same_lengths len code =
+      same_choice (len == 1) _ _ _ _ code (keep.one code) (same_choice (len == 2) _ _ _ _ code (keep.two code) (same_choice (len == 3) _ _ _ _ code (keep.three code) (same_choice (len == 4) _ _ _ _ code (keep.four code) refl)))
+
+  same_cids : (m : FileMetadata) (below : List Layer) (code len : ℕ) → cid_of (record { metadata = m; lists = made } ∷ below) code len ≡ cid_of (record { metadata = m; lists = lists } ∷ below) code len
+  same_cids m below code len =
+      ap (λ o. if nat_le 1 len && nat_le len 4 then o else None)
+      (same_decided code (last_cid (of_length made.cids len) code) (last_cid (of_length lists.cids len) code) _ _ _ (same_lengths len code)
+      ∙ rw (keep.notdefs, keep.bfs) refl)
+
+  same_texts : (m : FileMetadata) (below : List Layer) (code : ℕ) → bf_of (record { metadata = m; lists = made } ∷ below) code ≡ bf_of (record { metadata = m; lists = lists } ∷ below) code
+  same_texts m below code = rw keep.bfs refl
+
+keeps : (file : File) (made : Lists) → KeepLists file.lists made → Keeps file (record { metadata = file.metadata; lists = made; uses = file.uses })
+keeps file made keep = record {
+  metadata = refl;
+  spaces = keep.spaces;
+  uses = refl;
+  cids = λ below code len. same_cids file.lists made keep file.metadata below code len;
+  texts = λ below code. same_texts file.lists made keep file.metadata below code;
+}
+
+-- ---- the file
+abbrev pub head : List ℕ
+head = magic ++ 1 ∷ []
+
+pub file_written : (tables : PrefixTables) (file : File) (a b body bytes : List ℕ) → Appends [] a (WritesAll SegmentByAny (metadata_contents file.metadata)) → Appends a b (WritesAll SegmentByAny (map files.uses file.uses)) → Appends b body (DeclareLists tables file.lists) → Appends [] bytes (IsFramed head body) → IsWritten tables file bytes
+unfolding IsBinaryFile
+file_written tables file a b body bytes first second (last, body_is, (ds, (parts, flat, all), keep)) (framed, bytes_are, at) =
+    let (meta, a_is, said) = contents_by tables (metadata_contents file.metadata) [] a first in
+    let (uses, b_is, said_too) = contents_by tables (map files.uses file.uses) a b second in
+    let contents = metadata_contents file.metadata ++ (map files.uses file.uses ++ map declares parts) in
+    let written : WritesAll (SegmentAt tables) contents (meta ++ (uses ++ last)) = joined (SegmentAt tables) (metadata_contents file.metadata) (map files.uses file.uses ++ map declares parts) meta (uses ++ last) said (joined (SegmentAt tables) (map files.uses file.uses) (map declares parts) uses last said_too all) in
+    let whole : meta ++ (uses ++ last) ≡ body = sym (body_is ∙ ap (λ bs. bs ++ last) (b_is ∙ ap (λ bs. bs ++ uses) a_is) ∙ simp append_assoc) in
+    let made : File = record { metadata = file.metadata; lists = lists_of ds; uses = file.uses } in
+    let says : made ≡ file_of contents = sym (file_said file.metadata file.uses parts ∙ ap (λ ds. record { metadata = file.metadata; lists = lists_of ds; uses = file.uses }) flat) in
+    let frame = subst (IsFramed head body) (sym bytes_are) at in
+    let none = append-nil bytes in
+    let front : take 6 bytes ≡ magic ++ 1 ∷ [] = ap (take 6) frame.bytes_are in
+    let rest : drop 10 bytes ≡ body = payload-written head body bytes frame in
+    record {
+      made = made;
+      is = (
+        body,
+        contents,
+        subst (λ bs. BodyOf bs body) none (bytes, [], FramedAt-written head body bytes [] frame, (front, sym rest)),
+        AllOf-written (SegmentAt tables) contents body (subst (WritesAll (SegmentAt tables) contents) whole written),
+        says,
+      );
+      keeps = keeps file (lists_of ds) keep;
+      framed = λ more. FramedAt-written head body bytes more frame;
+    }

@@ -1,0 +1,17 @@
+pub mod BitsWritten
+pub mod BundlesWritten
+pub mod BytesWritten
+pub mod CidsWritten
+pub mod ColumnsHeld
+pub mod FileKept
+pub mod FilesWritten
+pub mod FrontsWritten
+pub mod ListsKept
+pub mod MetadataHeld
+pub mod PiecesTold
+pub mod RowsWritten
+pub mod SegmentsDone
+pub mod SegmentsMade
+pub mod Spelling
+pub mod TablesWritten
+pub mod WordsMade

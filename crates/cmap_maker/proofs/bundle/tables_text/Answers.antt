@@ -1,0 +1,13 @@
+use Rattle.std.proofs.Common.{subst}
+use Rattle.cmap_binary.specs.TableFronts.{TableAt}
+use Rattle.cmap_maker.specs.EncodersSeen.{encoders_seen}
+use Rattle.cmap_maker.specs.Written.{Appends, Writes}
+use Rattle.cmap_maker.proofs.BundlesWritten.{HoldsTables-written}
+use Rattle.cmap_maker.proofs.bundle.tables_text.Goals as goal
+
+pub returns-clause-written : goal.returns-clause-written
+returns-clause-written c =
+    let tables = encoders_seen c.args.tables.now in
+    HoldsTables-written tables c.write.new.out.items c.write-2.new.out.items
+    (subst (λ old. Appends old c.write.new.out.items (Writes (TableAt 4) tables.delta)) c.new-text.ensures.items c.in_ok-write.ensures)
+    c.in_ok-write-2.ensures

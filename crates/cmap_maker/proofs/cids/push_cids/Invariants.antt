@@ -1,0 +1,18 @@
+use Rattle.std.proofs.Common.{All, length, map}
+use Rattle.cmap_files.specs.CodeLengths.{length_of}
+use Rattle.cmap_files.specs.DeclarationsSeen.{entries_seen}
+use Rattle.cmap_files.specs.Files.{Declaration}
+use Rattle.cmap_binary.specs.BinaryFiles.{SegmentAt}
+use Rattle.cmap_maker.specs.EncodersSeen.{encoders_seen}
+use Rattle.cmap_maker.specs.Pieces.{IsShort}
+use Rattle.cmap_maker.proofs.SegmentsDone.{DoneTo}
+use Rattle.cmap_maker.proofs.cids.push_cids.Given as goal
+
+abbrev pub invariant-loop-left : goal.invariant-loop-left
+invariant-loop-left l = record {
+  short : All IsShort (entries_seen l.left);
+  done : DoneTo (SegmentAt (encoders_seen l.tables)) (λ xs. map (Declaration.cid (length_of l.len)) (entries_seen xs)) l.pieces l.left l.initial.out.items l.out.items;
+}
+
+abbrev pub decreases-loop-left : goal.decreases-loop-left
+decreases-loop-left l = length l.left

@@ -1,0 +1,94 @@
+-- What a file that is written keeps of the one that was handed in.
+use Rattle.std.specs.Prelude.{◌≡◌, ℕ, List, [], ◌∷◌, ◌++◌, map}
+use Rattle.cmap_files.specs.FilesSeen.{file_seen}
+use Rattle.cmap_files.specs.declared.file.File.{File as HeldFile}
+use Rattle.cmap_binary.specs.Fronts.{FramedAt}
+use Rattle.std.specs.Global.{Vec}
+use Rattle.cmap_files.specs.DeclarationsSeen.{entries_seen}
+use Rattle.cmap_files.specs.Files.{CidEntry, Declaration, File, Lists, lists_of}
+use Rattle.cmap_files.specs.declared.declarations.ByLength.{ByLength}
+use Rattle.cmap_files.specs.declared.declarations.CidRange.{CidRange}
+use Rattle.cmap_layers.specs.Layers.{Layer, layer_of}
+use Rattle.cmap_layers.specs.Lookups.{bf_of, cid_of}
+use Rattle.cmap_binary.specs.Bundles.{IsBundle, PrefixTables}
+use Rattle.cmap_binary.specs.BinaryFiles.{IsBinaryFile, SegmentAt}
+use Rattle.cmap_maker.specs.Bundled.{IsFramedFile}
+use Rattle.cmap_maker.specs.Pieces.{cid_told}
+use Rattle.cmap_maker.specs.SegmentsWritten.{DeclareAll}
+use Rattle.cmap_maker.specs.Written.{WritesAll}
+
+-- the same metadata, codespace ranges and names of files that are used; and over any layers each code of each length has the same CID, and each code the same text
+pub record Keeps (file made : File) : Type 0 where
+  pub metadata : made.metadata ≡ file.metadata
+  pub spaces : made.lists.spaces ≡ file.lists.spaces
+  pub uses : made.uses ≡ file.uses
+  pub cids : (below : List Layer) (code len : ℕ) → cid_of (layer_of made ∷ below) code len ≡ cid_of (layer_of file ∷ below) code len
+  pub texts : (below : List Layer) (code : ℕ) → bf_of (layer_of made ∷ below) code ≡ bf_of (layer_of file ∷ below) code
+
+-- the bytes are a binary file by these tables which keeps what the file says, and which gives its own length
+pub record IsWritten (tables : PrefixTables) (file : File) (bytes : List ℕ) : Type 0 where
+  pub made : File
+  pub is : IsBinaryFile tables bytes made
+  pub keeps : Keeps file made
+  pub framed : IsFramedFile bytes
+
+-- these bytes are the files, each as it is written by these tables
+abbrev pub AreWritten : PrefixTables → List File → List (List ℕ) → Type 0
+AreWritten tables [] [] = Unit {0}
+AreWritten tables (file ∷ files) (text ∷ texts) = IsWritten tables file text × AreWritten tables files texts
+AreWritten tables files texts = ⊥
+
+-- the bytes are a bundle which has each of these files at its index, as it is written by the tables of the bundle
+pub record IsBundleOf (files : List File) (bytes : List ℕ) : Type 0 where
+  pub tables : PrefixTables
+  pub texts : List (List ℕ)
+  pub is : IsBundle bytes (record { tables = tables; files = texts })
+  pub each : AreWritten tables files texts
+
+abbrev pub files_seen : List HeldFile → List File
+files_seen files = map file_seen files
+
+-- ---- private aid
+-- files that are written one after another
+abbrev pub AreFilesOf : PrefixTables → List File → List ℕ → Type 0
+AreFilesOf tables files bytes = (texts : List (List ℕ)) × WritesAll (FramedAt 6) texts bytes × AreWritten tables files texts
+
+-- each code has the same CID
+abbrev pub HaveSameCids : List CidEntry → List CidEntry → Type 0
+HaveSameCids es made = (code : ℕ) → cid_told made code ≡ cid_told es code
+
+-- lists that say the same
+pub record KeepLists (lists made : Lists) : Type 0 where
+  pub spaces : made.spaces ≡ lists.spaces
+  pub notdefs : made.notdefs ≡ lists.notdefs
+  pub bfs : made.bfs ≡ lists.bfs
+  pub one : HaveSameCids lists.cids.one made.cids.one
+  pub two : HaveSameCids lists.cids.two made.cids.two
+  pub three : HaveSameCids lists.cids.three made.cids.three
+  pub four : HaveSameCids lists.cids.four made.cids.four
+
+-- segments that declare lists which say the same
+abbrev pub DeclareLists : PrefixTables → Lists → List ℕ → Type 0
+DeclareLists tables lists bytes = (ds : List Declaration) × DeclareAll (SegmentAt tables) ds bytes × KeepLists lists (lists_of ds)
+
+-- segments that declare CIDs for codes of this length, the same ones
+abbrev pub DeclareSame : PrefixTables → ℕ → List CidEntry → List ℕ → Type 0
+DeclareSame tables len es bytes = (made : List CidEntry) × DeclareAll (SegmentAt tables) (map (Declaration.cid len) made) bytes × HaveSameCids es made
+
+-- declarations for codes of one to four bytes
+abbrev pub by_length : (ℕ → CidEntry → Declaration) → List CidEntry → List CidEntry → List CidEntry → List CidEntry → List Declaration
+by_length declare one two three four = map (declare 1) one ++ (map (declare 2) two ++ (map (declare 3) three ++ map (declare 4) four))
+
+abbrev pub notdefs_declared : ByLength (Vec CidRange) → List Declaration
+notdefs_declared lists = by_length Declaration.notdef (entries_seen lists.one.items) (entries_seen lists.two.items) (entries_seen lists.three.items) (entries_seen lists.four.items)
+
+pub record DeclareCids (tables : PrefixTables) (lists : ByLength (Vec CidRange)) (bytes : List ℕ) : Type 0 where
+  pub one : List CidEntry
+  pub two : List CidEntry
+  pub three : List CidEntry
+  pub four : List CidEntry
+  pub declared : DeclareAll (SegmentAt tables) (by_length Declaration.cid one two three four) bytes
+  pub one_same : HaveSameCids (entries_seen lists.one.items) one
+  pub two_same : HaveSameCids (entries_seen lists.two.items) two
+  pub three_same : HaveSameCids (entries_seen lists.three.items) three
+  pub four_same : HaveSameCids (entries_seen lists.four.items) four

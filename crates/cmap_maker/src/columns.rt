@@ -1,0 +1,124 @@
+//! Columns of a segment: which codes its entries have.
+
+ghost use Rattle.std.specs.Prelude.{◌≡◌, ◌≤◌, IfOk, IsTrue};
+ghost use Rattle.cmap_binary.specs.BinaryEntries.{ranges};
+ghost use Rattle.cmap_files.specs.DeclarationsSeen.{entries_seen};
+ghost use Rattle.cmap_maker.specs.ColumnsWritten.{WritesColumn, WritesColumns};
+ghost use Rattle.cmap_maker.specs.EncodersSeen.{encoders_seen, shape_seen};
+ghost use Rattle.cmap_maker.specs.Held.{AreInOrder, AreShaped, HasShape, counts_of, deltas_of, spans_of};
+ghost use Rattle.cmap_maker.specs.Written.{Appends};
+
+use crate::obstacle::Obstacle;
+use crate::pieces::push_sized;
+use crate::words::Encoder;
+use cmap_files::declarations::CidRange;
+use cmap_files::fault::Fault;
+use cmap_runs::runs::Range;
+use std::alloc::{AllocError, Global};
+
+/// The code words of a bundle: of deltas and of counts.
+#[derive(Debug, Drop)]
+pub struct Encoders {
+    pub delta: Encoder,
+    pub count: Encoder,
+}
+
+/// Whether the entries of a segment are ranges of two codes or more, or single codes.
+#[derive(Clone, Copy)]
+pub(crate) enum Shape {
+    Ranges,
+    Singles,
+}
+
+impl Shape {
+    /// The shape of a range that has a code.
+    pub(crate) fn of(range: Range) -> Shape
+        requires { range.start ≤ range.end }
+        ensures { HasShape (shape_seen result) range.start range.end }
+    {
+        if range.start < range.end {
+            Shape::Ranges
+        } else {
+            Shape::Singles
+        }
+    }
+
+    /// Whether a range has this shape.
+    pub(crate) fn fits(self, range: Range) -> bool
+        ensures { IsTrue result → HasShape (shape_seen self) range.start range.end }
+    {
+        match self {
+            Shape::Ranges => range.start < range.end,
+            Shape::Singles => range.start == range.end,
+        }
+    }
+}
+
+/// Writes the columns of these entries: of their deltas, and of ranges also of their counts.
+pub(crate) fn push_columns(
+    alloc: Global,
+    tables: &Encoders,
+    shape: Shape,
+    entries: &[CidRange],
+    out: &mut Vec<u8>,
+) -> Result<(), Fault<Obstacle>>
+    requires order { AreInOrder 0 (spans_of (entries_seen entries.now)) }
+    requires shape { AreShaped (shape_seen shape) (spans_of (entries_seen entries.now)) }
+    ensures { IfOk result (λ _. Appends out.old.items out.new.items
+        (WritesColumns (encoders_seen tables.now) (shape_seen shape) (spans_of (entries_seen entries.now)))) }
+{
+    let deltas = deltas(alloc, entries)?;
+    push_column(alloc, &tables.delta, &deltas, out)?;
+    match shape {
+        Shape::Singles => Ok(()),
+        Shape::Ranges => {
+            let counts = counts(alloc, entries)?;
+            push_column(alloc, &tables.count, &counts, out)?;
+            Ok(())
+        }
+    }
+}
+
+// Writes a column: the code words of these symbols, in a piece after its length.
+fn push_column(
+    alloc: Global,
+    table: &Encoder,
+    symbols: &[u32],
+    out: &mut Vec<u8>,
+) -> Result<(), Fault<Obstacle>>
+    ensures { IfOk result (λ _. Appends out.old.items out.new.items (WritesColumn table.now symbols.now)) }
+{
+    let Some(text) = table.spell(alloc, symbols)? else {
+        return Err(Fault::Refused(Obstacle::NoWord));
+    };
+    push_sized(out, &text)?;
+    Ok(())
+}
+
+/// How many codes each entry leaves out after the one before.
+pub(crate) fn deltas(alloc: Global, entries: &[CidRange]) -> Result<Vec<u32>, AllocError>
+    requires { AreInOrder 0 (spans_of (entries_seen entries.now)) }
+    ensures { IfOk result (λ deltas. deltas.items ≡ deltas_of 0 (spans_of (entries_seen entries.now))) }
+{
+    let mut deltas = Vec::new(alloc);
+    let mut base = 0;
+    for entry in entries {
+        let range = entry.range;
+        deltas.push((u64::from(range.start) - base) as u32)?;
+        base = u64::from(range.end) + 1;
+    }
+    Ok(deltas)
+}
+
+/// How many codes more than two each range has.
+pub(crate) fn counts(alloc: Global, entries: &[CidRange]) -> Result<Vec<u32>, AllocError>
+    requires { AreShaped ranges (spans_of (entries_seen entries.now)) }
+    ensures { IfOk result (λ counts. counts.items ≡ counts_of (spans_of (entries_seen entries.now))) }
+{
+    let mut counts = Vec::new(alloc);
+    for entry in entries {
+        let range = entry.range;
+        counts.push(range.end - range.start - 1)?;
+    }
+    Ok(counts)
+}

@@ -1,0 +1,37 @@
+//! A bundle that is made of files, and what it answers.
+
+use crate::caller::cid_over_bundle;
+use cmap_maker::make_bundle;
+use cmap_text::read_text;
+use std::alloc::Global;
+use std::test::Fail;
+
+// A bundle with these files for 83pv-RKSJ-H and 90ms-RKSJ-H.
+fn bundle_of(alloc: Global, first: &[u8], second: &[u8]) -> Option<Vec<u8>> {
+    let mut files = Vec::new(alloc);
+    files.push(read_text(alloc, first).ok()?).ok()?;
+    files.push(read_text(alloc, second).ok()?).ok()?;
+    make_bundle(alloc, &files).ok()
+}
+
+#[test]
+fn a_bundle_that_is_made_answers_as_its_files(rt: HostRuntime) -> Result<(), Fail> {
+    let alloc = rt.alloc();
+    let first = b"1 begincidchar <8140> 9 endcidchar";
+    let second = b"3 begincidrange <8140> <85FF> 633 <8150> <8150> 7 <8050> <8150> 0 endcidrange";
+    let bundle = bundle_of(alloc, first, second).unwrap_or(Vec::new(alloc));
+    let other = b"/83pv-RKSJ-H usecmap";
+    let file = b"/90ms-RKSJ-H usecmap";
+    assert!(rt; cid_over_bundle(alloc, &bundle, other, 0x8140)? == Some(9));
+    assert!(rt; cid_over_bundle(alloc, &bundle, file, 0x8140)? == Some(240));
+    assert!(rt; cid_over_bundle(alloc, &bundle, file, 0x8150)? == Some(256));
+    assert!(rt; cid_over_bundle(alloc, &bundle, file, 0x85FF)? == Some(1848));
+    assert!(rt; cid_over_bundle(alloc, &bundle, file, 0x8600)?.is_none());
+    Ok(())
+}
+
+#[test]
+fn a_cid_above_65535_is_an_obstacle(rt: HostRuntime) {
+    let text = b"1 begincidchar <8140> 65536 endcidchar";
+    assert!(rt; bundle_of(rt.alloc(), text, b"").is_none());
+}
