@@ -15,8 +15,8 @@
  * and stands for nothing outside of them. */
 static bool find_predefined(const char *name, char *path, size_t path_len) {
     const char *folders = getenv("CMAP_PATH");
-    if (!folders) folders = "/usr/share/poppler/cMap:/var/lib/ghostscript/CMap";
-    if (!*name || !strcmp(name, ".") || !strcmp(name, "..") || strpbrk(name, "/*?[\\")) return false;
+    if (!folders) folders = "/usr/share/poppler/cMap:/var/lib/ghostscript/CMap:/usr/share/fonts/cmap";
+    if (!*name || *name == '.' || strpbrk(name, "/*?[\\")) return false;
     for (size_t len; *folders; folders += len + (folders[len] == ':')) {
         len = strcspn(folders, ":");
         for (int below = 0; len > 0 && below < 2; below++) {

@@ -743,31 +743,32 @@ template <class Get> std::map<std::string, std::string> used_files(Bytes data, G
 
 namespace detail {
 
-// The file of a name in a folder or, first come, first served, in its subfolders.
-inline std::optional<std::string> file_below(const std::filesystem::path &folder, const std::string &name) {
-    namespace fs = std::filesystem;
+// The bytes of a file, where there is one.
+inline std::optional<std::string> bytes_of(const std::filesystem::path &path) {
     std::error_code fault;
-    if (fs::is_regular_file(folder / name, fault)) {
-        std::ifstream in(folder / name, std::ios::binary);
-        std::string bytes{std::istreambuf_iterator<char>(in), {}};
-        if (!in) throw fs::filesystem_error("a CMap file can't be read", folder / name, std::error_code());
-        return bytes;
-    }
-    std::vector<fs::path> below;
-    for (const auto &entry : fs::directory_iterator(folder, fault))
-        if (fs::is_directory(entry.symlink_status(fault))) below.push_back(entry.path());
-    std::sort(below.begin(), below.end());
-    for (const auto &subfolder : below)
-        if (auto bytes = file_below(subfolder, name)) return bytes;
-    return std::nullopt;
+    if (!std::filesystem::is_regular_file(path, fault)) return std::nullopt;
+    std::ifstream in(path, std::ios::binary);
+    std::string bytes{std::istreambuf_iterator<char>(in), {}};
+    if (!in)
+        throw std::filesystem::filesystem_error("a CMap file can't be read", path, std::error_code());
+    return bytes;
+}
+
+// The folders in a folder, in order; none where it can't be read.
+inline std::vector<std::filesystem::path> subfolders(const std::filesystem::path &folder) {
+    std::vector<std::filesystem::path> found;
+    std::error_code fault;
+    for (const auto &entry : std::filesystem::directory_iterator(folder, fault))
+        if (std::filesystem::is_directory(entry.symlink_status(fault))) found.push_back(entry.path());
+    std::sort(found.begin(), found.end());
+    return found;
 }
 
 // The folders in which predefined CMap files are looked up.
 inline std::vector<std::string> predefined_folders() {
     const char *asked = std::getenv("CMAP_PATH");
     if (!asked)
-        return {"/usr/share/poppler/cMap", "/var/lib/ghostscript/CMap",
-                "/usr/share/texlive/texmf-dist/fonts/cmap/adobemapping"};
+        return {"/usr/share/poppler/cMap", "/var/lib/ghostscript/CMap", "/usr/share/fonts/cmap"};
     std::vector<std::string> folders;
     std::istringstream path(asked);
     for (std::string folder; std::getline(path, folder, ':');)
@@ -780,13 +781,17 @@ inline std::vector<std::string> predefined_folders() {
 // The predefined CMap file of a name, as 90ms-RKSJ-H; nothing where the system has none. It is looked up
 // in the folders of the environment variable CMAP_PATH, with colons between them, and without the
 // variable where packages of Linux put these files; in each folder first, and then in its subfolders. A
-// name stands for nothing outside of them. std::filesystem::filesystem_error where a file can't be read.
+// name stands for nothing outside of them, and for no hidden file. std::filesystem::filesystem_error where
+// a file can't be read.
 inline std::optional<std::string> predefined_file(const std::string &name) {
-    if (name.empty() || name == "." || name == ".." || name.find('/') != std::string::npos ||
+    if (name.empty() || name[0] == '.' || name.find('/') != std::string::npos ||
         name.find('\0') != std::string::npos)
         return std::nullopt;
-    for (const auto &folder : detail::predefined_folders())
-        if (auto bytes = detail::file_below(folder, name)) return bytes;
+    for (const std::filesystem::path folder : detail::predefined_folders()) {
+        if (auto bytes = detail::bytes_of(folder / name)) return bytes;
+        for (const auto &subfolder : detail::subfolders(folder))
+            if (auto bytes = detail::bytes_of(subfolder / name)) return bytes;
+    }
     return std::nullopt;
 }
 

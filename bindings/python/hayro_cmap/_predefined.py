@@ -3,12 +3,8 @@
 import os
 from typing import Callable, Iterator, List, Optional
 
-#: The folders of Debian's packages poppler-data, ghostscript and texlive-lang-cjk, whose subfolders have the files too.
-SYSTEM_FOLDERS = (
-    "/usr/share/poppler/cMap",
-    "/var/lib/ghostscript/CMap",
-    "/usr/share/texlive/texmf-dist/fonts/cmap/adobemapping",
-)
+#: Where poppler-data, Ghostscript and the packages cmap-adobe-* put the files, also in subfolders.
+SYSTEM_FOLDERS = ("/usr/share/poppler/cMap", "/var/lib/ghostscript/CMap", "/usr/share/fonts/cmap")
 
 
 def predefined(name: bytes) -> Optional[bytes]:
@@ -16,7 +12,7 @@ def predefined(name: bytes) -> Optional[bytes]:
 
     It is looked up in the folders of the environment variable CMAP_PATH, with colons between them, and without the
     variable where packages of Linux put these files. A folder's own file counts before those of its subfolders. A name
-    stands for nothing outside of the folders. OSError where a file is there and can't be read.
+    stands for nothing outside of the folders, and for no hidden file. OSError where a file is there and can't be read.
     """
     for path in places(name):
         if os.path.isfile(path):
@@ -37,12 +33,21 @@ def beside(bundle) -> Callable[[bytes], Optional[bytes]]:
 
 def places(name: bytes) -> Iterator[bytes]:
     """Where the file of a name may be."""
-    if name in (b"", b".", b"..") or b"/" in name or b"\0" in name:
+    if not name or name.startswith(b".") or b"/" in name or b"\0" in name:
         return
     for folder in folders():
-        for below, subfolders, _ in os.walk(folder):
-            subfolders.sort()
-            yield os.path.join(below, name)
+        yield os.path.join(folder, name)
+        for subfolder in subfolders(folder):
+            yield os.path.join(subfolder, name)
+
+
+def subfolders(folder: bytes) -> List[bytes]:
+    """The folders in a folder, in order; none where it can't be read."""
+    try:
+        with os.scandir(folder) as entries:
+            return sorted(entry.path for entry in entries if entry.is_dir(follow_symlinks=False))
+    except OSError:
+        return []
 
 
 def folders() -> List[bytes]:

@@ -11,26 +11,27 @@ use std::os::unix::ffi::OsStrExt;
 use std::path::{Path, PathBuf};
 use std::{env, fs, io};
 
-/// The folders of Debian's packages poppler-data, ghostscript and texlive-lang-cjk.
-const SYSTEM_FOLDERS: [&str; 3] = [
-    "/usr/share/poppler/cMap",
-    "/var/lib/ghostscript/CMap",
-    "/usr/share/texlive/texmf-dist/fonts/cmap/adobemapping",
-];
+/// Where poppler-data, Ghostscript and the packages cmap-adobe-* put the files.
+const SYSTEM_FOLDERS: [&str; 3] =
+    ["/usr/share/poppler/cMap", "/var/lib/ghostscript/CMap", "/usr/share/fonts/cmap"];
 
 /// The predefined CMap file of a name, as 90ms-RKSJ-H; `None` where the system has none.
 ///
 /// It is looked up in the folders of the environment variable `CMAP_PATH`, with colons between them, and
 /// without the variable where packages of Linux put these files; in each folder first, and then in its
-/// subfolders. A name stands for nothing outside of them.
+/// subfolders. A name stands for nothing outside of them, and for no hidden file.
 pub fn predefined_file(name: CMapName<'_>) -> io::Result<Option<Vec<u8>>> {
     let name = name.to_bytes();
-    if matches!(name, b"" | b"." | b"..") || name.contains(&b'/') || name.contains(&0) {
+    if matches!(name, [] | [b'.', ..]) || name.contains(&b'/') || name.contains(&0) {
         return Ok(None);
     }
+    let name = OsStr::from_bytes(name);
     for folder in folders() {
-        if let Some(bytes) = file_below(&folder, OsStr::from_bytes(name))? {
-            return Ok(Some(bytes));
+        for place in [folder.clone()].into_iter().chain(subfolders(&folder)) {
+            let path = place.join(name);
+            if path.is_file() {
+                return fs::read(path).map(Some);
+            }
         }
     }
     Ok(None)
@@ -46,25 +47,16 @@ fn folders() -> Vec<PathBuf> {
     }
 }
 
-/// The file of a name in a folder, else in one of its subfolders, in the order of their names.
-fn file_below(folder: &Path, name: &OsStr) -> io::Result<Option<Vec<u8>>> {
-    let path = folder.join(name);
-    if path.is_file() {
-        return fs::read(path).map(Some);
-    }
+/// The folders in a folder, in the order of their names; none where it can't be read.
+fn subfolders(folder: &Path) -> Vec<PathBuf> {
     let Ok(entries) = fs::read_dir(folder) else {
-        return Ok(None);
+        return Vec::new();
     };
     let is_folder = |entry: &fs::DirEntry| entry.file_type().is_ok_and(|kind| kind.is_dir());
-    let mut below: Vec<PathBuf> =
+    let mut found: Vec<PathBuf> =
         entries.flatten().filter(is_folder).map(|entry| entry.path()).collect();
-    below.sort();
-    for subfolder in below {
-        if let Some(bytes) = file_below(&subfolder, name)? {
-            return Ok(Some(bytes));
-        }
-    }
-    Ok(None)
+    found.sort();
+    found
 }
 
 /// Why the predefined CMap of a name can't be read.
