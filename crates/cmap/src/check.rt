@@ -1,15 +1,15 @@
 //! `cmap check`: for each file that it is ok, or what is wrong with it.
 
-use crate::bases::Bases;
-use crate::inputs::{read, report_unreadable};
 use crate::lint::{push_warnings, subject_of};
-use crate::messages::Failure;
 use crate::options::Options;
-use crate::paths::paths_of;
 use crate::progress::Progress;
-use crate::reading::{Faults, Form, Input, Manner, Reading, read_over};
-use crate::{ACCEPTED, FAILED, REFUSED};
 use cmap_escape::{escape, json};
+use cmap_sources::bases::Bases;
+use cmap_sources::failure::Failure;
+use cmap_sources::inputs::{read, report_unreadable};
+use cmap_sources::paths::paths_of;
+use cmap_sources::reading::{Faults, Form, Input, Manner, Reading, read_over};
+use cmap_sources::status::{ACCEPTED, FAILED, REFUSED};
 use serde_json::{Map, Value, put};
 use std::alloc::{AllocError, Global};
 use std::io;
@@ -32,7 +32,7 @@ pub(crate) fn check(
     bases: &mut Bases<'_>,
 ) -> Result<u8, Failure> {
     options.lint.check_names(rt)?;
-    let paths = paths_of(rt, options)?;
+    let paths = paths_of(rt, options.paths, options.list())?;
     let mut tally = Tally {
         checked: 0,
         refused: 0,

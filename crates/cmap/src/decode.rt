@@ -1,11 +1,11 @@
 //! `cmap decode`: what strings say.
 
-use crate::bases::Bases;
-use crate::inputs::{STANDARD_INPUT, map_needed, map_of, needed};
-use crate::messages::{Failure, fault};
 use crate::options::Options;
-use crate::{ACCEPTED, REFUSED};
 use cmap_report::decode::{push_codes, push_json};
+use cmap_sources::bases::Bases;
+use cmap_sources::failure::{Failure, fault};
+use cmap_sources::inputs::{STANDARD_INPUT, map_needed, map_of, needed};
+use cmap_sources::status::{ACCEPTED, REFUSED};
 use hayro_cmap::CMap;
 
 /// Prints the codes of each string, and gives the status.
@@ -15,7 +15,7 @@ pub(crate) fn decode(
     bases: &mut Bases<'_>,
 ) -> Result<u8, Failure> {
     let strings = strings_of(rt, options.arguments)?;
-    match map_needed(rt, options, bases)? {
+    match map_needed(rt, options.file, options.manner(), bases)? {
         Some(map) => decode_by(rt, &map, &strings, options, bases),
         None => Ok(REFUSED),
     }
@@ -32,7 +32,7 @@ fn decode_by(
     let Some((name, bytes)) = texts_file(rt, map, bases)? else {
         return decode_all(rt, map, None, strings, options.json);
     };
-    match map_of(rt, name, &bytes, options, bases)? {
+    match map_of(rt, name, &bytes, options.manner(), bases)? {
         Some(texts) => decode_all(rt, map, Some(&texts), strings, options.json),
         None => Ok(REFUSED),
     }

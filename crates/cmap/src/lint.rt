@@ -1,16 +1,16 @@
 //! `cmap check --lint`: what looks wrong in a file that is accepted.
 
-use crate::bases::Bases;
-use crate::inputs::STANDARD_INPUT;
-use crate::messages::{Failure, fault};
 use crate::options::given;
-use crate::reading::Input;
 use clap::{Arg, ArgAction, ArgMatches};
 use cmap_binary::is_marked_binary;
 use cmap_lint::finding::Finding;
 use cmap_lint::lint::{Subject, findings_of, nothing_declared};
 use cmap_lint::printed::{push_finding, push_json};
 use cmap_lint::warning::Warning;
+use cmap_sources::bases::Bases;
+use cmap_sources::failure::{Failure, fault};
+use cmap_sources::inputs::STANDARD_INPUT;
+use cmap_sources::reading::Input;
 use hayro_cmap::CMap;
 use std::alloc::{AllocError, Global};
 

@@ -1,13 +1,13 @@
 //! `cmap list`: what a file and those that it is based on declare.
 
-use crate::bases::Bases;
-use crate::inputs::map_needed;
-use crate::messages::Failure;
 use crate::options::Options;
-use crate::{ACCEPTED, REFUSED};
 use cmap_listing::effective::effective_lines;
 use cmap_listing::line::{Line, push_json, push_line};
 use cmap_listing::list::lines_by_layer;
+use cmap_sources::bases::Bases;
+use cmap_sources::failure::Failure;
+use cmap_sources::inputs::map_needed;
+use cmap_sources::status::{ACCEPTED, REFUSED};
 use hayro_cmap::CMap;
 use std::alloc::{AllocError, Global};
 
@@ -17,7 +17,7 @@ pub(crate) fn list(
     options: &Options<'_, '_>,
     bases: &mut Bases<'_>,
 ) -> Result<u8, Failure> {
-    let Some(map) = map_needed(rt, options, bases)? else {
+    let Some(map) = map_needed(rt, options.file, options.manner(), bases)? else {
         return Ok(REFUSED);
     };
     let printed = if options.effective {

@@ -1,45 +1,31 @@
 //! The command `cmap`: what is in a CMap file, where it is wrong, and what a string says.
 #![tactic(auto)]
 
-mod bases;
 mod check;
 mod command_line;
 mod decode;
 mod find;
-mod folders;
 mod info;
-mod inputs;
 mod lint;
 mod list;
+mod locate;
 mod lookup;
 mod messages;
 mod options;
-mod paths;
 mod progress;
-mod reading;
 
-use bases::Bases;
 use clap::ArgMatches;
+use cmap_sources::bases::Bases;
+use cmap_sources::failure::{Failure, fault, report};
+use cmap_sources::inputs::needed;
+use cmap_sources::search::Search;
+use cmap_sources::status::FAILED;
 use command_line::command;
 use hayro_cmap::Bundle;
-use inputs::needed;
-use messages::{Failure, fault, print_usage, report};
+use messages::print_usage;
 use options::Options;
 use std::env;
 use std::process::ExitCode;
-
-/// The status where all files are accepted.
-const ACCEPTED: u8 = 0;
-
-/// The status where a file is refused.
-const REFUSED: u8 = 1;
-
-/// The status where an argument is wrong, or something can't be read or written.
-const FAILED: u8 = 2;
-
-/// The status where what reads the output has gone away: that which shells give a program that
-/// SIGPIPE ends.
-const READER_GONE: u8 = 141;
 
 fn main(rt: HostRuntime) -> ExitCode {
     let status = match run(&rt) {
@@ -88,13 +74,19 @@ fn run_subcommand(
     options: &Options<'_, '_>,
     bundle: Option<&Bundle<'_>>,
 ) -> Result<u8, Failure> {
-    let mut bases = Bases::new(rt, options.bases, bundle)?;
+    let search = if options.no_predefined {
+        Search::nowhere(rt.alloc())
+    } else {
+        Search::of_environment(rt)?
+    };
+    let mut bases = Bases::new(rt, options.bases, bundle, search)?;
     let status = match name {
         "info" => info::info(rt, options, &mut bases)?,
         "find" => find::find(rt, options, &mut bases)?,
         "list" => list::list(rt, options, &mut bases)?,
         "check" => check::check(rt, options, &mut bases)?,
         "decode" => decode::decode(rt, options, &mut bases)?,
+        "where" => locate::locate(rt, options, &mut bases)?,
         _ => lookup::lookup(rt, options, &mut bases)?,
     };
     Ok(status.max(bases.status()))

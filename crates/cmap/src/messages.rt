@@ -1,80 +1,8 @@
-//! Messages on the standard error, and why a run ends early. Arguments and paths are untrusted, so they
-//! are escaped.
+//! The help, and what is wrong with arguments. Arguments are untrusted, so they are escaped.
 
-use crate::{FAILED, READER_GONE};
 use clap::Error;
 use cmap_escape::escape::push_text;
-use std::alloc::{AllocError, AllocFailed, Global};
-use std::io::{self, ErrorKind};
-
-/// Why a run ends before all is done.
-#[derive(Drop)]
-pub(crate) enum Failure {
-    /// What reads the output has gone away.
-    ReaderGone,
-    /// Something can't be read or written.
-    Io(io::Error),
-    Memory,
-    /// What is wrong with an argument or a file.
-    Message(String),
-}
-
-impl Failure {
-    /// The status of the run.
-    pub(crate) fn status(&self) -> u8 {
-        match self {
-            Failure::ReaderGone => READER_GONE,
-            Failure::Io(_) | Failure::Memory | Failure::Message(_) => FAILED,
-        }
-    }
-}
-
-impl From<io::Error> for Failure {
-    fn from(error: io::Error) -> Failure {
-        match error.kind() {
-            ErrorKind::BrokenPipe => Failure::ReaderGone,
-            ErrorKind::OutOfMemory => Failure::Memory,
-            _ => Failure::Io(error),
-        }
-    }
-}
-
-impl From<AllocError> for Failure {
-    fn from(_error: AllocError) -> Failure {
-        Failure::Memory
-    }
-}
-
-impl<T: Drop> From<AllocFailed<T>> for Failure {
-    fn from(_error: AllocFailed<T>) -> Failure {
-        Failure::Memory
-    }
-}
-
-/// The failure of an argument or a path in which something is wrong.
-pub(crate) fn fault(rt: &HostRuntime, argument: &str, wrong: &str) -> Failure {
-    match line_of(rt.alloc(), argument, wrong) {
-        Ok(line) => Failure::Message(line),
-        Err(AllocError) => Failure::Memory,
-    }
-}
-
-fn line_of(alloc: Global, argument: &str, wrong: &str) -> Result<String, AllocError> {
-    let mut line = String::new(alloc);
-    push_text(&mut line, argument)?;
-    write!(line, ": {wrong}")?;
-    Ok(line)
-}
-
-/// Reports why a run ends. That a reader has gone away is no fault.
-pub(crate) fn report(rt: &HostRuntime, failure: &Failure) -> io::Result<()> {
-    match failure {
-        Failure::ReaderGone => Ok(()),
-        Failure::Io(error) => eprintln!(rt; "cmap: {error}"),
-        Failure::Memory => eprintln!(rt; "cmap: {}", AllocError),
-        Failure::Message(line) => eprintln!(rt; "cmap: {line}"),
-    }
-}
+use cmap_sources::failure::Failure;
 
 /// Prints the help, the version, or what is wrong with the arguments and the usage, and gives the
 /// status.

@@ -1,8 +1,10 @@
 //! What the arguments of a subcommand ask for.
 
-use crate::inputs::STANDARD_INPUT;
 use crate::lint::LintOptions;
 use clap::ArgMatches;
+use cmap_sources::inputs::STANDARD_INPUT;
+use cmap_sources::paths::PathList;
+use cmap_sources::reading::{Faults, Form, Manner};
 
 /// What the arguments of a subcommand ask for.
 #[derive(Clone, Copy)]
@@ -18,6 +20,8 @@ pub(crate) struct Options<'m, 'w> {
     pub(crate) bases: &'m [&'w str],
     /// The file that is a bundle.
     pub(crate) bundle: Option<&'w str>,
+    /// Whether names are looked up in the folders of bases and in the bundle alone.
+    pub(crate) no_predefined: bool,
     /// The most bytes that a file and the files that it uses may have together.
     pub(crate) budget: Option<u64>,
     /// Whether each line is a JSON object.
@@ -47,6 +51,7 @@ impl<'m, 'w> Options<'m, 'w> {
             arguments: given(matches.get_strs("ARGUMENT")),
             bases: given(matches.get_strs("base")),
             bundle: matches.get_str("bundle"),
+            no_predefined: matches.get_flag("no-predefined"),
             budget: matches.get_one::<u64>("budget"),
             json: matches.get_flag("json"),
             effective: matches.get_flag("effective"),
@@ -56,6 +61,26 @@ impl<'m, 'w> Options<'m, 'w> {
             quiet: matches.get_flag("quiet"),
             first: matches.get_flag("first"),
             lenient: matches.get_flag("lenient"),
+        }
+    }
+
+    /// The list of further files for `check`.
+    pub(crate) fn list(&self) -> Option<PathList<'w>> {
+        let path = self.files_from?;
+        let end = if self.null { 0 } else { b'\n' };
+        Some(PathList { path, end })
+    }
+
+    /// How all but `check` read files.
+    pub(crate) fn manner(&self) -> Manner {
+        Manner {
+            budget: self.budget,
+            faults: if self.lenient {
+                Faults::All
+            } else {
+                Faults::First
+            },
+            form: Form::Text,
         }
     }
 

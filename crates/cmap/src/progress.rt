@@ -1,6 +1,6 @@
 //! How far a run over many files has come.
 
-use crate::messages::Failure;
+use cmap_sources::failure::Failure;
 use std::io::{self, IsTerminal};
 
 /// How many characters the bar has.

@@ -1,7 +1,7 @@
 //! Files over the files that they use, each of which is read when it is first missing.
 
 use crate::bases::{Bases, Files};
-use crate::messages::Failure;
+use crate::failure::Failure;
 use cmap_escape::escape::push_text;
 use cmap_report::fault_line::LineCounter;
 use cmap_report::refused::{push_refusal, push_refusal_json};
@@ -10,25 +10,25 @@ use std::alloc::{AllocError, Global};
 
 /// A file that is read.
 #[derive(Clone, Copy)]
-pub(crate) struct Input<'i> {
-    pub(crate) path: &'i str,
-    pub(crate) bytes: &'i [u8],
+pub struct Input<'i> {
+    pub path: &'i str,
+    pub bytes: &'i [u8],
 }
 
 /// What comes of a file over the files that it uses.
 #[derive(Drop)]
-pub(crate) struct Reading {
+pub struct Reading {
     /// Also of a file with faults, where all are looked for.
-    pub(crate) map: Option<CMap>,
+    pub map: Option<CMap>,
     /// A line for each fault, without an end of the line.
-    pub(crate) faults: Vec<String>,
+    pub faults: Vec<String>,
     /// The names of files that are used, but aren't read yet. If there are some, a further try is due.
     missing: Vec<Vec<u8>>,
 }
 
 /// Which faults of a file are looked for.
 #[derive(Clone, Copy)]
-pub(crate) enum Faults {
+pub enum Faults {
     /// The first one, for which the file is refused.
     First,
     /// All: the file is read past each.
@@ -37,22 +37,22 @@ pub(crate) enum Faults {
 
 /// How the lines of faults are printed.
 #[derive(Clone, Copy)]
-pub(crate) enum Form {
+pub enum Form {
     Text,
     Json,
 }
 
 /// How a file is read.
 #[derive(Clone, Copy)]
-pub(crate) struct Manner {
+pub struct Manner {
     /// The most bytes that the file and the files that it uses may have together.
-    pub(crate) budget: Option<u64>,
-    pub(crate) faults: Faults,
-    pub(crate) form: Form,
+    pub budget: Option<u64>,
+    pub faults: Faults,
+    pub form: Form,
 }
 
 /// Reads a file over the files that it uses.
-pub(crate) fn read_over(
+pub fn read_over(
     rt: &HostRuntime,
     input: Input<'_>,
     manner: Manner,

@@ -1,23 +1,23 @@
 //! The files in folders.
 
+use crate::failure::Failure;
 use crate::inputs::{readable, report_unreadable};
-use crate::messages::Failure;
 use std::fs::{self, DirEntry, read_dir};
 use std::io;
 
 /// What lies in a folder and its subfolders.
 #[derive(Drop)]
-pub(crate) struct Found {
+pub struct Found {
     /// The paths of the files, in the order of their bytes.
-    pub(crate) files: Vec<String>,
+    pub files: Vec<String>,
     /// How many folders can't be read.
-    pub(crate) unreadable: usize,
+    pub unreadable: usize,
     /// The folders that aren't read yet.
     waiting: Vec<String>,
 }
 
 /// Whether a folder has this path.
-pub(crate) fn is_folder(rt: &HostRuntime, path: &str) -> bool {
+pub fn is_folder(rt: &HostRuntime, path: &str) -> bool {
     match fs::metadata(rt, path) {
         Ok(metadata) => metadata.is_dir(),
         Err(_) => false,
@@ -25,7 +25,7 @@ pub(crate) fn is_folder(rt: &HostRuntime, path: &str) -> bool {
 }
 
 /// Whether a file has this path.
-pub(crate) fn is_file(rt: &HostRuntime, path: &str) -> bool {
+pub fn is_file(rt: &HostRuntime, path: &str) -> bool {
     match fs::metadata(rt, path) {
         Ok(metadata) => !metadata.is_dir(),
         Err(_) => false,
@@ -34,7 +34,7 @@ pub(crate) fn is_file(rt: &HostRuntime, path: &str) -> bool {
 
 /// The files in a folder and its subfolders, but for hidden files and folders. A link to a file counts
 /// as a file, and a link to a folder isn't followed. Each folder that can't be read is reported.
-pub(crate) fn files_in(rt: &HostRuntime, folder: &str) -> Result<Found, Failure> {
+pub fn files_in(rt: &HostRuntime, folder: &str) -> Result<Found, Failure> {
     let alloc = rt.alloc();
     let mut found = Found {
         files: Vec::new(alloc),
@@ -49,6 +49,28 @@ pub(crate) fn files_in(rt: &HostRuntime, folder: &str) -> Result<Found, Failure>
         found.add_folder(rt, next.as_str())?;
     }
     found.files.sort()?;
+    Ok(found)
+}
+
+/// The subfolders of a folder, in the order of their paths, but for hidden ones and links. Of a folder that
+/// can't be read there are none.
+pub fn subfolders_of(rt: &HostRuntime, folder: &str) -> Result<Vec<String>, Failure> {
+    match readable(subfolders(rt, folder))? {
+        Some(found) => Ok(found),
+        None => Ok(Vec::new(rt.alloc())),
+    }
+}
+
+fn subfolders(rt: &HostRuntime, folder: &str) -> io::Result<Vec<String>> {
+    let mut found = Vec::new(rt.alloc());
+    for entry in read_dir(rt, folder)? {
+        let entry = entry?;
+        let path = String::from_str(rt.alloc(), entry.path().as_str())?;
+        if entry.file_type()?.is_dir() && !name_of(path.as_str()).starts_with('.') {
+            found.push(path)?;
+        }
+    }
+    found.sort()?;
     Ok(found)
 }
 
@@ -85,7 +107,7 @@ impl Found {
 }
 
 /// The last part of a path.
-pub(crate) fn name_of(path: &str) -> &str {
+pub fn name_of(path: &str) -> &str {
     match path.rsplit_once('/') {
         Some((_, name)) => name,
         None => path,

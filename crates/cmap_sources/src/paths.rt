@@ -1,31 +1,41 @@
 //! Which files `check` reads.
 
+use crate::failure::Failure;
 use crate::folders::{files_in, is_folder};
 use crate::inputs::{STANDARD_INPUT, needed, report_unreadable};
-use crate::messages::Failure;
-use crate::options::Options;
 use cmap_escape::escape::escaped_name;
+
+/// A file that lists paths.
+#[derive(Clone, Copy)]
+pub struct PathList<'l> {
+    pub path: &'l str,
+    /// The byte that ends each path in it.
+    pub end: u8,
+}
 
 /// The files that arguments and a list name, and those in folders that they name.
 #[derive(Drop)]
-pub(crate) struct Paths {
-    pub(crate) files: Vec<String>,
+pub struct Paths {
+    pub files: Vec<String>,
     /// How many paths can't be read, which are reported.
-    pub(crate) unreadable: usize,
+    pub unreadable: usize,
 }
 
 /// The files that the arguments name, and then those of the list.
-pub(crate) fn paths_of(rt: &HostRuntime, options: &Options<'_, '_>) -> Result<Paths, Failure> {
+pub fn paths_of(
+    rt: &HostRuntime,
+    arguments: &[&str],
+    list: Option<PathList<'_>>,
+) -> Result<Paths, Failure> {
     let mut paths = Paths {
         files: Vec::new(rt.alloc()),
         unreadable: 0,
     };
-    for path in options.paths {
+    for path in arguments {
         paths.add(rt, path)?;
     }
-    if let Some(list) = options.files_from {
-        let end = if options.null { 0 } else { b'\n' };
-        paths.add_list(rt, &needed(rt, list)?, end)?;
+    if let Some(PathList { path, end }) = list {
+        paths.add_list(rt, &needed(rt, path)?, end)?;
     }
     Ok(paths)
 }

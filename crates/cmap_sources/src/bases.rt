@@ -1,9 +1,10 @@
 //! The files that others use, by their names. Each is read when it is used for the first time.
 
+use crate::failure::Failure;
 use crate::folders::{files_in, is_folder, name_of};
 use crate::inputs::{read, report_unreadable, unreadable};
-use crate::messages::Failure;
-use crate::{ACCEPTED, FAILED};
+use crate::search::{Search, file_name};
+use crate::status::{ACCEPTED, FAILED};
 use hayro_cmap::{Bundle, BundleFiles, NamedFile, NamedFiles};
 use std::alloc::{AllocError, Global};
 use std::collections::BTreeMap;
@@ -11,7 +12,7 @@ use std::mem;
 
 /// A file that others use.
 #[derive(Drop)]
-pub(crate) struct Base {
+pub struct Base {
     name: Vec<u8>,
     bytes: Vec<u8>,
 }
@@ -30,16 +31,27 @@ impl NamedFile for Base {
     }
 }
 
-/// The files that are read.
-pub(crate) type Files<'f> = NamedFiles<'f, Base, Bundle<'f>>;
-
-/// The files that others may use: those of folders, and those of a bundle for the names that none of
-/// them has.
+/// Where a file is that has a name.
 #[derive(Drop)]
-pub(crate) struct Bases<'b> {
-    pub(crate) bundle: Option<&'b Bundle<'b>>,
+pub enum Location {
+    /// The file of a path.
+    File(String),
+    /// In the bundle.
+    Bundle,
+}
+
+/// The files that are read.
+pub type Files<'f> = NamedFiles<'f, Base, Bundle<'f>>;
+
+/// The files that others may use: those of folders, those of a bundle for the names that none of them has,
+/// and else those that are found in further folders.
+#[derive(Drop)]
+pub struct Bases<'b> {
+    pub bundle: Option<&'b Bundle<'b>>,
     /// The paths of the files of folders that aren't read yet, by their names.
     paths: BTreeMap<String, String>,
+    /// Where the names are looked up that neither has.
+    search: Search,
     /// The files that are read.
     read: Vec<Base>,
     /// The paths that can't be read, and aren't reported yet.
@@ -49,15 +61,17 @@ pub(crate) struct Bases<'b> {
 }
 
 impl<'b> Bases<'b> {
-    /// The files of these folders and of this bundle.
-    pub(crate) fn new(
+    /// The files of these folders and of this bundle, and those that a search finds.
+    pub fn new(
         rt: &HostRuntime,
         folders: &[&str],
         bundle: Option<&'b Bundle<'b>>,
+        search: Search,
     ) -> Result<Self, Failure> {
         let mut bases = Bases {
             bundle,
             paths: BTreeMap::new(rt.alloc()),
+            search,
             read: Vec::new(rt.alloc()),
             unreadable: Vec::new(rt.alloc()),
             has_failed: false,
@@ -91,7 +105,7 @@ impl<'b> Bases<'b> {
     }
 
     /// The files that are read, over the bundle.
-    pub(crate) fn files(&self) -> Files<'_> {
+    pub fn files(&self) -> Files<'_> {
         NamedFiles {
             files: self.read.as_slice(),
             bundle: self.bundle,
@@ -100,23 +114,22 @@ impl<'b> Bases<'b> {
 
     /// The files that are read, without the bundle: one of the bundle's files is among them once it is
     /// used, so that a file of a folder comes before it.
-    pub(crate) fn read_files(&self) -> Files<'_> {
+    pub fn read_files(&self) -> Files<'_> {
         NamedFiles::alone(self.read.as_slice())
     }
 
-    /// Whether a file has this name that isn't read yet.
-    pub(crate) fn has_unread(&self, name: &[u8]) -> bool {
+    /// Whether a file may have this name that isn't read yet.
+    pub fn has_unread(&self, name: &[u8]) -> bool {
         if self.read_files().find(name).is_some() {
             return false;
         }
-        self.has_path(name) || self.bundle_file(name).is_some()
+        self.path(name).is_some() || self.bundle_file(name).is_some() || self.search.may_have(name)
     }
 
-    fn has_path(&self, name: &[u8]) -> bool {
-        match str::from_utf8(name) {
-            Ok(name) => self.paths.contains_key(name),
-            Err(_) => false,
-        }
+    /// The path of the file of this name in the folders, unless it is read.
+    fn path(&self, name: &[u8]) -> Option<&str> {
+        let name = str::from_utf8(name).ok()?;
+        Some(self.paths.get(name)?.as_str())
     }
 
     fn bundle_file(&self, name: &[u8]) -> Option<&'b [u8]> {
@@ -124,29 +137,43 @@ impl<'b> Bases<'b> {
     }
 
     /// Reads the file of this name, if it isn't read yet.
-    pub(crate) fn read(&mut self, rt: &HostRuntime, name: &[u8]) -> Result<(), Failure> {
+    pub fn read(&mut self, rt: &HostRuntime, name: &[u8]) -> Result<(), Failure> {
         if !self.has_unread(name) {
             return Ok(());
         }
-        if let Some(bytes) = self.unread_bytes(rt, name)? {
-            let name = Vec::from_slice(rt.alloc(), name)?;
-            self.read.push(Base { name, bytes })?;
+        match self.unread_bytes(rt, name)? {
+            Some(bytes) => {
+                let name = Vec::from_slice(rt.alloc(), name)?;
+                self.read.push(Base { name, bytes })?;
+            }
+            None => self.search.set_absent(rt.alloc(), name)?,
         }
         Ok(())
     }
 
     /// The bytes of the file of this name, which isn't read yet.
     fn unread_bytes(&mut self, rt: &HostRuntime, name: &[u8]) -> Result<Option<Vec<u8>>, Failure> {
-        if let Some(path) = self.take_path(name) {
-            match read(rt, path.as_str())? {
-                Some(bytes) => return Ok(Some(bytes)),
-                None => self.unreadable.push(path)?,
-            }
+        if let Some(path) = self.take_path(name)
+            && let Some(bytes) = self.bytes_of(rt, path)?
+        {
+            return Ok(Some(bytes));
         }
-        match self.bundle_file(name) {
-            Some(bytes) => Ok(Some(Vec::from_slice(rt.alloc(), bytes)?)),
+        if let Some(bytes) = self.bundle_file(name) {
+            return Ok(Some(Vec::from_slice(rt.alloc(), bytes)?));
+        }
+        match self.search.find(rt, name)? {
+            Some(path) => self.bytes_of(rt, path),
             None => Ok(None),
         }
+    }
+
+    /// The bytes of the file of this path; one that can't be read is to be reported.
+    fn bytes_of(&mut self, rt: &HostRuntime, path: String) -> Result<Option<Vec<u8>>, Failure> {
+        let bytes = read(rt, path.as_str())?;
+        if bytes.is_none() {
+            self.unreadable.push(path)?;
+        }
+        Ok(bytes)
     }
 
     fn take_path(&mut self, name: &[u8]) -> Option<String> {
@@ -157,11 +184,7 @@ impl<'b> Bases<'b> {
     }
 
     /// The bytes of the file of this name.
-    pub(crate) fn file(
-        &mut self,
-        rt: &HostRuntime,
-        name: &[u8],
-    ) -> Result<Option<Vec<u8>>, Failure> {
+    pub fn file(&mut self, rt: &HostRuntime, name: &[u8]) -> Result<Option<Vec<u8>>, Failure> {
         self.read(rt, name)?;
         self.report(rt)?;
         match self.read_files().find(name) {
@@ -170,13 +193,30 @@ impl<'b> Bases<'b> {
         }
     }
 
+    /// Where the file of this name is.
+    pub fn locate(&mut self, rt: &HostRuntime, name: &[u8]) -> Result<Option<Location>, Failure> {
+        if let Some(path) = self.path(name) {
+            let path = String::from_str(rt.alloc(), path)?;
+            return Ok(Some(Location::File(path)));
+        }
+        if self.bundle_file(name).is_some() {
+            return Ok(Some(Location::Bundle));
+        }
+        Ok(self.search.find(rt, name)?.map(Location::File))
+    }
+
+    /// Whether a file of this name would be found if the predefined CMaps of the system were there.
+    pub fn may_be_predefined(&self, name: &[u8]) -> bool {
+        self.search.is_of_system() && file_name(name).is_some()
+    }
+
     /// Whether a file can't be read, which isn't reported yet.
-    pub(crate) fn has_unreported(&self) -> bool {
+    pub fn has_unreported(&self) -> bool {
         !self.unreadable.is_empty()
     }
 
     /// Reports the files that can't be read, each once.
-    pub(crate) fn report(&mut self, rt: &HostRuntime) -> Result<(), Failure> {
+    pub fn report(&mut self, rt: &HostRuntime) -> Result<(), Failure> {
         for path in mem::replace(&mut self.unreadable, Vec::new(rt.alloc())) {
             self.has_failed = true;
             report_unreadable(rt, path.as_str())?;
@@ -185,7 +225,7 @@ impl<'b> Bases<'b> {
     }
 
     /// The status of what was read here.
-    pub(crate) fn status(&self) -> u8 {
+    pub fn status(&self) -> u8 {
         if self.has_failed { FAILED } else { ACCEPTED }
     }
 }

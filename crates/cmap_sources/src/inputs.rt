@@ -1,20 +1,19 @@
 //! What is read: files, and the maps of those that arguments ask for.
 
-use crate::FAILED;
 use crate::bases::Bases;
+use crate::failure::{Failure, fault, report};
 use crate::folders::is_file;
-use crate::messages::{Failure, fault, report};
-use crate::options::Options;
-use crate::reading::{Faults, Form, Input, Manner, read_over};
+use crate::reading::{Input, Manner, read_over};
+use crate::status::FAILED;
 use hayro_cmap::{CMap, Fault};
 use std::fs;
 use std::io::{self, ErrorKind, Read};
 
 /// The path that stands for the standard input.
-pub(crate) const STANDARD_INPUT: &str = "-";
+pub const STANDARD_INPUT: &str = "-";
 
 /// The bytes of a file that a run needs; `-` is the standard input.
-pub(crate) fn needed(rt: &HostRuntime, path: &str) -> Result<Vec<u8>, Failure> {
+pub fn needed(rt: &HostRuntime, path: &str) -> Result<Vec<u8>, Failure> {
     match read(rt, path)? {
         Some(bytes) => Ok(bytes),
         None => Err(unreadable(rt, path)),
@@ -22,7 +21,7 @@ pub(crate) fn needed(rt: &HostRuntime, path: &str) -> Result<Vec<u8>, Failure> {
 }
 
 /// The bytes of a file; `-` is the standard input. `None` where it can't be read.
-pub(crate) fn read(rt: &HostRuntime, path: &str) -> Result<Option<Vec<u8>>, Failure> {
+pub fn read(rt: &HostRuntime, path: &str) -> Result<Option<Vec<u8>>, Failure> {
     if path == STANDARD_INPUT {
         let mut bytes = Vec::new(rt.alloc());
         return match readable(rt.stdin().read_to_end(&mut bytes))? {
@@ -34,7 +33,7 @@ pub(crate) fn read(rt: &HostRuntime, path: &str) -> Result<Option<Vec<u8>>, Fail
 }
 
 /// What is read; `None` where it can't be. That memory ran out is an error.
-pub(crate) fn readable<T: Drop>(read: io::Result<T>) -> Result<Option<T>, Failure> {
+pub fn readable<T: Drop>(read: io::Result<T>) -> Result<Option<T>, Failure> {
     match read {
         Ok(read) => Ok(Some(read)),
         Err(error) if error.kind() == ErrorKind::OutOfMemory => Err(Failure::Memory),
@@ -43,40 +42,62 @@ pub(crate) fn readable<T: Drop>(read: io::Result<T>) -> Result<Option<T>, Failur
 }
 
 /// The failure of a path that can't be read.
-pub(crate) fn unreadable(rt: &HostRuntime, path: &str) -> Failure {
+pub fn unreadable(rt: &HostRuntime, path: &str) -> Failure {
     fault(rt, path, "can't be read")
 }
 
+/// The failure of an argument that is neither a path nor a name.
+fn missing(rt: &HostRuntime, argument: &str, bases: &Bases<'_>) -> Failure {
+    if bases.may_be_predefined(argument.as_bytes()) {
+        unknown_name(rt, argument, bases)
+    } else {
+        unreadable(rt, argument)
+    }
+}
+
+/// The failure of a name that no file has.
+pub fn unknown_name(rt: &HostRuntime, name: &str, bases: &Bases<'_>) -> Failure {
+    if bases.may_be_predefined(name.as_bytes()) {
+        fault(
+            rt,
+            name,
+            "no file has this name; the package poppler-data has the predefined CMaps",
+        )
+    } else {
+        fault(rt, name, "no file has this name")
+    }
+}
+
 /// Reports that a path can't be read, and gives the status.
-pub(crate) fn report_unreadable(rt: &HostRuntime, path: &str) -> Result<u8, Failure> {
+pub fn report_unreadable(rt: &HostRuntime, path: &str) -> Result<u8, Failure> {
     report(rt, &unreadable(rt, path))?;
     Ok(FAILED)
 }
 
 /// What comes of an argument that asks for a file.
-pub(crate) enum Asked {
+pub enum Asked {
     /// The bytes of the file, none where a predefined CMap has no file, and its map.
     Map(Vec<u8>, CMap),
     /// The file is refused, and why is on the standard error.
     Refused,
-    /// No file can be read.
-    Unreadable,
+    /// No file can be read, and why.
+    Unreadable(Failure),
 }
 
 /// The map of the file that an argument asks for: by its path, or where no file has the path, by its
 /// name.
-pub(crate) fn open(
+pub fn open(
     rt: &HostRuntime,
     argument: &str,
-    options: &Options<'_, '_>,
+    manner: Manner,
     bases: &mut Bases<'_>,
 ) -> Result<Asked, Failure> {
     if argument != STANDARD_INPUT && !is_file(rt, argument) {
-        return open_by_name(rt, argument, options, bases);
+        return open_by_name(rt, argument, manner, bases);
     }
     match read(rt, argument)? {
-        Some(bytes) => open_bytes(rt, argument, bytes, options, bases),
-        None => Ok(Asked::Unreadable),
+        Some(bytes) => open_bytes(rt, argument, bytes, manner, bases),
+        None => Ok(Asked::Unreadable(unreadable(rt, argument))),
     }
 }
 
@@ -84,15 +105,15 @@ pub(crate) fn open(
 fn open_by_name(
     rt: &HostRuntime,
     name: &str,
-    options: &Options<'_, '_>,
+    manner: Manner,
     bases: &mut Bases<'_>,
 ) -> Result<Asked, Failure> {
     if let Some(bytes) = bases.file(rt, name.as_bytes())? {
-        return open_bytes(rt, name, bytes, options, bases);
+        return open_bytes(rt, name, bytes, manner, bases);
     }
     match CMap::open(rt.alloc(), None, name.as_bytes(), None, &bases.read_files()) {
         Ok(Some(map)) => Ok(Asked::Map(Vec::new(rt.alloc()), map)),
-        Ok(None) | Err(Fault::Refused(_)) => Ok(Asked::Unreadable),
+        Ok(None) | Err(Fault::Refused(_)) => Ok(Asked::Unreadable(missing(rt, name, bases))),
         Err(Fault::Memory) => Err(Failure::Memory),
     }
 }
@@ -101,46 +122,38 @@ fn open_bytes(
     rt: &HostRuntime,
     path: &str,
     bytes: Vec<u8>,
-    options: &Options<'_, '_>,
+    manner: Manner,
     bases: &mut Bases<'_>,
 ) -> Result<Asked, Failure> {
-    match map_of(rt, path, &bytes, options, bases)? {
+    match map_of(rt, path, &bytes, manner, bases)? {
         Some(map) => Ok(Asked::Map(bytes, map)),
         None => Ok(Asked::Refused),
     }
 }
 
 /// The map of the one file that a run needs. Why it is refused goes to the standard error.
-pub(crate) fn map_needed(
+pub fn map_needed(
     rt: &HostRuntime,
-    options: &Options<'_, '_>,
+    argument: &str,
+    manner: Manner,
     bases: &mut Bases<'_>,
 ) -> Result<Option<CMap>, Failure> {
-    match open(rt, options.file, options, bases)? {
+    match open(rt, argument, manner, bases)? {
         Asked::Map(_bytes, map) => Ok(Some(map)),
         Asked::Refused => Ok(None),
-        Asked::Unreadable => Err(unreadable(rt, options.file)),
+        Asked::Unreadable(failure) => Err(failure),
     }
 }
 
 /// The map of a file of these bytes. Its faults go to the standard error: the first one where they aren't
 /// passed over, and there is then no map.
-pub(crate) fn map_of(
+pub fn map_of(
     rt: &HostRuntime,
     path: &str,
     bytes: &[u8],
-    options: &Options<'_, '_>,
+    manner: Manner,
     bases: &mut Bases<'_>,
 ) -> Result<Option<CMap>, Failure> {
-    let manner = Manner {
-        budget: options.budget,
-        faults: if options.lenient {
-            Faults::All
-        } else {
-            Faults::First
-        },
-        form: Form::Text,
-    };
     let reading = read_over(rt, Input { path, bytes }, manner, bases)?;
     bases.report(rt)?;
     for fault in &reading.faults {
