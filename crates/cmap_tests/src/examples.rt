@@ -1,9 +1,10 @@
 //! Callers that the crates' pages show.
 
+use cmap_unicode::Extractor;
 use hayro_cmap::bcmap::Bundle;
 use hayro_cmap::runs::{Looks, Table};
 use hayro_cmap::token::{Scanner, Token};
-use hayro_cmap::{CMap, CMapName, CharacterCollection, Cid, CidRange, load_embedded};
+use hayro_cmap::{BfString, CMap, CMapName, CharacterCollection, Cid, CidRange, load_embedded};
 use std::alloc::{AllocError, Global};
 
 /// Whether a text begins with a name after a slash.
@@ -48,4 +49,21 @@ pub fn count_of_texts(map: &CMap) -> usize {
         [top, ..] => top.counts().bfs,
         [] => 0,
     }
+}
+
+/// The text of a string of a font; `None` where one of its codes has none.
+pub fn text_of_string(
+    alloc: Global,
+    font: &Extractor<'_>,
+    string: &[u8],
+) -> Result<Option<String>, AllocError> {
+    let mut whole = String::new(alloc);
+    for character in font.characters(alloc, string)? {
+        match character.text {
+            Some(BfString::Char(one)) => whole.push(one)?,
+            Some(BfString::String(more)) => whole.push_str(more.as_str())?,
+            None => return Ok(None),
+        }
+    }
+    Ok(Some(whole))
 }

@@ -1,6 +1,6 @@
 //! What rows of data can't show: the callers that the pages show, and tests of the order of calls, of
-//! names by their variants, of a call over a closure, of codes in a row, of many ranges, and of files
-//! that are read past their faults.
+//! names by their variants, of a call over a closure, of codes in a row, of many ranges, of files that
+//! are read past their faults, and of the texts of strings.
 #![tactic(auto)]
 
 #[cfg(test)]
@@ -25,3 +25,5 @@ mod salvage_binary;
 mod salvage_map;
 #[cfg(test)]
 mod tables;
+#[cfg(test)]
+mod texts_of_strings;

@@ -1,0 +1,2 @@
+pub mod OneText
+pub mod CharactersInRow

@@ -1,0 +1,120 @@
+//! The codes of a string, each with its CID and its text.
+
+ghost use Rattle.std.specs.Prelude.{◌≡◌, ◌≤◌, ℕ, List, [], Some, IfOk, IfSome, MatchOption, OnErr, length, option_and_then, option_map};
+ghost use Rattle.std.specs.Option.{option_copied};
+ghost use Rattle.cmap_tokens.specs.Texts.{more};
+ghost use Rattle.cmap_tokens.specs.TextSeen.{text_seen};
+ghost use Rattle.cmap_files.specs.CodeLengths.{IsCodeLength};
+ghost use Rattle.cmap_unicode.specs.Characters.{AreCharactersOf, BeginsWithLongText, IsCharacterOf, IsNextCharacter, font_of};
+ghost use Rattle.cmap_unicode.specs.TextsOfCodes.{HasLongText, text_in, text_of};
+
+use crate::cids::declared_cid;
+use hayro_cmap::{BfString, CMap, Cid, StringCode};
+use std::alloc::{AllocError, Global};
+
+/// The CMaps of a font, by which its strings are read. ISO 32000-1, 9.7.5 and 9.10.2.
+#[derive(Clone, Copy)]
+pub struct Extractor<'m> {
+    /// The font's CMap: it cuts strings into codes, and gives codes their CIDs.
+    pub encoding: &'m CMap,
+    /// The font's ToUnicode CMap, if it has one: it gives codes their texts.
+    pub to_unicode: Option<&'m CMap>,
+    /// The map of the font's character collection, if there is one, as `Adobe-Japan1-UCS2`. Its codes
+    /// are CIDs, to which it gives texts; `ucs2_name` has its name.
+    pub collection: Option<&'m CMap>,
+}
+
+/// A code of a string, with its CID and its text.
+#[derive(Debug, Drop)]
+pub struct Character {
+    /// The code.
+    pub code: StringCode,
+    /// The CID that the font's CMap declares for it.
+    pub cid: Option<Cid>,
+    /// Its text.
+    pub text: Option<BfString>,
+}
+
+impl Extractor<'_> {
+    /// The code that a string begins with, with its CID and its text; `None` where the string is empty.
+    ///
+    /// It is the code that `CMap::next_code` of the font's CMap gives; `character_of` has the rest.
+    pub fn next(&self, alloc: Global, string: &[u8]) -> Result<Option<Character>, AllocError>
+        ensures character { IfOk result
+            (λ found. MatchOption found (string.now ≡ []) (IsNextCharacter (font_of self.now) string.now)) }
+        ensures length { IfOk result (λ found. IfSome found (λ character.
+            IsCodeLength character.code.byte_len × (character.code.byte_len ≤ length string.now))) }
+        ensures err { OnErr result (BeginsWithLongText (font_of self.now) string.now) }
+    {
+        match self.encoding.next_code(string) {
+            Some(code) => Ok(Some(self.character_of(alloc, code)?)),
+            None => Ok(None),
+        }
+    }
+
+    /// All codes of a string, one after another, each as `next` gives it.
+    ///
+    /// It fails only if memory runs out.
+    pub fn characters(&self, alloc: Global, string: &[u8]) -> Result<Vec<Character>, AllocError>
+        ensures { IfOk result
+            (λ found. AreCharactersOf (font_of self.now) string.now found.items) }
+    {
+        let mut characters = Vec::new(alloc);
+        let mut left = string;
+        while let Some(character) = self.next(alloc, left)? {
+            left = &left[usize::from(character.code.byte_len)..];
+            characters.push(character)?;
+        }
+        Ok(characters)
+    }
+
+    /// A code with its CID and its text.
+    ///
+    /// The CID is the one that the font's CMap declares, as `declared_cid` gives it. The text is that
+    /// of the ToUnicode CMap, where it has one for the code; else that of the CID in the collection's
+    /// map. A code in no codespace range is looked up too.
+    ///
+    /// It fails only if memory runs out, and only a text of more than one character takes some.
+    pub fn character_of(&self, alloc: Global, code: StringCode) -> Result<Character, AllocError>
+        ensures character { IfOk result (IsCharacterOf (font_of self.now) code) }
+        ensures err { OnErr result (HasLongText (font_of self.now) code.code code.byte_len) }
+    {
+        let cid = declared_cid(self.encoding, code.code, code.byte_len);
+        let text = self.text_of(alloc, code.code, cid)?;
+        Ok(Character { code, cid, text })
+    }
+
+    /// The text of a code with this CID.
+    fn text_of(
+        &self,
+        alloc: Global,
+        code: u32,
+        cid: Option<Cid>,
+    ) -> Result<Option<BfString>, AllocError>
+        ensures value { IfOk result
+            (λ text. option_map text_seen text ≡ text_of (font_of self.now) code cid) }
+        ensures err { OnErr result ((characters : List ℕ)
+            × (text_of (font_of self.now) code cid ≡ Some (more characters))) }
+    {
+        if let Some(text) = text_in(alloc, self.to_unicode, code)? {
+            return Ok(Some(text));
+        }
+        match cid {
+            Some(cid) => text_in(alloc, self.collection, cid),
+            None => Ok(None),
+        }
+    }
+}
+
+/// The text of a code in a map, if there is one.
+fn text_in(alloc: Global, map: Option<&CMap>, code: u32) -> Result<Option<BfString>, AllocError>
+    ensures value { IfOk result
+        (λ text. option_map text_seen text ≡ text_in (option_copied map.entry) code) }
+    ensures err { OnErr result ((characters : List ℕ)
+        × (text_in (option_copied map.entry) code ≡ Some (more characters))) }
+{
+    match map {
+        Some(map) => map.lookup_bf_string(alloc, code),
+        None => Ok(None),
+    }
+}
