@@ -1,5 +1,5 @@
 #!/usr/bin/env python3
-"""Compares what `cmap decode` gives for strings of composite fonts with what poppler's pdftotext gives.
+"""Compares what `cmap text` gives for strings of composite fonts with what poppler's pdftotext gives.
 
     composite_font.py [--program FILE]     the strings of examples/strings.rows, by the program
     composite_font.py --pdftotext          the same strings, by pdftotext, which has to give the rows' texts
@@ -12,7 +12,7 @@ poppler-utils.
 """
 
 import argparse
-import json
+import os
 import re
 import subprocess
 import sys
@@ -97,9 +97,10 @@ def text_by_pdftotext(name, string):
 
 def text_by_program(program, name, string):
     """The text that the program gives for a string. For a code without a text pdftotext gives nothing."""
-    words = [program, "decode", "--json", "--base", RESOURCES, resource(name), string]
-    run = subprocess.run([*map(str, words)], capture_output=True, text=True, check=True)
-    return json.loads(run.stdout)["text"].replace("\ufffd", "")
+    words = [str(program), "text", name, string]
+    environment = {it: value for it, value in os.environ.items() if it != "CMAP_PATH"}
+    run = subprocess.run(words, capture_output=True, text=True, check=False, env=environment)
+    return run.stdout.rstrip("\n").replace("\ufffd", "") + run.stderr
 
 
 def failures_of(text_of):

@@ -1,6 +1,6 @@
 //! `cmap info`: what files say.
 
-use crate::options::Options;
+use cmap_arguments::options::Options;
 use cmap_report::info::{push_info, push_json};
 use cmap_report::uses::uses_by_layer;
 use cmap_sources::bases::{Bases, Files};

@@ -1,6 +1,6 @@
 //! `cmap where`: which files arguments stand for.
 
-use crate::options::Options;
+use cmap_arguments::options::Options;
 use cmap_escape::escape::push_text;
 use cmap_escape::json;
 use cmap_sources::bases::{Bases, Location};

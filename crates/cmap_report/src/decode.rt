@@ -3,13 +3,11 @@
 ghost use Rattle.std.specs.Prelude.{OnOk, string_bytes};
 ghost use Rattle.cmap_escape.specs.Escapes.{AddsLine, AddsOfLine};
 
-mod codes;
-
-use self::codes::codes_of;
 use cmap_escape::digits::{byte_digits, code_digits, push_code};
 use cmap_escape::{escape, json};
-use cmap_queries::texts::text_of;
-use hayro_cmap::{CMap, StringCode};
+use cmap_queries::texts::text_string;
+use cmap_unicode::{Character, Extractor};
+use hayro_cmap::StringCode;
 use serde_json::{Map, Value, put};
 use std::alloc::{AllocError, Global};
 
@@ -22,6 +20,8 @@ struct Decoded {
     codes: Vec<DecodedCode>,
     /// The texts of the codes in a row, U+FFFD for each code without one.
     text: String,
+    /// Whether each code has a text.
+    is_whole: bool,
 }
 
 impl Decoded {
@@ -29,7 +29,10 @@ impl Decoded {
     fn add(&mut self, code: DecodedCode) -> Result<(), AllocError> {
         match &code.text {
             Some(text) => self.text.push_str(text.as_str())?,
-            None => self.text.push(NO_TEXT)?,
+            None => {
+                self.is_whole = false;
+                self.text.push(NO_TEXT)?;
+            }
         }
         Ok(self.codes.push(code)?)
     }
@@ -43,17 +46,22 @@ struct DecodedCode {
     text: Option<String>,
 }
 
-/// Adds a line for each code of a string, and one for its text. A code without a text of its own has
-/// the one of its CID in `texts`, the CMap from the CIDs of the map's collection to Unicode. ISO
-/// 32000-1, 9.10.2.
+impl DecodedCode {
+    fn of(alloc: Global, character: Character) -> Result<DecodedCode, AllocError> {
+        let Character { code, cid, text } = character;
+        let text = text_string(alloc, text)?;
+        Ok(DecodedCode { code, cid, text })
+    }
+}
+
+/// Adds a line for each code of a string by the CMaps of a font, and one for its text.
 pub fn push_codes(
     alloc: Global,
     out: &mut String,
-    map: &CMap,
-    texts: Option<&CMap>,
+    font: &Extractor<'_>,
     string: &[u8],
 ) -> Result<(), AllocError> {
-    let decoded = decode(alloc, map, texts, string)?;
+    let decoded = decode(alloc, font, string)?;
     for code in &decoded.codes {
         push_code_line(out, code)?;
     }
@@ -62,12 +70,11 @@ pub fn push_codes(
     out.push('\n')
 }
 
-/// Adds the object of a string, and ends the line. Texts are as `push_codes` has them.
+/// Adds the object of a string, and ends the line.
 pub fn push_json(
     alloc: Global,
     out: &mut String,
-    map: &CMap,
-    texts: Option<&CMap>,
+    font: &Extractor<'_>,
     string: &[u8],
 ) -> Result<(), AllocError>
     ensures line { OnOk result (AddsLine (string_bytes out.old) (string_bytes out.new)) }
@@ -75,20 +82,56 @@ pub fn push_json(
     // Also where memory runs out.
     ensures printable { AddsOfLine (string_bytes out.old) (string_bytes out.new) }
 {
-    let object = string_object(alloc, map, texts, string)?;
+    let decoded = decode(alloc, font, string)?;
+    let object = string_object(alloc, decoded, string)?;
     json::push_line(alloc, out, &object)
 }
 
-fn string_object(
+/// Adds a line with the text of a string, U+FFFD for each code without one, and gives whether each code
+/// has one.
+pub fn push_text_line(
     alloc: Global,
-    map: &CMap,
-    texts: Option<&CMap>,
+    out: &mut String,
+    font: &Extractor<'_>,
     string: &[u8],
-) -> Result<Value, AllocError> {
+) -> Result<bool, AllocError> {
+    let decoded = decode(alloc, font, string)?;
+    escape::push_text(out, decoded.text.as_str())?;
+    out.push('\n')?;
+    Ok(decoded.is_whole)
+}
+
+/// Adds the object of the text of a string, ends the line, and gives whether each code has a text.
+pub fn push_text_json(
+    alloc: Global,
+    out: &mut String,
+    font: &Extractor<'_>,
+    string: &[u8],
+) -> Result<bool, AllocError>
+    ensures line { OnOk result (AddsLine (string_bytes out.old) (string_bytes out.new)) }
+
+    // Also where memory runs out.
+    ensures printable { AddsOfLine (string_bytes out.old) (string_bytes out.new) }
+{
+    let Decoded { text, is_whole, .. } = decode(alloc, font, string)?;
+    let object = text_object(alloc, text, string)?;
+    json::push_line(alloc, out, &object)?;
+    Ok(is_whole)
+}
+
+fn text_object(alloc: Global, text: String, string: &[u8]) -> Result<Value, AllocError> {
     let mut object = Map::new(alloc);
     let digits = byte_digits(alloc, string)?;
     put(&mut object, alloc, "string", Value::from(digits))?;
-    put_decoded(alloc, &mut object, decode(alloc, map, texts, string)?)?;
+    put(&mut object, alloc, "text", Value::from(text))?;
+    Ok(Value::Object(object))
+}
+
+fn string_object(alloc: Global, decoded: Decoded, string: &[u8]) -> Result<Value, AllocError> {
+    let mut object = Map::new(alloc);
+    let digits = byte_digits(alloc, string)?;
+    put(&mut object, alloc, "string", Value::from(digits))?;
+    put_decoded(alloc, &mut object, decoded)?;
     Ok(Value::Object(object))
 }
 
@@ -97,7 +140,7 @@ fn put_decoded(
     object: &mut Map<String, Value>,
     decoded: Decoded,
 ) -> Result<(), AllocError> {
-    let Decoded { codes, text } = decoded;
+    let Decoded { codes, text, .. } = decoded;
     put(object, alloc, "text", Value::from(text))?;
     let mut objects = Vec::with_capacity(alloc, codes.len())?;
     for code in codes {
@@ -106,51 +149,18 @@ fn put_decoded(
     put(object, alloc, "codes", Value::Array(objects))
 }
 
-fn decode(
-    alloc: Global,
-    map: &CMap,
-    texts: Option<&CMap>,
-    string: &[u8],
-) -> Result<Decoded, AllocError> {
-    let found = codes_of(alloc, map, string)?;
+/// The codes of a string by the CMaps of a font, and what they stand for.
+fn decode(alloc: Global, font: &Extractor<'_>, string: &[u8]) -> Result<Decoded, AllocError> {
+    let characters = font.characters(alloc, string)?;
     let mut decoded = Decoded {
-        codes: Vec::with_capacity(alloc, found.len())?,
+        codes: Vec::with_capacity(alloc, characters.len())?,
         text: String::new(alloc),
+        is_whole: true,
     };
-    for code in &found {
-        decoded.add(decode_code(alloc, map, texts, *code)?)?;
+    for character in characters {
+        decoded.add(DecodedCode::of(alloc, character)?)?;
     }
     Ok(decoded)
-}
-
-/// What a code of a string stands for.
-fn decode_code(
-    alloc: Global,
-    map: &CMap,
-    texts: Option<&CMap>,
-    code: StringCode,
-) -> Result<DecodedCode, AllocError> {
-    let cid = map.lookup_cid_code(code.code, code.byte_len);
-    let text = match text_of(alloc, map, code.code)? {
-        Some(text) => Some(text),
-        None => text_of_cid(alloc, texts, cid)?,
-    };
-    Ok(DecodedCode { code, cid, text })
-}
-
-/// The text of a CID, where there are one and a CMap of the texts of CIDs.
-fn text_of_cid(
-    alloc: Global,
-    texts: Option<&CMap>,
-    cid: Option<u32>,
-) -> Result<Option<String>, AllocError> {
-    let Some(texts) = texts else {
-        return Ok(None);
-    };
-    match cid {
-        Some(cid) => text_of(alloc, texts, cid),
-        None => Ok(None),
-    }
 }
 
 /// Adds a line: the code in ten columns, its CID in twelve, its text, and where it lies.

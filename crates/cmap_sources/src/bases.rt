@@ -1,9 +1,10 @@
 //! The files that others use, by their names. Each is read when it is used for the first time.
 
 use crate::failure::Failure;
+use crate::file_names::file_name;
 use crate::folders::{files_in, is_folder, name_of};
 use crate::inputs::{read, report_unreadable, unreadable};
-use crate::search::{Search, file_name};
+use crate::search::Search;
 use crate::status::{ACCEPTED, FAILED};
 use hayro_cmap::{Bundle, BundleFiles, NamedFile, NamedFiles};
 use std::alloc::{AllocError, Global};

@@ -131,16 +131,16 @@ fn open_bytes(
     }
 }
 
-/// The map of the one file that a run needs. Why it is refused goes to the standard error.
+/// The map of a file that a run needs. Why it is refused goes to the standard error.
 pub fn map_needed(
     rt: &HostRuntime,
     argument: &str,
     manner: Manner,
     bases: &mut Bases<'_>,
-) -> Result<Option<CMap>, Failure> {
+) -> Result<CMap, Failure> {
     match open(rt, argument, manner, bases)? {
-        Asked::Map(_bytes, map) => Ok(Some(map)),
-        Asked::Refused => Ok(None),
+        Asked::Map(_bytes, map) => Ok(map),
+        Asked::Refused => Err(Failure::Refused),
         Asked::Unreadable(failure) => Err(failure),
     }
 }

@@ -4,6 +4,7 @@
 
 pub mod bases;
 pub mod failure;
+pub mod file_names;
 pub mod folders;
 pub mod inputs;
 pub mod paths;

@@ -1,6 +1,7 @@
 //! The folders in which files are looked up by their names, where neither a base nor the bundle has the name.
 
 use crate::failure::{Failure, fault};
+use crate::file_names::file_name;
 use crate::folders::{is_file, subfolders_of};
 use std::alloc::{AllocError, Global};
 use std::collections::BTreeSet;
@@ -129,12 +130,4 @@ impl Search {
         }
         Ok(())
     }
-}
-
-/// A name that is one of a file in a folder: not hidden, and without a slash, so that it leads to no other
-/// folder. Names come from untrusted files.
-pub fn file_name(name: &[u8]) -> Option<&str> {
-    let name = str::from_utf8(name).ok()?;
-    let leads_elsewhere = name.contains('/') || name.contains('\0');
-    (!name.is_empty() && !name.starts_with('.') && !leads_elsewhere).then_some(name)
 }

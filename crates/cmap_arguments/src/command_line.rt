@@ -1,6 +1,7 @@
 //! The command line.
 
 use crate::lint;
+use crate::options::TO_UNICODE;
 use clap::{Arg, ArgAction, Command, value_parser};
 use std::alloc::{AllocError, Global};
 
@@ -74,6 +75,16 @@ const SUBCOMMANDS: &[Subcommand] = &[
         }),
     },
     Subcommand {
+        name: "text",
+        about: "Prints the texts of strings",
+        has_file: true,
+        arguments: Some(Arguments {
+            id: "ARGUMENT",
+            value_name: "HEX",
+            help: "Strings, two hexadecimal digits for each byte; - reads them from the standard input",
+        }),
+    },
+    Subcommand {
         name: "where",
         about: "Prints the paths of the files that names stand for",
         has_file: false,
@@ -96,7 +107,7 @@ const SUBCOMMANDS: &[Subcommand] = &[
 ];
 
 /// The command line of `cmap`.
-pub(crate) fn command<'a>(alloc: Global) -> Result<Command<'a>, AllocError> {
+pub fn command<'a>(alloc: Global) -> Result<Command<'a>, AllocError> {
     let mut command = program(alloc)?;
     for subcommand in SUBCOMMANDS {
         command = command.subcommand(subcommand.command(alloc)?)?;
@@ -142,6 +153,7 @@ impl Subcommand {
             "where" => Ok(Vec::new(alloc)),
             "check" => check_options(alloc),
             "list" => list_options(alloc),
+            "decode" | "text" => text_options(alloc),
             _ => reading_options(alloc),
         }
     }
@@ -217,6 +229,19 @@ fn json<'a>(alloc: Global) -> Arg<'a> {
         .long("json")
         .action(ArgAction::SetTrue)
         .help("One JSON object per line")
+}
+
+/// The options of those that print the texts of strings.
+fn text_options<'a>(alloc: Global) -> Result<Vec<Arg<'a>>, AllocError> {
+    Ok(vec![in alloc; to_unicode(alloc), budget(alloc), lenient(alloc)]?)
+}
+
+fn to_unicode<'a>(alloc: Global) -> Arg<'a> {
+    Arg::new(alloc, TO_UNICODE)
+        .long("to-unicode")
+        .value_name("FILE")
+        .action(ArgAction::Set)
+        .help("The font's ToUnicode CMap, which gives codes their texts")
 }
 
 /// The options of those that read files and stop at the first fault.
