@@ -7,7 +7,7 @@ _cmap() {
     warnings+=" count-differs"
     COMPREPLY=()
     if ((COMP_CWORD == 1)); then
-        mapfile -t COMPREPLY < <(compgen -W "info list find check decode lookup --help --version" -- "$current")
+        mapfile -t COMPREPLY < <(compgen -W "info list find check decode lookup text where --help --version" -- "$current")
         return
     fi
     case $before in
@@ -15,6 +15,13 @@ _cmap() {
         compopt -o filenames 2>/dev/null
         mapfile -t COMPREPLY < <(compgen -d -- "$current")
         return
+        ;;
+    --to-unicode)
+        if [[ $subcommand != check ]]; then
+            compopt -o filenames 2>/dev/null
+            mapfile -t COMPREPLY < <(compgen -f -- "$current")
+            return
+        fi
         ;;
     --bundle | --files-from)
         compopt -o filenames 2>/dev/null
@@ -28,16 +35,18 @@ _cmap() {
         ;;
     esac
     case $subcommand in
-    info | list | find | check | decode | lookup) ;;
+    info | list | find | check | decode | lookup | text | where) ;;
     *) return ;;
     esac
     if [[ $current == -* ]]; then
         case $subcommand in
-        list) mapfile -t COMPREPLY < <(compgen -W "--lenient --effective" -- "$current") ;;
-        check) mapfile -t COMPREPLY < <(compgen -W "--files-from --null --first --lint --to-unicode --deny --quiet" -- "$current") ;;
-        *) mapfile -t COMPREPLY < <(compgen -W "--lenient" -- "$current") ;;
+        list) mapfile -t COMPREPLY < <(compgen -W "--budget --lenient --effective" -- "$current") ;;
+        where) ;;
+        decode | text) mapfile -t COMPREPLY < <(compgen -W "--to-unicode --budget --lenient" -- "$current") ;;
+        check) mapfile -t COMPREPLY < <(compgen -W "--budget --files-from --null --first --lint --to-unicode --deny --quiet" -- "$current") ;;
+        *) mapfile -t COMPREPLY < <(compgen -W "--budget --lenient" -- "$current") ;;
         esac
-        mapfile -t -O "${#COMPREPLY[@]}" COMPREPLY < <(compgen -W "--base --bundle --budget --json --help" -- "$current")
+        mapfile -t -O "${#COMPREPLY[@]}" COMPREPLY < <(compgen -W "--base --bundle --no-predefined --json --help" -- "$current")
     else
         compopt -o filenames 2>/dev/null
         mapfile -t COMPREPLY < <(compgen -f -- "$current")

@@ -67,6 +67,7 @@ class Case:
     number: int
     program: str
     words: list
+    environment: dict = field(default_factory=dict)
     input: bytes = b""
     output: list = field(default_factory=list)
     errors: list = field(default_factory=list)
@@ -197,11 +198,16 @@ class Reader:
 
 
 def words_of(line):
-    """The program of a command line, and the words after its name; `""` is the empty one."""
-    name, *words = line.split(" ")
+    """The program of a command line, the words after its name, and the variables that are set before it;
+    `""` is the empty word."""
+    words, variables = line.split(" "), {}
+    while "=" in words[0]:
+        name, _, value = words.pop(0).partition("=")
+        variables[name.encode()] = unescape(value)
+    name, *words = words
     if name not in PROGRAMS:
         raise Misspelled(f"a command line begins with one of {PROGRAMS}")
-    return name, [b"" if word == '""' else unescape(word) for word in words if word]
+    return name, [b"" if word == '""' else unescape(word) for word in words if word], variables
 
 
 def write(folder, file):
@@ -217,10 +223,11 @@ def write(folder, file):
         Path(os.fsdecode(path)).write_bytes(file.bytes)
 
 
-def run(program, folder, words, given=b""):
-    """Runs the program in a folder."""
+def run(program, folder, words, given=b"", variables=None):
+    """Runs the program in a folder. It looks names up nowhere, unless a variable says where."""
+    environment = {**os.environb, b"CMAP_PATH": b"", **(variables or {})}
     return subprocess.run(
-        [program, *words], cwd=folder, input=given, capture_output=True, timeout=SECONDS
+        [program, *words], cwd=folder, input=given, capture_output=True, timeout=SECONDS, env=environment
     )
 
 
@@ -244,7 +251,7 @@ def harmful(output):
 
 def failures_of(program, folder, case):
     """What is wrong with a run of a case."""
-    got = run(program, folder, case.words, case.input)
+    got = run(program, folder, case.words, case.input, case.environment)
     found = []
     if got.returncode != case.status:
         found.append(f"status {got.returncode}, expected {case.status}")

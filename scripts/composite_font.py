@@ -13,6 +13,7 @@ poppler-utils.
 """
 
 import argparse
+import os
 import re
 import subprocess
 import sys
@@ -110,12 +111,11 @@ def text_by_pdftotext(row):
 
 def text_by_program(program, row):
     """The text that the program gives for the string of a row. For a code without a text pdftotext gives nothing."""
-    to_unicode = ["--to-unicode", row.to_unicode] if row.to_unicode else []
-    words = [program, "text", "--base", RESOURCES, *to_unicode, resource(row.name), row.string]
-    run = subprocess.run([*map(str, words)], capture_output=True, text=True)
-    if run.returncode != (1 if "\ufffd" in run.stdout else 0):
-        raise RuntimeError(f"{words}: status {run.returncode}: {run.stderr}")
-    return run.stdout.rstrip("\n").replace("\ufffd", "")
+    to_unicode = ["--to-unicode", str(row.to_unicode)] if row.to_unicode else []
+    words = [str(program), "text", *to_unicode, row.name, row.string]
+    environment = {it: value for it, value in os.environ.items() if it != "CMAP_PATH"}
+    run = subprocess.run(words, capture_output=True, text=True, check=False, env=environment)
+    return run.stdout.rstrip("\n").replace("\ufffd", "") + run.stderr
 
 
 def failures_of(text_of):

@@ -1,8 +1,8 @@
 //! `cmap check`: for each file that it is ok, or what is wrong with it.
 
 use crate::lint::{push_warnings, subject_of};
-use crate::options::Options;
 use crate::progress::Progress;
+use cmap_arguments::options::Options;
 use cmap_escape::{escape, json};
 use cmap_sources::bases::Bases;
 use cmap_sources::failure::Failure;

@@ -1,11 +1,11 @@
 //! `cmap find`: the codes that have a CID or a text.
 
-use crate::options::Options;
+use cmap_arguments::options::Options;
 use cmap_listing::find::{Wanted, push_codes, push_json};
 use cmap_sources::bases::Bases;
 use cmap_sources::failure::{Failure, fault};
 use cmap_sources::inputs::map_needed;
-use cmap_sources::status::{ACCEPTED, REFUSED};
+use cmap_sources::status::ACCEPTED;
 
 /// Prints the codes that each argument asks for, and gives the status.
 pub(crate) fn find(
@@ -14,9 +14,7 @@ pub(crate) fn find(
     bases: &mut Bases<'_>,
 ) -> Result<u8, Failure> {
     let wanted = wanted_of(rt, options.arguments)?;
-    let Some(map) = map_needed(rt, options.file, options.manner(), bases)? else {
-        return Ok(REFUSED);
-    };
+    let map = map_needed(rt, options.file, options.manner(), bases)?;
     let mut lines = String::new(rt.alloc());
     for (argument, wanted) in &wanted {
         if options.json {

@@ -1,13 +1,13 @@
 //! `cmap info`: what files say.
 
-use crate::options::Options;
+use cmap_arguments::options::Options;
 use cmap_report::info::{push_info, push_json};
 use cmap_report::uses::uses_by_layer;
 use cmap_sources::bases::{Bases, Files};
-use cmap_sources::failure::Failure;
-use cmap_sources::inputs::{Asked, open, report_unreadable};
+use cmap_sources::failure::{Failure, report};
+use cmap_sources::inputs::{Asked, open};
 use cmap_sources::reading::Input;
-use cmap_sources::status::{ACCEPTED, REFUSED};
+use cmap_sources::status::{ACCEPTED, FAILED, REFUSED};
 use hayro_cmap::CMap;
 use std::alloc::{AllocError, Global};
 
@@ -45,7 +45,10 @@ fn info_of(
             Ok(ACCEPTED)
         }
         Asked::Refused => Ok(REFUSED),
-        Asked::Unreadable => report_unreadable(rt, path),
+        Asked::Unreadable(failure) => {
+            report(rt, &failure)?;
+            Ok(FAILED)
+        }
     }
 }
 

@@ -1,13 +1,13 @@
 //! `cmap list`: what a file and those that it is based on declare.
 
-use crate::options::Options;
+use cmap_arguments::options::Options;
 use cmap_listing::effective::effective_lines;
 use cmap_listing::line::{Line, push_json, push_line};
 use cmap_listing::list::lines_by_layer;
 use cmap_sources::bases::Bases;
 use cmap_sources::failure::Failure;
 use cmap_sources::inputs::map_needed;
-use cmap_sources::status::{ACCEPTED, REFUSED};
+use cmap_sources::status::ACCEPTED;
 use hayro_cmap::CMap;
 use std::alloc::{AllocError, Global};
 
@@ -17,9 +17,7 @@ pub(crate) fn list(
     options: &Options<'_, '_>,
     bases: &mut Bases<'_>,
 ) -> Result<u8, Failure> {
-    let Some(map) = map_needed(rt, options.file, options.manner(), bases)? else {
-        return Ok(REFUSED);
-    };
+    let map = map_needed(rt, options.file, options.manner(), bases)?;
     let printed = if options.effective {
         effective(rt.alloc(), &map, options.json)?
     } else {

@@ -1,12 +1,12 @@
 //! `cmap lookup`: the CIDs and the texts of single codes.
 
-use crate::options::Options;
+use cmap_arguments::options::Options;
 use cmap_queries::query::Query;
 use cmap_report::lookup::{push_answer, push_json};
 use cmap_sources::bases::Bases;
 use cmap_sources::failure::{Failure, fault};
 use cmap_sources::inputs::map_needed;
-use cmap_sources::status::{ACCEPTED, REFUSED};
+use cmap_sources::status::ACCEPTED;
 use hayro_cmap::CMap;
 use std::alloc::{AllocError, Global};
 
@@ -17,9 +17,7 @@ pub(crate) fn lookup(
     bases: &mut Bases<'_>,
 ) -> Result<u8, Failure> {
     let queries = queries_of(rt, options.arguments)?;
-    let Some(map) = map_needed(rt, options.file, options.manner(), bases)? else {
-        return Ok(REFUSED);
-    };
+    let map = map_needed(rt, options.file, options.manner(), bases)?;
     let lines = lines_of(rt.alloc(), &map, &queries, options.json)?;
     print!(rt; "{lines}")?;
     Ok(ACCEPTED)

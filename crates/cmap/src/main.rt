@@ -2,26 +2,27 @@
 #![tactic(auto)]
 
 mod check;
-mod command_line;
 mod decode;
 mod find;
+mod font;
 mod info;
 mod lint;
 mod list;
+mod locate;
 mod lookup;
-mod messages;
-mod options;
 mod progress;
+mod text;
 
 use clap::ArgMatches;
+use cmap_arguments::command_line::command;
+use cmap_arguments::options::Options;
+use cmap_arguments::usage::print_usage;
 use cmap_sources::bases::Bases;
 use cmap_sources::failure::{Failure, fault, report};
 use cmap_sources::inputs::needed;
-use cmap_sources::status::FAILED;
-use command_line::command;
+use cmap_sources::search::Search;
+use cmap_sources::status::{FAILED, REFUSED};
 use hayro_cmap::Bundle;
-use messages::print_usage;
-use options::Options;
 use std::env;
 use std::process::ExitCode;
 
@@ -72,14 +73,34 @@ fn run_subcommand(
     options: &Options<'_, '_>,
     bundle: Option<&Bundle<'_>>,
 ) -> Result<u8, Failure> {
-    let mut bases = Bases::new(rt, options.bases, bundle)?;
-    let status = match name {
-        "info" => info::info(rt, options, &mut bases)?,
-        "find" => find::find(rt, options, &mut bases)?,
-        "list" => list::list(rt, options, &mut bases)?,
-        "check" => check::check(rt, options, &mut bases)?,
-        "decode" => decode::decode(rt, options, &mut bases)?,
-        _ => lookup::lookup(rt, options, &mut bases)?,
+    let search = if options.no_predefined {
+        Search::nowhere(rt.alloc())
+    } else {
+        Search::of_environment(rt)?
+    };
+    let mut bases = Bases::new(rt, options.bases, bundle, search)?;
+    let status = match run_over(rt, name, options, &mut bases) {
+        Err(Failure::Refused) => REFUSED,
+        ran => ran?,
     };
     Ok(status.max(bases.status()))
+}
+
+/// Does it over the files that others use.
+fn run_over(
+    rt: &HostRuntime,
+    name: &str,
+    options: &Options<'_, '_>,
+    bases: &mut Bases<'_>,
+) -> Result<u8, Failure> {
+    match name {
+        "info" => info::info(rt, options, bases),
+        "find" => find::find(rt, options, bases),
+        "list" => list::list(rt, options, bases),
+        "check" => check::check(rt, options, bases),
+        "decode" => decode::decode(rt, options, bases),
+        "text" => text::text(rt, options, bases),
+        "where" => locate::locate(rt, options, bases),
+        _ => lookup::lookup(rt, options, bases),
+    }
 }

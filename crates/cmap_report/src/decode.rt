@@ -20,6 +20,8 @@ struct Decoded {
     codes: Vec<DecodedCode>,
     /// The texts of the codes in a row, U+FFFD for each code without one.
     text: String,
+    /// Whether each code has a text.
+    is_whole: bool,
 }
 
 impl Decoded {
@@ -27,7 +29,10 @@ impl Decoded {
     fn add(&mut self, code: DecodedCode) -> Result<(), AllocError> {
         match &code.text {
             Some(text) => self.text.push_str(text.as_str())?,
-            None => self.text.push(NO_TEXT)?,
+            None => {
+                self.is_whole = false;
+                self.text.push(NO_TEXT)?;
+            }
         }
         Ok(self.codes.push(code)?)
     }
@@ -41,8 +46,15 @@ struct DecodedCode {
     text: Option<String>,
 }
 
-/// Adds a line for each code of a string, with its CID and its text, and one for the text of the
-/// string. ISO 32000-1, 9.10.2.
+impl DecodedCode {
+    fn of(alloc: Global, character: Character) -> Result<DecodedCode, AllocError> {
+        let Character { code, cid, text } = character;
+        let text = text_string(alloc, text)?;
+        Ok(DecodedCode { code, cid, text })
+    }
+}
+
+/// Adds a line for each code of a string by the CMaps of a font, and one for its text.
 pub fn push_codes(
     alloc: Global,
     out: &mut String,
@@ -70,29 +82,56 @@ pub fn push_json(
     // Also where memory runs out.
     ensures printable { AddsOfLine (string_bytes out.old) (string_bytes out.new) }
 {
-    let object = string_object(alloc, font, string)?;
+    let decoded = decode(alloc, font, string)?;
+    let object = string_object(alloc, decoded, string)?;
     json::push_line(alloc, out, &object)
 }
 
-/// Adds the text of a string as it is, with U+FFFD for a code without one, and ends the line: whether each
-/// code has a text.
-pub fn push_text(
+/// Adds a line with the text of a string, U+FFFD for each code without one, and gives whether each code
+/// has one.
+pub fn push_text_line(
     alloc: Global,
     out: &mut String,
     font: &Extractor<'_>,
     string: &[u8],
 ) -> Result<bool, AllocError> {
     let decoded = decode(alloc, font, string)?;
-    out.push_str(decoded.text.as_str())?;
+    escape::push_text(out, decoded.text.as_str())?;
     out.push('\n')?;
-    Ok(decoded.codes.iter().all(|code| code.text.is_some()))
+    Ok(decoded.is_whole)
 }
 
-fn string_object(alloc: Global, font: &Extractor<'_>, string: &[u8]) -> Result<Value, AllocError> {
+/// Adds the object of the text of a string, ends the line, and gives whether each code has a text.
+pub fn push_text_json(
+    alloc: Global,
+    out: &mut String,
+    font: &Extractor<'_>,
+    string: &[u8],
+) -> Result<bool, AllocError>
+    ensures line { OnOk result (AddsLine (string_bytes out.old) (string_bytes out.new)) }
+
+    // Also where memory runs out.
+    ensures printable { AddsOfLine (string_bytes out.old) (string_bytes out.new) }
+{
+    let Decoded { text, is_whole, .. } = decode(alloc, font, string)?;
+    let object = text_object(alloc, text, string)?;
+    json::push_line(alloc, out, &object)?;
+    Ok(is_whole)
+}
+
+fn text_object(alloc: Global, text: String, string: &[u8]) -> Result<Value, AllocError> {
     let mut object = Map::new(alloc);
     let digits = byte_digits(alloc, string)?;
     put(&mut object, alloc, "string", Value::from(digits))?;
-    put_decoded(alloc, &mut object, decode(alloc, font, string)?)?;
+    put(&mut object, alloc, "text", Value::from(text))?;
+    Ok(Value::Object(object))
+}
+
+fn string_object(alloc: Global, decoded: Decoded, string: &[u8]) -> Result<Value, AllocError> {
+    let mut object = Map::new(alloc);
+    let digits = byte_digits(alloc, string)?;
+    put(&mut object, alloc, "string", Value::from(digits))?;
+    put_decoded(alloc, &mut object, decoded)?;
     Ok(Value::Object(object))
 }
 
@@ -101,7 +140,7 @@ fn put_decoded(
     object: &mut Map<String, Value>,
     decoded: Decoded,
 ) -> Result<(), AllocError> {
-    let Decoded { codes, text } = decoded;
+    let Decoded { codes, text, .. } = decoded;
     put(object, alloc, "text", Value::from(text))?;
     let mut objects = Vec::with_capacity(alloc, codes.len())?;
     for code in codes {
@@ -110,15 +149,16 @@ fn put_decoded(
     put(object, alloc, "codes", Value::Array(objects))
 }
 
+/// The codes of a string by the CMaps of a font, and what they stand for.
 fn decode(alloc: Global, font: &Extractor<'_>, string: &[u8]) -> Result<Decoded, AllocError> {
     let characters = font.characters(alloc, string)?;
     let mut decoded = Decoded {
         codes: Vec::with_capacity(alloc, characters.len())?,
         text: String::new(alloc),
+        is_whole: true,
     };
-    for Character { code, cid, text } in characters {
-        let text = text_string(alloc, text)?;
-        decoded.add(DecodedCode { code, cid, text })?;
+    for character in characters {
+        decoded.add(DecodedCode::of(alloc, character)?)?;
     }
     Ok(decoded)
 }

@@ -1,8 +1,10 @@
 //! The files that others use, by their names. Each is read when it is used for the first time.
 
 use crate::failure::Failure;
+use crate::file_names::file_name;
 use crate::folders::{files_in, is_folder, name_of};
 use crate::inputs::{read, report_unreadable, unreadable};
+use crate::search::Search;
 use crate::status::{ACCEPTED, FAILED};
 use hayro_cmap::{Bundle, BundleFiles, NamedFile, NamedFiles};
 use std::alloc::{AllocError, Global};
@@ -30,16 +32,27 @@ impl NamedFile for Base {
     }
 }
 
+/// Where a file is that has a name.
+#[derive(Drop)]
+pub enum Location {
+    /// The file of a path.
+    File(String),
+    /// In the bundle.
+    Bundle,
+}
+
 /// The files that are read.
 pub type Files<'f> = NamedFiles<'f, Base, Bundle<'f>>;
 
-/// The files that others may use: those of folders, and those of a bundle for the names that none of
-/// them has.
+/// The files that others may use: those of folders, those of a bundle for the names that none of them has,
+/// and else those that are found in further folders.
 #[derive(Drop)]
 pub struct Bases<'b> {
     pub bundle: Option<&'b Bundle<'b>>,
     /// The paths of the files of folders that aren't read yet, by their names.
     paths: BTreeMap<String, String>,
+    /// Where the names are looked up that neither has.
+    search: Search,
     /// The files that are read.
     read: Vec<Base>,
     /// The paths that can't be read, and aren't reported yet.
@@ -49,15 +62,17 @@ pub struct Bases<'b> {
 }
 
 impl<'b> Bases<'b> {
-    /// The files of these folders and of this bundle.
+    /// The files of these folders and of this bundle, and those that a search finds.
     pub fn new(
         rt: &HostRuntime,
         folders: &[&str],
         bundle: Option<&'b Bundle<'b>>,
+        search: Search,
     ) -> Result<Self, Failure> {
         let mut bases = Bases {
             bundle,
             paths: BTreeMap::new(rt.alloc()),
+            search,
             read: Vec::new(rt.alloc()),
             unreadable: Vec::new(rt.alloc()),
             has_failed: false,
@@ -104,19 +119,18 @@ impl<'b> Bases<'b> {
         NamedFiles::alone(self.read.as_slice())
     }
 
-    /// Whether a file has this name that isn't read yet.
+    /// Whether a file may have this name that isn't read yet.
     pub fn has_unread(&self, name: &[u8]) -> bool {
         if self.read_files().find(name).is_some() {
             return false;
         }
-        self.has_path(name) || self.bundle_file(name).is_some()
+        self.path(name).is_some() || self.bundle_file(name).is_some() || self.search.may_have(name)
     }
 
-    fn has_path(&self, name: &[u8]) -> bool {
-        match str::from_utf8(name) {
-            Ok(name) => self.paths.contains_key(name),
-            Err(_) => false,
-        }
+    /// The path of the file of this name in the folders, unless it is read.
+    fn path(&self, name: &[u8]) -> Option<&str> {
+        let name = str::from_utf8(name).ok()?;
+        Some(self.paths.get(name)?.as_str())
     }
 
     fn bundle_file(&self, name: &[u8]) -> Option<&'b [u8]> {
@@ -128,25 +142,39 @@ impl<'b> Bases<'b> {
         if !self.has_unread(name) {
             return Ok(());
         }
-        if let Some(bytes) = self.unread_bytes(rt, name)? {
-            let name = Vec::from_slice(rt.alloc(), name)?;
-            self.read.push(Base { name, bytes })?;
+        match self.unread_bytes(rt, name)? {
+            Some(bytes) => {
+                let name = Vec::from_slice(rt.alloc(), name)?;
+                self.read.push(Base { name, bytes })?;
+            }
+            None => self.search.set_absent(rt.alloc(), name)?,
         }
         Ok(())
     }
 
     /// The bytes of the file of this name, which isn't read yet.
     fn unread_bytes(&mut self, rt: &HostRuntime, name: &[u8]) -> Result<Option<Vec<u8>>, Failure> {
-        if let Some(path) = self.take_path(name) {
-            match read(rt, path.as_str())? {
-                Some(bytes) => return Ok(Some(bytes)),
-                None => self.unreadable.push(path)?,
-            }
+        if let Some(path) = self.take_path(name)
+            && let Some(bytes) = self.bytes_of(rt, path)?
+        {
+            return Ok(Some(bytes));
         }
-        match self.bundle_file(name) {
-            Some(bytes) => Ok(Some(Vec::from_slice(rt.alloc(), bytes)?)),
+        if let Some(bytes) = self.bundle_file(name) {
+            return Ok(Some(Vec::from_slice(rt.alloc(), bytes)?));
+        }
+        match self.search.find(rt, name)? {
+            Some(path) => self.bytes_of(rt, path),
             None => Ok(None),
         }
+    }
+
+    /// The bytes of the file of this path; one that can't be read is to be reported.
+    fn bytes_of(&mut self, rt: &HostRuntime, path: String) -> Result<Option<Vec<u8>>, Failure> {
+        let bytes = read(rt, path.as_str())?;
+        if bytes.is_none() {
+            self.unreadable.push(path)?;
+        }
+        Ok(bytes)
     }
 
     fn take_path(&mut self, name: &[u8]) -> Option<String> {
@@ -164,6 +192,23 @@ impl<'b> Bases<'b> {
             Some(bytes) => Ok(Some(Vec::from_slice(rt.alloc(), bytes)?)),
             None => Ok(None),
         }
+    }
+
+    /// Where the file of this name is.
+    pub fn locate(&mut self, rt: &HostRuntime, name: &[u8]) -> Result<Option<Location>, Failure> {
+        if let Some(path) = self.path(name) {
+            let path = String::from_str(rt.alloc(), path)?;
+            return Ok(Some(Location::File(path)));
+        }
+        if self.bundle_file(name).is_some() {
+            return Ok(Some(Location::Bundle));
+        }
+        Ok(self.search.find(rt, name)?.map(Location::File))
+    }
+
+    /// Whether a file of this name would be found if the predefined CMaps of the system were there.
+    pub fn may_be_predefined(&self, name: &[u8]) -> bool {
+        self.search.is_of_system() && file_name(name).is_some()
     }
 
     /// Whether a file can't be read, which isn't reported yet.

@@ -1,7 +1,7 @@
 //! Messages on the standard error, and why a run ends early. Arguments and paths are untrusted, so they
 //! are escaped.
 
-use crate::status::{FAILED, READER_GONE};
+use crate::status::{FAILED, READER_GONE, REFUSED};
 use cmap_escape::escape::push_text;
 use std::alloc::{AllocError, AllocFailed, Global};
 use std::io::{self, ErrorKind};
@@ -11,6 +11,8 @@ use std::io::{self, ErrorKind};
 pub enum Failure {
     /// What reads the output has gone away.
     ReaderGone,
+    /// The file that the run needs is refused, and why is on the standard error.
+    Refused,
     /// Something can't be read or written.
     Io(io::Error),
     Memory,
@@ -23,6 +25,7 @@ impl Failure {
     pub fn status(&self) -> u8 {
         match self {
             Failure::ReaderGone => READER_GONE,
+            Failure::Refused => REFUSED,
             Failure::Io(_) | Failure::Memory | Failure::Message(_) => FAILED,
         }
     }
@@ -65,10 +68,10 @@ fn line_of(alloc: Global, argument: &str, wrong: &str) -> Result<String, AllocEr
     Ok(line)
 }
 
-/// Reports why a run ends. That a reader has gone away is no fault.
+/// Reports why a run ends. That a reader has gone away is no fault, and a refusal is reported already.
 pub fn report(rt: &HostRuntime, failure: &Failure) -> io::Result<()> {
     match failure {
-        Failure::ReaderGone => Ok(()),
+        Failure::ReaderGone | Failure::Refused => Ok(()),
         Failure::Io(error) => eprintln!(rt; "cmap: {error}"),
         Failure::Memory => eprintln!(rt; "cmap: {}", AllocError),
         Failure::Message(line) => eprintln!(rt; "cmap: {line}"),

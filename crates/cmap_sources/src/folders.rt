@@ -52,6 +52,28 @@ pub fn files_in(rt: &HostRuntime, folder: &str) -> Result<Found, Failure> {
     Ok(found)
 }
 
+/// The subfolders of a folder, in the order of their paths, but for hidden ones and links. Of a folder that
+/// can't be read there are none.
+pub fn subfolders_of(rt: &HostRuntime, folder: &str) -> Result<Vec<String>, Failure> {
+    match readable(subfolders(rt, folder))? {
+        Some(found) => Ok(found),
+        None => Ok(Vec::new(rt.alloc())),
+    }
+}
+
+fn subfolders(rt: &HostRuntime, folder: &str) -> io::Result<Vec<String>> {
+    let mut found = Vec::new(rt.alloc());
+    for entry in read_dir(rt, folder)? {
+        let entry = entry?;
+        let path = String::from_str(rt.alloc(), entry.path().as_str())?;
+        if entry.file_type()?.is_dir() && !name_of(path.as_str()).starts_with('.') {
+            found.push(path)?;
+        }
+    }
+    found.sort()?;
+    Ok(found)
+}
+
 impl Found {
     /// Adds what lies in a folder, or reports that it can't be read.
     fn add_folder(&mut self, rt: &HostRuntime, folder: &str) -> Result<(), Failure> {

@@ -46,6 +46,28 @@ pub fn unreadable(rt: &HostRuntime, path: &str) -> Failure {
     fault(rt, path, "can't be read")
 }
 
+/// The failure of an argument that is neither a path nor a name.
+fn missing(rt: &HostRuntime, argument: &str, bases: &Bases<'_>) -> Failure {
+    if bases.may_be_predefined(argument.as_bytes()) {
+        unknown_name(rt, argument, bases)
+    } else {
+        unreadable(rt, argument)
+    }
+}
+
+/// The failure of a name that no file has.
+pub fn unknown_name(rt: &HostRuntime, name: &str, bases: &Bases<'_>) -> Failure {
+    if bases.may_be_predefined(name.as_bytes()) {
+        fault(
+            rt,
+            name,
+            "no file has this name; the package poppler-data has the predefined CMaps",
+        )
+    } else {
+        fault(rt, name, "no file has this name")
+    }
+}
+
 /// Reports that a path can't be read, and gives the status.
 pub fn report_unreadable(rt: &HostRuntime, path: &str) -> Result<u8, Failure> {
     report(rt, &unreadable(rt, path))?;
@@ -58,8 +80,8 @@ pub enum Asked {
     Map(Vec<u8>, CMap),
     /// The file is refused, and why is on the standard error.
     Refused,
-    /// No file can be read.
-    Unreadable,
+    /// No file can be read, and why.
+    Unreadable(Failure),
 }
 
 /// The map of the file that an argument asks for: by its path, or where no file has the path, by its
@@ -75,7 +97,7 @@ pub fn open(
     }
     match read(rt, argument)? {
         Some(bytes) => open_bytes(rt, argument, bytes, manner, bases),
-        None => Ok(Asked::Unreadable),
+        None => Ok(Asked::Unreadable(unreadable(rt, argument))),
     }
 }
 
@@ -91,7 +113,7 @@ fn open_by_name(
     }
     match CMap::open(rt.alloc(), None, name.as_bytes(), None, &bases.read_files()) {
         Ok(Some(map)) => Ok(Asked::Map(Vec::new(rt.alloc()), map)),
-        Ok(None) | Err(Fault::Refused(_)) => Ok(Asked::Unreadable),
+        Ok(None) | Err(Fault::Refused(_)) => Ok(Asked::Unreadable(missing(rt, name, bases))),
         Err(Fault::Memory) => Err(Failure::Memory),
     }
 }
@@ -109,17 +131,17 @@ fn open_bytes(
     }
 }
 
-/// The map of the one file that a run needs. Why it is refused goes to the standard error.
+/// The map of a file that a run needs. Why it is refused goes to the standard error.
 pub fn map_needed(
     rt: &HostRuntime,
     argument: &str,
     manner: Manner,
     bases: &mut Bases<'_>,
-) -> Result<Option<CMap>, Failure> {
+) -> Result<CMap, Failure> {
     match open(rt, argument, manner, bases)? {
-        Asked::Map(_bytes, map) => Ok(Some(map)),
-        Asked::Refused => Ok(None),
-        Asked::Unreadable => Err(unreadable(rt, argument)),
+        Asked::Map(_bytes, map) => Ok(map),
+        Asked::Refused => Err(Failure::Refused),
+        Asked::Unreadable(failure) => Err(failure),
     }
 }
 

@@ -4,8 +4,10 @@
 
 pub mod bases;
 pub mod failure;
+pub mod file_names;
 pub mod folders;
 pub mod inputs;
 pub mod paths;
 pub mod reading;
+pub mod search;
 pub mod status;

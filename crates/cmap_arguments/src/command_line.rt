@@ -1,6 +1,7 @@
 //! The command line.
 
 use crate::lint;
+use crate::options::TO_UNICODE;
 use clap::{Arg, ArgAction, Command, value_parser};
 use std::alloc::{AllocError, Global};
 
@@ -74,6 +75,26 @@ const SUBCOMMANDS: &[Subcommand] = &[
         }),
     },
     Subcommand {
+        name: "text",
+        about: "Prints the texts of strings",
+        has_file: true,
+        arguments: Some(Arguments {
+            id: "ARGUMENT",
+            value_name: "HEX",
+            help: "Strings, two hexadecimal digits for each byte; - reads them from the standard input",
+        }),
+    },
+    Subcommand {
+        name: "where",
+        about: "Prints the paths of the files that names stand for",
+        has_file: false,
+        arguments: Some(Arguments {
+            id: "FILE",
+            value_name: "NAME",
+            help: "Names of CMaps",
+        }),
+    },
+    Subcommand {
         name: "lookup",
         about: "Prints the CIDs and the texts of single codes",
         has_file: true,
@@ -86,7 +107,7 @@ const SUBCOMMANDS: &[Subcommand] = &[
 ];
 
 /// The command line of `cmap`.
-pub(crate) fn command<'a>(alloc: Global) -> Result<Command<'a>, AllocError> {
+pub fn command<'a>(alloc: Global) -> Result<Command<'a>, AllocError> {
     let mut command = program(alloc)?;
     for subcommand in SUBCOMMANDS {
         command = command.subcommand(subcommand.command(alloc)?)?;
@@ -110,23 +131,30 @@ impl Subcommand {
     }
 
     fn command<'a>(self, alloc: Global) -> Result<Command<'a>, AllocError> {
-        let options = options(alloc)?;
         let mut command = Command::new(alloc, self.name)
             .about(self.about)
-            .args(options)?;
+            .args(options(alloc)?)?;
         if self.has_file {
             command = command.arg(file(alloc))?;
         }
-        command = if self.is_check() {
-            command
-                .args(check_options(alloc)?)?
-                .args(lint::options(alloc)?)?
-        } else {
-            command.arg(lenient(alloc))?
-        };
+        command = command.args(self.own_options(alloc)?)?;
+        if self.is_check() {
+            command = command.args(lint::options(alloc)?)?;
+        }
         match self.arguments {
             Some(arguments) => command.arg(arguments.arg(alloc, self.is_check())?),
-            None => command.arg(effective(alloc)),
+            None => Ok(command),
+        }
+    }
+
+    /// The options that not all subcommands have, but for those of `lint`.
+    fn own_options<'a>(self, alloc: Global) -> Result<Vec<Arg<'a>>, AllocError> {
+        match self.name {
+            "where" => Ok(Vec::new(alloc)),
+            "check" => check_options(alloc),
+            "list" => list_options(alloc),
+            "decode" | "text" => text_options(alloc),
+            _ => reading_options(alloc),
         }
     }
 }
@@ -156,7 +184,12 @@ fn file<'a>(alloc: Global) -> Arg<'a> {
 
 /// The options that each subcommand has.
 fn options<'a>(alloc: Global) -> Result<Vec<Arg<'a>>, AllocError> {
-    Ok(vec![in alloc; base(alloc), bundle(alloc), budget(alloc), json(alloc)]?)
+    Ok(vec![in alloc;
+        base(alloc),
+        bundle(alloc),
+        no_predefined(alloc),
+        json(alloc),
+    ]?)
 }
 
 fn base<'a>(alloc: Global) -> Arg<'a> {
@@ -175,6 +208,13 @@ fn bundle<'a>(alloc: Global) -> Arg<'a> {
         .help("A bundle: its tables are for binary files, its files for names that no folder has")
 }
 
+fn no_predefined<'a>(alloc: Global) -> Arg<'a> {
+    Arg::new(alloc, "no-predefined")
+        .long("no-predefined")
+        .action(ArgAction::SetTrue)
+        .help("Looks up names in --base folders and the bundle alone, and not where CMAP_PATH says")
+}
+
 fn budget<'a>(alloc: Global) -> Arg<'a> {
     Arg::new(alloc, "budget")
         .long("budget")
@@ -191,6 +231,28 @@ fn json<'a>(alloc: Global) -> Arg<'a> {
         .help("One JSON object per line")
 }
 
+/// The options of those that print the texts of strings.
+fn text_options<'a>(alloc: Global) -> Result<Vec<Arg<'a>>, AllocError> {
+    Ok(vec![in alloc; to_unicode(alloc), budget(alloc), lenient(alloc)]?)
+}
+
+fn to_unicode<'a>(alloc: Global) -> Arg<'a> {
+    Arg::new(alloc, TO_UNICODE)
+        .long("to-unicode")
+        .value_name("FILE")
+        .action(ArgAction::Set)
+        .help("The font's ToUnicode CMap, which gives codes their texts")
+}
+
+/// The options of those that read files and stop at the first fault.
+fn reading_options<'a>(alloc: Global) -> Result<Vec<Arg<'a>>, AllocError> {
+    Ok(vec![in alloc; budget(alloc), lenient(alloc)]?)
+}
+
+fn list_options<'a>(alloc: Global) -> Result<Vec<Arg<'a>>, AllocError> {
+    Ok(vec![in alloc; budget(alloc), lenient(alloc), effective(alloc)]?)
+}
+
 /// The option that `list` alone has.
 fn effective<'a>(alloc: Global) -> Arg<'a> {
     Arg::new(alloc, "effective")
@@ -202,9 +264,15 @@ fn effective<'a>(alloc: Global) -> Arg<'a> {
 /// What the option that names a list is found by.
 const FILES_FROM: &str = "files-from";
 
-/// The options that `check` alone has.
+/// The options of `check`, but for those of `lint`.
 fn check_options<'a>(alloc: Global) -> Result<Vec<Arg<'a>>, AllocError> {
-    Ok(vec![in alloc; files_from(alloc), null(alloc), first(alloc), quiet(alloc)]?)
+    Ok(vec![in alloc;
+        budget(alloc),
+        files_from(alloc),
+        null(alloc),
+        first(alloc),
+        quiet(alloc),
+    ]?)
 }
 
 fn files_from<'a>(alloc: Global) -> Arg<'a> {
@@ -238,7 +306,6 @@ fn quiet<'a>(alloc: Global) -> Arg<'a> {
         .help("Doesn't report how many files were checked")
 }
 
-/// The option that all but `check` have.
 fn lenient<'a>(alloc: Global) -> Arg<'a> {
     Arg::new(alloc, "lenient")
         .long("lenient")

@@ -6,42 +6,49 @@ use cmap_sources::inputs::STANDARD_INPUT;
 use cmap_sources::paths::PathList;
 use cmap_sources::reading::{Faults, Form, Manner};
 
+/// What the option that names a ToUnicode CMap is found by; `check` has an option of this name too.
+pub const TO_UNICODE: &str = "to-unicode-file";
+
 /// What the arguments of a subcommand ask for.
 #[derive(Clone, Copy)]
-pub(crate) struct Options<'m, 'w> {
+pub struct Options<'m, 'w> {
     /// The files, and with `check` the folders.
-    pub(crate) paths: &'m [&'w str],
-    /// The first of the files, which is the only one of `list`, `find`, `decode` and
-    /// `lookup`.
-    pub(crate) file: &'w str,
-    /// The strings of `decode`, the codes of `lookup`, and what `find` looks for.
-    pub(crate) arguments: &'m [&'w str],
+    pub paths: &'m [&'w str],
+    /// The first of the files, which is the only one of `list`, `find`, `decode`, `text`
+    /// and `lookup`.
+    pub file: &'w str,
+    /// The strings of `decode` and `text`, the codes of `lookup`, and what `find` looks for.
+    pub arguments: &'m [&'w str],
     /// The folders of the files that others use.
-    pub(crate) bases: &'m [&'w str],
+    pub bases: &'m [&'w str],
     /// The file that is a bundle.
-    pub(crate) bundle: Option<&'w str>,
+    pub bundle: Option<&'w str>,
+    /// Whether names are looked up in the folders of bases and in the bundle alone.
+    pub no_predefined: bool,
     /// The most bytes that a file and the files that it uses may have together.
-    pub(crate) budget: Option<u64>,
+    pub budget: Option<u64>,
+    /// The ToUnicode CMap of `decode` and `text`.
+    pub to_unicode: Option<&'w str>,
     /// Whether each line is a JSON object.
-    pub(crate) json: bool,
+    pub json: bool,
     /// Whether `list` prints what codes have over all layers.
-    pub(crate) effective: bool,
+    pub effective: bool,
     /// The warnings that `check` prints.
-    pub(crate) lint: LintOptions<'m, 'w>,
+    pub lint: LintOptions<'m, 'w>,
     /// The file that lists further files for `check`.
-    pub(crate) files_from: Option<&'w str>,
+    pub files_from: Option<&'w str>,
     /// Whether a zero byte ends each path of the list, and not a line feed.
-    pub(crate) null: bool,
+    pub null: bool,
     /// Whether `check` leaves out how many files it checked.
-    pub(crate) quiet: bool,
+    pub quiet: bool,
     /// Whether `check` prints only the first fault of a file.
-    pub(crate) first: bool,
+    pub first: bool,
     /// Whether files are read past their faults, by all but `check`.
-    pub(crate) lenient: bool,
+    pub lenient: bool,
 }
 
 impl<'m, 'w> Options<'m, 'w> {
-    pub(crate) fn of(matches: &'m ArgMatches<'w>) -> Options<'m, 'w> {
+    pub fn of(matches: &'m ArgMatches<'w>) -> Options<'m, 'w> {
         let paths = given(matches.get_strs("FILE"));
         Options {
             paths,
@@ -49,7 +56,9 @@ impl<'m, 'w> Options<'m, 'w> {
             arguments: given(matches.get_strs("ARGUMENT")),
             bases: given(matches.get_strs("base")),
             bundle: matches.get_str("bundle"),
+            no_predefined: matches.get_flag("no-predefined"),
             budget: matches.get_one::<u64>("budget"),
+            to_unicode: matches.get_str(TO_UNICODE),
             json: matches.get_flag("json"),
             effective: matches.get_flag("effective"),
             lint: LintOptions::of(matches),
@@ -62,14 +71,14 @@ impl<'m, 'w> Options<'m, 'w> {
     }
 
     /// The list of further files for `check`.
-    pub(crate) fn list(&self) -> Option<PathList<'w>> {
+    pub fn list(&self) -> Option<PathList<'w>> {
         let path = self.files_from?;
         let end = if self.null { 0 } else { b'\n' };
         Some(PathList { path, end })
     }
 
     /// How all but `check` read files.
-    pub(crate) fn manner(&self) -> Manner {
+    pub fn manner(&self) -> Manner {
         Manner {
             budget: self.budget,
             faults: if self.lenient {
@@ -82,10 +91,11 @@ impl<'m, 'w> Options<'m, 'w> {
     }
 
     /// Whether several arguments ask for the standard input, which can be read once.
-    pub(crate) fn asks_twice_for_standard_input(&self) -> bool {
+    pub fn asks_twice_for_standard_input(&self) -> bool {
         let count = count_asking(self.paths)
             .saturating_add(count_asking(self.arguments))
             .saturating_add(usize::from(self.bundle == Some(STANDARD_INPUT)))
+            .saturating_add(usize::from(self.to_unicode == Some(STANDARD_INPUT)))
             .saturating_add(usize::from(self.files_from == Some(STANDARD_INPUT)));
         count > 1
     }
@@ -103,7 +113,7 @@ fn count_asking(arguments: &[&str]) -> usize {
 }
 
 /// The arguments, none where there are none.
-pub(crate) fn given<'m, T>(arguments: Option<&'m [T]>) -> &'m [T] {
+pub fn given<'m, T>(arguments: Option<&'m [T]>) -> &'m [T] {
     match arguments {
         Some(arguments) => arguments,
         None => &[],

@@ -1,0 +1,132 @@
+//! The CMaps of a font, and the strings that are read by them.
+
+use cmap_arguments::options::Options;
+use cmap_sources::bases::Bases;
+use cmap_sources::failure::{Failure, fault};
+use cmap_sources::inputs::{STANDARD_INPUT, map_needed, map_of, needed};
+use cmap_unicode::{Extractor, ucs2_name};
+use hayro_cmap::{CMap, CidFamily};
+
+/// The CMaps of a font.
+#[derive(Drop)]
+pub(crate) struct Font {
+    encoding: CMap,
+    to_unicode: Option<CMap>,
+    /// From the CIDs of the encoding's collection to Unicode.
+    collection: Option<CMap>,
+}
+
+impl Font {
+    /// What strings are read by. Without a ToUnicode CMap, codes have the texts that the encoding has.
+    pub(crate) fn extractor(&self) -> Extractor<'_> {
+        let to_unicode = match &self.to_unicode {
+            Some(map) => map,
+            None => &self.encoding,
+        };
+        Extractor {
+            encoding: &self.encoding,
+            to_unicode: Some(to_unicode),
+            collection: self.collection.as_ref(),
+        }
+    }
+}
+
+/// The CMaps that the arguments ask for, and that of the collection where it is found.
+pub(crate) fn font_of(
+    rt: &HostRuntime,
+    options: &Options<'_, '_>,
+    bases: &mut Bases<'_>,
+) -> Result<Font, Failure> {
+    let encoding = map_needed(rt, options.file, options.manner(), bases)?;
+    let to_unicode = to_unicode_of(rt, options, bases)?;
+    let collection = collection_of(rt, &encoding, options, bases)?;
+    Ok(Font {
+        encoding,
+        to_unicode,
+        collection,
+    })
+}
+
+fn to_unicode_of(
+    rt: &HostRuntime,
+    options: &Options<'_, '_>,
+    bases: &mut Bases<'_>,
+) -> Result<Option<CMap>, Failure> {
+    match options.to_unicode {
+        Some(path) => Ok(Some(map_needed(rt, path, options.manner(), bases)?)),
+        None => Ok(None),
+    }
+}
+
+/// The CMap from the CIDs of an encoding's collection to Unicode, where it is found by its name.
+fn collection_of(
+    rt: &HostRuntime,
+    encoding: &CMap,
+    options: &Options<'_, '_>,
+    bases: &mut Bases<'_>,
+) -> Result<Option<CMap>, Failure> {
+    let Some(family) = family_of(encoding) else {
+        return Ok(None);
+    };
+    let name = ucs2_name(rt.alloc(), family)?;
+    let Ok(path) = str::from_utf8(&name) else {
+        return Ok(None);
+    };
+    let Some(bytes) = bases.file(rt, &name)? else {
+        return Ok(None);
+    };
+    match map_of(rt, path, &bytes, options.manner(), bases)? {
+        Some(map) => Ok(Some(map)),
+        None => Err(Failure::Refused),
+    }
+}
+
+/// The character collection of the first layer that has one.
+fn family_of(map: &CMap) -> Option<&CidFamily> {
+    for layer in map.layers() {
+        if let Some(collection) = &layer.metadata().character_collection {
+            return Some(&collection.family);
+        }
+    }
+    None
+}
+
+/// The strings that the arguments spell, and for `-` those of the standard input.
+pub(crate) fn strings_of(rt: &HostRuntime, arguments: &[&str]) -> Result<Vec<Vec<u8>>, Failure> {
+    let mut strings = Vec::new(rt.alloc());
+    for argument in arguments {
+        add_argument(rt, argument, &mut strings)?;
+    }
+    Ok(strings)
+}
+
+/// Adds the string that an argument spells, and for `-` those of the standard input.
+fn add_argument(
+    rt: &HostRuntime,
+    argument: &str,
+    strings: &mut Vec<Vec<u8>>,
+) -> Result<(), Failure> {
+    if argument == STANDARD_INPUT {
+        return add_strings(rt, &needed(rt, argument)?, strings);
+    }
+    Ok(strings.push(string_of(rt, argument)?)?)
+}
+
+/// Adds the strings of the standard input.
+fn add_strings(rt: &HostRuntime, input: &[u8], strings: &mut Vec<Vec<u8>>) -> Result<(), Failure> {
+    let Ok(text) = str::from_utf8(input) else {
+        return Err(fault(rt, STANDARD_INPUT, "not UTF-8"));
+    };
+    for spelled in text.split_whitespace() {
+        strings.push(string_of(rt, spelled)?)?;
+    }
+    Ok(())
+}
+
+/// The bytes that hexadecimal digits spell, two for each.
+fn string_of(rt: &HostRuntime, digits: &str) -> Result<Vec<u8>, Failure> {
+    match hex::decode(rt.alloc(), digits.as_bytes()) {
+        Ok(string) => Ok(string),
+        Err(_) => Err(fault(rt, digits, "not hexadecimal digits in pairs")),
+    }
+}
