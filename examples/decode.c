@@ -4,8 +4,8 @@
  *
  * A line is a code, its CID or none, and its text if it has one, as `<93FA> 3284 日`. Only the files that
  * FILE uses are read. A CMap of a composite font mostly has CIDs alone: the text is then that of the CID
- * in the CMap to Unicode of its character collection, as Adobe-Japan1-UCS2 (ISO 32000-1, 9.10.2). Where
- * the folder has no such file it is that of the code in FILE itself. */
+ * in the CMap to Unicode of its character collection, as Adobe-Japan1-UCS2 (ISO 32000-1, 9.10.2), if the
+ * folder has it. */
 #include <hayro_cmap.h>
 #include <errno.h>
 #include <inttypes.h>
@@ -131,51 +131,41 @@ static bool open_map(hayro_cmap *map, const char *folder, const char *name) {
     return true;
 }
 
-/* Reads the map from the CIDs of a map's collection to Unicode, by ISO 32000-1, 9.10.2. */
-static bool open_texts(hayro_cmap *texts, hayro_cmap *map, const char *folder) {
+/* Reads the map from the CIDs of a map's collection to Unicode, if there is one, by ISO 32000-1, 9.10.2. */
+static void open_texts(hayro_cmap *texts, hayro_cmap *map, const char *folder) {
     char registry[64], ordering[64], name[160];
     size_t registry_len, ordering_len;
     if (hayro_cmap_registry(map, (uint8_t *)registry, sizeof registry, &registry_len) != HAYRO_CMAP_OK
         || hayro_cmap_ordering(map, (uint8_t *)ordering, sizeof ordering, &ordering_len)
                != HAYRO_CMAP_OK)
-        return false;
+        return;
     snprintf(name, sizeof name, "%.*s-%.*s-UCS2", (int)registry_len, registry, (int)ordering_len,
              ordering);
-    return open_map(texts, folder, name);
+    open_map(texts, folder, name);
 }
 
-/* Prints the text of a code, if it has one. */
-static void print_text(hayro_cmap *map, uint32_t code) {
-    uint8_t text[ROOM];
-    size_t len;
-    hayro_cmap_status status = hayro_cmap_text(map, code, text, sizeof text, &len);
-    if (status == HAYRO_CMAP_NO_MEMORY) fail("decode", "out of memory");
-    if (status == HAYRO_CMAP_NO_ROOM) fail("decode", "a text is too long");
-    if (status != HAYRO_CMAP_OK) return;
-    putchar(' ');
-    fwrite(text, 1, len, stdout);
-}
-
-static void print_code(const hayro_cmap_code *code, hayro_cmap *map, hayro_cmap *texts) {
-    printf("<%0*" PRIX32 "> ", 2 * code->byte_len, code->code);
-    if (code->has_cid) printf("%" PRIu32, code->cid);
+static void print_character(const hayro_cmap_character *it, const uint8_t *text) {
+    printf("<%0*" PRIX32 "> ", 2 * it->code.byte_len, it->code.code);
+    if (it->code.has_cid) printf("%" PRIu32, it->code.cid);
     else printf("none");
-    if (texts && code->has_cid) print_text(texts, code->cid);
-    else print_text(map, code->code);
+    if (it->has_text) printf(" %.*s", (int)it->text_len, (const char *)text + it->text_start);
     putchar('\n');
 }
 
 /* Prints the codes of a string, some at a time. */
-static void decode(const uint8_t *string, size_t len, hayro_cmap *map, hayro_cmap *texts) {
-    hayro_cmap_code codes[32];
-    size_t made, taken;
+static void decode(const uint8_t *string, size_t len, hayro_cmap *map, hayro_cmap *own, hayro_cmap *texts) {
+    hayro_cmap_character codes[32];
+    uint8_t text[ROOM];
+    hayro_cmap_extracted done;
     hayro_cmap_status status = HAYRO_CMAP_NO_ROOM;
     while (status == HAYRO_CMAP_NO_ROOM) {
-        status = hayro_cmap_decode(map, string, len, codes, 32, &made, &taken);
-        for (size_t i = 0; i < made; i++) print_code(&codes[i], map, texts);
-        string += taken;
-        len -= taken;
+        status = hayro_cmap_extract(map, own, texts, string, len, codes, 32, text, sizeof text, &done);
+        for (size_t i = 0; i < done.made; i++) print_character(&codes[i], text);
+        if (status == HAYRO_CMAP_NO_ROOM && done.made == 0) fail("decode", "a text is too long");
+        string += done.taken;
+        len -= done.taken;
     }
+    if (status == HAYRO_CMAP_NO_MEMORY) fail("decode", "out of memory");
 }
 
 /* The bytes that hexadecimal digits spell, in place; how many they are. */
@@ -192,12 +182,15 @@ static size_t spelled(char *digits) {
 
 int main(int argc, char **argv) {
     if (argc != 4) fail("usage", "decode FOLDER FILE HEX");
-    hayro_cmap map = HAYRO_CMAP_EMPTY, texts = HAYRO_CMAP_EMPTY;
+    hayro_cmap map = HAYRO_CMAP_EMPTY, own = HAYRO_CMAP_EMPTY, texts = HAYRO_CMAP_EMPTY;
     if (!open_map(&map, argv[1], argv[2])) fail(argv[2], "no such file");
-    bool has_texts = open_texts(&texts, &map, argv[1]);
+    /* The texts of FILE itself come first. Each handle is another one. */
+    if (hayro_cmap_share(&map, &own) != HAYRO_CMAP_OK) fail("decode", "out of memory");
+    open_texts(&texts, &map, argv[1]);
     size_t len = spelled(argv[3]);
-    decode((const uint8_t *)argv[3], len, &map, has_texts ? &texts : NULL);
+    decode((const uint8_t *)argv[3], len, &map, &own, &texts);
     hayro_cmap_free(&texts);
+    hayro_cmap_free(&own);
     hayro_cmap_free(&map);
     return 0;
 }

@@ -4,8 +4,8 @@
 //
 // A line is a code, its CID or none, and its text if it has one, as `<93FA> 3284 日`. Only the files that
 // FILE uses are read. A CMap of a composite font mostly has CIDs alone: the text is then that of the CID
-// in the CMap to Unicode of its character collection, as Adobe-Japan1-UCS2 (ISO 32000-1, 9.10.2). Where
-// the folder has no such file it is that of the code in FILE itself.
+// in the CMap to Unicode of its character collection, as Adobe-Japan1-UCS2 (ISO 32000-1, 9.10.2), if the
+// folder has it.
 #include <hayro_cmap.hpp>
 #include <cerrno>
 #include <fstream>
@@ -73,11 +73,10 @@ int main(int argc, char **argv) try {
     const std::string folder = argv[1], name = argv[2], string = bytes_of(argv[3]);
     auto map = map_of(folder, name);
     if (!map) return fail(name + ": no such file");
-    auto texts = map_of(folder, texts_of(*map));
-    for (const auto &code : map->decode(string)) {
-        auto text = texts && code.has_cid ? texts->text(code.cid) : map->text(code.code);
-        print(code, text);
-    }
+    auto texts = map_of(folder, texts_of(*map)).value_or(hayro::Map());
+    auto own = map->share();
+    hayro::Extractor font(*std::move(map), std::move(own), std::move(texts));
+    for (const auto &[code, text] : font.characters(string)) print(code, text);
     return 0;
 } catch (const std::exception &fault) {
     return fail(fault.what());

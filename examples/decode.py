@@ -5,8 +5,7 @@
 
 A line is a code, its CID or none, and its text if it has one, as `<93FA> 3284 日`. Only the files that FILE uses are
 read. A CMap of a composite font mostly has CIDs alone: the text is then that of the CID in the CMap to Unicode of its
-character collection, as Adobe-Japan1-UCS2 (ISO 32000-1, 9.10.2). Where the folder has no such file it is that of the
-code in FILE itself.
+character collection, as Adobe-Japan1-UCS2 (ISO 32000-1, 9.10.2), if the folder has it.
 """
 
 import sys
@@ -32,10 +31,9 @@ def line_of(code, text):
 def main(folder, file, digits):
     files = hayro_cmap.folder(folder)
     with hayro_cmap.CMap.open(file, files) as cmap:
-        texts = texts_of(cmap, files)
-        for code in cmap.decode(bytes.fromhex(digits)):
-            by_cid = texts is not None and code.cid is not None
-            print(line_of(code, texts.text(code.cid) if by_cid else cmap.text(code.code)))
+        font = hayro_cmap.Extractor(cmap, to_unicode=cmap, collection=texts_of(cmap, files))
+        for code, text in font.characters(bytes.fromhex(digits)):
+            print(line_of(code, text))
 
 
 if __name__ == "__main__":

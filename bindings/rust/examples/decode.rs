@@ -5,9 +5,9 @@
 //! A line is a code, its CID or none, and its text if it has one, as `<93FA> 3284 日`. Only the files
 //! that FILE uses are read. A CMap of a composite font mostly has CIDs alone: the text is then that of
 //! the CID in the CMap to Unicode of its character collection, as Adobe-Japan1-UCS2 (ISO 32000-1,
-//! 9.10.2). Where the folder has no such file it is that of the code in FILE itself.
+//! 9.10.2), if the folder has it.
 
-use hayro_cmap::{BfString, CMap, CMapName, Refusal, StringCode};
+use hayro_cmap::{BfString, CMap, CMapName, Extractor, Refusal, StringCode};
 use std::collections::HashMap;
 use std::error::Error;
 use std::path::Path;
@@ -84,12 +84,9 @@ fn run() -> Result<(), Box<dyn Error>> {
     let map = map_of(folder, CMapName::from_bytes(file.as_bytes()))?;
     let map = map.ok_or_else(|| format!("{file}: no such file"))?;
     let texts = texts_of(folder, &map)?;
-    for code in map.decode(&string) {
-        let text = match (&texts, code.cid) {
-            (Some(texts), Some(cid)) => texts.lookup_bf_string(cid),
-            _ => map.lookup_bf_string(code.code),
-        };
-        println!("{}", line_of(&code, text));
+    let font = Extractor::new(map.clone(), Some(map), texts);
+    for it in font.characters(&string) {
+        println!("{}", line_of(&it.code, it.text));
     }
     Ok(())
 }
