@@ -9,9 +9,9 @@ use std::marker::Model;
 /// Bits that have been written. A clause sees them all, in order.
 #[derive(Debug, Drop)]
 pub(crate) struct BitWriter {
-    // the bytes that are full
+    /// The bytes that are full.
     bytes: Vec<u8>,
-    // how many bits of the next byte there are, and the number that they write
+    /// How many bits of the next byte there are, and the number that they write.
     count: u8,
     pending: u8,
 }
@@ -52,7 +52,7 @@ impl BitWriter {
         Ok(())
     }
 
-    // Writes one bit.
+    /// Writes one bit.
     fn push_bit(&mut self, bit: u8) -> Result<(), AllocError>
         requires { bit < 2 }
         ensures { IfOk result (λ _. self.new ≡ self.old ++ bit ∷ []) }

@@ -75,14 +75,14 @@ pub(crate) fn segment_len(shape: Shape, entries: &[CidRange]) -> usize
     count
 }
 
-// Whether an entry can follow another one in a segment of this shape.
+/// Whether an entry can follow another one in a segment of this shape.
 fn follows(shape: Shape, before: &CidRange, entry: &CidRange) -> bool
     ensures { IsTrue result → Follows (shape_seen shape) before.now entry.now }
 {
     entry.cid != 0 && before.range.end < entry.range.start && shape.fits(entry.range)
 }
 
-// Writes a segment of these codes of one length, with their CIDs.
+/// Writes a segment of these codes of one length, with their CIDs.
 fn push_cid_segment(
     alloc: Global,
     tables: &Encoders,
@@ -104,7 +104,7 @@ fn push_cid_segment(
     Ok(())
 }
 
-// The payload of a segment of these entries.
+/// The payload of a segment of these entries.
 fn cid_payload(
     alloc: Global,
     tables: &Encoders,
@@ -121,7 +121,7 @@ fn cid_payload(
     Ok(payload)
 }
 
-// Writes the CIDs of entries, in two bytes each.
+/// Writes the CIDs of entries, in two bytes each.
 fn push_raw_cids(out: &mut Vec<u8>, entries: &[CidRange]) -> Result<(), AllocError>
     ensures { IfOk result (λ _. out.new.items ≡ out.old.items ++ flat_map (λ e. bytes_of 2 e.cid) (entries_seen entries.now)) }
 {

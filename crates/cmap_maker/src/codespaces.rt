@@ -39,7 +39,7 @@ pub(crate) fn push_codespaces(
     Ok(())
 }
 
-// The payload of a segment of these codespace ranges.
+/// The payload of a segment of these codespace ranges.
 fn codespace_payload(alloc: Global, spaces: &[Codespace]) -> Result<Vec<u8>, Fault<Obstacle>>
     requires { length spaces.now < 2 ^ 8 }
     ensures { IfOk result (λ payload. CodespacesIn payload.items (map codespace_seen spaces.now)) }
@@ -50,7 +50,7 @@ fn codespace_payload(alloc: Global, spaces: &[Codespace]) -> Result<Vec<u8>, Fau
     Ok(payload)
 }
 
-// Writes codespace ranges in a row.
+/// Writes codespace ranges in a row.
 fn push_spaces(out: &mut Vec<u8>, spaces: &[Codespace]) -> Result<(), Fault<Obstacle>>
     ensures { IfOk result (λ _. Appends out.old.items out.new.items (WritesAll CodespaceAt (map codespace_seen spaces.now))) }
 {
@@ -60,7 +60,7 @@ fn push_spaces(out: &mut Vec<u8>, spaces: &[Codespace]) -> Result<(), Fault<Obst
     Ok(())
 }
 
-// Writes a codespace range: the length of its codes, low, high.
+/// Writes a codespace range: the length of its codes, low, high.
 fn push_space(out: &mut Vec<u8>, space: Codespace) -> Result<(), Fault<Obstacle>>
     ensures { IfOk result (λ _. Appends out.old.items out.new.items (Writes CodespaceAt (codespace_seen space))) }
 {

@@ -79,7 +79,7 @@ pub(crate) fn push_columns(
     }
 }
 
-// Writes a column: the code words of these symbols, in a piece after its length.
+/// Writes a column: the code words of these symbols, in a piece after its length.
 fn push_column(
     alloc: Global,
     table: &Encoder,

@@ -36,7 +36,7 @@ pub(crate) fn push_lists(
     Ok(())
 }
 
-// Writes the notdef declarations for codes of each length.
+/// Writes the notdef declarations for codes of each length.
 fn push_notdef_lists(
     alloc: Global,
     lists: &ByLength<Vec<CidRange>>,
@@ -51,7 +51,7 @@ fn push_notdef_lists(
     Ok(())
 }
 
-// Writes CID declarations for codes of each length.
+/// Writes CID declarations for codes of each length.
 fn push_cid_lists(
     alloc: Global,
     tables: &Encoders,
@@ -67,7 +67,7 @@ fn push_cid_lists(
     Ok(())
 }
 
-// Writes CID declarations for codes of one length, by which each has the CID that it has by this list.
+/// Writes CID declarations for codes of one length, by which each has the CID that it has by this list.
 fn push_cid_list(
     alloc: Global,
     tables: &Encoders,

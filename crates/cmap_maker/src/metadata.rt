@@ -54,7 +54,7 @@ pub(crate) fn push_uses(names: &[&[u8]], out: &mut Vec<u8>) -> Result<(), Fault<
     Ok(())
 }
 
-// Writes a segment for a name.
+/// Writes a segment for a name.
 fn push_name(name: &Option<Vec<u8>>, out: &mut Vec<u8>) -> Result<(), Fault<Obstacle>>
     ensures { IfOk result (λ _. Appends out.old.items out.new.items
         (WritesAll SegmentByAny (from_option (λ name. sets_name name.items) name.now))) }
@@ -65,7 +65,7 @@ fn push_name(name: &Option<Vec<u8>>, out: &mut Vec<u8>) -> Result<(), Fault<Obst
     Ok(())
 }
 
-// Writes a segment for a writing mode.
+/// Writes a segment for a writing mode.
 fn push_mode(mode: Option<WritingMode>, out: &mut Vec<u8>) -> Result<(), Fault<Obstacle>>
     ensures { IfOk result (λ _. Appends out.old.items out.new.items
         (WritesAll SegmentByAny (from_option (λ mode. sets_mode (Some (mode_seen mode))) mode))) }
@@ -76,7 +76,7 @@ fn push_mode(mode: Option<WritingMode>, out: &mut Vec<u8>) -> Result<(), Fault<O
     Ok(())
 }
 
-// The number of a writing mode.
+/// The number of a writing mode.
 fn mode_number(mode: WritingMode) -> u8
     ensures { mode_numbered result ≡ Some (mode_seen mode) }
 {
@@ -86,7 +86,7 @@ fn mode_number(mode: WritingMode) -> u8
     }
 }
 
-// Writes a segment for a character collection.
+/// Writes a segment for a character collection.
 fn push_collection(
     alloc: Global,
     collection: &Option<CharacterCollection>,
@@ -102,7 +102,7 @@ fn push_collection(
     Ok(())
 }
 
-// The payload of a segment for a character collection.
+/// The payload of a segment for a character collection.
 fn collection_payload(
     alloc: Global,
     collection: &CharacterCollection,
@@ -121,14 +121,14 @@ fn collection_payload(
     Ok(payload)
 }
 
-// The number of a supplement, where two bytes can say it.
+/// The number of a supplement, where two bytes can say it.
 fn supplement_number(collection: &CharacterCollection) -> Option<u16>
     ensures { IfSome result (λ number. (number < 2 ^ 16) × (pos number ≡ collection.now.supplement)) }
 {
     u16::try_from(collection.supplement).ok()
 }
 
-// Checks that a family is the one of its registry and ordering.
+/// Checks that a family is the one of its registry and ordering.
 fn check_family(alloc: Global, family: &CidFamily) -> Result<(), Fault<Obstacle>>
     ensures { IfOk result (λ _. family_of (registry_of (family_seen family.now)) (ordering_of (family_seen family.now)) ≡ family_seen family.now) }
 {
@@ -143,7 +143,7 @@ fn check_family(alloc: Global, family: &CidFamily) -> Result<(), Fault<Obstacle>
     }
 }
 
-// Writes a text and the zero byte that ends it.
+/// Writes a text and the zero byte that ends it.
 fn push_terminated(out: &mut Vec<u8>, text: &[u8]) -> Result<(), Fault<Obstacle>>
     ensures { IfOk result (λ _. Appends out.old.items out.new.items (Writes TerminatedAt text.now)) }
 {

@@ -44,7 +44,7 @@ pub(crate) fn push_notdefs(
     Ok(())
 }
 
-// The payload of a segment of these notdef declarations.
+/// The payload of a segment of these notdef declarations.
 fn notdef_payload(
     alloc: Global,
     len: CodeLength,
@@ -60,7 +60,7 @@ fn notdef_payload(
     Ok(payload)
 }
 
-// Writes notdef declarations in a row.
+/// Writes notdef declarations in a row.
 fn push_entries(
     out: &mut Vec<u8>,
     len: CodeLength,
@@ -74,7 +74,7 @@ fn push_entries(
     Ok(())
 }
 
-// Writes a notdef declaration: start, end, and a CID of two bytes.
+/// Writes a notdef declaration: start, end, and a CID of two bytes.
 fn push_notdef(out: &mut Vec<u8>, len: CodeLength, entry: &CidRange) -> Result<(), Fault<Obstacle>>
     ensures { IfOk result (λ _. Appends out.old.items out.new.items (Writes (NotdefAt (length_of len)) (cid_entry_seen entry.now))) }
 {
@@ -102,7 +102,7 @@ pub(crate) fn push_code(
     Ok(())
 }
 
-// The largest code of this length.
+/// The largest code of this length.
 fn largest_code(len: CodeLength) -> u32
     ensures { result + 1 ≡ 2 ^ (8 * length_of len) }
 {

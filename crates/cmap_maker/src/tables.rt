@@ -46,7 +46,7 @@ pub(crate) fn tables_for(alloc: Global, files: &[File<'_>]) -> Result<Encoders, 
     })
 }
 
-// Adds the numbers that lists are spelled by.
+/// Adds the numbers that lists are spelled by.
 fn gather_lists(
     alloc: Global,
     lists: &ByLength<Vec<CidRange>>,
@@ -58,7 +58,7 @@ fn gather_lists(
     gather_list(alloc, &lists.four, symbols)
 }
 
-// Adds the numbers that a list is spelled by.
+/// Adds the numbers that a list is spelled by.
 fn gather_list(
     alloc: Global,
     list: &[CidRange],
@@ -75,7 +75,7 @@ fn gather_list(
     Ok(())
 }
 
-// Adds the numbers that a segment is spelled by.
+/// Adds the numbers that a segment is spelled by.
 fn gather_segment(
     alloc: Global,
     shape: Shape,
@@ -94,7 +94,7 @@ fn gather_segment(
     }
 }
 
-// A table with a code word for each of these symbols.
+/// A table with a code word for each of these symbols.
 fn encoder_for(alloc: Global, mut symbols: Vec<u32>) -> Result<Encoder, Fault<Obstacle>> {
     symbols.sort()?;
     let total = symbols.len() as u64;
@@ -116,8 +116,8 @@ fn encoder_for(alloc: Global, mut symbols: Vec<u32>) -> Result<Encoder, Fault<Ob
 /// The most bits of a code word.
 const LONGEST: usize = 32;
 
-// How many bits the code word of a symbol has that comes so many times among so many: as few as
-// leave room for all.
+/// The length of the code word of a symbol that comes `times` times among `total`: the shortest one by
+/// which all code words have room.
 fn word_len(times: u64, total: u64) -> usize
     ensures { (1 ≤ result) × (result ≤ 32) }
 {
@@ -128,7 +128,7 @@ fn word_len(times: u64, total: u64) -> usize
     len
 }
 
-// How often each of these symbols comes, which are in order.
+/// How often each of these symbols comes, which are in order.
 fn frequencies(alloc: Global, symbols: &[u32]) -> Result<Vec<Frequency>, AllocError> {
     let mut frequencies: Vec<Frequency> = Vec::new(alloc);
     for symbol in symbols {

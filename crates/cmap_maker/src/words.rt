@@ -31,7 +31,7 @@ pub(crate) struct Word {
 /// the order of their words, each with the length of its word in bits.
 #[derive(Debug, Drop)]
 pub struct Encoder {
-    // how many words there are of each length, from 1 on
+    /// How many words there are of each length, from 1 on.
     counts: Vec<u16>,
     words: Vec<Word>,
 }
@@ -121,7 +121,7 @@ impl Encoder {
         Ok(Some(written.finish()?))
     }
 
-    // The code word of a symbol.
+    /// The code word of a symbol.
     fn find(&self, symbol: u32) -> Option<Word>
         ensures some { IfSome result (λ word. HasWord self.now symbol word.len word.value) }
         ensures none { IsNoWordOf self.now symbol result }
@@ -135,7 +135,7 @@ impl Encoder {
     }
 }
 
-// The lengths of words, of which there are as many of each length, from 1 on, as are counted.
+/// The lengths of code words, in order. `counts` has how many there are of each length, from 1 on.
 fn word_lengths(alloc: Global, counts: &[u16]) -> Result<Vec<u8>, AllocError>
     requires { length counts.now ≤ 32 }
     ensures { IfOk result (λ lens. lens.items ≡ lengths_from 1 counts.now) }
@@ -147,7 +147,7 @@ fn word_lengths(alloc: Global, counts: &[u16]) -> Result<Vec<u8>, AllocError>
     Ok(lens)
 }
 
-// Adds this number so many times.
+/// Adds `count` copies of a number.
 fn push_copies(numbers: &mut Vec<u8>, number: u8, count: u16) -> Result<(), AllocError>
     ensures { IfOk result (λ _. numbers.new.items ≡ numbers.old.items ++ replicate count number) }
 {
@@ -157,8 +157,8 @@ fn push_copies(numbers: &mut Vec<u8>, number: u8, count: u16) -> Result<(), Allo
     Ok(())
 }
 
-// The symbols with words of these lengths, in order; `None` where the lengths aren't from 1 to 32,
-// in rising order, with room for each word.
+/// The symbols with code words of these lengths. `None` where the lengths don't rise from 1 to 32, or
+/// leave no room for a word.
 fn make_words(alloc: Global, lens: &[u8], symbols: &[u32]) -> Result<Option<Vec<Word>>, AllocError>
     requires { length symbols.now ≡ length lens.now }
     ensures { IfOk result (λ o. MatchOption o (AreWordLengths lens.now → ⊥)
@@ -183,7 +183,7 @@ fn make_words(alloc: Global, lens: &[u8], symbols: &[u32]) -> Result<Option<Vec<
     Ok(Some(words))
 }
 
-// Writes the symbols of words, of `width` bytes each.
+/// Writes the symbols of words, of `width` bytes each.
 fn push_symbols(out: &mut Vec<u8>, words: &[Word], width: u8) -> Result<(), AllocError>
     requires { width ≤ 4 }
     ensures { IfOk result (λ _. out.new.items ≡ out.old.items ++ flat_map (λ w. bytes_of width w.symbol) words.now) }
@@ -194,8 +194,8 @@ fn push_symbols(out: &mut Vec<u8>, words: &[Word], width: u8) -> Result<(), Allo
     Ok(())
 }
 
-// The value of a word of `len` bits after words of at most `last`, which leave `next` as the first
-// number of so many bits that none of them begins; `None` where there is no such word.
+/// The value of the next code word, of `len` bits. The words before it have at most `last` bits, and `next`
+/// is the first number of `last` bits that none of them begins. `None` where no word is left.
 fn value_after(last: u8, next: u64, len: u8) -> Option<u32>
     requires last { last ≤ 32 }
     requires next { next ≤ 2 ^ last }
