@@ -1,6 +1,6 @@
 //! The code words of symbols, and the bits that spell symbols by them.
 
-ghost use Rattle.std.specs.Prelude.{◌≡◌, ◌++◌, ◌≤◌, ◌<◌, ◌*◌, ◌-◌, ◌^◌, All, Any, IfNone, IfOk, IfSome, IsTrue, MatchOption, flat_map, length, replicate};
+ghost use Rattle.std.specs.Prelude.{◌↔◌, ◌≡◌, ◌++◌, ◌≤◌, ◌<◌, ◌*◌, ◌-◌, ◌^◌, All, Any, IfNone, IfOk, IfSome, IsTrue, MatchOption, flat_map, length, replicate};
 ghost use Rattle.cmap_binary.specs.TableFronts.{TableAt};
 ghost use Rattle.cmap_binary.specs.PrefixWords.{AreWordLengths, BeginWithWordsOf, bits, lengths_from, zip_words};
 ghost use Rattle.cmap_maker.specs.Spelled.{HasWord, IsNoSymbol, IsNoWordOf};
@@ -81,7 +81,7 @@ impl Encoder {
 
     /// Whether no symbol is above this number.
     pub fn fits(&self, most: u32) -> bool
-        ensures { IsTrue result → All (λ p. p.symbol ≤ most) self.now }
+        ensures { IsTrue result ↔ All (λ p. p.symbol ≤ most) self.now }
     {
         for word in &self.words {
             if word.symbol > most {
