@@ -10,10 +10,10 @@ ghost use Rattle.cmap_maker.specs.Written.{Appends};
 
 use crate::obstacle::Obstacle;
 use crate::pieces::push_sized;
+use crate::segments::Segment;
 use crate::words::Encoder;
-use cmap_files::declarations::CidRange;
 use cmap_files::fault::Fault;
-use cmap_runs::runs::Range;
+use cmap_runs::runs::{HasRange, Range};
 use std::alloc::{AllocError, Global};
 
 /// The code words of a bundle: of deltas and of counts.
@@ -43,6 +43,14 @@ impl Shape {
         }
     }
 
+    /// Where segments of this shape stand among those of a list.
+    pub(crate) fn order(self) -> u8 {
+        match self {
+            Shape::Ranges => 0,
+            Shape::Singles => 1,
+        }
+    }
+
     /// Whether a range has this shape.
     pub(crate) fn fits(self, range: Range) -> bool
         ensures { IsTrue result → HasShape (shape_seen self) range.start range.end }
@@ -54,26 +62,18 @@ impl Shape {
     }
 }
 
-/// Writes the columns of these entries: of their deltas, and of ranges also of their counts.
+/// Writes columns: of deltas, and of ranges also of counts.
 pub(crate) fn push_columns(
     alloc: Global,
     tables: &Encoders,
-    shape: Shape,
-    entries: &[CidRange],
+    segment: &Segment,
     out: &mut Vec<u8>,
-) -> Result<(), Fault<Obstacle>>
-    requires order { AreInOrder 0 (spans_of (entries_seen entries.now)) }
-    requires shape { AreShaped (shape_seen shape) (spans_of (entries_seen entries.now)) }
-    ensures { IfOk result (λ _. Appends out.old.items out.new.items
-        (WritesColumns (encoders_seen tables.now) (shape_seen shape) (spans_of (entries_seen entries.now)))) }
-{
-    let deltas = deltas(alloc, entries)?;
-    push_column(alloc, &tables.delta, &deltas, out)?;
-    match shape {
+) -> Result<(), Fault<Obstacle>> {
+    push_column(alloc, &tables.delta, &segment.deltas, out)?;
+    match segment.shape {
         Shape::Singles => Ok(()),
         Shape::Ranges => {
-            let counts = counts(alloc, entries)?;
-            push_column(alloc, &tables.count, &counts, out)?;
+            push_column(alloc, &tables.count, &segment.counts, out)?;
             Ok(())
         }
     }
@@ -96,28 +96,34 @@ fn push_column(
 }
 
 /// How many codes each entry leaves out after the one before.
-pub(crate) fn deltas(alloc: Global, entries: &[CidRange]) -> Result<Vec<u32>, AllocError>
-    requires { AreInOrder 0 (spans_of (entries_seen entries.now)) }
-    ensures { IfOk result (λ deltas. deltas.items ≡ deltas_of 0 (spans_of (entries_seen entries.now))) }
-{
-    let mut deltas = Vec::new(alloc);
+pub(crate) fn deltas<T: HasRange>(alloc: Global, entries: &[T]) -> Result<Vec<u32>, AllocError> {
+    let mut deltas = Vec::with_capacity(alloc, entries.len())?;
     let mut base = 0;
     for entry in entries {
-        let range = entry.range;
+        let range = entry.range();
         deltas.push((u64::from(range.start) - base) as u32)?;
         base = u64::from(range.end) + 1;
     }
     Ok(deltas)
 }
 
+/// How many codes more than two each range has; nothing of single codes.
+pub(crate) fn counts<T: HasRange>(
+    alloc: Global,
+    shape: Shape,
+    entries: &[T],
+) -> Result<Vec<u32>, AllocError> {
+    match shape {
+        Shape::Singles => Ok(Vec::new(alloc)),
+        Shape::Ranges => range_counts(alloc, entries),
+    }
+}
+
 /// How many codes more than two each range has.
-pub(crate) fn counts(alloc: Global, entries: &[CidRange]) -> Result<Vec<u32>, AllocError>
-    requires { AreShaped ranges (spans_of (entries_seen entries.now)) }
-    ensures { IfOk result (λ counts. counts.items ≡ counts_of (spans_of (entries_seen entries.now))) }
-{
-    let mut counts = Vec::new(alloc);
+fn range_counts<T: HasRange>(alloc: Global, entries: &[T]) -> Result<Vec<u32>, AllocError> {
+    let mut counts = Vec::with_capacity(alloc, entries.len())?;
     for entry in entries {
-        let range = entry.range;
+        let range = entry.range();
         counts.push(range.end - range.start - 1)?;
     }
     Ok(counts)

@@ -1,4 +1,4 @@
-//! What a binary file can't say.
+//! What a bundle can't say.
 
 use cmap_runs::runs::Range;
 
@@ -15,10 +15,22 @@ pub enum Obstacle {
     CustomFamily,
     /// A supplement outside 0 to 65535.
     Supplement(i32),
-    /// The text of these codes.
+    /// The texts of these codes: they have more than 255 units, or are those of more than 65536 codes
+    /// in a row.
     Text(Range),
-    /// A table has no code word for a number that is to be spelled by it.
+    /// A table has no code word for a number that is to be spelled by it; or there are more than
+    /// 65535 numbers to spell.
     NoWord,
     /// Something would have 2^32 bytes or more.
     TooLong,
+    /// The name of the file is none of the known ones, so a bundle has no place for it.
+    NoPlace,
+}
+
+/// Which file can't be written in a bundle, and why.
+#[derive(Clone, Copy, Debug)]
+pub struct Unwritable {
+    /// The index of the file among those that were handed in.
+    pub index: usize,
+    pub obstacle: Obstacle,
 }

@@ -1,19 +1,12 @@
 //! Tables of code words for the numbers that files are spelled by: the more often a number comes,
 //! the shorter its word.
 
-ghost use Rattle.std.specs.Prelude.{◌≤◌};
-ghost use Rattle.cmap_files.specs.DeclarationsSeen.{entries_seen};
-ghost use Rattle.cmap_maker.specs.EncodersSeen.{shape_seen};
-ghost use Rattle.cmap_maker.specs.Held.{AreHeld};
-
-use crate::cids::{first_shape, segment_len};
-use crate::columns::{Encoders, Shape, counts, deltas};
+use crate::columns::Encoders;
+use crate::lengths::word_lengths;
 use crate::obstacle::Obstacle;
-use crate::split::split_ranges;
+use crate::slots::Slot;
 use crate::words::Encoder;
-use cmap_files::declarations::{ByLength, CidRange};
 use cmap_files::fault::Fault;
-use cmap_files::file::File;
 use std::alloc::{AllocError, Global};
 
 /// The numbers that files are spelled by, as often as they come.
@@ -23,21 +16,27 @@ struct Symbols {
     counts: Vec<u32>,
 }
 
-/// A number, and how often it comes.
+/// A number, how often it comes, and how long its code word is.
 #[derive(Clone, Copy)]
 struct Frequency {
     symbol: u32,
     times: u64,
+    len: u8,
 }
 
 /// Tables with a code word for each number that these files are spelled by.
-pub(crate) fn tables_for(alloc: Global, files: &[File<'_>]) -> Result<Encoders, Fault<Obstacle>> {
+pub(crate) fn tables_for(alloc: Global, slots: &[Slot<'_>]) -> Result<Encoders, Fault<Obstacle>> {
     let mut symbols = Symbols {
         deltas: Vec::new(alloc),
         counts: Vec::new(alloc),
     };
-    for file in files {
-        gather_lists(alloc, &file.lists.cids, &mut symbols)?;
+    for slot in slots {
+        if let Slot::File(prepared) = slot {
+            for segment in &prepared.segments {
+                symbols.deltas.extend_from_slice(&segment.deltas)?;
+                symbols.counts.extend_from_slice(&segment.counts)?;
+            }
+        }
     }
     let Symbols { deltas, counts } = symbols;
     Ok(Encoders {
@@ -46,68 +45,35 @@ pub(crate) fn tables_for(alloc: Global, files: &[File<'_>]) -> Result<Encoders, 
     })
 }
 
-/// Adds the numbers that lists are spelled by.
-fn gather_lists(
-    alloc: Global,
-    lists: &ByLength<Vec<CidRange>>,
-    symbols: &mut Symbols,
-) -> Result<(), Fault<Obstacle>> {
-    gather_list(alloc, &lists.one, symbols)?;
-    gather_list(alloc, &lists.two, symbols)?;
-    gather_list(alloc, &lists.three, symbols)?;
-    gather_list(alloc, &lists.four, symbols)
-}
-
-/// Adds the numbers that a list is spelled by.
-fn gather_list(
-    alloc: Global,
-    list: &[CidRange],
-    symbols: &mut Symbols,
-) -> Result<(), Fault<Obstacle>> {
-    let pieces = split_ranges(alloc, list)?;
-    let mut left = pieces.as_slice();
-    while !left.is_empty() {
-        let shape = first_shape(left);
-        let (here, later) = left.split_at(segment_len(shape, left));
-        gather_segment(alloc, shape, here, symbols)?;
-        left = later;
-    }
-    Ok(())
-}
-
-/// Adds the numbers that a segment is spelled by.
-fn gather_segment(
-    alloc: Global,
-    shape: Shape,
-    entries: &[CidRange],
-    symbols: &mut Symbols,
-) -> Result<(), AllocError>
-    requires { AreHeld (shape_seen shape) (entries_seen entries.now) }
-{
-    symbols.deltas.extend_from_slice(&deltas(alloc, entries)?)?;
-    match shape {
-        Shape::Singles => Ok(()),
-        Shape::Ranges => {
-            symbols.counts.extend_from_slice(&counts(alloc, entries)?)?;
-            Ok(())
-        }
-    }
-}
-
-/// A table with a code word for each of these symbols.
+/// A table with a code word for each of these symbols: of the fewest bits, or of 16 bits each where
+/// a word would have more than 32.
 fn encoder_for(alloc: Global, mut symbols: Vec<u32>) -> Result<Encoder, Fault<Obstacle>> {
     symbols.sort()?;
-    let total = symbols.len() as u64;
-    let mut frequencies = frequencies(alloc, &symbols)?;
-    frequencies.sort_by_key(|frequency| u64::MAX - frequency.times)?;
+    let frequencies = with_lengths(alloc, frequencies(alloc, &symbols)?)?;
     let mut counts = vec![in alloc; 0u16; LONGEST]?;
     let mut words = Vec::new(alloc);
     for frequency in &frequencies {
-        let len = word_len(frequency.times, total);
-        counts[len - 1] = counts[len - 1].saturating_add(1);
+        if let Some(count) = counts.get_mut(usize::from(frequency.len).saturating_sub(1)) {
+            *count = count.saturating_add(1);
+        }
         words.push(frequency.symbol)?;
     }
-    match Encoder::new(alloc, counts, &words)? {
+    if let Some(encoder) = Encoder::new(alloc, counts, &words)? {
+        return Ok(encoder);
+    }
+    flat_encoder(alloc, &words)
+}
+
+/// A table with a code word of 16 bits for each of these symbols.
+fn flat_encoder(alloc: Global, symbols: &[u32]) -> Result<Encoder, Fault<Obstacle>> {
+    let Ok(count) = u16::try_from(symbols.len()) else {
+        return Err(Fault::Refused(Obstacle::NoWord));
+    };
+    let mut counts = vec![in alloc; 0u16; FLAT]?;
+    if let Some(last) = counts.last_mut() {
+        *last = count;
+    }
+    match Encoder::new(alloc, counts, symbols)? {
         Some(encoder) => Ok(encoder),
         None => Err(Fault::Refused(Obstacle::NoWord)),
     }
@@ -116,16 +82,24 @@ fn encoder_for(alloc: Global, mut symbols: Vec<u32>) -> Result<Encoder, Fault<Ob
 /// The most bits of a code word.
 const LONGEST: usize = 32;
 
-/// The length of the code word of a symbol that comes `times` times among `total`: the shortest one by
-/// which all code words have room.
-fn word_len(times: u64, total: u64) -> usize
-    ensures { (1 ≤ result) × (result ≤ 32) }
-{
-    let mut len = 1;
-    while len < LONGEST && times.saturating_mul(1 << len) < total {
-        len += 1;
+/// How many bits each code word has where they aren't by frequencies.
+const FLAT: usize = 16;
+
+/// The same numbers in the order of their code words, with the lengths of these.
+fn with_lengths(
+    alloc: Global,
+    mut frequencies: Vec<Frequency>,
+) -> Result<Vec<Frequency>, AllocError> {
+    let mut times = Vec::with_capacity(alloc, frequencies.len())?;
+    for frequency in &frequencies {
+        times.push(frequency.times)?;
     }
-    len
+    let lens = word_lengths(alloc, &times)?;
+    for i in 0..frequencies.len() {
+        frequencies[i].len = lens[i];
+    }
+    frequencies.sort_by_key(|frequency| frequency.len)?;
+    Ok(frequencies)
 }
 
 /// How often each of these symbols comes, which are in order.
@@ -137,6 +111,7 @@ fn frequencies(alloc: Global, symbols: &[u32]) -> Result<Vec<Frequency>, AllocEr
             _ => frequencies.push(Frequency {
                 symbol: *symbol,
                 times: 1,
+                len: 0,
             })?,
         }
     }

@@ -1,0 +1,81 @@
+//! A file before it is known how its numbers are spelled.
+
+use crate::cids::add_cid_list;
+use crate::codespaces::push_codespaces;
+use crate::columns::Encoders;
+use crate::metadata::{push_metadata, push_uses};
+use crate::notdefs::push_notdefs;
+use crate::obstacle::Obstacle;
+use crate::pieces::push_framed;
+use crate::segments::{Segment, push_segments};
+use crate::texts::add_text_list;
+use cmap_files::code_length::CodeLength;
+use cmap_files::declarations::{ByLength, CidRange};
+use cmap_files::fault::Fault;
+use cmap_files::file::File;
+use std::alloc::Global;
+
+/// What begins a binary file of version 1.
+const HEAD: &[u8] = b"bcmap\x01";
+
+/// A file before it is known how its numbers are spelled.
+#[derive(Drop)]
+pub(crate) struct Prepared {
+    /// The segments that hold no columns, as they are written.
+    pub(crate) fields: Vec<u8>,
+    pub(crate) segments: Vec<Segment>,
+}
+
+/// What is to be written of a file. It is refused with what the binary form can't say.
+pub(crate) fn prepare(alloc: Global, file: &File<'_>) -> Result<Prepared, Fault<Obstacle>> {
+    let mut fields = Vec::new(alloc);
+    push_metadata(alloc, &file.metadata, &mut fields)?;
+    push_uses(&file.uses, &mut fields)?;
+    push_codespaces(alloc, &file.lists.spaces, &mut fields)?;
+    push_notdef_lists(alloc, &file.lists.notdefs, &mut fields)?;
+    let mut segments = Vec::new(alloc);
+    add_cid_lists(alloc, &file.lists.cids, &mut segments)?;
+    add_text_list(alloc, &file.lists.bfs, &mut segments)?;
+    Ok(Prepared { fields, segments })
+}
+
+/// Writes the notdef declarations for codes of each length.
+fn push_notdef_lists(
+    alloc: Global,
+    lists: &ByLength<Vec<CidRange>>,
+    out: &mut Vec<u8>,
+) -> Result<(), Fault<Obstacle>> {
+    push_notdefs(alloc, CodeLength::One, &lists.one, out)?;
+    push_notdefs(alloc, CodeLength::Two, &lists.two, out)?;
+    push_notdefs(alloc, CodeLength::Three, &lists.three, out)?;
+    push_notdefs(alloc, CodeLength::Four, &lists.four, out)?;
+    Ok(())
+}
+
+/// Adds segments of the CIDs of codes of each length.
+fn add_cid_lists(
+    alloc: Global,
+    lists: &ByLength<Vec<CidRange>>,
+    segments: &mut Vec<Segment>,
+) -> Result<(), Fault<Obstacle>> {
+    add_cid_list(alloc, CodeLength::One, &lists.one, segments)?;
+    add_cid_list(alloc, CodeLength::Two, &lists.two, segments)?;
+    add_cid_list(alloc, CodeLength::Three, &lists.three, segments)?;
+    add_cid_list(alloc, CodeLength::Four, &lists.four, segments)?;
+    Ok(())
+}
+
+impl Prepared {
+    /// The file, with its numbers spelled by these tables.
+    pub(crate) fn write(
+        &self,
+        alloc: Global,
+        tables: &Encoders,
+    ) -> Result<Vec<u8>, Fault<Obstacle>> {
+        let mut body = Vec::from_slice(alloc, &self.fields)?;
+        push_segments(alloc, tables, &self.segments, &mut body)?;
+        let mut bytes = Vec::new(alloc);
+        push_framed(&mut bytes, HEAD, &body)?;
+        Ok(bytes)
+    }
+}

@@ -1,0 +1,14 @@
+//! A file that a bundle is to hold.
+
+use cmap_files::file::File;
+use cmap_files::names::CMapName;
+
+/// A file that a bundle is to hold, by its name.
+#[derive(Clone, Copy)]
+pub struct Source<'s, 'd> {
+    pub name: CMapName<'s>,
+    pub file: &'s File<'d>,
+    /// The text that the file was read from, where there is one. It stands in the bundle as it is where
+    /// the binary form can't say what the file says.
+    pub text: Option<&'s [u8]>,
+}
