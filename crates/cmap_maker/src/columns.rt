@@ -1,11 +1,11 @@
 //! Columns of a segment: which codes its entries have.
 
-ghost use Rattle.std.specs.Prelude.{◌≡◌, ◌≤◌, IfOk, IsTrue};
+ghost use Rattle.std.specs.Prelude.{◌≡◌, ◌≤◌, IfOk, IsTrue, map};
 ghost use Rattle.cmap_binary.specs.BinaryEntries.{ranges};
-ghost use Rattle.cmap_files.specs.DeclarationsSeen.{entries_seen};
-ghost use Rattle.cmap_maker.specs.ColumnsWritten.{WritesColumn, WritesColumns};
+ghost use Rattle.cmap_maker.specs.ColumnsWritten.{WritesColumn};
 ghost use Rattle.cmap_maker.specs.EncodersSeen.{encoders_seen, shape_seen};
-ghost use Rattle.cmap_maker.specs.Held.{AreInOrder, AreShaped, HasShape, counts_of, deltas_of, spans_of};
+ghost use Rattle.cmap_maker.specs.Held.{AreInOrder, AreShaped, HasShape, counts_by, counts_of, deltas_of};
+ghost use Rattle.cmap_maker.specs.Segments.{WritesNumbers};
 ghost use Rattle.cmap_maker.specs.Written.{Appends};
 
 use crate::obstacle::Obstacle;
@@ -68,7 +68,10 @@ pub(crate) fn push_columns(
     tables: &Encoders,
     segment: &Segment,
     out: &mut Vec<u8>,
-) -> Result<(), Fault<Obstacle>> {
+) -> Result<(), Fault<Obstacle>>
+    ensures { IfOk result (λ _. Appends out.old.items out.new.items (WritesNumbers (encoders_seen tables.now)
+        (shape_seen segment.now.shape) segment.now.deltas.items segment.now.counts.items)) }
+{
     push_column(alloc, &tables.delta, &segment.deltas, out)?;
     match segment.shape {
         Shape::Singles => Ok(()),
@@ -96,7 +99,10 @@ fn push_column(
 }
 
 /// How many codes each entry leaves out after the one before.
-pub(crate) fn deltas<T: HasRange>(alloc: Global, entries: &[T]) -> Result<Vec<u32>, AllocError> {
+pub(crate) fn deltas<T: HasRange>(alloc: Global, entries: &[T]) -> Result<Vec<u32>, AllocError>
+    requires { AreInOrder 0 (map T.span entries.now) }
+    ensures { IfOk result (λ deltas. deltas.items ≡ deltas_of 0 (map T.span entries.now)) }
+{
     let mut deltas = Vec::with_capacity(alloc, entries.len())?;
     let mut base = 0;
     for entry in entries {
@@ -112,7 +118,10 @@ pub(crate) fn counts<T: HasRange>(
     alloc: Global,
     shape: Shape,
     entries: &[T],
-) -> Result<Vec<u32>, AllocError> {
+) -> Result<Vec<u32>, AllocError>
+    requires { AreShaped (shape_seen shape) (map T.span entries.now) }
+    ensures { IfOk result (λ counts. counts.items ≡ counts_by (shape_seen shape) (map T.span entries.now)) }
+{
     match shape {
         Shape::Singles => Ok(Vec::new(alloc)),
         Shape::Ranges => range_counts(alloc, entries),
@@ -120,7 +129,10 @@ pub(crate) fn counts<T: HasRange>(
 }
 
 /// How many codes more than two each range has.
-fn range_counts<T: HasRange>(alloc: Global, entries: &[T]) -> Result<Vec<u32>, AllocError> {
+fn range_counts<T: HasRange>(alloc: Global, entries: &[T]) -> Result<Vec<u32>, AllocError>
+    requires { AreShaped ranges (map T.span entries.now) }
+    ensures { IfOk result (λ counts. counts.items ≡ counts_of (map T.span entries.now)) }
+{
     let mut counts = Vec::with_capacity(alloc, entries.len())?;
     for entry in entries {
         let range = entry.range();
