@@ -22,7 +22,7 @@ left columns raws next = record { columns = columns; raws = raws; next = next }
 abbrev entry : ℕ → ℕ → ℕ → CidEntry
 entry start end cid = record { start = start; end = end; cid = cid }
 
-abbrev cids : List CidEntry → List ℕ
+abbrev pub cids : List CidEntry → List ℕ
 cids es = flat_map (λ e. bytes_of 2 e.cid) es
 
 row_written : (tables : PrefixTables) (es : List CidEntry) (columns : Columns) (next : ℕ) (tail : List ℕ) → HaveSpans tables (spans_of es) columns → All (λ e. e.cid < 2 ^ 16) es → AreOwnCids next es → (last : CidColumns) × RowOf (CidEntryAt tables) (length es) (left columns (cids es ++ tail) next) (es, last)

@@ -6,15 +6,16 @@ use Rattle.std.proofs.lemmas.List.{append-nil, append_assoc}
 use Rattle.std.proofs.lemmas.List.Concat.{flat_map-append}
 use Rattle.std.proofs.lemmas.List.Elements.{filter_map-append}
 use Rattle.std.proofs.lemmas.Option.{none-some, same_Some}
-use Rattle.cmap_files.specs.Files.{CidEntry, Declaration, File, FileMetadata, Lists, lists_of, of_length}
+use Rattle.cmap_files.specs.Files.{BfEntry, CidEntry, Declaration, File, FileMetadata, Lists, lists_of, of_length}
 use Rattle.cmap_binary.specs.BinaryFiles.{BodyOf, Content, IsBinaryFile, SegmentAt, collection_set, declared_in, declares, file_of, magic, mode_set, name_set, name_used}
 use Rattle.cmap_binary.specs.BinaryFiles as files
 use Rattle.cmap_binary.specs.Bundles.{PrefixTables}
 use Rattle.cmap_layers.specs.Layers.{Layer}
-use Rattle.cmap_layers.specs.Lookups.{bf_of, cid_at, cid_of, decided_cid, last_cid}
-use Rattle.cmap_maker.specs.Keeps.{DeclareLists, IsWritten, KeepLists, Keeps}
+use Rattle.cmap_tokens.specs.Texts.{only_character}
+use Rattle.cmap_layers.specs.Lookups.{bf_at, bf_of, cid_at, cid_in, cid_of, decided_cid, decided_text, last_bf, last_cid}
+use Rattle.cmap_maker.specs.Keeps.{KeepLists, Keeps}
 use Rattle.cmap_maker.specs.MetadataWritten.{metadata_contents}
-use Rattle.cmap_maker.specs.Pieces.{cid_told}
+use Rattle.cmap_maker.specs.Pieces.{cid_told, text_told}
 use Rattle.cmap_maker.specs.Written.{Appends, IsFramed, WritesAll}
 use Rattle.cmap_maker.proofs.FilesWritten.{AllOf-written, joined}
 use Rattle.cmap_maker.proofs.FrontsWritten.{FramedAt-written, payload-written}
@@ -69,7 +70,7 @@ is_said (Some c) None (Some w) = record { collection = refl; name = refl; mode =
 is_said (Some c) (Some n) None = record { collection = refl; name = refl; mode = refl; names = refl; declared = refl }
 is_said (Some c) (Some n) (Some w) = record { collection = refl; name = refl; mode = refl; names = refl; declared = refl }
 
-file_said : (m : FileMetadata) (names : List (List ℕ)) (parts : List (List Declaration)) → file_of (metadata_contents m ++ (map files.uses names ++ map declares parts)) ≡ record { metadata = m; lists = lists_of (flat_map (λ part. part) parts); uses = names }
+pub file_said : (m : FileMetadata) (names : List (List ℕ)) (parts : List (List Declaration)) → file_of (metadata_contents m ++ (map files.uses names ++ map declares parts)) ≡ record { metadata = m; lists = lists_of (flat_map (λ part. part) parts); uses = names }
 unfolding later
 file_said m names parts =
     let said = is_said m.collection m.name m.mode in
@@ -106,16 +107,30 @@ module _ (lists made : Lists) (keep : KeepLists lists made) where
   same_lengths len code =
       same_choice (len == 1) _ _ _ _ code (keep.one code) (same_choice (len == 2) _ _ _ _ code (keep.two code) (same_choice (len == 3) _ _ _ _ code (keep.three code) (same_choice (len == 4) _ _ _ _ code (keep.four code) refl)))
 
+  -- what a declaration of texts says of the character of a code
+  text_decided : (code : ℕ) (o p : Option BfEntry) → option_map (λ e. bf_at e code) o ≡ option_map (λ e. bf_at e code) p → option_and_then (λ e. bf_at e code) o ≡ option_and_then (λ e. bf_at e code) p
+  text_decided code None None is = refl
+  text_decided code None (Some e) is = absurd (none-some _ is)
+  text_decided code (Some e) None is = absurd (none-some _ (sym is))
+  text_decided code (Some e) (Some f) is = same_Some _ _ is
+
+  same_decided_text : (code : ℕ) (o p : Option BfEntry) (below : Option (List ℕ)) → option_map (λ e. bf_at e code) o ≡ option_map (λ e. bf_at e code) p → decided_text code o below ≡ decided_text code p below
+  same_decided_text code None None below is = refl
+  same_decided_text code None (Some e) below is = absurd (none-some _ is)
+  same_decided_text code (Some e) None below is = absurd (none-some _ (sym is))
+  same_decided_text code (Some e) (Some f) below is = same_Some _ _ is
+
   same_cids : (m : FileMetadata) (below : List Layer) (code len : ℕ) → cid_of (record { metadata = m; lists = made } ∷ below) code len ≡ cid_of (record { metadata = m; lists = lists } ∷ below) code len
   same_cids m below code len =
       ap (λ o. if nat_le 1 len && nat_le len 4 then o else None)
       (same_decided code (last_cid (of_length made.cids len) code) (last_cid (of_length lists.cids len) code) _ _ _ (same_lengths len code)
-      ∙ rw (keep.notdefs, keep.bfs) refl)
+      ∙ ap (λ o. decided_cid code (last_cid (of_length lists.cids len) code) (last_cid (of_length made.notdefs len) code) (only_character o) (cid_in below code len)) (text_decided code (last_bf made.bfs code) (last_bf lists.bfs code) (keep.bfs code))
+      ∙ rw keep.notdefs refl)
 
   same_texts : (m : FileMetadata) (below : List Layer) (code : ℕ) → bf_of (record { metadata = m; lists = made } ∷ below) code ≡ bf_of (record { metadata = m; lists = lists } ∷ below) code
-  same_texts m below code = rw keep.bfs refl
+  same_texts m below code = same_decided_text code (last_bf made.bfs code) (last_bf lists.bfs code) (bf_of below code) (keep.bfs code)
 
-keeps : (file : File) (made : Lists) → KeepLists file.lists made → Keeps file (record { metadata = file.metadata; lists = made; uses = file.uses })
+pub keeps : (file : File) (made : Lists) → KeepLists file.lists made → Keeps file (record { metadata = file.metadata; lists = made; uses = file.uses })
 keeps file made keep = record {
   metadata = refl;
   spaces = keep.spaces;
@@ -128,29 +143,3 @@ keeps file made keep = record {
 abbrev pub head : List ℕ
 head = magic ++ 1 ∷ []
 
-pub file_written : (tables : PrefixTables) (file : File) (a b body bytes : List ℕ) → Appends [] a (WritesAll SegmentByAny (metadata_contents file.metadata)) → Appends a b (WritesAll SegmentByAny (map files.uses file.uses)) → Appends b body (DeclareLists tables file.lists) → Appends [] bytes (IsFramed head body) → IsWritten tables file bytes
-unfolding IsBinaryFile
-file_written tables file a b body bytes first second (last, body_is, (ds, (parts, flat, all), keep)) (framed, bytes_are, at) =
-    let (meta, a_is, said) = contents_by tables (metadata_contents file.metadata) [] a first in
-    let (uses, b_is, said_too) = contents_by tables (map files.uses file.uses) a b second in
-    let contents = metadata_contents file.metadata ++ (map files.uses file.uses ++ map declares parts) in
-    let written : WritesAll (SegmentAt tables) contents (meta ++ (uses ++ last)) = joined (SegmentAt tables) (metadata_contents file.metadata) (map files.uses file.uses ++ map declares parts) meta (uses ++ last) said (joined (SegmentAt tables) (map files.uses file.uses) (map declares parts) uses last said_too all) in
-    let whole : meta ++ (uses ++ last) ≡ body = sym (body_is ∙ ap (λ bs. bs ++ last) (b_is ∙ ap (λ bs. bs ++ uses) a_is) ∙ simp append_assoc) in
-    let made : File = record { metadata = file.metadata; lists = lists_of ds; uses = file.uses } in
-    let says : made ≡ file_of contents = sym (file_said file.metadata file.uses parts ∙ ap (λ ds. record { metadata = file.metadata; lists = lists_of ds; uses = file.uses }) flat) in
-    let frame = subst (IsFramed head body) (sym bytes_are) at in
-    let none = append-nil bytes in
-    let front : take 6 bytes ≡ magic ++ 1 ∷ [] = ap (take 6) frame.bytes_are in
-    let rest : drop 10 bytes ≡ body = payload-written head body bytes frame in
-    record {
-      made = made;
-      is = (
-        body,
-        contents,
-        subst (λ bs. BodyOf bs body) none (bytes, [], FramedAt-written head body bytes [] frame, (front, sym rest)),
-        AllOf-written (SegmentAt tables) contents body (subst (WritesAll (SegmentAt tables) contents) whole written),
-        says,
-      );
-      keeps = keeps file (lists_of ds) keep;
-      framed = λ more. FramedAt-written head body bytes more frame;
-    }

@@ -3,7 +3,7 @@ use Rattle.std.proofs.Common.{◌≡◌, ℕ, List, [], ◌∷◌, ◌++◌, map
 use Rattle.std.specs.List.{flat_map}
 use Rattle.std.proofs.lemmas.List.{append_assoc, append-nil, map-append}
 use Rattle.std.proofs.lemmas.List.Concat.{flat_map-append}
-use Rattle.cmap_files.specs.Files.{ByLength, CidEntry, Codespace, Declaration, Lists, lists_of}
+use Rattle.cmap_files.specs.Files.{BfEntry, ByLength, CidEntry, Codespace, Declaration, Lists, lists_of}
 use Rattle.std.specs.Global.{Vec}
 use Rattle.cmap_files.specs.DeclarationsSeen.{entries_seen}
 use Rattle.cmap_files.specs.declared.declarations.ByLength.{ByLength as HeldByLength}
@@ -12,13 +12,13 @@ use Rattle.cmap_files.specs.ListsAppended.{append_lists}
 use Rattle.cmap_files.proofs.ListsMade.{lists_of-append}
 use Rattle.cmap_binary.specs.BinaryFiles.{Content, SegmentAt, declares}
 use Rattle.cmap_binary.specs.Bundles.{PrefixTables}
-use Rattle.cmap_maker.specs.Keeps.{DeclareCids, DeclareLists, DeclareSame, HaveSameCids, KeepLists, by_length}
+use Rattle.cmap_maker.specs.Keeps.{by_length}
 use Rattle.cmap_maker.specs.SegmentsWritten.{DeclareAll, SegmentByAny}
 use Rattle.cmap_maker.specs.Written.{Appends, WritesAll}
 use Rattle.cmap_maker.proofs.FilesWritten.{joined}
 
 -- ---- segments after others
-all_by_any : (tables : PrefixTables) (contents : List Content) (bytes : List ℕ) → WritesAll SegmentByAny contents bytes → WritesAll (SegmentAt tables) contents bytes
+pub all_by_any : (tables : PrefixTables) (contents : List Content) (bytes : List ℕ) → WritesAll SegmentByAny contents bytes → WritesAll (SegmentAt tables) contents bytes
 all_by_any tables [] bytes none = none
 all_by_any tables (c ∷ contents) bytes (first, later, parts, at, all) = (first, later, parts, (λ rest. at rest tables), all_by_any tables contents later all)
 
@@ -113,36 +113,17 @@ of_notdefs a b c d =
     ∙ appended (notdefs_one a) (lists_of-append (map (Declaration.notdef 2) b) (map (Declaration.notdef 3) c ++ map (Declaration.notdef 4) d) ∙ appended (notdefs_two b) (lists_of-append (map (Declaration.notdef 3) c) (map (Declaration.notdef 4) d) ∙ appended (notdefs_three c) (notdefs_four d)))
     ∙ rw (append-nil a, append-nil b, append-nil c) refl
 
+of_texts : (es : List BfEntry) → lists_of (map Declaration.bf es) ≡ record { cids = none; notdefs = none; bfs = es; spaces = [] }
+of_texts [] = refl
+of_texts (e ∷ es) = ap (λ (l : Lists). record { cids = l.cids; notdefs = l.notdefs; bfs = e ∷ l.bfs; spaces = l.spaces }) (of_texts es)
+
 -- all kinds, one after another
-pub all_kinds : (spaces : List Codespace) (n : ByLength) (c : ByLength) → lists_of (map Declaration.codespace spaces ++ (by_length Declaration.notdef n.one n.two n.three n.four ++ by_length Declaration.cid c.one c.two c.three c.four)) ≡ lists c n spaces
-all_kinds spaces n c =
+pub all_kinds : (spaces : List Codespace) (n c : ByLength) (texts : List BfEntry) → lists_of ((map Declaration.codespace spaces ++ by_length Declaration.notdef n.one n.two n.three n.four) ++ (by_length Declaration.cid c.one c.two c.three c.four ++ map Declaration.bf texts)) ≡ record { cids = c; notdefs = n; bfs = texts; spaces = spaces }
+all_kinds spaces n c texts =
+    let first = map Declaration.codespace spaces in
     let notdefs = by_length Declaration.notdef n.one n.two n.three n.four in
     let cids = by_length Declaration.cid c.one c.two c.three c.four in
-    lists_of-append (map Declaration.codespace spaces) (notdefs ++ cids)
-    ∙ appended (of_spaces spaces) (lists_of-append notdefs cids ∙ appended (of_notdefs n.one n.two n.three n.four) (of_cids c.one c.two c.three c.four))
-    ∙ rw (append-nil n.one, append-nil n.two, append-nil n.three, append-nil n.four, append-nil spaces) refl
-
--- lists without texts, all of whose declarations are written
-pub lists_written : (tables : PrefixTables) (all : Lists) (made : ByLength) (old a b new : List ℕ) → all.bfs ≡ [] → Appends old a (DeclareAll SegmentByAny (map Declaration.codespace all.spaces)) → Appends a b (DeclareAll SegmentByAny (by_length Declaration.notdef all.notdefs.one all.notdefs.two all.notdefs.three all.notdefs.four))
-    → Appends b new (DeclareAll (SegmentAt tables) (by_length Declaration.cid made.one made.two made.three made.four)) → HaveSameCids all.cids.one made.one → HaveSameCids all.cids.two made.two → HaveSameCids all.cids.three made.three → HaveSameCids all.cids.four made.four → Appends old new (DeclareLists tables all)
-lists_written tables all made old a b new no_texts first second third one_same two_same three_same four_same =
-    let spaces = map Declaration.codespace all.spaces in
-    let notdefs = by_length Declaration.notdef all.notdefs.one all.notdefs.two all.notdefs.three all.notdefs.four in
-    let cids = by_length Declaration.cid made.one made.two made.three made.four in
-    let (bytes, is, declared) = declared_both (SegmentAt tables) spaces (notdefs ++ cids) old a new (declared_by tables spaces old a first) (declared_both (SegmentAt tables) notdefs cids a b new (declared_by tables notdefs a b second) third) in
-    let kept : KeepLists all (lists made all.notdefs all.spaces) = record { spaces = refl; notdefs = refl; bfs = sym no_texts; one = one_same; two = two_same; three = three_same; four = four_same } in
-    (bytes, is, (spaces ++ (notdefs ++ cids), declared, subst (KeepLists all) (sym (all_kinds all.spaces all.notdefs made)) kept))
-
--- CIDs for codes of each length
-part_of : (tables : PrefixTables) (len : ℕ) (es : List CidEntry) (old new : List ℕ) → Appends old new (DeclareSame tables len es) → (made : List CidEntry) × HaveSameCids es made × Appends old new (DeclareAll (SegmentAt tables) (map (Declaration.cid len) made))
-part_of tables len es old new (bytes, is, (made, declared, same)) = (made, same, (bytes, is, declared))
-
-pub same_four : (tables : PrefixTables) (held : HeldByLength (Vec CidRange)) (old a b c new : List ℕ) → Appends old a (DeclareSame tables 1 (entries_seen held.one.items)) → Appends a b (DeclareSame tables 2 (entries_seen held.two.items)) → Appends b c (DeclareSame tables 3 (entries_seen held.three.items)) → Appends c new (DeclareSame tables 4 (entries_seen held.four.items))
-    → Appends old new (DeclareCids tables held)
-same_four tables held old a b c new first second third fourth =
-    let (m1, s1, d1) = part_of tables 1 (entries_seen held.one.items) old a first in
-    let (m2, s2, d2) = part_of tables 2 (entries_seen held.two.items) a b second in
-    let (m3, s3, d3) = part_of tables 3 (entries_seen held.three.items) b c third in
-    let (m4, s4, d4) = part_of tables 4 (entries_seen held.four.items) c new fourth in
-    let (bytes, is, declared) = declared_four (SegmentAt tables) (map (Declaration.cid 1) m1) (map (Declaration.cid 2) m2) (map (Declaration.cid 3) m3) (map (Declaration.cid 4) m4) old a b c new d1 d2 d3 d4 in
-    (bytes, is, record { one = m1; two = m2; three = m3; four = m4; declared = declared; one_same = s1; two_same = s2; three_same = s3; four_same = s4 })
+    let last = map Declaration.bf texts in
+    lists_of-append (first ++ notdefs) (cids ++ last)
+    ∙ appended (lists_of-append first notdefs ∙ appended (of_spaces spaces) (of_notdefs n.one n.two n.three n.four)) (lists_of-append cids last ∙ appended (of_cids c.one c.two c.three c.four) (of_texts texts))
+    ∙ rw (append-nil n.one, append-nil n.two, append-nil n.three, append-nil n.four, append-nil c.one, append-nil c.two, append-nil c.three, append-nil c.four, append-nil spaces, append-nil spaces) refl

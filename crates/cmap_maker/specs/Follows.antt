@@ -1,5 +1,5 @@
 -- Private aid: entries that follow each other in a segment.
-use Rattle.std.specs.Prelude.{ℕ, ◌<◌, List, length, get_or}
+use Rattle.std.specs.Prelude.{◌≡◌, ℕ, ◌+◌, ◌-◌, ◌<◌, List, length, get_or}
 use Rattle.cmap_files.specs.declared.declarations.CidRange.{CidRange}
 use Rattle.cmap_binary.specs.BinaryEntries.{Shape}
 use Rattle.cmap_maker.specs.Held.{HasShape}
@@ -13,3 +13,8 @@ pub record Follows (shape : Shape) (before entry : CidRange) : Type 0 where
 -- there is an entry at this index, and it has this shape
 abbrev pub HasShapeOf : Shape → List CidRange → ℕ → Type 0
 HasShapeOf shape entries i = (i < length entries) × ((d : CidRange) → HasShape shape (get_or entries i d).range.start (get_or entries i d).range.end)
+
+-- the range begins just after the last one, and its CIDs after those
+pub record GoesOn (last range : CidRange) : Type 0 where
+  pub next : range.range.start ≡ last.range.end + 1
+  pub cids : range.cid ≡ last.cid + (range.range.start - last.range.start)

@@ -2,20 +2,17 @@
 use Rattle.std.specs.Prelude.{◌≡◌, ℕ, List, [], ◌∷◌, ◌++◌, map}
 use Rattle.cmap_files.specs.FilesSeen.{file_seen}
 use Rattle.cmap_files.specs.declared.file.File.{File as HeldFile}
-use Rattle.cmap_binary.specs.Fronts.{FramedAt}
 use Rattle.std.specs.Global.{Vec}
 use Rattle.cmap_files.specs.DeclarationsSeen.{entries_seen}
-use Rattle.cmap_files.specs.Files.{CidEntry, Declaration, File, Lists, lists_of}
+use Rattle.cmap_files.specs.Files.{BfEntry, CidEntry, Declaration, File, Lists}
 use Rattle.cmap_files.specs.declared.declarations.ByLength.{ByLength}
 use Rattle.cmap_files.specs.declared.declarations.CidRange.{CidRange}
 use Rattle.cmap_layers.specs.Layers.{Layer, layer_of}
 use Rattle.cmap_layers.specs.Lookups.{bf_of, cid_of}
 use Rattle.cmap_binary.specs.Bundles.{IsBundle, PrefixTables}
-use Rattle.cmap_binary.specs.BinaryFiles.{IsBinaryFile, SegmentAt}
+use Rattle.cmap_binary.specs.BinaryFiles.{IsBinaryFile}
 use Rattle.cmap_maker.specs.Bundled.{IsFramedFile}
-use Rattle.cmap_maker.specs.Pieces.{cid_told}
-use Rattle.cmap_maker.specs.SegmentsWritten.{DeclareAll}
-use Rattle.cmap_maker.specs.Written.{WritesAll}
+use Rattle.cmap_maker.specs.Pieces.{cid_told, text_told}
 
 -- the same metadata, codespace ranges and names of files that are used; and over any layers each code of each length has the same CID, and each code the same text
 pub record Keeps (file made : File) : Type 0 where
@@ -49,31 +46,23 @@ abbrev pub files_seen : List HeldFile → List File
 files_seen files = map file_seen files
 
 -- ---- private aid
--- files that are written one after another
-abbrev pub AreFilesOf : PrefixTables → List File → List ℕ → Type 0
-AreFilesOf tables files bytes = (texts : List (List ℕ)) × WritesAll (FramedAt 6) texts bytes × AreWritten tables files texts
-
 -- each code has the same CID
 abbrev pub HaveSameCids : List CidEntry → List CidEntry → Type 0
 HaveSameCids es made = (code : ℕ) → cid_told made code ≡ cid_told es code
+
+-- each code has the same text
+abbrev pub HaveSameTexts : List BfEntry → List BfEntry → Type 0
+HaveSameTexts es made = (code : ℕ) → text_told made code ≡ text_told es code
 
 -- lists that say the same
 pub record KeepLists (lists made : Lists) : Type 0 where
   pub spaces : made.spaces ≡ lists.spaces
   pub notdefs : made.notdefs ≡ lists.notdefs
-  pub bfs : made.bfs ≡ lists.bfs
+  pub bfs : HaveSameTexts lists.bfs made.bfs
   pub one : HaveSameCids lists.cids.one made.cids.one
   pub two : HaveSameCids lists.cids.two made.cids.two
   pub three : HaveSameCids lists.cids.three made.cids.three
   pub four : HaveSameCids lists.cids.four made.cids.four
-
--- segments that declare lists which say the same
-abbrev pub DeclareLists : PrefixTables → Lists → List ℕ → Type 0
-DeclareLists tables lists bytes = (ds : List Declaration) × DeclareAll (SegmentAt tables) ds bytes × KeepLists lists (lists_of ds)
-
--- segments that declare CIDs for codes of this length, the same ones
-abbrev pub DeclareSame : PrefixTables → ℕ → List CidEntry → List ℕ → Type 0
-DeclareSame tables len es bytes = (made : List CidEntry) × DeclareAll (SegmentAt tables) (map (Declaration.cid len) made) bytes × HaveSameCids es made
 
 -- declarations for codes of one to four bytes
 abbrev pub by_length : (ℕ → CidEntry → Declaration) → List CidEntry → List CidEntry → List CidEntry → List CidEntry → List Declaration
@@ -81,14 +70,3 @@ by_length declare one two three four = map (declare 1) one ++ (map (declare 2) t
 
 abbrev pub notdefs_declared : ByLength (Vec CidRange) → List Declaration
 notdefs_declared lists = by_length Declaration.notdef (entries_seen lists.one.items) (entries_seen lists.two.items) (entries_seen lists.three.items) (entries_seen lists.four.items)
-
-pub record DeclareCids (tables : PrefixTables) (lists : ByLength (Vec CidRange)) (bytes : List ℕ) : Type 0 where
-  pub one : List CidEntry
-  pub two : List CidEntry
-  pub three : List CidEntry
-  pub four : List CidEntry
-  pub declared : DeclareAll (SegmentAt tables) (by_length Declaration.cid one two three four) bytes
-  pub one_same : HaveSameCids (entries_seen lists.one.items) one
-  pub two_same : HaveSameCids (entries_seen lists.two.items) two
-  pub three_same : HaveSameCids (entries_seen lists.three.items) three
-  pub four_same : HaveSameCids (entries_seen lists.four.items) four

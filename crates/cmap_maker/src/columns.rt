@@ -33,8 +33,7 @@ pub(crate) enum Shape {
 impl Shape {
     /// The shape of a range that has a code.
     pub(crate) fn of(range: Range) -> Shape
-        requires { range.start ≤ range.end }
-        ensures { HasShape (shape_seen result) range.start range.end }
+        ensures { range.start ≤ range.end → HasShape (shape_seen result) range.start range.end }
     {
         if range.start < range.end {
             Shape::Ranges

@@ -1,5 +1,14 @@
 //! A file before it is known how its numbers are spelled.
 
+ghost use Rattle.std.specs.Prelude.{IfOk};
+ghost use Rattle.cmap_files.specs.Files.{File as Said};
+ghost use Rattle.cmap_files.specs.FilesSeen.{file_seen};
+ghost use Rattle.cmap_maker.specs.EncodersSeen.{encoders_seen};
+ghost use Rattle.cmap_maker.specs.Keeps.{IsWritten, notdefs_declared};
+ghost use Rattle.cmap_maker.specs.PreparedFiles.{AddsCidLists, IsPrepared};
+ghost use Rattle.cmap_maker.specs.SegmentsWritten.{DeclareAll, SegmentByAny};
+ghost use Rattle.cmap_maker.specs.Written.{Appends};
+
 use crate::cids::add_cid_list;
 use crate::codespaces::push_codespaces;
 use crate::columns::Encoders;
@@ -27,7 +36,9 @@ pub(crate) struct Prepared {
 }
 
 /// What is to be written of a file. It is refused with what the binary form can't say.
-pub(crate) fn prepare(alloc: Global, file: &File<'_>) -> Result<Prepared, Fault<Obstacle>> {
+pub(crate) fn prepare(alloc: Global, file: &File<'_>) -> Result<Prepared, Fault<Obstacle>>
+    ensures { IfOk result (λ prepared. IsPrepared (file_seen file.now) prepared) }
+{
     let mut fields = Vec::new(alloc);
     push_metadata(alloc, &file.metadata, &mut fields)?;
     push_uses(&file.uses, &mut fields)?;
@@ -44,7 +55,9 @@ fn push_notdef_lists(
     alloc: Global,
     lists: &ByLength<Vec<CidRange>>,
     out: &mut Vec<u8>,
-) -> Result<(), Fault<Obstacle>> {
+) -> Result<(), Fault<Obstacle>>
+    ensures { IfOk result (λ _. Appends out.old.items out.new.items (DeclareAll SegmentByAny (notdefs_declared lists.now))) }
+{
     push_notdefs(alloc, CodeLength::One, &lists.one, out)?;
     push_notdefs(alloc, CodeLength::Two, &lists.two, out)?;
     push_notdefs(alloc, CodeLength::Three, &lists.three, out)?;
@@ -57,7 +70,9 @@ fn add_cid_lists(
     alloc: Global,
     lists: &ByLength<Vec<CidRange>>,
     segments: &mut Vec<Segment>,
-) -> Result<(), Fault<Obstacle>> {
+) -> Result<(), Fault<Obstacle>>
+    ensures { IfOk result (λ _. AddsCidLists lists.now segments.old.items segments.new.items) }
+{
     add_cid_list(alloc, CodeLength::One, &lists.one, segments)?;
     add_cid_list(alloc, CodeLength::Two, &lists.two, segments)?;
     add_cid_list(alloc, CodeLength::Three, &lists.three, segments)?;
@@ -71,7 +86,10 @@ impl Prepared {
         &self,
         alloc: Global,
         tables: &Encoders,
-    ) -> Result<Vec<u8>, Fault<Obstacle>> {
+    ) -> Result<Vec<u8>, Fault<Obstacle>>
+        ensures { IfOk result (λ bytes. (file : Said) → IsPrepared file self.now
+            → IsWritten (encoders_seen tables.now) file bytes.items) }
+    {
         let mut body = Vec::from_slice(alloc, &self.fields)?;
         push_segments(alloc, tables, &self.segments, &mut body)?;
         let mut bytes = Vec::new(alloc);

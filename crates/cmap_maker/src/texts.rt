@@ -1,5 +1,9 @@
 //! Segments of codes with their texts.
 
+ghost use Rattle.std.specs.Prelude.{IfOk, map};
+ghost use Rattle.cmap_files.specs.DeclarationsSeen.{bf_entry_seen};
+ghost use Rattle.cmap_maker.specs.PreparedFiles.{AddsSameTexts};
+
 use crate::bytes::push_u16s;
 use crate::columns::{Shape, counts, deltas};
 use crate::decided::decided_texts;
@@ -21,7 +25,9 @@ pub(crate) fn add_text_list(
     alloc: Global,
     list: &[BfRange],
     segments: &mut Vec<Segment>,
-) -> Result<(), Fault<Obstacle>> {
+) -> Result<(), Fault<Obstacle>>
+    ensures { IfOk result (λ _. AddsSameTexts (map bf_entry_seen list.now) segments.old.items segments.new.items) }
+{
     let ranges = decided_texts(alloc, list)?;
     check_units(&ranges)?;
     let mut pieces = split_texts(alloc, &ranges)?;

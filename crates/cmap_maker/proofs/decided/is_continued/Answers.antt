@@ -1,0 +1,7 @@
+use Rattle.std.proofs.Common.{◌-◌, ◌≤◌, length, subst, sym, arith}
+use Rattle.cmap_files.specs.DeclarationsSeen.{cid_entry_seen, entries_seen}
+use Rattle.cmap_maker.proofs.CidParts.{last_filled}
+use Rattle.cmap_maker.proofs.decided.is_continued.Goals as goal
+
+pub goes_on-requires : goal.goes_on-requires
+goes_on-requires c = last_filled c.args.ranges.now c.in-Some.last.now c.requires (sym c.in-Some.ensures.value)
