@@ -69,9 +69,9 @@ module _ (last next : CidEntry) (filled : last.start ≤ last.end) (after : next
             let H : CidEntry → Type 0 = λ p. Has cid_span p code in
             subst (λ xs. Cover cid_span xs code) (sym new_is) (elim (Any-cases H old (next ∷ []) any) [
               | inl before ↦ elim (Any-cases H front (last ∷ []) (subst (λ xs. Cover cid_span xs code) old_is before)) [
-                  | inl early ↦ Any-left H front (joined ∷ []) early
-                  | inr at_last ↦ Any-right H front (joined ∷ []) (0, joined, omega arith, refl, joined_has code (inl (Any-one H last at_last)))
-                ]
+                | inl early ↦ Any-left H front (joined ∷ []) early
+                | inr at_last ↦ Any-right H front (joined ∷ []) (0, joined, omega arith, refl, joined_has code (inl (Any-one H last at_last)))
+              ]
               | inr there ↦ Any-right H front (joined ∷ []) (0, joined, omega arith, refl, joined_has code (inr (Any-one H next there)))
             ]),
       )

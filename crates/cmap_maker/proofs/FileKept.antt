@@ -142,4 +142,3 @@ keeps file made keep = record {
 -- ---- the file
 abbrev pub head : List ℕ
 head = magic ++ 1 ∷ []
-

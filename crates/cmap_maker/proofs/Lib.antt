@@ -19,5 +19,7 @@ pub mod SegmentsDone
 pub mod SegmentsMade
 pub mod Spelling
 pub mod TablesWritten
+pub mod TextsMade
+pub mod TextsWritten
 pub mod Told
 pub mod WordsMade

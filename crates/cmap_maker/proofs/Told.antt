@@ -115,10 +115,13 @@ module _ {E X : Type 0} (span_of : E → Span) (at : E → ℕ → X) where
             elim later [
               | inl same ↦ inl (first ∙ same)
               | inr none ↦
-                  inr (first ∙ none.0, λ any. elim (Any-cases (λ p. Has span_of p code) (p ∷ []) ps any) [
-                    | inl here ↦ true≢false (sym (Any-one (λ p. Has span_of p code) p here) ∙ not)
-                    | inr there ↦ none.1 there
-                  ])
+                  inr (
+                    first ∙ none.0,
+                    λ any. elim (Any-cases (λ p. Has span_of p code) (p ∷ []) ps any) [
+                      | inl here ↦ true≢false (sym (Any-one (λ p. Has span_of p code) p here) ∙ not)
+                      | inr there ↦ none.1 there
+                    ],
+                  )
             ]
       ]
 

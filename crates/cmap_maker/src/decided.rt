@@ -2,26 +2,20 @@
 //! matter.
 
 ghost use Rattle.std.specs.Prelude.{◌≡◌, ◌+◌, ◌-◌, ◌<◌, ◌≤◌, ◌^◌, All, IfNone, IfOk, IfSome, IsTrue, get_or, length, map};
-ghost use Rattle.cmap_files.specs.DeclarationsSeen.{bf_entry_seen, cid_entry_seen, entries_seen};
-ghost use Rattle.cmap_files.specs.UnitsSeen.{units_seen};
-ghost use Rattle.cmap_layers.specs.Lookups.{bf_at, bf_span, cid_at, cid_span};
+ghost use Rattle.cmap_files.specs.DeclarationsSeen.{cid_entry_seen, entries_seen};
+ghost use Rattle.cmap_layers.specs.Lookups.{cid_at, cid_span};
 ghost use Rattle.cmap_files.specs.declared.declarations.CidRange.{CidRange};
 ghost use Rattle.cmap_maker.specs.Follows.{GoesOn};
 ghost use Rattle.cmap_maker.specs.Pieces.{CanBeSplit, SayTheSame, Takes};
-ghost use Rattle.cmap_maker.specs.TextParts.{IsPartOfText, SayTheSameTexts, ShiftsTo};
 
 use crate::obstacle::Obstacle;
-use cmap_files::declarations::{BfRange, CidRange};
+use cmap_files::declarations::CidRange;
 use cmap_files::fault::Fault;
-use cmap_files::units::Units;
 use cmap_runs::runs::{Looks, Range, Table};
 use std::alloc::{AllocError, Global};
 
 /// The largest CID.
 pub(crate) const LARGEST_CID: u32 = 65535;
-
-/// How many codes the last one of a range of texts may be after its first.
-const MOST_TEXTS_AFTER: u32 = 65535;
 
 /// The ranges of codes for which these declarations decide a CID, in order. Ranges whose CIDs go on are
 /// one. A CID above 65535 is an obstacle.
@@ -130,59 +124,4 @@ fn goes_on(last: &CidRange, range: &CidRange) -> bool
         && range.range.start - last.range.end == 1
         && range.cid > last.cid
         && range.cid - last.cid == range.range.start - last.range.start
-}
-
-/// The ranges of codes for which these declarations decide a text, in order, each with the units of its
-/// first code; without units where no code of the range has a text.
-pub(crate) fn decided_texts(
-    alloc: Global,
-    list: &[BfRange],
-) -> Result<Vec<BfRange>, Fault<Obstacle>> {
-    let table = Table::build(alloc, copy_of_texts(alloc, list)?)?;
-    let mut looks = Looks::new();
-    let mut ranges = Vec::new(alloc);
-    for i in 0..table.run_count() {
-        let (start, end, index) = table.run(i, &mut looks);
-        let range = Range { start, end };
-        if end - start > MOST_TEXTS_AFTER {
-            return Err(Fault::Refused(Obstacle::Text(range)));
-        }
-        let part = part_of_text(alloc, table.decl(index, &mut looks), range)?;
-        ranges.push(part)?;
-    }
-    Ok(ranges)
-}
-
-/// A copy of a list.
-fn copy_of_texts(alloc: Global, list: &[BfRange]) -> Result<Vec<BfRange>, AllocError> {
-    let mut copy = Vec::with_capacity(alloc, list.len())?;
-    for range in list {
-        copy.push(range.clone(alloc)?)?;
-    }
-    Ok(copy)
-}
-
-/// The part of a declaration for these codes.
-pub(crate) fn part_of_text(
-    alloc: Global,
-    declaration: &BfRange,
-    range: Range,
-) -> Result<BfRange, AllocError> {
-    let offset = range.start - declaration.range.start;
-    Ok(BfRange {
-        range,
-        units: shifted(alloc, &declaration.units, offset)?,
-    })
-}
-
-/// The units with the offset added to the last one; none where there is no unit, or the sum isn't one.
-fn shifted(alloc: Global, units: &Units, offset: u32) -> Result<Units, AllocError> {
-    let mut copy = Vec::from_slice(alloc, units.as_slice())?;
-    match copy.last_mut() {
-        Some(last) if u64::from(*last) + u64::from(offset) <= 0xFFFF => {
-            *last += offset as u16;
-            Units::from_slice(alloc, &copy)
-        }
-        _ => Ok(Units::Empty),
-    }
 }

@@ -21,6 +21,7 @@ mod slots;
 mod source;
 mod split;
 mod tables;
+mod text_parts;
 mod texts;
 mod words;
 

@@ -10,9 +10,9 @@ ghost use Rattle.cmap_maker.specs.SegmentsWritten.{DeclareAll, SegmentByAny};
 ghost use Rattle.cmap_maker.specs.Written.{Appends, Writes, WritesAll};
 
 use crate::bytes::push_number;
+use crate::decided::LARGEST_CID;
 use crate::obstacle::Obstacle;
 use crate::pieces::push_segment;
-use crate::decided::LARGEST_CID;
 use cmap_files::code_length::CodeLength;
 use cmap_files::declarations::CidRange;
 use cmap_files::fault::Fault;

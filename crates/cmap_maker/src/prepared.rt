@@ -82,11 +82,7 @@ fn add_cid_lists(
 
 impl Prepared {
     /// The file, with its numbers spelled by these tables.
-    pub(crate) fn write(
-        &self,
-        alloc: Global,
-        tables: &Encoders,
-    ) -> Result<Vec<u8>, Fault<Obstacle>>
+    pub(crate) fn write(&self, alloc: Global, tables: &Encoders) -> Result<Vec<u8>, Fault<Obstacle>>
         ensures { IfOk result (λ bytes. (file : Said) → IsPrepared file self.now
             → IsWritten (encoders_seen tables.now) file bytes.items) }
     {

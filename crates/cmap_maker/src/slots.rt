@@ -78,7 +78,10 @@ fn slot_of<'s>(
         (Ok(prepared), _) => Ok(Slot::File(prepared)),
         (Err(Fault::Memory), _) => Err(Fault::Memory),
         (Err(Fault::Refused(_)), Some(text)) => Ok(Slot::Text(text)),
-        (Err(Fault::Refused(obstacle)), None) => Err(Fault::Refused(Unwritable { index, obstacle })),
+        (Err(Fault::Refused(obstacle)), None) => Err(Fault::Refused(Unwritable {
+            index,
+            obstacle,
+        })),
     }
 }
 

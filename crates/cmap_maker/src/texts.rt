@@ -1,15 +1,19 @@
 //! Segments of codes with their texts.
 
-ghost use Rattle.std.specs.Prelude.{IfOk, map};
+ghost use Rattle.std.specs.Prelude.{◌≡◌, ◌≤◌, ◌<◌, ◌^◌, ◌++◌, All, IfErr, IfOk, IsTrue, length, map, take};
 ghost use Rattle.cmap_files.specs.DeclarationsSeen.{bf_entry_seen};
+ghost use Rattle.cmap_files.specs.Files.{Declaration};
+ghost use Rattle.cmap_maker.specs.EncodersSeen.{shape_seen};
+ghost use Rattle.cmap_maker.specs.Pieces.{IsShortText};
 ghost use Rattle.cmap_maker.specs.PreparedFiles.{AddsSameTexts};
+ghost use Rattle.cmap_maker.specs.Segments.{AddsSegments, DeclaresAll};
+ghost use Rattle.cmap_maker.specs.Texts.{AreHeldTexts, BeginsWithForm, CanFix, FollowsText, HasForm, IsLongTextIn, IsNumberOf, destination, destinations};
 
 use crate::bytes::push_u16s;
 use crate::columns::{Shape, counts, deltas};
-use crate::decided::decided_texts;
 use crate::obstacle::Obstacle;
 use crate::segments::Segment;
-use crate::split::split_texts;
+use crate::text_parts::{decided_texts, split_texts};
 use cmap_files::declarations::BfRange;
 use cmap_files::fault::Fault;
 use std::alloc::{AllocError, Global};
@@ -37,7 +41,10 @@ pub(crate) fn add_text_list(
 }
 
 /// Checks that no text has more than 255 units.
-fn check_units(ranges: &[BfRange]) -> Result<(), Fault<Obstacle>> {
+fn check_units(ranges: &[BfRange]) -> Result<(), Fault<Obstacle>>
+    ensures counted { IfOk result (λ _. All (λ e. length e.units < 2 ^ 8) (map bf_entry_seen ranges.now)) }
+    ensures err { IfErr result (IsLongTextIn ranges.now) }
+{
     for range in ranges {
         if range.units.as_slice().len() > MOST_UNITS {
             return Err(Fault::Refused(Obstacle::Text(range.range)));
@@ -56,7 +63,10 @@ struct TextForm {
 
 impl TextForm {
     /// The form in which an entry takes the fewest bytes.
-    fn of(entry: &BfRange) -> TextForm {
+    fn of(entry: &BfRange) -> TextForm
+        ensures fixes { CanFix (shape_seen result.shape) result.units }
+        ensures form { HasForm (shape_seen result.shape) result.units entry.now }
+    {
         let shape = Shape::of(entry.range);
         let units = match (shape, entry.units.as_slice().len()) {
             (_, 1) => Some(1),
@@ -69,7 +79,10 @@ impl TextForm {
     }
 
     /// The type of the segment.
-    fn number(self) -> u8 {
+    fn number(self) -> u8
+        requires { CanFix (shape_seen self.shape) self.units }
+        ensures { IsNumberOf (shape_seen self.shape) self.units result }
+    {
         match (self.shape, self.units) {
             (Shape::Ranges, Some(units)) => 0x14 + units,
             (Shape::Singles, Some(units)) => 0x10 + units,
@@ -84,10 +97,14 @@ fn add_texts(
     alloc: Global,
     pieces: &[BfRange],
     segments: &mut Vec<Segment>,
-) -> Result<(), AllocError> {
+) -> Result<(), AllocError>
+    requires { All IsShortText (map bf_entry_seen pieces.now) }
+    ensures { IfOk result (λ _. AddsSegments segments.old.items segments.new.items
+        (map Declaration.bf (map bf_entry_seen pieces.now))) }
+{
     let mut left = pieces;
     while !left.is_empty() {
-        let form = TextForm::of(&left[0]);
+        let form = first_form(left);
         let (here, later) = left.split_at(segment_len(form, left));
         segments.push(text_segment(alloc, form, here)?)?;
         left = later;
@@ -95,27 +112,50 @@ fn add_texts(
     Ok(())
 }
 
+/// The form of the next entry.
+fn first_form(entries: &[BfRange]) -> TextForm
+    requires { 0 < length entries.now }
+    ensures fixes { CanFix (shape_seen result.shape) result.units }
+    ensures first { BeginsWithForm (shape_seen result.shape) result.units entries.now }
+{
+    TextForm::of(&entries[0])
+}
+
 /// How many entries the next segment holds: all have one form, and each comes after the one before.
-fn segment_len(form: TextForm, entries: &[BfRange]) -> usize {
+fn segment_len(form: TextForm, entries: &[BfRange]) -> usize
+    requires fixes { CanFix (shape_seen form.shape) form.units }
+    requires first { BeginsWithForm (shape_seen form.shape) form.units entries.now }
+    requires short { All IsShortText (map bf_entry_seen entries.now) }
+    ensures some { 1 ≤ result }
+    ensures within { result ≤ length entries.now }
+    ensures held { AreHeldTexts (shape_seen form.shape) form.units (take result entries.now) }
+{
     let mut count = 1;
     while count < entries.len()
         && count < MOST
-        && entries[count - 1].range.end < entries[count].range.start
-        && TextForm::of(&entries[count]).number() == form.number()
+        && follows(form, &entries[count - 1], &entries[count])
     {
         count += 1;
     }
     count
 }
 
+/// Whether an entry can follow another one in a segment of this form.
+fn follows(form: TextForm, before: &BfRange, entry: &BfRange) -> bool
+    requires { CanFix (shape_seen form.shape) form.units }
+    ensures { IsTrue result → FollowsText (shape_seen form.shape) form.units before.now entry.now }
+{
+    before.range.end < entry.range.start && TextForm::of(entry).number() == form.number()
+}
+
 /// A segment of these codes, with their texts.
-fn text_segment(
-    alloc: Global,
-    form: TextForm,
-    entries: &[BfRange],
-) -> Result<Segment, AllocError> {
+fn text_segment(alloc: Global, form: TextForm, entries: &[BfRange]) -> Result<Segment, AllocError>
+    requires fixes { CanFix (shape_seen form.shape) form.units }
+    requires held { AreHeldTexts (shape_seen form.shape) form.units entries.now }
+    ensures { IfOk result (λ segment. DeclaresAll segment (map Declaration.bf (map bf_entry_seen entries.now))) }
+{
     let mut values = Vec::new(alloc);
-    push_texts(&mut values, form, entries)?;
+    push_texts(&mut values, form.units, entries)?;
     Ok(Segment {
         number: form.number(),
         shape: form.shape,
@@ -125,14 +165,24 @@ fn text_segment(
     })
 }
 
-/// Writes the units of entries.
-fn push_texts(out: &mut Vec<u8>, form: TextForm, entries: &[BfRange]) -> Result<(), AllocError> {
+/// Writes the texts of entries, of which each has as many units as are fixed.
+fn push_texts(out: &mut Vec<u8>, fixed: Option<u8>, entries: &[BfRange]) -> Result<(), AllocError>
+    requires { All IsShortText (map bf_entry_seen entries.now) }
+    ensures { IfOk result (λ _. out.new.items ≡ out.old.items ++ destinations fixed entries.now) }
+{
     for entry in entries {
-        let units = entry.units.as_slice();
-        if form.units.is_none() {
-            out.push(units.len() as u8)?;
-        }
-        push_u16s(out, units)?;
+        push_text(out, fixed, entry.units.as_slice())?;
     }
     Ok(())
+}
+
+/// Writes the units of a text, after their number where it isn't fixed.
+fn push_text(out: &mut Vec<u8>, fixed: Option<u8>, units: &[u16]) -> Result<(), AllocError>
+    requires { length units.now < 2 ^ 8 }
+    ensures { IfOk result (λ _. out.new.items ≡ out.old.items ++ destination fixed units.now) }
+{
+    if fixed.is_none() {
+        out.push(units.len() as u8)?;
+    }
+    push_u16s(out, units)
 }
