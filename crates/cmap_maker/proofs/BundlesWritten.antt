@@ -1,5 +1,6 @@
 -- The front of a bundle, and its files.
-use Rattle.std.proofs.Common.{◌≡◌, ℕ, ◌+◌, ◌^◌, ◌<◌, ◌≤◌, List, [], ◌∷◌, ◌++◌, length, get_or, take, refl, ap, ◌∙◌, sym, subst, arith}
+use Rattle.std.proofs.Common.{◌≡◌, ℕ, zero, suc, ◌+◌, ◌^◌, ◌<◌, ◌≤◌, inl, inr, List, [], ◌∷◌, ◌++◌, Some, None, length, get_or, take, refl, ap, ◌∙◌, sym, subst, arith}
+use Rattle.std.specs.Prelude.{Option, codes}
 use Rattle.std.specs.List.{All}
 use Rattle.std.proofs.lemmas.List.Elements.{All-weaker}
 use Rattle.std.proofs.lemmas.List.{append-nil, map-append, take_more}
@@ -9,10 +10,17 @@ use Rattle.cmap_files.specs.declared.file.File.{File as HeldFile}
 use Rattle.cmap_binary.specs.TableFronts.{TableAt}
 use Rattle.cmap_binary.specs.Bundles.{HoldsTables, IsBundle, PrefixTables}
 use Rattle.cmap_binary.specs.Fronts.{FramedAt, SizedAt}
-use Rattle.cmap_maker.specs.Bundled.{HaveSymbols}
-use Rattle.cmap_maker.specs.Keeps.{AreFilesOf, AreWritten, IsBundleOf, IsWritten, files_seen}
+use Rattle.cmap_maker.specs.Bundled.{HaveSymbols, IsFramedFile}
+use Rattle.cmap_maker.specs.Keeps.{AreWritten, IsBundleOf, IsWritten, files_seen}
+use Rattle.cmap_maker.specs.PreparedFiles.{IsPrepared}
+use Rattle.cmap_maker.specs.Slots.{AreSlotsFor, AreSlotsOf, AreSlotsWritten, IsBundleOfSlots, IsFileFor, IsNamedBundle, IsSlotFor, IsSlotWritten, no_file_bytes, places, source_at}
 use Rattle.cmap_maker.specs.Written.{Appends, Writes, WritesAll}
-use Rattle.cmap_maker.proofs.FilesWritten.{AllOf-written, WritesAll-push}
+use Rattle.cmap_maker.specs.declared.prepared.Prepared.{Prepared}
+use Rattle.cmap_maker.specs.declared.slots.Slot.{Slot}
+use Rattle.cmap_maker.specs.declared.slots.Slot.TheVariants as slot
+use Rattle.cmap_maker.specs.declared.source.Source.{Source}
+use Rattle.cmap_maker.proofs.FilesWritten.{AllOf-written, appended_more, appended_none}
+use Rattle.cmap_maker.proofs.FrontsWritten.{FramedAt-written}
 
 pub HoldsTables-written : (tables : PrefixTables) (mid text : List ℕ) → Appends [] mid (Writes (TableAt 4) tables.delta) → Appends mid text (Writes (TableAt 1) tables.count) → HoldsTables text tables
 HoldsTables-written tables mid text (first, first_is, delta) (second, second_is, count) = (
@@ -22,34 +30,107 @@ HoldsTables-written tables mid text (first, first_is, delta) (second, second_is,
   (tables.count, [], subst (λ bs. TableAt 1 bs (tables.count, [])) (append-nil second) (count []), refl),
 )
 
-pub bundle_written : (tables : PrefixTables) (files : List File) (text mid bytes : List ℕ) → HoldsTables text tables → Appends [] mid (Writes SizedAt text) → (rest : List ℕ) → bytes ≡ mid ++ rest → AreFilesOf tables files rest → IsBundleOf files bytes
+pub bundle_written : (tables : PrefixTables) (slots : List Slot) (text mid bytes : List ℕ) → HoldsTables text tables → Appends [] mid (Writes SizedAt text) → (texts : List (List ℕ)) → Appends mid bytes (WritesAll (FramedAt 6) texts) → AreSlotsWritten tables slots texts → IsBundleOfSlots slots bytes
 unfolding IsBundle
-bundle_written tables files text mid bytes holds (first, first_is, sized) rest rest_is (texts, all, each) = record {
-  tables = tables;
-  texts = texts;
-  is = (
+bundle_written tables slots text mid bytes holds (first, first_is, sized) texts (rest, rest_is, all) each = (
+  tables,
+  texts,
+  (
     text,
     rest,
     subst (λ bs. SizedAt bs (text, rest)) (sym (rest_is ∙ ap (λ bs. bs ++ rest) first_is)) (sized rest),
     (holds, AllOf-written (FramedAt 6) texts rest all),
-  );
-  each = each;
+  ),
+  each,
+)
+
+-- ---- a bundle of files by their indices
+-- one file more
+pub slots_more : (files : List File) (slots : List Slot) (file : File) (prepared : Prepared) → AreSlotsOf files slots → IsPrepared file prepared → AreSlotsOf (files ++ file ∷ []) (slots ++ slot.File prepared ∷ [])
+slots_more [] [] file prepared each here = (here, tt)
+slots_more [] (s ∷ slots) file prepared each here = absurd each
+slots_more (f ∷ files) [] file prepared each here = absurd each
+slots_more (f ∷ files) (slot.File p ∷ slots) file prepared (first, each) here = (first, slots_more files slots file prepared each here)
+slots_more (f ∷ files) (slot.Text t ∷ slots) file prepared each here = absurd each
+slots_more (f ∷ files) (slot.Absent ∷ slots) file prepared each here = absurd each
+
+pub file_slots_more : (files : List HeldFile) (i : ℕ) (d : HeldFile) (now : List Slot) (prepared : Prepared) → i < length files → AreSlotsOf (files_seen (take i files)) now → IsPrepared (file_seen (get_or files i d)) prepared → AreSlotsOf (files_seen (take (i + 1) files)) (now ++ slot.File prepared ∷ [])
+file_slots_more files i d now prepared within each here =
+    let file = file_seen (get_or files i d) in
+    let seen : files_seen (take (i + 1) files) ≡ files_seen (take i files) ++ file ∷ [] = ap files_seen (take_more files i d within) ∙ map-append file_seen (take i files) (get_or files i d ∷ []) in
+    subst (λ fs. AreSlotsOf fs (now ++ slot.File prepared ∷ [])) (sym seen) (slots_more (files_seen (take i files)) now file prepared each here)
+
+each_written : (tables : PrefixTables) (files : List File) (slots : List Slot) (texts : List (List ℕ)) → AreSlotsOf files slots → AreSlotsWritten tables slots texts → AreWritten tables files texts
+each_written tables [] [] [] each written = tt
+each_written tables [] [] (t ∷ texts) each written = absurd written
+each_written tables [] (s ∷ slots) texts each written = absurd each
+each_written tables (f ∷ files) [] texts each written = absurd each
+each_written tables (f ∷ files) (slot.File p ∷ slots) [] each written = absurd written
+each_written tables (f ∷ files) (slot.File p ∷ slots) (t ∷ texts) (first, each) (here, written) = (here.1 f first, each_written tables files slots texts each written)
+each_written tables (f ∷ files) (slot.Text x ∷ slots) texts each written = absurd each
+each_written tables (f ∷ files) (slot.Absent ∷ slots) texts each written = absurd each
+
+pub bundle_of_files : (files : List File) (slots : List Slot) (bytes : List ℕ) → AreSlotsOf files slots → IsBundleOfSlots slots bytes → IsBundleOf files bytes
+bundle_of_files files slots bytes each (tables, texts, is, written) = record { tables = tables; texts = texts; is = is; each = each_written tables files slots texts each written }
+
+-- ---- a bundle of files by their names
+for_source : (tables : PrefixTables) (source : Option Source) (s : Slot) (text : List ℕ) → IsSlotFor source s → IsSlotWritten tables s text → IsFileFor tables source text
+for_source tables None slot.Absent text is written = written
+for_source tables None (slot.File p) text is written = absurd is
+for_source tables None (slot.Text t) text is written = absurd is
+for_source tables (Some source) slot.Absent text is written = absurd is
+for_source tables (Some source) (slot.File p) text is written = inl (written.1 (file_seen source.file.now) is)
+for_source tables (Some source) (slot.Text t) text is written = inr (t, is, written)
+
+slots_length : (tables : PrefixTables) (slots : List Slot) (texts : List (List ℕ)) → AreSlotsWritten tables slots texts → length texts ≡ length slots
+slots_length tables [] [] written = refl
+slots_length tables [] (t ∷ texts) written = absurd written
+slots_length tables (s ∷ slots) [] written = absurd written
+slots_length tables (s ∷ slots) (t ∷ texts) (here, written) = ap suc (slots_length tables slots texts written)
+
+slot_written : (tables : PrefixTables) (slots : List Slot) (texts : List (List ℕ)) (i : ℕ) (d : Slot) (e : List ℕ) → AreSlotsWritten tables slots texts → i < length slots → IsSlotWritten tables (get_or slots i d) (get_or texts i e)
+slot_written tables [] texts i d e written within = absurd (omega arith)
+slot_written tables (s ∷ slots) [] i d e written within = absurd written
+slot_written tables (s ∷ slots) (t ∷ texts) zero d e (here, written) within = here
+slot_written tables (s ∷ slots) (t ∷ texts) (suc i) d e (here, written) within = slot_written tables slots texts i d e written (omega arith)
+
+pub bundle_of_sources : (sources : List Source) (slots : List Slot) (bytes : List ℕ) → AreSlotsFor sources slots places → IsBundleOfSlots slots bytes → IsNamedBundle sources bytes
+bundle_of_sources sources slots bytes (count, each) (tables, texts, is, written) = record {
+  tables = tables;
+  texts = texts;
+  is = is;
+  all = slots_length tables slots texts written ∙ count;
+  each = λ place e within. for_source tables (source_at sources place) (get_or slots place slot.Absent) (get_or texts place e) (each place slot.Absent within) (slot_written tables slots texts place slot.Absent e written (omega (arith, count, within)));
 }
 
--- one file more
-written_more : (tables : PrefixTables) (files : List File) (texts : List (List ℕ)) (file : File) (text : List ℕ) → AreWritten tables files texts → IsWritten tables file text → AreWritten tables (files ++ file ∷ []) (texts ++ text ∷ [])
-written_more tables [] [] file text each here = (here, tt)
-written_more tables [] (t ∷ texts) file text each here = absurd each
-written_more tables (f ∷ files) [] file text each here = absurd each
-written_more tables (f ∷ files) (t ∷ texts) file text (first, each) here = (first, written_more tables files texts file text each here)
+-- ---- files that are written one after another
+written_push : (tables : PrefixTables) (slots : List Slot) (texts : List (List ℕ)) (s : Slot) (text : List ℕ) → AreSlotsWritten tables slots texts → IsSlotWritten tables s text → AreSlotsWritten tables (slots ++ s ∷ []) (texts ++ text ∷ [])
+written_push tables [] [] s text each here = (here, tt)
+written_push tables [] (t ∷ texts) s text each here = absurd each
+written_push tables (x ∷ slots) [] s text each here = absurd each
+written_push tables (x ∷ slots) (t ∷ texts) s text (first, each) here = (first, written_push tables slots texts s text each here)
 
-pub files_more : (tables : PrefixTables) (files : List HeldFile) (i : ℕ) (d : HeldFile) (now new text : List ℕ) → i < length files → AreFilesOf tables (files_seen (take i files)) now → IsWritten tables (file_seen (get_or files i d)) text → new ≡ now ++ text → AreFilesOf tables (files_seen (take (i + 1) files)) new
-files_more tables files i d now new text within (texts, all, each) here new_is =
-    let file = file_seen (get_or files i d) in
-    let seen : files_seen (take (i + 1) files) ≡ files_seen (take i files) ++ file ∷ [] = ap files_seen (take_more files i d within) ∙ map-append file_seen (take i files) (get_or files i d ∷ []) in (
+-- the slots so far are written
+abbrev pub SlotsWrittenTo : PrefixTables → List Slot → List ℕ → List ℕ → Type 0
+SlotsWrittenTo tables slots old now = (texts : List (List ℕ)) × Appends old now (WritesAll (FramedAt 6) texts) × AreSlotsWritten tables slots texts
+
+no_file_framed : IsFramedFile no_file_bytes
+no_file_framed rest = FramedAt-written (codes "bcmap" ++ 0 ∷ []) [] no_file_bytes rest (record { bytes_are = refl; small = omega arith })
+
+slot_framed : (tables : PrefixTables) (s : Slot) (text : List ℕ) → IsSlotWritten tables s text → IsFramedFile text
+slot_framed tables (slot.File p) text written = written.0
+slot_framed tables (slot.Text t) text (size, spaces, is, small, blank, framed) = framed
+slot_framed tables slot.Absent text written = subst IsFramedFile (sym written) no_file_framed
+
+pub slots_written_none : (tables : PrefixTables) (old : List ℕ) → SlotsWrittenTo tables [] old old
+slots_written_none tables old = ([], appended_none (FramedAt 6) old, tt)
+
+pub slots_written_more : (tables : PrefixTables) (slots : List Slot) (i : ℕ) (s : Slot) (old now new : List ℕ) → i < length slots → s ≡ get_or slots i s → SlotsWrittenTo tables (take i slots) old now → Appends now new (IsSlotWritten tables s) → SlotsWrittenTo tables (take (i + 1) slots) old new
+slots_written_more tables slots i s old now new within here (texts, all, each) (text, is, written) =
+    let parted : take (i + 1) slots ≡ take i slots ++ s ∷ [] = take_more slots i s within ∙ ap (λ x. take i slots ++ x ∷ []) (sym here) in (
       texts ++ text ∷ [],
-      subst (WritesAll (FramedAt 6) (texts ++ text ∷ [])) (sym new_is) (WritesAll-push (FramedAt 6) texts now text text all here.framed),
-      subst (λ fs. AreWritten tables fs (texts ++ text ∷ [])) (sym seen) (written_more tables (files_seen (take i files)) texts file text each here),
+      appended_more (FramedAt 6) old now new texts text all (text, is, slot_framed tables s text written),
+      subst (λ ss. AreSlotsWritten tables ss (texts ++ text ∷ [])) (sym parted) (written_push tables (take i slots) texts s text each written),
     )
 
 -- symbols that fit

@@ -9,7 +9,11 @@ use Rattle.cmap_binary.specs.BinaryFiles as files
 use Rattle.cmap_binary.specs.Bundles.{PrefixTables}
 use Rattle.cmap_maker.specs.Keeps.{HaveSameCids, HaveSameTexts, IsWritten, KeepLists, Keeps, by_length}
 use Rattle.cmap_maker.specs.MetadataWritten.{metadata_contents}
-use Rattle.cmap_maker.specs.PreparedFiles.{IsPrepared}
+use Rattle.std.specs.Global.{Vec}
+use Rattle.cmap_files.specs.DeclarationsSeen.{entries_seen}
+use Rattle.cmap_files.specs.declared.declarations.ByLength.{ByLength as HeldByLength}
+use Rattle.cmap_files.specs.declared.declarations.CidRange.{CidRange}
+use Rattle.cmap_maker.specs.PreparedFiles.{AddsCidLists, AddsSameCids, IsPrepared}
 use Rattle.cmap_maker.specs.Segments.{AddsSegments, DeclareEach}
 use Rattle.cmap_maker.specs.SegmentsWritten.{DeclareAll, SegmentByAny}
 use Rattle.cmap_maker.specs.Written.{Appends, IsFramed, WritesAll}
@@ -19,7 +23,7 @@ use Rattle.cmap_maker.proofs.FileKept.{file_said, head, keeps}
 use Rattle.cmap_maker.proofs.FilesWritten.{AllOf-written, joined}
 use Rattle.cmap_maker.proofs.FrontsWritten.{FramedAt-written, payload-written}
 use Rattle.cmap_maker.proofs.ListsKept.{all_by_any, all_kinds, declared_both}
-use Rattle.cmap_maker.proofs.SegmentsAdded.{WrittenWhere, adds_both}
+use Rattle.cmap_maker.proofs.SegmentsAdded.{WrittenWhere, adds_both, adds_four}
 
 -- what is added to none
 from_none : (segments : List Segment) (ds : List Declaration) → AddsSegments [] segments ds → (parts : List (List Declaration)) × DeclareEach segments parts × (flat_map (λ part. part) parts ≡ ds)
@@ -79,3 +83,17 @@ file_written tables file prepared body bytes h written (framed, bytes_are, at) =
       keeps = h.keeps;
       framed = λ more. FramedAt-written head body bytes more frame;
     }
+
+-- ---- CIDs of codes of each length
+pub cid_lists : (held : HeldByLength (Vec CidRange)) (old a b c new : List Segment) → AddsSameCids 1 (entries_seen held.one.items) old a → AddsSameCids 2 (entries_seen held.two.items) a b → AddsSameCids 3 (entries_seen held.three.items) b c → AddsSameCids 4 (entries_seen held.four.items) c new → AddsCidLists held old new
+cid_lists held old a b c new (m1, first, s1) (m2, second, s2) (m3, third, s3) (m4, fourth, s4) = record {
+  one = m1;
+  two = m2;
+  three = m3;
+  four = m4;
+  added = adds_four (map (Declaration.cid 1) m1) (map (Declaration.cid 2) m2) (map (Declaration.cid 3) m3) (map (Declaration.cid 4) m4) old a b c new first second third fourth;
+  one_same = s1;
+  two_same = s2;
+  three_same = s3;
+  four_same = s4;
+}

@@ -2,6 +2,7 @@
 //! for.
 #![tactic(auto)]
 
+mod behind;
 mod bits;
 mod bundle;
 mod bytes;

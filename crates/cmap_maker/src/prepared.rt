@@ -3,6 +3,7 @@
 ghost use Rattle.std.specs.Prelude.{IfOk};
 ghost use Rattle.cmap_files.specs.Files.{File as Said};
 ghost use Rattle.cmap_files.specs.FilesSeen.{file_seen};
+ghost use Rattle.cmap_maker.specs.Bundled.{IsFramedFile};
 ghost use Rattle.cmap_maker.specs.EncodersSeen.{encoders_seen};
 ghost use Rattle.cmap_maker.specs.Keeps.{IsWritten, notdefs_declared};
 ghost use Rattle.cmap_maker.specs.PreparedFiles.{AddsCidLists, IsPrepared};
@@ -83,7 +84,8 @@ fn add_cid_lists(
 impl Prepared {
     /// The file, with its numbers spelled by these tables.
     pub(crate) fn write(&self, alloc: Global, tables: &Encoders) -> Result<Vec<u8>, Fault<Obstacle>>
-        ensures { IfOk result (λ bytes. (file : Said) → IsPrepared file self.now
+        ensures framed { IfOk result (λ bytes. IsFramedFile bytes.items) }
+        ensures written { IfOk result (λ bytes. (file : Said) → IsPrepared file self.now
             → IsWritten (encoders_seen tables.now) file bytes.items) }
     {
         let mut body = Vec::from_slice(alloc, &self.fields)?;

@@ -1,5 +1,12 @@
 //! The files of a bundle, each at the index of its name.
 
+ghost use Rattle.std.specs.Prelude.{ℕ, List, IfOk, Some};
+ghost use Rattle.cmap_binary.specs.Fronts.{FramedAt};
+ghost use Rattle.cmap_maker.specs.EncodersSeen.{encoders_seen};
+ghost use Rattle.cmap_maker.specs.Slots.{AreSlotsFor, AreSlotsWritten, IsSlotFor, IsSlotWritten, places, source_at};
+ghost use Rattle.cmap_maker.specs.Written.{Appends, WritesAll};
+
+use crate::behind::push_text;
 use crate::columns::Encoders;
 use crate::obstacle::{Obstacle, Unwritable};
 use crate::pieces::push_framed;
@@ -22,9 +29,6 @@ pub(crate) enum Slot<'s> {
 /// How many names have a place in a bundle.
 const PLACES: usize = 65;
 
-/// The six bytes that begin a text: a comment, which goes on up to the end of the line after the length.
-const TEXT_HEAD: &[u8] = b"% text";
-
 /// What begins a file that isn't there: no version has the number 0, so every reader refuses it.
 const ABSENT_HEAD: &[u8] = b"bcmap\0";
 
@@ -32,11 +36,14 @@ const ABSENT_HEAD: &[u8] = b"bcmap\0";
 pub(crate) fn slots_of<'s>(
     alloc: Global,
     sources: &[Source<'s, '_>],
-) -> Result<Vec<Slot<'s>>, Fault<Unwritable>> {
+) -> Result<Vec<Slot<'s>>, Fault<Unwritable>>
+    ensures { IfOk result (λ slots. AreSlotsFor sources.now slots.items places) }
+{
     check_names(sources)?;
     let mut slots = Vec::with_capacity(alloc, PLACES)?;
     for place in 0..PLACES {
-        slots.push(slot_at(alloc, sources, place)?)?;
+        let slot = slot_at(alloc, sources, place)?;
+        slots.push(slot)?;
     }
     Ok(slots)
 }
@@ -59,7 +66,9 @@ fn slot_at<'s>(
     alloc: Global,
     sources: &[Source<'s, '_>],
     place: usize,
-) -> Result<Slot<'s>, Fault<Unwritable>> {
+) -> Result<Slot<'s>, Fault<Unwritable>>
+    ensures { IfOk result (IsSlotFor (source_at sources.now place)) }
+{
     for index in 0..sources.len() {
         if sources[index].name.index() == Some(place) {
             return slot_of(alloc, &sources[index], index);
@@ -73,7 +82,9 @@ fn slot_of<'s>(
     alloc: Global,
     source: &Source<'s, '_>,
     index: usize,
-) -> Result<Slot<'s>, Fault<Unwritable>> {
+) -> Result<Slot<'s>, Fault<Unwritable>>
+    ensures { IfOk result (IsSlotFor (Some source.now)) }
+{
     match (prepare(alloc, source.file), source.text) {
         (Ok(prepared), _) => Ok(Slot::File(prepared)),
         (Err(Fault::Memory), _) => Err(Fault::Memory),
@@ -91,30 +102,34 @@ pub(crate) fn push_slots(
     tables: &Encoders,
     slots: &[Slot<'_>],
     out: &mut Vec<u8>,
-) -> Result<(), Fault<Obstacle>> {
+) -> Result<(), Fault<Obstacle>>
+    ensures { IfOk result (λ _. (texts : List (List ℕ)) × Appends out.old.items out.new.items (WritesAll (FramedAt 6) texts) × AreSlotsWritten (encoders_seen tables.now) slots.now texts) }
+{
     for slot in slots {
-        match slot {
-            Slot::File(prepared) => out.extend_from_slice(&prepared.write(alloc, tables)?)?,
-            Slot::Text(text) => push_text(alloc, text, out)?,
-            Slot::Absent => push_framed(out, ABSENT_HEAD, &[])?,
+        push_slot(alloc, tables, slot, out)?;
+    }
+    Ok(())
+}
+
+/// Writes a file of a bundle.
+fn push_slot(
+    alloc: Global,
+    tables: &Encoders,
+    slot: &Slot<'_>,
+    out: &mut Vec<u8>,
+) -> Result<(), Fault<Obstacle>>
+    ensures { IfOk result (λ _. Appends out.old.items out.new.items (IsSlotWritten (encoders_seen tables.now) slot.now)) }
+{
+    match slot {
+        Slot::File(prepared) => {
+            let text = prepared.write(alloc, tables)?;
+            out.extend_from_slice(&text)?;
+            Ok(())
+        }
+        Slot::Text(text) => push_text(alloc, text, out),
+        Slot::Absent => {
+            push_framed(out, ABSENT_HEAD, &[])?;
+            Ok(())
         }
     }
-    Ok(())
-}
-
-/// Writes a text after a comment, which holds its length.
-fn push_text(alloc: Global, text: &[u8], out: &mut Vec<u8>) -> Result<(), Fault<Obstacle>> {
-    let mut payload = Vec::new(alloc);
-    payload.push(b'\n')?;
-    payload.extend_from_slice(text)?;
-    while ends_line(TEXT_HEAD.len() + 4 + payload.len()) {
-        payload.push(b' ')?;
-    }
-    push_framed(out, TEXT_HEAD, &payload)?;
-    Ok(())
-}
-
-/// Whether one of the four bytes of a length ends a comment.
-fn ends_line(len: usize) -> bool {
-    (0..4).any(|i: u32| matches!((len >> (8 * i)) & 0xFF, 0x0A | 0x0C | 0x0D))
 }

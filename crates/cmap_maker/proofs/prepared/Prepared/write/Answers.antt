@@ -1,4 +1,18 @@
+use Rattle.std.proofs.Common.{◌∙◌, ◌≡◌, subst, sym}
+use Rattle.cmap_maker.specs.EncodersSeen.{encoders_seen}
+use Rattle.cmap_maker.specs.Written.{Appends, IsFramed}
+use Rattle.cmap_maker.proofs.FileKept.{head}
+use Rattle.cmap_maker.proofs.PreparedKept.{file_written}
+use Rattle.cmap_maker.proofs.SegmentsAdded.{WrittenWhere}
 use Rattle.cmap_maker.proofs.prepared.Prepared.write.Goals as goal
 
 pub returns : goal.returns
-returns c = ?
+returns c file h =
+    let tables = encoders_seen c.args.tables.now in
+    let prepared = c.args.self.now in
+    let body = c.push_segments.new.out.items in
+    let bytes = c.push_framed.new.out.items in
+    let mid : c.in_ok-body.body.items ≡ prepared.fields.items = c.in_ok-body.ensures.items ∙ c.deref.ensures.value in
+    let written : WrittenWhere tables prepared.segments.items prepared.fields.items body = subst (λ old. WrittenWhere tables prepared.segments.items old body) mid (subst (λ ss. WrittenWhere tables ss c.in_ok-body.body.items body) c.deref-2.ensures.value c.in_ok-push_segments.ensures) in
+    let framed : Appends c.new-bytes.result.items bytes (IsFramed head body) = subst (λ p. Appends c.new-bytes.result.items bytes (IsFramed head p)) c.deref-3.ensures.value c.in_ok-push_framed.ensures.written in
+    file_written tables file prepared body bytes h written (subst (λ old. Appends old bytes (IsFramed head body)) c.new-bytes.ensures.items framed)

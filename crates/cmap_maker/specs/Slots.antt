@@ -1,0 +1,80 @@
+-- The files of a bundle, each at the index of its name.
+use Rattle.std.specs.Prelude.{◌≡◌, ◌==◌, ℕ, ◌+◌, ◌<◌, ◌⊎◌, Bool, false, List, [], ◌∷◌, ◌++◌, All, Option, Some, None, codes, get_or, length, if◌then◌else◌}
+use Rattle.std.specs.Borrow.{Bor}
+use Rattle.cmap_tokens.specs.Gaps.{ends_comment}
+use Rattle.cmap_files.specs.CMapNames.{index_of_name}
+use Rattle.cmap_files.specs.Files.{File}
+use Rattle.cmap_files.specs.FilesSeen.{file_seen}
+use Rattle.cmap_binary.specs.Bundles.{IsBundle, PrefixTables}
+use Rattle.cmap_maker.specs.Bundled.{IsFramedFile}
+use Rattle.cmap_maker.specs.Keeps.{IsWritten}
+use Rattle.cmap_maker.specs.PreparedFiles.{IsPrepared}
+use Rattle.cmap_maker.specs.declared.slots.Slot.{Slot}
+use Rattle.cmap_maker.specs.declared.slots.Slot.TheVariants as slot
+use Rattle.cmap_maker.specs.declared.source.Source.{Source}
+
+-- how many names have a place in a bundle
+abbrev pub places : ℕ
+places = 65
+
+abbrev pub is_index : Option ℕ → ℕ → Bool
+is_index None place = false
+is_index (Some index) place = index == place
+
+-- the first of the sources whose name has this index
+abbrev pub source_at : List Source → ℕ → Option Source
+source_at [] place = None
+source_at (source ∷ sources) place = if is_index (index_of_name source.name) place then Some source else source_at sources place
+
+-- a comment, the text, and spaces
+abbrev pub IsTextBehind : List ℕ → List ℕ → Type 0
+IsTextBehind text bytes = (size : List ℕ) × (spaces : List ℕ) × (bytes ≡ (codes "% text" ++ size) ++ (10 ∷ (text ++ spaces))) × All (λ b. ends_comment b ≡ false) size × All (λ b. b ≡ 32) spaces × IsFramedFile bytes
+
+-- ten bytes that no reader takes for a file: the front of a binary file of version 0, and their number
+abbrev pub no_file_bytes : List ℕ
+no_file_bytes = codes "bcmap" ++ 0 ∷ 0 ∷ 0 ∷ 0 ∷ 10 ∷ []
+
+-- what stands in a bundle for a name: the file of its source, in the binary form or as its text; without a source no file
+abbrev pub IsFileFor : PrefixTables → Option Source → List ℕ → Type 0
+IsFileFor tables None bytes = bytes ≡ no_file_bytes
+IsFileFor tables (Some source) bytes = IsWritten tables (file_seen source.file.now) bytes ⊎ ((text : Bor (List ℕ)) × (source.text ≡ Some text) × IsTextBehind text.now bytes)
+
+-- the bytes are a bundle which has for each known name, at its index, the file of the first source of this name
+pub record IsNamedBundle (sources : List Source) (bytes : List ℕ) : Type 0 where
+  pub tables : PrefixTables
+  pub texts : List (List ℕ)
+  pub is : IsBundle bytes (record { tables = tables; files = texts })
+  pub all : length texts ≡ places
+  pub each : (place : ℕ) (d : List ℕ) → place < places → IsFileFor tables (source_at sources place) (get_or texts place d)
+
+-- ---- private aid
+-- what is to be written for a name
+abbrev pub IsSlotFor : Option Source → Slot → Type 0
+IsSlotFor None slot.Absent = Unit {0}
+IsSlotFor (Some source) (slot.File prepared) = IsPrepared (file_seen source.file.now) prepared
+IsSlotFor (Some source) (slot.Text text) = source.text ≡ Some text
+IsSlotFor _ _ = ⊥
+
+abbrev pub AreSlotsFor : List Source → List Slot → ℕ → Type 0
+AreSlotsFor sources slots count = (length slots ≡ count) × ((place : ℕ) (d : Slot) → place < count → IsSlotFor (source_at sources place) (get_or slots place d))
+
+-- these bytes are what is to be written
+abbrev pub IsSlotWritten : PrefixTables → Slot → List ℕ → Type 0
+IsSlotWritten tables (slot.File prepared) bytes = IsFramedFile bytes × ((file : File) → IsPrepared file prepared → IsWritten tables file bytes)
+IsSlotWritten tables (slot.Text text) bytes = IsTextBehind text.now bytes
+IsSlotWritten tables slot.Absent bytes = bytes ≡ no_file_bytes
+
+abbrev pub AreSlotsWritten : PrefixTables → List Slot → List (List ℕ) → Type 0
+AreSlotsWritten tables [] [] = Unit {0}
+AreSlotsWritten tables (s ∷ slots) (text ∷ texts) = IsSlotWritten tables s text × AreSlotsWritten tables slots texts
+AreSlotsWritten tables slots texts = ⊥
+
+-- the files of these slots
+abbrev pub AreSlotsOf : List File → List Slot → Type 0
+AreSlotsOf [] [] = Unit {0}
+AreSlotsOf (file ∷ files) (slot.File prepared ∷ slots) = IsPrepared file prepared × AreSlotsOf files slots
+AreSlotsOf files slots = ⊥
+
+-- the bytes are a bundle with what is to be written
+abbrev pub IsBundleOfSlots : List Slot → List ℕ → Type 0
+IsBundleOfSlots slots bytes = (tables : PrefixTables) × (texts : List (List ℕ)) × IsBundle bytes (record { tables = tables; files = texts }) × AreSlotsWritten tables slots texts
