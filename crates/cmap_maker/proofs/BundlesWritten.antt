@@ -1,9 +1,13 @@
 -- The front of a bundle, and its files.
-use Rattle.std.proofs.Common.{◌≡◌, ℕ, zero, suc, ◌+◌, ◌^◌, ◌<◌, ◌≤◌, inl, inr, List, [], ◌∷◌, ◌++◌, Some, None, length, get_or, take, refl, ap, ◌∙◌, sym, subst, arith}
-use Rattle.std.specs.Prelude.{Option, codes}
+use Rattle.std.proofs.Common.{◌≡◌, ℕ, zero, suc, ◌+◌, ◌^◌, ◌<◌, ◌≤◌, inl, inr, true, List, [], ◌∷◌, ◌++◌, Some, None, length, get_or, drop, take, refl, ap, ◌∙◌, sym, subst, arith}
+use Rattle.std.specs.Prelude.{Option, codes, if◌then◌else◌}
+use lib.Dec.{eqb}
+use Rattle.std.specs.Option.{option_eq}
+use Rattle.std.proofs.lemmas.Option.{same_Some, slice_get_read}
 use Rattle.std.specs.List.{All}
 use Rattle.std.proofs.lemmas.List.Elements.{All-weaker}
-use Rattle.std.proofs.lemmas.List.{append-nil, map-append, take_more}
+use Rattle.std.proofs.lemmas.List.{append-nil, drop_more, map-append, take_more}
+use Rattle.cmap_files.specs.CMapNames.{index_of_name}
 use Rattle.cmap_files.specs.Files.{File}
 use Rattle.cmap_files.specs.FilesSeen.{file_seen}
 use Rattle.cmap_files.specs.declared.file.File.{File as HeldFile}
@@ -13,7 +17,7 @@ use Rattle.cmap_binary.specs.Fronts.{FramedAt, SizedAt}
 use Rattle.cmap_maker.specs.Bundled.{HaveSymbols, IsFramedFile}
 use Rattle.cmap_maker.specs.Keeps.{AreWritten, IsBundleOf, IsWritten, files_seen}
 use Rattle.cmap_maker.specs.PreparedFiles.{IsPrepared}
-use Rattle.cmap_maker.specs.Slots.{AreSlotsFor, AreSlotsOf, AreSlotsWritten, IsBundleOfSlots, IsFileFor, IsNamedBundle, IsSlotFor, IsSlotWritten, no_file_bytes, places, source_at}
+use Rattle.cmap_maker.specs.Slots.{AreSlotsFor, AreSlotsOf, AreSlotsWritten, IsBundleOfSlots, IsFileFor, IsNamedBundle, IsSlotFor, IsSlotWritten, is_index, no_file_bytes, places, source_at}
 use Rattle.cmap_maker.specs.Written.{Appends, Writes, WritesAll}
 use Rattle.cmap_maker.specs.declared.prepared.Prepared.{Prepared}
 use Rattle.cmap_maker.specs.declared.slots.Slot.{Slot}
@@ -139,3 +143,17 @@ have_symbols tables counts deltas = record {
   deltas = All-weaker (λ p. p.symbol ≤ 4294967295) (λ p. p.symbol < 2 ^ 32) (λ p h. omega (arith, h)) tables.delta deltas;
   counts = All-weaker (λ p. p.symbol ≤ 255) (λ p. p.symbol < 2 ^ 8) (λ p h. omega (arith, h)) tables.count counts;
 }
+
+-- ---- the first source of a name
+is_index_tested : (o : Option ℕ) (place : ℕ) → option_eq eqb o (Some place) ≡ is_index o place
+is_index_tested None place = refl
+is_index_tested (Some i) place = refl
+
+pub same_item : {X : Type 0} (xs : List X) (i : ℕ) (x y : X) → i < length xs → x ≡ get_or xs i x → y ≡ get_or xs i y → x ≡ y
+same_item xs i x y within first second = same_Some x y (sym (slice_get_read xs (length xs) i x refl within first) ∙ slice_get_read xs (length xs) i y refl within second)
+
+pub source_found : (sources : List Source) (i : ℕ) (s : Source) (place : ℕ) → i < length sources → s ≡ get_or sources i s → option_eq eqb (index_of_name s.name) (Some place) ≡ true → source_at (drop i sources) place ≡ Some s
+source_found sources i s place within here is =
+    let rest : drop i sources ≡ s ∷ drop (i + 1) sources = drop_more sources i s within ∙ ap (λ x. x ∷ drop (i + 1) sources) (sym here) in
+    let yes : is_index (index_of_name s.name) place ≡ true = sym (is_index_tested (index_of_name s.name) place) ∙ is in
+    ap (λ ss. source_at ss place) rest ∙ ap (λ b. if b then Some s else source_at (drop (i + 1) sources) place) yes

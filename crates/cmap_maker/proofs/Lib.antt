@@ -19,6 +19,7 @@ pub mod SegmentsDone
 pub mod SegmentsMade
 pub mod Spelling
 pub mod TablesWritten
+pub mod TextsBehind
 pub mod TextsMade
 pub mod TextsWritten
 pub mod Told

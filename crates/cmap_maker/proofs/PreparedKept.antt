@@ -7,6 +7,7 @@ use Rattle.cmap_files.specs.Files.{BfEntry, ByLength, Declaration, File, Lists, 
 use Rattle.cmap_binary.specs.BinaryFiles.{BodyOf, Content, IsBinaryFile, SegmentAt, declares, file_of, magic}
 use Rattle.cmap_binary.specs.BinaryFiles as files
 use Rattle.cmap_binary.specs.Bundles.{PrefixTables}
+use Rattle.cmap_maker.specs.Bundled.{IsFramedFile}
 use Rattle.cmap_maker.specs.Keeps.{HaveSameCids, HaveSameTexts, IsWritten, KeepLists, Keeps, by_length}
 use Rattle.cmap_maker.specs.MetadataWritten.{metadata_contents}
 use Rattle.std.specs.Global.{Vec}
@@ -61,6 +62,9 @@ module _ (file : File) (prepared : Prepared) (made : ByLength) (texts : List BfE
       }
 
 -- ---- the file
+pub file_framed : (body bytes : List ℕ) → Appends [] bytes (IsFramed head body) → IsFramedFile bytes
+file_framed body bytes (framed, is, at) more = FramedAt-written head body bytes more (subst (IsFramed head body) (sym is) at)
+
 pub file_written : (tables : PrefixTables) (file : File) (prepared : Prepared) (body bytes : List ℕ) → IsPrepared file prepared → WrittenWhere tables prepared.segments.items prepared.fields.items body → Appends [] bytes (IsFramed head body) → IsWritten tables file bytes
 unfolding IsBinaryFile
 file_written tables file prepared body bytes h written (framed, bytes_are, at) =

@@ -1,6 +1,14 @@
-use Rattle.std.proofs.Common.{arith, subst, sym}
+use Rattle.std.proofs.Common.{◌+◌, arith, subst, sym, take}
+use Rattle.cmap_files.specs.FilesSeen.{file_seen}
+use Rattle.cmap_maker.specs.Keeps.{files_seen}
+use Rattle.cmap_maker.specs.PreparedFiles.{IsPrepared}
+use Rattle.cmap_maker.specs.Slots.{AreSlotsOf}
 use Rattle.cmap_maker.proofs.BundlesWritten.{file_slots_more}
 use Rattle.cmap_maker.proofs.bundle.file_slots.Goals as goal
 
 pub loop-file-preserved : goal.loop-file-preserved
-loop-file-preserved c = ?
+loop-file-preserved c =
+    let files = c.args.files.now in
+    let i = c.loop-file.file-index in
+    let prepared = c.in_ok-prepared.prepared in
+    subst (AreSlotsOf (files_seen (take (i + 1) files))) (sym c.in_ok-push.ensures.items) (file_slots_more files i c.file-item.result c.loop-file.slots.items prepared (omega arith) c.loop-file.invariant (subst (λ file. IsPrepared (file_seen file) prepared) c.file-item.is c.in_ok-prepared.ensures))

@@ -2,12 +2,19 @@ use Rattle.std.proofs.Common.{◌∙◌, ◌≡◌, subst, sym}
 use Rattle.cmap_maker.specs.EncodersSeen.{encoders_seen}
 use Rattle.cmap_maker.specs.Written.{Appends, IsFramed}
 use Rattle.cmap_maker.proofs.FileKept.{head}
-use Rattle.cmap_maker.proofs.PreparedKept.{file_written}
+use Rattle.cmap_maker.proofs.PreparedKept.{file_framed, file_written}
 use Rattle.cmap_maker.proofs.SegmentsAdded.{WrittenWhere}
 use Rattle.cmap_maker.proofs.prepared.Prepared.write.Goals as goal
 
-pub returns : goal.returns
-returns c file h =
+pub returns-clause-framed : goal.returns-clause-framed
+returns-clause-framed c =
+    let body = c.push_segments.new.out.items in
+    let bytes = c.push_framed.new.out.items in
+    let framed : Appends c.new-bytes.result.items bytes (IsFramed head body) = subst (λ p. Appends c.new-bytes.result.items bytes (IsFramed head p)) c.deref-3.ensures.value c.in_ok-push_framed.ensures.written in
+    file_framed body bytes (subst (λ old. Appends old bytes (IsFramed head body)) c.new-bytes.ensures.items framed)
+
+pub returns-clause-written : goal.returns-clause-written
+returns-clause-written c file h =
     let tables = encoders_seen c.args.tables.now in
     let prepared = c.args.self.now in
     let body = c.push_segments.new.out.items in

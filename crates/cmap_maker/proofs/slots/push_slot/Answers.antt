@@ -1,0 +1,18 @@
+use Rattle.std.proofs.Common.{◌∙◌, ◌++◌, ap, subst, sym}
+use Rattle.std.specs.Prelude.{IfOk}
+use Rattle.std.proofs.lemmas.Result.{IfOk-weaker}
+use Rattle.cmap_maker.specs.EncodersSeen.{encoders_seen}
+use Rattle.cmap_maker.specs.Slots.{IsSlotWritten}
+use Rattle.cmap_maker.specs.Written.{Appends}
+use Rattle.cmap_maker.proofs.slots.push_slot.Goals as goal
+
+pub returns-in_ok-extend_from_slice-in-File : goal.returns-in_ok-extend_from_slice-in-File
+returns-in_ok-extend_from_slice-in-File c =
+    let tables = encoders_seen c.args.tables.now in
+    let text = c.in_ok-text-in-File.text.items in
+    let old = c.args.out.now.items in
+    let e = c.in_ok-text-in-File.ensures in
+    (text, c.in_ok-extend_from_slice-in-File.ensures.items ∙ ap (λ bs. old ++ bs) c.deref.ensures.value, subst (λ s. IsSlotWritten tables s text) (sym c.in-File.is) (e.framed, e.written))
+
+pub returns-in-Text : goal.returns-in-Text
+returns-in-Text c = subst (λ s. IfOk c.push_text.result (λ _. Appends c.args.out.now.items c.push_text.new.out.items (IsSlotWritten (encoders_seen c.args.tables.now) s))) (sym c.in-Text.is) c.push_text.ensures
