@@ -1,0 +1,1 @@
+use Rattle.cmap_maker.proofs.text_parts.push_text_pieces.Goals as goal
