@@ -15,7 +15,7 @@ use Rattle.cmap_layers.specs.Lookups.{bf_at, bf_span}
 use Rattle.cmap_maker.specs.Pieces.{ArePieces, CanBeSplitText, Has, IsShortText, PushesPieces, SaysAs}
 use Rattle.cmap_maker.specs.TextParts.{IsDecidedText, IsShifted, ShiftsTo}
 use Rattle.cmap_maker.proofs.CidParts.{last_split}
-use Rattle.cmap_maker.proofs.RunParts.{index_within, run_contained, run_of, run_told}
+use Rattle.cmap_maker.proofs.RunParts.{index_within, run_contained, run_is, run_of, run_told, spans_same}
 use Rattle.cmap_maker.proofs.TextParts.{lost, raised, same_text, text_has, text_within}
 use Rattle.cmap_maker.proofs.Told.{pieces_more}
 
@@ -34,9 +34,18 @@ module _ (units : List ℕ) (last offset : ℕ) (some : 0 < length units) (last_
   lost_units past = subst (λ us. IsShifted us offset []) (sym parted) (lost (take (length units - 1) units) last offset past)
 
 -- ---- the declaration that decides a run
+pub same_spans : (xs ys : List BfRange) → map bf_entry_seen xs ≡ map bf_entry_seen ys → map bf_range_span xs ≡ map bf_range_span ys
+same_spans xs ys is = spans xs ∙ ap (map bf_span) is ∙ sym (spans ys)
+  where
+    spans : (zs : List BfRange) → map bf_range_span zs ≡ map bf_span (map bf_entry_seen zs)
+    spans zs = spans_same bf_range_span bf_entry_seen bf_span bf_at (λ x. refl) zs
+
 module _ (list : List BfRange) (runs : List Run) (are : AreRuns (map bf_range_span list) runs) (i low high index : ℕ) (at : slice_get runs i ≡ Some (run_of low high index)) where
   pub declaration_within : index < length list
   declaration_within = index_within bf_range_span bf_entry_seen bf_span bf_at (λ x. refl) list runs are i low high index at
+
+  pub run_filled : low ≤ high
+  run_filled = (run_is bf_range_span bf_entry_seen bf_span bf_at (λ x. refl) list runs are i low high index at).filled
 
   module _ (e : BfRange) (there : slice_get list index ≡ Some e) where
     pub run_within : (e.range.start ≤ low) × (low ≤ high) × (high ≤ e.range.end) × (high < 2 ^ 32)

@@ -11,5 +11,5 @@ abbrev pub invariant-loop-i : goal.invariant-loop-i
 invariant-loop-i l = record {
   right : AllSayAs bf_span bf_at (map bf_entry_seen l.list) (map bf_entry_seen l.ranges.items);
   small : All IsDecidedText (map bf_entry_seen l.ranges.items);
-  whole : HaveRuns bf_span (runs_of (map bf_range_span l.table)) (map bf_entry_seen l.ranges.items) l.i;
+  whole : HaveRuns bf_span (runs_of (map bf_range_span l.list)) (map bf_entry_seen l.ranges.items) l.i;
 }
