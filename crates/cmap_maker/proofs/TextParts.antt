@@ -1,10 +1,10 @@
 -- Parts of ranges of texts.
-use Rattle.std.proofs.Common.{◌≡◌, ℕ, suc, ◌+◌, ◌-◌, ◌^◌, ◌<◌, ◌≤◌, ◌⊎◌, inl, inr, Bool, true, false, List, [], ◌∷◌, ◌++◌, length, length-append, take, Some, None, refl, ap, ◌∙◌, sym, subst, arith}
+use Rattle.std.proofs.Common.{◌≡◌, ℕ, ◌+◌, ◌-◌, ◌^◌, ◌<◌, ◌≤◌, inl, inr, Bool, true, false, List, [], ◌∷◌, ◌++◌, length, length-append, take, Some, None, refl, ap, ◌∙◌, sym, subst, arith}
 use Rattle.std.specs.Prelude.{Option, nat_le, nat_lt, option_and_then, if◌then◌else◌}
 use Rattle.std.specs.List.{All, slice_get}
 use Rattle.std.proofs.lemmas.Bool.{and_from, and_parts, cases_lt, le-leb, le-ltb, leb-true}
 use Rattle.std.proofs.lemmas.List.{append_assoc, append-nil}
-use Rattle.std.proofs.lemmas.List.Elements.{All-append, All-cons, All-nil, All-push}
+use Rattle.std.proofs.lemmas.List.Elements.{All-nil, All-push}
 use Rattle.cmap_tokens.specs.Texts.{characters, text_at}
 use Rattle.cmap_files.specs.Files.{BfEntry}
 use Rattle.cmap_layers.specs.Lookups.{bf_at, bf_span}
