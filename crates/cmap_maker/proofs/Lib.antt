@@ -19,6 +19,8 @@ pub mod SegmentsDone
 pub mod SegmentsMade
 pub mod Spelling
 pub mod TablesWritten
+pub mod TextParts
+pub mod TextPartsSeen
 pub mod TextsBehind
 pub mod TextsMade
 pub mod TextsWritten

@@ -1,17 +1,18 @@
 -- Parts of declarations of texts.
-use Rattle.std.specs.Prelude.{◌≡◌, ℕ, ◌+◌, ◌-◌, List}
+use Rattle.std.specs.Prelude.{◌≡◌, ℕ, ◌+◌, ◌-◌, ◌<◌, ◌≤◌, ◌^◌, List, All, length}
 use Rattle.cmap_tokens.specs.Texts.{text_at}
 use Rattle.cmap_files.specs.Files.{BfEntry}
-use Rattle.cmap_layers.specs.Lookups.{bf_at, bf_span}
-use Rattle.cmap_maker.specs.Pieces.{SayTheSame}
 
 -- units whose texts are those of others from an offset on
 abbrev pub ShiftsTo : List ℕ → ℕ → List ℕ → Type 0
 ShiftsTo units offset shifted = (more : ℕ) → text_at shifted more ≡ text_at units (offset + more)
 
--- a declaration for some codes of another one, with the same texts
-pub record IsPartOfText (e part : BfEntry) : Type 0 where
-  pub texts : ShiftsTo e.units (part.start - e.start) part.units
+-- and no more of them, each of 16 bits
+pub record IsShifted (units : List ℕ) (offset : ℕ) (shifted : List ℕ) : Type 0 where
+  pub texts : ShiftsTo units offset shifted
+  pub counted : length shifted ≤ length units
+  pub small : All (λ u. u < 2 ^ 16) shifted
 
-abbrev pub SayTheSameTexts : List BfEntry → List BfEntry → Type 0
-SayTheSameTexts es ranges = SayTheSame bf_span bf_at es ranges
+-- from 1 to 65536 codes
+abbrev pub IsDecidedText : BfEntry → Type 0
+IsDecidedText e = (e.start ≤ e.end) × (e.end < 2 ^ 32) × (e.end - e.start < 2 ^ 16) × All (λ u. u < 2 ^ 16) e.units
