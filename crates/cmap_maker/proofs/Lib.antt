@@ -18,8 +18,10 @@ pub mod SegmentsAdded
 pub mod SegmentsDone
 pub mod SegmentsMade
 pub mod Spelling
+pub mod TablesMade
 pub mod TablesWritten
 pub mod TextsMade
 pub mod TextsWritten
 pub mod Told
 pub mod WordsMade
+pub mod WordsMissing

@@ -3,8 +3,9 @@
 
 ghost use Rattle.std.specs.Prelude.{◌≡◌, ◌⊎◌, ◌^◌, ◌≤◌, ◌<◌, ◌-◌, ◌∷◌, [], ◌++◌, All, Any, Contains, IfErr, IfOk, length, map};
 ghost use Rattle.std.specs.List.Sorted.{IsNonDecreasing, IsPermutation, IsStrictlyIncreasing};
-ghost use Rattle.cmap_maker.specs.Tables.{HasManyNumbers, HasSameNumbers, IsNoWordIf, symbols_of};
-ghost use Rattle.cmap_maker.specs.TablesHeld.{CountsNumber, frequent, lengthy};
+ghost use Rattle.cmap_maker.specs.Tables.{CountsNumber, HasManyNumbers, HasSameNumbers, symbols_of};
+ghost use Rattle.cmap_maker.specs.TablesHeld.{frequent, lengthy};
+ghost use Rattle.cmap_maker.specs.WordsMissing.{IsNoWordIf};
 
 use crate::columns::Encoders;
 use crate::lengths::word_lengths;
@@ -62,8 +63,7 @@ pub(crate) fn tables_for(alloc: Global, slots: &[Slot<'_>]) -> Result<Encoders, 
     })
 }
 
-/// A table with a code word for each of these symbols: of the fewest bits, or of 16 bits each where
-/// a word would have more than 32.
+/// A table with a code word for each of these symbols, of the fewest bits in all.
 fn encoder_for(alloc: Global, mut symbols: Vec<u32>) -> Result<Encoder, Fault<Obstacle>>
     ensures known { IfOk result (λ encoder. All (λ s. Any (λ w. w.symbol ≡ s) encoder) symbols.items) }
     ensures handed { IfOk result (λ encoder. All (λ w. Contains symbols.items w.symbol) encoder) }
@@ -71,12 +71,28 @@ fn encoder_for(alloc: Global, mut symbols: Vec<u32>) -> Result<Encoder, Fault<Ob
 {
     symbols.sort()?;
     let words = words_of(alloc, &frequencies_of(alloc, &symbols)?)?;
-    let counts = counts_of(alloc, &words)?;
-    let ordered: Vec<u32> = words.iter().map(|word| word.symbol).collect(alloc)?;
-    if let Some(encoder) = Encoder::new(alloc, counts, &ordered)? {
-        return Ok(encoder);
+    encoder_of(alloc, &words)
+}
+
+/// A table with these symbols, whose code words have these lengths; or 16 bits each where one of
+/// them would have more than 32.
+fn encoder_of(alloc: Global, words: &[WordLength]) -> Result<Encoder, Fault<Obstacle>>
+    ensures symbols { IfOk result (λ encoder. symbols_of encoder ≡ lengthy words.now) }
+    ensures err { IfErr result (IsNoWordIf (2 ^ 16 ≤ length (lengthy words.now))) }
+{
+    let counts = counts_of(alloc, words)?;
+    let symbols = ordered_symbols(alloc, words)?;
+    match Encoder::new(alloc, counts, &symbols)? {
+        Some(encoder) => Ok(encoder),
+        None => flat_encoder(alloc, &symbols),
     }
-    flat_encoder(alloc, &ordered)
+}
+
+/// The symbols of these words, in order.
+fn ordered_symbols(alloc: Global, words: &[WordLength]) -> Result<Vec<u32>, AllocError>
+    ensures { IfOk result (λ symbols. symbols.items ≡ lengthy words.now) }
+{
+    words.iter().map(|word| word.symbol).collect(alloc)
 }
 
 /// A table with a code word of 16 bits for each of these symbols.
