@@ -3,6 +3,7 @@
 
 ghost use Rattle.std.specs.Prelude.{◌≡◌, ◌⊎◌, ◌^◌, ◌≤◌, ◌<◌, ◌-◌, ◌∷◌, [], ◌++◌, All, Any, Contains, IfErr, IfOk, length, map};
 ghost use Rattle.std.specs.List.Sorted.{IsNonDecreasing, IsPermutation, IsStrictlyIncreasing};
+ghost use Rattle.cmap_maker.specs.Gathered.{counts_in, deltas_in, segments_in, slot_segments};
 ghost use Rattle.cmap_maker.specs.Tables.{CountsNumber, HasManyNumbers, HasSameNumbers, symbols_of};
 ghost use Rattle.cmap_maker.specs.TablesHeld.{frequent, lengthy};
 ghost use Rattle.cmap_maker.specs.WordsMissing.{IsNoWordIf};
@@ -10,6 +11,7 @@ ghost use Rattle.cmap_maker.specs.WordsMissing.{IsNoWordIf};
 use crate::columns::Encoders;
 use crate::lengths::word_lengths;
 use crate::obstacle::Obstacle;
+use crate::segments::Segment;
 use crate::slots::Slot;
 use crate::words::Encoder;
 use cmap_files::fault::Fault;
@@ -42,25 +44,52 @@ struct WordLength {
     len: u8,
 }
 
+impl Symbols {
+    /// Adds the numbers of segments, in order.
+    fn add_segments(&mut self, segments: &[Segment]) -> Result<(), AllocError>
+        ensures deltas { IfOk result (λ _. self.new.deltas.items ≡ self.old.deltas.items ++ deltas_in segments.now) }
+        ensures counts { IfOk result (λ _. self.new.counts.items ≡ self.old.counts.items ++ counts_in segments.now) }
+    {
+        for segment in segments {
+            self.deltas.extend_from_slice(&segment.deltas)?;
+            self.counts.extend_from_slice(&segment.counts)?;
+        }
+        Ok(())
+    }
+}
+
 /// Tables with a code word for each number that these files are spelled by.
 pub(crate) fn tables_for(alloc: Global, slots: &[Slot<'_>]) -> Result<Encoders, Fault<Obstacle>> {
+    let Symbols { deltas, counts } = gather(alloc, slots)?;
+    Ok(Encoders {
+        delta: encoder_for(alloc, deltas)?,
+        count: encoder_for(alloc, counts)?,
+    })
+}
+
+/// The numbers of all segments of these files, in order.
+fn gather(alloc: Global, slots: &[Slot<'_>]) -> Result<Symbols, AllocError>
+    ensures deltas { IfOk result (λ symbols. symbols.deltas.items ≡ deltas_in (segments_in slots.now)) }
+    ensures counts { IfOk result (λ symbols. symbols.counts.items ≡ counts_in (segments_in slots.now)) }
+{
     let mut symbols = Symbols {
         deltas: Vec::new(alloc),
         counts: Vec::new(alloc),
     };
     for slot in slots {
-        if let Slot::File(prepared) = slot {
-            for segment in &prepared.segments {
-                symbols.deltas.extend_from_slice(&segment.deltas)?;
-                symbols.counts.extend_from_slice(&segment.counts)?;
-            }
-        }
+        symbols.add_segments(segments_of(slot))?;
     }
-    let Symbols { deltas, counts } = symbols;
-    Ok(Encoders {
-        delta: encoder_for(alloc, deltas)?,
-        count: encoder_for(alloc, counts)?,
-    })
+    Ok(symbols)
+}
+
+/// The segments of a file, if it is in the binary form.
+fn segments_of<'s>(slot: &'s Slot<'_>) -> &'s [Segment]
+    ensures { result.now ≡ slot_segments slot.now }
+{
+    match slot {
+        Slot::File(prepared) => &prepared.segments,
+        Slot::Text(_) | Slot::Absent => &[],
+    }
 }
 
 /// A table with a code word for each of these symbols, of the fewest bits in all.
