@@ -1,8 +1,9 @@
 -- Bits that are written one after another, and the bytes that hold them.
-use Rattle.std.proofs.Common.{◌≡◌, ℕ, ◌+◌, ◌-◌, ◌*◌, ◌/◌, ◌%◌, ◌^◌, ◌<◌, ◌≤◌, List, [], ◌∷◌, ◌++◌, length, ap, ◌∙◌, sym, arith}
+use Rattle.std.proofs.Common.{◌≡◌, ℕ, zero, suc, ◌+◌, ◌-◌, ◌*◌, ◌/◌, ◌%◌, ◌^◌, ◌<◌, ◌≤◌, List, [], ◌∷◌, ◌++◌, length, replicate, refl, ap, ◌∙◌, sym, arith}
 use Rattle.std.proofs.lemmas.List.{append_assoc, append-nil}
 use Rattle.std.proofs.lemmas.List.Concat.{flat_map-append}
-use Rattle.std.proofs.lemmas.Nat.{shl-shr, shl_whole}
+use Rattle.std.proofs.lemmas.Nat.{pow-add, shl-shr, shl_whole}
+use Rattle.std.proofs.Math.Nat.{mul_assoc}
 use Rattle.cmap_binary.specs.PrefixWords.{bits, bits_of}
 use Rattle.cmap_binary.proofs.BitsOfBytes.{bits_of-split, length-bits_of}
 
@@ -26,14 +27,35 @@ padded bytes count n few =
     ap (λ k. bits_of k byte) e ∙ bits_of-split count (8 - count) byte ∙ ap (λ h. bits_of count h ++ bits_of (8 - count) byte) (shl-shr n (8 - count)) in
     flat_map-append (bits_of 8) bytes (byte ∷ []) ∙ ap (λ bs. bits bytes ++ bs) (append-nil (bits_of 8 byte) ∙ whole) ∙ sym (append_assoc (bits bytes) (bits_of count n) (bits_of (8 - count) byte))
 
-pub finished : (bytes new view : List ℕ) (count n : ℕ) → 0 < count → count < 8 → n < 2 ^ count → new ≡ bytes ++ n * 2 ^ (8 - count) % 2 ^ 8 ∷ [] → bits bytes ++ bits_of count n ≡ view → (rest : List ℕ) × (bits new ≡ view ++ rest) × (length rest < 8)
+-- the low bits of a number that is shifted to the left
+zero_bits : (count more n : ℕ) → bits_of count (n * 2 ^ (count + more)) ≡ replicate count 0
+zero_bits zero more n = refl
+zero_bits (suc count) more n =
+    let byte = n * 2 ^ (suc count + more) in
+    let pair = n * 2 ^ more * 2 in
+    let order : suc count + more ≡ more + (1 + count) = omega arith in
+    let shifted : byte ≡ pair * 2 ^ count =
+    ap (λ k. n * k) (ap (λ k. 2 ^ k) order ∙ pow-add 2 more (1 + count) ∙ ap (λ k. 2 ^ more * k) (pow-add 2 1 count))
+    ∙ sym (mul_assoc n (2 ^ more) (2 * 2 ^ count))
+    ∙ sym (mul_assoc (n * 2 ^ more) 2 (2 ^ count)) in
+    let even : byte / 2 ^ count % 2 ≡ 0 = ap (λ b. b / 2 ^ count % 2) shifted ∙ ap (λ q. q % 2) (shl-shr pair count) ∙ omega arith in
+    let next : suc count + more ≡ count + (1 + more) = omega arith in
+    ap (λ b. b ∷ bits_of count byte) even ∙ ap (λ bs. 0 ∷ bs) (ap (λ k. bits_of count (n * 2 ^ k)) next ∙ zero_bits count (1 + more) n)
+
+padding : (count n : ℕ) → bits_of count (n * 2 ^ count) ≡ replicate (length (bits_of count (n * 2 ^ count))) 0
+padding count n =
+    let same : count + 0 ≡ count = omega arith in
+    let zeros : bits_of count (n * 2 ^ count) ≡ replicate count 0 = ap (λ k. bits_of count (n * 2 ^ k)) (sym same) ∙ zero_bits count 0 n in
+    zeros ∙ ap (λ k. replicate k 0) (sym (length-bits_of count (n * 2 ^ count)))
+
+pub finished : (bytes new view : List ℕ) (count n : ℕ) → 0 < count → count < 8 → n < 2 ^ count → new ≡ bytes ++ n * 2 ^ (8 - count) % 2 ^ 8 ∷ [] → bits bytes ++ bits_of count n ≡ view → (rest : List ℕ) × (bits new ≡ view ++ rest) × (length rest < 8) × (rest ≡ replicate (length rest) 0)
 finished bytes new view count n some few small made seen =
     let whole : n * 2 ^ (8 - count) % 2 ^ 8 ≡ n * 2 ^ (8 - count) = shl_whole n count (8 - count) 8 small (omega arith) in
     let rest = bits_of (8 - count) (n * 2 ^ (8 - count)) in
-    (rest, ap bits (made ∙ ap (λ b. bytes ++ b ∷ []) whole) ∙ padded bytes count n (omega arith) ∙ ap (λ v. v ++ rest) seen, omega (arith, length-bits_of (8 - count) (n * 2 ^ (8 - count))))
+    (rest, ap bits (made ∙ ap (λ b. bytes ++ b ∷ []) whole) ∙ padded bytes count n (omega arith) ∙ ap (λ v. v ++ rest) seen, omega (arith, length-bits_of (8 - count) (n * 2 ^ (8 - count))), padding (8 - count) n)
 
-pub finished_full : (bytes new view : List ℕ) (count n : ℕ) → count ≤ 0 → new ≡ bytes → bits bytes ++ bits_of count n ≡ view → (rest : List ℕ) × (bits new ≡ view ++ rest) × (length rest < 8)
+pub finished_full : (bytes new view : List ℕ) (count n : ℕ) → count ≤ 0 → new ≡ bytes → bits bytes ++ bits_of count n ≡ view → (rest : List ℕ) × (bits new ≡ view ++ rest) × (length rest < 8) × (rest ≡ replicate (length rest) 0)
 finished_full bytes new view count n none made seen =
     let e : count ≡ 0 = omega arith in
     let front : bits bytes ++ [] ≡ view = rw e at seen in
-    ([], ap bits made ∙ sym (append-nil (bits bytes)) ∙ front ∙ sym (append-nil view), omega arith)
+    ([], ap bits made ∙ sym (append-nil (bits bytes)) ∙ front ∙ sym (append-nil view), omega arith, refl)

@@ -18,6 +18,7 @@ pub mod SegmentsAdded
 pub mod SegmentsDone
 pub mod SegmentsMade
 pub mod Spelling
+pub mod TablesMade
 pub mod TablesWritten
 pub mod TextParts
 pub mod TextPartsSeen
@@ -26,3 +27,4 @@ pub mod TextsMade
 pub mod TextsWritten
 pub mod Told
 pub mod WordsMade
+pub mod WordsMissing

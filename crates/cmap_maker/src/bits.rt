@@ -1,6 +1,6 @@
 //! Bits that are written one after another, the high one of each byte first.
 
-ghost use Rattle.std.specs.Prelude.{◌≡◌, ℕ, ◌<◌, ◌≤◌, List, [], ◌∷◌, ◌++◌, IfOk, length};
+ghost use Rattle.std.specs.Prelude.{◌≡◌, ℕ, ◌<◌, ◌≤◌, List, [], ◌∷◌, ◌++◌, IfOk, length, replicate};
 ghost use Rattle.cmap_binary.specs.PrefixWords.{bits, bits_of};
 
 use std::alloc::{AllocError, Global};
@@ -71,7 +71,8 @@ impl BitWriter {
 
     /// The bytes that the bits begin. What follows them in the last byte are zero bits.
     pub(crate) fn finish(self) -> Result<Vec<u8>, AllocError>
-        ensures { IfOk result (λ bytes. (rest : List ℕ) × (bits bytes.items ≡ self ++ rest) × (length rest < 8)) }
+        ensures { IfOk result (λ bytes. (rest : List ℕ) × (bits bytes.items ≡ self ++ rest) × (length rest < 8)
+            × (rest ≡ replicate (length rest) 0)) }
     {
         let BitWriter {
             mut bytes,

@@ -67,7 +67,7 @@ impl Encoder {
     ) -> Result<Option<Encoder>, AllocError>
         requires few { length counts.items ≤ 32 }
         ensures { IfOk result (λ o. MatchOption o (length symbols.now ≡ length (lengths_from 1 counts.items) → AreWordLengths (lengths_from 1 counts.items) → ⊥)
-            (λ table. table ≡ zip_words (lengths_from 1 counts.items) symbols.now)) }
+            (λ table. (length symbols.now ≡ length (lengths_from 1 counts.items)) × (table ≡ zip_words (lengths_from 1 counts.items) symbols.now))) }
     {
         let lens = word_lengths(alloc, &counts)?;
         if symbols.len() != lens.len() {

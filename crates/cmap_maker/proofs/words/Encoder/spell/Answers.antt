@@ -23,7 +23,7 @@ returns c =
     let i = c.loop-symbol.symbol-index in
     let past : length symbols ≤ i = omega arith in
     let all = rw (take_all i symbols past) at c.loop-symbol.invariant.0 in
-    let (rest, begun, few) = c.in_ok-finish.ensures in
+    let (rest, begun, few, zeros) = c.in_ok-finish.ensures in
     let bytes = c.in_ok-finish.field-0.items in (
       subst (BeginWithWordsOf c.args.self.now symbols) (sym begun) (BeginWithWordsOf-spelled c.args.self.now symbols c.loop-symbol.written rest all),
       omega (arith, c.loop-symbol.invariant.1, few, length-bits bytes, ap length begun, length-append c.loop-symbol.written rest),

@@ -1,0 +1,21 @@
+-- The numbers that files are spelled by.
+use Rattle.std.specs.Prelude.{ℕ, List, [], flat_map}
+use Rattle.cmap_maker.specs.declared.segments.Segment.{Segment}
+use Rattle.cmap_maker.specs.declared.slots.Slot.{Slot}
+use Rattle.cmap_maker.specs.declared.slots.Slot.TheVariants.{Absent, File, Text}
+
+abbrev pub deltas_in : List Segment → List ℕ
+deltas_in segments = flat_map (λ s. s.deltas.items) segments
+
+abbrev pub counts_in : List Segment → List ℕ
+counts_in segments = flat_map (λ s. s.counts.items) segments
+
+-- the segments of one file: none where it isn't in the binary form
+abbrev pub slot_segments : Slot → List Segment
+slot_segments (File prepared) = prepared.segments.items
+slot_segments (Text text) = []
+slot_segments Absent = []
+
+-- the segments of all files, in order
+abbrev pub segments_in : List Slot → List Segment
+segments_in slots = flat_map slot_segments slots
