@@ -60,7 +60,7 @@ fn copy_of(alloc: Global, list: &[CidRange]) -> Result<Vec<CidRange>, AllocError
 }
 
 /// The last code of a range.
-fn last_code(range: &Range) -> u32
+pub(crate) fn last_code(range: &Range) -> u32
     ensures is { result ≡ range.now.end }
     ensures small { result < 2 ^ 32 }
 {

@@ -8,6 +8,7 @@ ghost use Rattle.cmap_layers.specs.Lookups.{bf_at, bf_span};
 ghost use Rattle.cmap_maker.specs.Pieces.{ArePieces, CanBeSplitText, IsShortText, PushesPieces, SayTheSame};
 ghost use Rattle.cmap_maker.specs.TextParts.{IsDecidedText, IsShifted};
 
+use crate::decided::last_code;
 use crate::obstacle::Obstacle;
 use crate::split::MOST_AFTER;
 use cmap_files::declarations::BfRange;
@@ -66,14 +67,6 @@ fn copy_of_text(alloc: Global, entry: &BfRange) -> Result<BfRange, AllocError>
     };
     let units = entry.units.clone(alloc)?;
     Ok(BfRange { range, units })
-}
-
-/// The last code of a range.
-fn last_code(range: &Range) -> u32
-    ensures is { result ≡ range.now.end }
-    ensures small { result < 2 ^ 32 }
-{
-    range.end
 }
 
 /// The part of a declaration for these codes.
