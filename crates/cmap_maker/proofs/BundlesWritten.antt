@@ -15,7 +15,7 @@ use Rattle.cmap_binary.specs.TableFronts.{TableAt}
 use Rattle.cmap_binary.specs.Bundles.{HoldsTables, IsBundle, PrefixTables}
 use Rattle.cmap_binary.specs.Fronts.{FramedAt, SizedAt}
 use Rattle.cmap_maker.specs.Bundled.{HaveSymbols, IsFramedFile}
-use Rattle.cmap_maker.specs.Keeps.{AreWritten, IsBundleOf, IsWritten, files_seen}
+use Rattle.cmap_maker.specs.Keeps.{AreWritten, IsBundleOf, files_seen}
 use Rattle.cmap_maker.specs.PreparedFiles.{IsPrepared}
 use Rattle.cmap_maker.specs.Slots.{AreSlotsFor, AreSlotsOf, AreSlotsWritten, IsBundleOfSlots, IsFileFor, IsNamedBundle, IsSlotFor, IsSlotWritten, is_index, no_file_bytes, places, source_at}
 use Rattle.cmap_maker.specs.Written.{Appends, Writes, WritesAll}

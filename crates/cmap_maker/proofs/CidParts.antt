@@ -1,18 +1,17 @@
 -- Parts of ranges of CIDs, and ranges that go on.
-use Rattle.std.proofs.Common.{◌≡◌, ℕ, suc, ◌+◌, ◌-◌, ◌^◌, ◌<◌, ◌≤◌, ◌⊎◌, inl, inr, List, [], ◌∷◌, ◌++◌, length, get_or, set, drop, take, Some, None, refl, ap, ◌∙◌, sym, subst, arith}
-use Rattle.std.specs.Prelude.{IsTrue, IsSome, nat_le, nat_lt, if◌then◌else◌}
+use Rattle.std.proofs.Common.{◌≡◌, ℕ, suc, ◌+◌, ◌-◌, ◌^◌, ◌<◌, ◌≤◌, ◌⊎◌, inl, inr, List, [], ◌∷◌, ◌++◌, length, get_or, set, take, Some, None, refl, ap, ◌∙◌, sym, subst, arith}
+use Rattle.std.specs.Prelude.{nat_le, nat_lt, if◌then◌else◌}
 use Rattle.std.specs.List.{All, slice_get}
 use Rattle.std.proofs.lemmas.Option.{get_or_from_slice_get, slice_get_within}
 use Rattle.std.proofs.lemmas.Bool.{and_from, and_parts, cases_lt, le-leb, leb-true}
-use Rattle.std.proofs.lemmas.List.{append-nil, drop_all, get_or-map, length-map, map-append, set_split, take_all, take_more}
-use Rattle.std.proofs.lemmas.List.Elements.{All-append, All-cons, All-head, All-nil, All-push}
-use Rattle.cmap_runs.specs.Ranges.{contains}
+use Rattle.std.proofs.lemmas.List.{drop_all, get_or-map, length-map, map-append, set_split, take_all, take_more}
+use Rattle.std.proofs.lemmas.List.Elements.{All-head, All-push}
 use Rattle.cmap_files.specs.Files.{CidEntry}
 use Rattle.cmap_layers.specs.Lookups.{cid_at, cid_span}
 use Rattle.cmap_files.specs.DeclarationsSeen.{cid_entry_seen, entries_seen}
 use Rattle.cmap_files.specs.declared.declarations.CidRange.{CidRange}
 use Rattle.cmap_maker.specs.Follows.{GoesOn}
-use Rattle.cmap_maker.specs.Pieces.{AllSayAs, ArePieces, CanBeSplit, Cover, Has, IsShort, PushesPieces, SaysAs, Takes}
+use Rattle.cmap_maker.specs.Pieces.{ArePieces, CanBeSplit, Cover, Has, IsShort, PushesPieces, SaysAs, Takes}
 use Rattle.cmap_maker.proofs.Told.{All-back, All-front, Any-cases, Any-left, Any-one, Any-right, PiecesTo, pieces_more, to_end, to_more}
 
 abbrev pub entry : ℕ → ℕ → ℕ → CidEntry

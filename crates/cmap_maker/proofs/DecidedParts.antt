@@ -1,14 +1,14 @@
 -- The part of a declaration for the codes of a run.
-use Rattle.std.proofs.Common.{◌≡◌, ℕ, ◌+◌, ◌-◌, ◌^◌, ◌<◌, ◌≤◌, List, ◌∷◌, length, map, Some, refl, ap, ◌∙◌, sym, subst, arith}
-use Rattle.std.specs.List.{All, slice_get}
+use Rattle.std.proofs.Common.{◌≡◌, ℕ, ◌+◌, ◌-◌, ◌^◌, ◌<◌, ◌≤◌, List, length, map, Some, refl, ap, ◌∙◌, arith}
+use Rattle.std.specs.List.{slice_get}
 use Rattle.cmap_runs.specs.Ranges.{AreRuns, Run}
 use Rattle.cmap_runs.specs.declared.runs.Range.{Range}
 use Rattle.cmap_files.specs.DeclarationsSeen.{cid_entry_seen, cid_range_span, entries_seen}
 use Rattle.cmap_files.specs.declared.declarations.CidRange.{CidRange}
 use Rattle.cmap_layers.specs.Lookups.{cid_at, cid_span}
-use Rattle.cmap_maker.specs.Pieces.{AllSayAs, CanBeSplit, Has, SayTheSame, SaysAs, Takes}
+use Rattle.cmap_maker.specs.Pieces.{CanBeSplit, Has, SaysAs}
 use Rattle.cmap_maker.proofs.CidParts.{has_from, has_within, same_cid}
-use Rattle.cmap_maker.proofs.RunParts.{HaveRuns, have_all, have_more, index_within, run_contained, run_of, run_told}
+use Rattle.cmap_maker.proofs.RunParts.{index_within, run_contained, run_of, run_told}
 
 module _ (list : List CidRange) (runs : List Run) (are : AreRuns (map cid_range_span list) runs) (i low high index : ℕ) (at : slice_get runs i ≡ Some (run_of low high index)) where
   pub declaration_within : index < length list

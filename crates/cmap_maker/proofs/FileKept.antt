@@ -1,26 +1,20 @@
 -- What a file keeps whose lists say the same.
-use Rattle.std.proofs.Common.{◌≡◌, ℕ, Bool, true, false, List, [], ◌∷◌, ◌++◌, Option, Some, None, drop, map, take, refl, ap, ◌∙◌, sym, subst}
+use Rattle.std.proofs.Common.{◌≡◌, ℕ, Bool, true, false, List, [], ◌∷◌, ◌++◌, Option, Some, None, map, refl, ap, ◌∙◌, sym}
 use Rattle.std.specs.Prelude.{◌==◌, ◌&&◌, nat_le, filter_map, flat_map, if◌then◌else◌, option_map}
 use Rattle.std.specs.List.{last_or}
-use Rattle.std.proofs.lemmas.List.{append-nil, append_assoc}
+use Rattle.std.proofs.lemmas.List.{append-nil}
 use Rattle.std.proofs.lemmas.List.Concat.{flat_map-append}
 use Rattle.std.proofs.lemmas.List.Elements.{filter_map-append}
 use Rattle.std.proofs.lemmas.Option.{none-some, same_Some}
 use Rattle.cmap_files.specs.Files.{BfEntry, CidEntry, Declaration, File, FileMetadata, Lists, lists_of, of_length}
 use Rattle.cmap_binary.specs.BinaryFiles.{BodyOf, Content, IsBinaryFile, SegmentAt, collection_set, declared_in, declares, file_of, magic, mode_set, name_set, name_used}
 use Rattle.cmap_binary.specs.BinaryFiles as files
-use Rattle.cmap_binary.specs.Bundles.{PrefixTables}
 use Rattle.cmap_layers.specs.Layers.{Layer}
 use Rattle.cmap_tokens.specs.Texts.{only_character}
 use Rattle.cmap_layers.specs.Lookups.{bf_at, bf_of, cid_at, cid_in, cid_of, decided_cid, decided_text, last_bf, last_cid}
 use Rattle.cmap_maker.specs.Keeps.{KeepLists, Keeps}
 use Rattle.cmap_maker.specs.MetadataWritten.{metadata_contents}
-use Rattle.cmap_maker.specs.Pieces.{cid_told, text_told}
-use Rattle.cmap_maker.specs.Written.{Appends, IsFramed, WritesAll}
-use Rattle.cmap_maker.proofs.FilesWritten.{AllOf-written, joined}
-use Rattle.cmap_maker.proofs.FrontsWritten.{FramedAt-written, payload-written}
-use Rattle.cmap_maker.proofs.ListsKept.{contents_by}
-use Rattle.cmap_maker.specs.SegmentsWritten.{SegmentByAny}
+use Rattle.cmap_maker.specs.Pieces.{cid_told}
 use Rattle.cmap_files.specs.Metadata.{Collection, Mode}
 use Rattle.std.specs.Prelude.{option_and_then}
 

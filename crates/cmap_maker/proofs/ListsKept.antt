@@ -4,10 +4,6 @@ use Rattle.std.specs.List.{flat_map}
 use Rattle.std.proofs.lemmas.List.{append_assoc, append-nil, map-append}
 use Rattle.std.proofs.lemmas.List.Concat.{flat_map-append}
 use Rattle.cmap_files.specs.Files.{BfEntry, ByLength, CidEntry, Codespace, Declaration, Lists, lists_of}
-use Rattle.std.specs.Global.{Vec}
-use Rattle.cmap_files.specs.DeclarationsSeen.{entries_seen}
-use Rattle.cmap_files.specs.declared.declarations.ByLength.{ByLength as HeldByLength}
-use Rattle.cmap_files.specs.declared.declarations.CidRange.{CidRange}
 use Rattle.cmap_files.specs.ListsAppended.{append_lists}
 use Rattle.cmap_files.proofs.ListsMade.{lists_of-append}
 use Rattle.cmap_binary.specs.BinaryFiles.{Content, SegmentAt, declares}

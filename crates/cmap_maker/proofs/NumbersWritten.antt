@@ -1,8 +1,8 @@
 -- Segments whose numbers are spelled hold the spans of their entries.
-use Rattle.std.proofs.Common.{◌≡◌, ℕ, suc, ◌+◌, ◌^◌, ◌<◌, List, [], ◌∷◌, ◌++◌, length, map, refl, ap, ◌∙◌, sym, subst}
+use Rattle.std.proofs.Common.{◌≡◌, ℕ, suc, ◌+◌, List, [], ◌∷◌, ◌++◌, length, map, refl, ap, ◌∙◌, sym, subst}
 use Rattle.std.proofs.lemmas.List.{append_assoc, length-map}
 use Rattle.cmap_runs.specs.Ranges.{Span}
-use Rattle.cmap_files.specs.Files.{CidEntry, Declaration}
+use Rattle.cmap_files.specs.Files.{CidEntry}
 use Rattle.cmap_files.specs.DeclarationsSeen.{cid_range_span, entries_seen}
 use Rattle.cmap_files.specs.declared.declarations.CidRange.{CidRange}
 use Rattle.cmap_binary.specs.Bundles.{PrefixTables}

@@ -1,13 +1,13 @@
 -- The runs of a list of declarations, and what is said of their codes.
-use Rattle.std.proofs.Common.{◌≡◌, ℕ, zero, suc, true, true≢false, ◌+◌, ◌^◌, ◌<◌, ◌≤◌, ◌⊎◌, inl, inr, List, [], ◌∷◌, ◌++◌, length, get_or, map, Some, None, refl, ap, ◌∙◌, sym, subst, arith}
-use Rattle.std.specs.Prelude.{Option, IsSome, IsTrue, nat_le}
-use Rattle.std.specs.List.{All, Any, slice_get}
+use Rattle.std.proofs.Common.{◌≡◌, ℕ, zero, suc, true, true≢false, ◌+◌, ◌^◌, ◌<◌, ◌≤◌, inl, inr, List, [], ◌∷◌, ◌++◌, length, get_or, map, Some, None, refl, ap, ◌∙◌, sym, subst, arith}
+use Rattle.std.specs.Prelude.{Option, IsSome, nat_le}
+use Rattle.std.specs.List.{All, slice_get}
 use Rattle.std.proofs.lemmas.Bool.{and_parts, cases_lt, leb-true}
 use Rattle.std.proofs.lemmas.List.{length-map}
 use Rattle.std.proofs.lemmas.List.Elements.{All-contains, All-map}
-use Rattle.std.proofs.lemmas.Option.{get_or_from_slice_get, none-some, same_Some, slice_get-get_or, slice_get_within}
+use Rattle.std.proofs.lemmas.Option.{get_or_from_slice_get, same_Some, slice_get-get_or, slice_get_within}
 use Rattle.cmap_runs.specs.Ranges.{AreRuns, Holds, IsRun, Run, Span, contains, last_index}
-use Rattle.cmap_maker.specs.Pieces.{AllSayAs, Cover, Has, SayTheSame, SaysAs, told}
+use Rattle.cmap_maker.specs.Pieces.{AllSayAs, Cover, Has, SayTheSame, told}
 use Rattle.cmap_maker.proofs.Told.{Any-head, Any-left, Any-right, last_contains, last_within, told_at, told_none}
 
 abbrev pub run_of : ℕ → ℕ → ℕ → Run

@@ -1,8 +1,7 @@
 -- A text behind a comment that holds its length.
-use Rattle.std.proofs.Common.{◌≡◌, ℕ, ◌+◌, List, [], ◌∷◌, ◌++◌, length, false, refl, ap, ◌∙◌, sym, subst, arith}
+use Rattle.std.proofs.Common.{◌≡◌, ℕ, ◌+◌, List, ◌∷◌, ◌++◌, length, false, ap, ◌∙◌}
 use Rattle.std.specs.Prelude.{codes}
 use Rattle.std.specs.List.{All}
-use Rattle.std.proofs.lemmas.List.{append_assoc}
 use Rattle.cmap_tokens.specs.Gaps.{ends_comment}
 use Rattle.cmap_maker.specs.Slots.{IsTextBehind}
 use Rattle.cmap_maker.specs.Written.{Appends, IsFramed, bytes_of}

@@ -1,5 +1,5 @@
 -- What is to be written of a file, before it is known how its numbers are spelled.
-use Rattle.std.specs.Prelude.{◌≡◌, ℕ, List, ◌++◌, map}
+use Rattle.std.specs.Prelude.{ℕ, List, ◌++◌, map}
 use Rattle.cmap_files.specs.Files.{BfEntry, CidEntry, Declaration, File}
 use Rattle.cmap_binary.specs.BinaryFiles.{Content, declares, file_of}
 use Rattle.std.specs.Global.{Vec}

@@ -1,5 +1,5 @@
 -- The files of a bundle, each at the index of its name.
-use Rattle.std.specs.Prelude.{◌≡◌, ◌==◌, ℕ, ◌+◌, ◌<◌, ◌⊎◌, Bool, false, List, [], ◌∷◌, ◌++◌, All, Option, Some, None, codes, get_or, length, if◌then◌else◌}
+use Rattle.std.specs.Prelude.{◌≡◌, ◌==◌, ℕ, ◌<◌, ◌⊎◌, Bool, false, List, [], ◌∷◌, ◌++◌, All, Option, Some, None, codes, get_or, length, if◌then◌else◌}
 use Rattle.std.specs.Borrow.{Bor}
 use Rattle.cmap_tokens.specs.Gaps.{ends_comment}
 use Rattle.cmap_files.specs.CMapNames.{index_of_name}

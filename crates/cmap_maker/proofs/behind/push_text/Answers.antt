@@ -1,4 +1,4 @@
-use Rattle.std.proofs.Common.{◌∙◌, ◌∷◌, ◌++◌, [], ap, subst, sym}
+use Rattle.std.proofs.Common.{subst}
 use Rattle.cmap_maker.specs.Written.{Appends, IsFramed}
 use Rattle.cmap_maker.proofs.TextsBehind.{behind, text_head}
 use Rattle.cmap_maker.proofs.behind.push_text.Goals as goal

@@ -6,4 +6,6 @@ use Rattle.cmap_maker.proofs.BundlesWritten.{bundle_of_files}
 use Rattle.cmap_maker.proofs.bundle.make_bundle.Goals as goal
 
 pub returns : goal.returns
-returns c = ?
+returns c =
+    let files = files_seen c.args.files.now in
+    IfOk-weaker c.bundle_of.result (λ bytes. IsBundleOfSlots c.deref.result.now bytes.items) (λ bytes. IsBundleOf files bytes.items) (λ bytes is. bundle_of_files files c.in_ok-slots.slots.items bytes.items c.in_ok-slots.ensures (subst (λ ss. IsBundleOfSlots ss bytes.items) c.deref.ensures.value is)) c.bundle_of.ensures

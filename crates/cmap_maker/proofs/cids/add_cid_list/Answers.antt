@@ -1,9 +1,8 @@
-use Rattle.std.proofs.Common.{◌≡◌, ◌∙◌, All, List, map, ap, subst, sym}
-use Rattle.std.specs.List.Sorted.{IsPermutation}
+use Rattle.std.proofs.Common.{All, map, subst, sym}
 use Rattle.std.proofs.lemmas.List.Sorted.{All-permutation, IsPermutation-map}
 use Rattle.cmap_files.specs.CodeLengths.{length_of}
 use Rattle.cmap_files.specs.DeclarationsSeen.{cid_entry_seen, entries_seen}
-use Rattle.cmap_files.specs.Files.{CidEntry, Declaration}
+use Rattle.cmap_files.specs.Files.{Declaration}
 use Rattle.cmap_layers.specs.Lookups.{cid_at, cid_span}
 use Rattle.cmap_maker.specs.Pieces.{ArePieces, IsShort}
 use Rattle.cmap_maker.specs.Segments.{AddsSegments}

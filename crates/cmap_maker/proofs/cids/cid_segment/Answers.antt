@@ -1,11 +1,11 @@
-use Rattle.std.proofs.Common.{◌-◌, ◌*◌, ◌∙◌, ◌≡◌, ◌++◌, List, ℕ, map, ap, sym, subst}
+use Rattle.std.proofs.Common.{◌-◌, ◌*◌, ◌∙◌, ◌≡◌, ◌++◌, map, ap, sym, subst}
 use Rattle.cmap_files.specs.CodeLengths.{length_of}
-use Rattle.cmap_files.specs.DeclarationsSeen.{cid_range_span, entries_seen}
+use Rattle.cmap_files.specs.DeclarationsSeen.{entries_seen}
 use Rattle.cmap_files.specs.Files.{Declaration}
 use Rattle.cmap_binary.specs.BinaryEntries.{CidEntriesIn}
 use Rattle.cmap_binary.specs.BinaryFiles.{IsSegment, declares}
 use Rattle.cmap_maker.specs.EncodersSeen.{shape_seen}
-use Rattle.cmap_maker.specs.Held.{AreInOrder, AreShaped, counts_by, deltas_of, spans_of}
+use Rattle.cmap_maker.specs.Held.{AreInOrder, AreShaped, counts_by, deltas_of}
 use Rattle.cmap_maker.proofs.CidsWritten.{IsSegment-ranges, IsSegment-singles, cids}
 use Rattle.cmap_maker.proofs.NumbersWritten.{cids_spelled, spans_seen}
 use Rattle.cmap_maker.proofs.cids.cid_segment.Goals as goal

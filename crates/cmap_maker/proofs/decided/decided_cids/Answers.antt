@@ -1,12 +1,11 @@
-use Rattle.std.proofs.Common.{◌≡◌, ◌∙◌, ◌+◌, All, List, length, map, Some, ap, refl, subst, sym, arith}
-use Rattle.std.specs.List.{slice_get}
+use Rattle.std.proofs.Common.{◌≡◌, ◌∙◌, ◌+◌, List, length, map, refl, subst, sym, arith}
 use Rattle.cmap_runs.specs.Ranges.{AreRuns, Run, runs_of}
 use Rattle.cmap_files.specs.DeclarationsSeen.{cid_entry_seen, cid_range_span, entries_seen}
 use Rattle.cmap_files.specs.declared.declarations.CidRange.{CidRange}
 use Rattle.cmap_layers.specs.Lookups.{cid_at, cid_span}
 use Rattle.cmap_maker.specs.Pieces.{SaysAs}
 use Rattle.cmap_maker.proofs.DecidedParts.{declaration_within, part_can, part_has, part_right, run_within}
-use Rattle.cmap_maker.proofs.RunParts.{HaveRuns, have_all, have_more, run_of}
+use Rattle.cmap_maker.proofs.RunParts.{HaveRuns, have_all, have_more}
 use Rattle.cmap_maker.proofs.decided.decided_cids.Goals as goal
 
 abbrev runs : List CidRange → List Run

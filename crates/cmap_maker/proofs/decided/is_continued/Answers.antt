@@ -1,5 +1,4 @@
-use Rattle.std.proofs.Common.{◌-◌, ◌≤◌, length, subst, sym, arith}
-use Rattle.cmap_files.specs.DeclarationsSeen.{cid_entry_seen, entries_seen}
+use Rattle.std.proofs.Common.{sym}
 use Rattle.cmap_maker.proofs.CidParts.{last_filled}
 use Rattle.cmap_maker.proofs.decided.is_continued.Goals as goal
 

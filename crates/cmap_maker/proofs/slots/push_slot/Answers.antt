@@ -1,6 +1,5 @@
 use Rattle.std.proofs.Common.{◌∙◌, ◌++◌, ap, subst, sym}
 use Rattle.std.specs.Prelude.{IfOk}
-use Rattle.std.proofs.lemmas.Result.{IfOk-weaker}
 use Rattle.cmap_maker.specs.EncodersSeen.{encoders_seen}
 use Rattle.cmap_maker.specs.Slots.{IsSlotWritten}
 use Rattle.cmap_maker.specs.Written.{Appends}

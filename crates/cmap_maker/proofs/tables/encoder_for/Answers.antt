@@ -1,11 +1,9 @@
-use Rattle.std.proofs.Common.{◌≡◌, ap, arith, sym, subst}
-use Rattle.std.specs.List.{All, Any, Contains}
+use Rattle.std.proofs.Common.{sym, subst}
 use Rattle.std.specs.List.Sorted.{IsNonDecreasing, IsPermutation}
 use Rattle.std.proofs.lemmas.List.Sorted.{IsNonDecreasingBy-from_sort}
 use Rattle.std.proofs.lemmas.Result.{IfErr-weaker, IfOk-weaker}
-use Rattle.cmap_maker.specs.Tables.{HasSameNumbers, symbols_of}
+use Rattle.cmap_maker.specs.Tables.{HasSameNumbers}
 use Rattle.cmap_maker.specs.TablesHeld.{frequent, lengthy}
-use Rattle.cmap_maker.specs.WordsMissing.{IsNoWordIf}
 use Rattle.cmap_maker.proofs.TablesMade.{handed, known, HasManyNumbers-permutations, HasSameNumbers-permutations}
 use Rattle.cmap_maker.proofs.WordsMissing.{IsNoWordIf-weaker}
 use Rattle.cmap_maker.proofs.tables.encoder_for.Goals as goal
@@ -37,5 +35,5 @@ returns-clause-handed c =
 pub returns-clause-err : goal.returns-clause-err
 returns-clause-err c =
     IfErr-weaker c.encoder_of.result _ _ (IsNoWordIf-weaker _ _ (λ many.
-        HasManyNumbers-permutations c.args.symbols.items c.deref.result.now (frequent c.in_ok-frequencies_of.field-0.items) (lengthy c.deref-3.result.now)
-        (sorted c) c.in_ok-frequencies_of.ensures.same c.in_ok-frequencies_of.ensures.rising (made c) many)) c.encoder_of.ensures.err
+    HasManyNumbers-permutations c.args.symbols.items c.deref.result.now (frequent c.in_ok-frequencies_of.field-0.items) (lengthy c.deref-3.result.now)
+    (sorted c) c.in_ok-frequencies_of.ensures.same c.in_ok-frequencies_of.ensures.rising (made c) many)) c.encoder_of.ensures.err

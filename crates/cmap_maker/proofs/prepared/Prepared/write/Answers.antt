@@ -1,4 +1,4 @@
-use Rattle.std.proofs.Common.{◌∙◌, ◌≡◌, subst, sym}
+use Rattle.std.proofs.Common.{◌∙◌, ◌≡◌, subst}
 use Rattle.cmap_maker.specs.EncodersSeen.{encoders_seen}
 use Rattle.cmap_maker.specs.Written.{Appends, IsFramed}
 use Rattle.cmap_maker.proofs.FileKept.{head}
