@@ -1,7 +1,7 @@
 //! A file that is written beside the one whose place it takes, so that this one is whole at any time.
 
 use cmap_sources::failure::{Failure, fault};
-use std::fs::{self, File, OpenFile, OpenOptions};
+use std::fs::{self, File, OpenOptions};
 use std::io::{self, ErrorKind, Write};
 
 /// How many names are tried for a file beside another one.

@@ -72,19 +72,23 @@ fn difference_of(
     let of_file = CMap::salvage(alloc, None, &chosen.candidate.bytes, None, &given)?;
     let own = Some(bundle);
     let of_bundle = CMap::salvage(alloc, None, bytes, own, &own)?;
-    if of_file.faults.len() != of_bundle.faults.len() {
-        return Ok(Some(Difference::Faults));
-    }
-    Pair {
+    let pair = Pair {
         of_file: &of_file.map,
         of_bundle: &of_bundle.map,
-    }
-    .difference(alloc)
+    };
+    pair.difference(alloc, of_file.faults.len() == of_bundle.faults.len())
 }
 
 impl Pair<'_> {
-    /// The first thing that differs.
-    fn difference(&self, alloc: Global) -> Result<Option<Difference>, AllocError> {
+    /// The first thing that differs, where it is known whether both have as many faults.
+    fn difference(
+        &self,
+        alloc: Global,
+        have_like_faults: bool,
+    ) -> Result<Option<Difference>, AllocError> {
+        if !have_like_faults {
+            return Ok(Some(Difference::Faults));
+        }
         if let Some(difference) = self.of_metadata() {
             return Ok(Some(difference));
         }
