@@ -15,12 +15,23 @@ pub fn push_summary(
     passed_over: usize,
 ) -> Result<(), AllocError> {
     push_text(out, path)?;
-    let Some(bundle) = Bundle::parse(alloc, bytes)? else {
-        return out.push_str(": invalid bundle");
-    };
-    let files = contents_of(alloc, &bundle)?;
+    match Bundle::parse(alloc, bytes)? {
+        Some(bundle) => push_numbers(alloc, out, &bundle, bytes.len(), passed_over),
+        None => out.push_str(": invalid bundle"),
+    }
+}
+
+/// Adds what is said of a bundle of this many bytes.
+fn push_numbers(
+    alloc: Global,
+    out: &mut String,
+    bundle: &Bundle<'_>,
+    byte_count: usize,
+    passed_over: usize,
+) -> Result<(), AllocError> {
+    let files = contents_of(alloc, bundle)?;
     push_count(out, ": ", files.len(), "file", "files")?;
-    push_count(out, ", ", bytes.len(), "byte", "bytes")?;
+    push_count(out, ", ", byte_count, "byte", "bytes")?;
     push_texts(out, &files)?;
     if absent_of(&files) > 0 {
         push_count(
