@@ -7,7 +7,7 @@ _cmap() {
     warnings+=" count-differs"
     COMPREPLY=()
     if ((COMP_CWORD == 1)); then
-        mapfile -t COMPREPLY < <(compgen -W "info list find check decode lookup text where --help --version" -- "$current")
+        mapfile -t COMPREPLY < <(compgen -W "info list find check decode lookup text where bundle --help --version" -- "$current")
         return
     fi
     case $before in
@@ -23,25 +23,26 @@ _cmap() {
             return
         fi
         ;;
-    --bundle | --files-from)
+    --bundle | --files-from | --output | -o)
         compopt -o filenames 2>/dev/null
         mapfile -t COMPREPLY < <(compgen -f -- "$current")
         return
         ;;
-    --budget) return ;;
+    --budget | --name) return ;;
     --deny)
         mapfile -t COMPREPLY < <(compgen -W "$warnings" -- "$current")
         return
         ;;
     esac
     case $subcommand in
-    info | list | find | check | decode | lookup | text | where) ;;
+    info | list | find | check | decode | lookup | text | where | bundle) ;;
     *) return ;;
     esac
     if [[ $current == -* ]]; then
         case $subcommand in
         list) mapfile -t COMPREPLY < <(compgen -W "--budget --lenient --effective" -- "$current") ;;
         where) ;;
+        bundle) mapfile -t COMPREPLY < <(compgen -W "--output --name --verify --help" -- "$current") && return ;;
         decode | text) mapfile -t COMPREPLY < <(compgen -W "--to-unicode --budget --lenient" -- "$current") ;;
         check) mapfile -t COMPREPLY < <(compgen -W "--budget --files-from --null --first --lint --to-unicode --deny --quiet" -- "$current") ;;
         *) mapfile -t COMPREPLY < <(compgen -W "--budget --lenient" -- "$current") ;;

@@ -1,6 +1,7 @@
 //! The command `cmap`: what is in a CMap file, where it is wrong, and what a string says.
 #![tactic(auto)]
 
+mod bundle;
 mod check;
 mod decode;
 mod find;
@@ -55,6 +56,9 @@ fn run_command(rt: &HostRuntime, matches: &ArgMatches<'_>) -> Result<u8, Failure
     if options.asks_twice_for_standard_input() {
         let message = String::from_str(rt.alloc(), "the standard input is asked for twice")?;
         return Err(Failure::Message(message));
+    }
+    if name == "bundle" {
+        return bundle::bundle(rt, &options);
     }
     let Some(path) = options.bundle else {
         return run_subcommand(rt, name, &options, None);

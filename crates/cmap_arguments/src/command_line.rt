@@ -1,5 +1,6 @@
 //! The command line.
 
+use crate::bundle::{self, NAME};
 use crate::lint;
 use crate::options::TO_UNICODE;
 use clap::{Arg, ArgAction, Command, value_parser};
@@ -95,6 +96,16 @@ const SUBCOMMANDS: &[Subcommand] = &[
         }),
     },
     Subcommand {
+        name: "bundle",
+        about: "Makes a bundle of the files that have known names",
+        has_file: false,
+        arguments: Some(Arguments {
+            id: "FILE",
+            value_name: "FILE|FOLDER",
+            help: "CMap files, and folders of them; - is the standard input",
+        }),
+    },
+    Subcommand {
         name: "lookup",
         about: "Prints the CIDs and the texts of single codes",
         has_file: true,
@@ -125,15 +136,25 @@ fn program<'a>(alloc: Global) -> Result<Command<'a>, AllocError> {
 }
 
 impl Subcommand {
-    /// Whether it is `check`, of which a list may name the files.
+    /// Whether it is `check`, which alone has options about warnings.
     fn is_check(self) -> bool {
         self.name == "check"
+    }
+
+    /// The option that may stand for its arguments.
+    fn stands_for_arguments(self) -> Option<&'static str> {
+        match self.name {
+            "bundle" => Some(NAME),
+            "check" => Some(FILES_FROM),
+            "info" => Some(BUNDLE),
+            _ => None,
+        }
     }
 
     fn command<'a>(self, alloc: Global) -> Result<Command<'a>, AllocError> {
         let mut command = Command::new(alloc, self.name)
             .about(self.about)
-            .args(options(alloc)?)?;
+            .args(self.shared_options(alloc)?)?;
         if self.has_file {
             command = command.arg(file(alloc))?;
         }
@@ -142,8 +163,16 @@ impl Subcommand {
             command = command.args(lint::options(alloc)?)?;
         }
         match self.arguments {
-            Some(arguments) => command.arg(arguments.arg(alloc, self.is_check())?),
+            Some(arguments) => command.arg(arguments.arg(alloc, self.stands_for_arguments())?),
             None => Ok(command),
+        }
+    }
+
+    /// The options that all subcommands have which read CMaps over others.
+    fn shared_options<'a>(self, alloc: Global) -> Result<Vec<Arg<'a>>, AllocError> {
+        match self.name {
+            "bundle" => Ok(Vec::new(alloc)),
+            _ => options(alloc),
         }
     }
 
@@ -151,6 +180,7 @@ impl Subcommand {
     fn own_options<'a>(self, alloc: Global) -> Result<Vec<Arg<'a>>, AllocError> {
         match self.name {
             "where" => Ok(Vec::new(alloc)),
+            "bundle" => bundle::options(alloc),
             "check" => check_options(alloc),
             "list" => list_options(alloc),
             "decode" | "text" => text_options(alloc),
@@ -160,17 +190,16 @@ impl Subcommand {
 }
 
 impl Arguments {
-    /// The arguments, which a list may stand for.
-    fn arg<'a>(self, alloc: Global, has_list: bool) -> Result<Arg<'a>, AllocError> {
+    /// The arguments, for which an option may stand.
+    fn arg<'a>(self, alloc: Global, option: Option<&'static str>) -> Result<Arg<'a>, AllocError> {
         let arg = Arg::new(alloc, self.id)
             .value_name(self.value_name)
             .help(self.help)
             .action(ArgAction::Append)
             .num_args(1..);
-        if has_list {
-            arg.required_unless_present(FILES_FROM)
-        } else {
-            Ok(arg.required(true))
+        match option {
+            Some(option) => arg.required_unless_present(option),
+            None => Ok(arg.required(true)),
         }
     }
 }
@@ -182,11 +211,11 @@ fn file<'a>(alloc: Global) -> Arg<'a> {
         .help("A CMap file, by its path or its name; - is the standard input")
 }
 
-/// The options that each subcommand has.
+/// The options that all subcommands have but `bundle`.
 fn options<'a>(alloc: Global) -> Result<Vec<Arg<'a>>, AllocError> {
     Ok(vec![in alloc;
         base(alloc),
-        bundle(alloc),
+        given_bundle(alloc),
         no_predefined(alloc),
         json(alloc),
     ]?)
@@ -200,9 +229,12 @@ fn base<'a>(alloc: Global) -> Arg<'a> {
         .help("A folder with the files that CMap files use by their names, also in its subfolders")
 }
 
-fn bundle<'a>(alloc: Global) -> Arg<'a> {
-    Arg::new(alloc, "bundle")
-        .long("bundle")
+/// What the option that names a bundle is found by.
+const BUNDLE: &str = "bundle";
+
+fn given_bundle<'a>(alloc: Global) -> Arg<'a> {
+    Arg::new(alloc, BUNDLE)
+        .long(BUNDLE)
         .value_name("FILE")
         .action(ArgAction::Set)
         .help("A bundle: its tables are for binary files, its files for names that no folder has")

@@ -1,5 +1,6 @@
 //! What the arguments of a subcommand ask for.
 
+use crate::bundle::BundleOptions;
 use crate::lint::LintOptions;
 use clap::ArgMatches;
 use cmap_sources::inputs::STANDARD_INPUT;
@@ -12,7 +13,7 @@ pub const TO_UNICODE: &str = "to-unicode-file";
 /// What the arguments of a subcommand ask for.
 #[derive(Clone, Copy)]
 pub struct Options<'m, 'w> {
-    /// The files, and with `check` the folders.
+    /// The files, and with `check` and `bundle` the folders.
     pub paths: &'m [&'w str],
     /// The first of the files, which is the only one of `list`, `find`, `decode`, `text`
     /// and `lookup`.
@@ -33,6 +34,8 @@ pub struct Options<'m, 'w> {
     pub json: bool,
     /// Whether `list` prints what codes have over all layers.
     pub effective: bool,
+    /// The bundle that `bundle` makes.
+    pub bundling: BundleOptions<'m, 'w>,
     /// The warnings that `check` prints.
     pub lint: LintOptions<'m, 'w>,
     /// The file that lists further files for `check`.
@@ -61,6 +64,7 @@ impl<'m, 'w> Options<'m, 'w> {
             to_unicode: matches.get_str(TO_UNICODE),
             json: matches.get_flag("json"),
             effective: matches.get_flag("effective"),
+            bundling: BundleOptions::of(matches),
             lint: LintOptions::of(matches),
             files_from: matches.get_str("files-from"),
             null: matches.get_flag("null"),
@@ -94,6 +98,7 @@ impl<'m, 'w> Options<'m, 'w> {
     pub fn asks_twice_for_standard_input(&self) -> bool {
         let count = count_asking(self.paths)
             .saturating_add(count_asking(self.arguments))
+            .saturating_add(count_named(self.bundling.named))
             .saturating_add(usize::from(self.bundle == Some(STANDARD_INPUT)))
             .saturating_add(usize::from(self.to_unicode == Some(STANDARD_INPUT)))
             .saturating_add(usize::from(self.files_from == Some(STANDARD_INPUT)));
@@ -106,6 +111,17 @@ fn count_asking(arguments: &[&str]) -> usize {
     let mut count: usize = 0;
     for argument in arguments {
         if *argument == STANDARD_INPUT {
+            count = count.saturating_add(1);
+        }
+    }
+    count
+}
+
+/// How many arguments `NAME=FILE` ask for the standard input.
+fn count_named(arguments: &[&str]) -> usize {
+    let mut count: usize = 0;
+    for argument in arguments {
+        if let Some((_, STANDARD_INPUT)) = argument.split_once('=') {
             count = count.saturating_add(1);
         }
     }

@@ -1,0 +1,83 @@
+//! A file that is written beside the one whose place it takes, so that this one is whole at any time.
+
+use cmap_sources::failure::{Failure, fault};
+use std::fs::{self, File, OpenOptions};
+use std::io::{self, ErrorKind, Write};
+
+/// How many names are tried for a file beside another one.
+const MOST_TRIES: u32 = 100;
+
+/// A file beside the one whose place it is to take.
+#[derive(Drop)]
+pub struct Beside {
+    path: String,
+    /// The path whose place it is to take.
+    target: String,
+}
+
+impl Beside {
+    /// Writes a file of these bytes beside that of a path. Where that fails, no file is left.
+    pub fn write(rt: &HostRuntime, target: &str, bytes: &[u8]) -> Result<Beside, Failure> {
+        let (path, file) = create_beside(rt, target)?;
+        let beside = Beside {
+            path,
+            target: String::from_str(rt.alloc(), target)?,
+        };
+        match write_whole(file, bytes) {
+            Ok(()) => Ok(beside),
+            Err(_) => Err(beside.give_up(rt)),
+        }
+    }
+
+    /// The path of the file.
+    pub fn path(&self) -> &str {
+        self.path.as_str()
+    }
+
+    /// Puts the file in its place. Where that fails, it is removed.
+    pub fn put_in_place(self, rt: &HostRuntime) -> Result<(), Failure> {
+        match fs::rename(rt, self.path.as_str(), self.target.as_str()) {
+            Ok(()) => Ok(()),
+            Err(_) => Err(self.give_up(rt)),
+        }
+    }
+
+    /// Removes the file. What has its place stays as it was.
+    pub fn remove(&self, rt: &HostRuntime) {
+        let _ = fs::remove_file(rt, self.path.as_str());
+    }
+
+    /// Removes the file, and says that the other one can't be written.
+    fn give_up(&self, rt: &HostRuntime) -> Failure {
+        self.remove(rt);
+        unwritable(rt, self.target.as_str())
+    }
+}
+
+/// A new file beside that of a path.
+fn create_beside(rt: &HostRuntime, target: &str) -> Result<(String, File), Failure> {
+    for number in 0..MOST_TRIES {
+        let path = format!(in rt.alloc(); "{target}.new-{number}")?;
+        let opened = OpenOptions::new()
+            .write(true)
+            .create_new(true)
+            .open(rt, path.as_str());
+        match opened {
+            Ok(file) => return Ok((path, file)),
+            Err(error) if error.kind() == ErrorKind::AlreadyExists => {}
+            Err(_) => break,
+        }
+    }
+    Err(unwritable(rt, target))
+}
+
+/// Writes all bytes, up to the disk.
+fn write_whole(mut file: File, bytes: &[u8]) -> io::Result<()> {
+    file.write_all(bytes)?;
+    file.sync_all()
+}
+
+/// The failure of a path that can't be written.
+fn unwritable(rt: &HostRuntime, path: &str) -> Failure {
+    fault(rt, path, "can't be written")
+}

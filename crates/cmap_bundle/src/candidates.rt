@@ -1,0 +1,100 @@
+//! The files that arguments ask to be put in a bundle.
+
+use crate::known_names::is_known;
+use cmap_sources::failure::{Failure, fault};
+use cmap_sources::folders::{files_in, is_folder, name_of};
+use cmap_sources::inputs::{STANDARD_INPUT, needed};
+
+/// A file that is asked for.
+#[derive(Drop)]
+pub struct Candidate {
+    pub path: String,
+    /// The name that it is given, else its file name where that is a known name. Without either its
+    /// `CMapName` counts.
+    pub name: Option<String>,
+    pub bytes: Vec<u8>,
+}
+
+/// The files that are asked for, in order.
+#[derive(Drop)]
+pub struct Candidates {
+    pub files: Vec<Candidate>,
+    /// How many files of folders have none of the known names. They aren't read.
+    pub passed_over: usize,
+}
+
+/// The files of arguments `NAME=FILE`, and then those of paths.
+pub fn candidates_of(
+    rt: &HostRuntime,
+    named: &[&str],
+    paths: &[&str],
+) -> Result<Candidates, Failure> {
+    let mut candidates = Candidates {
+        files: Vec::new(rt.alloc()),
+        passed_over: 0,
+    };
+    for argument in named {
+        candidates.add_named(rt, argument)?;
+    }
+    candidates.add_paths(rt, paths)?;
+    Ok(candidates)
+}
+
+impl Candidates {
+    /// Adds the file of an argument `NAME=FILE`.
+    fn add_named(&mut self, rt: &HostRuntime, argument: &str) -> Result<(), Failure> {
+        let Some((name, path)) = argument.split_once('=') else {
+            return Err(fault(rt, argument, "not NAME=FILE"));
+        };
+        self.add_file(rt, Some(name), path)
+    }
+
+    fn add_paths(&mut self, rt: &HostRuntime, paths: &[&str]) -> Result<(), Failure> {
+        for path in paths {
+            if *path != STANDARD_INPUT && is_folder(rt, path) {
+                self.add_folder(rt, path)?;
+            } else {
+                self.add_file(rt, known_file_name(path), path)?;
+            }
+        }
+        Ok(())
+    }
+
+    /// Adds the files of a folder and its subfolders that have known names.
+    fn add_folder(&mut self, rt: &HostRuntime, folder: &str) -> Result<(), Failure> {
+        let found = files_in(rt, folder)?;
+        if found.unreadable > 0 {
+            return Err(fault(rt, folder, "can't be read as a whole"));
+        }
+        for path in &found.files {
+            match known_file_name(path.as_str()) {
+                Some(name) => self.add_file(rt, Some(name), path.as_str())?,
+                None => self.passed_over = self.passed_over.saturating_add(1),
+            }
+        }
+        Ok(())
+    }
+
+    /// Adds the file of a path, by this name.
+    fn add_file(
+        &mut self,
+        rt: &HostRuntime,
+        name: Option<&str>,
+        path: &str,
+    ) -> Result<(), Failure> {
+        let bytes = needed(rt, path)?;
+        let name = match name {
+            Some(name) => Some(String::from_str(rt.alloc(), name)?),
+            None => None,
+        };
+        let path = String::from_str(rt.alloc(), path)?;
+        self.files.push(Candidate { path, name, bytes })?;
+        Ok(())
+    }
+}
+
+/// The last part of a path, where it is a known name.
+fn known_file_name(path: &str) -> Option<&str> {
+    let name = name_of(path);
+    is_known(name.as_bytes()).then_some(name)
+}

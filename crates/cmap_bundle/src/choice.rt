@@ -1,0 +1,162 @@
+//! Which of the files that are asked for stand in the bundle.
+
+use crate::candidates::Candidate;
+use crate::known_names::is_known;
+use cmap_binary::is_marked_binary;
+use cmap_escape::escape::{push_name, push_text};
+use cmap_files::fault::{Fault, Stop};
+use cmap_files::file::File;
+use cmap_files::names::CMapName;
+use cmap_report::fault_line::LineCounter;
+use cmap_report::refused::push_refusal;
+use cmap_sources::failure::Failure;
+use cmap_text::read_text;
+use hayro_cmap::{Bundle, Cause, NamedFiles, Refusal};
+use std::alloc::{AllocError, Global};
+
+/// A file that stands in the bundle.
+#[derive(Drop)]
+pub struct Chosen<'c> {
+    pub candidate: &'c Candidate,
+    /// What it says.
+    pub file: File<'c>,
+}
+
+impl<'c> Chosen<'c> {
+    /// The text of its name: the one that it is given, else its `CMapName`, empty where it has none.
+    pub fn name(&self) -> &[u8] {
+        match &self.candidate.name {
+            Some(name) => name.as_bytes(),
+            None => match &self.file.metadata.name {
+                Some(name) => name,
+                None => b"",
+            },
+        }
+    }
+
+    /// The name, by which a bundle has a place for it.
+    pub fn cmap_name(&self) -> CMapName<'_> {
+        CMapName::from_bytes(self.name())
+    }
+}
+
+/// The files that stand in the bundle, in order, no two of one name.
+#[derive(Drop)]
+pub struct Choice<'c> {
+    pub files: Vec<Chosen<'c>>,
+    /// How many files are left out, which is reported.
+    pub left_out: usize,
+}
+
+/// Chooses the files that stand in the bundle. Of each that is left out, a line on the standard error says
+/// why.
+pub fn choose<'c>(rt: &HostRuntime, candidates: &'c [Candidate]) -> Result<Choice<'c>, Failure> {
+    let mut choice = Choice {
+        files: Vec::new(rt.alloc()),
+        left_out: 0,
+    };
+    for candidate in candidates {
+        choice.add(rt, candidate)?;
+    }
+    Ok(choice)
+}
+
+impl<'c> Choice<'c> {
+    /// Adds a file, unless it is left out.
+    fn add(&mut self, rt: &HostRuntime, candidate: &'c Candidate) -> Result<(), Failure> {
+        if is_marked_binary(&candidate.bytes) {
+            return self.leave_out(rt, candidate, "a file in the binary form");
+        }
+        match read_text(rt.alloc(), &candidate.bytes) {
+            Ok(file) => self.add_read(rt, Chosen { candidate, file }),
+            Err(Fault::Refused(stop)) => self.refuse(rt, candidate, stop),
+            Err(Fault::Memory) => Err(Failure::Memory),
+        }
+    }
+
+    /// Adds a file that is read, unless it has none of the known names or the bundle has its name.
+    fn add_read(&mut self, rt: &HostRuntime, chosen: Chosen<'c>) -> Result<(), Failure> {
+        if !is_known(chosen.name()) {
+            return self.leave_out_unknown(rt, &chosen);
+        }
+        if let Some(path) = self.path_of(chosen.name()) {
+            let reason = already(rt.alloc(), chosen.name(), path)?;
+            return self.leave_out(rt, chosen.candidate, reason.as_str());
+        }
+        self.files.push(chosen)?;
+        Ok(())
+    }
+
+    /// The path of the file that has this name already.
+    fn path_of(&self, name: &[u8]) -> Option<&'c str> {
+        for chosen in &self.files {
+            if chosen.name() == name {
+                return Some(chosen.candidate.path.as_str());
+            }
+        }
+        None
+    }
+
+    fn leave_out_unknown(&mut self, rt: &HostRuntime, chosen: &Chosen<'_>) -> Result<(), Failure> {
+        let mut reason = String::new(rt.alloc());
+        if chosen.name().is_empty() {
+            reason.push_str("neither its file name nor a CMapName is one of the known names")?;
+        } else {
+            push_name(&mut reason, chosen.name())?;
+            reason.push_str(" is none of the known names")?;
+        }
+        self.leave_out(rt, chosen.candidate, reason.as_str())
+    }
+
+    /// Leaves a file out, and reports why.
+    fn leave_out(
+        &mut self,
+        rt: &HostRuntime,
+        candidate: &Candidate,
+        reason: &str,
+    ) -> Result<(), Failure> {
+        let mut line = String::new(rt.alloc());
+        push_text(&mut line, candidate.path.as_str())?;
+        eprintln!(rt; "cmap: {line}: left out: {reason}")?;
+        self.left_out = self.left_out.saturating_add(1);
+        Ok(())
+    }
+
+    /// Leaves a malformed file out, and reports its first fault.
+    fn refuse(
+        &mut self,
+        rt: &HostRuntime,
+        candidate: &Candidate,
+        stop: Stop,
+    ) -> Result<(), Failure> {
+        let line = fault_line(rt.alloc(), candidate, stop)?;
+        eprintln!(rt; "cmap: {line}")?;
+        self.left_out = self.left_out.saturating_add(1);
+        Ok(())
+    }
+}
+
+/// Why a file is left out whose name another one has, that of this path.
+fn already(alloc: Global, name: &[u8], path: &str) -> Result<String, AllocError> {
+    let mut reason = String::new(alloc);
+    reason.push_str("the bundle has ")?;
+    push_name(&mut reason, name)?;
+    reason.push_str(" already, of ")?;
+    push_text(&mut reason, path)?;
+    Ok(reason)
+}
+
+/// The line of a fault, as `cmap check` prints it.
+fn fault_line(alloc: Global, candidate: &Candidate, stop: Stop) -> Result<String, AllocError> {
+    let none: NamedFiles<'_, (&[u8], &[u8]), Bundle<'_>> = NamedFiles::alone(&[]);
+    let refusal = Refusal {
+        names: Vec::new(alloc),
+        cause: Cause::Malformed(stop),
+    };
+    let mut line = String::new(alloc);
+    push_text(&mut line, candidate.path.as_str())?;
+    line.push_str(": ")?;
+    let mut lines = LineCounter::new();
+    push_refusal(&mut line, &candidate.bytes, &none, &refusal, &mut lines)?;
+    Ok(line)
+}

@@ -1,0 +1,121 @@
+//! What a bundle holds.
+
+use crate::known_names::KNOWN_NAMES;
+use cmap_binary::is_marked_binary;
+use cmap_escape::escape::{escaped_names, push_name};
+use cmap_escape::json::push_line;
+use cmap_report::uses::uses_by_layer;
+use cmap_sources::bases::file_in;
+use hayro_cmap::{Bundle, NamedFiles};
+use serde_json::{Map, Value, put};
+use std::alloc::{AllocError, Global};
+
+/// A file of a bundle.
+#[derive(Drop)]
+pub struct Held<'b> {
+    pub name: &'static str,
+    pub bytes: &'b [u8],
+    /// The names that it uses, in order.
+    pub uses: Vec<&'b [u8]>,
+}
+
+impl<'b> Held<'b> {
+    /// Whether it is in the binary form, and else a text.
+    pub fn is_binary(&self) -> bool {
+        is_marked_binary(self.bytes)
+    }
+
+    fn form(&self) -> &'static str {
+        if self.is_binary() { "binary" } else { "text" }
+    }
+}
+
+/// The files of a bundle, in the order of their names. One that stands for none isn't among them.
+pub fn contents_of<'b>(alloc: Global, bundle: &'b Bundle<'b>) -> Result<Vec<Held<'b>>, AllocError> {
+    let mut files = Vec::new(alloc);
+    for name in KNOWN_NAMES {
+        if let Some(bytes) = file_in(bundle, name.as_bytes()) {
+            let uses = uses_of(alloc, bundle, bytes)?;
+            files.push(Held { name, bytes, uses })?;
+        }
+    }
+    Ok(files)
+}
+
+/// The names that a file of a bundle uses.
+fn uses_of<'b>(
+    alloc: Global,
+    bundle: &'b Bundle<'b>,
+    bytes: &'b [u8],
+) -> Result<Vec<&'b [u8]>, AllocError> {
+    let none: &[(&[u8], &[u8])] = &[];
+    let files = NamedFiles {
+        files: none,
+        bundle: Some(bundle),
+    };
+    let mut layers = uses_by_layer(alloc, bytes, &files, 1)?;
+    Ok(layers.pop().unwrap_or(Vec::new(alloc)))
+}
+
+/// How many of the known names have no file.
+pub fn absent_of(files: &[Held<'_>]) -> usize {
+    KNOWN_NAMES.len().saturating_sub(files.len())
+}
+
+/// Adds a line for each file of a bundle, and how many names have none.
+pub fn push_contents(out: &mut String, files: &[Held<'_>]) -> Result<(), AllocError> {
+    for file in files {
+        push_held(out, file)?;
+    }
+    writeln!(
+        out,
+        "{} of {} names have no file",
+        absent_of(files),
+        KNOWN_NAMES.len()
+    )
+}
+
+/// Adds the line of a file: its name, its bytes, its form and the names that it uses.
+fn push_held(out: &mut String, file: &Held<'_>) -> Result<(), AllocError> {
+    let Held { name, bytes, uses } = file;
+    write!(out, "{name:<18}{:>9}  {:<6} ", bytes.len(), file.form())?;
+    if uses.is_empty() {
+        out.push_str(" -")?;
+    }
+    for name in uses {
+        out.push_str(" /")?;
+        push_name(out, name)?;
+    }
+    out.push('\n')
+}
+
+/// Adds the object of a bundle, which has this path, and ends the line.
+pub fn push_json(
+    alloc: Global,
+    out: &mut String,
+    path: &str,
+    files: &[Held<'_>],
+) -> Result<(), AllocError> {
+    let mut object = Map::new(alloc);
+    put(&mut object, alloc, "absent", Value::from(absent_of(files)))?;
+    let path = String::from_str(alloc, path)?;
+    put(&mut object, alloc, "file", Value::from(path))?;
+    let mut list = Vec::with_capacity(alloc, files.len())?;
+    for file in files {
+        list.push(held_object(alloc, file)?)?;
+    }
+    put(&mut object, alloc, "files", Value::Array(list))?;
+    push_line(alloc, out, &Value::Object(object))
+}
+
+fn held_object(alloc: Global, file: &Held<'_>) -> Result<Value, AllocError> {
+    let mut object = Map::new(alloc);
+    put(&mut object, alloc, "bytes", Value::from(file.bytes.len()))?;
+    let form = String::from_str(alloc, file.form())?;
+    put(&mut object, alloc, "form", Value::from(form))?;
+    let name = String::from_str(alloc, file.name)?;
+    put(&mut object, alloc, "name", Value::from(name))?;
+    let uses = escaped_names(alloc, &file.uses)?;
+    put(&mut object, alloc, "uses", Value::Array(uses))?;
+    Ok(Value::Object(object))
+}

@@ -1,0 +1,64 @@
+//! What a bundle says otherwise than a file that it was made of.
+
+use cmap_escape::digits::push_code;
+use hayro_cmap::{Cid, CodeLength};
+use std::alloc::AllocError;
+
+/// The first thing that a bundle says otherwise than the file.
+#[derive(Clone, Copy)]
+pub enum Difference {
+    /// The bundle has no file of the name.
+    Absent,
+    /// As many files can't be read, or aren't there, of those that it uses.
+    Faults,
+    Name,
+    Collection,
+    WritingMode,
+    Codespaces,
+    /// The names of the files that it uses.
+    Uses,
+    /// The CID of a code of this length, as the file has it and as the bundle does.
+    Cid {
+        code: u32,
+        len: CodeLength,
+        of_file: Option<Cid>,
+        of_bundle: Option<Cid>,
+    },
+    /// The text of a code.
+    Text(u32),
+}
+
+/// Adds what differs.
+pub fn push_difference(out: &mut String, difference: Difference) -> Result<(), AllocError> {
+    match difference {
+        Difference::Absent => out.push_str("the bundle has no file of this name"),
+        Difference::Faults => out.push_str("the faults of the files that it uses differ"),
+        Difference::Name => out.push_str("the CMapName differs"),
+        Difference::Collection => out.push_str("the character collection differs"),
+        Difference::WritingMode => out.push_str("the writing mode differs"),
+        Difference::Codespaces => out.push_str("the codespace ranges differ"),
+        Difference::Uses => out.push_str("the names of the files that it uses differ"),
+        Difference::Text(code) => write!(out, "the text of the code {code:04X} differs"),
+        Difference::Cid {
+            code,
+            len,
+            of_file,
+            of_bundle,
+        } => {
+            out.push_str("the CID of <")?;
+            push_code(out, len.count(), code)?;
+            out.push_str("> is ")?;
+            push_cid(out, of_file)?;
+            out.push_str(" in the file and ")?;
+            push_cid(out, of_bundle)?;
+            out.push_str(" in the bundle")
+        }
+    }
+}
+
+fn push_cid(out: &mut String, cid: Option<Cid>) -> Result<(), AllocError> {
+    match cid {
+        Some(cid) => write!(out, "{cid}"),
+        None => out.push('-'),
+    }
+}

@@ -1,0 +1,78 @@
+//! What a bundle came to be, in a line.
+
+use crate::contents::{Held, absent_of, contents_of};
+use cmap_escape::escape::push_text;
+use hayro_cmap::Bundle;
+use std::alloc::{AllocError, Global};
+
+/// Adds how many files a bundle of these bytes has and how many bytes, which of the files are texts, how many
+/// names have none, and how many files of folders were passed over.
+pub fn push_summary(
+    alloc: Global,
+    out: &mut String,
+    path: &str,
+    bytes: &[u8],
+    passed_over: usize,
+) -> Result<(), AllocError> {
+    push_text(out, path)?;
+    match Bundle::parse(alloc, bytes)? {
+        Some(bundle) => push_numbers(alloc, out, &bundle, bytes.len(), passed_over),
+        None => out.push_str(": invalid bundle"),
+    }
+}
+
+/// Adds what is said of a bundle of this many bytes.
+fn push_numbers(
+    alloc: Global,
+    out: &mut String,
+    bundle: &Bundle<'_>,
+    byte_count: usize,
+    passed_over: usize,
+) -> Result<(), AllocError> {
+    let files = contents_of(alloc, bundle)?;
+    push_count(out, ": ", files.len(), "file", "files")?;
+    push_count(out, ", ", byte_count, "byte", "bytes")?;
+    push_texts(out, &files)?;
+    if absent_of(&files) > 0 {
+        push_count(
+            out,
+            "; ",
+            absent_of(&files),
+            "name without a file",
+            "names without a file",
+        )?;
+    }
+    if passed_over > 0 {
+        push_count(
+            out,
+            "; ",
+            passed_over,
+            "file of another name",
+            "files of other names",
+        )?;
+    }
+    Ok(())
+}
+
+/// Adds which of the files are texts, if any is.
+fn push_texts(out: &mut String, files: &[Held<'_>]) -> Result<(), AllocError> {
+    let mut separator = "; as texts: ";
+    for file in files {
+        if !file.is_binary() {
+            write!(out, "{separator}{}", file.name)?;
+            separator = ", ";
+        }
+    }
+    Ok(())
+}
+
+fn push_count(
+    out: &mut String,
+    separator: &str,
+    count: usize,
+    one: &str,
+    more: &str,
+) -> Result<(), AllocError> {
+    let unit = if count == 1 { one } else { more };
+    write!(out, "{separator}{count} {unit}")
+}
