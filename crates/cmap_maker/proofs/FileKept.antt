@@ -6,13 +6,13 @@ use Rattle.std.proofs.lemmas.List.{append-nil}
 use Rattle.std.proofs.lemmas.List.Concat.{flat_map-append}
 use Rattle.std.proofs.lemmas.List.Elements.{filter_map-append}
 use Rattle.std.proofs.lemmas.Option.{none-some, same_Some}
-use Rattle.cmap_files.specs.Files.{BfEntry, CidEntry, Declaration, File, FileMetadata, Lists, lists_of, of_length}
+use Rattle.cmap_files.specs.Files.{BfEntry, ByLength, CidEntry, Declaration, File, FileMetadata, Lists, lists_of, of_length}
 use Rattle.cmap_binary.specs.BinaryFiles.{BodyOf, Content, IsBinaryFile, SegmentAt, collection_set, declared_in, declares, file_of, magic, mode_set, name_set, name_used}
 use Rattle.cmap_binary.specs.BinaryFiles as files
 use Rattle.cmap_layers.specs.Layers.{Layer}
 use Rattle.cmap_tokens.specs.Texts.{only_character}
 use Rattle.cmap_layers.specs.Lookups.{bf_at, bf_of, cid_at, cid_in, cid_of, decided_cid, decided_text, last_bf, last_cid}
-use Rattle.cmap_maker.specs.Keeps.{KeepLists, Keeps}
+use Rattle.cmap_maker.specs.Keeps.{AnswerAlike, KeepLists, Keeps}
 use Rattle.cmap_maker.specs.MetadataWritten.{metadata_contents}
 use Rattle.cmap_maker.specs.Pieces.{cid_told}
 use Rattle.cmap_files.specs.Metadata.{Collection, Mode}
@@ -96,6 +96,11 @@ same_decided code None (Some e) notdef character below is = absurd (none-some _ 
 same_decided code (Some e) None notdef character below is = absurd (none-some _ (sym is))
 same_decided code (Some e) (Some f) notdef character below is = same_Some _ _ is
 
+-- what holds of lengths of codes alone
+gate : (b : Bool) (x y x' y' : Option ℕ) → (if b then x else None) ≡ (if b then y else None) → (x ≡ y → x' ≡ y') → (if b then x' else None) ≡ (if b then y' else None)
+gate true x y x' y' same then_same = then_same same
+gate false x y x' y' same then_same = refl
+
 module _ (lists made : Lists) (keep : KeepLists lists made) where
   same_lengths : (len code : ℕ) → cid_told (of_length made.cids len) code ≡ cid_told (of_length lists.cids len) code
   same_lengths len code =
@@ -114,24 +119,23 @@ module _ (lists made : Lists) (keep : KeepLists lists made) where
   same_decided_text code (Some e) None below is = absurd (none-some _ (sym is))
   same_decided_text code (Some e) (Some f) below is = same_Some _ _ is
 
-  same_cids : (m : FileMetadata) (below : List Layer) (code len : ℕ) → cid_of (record { metadata = m; lists = made } ∷ below) code len ≡ cid_of (record { metadata = m; lists = lists } ∷ below) code len
-  same_cids m below code len =
-      ap (λ o. if nat_le 1 len && nat_le len 4 then o else None)
-      (same_decided code (last_cid (of_length made.cids len) code) (last_cid (of_length lists.cids len) code) _ _ _ (same_lengths len code)
-      ∙ ap (λ o. decided_cid code (last_cid (of_length lists.cids len) code) (last_cid (of_length made.notdefs len) code) (only_character o) (cid_in below code len)) (text_decided code (last_bf made.bfs code) (last_bf lists.bfs code) (keep.bfs code))
-      ∙ rw keep.notdefs refl)
-
-  same_texts : (m : FileMetadata) (below : List Layer) (code : ℕ) → bf_of (record { metadata = m; lists = made } ∷ below) code ≡ bf_of (record { metadata = m; lists = lists } ∷ below) code
-  same_texts m below code = same_decided_text code (last_bf made.bfs code) (last_bf lists.bfs code) (bf_of below code) (keep.bfs code)
+  same_answers : (m : FileMetadata) (below others : List Layer) → AnswerAlike below others → AnswerAlike (record { metadata = m; lists = lists } ∷ below) (record { metadata = m; lists = made } ∷ others)
+  same_answers m below others alike = record {
+    cids = λ code len.
+        let old = last_cid (of_length lists.cids len) code in
+        let new = last_cid (of_length made.cids len) code in
+        gate (nat_le 1 len && nat_le len 4) (cid_in others code len) (cid_in below code len) _ _ (alike.cids code len) (λ same.
+        same_decided code new old (last_cid (of_length made.notdefs len) code) (only_character (option_and_then (λ e. bf_at e code) (last_bf made.bfs code))) (cid_in others code len) (same_lengths len code)
+        ∙ ap (λ o. decided_cid code old (last_cid (of_length made.notdefs len) code) (only_character o) (cid_in others code len)) (text_decided code (last_bf made.bfs code) (last_bf lists.bfs code) (keep.bfs code))
+        ∙ ap (λ (n : ByLength). decided_cid code old (last_cid (of_length n len) code) (only_character (option_and_then (λ e. bf_at e code) (last_bf lists.bfs code))) (cid_in others code len)) keep.notdefs
+        ∙ ap (decided_cid code old (last_cid (of_length lists.notdefs len) code) (only_character (option_and_then (λ e. bf_at e code) (last_bf lists.bfs code)))) same);
+    texts = λ code.
+        same_decided_text code (last_bf made.bfs code) (last_bf lists.bfs code) (bf_of others code) (keep.bfs code)
+        ∙ ap (decided_text code (last_bf lists.bfs code)) (alike.texts code);
+  }
 
 pub keeps : (file : File) (made : Lists) → KeepLists file.lists made → Keeps file (record { metadata = file.metadata; lists = made; uses = file.uses })
-keeps file made keep = record {
-  metadata = refl;
-  spaces = keep.spaces;
-  uses = refl;
-  cids = λ below code len. same_cids file.lists made keep file.metadata below code len;
-  texts = λ below code. same_texts file.lists made keep file.metadata below code;
-}
+keeps file made keep = record { metadata = refl; spaces = keep.spaces; uses = refl; answers = λ below others alike. same_answers file.lists made keep file.metadata below others alike }
 
 -- ---- the file
 abbrev pub head : List ℕ

@@ -14,13 +14,17 @@ use Rattle.cmap_binary.specs.BinaryFiles.{IsBinaryFile}
 use Rattle.cmap_maker.specs.Bundled.{IsFramedFile}
 use Rattle.cmap_maker.specs.Pieces.{cid_told, text_told}
 
--- the same metadata, codespace ranges and names of files that are used; and over any layers each code of each length has the same CID, and each code the same text
+-- by both each code of each length has the same CID, and each code the same text
+pub record AnswerAlike (layers others : List Layer) : Type 0 where
+  pub cids : (code len : ℕ) → cid_of others code len ≡ cid_of layers code len
+  pub texts : (code : ℕ) → bf_of others code ≡ bf_of layers code
+
+-- the same metadata, codespace ranges and names of files that are used; and over layers that answer alike it answers alike, so a chain of files does if each is kept
 pub record Keeps (file made : File) : Type 0 where
   pub metadata : made.metadata ≡ file.metadata
   pub spaces : made.lists.spaces ≡ file.lists.spaces
   pub uses : made.uses ≡ file.uses
-  pub cids : (below : List Layer) (code len : ℕ) → cid_of (layer_of made ∷ below) code len ≡ cid_of (layer_of file ∷ below) code len
-  pub texts : (below : List Layer) (code : ℕ) → bf_of (layer_of made ∷ below) code ≡ bf_of (layer_of file ∷ below) code
+  pub answers : (below others : List Layer) → AnswerAlike below others → AnswerAlike (layer_of file ∷ below) (layer_of made ∷ others)
 
 -- the bytes are a binary file by these tables which keeps what the file says, and which gives its own length
 pub record IsWritten (tables : PrefixTables) (file : File) (bytes : List ℕ) : Type 0 where
