@@ -25,3 +25,4 @@ pub mod TextsWritten
 pub mod Told
 pub mod WordsMade
 pub mod WordsMissing
+pub mod WordsSought
