@@ -23,6 +23,7 @@ pub mod TablesWritten
 pub mod TextsMade
 pub mod TextsWritten
 pub mod Told
+pub mod WordsForAll
 pub mod WordsMade
 pub mod WordsMissing
 pub mod WordsSought

@@ -34,7 +34,7 @@ pub handed : (table : List CodeWord) (symbols : List ℕ) → HasSameNumbers sym
 handed table symbols same =
     let none : CodeWord = record { len = 0; symbol = 0 } in
     All-from_get_or (λ w. Contains symbols w.symbol) table none (λ i within.
-        subst (Contains symbols) (get_or-map (λ (w : CodeWord). w.symbol) table i none) (same.found i (none.symbol) (omega (arith, length-map table (λ (w : CodeWord). w.symbol), within))))
+    subst (Contains symbols) (get_or-map (λ (w : CodeWord). w.symbol) table i none) (same.found i (none.symbol) (omega (arith, length-map table (λ (w : CodeWord). w.symbol), within))))
 
 -- ---- the same numbers
 pub HasSameNumbers-none : HasSameNumbers [] []

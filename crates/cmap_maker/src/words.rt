@@ -137,7 +137,10 @@ impl Encoder {
         ensures some { IfSome result (λ word. HasWord self.now symbol word.len word.value) }
         ensures none { IsNoWordOf self.now symbol result }
     {
-        match self.by_symbol.binary_search_by_key(&symbol, |word| word.symbol) {
+        match self
+            .by_symbol
+            .binary_search_by_key(&symbol, |word| word.symbol)
+        {
             Ok(index) => Some(self.by_symbol[index]),
             Err(_) => None,
         }

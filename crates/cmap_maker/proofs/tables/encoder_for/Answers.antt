@@ -37,5 +37,5 @@ returns-clause-handed c =
 pub returns-clause-err : goal.returns-clause-err
 returns-clause-err c =
     IfErr-weaker c.encoder_of.result _ _ (IsNoWordIf-weaker _ _ (λ many.
-        HasManyNumbers-permutations c.args.symbols.items c.deref.result.now (frequent c.in_ok-frequencies_of.field-0.items) (lengthy c.deref-3.result.now)
-        (sorted c) c.in_ok-frequencies_of.ensures.same c.in_ok-frequencies_of.ensures.rising (made c) many)) c.encoder_of.ensures.err
+    HasManyNumbers-permutations c.args.symbols.items c.deref.result.now (frequent c.in_ok-frequencies_of.field-0.items) (lengthy c.deref-3.result.now)
+    (sorted c) c.in_ok-frequencies_of.ensures.same c.in_ok-frequencies_of.ensures.rising (made c) many)) c.encoder_of.ensures.err
