@@ -1,11 +1,11 @@
 -- Tables of code words for symbols that were handed in.
-use Rattle.std.proofs.Common.{◌≡◌, ℕ, zero, suc, ◌+◌, ◌-◌, ◌*◌, ◌^◌, ◌<◌, ◌≤◌, ◌⊎◌, inl, inr, List, [], ◌∷◌, ◌++◌, length, get_or, take, set, replicate, refl, ap, ◌∙◌, sym, subst, arith}
+use Rattle.std.proofs.Common.{◌≡◌, ℕ, ◌+◌, ◌-◌, ◌^◌, ◌<◌, ◌≤◌, inl, inr, List, [], ◌∷◌, ◌++◌, length, get_or, take, set, replicate, refl, ap, ◌∙◌, sym, subst, arith}
 use Rattle.std.proofs.lemmas.Bool.{cases_lt}
 use Rattle.std.specs.List.{All, Any, Contains}
 use Rattle.std.specs.List.Sorted.{IsNonDecreasing, IsPermutation, IsStrictlyIncreasing}
 use Rattle.std.proofs.Math.ListN.{get_or-map, length-map}
-use Rattle.std.proofs.lemmas.List.{append-nil, get_or-take, length-append, length-take-le, take_all, take_more, get_or-append_right, get_or_append_left, get_or_default, get_or-replicate, length-replicate}
-use Rattle.std.proofs.lemmas.List.Elements.{All-contains_itself, All-from_get_or, All-get_or, All-more, All-push, All-weaker, Contains-append_left, Contains-get_or, Contains-push, All-contains, All-replicate}
+use Rattle.std.proofs.lemmas.List.{append-nil, get_or-take, length-append, length-take-le, take_more, get_or-append_right, get_or_append_left, get_or_default, get_or-replicate, length-replicate}
+use Rattle.std.proofs.lemmas.List.Elements.{All-from_get_or, All-more, All-push, All-weaker, Contains-append_left, Contains-get_or, Contains-push, All-contains, All-replicate}
 use Rattle.std.proofs.lemmas.List.Folds.{sum_by-replicate}
 use Rattle.std.proofs.lemmas.List.Sorted.{Contains-permutation, IsPermutation-sym, length_permutation}
 use Rattle.cmap_binary.specs.PrefixWords.{AreWordLengths, CodeWord, lengths_from, zip_words}

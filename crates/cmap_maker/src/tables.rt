@@ -1,7 +1,7 @@
 //! Tables of code words for the numbers that files are spelled by: the more often a number comes,
 //! the shorter its word.
 
-ghost use Rattle.std.specs.Prelude.{◌≡◌, ◌⊎◌, ◌^◌, ◌≤◌, ◌<◌, ◌-◌, ◌∷◌, [], ◌++◌, All, Any, Contains, IfErr, IfOk, length, map};
+ghost use Rattle.std.specs.Prelude.{◌≡◌, ◌^◌, ◌≤◌, ◌++◌, All, Any, Contains, IfErr, IfOk, length};
 ghost use Rattle.std.specs.List.Sorted.{IsNonDecreasing, IsPermutation, IsStrictlyIncreasing};
 ghost use Rattle.cmap_maker.specs.Gathered.{counts_in, deltas_in, segments_in, slot_segments};
 ghost use Rattle.cmap_maker.specs.Tables.{CountsNumber, HasManyNumbers, HasSameNumbers, symbols_of};

@@ -45,7 +45,7 @@ impl Model for Encoder {
 
     ghost Value = { List CodeWord };
 
-    ghost use Rattle.std.specs.Prelude.{◌≡◌, ◌≤◌, length, map};
+    ghost use Rattle.std.specs.Prelude.{◌≡◌, ◌≤◌, length};
     ghost use Rattle.std.specs.List.Sorted.{IsNonDecreasingBy, IsPermutation};
     ghost use Rattle.cmap_binary.specs.PrefixWords.{IsSound, lengths_from, lengths_of};
     ghost use Rattle.cmap_maker.specs.WordsHeld.{words_seen, AreWords};

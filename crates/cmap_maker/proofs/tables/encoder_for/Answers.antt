@@ -1,11 +1,9 @@
-use Rattle.std.proofs.Common.{◌≡◌, ap, arith, sym, subst}
-use Rattle.std.specs.List.{All, Any, Contains}
+use Rattle.std.proofs.Common.{sym, subst}
 use Rattle.std.specs.List.Sorted.{IsNonDecreasing, IsPermutation}
 use Rattle.std.proofs.lemmas.List.Sorted.{IsNonDecreasingBy-from_sort}
 use Rattle.std.proofs.lemmas.Result.{IfErr-weaker, IfOk-weaker}
-use Rattle.cmap_maker.specs.Tables.{HasSameNumbers, symbols_of}
+use Rattle.cmap_maker.specs.Tables.{HasSameNumbers}
 use Rattle.cmap_maker.specs.TablesHeld.{frequent, lengthy}
-use Rattle.cmap_maker.specs.WordsMissing.{IsNoWordIf}
 use Rattle.cmap_maker.proofs.TablesMade.{handed, known, HasManyNumbers-permutations, HasSameNumbers-permutations}
 use Rattle.cmap_maker.proofs.WordsMissing.{IsNoWordIf-weaker}
 use Rattle.cmap_maker.proofs.tables.encoder_for.Goals as goal
