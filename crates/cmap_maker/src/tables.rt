@@ -30,20 +30,6 @@ struct Symbols {
     counts: Vec<u32>,
 }
 
-/// A symbol, and how often it comes.
-#[derive(Clone, Copy)]
-struct Frequency {
-    symbol: u32,
-    times: u64,
-}
-
-/// A symbol, and how many bits its code word has.
-#[derive(Clone, Copy)]
-struct WordLength {
-    symbol: u32,
-    len: u8,
-}
-
 impl Symbols {
     /// Adds the numbers of segments, in order.
     fn add_segments(&mut self, segments: &[Segment]) -> Result<(), AllocError>
@@ -56,6 +42,20 @@ impl Symbols {
         }
         Ok(())
     }
+}
+
+/// A symbol, and how often it comes.
+#[derive(Clone, Copy)]
+struct Frequency {
+    symbol: u32,
+    times: u64,
+}
+
+/// A symbol, and how many bits its code word has.
+#[derive(Clone, Copy)]
+struct WordLength {
+    symbol: u32,
+    len: u8,
 }
 
 /// Tables with a code word for each number that these files are spelled by.
@@ -92,7 +92,8 @@ fn segments_of<'s>(slot: &'s Slot<'_>) -> &'s [Segment]
     }
 }
 
-/// A table with a code word for each of these symbols, of the fewest bits in all.
+/// A table with a code word for each of these symbols, and for no other. They take the fewest bits in all
+/// where no word needs more than 32 of them, and 16 bits each elsewhere.
 fn encoder_for(alloc: Global, mut symbols: Vec<u32>) -> Result<Encoder, Fault<Obstacle>>
     ensures known { IfOk result (λ encoder. All (λ s. Any (λ w. w.symbol ≡ s) encoder) symbols.items) }
     ensures handed { IfOk result (λ encoder. All (λ w. Contains symbols.items w.symbol) encoder) }
@@ -103,8 +104,8 @@ fn encoder_for(alloc: Global, mut symbols: Vec<u32>) -> Result<Encoder, Fault<Ob
     encoder_of(alloc, &words)
 }
 
-/// A table with these symbols, whose code words have these lengths; or 16 bits each where one of
-/// them would have more than 32.
+/// A table with these symbols, whose code words have these lengths; or 16 bits each where no table has
+/// such lengths.
 fn encoder_of(alloc: Global, words: &[WordLength]) -> Result<Encoder, Fault<Obstacle>>
     ensures symbols { IfOk result (λ encoder. symbols_of encoder ≡ lengthy words.now) }
     ensures err { IfErr result (IsNoWordIf (2 ^ 16 ≤ length (lengthy words.now))) }
