@@ -19,7 +19,7 @@ pub record HasManyNumbers (xs : List ℕ) : Type 0 where
   pub among : All (Contains xs) numbers
   pub many : 2 ^ 16 ≤ length numbers
 
--- a number is the last one, or it comes after all others
+-- a number is one of those before, or it is added to them and is not the last of them
 abbrev pub CountsNumber : List ℕ → ℕ → List ℕ → Type 0
 CountsNumber before number after =
     ((after ≡ before) × Contains before number)

@@ -154,7 +154,7 @@ fn frequencies_of(alloc: Global, symbols: &[u32]) -> Result<Vec<Frequency>, Allo
     Ok(frequencies)
 }
 
-/// Counts a symbol that comes after all these, or that is the last of them.
+/// Counts a symbol: the last of these once more, or a new one after them.
 fn count_symbol(frequencies: &mut Vec<Frequency>, symbol: u32) -> Result<(), AllocError>
     ensures { IfOk result (λ _. CountsNumber (frequent frequencies.old.items) symbol (frequent frequencies.new.items)) }
 {
