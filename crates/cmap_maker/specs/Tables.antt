@@ -1,6 +1,6 @@
 -- Tables of code words for symbols that were handed in.
 use Rattle.std.specs.Prelude.{◌≡◌, ◌⊎◌, ℕ, ◌<◌, ◌-◌, ◌≤◌, ◌^◌, List, [], ◌∷◌, ◌++◌, length, map}
-use Rattle.std.specs.List.{All, Contains, slice_index_or}
+use Rattle.std.specs.List.{All, Any, Contains, slice_index_or}
 use Rattle.std.specs.List.Sorted.{IsStrictlyIncreasing}
 use Rattle.cmap_binary.specs.PrefixWords.{CodeWord}
 
@@ -24,3 +24,8 @@ abbrev pub CountsNumber : List ℕ → ℕ → List ℕ → Type 0
 CountsNumber before number after =
     ((after ≡ before) × Contains before number)
     ⊎ ((after ≡ before ++ number ∷ []) × (0 < length before → slice_index_or before (length before - 1) 0 ≡ number → ⊥))
+
+-- each of these numbers has a code word, and no other has one
+pub record IsTableFor (numbers : List ℕ) (table : List CodeWord) : Type 0 where
+  pub known : All (λ n. Any (λ w. w.symbol ≡ n) table) numbers
+  pub handed : All (λ w. Contains numbers w.symbol) table

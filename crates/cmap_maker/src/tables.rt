@@ -1,10 +1,10 @@
 //! Tables of code words for the numbers that files are spelled by: the more often a number comes,
 //! the shorter its word.
 
-ghost use Rattle.std.specs.Prelude.{◌≡◌, ◌^◌, ◌≤◌, ◌++◌, All, Any, Contains, IfErr, IfOk, length};
+ghost use Rattle.std.specs.Prelude.{◌≡◌, ◌⊎◌, ◌^◌, ◌≤◌, ◌++◌, All, Any, Contains, IfErr, IfOk, length};
 ghost use Rattle.std.specs.List.Sorted.{IsNonDecreasing, IsPermutation, IsStrictlyIncreasing};
 ghost use Rattle.cmap_maker.specs.Gathered.{counts_in, deltas_in, segments_in, slot_segments};
-ghost use Rattle.cmap_maker.specs.Tables.{CountsNumber, HasManyNumbers, HasSameNumbers, symbols_of};
+ghost use Rattle.cmap_maker.specs.Tables.{CountsNumber, HasManyNumbers, HasSameNumbers, IsTableFor, symbols_of};
 ghost use Rattle.cmap_maker.specs.TablesHeld.{frequent, lengthy};
 ghost use Rattle.cmap_maker.specs.WordsMissing.{IsNoWordIf};
 
@@ -59,7 +59,11 @@ struct WordLength {
 }
 
 /// Tables with a code word for each number that these files are spelled by.
-pub(crate) fn tables_for(alloc: Global, slots: &[Slot<'_>]) -> Result<Encoders, Fault<Obstacle>> {
+pub(crate) fn tables_for(alloc: Global, slots: &[Slot<'_>]) -> Result<Encoders, Fault<Obstacle>>
+    ensures deltas { IfOk result (λ tables. IsTableFor (deltas_in (segments_in slots.now)) tables.delta) }
+    ensures counts { IfOk result (λ tables. IsTableFor (counts_in (segments_in slots.now)) tables.count) }
+    ensures err { IfErr result (IsNoWordIf (HasManyNumbers (deltas_in (segments_in slots.now)) ⊎ HasManyNumbers (counts_in (segments_in slots.now)))) }
+{
     let Symbols { deltas, counts } = gather(alloc, slots)?;
     Ok(Encoders {
         delta: encoder_for(alloc, deltas)?,
