@@ -26,5 +26,7 @@ pub mod TextsBehind
 pub mod TextsMade
 pub mod TextsWritten
 pub mod Told
+pub mod WordsForAll
 pub mod WordsMade
 pub mod WordsMissing
+pub mod WordsSought

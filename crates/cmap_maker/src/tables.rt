@@ -1,10 +1,10 @@
 //! Tables of code words for the numbers that files are spelled by: the more often a number comes,
 //! the shorter its word.
 
-ghost use Rattle.std.specs.Prelude.{◌≡◌, ◌⊎◌, ◌^◌, ◌≤◌, ◌<◌, ◌-◌, ◌∷◌, [], ◌++◌, All, Any, Contains, IfErr, IfOk, length, map};
+ghost use Rattle.std.specs.Prelude.{◌≡◌, ◌⊎◌, ◌^◌, ◌≤◌, ◌++◌, All, Any, Contains, IfErr, IfOk, length};
 ghost use Rattle.std.specs.List.Sorted.{IsNonDecreasing, IsPermutation, IsStrictlyIncreasing};
 ghost use Rattle.cmap_maker.specs.Gathered.{counts_in, deltas_in, segments_in, slot_segments};
-ghost use Rattle.cmap_maker.specs.Tables.{CountsNumber, HasManyNumbers, HasSameNumbers, symbols_of};
+ghost use Rattle.cmap_maker.specs.Tables.{CountsNumber, HasManyNumbers, HasSameNumbers, IsTableFor, symbols_of};
 ghost use Rattle.cmap_maker.specs.TablesHeld.{frequent, lengthy};
 ghost use Rattle.cmap_maker.specs.WordsMissing.{IsNoWordIf};
 
@@ -30,20 +30,6 @@ struct Symbols {
     counts: Vec<u32>,
 }
 
-/// A symbol, and how often it comes.
-#[derive(Clone, Copy)]
-struct Frequency {
-    symbol: u32,
-    times: u64,
-}
-
-/// A symbol, and how many bits its code word has.
-#[derive(Clone, Copy)]
-struct WordLength {
-    symbol: u32,
-    len: u8,
-}
-
 impl Symbols {
     /// Adds the numbers of segments, in order.
     fn add_segments(&mut self, segments: &[Segment]) -> Result<(), AllocError>
@@ -58,8 +44,26 @@ impl Symbols {
     }
 }
 
+/// A symbol, and how often it comes.
+#[derive(Clone, Copy)]
+struct Frequency {
+    symbol: u32,
+    times: u64,
+}
+
+/// A symbol, and how many bits its code word has.
+#[derive(Clone, Copy)]
+struct WordLength {
+    symbol: u32,
+    len: u8,
+}
+
 /// Tables with a code word for each number that these files are spelled by.
-pub(crate) fn tables_for(alloc: Global, slots: &[Slot<'_>]) -> Result<Encoders, Fault<Obstacle>> {
+pub(crate) fn tables_for(alloc: Global, slots: &[Slot<'_>]) -> Result<Encoders, Fault<Obstacle>>
+    ensures deltas { IfOk result (λ tables. IsTableFor (deltas_in (segments_in slots.now)) tables.delta) }
+    ensures counts { IfOk result (λ tables. IsTableFor (counts_in (segments_in slots.now)) tables.count) }
+    ensures err { IfErr result (IsNoWordIf (HasManyNumbers (deltas_in (segments_in slots.now)) ⊎ HasManyNumbers (counts_in (segments_in slots.now)))) }
+{
     let Symbols { deltas, counts } = gather(alloc, slots)?;
     Ok(Encoders {
         delta: encoder_for(alloc, deltas)?,
@@ -92,7 +96,8 @@ fn segments_of<'s>(slot: &'s Slot<'_>) -> &'s [Segment]
     }
 }
 
-/// A table with a code word for each of these symbols, of the fewest bits in all.
+/// A table with a code word for each of these symbols, and for no other. They take the fewest bits in all
+/// where no word needs more than 32 of them, and 16 bits each elsewhere.
 fn encoder_for(alloc: Global, mut symbols: Vec<u32>) -> Result<Encoder, Fault<Obstacle>>
     ensures known { IfOk result (λ encoder. All (λ s. Any (λ w. w.symbol ≡ s) encoder) symbols.items) }
     ensures handed { IfOk result (λ encoder. All (λ w. Contains symbols.items w.symbol) encoder) }
@@ -103,8 +108,8 @@ fn encoder_for(alloc: Global, mut symbols: Vec<u32>) -> Result<Encoder, Fault<Ob
     encoder_of(alloc, &words)
 }
 
-/// A table with these symbols, whose code words have these lengths; or 16 bits each where one of
-/// them would have more than 32.
+/// A table with these symbols, whose code words have these lengths; or 16 bits each where no table has
+/// such lengths.
 fn encoder_of(alloc: Global, words: &[WordLength]) -> Result<Encoder, Fault<Obstacle>>
     ensures symbols { IfOk result (λ encoder. symbols_of encoder ≡ lengthy words.now) }
     ensures err { IfErr result (IsNoWordIf (2 ^ 16 ≤ length (lengthy words.now))) }
@@ -153,7 +158,7 @@ fn frequencies_of(alloc: Global, symbols: &[u32]) -> Result<Vec<Frequency>, Allo
     Ok(frequencies)
 }
 
-/// Counts a symbol that comes after all these, or that is the last of them.
+/// Counts a symbol: the last of these once more, or a new one after them.
 fn count_symbol(frequencies: &mut Vec<Frequency>, symbol: u32) -> Result<(), AllocError>
     ensures { IfOk result (λ _. CountsNumber (frequent frequencies.old.items) symbol (frequent frequencies.new.items)) }
 {

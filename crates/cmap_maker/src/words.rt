@@ -1,6 +1,7 @@
 //! The code words of symbols, and the bits that spell symbols by them.
 
 ghost use Rattle.std.specs.Prelude.{◌↔◌, ◌≡◌, ◌++◌, ◌≤◌, ◌<◌, ◌*◌, ◌-◌, ◌^◌, All, Any, IfNone, IfOk, IfSome, IsTrue, MatchOption, flat_map, length, replicate};
+ghost use Rattle.std.specs.List.Sorted.{IsNonDecreasingBy, IsPermutation};
 ghost use Rattle.cmap_binary.specs.TableFronts.{TableAt};
 ghost use Rattle.cmap_binary.specs.PrefixWords.{AreWordLengths, BeginWithWordsOf, bits, lengths_from, zip_words};
 ghost use Rattle.cmap_maker.specs.Spelled.{HasWord, IsNoSymbol, IsNoWordOf};
@@ -34,6 +35,8 @@ pub struct Encoder {
     /// How many words there are of each length, from 1 on.
     counts: Vec<u16>,
     words: Vec<Word>,
+    /// The same words in the order of their symbols.
+    by_symbol: Vec<Word>,
 }
 
 impl Model for Encoder {
@@ -42,7 +45,8 @@ impl Model for Encoder {
 
     ghost Value = { List CodeWord };
 
-    ghost use Rattle.std.specs.Prelude.{◌≡◌, ◌≤◌, length, map};
+    ghost use Rattle.std.specs.Prelude.{◌≡◌, ◌≤◌, length};
+    ghost use Rattle.std.specs.List.Sorted.{IsNonDecreasingBy, IsPermutation};
     ghost use Rattle.cmap_binary.specs.PrefixWords.{IsSound, lengths_from, lengths_of};
     ghost use Rattle.cmap_maker.specs.WordsHeld.{words_seen, AreWords};
 
@@ -53,6 +57,8 @@ impl Model for Encoder {
       words : AreWords e.words.items;
       counts : lengths_of (words_seen e.words.items) ≡ lengths_from 1 e.counts.items;
       few : length e.counts.items ≤ 32;
+      same : IsPermutation e.words.items e.by_symbol.items;
+      sorted : IsNonDecreasingBy (λ w. w.symbol) e.by_symbol.items;
     } };
 }
 
@@ -76,7 +82,12 @@ impl Encoder {
         let Some(words) = make_words(alloc, &lens, symbols)? else {
             return Ok(None);
         };
-        Ok(Some(Encoder { counts, words }))
+        let by_symbol = sorted_words(alloc, &words)?;
+        Ok(Some(Encoder {
+            counts,
+            words,
+            by_symbol,
+        }))
     }
 
     /// Whether no symbol is above this number.
@@ -126,13 +137,25 @@ impl Encoder {
         ensures some { IfSome result (λ word. HasWord self.now symbol word.len word.value) }
         ensures none { IsNoWordOf self.now symbol result }
     {
-        for word in &self.words {
-            if word.symbol == symbol {
-                return Some(*word);
-            }
+        match self
+            .by_symbol
+            .binary_search_by_key(&symbol, |word| word.symbol)
+        {
+            Ok(index) => Some(self.by_symbol[index]),
+            Err(_) => None,
         }
-        None
     }
+}
+
+/// The same words in the order of their symbols.
+fn sorted_words(alloc: Global, words: &[Word]) -> Result<Vec<Word>, AllocError>
+    ensures same { IfOk result (λ sorted. IsPermutation words.now sorted.items) }
+    ensures sorted { IfOk result (λ sorted. IsNonDecreasingBy (λ w. w.symbol) sorted.items) }
+{
+    let mut sorted = Vec::with_capacity(alloc, words.len())?;
+    sorted.extend_from_slice(words)?;
+    sorted.sort_by_key(|word| word.symbol)?;
+    Ok(sorted)
 }
 
 /// The lengths of code words, in order. `counts` has how many there are of each length, from 1 on.

@@ -1,4 +1,5 @@
-use Rattle.std.proofs.Common.{◌≡◌, ◌∙◌, length, ap, arith}
+use Rattle.std.proofs.Common.{◌≡◌, ◌∙◌, length, ap, subst, arith}
+use Rattle.std.specs.List.Sorted.{IsPermutation}
 use Rattle.cmap_binary.specs.PrefixWords.{lengths_from, lengths_of}
 use Rattle.cmap_maker.proofs.WordsMade.{lengths-zip_words}
 use Rattle.cmap_maker.proofs.words.Encoder.new.Goals as goal
@@ -14,4 +15,6 @@ invariant_of-result c =
       words = made.held;
       counts = ap lengths_of made.words_are ∙ lengths-zip_words lens c.args.symbols.now size ∙ lens_are;
       few = c.requires.few;
+      same = subst (λ ws. IsPermutation ws c.in_ok-by_symbol.by_symbol.items) c.deref-3.ensures.value c.in_ok-by_symbol.ensures.same;
+      sorted = c.in_ok-by_symbol.ensures.sorted;
     }
