@@ -1,7 +1,7 @@
 //! Callers that the crates' pages show.
 
-use cmap_files::file::File;
-use cmap_maker::make_bundle;
+use cmap_maker::{Source, make_named_bundle};
+use cmap_text::read_text;
 use cmap_unicode::Extractor;
 use hayro_cmap::bcmap::Bundle;
 use hayro_cmap::runs::{Looks, Table};
@@ -47,11 +47,21 @@ pub fn has_unijis(alloc: Global, bytes: &[u8]) -> Result<bool, AllocError> {
     Ok(load_embedded(Some(&bundle), CMapName::UniJisUtf16H).is_some())
 }
 
-/// How many bytes a bundle of these files has; `None` where a bundle can't say what they say.
-pub fn bundle_len(alloc: Global, files: &[File<'_>]) -> Result<Option<usize>, AllocError> {
-    match make_bundle(alloc, files) {
-        Ok(bytes) => Ok(Some(bytes.len())),
-        Err(Fault::Refused(_obstacle)) => Ok(None),
+/// The bundle of one file; `None` where it is malformed, or has a name for which a bundle has no place.
+pub fn bundle_of(alloc: Global, name: &[u8], text: &[u8]) -> Result<Option<Vec<u8>>, AllocError> {
+    let file = match read_text(alloc, text) {
+        Ok(file) => file,
+        Err(Fault::Refused(_stop)) => return Ok(None),
+        Err(Fault::Memory) => return Err(AllocError),
+    };
+    let source = Source {
+        name: CMapName::from_bytes(name),
+        file: &file,
+        text: Some(text),
+    };
+    match make_named_bundle(alloc, &[source]) {
+        Ok(bundle) => Ok(Some(bundle)),
+        Err(Fault::Refused(_unwritable)) => Ok(None),
         Err(Fault::Memory) => Err(AllocError),
     }
 }

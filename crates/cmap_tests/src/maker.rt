@@ -1,6 +1,7 @@
 //! A bundle that is made of files, and what it answers.
 
 use crate::caller::cid_over_bundle;
+use crate::examples;
 use cmap_maker::make_bundle;
 use cmap_text::read_text;
 use std::alloc::Global;
@@ -34,4 +35,18 @@ fn a_bundle_that_is_made_answers_as_its_files(rt: HostRuntime) -> Result<(), Fai
 fn a_cid_above_65535_is_an_obstacle(rt: HostRuntime) {
     let text = b"1 begincidchar <8140> 65536 endcidchar";
     assert!(rt; bundle_of(rt.alloc(), text, b"").is_none());
+}
+
+#[test]
+fn a_file_that_the_binary_form_cannot_say_stands_as_its_text(rt: HostRuntime) -> Result<(), Fail> {
+    let alloc = rt.alloc();
+    let text = b"2 begincidchar <8140> 65536 <8141> 7 endcidchar";
+    let bundle = examples::bundle_of(alloc, b"90ms-RKSJ-H", text)?.unwrap_or(Vec::new(alloc));
+    let file = b"/90ms-RKSJ-H usecmap";
+    assert!(rt; cid_over_bundle(alloc, &bundle, file, 0x8140)? == Some(65536));
+    assert!(rt; cid_over_bundle(alloc, &bundle, file, 0x8141)? == Some(7));
+    let absent = b"/90ms-RKSJ-V usecmap";
+    assert!(rt; cid_over_bundle(alloc, &bundle, absent, 0x8140)?.is_none());
+    assert!(rt; examples::bundle_of(alloc, b"Custom", text)?.is_none());
+    Ok(())
 }
