@@ -1,5 +1,5 @@
 //! Measures how long a CMap file takes to read, and its codes to look up:
-//! `cmap_bench parse|lookup|bf FILE N`.
+//! `cmap_bench parse|lookup|bf|decode FILE N`.
 #![tactic(auto)]
 
 mod request;

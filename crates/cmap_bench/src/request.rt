@@ -14,6 +14,8 @@ pub enum Mode {
     Lookup,
     /// Look up the texts of the same codes.
     Bf,
+    /// Cut a string of the same codes into codes, and look up the CID of each.
+    Decode,
 }
 
 impl Mode {
@@ -26,6 +28,7 @@ impl Mode {
             "parse" => Some(Mode::Parse),
             "lookup" => Some(Mode::Lookup),
             "bf" => Some(Mode::Bf),
+            "decode" => Some(Mode::Decode),
             _ => None,
         }
     }

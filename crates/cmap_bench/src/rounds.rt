@@ -27,6 +27,8 @@ pub enum Work<'d> {
     Lookup(CMap),
     /// A map whose texts are looked up.
     Bf(CMap),
+    /// A map by which a string is cut into codes, and the string.
+    Decode(CMap, Vec<u8>),
 }
 
 impl<'d> Work<'d> {
@@ -36,6 +38,7 @@ impl<'d> Work<'d> {
             Mode::Parse => Ok(Work::Parse(data)),
             Mode::Lookup => Ok(Work::Lookup(accepted(alloc, data)?)),
             Mode::Bf => Ok(Work::Bf(accepted(alloc, data)?)),
+            Mode::Decode => Ok(Work::Decode(accepted(alloc, data)?, all_codes(alloc)?)),
         }
     }
 
@@ -49,7 +52,7 @@ impl<'d> Work<'d> {
     ) -> Result<Measured, Failure> {
         let checksum = match self {
             Work::Parse(_) => 0,
-            Work::Lookup(_) | Work::Bf(_) => self.round(alloc, 0)?,
+            Work::Lookup(_) | Work::Bf(_) | Work::Decode(..) => self.round(alloc, 0)?,
         };
         if rounds == 0 {
             return Ok(Measured { nanos: 0, checksum });
@@ -80,6 +83,7 @@ impl<'d> Work<'d> {
             }
             Work::Lookup(map) => Ok(cid_sum(map)),
             Work::Bf(map) => Ok(text_sum(alloc, map)?),
+            Work::Decode(map, text) => Ok(decoded_sum(map, text)),
         }
     }
 }
@@ -101,6 +105,27 @@ fn cid_sum(map: &CMap) -> u64 {
     for code in 0..CODE_COUNT {
         let cid = map.lookup_cid_code(code, 2).unwrap_or(0);
         sum = sum.wrapping_add(u64::from(cid));
+    }
+    sum
+}
+
+/// A string of all codes of two bytes, in order.
+fn all_codes(alloc: Global) -> Result<Vec<u8>, AllocError> {
+    let mut text = Vec::new(alloc);
+    for code in 0..=u16::MAX {
+        text.extend_from_slice(&code.to_be_bytes())?;
+    }
+    Ok(text)
+}
+
+/// The sum of the CIDs of the codes that a string is cut into; none counts 0.
+fn decoded_sum(map: &CMap, text: &[u8]) -> u64 {
+    let mut sum: u64 = 0;
+    let mut left = text;
+    while let Some(next) = map.next_code(left) {
+        let cid = map.lookup_cid_code(next.code, next.byte_len).unwrap_or(0);
+        sum = sum.wrapping_add(u64::from(cid));
+        left = &left[usize::from(next.byte_len)..];
     }
     sum
 }
