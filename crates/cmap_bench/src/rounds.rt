@@ -122,7 +122,10 @@ fn all_codes(alloc: Global) -> Result<Vec<u8>, AllocError> {
 fn decoded_sum(map: &CMap, text: &[u8]) -> u64 {
     let mut sum: u64 = 0;
     let mut left = text;
-    while let Some(next) = map.next_code(left) {
+    for _ in 0..text.len() {
+        let Some(next) = map.next_code(left) else {
+            break;
+        };
         let cid = map.lookup_cid_code(next.code, next.byte_len).unwrap_or(0);
         sum = sum.wrapping_add(u64::from(cid));
         left = &left[usize::from(next.byte_len)..];
