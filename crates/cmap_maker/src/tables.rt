@@ -3,7 +3,9 @@
 
 ghost use Rattle.std.specs.Prelude.{◌≡◌, ◌⊎◌, ◌^◌, ◌≤◌, ◌<◌, ◌-◌, ◌∷◌, [], ◌++◌, All, Any, Contains, IfErr, IfOk, length, map};
 ghost use Rattle.std.specs.List.Sorted.{IsNonDecreasing, IsPermutation, IsStrictlyIncreasing};
+ghost use Rattle.cmap_files.specs.Outcomes.{RefusesWith};
 ghost use Rattle.cmap_maker.specs.Gathered.{counts_in, deltas_in, segments_in, slot_segments};
+ghost use Rattle.cmap_maker.specs.Obstacles.{IsSpellingObstacle};
 ghost use Rattle.cmap_maker.specs.Tables.{CountsNumber, HasManyNumbers, HasSameNumbers, symbols_of};
 ghost use Rattle.cmap_maker.specs.TablesHeld.{frequent, lengthy};
 ghost use Rattle.cmap_maker.specs.WordsMissing.{IsNoWordIf};
@@ -59,7 +61,9 @@ impl Symbols {
 }
 
 /// Tables with a code word for each number that these files are spelled by.
-pub(crate) fn tables_for(alloc: Global, slots: &[Slot<'_>]) -> Result<Encoders, Fault<Obstacle>> {
+pub(crate) fn tables_for(alloc: Global, slots: &[Slot<'_>]) -> Result<Encoders, Fault<Obstacle>>
+    ensures { IfErr result (RefusesWith IsSpellingObstacle) }
+{
     let Symbols { deltas, counts } = gather(alloc, slots)?;
     Ok(Encoders {
         delta: encoder_for(alloc, deltas)?,
