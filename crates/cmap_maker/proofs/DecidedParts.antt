@@ -1,14 +1,20 @@
 -- The part of a declaration for the codes of a run.
-use Rattle.std.proofs.Common.{◌≡◌, ℕ, ◌+◌, ◌-◌, ◌^◌, ◌<◌, ◌≤◌, List, length, map, Some, refl, ap, ◌∙◌, arith}
+use Rattle.std.proofs.Common.{◌≡◌, ℕ, ◌+◌, ◌-◌, ◌^◌, ◌<◌, ◌≤◌, List, length, map, Some, refl, ap, ◌∙◌, sym, subst, arith}
+use Rattle.std.specs.Prelude.{Bool, true, false, IsSomeAnd, None, if◌then◌else◌, nat_lt}
 use Rattle.std.specs.List.{slice_get}
 use Rattle.cmap_runs.specs.Ranges.{AreRuns, Run}
 use Rattle.cmap_runs.specs.declared.runs.Range.{Range}
 use Rattle.cmap_files.specs.DeclarationsSeen.{cid_entry_seen, cid_range_span, entries_seen}
 use Rattle.cmap_files.specs.declared.declarations.CidRange.{CidRange}
 use Rattle.cmap_layers.specs.Lookups.{cid_at, cid_span}
-use Rattle.cmap_maker.specs.Pieces.{CanBeSplit, Has, SaysAs}
+use Rattle.cmap_maker.specs.Obstacles.{IsLargeCid}
+use Rattle.cmap_maker.specs.Pieces.{CanBeSplit, Has, SaysAs, cid_told}
 use Rattle.cmap_maker.proofs.CidParts.{has_from, has_within, same_cid}
 use Rattle.cmap_maker.proofs.RunParts.{index_within, run_contained, run_of, run_told}
+
+large_cid : (cid : ℕ) (fits : Bool) → 2 ^ 16 ≤ cid → IsLargeCid (if fits then Some cid else None)
+large_cid cid true past = past
+large_cid cid false past = tt
 
 module _ (list : List CidRange) (runs : List Run) (are : AreRuns (map cid_range_span list) runs) (i low high index : ℕ) (at : slice_get runs i ≡ Some (run_of low high index)) where
   pub declaration_within : index < length list
@@ -17,6 +23,10 @@ module _ (list : List CidRange) (runs : List Run) (are : AreRuns (map cid_range_
   module _ (e : CidRange) (there : slice_get list index ≡ Some e) where
     pub run_within : (e.range.start ≤ low) × (low ≤ high) × (high ≤ e.range.end) × (high < 2 ^ 32)
     run_within = run_contained cid_range_span cid_entry_seen cid_span cid_at (λ x. refl) list runs are i low high index e at there
+
+    -- where the CID of its last code is large
+    pub large_given : 2 ^ 16 ≤ e.cid + (high - e.range.start) → (low ≤ high) × IsSomeAnd (cid_told (entries_seen list) high) IsLargeCid
+    large_given past = (run_within.1, subst (λ o. IsSomeAnd o IsLargeCid) (sym (run_told cid_range_span cid_entry_seen cid_span cid_at (λ x. refl) list runs are i low high index high e at there run_within.1 (omega arith))) (large_cid (e.cid + (high - e.range.start)) (nat_lt (e.cid + (high - e.range.start)) (2 ^ 32)) past))
 
     module _ (part : CidRange) (range : Range) (low_is : range.start ≡ low) (high_is : range.end ≡ high) (range_is : part.range ≡ range) (cid_is : part.cid ≡ e.cid + (range.start - e.range.start)) where
       start_is : part.range.start ≡ low

@@ -11,7 +11,7 @@ use Rattle.cmap_binary.specs.BinaryFiles.{BodyOf, Content, IsBinaryFile, Segment
 use Rattle.cmap_binary.specs.BinaryFiles as files
 use Rattle.cmap_layers.specs.Layers.{Layer}
 use Rattle.cmap_tokens.specs.Texts.{only_character}
-use Rattle.cmap_layers.specs.Lookups.{bf_at, bf_of, cid_at, cid_in, cid_of, decided_cid, decided_text, last_bf, last_cid}
+use Rattle.cmap_layers.specs.Lookups.{bf_at, bf_of, cid_at, cid_in, decided_cid, decided_text, last_bf, last_cid}
 use Rattle.cmap_maker.specs.Keeps.{AnswerAlike, KeepLists, Keeps}
 use Rattle.cmap_maker.specs.MetadataWritten.{metadata_contents}
 use Rattle.cmap_maker.specs.Pieces.{cid_told}

@@ -12,6 +12,7 @@ pub mod ListsKept
 pub mod MetadataHeld
 pub mod NumbersWritten
 pub mod PreparedKept
+pub mod ObstaclesMet
 pub mod RowsWritten
 pub mod RunParts
 pub mod SegmentsAdded

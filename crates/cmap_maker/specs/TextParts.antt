@@ -1,7 +1,8 @@
 -- Parts of declarations of texts.
-use Rattle.std.specs.Prelude.{◌≡◌, ℕ, ◌+◌, ◌-◌, ◌<◌, ◌≤◌, ◌^◌, List, All, length}
+use Rattle.std.specs.Prelude.{◌≡◌, ℕ, ◌+◌, ◌-◌, ◌<◌, ◌≤◌, ◌^◌, List, All, IsSomeAnd, length}
 use Rattle.cmap_tokens.specs.Texts.{text_at}
 use Rattle.cmap_files.specs.Files.{BfEntry}
+use Rattle.cmap_layers.specs.Lookups.{last_bf}
 
 -- units whose texts are those of others from an offset on
 abbrev pub ShiftsTo : List ℕ → ℕ → List ℕ → Type 0
@@ -16,3 +17,7 @@ pub record IsShifted (units : List ℕ) (offset : ℕ) (shifted : List ℕ) : Ty
 -- from 1 to 65536 codes
 abbrev pub IsDecidedText : BfEntry → Type 0
 IsDecidedText e = (e.start ≤ e.end) × (e.end < 2 ^ 32) × (e.end - e.start < 2 ^ 16) × All (λ u. u < 2 ^ 16) e.units
+
+-- the declaration that decides its first code has no fewer units
+abbrev pub IsPartOf : List BfEntry → BfEntry → Type 0
+IsPartOf es part = IsSomeAnd (last_bf es part.start) (λ e. length part.units ≤ length e.units)

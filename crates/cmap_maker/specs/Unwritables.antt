@@ -1,19 +1,28 @@
--- Which source can't be written.
-use Rattle.std.specs.Prelude.{◌≡◌, ◌<◌, List, None, get_or, length}
+-- Which source can't be written, and why.
+use Rattle.std.specs.Prelude.{◌≡◌, ℕ, ◌<◌, List, None, get_or, length}
 use Rattle.cmap_files.specs.CMapNames.{index_of_name}
-use Rattle.cmap_files.specs.declared.fault.Fault.{Fault}
-use Rattle.cmap_files.specs.declared.fault.Fault.TheVariants.{Memory, Refused}
+use Rattle.cmap_files.specs.FilesSeen.{file_seen}
+use Rattle.cmap_maker.specs.Obstacles.{IsObstacle}
 use Rattle.cmap_maker.specs.declared.obstacle.Obstacle.{Obstacle}
-use Rattle.cmap_maker.specs.declared.obstacle.Obstacle.TheVariants.{NoPlace}
+use Rattle.cmap_maker.specs.declared.obstacle.Obstacle.TheVariants.{NoPlace, NoWord, TooLong}
 use Rattle.cmap_maker.specs.declared.obstacle.Unwritable.{Unwritable}
 use Rattle.cmap_maker.specs.declared.source.Source.{Source}
 
--- the name has no place; or the source has no text that could stand for its file
-abbrev pub IsSourceWithout : Obstacle → Source → Type 0
-IsSourceWithout NoPlace source = index_of_name source.name ≡ None
-IsSourceWithout other source = source.text ≡ None
+-- the name has no place; or the file can't be written for this reason, and has no text that could stand for it
+abbrev pub IsSourceObstacle : Source → Obstacle → Type 0
+IsSourceObstacle source NoPlace = index_of_name source.name ≡ None
+IsSourceObstacle source other = (source.text ≡ None) × IsObstacle (file_seen source.file.now) other
 
--- the source at this index can't be written for this reason; of memory nothing is said
-abbrev pub IsUnwritableOf : List Source → Fault Unwritable → Type 0
-IsUnwritableOf sources (Refused u) = (u.index < length sources) × ((d : Source) → IsSourceWithout u.obstacle (get_or sources u.index d))
-IsUnwritableOf sources Memory = Unit {0}
+-- the source at this index can't be written for this reason; of numbers without code words, and of what is too long, nothing is said
+abbrev pub IsObstacleAt : List Source → ℕ → Obstacle → Type 0
+IsObstacleAt sources index NoWord = Unit {0}
+IsObstacleAt sources index TooLong = Unit {0}
+IsObstacleAt sources index other = (index < length sources) × ((d : Source) → IsSourceObstacle (get_or sources index d) other)
+
+abbrev pub IsUnwritableOf : List Source → Unwritable → Type 0
+IsUnwritableOf sources unwritable = IsObstacleAt sources unwritable.index unwritable.obstacle
+
+-- ---- private aid
+-- this source, which has this index, has no text and can't be written
+abbrev pub IsUnwritableAs : Source → ℕ → Unwritable → Type 0
+IsUnwritableAs source index unwritable = (unwritable.index ≡ index) × (source.text ≡ None) × IsObstacle (file_seen source.file.now) unwritable.obstacle

@@ -1,7 +1,8 @@
 //! A text in a bundle, with a comment before it that holds its length.
 
-ghost use Rattle.std.specs.Prelude.{◌≡◌, ◌+◌, ◌*◌, ◌/◌, ◌%◌, ◌^◌, ◌∷◌, ◌++◌, ◌≤◌, ◌<◌, ◌↔◌, false, true, List, ℕ, All, IfOk, IsTrue, length};
+ghost use Rattle.std.specs.Prelude.{◌≡◌, ◌+◌, ◌*◌, ◌/◌, ◌%◌, ◌^◌, ◌∷◌, ◌++◌, ◌≤◌, ◌<◌, ◌↔◌, ℕ, All, IfErr, IfOk, IsTrue, List, false, length, true, ⊤};
 ghost use Rattle.cmap_tokens.specs.Gaps.{ends_comment};
+ghost use Rattle.cmap_maker.specs.Failures.{IsTooLongIf};
 ghost use Rattle.cmap_maker.specs.Slots.{IsTextBehind};
 ghost use Rattle.cmap_maker.specs.Written.{Appends, bytes_of};
 
@@ -25,7 +26,8 @@ pub(crate) fn push_text(
     text: &[u8],
     out: &mut Vec<u8>,
 ) -> Result<(), Fault<Obstacle>>
-    ensures { IfOk result (λ _. Appends out.old.items out.new.items (IsTextBehind text.now)) }
+    ensures written { IfOk result (λ _. Appends out.old.items out.new.items (IsTextBehind text.now)) }
+    ensures err { IfErr result (IsTooLongIf ⊤) }
 {
     let payload = text_payload(alloc, text)?;
     push_framed(out, TEXT_HEAD, &payload)?;
@@ -34,8 +36,9 @@ pub(crate) fn push_text(
 
 /// A line end, the text, and as many spaces as it takes until no byte of the length ends a comment.
 fn text_payload(alloc: Global, text: &[u8]) -> Result<Vec<u8>, Fault<Obstacle>>
-    ensures { IfOk result (λ payload. (spaces : List ℕ) × (payload.items ≡ 10 ∷ (text.now ++ spaces))
+    ensures written { IfOk result (λ payload. (spaces : List ℕ) × (payload.items ≡ 10 ∷ (text.now ++ spaces))
         × All (λ b. b ≡ 32) spaces × All (λ b. ends_comment b ≡ false) (bytes_of 4 (10 + length payload.items))) }
+    ensures err { IfErr result (IsTooLongIf ⊤) }
 {
     let mut payload = Vec::new(alloc);
     payload.push(b'\n')?;

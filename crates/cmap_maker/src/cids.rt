@@ -1,12 +1,14 @@
 //! Segments of codes with their CIDs.
 
-ghost use Rattle.std.specs.Prelude.{◌≡◌, ◌≤◌, ◌<◌, ◌++◌, All, IfOk, IsTrue, flat_map, length, map, take};
+ghost use Rattle.std.specs.Prelude.{◌≡◌, ◌≤◌, ◌<◌, ◌++◌, All, IfErr, IfOk, IsTrue, flat_map, length, map, take};
 ghost use Rattle.cmap_files.specs.CodeLengths.{length_of};
 ghost use Rattle.cmap_files.specs.DeclarationsSeen.{entries_seen};
 ghost use Rattle.cmap_files.specs.Files.{Declaration};
+ghost use Rattle.cmap_files.specs.Outcomes.{RefusesWith};
 ghost use Rattle.cmap_maker.specs.EncodersSeen.{shape_seen};
 ghost use Rattle.cmap_maker.specs.Follows.{Follows, HasShapeOf};
 ghost use Rattle.cmap_maker.specs.Held.{AreHeld};
+ghost use Rattle.cmap_maker.specs.Obstacles.{IsCidObstacle};
 ghost use Rattle.cmap_maker.specs.Pieces.{IsShort};
 ghost use Rattle.cmap_maker.specs.PreparedFiles.{AddsSameCids};
 ghost use Rattle.cmap_maker.specs.Segments.{AddsSegments, DeclaresAll};
@@ -33,7 +35,8 @@ pub(crate) fn add_cid_list(
     list: &[CidRange],
     segments: &mut Vec<Segment>,
 ) -> Result<(), Fault<Obstacle>>
-    ensures { IfOk result (λ _. AddsSameCids (length_of len) (entries_seen list.now) segments.old.items segments.new.items) }
+    ensures added { IfOk result (λ _. AddsSameCids (length_of len) (entries_seen list.now) segments.old.items segments.new.items) }
+    ensures err { IfErr result (RefusesWith (IsCidObstacle (entries_seen list.now))) }
 {
     let ranges = decided_cids(alloc, list)?;
     let mut pieces = split_cids(alloc, &ranges)?;

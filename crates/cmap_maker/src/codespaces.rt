@@ -1,9 +1,11 @@
 //! Segments of codespace ranges.
 
-ghost use Rattle.std.specs.Prelude.{◌<◌, ◌^◌, IfOk, length, map};
+ghost use Rattle.std.specs.Prelude.{◌<◌, ◌^◌, IfErr, IfOk, length, map};
 ghost use Rattle.cmap_files.specs.DeclarationsSeen.{codespace_seen};
 ghost use Rattle.cmap_files.specs.Files.{Declaration};
+ghost use Rattle.cmap_files.specs.Outcomes.{RefusesWith};
 ghost use Rattle.cmap_binary.specs.BinaryFiles.{CodespaceAt, CodespacesIn};
+ghost use Rattle.cmap_maker.specs.Obstacles.{IsSpaceObstacle, IsSpacesObstacle};
 ghost use Rattle.cmap_maker.specs.SegmentsWritten.{DeclareAll, SegmentByAny};
 ghost use Rattle.cmap_maker.specs.Written.{Appends, Writes, WritesAll};
 
@@ -26,8 +28,9 @@ pub(crate) fn push_codespaces(
     spaces: &[Codespace],
     out: &mut Vec<u8>,
 ) -> Result<(), Fault<Obstacle>>
-    ensures { IfOk result (λ _. Appends out.old.items out.new.items
+    ensures written { IfOk result (λ _. Appends out.old.items out.new.items
         (DeclareAll SegmentByAny (map Declaration.codespace (map codespace_seen spaces.now)))) }
+    ensures err { IfErr result (RefusesWith (IsSpacesObstacle (map codespace_seen spaces.now))) }
 {
     let mut left = spaces;
     while !left.is_empty() {
@@ -42,7 +45,8 @@ pub(crate) fn push_codespaces(
 /// The payload of a segment of these codespace ranges.
 fn codespace_payload(alloc: Global, spaces: &[Codespace]) -> Result<Vec<u8>, Fault<Obstacle>>
     requires { length spaces.now < 2 ^ 8 }
-    ensures { IfOk result (λ payload. CodespacesIn payload.items (map codespace_seen spaces.now)) }
+    ensures written { IfOk result (λ payload. CodespacesIn payload.items (map codespace_seen spaces.now)) }
+    ensures err { IfErr result (RefusesWith (IsSpacesObstacle (map codespace_seen spaces.now))) }
 {
     let mut payload = Vec::new(alloc);
     payload.push(spaces.len() as u8)?;
@@ -52,7 +56,8 @@ fn codespace_payload(alloc: Global, spaces: &[Codespace]) -> Result<Vec<u8>, Fau
 
 /// Writes codespace ranges in a row.
 fn push_spaces(out: &mut Vec<u8>, spaces: &[Codespace]) -> Result<(), Fault<Obstacle>>
-    ensures { IfOk result (λ _. Appends out.old.items out.new.items (WritesAll CodespaceAt (map codespace_seen spaces.now))) }
+    ensures written { IfOk result (λ _. Appends out.old.items out.new.items (WritesAll CodespaceAt (map codespace_seen spaces.now))) }
+    ensures err { IfErr result (RefusesWith (IsSpacesObstacle (map codespace_seen spaces.now))) }
 {
     for space in spaces {
         push_space(out, *space)?;
@@ -62,7 +67,8 @@ fn push_spaces(out: &mut Vec<u8>, spaces: &[Codespace]) -> Result<(), Fault<Obst
 
 /// Writes a codespace range: the length of its codes, low, high.
 fn push_space(out: &mut Vec<u8>, space: Codespace) -> Result<(), Fault<Obstacle>>
-    ensures { IfOk result (λ _. Appends out.old.items out.new.items (Writes CodespaceAt (codespace_seen space))) }
+    ensures written { IfOk result (λ _. Appends out.old.items out.new.items (Writes CodespaceAt (codespace_seen space))) }
+    ensures err { IfErr result (RefusesWith (IsSpaceObstacle (codespace_seen space))) }
 {
     out.push(space.len.count())?;
     push_code(out, space.len, space.low)?;

@@ -1,10 +1,12 @@
 //! Columns of a segment: which codes its entries have.
 
-ghost use Rattle.std.specs.Prelude.{◌≡◌, ◌≤◌, IfOk, IsTrue, map};
+ghost use Rattle.std.specs.Prelude.{◌≡◌, ◌≤◌, IfErr, IfOk, IsTrue, map};
+ghost use Rattle.cmap_files.specs.Outcomes.{RefusesWith};
 ghost use Rattle.cmap_binary.specs.BinaryEntries.{ranges};
 ghost use Rattle.cmap_maker.specs.ColumnsWritten.{WritesColumn};
 ghost use Rattle.cmap_maker.specs.EncodersSeen.{encoders_seen, shape_seen};
 ghost use Rattle.cmap_maker.specs.Held.{AreInOrder, AreShaped, HasShape, counts_by, counts_of, deltas_of};
+ghost use Rattle.cmap_maker.specs.Obstacles.{IsColumnObstacle, IsSegmentObstacle};
 ghost use Rattle.cmap_maker.specs.Segments.{WritesNumbers};
 ghost use Rattle.cmap_maker.specs.Written.{Appends};
 
@@ -68,8 +70,9 @@ pub(crate) fn push_columns(
     segment: &Segment,
     out: &mut Vec<u8>,
 ) -> Result<(), Fault<Obstacle>>
-    ensures { IfOk result (λ _. Appends out.old.items out.new.items (WritesNumbers (encoders_seen tables.now)
+    ensures written { IfOk result (λ _. Appends out.old.items out.new.items (WritesNumbers (encoders_seen tables.now)
         (shape_seen segment.now.shape) segment.now.deltas.items segment.now.counts.items)) }
+    ensures err { IfErr result (RefusesWith (IsSegmentObstacle (encoders_seen tables.now) segment.now)) }
 {
     push_column(alloc, &tables.delta, &segment.deltas, out)?;
     match segment.shape {
@@ -88,7 +91,8 @@ fn push_column(
     symbols: &[u32],
     out: &mut Vec<u8>,
 ) -> Result<(), Fault<Obstacle>>
-    ensures { IfOk result (λ _. Appends out.old.items out.new.items (WritesColumn table.now symbols.now)) }
+    ensures written { IfOk result (λ _. Appends out.old.items out.new.items (WritesColumn table.now symbols.now)) }
+    ensures err { IfErr result (RefusesWith (IsColumnObstacle table.now symbols.now)) }
 {
     let Some(text) = table.spell(alloc, symbols)? else {
         return Err(Fault::Refused(Obstacle::NoWord));

@@ -1,11 +1,13 @@
 //! Which codes the declarations of a list decide: ranges that lie apart, so that their order doesn't
 //! matter.
 
-ghost use Rattle.std.specs.Prelude.{◌≡◌, ◌+◌, ◌-◌, ◌<◌, ◌≤◌, ◌^◌, All, IfNone, IfOk, IfSome, IsTrue, get_or, length, map};
+ghost use Rattle.std.specs.Prelude.{◌≡◌, ◌+◌, ◌-◌, ◌<◌, ◌≤◌, ◌^◌, All, IfErr, IfNone, IfOk, IfSome, IsTrue, get_or, length, map};
 ghost use Rattle.cmap_files.specs.DeclarationsSeen.{cid_entry_seen, entries_seen};
+ghost use Rattle.cmap_files.specs.Outcomes.{RefusesWith};
 ghost use Rattle.cmap_layers.specs.Lookups.{cid_at, cid_span};
 ghost use Rattle.cmap_files.specs.declared.declarations.CidRange.{CidRange};
 ghost use Rattle.cmap_maker.specs.Follows.{GoesOn};
+ghost use Rattle.cmap_maker.specs.Obstacles.{IsCidObstacle};
 ghost use Rattle.cmap_maker.specs.Pieces.{CanBeSplit, SayTheSame, Takes};
 
 use crate::obstacle::Obstacle;
@@ -23,7 +25,8 @@ pub(crate) fn decided_cids(
     alloc: Global,
     list: &[CidRange],
 ) -> Result<Vec<CidRange>, Fault<Obstacle>>
-    ensures { IfOk result (λ ranges. SayTheSame cid_span cid_at (entries_seen list.now) (entries_seen ranges.items) × All CanBeSplit (entries_seen ranges.items)) }
+    ensures same { IfOk result (λ ranges. SayTheSame cid_span cid_at (entries_seen list.now) (entries_seen ranges.items) × All CanBeSplit (entries_seen ranges.items)) }
+    ensures err { IfErr result (RefusesWith (IsCidObstacle (entries_seen list.now))) }
 {
     let table = Table::build(alloc, copy_of(alloc, list)?)?;
     let mut looks = Looks::new();

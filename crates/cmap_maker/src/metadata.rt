@@ -1,14 +1,17 @@
 //! Segments of what a file states about itself, and of the names that it uses.
 
-ghost use Rattle.std.specs.Prelude.{◌≡◌, ◌<◌, ◌^◌, IfOk, IfSome, Some, map, pos};
+ghost use Rattle.std.specs.Prelude.{◌≡◌, ◌<◌, ◌^◌, ⊤, IfErr, IfNone, IfOk, IfSome, Some, map, option_map, pos};
 ghost use Rattle.cmap_files.specs.FilesSeen.{names_seen};
 ghost use Rattle.cmap_files.specs.Metadata.{mode_numbered};
 ghost use Rattle.cmap_files.specs.MetadataSeen.{collection_seen, family_seen, metadata_seen, mode_seen};
 ghost use Rattle.cmap_files.specs.Names.{family_of, ordering_of, registry_of};
+ghost use Rattle.cmap_files.specs.Outcomes.{RefusesWith};
 ghost use Rattle.cmap_binary.specs.BinaryFiles as files;
 ghost use Rattle.cmap_binary.specs.BinaryFiles.{CollectionIn, sets_collection, sets_mode, sets_name};
 ghost use Rattle.cmap_binary.specs.Fronts.{TerminatedAt};
+ghost use Rattle.cmap_maker.specs.Failures.{IsTooLongIf};
 ghost use Rattle.cmap_maker.specs.MetadataWritten.{from_option, metadata_contents};
+ghost use Rattle.cmap_maker.specs.Obstacles.{HasWideSupplement, IsCollectionObstacle, IsFamilyObstacle, IsMetadataObstacle, IsTerminatedObstacle};
 ghost use Rattle.cmap_maker.specs.SegmentsWritten.{SegmentByAny};
 ghost use Rattle.cmap_maker.specs.Written.{Appends, Writes, WritesAll};
 
@@ -36,7 +39,8 @@ pub(crate) fn push_metadata(
     metadata: &Metadata,
     out: &mut Vec<u8>,
 ) -> Result<(), Fault<Obstacle>>
-    ensures { IfOk result (λ _. Appends out.old.items out.new.items (WritesAll SegmentByAny (metadata_contents (metadata_seen metadata.now)))) }
+    ensures written { IfOk result (λ _. Appends out.old.items out.new.items (WritesAll SegmentByAny (metadata_contents (metadata_seen metadata.now)))) }
+    ensures err { IfErr result (RefusesWith (IsMetadataObstacle (metadata_seen metadata.now).collection)) }
 {
     push_collection(alloc, &metadata.character_collection, out)?;
     push_name(&metadata.name, out)?;
@@ -46,7 +50,8 @@ pub(crate) fn push_metadata(
 
 /// Writes segments for the names of the files that are used, in order.
 pub(crate) fn push_uses(names: &[&[u8]], out: &mut Vec<u8>) -> Result<(), Fault<Obstacle>>
-    ensures { IfOk result (λ _. Appends out.old.items out.new.items (WritesAll SegmentByAny (map files.uses (names_seen names.now)))) }
+    ensures written { IfOk result (λ _. Appends out.old.items out.new.items (WritesAll SegmentByAny (map files.uses (names_seen names.now)))) }
+    ensures err { IfErr result (IsTooLongIf ⊤) }
 {
     for name in names {
         push_segment(out, USES, *name)?;
@@ -56,8 +61,9 @@ pub(crate) fn push_uses(names: &[&[u8]], out: &mut Vec<u8>) -> Result<(), Fault<
 
 /// Writes a segment for a name.
 fn push_name(name: &Option<Vec<u8>>, out: &mut Vec<u8>) -> Result<(), Fault<Obstacle>>
-    ensures { IfOk result (λ _. Appends out.old.items out.new.items
+    ensures written { IfOk result (λ _. Appends out.old.items out.new.items
         (WritesAll SegmentByAny (from_option (λ name. sets_name name.items) name.now))) }
+    ensures err { IfErr result (IsTooLongIf ⊤) }
 {
     if let Some(name) = name {
         push_segment(out, NAME, name)?;
@@ -67,8 +73,9 @@ fn push_name(name: &Option<Vec<u8>>, out: &mut Vec<u8>) -> Result<(), Fault<Obst
 
 /// Writes a segment for a writing mode.
 fn push_mode(mode: Option<WritingMode>, out: &mut Vec<u8>) -> Result<(), Fault<Obstacle>>
-    ensures { IfOk result (λ _. Appends out.old.items out.new.items
+    ensures written { IfOk result (λ _. Appends out.old.items out.new.items
         (WritesAll SegmentByAny (from_option (λ mode. sets_mode (Some (mode_seen mode))) mode))) }
+    ensures err { IfErr result (IsTooLongIf ⊤) }
 {
     if let Some(mode) = mode {
         push_segment(out, MODE, &[mode_number(mode)])?;
@@ -92,8 +99,9 @@ fn push_collection(
     collection: &Option<CharacterCollection>,
     out: &mut Vec<u8>,
 ) -> Result<(), Fault<Obstacle>>
-    ensures { IfOk result (λ _. Appends out.old.items out.new.items
+    ensures written { IfOk result (λ _. Appends out.old.items out.new.items
         (WritesAll SegmentByAny (from_option (λ collection. sets_collection (collection_seen collection)) collection.now))) }
+    ensures err { IfErr result (RefusesWith (IsMetadataObstacle (option_map collection_seen collection.now))) }
 {
     if let Some(collection) = collection {
         let payload = collection_payload(alloc, collection)?;
@@ -107,7 +115,8 @@ fn collection_payload(
     alloc: Global,
     collection: &CharacterCollection,
 ) -> Result<Vec<u8>, Fault<Obstacle>>
-    ensures { IfOk result (λ payload. CollectionIn payload.items (collection_seen collection.now)) }
+    ensures written { IfOk result (λ payload. CollectionIn payload.items (collection_seen collection.now)) }
+    ensures err { IfErr result (RefusesWith (IsCollectionObstacle (collection_seen collection.now))) }
 {
     let family = &collection.family;
     check_family(alloc, family)?;
@@ -123,14 +132,16 @@ fn collection_payload(
 
 /// The number of a supplement, where two bytes can say it.
 fn supplement_number(collection: &CharacterCollection) -> Option<u16>
-    ensures { IfSome result (λ number. (number < 2 ^ 16) × (pos number ≡ collection.now.supplement)) }
+    ensures some { IfSome result (λ number. (number < 2 ^ 16) × (pos number ≡ collection.now.supplement)) }
+    ensures none { IfNone result (HasWideSupplement collection.now.supplement (collection_seen collection.now)) }
 {
     u16::try_from(collection.supplement).ok()
 }
 
 /// Checks that a family is the one of its registry and ordering.
 fn check_family(alloc: Global, family: &CidFamily) -> Result<(), Fault<Obstacle>>
-    ensures { IfOk result (λ _. family_of (registry_of (family_seen family.now)) (ordering_of (family_seen family.now)) ≡ family_seen family.now) }
+    ensures same { IfOk result (λ _. family_of (registry_of (family_seen family.now)) (ordering_of (family_seen family.now)) ≡ family_seen family.now) }
+    ensures err { IfErr result (RefusesWith (IsFamilyObstacle (family_seen family.now))) }
 {
     match family {
         CidFamily::Custom { registry, ordering } => {
@@ -145,7 +156,8 @@ fn check_family(alloc: Global, family: &CidFamily) -> Result<(), Fault<Obstacle>
 
 /// Writes a text and the zero byte that ends it.
 fn push_terminated(out: &mut Vec<u8>, text: &[u8]) -> Result<(), Fault<Obstacle>>
-    ensures { IfOk result (λ _. Appends out.old.items out.new.items (Writes TerminatedAt text.now)) }
+    ensures written { IfOk result (λ _. Appends out.old.items out.new.items (Writes TerminatedAt text.now)) }
+    ensures err { IfErr result (RefusesWith (IsTerminatedObstacle text.now)) }
 {
     if text.contains(&0) {
         return Err(Fault::Refused(Obstacle::ZeroByte));

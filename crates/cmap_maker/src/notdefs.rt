@@ -1,11 +1,13 @@
 //! Segments of notdef declarations.
 
-ghost use Rattle.std.specs.Prelude.{◌≡◌, ◌+◌, ◌*◌, ◌<◌, ◌^◌, IfOk, length, map};
+ghost use Rattle.std.specs.Prelude.{◌≡◌, ◌+◌, ◌*◌, ◌<◌, ◌^◌, IfErr, IfOk, length, map};
 ghost use Rattle.cmap_files.specs.CodeLengths.{length_of};
 ghost use Rattle.cmap_files.specs.DeclarationsSeen.{cid_entry_seen, entries_seen};
 ghost use Rattle.cmap_files.specs.Files.{Declaration};
+ghost use Rattle.cmap_files.specs.Outcomes.{RefusesWith};
 ghost use Rattle.cmap_binary.specs.BinaryFiles.{NotdefAt, NotdefsIn};
 ghost use Rattle.cmap_binary.specs.Fronts.{CodeAt};
+ghost use Rattle.cmap_maker.specs.Obstacles.{IsCodeObstacle, IsNotdefObstacle, IsNotdefsObstacle};
 ghost use Rattle.cmap_maker.specs.SegmentsWritten.{DeclareAll, SegmentByAny};
 ghost use Rattle.cmap_maker.specs.Written.{Appends, Writes, WritesAll};
 
@@ -31,8 +33,9 @@ pub(crate) fn push_notdefs(
     entries: &[CidRange],
     out: &mut Vec<u8>,
 ) -> Result<(), Fault<Obstacle>>
-    ensures { IfOk result (λ _. Appends out.old.items out.new.items
+    ensures written { IfOk result (λ _. Appends out.old.items out.new.items
         (DeclareAll SegmentByAny (map (Declaration.notdef (length_of len)) (entries_seen entries.now)))) }
+    ensures err { IfErr result (RefusesWith (IsNotdefsObstacle (length_of len) (entries_seen entries.now))) }
 {
     let mut left = entries;
     while !left.is_empty() {
@@ -51,7 +54,8 @@ fn notdef_payload(
     entries: &[CidRange],
 ) -> Result<Vec<u8>, Fault<Obstacle>>
     requires { length entries.now < 2 ^ 16 }
-    ensures { IfOk result (λ payload. NotdefsIn payload.items (length_of len, entries_seen entries.now)) }
+    ensures written { IfOk result (λ payload. NotdefsIn payload.items (length_of len, entries_seen entries.now)) }
+    ensures err { IfErr result (RefusesWith (IsNotdefsObstacle (length_of len) (entries_seen entries.now))) }
 {
     let mut payload = Vec::new(alloc);
     payload.push(len.count())?;
@@ -66,7 +70,8 @@ fn push_entries(
     len: CodeLength,
     entries: &[CidRange],
 ) -> Result<(), Fault<Obstacle>>
-    ensures { IfOk result (λ _. Appends out.old.items out.new.items (WritesAll (NotdefAt (length_of len)) (entries_seen entries.now))) }
+    ensures written { IfOk result (λ _. Appends out.old.items out.new.items (WritesAll (NotdefAt (length_of len)) (entries_seen entries.now))) }
+    ensures err { IfErr result (RefusesWith (IsNotdefsObstacle (length_of len) (entries_seen entries.now))) }
 {
     for entry in entries {
         push_notdef(out, len, entry)?;
@@ -76,7 +81,8 @@ fn push_entries(
 
 /// Writes a notdef declaration: start, end, and a CID of two bytes.
 fn push_notdef(out: &mut Vec<u8>, len: CodeLength, entry: &CidRange) -> Result<(), Fault<Obstacle>>
-    ensures { IfOk result (λ _. Appends out.old.items out.new.items (Writes (NotdefAt (length_of len)) (cid_entry_seen entry.now))) }
+    ensures written { IfOk result (λ _. Appends out.old.items out.new.items (Writes (NotdefAt (length_of len)) (cid_entry_seen entry.now))) }
+    ensures err { IfErr result (RefusesWith (IsNotdefObstacle (length_of len) (cid_entry_seen entry.now))) }
 {
     if entry.cid > LARGEST_CID {
         return Err(Fault::Refused(Obstacle::LargeCid(entry.range)));
@@ -93,7 +99,8 @@ pub(crate) fn push_code(
     len: CodeLength,
     code: u32,
 ) -> Result<(), Fault<Obstacle>>
-    ensures { IfOk result (λ _. Appends out.old.items out.new.items (Writes (CodeAt (length_of len)) code)) }
+    ensures written { IfOk result (λ _. Appends out.old.items out.new.items (Writes (CodeAt (length_of len)) code)) }
+    ensures err { IfErr result (RefusesWith (IsCodeObstacle (length_of len) code)) }
 {
     if code > largest_code(len) {
         return Err(Fault::Refused(Obstacle::LargeCode(code)));

@@ -1,11 +1,13 @@
 //! A file before it is known how its numbers are spelled.
 
-ghost use Rattle.std.specs.Prelude.{IfOk};
+ghost use Rattle.std.specs.Prelude.{IfErr, IfOk};
 ghost use Rattle.cmap_files.specs.Files.{File as Said};
 ghost use Rattle.cmap_files.specs.FilesSeen.{file_seen};
+ghost use Rattle.cmap_files.specs.Outcomes.{RefusesWith};
 ghost use Rattle.cmap_maker.specs.Bundled.{IsFramedFile};
 ghost use Rattle.cmap_maker.specs.EncodersSeen.{encoders_seen};
 ghost use Rattle.cmap_maker.specs.Keeps.{IsWritten, notdefs_declared};
+ghost use Rattle.cmap_maker.specs.Obstacles.{IsCidListsObstacle, IsNotdefListsObstacle, IsObstacle, IsSegmentsObstacle, by_length_seen};
 ghost use Rattle.cmap_maker.specs.PreparedFiles.{AddsCidLists, IsPrepared};
 ghost use Rattle.cmap_maker.specs.SegmentsWritten.{DeclareAll, SegmentByAny};
 ghost use Rattle.cmap_maker.specs.Written.{Appends};
@@ -38,7 +40,8 @@ pub(crate) struct Prepared {
 
 /// What is to be written of a file. It is refused with what the binary form can't say.
 pub(crate) fn prepare(alloc: Global, file: &File<'_>) -> Result<Prepared, Fault<Obstacle>>
-    ensures { IfOk result (λ prepared. IsPrepared (file_seen file.now) prepared) }
+    ensures made { IfOk result (λ prepared. IsPrepared (file_seen file.now) prepared) }
+    ensures err { IfErr result (RefusesWith (IsObstacle (file_seen file.now))) }
 {
     let mut fields = Vec::new(alloc);
     push_metadata(alloc, &file.metadata, &mut fields)?;
@@ -57,7 +60,8 @@ fn push_notdef_lists(
     lists: &ByLength<Vec<CidRange>>,
     out: &mut Vec<u8>,
 ) -> Result<(), Fault<Obstacle>>
-    ensures { IfOk result (λ _. Appends out.old.items out.new.items (DeclareAll SegmentByAny (notdefs_declared lists.now))) }
+    ensures written { IfOk result (λ _. Appends out.old.items out.new.items (DeclareAll SegmentByAny (notdefs_declared lists.now))) }
+    ensures err { IfErr result (RefusesWith (IsNotdefListsObstacle (by_length_seen lists.now))) }
 {
     push_notdefs(alloc, CodeLength::One, &lists.one, out)?;
     push_notdefs(alloc, CodeLength::Two, &lists.two, out)?;
@@ -72,7 +76,8 @@ fn add_cid_lists(
     lists: &ByLength<Vec<CidRange>>,
     segments: &mut Vec<Segment>,
 ) -> Result<(), Fault<Obstacle>>
-    ensures { IfOk result (λ _. AddsCidLists lists.now segments.old.items segments.new.items) }
+    ensures added { IfOk result (λ _. AddsCidLists lists.now segments.old.items segments.new.items) }
+    ensures err { IfErr result (RefusesWith (IsCidListsObstacle (by_length_seen lists.now))) }
 {
     add_cid_list(alloc, CodeLength::One, &lists.one, segments)?;
     add_cid_list(alloc, CodeLength::Two, &lists.two, segments)?;
@@ -87,6 +92,7 @@ impl Prepared {
         ensures framed { IfOk result (λ bytes. IsFramedFile bytes.items) }
         ensures written { IfOk result (λ bytes. (file : Said) → IsPrepared file self.now
             → IsWritten (encoders_seen tables.now) file bytes.items) }
+        ensures err { IfErr result (RefusesWith (IsSegmentsObstacle (encoders_seen tables.now) self.now.segments.items)) }
     {
         let mut body = Vec::from_slice(alloc, &self.fields)?;
         push_segments(alloc, tables, &self.segments, &mut body)?;

@@ -1,9 +1,12 @@
 //! The files of a bundle, each at the index of its name.
 
-ghost use Rattle.std.specs.Prelude.{ℕ, List, IfOk, Some};
+ghost use Rattle.std.specs.Prelude.{ℕ, IfErr, IfOk, List, Some};
+ghost use Rattle.cmap_files.specs.Outcomes.{RefusesWith};
 ghost use Rattle.cmap_binary.specs.Fronts.{FramedAt};
 ghost use Rattle.cmap_maker.specs.EncodersSeen.{encoders_seen};
+ghost use Rattle.cmap_maker.specs.Obstacles.{IsSpellingObstacle};
 ghost use Rattle.cmap_maker.specs.Slots.{AreSlotsFor, AreSlotsWritten, IsSlotFor, IsSlotWritten, places, source_at};
+ghost use Rattle.cmap_maker.specs.Unwritables.{IsUnwritableAs, IsUnwritableOf};
 ghost use Rattle.cmap_maker.specs.Written.{Appends, WritesAll};
 
 use crate::behind::push_text;
@@ -37,7 +40,8 @@ pub(crate) fn slots_of<'s>(
     alloc: Global,
     sources: &[Source<'s, '_>],
 ) -> Result<Vec<Slot<'s>>, Fault<Unwritable>>
-    ensures { IfOk result (λ slots. AreSlotsFor sources.now slots.items places) }
+    ensures made { IfOk result (λ slots. AreSlotsFor sources.now slots.items places) }
+    ensures err { IfErr result (RefusesWith (IsUnwritableOf sources.now)) }
 {
     check_names(sources)?;
     let mut slots = Vec::with_capacity(alloc, PLACES)?;
@@ -49,7 +53,9 @@ pub(crate) fn slots_of<'s>(
 }
 
 /// Checks that each name has a place.
-fn check_names(sources: &[Source<'_, '_>]) -> Result<(), Fault<Unwritable>> {
+fn check_names(sources: &[Source<'_, '_>]) -> Result<(), Fault<Unwritable>>
+    ensures { IfErr result (RefusesWith (IsUnwritableOf sources.now)) }
+{
     for index in 0..sources.len() {
         if sources[index].name.index().is_none() {
             return Err(Fault::Refused(Unwritable {
@@ -67,7 +73,8 @@ fn slot_at<'s>(
     sources: &[Source<'s, '_>],
     place: usize,
 ) -> Result<Slot<'s>, Fault<Unwritable>>
-    ensures { IfOk result (IsSlotFor (source_at sources.now place)) }
+    ensures made { IfOk result (IsSlotFor (source_at sources.now place)) }
+    ensures err { IfErr result (RefusesWith (IsUnwritableOf sources.now)) }
 {
     for index in 0..sources.len() {
         if sources[index].name.index() == Some(place) {
@@ -83,7 +90,8 @@ fn slot_of<'s>(
     source: &Source<'s, '_>,
     index: usize,
 ) -> Result<Slot<'s>, Fault<Unwritable>>
-    ensures { IfOk result (IsSlotFor (Some source.now)) }
+    ensures made { IfOk result (IsSlotFor (Some source.now)) }
+    ensures err { IfErr result (RefusesWith (IsUnwritableAs source.now index)) }
 {
     match (prepare(alloc, source.file), source.text) {
         (Ok(prepared), _) => Ok(Slot::File(prepared)),
@@ -103,7 +111,8 @@ pub(crate) fn push_slots(
     slots: &[Slot<'_>],
     out: &mut Vec<u8>,
 ) -> Result<(), Fault<Obstacle>>
-    ensures { IfOk result (λ _. (texts : List (List ℕ)) × Appends out.old.items out.new.items (WritesAll (FramedAt 6) texts) × AreSlotsWritten (encoders_seen tables.now) slots.now texts) }
+    ensures written { IfOk result (λ _. (texts : List (List ℕ)) × Appends out.old.items out.new.items (WritesAll (FramedAt 6) texts) × AreSlotsWritten (encoders_seen tables.now) slots.now texts) }
+    ensures err { IfErr result (RefusesWith IsSpellingObstacle) }
 {
     for slot in slots {
         push_slot(alloc, tables, slot, out)?;
@@ -118,7 +127,8 @@ fn push_slot(
     slot: &Slot<'_>,
     out: &mut Vec<u8>,
 ) -> Result<(), Fault<Obstacle>>
-    ensures { IfOk result (λ _. Appends out.old.items out.new.items (IsSlotWritten (encoders_seen tables.now) slot.now)) }
+    ensures written { IfOk result (λ _. Appends out.old.items out.new.items (IsSlotWritten (encoders_seen tables.now) slot.now)) }
+    ensures err { IfErr result (RefusesWith IsSpellingObstacle) }
 {
     match slot {
         Slot::File(prepared) => {

@@ -1,12 +1,14 @@
 //! Which codes the declarations of a list decide to have texts: ranges that lie apart, in pieces that a
 //! segment can hold.
 
-ghost use Rattle.std.specs.Prelude.{◌≡◌, ◌-◌, ◌<◌, ◌≤◌, ◌^◌, [], ◌∷◌, ◌++◌, All, IfOk, map};
+ghost use Rattle.std.specs.Prelude.{◌≡◌, ◌-◌, ◌<◌, ◌≤◌, ◌^◌, [], ◌∷◌, ◌++◌, All, IfErr, IfOk, map};
 ghost use Rattle.cmap_files.specs.DeclarationsSeen.{bf_entry_seen};
+ghost use Rattle.cmap_files.specs.Outcomes.{RefusesWith};
 ghost use Rattle.cmap_files.specs.UnitsSeen.{units_seen};
 ghost use Rattle.cmap_layers.specs.Lookups.{bf_at, bf_span};
+ghost use Rattle.cmap_maker.specs.Obstacles.{IsTextObstacle};
 ghost use Rattle.cmap_maker.specs.Pieces.{ArePieces, CanBeSplitText, IsShortText, PushesPieces, SayTheSame};
-ghost use Rattle.cmap_maker.specs.TextParts.{IsDecidedText, IsShifted};
+ghost use Rattle.cmap_maker.specs.TextParts.{IsDecidedText, IsPartOf, IsShifted};
 
 use crate::decided::last_code;
 use crate::obstacle::Obstacle;
@@ -28,6 +30,8 @@ pub(crate) fn decided_texts(
 ) -> Result<Vec<BfRange>, Fault<Obstacle>>
     ensures same { IfOk result (λ ranges. SayTheSame bf_span bf_at (map bf_entry_seen list.now) (map bf_entry_seen ranges.items)) }
     ensures small { IfOk result (λ ranges. All IsDecidedText (map bf_entry_seen ranges.items)) }
+    ensures parts { IfOk result (λ ranges. All (IsPartOf (map bf_entry_seen list.now)) (map bf_entry_seen ranges.items)) }
+    ensures err { IfErr result (RefusesWith (IsTextObstacle (map bf_entry_seen list.now))) }
 {
     let table = Table::build(alloc, copy_of_texts(alloc, list)?)?;
     let mut looks = Looks::new();

@@ -3,7 +3,9 @@
 ghost use Rattle.std.specs.Prelude.{◌≡◌, ◌≤◌, ◌<◌, ◌^◌, ◌++◌, All, IfErr, IfOk, IsTrue, length, map, take};
 ghost use Rattle.cmap_files.specs.DeclarationsSeen.{bf_entry_seen};
 ghost use Rattle.cmap_files.specs.Files.{Declaration};
+ghost use Rattle.cmap_files.specs.Outcomes.{RefusesWith};
 ghost use Rattle.cmap_maker.specs.EncodersSeen.{shape_seen};
+ghost use Rattle.cmap_maker.specs.Obstacles.{IsTextObstacle};
 ghost use Rattle.cmap_maker.specs.Pieces.{IsShortText};
 ghost use Rattle.cmap_maker.specs.PreparedFiles.{AddsSameTexts};
 ghost use Rattle.cmap_maker.specs.Segments.{AddsSegments, DeclaresAll};
@@ -30,7 +32,8 @@ pub(crate) fn add_text_list(
     list: &[BfRange],
     segments: &mut Vec<Segment>,
 ) -> Result<(), Fault<Obstacle>>
-    ensures { IfOk result (λ _. AddsSameTexts (map bf_entry_seen list.now) segments.old.items segments.new.items) }
+    ensures added { IfOk result (λ _. AddsSameTexts (map bf_entry_seen list.now) segments.old.items segments.new.items) }
+    ensures err { IfErr result (RefusesWith (IsTextObstacle (map bf_entry_seen list.now))) }
 {
     let ranges = decided_texts(alloc, list)?;
     check_units(&ranges)?;

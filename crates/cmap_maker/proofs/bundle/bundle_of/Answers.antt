@@ -5,10 +5,10 @@ use Rattle.cmap_maker.specs.Written.{Appends, Writes}
 use Rattle.cmap_maker.proofs.BundlesWritten.{bundle_written}
 use Rattle.cmap_maker.proofs.bundle.bundle_of.Goals as goal
 
-pub returns : goal.returns
-returns c =
+pub returns-clause-written : goal.returns-clause-written
+returns-clause-written c =
     let text = c.in_ok-text.text.items in
     let mid = c.push_sized.new.out.items in
     let sized = subst (λ old. Appends old mid (Writes SizedAt text)) c.new-bytes.ensures.items (subst (λ p. Appends c.new-bytes.result.items mid (Writes SizedAt p)) c.deref.ensures.value c.in_ok-push_sized.ensures.written) in
-    let (texts, appended, each) = c.in_ok-push_slots.ensures in
+    let (texts, appended, each) = c.in_ok-push_slots.ensures.written in
     bundle_written (encoders_seen c.in_ok-tables.tables) c.args.slots.now text mid c.push_slots.new.out.items c.in_ok-text.ensures.written sized texts appended each

@@ -3,9 +3,19 @@ use Rattle.std.proofs.lemmas.Result.{IfOk-weaker}
 use Rattle.cmap_maker.specs.Keeps.{IsBundleOf, files_seen}
 use Rattle.cmap_maker.specs.Slots.{IsBundleOfSlots}
 use Rattle.cmap_maker.proofs.BundlesWritten.{bundle_of_files}
+use Rattle.std.proofs.lemmas.Result.{IfErr-weaker}
+use Rattle.cmap_files.proofs.Outcomes.{refused_as}
+use Rattle.cmap_files.specs.Outcomes.{RefusesWith}
+use Rattle.cmap_maker.specs.Obstacles.{IsBundleObstacle, IsSpellingObstacle}
+use Rattle.cmap_maker.proofs.ObstaclesMet.{spelling_of_bundle}
 use Rattle.cmap_maker.proofs.bundle.make_bundle.Goals as goal
 
-pub returns : goal.returns
-returns c =
+pub returns-clause-written : goal.returns-clause-written
+returns-clause-written c =
     let files = files_seen c.args.files.now in
-    IfOk-weaker c.bundle_of.result (λ bytes. IsBundleOfSlots c.deref.result.now bytes.items) (λ bytes. IsBundleOf files bytes.items) (λ bytes is. bundle_of_files files c.in_ok-slots.slots.items bytes.items c.in_ok-slots.ensures (subst (λ ss. IsBundleOfSlots ss bytes.items) c.deref.ensures.value is)) c.bundle_of.ensures
+    IfOk-weaker c.bundle_of.result (λ bytes. IsBundleOfSlots c.deref.result.now bytes.items) (λ bytes. IsBundleOf files bytes.items) (λ bytes is. bundle_of_files files c.in_ok-slots.slots.items bytes.items c.in_ok-slots.ensures.made (subst (λ ss. IsBundleOfSlots ss bytes.items) c.deref.ensures.value is)) c.bundle_of.ensures.written
+
+pub returns-clause-err : goal.returns-clause-err
+returns-clause-err c =
+    let files = files_seen c.args.files.now in
+    IfErr-weaker c.bundle_of.result (RefusesWith IsSpellingObstacle) (RefusesWith (IsBundleObstacle files)) (λ fault h. refused_as fault h (spelling_of_bundle files)) c.bundle_of.ensures.err

@@ -15,13 +15,13 @@ add_cids-requires c =
     let sorted = c.sort_by_key.new.self.items in
     subst (λ xs. All IsShort (entries_seen xs)) (sym c.deref-2.ensures.value) (All-permutation IsShort (entries_seen pieces) (entries_seen sorted) (IsPermutation-map cid_entry_seen pieces sorted c.sort_by_key.ensures.permutation) c.in_ok-pieces.ensures.0)
 
-pub returns : goal.returns
-returns c =
+pub returns-clause-added : goal.returns-clause-added
+returns-clause-added c =
     let es = entries_seen c.args.list.now in
     let ranges = c.in_ok-ranges.ranges.items in
     let pieces = c.in_ok-pieces.pieces.items in
     let sorted = c.sort_by_key.new.self.items in
-    let say = c.in_ok-ranges.ensures.0 in
+    let say = c.in_ok-ranges.ensures.same.0 in
     let parts = subst (λ xs. ArePieces cid_span cid_at IsShort (entries_seen xs) (entries_seen pieces)) c.deref.ensures.value c.in_ok-pieces.ensures in
     let same = same_permuted cid_span cid_at es (entries_seen pieces) (entries_seen sorted) (IsPermutation-map cid_entry_seen pieces sorted c.sort_by_key.ensures.permutation) (pieces_say cid_span cid_at IsShort es (entries_seen ranges) (entries_seen pieces) parts say) in
     let added = subst (λ xs. AddsSegments c.args.segments.now.items c.add_cids.new.segments.items (map (Declaration.cid (length_of c.args.len)) (entries_seen xs))) c.deref-2.ensures.value c.in_ok-add_cids.ensures in

@@ -6,6 +6,8 @@ use Rattle.cmap_binary.specs.BinaryFiles.{CodespacesIn, declares}
 use Rattle.cmap_maker.specs.SegmentsWritten.{SegmentByAny}
 use Rattle.cmap_maker.proofs.MetadataHeld.{by_any}
 use Rattle.cmap_maker.proofs.SegmentsDone.{done_more}
+use Rattle.cmap_files.proofs.Outcomes.{refuses_on}
+use Rattle.cmap_maker.proofs.ObstaclesMet.{spaces_among}
 use Rattle.cmap_maker.proofs.codespaces.push_codespaces.Goals as goal
 
 pub loop-left-preserved : goal.loop-left-preserved
@@ -18,6 +20,15 @@ loop-left-preserved c =
     let new = c.push_segment.new.out.items in
     let spaces = map codespace_seen here in
     let cut : left ≡ here ++ later = sym (take-append-drop count left) ∙ ap (λ xs. xs ++ drop count left) (sym c.split_at.ensures.front) ∙ ap (λ xs. here ++ xs) (sym c.split_at.ensures.back) in
-    let payload = subst (λ p. CodespacesIn p spaces) (sym c.deref.ensures.value) c.in_ok-payload.ensures in
+    let payload = subst (λ p. CodespacesIn p spaces) (sym c.deref.ensures.value) c.in_ok-payload.ensures.written in
     done_more SegmentByAny (λ xs. map Declaration.codespace (map codespace_seen xs)) (λ a b. ap (map Declaration.codespace) (map-append codespace_seen a b) ∙ map-append Declaration.codespace (map codespace_seen a) (map codespace_seen b)) c.args.spaces.now left here later c.args.out.now.items now new c.loop-left.invariant cut
     (by_any now new 12 c.deref.result.now (declares (map Declaration.codespace spaces)) (λ tables. (spaces, payload, refl)) c.in_ok-push_segment.ensures.written)
+
+pub returns-in_err-payload-clause-err : goal.returns-in_err-payload-clause-err
+returns-in_err-payload-clause-err c =
+    let left = c.loop-left.left.now in
+    let here = c.split_at.result.0.now in
+    let later = c.split_at.result.1.now in
+    let count = c.min.result in
+    let cut : left ≡ here ++ later = sym (take-append-drop count left) ∙ ap (λ xs. xs ++ drop count left) (sym c.split_at.ensures.front) ∙ ap (λ xs. here ++ xs) (sym c.split_at.ensures.back) in
+    refuses_on _ _ c.from_residual.ensures.1 c.in_err-payload.ensures.err (spaces_among c.args.spaces.now c.loop-left.invariant.done left here later c.loop-left.invariant.parts cut)

@@ -6,14 +6,14 @@ use Rattle.cmap_maker.specs.Segments.{WritesNumbers}
 use Rattle.cmap_maker.specs.Written.{Appends}
 use Rattle.cmap_maker.proofs.columns.push_columns.Goals as goal
 
-pub returns-in_ok-push_column-in-Ranges : goal.returns-in_ok-push_column-in-Ranges
-returns-in_ok-push_column-in-Ranges c =
+pub returns-in_ok-push_column-in-Ranges-clause-written : goal.returns-in_ok-push_column-in-Ranges-clause-written
+returns-in_ok-push_column-in-Ranges-clause-written c =
     let tables = encoders_seen c.args.tables.now in
     let segment = c.args.segment.now in
     let old = c.args.out.now.items in
     let mid = c.push_column.new.out.items in
     let new = c.push_column-in-Ranges.new.out.items in
-    let (first, first_is, deltas) = subst (λ xs. Appends old mid (WritesColumn tables.delta xs)) c.deref.ensures.value c.in_ok-push_column.ensures in
-    let (second, second_is, counts) = subst (λ xs. Appends mid new (WritesColumn tables.count xs)) c.deref-in-Ranges.ensures.value c.in_ok-push_column-in-Ranges.ensures in
+    let (first, first_is, deltas) = subst (λ xs. Appends old mid (WritesColumn tables.delta xs)) c.deref.ensures.value c.in_ok-push_column.ensures.written in
+    let (second, second_is, counts) = subst (λ xs. Appends mid new (WritesColumn tables.count xs)) c.deref-in-Ranges.ensures.value c.in_ok-push_column-in-Ranges.ensures.written in
     let whole = second_is ∙ ap (λ bs. bs ++ second) first_is ∙ append_assoc old first second in
     subst (λ shape. Appends old new (WritesNumbers tables (shape_seen shape) segment.deltas.items segment.counts.items)) (sym c.in-Ranges.is) (first ++ second, whole, (first, second, refl, deltas, counts))

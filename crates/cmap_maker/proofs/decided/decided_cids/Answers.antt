@@ -1,10 +1,12 @@
-use Rattle.std.proofs.Common.{◌≡◌, ◌∙◌, ◌+◌, List, length, map, refl, subst, sym, arith}
+use Rattle.std.proofs.Common.{◌≡◌, ◌∙◌, ◌+◌, ◌≤◌, List, length, map, refl, subst, sym, arith}
+use Rattle.std.specs.Prelude.{IsSomeAnd}
 use Rattle.cmap_runs.specs.Ranges.{AreRuns, Run, runs_of}
 use Rattle.cmap_files.specs.DeclarationsSeen.{cid_entry_seen, cid_range_span, entries_seen}
 use Rattle.cmap_files.specs.declared.declarations.CidRange.{CidRange}
 use Rattle.cmap_layers.specs.Lookups.{cid_at, cid_span}
-use Rattle.cmap_maker.specs.Pieces.{SaysAs}
-use Rattle.cmap_maker.proofs.DecidedParts.{declaration_within, part_can, part_has, part_right, run_within}
+use Rattle.cmap_maker.specs.Obstacles.{IsLargeCid}
+use Rattle.cmap_maker.specs.Pieces.{SaysAs, cid_told}
+use Rattle.cmap_maker.proofs.DecidedParts.{declaration_within, large_given, part_can, part_has, part_right, run_within}
 use Rattle.cmap_maker.proofs.RunParts.{HaveRuns, have_all, have_more}
 use Rattle.cmap_maker.proofs.decided.decided_cids.Goals as goal
 
@@ -51,8 +53,8 @@ loop-i-preserved c =
       whole = subst (λ t. HaveRuns cid_span (runs t) new (i + 1)) table_is (have_more cid_range_span cid_entry_seen cid_span cid_at (λ x. refl) table (runs table) are old new i low high index (cid_entry_seen part) whole at taken.1 (part_has table (runs table) are i low high index at e there part _ refl refl is.0 is.1));
     }
 
-pub returns : goal.returns
-returns c =
+pub returns-clause-same : goal.returns-clause-same
+returns-clause-same c =
     let table = c.in_ok-table.table in
     let list = c.args.list.now in
     let table_is : table ≡ list = c.in_ok-table.ensures ∙ c.in_ok-copy_of.ensures.same in
@@ -60,3 +62,9 @@ returns c =
     let ranges = entries_seen c.loop-i.ranges.items in
     let end : c.loop-i.i ≡ length (runs list) = subst (λ t. c.loop-i.i ≡ length (runs t)) table_is (omega arith) in
     (have_all cid_range_span cid_entry_seen cid_span cid_at (λ x. refl) list (runs list) are ranges c.in_ok-copy_of.ensures.small c.loop-i.invariant.right (subst (HaveRuns cid_span (runs list) ranges) end c.loop-i.invariant.whole), c.loop-i.invariant.small)
+
+pub returns-in_default-clause-err : goal.returns-in_default-clause-err
+returns-in_default-clause-err c =
+    let table_is : c.in_ok-table.table ≡ c.args.list.now = c.in_ok-table.ensures ∙ c.in_ok-copy_of.ensures.same in
+    subst (λ t. (c.run-start.result.0 ≤ c.run-start.result.1) × IsSomeAnd (cid_told (entries_seen t) c.run-start.result.1) IsLargeCid) table_is
+    (large_given c.in_ok-table.table (runs c.in_ok-table.table) c.run_count-i-end.ensures.runs.0 c.loop-i.i c.run-start.result.0 c.run-start.result.1 c.run-start.result.2 c.run-start.ensures.run c.decl.result.now c.decl.ensures.declaration c.in_default.ensures.none)

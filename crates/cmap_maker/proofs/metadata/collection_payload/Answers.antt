@@ -6,8 +6,8 @@ use Rattle.cmap_maker.specs.Written.{bytes_of, Appends, Writes}
 use Rattle.cmap_maker.proofs.MetadataHeld.{collection_written, seen_as}
 use Rattle.cmap_maker.proofs.metadata.collection_payload.Goals as goal
 
-pub returns : goal.returns
-returns c =
+pub returns-clause-written : goal.returns-clause-written
+returns-clause-written c =
     let collection = collection_seen c.args.collection.now in
     let registry = registry_of collection.family in
     let ordering = ordering_of collection.family in
@@ -15,8 +15,8 @@ returns c =
     let b = c.push_terminated-2.new.out.items in
     let number = c.in-Some.supplement in
     collection_written registry ordering a b c.push_number.new.out.items number collection
-    (subst (λ old. Appends old a (Writes TerminatedAt registry)) c.new-payload.ensures.items (subst (λ t. Appends c.new-payload.result.items a (Writes TerminatedAt t)) c.registry.ensures c.in_ok-push_terminated.ensures))
-    (subst (λ t. Appends a b (Writes TerminatedAt t)) c.ordering.ensures c.in_ok-push_terminated-2.ensures)
+    (subst (λ old. Appends old a (Writes TerminatedAt registry)) c.new-payload.ensures.items (subst (λ t. Appends c.new-payload.result.items a (Writes TerminatedAt t)) c.registry.ensures c.in_ok-push_terminated.ensures.written))
+    (subst (λ t. Appends a b (Writes TerminatedAt t)) c.ordering.ensures c.in_ok-push_terminated-2.ensures.written)
     (c.in_ok-push_number.ensures ∙ ap (λ n. b ++ bytes_of 2 n) c.from.ensures)
-    c.in-Some.ensures.0
-    (seen_as collection registry ordering number c.in_ok-check_family.ensures c.in-Some.ensures.1)
+    c.in-Some.ensures.some.0
+    (seen_as collection registry ordering number c.in_ok-check_family.ensures.same c.in-Some.ensures.some.1)

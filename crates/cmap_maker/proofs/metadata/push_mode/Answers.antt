@@ -8,8 +8,8 @@ use Rattle.cmap_maker.specs.Written.{Appends, WritesAll}
 use Rattle.cmap_maker.proofs.MetadataHeld.{by_any, one_of}
 use Rattle.cmap_maker.proofs.metadata.push_mode.Goals as goal
 
-pub returns-in_ok-push_segment : goal.returns-in_ok-push_segment
-returns-in_ok-push_segment c =
+pub returns-in_ok-push_segment-clause-written : goal.returns-in_ok-push_segment-clause-written
+returns-in_ok-push_segment-clause-written c =
     let old = c.args.out.now.items in
     let new = c.push_segment.new.out.items in
     let number = c.mode_number.result in

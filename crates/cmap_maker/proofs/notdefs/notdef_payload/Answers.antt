@@ -5,7 +5,7 @@ use Rattle.cmap_files.specs.DeclarationsSeen.{cid_entry_seen, entries_seen}
 use Rattle.cmap_maker.proofs.RowsWritten.{notdefs_written}
 use Rattle.cmap_maker.proofs.notdefs.notdef_payload.Goals as goal
 
-pub returns : goal.returns
-returns c =
+pub returns-clause-written : goal.returns-clause-written
+returns-clause-written c =
     let entries = c.args.entries.now in
-    notdefs_written (length_of c.args.len) (length entries) (entries_seen entries) c.push.new.self.items c.push_number.new.out.items c.push_entries.new.out.items (c.in_ok-push.ensures.items ∙ ap (λ bs. bs ++ c.count.result ∷ []) c.new-payload.ensures.items ∙ ap (λ n. n ∷ []) c.count.ensures) c.in_ok-push_number.ensures (sym (length-map entries cid_entry_seen)) c.requires c.in_ok-push_entries.ensures
+    notdefs_written (length_of c.args.len) (length entries) (entries_seen entries) c.push.new.self.items c.push_number.new.out.items c.push_entries.new.out.items (c.in_ok-push.ensures.items ∙ ap (λ bs. bs ++ c.count.result ∷ []) c.new-payload.ensures.items ∙ ap (λ n. n ∷ []) c.count.ensures) c.in_ok-push_number.ensures (sym (length-map entries cid_entry_seen)) c.requires c.in_ok-push_entries.ensures.written

@@ -3,15 +3,20 @@ use Rattle.std.specs.Prelude.{IfOk}
 use Rattle.cmap_maker.specs.EncodersSeen.{encoders_seen}
 use Rattle.cmap_maker.specs.Slots.{IsSlotWritten}
 use Rattle.cmap_maker.specs.Written.{Appends}
+use Rattle.cmap_files.proofs.Outcomes.{refuses_on}
+use Rattle.cmap_maker.proofs.ObstaclesMet.{by_spelling}
 use Rattle.cmap_maker.proofs.slots.push_slot.Goals as goal
 
-pub returns-in_ok-extend_from_slice-in-File : goal.returns-in_ok-extend_from_slice-in-File
-returns-in_ok-extend_from_slice-in-File c =
+pub returns-in_ok-extend_from_slice-in-File-clause-written : goal.returns-in_ok-extend_from_slice-in-File-clause-written
+returns-in_ok-extend_from_slice-in-File-clause-written c =
     let tables = encoders_seen c.args.tables.now in
     let text = c.in_ok-text-in-File.text.items in
     let old = c.args.out.now.items in
     let e = c.in_ok-text-in-File.ensures in
     (text, c.in_ok-extend_from_slice-in-File.ensures.items ∙ ap (λ bs. old ++ bs) c.deref.ensures.value, subst (λ s. IsSlotWritten tables s text) (sym c.in-File.is) (e.framed, e.written))
 
-pub returns-in-Text : goal.returns-in-Text
-returns-in-Text c = subst (λ s. IfOk c.push_text.result (λ _. Appends c.args.out.now.items c.push_text.new.out.items (IsSlotWritten (encoders_seen c.args.tables.now) s))) (sym c.in-Text.is) c.push_text.ensures
+pub returns-in-Text-clause-written : goal.returns-in-Text-clause-written
+returns-in-Text-clause-written c = subst (λ s. IfOk c.push_text.result (λ _. Appends c.args.out.now.items c.push_text.new.out.items (IsSlotWritten (encoders_seen c.args.tables.now) s))) (sym c.in-Text.is) c.push_text.ensures.written
+
+pub returns-in_err-text-in-File-clause-err : goal.returns-in_err-text-in-File-clause-err
+returns-in_err-text-in-File-clause-err c = refuses_on _ _ c.from_residual.ensures.1 c.in_err-text-in-File.ensures.err (by_spelling (encoders_seen c.args.tables.now) c.in-File.prepared.segments.items)

@@ -4,4 +4,4 @@ use Rattle.cmap_maker.proofs.BundlesWritten.{slots_written_more}
 use Rattle.cmap_maker.proofs.slots.push_slots.Goals as goal
 
 pub loop-slot-preserved : goal.loop-slot-preserved
-loop-slot-preserved c = slots_written_more (encoders_seen c.args.tables.now) c.args.slots.now c.loop-slot.slot-index c.slot-item.result c.args.out.now.items c.loop-slot.out.items c.push_slot.new.out.items (omega arith) c.slot-item.is c.loop-slot.invariant c.in_ok-push_slot.ensures
+loop-slot-preserved c = slots_written_more (encoders_seen c.args.tables.now) c.args.slots.now c.loop-slot.slot-index c.slot-item.result c.args.out.now.items c.loop-slot.out.items c.push_slot.new.out.items (omega arith) c.slot-item.is c.loop-slot.invariant c.in_ok-push_slot.ensures.written
