@@ -18,10 +18,11 @@ pub struct Beside {
 impl Beside {
     /// Writes a file of these bytes beside that of a path. Where that fails, no file is left.
     pub fn write(rt: &HostRuntime, target: &str, bytes: &[u8]) -> Result<Beside, Failure> {
+        let place = String::from_str(rt.alloc(), target)?;
         let (path, file) = create_beside(rt, target)?;
         let beside = Beside {
             path,
-            target: String::from_str(rt.alloc(), target)?,
+            target: place,
         };
         match write_whole(file, bytes) {
             Ok(()) => Ok(beside),
