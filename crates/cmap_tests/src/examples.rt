@@ -1,7 +1,7 @@
 //! Callers that the crates' pages show.
 
+use cmap_files::file::File;
 use cmap_maker::{Source, make_named_bundle};
-use cmap_text::read_text;
 use cmap_unicode::Extractor;
 use hayro_cmap::bcmap::Bundle;
 use hayro_cmap::runs::{Looks, Table};
@@ -47,16 +47,16 @@ pub fn has_unijis(alloc: Global, bytes: &[u8]) -> Result<bool, AllocError> {
     Ok(load_embedded(Some(&bundle), CMapName::UniJisUtf16H).is_some())
 }
 
-/// The bundle of one file; `None` where it is malformed, or has a name for which a bundle has no place.
-pub fn bundle_of(alloc: Global, name: &[u8], text: &[u8]) -> Result<Option<Vec<u8>>, AllocError> {
-    let file = match read_text(alloc, text) {
-        Ok(file) => file,
-        Err(Fault::Refused(_stop)) => return Ok(None),
-        Err(Fault::Memory) => return Err(AllocError),
-    };
+/// The bundle of one file, which was read from this text; `None` where a bundle has no place for its name.
+pub fn bundle_of<'s>(
+    alloc: Global,
+    name: &'s [u8],
+    file: &'s File<'s>,
+    text: &'s [u8],
+) -> Result<Option<Vec<u8>>, AllocError> {
     let source = Source {
         name: CMapName::from_bytes(name),
-        file: &file,
+        file,
         text: Some(text),
     };
     match make_named_bundle(alloc, &[source]) {
