@@ -47,17 +47,12 @@ pub fn has_unijis(alloc: Global, bytes: &[u8]) -> Result<bool, AllocError> {
     Ok(load_embedded(Some(&bundle), CMapName::UniJisUtf16H).is_some())
 }
 
-/// The bundle of one file, which was read from this text; `None` where a bundle has no place for its name.
-pub fn bundle_of<'s>(
-    alloc: Global,
-    name: &'s [u8],
-    file: &'s File<'s>,
-    text: &'s [u8],
-) -> Result<Option<Vec<u8>>, AllocError> {
+/// The bundle of one file, as 90ms-RKSJ-H; `None` where the binary form can't say what it says.
+pub fn bundle_of(alloc: Global, file: &File<'_>) -> Result<Option<Vec<u8>>, AllocError> {
     let source = Source {
-        name: CMapName::from_bytes(name),
+        name: CMapName::N90msRksjH,
         file,
-        text: Some(text),
+        text: None,
     };
     match make_named_bundle(alloc, &[source]) {
         Ok(bundle) => Ok(Some(bundle)),

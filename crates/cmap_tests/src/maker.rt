@@ -37,22 +37,20 @@ fn a_cid_above_65535_is_an_obstacle(rt: HostRuntime) {
     assert!(rt; bundle_of(rt.alloc(), text, b"").is_none());
 }
 
-// The bundle of one file of this name.
-fn bundle_with(alloc: Global, name: &[u8], text: &[u8]) -> Option<Vec<u8>> {
+// The bundle of one file, which is 90ms-RKSJ-H.
+fn named_bundle(alloc: Global, text: &[u8]) -> Option<Vec<u8>> {
     let file = read_text(alloc, text).ok()?;
-    examples::bundle_of(alloc, name, &file, text).ok()?
+    examples::bundle_of(alloc, &file).ok()?
 }
 
 #[test]
-fn a_file_that_the_binary_form_cannot_say_stands_as_its_text(rt: HostRuntime) -> Result<(), Fail> {
+fn a_name_without_a_file_is_refused(rt: HostRuntime) -> Result<(), Fail> {
     let alloc = rt.alloc();
-    let text = b"2 begincidchar <8140> 65536 <8141> 7 endcidchar";
-    let bundle = bundle_with(alloc, b"90ms-RKSJ-H", text).unwrap_or(Vec::new(alloc));
-    let file = b"/90ms-RKSJ-H usecmap";
-    assert!(rt; cid_over_bundle(alloc, &bundle, file, 0x8140)? == Some(65536));
-    assert!(rt; cid_over_bundle(alloc, &bundle, file, 0x8141)? == Some(7));
+    let text = b"1 begincidchar <8140> 9 endcidchar";
+    let bundle = named_bundle(alloc, text).unwrap_or(Vec::new(alloc));
+    let present = b"/90ms-RKSJ-H usecmap";
+    assert!(rt; cid_over_bundle(alloc, &bundle, present, 0x8140)? == Some(9));
     let absent = b"/90ms-RKSJ-V usecmap";
     assert!(rt; cid_over_bundle(alloc, &bundle, absent, 0x8140)?.is_none());
-    assert!(rt; bundle_with(alloc, b"Custom", text).is_none());
     Ok(())
 }
