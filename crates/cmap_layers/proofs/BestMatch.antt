@@ -1,74 +1,132 @@
--- Which codespace ranges best match a string, and how many bytes are taken by them.
-use Rattle.std.proofs.Common.{◌≡◌, ℕ, ◌+◌, ◌<◌, ◌≤◌, ◌⊎◌, List, [], ◌∷◌, ◌++◌, length, map, take, get_or, append_assoc, Option, Some, None, refl, sym, ap, ◌∙◌, subst, inl, inr, arith}
-use Rattle.std.specs.Prelude.{All}
+-- The codespace ranges that best match a string, and how many bytes are taken by them.
+use Rattle.std.proofs.Common.{◌≡◌, ℕ, zero, suc, ◌+◌, ◌-◌, ◌<◌, ◌≤◌, ◌⊎◌, List, [], ◌∷◌, ◌++◌, length, map, take, get_or, get_or-take, min, Some, None, refl, sym, ap, ◌∙◌, subst, inl, inr, All, Any, Contains, arith}
+use Rattle.std.specs.Prelude.{slice_index}
 use Rattle.std.proofs.lemmas.Bool.{cases_lt}
-use Rattle.std.proofs.lemmas.List.{map-append, take_more}
-use Rattle.std.proofs.lemmas.List.Elements.{All-push, All-weaker, All-contains, Contains-append_left}
-use Rattle.std.proofs.lemmas.List.Quantifiers.{Any-push}
-use Rattle.cmap_files.specs.CodeLengths.{length_of}
+use Rattle.std.proofs.lemmas.List.{length-take-le}
+use Rattle.std.proofs.lemmas.List.Elements.{All-contains, All-contains_itself, All-weaker, Contains-append_cases, Contains-append_left, Contains-append_right}
+use Rattle.cmap_files.specs.CodeLengths.{IsCodeLength, length_of}
 use Rattle.cmap_files.specs.DeclarationsSeen.{codespace_seen}
 use Rattle.cmap_files.specs.Files.{Codespace}
+use Rattle.cmap_files.specs.declared.code_length.CodeLength.{CodeLength}
+use Rattle.cmap_files.specs.declared.code_length.CodeLength.TheVariants.{One, Two, Three, Four}
 use Rattle.cmap_files.specs.declared.declarations.Codespace as declared
-use Rattle.cmap_layers.specs.PartialMatches.{MatchesMost, IsBestOf, IsBetter}
-use Rattle.cmap_layers.specs.StringCodes.{Matches, IsBestMatch, Wants}
-use Rattle.cmap_layers.specs.declared.string_codes.PartialMatch.{PartialMatch}
+use Rattle.cmap_layers.specs.Layers.{Layer}
+use Rattle.cmap_layers.specs.LayersSeen.{layers_seen}
+use Rattle.cmap_layers.specs.SpaceBits.{HasFront, IsShortestMatch}
+use Rattle.cmap_layers.specs.StringCodes.{Matches, IsBestMatch, Wants, ranges_of}
+use Rattle.cmap_layers.specs.declared.layers.Layer as made
 
--- ---- one range more
--- one that is better than all before, or the first one
-better_than_all : (before : List Codespace) (text : List ℕ) (space : Codespace) (n : ℕ) → MatchesMost space text n → All (λ o. (m : ℕ) → Matches o text m → m ≤ n) before → All (λ o. Matches o text n → space.len ≤ o.len) before
-    → IsBestMatch (before ++ space ∷ []) text n space.len
-better_than_all before text space n most longest shortest = record {
-  one = Any-push (λ o. Matches o text n × (o.len ≡ space.len)) before space (most.matches, refl);
-  longest = All-push (λ o. (m : ℕ) → Matches o text m → m ≤ n) before space longest most.longest;
-  shortest = All-push (λ o. Matches o text n → space.len ≤ o.len) before space shortest (λ _. omega arith);
+-- ---- the ranges of all layers
+in_first : (P : Codespace → Type 0) (xs ys : List Codespace) → Any P xs → Any P (xs ++ ys)
+in_first P xs ys (k, x, within, is, holds) = let (j, below, same) = Contains-append_left xs ys x (k, within, is) in (j, x, below, same, holds)
+
+in_rest : (P : Codespace → Type 0) (xs ys : List Codespace) → Any P ys → Any P (xs ++ ys)
+in_rest P xs ys (k, x, within, is, holds) = let (j, below, same) = Contains-append_right xs ys x (k, within, is) in (j, x, below, same, holds)
+
+ranges_have : (P : Codespace → Type 0) (layers : List Layer) → Any (λ layer. Any P layer.lists.spaces) layers → Any P (ranges_of layers)
+ranges_have P [] (k, layer, within, is, found) = absurd (omega arith)
+ranges_have P (first ∷ rest) (zero, layer, within, is, found) = in_first P first.lists.spaces (ranges_of rest) (subst (λ l. Any P l.lists.spaces) (sym is) found)
+ranges_have P (first ∷ rest) (suc k, layer, within, is, found) = in_rest P first.lists.spaces (ranges_of rest) (ranges_have P rest (k, layer, omega arith, is, found))
+
+layers_have : (layers : List Layer) (space : Codespace) → Contains (ranges_of layers) space → Any (λ layer. Contains layer.lists.spaces space) layers
+layers_have [] space (k, within, is) = absurd (omega arith)
+layers_have (first ∷ rest) space found =
+    elim (Contains-append_cases first.lists.spaces (ranges_of rest) space found) [
+      | inl here ↦ (0, first, omega arith, refl, here)
+      | inr later ↦ let (k, layer, within, is, has) = layers_have rest space later in (suc k, layer, omega arith, is, has)
+    ]
+
+-- ---- codes have one to four bytes
+length_fits : (len : CodeLength) → IsCodeLength (length_of len)
+length_fits One = (omega arith, omega arith)
+length_fits Two = (omega arith, omega arith)
+length_fits Three = (omega arith, omega arith)
+length_fits Four = (omega arith, omega arith)
+
+seen_length : (spaces : List declared.Codespace) (space : Codespace) → Contains (map codespace_seen spaces) space → IsCodeLength space.len
+seen_length [] space (k, within, is) = absurd (omega arith)
+seen_length (x ∷ xs) space (zero, within, is) = subst (λ s. IsCodeLength s.len) is (length_fits x.len)
+seen_length (x ∷ xs) space (suc k, within, is) = seen_length xs space (k, omega arith, is)
+
+code_length : (layers : List made.Layer) (space : Codespace) → Contains (ranges_of (layers_seen layers)) space → IsCodeLength space.len
+code_length [] space (k, within, is) = absurd (omega arith)
+code_length (first ∷ rest) space found =
+    elim (Contains-append_cases (map codespace_seen first.spaces) (ranges_of (layers_seen rest)) space found) [ inl here ↦ seen_length first.spaces space here | inr later ↦ code_length rest space later ]
+
+-- ---- ranges that match all bytes of a front
+front_matches : (front : List ℕ) (len : ℕ) (space : Codespace) → HasFront len front space → Matches space front (length front)
+front_matches front len space has =
+    let few : length front ≤ space.len = elim (cases_lt space.len (length front)) [ inl long ↦ let at = has.1 space.len long in let below = at.0 in absurd (omega arith) | inr few ↦ few ] in
+    (few, omega arith, λ k within. let at = has.1 k within in (at.1, at.2))
+
+matches_front : (front : List ℕ) (space : Codespace) → Matches space front (length front) → HasFront space.len front space
+matches_front front space matches = (refl, λ k within. let each = matches.2 k within in let few = matches.0 in (omega arith, each.0, each.1))
+
+abbrev pub HaveFront : List Layer → List ℕ → ℕ → Type 0
+HaveFront layers front len = Any (λ layer. Any (HasFront len front) layer.lists.spaces) layers
+
+have_front : (layers : List Layer) (front : List ℕ) (space : Codespace) → Contains (ranges_of layers) space → Matches space front (length front) → HaveFront layers front space.len
+have_front layers front space found matches =
+    let (k, layer, within, is, (i, below, at)) = layers_have layers space found in
+    (k, layer, within, is, (i, space, below, at, matches_front front space matches))
+
+all_ranges : (P : Codespace → Type 0) (layers : List Layer) → ((space : Codespace) → Contains (ranges_of layers) space → P space) → All P (ranges_of layers)
+all_ranges P layers each = All-weaker (Contains (ranges_of layers)) P each (ranges_of layers) (All-contains_itself (ranges_of layers))
+
+pub shortest_found : (layers : List made.Layer) (front : List ℕ) (len : ℕ) → IsCodeLength len → ((n : ℕ) → 1 ≤ n → n < len → HaveFront (layers_seen layers) front n → ⊥) → HaveFront (layers_seen layers) front len
+    → IsShortestMatch (ranges_of (layers_seen layers)) front (Some len)
+shortest_found layers front len fits none found =
+    let seen = layers_seen layers in
+    let (k, space, within, is, has) = ranges_have (HasFront len front) seen found in
+    (
+      fits,
+      (k, space, within, is, (front_matches front len space has, has.0)),
+      all_ranges (λ s. Matches s front (length front) → len ≤ s.len) seen (λ s held matches.
+          elim (cases_lt s.len len) [ inl short ↦ absurd (none s.len (code_length layers s held).0 short (have_front seen front s held matches)) | inr long ↦ long ]),
+    )
+
+pub none_found : (layers : List made.Layer) (front : List ℕ) → ((n : ℕ) → 1 ≤ n → n < 5 → HaveFront (layers_seen layers) front n → ⊥) → IsShortestMatch (ranges_of (layers_seen layers)) front None
+none_found layers front none =
+    all_ranges (λ s. Matches s front (length front) → ⊥) (layers_seen layers) (λ s held matches. let fits = code_length layers s held in let most = fits.1 in none s.len fits.0 (omega arith) (have_front (layers_seen layers) front s held matches))
+
+-- ---- fronts of a string, the longest first
+abbrev pub MatchAtMost : List Codespace → List ℕ → ℕ → ℕ → Type 0
+MatchAtMost spaces text fewer most = All (λ space. (m : ℕ) → Matches space text m → m + fewer ≤ most) spaces
+
+pub all_at_most : (layers : List made.Layer) (text : List ℕ) (most : ℕ) → most ≡ min (length text) 4 → MatchAtMost (ranges_of (layers_seen layers)) text 0 most
+all_at_most layers text most is = all_ranges (λ s. (m : ℕ) → Matches s text m → m + 0 ≤ most) (layers_seen layers) (λ s held m matches.
+    let fits = code_length layers s held in let few = fits.1 in let (short, within, _) = matches in omega arith)
+
+in_front : (text : List ℕ) (n : ℕ) (space : Codespace) → n ≤ length text → Matches space text n → Matches space (take n text) (length (take n text))
+in_front text n space within matches =
+    let size = length-take-le n text within in
+    let few = matches.0 in
+    (omega arith, omega arith, λ k lt. let below : k < n = omega arith in let each = matches.2 k below in let same = get_or-take n text k 0 below in (omega (arith, each.0), omega (arith, each.1)))
+
+of_front : (text : List ℕ) (n : ℕ) (space : Codespace) → n ≤ length text → Matches space (take n text) (length (take n text)) → Matches space text n
+of_front text n space within matches =
+    let size = length-take-le n text within in
+    let few = matches.0 in
+    (omega arith, within, λ k below. let each = matches.2 k (omega arith) in let same = get_or-take n text k 0 below in (omega (arith, each.0), omega (arith, each.1)))
+
+pub best_with_front : (spaces : List Codespace) (text : List ℕ) (fewer most n len : ℕ) → n + fewer ≡ most → n ≤ length text → MatchAtMost spaces text fewer most → IsShortestMatch spaces (take n text) (Some len) → IsBestMatch spaces text n len
+best_with_front spaces text fewer most n len is within few (fits, (k, space, below, at, (matches, same)), shortest) = record {
+  one = (k, space, below, at, (of_front text n space within matches, same));
+  longest = All-weaker (λ s. (m : ℕ) → Matches s text m → m + fewer ≤ most) (λ s. (m : ℕ) → Matches s text m → m ≤ n) (λ s held m matched. let fit = held m matched in omega arith) spaces few;
+  shortest = All-weaker (λ s. Matches s (take n text) (length (take n text)) → len ≤ s.len) (λ s. Matches s text n → len ≤ s.len) (λ s held matched. held (in_front text n s within matched)) spaces shortest;
 }
 
-pub best-first : (before : List Codespace) (text : List ℕ) (space : Codespace) (n : ℕ) → before ≡ [] → MatchesMost space text n → IsBestMatch (before ++ space ∷ []) text n space.len
-best-first before text space n none most =
-    let empty : length before ≡ 0 = ap (λ (l : List Codespace). length l) none in
-    better_than_all before text space n most (λ k d within. absurd (omega arith)) (λ k d within. absurd (omega arith))
+pub fewer_match : (spaces : List Codespace) (text : List ℕ) (fewer most n : ℕ) → n + fewer ≡ most → n ≤ length text → MatchAtMost spaces text fewer most → IsShortestMatch spaces (take n text) None → MatchAtMost spaces text (fewer + 1) most
+fewer_match spaces text fewer most n is within few none = λ k d below m matched.
+    let fit = few k d below m matched in
+    elim (cases_lt m n) [
+      | inl short ↦ omega arith
+      | inr long ↦ let same : m ≡ n = omega arith in absurd (none k d below (in_front text n _ within (subst (Matches _ text) same matched)))
+    ]
 
-pub best-next : (before : List Codespace) (text : List ℕ) (space : Codespace) (n len m : ℕ) → IsBestMatch before text n len → MatchesMost space text m → (n < m) ⊎ ((n ≡ m) × (space.len < len)) → IsBestMatch (before ++ space ∷ []) text m space.len
-best-next before text space n len m best most (inl more) =
-    better_than_all before text space m most
-    (All-weaker (λ o. (k : ℕ) → Matches o text k → k ≤ n) (λ o. (k : ℕ) → Matches o text k → k ≤ m) (λ o fits k matches. let within = fits k matches in omega arith) before best.longest)
-    (λ k d within matches. let few = best.longest k d within m matches in absurd (omega arith))
-best-next before text space n len m best most (inr (same, shorter)) =
-    better_than_all before text space m most
-    (subst (λ i. All (λ o. (k : ℕ) → Matches o text k → k ≤ i) before) same best.longest)
-    (λ k d within matches. let long = subst (λ i. All (λ o. Matches o text i → len ≤ o.len) before) same best.shortest k d within matches in omega arith)
-
-pub best-same : (before : List Codespace) (text : List ℕ) (space : Codespace) (n len m : ℕ) → IsBestMatch before text n len → MatchesMost space text m → ((n < m) ⊎ ((n ≡ m) × (space.len < len)) → ⊥) → IsBestMatch (before ++ space ∷ []) text n len
-best-same before text space n len m best most worse =
-    let few : m ≤ n = elim (cases_lt n m) [ inl more ↦ absurd (worse (inl more)) | inr few ↦ few ] in
-    record {
-      one = let (k, found, within, is, matches) = best.one in let (j, below, same) = Contains-append_left before (space ∷ []) found (k, within, is) in (j, found, below, same, matches);
-      longest = All-push (λ o. (k : ℕ) → Matches o text k → k ≤ n) before space best.longest (λ k matches. let within = most.longest k matches in omega arith);
-      shortest = All-push (λ o. Matches o text n → len ≤ o.len) before space best.shortest
-          (λ matches. let as_many : n ≡ m = (let within = most.longest n matches in omega arith) in elim (cases_lt space.len len) [ inl shorter ↦ absurd (worse (inr (as_many, shorter))) | inr as_long ↦ as_long ]);
-    }
-
--- what is kept of the best match so far and that of one range more
-abbrev pub IsChosen : Option PartialMatch → PartialMatch → Option PartialMatch → Type 0
-IsChosen old next new = ((best : PartialMatch) × (old ≡ Some best) × (IsBetter next best → ⊥) × (new ≡ Some best)) ⊎ ((((best : PartialMatch) × (old ≡ Some best) × IsBetter next best) ⊎ (old ≡ None)) × (new ≡ Some next))
-
-best_of-chosen : (before : List Codespace) (text : List ℕ) (space : declared.Codespace) (n : ℕ) (old new : Option PartialMatch) → IsBestOf before text old → MatchesMost (codespace_seen space) text n → IsChosen old (record { matched = n; len = space.len }) new
-    → IsBestOf (before ++ codespace_seen space ∷ []) text new
-best_of-chosen before text space n old new is most (inl (best, was, worse, stays)) =
-    subst (IsBestOf (before ++ codespace_seen space ∷ []) text) (sym stays) (best-same before text (codespace_seen space) best.matched (length_of best.len) n (subst (IsBestOf before text) was is) most worse)
-best_of-chosen before text space n old new is most (inr (inl (best, was, better), goes)) =
-    subst (IsBestOf (before ++ codespace_seen space ∷ []) text) (sym goes) (best-next before text (codespace_seen space) best.matched (length_of best.len) n (subst (IsBestOf before text) was is) most better)
-best_of-chosen before text space n old new is most (inr (inr none, goes)) =
-    subst (IsBestOf (before ++ codespace_seen space ∷ []) text) (sym goes) (best-first before text (codespace_seen space) n (subst (IsBestOf before text) none is) most)
-
--- and of the next range of a list
-pub best_of-more : (before : List Codespace) (text : List ℕ) (spaces : List declared.Codespace) (i n : ℕ) (d : declared.Codespace) (old new : Option PartialMatch) → i < length spaces → IsBestOf (before ++ map codespace_seen (take i spaces)) text old
-    → MatchesMost (codespace_seen (get_or spaces i d)) text n → IsChosen old (record { matched = n; len = (get_or spaces i d).len }) new → IsBestOf (before ++ map codespace_seen (take (i + 1) spaces)) text new
-best_of-more before text spaces i n d old new within is most chosen =
-    let next = get_or spaces i d in
-    let more : before ++ map codespace_seen (take (i + 1) spaces) ≡ (before ++ map codespace_seen (take i spaces)) ++ codespace_seen next ∷ []
-    = ap (λ l. before ++ map codespace_seen l) (take_more spaces i d within) ∙ ap (λ l. before ++ l) (map-append codespace_seen (take i spaces) (next ∷ [])) ∙ sym (append_assoc before _ _) in
-    subst (λ l. IsBestOf l text new) (sym more) (best_of-chosen (before ++ map codespace_seen (take i spaces)) text next n old new is most chosen)
+pub no_ranges : (spaces : List Codespace) (text : List ℕ) (most : ℕ) → MatchAtMost spaces text (most + 1) most → spaces ≡ []
+no_ranges [] text most few = refl
+no_ranges (space ∷ rest) text most few = let fit = few 0 space (omega arith) 0 (omega arith, omega arith, λ k below. absurd (omega arith)) in absurd (omega arith)
 
 -- ---- one number of bytes
 matches_least : (spaces : List Codespace) (text : List ℕ) (n len m other : ℕ) → IsBestMatch spaces text n len → IsBestMatch spaces text m other → n ≤ m

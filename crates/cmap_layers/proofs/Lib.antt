@@ -6,5 +6,7 @@ pub mod LastFound
 pub mod LayerStretches
 pub mod LayersSearched
 pub mod OneStringCode
+pub mod RowBits
 pub mod RowWritten
+pub mod SpacesFound
 pub mod TablesCopied

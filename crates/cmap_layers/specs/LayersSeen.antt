@@ -24,7 +24,7 @@ layer_seen layer = record {
     cids = by_length_seen layer.cids;
     notdefs = by_length_seen layer.notdefs;
     bfs = map bf_entry_seen layer.bfs;
-    spaces = map codespace_seen layer.spaces.items;
+    spaces = map codespace_seen layer.spaces;
   };
 }
 

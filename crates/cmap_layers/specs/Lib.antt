@@ -5,7 +5,7 @@ pub mod LayersDecide
 pub mod Searches
 pub mod Counts
 pub mod StringCodes
-pub mod PartialMatches
+pub mod SpaceBits
 pub mod Rows
 pub mod RowsWritten
 pub mod CodeStretches

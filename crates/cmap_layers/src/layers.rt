@@ -7,6 +7,7 @@ ghost use Rattle.cmap_files.specs.Files.{of_length};
 ghost use Rattle.cmap_layers.specs.Counts.{counts_of, lengths_of};
 ghost use Rattle.cmap_layers.specs.LayersSeen.{by_length_seen, layer_seen, lists_held, metadata_seen};
 
+use crate::codespaces::Spaces;
 use cmap_files::code_length::CodeLength;
 use cmap_files::declarations::{BfRange, ByLength, CidRange, Codespace, Lists};
 use cmap_files::metadata::Metadata;
@@ -21,7 +22,7 @@ pub struct Layer {
     pub(crate) cids: ByLength<Table<CidRange>>,
     pub(crate) notdefs: ByLength<Table<CidRange>>,
     pub(crate) bfs: Table<BfRange>,
-    pub(crate) spaces: Vec<Codespace>,
+    pub(crate) spaces: Spaces,
 }
 
 /// How many declarations a layer has of each kind.
@@ -51,6 +52,7 @@ impl Layer {
         } = lists;
         let bfs = Table::build(alloc, bfs)?;
         let (cids, notdefs) = build_tables(alloc, cids, notdefs)?;
+        let spaces = Spaces::build(alloc, spaces)?;
         Ok(Layer {
             metadata,
             cids,
@@ -126,7 +128,7 @@ impl Layer {
         let copied = |tables| copied_lists(alloc, tables);
         let [cids, notdefs] = [&self.cids, &self.notdefs].try_map(copied)?;
         let bfs = copied_bfs(alloc, &self.bfs)?;
-        let spaces = Vec::from_slice(alloc, &self.spaces)?;
+        let spaces = Vec::from_slice(alloc, self.spaces.as_slice())?;
         Ok(Lists {
             cids,
             notdefs,

@@ -1,20 +1,17 @@
 //! The code that a string begins with, by the codespace ranges of all layers.
 //! ISO 32000-1, 9.7.6.2 and 9.7.6.3.
 
-ghost use Rattle.std.specs.Prelude.{◌≡◌, ◌↔◌, ◌≤◌, true, false, List, [], ◌++◌, length, map, IfSome, IsTrue, MatchOption};
+ghost use Rattle.std.specs.Prelude.{◌≡◌, ◌≤◌, [], length, IfSome, MatchOption};
 ghost use Rattle.cmap_files.specs.CodeLengths.{IsCodeLength};
-ghost use Rattle.cmap_files.specs.DeclarationsSeen.{codespace_seen};
-ghost use Rattle.cmap_files.specs.Files as files;
 ghost use Rattle.cmap_files.specs.Only.{HoldsOfNone, IsOnly};
 ghost use Rattle.cmap_layers.specs.LayersSeen.{layers_seen};
 ghost use Rattle.cmap_layers.specs.Lookups.{HaveNoShorter};
-ghost use Rattle.cmap_layers.specs.PartialMatches.{IsBestOf, IsBetter, MatchesMost};
+ghost use Rattle.cmap_layers.specs.SpaceBits.{IsShortestMatch};
 ghost use Rattle.cmap_layers.specs.StringCodes.{BeginsInside, IsNextCode, IsShortestInside, Wants, front, ranges_of};
 
-use crate::codespaces::{byte_at, contains, has_len};
+use crate::codespaces::{any_has_front, contains};
 use crate::layers::Layer;
-use cmap_files::code_length::{CodeLength, read_code};
-use cmap_files::declarations::Codespace;
+use cmap_files::code_length::read_code;
 
 /// The code that a string begins with. ISO 32000-1, 9.7.6.2.
 #[derive(Clone, Copy, Debug, PartialEq, Eq)]
@@ -49,7 +46,7 @@ pub fn next_code(layers: &[Layer], text: &[u8]) -> Option<StringCode>
 pub fn fewest_bytes(layers: &[Layer]) -> u8
     ensures { HaveNoShorter (layers_seen layers.now) result }
 {
-    if has_len(layers, CodeLength::One) {
+    if any_has_front(layers, 1, &[]) {
         1
     } else {
         2
@@ -136,73 +133,25 @@ fn bytes_wanted(layers: &[Layer], text: &[u8]) -> u8
     ensures wanted { Wants (ranges_of (layers_seen layers.now)) text.now result }
     ensures length { IsCodeLength result }
 {
-    match best_match(layers, text) {
-        Some(best) => best.len.count(),
-        None => 1,
-    }
-}
-
-/// How a codespace range matches a string.
-#[derive(Clone, Copy)]
-struct PartialMatch {
-    /// How many bytes of the string it matches.
-    matched: u8,
-    /// How many bytes its codes have.
-    len: CodeLength,
-}
-
-impl PartialMatch {
-    /// Whether it matches more, or as much with shorter codes.
-    fn is_better(self, than: PartialMatch) -> bool
-        ensures { IsTrue result ↔ IsBetter self than }
-    {
-        than.matched < self.matched
-            || than.matched == self.matched && self.len.count() < than.len.count()
-    }
-}
-
-/// The best match of the codespace ranges of all layers.
-fn best_match(layers: &[Layer], text: &[u8]) -> Option<PartialMatch>
-    ensures { IsBestOf (ranges_of (layers_seen layers.now)) text.now result }
-{
-    let mut best = None;
-    for layer in layers {
-        best = best_of(&layer.spaces, text, best);
-    }
-    best
-}
-
-/// The best match of some ranges and of those before them, of which `first` is the best one.
-fn best_of(spaces: &[Codespace], text: &[u8], first: Option<PartialMatch>) -> Option<PartialMatch>
-    ensures { (before : List files.Codespace) → IsBestOf before text.now first
-        → IsBestOf (before ++ map codespace_seen spaces.now) text.now result }
-{
-    let mut best = first;
-    for space in spaces {
-        let next = PartialMatch {
-            matched: matched(space, text),
-            len: space.len,
-        };
-        best = match best {
-            Some(best) if !next.is_better(best) => Some(best),
-            _ => Some(next),
-        };
-    }
-    best
-}
-
-/// How many bytes of a string a range matches.
-fn matched(space: &Codespace, text: &[u8]) -> u8
-    ensures { MatchesMost (codespace_seen space.now) text.now result }
-{
-    let len = space.len.count();
-    let most = text.len().min(usize::from(len)) as u8;
-    for index in 0..most {
-        let byte = u32::from(text[usize::from(index)]);
-        let after = len - 1 - index;
-        if byte < byte_at(space.low, after) || byte_at(space.high, after) < byte {
-            return index;
+    let most = text.len().min(4);
+    for fewer in 0..most + 1 {
+        if let Some(byte_len) = shortest_with_front(layers, &text[..most - fewer]) {
+            return byte_len;
         }
     }
-    most
+    1
+}
+
+/// How many bytes the codes have at least of the ranges that match all these bytes; `None` where no
+/// range does.
+fn shortest_with_front(layers: &[Layer], front: &[u8]) -> Option<u8>
+    requires { length front.now ≤ 4 }
+    ensures { IsShortestMatch (ranges_of (layers_seen layers.now)) front.now result }
+{
+    for byte_len in 1..5 {
+        if any_has_front(layers, byte_len, front) {
+            return Some(byte_len);
+        }
+    }
+    None
 }

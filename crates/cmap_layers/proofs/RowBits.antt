@@ -1,0 +1,157 @@
+-- Bits of codespace ranges: which are set by a range, and which rows the range is in.
+use Rattle.std.proofs.Common.{◌≡◌, ℕ, suc, ◌+◌, ◌-◌, ◌*◌, ◌/◌, ◌%◌, ◌^◌, ◌<◌, ◌≤◌, ◌⊎◌, List, length, set, get_or, min, Some, None, refl, sym, ap, ◌∙◌, subst, inl, inr, w64, get_or-set_same, get_or-set_other, slice_get, bit_and, bit_or, arith}
+use Rattle.std.specs.Prelude.{◌↔◌, IsSomeAnd}
+use Rattle.std.specs.Int.{bit_at}
+use Rattle.std.proofs.lemmas.Bool.{cases_eq, cases_lt}
+use Rattle.std.proofs.lemmas.Nat.Bits.{bit_at-lt, bit_at_and, bit_at_set_same, bit_at_set_other, bit_at-zero}
+use Rattle.std.proofs.lemmas.Option.{slice_get_cases}
+use Rattle.cmap_files.specs.DeclarationsSeen.{codespace_seen}
+use Rattle.cmap_files.specs.Files.{Codespace}
+use Rattle.cmap_files.specs.declared.declarations.Codespace as declared
+use Rattle.cmap_layers.specs.Lookups.{byte_at}
+use Rattle.cmap_layers.specs.SpaceBits.{HasRow, HaveBits, InRow, IsAt}
+
+-- ---- bits
+both_set : (a b i : ℕ) → (bit_at (bit_and a b) i ≡ 1) ↔ ((bit_at a i ≡ 1) × (bit_at b i ≡ 1))
+both_set a b i =
+    let least = bit_at_and a b i in
+    let first = bit_at-lt a i in
+    let second = bit_at-lt b i in
+    (λ both. (omega arith, omega arith), λ both. omega (arith, both.0, both.1))
+
+pub all_set : (a b c d e i : ℕ) → (bit_at (bit_and (bit_and (bit_and (bit_and a b) c) d) e) i ≡ 1) ↔ ((bit_at a i ≡ 1) × (bit_at b i ≡ 1) × (bit_at c i ≡ 1) × (bit_at d i ≡ 1) × (bit_at e i ≡ 1))
+all_set a b c d e i =
+    let two = both_set a b i in
+    let three = both_set (bit_and a b) c i in
+    let four = both_set (bit_and (bit_and a b) c) d i in
+    let five = both_set (bit_and (bit_and (bit_and a b) c) d) e i in (
+      λ all. let (abcd, its) = five.0 all in let (abc, fourth) = four.0 abcd in let (ab, third) = three.0 abc in let (first, second) = two.0 ab in (first, second, third, fourth, its),
+      λ each. five.1 (four.1 (three.1 (two.1 (each.0, each.1), each.2), each.3), each.4),
+    )
+
+one_more : (n k i : ℕ) → k < 64 → (bit_at (bit_or n (1 * 2 ^ k % 2 ^ 64)) i ≡ 1) ↔ ((bit_at n i ≡ 1) ⊎ (i ≡ k))
+one_more n k i within =
+    let new = bit_or n (1 * 2 ^ k % 2 ^ 64) in
+    elim (cases_eq i k) [
+      | inl same ↦ (λ _. inr same, λ _. subst (λ j. bit_at new j ≡ 1) (sym same) (bit_at_set_same w64 n k within))
+      | inr other ↦
+          let is : bit_at new i ≡ bit_at n i = bit_at_set_other w64 n k within i other in
+          (λ now. inl (sym is ∙ now), λ either. elim either [ inl was ↦ is ∙ was | inr same ↦ absurd (other same) ])
+    ]
+
+-- one bit more in one row
+pub row_set : (rows : List ℕ) (at bit row i : ℕ) → at < length rows → bit < 64
+    → (bit_at (get_or (set rows at (bit_or (get_or rows at 0) (1 * 2 ^ bit % 2 ^ 64))) row 0) i ≡ 1) ↔ ((bit_at (get_or rows row 0) i ≡ 1) ⊎ ((i ≡ bit) × (row ≡ at)))
+row_set rows at bit row i within small =
+    let new = bit_or (get_or rows at 0) (1 * 2 ^ bit % 2 ^ 64) in
+    let more = one_more (get_or rows at 0) bit i small in
+    elim (cases_eq row at) [
+      | inl same ↦
+          let is : get_or (set rows at new) row 0 ≡ new = ap (λ r. get_or (set rows at new) r 0) same ∙ get_or-set_same rows at new 0 within in
+          let old : get_or rows row 0 ≡ get_or rows at 0 = ap (λ r. get_or rows r 0) same in (
+            λ now. elim (more.0 (ap (λ n. bit_at n i) (sym is) ∙ now)) [ inl was ↦ inl (ap (λ n. bit_at n i) old ∙ was) | inr its ↦ inr (its, same) ],
+            λ either. ap (λ n. bit_at n i) is ∙ more.1 (elim either [ inl was ↦ inl (ap (λ n. bit_at n i) (sym old) ∙ was) | inr its ↦ inr its.0 ]),
+          )
+      | inr other ↦
+          let is : get_or (set rows at new) row 0 ≡ get_or rows row 0 = get_or-set_other rows at row new 0 other in
+          (λ now. inl (ap (λ n. bit_at n i) (sym is) ∙ now), λ either. ap (λ n. bit_at n i) is ∙ elim either [ inl was ↦ was | inr its ↦ absurd (other its.1) ])
+    ]
+
+-- ---- rows
+pub value_row : (space : Codespace) (place value : ℕ) → place < 4 → value < 256 → InRow (256 * place + value) space ↔ IsAt space place value
+value_row space place value few small =
+    let row = 256 * place + value in
+    let at : row / 256 ≡ place = omega arith in
+    let its : row % 256 ≡ value = omega arith in (
+      λ held. subst (λ p. IsAt space p value) at (subst (λ v. IsAt space (row / 256) v) its (held.0 (omega arith))),
+      λ is. (λ _. subst (λ p. IsAt space p (row % 256)) (sym at) (subst (λ v. IsAt space place v) (sym its) is), λ past. absurd (omega arith)),
+    )
+
+pub length_row : (space : Codespace) (len : ℕ) → 1 ≤ len → InRow (1023 + len) space ↔ (space.len ≡ len)
+length_row space len some = (λ held. omega (arith, held.1 (omega arith)), λ is. (λ below. absurd (omega arith), λ _. omega arith))
+
+-- the rows of a range are that of its length, and those of the values of its places
+abbrev pub IsTouched : Codespace → ℕ → ℕ → Type 0
+IsTouched space places row = (row ≡ 1023 + space.len) ⊎ ((row < 256 * places) × IsAt space (row / 256) (row % 256))
+
+pub none_touched : (space : Codespace) (row : ℕ) → IsTouched space 0 row ↔ (row ≡ 1023 + space.len)
+none_touched space row = (λ either. elim either [ inl its ↦ its | inr below ↦ let low = below.0 in absurd (omega arith) ], λ its. inl its)
+
+pub all_touched : (space : Codespace) (row : ℕ) → 1 ≤ space.len → space.len ≤ 4 → IsTouched space space.len row ↔ InRow row space
+all_touched space row some few = (
+  λ either. elim either [
+    | inl its ↦ (λ below. absurd (omega arith), λ _. omega arith)
+    | inr value ↦ let low = value.0 in (λ _. value.1, λ past. absurd (omega arith))
+  ],
+  λ held. elim (cases_lt row 1024) [
+    | inl below ↦ let is = held.0 below in let within = is.0 in inr (omega arith, is)
+    | inr past ↦ inl (omega (arith, held.1 past))
+  ],
+)
+
+-- and those of one place more, from low to high
+pub touched_more : (space : Codespace) (place low high row : ℕ) → place < space.len → low < 256 → high < 256 → low ≡ byte_at space.low (space.len - suc place) → high ≡ byte_at space.high (space.len - suc place)
+    → (IsTouched space place row ⊎ ((256 * place + low ≤ row) × (row ≤ 256 * place + high))) ↔ IsTouched space (place + 1) row
+touched_more space place low high row within low_fits high_fits low_is high_is = (
+  λ either. elim either [
+    | inl old ↦ elim old [ inl its ↦ inl its | inr value ↦ let below = value.0 in inr (omega arith, value.1) ]
+    | inr (from, to) ↦
+        let at : place ≡ row / 256 = omega arith in
+        inr (omega arith, subst (λ p. IsAt space p (row % 256)) at (within, omega arith, omega arith))
+  ],
+  λ new. elim new [
+    | inl its ↦ inl (inl its)
+    | inr value ↦ elim (cases_lt row (256 * place)) [
+      | inl below ↦ inl (inr (below, value.1))
+      | inr from ↦
+          let upto = value.0 in
+          let at : row / 256 ≡ place = omega arith in
+          let is = subst (λ p. IsAt space p (row % 256)) at value.1 in
+          let least = is.1 in
+          let most = is.2 in
+          inr (omega arith, omega arith)
+    ]
+  ],
+)
+
+-- ---- the bits of ranges in a row
+pub no_bits : (spaces : List declared.Codespace) (first : ℕ) (rows : List ℕ) → length rows ≡ 1028 → ((row : ℕ) → row < 1028 → get_or rows row 0 ≡ 0) → HaveBits spaces first 0 rows
+no_bits spaces first rows size none = record {
+  size = size;
+  bits = λ row i within. (λ is. absurd (omega (arith, ap (λ n. bit_at n i) (none row within), bit_at-zero i, is)), λ has. absurd (omega (arith, has.0)));
+}
+
+pub more_bits : (spaces : List declared.Codespace) (first n : ℕ) (space : declared.Codespace) (old new : List ℕ) → slice_get spaces (first + n) ≡ Some space → HaveBits spaces first n old → length new ≡ 1028
+    → ((row i : ℕ) → row < 1028 → (bit_at (get_or new row 0) i ≡ 1) ↔ ((bit_at (get_or old row 0) i ≡ 1) ⊎ ((i ≡ n) × InRow row (codespace_seen space)))) → HaveBits spaces first (n + 1) new
+more_bits spaces first n space old new at have size set = record {
+  size = size;
+  bits = λ row i within.
+      let was = have.bits row i within in
+      let now = set row i within in
+      let here : (i ≡ n) → slice_get spaces (first + i) ≡ Some space = λ same. ap (λ k. slice_get spaces (first + k)) same ∙ at in (
+        λ is. elim (now.0 is) [
+          | inl before ↦ let (below, has) = was.0 before in (omega arith, has)
+          | inr its ↦ (omega (arith, its.0), subst (λ o. IsSomeAnd o (λ s. InRow row (codespace_seen s))) (sym (here its.0)) its.1)
+        ],
+        λ has. now.1 (elim (cases_lt i n) [
+          | inl below ↦ inl (was.1 (below, has.1))
+          | inr past ↦ let same : i ≡ n = omega (arith, has.0) in inr (same, subst (λ o. IsSomeAnd o (λ s. InRow row (codespace_seen s))) (here same) has.1)
+        ]),
+      );
+}
+
+HasRow-within : (spaces : List declared.Codespace) (index row : ℕ) → HasRow spaces index row → index < length spaces
+HasRow-within spaces index row has =
+    elim (slice_get_cases spaces index).1 [
+      | inl found ↦ found.1
+      | inr past ↦ absurd (subst (λ o. IsSomeAnd o (λ s. InRow row (codespace_seen s))) past.1 has)
+    ]
+
+pub all_bits : (spaces : List declared.Codespace) (first count : ℕ) (rows : List ℕ) → first ≤ length spaces → count ≡ min (length spaces - first) 64 → HaveBits spaces first count rows → HaveBits spaces first 64 rows
+all_bits spaces first count rows within is have = record {
+  size = have.size;
+  bits = λ row i lt. let bits = have.bits row i lt in (
+    λ set. let (below, has) = bits.0 set in (omega arith, has),
+    λ has. let index = HasRow-within spaces (first + i) row has.1 in let below = has.0 in bits.1 (omega arith, has.1),
+  );
+}

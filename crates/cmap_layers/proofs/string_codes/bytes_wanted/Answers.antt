@@ -1,0 +1,18 @@
+use Rattle.std.proofs.Common.{◌≡◌, ◌+◌, ◌-◌, take, refl, sym, ap, ◌∙◌, subst, inl, inr, arith}
+use Rattle.cmap_layers.specs.LayersSeen.{layers_seen}
+use Rattle.cmap_layers.specs.StringCodes.{ranges_of}
+use Rattle.cmap_layers.proofs.BestMatch.{MatchAtMost, all_at_most, best_with_front, no_ranges}
+use Rattle.cmap_layers.proofs.string_codes.bytes_wanted.Goals as goal
+
+pub loop-fewer-init : goal.loop-fewer-init
+loop-fewer-init c = all_at_most c.args.layers.now c.args.text.now c.min-most.result (omega (arith, c.min-most.ensures))
+
+pub returns-in-Some-clause-wanted : goal.returns-in-Some-clause-wanted
+returns-in-Some-clause-wanted c =
+    let most = c.min-most.result in let fewer = c.loop-fewer.fewer in
+    inl (most - fewer, best_with_front (ranges_of (layers_seen c.args.layers.now)) c.args.text.now fewer most (most - fewer) c.in-Some.byte_len (omega arith) (omega (arith, c.min-most.ensures)) c.loop-fewer.invariant c.in-Some.ensures)
+
+pub returns-clause-wanted : goal.returns-clause-wanted
+returns-clause-wanted c =
+    let end : c.loop-fewer.fewer ≡ c.min-most.result + 1 = omega arith in
+    inr (no_ranges (ranges_of (layers_seen c.args.layers.now)) c.args.text.now c.min-most.result (subst (λ fewer. MatchAtMost (ranges_of (layers_seen c.args.layers.now)) c.args.text.now fewer c.min-most.result) end c.loop-fewer.invariant), refl)

@@ -1,0 +1,19 @@
+use Rattle.std.proofs.Common.{sym, ap, ◌∙◌, subst, inl, inr, arith}
+use Rattle.std.proofs.lemmas.Bool.{cases_lt, false≢true}
+use Rattle.cmap_layers.specs.LayersSeen.{layers_seen}
+use Rattle.cmap_layers.proofs.BestMatch.{HaveFront, none_found, shortest_found}
+use Rattle.cmap_layers.proofs.string_codes.shortest_with_front.Goals as goal
+
+pub returns-then-any_has_front : goal.returns-then-any_has_front
+returns-then-any_has_front c =
+    shortest_found c.args.layers.now c.args.front.now c.loop-byte_len.byte_len (omega arith, omega arith) c.loop-byte_len.invariant (c.any_has_front.ensures.0 c.if-any_has_front.true)
+
+pub loop-byte_len-preserved : goal.loop-byte_len-preserved
+loop-byte_len-preserved c = λ n some below found.
+    elim (cases_lt n c.loop-byte_len.byte_len) [
+      | inl before ↦ c.loop-byte_len.invariant n some before found
+      | inr last ↦ false≢true (sym c.if-any_has_front.false ∙ c.any_has_front.ensures.1 (subst (HaveFront (layers_seen c.args.layers.now) c.args.front.now) (omega arith) found))
+    ]
+
+pub returns : goal.returns
+returns c = none_found c.args.layers.now c.args.front.now (λ n some below. c.loop-byte_len.invariant n some (omega arith))

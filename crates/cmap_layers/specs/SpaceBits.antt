@@ -1,0 +1,63 @@
+-- Private aid: codespace ranges by the bytes of their codes. A block has bits for 64 ranges in a row: in each of its rows a bit for each range that is in the row.
+use Rattle.std.specs.Prelude.{◌≡◌, ◌↔◌, MatchOption, Option, All, Any, ℕ, suc, ◌+◌, ◌-◌, ◌*◌, ◌/◌, ◌%◌, ◌<◌, ◌≤◌, List, length, get_or, slice_get, slice_index, nat_lt, if◌then◌else◌, IsSomeAnd}
+use Rattle.std.specs.Global.{Vec}
+use Rattle.std.specs.Int.{bit_at}
+use Rattle.cmap_files.specs.DeclarationsSeen.{codespace_seen}
+use Rattle.cmap_files.specs.CodeLengths.{IsCodeLength}
+use Rattle.cmap_files.specs.Files.{Codespace}
+use Rattle.cmap_files.specs.declared.declarations.Codespace as declared
+use Rattle.cmap_layers.specs.Lookups.{byte_at}
+use Rattle.cmap_layers.specs.StringCodes.{Matches}
+use Rattle.cmap_layers.specs.declared.codespaces.query.Query.{Query}
+
+-- a code of the range may have this value at this place, counted from its first byte
+abbrev pub IsAt : Codespace → ℕ → ℕ → Type 0
+IsAt space place value = (place < space.len) × (byte_at space.low (space.len - suc place) ≤ value) × (value ≤ byte_at space.high (space.len - suc place))
+
+-- the range has codes of this length, and they may begin with these bytes
+abbrev pub HasFront : ℕ → List ℕ → Codespace → Type 0
+HasFront len front space = (space.len ≡ len) × ((k : ℕ) → k < length front → IsAt space k (slice_index front k))
+
+-- the range is in the row: there are 256 rows for each of four places, one for each value, and then one for each length
+abbrev pub InRow : ℕ → Codespace → Type 0
+InRow row space = (row < 1024 → IsAt space (row / 256) (row % 256)) × (1024 ≤ row → space.len ≡ row - 1023)
+
+-- the bit stands for a range at this index that is in the row
+abbrev pub HasRow : List declared.Codespace → ℕ → ℕ → Type 0
+HasRow spaces index row = IsSomeAnd (slice_get spaces index) (λ space. InRow row (codespace_seen space))
+
+-- the rows of the ranges from the first one on; of these, the bits of so many are set
+pub record HaveBits (spaces : List declared.Codespace) (first count : ℕ) (rows : List ℕ) : Type 0 where
+  pub size : length rows ≡ 1028
+  pub bits : (row i : ℕ) → row < 1028 → (bit_at (get_or rows row 0) i ≡ 1) ↔ ((i < count) × HasRow spaces (first + i) row)
+
+-- each block has the bits of 64 ranges, the last one of fewer
+pub record AreBlocks (spaces : List declared.Codespace) (blocks : List (Vec ℕ)) : Type 0 where
+  pub each : (b : ℕ) (d : Vec ℕ) → b < length blocks → HaveBits spaces (64 * b) 64 (get_or blocks b d).items
+  pub all : length spaces ≤ 64 * length blocks
+
+-- the row of the byte at a place of a front, or another one where the front is shorter
+abbrev pub front_row : List ℕ → ℕ → ℕ → ℕ
+front_row front otherwise place = if nat_lt place (length front) then 256 * place + slice_index front place else otherwise
+
+-- a block has these rows
+pub record AreRows (query : Query) : Type 0 where
+  pub length : query.length < 1028
+  pub first : query.first < 1028
+  pub second : query.second < 1028
+  pub third : query.third < 1028
+  pub fourth : query.fourth < 1028
+
+-- the range is in each row
+abbrev pub InRows : Query → Codespace → Type 0
+InRows query space = InRow query.length space × InRow query.first space × InRow query.second space × InRow query.third space × InRow query.fourth space
+
+-- the bit is set in each row
+abbrev pub AreSet : List ℕ → Query → ℕ → Type 0
+AreSet rows query i = (bit_at (get_or rows query.length 0) i ≡ 1) × (bit_at (get_or rows query.first 0) i ≡ 1) × (bit_at (get_or rows query.second 0) i ≡ 1) × (bit_at (get_or rows query.third 0) i ≡ 1) × (bit_at (get_or rows query.fourth 0) i ≡ 1)
+
+-- of the ranges that match all these bytes, the shortest codes have so many bytes; none where no range does
+abbrev pub IsShortestMatch : List Codespace → List ℕ → Option ℕ → Type 0
+IsShortestMatch spaces front found = MatchOption found
+    (All (λ space. Matches space front (length front) → ⊥) spaces)
+    (λ len. IsCodeLength len × Any (λ space. Matches space front (length front) × (space.len ≡ len)) spaces × All (λ space. Matches space front (length front) → len ≤ space.len) spaces)
