@@ -1,15 +1,17 @@
 -- Bits of codespace ranges: which are set by a range, and which rows the range is in.
-use Rattle.std.proofs.Common.{◌≡◌, ℕ, suc, ◌+◌, ◌-◌, ◌*◌, ◌/◌, ◌%◌, ◌^◌, ◌<◌, ◌≤◌, ◌⊎◌, List, length, set, get_or, min, Some, None, refl, sym, ap, ◌∙◌, subst, inl, inr, w64, get_or-set_same, get_or-set_other, slice_get, bit_and, bit_or, arith}
-use Rattle.std.specs.Prelude.{◌↔◌, IsSomeAnd}
-use Rattle.std.specs.Int.{bit_at}
+use Rattle.std.proofs.Common.{◌≡◌, ◌≢◌, ℕ, suc, ◌+◌, ◌-◌, ◌*◌, ◌/◌, ◌%◌, ◌^◌, ◌<◌, ◌≤◌, ◌⊎◌, ◌++◌, not, List, length, take, drop, set, get_or, true≢false, eq-eqb, ne_eqb, min, Some, None, refl, sym, ap, ◌∙◌, subst, inl, inr, w64, get_or-set_same, get_or-set_other, slice_get, bit_and, bit_or, arith}
+use Rattle.std.specs.Prelude.{◌↔◌, IsSomeAnd, IsTrue, nat_eq}
+use Rattle.std.specs.Int.{bit_at, trailing_zeros}
+use Rattle.std.specs.Global.{Vec}
 use Rattle.std.proofs.lemmas.Bool.{cases_eq, cases_lt}
-use Rattle.std.proofs.lemmas.Nat.Bits.{bit_at-lt, bit_at_and, bit_at_set_same, bit_at_set_other, bit_at-zero}
+use Rattle.std.proofs.lemmas.Nat.Bits.{bit_at-lt, bit_at-trailing_zeros, bit_at_and, bit_at_set_same, bit_at_set_other, bit_at-zero}
 use Rattle.std.proofs.lemmas.Option.{slice_get_cases}
+use Rattle.std.proofs.Math.Seq.{take-append_seam}
 use Rattle.cmap_files.specs.DeclarationsSeen.{codespace_seen}
 use Rattle.cmap_files.specs.Files.{Codespace}
 use Rattle.cmap_files.specs.declared.declarations.Codespace as declared
 use Rattle.cmap_layers.specs.Lookups.{byte_at}
-use Rattle.cmap_layers.specs.SpaceBits.{HasRow, HaveBits, InRow, IsAt}
+use Rattle.cmap_layers.specs.SpaceBits.{HasGroup, HasRow, HaveBits, InRow, IsAt}
 
 -- ---- bits
 both_set : (a b i : ℕ) → (bit_at (bit_and a b) i ≡ 1) ↔ ((bit_at a i ≡ 1) × (bit_at b i ≡ 1))
@@ -56,6 +58,18 @@ row_set rows at bit row i within small =
           let is : get_or (set rows at new) row 0 ≡ get_or rows row 0 = get_or-set_other rows at row new 0 other in
           (λ now. inl (ap (λ n. bit_at n i) (sym is) ∙ now), λ either. ap (λ n. bit_at n i) is ∙ elim either [ inl was ↦ was | inr its ↦ absurd (other its.1) ])
     ]
+
+-- some bit is set just where the number isn't 0
+pub any_bit : (n : ℕ) → n < 2 ^ 64 → IsTrue (not (nat_eq n 0)) ↔ ((i : ℕ) × (bit_at n i ≡ 1))
+any_bit n fits =
+    elim (cases_eq n 0) [
+      | inl none ↦ (λ yes. absurd (true≢false (sym yes ∙ ap not (eq-eqb n 0 none))), λ some. absurd (omega (arith, ap (λ m. bit_at m some.0) none, bit_at-zero some.0, some.1)))
+      | inr some ↦ (λ _. (trailing_zeros w64 n, (bit_at-trailing_zeros w64 n (omega arith) fits).1), λ _. ap not (ne_eqb n 0 some))
+    ]
+
+-- what is written back over a whole list
+pub written_back : (new old : List ℕ) (n : ℕ) → length new ≡ n → take n (new ++ drop (length new) old) ≡ new
+written_back new old n whole = subst (λ m. take m (new ++ drop (length new) old) ≡ new) whole (take-append_seam new (drop (length new) old))
 
 -- ---- rows
 pub value_row : (space : Codespace) (place value : ℕ) → place < 4 → value < 256 → InRow (256 * place + value) space ↔ IsAt space place value
@@ -155,3 +169,30 @@ all_bits spaces first count rows within is have = record {
     λ has. let index = HasRow-within spaces (first + i) row has.1 in let below = has.0 in bits.1 (omega arith, has.1),
   );
 }
+
+-- ---- groups of blocks
+pub no_group : (blocks : List (Vec ℕ)) (first : ℕ) (rows : List ℕ) → length rows ≡ 1028 → HasGroup blocks first 0 rows
+no_group blocks first rows size = record { size = size; marked = λ b row d below. absurd (omega arith); }
+
+pub more_group : (blocks : List (Vec ℕ)) (first n : ℕ) (old new block : List ℕ) → HasGroup blocks first n old → length new ≡ 1028 → ((d : Vec ℕ) → (get_or blocks (first + n) d).items ≡ block)
+    → ((row : ℕ) → row < 1028 → get_or block row 0 ≢ 0 → bit_at (get_or new row 0) n ≡ 1) → ((row i : ℕ) → row < 1028 → bit_at (get_or old row 0) i ≡ 1 → bit_at (get_or new row 0) i ≡ 1) → HasGroup blocks first (n + 1) new
+more_group blocks first n old new block has size is marked kept = record {
+  size = size;
+  marked = λ b row d below within lt some.
+      elim (cases_lt b n) [
+        | inl before ↦ kept row b lt (has.marked b row d before within lt some)
+        | inr last ↦
+            let same : b ≡ n = omega arith in
+            let there : (get_or blocks (first + b) d).items ≡ block = ap (λ k. (get_or blocks (first + k) d).items) same ∙ is d in
+            subst (λ k. bit_at (get_or new row 0) k ≡ 1) (sym same) (marked row lt (λ none. some (ap (λ rows. get_or rows row 0) there ∙ none)))
+      ];
+}
+
+pub whole_group : (blocks : List (Vec ℕ)) (first count : ℕ) (rows : List ℕ) → first ≤ length blocks → count ≡ min (length blocks - first) 64 → HasGroup blocks first count rows → HasGroup blocks first 64 rows
+whole_group blocks first count rows within is has = record {
+  size = has.size;
+  marked = λ b row d below inside lt some. has.marked b row d (omega arith) inside lt some;
+}
+
+pub row_marked : (old new : List ℕ) (at bit : ℕ) → at < length old → bit < 64 → new ≡ set old at (bit_or (get_or old at 0) (1 * 2 ^ bit % 2 ^ 64)) → (row i : ℕ) → (bit_at (get_or new row 0) i ≡ 1) ↔ ((bit_at (get_or old row 0) i ≡ 1) ⊎ ((i ≡ bit) × (row ≡ at)))
+row_marked old new at bit within small is row i = subst (λ rows. (bit_at (get_or rows row 0) i ≡ 1) ↔ ((bit_at (get_or old row 0) i ≡ 1) ⊎ ((i ≡ bit) × (row ≡ at)))) (sym is) (row_set old at bit row i within small)

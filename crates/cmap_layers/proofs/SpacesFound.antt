@@ -1,9 +1,13 @@
 -- Codespace ranges that are asked for: the rows of a query, and whether a range is in all of them.
-use Rattle.std.proofs.Common.{◌≡◌, ℕ, zero, suc, ◌+◌, ◌-◌, ◌*◌, ◌/◌, ◌%◌, ◌^◌, ◌<◌, ◌≤◌, ◌⊎◌, List, [], ◌∷◌, ◌++◌, length, map, drop, get_or, Option, Some, None, refl, sym, ap, ◌∙◌, subst, inl, inr, lt-ltb, le-ltb, div-one, slice_get, Any, arith}
+use Rattle.std.proofs.Common.{◌≡◌, ◌≢◌, ℕ, zero, suc, ◌+◌, ◌-◌, ◌*◌, ◌/◌, ◌%◌, ◌^◌, ◌<◌, ◌≤◌, ◌⊎◌, List, [], ◌∷◌, ◌++◌, length, map, drop, get_or, Option, Some, None, refl, sym, ap, ◌∙◌, subst, inl, inr, lt-ltb, le-ltb, div-one, slice_get, Any, arith}
 use Rattle.std.specs.Prelude.{◌↔◌, IsSomeAnd, nat_lt, slice_index, if◌then◌else◌}
 use Rattle.std.specs.Int.{bit_at, bytes_high_first}
 use Rattle.std.specs.Int as int
+use Rattle.std.specs.Global.{Vec}
 use Rattle.std.proofs.lemmas.Bool.{cases_lt}
+use Rattle.std.proofs.lemmas.Nat.Bits.{bit_at-zero}
+use Rattle.std.proofs.lemmas.Nat.{shr-shr}
+use Rattle.std.proofs.lemmas.Option.{slice_get_cases}
 use Rattle.cmap_files.specs.CodeLengths.{length_of}
 use Rattle.cmap_files.specs.DeclarationsSeen.{codespace_seen}
 use Rattle.cmap_files.specs.Files.{Codespace}
@@ -12,7 +16,7 @@ use Rattle.cmap_files.specs.declared.code_length.CodeLength.TheVariants.{One, Tw
 use Rattle.cmap_files.specs.declared.declarations.Codespace as declared
 use Rattle.cmap_layers.specs.Layers.{Layer}
 use Rattle.cmap_layers.specs.Lookups.{IsWithin, byte_at}
-use Rattle.cmap_layers.specs.SpaceBits.{AreRows, AreSet, HasFront, HaveBits, InRow, InRows, IsAt, front_row}
+use Rattle.cmap_layers.specs.SpaceBits.{AreBlocks, AreRows, AreSet, HasFront, HasGroup, HaveBits, HaveRows, InRow, InRows, IsAt, IsFound, IsFoundAmong, IsFoundAt, front_row}
 use Rattle.cmap_layers.specs.declared.codespaces.query.Query.{Query}
 use Rattle.cmap_layers.proofs.RowBits.{length_row, value_row}
 
@@ -176,3 +180,74 @@ at_any f P (x ∷ xs) (suc k, y, within, is, holds) = let (j, below, found) = at
 -- ---- all layers
 pub any_weaker : (P Q : Codespace → Type 0) (layers : List Layer) → ((space : Codespace) → P space → Q space) → Any (λ layer. Any P layer.lists.spaces) layers → Any (λ layer. Any Q layer.lists.spaces) layers
 any_weaker P Q layers weaker (k, layer, within, is, (i, space, below, at, holds)) = (k, layer, within, is, (i, space, below, at, weaker space holds))
+
+-- ---- what is found among blocks, and among groups of them
+set_somewhere : (n i : ℕ) → bit_at n i ≡ 1 → n ≢ 0
+set_somewhere n i set none = omega (arith, ap (λ m. bit_at m i) none, bit_at-zero i, set)
+
+pub found_within : (blocks : List (Vec ℕ)) (query : Query) (index : ℕ) → IsFoundAt blocks query index → index < length blocks
+found_within blocks query index found =
+    elim (slice_get_cases blocks index).1 [
+      | inl here ↦ here.1
+      | inr past ↦ absurd (subst (λ o. IsSomeAnd o (λ rows. IsFound rows.items query)) past.1 found)
+    ]
+
+pub found_here : (blocks : List (Vec ℕ)) (query : Query) (index : ℕ) (block : Vec ℕ) → slice_get blocks index ≡ Some block → IsFoundAt blocks query index → IsFound block.items query
+found_here blocks query index block at found = subst (λ o. IsSomeAnd o (λ rows. IsFound rows.items query)) at found
+
+-- a bit after a shift
+pub shifted : (n by i : ℕ) → bit_at (n / 2 ^ by) i ≡ bit_at n (by + i)
+shifted n by i = ap (λ m. m % 2) (shr-shr n by i)
+
+pub set_below : (n i : ℕ) → n < 2 ^ 64 → bit_at n i ≡ 1 → i < 64
+set_below n i fits set =
+    elim (cases_lt i 64) [
+      | inl below ↦ below
+      | inr past ↦
+          let none : n / 2 ^ 64 ≡ 0 = omega arith in
+          let at : 64 + (i - 64) ≡ i = omega arith in
+          let clear : bit_at n i ≡ 0 = ap (bit_at n) (sym at) ∙ sym (shifted n 64 (i - 64)) ∙ ap (λ m. bit_at m (i - 64)) none ∙ bit_at-zero (i - 64) in
+          absurd (omega arith)
+    ]
+
+-- a block with a range in all rows has its bit in all rows of its group
+pub group_found : (blocks : List (Vec ℕ)) (first b : ℕ) (rows : List ℕ) (query : Query) → HasGroup blocks first 64 rows → AreRows query → b < 64 → IsFoundAt blocks query (first + b) → AreSet rows query b
+group_found blocks first b rows query has fits below found =
+    elim (slice_get_cases blocks (first + b)).1 [
+      | inl (block, within, at, is) ↦
+          let (i, (one, two, three, four, five)) = subst (λ o. IsSomeAnd o (λ rows. IsFound rows.items query)) at found in
+          let mark = λ (row : ℕ) (fit : row < 1028) (set : bit_at (get_or block.items row 0) i ≡ 1). has.marked b row block below within fit (subst (λ (list : Vec ℕ). get_or list.items row 0 ≢ 0) (sym is) (set_somewhere (get_or block.items row 0) i set)) in
+          (mark query.length fits.length one, mark query.first fits.first two, mark query.second fits.second three, mark query.third fits.third four, mark query.fourth fits.fourth five)
+      | inr past ↦ absurd (subst (λ o. IsSomeAnd o (λ rows. IsFound rows.items query)) past.1 found)
+    ]
+
+pub have_rows : (spaces : List declared.Codespace) (blocks : List (Vec ℕ)) → AreBlocks spaces blocks → HaveRows blocks
+have_rows spaces blocks are = λ b d within. (are.each b d within).size
+
+-- a range is found among blocks just where one is in all rows
+pub blocks_find : (spaces : List declared.Codespace) (blocks : List (Vec ℕ)) (query : Query) → AreBlocks spaces blocks → AreRows query → IsFoundAmong blocks query ↔ Any (InRows query) (map codespace_seen spaces)
+blocks_find spaces blocks query are fits = (
+  λ some.
+      let (b, found) = some in
+      elim (slice_get_cases blocks b).1 [
+        | inl (block, within, at, is) ↦
+            let (i, set) = subst (λ o. IsSomeAnd o (λ rows. IsFound rows.items query)) at found in
+            let have = subst (λ (list : Vec ℕ). HaveBits spaces (64 * b) 64 list.items) is (are.each b block within) in
+            any_at codespace_seen (InRows query) spaces (64 * b + i) ((found_in spaces (64 * b) block.items query i have fits).0 set).1
+        | inr past ↦ absurd (subst (λ o. IsSomeAnd o (λ rows. IsFound rows.items query)) past.1 found)
+      ],
+  λ some.
+      let (index, within, found) = at_any codespace_seen (InRows query) spaces some in
+      let b = index / 64 in
+      let i = index % 64 in
+      let at : index ≡ 64 * b + i = omega arith in
+      let inside : b < length blocks = omega (arith, are.all) in
+      elim (slice_get_cases blocks b).1 [
+        | inl (block, lt, get, is) ↦
+            let have = subst (λ (list : Vec ℕ). HaveBits spaces (64 * b) 64 list.items) is (are.each b block lt) in
+            let there = subst (λ k. IsSomeAnd (slice_get spaces k) (λ space. InRows query (codespace_seen space))) at found in
+            let set = (found_in spaces (64 * b) block.items query i have fits).1 (omega arith, there) in
+            (b, subst (λ o. IsSomeAnd o (λ rows. IsFound rows.items query)) (sym get) (i, set))
+        | inr past ↦ let beyond = past.0 in absurd (omega arith)
+      ],
+)

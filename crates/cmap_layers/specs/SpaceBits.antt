@@ -1,5 +1,5 @@
 -- Private aid: codespace ranges by the bytes of their codes. A block has bits for 64 ranges in a row: in each of its rows a bit for each range that is in the row.
-use Rattle.std.specs.Prelude.{◌≡◌, ◌↔◌, MatchOption, Option, All, Any, ℕ, suc, ◌+◌, ◌-◌, ◌*◌, ◌/◌, ◌%◌, ◌<◌, ◌≤◌, List, length, get_or, slice_get, slice_index, nat_lt, if◌then◌else◌, IsSomeAnd}
+use Rattle.std.specs.Prelude.{◌≡◌, ◌≢◌, ◌↔◌, MatchOption, Option, All, Any, ℕ, suc, ◌+◌, ◌-◌, ◌*◌, ◌/◌, ◌%◌, ◌<◌, ◌≤◌, List, length, get_or, slice_get, slice_index, nat_lt, if◌then◌else◌, IsSomeAnd}
 use Rattle.std.specs.Global.{Vec}
 use Rattle.std.specs.Int.{bit_at}
 use Rattle.cmap_files.specs.DeclarationsSeen.{codespace_seen}
@@ -36,6 +36,21 @@ pub record AreBlocks (spaces : List declared.Codespace) (blocks : List (Vec ℕ)
   pub each : (b : ℕ) (d : Vec ℕ) → b < length blocks → HaveBits spaces (64 * b) 64 (get_or blocks b d).items
   pub all : length spaces ≤ 64 * length blocks
 
+-- the rows of the blocks from the first one on; of these so many have their bit in each row in which they have one
+pub record HasGroup (blocks : List (Vec ℕ)) (first count : ℕ) (rows : List ℕ) : Type 0 where
+  pub size : length rows ≡ 1028
+  pub marked : (b row : ℕ) (d : Vec ℕ) → b < count → first + b < length blocks → row < 1028 → get_or (get_or blocks (first + b) d).items row 0 ≢ 0 → bit_at (get_or rows row 0) b ≡ 1
+
+-- each group has the bits of 64 blocks, the last one of fewer
+pub record AreGroups (blocks groups : List (Vec ℕ)) : Type 0 where
+  pub each : (g : ℕ) (d : Vec ℕ) → g < length groups → HasGroup blocks (64 * g) 64 (get_or groups g d).items
+  pub all : length blocks ≤ 64 * length groups
+  pub few : 64 * length groups < length blocks + 64
+
+-- there may be no groups, where there are few blocks
+abbrev pub AreFoundBy : List declared.Codespace → List (Vec ℕ) → List (Vec ℕ) → Type 0
+AreFoundBy spaces blocks groups = AreBlocks spaces blocks × (0 < length groups → AreGroups blocks groups)
+
 -- the row of the byte at a place of a front, or another one where the front is shorter
 abbrev pub front_row : List ℕ → ℕ → ℕ → ℕ
 front_row front otherwise place = if nat_lt place (length front) then 256 * place + slice_index front place else otherwise
@@ -61,3 +76,19 @@ abbrev pub IsShortestMatch : List Codespace → List ℕ → Option ℕ → Type
 IsShortestMatch spaces front found = MatchOption found
     (All (λ space. Matches space front (length front) → ⊥) spaces)
     (λ len. IsCodeLength len × Any (λ space. Matches space front (length front) × (space.len ≡ len)) spaces × All (λ space. Matches space front (length front) → len ≤ space.len) spaces)
+
+-- a range of the block is in all rows
+abbrev pub IsFound : List ℕ → Query → Type 0
+IsFound rows query = (i : ℕ) × AreSet rows query i
+
+-- a range of the block at this index is
+abbrev pub IsFoundAt : List (Vec ℕ) → Query → ℕ → Type 0
+IsFoundAt blocks query index = IsSomeAnd (slice_get blocks index) (λ rows. IsFound rows.items query)
+
+-- a range of some block is
+abbrev pub IsFoundAmong : List (Vec ℕ) → Query → Type 0
+IsFoundAmong blocks query = (index : ℕ) × IsFoundAt blocks query index
+
+-- each block has all rows
+abbrev pub HaveRows : List (Vec ℕ) → Type 0
+HaveRows blocks = (b : ℕ) (d : Vec ℕ) → b < length blocks → length (get_or blocks b d).items ≡ 1028

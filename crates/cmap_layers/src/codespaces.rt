@@ -8,6 +8,7 @@ ghost use Rattle.cmap_layers.specs.Lookups.{InCodespace, byte_at};
 ghost use Rattle.cmap_layers.specs.SpaceBits.{AreRows, HasFront, InRows};
 
 mod block;
+mod group;
 mod query;
 mod spaces;
 

@@ -14,7 +14,7 @@ use std::alloc::{AllocError, Global};
 pub(super) const BLOCK_LEN: usize = 64;
 
 /// How many rows a block has: one for each value of each of four bytes, and one for each length.
-const ROW_COUNT: usize = 4 * 256 + 4;
+pub(super) const ROW_COUNT: usize = 4 * 256 + 4;
 
 /// The row of the ranges that have a value at a place of their codes; the first byte is at place 0.
 pub(super) fn row_of_value(place: u8, value: u32) -> usize

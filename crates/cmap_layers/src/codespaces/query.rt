@@ -1,11 +1,11 @@
 //! Codespace ranges with codes of one length that begin with given bytes, by rows of bits.
 
-ghost use Rattle.std.specs.Prelude.{◌≡◌, ◌↔◌, ℕ, ◌≤◌, length};
+ghost use Rattle.std.specs.Prelude.{◌≡◌, ◌↔◌, ℕ, ◌≤◌, length, IsTrue};
 ghost use Rattle.std.specs.Int.{bit_at};
 ghost use Rattle.cmap_files.specs.CodeLengths.{IsCodeLength, length_of};
 ghost use Rattle.cmap_files.specs.Files.{Codespace};
 ghost use Rattle.cmap_layers.specs.Lookups.{IsWithin};
-ghost use Rattle.cmap_layers.specs.SpaceBits.{AreRows, AreSet, HasFront, InRows, front_row};
+ghost use Rattle.cmap_layers.specs.SpaceBits.{AreRows, AreSet, HasFront, InRows, IsFound, front_row};
 
 use super::block::{row_of_length, row_of_value};
 use cmap_files::code_length::CodeLength;
@@ -55,7 +55,16 @@ impl Query {
         }
     }
 
-    /// A bit for each range of a block that is in all rows.
+    /// Whether a range of a block is in all rows.
+    pub(super) fn finds(&self, rows: &[u64]) -> bool
+        requires size { length rows.now ≡ 1028 }
+        requires rows { AreRows self.now }
+        ensures { IsTrue result ↔ IsFound rows.now self.now }
+    {
+        self.among(rows) != 0
+    }
+
+    /// The bits that are set in all rows.
     pub(super) fn among(&self, rows: &[u64]) -> u64
         requires size { length rows.now ≡ 1028 }
         requires rows { AreRows self.now }

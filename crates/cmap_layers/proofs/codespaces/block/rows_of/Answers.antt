@@ -1,14 +1,13 @@
-use Rattle.std.proofs.Common.{◌≡◌, ℕ, ◌<◌, ◌+◌, ◌⊎◌, ◌++◌, List, length, take, drop, get_or, ap, sym, ◌∙◌, subst, rules, arith}
+use Rattle.std.proofs.Common.{◌≡◌, ℕ, ◌<◌, ◌+◌, ◌⊎◌, List, length, get_or, ap, sym, ◌∙◌, subst, rules, arith}
 use Rattle.std.proofs.lemmas.List.{get_or-replicate}
 use Rattle.std.proofs.lemmas.Option.{slice_get-get_or}
-use Rattle.std.proofs.Math.Seq.{take-append_seam}
 use Rattle.std.specs.Prelude.{◌↔◌}
 use Rattle.std.specs.Int.{bit_at}
 use Rattle.cmap_files.specs.DeclarationsSeen.{codespace_seen}
 use Rattle.cmap_files.specs.declared.code_length.CodeLength.TheVariants.{One}
 use Rattle.cmap_files.specs.declared.declarations.Codespace.{Codespace}
 use Rattle.cmap_layers.specs.SpaceBits.{HaveBits, InRow}
-use Rattle.cmap_layers.proofs.RowBits.{all_bits, more_bits, no_bits}
+use Rattle.cmap_layers.proofs.RowBits.{all_bits, more_bits, no_bits, written_back}
 use Rattle.cmap_layers.proofs.codespaces.block.rows_of.Goals as goal
 
 pub loop-index-init : goal.loop-index-init
@@ -22,7 +21,7 @@ loop-index-preserved c =
     let was : c.deref_mut.result.now ≡ old = search rules in
     let size : length new ≡ 1028 = omega (arith, c.loop-index.invariant.size, ap (λ (l : List ℕ). length l) was) in
     let whole : length new ≡ c.loop-index.rows.len = omega (arith, c.loop-index.invariant.size) in
-    let is = subst (λ n. take n (new ++ drop (length new) old) ≡ new) whole (take-append_seam new (drop (length new) old)) in
+    let is = written_back new old c.loop-index.rows.len whole in
     let none : Codespace = record { len = One; low = 0; high = 0 } in
     let space = get_or spaces (first + index) none in
     let set : (row i : ℕ) → row < 1028 → (bit_at (get_or new row 0) i ≡ 1) ↔ ((bit_at (get_or old row 0) i ≡ 1) ⊎ ((i ≡ index) × InRow row (codespace_seen space))) = λ row i within. rw (← was) (c.add.ensures row i within) in

@@ -1,0 +1,23 @@
+use Rattle.std.proofs.Common.{◌≡◌, ℕ, ◌+◌, ◌-◌, ◌*◌, sym, ap, ◌∙◌, subst, rules, inl, inr, arith}
+use Rattle.std.specs.Global.{Vec}
+use Rattle.std.proofs.lemmas.Bool.{cases_lt, false≢true}
+use Rattle.cmap_layers.specs.SpaceBits.{HasGroup, IsFoundAt}
+use Rattle.cmap_layers.proofs.SpacesFound.{found_within, group_found}
+use Rattle.cmap_layers.proofs.codespaces.spaces.any_of_groups.Goals as goal
+
+pub loop-index-preserved : goal.loop-index-preserved
+loop-index-preserved c = λ index below found.
+    let blocks = c.args.blocks.now in let query = c.args.query.now in let at = c.loop-index.index in
+    elim (cases_lt index (64 * at)) [
+      | inl before ↦ c.loop-index.invariant index before found
+      | inr later ↦
+          let bit = index - 64 * at in
+          let rows : c.index-groups-index.result.items ≡ c.deref.result.now = search rules in
+          let group = c.requires.groups.each at c.index-groups-index.result (omega arith) in
+          let has : HasGroup blocks (64 * at) 64 c.deref.result.now = rw (← rows) (subst (λ (list : Vec ℕ). HasGroup blocks (64 * at) 64 list.items) (sym c.index-groups-index.is) group) in
+          let set = group_found blocks (64 * at) bit c.deref.result.now query has c.requires.query (omega arith) (subst (IsFoundAt blocks query) (omega arith) found) in
+          false≢true (sym c.if-any_of_group.false ∙ c.any_of_group.ensures.none bit (omega arith) ((c.among.ensures bit).1 set) (subst (IsFoundAt blocks query) (omega arith) found))
+    ]
+
+pub returns : goal.returns
+returns c = (λ yes. absurd (false≢true yes), λ some. let within = found_within c.args.blocks.now c.args.query.now some.0 some.1 in absurd (c.loop-index.invariant some.0 (omega (arith, c.requires.groups.all)) some.1))
