@@ -14,7 +14,7 @@ use Rattle.cmap_layers.specs.Lookups.{byte_at}
 use Rattle.cmap_layers.specs.SpaceBits.{HasGroup, HasRow, HaveBits, InRow, IsAt}
 
 -- ---- bits
-both_set : (a b i : ℕ) → (bit_at (bit_and a b) i ≡ 1) ↔ ((bit_at a i ≡ 1) × (bit_at b i ≡ 1))
+pub both_set : (a b i : ℕ) → (bit_at (bit_and a b) i ≡ 1) ↔ ((bit_at a i ≡ 1) × (bit_at b i ≡ 1))
 both_set a b i =
     let least = bit_at_and a b i in
     let first = bit_at-lt a i in
@@ -66,6 +66,9 @@ any_bit n fits =
       | inl none ↦ (λ yes. absurd (true≢false (sym yes ∙ ap not (eq-eqb n 0 none))), λ some. absurd (omega (arith, ap (λ m. bit_at m some.0) none, bit_at-zero some.0, some.1)))
       | inr some ↦ (λ _. (trailing_zeros w64 n, (bit_at-trailing_zeros w64 n (omega arith) fits).1), λ _. ap not (ne_eqb n 0 some))
     ]
+
+pub some_bit : (n : ℕ) → n < 2 ^ 64 → n ≢ 0 → (i : ℕ) × (bit_at n i ≡ 1)
+some_bit n fits some = (trailing_zeros w64 n, (bit_at-trailing_zeros w64 n (omega arith) fits).1)
 
 -- what is written back over a whole list
 pub written_back : (new old : List ℕ) (n : ℕ) → length new ≡ n → take n (new ++ drop (length new) old) ≡ new

@@ -1,12 +1,13 @@
 -- Codespace ranges that are asked for: the rows of a query, and whether a range is in all of them.
-use Rattle.std.proofs.Common.{◌≡◌, ◌≢◌, ℕ, zero, suc, ◌+◌, ◌-◌, ◌*◌, ◌/◌, ◌%◌, ◌^◌, ◌<◌, ◌≤◌, ◌⊎◌, List, [], ◌∷◌, ◌++◌, length, map, drop, get_or, Option, Some, None, refl, sym, ap, ◌∙◌, subst, inl, inr, lt-ltb, le-ltb, div-one, slice_get, Any, arith}
+use Rattle.std.proofs.Common.{◌≡◌, ◌≢◌, ℕ, zero, suc, ◌+◌, ◌-◌, ◌*◌, ◌/◌, ◌%◌, ◌^◌, ◌<◌, ◌≤◌, ◌⊎◌, List, [], ◌∷◌, ◌++◌, length, map, min, take, drop, get_or, get_or-take, Option, Some, None, refl, sym, ap, ◌∙◌, subst, inl, inr, lt-ltb, le-ltb, div-one, slice_get, bit_and, Any, arith}
 use Rattle.std.specs.Prelude.{◌↔◌, IsSomeAnd, nat_lt, slice_index, if◌then◌else◌}
 use Rattle.std.specs.Int.{bit_at, bytes_high_first}
 use Rattle.std.specs.Int as int
 use Rattle.std.specs.Global.{Vec}
 use Rattle.std.proofs.lemmas.Bool.{cases_lt}
 use Rattle.std.proofs.lemmas.Nat.Bits.{bit_at-zero}
-use Rattle.std.proofs.lemmas.Nat.{shr-shr}
+use Rattle.std.proofs.lemmas.List.{length-take-le}
+use Rattle.std.proofs.lemmas.Nat.{and_le_l, shr-shr}
 use Rattle.std.proofs.lemmas.Option.{slice_get_cases}
 use Rattle.cmap_files.specs.CodeLengths.{length_of}
 use Rattle.cmap_files.specs.DeclarationsSeen.{codespace_seen}
@@ -16,9 +17,9 @@ use Rattle.cmap_files.specs.declared.code_length.CodeLength.TheVariants.{One, Tw
 use Rattle.cmap_files.specs.declared.declarations.Codespace as declared
 use Rattle.cmap_layers.specs.Layers.{Layer}
 use Rattle.cmap_layers.specs.Lookups.{IsWithin, byte_at}
-use Rattle.cmap_layers.specs.SpaceBits.{AreBlocks, AreRows, AreSet, HasFront, HasGroup, HaveBits, HaveRows, InRow, InRows, IsAt, IsFound, IsFoundAmong, IsFoundAt, front_row}
+use Rattle.cmap_layers.specs.SpaceBits.{AreBlocks, AreRows, AreSet, Begins, EachRow, HasFront, HasGroup, HaveBits, HaveRows, InRow, InRows, IsAt, IsFound, IsFoundAmong, IsFoundAt, IsFoundWithin, IsInside, IsInsideRanges, IsInsideWithin, IsLeast, IsSet, front_row, lesser, query_of}
 use Rattle.cmap_layers.specs.declared.codespaces.query.Query.{Query}
-use Rattle.cmap_layers.proofs.RowBits.{length_row, value_row}
+use Rattle.cmap_layers.proofs.RowBits.{both_set, length_row, some_bit, value_row}
 
 -- ---- the rows of the first bytes
 front_row-byte : (front : List ℕ) (otherwise k : ℕ) → k < length front → front_row front otherwise k ≡ 256 * k + slice_index front k
@@ -27,7 +28,7 @@ front_row-byte front otherwise k within = ap (λ b. if b then 256 * k + slice_in
 front_row-past : (front : List ℕ) (otherwise k : ℕ) → length front ≤ k → front_row front otherwise k ≡ otherwise
 front_row-past front otherwise k past = ap (λ b. if b then 256 * k + slice_index front k else otherwise) (le-ltb k (length front) past)
 
-abbrev AreBytes : List ℕ → Type 0
+abbrev pub AreBytes : List ℕ → Type 0
 AreBytes front = (k : ℕ) → slice_index front k < 256
 
 pub front_row-fits : (front : List ℕ) (len k : ℕ) → AreBytes front → len ≤ 4 → k < 4 → front_row front (1023 + len) k < 1028
@@ -37,53 +38,42 @@ front_row-fits front len k bytes few place =
       | inr past ↦ omega (arith, front_row-past front (1023 + len) k past)
     ]
 
--- a range of the length is in the row of a place just where it has the byte there, if there is one
-abbrev IsAtFront : List ℕ → Codespace → ℕ → Type 0
-IsAtFront front space k = k < length front → IsAt space k (slice_index front k)
+row_of_each : (Holds : ℕ → Type 0) (len : ℕ) (front : List ℕ) → length front ≤ 4 → EachRow Holds (query_of len front) → (k : ℕ) → k < length front → Holds (256 * k + slice_index front k)
+row_of_each Holds len front few all zero within = subst Holds (front_row-byte front (1023 + len) 0 within) all.1
+row_of_each Holds len front few all (suc zero) within = subst Holds (front_row-byte front (1023 + len) 1 within) all.2
+row_of_each Holds len front few all (suc (suc zero)) within = subst Holds (front_row-byte front (1023 + len) 2 within) all.3
+row_of_each Holds len front few all (suc (suc (suc zero))) within = subst Holds (front_row-byte front (1023 + len) 3 within) all.4
+row_of_each Holds len front few all (suc (suc (suc (suc k)))) within = absurd (omega arith)
 
-place_row : (front : List ℕ) (len : ℕ) (space : Codespace) (k : ℕ) → AreBytes front → 1 ≤ len → k < 4 → space.len ≡ len → InRow (front_row front (1023 + len) k) space ↔ IsAtFront front space k
-place_row front len space k bytes some place same =
+each_of_row : (Holds : ℕ → Type 0) (len : ℕ) (front : List ℕ) → Holds (1023 + len) → ((j : ℕ) → j < length front → Holds (256 * j + slice_index front j)) → (k : ℕ) → Holds (front_row front (1023 + len) k)
+each_of_row Holds len front has each k =
     elim (cases_lt k (length front)) [
-      | inl within ↦
-          let value = value_row space k (slice_index front k) place (bytes k) in
-          let is = front_row-byte front (1023 + len) k within in
-          (λ held. λ _. value.0 (subst (λ row. InRow row space) is held), λ at. subst (λ row. InRow row space) (sym is) (value.1 (at within)))
-      | inr past ↦ (λ _. λ within. absurd (omega arith), λ _. subst (λ row. InRow row space) (sym (front_row-past front (1023 + len) k past)) ((length_row space len some).1 same))
+      | inl within ↦ subst Holds (sym (front_row-byte front (1023 + len) k within)) (each k within)
+      | inr past ↦ subst Holds (sym (front_row-past front (1023 + len) k past)) has
     ]
 
-each_place : (front : List ℕ) (space : Codespace) → length front ≤ 4 → IsAtFront front space 0 → IsAtFront front space 1 → IsAtFront front space 2 → IsAtFront front space 3 → (k : ℕ) → IsAtFront front space k
-each_place front space few first second third fourth zero = first
-each_place front space few first second third fourth (suc zero) = second
-each_place front space few first second third fourth (suc (suc zero)) = third
-each_place front space few first second third fourth (suc (suc (suc zero))) = fourth
-each_place front space few first second third fourth (suc (suc (suc (suc k)))) = λ within. absurd (omega arith)
+-- what holds of each row of a query holds of that of the length, and of those of the bytes
+pub each_row : (Holds : ℕ → Type 0) (len : ℕ) (front : List ℕ) → length front ≤ 4 → EachRow Holds (query_of len front) ↔ (Holds (1023 + len) × ((k : ℕ) → k < length front → Holds (256 * k + slice_index front k)))
+each_row Holds len front few =
+    let row = each_of_row Holds len front in
+    (λ all. (all.0, row_of_each Holds len front few all), λ has. (has.0, row has.0 has.1 0, row has.0 has.1 1, row has.0 has.1 2, row has.0 has.1 3))
 
-pub front_rows : (front : List ℕ) (len : ℕ) (query : Query) (space : Codespace) → AreBytes front → 1 ≤ len → length front ≤ 4 → query.length ≡ 1023 + len
-    → query.first ≡ front_row front query.length 0 → query.second ≡ front_row front query.length 1 → query.third ≡ front_row front query.length 2 → query.fourth ≡ front_row front query.length 3
-    → InRows query space ↔ HasFront len front space
-front_rows front len query space bytes some few length_is first_is second_is third_is fourth_is =
+pub query-rows : (len : ℕ) (front : List ℕ) → AreBytes front → len ≤ 4 → AreRows (query_of len front)
+query-rows len front bytes few = record {
+  length = omega arith;
+  first = front_row-fits front len 0 bytes few (omega arith);
+  second = front_row-fits front len 1 bytes few (omega arith);
+  third = front_row-fits front len 2 bytes few (omega arith);
+  fourth = front_row-fits front len 3 bytes few (omega arith);
+}
+
+-- a range is in all rows just where it has the length and the bytes
+pub front_rows : (len : ℕ) (front : List ℕ) (space : Codespace) → AreBytes front → 1 ≤ len → length front ≤ 4 → InRows (query_of len front) space ↔ HasFront len front space
+front_rows len front space bytes some few =
+    let rows = each_row (λ row. InRow row space) len front few in
     let of_length = length_row space len some in
-    let row = λ (k : ℕ). place_row front len space k bytes some in
-    let is = λ (k : ℕ). ap (λ other. front_row front other k) length_is in
-    let in_row = λ (r s : ℕ) (same : r ≡ s) (held : InRow r space). subst (λ n. InRow n space) same held in
-    (
-      λ held.
-          let same : space.len ≡ len = of_length.0 (in_row query.length (1023 + len) length_is held.0) in
-          (
-            same,
-            each_place front space few ((row 0 (omega arith) same).0 (in_row query.first _ (first_is ∙ is 0) held.1)) ((row 1 (omega arith) same).0 (in_row query.second _ (second_is ∙ is 1) held.2))
-            ((row 2 (omega arith) same).0 (in_row query.third _ (third_is ∙ is 2) held.3)) ((row 3 (omega arith) same).0 (in_row query.fourth _ (fourth_is ∙ is 3) held.4)),
-          ),
-      λ has.
-          let same = has.0 in
-          (
-            in_row (1023 + len) query.length (sym length_is) (of_length.1 same),
-            in_row _ query.first (sym (first_is ∙ is 0)) ((row 0 (omega arith) same).1 (has.1 0)),
-            in_row _ query.second (sym (second_is ∙ is 1)) ((row 1 (omega arith) same).1 (has.1 1)),
-            in_row _ query.third (sym (third_is ∙ is 2)) ((row 2 (omega arith) same).1 (has.1 2)),
-            in_row _ query.fourth (sym (fourth_is ∙ is 3)) ((row 3 (omega arith) same).1 (has.1 3)),
-          ),
-    )
+    let value = λ (k : ℕ) (within : k < length front). value_row space k (slice_index front k) (omega arith) (bytes k) in
+    (λ all. let (one, each) = rows.0 all in (of_length.0 one, λ k within. (value k within).0 (each k within)), λ has. rows.1 (of_length.1 has.0, λ k within. (value k within).1 (has.1 k within)))
 
 -- ---- the bytes of a code
 same_byte : (n k : ℕ) → int.byte_at k n ≡ byte_at n k
@@ -251,3 +241,146 @@ blocks_find spaces blocks query are fits = (
         | inr past ↦ let beyond = past.0 in absurd (omega arith)
       ],
 )
+
+-- ---- the shortest code that a text begins with
+first_byte : (byte : ℕ) (text : List ℕ) → byte < 256 → AreBytes text → AreBytes (byte ∷ text)
+first_byte byte text fits bytes zero = fits
+first_byte byte text fits bytes (suc k) = bytes k
+
+taken_bytes : (text : List ℕ) (n : ℕ) → AreBytes text → AreBytes (take n text)
+taken_bytes [] zero bytes = bytes
+taken_bytes [] (suc n) bytes = bytes
+taken_bytes (byte ∷ text) zero bytes = λ k. omega arith
+taken_bytes (byte ∷ text) (suc n) bytes = first_byte byte (take n text) (bytes 0) (taken_bytes text n (λ k. bytes (suc k)))
+-- a bit is set in all rows of a front just where it is in that of its length and in those of its bytes
+pub set_front : (rows text : List ℕ) (n i : ℕ) → n ≤ 4 → n ≤ length text → AreSet rows (query_of n (take n text)) i ↔ (IsSet rows i (1023 + n) × ((k : ℕ) → k < n → IsSet rows i (256 * k + slice_index text k)))
+set_front rows text n i few within =
+    let front = take n text in
+    let size = length-take-le n text within in
+    let each = each_row (IsSet rows i) n front (omega arith) in
+    let same = λ (k : ℕ) (lt : k < n). ap (λ value. 256 * k + value) (get_or-take n text k 0 lt) in
+    (
+      λ all. let (one, set) = each.0 all in (one, λ k lt. subst (IsSet rows i) (same k lt) (set k (omega arith))),
+      λ has. each.1 (has.0, λ k lt. let below : k < n = omega arith in subst (IsSet rows i) (sym (same k below)) (has.1 k below)),
+    )
+
+-- the bits that are set in the rows of all bytes so far, and of one more
+pub set_more : (rows text : List ℕ) (found row p : ℕ) → row ≡ 256 * p + slice_index text p → ((i : ℕ) → bit_at found i ≡ 1 → (k : ℕ) → k < p → IsSet rows i (256 * k + slice_index text k))
+    → (i : ℕ) → bit_at (bit_and found (get_or rows row 0)) i ≡ 1 → (k : ℕ) → k < p + 1 → IsSet rows i (256 * k + slice_index text k)
+set_more rows text found row p is before i set k below =
+    let (old, new) = (both_set found (get_or rows row 0) i).0 set in
+    elim (cases_lt k p) [
+      | inl less ↦ before i old k less
+      | inr last ↦ let same : p ≡ k = omega arith in subst (λ j. IsSet rows i (256 * j + slice_index text j)) same (subst (IsSet rows i) is new)
+    ]
+
+pub all_more : (rows text : List ℕ) (found row p : ℕ) → row ≡ 256 * p + slice_index text p → ((i : ℕ) → i < 64 → ((k : ℕ) → k < p → IsSet rows i (256 * k + slice_index text k)) → bit_at found i ≡ 1)
+    → (i : ℕ) → i < 64 → ((k : ℕ) → k < p + 1 → IsSet rows i (256 * k + slice_index text k)) → bit_at (bit_and found (get_or rows row 0)) i ≡ 1
+all_more rows text found row p is before i small each = (both_set found (get_or rows row 0) i).1 (before i small (λ k below. each k (omega arith)), subst (IsSet rows i) (sym is) (each p (omega arith)))
+
+-- no bit is set that a row doesn't have
+pub none_inside : (rows text : List ℕ) (found p : ℕ) → ((row : ℕ) → get_or rows row 0 < 2 ^ 64) → ((i : ℕ) → i < 64 → ((k : ℕ) → k < p → IsSet rows i (256 * k + slice_index text k)) → bit_at found i ≡ 1) → bit_and found (get_or rows (1023 + p) 0) ≡ 0
+    → IsInside text rows p → ⊥
+none_inside rows text found p fits all none (begins, (i, set)) =
+    let (some, few, within) = begins in
+    let (length, each) = (set_front rows text p i few within).0 set in
+    let small = set_below (get_or rows (1023 + p) 0) i (fits (1023 + p)) length in
+    let bit = (both_set found (get_or rows (1023 + p) 0) i).1 (all i small each, length) in
+    omega (arith, ap (λ n. bit_at n i) none, bit_at-zero i, bit)
+
+pub some_inside : (rows text : List ℕ) (found p : ℕ) → found < 2 ^ 64 → 1 ≤ p → p ≤ 4 → p ≤ length text → ((i : ℕ) → bit_at found i ≡ 1 → (k : ℕ) → k < p → IsSet rows i (256 * k + slice_index text k)) → bit_and found (get_or rows (1023 + p) 0) ≢ 0 → IsInside text rows p
+some_inside rows text found p fits some few within set is =
+    let least = and_le_l found (get_or rows (1023 + p) 0) in
+    let (i, bit) = some_bit (bit_and found (get_or rows (1023 + p) 0)) (omega arith) is in
+    let (all, length) = (both_set found (get_or rows (1023 + p) 0) i).0 bit in
+    ((some, few, within), (i, (set_front rows text p i few within).1 (length, set i all)))
+
+-- a block of a group in which a range is found has its bit set
+pub marked_inside : (blocks : List (Vec ℕ)) (first : ℕ) (rows text : List ℕ) (found p : ℕ) → AreBytes text → HasGroup blocks first 64 rows → ((i : ℕ) → i < 64 → ((k : ℕ) → k < p → IsSet rows i (256 * k + slice_index text k)) → bit_at found i ≡ 1)
+    → IsInsideWithin text blocks first 64 p → (bit : ℕ) × (bit < 64) × (bit_at (bit_and found (get_or rows (1023 + p) 0)) bit ≡ 1) × IsFoundAt blocks (query_of p (take p text)) (first + bit)
+marked_inside blocks first rows text found p bytes group all (begins, (k, from, below, there)) =
+    let (some, few, within) = begins in
+    let bit = k - first in
+    let at : k ≡ first + bit = omega arith in
+    let here = subst (IsFoundAt blocks (query_of p (take p text))) at there in
+    let fits = query-rows p (take p text) (taken_bytes text p bytes) few in
+    let (length, each) = (set_front rows text p bit few within).0 (group_found blocks first bit rows (query_of p (take p text)) group fits (omega arith) here) in
+    (bit, omega arith, (both_set found (get_or rows (1023 + p) 0) bit).1 (all bit (omega arith) each, length), here)
+
+pub least_of_both : (P Q R : ℕ → Type 0) (one other : Option ℕ) → ((n : ℕ) → P n → R n) → ((n : ℕ) → Q n → R n) → ((n : ℕ) → R n → P n ⊎ Q n) → IsLeast P one → IsLeast Q other → IsLeast R (lesser one other)
+least_of_both P Q R None None p q r none no_other = λ n holds. elim (r n holds) [ inl is ↦ none n is | inr is ↦ no_other n is ]
+least_of_both P Q R None (Some m) p q r none (is, least) = (q m is, λ n below holds. elim (r n holds) [ inl its ↦ none n its | inr its ↦ least n below its ])
+least_of_both P Q R (Some n) None p q r (is, least) none = (p n is, λ m below holds. elim (r m holds) [ inl its ↦ least m below its | inr its ↦ none m its ])
+least_of_both P Q R (Some n) (Some m) p q r (is, least) (other_is, other_least) =
+    elim (cases_lt m n) [
+      | inl less ↦
+          let lesser_is : min n m ≡ m = omega arith in
+          (subst R (sym lesser_is) (q m other_is), λ k below holds. elim (r k holds) [ inl its ↦ least k (omega arith) its | inr its ↦ other_least k (omega arith) its ])
+      | inr more ↦
+          let lesser_is : min n m ≡ n = omega arith in
+          (subst R (sym lesser_is) (p n is), λ k below holds. elim (r k holds) [ inl its ↦ least k (omega arith) its | inr its ↦ other_least k (omega arith) its ])
+    ]
+
+pub least_same : (P Q : ℕ → Type 0) (least : Option ℕ) → ((n : ℕ) → P n ↔ Q n) → IsLeast P least → IsLeast Q least
+least_same P Q None same none = λ n holds. none n ((same n).1 holds)
+least_same P Q (Some n) same (is, least) = ((same n).0 is, λ m below holds. least m below ((same m).1 holds))
+
+-- ---- of blocks one after another, and of groups
+more_blocks : (blocks : List (Vec ℕ)) (text : List ℕ) (first count more all n : ℕ) → first + count ≡ more → IsInsideWithin text blocks first count n → more ≤ all → IsInsideWithin text blocks 0 all n
+more_blocks blocks text first count more all n is (begins, (k, from, below, there)) fits = (begins, (k, omega arith, omega arith, there))
+
+either_block : (blocks : List (Vec ℕ)) (text : List ℕ) (first count n : ℕ) → IsInsideWithin text blocks 0 (first + count) n → IsInsideWithin text blocks 0 first n ⊎ IsInsideWithin text blocks first count n
+either_block blocks text first count n (begins, (k, from, below, there)) =
+    elim (cases_lt k first) [ inl before ↦ inl (begins, (k, from, omega arith, there)) | inr after ↦ inr (begins, (k, after, omega arith, there)) ]
+
+pub least_more : (blocks : List (Vec ℕ)) (text : List ℕ) (first count : ℕ) (before here : Option ℕ) → IsLeast (IsInsideWithin text blocks 0 first) before → IsLeast (IsInsideWithin text blocks first count) here → IsLeast (IsInsideWithin text blocks 0 (first + count)) (lesser before here)
+least_more blocks text first count before here old new =
+    least_of_both (IsInsideWithin text blocks 0 first) (IsInsideWithin text blocks first count) (IsInsideWithin text blocks 0 (first + count)) before here
+    (λ n inside. more_blocks blocks text 0 first first (first + count) n (omega arith) inside (omega arith)) (λ n inside. more_blocks blocks text first count (first + count) (first + count) n (omega arith) inside (omega arith))
+    (either_block blocks text first count) old new
+
+pub least_group : (blocks : List (Vec ℕ)) (text : List ℕ) (g : ℕ) (before here : Option ℕ) → IsLeast (IsInsideWithin text blocks 0 (64 * g)) before → IsLeast (IsInsideWithin text blocks (64 * g) 64) here → IsLeast (IsInsideWithin text blocks 0 (64 * (g + 1))) (lesser before here)
+least_group blocks text g before here old new =
+    let more : 64 * g + 64 ≡ 64 * (g + 1) = omega arith in
+    subst (λ n. IsLeast (IsInsideWithin text blocks 0 n) (lesser before here)) more (least_more blocks text (64 * g) 64 before here old new)
+
+one_block : (blocks : List (Vec ℕ)) (text : List ℕ) (at : ℕ) (block : Vec ℕ) (n : ℕ) → slice_get blocks at ≡ Some block → IsInside text block.items n ↔ IsInsideWithin text blocks at 1 n
+one_block blocks text at block n is = (
+  λ inside. (inside.0, (at, omega arith, omega arith, subst (λ o. IsSomeAnd o (λ rows. IsFound rows.items (query_of n (take n text)))) (sym is) inside.1)),
+  λ within. let (begins, (k, from, below, there)) = within in
+      let same : k ≡ at = omega arith in
+      (begins, found_here blocks (query_of n (take n text)) at block is (subst (IsFoundAt blocks (query_of n (take n text))) same there)),
+)
+
+pub least_block : (blocks : List (Vec ℕ)) (text : List ℕ) (at : ℕ) (block : Vec ℕ) (before here : Option ℕ) → slice_get blocks at ≡ Some block → IsLeast (IsInsideWithin text blocks 0 at) before → IsLeast (IsInside text block.items) here → IsLeast (IsInsideWithin text blocks 0 (at + 1)) (lesser before here)
+least_block blocks text at block before here is old new = least_more blocks text at 1 before here old (least_same (IsInside text block.items) (IsInsideWithin text blocks at 1) here (λ n. one_block blocks text at block n is) new)
+
+-- blocks past the last one have no range
+pub least_all : (blocks : List (Vec ℕ)) (text : List ℕ) (count : ℕ) (least : Option ℕ) → length blocks ≤ count → IsLeast (IsInsideWithin text blocks 0 count) least → IsLeast (IsInsideWithin text blocks 0 (length blocks)) least
+least_all blocks text count least all is =
+    least_same (IsInsideWithin text blocks 0 count) (IsInsideWithin text blocks 0 (length blocks)) least
+    (λ n. (
+      λ inside. let (begins, (k, from, below, there)) = inside in let within = found_within blocks (query_of n (take n text)) k there in (begins, (k, from, omega arith, there)),
+      λ inside. more_blocks blocks text 0 (length blocks) (length blocks) count n (omega arith) inside all,
+    )) is
+
+asked_ranges : (spaces : List declared.Codespace) (blocks : List (Vec ℕ)) (text : List ℕ) (n : ℕ) → AreBytes text → Begins text n → AreBlocks spaces blocks → IsFoundAmong blocks (query_of n (take n text)) ↔ Any (HasFront n (take n text)) (map codespace_seen spaces)
+asked_ranges spaces blocks text n bytes (some, few, within) are =
+    let front = take n text in
+    let taken = taken_bytes text n bytes in
+    let size = length-take-le n text within in
+    let found = blocks_find spaces blocks (query_of n front) are (query-rows n front taken few) in
+    let rows = λ (space : Codespace). front_rows n front space taken some (omega arith) in
+    (
+      λ among. let (k, space, below, is, all) = found.0 among in (k, space, below, is, (rows space).0 all),
+      λ ranges. let (k, space, below, is, has) = ranges in found.1 (k, space, below, is, (rows space).1 has),
+    )
+
+-- the ranges of all blocks are those of the list
+pub least_ranges : (spaces : List declared.Codespace) (blocks : List (Vec ℕ)) (text : List ℕ) (least : Option ℕ) → AreBytes text → AreBlocks spaces blocks → IsLeast (IsInsideWithin text blocks 0 (length blocks)) least → IsLeast (IsInsideRanges text (map codespace_seen spaces)) least
+least_ranges spaces blocks text least bytes are is =
+    least_same (IsInsideWithin text blocks 0 (length blocks)) (IsInsideRanges text (map codespace_seen spaces)) least
+    (λ n. (
+      λ inside. let (begins, (k, from, below, there)) = inside in (begins, (asked_ranges spaces blocks text n bytes begins are).0 (k, there)),
+      λ inside. let (begins, some) = inside in let (k, there) = (asked_ranges spaces blocks text n bytes begins are).1 some in (begins, (k, omega arith, omega (arith, found_within blocks (query_of n (take n text)) k there), there)),
+    )) is

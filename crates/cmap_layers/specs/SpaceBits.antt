@@ -1,5 +1,5 @@
 -- Private aid: codespace ranges by the bytes of their codes. A block has bits for 64 ranges in a row: in each of its rows a bit for each range that is in the row.
-use Rattle.std.specs.Prelude.{◌≡◌, ◌≢◌, ◌↔◌, MatchOption, Option, All, Any, ℕ, suc, ◌+◌, ◌-◌, ◌*◌, ◌/◌, ◌%◌, ◌<◌, ◌≤◌, List, length, get_or, slice_get, slice_index, nat_lt, if◌then◌else◌, IsSomeAnd}
+use Rattle.std.specs.Prelude.{◌≡◌, ◌≢◌, ◌↔◌, MatchOption, Option, Some, None, All, Any, min, ℕ, suc, ◌+◌, ◌-◌, ◌*◌, ◌/◌, ◌%◌, ◌<◌, ◌≤◌, List, length, take, get_or, slice_get, slice_index, nat_lt, if◌then◌else◌, IsSomeAnd}
 use Rattle.std.specs.Global.{Vec}
 use Rattle.std.specs.Int.{bit_at}
 use Rattle.cmap_files.specs.DeclarationsSeen.{codespace_seen}
@@ -55,6 +55,10 @@ AreFoundBy spaces blocks groups = AreBlocks spaces blocks × (0 < length groups 
 abbrev pub front_row : List ℕ → ℕ → ℕ → ℕ
 front_row front otherwise place = if nat_lt place (length front) then 256 * place + slice_index front place else otherwise
 
+-- the rows of the ranges that have codes of this length which may begin with these bytes
+abbrev pub query_of : ℕ → List ℕ → Query
+query_of len front = record { length = 1023 + len; first = front_row front (1023 + len) 0; second = front_row front (1023 + len) 1; third = front_row front (1023 + len) 2; fourth = front_row front (1023 + len) 3 }
+
 -- a block has these rows
 pub record AreRows (query : Query) : Type 0 where
   pub length : query.length < 1028
@@ -63,13 +67,20 @@ pub record AreRows (query : Query) : Type 0 where
   pub third : query.third < 1028
   pub fourth : query.fourth < 1028
 
+-- it holds of each row
+abbrev pub EachRow : (ℕ → Type 0) → Query → Type 0
+EachRow Holds query = Holds query.length × Holds query.first × Holds query.second × Holds query.third × Holds query.fourth
+
 -- the range is in each row
 abbrev pub InRows : Query → Codespace → Type 0
-InRows query space = InRow query.length space × InRow query.first space × InRow query.second space × InRow query.third space × InRow query.fourth space
+InRows query space = EachRow (λ row. InRow row space) query
 
--- the bit is set in each row
+-- the bit is set in a row, and in each row
+abbrev pub IsSet : List ℕ → ℕ → ℕ → Type 0
+IsSet rows i row = bit_at (get_or rows row 0) i ≡ 1
+
 abbrev pub AreSet : List ℕ → Query → ℕ → Type 0
-AreSet rows query i = (bit_at (get_or rows query.length 0) i ≡ 1) × (bit_at (get_or rows query.first 0) i ≡ 1) × (bit_at (get_or rows query.second 0) i ≡ 1) × (bit_at (get_or rows query.third 0) i ≡ 1) × (bit_at (get_or rows query.fourth 0) i ≡ 1)
+AreSet rows query i = EachRow (IsSet rows i) query
 
 -- of the ranges that match all these bytes, the shortest codes have so many bytes; none where no range does
 abbrev pub IsShortestMatch : List Codespace → List ℕ → Option ℕ → Type 0
@@ -92,3 +103,31 @@ IsFoundAmong blocks query = (index : ℕ) × IsFoundAt blocks query index
 -- each block has all rows
 abbrev pub HaveRows : List (Vec ℕ) → Type 0
 HaveRows blocks = (b : ℕ) (d : Vec ℕ) → b < length blocks → length (get_or blocks b d).items ≡ 1028
+
+-- a range of some block is, of so many from the first one on
+abbrev pub IsFoundWithin : List (Vec ℕ) → Query → ℕ → ℕ → Type 0
+IsFoundWithin blocks query first count = (k : ℕ) × (first ≤ k) × (k < first + count) × IsFoundAt blocks query k
+
+-- a code may have so many bytes of the text
+abbrev pub Begins : List ℕ → ℕ → Type 0
+Begins text n = (1 ≤ n) × (n ≤ 4) × (n ≤ length text)
+
+-- the text begins with a code of n bytes that a range contains: of a block, of some of so many blocks, or of a list
+abbrev pub IsInside : List ℕ → List ℕ → ℕ → Type 0
+IsInside text rows n = Begins text n × IsFound rows (query_of n (take n text))
+
+abbrev pub IsInsideWithin : List ℕ → List (Vec ℕ) → ℕ → ℕ → ℕ → Type 0
+IsInsideWithin text blocks first count n = Begins text n × IsFoundWithin blocks (query_of n (take n text)) first count
+
+abbrev pub IsInsideRanges : List ℕ → List Codespace → ℕ → Type 0
+IsInsideRanges text spaces n = Begins text n × Any (HasFront n (take n text)) spaces
+
+-- the least number for which it holds; none where it holds for none
+abbrev pub IsLeast : (ℕ → Type 0) → Option ℕ → Type 0
+IsLeast Holds least = MatchOption least ((n : ℕ) → Holds n → ⊥) (λ n. Holds n × ((m : ℕ) → m < n → Holds m → ⊥))
+
+-- the lesser of two numbers, or the one that is there
+abbrev pub lesser : Option ℕ → Option ℕ → Option ℕ
+lesser None other = other
+lesser (Some one) None = Some one
+lesser (Some one) (Some other) = Some (min one other)

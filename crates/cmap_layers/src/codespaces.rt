@@ -8,8 +8,10 @@ ghost use Rattle.cmap_layers.specs.Lookups.{InCodespace, byte_at};
 ghost use Rattle.cmap_layers.specs.SpaceBits.{AreRows, HasFront, InRows};
 
 mod block;
+mod front;
 mod group;
 mod query;
+mod search;
 mod spaces;
 
 pub(crate) use spaces::Spaces;

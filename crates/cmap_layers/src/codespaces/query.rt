@@ -5,7 +5,7 @@ ghost use Rattle.std.specs.Int.{bit_at};
 ghost use Rattle.cmap_files.specs.CodeLengths.{IsCodeLength, length_of};
 ghost use Rattle.cmap_files.specs.Files.{Codespace};
 ghost use Rattle.cmap_layers.specs.Lookups.{IsWithin};
-ghost use Rattle.cmap_layers.specs.SpaceBits.{AreRows, AreSet, HasFront, InRows, IsFound, front_row};
+ghost use Rattle.cmap_layers.specs.SpaceBits.{AreRows, AreSet, HasFront, InRows, IsFound, front_row, query_of};
 
 use super::block::{row_of_length, row_of_value};
 use cmap_files::code_length::CodeLength;
@@ -27,6 +27,7 @@ impl Query {
         requires length { IsCodeLength byte_len }
         requires few { length front.now ≤ 4 }
         ensures rows { AreRows result }
+        ensures is { result ≡ query_of byte_len front.now }
         ensures ranges { (space : Codespace)
             → InRows result space ↔ HasFront byte_len front.now space }
     {

@@ -1,13 +1,14 @@
 //! The codespace ranges of a layer, with blocks of bits by which they are found.
 
-ghost use Rattle.std.specs.Prelude.{◌≡◌, ◌↔◌, ℕ, ◌+◌, ◌<◌, Any, IfOk, IsTrue, length, map};
-ghost use Rattle.std.specs.Int.{bit_at};
+ghost use Rattle.std.specs.Prelude.{◌≡◌, ◌↔◌, Any, IfOk, IsTrue, map};
 ghost use Rattle.cmap_files.specs.DeclarationsSeen.{codespace_seen};
-ghost use Rattle.cmap_layers.specs.SpaceBits.{AreBlocks, AreGroups, AreRows, HaveRows, InRows, IsFoundAmong, IsFoundAt};
+ghost use Rattle.cmap_layers.specs.SpaceBits.{AreBlocks, AreRows, InRows, IsInsideRanges, IsLeast};
 
 use super::block::{BLOCK_LEN, rows_of};
+use super::front::{shortest_among_blocks, shortest_among_groups};
 use super::group::groups_of;
 use super::query::Query;
+use super::search::{any_of_blocks, any_of_groups};
 use cmap_files::declarations::Codespace;
 use std::alloc::{AllocError, Global};
 use std::fmt;
@@ -81,6 +82,18 @@ impl Spaces {
             any_of_groups(&self.blocks, &self.groups, query)
         }
     }
+
+    /// How many bytes the shortest code has that a text begins with, of those that one of the ranges
+    /// contains.
+    pub(crate) fn shortest(&self, text: &[u8]) -> Option<u8>
+        ensures { IsLeast (IsInsideRanges text.now (map codespace_seen self.now)) result }
+    {
+        if self.groups.is_empty() {
+            shortest_among_blocks(&self.blocks, text)
+        } else {
+            shortest_among_groups(&self.blocks, &self.groups, text)
+        }
+    }
 }
 
 /// The rows of each block of 64 ranges.
@@ -93,69 +106,4 @@ fn blocks_of(alloc: Global, spaces: &[Codespace]) -> Result<Vec<Vec<u64>>, Alloc
         blocks.push(rows_of(alloc, spaces, index * BLOCK_LEN)?)?;
     }
     Ok(blocks)
-}
-
-/// Whether a range of some block is asked for. Each block is looked at.
-fn any_of_blocks(blocks: &[Vec<u64>], query: &Query) -> bool
-    requires rows { HaveRows blocks.now }
-    requires query { AreRows query.now }
-    ensures { IsTrue result ↔ IsFoundAmong blocks.now query.now }
-{
-    for rows in blocks {
-        if query.finds(rows) {
-            return true;
-        }
-    }
-    false
-}
-
-/// Whether a range of some block is asked for. Each group is looked at, and each block that may have one.
-fn any_of_groups(blocks: &[Vec<u64>], groups: &[Vec<u64>], query: &Query) -> bool
-    requires groups { AreGroups blocks.now groups.now }
-    requires rows { HaveRows blocks.now }
-    requires query { AreRows query.now }
-    ensures { IsTrue result ↔ IsFoundAmong blocks.now query.now }
-{
-    for (index, rows) in groups.iter().enumerate() {
-        if any_of_group(blocks, index * BLOCK_LEN, query.among(rows), query) {
-            return true;
-        }
-    }
-    false
-}
-
-/// Whether a range is asked for of the blocks from `first` on that have their bits set.
-fn any_of_group(blocks: &[Vec<u64>], first: usize, bits: u64, query: &Query) -> bool
-    requires first { first < length blocks.now }
-    requires rows { HaveRows blocks.now }
-    requires query { AreRows query.now }
-    ensures found { IsTrue result → IsFoundAmong blocks.now query.now }
-    ensures none { (bit : ℕ) → bit < 64 → bit_at bits bit ≡ 1
-        → IsFoundAt blocks.now query.now (first + bit) → IsTrue result }
-{
-    let mut next = 0;
-    while next < 64 {
-        let left = bits >> next;
-        if left == 0 {
-            break;
-        }
-        let bit = next + left.trailing_zeros();
-        if finds_at(blocks, first + bit as usize, query) {
-            return true;
-        }
-        next = bit + 1;
-    }
-    false
-}
-
-/// Whether a range is asked for of the block at this index, if there is one.
-fn finds_at(blocks: &[Vec<u64>], index: usize, query: &Query) -> bool
-    requires rows { HaveRows blocks.now }
-    requires query { AreRows query.now }
-    ensures { IsTrue result ↔ IsFoundAt blocks.now query.now index }
-{
-    match blocks.get(index) {
-        Some(rows) => query.finds(rows),
-        None => false,
-    }
 }

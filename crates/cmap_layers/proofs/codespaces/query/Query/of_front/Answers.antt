@@ -1,7 +1,17 @@
-use Rattle.std.proofs.Common.{arith}
-use Rattle.cmap_layers.proofs.SpacesFound.{front_rows}
+use Rattle.std.proofs.Common.{◌≡◌, ◌∙◌, sym, subst, refl, arith}
+use Rattle.std.specs.Prelude.{◌↔◌}
+use Rattle.cmap_layers.specs.SpaceBits.{AreRows, HasFront, InRows, query_of}
+use Rattle.cmap_layers.proofs.SpacesFound.{front_rows, query-rows}
 use Rattle.cmap_layers.proofs.codespaces.query.Query.of_front.Goals as goal
+use Rattle.cmap_layers.proofs.codespaces.query.Query.of_front.Goals.{After-row_at-4}
+
+pub returns-clause-is : goal.returns-clause-is
+returns-clause-is c = rw (c.row_at.ensures, c.row_at-2.ensures, c.row_at-3.ensures, c.row_at-4.ensures, c.row_of_length-length.ensures) refl
+
+pub returns-clause-rows : goal.returns-clause-rows
+returns-clause-rows c =
+    rw (c.row_at.ensures, c.row_at-2.ensures, c.row_at-3.ensures, c.row_at-4.ensures, c.row_of_length-length.ensures) (query-rows c.args.byte_len c.args.front.now (λ k. omega (arith, c.type_inv.front k)) c.requires.length.1)
 
 pub returns-clause-ranges : goal.returns-clause-ranges
 returns-clause-ranges c = λ space.
-    front_rows c.args.front.now c.args.byte_len _ space (λ k. omega (arith, c.type_inv.front k)) c.requires.length.0 c.requires.few c.row_of_length-length.ensures c.row_at.ensures c.row_at-2.ensures c.row_at-3.ensures c.row_at-4.ensures
+    rw (c.row_at.ensures, c.row_at-2.ensures, c.row_at-3.ensures, c.row_at-4.ensures, c.row_of_length-length.ensures) (front_rows c.args.byte_len c.args.front.now space (λ k. omega (arith, c.type_inv.front k)) c.requires.length.0 c.requires.few)

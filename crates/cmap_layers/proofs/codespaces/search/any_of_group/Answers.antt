@@ -4,7 +4,7 @@ use Rattle.std.proofs.lemmas.Bool.{cases_eq, cases_lt, false≢true}
 use Rattle.std.proofs.lemmas.Nat.Bits.{bit_at-trailing_zeros, bit_at-zero}
 use Rattle.cmap_layers.specs.SpaceBits.{IsFoundAt}
 use Rattle.cmap_layers.proofs.SpacesFound.{set_below, shifted}
-use Rattle.cmap_layers.proofs.codespaces.spaces.any_of_group.Goals as goal
+use Rattle.cmap_layers.proofs.codespaces.search.any_of_group.Goals as goal
 
 pub loop-next-preserved : goal.loop-next-preserved
 loop-next-preserved c =
@@ -37,3 +37,11 @@ returns-then-left-eq0-clause-none c = λ bit below is found.
           let clear : bit_at bits bit ≡ 0 = ap (bit_at bits) (sym at) ∙ sym (shifted bits next (bit - next)) ∙ ap (λ n. bit_at n (bit - next)) c.if-left-eq0.true ∙ bit_at-zero (bit - next) in
           absurd (omega arith)
     ]
+
+pub returns-then-finds_at-clause-found : goal.returns-then-finds_at-clause-found
+returns-then-finds_at-clause-found c = λ _.
+    let bits = c.args.bits in let next = c.loop-next.next in let left = bits / 2 ^ next in let more = trailing_zeros w64 left in
+    let fits : left < 2 ^ 64 = omega arith in
+    let low = bit_at-trailing_zeros w64 left (omega arith) fits in
+    let set : bit_at bits (next + more) ≡ 1 = sym (shifted bits next more) ∙ low.1 in
+    (c.args.first + (next + more), omega arith, omega (arith, set_below bits (next + more) c.ranges.bits.fits set), c.finds_at.ensures.0 c.if-finds_at.true)

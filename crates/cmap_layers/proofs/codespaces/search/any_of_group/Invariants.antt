@@ -1,7 +1,7 @@
 use Rattle.std.proofs.Common.{◌≡◌, ℕ, ◌+◌, ◌-◌, ◌<◌, ◌≤◌}
 use Rattle.std.specs.Int.{bit_at}
 use Rattle.cmap_layers.specs.SpaceBits.{IsFoundAt}
-use Rattle.cmap_layers.proofs.codespaces.spaces.any_of_group.Given as goal
+use Rattle.cmap_layers.proofs.codespaces.search.any_of_group.Given as goal
 
 abbrev pub invariant-loop-next : goal.invariant-loop-next
 invariant-loop-next l = record {

@@ -3,7 +3,7 @@ use Rattle.std.specs.Global.{Vec}
 use Rattle.std.proofs.lemmas.Bool.{cases_lt, false≢true}
 use Rattle.cmap_layers.specs.SpaceBits.{HasGroup, IsFoundAt}
 use Rattle.cmap_layers.proofs.SpacesFound.{found_within, group_found}
-use Rattle.cmap_layers.proofs.codespaces.spaces.any_of_groups.Goals as goal
+use Rattle.cmap_layers.proofs.codespaces.search.any_of_groups.Goals as goal
 
 pub loop-index-preserved : goal.loop-index-preserved
 loop-index-preserved c = λ index below found.

@@ -3,7 +3,7 @@ use Rattle.std.proofs.lemmas.Bool.{cases_lt, false≢true}
 use Rattle.std.proofs.lemmas.Option.{slice_get_read}
 use Rattle.cmap_layers.specs.SpaceBits.{IsFound, IsFoundAt}
 use Rattle.cmap_layers.proofs.SpacesFound.{found_here, found_within}
-use Rattle.cmap_layers.proofs.codespaces.spaces.any_of_blocks.Goals as goal
+use Rattle.cmap_layers.proofs.codespaces.search.any_of_blocks.Goals as goal
 
 pub loop-rows-preserved : goal.loop-rows-preserved
 loop-rows-preserved c = λ index below found.
