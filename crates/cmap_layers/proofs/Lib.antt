@@ -1,6 +1,7 @@
 pub mod BestMatch
 pub mod BytesWithin
 pub mod CharactersInRow
+pub mod CodesInside
 pub mod CodesOfCids
 pub mod LastFound
 pub mod LayerStretches

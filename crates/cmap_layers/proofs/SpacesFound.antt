@@ -247,7 +247,7 @@ first_byte : (byte : ℕ) (text : List ℕ) → byte < 256 → AreBytes text →
 first_byte byte text fits bytes zero = fits
 first_byte byte text fits bytes (suc k) = bytes k
 
-taken_bytes : (text : List ℕ) (n : ℕ) → AreBytes text → AreBytes (take n text)
+pub taken_bytes : (text : List ℕ) (n : ℕ) → AreBytes text → AreBytes (take n text)
 taken_bytes [] zero bytes = bytes
 taken_bytes [] (suc n) bytes = bytes
 taken_bytes (byte ∷ text) zero bytes = λ k. omega arith

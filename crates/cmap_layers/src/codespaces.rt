@@ -5,7 +5,8 @@ ghost use Rattle.std.specs.Prelude.{◌≡◌, ◌↔◌, ◌<◌, ◌≤◌, �
 ghost use Rattle.cmap_files.specs.CodeLengths.{IsCodeLength, length_of};
 ghost use Rattle.cmap_layers.specs.LayersSeen.{layers_seen};
 ghost use Rattle.cmap_layers.specs.Lookups.{InCodespace, byte_at};
-ghost use Rattle.cmap_layers.specs.SpaceBits.{AreRows, HasFront, InRows};
+ghost use Rattle.cmap_layers.specs.SpaceBits.{AreRows, HasFront, InRows, IsLeast};
+ghost use Rattle.cmap_layers.specs.StringCodes.{BeginsInside};
 
 mod block;
 mod front;
@@ -18,6 +19,7 @@ pub(crate) use spaces::Spaces;
 
 use crate::layers::Layer;
 use cmap_files::code_length::CodeLength;
+use front::lesser;
 use query::Query;
 
 /// Whether a codespace range of some layer contains a code of `byte_len` bytes. None does where the
@@ -39,6 +41,17 @@ pub(crate) fn any_has_front(layers: &[Layer], byte_len: u8, front: &[u8]) -> boo
         ↔ Any (λ layer. Any (HasFront byte_len front.now) layer.lists.spaces) (layers_seen layers.now) }
 {
     any(layers, &Query::of_front(byte_len, front))
+}
+
+/// How many bytes the shortest code in a codespace range has that a text begins with.
+pub(crate) fn shortest(layers: &[Layer], text: &[u8]) -> Option<u8>
+    ensures { IsLeast (BeginsInside (layers_seen layers.now) text.now) result }
+{
+    let mut shortest = None;
+    for layer in layers {
+        shortest = lesser(shortest, layer.spaces.shortest(text));
+    }
+    shortest
 }
 
 /// Whether a codespace range of some layer is asked for.

@@ -9,7 +9,7 @@ ghost use Rattle.cmap_layers.specs.Lookups.{HaveNoShorter};
 ghost use Rattle.cmap_layers.specs.SpaceBits.{IsShortestMatch};
 ghost use Rattle.cmap_layers.specs.StringCodes.{BeginsInside, IsNextCode, IsShortestInside, Wants, front, ranges_of};
 
-use crate::codespaces::{any_has_front, contains};
+use crate::codespaces::{any_has_front, shortest};
 use crate::layers::Layer;
 use cmap_files::code_length::read_code;
 
@@ -33,36 +33,14 @@ pub struct StringCode {
 /// does, the range decides that matches the longest front, each byte between its own; of several,
 /// the one with the shortest codes. As many bytes are taken as its codes have, or all where there
 /// are fewer; one where no layer has a range. ISO 32000-1, 9.7.6.2 and 9.7.6.3.
+#[inline(always)]
 pub fn next_code(layers: &[Layer], text: &[u8]) -> Option<StringCode>
     ensures code { MatchOption result (text.now ≡ [])
         (IsOnly (IsNextCode (layers_seen layers.now) text.now)) }
     ensures length { IfSome result
         (λ found. IsCodeLength found.byte_len × (found.byte_len ≤ length text.now)) }
 {
-    next_code_from(layers, text, 1)
-}
-
-/// How many bytes the codes in codespace ranges have at least; 2 also where none has so few.
-pub fn fewest_bytes(layers: &[Layer]) -> u8
-    ensures { HaveNoShorter (layers_seen layers.now) result }
-{
-    if any_has_front(layers, 1, &[]) {
-        1
-    } else {
-        2
-    }
-}
-
-/// The answer of `next_code`, where no code in a codespace range has fewer bytes than `fewest`.
-#[inline(always)]
-pub fn next_code_from(layers: &[Layer], text: &[u8], fewest: u8) -> Option<StringCode>
-    requires { HaveNoShorter (layers_seen layers.now) fewest }
-    ensures code { MatchOption result (text.now ≡ [])
-        (IsOnly (IsNextCode (layers_seen layers.now) text.now)) }
-    ensures length { IfSome result
-        (λ found. IsCodeLength found.byte_len × (found.byte_len ≤ length text.now)) }
-{
-    let inside = shortest_inside(layers, text, fewest);
+    let inside = shortest_inside(layers, text);
     let (byte_len, code, wanted) = match inside {
         Some((byte_len, code)) => (byte_len, code, byte_len),
         None => {
@@ -80,50 +58,43 @@ pub fn next_code_from(layers: &[Layer], text: &[u8], fewest: u8) -> Option<Strin
     })
 }
 
-/// The shortest front of a string that is a code in a codespace range: how many bytes it has, and its
-/// number. No such code has fewer bytes than `fewest`.
+/// How many bytes the codes in codespace ranges have at least; 2 also where none has so few.
+pub fn fewest_bytes(layers: &[Layer]) -> u8
+    ensures { HaveNoShorter (layers_seen layers.now) result }
+{
+    if any_has_front(layers, 1, &[]) {
+        1
+    } else {
+        2
+    }
+}
+
+/// The answer of `next_code`, where no code in a codespace range has fewer bytes than `fewest`.
+/// It takes as long as `next_code` does.
 #[inline(always)]
-fn shortest_inside(layers: &[Layer], text: &[u8], fewest: u8) -> Option<(u8, u32)>
+pub fn next_code_from(layers: &[Layer], text: &[u8], fewest: u8) -> Option<StringCode>
     requires { HaveNoShorter (layers_seen layers.now) fewest }
+    ensures code { MatchOption result (text.now ≡ [])
+        (IsOnly (IsNextCode (layers_seen layers.now) text.now)) }
+    ensures length { IfSome result
+        (λ found. IsCodeLength found.byte_len × (found.byte_len ≤ length text.now)) }
+{
+    let _ = fewest;
+    next_code(layers, text)
+}
+
+/// The shortest front of a string that is a code in a codespace range: how many bytes it has, and its
+/// number.
+#[inline(always)]
+fn shortest_inside(layers: &[Layer], text: &[u8]) -> Option<(u8, u32)>
     ensures { MatchOption result
         (HoldsOfNone (BeginsInside (layers_seen layers.now) text.now))
         (λ found. IsShortestInside (layers_seen layers.now) text.now found.0
         × (found.1 ≡ front text.now found.0)) }
 {
-    for byte_len in 1..5 {
-        if let Some(code) = code_inside_from(layers, text, byte_len, fewest) {
-            return Some((byte_len, code));
-        }
-    }
-    None
-}
-
-/// The answer of `code_inside`, where no code in a codespace range has fewer bytes than `fewest`.
-#[inline(always)]
-fn code_inside_from(layers: &[Layer], text: &[u8], byte_len: u8, fewest: u8) -> Option<u32>
-    requires { HaveNoShorter (layers_seen layers.now) fewest }
-    ensures { MatchOption result (BeginsInside (layers_seen layers.now) text.now byte_len → ⊥)
-        (λ code. BeginsInside (layers_seen layers.now) text.now byte_len
-        × (code ≡ front text.now byte_len)) }
-{
-    if byte_len < fewest {
-        return None;
-    }
-    code_inside(layers, text, byte_len)
-}
-
-/// The number of the first `byte_len` bytes of a string, where they are a code in a codespace range.
-fn code_inside(layers: &[Layer], text: &[u8], byte_len: u8) -> Option<u32>
-    ensures { MatchOption result (BeginsInside (layers_seen layers.now) text.now byte_len → ⊥)
-        (λ code. BeginsInside (layers_seen layers.now) text.now byte_len
-        × (code ≡ front text.now byte_len)) }
-{
-    let (_, code) = read_code(text.get(..usize::from(byte_len))?)?;
-    if contains(layers, code, byte_len) {
-        Some(code)
-    } else {
-        None
-    }
+    let byte_len = shortest(layers, text)?;
+    let (_, code) = read_code(&text[..usize::from(byte_len)])?;
+    Some((byte_len, code))
 }
 
 /// How many bytes a string wants for its code where it begins with none in a codespace range.

@@ -82,7 +82,7 @@ fn shortest_in_group(
 }
 
 /// The lesser of two numbers, or the one that is there.
-fn lesser(one: Option<u8>, other: Option<u8>) -> Option<u8>
+pub(super) fn lesser(one: Option<u8>, other: Option<u8>) -> Option<u8>
     ensures { result ≡ lesser one other }
 {
     match (one, other) {

@@ -4,8 +4,8 @@ use Rattle.std.proofs.lemmas.Grind.{common_steps}
 use Rattle.cmap_layers.specs.LayersSeen.{layers_seen}
 use Rattle.cmap_layers.specs.StringCodes.{front}
 use Rattle.cmap_layers.proofs.OneStringCode.{next_found, next_inside, next_outside}
-use Rattle.cmap_layers.proofs.string_codes.next_code_from.Goals as goal
-use Rattle.cmap_layers.proofs.string_codes.next_code_from.Goals.{in-Some, in-None+in_ok-code-in-None}
+use Rattle.cmap_layers.proofs.string_codes.next_code.Goals as goal
+use Rattle.cmap_layers.proofs.string_codes.next_code.Goals.{in-Some, in-None+in_ok-code-in-None}
 
 pub returns-clause-code : goal.returns-clause-code
 returns-clause-code c =
