@@ -10,7 +10,7 @@ use crate::handle::MapHandle;
 use crate::status::Status;
 use cmap_layers::layers::Layer;
 use cmap_layers::lookup::cid_of;
-use cmap_layers::string_codes::{StringCode, fewest_bytes, next_code_from};
+use cmap_layers::string_codes::{StringCode, next_code};
 use cmap_runs::runs::Looks;
 use std::alloc::Global;
 
@@ -69,11 +69,10 @@ fn decode(
 ) -> u32
     ensures { IsDecoded (layers_seen layers.now) text.now codes.old codes.new made.new taken.new result }
 {
-    let fewest = fewest_bytes(layers);
     let mut left = text;
     let mut count = 0;
     while count < codes.len() {
-        let Some(next) = next_code_from(layers, left, fewest) else {
+        let Some(next) = next_code(layers, left) else {
             break;
         };
         codes[count] = with_cid(layers, next);

@@ -1,6 +1,5 @@
 -- The codespace ranges that best match a string, and how many bytes are taken by them.
-use Rattle.std.proofs.Common.{◌≡◌, ℕ, zero, suc, ◌+◌, ◌-◌, ◌<◌, ◌≤◌, ◌⊎◌, List, [], ◌∷◌, ◌++◌, length, map, take, get_or, get_or-take, min, Some, None, refl, sym, ap, ◌∙◌, subst, inl, inr, All, Any, Contains, arith}
-use Rattle.std.specs.Prelude.{slice_index}
+use Rattle.std.proofs.Common.{◌≡◌, ℕ, zero, suc, ◌+◌, ◌<◌, ◌≤◌, List, [], ◌∷◌, ◌++◌, length, map, take, get_or-take, min, Some, None, refl, sym, ap, ◌∙◌, subst, inl, inr, All, Any, Contains, arith}
 use Rattle.std.proofs.lemmas.Bool.{cases_lt}
 use Rattle.std.proofs.lemmas.List.{length-take-le}
 use Rattle.std.proofs.lemmas.List.Elements.{All-contains, All-contains_itself, All-weaker, Contains-append_cases, Contains-append_left, Contains-append_right}
@@ -73,12 +72,15 @@ have_front layers front space found matches =
 all_ranges : (P : Codespace → Type 0) (layers : List Layer) → ((space : Codespace) → Contains (ranges_of layers) space → P space) → All P (ranges_of layers)
 all_ranges P layers each = All-weaker (Contains (ranges_of layers)) P each (ranges_of layers) (All-contains_itself (ranges_of layers))
 
+-- no code is shorter than a front of it
+pub too_short : (layers : List Layer) (front : List ℕ) (n : ℕ) → n < length front → HaveFront layers front n → ⊥
+too_short layers front n short (k, layer, within, is, (i, space, below, at, has)) = let its = has.1 n short in let fits = its.0 in let same = has.0 in omega arith
+
 pub shortest_found : (layers : List made.Layer) (front : List ℕ) (len : ℕ) → IsCodeLength len → ((n : ℕ) → 1 ≤ n → n < len → HaveFront (layers_seen layers) front n → ⊥) → HaveFront (layers_seen layers) front len
     → IsShortestMatch (ranges_of (layers_seen layers)) front (Some len)
 shortest_found layers front len fits none found =
     let seen = layers_seen layers in
-    let (k, space, within, is, has) = ranges_have (HasFront len front) seen found in
-    (
+    let (k, space, within, is, has) = ranges_have (HasFront len front) seen found in (
       fits,
       (k, space, within, is, (front_matches front len space has, has.0)),
       all_ranges (λ s. Matches s front (length front) → len ≤ s.len) seen (λ s held matches.

@@ -1,9 +1,8 @@
 -- Codes in codespace ranges that a string begins with, by its bytes.
-use Rattle.std.proofs.Common.{◌≡◌, ℕ, zero, suc, ◌+◌, ◌-◌, ◌*◌, ◌/◌, ◌%◌, ◌^◌, ◌<◌, ◌≤◌, ◌⊎◌, List, [], ◌∷◌, length, map, take, get_or, get_or-take, Option, Some, None, refl, sym, ap, ◌∙◌, subst, inl, inr, slice_get, Any, arith}
+use Rattle.std.proofs.Common.{◌≡◌, ℕ, zero, suc, ◌+◌, ◌-◌, ◌^◌, ◌<◌, ◌≤◌, ◌⊎◌, List, [], ◌∷◌, length, map, take, Option, Some, None, refl, sym, ap, ◌∙◌, subst, inl, inr, slice_get, Any, arith}
 use Rattle.std.specs.Prelude.{◌↔◌, IsSomeAnd, slice_index}
 use Rattle.std.proofs.lemmas.Bool.{cases_lt}
 use Rattle.std.proofs.lemmas.List.{length-take-le}
-use Rattle.std.proofs.lemmas.Option.{slice_get_within}
 use Rattle.cmap_files.specs.BigEndian.{big_endian}
 use Rattle.cmap_files.specs.DeclarationsSeen.{codespace_seen}
 use Rattle.cmap_files.specs.Files.{Codespace}
@@ -47,21 +46,26 @@ within_front : (text : List ℕ) (n : ℕ) (space : Codespace) → AreBytes text
 within_front text n space fits (some, few, within) =
     let bytes = take n text in
     let size = length-take-le n text within in
-    let byte = λ (k : ℕ) (lt : k < n). number_byte bytes k (taken_bytes text n fits) (omega arith) (omega arith) in
-    (
-      λ is. (is.0, λ place lt.
-          let k = n - suc place in
-          let at : length bytes - suc k ≡ place = omega arith in
-          let its : byte_at (front text n) k ≡ slice_index bytes place = byte k (omega arith) ∙ ap (slice_index bytes) at in
-          let (least, most) = is.1 k (omega arith) in
-          let there : space.len - suc place ≡ k = omega (arith, is.0) in
-          (omega (arith, is.0), omega (arith, ap (byte_at space.low) there), omega (arith, ap (byte_at space.high) there))),
-      λ has. (has.0, λ k lt.
-          let place = length bytes - suc k in
-          let its = byte k lt in
-          let (below, least, most) = has.1 place (omega arith) in
-          let there : space.len - suc place ≡ k = omega (arith, has.0) in
-          (omega (arith, ap (byte_at space.low) there), omega (arith, ap (byte_at space.high) there))),
+    let byte = λ (k : ℕ) (lt : k < n). number_byte bytes k (taken_bytes text n fits) (omega arith) (omega arith) in (
+      λ is. (
+        is.0,
+        λ place lt.
+            let k = n - suc place in
+            let at : length bytes - suc k ≡ place = omega arith in
+            let its : byte_at (front text n) k ≡ slice_index bytes place = byte k (omega arith) ∙ ap (slice_index bytes) at in
+            let (least, most) = is.1 k (omega arith) in
+            let there : space.len - suc place ≡ k = omega (arith, is.0) in
+            (omega (arith, is.0), omega (arith, ap (byte_at space.low) there), omega (arith, ap (byte_at space.high) there)),
+      ),
+      λ has. (
+        has.0,
+        λ k lt.
+            let place = length bytes - suc k in
+            let its = byte k lt in
+            let (below, least, most) = has.1 place (omega arith) in
+            let there : space.len - suc place ≡ k = omega (arith, has.0) in
+            (omega (arith, ap (byte_at space.low) there), omega (arith, ap (byte_at space.high) there)),
+      ),
     )
 
 -- ---- the layers
@@ -110,3 +114,10 @@ first_inside text layers n fits (within, (some, few, number, ranges)) =
 pub least_inside : (text : List ℕ) (layers : List Layer) (least : Option ℕ) → AreBytes text → IsLeast (IsInsideFirst text layers (length layers)) least → IsLeast (BeginsInside (layers_seen layers) text) least
 least_inside text layers least fits is =
     least_same (IsInsideFirst text layers (length layers)) (BeginsInside (layers_seen layers) text) least (λ n. (inside_first text layers n fits, first_inside text layers n fits)) is
+
+-- the ranges of one layer alone
+none_before : (text : List ℕ) (layers : List Layer) → IsLeast (IsInsideFirst text layers 0) None
+none_before text layers = λ n inside. let (begins, k, below, has) = inside in omega arith
+
+pub least_only : (text : List ℕ) (layer : Layer) (least : Option ℕ) → AreBytes text → IsLeast (IsInsideRanges text (map codespace_seen layer.spaces)) least → IsLeast (BeginsInside (layers_seen (layer ∷ [])) text) least
+least_only text layer least fits is = least_inside text (layer ∷ []) least fits (least_layer text (layer ∷ []) 0 layer None least refl (none_before text (layer ∷ [])) is)

@@ -1,5 +1,5 @@
 -- Bits of codespace ranges: which are set by a range, and which rows the range is in.
-use Rattle.std.proofs.Common.{◌≡◌, ◌≢◌, ℕ, suc, ◌+◌, ◌-◌, ◌*◌, ◌/◌, ◌%◌, ◌^◌, ◌<◌, ◌≤◌, ◌⊎◌, ◌++◌, not, List, length, take, drop, set, get_or, true≢false, eq-eqb, ne_eqb, min, Some, None, refl, sym, ap, ◌∙◌, subst, inl, inr, w64, get_or-set_same, get_or-set_other, slice_get, bit_and, bit_or, arith}
+use Rattle.std.proofs.Common.{◌≡◌, ◌≢◌, ℕ, suc, ◌+◌, ◌-◌, ◌*◌, ◌/◌, ◌%◌, ◌^◌, ◌<◌, ◌≤◌, ◌⊎◌, ◌++◌, not, List, length, take, drop, set, get_or, true≢false, eq-eqb, ne_eqb, min, Some, sym, ap, ◌∙◌, subst, inl, inr, w64, get_or-set_same, get_or-set_other, slice_get, bit_and, bit_or, arith}
 use Rattle.std.specs.Prelude.{◌↔◌, IsSomeAnd, IsTrue, nat_eq}
 use Rattle.std.specs.Int.{bit_at, trailing_zeros}
 use Rattle.std.specs.Global.{Vec}
@@ -175,7 +175,7 @@ all_bits spaces first count rows within is have = record {
 
 -- ---- groups of blocks
 pub no_group : (blocks : List (Vec ℕ)) (first : ℕ) (rows : List ℕ) → length rows ≡ 1028 → HasGroup blocks first 0 rows
-no_group blocks first rows size = record { size = size; marked = λ b row d below. absurd (omega arith); }
+no_group blocks first rows size = record { size = size; marked = λ b row d below. absurd (omega arith) }
 
 pub more_group : (blocks : List (Vec ℕ)) (first n : ℕ) (old new block : List ℕ) → HasGroup blocks first n old → length new ≡ 1028 → ((d : Vec ℕ) → (get_or blocks (first + n) d).items ≡ block)
     → ((row : ℕ) → row < 1028 → get_or block row 0 ≢ 0 → bit_at (get_or new row 0) n ≡ 1) → ((row i : ℕ) → row < 1028 → bit_at (get_or old row 0) i ≡ 1 → bit_at (get_or new row 0) i ≡ 1) → HasGroup blocks first (n + 1) new

@@ -1,6 +1,6 @@
 -- Codespace ranges that are asked for: the rows of a query, and whether a range is in all of them.
-use Rattle.std.proofs.Common.{◌≡◌, ◌≢◌, ℕ, zero, suc, ◌+◌, ◌-◌, ◌*◌, ◌/◌, ◌%◌, ◌^◌, ◌<◌, ◌≤◌, ◌⊎◌, List, [], ◌∷◌, ◌++◌, length, map, min, take, drop, get_or, get_or-take, Option, Some, None, refl, sym, ap, ◌∙◌, subst, inl, inr, lt-ltb, le-ltb, div-one, slice_get, bit_and, Any, arith}
-use Rattle.std.specs.Prelude.{◌↔◌, IsSomeAnd, nat_lt, slice_index, if◌then◌else◌}
+use Rattle.std.proofs.Common.{◌≡◌, ◌≢◌, ℕ, zero, suc, ◌+◌, ◌-◌, ◌*◌, ◌/◌, ◌%◌, ◌^◌, ◌<◌, ◌≤◌, ◌⊎◌, List, [], ◌∷◌, length, map, min, take, drop, get_or, get_or-take, Option, Some, None, refl, sym, ap, ◌∙◌, subst, inl, inr, lt-ltb, le-ltb, div-one, slice_get, bit_and, Any, arith}
+use Rattle.std.specs.Prelude.{◌↔◌, IsSomeAnd, slice_index, if◌then◌else◌}
 use Rattle.std.specs.Int.{bit_at, bytes_high_first}
 use Rattle.std.specs.Int as int
 use Rattle.std.specs.Global.{Vec}
@@ -17,7 +17,7 @@ use Rattle.cmap_files.specs.declared.code_length.CodeLength.TheVariants.{One, Tw
 use Rattle.cmap_files.specs.declared.declarations.Codespace as declared
 use Rattle.cmap_layers.specs.Layers.{Layer}
 use Rattle.cmap_layers.specs.Lookups.{IsWithin, byte_at}
-use Rattle.cmap_layers.specs.SpaceBits.{AreBlocks, AreRows, AreSet, Begins, EachRow, HasFront, HasGroup, HaveBits, HaveRows, InRow, InRows, IsAt, IsFound, IsFoundAmong, IsFoundAt, IsFoundWithin, IsInside, IsInsideRanges, IsInsideWithin, IsLeast, IsSet, front_row, lesser, query_of}
+use Rattle.cmap_layers.specs.SpaceBits.{AreBlocks, AreRows, AreSet, Begins, EachRow, HasFront, HasGroup, HaveBits, HaveRows, InRow, InRows, IsFound, IsFoundAmong, IsFoundAt, IsInside, IsInsideRanges, IsInsideWithin, IsLeast, IsSet, front_row, lesser, query_of}
 use Rattle.cmap_layers.specs.declared.codespaces.query.Query.{Query}
 use Rattle.cmap_layers.proofs.RowBits.{both_set, length_row, some_bit, value_row}
 
@@ -107,20 +107,26 @@ pub code_within : (len : CodeLength) (code : ℕ) (space : Codespace) → HasFro
 code_within len code space =
     let bytes = drop (4 - length_of len) (bytes_high_first 4 code) in
     let size = bytes_of_code len code in (
-      λ has. (has.0, λ k within.
-          let place = length_of len - suc k in
-          let there = code_bytes len code place (omega arith) in
-          let (below, least, most) = has.1 place (omega arith) in
-          let at : space.len - suc place ≡ k = omega (arith, has.0) in
-          let its : length_of len - suc place ≡ k = omega arith in
-          let is : slice_index bytes place ≡ byte_at code k = there ∙ ap (byte_at code) its in
-          (omega (arith, ap (byte_at space.low) at, is), omega (arith, ap (byte_at space.high) at, is))),
-      λ within. (within.0, λ place lt.
-          let few : place < length_of len = omega arith in
-          let there = code_bytes len code place few in
-          let at : space.len - suc place ≡ length_of len - suc place = ap (λ n. n - suc place) within.0 in
-          let (least, most) = within.1 (length_of len - suc place) (omega arith) in
-          (omega (arith, within.0), omega (arith, ap (byte_at space.low) at, there), omega (arith, ap (byte_at space.high) at, there))),
+      λ has. (
+        has.0,
+        λ k within.
+            let place = length_of len - suc k in
+            let there = code_bytes len code place (omega arith) in
+            let (below, least, most) = has.1 place (omega arith) in
+            let at : space.len - suc place ≡ k = omega (arith, has.0) in
+            let its : length_of len - suc place ≡ k = omega arith in
+            let is : slice_index bytes place ≡ byte_at code k = there ∙ ap (byte_at code) its in
+            (omega (arith, ap (byte_at space.low) at, is), omega (arith, ap (byte_at space.high) at, is)),
+      ),
+      λ within. (
+        within.0,
+        λ place lt.
+            let few : place < length_of len = omega arith in
+            let there = code_bytes len code place few in
+            let at : space.len - suc place ≡ length_of len - suc place = ap (λ n. n - suc place) within.0 in
+            let (least, most) = within.1 (length_of len - suc place) (omega arith) in
+            (omega (arith, within.0), omega (arith, ap (byte_at space.low) at, there), omega (arith, ap (byte_at space.high) at, there)),
+      ),
     )
 
 pub code_found : (len given : CodeLength) (code : ℕ) (query : Query) (front : List ℕ) (space : Codespace) → given ≡ len → front ≡ drop (4 - length_of len) (bytes_high_first 4 code) → InRows query space ↔ HasFront (length_of len) front space
@@ -149,8 +155,7 @@ found_in spaces first rows query i have fits =
     let of_first = have.bits query.first i fits.first in
     let of_second = have.bits query.second i fits.second in
     let of_third = have.bits query.third i fits.third in
-    let of_fourth = have.bits query.fourth i fits.fourth in
-    (
+    let of_fourth = have.bits query.fourth i fits.fourth in (
       λ set. let (within, one) = of_length.0 set.0 in (within, all_in (slice_get spaces (first + i)) query one (of_first.0 set.1).1 (of_second.0 set.2).1 (of_third.0 set.3).1 (of_fourth.0 set.4).1),
       λ found. let (one, two, three, four, five) = each_in (slice_get spaces (first + i)) query found.1 in
           (of_length.1 (found.0, one), of_first.1 (found.0, two), of_second.1 (found.0, three), of_third.1 (found.0, four), of_fourth.1 (found.0, five)),
@@ -252,14 +257,14 @@ taken_bytes [] zero bytes = bytes
 taken_bytes [] (suc n) bytes = bytes
 taken_bytes (byte ∷ text) zero bytes = λ k. omega arith
 taken_bytes (byte ∷ text) (suc n) bytes = first_byte byte (take n text) (bytes 0) (taken_bytes text n (λ k. bytes (suc k)))
+
 -- a bit is set in all rows of a front just where it is in that of its length and in those of its bytes
 pub set_front : (rows text : List ℕ) (n i : ℕ) → n ≤ 4 → n ≤ length text → AreSet rows (query_of n (take n text)) i ↔ (IsSet rows i (1023 + n) × ((k : ℕ) → k < n → IsSet rows i (256 * k + slice_index text k)))
 set_front rows text n i few within =
     let front = take n text in
     let size = length-take-le n text within in
     let each = each_row (IsSet rows i) n front (omega arith) in
-    let same = λ (k : ℕ) (lt : k < n). ap (λ value. 256 * k + value) (get_or-take n text k 0 lt) in
-    (
+    let same = λ (k : ℕ) (lt : k < n). ap (λ value. 256 * k + value) (get_or-take n text k 0 lt) in (
       λ all. let (one, set) = each.0 all in (one, λ k lt. subst (IsSet rows i) (same k lt) (set k (omega arith))),
       λ has. each.1 (has.0, λ k lt. let below : k < n = omega arith in subst (IsSet rows i) (sym (same k below)) (has.1 k below)),
     )
@@ -370,8 +375,7 @@ asked_ranges spaces blocks text n bytes (some, few, within) are =
     let taken = taken_bytes text n bytes in
     let size = length-take-le n text within in
     let found = blocks_find spaces blocks (query_of n front) are (query-rows n front taken few) in
-    let rows = λ (space : Codespace). front_rows n front space taken some (omega arith) in
-    (
+    let rows = λ (space : Codespace). front_rows n front space taken some (omega arith) in (
       λ among. let (k, space, below, is, all) = found.0 among in (k, space, below, is, (rows space).0 all),
       λ ranges. let (k, space, below, is, has) = ranges in found.1 (k, space, below, is, (rows space).1 has),
     )
@@ -384,3 +388,15 @@ least_ranges spaces blocks text least bytes are is =
       λ inside. let (begins, (k, from, below, there)) = inside in (begins, (asked_ranges spaces blocks text n bytes begins are).0 (k, there)),
       λ inside. let (begins, some) = inside in let (k, there) = (asked_ranges spaces blocks text n bytes begins are).1 some in (begins, (k, omega arith, omega (arith, found_within blocks (query_of n (take n text)) k there), there)),
     )) is
+
+pub only_item : {A : Type 0} (xs : List A) (x : A) → length xs ≡ 1 → x ≡ get_or xs 0 x → xs ≡ x ∷ []
+only_item [] x one is = absurd (omega arith)
+only_item (y ∷ []) x one is = ap (λ z. z ∷ []) (sym is)
+only_item (y ∷ z ∷ zs) x one is = absurd (omega arith)
+
+-- the ranges of one block alone
+none_before : (blocks : List (Vec ℕ)) (text : List ℕ) → IsLeast (IsInsideWithin text blocks 0 0) None
+none_before blocks text = λ n inside. let (begins, (k, from, below, there)) = inside in omega arith
+
+pub least_only : (spaces : List declared.Codespace) (block : Vec ℕ) (text : List ℕ) (least : Option ℕ) → AreBytes text → AreBlocks spaces (block ∷ []) → IsLeast (IsInside text block.items) least → IsLeast (IsInsideRanges text (map codespace_seen spaces)) least
+least_only spaces block text least bytes are is = least_ranges spaces (block ∷ []) text least bytes are (least_block (block ∷ []) text 0 block None least refl (none_before (block ∷ []) text) is)

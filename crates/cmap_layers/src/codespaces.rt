@@ -15,12 +15,11 @@ mod query;
 mod search;
 mod spaces;
 
-pub(crate) use spaces::Spaces;
-
 use crate::layers::Layer;
 use cmap_files::code_length::CodeLength;
 use front::lesser;
 use query::Query;
+pub(crate) use spaces::Spaces;
 
 /// Whether a codespace range of some layer contains a code of `byte_len` bytes. None does where the
 /// code doesn't fit in these, or `byte_len` is outside 1 to 4.
@@ -44,7 +43,19 @@ pub(crate) fn any_has_front(layers: &[Layer], byte_len: u8, front: &[u8]) -> boo
 }
 
 /// How many bytes the shortest code in a codespace range has that a text begins with.
+#[inline(always)]
 pub(crate) fn shortest(layers: &[Layer], text: &[u8]) -> Option<u8>
+    ensures { IsLeast (BeginsInside (layers_seen layers.now) text.now) result }
+{
+    match layers {
+        [only] => only.spaces.shortest(text),
+        _ => shortest_of_all(layers, text),
+    }
+}
+
+/// The answer of `shortest`, of any number of layers.
+#[inline(never)]
+fn shortest_of_all(layers: &[Layer], text: &[u8]) -> Option<u8>
     ensures { IsLeast (BeginsInside (layers_seen layers.now) text.now) result }
 {
     let mut shortest = None;

@@ -62,11 +62,7 @@ pub fn next_code(layers: &[Layer], text: &[u8]) -> Option<StringCode>
 pub fn fewest_bytes(layers: &[Layer]) -> u8
     ensures { HaveNoShorter (layers_seen layers.now) result }
 {
-    if any_has_front(layers, 1, &[]) {
-        1
-    } else {
-        2
-    }
+    if any_has_front(layers, 1, &[]) { 1 } else { 2 }
 }
 
 /// The answer of `next_code`, where no code in a codespace range has fewer bytes than `fewest`.
@@ -119,7 +115,7 @@ fn shortest_with_front(layers: &[Layer], front: &[u8]) -> Option<u8>
     requires { length front.now ≤ 4 }
     ensures { IsShortestMatch (ranges_of (layers_seen layers.now)) front.now result }
 {
-    for byte_len in 1..5 {
+    for byte_len in front.len().max(1) as u8..5 {
         if any_has_front(layers, byte_len, front) {
             return Some(byte_len);
         }

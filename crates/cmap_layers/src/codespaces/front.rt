@@ -39,7 +39,8 @@ pub(super) fn shortest_among_groups(
 }
 
 /// The same of one block.
-fn shortest_in_block(rows: &[u64], text: &[u8]) -> Option<u8>
+#[inline(always)]
+pub(super) fn shortest_in_block(rows: &[u64], text: &[u8]) -> Option<u8>
     requires { length rows.now ≡ 1028 }
     ensures { IsLeast (IsInside text.now rows.now) result }
 {
@@ -55,12 +56,7 @@ fn shortest_in_block(rows: &[u64], text: &[u8]) -> Option<u8>
 }
 
 /// The same of the blocks of a group, from `first` on.
-fn shortest_in_group(
-    blocks: &[Vec<u64>],
-    first: usize,
-    rows: &[u64],
-    text: &[u8],
-) -> Option<u8>
+fn shortest_in_group(blocks: &[Vec<u64>], first: usize, rows: &[u64], text: &[u8]) -> Option<u8>
     requires first { first < length blocks.now }
     requires rows { HaveRows blocks.now }
     requires group { HasGroup blocks.now first 64 rows.now }

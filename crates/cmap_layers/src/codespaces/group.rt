@@ -8,10 +8,7 @@ use super::block::{BLOCK_LEN, ROW_COUNT};
 use std::alloc::{AllocError, Global};
 
 /// The rows of each group of 64 blocks.
-pub(super) fn groups_of(
-    alloc: Global,
-    blocks: &[Vec<u64>],
-) -> Result<Vec<Vec<u64>>, AllocError>
+pub(super) fn groups_of(alloc: Global, blocks: &[Vec<u64>]) -> Result<Vec<Vec<u64>>, AllocError>
     requires { HaveRows blocks.now }
     ensures { IfOk result (λ groups. AreGroups blocks.now groups.items) }
 {

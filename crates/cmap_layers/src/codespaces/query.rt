@@ -71,7 +71,10 @@ impl Query {
         requires rows { AreRows self.now }
         ensures { (i : ℕ) → (bit_at result i ≡ 1) ↔ AreSet rows.now self.now i }
     {
-        rows[self.length] & rows[self.first] & rows[self.second] & rows[self.third]
+        rows[self.length]
+            & rows[self.first]
+            & rows[self.second]
+            & rows[self.third]
             & rows[self.fourth]
     }
 }

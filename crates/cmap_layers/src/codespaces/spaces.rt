@@ -5,7 +5,7 @@ ghost use Rattle.cmap_files.specs.DeclarationsSeen.{codespace_seen};
 ghost use Rattle.cmap_layers.specs.SpaceBits.{AreBlocks, AreRows, InRows, IsInsideRanges, IsLeast};
 
 use super::block::{BLOCK_LEN, rows_of};
-use super::front::{shortest_among_blocks, shortest_among_groups};
+use super::front::{shortest_among_blocks, shortest_among_groups, shortest_in_block};
 use super::group::groups_of;
 use super::query::Query;
 use super::search::{any_of_blocks, any_of_groups};
@@ -85,7 +85,19 @@ impl Spaces {
 
     /// How many bytes the shortest code has that a text begins with, of those that one of the ranges
     /// contains.
+    #[inline(always)]
     pub(crate) fn shortest(&self, text: &[u8]) -> Option<u8>
+        ensures { IsLeast (IsInsideRanges text.now (map codespace_seen self.now)) result }
+    {
+        match self.blocks.as_slice() {
+            [only] => shortest_in_block(only, text),
+            _ => self.shortest_of_all(text),
+        }
+    }
+
+    /// The answer of `shortest`, of any number of blocks.
+    #[inline(never)]
+    fn shortest_of_all(&self, text: &[u8]) -> Option<u8>
         ensures { IsLeast (IsInsideRanges text.now (map codespace_seen self.now)) result }
     {
         if self.groups.is_empty() {

@@ -1,16 +1,14 @@
-use Rattle.std.proofs.Common.{◌≡◌, ◌+◌, length, sym, subst, refl, arith}
-use Rattle.std.proofs.lemmas.Option.{slice_get_read}
+use Rattle.std.proofs.Common.{List, sym, subst, arith}
+use Rattle.cmap_layers.specs.LayersSeen.{layers_seen}
 use Rattle.cmap_layers.specs.SpaceBits.{IsLeast}
-use Rattle.cmap_layers.proofs.CodesInside.{IsInsideFirst, least_inside, least_layer}
+use Rattle.cmap_layers.specs.StringCodes.{BeginsInside}
+use Rattle.cmap_layers.specs.declared.layers.Layer.{Layer}
+use Rattle.cmap_layers.proofs.CodesInside.{least_only}
+use Rattle.cmap_layers.proofs.SpacesFound.{only_item}
 use Rattle.cmap_layers.proofs.codespaces.shortest.Goals as goal
 
-pub loop-layer-preserved : goal.loop-layer-preserved
-loop-layer-preserved c =
-    let layers = c.args.layers.now in let at = c.loop-layer.layer-index in
-    subst (IsLeast (IsInsideFirst c.args.text.now layers (at + 1))) (sym c.lesser-shortest.ensures)
-    (least_layer c.args.text.now layers at c.layer-item.result c.loop-layer.shortest c.shortest.result (slice_get_read layers _ at _ refl (omega arith) c.layer-item.is) c.loop-layer.invariant c.shortest.ensures)
-
-pub returns : goal.returns
-returns c =
-    let end : c.loop-layer.layer-index ≡ length c.args.layers.now = omega arith in
-    least_inside c.args.text.now c.args.layers.now c.loop-layer.shortest (λ k. omega (arith, c.type_inv.text k)) (subst (λ n. IsLeast (IsInsideFirst c.args.text.now c.args.layers.now n) c.loop-layer.shortest) end c.loop-layer.invariant)
+pub returns-in-len1 : goal.returns-in-len1
+returns-in-len1 c =
+    let layer = c.only-item.result in
+    let is = only_item c.args.layers.now layer (omega (arith, c.in-len1.len_at_least, c.in-len1.len_below)) c.only-item.is in
+    subst (λ (layers : List Layer). IsLeast (BeginsInside (layers_seen layers) c.args.text.now) c.shortest.result) (sym is) (least_only c.args.text.now layer c.shortest.result (λ k. omega (arith, c.type_inv.text k)) c.shortest.ensures)

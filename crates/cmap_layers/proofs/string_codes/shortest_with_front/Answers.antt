@@ -1,8 +1,11 @@
-use Rattle.std.proofs.Common.{sym, ap, ◌∙◌, subst, inl, inr, arith}
+use Rattle.std.proofs.Common.{sym, ◌∙◌, subst, inl, inr, arith}
 use Rattle.std.proofs.lemmas.Bool.{cases_lt, false≢true}
 use Rattle.cmap_layers.specs.LayersSeen.{layers_seen}
-use Rattle.cmap_layers.proofs.BestMatch.{HaveFront, none_found, shortest_found}
+use Rattle.cmap_layers.proofs.BestMatch.{HaveFront, none_found, shortest_found, too_short}
 use Rattle.cmap_layers.proofs.string_codes.shortest_with_front.Goals as goal
+
+pub loop-byte_len-init : goal.loop-byte_len-init
+loop-byte_len-init c = λ n some below. too_short (layers_seen c.args.layers.now) c.args.front.now n (omega (arith, c.max-byte_len.ensures))
 
 pub returns-then-any_has_front : goal.returns-then-any_has_front
 returns-then-any_has_front c =

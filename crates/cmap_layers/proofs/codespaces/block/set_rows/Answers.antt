@@ -1,8 +1,7 @@
-use Rattle.std.proofs.Common.{◌<◌, ℕ, length, length-set, inl, inr, arith}
+use Rattle.std.proofs.Common.{ℕ, length-set, inl, inr, arith}
 use Rattle.std.proofs.lemmas.Bool.{cases_lt}
 use Rattle.cmap_layers.proofs.RowBits.{row_set}
 use Rattle.cmap_layers.proofs.codespaces.block.set_rows.Goals as goal
-
 
 pub loop-row-preserved : goal.loop-row-preserved
 loop-row-preserved c =
@@ -12,8 +11,7 @@ loop-row-preserved c =
       upto = inl (omega arith);
       bits = λ row i within.
           let step = row_set c.loop-row.rows at c.args.bit row i (omega (arith, old.size)) c.requires.bit in
-          let was = old.bits row i (omega (arith, length-set {A = ℕ})) in
-          (
+          let was = old.bits row i (omega (arith, length-set {A = ℕ})) in (
             λ now. elim (step.0 now) [
               | inl before ↦ elim (was.0 before) [ inl first ↦ inl first | inr new ↦ let high = new.2 in inr (new.0, new.1, omega arith) ]
               | inr new ↦ let here = new.1 in inr (new.0, omega (arith, old.from), omega arith)
@@ -31,8 +29,7 @@ loop-row-preserved c =
 pub returns : goal.returns
 returns c = λ row i within.
     let old = c.loop-row.invariant in
-    let was = old.bits row i (omega (arith, old.size)) in
-    (
+    let was = old.bits row i (omega (arith, old.size)) in (
       λ now. elim (was.0 now) [
         | inl first ↦ inl first
         | inr new ↦

@@ -1,4 +1,4 @@
-use Rattle.std.proofs.Common.{◌≡◌, ℕ, ◌+◌, length, sym, subst, rules, refl, arith}
+use Rattle.std.proofs.Common.{◌≡◌, ◌+◌, length, sym, subst, rules, refl, arith}
 use Rattle.std.proofs.lemmas.Option.{slice_get_read}
 use Rattle.cmap_layers.specs.SpaceBits.{IsInside, IsInsideWithin, IsLeast}
 use Rattle.cmap_layers.proofs.SpacesFound.{least_block}

@@ -1,4 +1,4 @@
-use Rattle.std.proofs.Common.{◌≡◌, ℕ, ◌+◌, ◌*◌, sym, ap, ◌∙◌, subst, length, arith}
+use Rattle.std.proofs.Common.{◌≡◌, ◌+◌, ◌*◌, sym, subst, arith}
 use Rattle.cmap_layers.specs.SpaceBits.{IsInsideWithin, IsLeast}
 use Rattle.cmap_layers.proofs.SpacesFound.{least_all, least_group}
 use Rattle.cmap_layers.proofs.codespaces.front.shortest_among_groups.Goals as goal

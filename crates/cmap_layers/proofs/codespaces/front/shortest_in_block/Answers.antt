@@ -1,9 +1,9 @@
-use Rattle.std.proofs.Common.{◌≡◌, ℕ, ◌+◌, ◌*◌, ◌<◌, ◌^◌, get_or, bit_and, sym, ap, ◌∙◌, subst, inl, inr, arith}
+use Rattle.std.proofs.Common.{◌≡◌, ◌+◌, ◌*◌, get_or, bit_and, ap, subst, inl, inr, arith}
 use Rattle.std.specs.Prelude.{slice_index}
 use Rattle.std.proofs.lemmas.Bool.{cases_lt}
 use Rattle.std.proofs.lemmas.Nat.{and_le_l}
 use Rattle.std.proofs.lemmas.Nat.Bits.{bit_at_ones}
-use Rattle.cmap_layers.specs.SpaceBits.{IsInside, IsSet}
+use Rattle.cmap_layers.specs.SpaceBits.{IsInside}
 use Rattle.cmap_layers.proofs.SpacesFound.{all_more, none_inside, set_more, some_inside}
 use Rattle.cmap_layers.proofs.codespaces.front.shortest_in_block.Goals as goal
 use Rattle.cmap_layers.proofs.codespaces.front.shortest_in_block.Goals.{After-row_of_length}

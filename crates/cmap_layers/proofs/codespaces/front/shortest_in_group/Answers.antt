@@ -1,9 +1,9 @@
-use Rattle.std.proofs.Common.{◌≡◌, ℕ, ◌+◌, ◌-◌, ◌*◌, ◌<◌, ◌≤◌, ◌^◌, get_or, take, bit_and, sym, ap, ◌∙◌, subst, inl, inr, arith}
+use Rattle.std.proofs.Common.{◌≡◌, ◌+◌, ◌*◌, get_or, take, bit_and, sym, ap, ◌∙◌, subst, inl, inr, arith}
 use Rattle.std.specs.Prelude.{slice_index}
 use Rattle.std.specs.Int.{bit_at}
 use Rattle.std.proofs.lemmas.Bool.{cases_lt, false≢true}
 use Rattle.std.proofs.lemmas.Nat.Bits.{bit_at-zero, bit_at_ones}
-use Rattle.cmap_layers.specs.SpaceBits.{IsFoundAt, IsFoundWithin, IsInsideWithin, IsSet, query_of}
+use Rattle.cmap_layers.specs.SpaceBits.{IsFoundAt, IsFoundWithin, IsInsideWithin, query_of}
 use Rattle.cmap_layers.proofs.SpacesFound.{all_more, marked_inside}
 use Rattle.cmap_layers.proofs.codespaces.front.shortest_in_group.Goals as goal
 use Rattle.cmap_layers.proofs.codespaces.front.shortest_in_group.Goals.{After-row_of_length, then-bits-ne0+else-any_of_group, else-bits-ne0}
@@ -35,7 +35,7 @@ loop-place-preserved c =
     let all = all_more rows text c.loop-place.found c.row_of_value.result p (row here) old.all in
     let bits = bit_and found (get_or rows c.row_of_length.result 0) in
     let marked = λ (inside : IsInsideWithin text blocks c.args.first 64 (p + 1)).
-        marked_inside blocks c.args.first rows text found (p + 1) (λ k. omega (arith, c.type_inv.text k)) c.requires.group all inside in
+    marked_inside blocks c.args.first rows text found (p + 1) (λ k. omega (arith, c.type_inv.text k)) c.requires.group all inside in
     record {
       all = all;
       none = λ n few inside. elim (cases_lt n (p + 1)) [

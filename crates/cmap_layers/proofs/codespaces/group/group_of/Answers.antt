@@ -1,8 +1,8 @@
-use Rattle.std.proofs.Common.{◌≡◌, ℕ, ◌+◌, List, length, get_or, ap, sym, ◌∙◌, subst, rules, arith}
+use Rattle.std.proofs.Common.{◌≡◌, ℕ, ◌+◌, List, length, ap, sym, ◌∙◌, subst, rules, arith}
 use Rattle.std.specs.Global.{Vec}
 use Rattle.std.proofs.lemmas.List.{get_or_default}
 use Rattle.cmap_layers.specs.SpaceBits.{HasGroup}
-use Rattle.cmap_layers.proofs.RowBits.{more_group, no_group, whole_group, written_back}
+use Rattle.cmap_layers.proofs.RowBits.{more_group, whole_group, written_back}
 use Rattle.cmap_layers.proofs.codespaces.group.group_of.Goals as goal
 
 pub loop-index-preserved : goal.loop-index-preserved

@@ -1,4 +1,4 @@
-use Rattle.std.proofs.Common.{ℕ, ◌≡◌, List, length, length-set, get_or, refl, sym, ap, ◌∙◌, inl, inr, arith}
+use Rattle.std.proofs.Common.{ℕ, ◌≡◌, List, length, length-set, get_or, refl, ap, ◌∙◌, inl, inr, arith}
 use Rattle.std.proofs.lemmas.Bool.{cases_lt}
 use Rattle.cmap_layers.proofs.RowBits.{row_marked}
 use Rattle.cmap_layers.proofs.codespaces.group.mark_rows.Goals as goal
@@ -16,11 +16,11 @@ loop-row-preserved c =
             kept = λ row i lt was. (bits row i).1 (inl (old.kept row i lt was));
           }
       | else-block-row-ne0 w ↦ rw w.rows-is (record {
-          size = old.size;
-          marked = λ row below some. elim (cases_lt row at) [
-            | inl before ↦ old.marked row before some
-            | inr last ↦ let same : row ≡ at = omega arith in absurd (some (ap (λ r. get_or c.args.block.now r 0) same ∙ w.if-block-row-ne0.false))
-          ];
-          kept = old.kept;
-        })
+        size = old.size;
+        marked = λ row below some. elim (cases_lt row at) [
+          | inl before ↦ old.marked row before some
+          | inr last ↦ let same : row ≡ at = omega arith in absurd (some (ap (λ r. get_or c.args.block.now r 0) same ∙ w.if-block-row-ne0.false))
+        ];
+        kept = old.kept;
+      })
     ]

@@ -1,6 +1,4 @@
-use Rattle.std.proofs.Common.{◌≡◌, ◌∙◌, sym, subst, refl, arith}
-use Rattle.std.specs.Prelude.{◌↔◌}
-use Rattle.cmap_layers.specs.SpaceBits.{AreRows, HasFront, InRows, query_of}
+use Rattle.std.proofs.Common.{refl, arith}
 use Rattle.cmap_layers.proofs.SpacesFound.{front_rows, query-rows}
 use Rattle.cmap_layers.proofs.codespaces.query.Query.of_front.Goals as goal
 use Rattle.cmap_layers.proofs.codespaces.query.Query.of_front.Goals.{After-row_at-4}

@@ -1,19 +1,13 @@
-use Rattle.std.proofs.Common.{◌≡◌, ℕ, length, map, subst, rules, arith}
-use Rattle.cmap_files.specs.DeclarationsSeen.{codespace_seen}
-use Rattle.cmap_layers.specs.SpaceBits.{IsInsideRanges, IsInsideWithin, IsLeast}
-use Rattle.cmap_layers.proofs.SpacesFound.{least_ranges}
+use Rattle.std.proofs.Common.{◌≡◌, ◌∙◌, subst, rules, arith}
+use Rattle.cmap_layers.specs.SpaceBits.{AreBlocks, IsInside, IsLeast}
+use Rattle.cmap_layers.proofs.SpacesFound.{least_only, only_item}
 use Rattle.cmap_layers.proofs.codespaces.spaces.Spaces.shortest.Goals as goal
 
-pub returns-then-is_empty : goal.returns-then-is_empty
-returns-then-is_empty c =
-    let text = c.args.text.now in let found = c.shortest_among_blocks.result in
-    let is : c.deref.result.now ≡ c.self.inside.blocks.items = search rules in
-    rw (← c.self.view_is)
-    (least_ranges c.self.inside.list.items c.self.inside.blocks.items text found (λ k. omega (arith, c.type_inv.text k)) c.self.invariant.0 (subst (λ blocks. IsLeast (IsInsideWithin text blocks 0 (length blocks)) found) is c.shortest_among_blocks.ensures))
-
-pub returns-else-is_empty : goal.returns-else-is_empty
-returns-else-is_empty c =
-    let text = c.args.text.now in let found = c.shortest_among_groups.result in
-    let is : c.deref-else-is_empty.result.now ≡ c.self.inside.blocks.items = search rules in
-    rw (← c.self.view_is)
-    (least_ranges c.self.inside.list.items c.self.inside.blocks.items text found (λ k. omega (arith, c.type_inv.text k)) c.self.invariant.0 (subst (λ blocks. IsLeast (IsInsideWithin text blocks 0 (length blocks)) found) is c.shortest_among_groups.ensures))
+pub returns-in-len1 : goal.returns-in-len1
+returns-in-len1 c =
+    let text = c.args.text.now in let block = c.only-item.result in let list = c.self.inside.list.items in
+    let blocks : c.self.inside.blocks.items ≡ c.as_slice.result.now = search rules in
+    let is = blocks ∙ only_item c.as_slice.result.now block (omega (arith, c.in-len1.len_at_least, c.in-len1.len_below)) c.only-item.is in
+    let rows : c.deref.result.now ≡ block.items = search rules in
+    let here = subst (λ rows. IsLeast (IsInside text rows) c.shortest_in_block.result) rows c.shortest_in_block.ensures in
+    rw (← c.self.view_is) (least_only list block text c.shortest_in_block.result (λ k. omega (arith, c.type_inv.text k)) (subst (AreBlocks list) is c.self.invariant.0) here)

@@ -1,6 +1,6 @@
 use Rattle.cmap_layers.specs.SpaceBits.{IsLeast}
 use Rattle.cmap_layers.proofs.CodesInside.{IsInsideFirst}
-use Rattle.cmap_layers.proofs.codespaces.shortest.Given as goal
+use Rattle.cmap_layers.proofs.codespaces.shortest_of_all.Given as goal
 
 abbrev pub invariant-loop-layer : goal.invariant-loop-layer
 invariant-loop-layer l = IsLeast (IsInsideFirst l.text l.layers l.layer-index) l.shortest
