@@ -1,5 +1,5 @@
 -- Codespace ranges that are asked for: the rows of a query, and whether a range is in all of them.
-use Rattle.std.proofs.Common.{◌≡◌, ◌≢◌, ℕ, zero, suc, ◌+◌, ◌-◌, ◌*◌, ◌/◌, ◌%◌, ◌^◌, ◌<◌, ◌≤◌, ◌⊎◌, List, [], ◌∷◌, length, map, min, take, drop, get_or, get_or-take, Option, Some, None, refl, sym, ap, ◌∙◌, subst, inl, inr, lt-ltb, le-ltb, div-one, slice_get, bit_and, Any, arith}
+use Rattle.std.proofs.Common.{◌≡◌, ◌≢◌, ℕ, zero, suc, ◌+◌, ◌-◌, ◌*◌, ◌/◌, ◌%◌, ◌^◌, ◌<◌, ◌≤◌, ◌⊎◌, List, [], ◌∷◌, length, map, min, take, drop, get_or, get_or-take, Option, Some, None, refl, sym, ap, ◌∙◌, subst, inl, inr, lt-ltb, le-ltb, div-one, slice_get, bit_and, All, Any, arith}
 use Rattle.std.specs.Prelude.{◌↔◌, IsSomeAnd, slice_index, if◌then◌else◌}
 use Rattle.std.specs.Int.{bit_at, bytes_high_first}
 use Rattle.std.specs.Int as int
@@ -17,7 +17,7 @@ use Rattle.cmap_files.specs.declared.code_length.CodeLength.TheVariants.{One, Tw
 use Rattle.cmap_files.specs.declared.declarations.Codespace as declared
 use Rattle.cmap_layers.specs.Layers.{Layer}
 use Rattle.cmap_layers.specs.Lookups.{IsWithin, byte_at}
-use Rattle.cmap_layers.specs.SpaceBits.{AreBlocks, AreRows, AreSet, Begins, EachRow, HasFront, HasGroup, HaveBits, HaveRows, InRow, InRows, IsFound, IsFoundAmong, IsFoundAt, IsInside, IsInsideRanges, IsInsideWithin, IsLeast, IsSet, front_row, lesser, query_of}
+use Rattle.cmap_layers.specs.SpaceBits.{AreBlocks, AreGroups, AreRows, AreSet, Begins, EachRow, HasFront, HasGroup, HaveBits, HaveRows, InRow, InRows, IsFound, IsFoundAmong, IsFoundAt, IsInside, IsInsideRanges, IsInsideWithin, IsLeast, IsSet, front_row, lesser, query_of}
 use Rattle.cmap_layers.specs.declared.codespaces.query.Query.{Query}
 use Rattle.cmap_layers.proofs.RowBits.{both_set, length_row, some_bit, value_row}
 
@@ -216,6 +216,22 @@ group_found blocks first b rows query has fits below found =
       | inr past ↦ absurd (subst (λ o. IsSomeAnd o (λ rows. IsFound rows.items query)) past.1 found)
     ]
 
+-- the group of a block in which a range is found has a bit in all rows
+pub group_has : (blocks groups : List (Vec ℕ)) (index : ℕ) (query : Query) → AreGroups blocks groups → AreRows query → IsFoundAt blocks query index → IsFoundAt groups query (index / 64)
+group_has blocks groups index query are fits found =
+    let within = found_within blocks query index found in
+    let g = index / 64 in
+    let inside : g < length groups = omega (arith, are.all) in
+    elim (slice_get_cases groups g).1 [
+      | inl (rows, lt, at, is) ↦
+          let bit = index % 64 in
+          let has = subst (λ (list : Vec ℕ). HasGroup blocks (64 * g) 64 list.items) is (are.each g rows lt) in
+          let place : index ≡ 64 * g + bit = omega arith in
+          let here = subst (IsFoundAt blocks query) place found in
+          subst (λ o. IsSomeAnd o (λ rows. IsFound rows.items query)) (sym at) (bit, group_found blocks (64 * g) bit rows.items query has fits (omega arith) here)
+      | inr past ↦ let beyond = past.0 in absurd (omega arith)
+    ]
+
 pub have_rows : (spaces : List declared.Codespace) (blocks : List (Vec ℕ)) → AreBlocks spaces blocks → HaveRows blocks
 have_rows spaces blocks are = λ b d within. (are.each b d within).size
 
@@ -300,18 +316,6 @@ some_inside rows text found p fits some few within set is =
     let (all, length) = (both_set found (get_or rows (1023 + p) 0) i).0 bit in
     ((some, few, within), (i, (set_front rows text p i few within).1 (length, set i all)))
 
--- a block of a group in which a range is found has its bit set
-pub marked_inside : (blocks : List (Vec ℕ)) (first : ℕ) (rows text : List ℕ) (found p : ℕ) → AreBytes text → HasGroup blocks first 64 rows → ((i : ℕ) → i < 64 → ((k : ℕ) → k < p → IsSet rows i (256 * k + slice_index text k)) → bit_at found i ≡ 1)
-    → IsInsideWithin text blocks first 64 p → (bit : ℕ) × (bit < 64) × (bit_at (bit_and found (get_or rows (1023 + p) 0)) bit ≡ 1) × IsFoundAt blocks (query_of p (take p text)) (first + bit)
-marked_inside blocks first rows text found p bytes group all (begins, (k, from, below, there)) =
-    let (some, few, within) = begins in
-    let bit = k - first in
-    let at : k ≡ first + bit = omega arith in
-    let here = subst (IsFoundAt blocks (query_of p (take p text))) at there in
-    let fits = query-rows p (take p text) (taken_bytes text p bytes) few in
-    let (length, each) = (set_front rows text p bit few within).0 (group_found blocks first bit rows (query_of p (take p text)) group fits (omega arith) here) in
-    (bit, omega arith, (both_set found (get_or rows (1023 + p) 0) bit).1 (all bit (omega arith) each, length), here)
-
 pub least_of_both : (P Q R : ℕ → Type 0) (one other : Option ℕ) → ((n : ℕ) → P n → R n) → ((n : ℕ) → Q n → R n) → ((n : ℕ) → R n → P n ⊎ Q n) → IsLeast P one → IsLeast Q other → IsLeast R (lesser one other)
 least_of_both P Q R None None p q r none no_other = λ n holds. elim (r n holds) [ inl is ↦ none n is | inr is ↦ no_other n is ]
 least_of_both P Q R None (Some m) p q r none (is, least) = (q m is, λ n below holds. elim (r n holds) [ inl its ↦ none n its | inr its ↦ least n below its ])
@@ -344,11 +348,6 @@ least_more blocks text first count before here old new =
     (λ n inside. more_blocks blocks text 0 first first (first + count) n (omega arith) inside (omega arith)) (λ n inside. more_blocks blocks text first count (first + count) (first + count) n (omega arith) inside (omega arith))
     (either_block blocks text first count) old new
 
-pub least_group : (blocks : List (Vec ℕ)) (text : List ℕ) (g : ℕ) (before here : Option ℕ) → IsLeast (IsInsideWithin text blocks 0 (64 * g)) before → IsLeast (IsInsideWithin text blocks (64 * g) 64) here → IsLeast (IsInsideWithin text blocks 0 (64 * (g + 1))) (lesser before here)
-least_group blocks text g before here old new =
-    let more : 64 * g + 64 ≡ 64 * (g + 1) = omega arith in
-    subst (λ n. IsLeast (IsInsideWithin text blocks 0 n) (lesser before here)) more (least_more blocks text (64 * g) 64 before here old new)
-
 one_block : (blocks : List (Vec ℕ)) (text : List ℕ) (at : ℕ) (block : Vec ℕ) (n : ℕ) → slice_get blocks at ≡ Some block → IsInside text block.items n ↔ IsInsideWithin text blocks at 1 n
 one_block blocks text at block n is = (
   λ inside. (inside.0, (at, omega arith, omega arith, subst (λ o. IsSomeAnd o (λ rows. IsFound rows.items (query_of n (take n text)))) (sym is) inside.1)),
@@ -359,15 +358,6 @@ one_block blocks text at block n is = (
 
 pub least_block : (blocks : List (Vec ℕ)) (text : List ℕ) (at : ℕ) (block : Vec ℕ) (before here : Option ℕ) → slice_get blocks at ≡ Some block → IsLeast (IsInsideWithin text blocks 0 at) before → IsLeast (IsInside text block.items) here → IsLeast (IsInsideWithin text blocks 0 (at + 1)) (lesser before here)
 least_block blocks text at block before here is old new = least_more blocks text at 1 before here old (least_same (IsInside text block.items) (IsInsideWithin text blocks at 1) here (λ n. one_block blocks text at block n is) new)
-
--- blocks past the last one have no range
-pub least_all : (blocks : List (Vec ℕ)) (text : List ℕ) (count : ℕ) (least : Option ℕ) → length blocks ≤ count → IsLeast (IsInsideWithin text blocks 0 count) least → IsLeast (IsInsideWithin text blocks 0 (length blocks)) least
-least_all blocks text count least all is =
-    least_same (IsInsideWithin text blocks 0 count) (IsInsideWithin text blocks 0 (length blocks)) least
-    (λ n. (
-      λ inside. let (begins, (k, from, below, there)) = inside in let within = found_within blocks (query_of n (take n text)) k there in (begins, (k, from, omega arith, there)),
-      λ inside. more_blocks blocks text 0 (length blocks) (length blocks) count n (omega arith) inside all,
-    )) is
 
 asked_ranges : (spaces : List declared.Codespace) (blocks : List (Vec ℕ)) (text : List ℕ) (n : ℕ) → AreBytes text → Begins text n → AreBlocks spaces blocks → IsFoundAmong blocks (query_of n (take n text)) ↔ Any (HasFront n (take n text)) (map codespace_seen spaces)
 asked_ranges spaces blocks text n bytes (some, few, within) are =
@@ -400,3 +390,30 @@ none_before blocks text = λ n inside. let (begins, (k, from, below, there)) = i
 
 pub least_only : (spaces : List declared.Codespace) (block : Vec ℕ) (text : List ℕ) (least : Option ℕ) → AreBytes text → AreBlocks spaces (block ∷ []) → IsLeast (IsInside text block.items) least → IsLeast (IsInsideRanges text (map codespace_seen spaces)) least
 least_only spaces block text least bytes are is = least_ranges spaces (block ∷ []) text least bytes are (least_block (block ∷ []) text 0 block None least refl (none_before (block ∷ []) text) is)
+
+-- ---- from the fewest bytes on
+abbrev pub NoneBelow : List (Vec ℕ) → List ℕ → ℕ → Type 0
+NoneBelow blocks text n = (m : ℕ) → 1 ≤ m → m < n → IsFoundAmong blocks (query_of m (take m text)) → ⊥
+
+pub least_from : (blocks : List (Vec ℕ)) (text : List ℕ) (n : ℕ) → Begins text n → NoneBelow blocks text n → IsFoundAmong blocks (query_of n (take n text)) → IsLeast (IsInsideWithin text blocks 0 (length blocks)) (Some n)
+least_from blocks text n begins none (k, there) = (
+  (begins, (k, omega arith, omega (arith, found_within blocks (query_of n (take n text)) k there), there)),
+  λ m below inside. let (fits, (j, from, upto, found)) = inside in none m fits.0 below (j, found),
+)
+
+pub none_from : (blocks : List (Vec ℕ)) (text : List ℕ) (n : ℕ) → min (length text) 4 < n → NoneBelow blocks text n → IsLeast (IsInsideWithin text blocks 0 (length blocks)) None
+none_from blocks text n past none = λ m inside. let (fits, (j, from, upto, found)) = inside in let (some, few, within) = fits in none m some (omega arith) (j, found)
+
+-- no range has codes of fewer bytes
+pub none_shorter : (spaces : List declared.Codespace) (blocks : List (Vec ℕ)) (text : List ℕ) (fewest : ℕ) → AreBytes text → AreBlocks spaces blocks → All (λ space. fewest ≤ length_of space.len) spaces → fewest ≤ 4 → NoneBelow blocks text fewest
+none_shorter spaces blocks text fewest bytes are least few n some short found =
+    let query = query_of n (take n text) in
+    let fits = query-rows n (take n text) (taken_bytes text n bytes) (omega arith) in
+    let (k, below, all) = at_any codespace_seen (InRows query) spaces ((blocks_find spaces blocks query are fits).0 found) in
+    elim (slice_get_cases spaces k).1 [
+      | inl (space, within, at, is) ↦
+          let rows = subst (λ o. IsSomeAnd o (λ space. InRows query (codespace_seen space))) at all in
+          let len : length_of space.len ≡ n = (length_row (codespace_seen space) n some).0 rows.0 in
+          omega (arith, least k space within, ap (λ (s : declared.Codespace). length_of s.len) is)
+      | inr past ↦ absurd (subst (λ o. IsSomeAnd o (λ space. InRows query (codespace_seen space))) past.1 all)
+    ]

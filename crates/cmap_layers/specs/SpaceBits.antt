@@ -3,7 +3,7 @@ use Rattle.std.specs.Prelude.{◌≡◌, ◌≢◌, ◌↔◌, MatchOption, Opti
 use Rattle.std.specs.Global.{Vec}
 use Rattle.std.specs.Int.{bit_at}
 use Rattle.cmap_files.specs.DeclarationsSeen.{codespace_seen}
-use Rattle.cmap_files.specs.CodeLengths.{IsCodeLength}
+use Rattle.cmap_files.specs.CodeLengths.{IsCodeLength, length_of}
 use Rattle.cmap_files.specs.Files.{Codespace}
 use Rattle.cmap_files.specs.declared.declarations.Codespace as declared
 use Rattle.cmap_layers.specs.Lookups.{byte_at}
@@ -47,9 +47,14 @@ pub record AreGroups (blocks groups : List (Vec ℕ)) : Type 0 where
   pub all : length blocks ≤ 64 * length groups
   pub few : 64 * length groups < length blocks + 64
 
--- there may be no groups, where there are few blocks
-abbrev pub AreFoundBy : List declared.Codespace → List (Vec ℕ) → List (Vec ℕ) → Type 0
-AreFoundBy spaces blocks groups = AreBlocks spaces blocks × (0 < length groups → AreGroups blocks groups)
+-- ranges with their blocks, the groups of these, and the groups of those; there may be no groups, where there are few blocks. No range has codes of fewer bytes
+pub record AreFoundBy (spaces : List declared.Codespace) (fewest : ℕ) (blocks groups tops : List (Vec ℕ)) : Type 0 where
+  pub positive : 1 ≤ fewest
+  pub short : fewest ≤ 4
+  pub least : All (λ space. fewest ≤ length_of space.len) spaces
+  pub by_blocks : AreBlocks spaces blocks
+  pub by_groups : 0 < length groups → AreGroups blocks groups
+  pub by_tops : AreGroups groups tops
 
 -- the row of the byte at a place of a front, or another one where the front is shorter
 abbrev pub front_row : List ℕ → ℕ → ℕ → ℕ

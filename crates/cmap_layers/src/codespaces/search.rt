@@ -1,6 +1,6 @@
 //! Whether a codespace range is asked for, by the bits of blocks and of groups of them.
 
-ghost use Rattle.std.specs.Prelude.{◌≡◌, ◌↔◌, ℕ, ◌+◌, ◌<◌, IsTrue, length};
+ghost use Rattle.std.specs.Prelude.{◌≡◌, ◌↔◌, ℕ, ◌+◌, ◌*◌, ◌<◌, IsTrue, length};
 ghost use Rattle.std.specs.Int.{bit_at};
 ghost use Rattle.cmap_layers.specs.SpaceBits.{AreGroups, AreRows, HaveRows, IsFoundAmong, IsFoundAt, IsFoundWithin};
 
@@ -21,23 +21,75 @@ pub(super) fn any_of_blocks(blocks: &[Vec<u64>], query: &Query) -> bool
     false
 }
 
-/// Whether a range of some block is asked for. Each group is looked at, and each block that may have one.
-pub(super) fn any_of_groups(blocks: &[Vec<u64>], groups: &[Vec<u64>], query: &Query) -> bool
+/// The answer of `any_of_blocks`. Each top group is looked at, of its groups those that may have a range, and
+/// of their blocks too.
+pub(super) fn any_of_tops(
+    blocks: &[Vec<u64>],
+    groups: &[Vec<u64>],
+    tops: &[Vec<u64>],
+    query: &Query,
+) -> bool
     requires groups { AreGroups blocks.now groups.now }
+    requires tops { AreGroups groups.now tops.now }
     requires rows { HaveRows blocks.now }
     requires query { AreRows query.now }
     ensures { IsTrue result ↔ IsFoundAmong blocks.now query.now }
 {
-    for (index, rows) in groups.iter().enumerate() {
-        if any_of_group(blocks, index * BLOCK_LEN, query.among(rows), query) {
+    for (index, rows) in tops.iter().enumerate() {
+        if any_of_top(blocks, groups, index * BLOCK_LEN, query.among(rows), query) {
             return true;
         }
     }
     false
 }
 
+/// Whether a range is asked for of the blocks of those groups from `first` on that have their bits set.
+fn any_of_top(
+    blocks: &[Vec<u64>],
+    groups: &[Vec<u64>],
+    first: usize,
+    bits: u64,
+    query: &Query,
+) -> bool
+    requires first { first < length groups.now }
+    requires groups { AreGroups blocks.now groups.now }
+    requires rows { HaveRows blocks.now }
+    requires query { AreRows query.now }
+    ensures found { IsTrue result → IsFoundAmong blocks.now query.now }
+    ensures none { (bit : ℕ) → bit < 64 → bit_at bits bit ≡ 1
+        → IsFoundWithin blocks.now query.now (64 * (first + bit)) 64 → IsTrue result }
+{
+    let mut next = 0;
+    while next < 64 {
+        let left = bits >> next;
+        if left == 0 {
+            break;
+        }
+        let bit = next + left.trailing_zeros();
+        if finds_in_group(blocks, groups, first + bit as usize, query) {
+            return true;
+        }
+        next = bit + 1;
+    }
+    false
+}
+
+/// Whether a range is asked for of the blocks of the group at this index, if there is one.
+fn finds_in_group(blocks: &[Vec<u64>], groups: &[Vec<u64>], index: usize, query: &Query) -> bool
+    requires groups { AreGroups blocks.now groups.now }
+    requires rows { HaveRows blocks.now }
+    requires query { AreRows query.now }
+    ensures { IsTrue result ↔ IsFoundWithin blocks.now query.now (64 * index) 64 }
+{
+    if index >= groups.len() {
+        return false;
+    }
+    let bits = query.among(&groups[index]);
+    any_of_group(blocks, index * BLOCK_LEN, bits, query)
+}
+
 /// Whether a range is asked for of the blocks from `first` on that have their bits set.
-pub(super) fn any_of_group(blocks: &[Vec<u64>], first: usize, bits: u64, query: &Query) -> bool
+fn any_of_group(blocks: &[Vec<u64>], first: usize, bits: u64, query: &Query) -> bool
     requires first { first < length blocks.now }
     requires rows { HaveRows blocks.now }
     requires query { AreRows query.now }

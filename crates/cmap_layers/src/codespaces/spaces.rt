@@ -1,6 +1,7 @@
 //! The codespace ranges of a layer, with blocks of bits by which they are found.
 
-ghost use Rattle.std.specs.Prelude.{◌≡◌, ◌↔◌, Any, IfOk, IsTrue, map};
+ghost use Rattle.std.specs.Prelude.{◌≡◌, ◌↔◌, ◌≤◌, All, Any, IfOk, IsTrue, map};
+ghost use Rattle.cmap_files.specs.CodeLengths.{IsCodeLength, length_of};
 ghost use Rattle.cmap_files.specs.DeclarationsSeen.{codespace_seen};
 ghost use Rattle.cmap_layers.specs.SpaceBits.{AreBlocks, AreRows, InRows, IsInsideRanges, IsLeast};
 
@@ -8,7 +9,7 @@ use super::block::{BLOCK_LEN, rows_of};
 use super::front::{shortest_among_blocks, shortest_among_groups, shortest_in_block};
 use super::group::groups_of;
 use super::query::Query;
-use super::search::{any_of_blocks, any_of_groups};
+use super::search::{any_of_blocks, any_of_tops};
 use cmap_files::declarations::Codespace;
 use std::alloc::{AllocError, Global};
 use std::fmt;
@@ -17,13 +18,16 @@ use std::marker::Model;
 /// With fewer blocks, each is looked at, and there are no groups.
 const FEWEST_BLOCKS: usize = 8;
 
-/// Codespace ranges in the order of their file, with the rows of bits of each block of 64, and where there are
-/// many blocks, with those of each group of 64 blocks.
+/// Codespace ranges in the order of their file, with the rows of bits of each block of 64. Where there are many
+/// blocks, with those of each group of 64 blocks, and of each top group of 64 groups.
 #[derive(Drop)]
 pub(crate) struct Spaces {
     list: Vec<Codespace>,
+    /// No range has codes of fewer bytes.
+    fewest: u8,
     blocks: Vec<Vec<u64>>,
     groups: Vec<Vec<u64>>,
+    tops: Vec<Vec<u64>>,
 }
 
 impl Model for Spaces {
@@ -35,7 +39,8 @@ impl Model for Spaces {
 
     ghost view = { λ spaces. spaces.list.items };
 
-    ghost invariant = { λ spaces. AreFoundBy spaces.list.items spaces.blocks.items spaces.groups.items };
+    ghost invariant = { λ spaces.
+        AreFoundBy spaces.list.items spaces.fewest spaces.blocks.items spaces.groups.items spaces.tops.items };
 }
 
 impl fmt::Debug for Spaces {
@@ -57,10 +62,14 @@ impl Spaces {
         } else {
             groups_of(alloc, &blocks)?
         };
+        let tops = groups_of(alloc, &groups)?;
+        let fewest = fewest_of(&list);
         Ok(Spaces {
             list,
+            fewest,
             blocks,
             groups,
+            tops,
         })
     }
 
@@ -79,7 +88,7 @@ impl Spaces {
         if self.groups.is_empty() {
             any_of_blocks(&self.blocks, query)
         } else {
-            any_of_groups(&self.blocks, &self.groups, query)
+            any_of_tops(&self.blocks, &self.groups, &self.tops, query)
         }
     }
 
@@ -103,9 +112,21 @@ impl Spaces {
         if self.groups.is_empty() {
             shortest_among_blocks(&self.blocks, text)
         } else {
-            shortest_among_groups(&self.blocks, &self.groups, text)
+            shortest_among_groups(&self.blocks, &self.groups, &self.tops, self.fewest, text)
         }
     }
+}
+
+/// How many bytes the codes of each range have at least.
+fn fewest_of(spaces: &[Codespace]) -> u8
+    ensures within { IsCodeLength result }
+    ensures least { All (λ space. result ≤ length_of space.len) spaces.now }
+{
+    let mut fewest = 4;
+    for space in spaces {
+        fewest = fewest.min(space.len.count());
+    }
+    fewest
 }
 
 /// The rows of each block of 64 ranges.

@@ -1,14 +1,30 @@
-use Rattle.std.proofs.Common.{◌≡◌, ◌+◌, ◌*◌, sym, subst, arith}
-use Rattle.cmap_layers.specs.SpaceBits.{IsInsideWithin, IsLeast}
-use Rattle.cmap_layers.proofs.SpacesFound.{least_all, least_group}
+use Rattle.std.proofs.Common.{◌≡◌, take, sym, ap, ◌∙◌, subst, inl, inr, arith}
+use Rattle.std.proofs.lemmas.Bool.{cases_lt, false≢true}
+use Rattle.cmap_layers.specs.SpaceBits.{IsFoundAmong, query_of}
+use Rattle.cmap_layers.proofs.SpacesFound.{least_from, none_from}
 use Rattle.cmap_layers.proofs.codespaces.front.shortest_among_groups.Goals as goal
+use Rattle.cmap_layers.proofs.codespaces.front.shortest_among_groups.Goals.{After-of_front-query}
 
-pub loop-index-preserved : goal.loop-index-preserved
-loop-index-preserved c =
-    let blocks = c.args.blocks.now in let text = c.args.text.now in let at = c.loop-index.index in
-    let first : at * 64 ≡ 64 * at = omega arith in
-    let here = subst (λ n. IsLeast (IsInsideWithin text blocks n 64) c.shortest_in_group-in_group.result) first c.shortest_in_group-in_group.ensures in
-    subst (IsLeast (IsInsideWithin text blocks 0 (64 * (at + 1)))) (sym c.lesser-shortest.ensures) (least_group blocks text at c.loop-index.shortest c.shortest_in_group-in_group.result c.loop-index.invariant here)
+query : (c : After-of_front-query) → c.of_front-query.result ≡ query_of c.loop-byte_len.byte_len (take c.loop-byte_len.byte_len c.args.text.now)
+query c = c.of_front-query.ensures.is ∙ ap (λ n. query_of c.loop-byte_len.byte_len (take n c.args.text.now)) c.from.ensures
+
+pub returns-then-any_of_tops : goal.returns-then-any_of_tops
+returns-then-any_of_tops c =
+    let is = query (goal.at.returns-then-any_of_tops c).After-of_front-query in
+    least_from c.args.blocks.now c.args.text.now c.loop-byte_len.byte_len (c.loop-byte_len.invariant.some, omega arith, omega arith) c.loop-byte_len.invariant.none (subst (IsFoundAmong c.args.blocks.now) is (c.any_of_tops.ensures.0 c.if-any_of_tops.true))
+
+pub loop-byte_len-preserved : goal.loop-byte_len-preserved
+loop-byte_len-preserved c = record {
+  some = omega arith;
+  none = λ n some below found. elim (cases_lt n c.loop-byte_len.byte_len) [
+    | inl before ↦ c.loop-byte_len.invariant.none n some before found
+    | inr last ↦
+        let same : n ≡ c.loop-byte_len.byte_len = omega arith in
+        let is = query (goal.at.loop-byte_len-preserved c).After-of_front-query in
+        let here = subst (λ m. IsFoundAmong c.args.blocks.now (query_of m (take m c.args.text.now))) same found in
+        false≢true (sym c.if-any_of_tops.false ∙ c.any_of_tops.ensures.1 (subst (IsFoundAmong c.args.blocks.now) (sym is) here))
+  ];
+}
 
 pub returns : goal.returns
-returns c = least_all c.args.blocks.now c.args.text.now (64 * c.loop-index.index) c.loop-index.shortest (omega (arith, c.requires.groups.all)) c.loop-index.invariant
+returns c = none_from c.args.blocks.now c.args.text.now c.loop-byte_len.byte_len (omega arith) c.loop-byte_len.invariant.none

@@ -9,12 +9,12 @@ pub returns-then-is_empty : goal.returns-then-is_empty
 returns-then-is_empty c =
     let list = c.self.inside.list.items in let query = c.args.query.now in
     let is : c.self.inside.blocks.items ≡ c.deref.result.now = search rules in
-    let found = subst (λ blocks. IsFoundAmong blocks query ↔ Any (InRows query) (map codespace_seen list)) is (blocks_find list c.self.inside.blocks.items query c.self.invariant.0 c.requires) in
+    let found = subst (λ blocks. IsFoundAmong blocks query ↔ Any (InRows query) (map codespace_seen list)) is (blocks_find list c.self.inside.blocks.items query c.self.invariant.by_blocks c.requires) in
     rw (← c.self.view_is) (λ yes. found.0 (c.any_of_blocks.ensures.0 yes), λ some. c.any_of_blocks.ensures.1 (found.1 some))
 
 pub returns-else-is_empty : goal.returns-else-is_empty
 returns-else-is_empty c =
     let list = c.self.inside.list.items in let query = c.args.query.now in
     let is : c.self.inside.blocks.items ≡ c.deref-else-is_empty.result.now = search rules in
-    let found = subst (λ blocks. IsFoundAmong blocks query ↔ Any (InRows query) (map codespace_seen list)) is (blocks_find list c.self.inside.blocks.items query c.self.invariant.0 c.requires) in
-    rw (← c.self.view_is) (λ yes. found.0 (c.any_of_groups.ensures.0 yes), λ some. c.any_of_groups.ensures.1 (found.1 some))
+    let found = subst (λ blocks. IsFoundAmong blocks query ↔ Any (InRows query) (map codespace_seen list)) is (blocks_find list c.self.inside.blocks.items query c.self.invariant.by_blocks c.requires) in
+    rw (← c.self.view_is) (λ yes. found.0 (c.any_of_tops.ensures.0 yes), λ some. c.any_of_tops.ensures.1 (found.1 some))

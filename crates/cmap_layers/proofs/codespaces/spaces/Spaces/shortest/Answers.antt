@@ -10,4 +10,4 @@ returns-in-len1 c =
     let is = blocks ∙ only_item c.as_slice.result.now block (omega (arith, c.in-len1.len_at_least, c.in-len1.len_below)) c.only-item.is in
     let rows : c.deref.result.now ≡ block.items = search rules in
     let here = subst (λ rows. IsLeast (IsInside text rows) c.shortest_in_block.result) rows c.shortest_in_block.ensures in
-    rw (← c.self.view_is) (least_only list block text c.shortest_in_block.result (λ k. omega (arith, c.type_inv.text k)) (subst (AreBlocks list) is c.self.invariant.0) here)
+    rw (← c.self.view_is) (least_only list block text c.shortest_in_block.result (λ k. omega (arith, c.type_inv.text k)) (subst (AreBlocks list) is c.self.invariant.by_blocks) here)

@@ -8,11 +8,11 @@ returns-then-is_empty c =
     let text = c.args.text.now in let found = c.shortest_among_blocks.result in
     let is : c.deref.result.now ≡ c.self.inside.blocks.items = search rules in
     rw (← c.self.view_is)
-    (least_ranges c.self.inside.list.items c.self.inside.blocks.items text found (λ k. omega (arith, c.type_inv.text k)) c.self.invariant.0 (subst (λ blocks. IsLeast (IsInsideWithin text blocks 0 (length blocks)) found) is c.shortest_among_blocks.ensures))
+    (least_ranges c.self.inside.list.items c.self.inside.blocks.items text found (λ k. omega (arith, c.type_inv.text k)) c.self.invariant.by_blocks (subst (λ blocks. IsLeast (IsInsideWithin text blocks 0 (length blocks)) found) is c.shortest_among_blocks.ensures))
 
 pub returns-else-is_empty : goal.returns-else-is_empty
 returns-else-is_empty c =
     let text = c.args.text.now in let found = c.shortest_among_groups.result in
     let is : c.deref-else-is_empty.result.now ≡ c.self.inside.blocks.items = search rules in
     rw (← c.self.view_is)
-    (least_ranges c.self.inside.list.items c.self.inside.blocks.items text found (λ k. omega (arith, c.type_inv.text k)) c.self.invariant.0 (subst (λ blocks. IsLeast (IsInsideWithin text blocks 0 (length blocks)) found) is c.shortest_among_groups.ensures))
+    (least_ranges c.self.inside.list.items c.self.inside.blocks.items text found (λ k. omega (arith, c.type_inv.text k)) c.self.invariant.by_blocks (subst (λ blocks. IsLeast (IsInsideWithin text blocks 0 (length blocks)) found) is c.shortest_among_groups.ensures))
