@@ -173,6 +173,10 @@ at_any f P (x ∷ xs) (zero, y, within, is, holds) = (zero, omega arith, subst P
 at_any f P (x ∷ xs) (suc k, y, within, is, holds) = let (j, below, found) = at_any f P xs (k, y, omega arith, is, holds) in (suc j, omega arith, found)
 
 -- ---- all layers
+pub any_of_one : {A : Type 0} (P : A → Type 0) (x : A) → Any P (x ∷ []) → P x
+any_of_one P x (zero, y, within, is, holds) = subst P (sym is) holds
+any_of_one P x (suc k, y, within, is, holds) = absurd (omega arith)
+
 pub any_weaker : (P Q : Codespace → Type 0) (layers : List Layer) → ((space : Codespace) → P space → Q space) → Any (λ layer. Any P layer.lists.spaces) layers → Any (λ layer. Any Q layer.lists.spaces) layers
 any_weaker P Q layers weaker (k, layer, within, is, (i, space, below, at, holds)) = (k, layer, within, is, (i, space, below, at, weaker space holds))
 
@@ -262,6 +266,16 @@ blocks_find spaces blocks query are fits = (
         | inr past ↦ let beyond = past.0 in absurd (omega arith)
       ],
 )
+
+only_found : (block : Vec ℕ) (query : Query) → IsFoundAmong (block ∷ []) query → IsFound block.items query
+only_found block query (zero, found) = found
+only_found block query (suc k, found) = absurd found
+
+-- the ranges of one block alone
+pub block_finds : (spaces : List declared.Codespace) (block : Vec ℕ) (query : Query) → AreBlocks spaces (block ∷ []) → AreRows query → IsFound block.items query ↔ Any (InRows query) (map codespace_seen spaces)
+block_finds spaces block query are fits =
+    let found = blocks_find spaces (block ∷ []) query are fits in
+    (λ here. found.0 (0, here), λ some. only_found block query (found.1 some))
 
 -- ---- the shortest code that a text begins with
 first_byte : (byte : ℕ) (text : List ℕ) → byte < 256 → AreBytes text → AreBytes (byte ∷ text)

@@ -71,7 +71,10 @@ fn any(layers: &[Layer], query: &Query) -> bool
     ensures { IsTrue result
         ↔ Any (λ layer. Any (InRows query.now) layer.lists.spaces) (layers_seen layers.now) }
 {
-    layers.iter().any(|layer| layer.spaces.any(query))
+    match layers {
+        [only] => only.spaces.any(query),
+        _ => layers.iter().any(|layer| layer.spaces.any(query)),
+    }
 }
 
 /// Whether a code fits in this many bytes.

@@ -16,7 +16,7 @@ use std::fmt;
 use std::marker::Model;
 
 /// With fewer blocks, each is looked at, and there are no groups.
-const FEWEST_BLOCKS: usize = 8;
+const FEWEST_BLOCKS: usize = 2;
 
 /// Codespace ranges in the order of their file, with the rows of bits of each block of 64. Where there are many
 /// blocks, with those of each group of 64 blocks, and of each top group of 64 groups.
@@ -82,6 +82,18 @@ impl Spaces {
 
     /// Whether one of the ranges is asked for.
     pub(crate) fn any(&self, query: &Query) -> bool
+        requires { AreRows query.now }
+        ensures { IsTrue result ↔ Any (InRows query.now) (map codespace_seen self.now) }
+    {
+        match self.blocks.as_slice() {
+            [only] => query.finds(only),
+            _ => self.any_of_all(query),
+        }
+    }
+
+    /// The answer of `any`, of any number of blocks.
+    #[inline(never)]
+    fn any_of_all(&self, query: &Query) -> bool
         requires { AreRows query.now }
         ensures { IsTrue result ↔ Any (InRows query.now) (map codespace_seen self.now) }
     {

@@ -1,20 +1,15 @@
-use Rattle.std.proofs.Common.{◌≡◌, map, subst, rules}
-use Rattle.std.specs.Prelude.{◌↔◌, Any}
-use Rattle.cmap_files.specs.DeclarationsSeen.{codespace_seen}
-use Rattle.cmap_layers.specs.SpaceBits.{InRows, IsFoundAmong}
-use Rattle.cmap_layers.proofs.SpacesFound.{blocks_find}
+use Rattle.std.proofs.Common.{◌≡◌, ◌∙◌, subst, rules, arith}
+use Rattle.std.specs.Prelude.{◌↔◌, IsTrue}
+use Rattle.cmap_layers.specs.SpaceBits.{AreBlocks, IsFound}
+use Rattle.cmap_layers.proofs.SpacesFound.{block_finds, only_item}
 use Rattle.cmap_layers.proofs.codespaces.spaces.Spaces.any.Goals as goal
 
-pub returns-then-is_empty : goal.returns-then-is_empty
-returns-then-is_empty c =
-    let list = c.self.inside.list.items in let query = c.args.query.now in
-    let is : c.self.inside.blocks.items ≡ c.deref.result.now = search rules in
-    let found = subst (λ blocks. IsFoundAmong blocks query ↔ Any (InRows query) (map codespace_seen list)) is (blocks_find list c.self.inside.blocks.items query c.self.invariant.by_blocks c.requires) in
-    rw (← c.self.view_is) (λ yes. found.0 (c.any_of_blocks.ensures.0 yes), λ some. c.any_of_blocks.ensures.1 (found.1 some))
-
-pub returns-else-is_empty : goal.returns-else-is_empty
-returns-else-is_empty c =
-    let list = c.self.inside.list.items in let query = c.args.query.now in
-    let is : c.self.inside.blocks.items ≡ c.deref-else-is_empty.result.now = search rules in
-    let found = subst (λ blocks. IsFoundAmong blocks query ↔ Any (InRows query) (map codespace_seen list)) is (blocks_find list c.self.inside.blocks.items query c.self.invariant.by_blocks c.requires) in
-    rw (← c.self.view_is) (λ yes. found.0 (c.any_of_tops.ensures.0 yes), λ some. c.any_of_tops.ensures.1 (found.1 some))
+pub returns-in-len1 : goal.returns-in-len1
+returns-in-len1 c =
+    let block = c.only-item.result in let list = c.self.inside.list.items in let query = c.args.query.now in
+    let blocks : c.self.inside.blocks.items ≡ c.as_slice.result.now = search rules in
+    let is = blocks ∙ only_item c.as_slice.result.now block (omega (arith, c.in-len1.len_at_least, c.in-len1.len_below)) c.only-item.is in
+    let rows : c.deref.result.now ≡ block.items = search rules in
+    let here = subst (λ rows. IsTrue c.finds.result ↔ IsFound rows query) rows c.finds.ensures in
+    let found = block_finds list block query (subst (AreBlocks list) is c.self.invariant.by_blocks) c.requires in
+    rw (← c.self.view_is) (λ yes. found.0 (here.0 yes), λ some. here.1 (found.1 some))

@@ -1,0 +1,20 @@
+use Rattle.std.proofs.Common.{◌≡◌, map, subst, rules}
+use Rattle.std.specs.Prelude.{◌↔◌, Any}
+use Rattle.cmap_files.specs.DeclarationsSeen.{codespace_seen}
+use Rattle.cmap_layers.specs.SpaceBits.{InRows, IsFoundAmong}
+use Rattle.cmap_layers.proofs.SpacesFound.{blocks_find}
+use Rattle.cmap_layers.proofs.codespaces.spaces.Spaces.any_of_all.Goals as goal
+
+pub returns-then-is_empty : goal.returns-then-is_empty
+returns-then-is_empty c =
+    let list = c.self.inside.list.items in let query = c.args.query.now in
+    let is : c.self.inside.blocks.items ≡ c.deref.result.now = search rules in
+    let found = subst (λ blocks. IsFoundAmong blocks query ↔ Any (InRows query) (map codespace_seen list)) is (blocks_find list c.self.inside.blocks.items query c.self.invariant.by_blocks c.requires) in
+    rw (← c.self.view_is) (λ yes. found.0 (c.any_of_blocks.ensures.0 yes), λ some. c.any_of_blocks.ensures.1 (found.1 some))
+
+pub returns-else-is_empty : goal.returns-else-is_empty
+returns-else-is_empty c =
+    let list = c.self.inside.list.items in let query = c.args.query.now in
+    let is : c.self.inside.blocks.items ≡ c.deref-else-is_empty.result.now = search rules in
+    let found = subst (λ blocks. IsFoundAmong blocks query ↔ Any (InRows query) (map codespace_seen list)) is (blocks_find list c.self.inside.blocks.items query c.self.invariant.by_blocks c.requires) in
+    rw (← c.self.view_is) (λ yes. found.0 (c.any_of_tops.ensures.0 yes), λ some. c.any_of_tops.ensures.1 (found.1 some))
