@@ -12,16 +12,16 @@ use Rattle.cmap_maker.proofs.BytesWritten.{after-written, length-bytes_of, numbe
 pub FieldAt-written : (width n : ℕ) (rest : List ℕ) → n < 2 ^ (8 * width) → FieldAt width (bytes_of width n ++ rest) (n, rest)
 FieldAt-written width n rest small = (number_at-written width n rest small, sym (after-written width n rest))
 
--- numbers in a row
-abbrev pub row : ℕ → List ℕ → List ℕ
-row width xs = flat_map (λ n. bytes_of width n) xs
+-- numbers of so many bytes each, one after another
+abbrev pub fields : ℕ → List ℕ → List ℕ
+fields width xs = flat_map (λ n. bytes_of width n) xs
 
-pub row_written : (width : ℕ) (xs rest : List ℕ) → All (λ n. n < 2 ^ (8 * width)) xs → RowOf (FieldAt width) (length xs) (row width xs ++ rest) (xs, rest)
-row_written width [] rest small = refl
-row_written width (x ∷ xs) rest small =
+pub fields_written : (width : ℕ) (xs rest : List ℕ) → All (λ n. n < 2 ^ (8 * width)) xs → RowOf (FieldAt width) (length xs) (fields width xs ++ rest) (xs, rest)
+fields_written width [] rest small = refl
+fields_written width (x ∷ xs) rest small =
     let first = All-head (λ n. n < 2 ^ (8 * width)) x xs small in
-    let later = row_written width xs rest (All-tail (λ n. n < 2 ^ (8 * width)) x xs small) in
-    subst (λ bs. RowOf (FieldAt width) (suc (length xs)) bs (x ∷ xs, rest)) (sym (append_assoc (bytes_of width x) (row width xs) rest)) (x, row width xs ++ rest, FieldAt-written width x (row width xs ++ rest) first, (xs, rest, later, refl))
+    let later = fields_written width xs rest (All-tail (λ n. n < 2 ^ (8 * width)) x xs small) in
+    subst (λ bs. RowOf (FieldAt width) (suc (length xs)) bs (x ∷ xs, rest)) (sym (append_assoc (bytes_of width x) (fields width xs) rest)) (x, fields width xs ++ rest, FieldAt-written width x (fields width xs ++ rest) first, (xs, rest, later, refl))
 
 pub BytesAt-written : (bytes rest : List ℕ) → BytesAt (length bytes) (bytes ++ rest) (bytes, rest)
 BytesAt-written bytes rest = (

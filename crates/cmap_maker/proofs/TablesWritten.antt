@@ -9,7 +9,7 @@ use Rattle.cmap_binary.specs.TableFronts.{TableAt}
 use Rattle.cmap_maker.specs.Written.{bytes_of, Appends, Writes}
 use Rattle.cmap_maker.specs.WordsHeld.{word_seen, words_seen}
 use Rattle.cmap_maker.specs.declared.words.Word.{Word}
-use Rattle.cmap_maker.proofs.FrontsWritten.{FieldAt-written, row, row_written}
+use Rattle.cmap_maker.proofs.FrontsWritten.{FieldAt-written, fields, fields_written}
 
 -- one length more
 pub lengths_from-push : (len : ℕ) (counts : List ℕ) (count : ℕ) → lengths_from len (counts ++ count ∷ []) ≡ lengths_from len counts ++ replicate count (len + length counts)
@@ -20,18 +20,18 @@ lengths_from-push len (c ∷ counts) count =
 
 -- the bytes of a table
 abbrev text : ℕ → List ℕ → List ℕ → List ℕ
-text width counts symbols = ((bytes_of 2 1 ++ length counts ∷ []) ++ row 2 counts) ++ row width symbols
+text width counts symbols = ((bytes_of 2 1 ++ length counts ∷ []) ++ fields 2 counts) ++ fields width symbols
 
 pub TableAt-written : (width : ℕ) (counts symbols : List ℕ) → All (λ n. n < 2 ^ 16) counts → All (λ n. n < 2 ^ (8 * width)) symbols → length symbols ≡ length (lengths_from 1 counts) → AreWordLengths (lengths_from 1 counts) → Writes (TableAt width) (zip_words (lengths_from 1 counts) symbols) (text width counts symbols)
 TableAt-written width counts symbols small fit each sound rest =
-    let later = row width symbols ++ rest in
-    let tail = row 2 counts ++ later in
+    let later = fields width symbols ++ rest in
+    let tail = fields 2 counts ++ later in
     let parts : text width counts symbols ++ rest ≡ bytes_of 2 1 ++ (length counts ∷ tail) = simp append_assoc in
-    let symbols_are = subst (λ n. RowOf (FieldAt width) n later (symbols, rest)) each (row_written width symbols rest fit) in
+    let symbols_are = subst (λ n. RowOf (FieldAt width) n later (symbols, rest)) each (fields_written width symbols rest fit) in
     subst (λ bs. TableAt width bs (zip_words (lengths_from 1 counts) symbols, rest)) (sym parts) (
       counts,
       later,
-      (length counts, tail, (1, length counts ∷ tail, FieldAt-written 2 1 (length counts ∷ tail) (omega arith), (length counts, tail, refl, refl)), row_written 2 counts later small),
+      (length counts, tail, (1, length counts ∷ tail, FieldAt-written 2 1 (length counts ∷ tail) (omega arith), (length counts, tail, refl, refl)), fields_written 2 counts later small),
       (symbols, rest, symbols_are, (sound, refl)),
     )
 
@@ -39,10 +39,10 @@ TableAt-written width counts symbols small fit each sound rest =
 symbols_of : List Word → List ℕ
 symbols_of words = map (λ w. w.symbol) words
 
-row-symbols : (width : ℕ) (words : List Word) → flat_map (λ w. bytes_of width w.symbol) words ≡ row width (symbols_of words)
+fields-symbols : (width : ℕ) (words : List Word) → flat_map (λ w. bytes_of width w.symbol) words ≡ fields width (symbols_of words)
 unfolding symbols_of
-row-symbols width [] = refl
-row-symbols width (w ∷ words) = ap (λ bs. bytes_of width w.symbol ++ bs) (row-symbols width words)
+fields-symbols width [] = refl
+fields-symbols width (w ∷ words) = ap (λ bs. bytes_of width w.symbol ++ bs) (fields-symbols width words)
 
 zip_words-seen : (words : List Word) → zip_words (lengths_of (words_seen words)) (symbols_of words) ≡ words_seen words
 unfolding symbols_of
@@ -54,16 +54,16 @@ unfolding symbols_of
 All-symbols limit [] h = All-nil (λ n. n < limit)
 All-symbols limit (w ∷ words) h = All-cons (λ n. n < limit) w.symbol (symbols_of words) (All-head (λ p. p.symbol < limit) (word_seen w) (words_seen words) h) (All-symbols limit words (All-tail (λ p. p.symbol < limit) (word_seen w) (words_seen words) h))
 
-pub table_written : (width m : ℕ) (old a b c d counts : List ℕ) (words : List Word) → a ≡ old ++ bytes_of 2 1 → b ≡ a ++ m ∷ [] → c ≡ b ++ row 2 counts → d ≡ c ++ flat_map (λ w. bytes_of width w.symbol) words → m ≡ length counts
+pub table_written : (width m : ℕ) (old a b c d counts : List ℕ) (words : List Word) → a ≡ old ++ bytes_of 2 1 → b ≡ a ++ m ∷ [] → c ≡ b ++ fields 2 counts → d ≡ c ++ flat_map (λ w. bytes_of width w.symbol) words → m ≡ length counts
     → All (λ n. n < 2 ^ 16) counts → All (λ p. p.symbol < 2 ^ (8 * width)) (words_seen words) → IsSound (words_seen words) → lengths_of (words_seen words) ≡ lengths_from 1 counts → Appends old d (Writes (TableAt width) (words_seen words))
 unfolding symbols_of
 table_written width m old a b c d counts words first second third last size small fit sound lens =
     let symbols = symbols_of words in
     let each : length symbols ≡ length (lengths_from 1 counts) = length-map words (λ w. w.symbol) ∙ sym (length-map words word_seen) ∙ sym (length-map (words_seen words) (λ (w : CodeWord). w.len)) ∙ ap length lens in
     let table : zip_words (lengths_from 1 counts) symbols ≡ words_seen words = ap (λ ls. zip_words ls symbols) (sym lens) ∙ zip_words-seen words in
-    let bytes = ((bytes_of 2 1 ++ length counts ∷ []) ++ row 2 counts) ++ row width symbols in
+    let bytes = ((bytes_of 2 1 ++ length counts ∷ []) ++ fields 2 counts) ++ fields width symbols in
     let whole : d ≡ old ++ bytes =
-    last ∙ ap (λ bs. c ++ bs) (row-symbols width words)
-    ∙ ap (λ bs. bs ++ row width symbols) (third ∙ ap (λ bs. bs ++ row 2 counts) (second ∙ ap (λ bs. bs ++ m ∷ []) first ∙ ap (λ n. (old ++ bytes_of 2 1) ++ n ∷ []) size))
+    last ∙ ap (λ bs. c ++ bs) (fields-symbols width words)
+    ∙ ap (λ bs. bs ++ fields width symbols) (third ∙ ap (λ bs. bs ++ fields 2 counts) (second ∙ ap (λ bs. bs ++ m ∷ []) first ∙ ap (λ n. (old ++ bytes_of 2 1) ++ n ∷ []) size))
     ∙ simp append_assoc in
     (bytes, whole, subst (λ t. Writes (TableAt width) t bytes) table (TableAt-written width counts symbols small (All-symbols (2 ^ (8 * width)) words fit) each (subst AreWordLengths lens sound)))

@@ -21,7 +21,7 @@ use Rattle.cmap_maker.specs.Texts.{AreHeldTexts, HasUnits, IsNumberOf, destinati
 use Rattle.cmap_maker.specs.Written.{bytes_of}
 use Rattle.cmap_maker.specs.declared.segments.Segment.{Segment}
 use Rattle.cmap_maker.proofs.ColumnsHeld.{range_columns, single_columns}
-use Rattle.cmap_maker.proofs.FrontsWritten.{FieldAt-written, row, row_written}
+use Rattle.cmap_maker.proofs.FrontsWritten.{FieldAt-written, fields, fields_written}
 
 -- ---- columns
 columns_written : (tables : PrefixTables) (shape : Shape) (spans : List Span) (bytes : List ℕ) → AreInOrder 0 spans → AreShaped shape spans → WritesNumbers tables shape (deltas_of 0 spans) (counts_by shape spans) bytes → WritesColumns tables shape spans bytes
@@ -38,8 +38,8 @@ length-deltas base (s ∷ spans) = ap suc (length-deltas (s.end + 1) spans)
 
 -- ---- texts
 destination_written : (fixed : Option ℕ) (e : BfRange) (rest : List ℕ) → HasUnits fixed e → All (λ u. u < 2 ^ 16) (units_seen e.units) → DestinationAt fixed (destination fixed (units_seen e.units) ++ rest) (units_seen e.units, rest)
-destination_written None e rest counted small = (length (units_seen e.units), row 2 (units_seen e.units) ++ rest, refl, row_written 2 (units_seen e.units) rest small)
-destination_written (Some n) e rest counted small = subst (λ k. RowOf (FieldAt 2) k (row 2 (units_seen e.units) ++ rest) (units_seen e.units, rest)) counted (row_written 2 (units_seen e.units) rest small)
+destination_written None e rest counted small = (length (units_seen e.units), fields 2 (units_seen e.units) ++ rest, refl, fields_written 2 (units_seen e.units) rest small)
+destination_written (Some n) e rest counted small = subst (λ k. RowOf (FieldAt 2) k (fields 2 (units_seen e.units) ++ rest) (units_seen e.units, rest)) counted (fields_written 2 (units_seen e.units) rest small)
 
 texts_written : (tables : PrefixTables) (fixed : Option ℕ) (xs : List BfRange) (columns : Columns) (tail : List ℕ) → HaveSpans tables (map bf_range_span xs) columns → All (HasUnits fixed) xs → All IsShortText (map bf_entry_seen xs) → (last : Columns) × RowOf (BfEntryAt tables fixed) (length xs) (columns, destinations fixed xs ++ tail) (map bf_entry_seen xs, (last, tail))
 texts_written tables fixed [] columns tail spans counted short = (columns, refl)

@@ -2,7 +2,7 @@ use Rattle.std.proofs.Common.{◌<◌, ◌*◌, ◌^◌, ◌∙◌, ◌++◌, le
 use Rattle.std.specs.List.{All, flat_map}
 use Rattle.cmap_maker.specs.Written.{bytes_of, Appends, Writes}
 use Rattle.cmap_maker.proofs.TablesWritten.{table_written}
-use Rattle.cmap_maker.proofs.FrontsWritten.{row}
+use Rattle.cmap_maker.proofs.FrontsWritten.{fields}
 use Rattle.cmap_binary.specs.TableFronts.{TableAt}
 use Rattle.cmap_maker.proofs.words.Encoder.write.Goals as goal
 
@@ -15,7 +15,7 @@ returns c =
     (table_written width _ c.args.out.now.items c.push_number.new.out.items c.push.new.self.items c.push_u16s.new.out.items c.push_symbols.new.out.items i.counts.items i.words.items
     c.in_ok-push_number.ensures
     c.in_ok-push.ensures.items
-    (c.in_ok-push_u16s.ensures.written ∙ ap (λ ns. c.push.new.self.items ++ row 2 ns) c.deref.ensures.value)
+    (c.in_ok-push_u16s.ensures.written ∙ ap (λ ns. c.push.new.self.items ++ fields 2 ns) c.deref.ensures.value)
     (c.in_ok-push_symbols.ensures ∙ ap (λ ws. c.push_u16s.new.out.items ++ flat_map (λ w. bytes_of width w.symbol) ws) c.deref-2.ensures.value)
     (c.len.ensures ∙ sym c.deref.ensures.len ∙ ap length c.deref.ensures.value)
     (subst (λ ns. All (λ n. n < 2 ^ 16) ns) c.deref.ensures.value c.in_ok-push_u16s.ensures.small)
