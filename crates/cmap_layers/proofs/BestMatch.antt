@@ -1,5 +1,5 @@
 -- The codespace ranges that best match a string, and how many bytes are taken by them.
-use Rattle.std.proofs.Common.{◌≡◌, ℕ, zero, suc, ◌+◌, ◌<◌, ◌≤◌, List, [], ◌∷◌, ◌++◌, length, map, take, get_or-take, min, Some, None, refl, sym, ap, ◌∙◌, subst, inl, inr, All, Any, Contains, arith}
+use Rattle.std.proofs.Common.{◌≡◌, ℕ, zero, suc, ◌+◌, ◌<◌, ◌≤◌, List, [], ◌∷◌, ◌++◌, length, map, take, Option, get_or-take, min, Some, None, refl, sym, ap, ◌∙◌, subst, inl, inr, All, Any, Contains, arith}
 use Rattle.std.proofs.lemmas.Bool.{cases_lt}
 use Rattle.std.proofs.lemmas.List.{length-take-le}
 use Rattle.std.proofs.lemmas.List.Elements.{All-contains, All-contains_itself, All-weaker, Contains-append_cases, Contains-append_left, Contains-append_right}
@@ -10,10 +10,11 @@ use Rattle.cmap_files.specs.declared.code_length.CodeLength.{CodeLength}
 use Rattle.cmap_files.specs.declared.code_length.CodeLength.TheVariants.{One, Two, Three, Four}
 use Rattle.cmap_files.specs.declared.declarations.Codespace as declared
 use Rattle.cmap_layers.specs.Layers.{Layer}
-use Rattle.cmap_layers.specs.LayersSeen.{layers_seen}
-use Rattle.cmap_layers.specs.SpaceBits.{HasFront, IsShortestMatch}
+use Rattle.cmap_layers.specs.LayersSeen.{layer_seen, layers_seen}
+use Rattle.cmap_layers.specs.SpaceBits.{HasFront, IsLeast, IsShortestMatch}
 use Rattle.cmap_layers.specs.StringCodes.{Matches, IsBestMatch, Wants, ranges_of}
 use Rattle.cmap_layers.specs.declared.layers.Layer as made
+use Rattle.cmap_layers.proofs.SpacesFound.{any_of_one}
 
 -- ---- the ranges of all layers
 in_first : (P : Codespace → Type 0) (xs ys : List Codespace) → Any P xs → Any P (xs ++ ys)
@@ -90,6 +91,15 @@ shortest_found layers front len fits none found =
 pub none_found : (layers : List made.Layer) (front : List ℕ) → ((n : ℕ) → 1 ≤ n → n < 5 → HaveFront (layers_seen layers) front n → ⊥) → IsShortestMatch (ranges_of (layers_seen layers)) front None
 none_found layers front none =
     all_ranges (λ s. Matches s front (length front) → ⊥) (layers_seen layers) (λ s held matches. let fits = code_length layers s held in let most = fits.1 in none s.len fits.0 (omega arith) (have_front (layers_seen layers) front s held matches))
+
+-- of one layer alone
+pub shortest_of_layer : (layer : made.Layer) (front : List ℕ) (least : Option ℕ) → IsLeast (λ n. IsCodeLength n × Any (HasFront n front) (map codespace_seen layer.spaces)) least → IsShortestMatch (ranges_of (layers_seen (layer ∷ []))) front least
+shortest_of_layer layer front None none =
+    none_found (layer ∷ []) front (λ n some below found. none n ((some, omega arith), any_of_one (λ l. Any (HasFront n front) l.lists.spaces) (layer_seen layer) found))
+shortest_of_layer layer front (Some n) (is, least) =
+    let fits = is.0 in
+    let most = fits.1 in
+    shortest_found (layer ∷ []) front n fits (λ m some below found. least m below ((some, omega arith), any_of_one (λ l. Any (HasFront m front) l.lists.spaces) (layer_seen layer) found)) (0, layer_seen layer, omega arith, refl, is.1)
 
 -- ---- fronts of a string, the longest first
 abbrev pub MatchAtMost : List Codespace → List ℕ → ℕ → ℕ → Type 0

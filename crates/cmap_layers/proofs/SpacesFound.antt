@@ -9,7 +9,7 @@ use Rattle.std.proofs.lemmas.Nat.Bits.{bit_at-zero}
 use Rattle.std.proofs.lemmas.List.{length-take-le}
 use Rattle.std.proofs.lemmas.Nat.{and_le_l, shr-shr}
 use Rattle.std.proofs.lemmas.Option.{slice_get_cases}
-use Rattle.cmap_files.specs.CodeLengths.{length_of}
+use Rattle.cmap_files.specs.CodeLengths.{IsCodeLength, length_of}
 use Rattle.cmap_files.specs.DeclarationsSeen.{codespace_seen}
 use Rattle.cmap_files.specs.Files.{Codespace}
 use Rattle.cmap_files.specs.declared.code_length.CodeLength.{CodeLength}
@@ -431,3 +431,33 @@ none_shorter spaces blocks text fewest bytes are least few n some short found =
           omega (arith, least k space within, ap (λ (s : declared.Codespace). length_of s.len) is)
       | inr past ↦ absurd (subst (λ o. IsSomeAnd o (λ space. InRows query (codespace_seen space))) past.1 all)
     ]
+
+-- ---- the fewest bytes of ranges that begin with a front
+pub found_with_front : (rows front : List ℕ) (n bits : ℕ) → length front ≤ 4 → bits < 2 ^ 64 → ((i : ℕ) → bit_at bits i ≡ 1 → (k : ℕ) → k < length front → IsSet rows i (256 * k + slice_index front k)) → bit_and bits (get_or rows (1023 + n) 0) ≢ 0 → IsFound rows (query_of n front)
+found_with_front rows front n bits few fits set some =
+    let least = and_le_l bits (get_or rows (1023 + n) 0) in
+    let (i, bit) = some_bit (bit_and bits (get_or rows (1023 + n) 0)) (omega arith) some in
+    let (all, length) = (both_set bits (get_or rows (1023 + n) 0) i).0 bit in
+    (i, (each_row (IsSet rows i) n front few).1 (length, set i all))
+
+pub none_with_front : (rows front : List ℕ) (n bits : ℕ) → length front ≤ 4 → ((row : ℕ) → get_or rows row 0 < 2 ^ 64) → ((i : ℕ) → i < 64 → ((k : ℕ) → k < length front → IsSet rows i (256 * k + slice_index front k)) → bit_at bits i ≡ 1) → bit_and bits (get_or rows (1023 + n) 0) ≡ 0
+    → IsFound rows (query_of n front) → ⊥
+none_with_front rows front n bits few fits all none (i, set) =
+    let (length, each) = (each_row (IsSet rows i) n front few).0 set in
+    let small = set_below (get_or rows (1023 + n) 0) i (fits (1023 + n)) length in
+    let bit = (both_set bits (get_or rows (1023 + n) 0) i).1 (all i small each, length) in
+    omega (arith, ap (λ m. bit_at m i) none, bit_at-zero i, bit)
+
+any_ranges : (P Q : Codespace → Type 0) (spaces : List Codespace) → ((space : Codespace) → P space → Q space) → Any P spaces → Any Q spaces
+any_ranges P Q spaces weaker (k, space, below, is, holds) = (k, space, below, is, weaker space holds)
+
+pub any_same : (P Q : Codespace → Type 0) (spaces : List Codespace) → ((space : Codespace) → P space ↔ Q space) → Any P spaces ↔ Any Q spaces
+any_same P Q spaces same = (any_ranges P Q spaces (λ space. (same space).0), any_ranges Q P spaces (λ space. (same space).1))
+
+pub fewest_ranges : (spaces : List declared.Codespace) (block : Vec ℕ) (front : List ℕ) (least : Option ℕ) → AreBytes front → length front ≤ 4 → AreBlocks spaces (block ∷ []) → IsLeast (λ n. IsCodeLength n × IsFound block.items (query_of n front)) least
+    → IsLeast (λ n. IsCodeLength n × Any (HasFront n front) (map codespace_seen spaces)) least
+fewest_ranges spaces block front least bytes few are is =
+    let same = λ (n : ℕ) (fits : IsCodeLength n). block_finds spaces block (query_of n front) are (query-rows n front bytes fits.1) in
+    let ranges = λ (n : ℕ) (fits : IsCodeLength n). any_same (InRows (query_of n front)) (HasFront n front) (map codespace_seen spaces) (λ space. front_rows n front space bytes fits.0 few) in
+    least_same (λ n. IsCodeLength n × IsFound block.items (query_of n front)) (λ n. IsCodeLength n × Any (HasFront n front) (map codespace_seen spaces)) least
+    (λ n. (λ holds. (holds.0, (ranges n holds.0).0 ((same n holds.0).0 holds.1)), λ holds. (holds.0, (same n holds.0).1 ((ranges n holds.0).1 holds.1)))) is

@@ -115,6 +115,9 @@ fn shortest_with_front(layers: &[Layer], front: &[u8]) -> Option<u8>
     requires { length front.now ≤ 4 }
     ensures { IsShortestMatch (ranges_of (layers_seen layers.now)) front.now result }
 {
+    if let [only] = layers {
+        return only.spaces.fewest_with_front(front);
+    }
     for byte_len in front.len().max(1) as u8..5 {
         if any_has_front(layers, byte_len, front) {
             return Some(byte_len);

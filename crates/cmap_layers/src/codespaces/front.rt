@@ -1,7 +1,9 @@
 //! The shortest code in a codespace range that a string begins with.
 
-ghost use Rattle.std.specs.Prelude.{◌≡◌, ℕ, ◌<◌, ◌≤◌, length, take};
-ghost use Rattle.cmap_layers.specs.SpaceBits.{AreGroups, HaveRows, IsFoundAmong, IsInside, IsInsideWithin, IsLeast, lesser, query_of};
+ghost use Rattle.std.specs.Prelude.{◌≡◌, ℕ, ◌+◌, ◌*◌, ◌<◌, ◌≤◌, length, slice_index, take};
+ghost use Rattle.std.specs.Int.{bit_at};
+ghost use Rattle.cmap_files.specs.CodeLengths.{IsCodeLength};
+ghost use Rattle.cmap_layers.specs.SpaceBits.{AreGroups, HaveRows, IsFound, IsFoundAmong, IsInside, IsInsideWithin, IsLeast, IsSet, lesser, query_of};
 
 use super::block::{row_of_length, row_of_value};
 use super::query::Query;
@@ -61,6 +63,37 @@ pub(super) fn shortest_in_block(rows: &[u64], text: &[u8]) -> Option<u8>
         }
     }
     None
+}
+
+/// How many bytes the codes have at least of the ranges of a block that may begin with these bytes.
+pub(super) fn fewest_with_front(rows: &[u64], front: &[u8]) -> Option<u8>
+    requires rows { length rows.now ≡ 1028 }
+    requires few { length front.now ≤ 4 }
+    ensures { IsLeast (λ n. IsCodeLength n × IsFound rows.now (query_of n front.now)) result }
+{
+    let found = with_front(rows, front);
+    for byte_len in 1..5 {
+        if found & rows[row_of_length(byte_len)] != 0 {
+            return Some(byte_len);
+        }
+    }
+    None
+}
+
+/// A bit for each range of a block that may begin with these bytes.
+fn with_front(rows: &[u64], front: &[u8]) -> u64
+    requires rows { length rows.now ≡ 1028 }
+    requires few { length front.now ≤ 4 }
+    ensures set { (i : ℕ) → bit_at result i ≡ 1 → (k : ℕ) → k < length front.now
+        → IsSet rows.now i (256 * k + slice_index front.now k) }
+    ensures all { (i : ℕ) → i < 64 → ((k : ℕ) → k < length front.now
+        → IsSet rows.now i (256 * k + slice_index front.now k)) → bit_at result i ≡ 1 }
+{
+    let mut found = u64::MAX;
+    for place in 0..front.len() as u8 {
+        found &= rows[row_of_value(place, u32::from(front[usize::from(place)]))];
+    }
+    found
 }
 
 /// The lesser of two numbers, or the one that is there.

@@ -1,12 +1,14 @@
 //! The codespace ranges of a layer, with blocks of bits by which they are found.
 
-ghost use Rattle.std.specs.Prelude.{◌≡◌, ◌↔◌, ◌≤◌, All, Any, IfOk, IsTrue, map};
+ghost use Rattle.std.specs.Prelude.{◌≡◌, ◌↔◌, ◌≤◌, All, Any, IfOk, IsTrue, length, map};
 ghost use Rattle.cmap_files.specs.CodeLengths.{IsCodeLength, length_of};
 ghost use Rattle.cmap_files.specs.DeclarationsSeen.{codespace_seen};
-ghost use Rattle.cmap_layers.specs.SpaceBits.{AreBlocks, AreRows, InRows, IsInsideRanges, IsLeast};
+ghost use Rattle.cmap_layers.specs.SpaceBits.{AreBlocks, AreRows, HasFront, InRows, IsInsideRanges, IsLeast};
 
 use super::block::{BLOCK_LEN, rows_of};
-use super::front::{shortest_among_blocks, shortest_among_groups, shortest_in_block};
+use super::front::{
+    fewest_with_front, shortest_among_blocks, shortest_among_groups, shortest_in_block,
+};
 use super::group::groups_of;
 use super::query::Query;
 use super::search::{any_of_blocks, any_of_tops};
@@ -78,6 +80,23 @@ impl Spaces {
         ensures { result.now ≡ self.now }
     {
         &self.list
+    }
+
+    /// How many bytes the codes have at least of the ranges that may begin with these bytes.
+    pub(crate) fn fewest_with_front(&self, front: &[u8]) -> Option<u8>
+        requires { length front.now ≤ 4 }
+        ensures { IsLeast (λ n. IsCodeLength n
+            × Any (HasFront n front.now) (map codespace_seen self.now)) result }
+    {
+        if let [only] = self.blocks.as_slice() {
+            return fewest_with_front(only, front);
+        }
+        for byte_len in 1..5 {
+            if self.any_of_all(&Query::of_front(byte_len, front)) {
+                return Some(byte_len);
+            }
+        }
+        None
     }
 
     /// Whether one of the ranges is asked for.

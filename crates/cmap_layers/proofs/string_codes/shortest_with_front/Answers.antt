@@ -1,7 +1,8 @@
 use Rattle.std.proofs.Common.{sym, ◌∙◌, subst, inl, inr, arith}
 use Rattle.std.proofs.lemmas.Bool.{cases_lt, false≢true}
 use Rattle.cmap_layers.specs.LayersSeen.{layers_seen}
-use Rattle.cmap_layers.proofs.BestMatch.{HaveFront, none_found, shortest_found, too_short}
+use Rattle.cmap_layers.proofs.BestMatch.{HaveFront, none_found, shortest_found, shortest_of_layer, too_short}
+use Rattle.cmap_layers.proofs.SpacesFound.{only_item}
 use Rattle.cmap_layers.proofs.string_codes.shortest_with_front.Goals as goal
 
 pub loop-byte_len-init : goal.loop-byte_len-init
@@ -20,3 +21,9 @@ loop-byte_len-preserved c = λ n some below found.
 
 pub returns : goal.returns
 returns c = none_found c.args.layers.now c.args.front.now (λ n some below. c.loop-byte_len.invariant n some (omega arith))
+
+pub returns-in-len1 : goal.returns-in-len1
+returns-in-len1 c =
+    let layer = c.only-item.result in
+    let is = only_item c.args.layers.now layer (omega (arith, c.in-len1.len_at_least, c.in-len1.len_below)) c.only-item.is in
+    rw is (shortest_of_layer layer c.args.front.now c.fewest_with_front.result c.fewest_with_front.ensures)
