@@ -5,6 +5,7 @@ pub mod LastIndex
 pub mod LieApart
 pub mod MaximalRuns
 pub mod OpenDecide
+pub mod OpenEnds
 pub mod RangesDecide
 pub mod RunsInOrder
 pub mod StartBits
