@@ -1,5 +1,6 @@
 pub mod BinaryDigits
 pub mod BlocksMade
+pub mod EachPlace
 pub mod FoundIndex
 pub mod LastIndex
 pub mod LieApart
