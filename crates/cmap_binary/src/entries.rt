@@ -3,13 +3,14 @@
 ghost use Rattle.cmap_binary.specs.BinaryEntries.{CidEntryAt, DestinationAt};
 ghost use Rattle.cmap_binary.specs.BinaryFiles as files;
 ghost use Rattle.cmap_binary.specs.BinaryFiles.{SaysAs};
-ghost use Rattle.cmap_binary.specs.BinarySeen.{Adds};
+ghost use Rattle.cmap_binary.specs.BinarySeen.{Adds, AddsRow};
 ghost use Rattle.cmap_binary.specs.BundleSeen.{tables_seen};
 ghost use Rattle.cmap_binary.specs.ColumnsSeen.{cid_columns_seen, shape_seen};
 ghost use Rattle.cmap_binary.specs.Fronts.{FieldAt, RowOf};
 ghost use Rattle.cmap_files.specs.Outcomes.{Reads};
 ghost use Rattle.cmap_files.specs.CodeLengths.{length_of};
 ghost use Rattle.cmap_files.specs.DeclarationsSeen.{cid_entry_seen};
+ghost use Rattle.cmap_files.specs.Files.{cid};
 ghost use Rattle.cmap_files.specs.FilesSeen.{file_seen};
 ghost use Rattle.cmap_files.specs.UnitsSeen.{units_seen};
 
@@ -77,11 +78,46 @@ pub(crate) fn add_cids(
     // A count that is too great gets no more room than there are bytes.
     file.lists
         .reserve_cids(len, usize::from(count).min(payload.len()))?;
-    let mut left = CidColumns {
+    let left = CidColumns {
         columns,
         raws: payload,
         next: 0,
     };
+    add_cid_entries(tables, left, count, len, file)
+}
+
+/// Adds the next `count` entries, for codes of this length. Each length has a loop of its own, which
+/// needn't look for its list.
+fn add_cid_entries(
+    tables: &Tables,
+    left: CidColumns<'_>,
+    count: u16,
+    len: CodeLength,
+    file: &mut File<'_>,
+) -> Result<(), Fault<Reason>>
+    ensures { AddsRow (CidEntryAt (tables_seen tables.now)) (cid (length_of len)) count
+        (cid_columns_seen left.entry) (file_seen file.old) (file_seen file.new) result }
+{
+    match len {
+        CodeLength::One => add_each_cid(tables, left, count, CodeLength::One, file),
+        CodeLength::Two => add_each_cid(tables, left, count, CodeLength::Two, file),
+        CodeLength::Three => add_each_cid(tables, left, count, CodeLength::Three, file),
+        CodeLength::Four => add_each_cid(tables, left, count, CodeLength::Four, file),
+    }
+}
+
+/// Adds the next `count` entries one by one.
+#[inline(always)]
+fn add_each_cid(
+    tables: &Tables,
+    mut left: CidColumns<'_>,
+    count: u16,
+    len: CodeLength,
+    file: &mut File<'_>,
+) -> Result<(), Fault<Reason>>
+    ensures { AddsRow (CidEntryAt (tables_seen tables.now)) (cid (length_of len)) count
+        (cid_columns_seen left.entry) (file_seen file.old) (file_seen file.new) result }
+{
     for _ in 0..count {
         let range = left.next_entry(tables)?;
         file.lists.add_cid(len, range)?;
