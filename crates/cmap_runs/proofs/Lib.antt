@@ -7,6 +7,7 @@ pub mod LieApart
 pub mod MaximalRuns
 pub mod OpenDecide
 pub mod OpenEnds
+pub mod PartsLeft
 pub mod RangesDecide
 pub mod RunsInOrder
 pub mod StartBits

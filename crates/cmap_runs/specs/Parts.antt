@@ -10,3 +10,6 @@ left_of parts = sum_by (λ part. part.end - part.next) parts
 pub record AreLeft (parts : List Part) (count : ℕ) : Type 0 where
   pub each : All (λ part. (part.next ≤ part.end) × (part.end ≤ count)) parts
   pub few : left_of parts ≤ count
+
+abbrev pub nothing_left : Part
+nothing_left = record { next = 0; end = 0; start = 0 }

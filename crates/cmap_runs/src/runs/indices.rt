@@ -1,11 +1,11 @@
 //! The indices of declarations, and whether their ranges lie apart.
 
-ghost use Rattle.std.specs.Prelude.{◌≡◌, ◌+◌, ◌-◌, ◌<◌, ◌≤◌, ◌^◌, true, ◌++◌, All, IfOk, IfSome, length, map};
+ghost use Rattle.std.specs.Prelude.{◌≡◌, ◌+◌, ◌-◌, ◌<◌, ◌≤◌, ◌^◌, true, ◌++◌, All, IfOk, IfSome, get_or, length, map};
 ghost use Rattle.std.specs.List.{range_with_len};
 ghost use Rattle.std.specs.List.Sorted.{IsNonDecreasingBy, IsPermutation};
 ghost use Rattle.std.specs.Vec.{vec_capacity, vec_len};
 ghost use Rattle.cmap_runs.specs.DeclaredRanges.{ArePlacesApart, LieApart, LieApartBefore, range_at};
-ghost use Rattle.cmap_runs.specs.Parts.{AreLeft};
+ghost use Rattle.cmap_runs.specs.Parts.{AreLeft, nothing_left};
 
 use super::HasRange;
 use super::ranges::{range_at, start_at};
@@ -76,14 +76,14 @@ pub(super) fn indices_of_parts<T: HasRange>(
     };
     let indices = Vec::with_capacity(alloc, count as usize)?;
     let mut apart = Apart { indices, next: 0 };
-    while let Some((at, limit)) = first_part(parts.as_slice()) {
-        let (first, end) = (parts[at].next, parts[at].end);
+    while let Some((first, end, limit)) = first_part(parts.as_slice()) {
         let next = apart.add_part(declarations, first, end, limit);
         if next == first {
             return Ok(None);
         }
         let start = start_before(declarations, next, end);
-        parts[at] = Part { next, end, start };
+        parts[0] = Part { next, end, start };
+        move_first(&mut parts);
     }
     if apart.indices.len() != declarations.len() {
         return Ok(None);
@@ -91,7 +91,8 @@ pub(super) fn indices_of_parts<T: HasRange>(
     Ok(Some(apart.indices))
 }
 
-/// The parts in which the first codes ascend; `None` where they are too many.
+/// The parts in which the first codes ascend, in the order of their first codes; `None` where they are
+/// too many.
 fn ascending_parts<T: HasRange>(
     alloc: Global,
     declarations: &[T],
@@ -108,29 +109,48 @@ fn ascending_parts<T: HasRange>(
         }
         let (next, end) = (first, part_end(declarations, first, count));
         let start = start_before(declarations, next, end);
-        parts.push(Part { next, end, start })?;
+        parts.insert(0, Part { next, end, start })?;
+        move_first(&mut parts);
         first = end;
     }
     Ok(Some(parts))
 }
 
-/// The index of the part with the least first code, and the least first code of the others; `None`
-/// where nothing is left.
-fn first_part(parts: &[Part]) -> Option<(usize, u64)>
-    ensures { IfSome result (λ first. first.0 < length parts.now) }
+/// What is left of the first part, and the first code of the part after it; `None` where nothing is
+/// left.
+fn first_part(parts: &[Part]) -> Option<(u32, u32, u64)>
+    ensures { IfSome result (λ first. (0 < length parts.now)
+        × (first.0 ≡ (get_or parts.now 0 nothing_left).next)
+        × (first.1 ≡ (get_or parts.now 0 nothing_left).end)) }
 {
-    let (mut at, mut least, mut limit) = (0, u64::MAX, u64::MAX);
-    for (index, part) in parts.iter().enumerate() {
-        if part.start < least {
-            (at, limit, least) = (index, least, part.start);
-        } else {
-            limit = limit.min(part.start);
-        }
+    let part = parts.first()?;
+    if part.start == u64::MAX {
+        return None;
     }
-    if least < u64::MAX {
-        Some((at, limit))
-    } else {
-        None
+    let limit = match parts.get(1) {
+        Some(other) => other.start,
+        None => u64::MAX,
+    };
+    Some((part.next, part.end, limit))
+}
+
+/// Moves the first part behind all those whose first codes are less.
+#[inline(always)]
+fn move_first(parts: &mut Vec<Part>)
+    ensures { IsPermutation parts.old.items parts.new.items }
+{
+    move_first_of(parts.as_mut_slice());
+}
+
+#[inline(always)]
+fn move_first_of(parts: &mut [Part])
+    ensures { IsPermutation parts.old parts.new }
+{
+    for at in 1..parts.len() {
+        if parts[at - 1].start <= parts[at].start {
+            return;
+        }
+        parts.swap(at - 1, at);
     }
 }
 

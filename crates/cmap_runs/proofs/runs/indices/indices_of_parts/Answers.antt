@@ -1,10 +1,32 @@
-use Rattle.std.proofs.Common.{map, arith}
+use Rattle.std.proofs.Common.{map, refl, arith}
 use Rattle.std.proofs.lemmas.List.{length-map}
+use Rattle.cmap_runs.specs.declared.runs.indices.Part.{Part}
 use Rattle.cmap_runs.proofs.EachPlace.{ArePlacesApart-from_count}
+use Rattle.cmap_runs.proofs.PartsLeft.{GoesOn, goes_on}
 use Rattle.cmap_runs.proofs.runs.indices.indices_of_parts.Goals as goal
+use Rattle.cmap_runs.proofs.runs.indices.indices_of_parts.Given.{Over}
+
+taken : (g : Over) (c : goal.After-move_first g) → GoesOn c.loop-first.parts.items c.move_first.new.parts.items c.args.count c.in-Some-first_part.first c.add_part-next.result
+taken g c =
+    let found = rw c.as_slice.ensures.value at c.in-Some-first_part.ensures in
+    let part : Part = record { next = c.add_part-next.result; end = c.in-Some-first_part.end; start = c.start_before-start.result } in
+    goes_on c.loop-first.parts.items c.move_first.new.parts.items c.args.count c.in-Some-first_part.first c.in-Some-first_part.end c.add_part-next.result part
+    c.loop-first.invariant.left found.0 found.1 found.2 refl refl c.add_part-next.ensures.begin c.add_part-next.ensures.within c.move_first.ensures
+
+pub loop-first-smaller : goal.loop-first-smaller
+loop-first-smaller g c = omega (arith, (taken g c).fewer, c.add_part-next.ensures.begin)
+
+pub loop-first-preserved : goal.loop-first-preserved
+loop-first-preserved g c =
+    let old = c.loop-first.invariant in let now = taken g c in
+    record {
+      left = now.left;
+      apart = c.add_part-next.ensures.apart old.apart;
+      room = omega (arith, now.fewer, old.room, c.add_part-next.ensures.len, c.add_part-next.ensures.capacity, c.add_part-next.ensures.begin);
+    }
 
 pub returns : goal.returns
 returns g c =
-    let spans = map g.T.HasRange.span c.args.declarations.now in let indices = c.loop-at.apart.indices in
-    ArePlacesApart-from_count spans indices.items c.loop-at.invariant.apart.apart
+    let spans = map g.T.HasRange.span c.args.declarations.now in let indices = c.loop-first.apart.indices in
+    ArePlacesApart-from_count spans indices.items c.loop-first.invariant.apart.apart
     (omega (arith, length-map c.args.declarations.now g.T.HasRange.span, indices.ok.0))

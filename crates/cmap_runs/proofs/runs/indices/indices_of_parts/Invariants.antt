@@ -5,12 +5,12 @@ use Rattle.cmap_runs.specs.Parts.{AreLeft, left_of}
 use Rattle.cmap_runs.proofs.runs.indices.indices_of_parts.Given as goal
 
 -- there is room for what is left of the parts
-abbrev pub invariant-loop-at : goal.invariant-loop-at
-invariant-loop-at g l = record {
+abbrev pub invariant-loop-first : goal.invariant-loop-first
+invariant-loop-first g l = record {
   left : AreLeft l.parts.items l.count;
   apart : LieApartBefore (map g.T.HasRange.span l.declarations) l.apart.indices.items l.apart.next;
   room : vec_len l.apart.indices + left_of l.parts.items ≤ vec_capacity l.apart.indices;
 }
 
-abbrev pub decreases-loop-at : goal.decreases-loop-at
-decreases-loop-at g l = left_of l.parts.items
+abbrev pub decreases-loop-first : goal.decreases-loop-first
+decreases-loop-first g l = left_of l.parts.items
