@@ -55,9 +55,9 @@ pub(super) fn next_word(
     requires knows { KnowBytes counts.now.items symbols.now.items known.now }
     ensures { FindsFirst counts.now.items symbols.now.items (bits_left reader.now) result }
 {
-    match *look_up(known, reader) {
-        Ok(word) => Some(word),
-        Err(search) => find_from(counts, symbols, reader, search),
+    match look_up(known, reader) {
+        Ok(word) => Some(*word),
+        Err(search) => find_from(counts, symbols, reader.fork(), search),
     }
 }
 
@@ -66,14 +66,14 @@ pub(super) fn next_word(
 fn find_from(
     counts: &Vec<u32>,
     symbols: &Vec<u32>,
-    reader: &Reader<'_>,
-    start: Search,
+    reader: Reader<'_>,
+    start: &Search,
 ) -> Option<Word>
     requires table { IsTable counts.now.items symbols.now.items }
-    requires start { IsSearched counts.now.items (bits_left reader.now) (search_seen start) }
-    ensures { FindsFirst counts.now.items symbols.now.items (bits_left reader.now) result }
+    requires start { IsSearched counts.now.items (bits_left reader) (search_seen start.now) }
+    ensures { FindsFirst counts.now.items symbols.now.items (bits_left reader.entry) result }
 {
-    find(counts, symbols, reader.fork(), start).ok()
+    find(counts, symbols, reader, *start).ok()
 }
 
 /// The word that comes next, which is looked for from there on; or how far it has been looked for,
