@@ -1,8 +1,12 @@
 -- Declarations in a row, each added to a file.
-use Rattle.std.proofs.Common.{◌≡◌, ℕ, ◌+◌, ◌<◌, ◌≤◌, refl, sym, ap, ◌∙◌, List, [], ◌∷◌, ◌++◌, map}
+use Rattle.std.proofs.Common.{Ok, Err, Result, ◌≡◌, ℕ, ◌+◌, ◌<◌, ◌≤◌, refl, sym, ap, ◌∙◌, List, [], ◌∷◌, ◌++◌, map}
 use Rattle.std.proofs.lemmas.List.{map-append}
 use Rattle.cmap_files.specs.Files.{Declaration, File, Lists, lists_of}
 use Rattle.cmap_files.specs.ListsAppended.{append_lists}
+use Rattle.cmap_files.specs.Outcomes.{Succeeds}
+use Rattle.cmap_files.specs.declared.fault.Fault.{Fault}
+use Rattle.cmap_files.specs.declared.fault.Fault.TheVariants.{Refused, Memory}
+use Rattle.cmap_files.specs.declared.fault.Reason.{Reason}
 use Rattle.cmap_files.specs.Only.{IsOnly, HoldsOfNone}
 use Rattle.cmap_files.proofs.ListsMade.{added_more, append_lists-none}
 use Rattle.cmap_binary.specs.BinaryFiles.{declares}
@@ -41,3 +45,9 @@ module _ {A S : Type 0} {item : S → A × S → Type 0} {kind : A → Declarati
 
 pub adds_start : {A S : Type 0} (item : S → A × S → Type 0) (kind : A → Declaration) (n : ℕ) (start : S) (old : File) → HasAdded item kind n start old 0 start old
 adds_start item kind n start old = record { entries = []; row = row_start item n start; says = adds_none old }
+
+-- what a call answers in other words
+pub in_words : {P Q P' Q' : Type 0} (result : Result Unit (Fault Reason)) → Succeeds P Q result → (P → P') → (Q → Q') → Succeeds P' Q' result
+in_words (Ok done) holds succeeds refuses = (succeeds holds.0, tt)
+in_words (Err (Refused reason)) holds succeeds refuses = (tt, refuses holds.1)
+in_words (Err Memory) holds succeeds refuses = (tt, tt)

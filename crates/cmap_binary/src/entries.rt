@@ -1,16 +1,16 @@
 //! The entries of segments of a binary file.
 
-ghost use Rattle.cmap_binary.specs.BinaryEntries.{CidEntryAt, DestinationAt};
+ghost use Rattle.cmap_binary.specs.BinaryEntries.{BfEntryAt, CidEntryAt, DestinationAt};
 ghost use Rattle.cmap_binary.specs.BinaryFiles as files;
 ghost use Rattle.cmap_binary.specs.BinaryFiles.{SaysAs};
 ghost use Rattle.cmap_binary.specs.BinarySeen.{Adds, AddsRow};
 ghost use Rattle.cmap_binary.specs.BundleSeen.{tables_seen};
-ghost use Rattle.cmap_binary.specs.ColumnsSeen.{cid_columns_seen, shape_seen};
+ghost use Rattle.cmap_binary.specs.ColumnsSeen.{cid_columns_seen, columns_seen, shape_seen};
 ghost use Rattle.cmap_binary.specs.Fronts.{FieldAt, RowOf};
 ghost use Rattle.cmap_files.specs.Outcomes.{Reads};
 ghost use Rattle.cmap_files.specs.CodeLengths.{length_of};
 ghost use Rattle.cmap_files.specs.DeclarationsSeen.{cid_entry_seen};
-ghost use Rattle.cmap_files.specs.Files.{cid};
+ghost use Rattle.cmap_files.specs.Files.{bf, cid};
 ghost use Rattle.cmap_files.specs.FilesSeen.{file_seen};
 ghost use Rattle.cmap_files.specs.UnitsSeen.{units_seen};
 
@@ -142,22 +142,58 @@ pub(crate) fn add_texts(
     let Some(count) = take_u16(&mut payload) else {
         return Err(Fault::Refused(Reason::Field(Segment::Texts)));
     };
-    let Some(mut columns) = take_columns(&mut payload, Segment::Texts, shape) else {
+    let Some(columns) = take_columns(&mut payload, Segment::Texts, shape) else {
         return Err(Fault::Refused(Reason::Field(Segment::Texts)));
     };
     file.lists
         .bfs
         .reserve(usize::from(count).min(payload.len()))?;
+    add_text_entries(alloc, tables, (columns, payload), count, fixed, file)
+}
+
+/// Adds the next `count` entries. One unit each, as nearly all have, is read in a loop of its own.
+fn add_text_entries(
+    alloc: Global,
+    tables: &Tables,
+    left: (Columns<'_>, &[u8]),
+    count: u16,
+    fixed: Option<u8>,
+    file: &mut File<'_>,
+) -> Result<(), Fault<Reason>>
+    ensures { AddsRow (BfEntryAt (tables_seen tables.now) fixed) bf count
+        (columns_seen left.entry.0, left.entry.1.now) (file_seen file.old) (file_seen file.new) result }
+{
+    match fixed {
+        Some(1) => add_each_text(alloc, tables, left, count, Some(1), file),
+        _ => add_each_text(alloc, tables, left, count, fixed, file),
+    }
+}
+
+/// Adds the next `count` entries one by one.
+#[inline(always)]
+fn add_each_text(
+    alloc: Global,
+    tables: &Tables,
+    left: (Columns<'_>, &[u8]),
+    count: u16,
+    fixed: Option<u8>,
+    file: &mut File<'_>,
+) -> Result<(), Fault<Reason>>
+    ensures { AddsRow (BfEntryAt (tables_seen tables.now) fixed) bf count
+        (columns_seen left.entry.0, left.entry.1.now) (file_seen file.old) (file_seen file.new) result }
+{
+    let (mut columns, mut text) = left;
     let mut buffer = Vec::new(alloc);
     for _ in 0..count {
         let range = columns.next_range(tables)?;
-        let units = read_destination(alloc, &mut payload, fixed, &mut buffer)?;
+        let units = read_destination(alloc, &mut text, fixed, &mut buffer)?;
         file.lists.add_bf(BfRange { range, units })?;
     }
     Ok(())
 }
 
 /// The units of the destination that the text begins with.
+#[inline(always)]
 fn read_destination(
     alloc: Global,
     text: &mut &[u8],

@@ -1,4 +1,4 @@
-use Rattle.std.proofs.Common.{Ok, Err, Result, ◌≡◌, ℕ, zero, suc, ◌<◌, List, map, arith, refl, ap, ◌∙◌}
+use Rattle.std.proofs.Common.{◌≡◌, ℕ, zero, suc, ◌<◌, List, map, arith, refl, ap, ◌∙◌}
 use Rattle.cmap_files.specs.CodeLengths.{length_of}
 use Rattle.cmap_files.specs.Files.{cid}
 use Rattle.cmap_files.specs.FilesSeen.{file_seen}
@@ -8,13 +8,9 @@ use Rattle.cmap_binary.specs.Bundles.{PrefixTables}
 use Rattle.cmap_binary.specs.BinaryEntries.{Shape, CidsOf, CidEntriesOf}
 use Rattle.cmap_binary.specs.BundleSeen.{tables_seen}
 use Rattle.cmap_binary.specs.ColumnsSeen.{shape_seen}
-use Rattle.cmap_files.specs.Outcomes.{Succeeds}
-use Rattle.cmap_files.specs.declared.fault.Fault.{Fault}
-use Rattle.cmap_files.specs.declared.fault.Fault.TheVariants.{Refused, Memory}
-use Rattle.cmap_files.specs.declared.fault.Reason.{Reason}
 use Rattle.cmap_binary.proofs.Fronts.{gives, then_none, then_next, then_only}
 use Rattle.cmap_binary.proofs.Reading.{made_none, made_only}
-use Rattle.cmap_binary.proofs.RowsAdded.{with_lists, adds_none}
+use Rattle.cmap_binary.proofs.RowsAdded.{with_lists, adds_none, in_words}
 use Rattle.cmap_binary.proofs.entries.add_cids.Goals as goal
 
 -- of some entries the columns are read
@@ -30,12 +26,6 @@ returns-then-count-eq0 c = (record { content = _; only = made_only (then_only _ 
 
 pub returns-in_default-take_columns : goal.returns-in_default-take_columns
 returns-in_default-take_columns c = (tt, made_none (then_next _ c.in-Some.ensures (rw (some_cids _ _ c.in-Some.count _ (omega arith)) (then_none _ _ c.in_default-take_columns.ensures))))
-
--- what a call answers in other words
-in_words : {P Q P' Q' : Type 0} (result : Result Unit (Fault Reason)) → Succeeds P Q result → (P → P') → (Q → Q') → Succeeds P' Q' result
-in_words (Ok done) holds succeeds refuses = (succeeds holds.0, tt)
-in_words (Err (Refused reason)) holds succeeds refuses = (tt, refuses holds.1)
-in_words (Err Memory) holds succeeds refuses = (tt, tt)
 
 pub returns : goal.returns
 returns c =
