@@ -160,15 +160,37 @@ fn part_end<T: HasRange>(declarations: &[T], first: u32, count: u32) -> u32
     requires count { count ≡ length declarations.now }
     ensures { (first < result) × (result ≤ count) }
 {
-    let mut from = range_at(declarations, first).low;
-    for index in first + 1..count {
-        let start = range_at(declarations, index).low;
-        if start < from {
-            return index;
-        }
-        from = start;
+    let mut end = end_by_fours(declarations, first + 1, count);
+    while end < count && ascends(declarations, end) {
+        end += 1;
     }
-    count
+    end
+}
+
+/// How far first codes are seen to ascend, where four are looked at together.
+fn end_by_fours<T: HasRange>(declarations: &[T], from: u32, count: u32) -> u32
+    requires from { (0 < from) × (from ≤ count) }
+    requires count { count ≡ length declarations.now }
+    ensures { (from ≤ result) × (result ≤ count) }
+{
+    let mut end = from;
+    while count - end >= 4
+        && ascends(declarations, end)
+        && ascends(declarations, end + 1)
+        && ascends(declarations, end + 2)
+        && ascends(declarations, end + 3)
+    {
+        end += 4;
+    }
+    end
+}
+
+/// Whether the range at `index` begins no earlier than the one before.
+fn ascends<T: HasRange>(declarations: &[T], index: u32) -> bool
+    requires before { 0 < index }
+    requires within { index < length declarations.now }
+{
+    range_at(declarations, index - 1).low <= range_at(declarations, index).low
 }
 
 /// The first code of the range at `index`, where this is before `end`, else one above all codes.
