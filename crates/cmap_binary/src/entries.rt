@@ -87,7 +87,7 @@ pub(crate) fn add_cids(
 }
 
 /// Adds the next `count` entries, for codes of this length. Each length has a loop of its own, which
-/// needn't look for its list.
+/// needn't look for its list; and so have single codes of two bytes, which have no counts to hold.
 fn add_cid_entries(
     tables: &Tables,
     left: CidColumns<'_>,
@@ -98,7 +98,9 @@ fn add_cid_entries(
     ensures { AddsRow (CidEntryAt (tables_seen tables.now)) (cid (length_of len)) count
         (cid_columns_seen left.entry) (file_seen file.old) (file_seen file.new) result }
 {
+    let singles = left.columns.counts.is_none();
     match len {
+        CodeLength::Two if singles => add_each_cid(tables, left, count, CodeLength::Two, file),
         CodeLength::One => add_each_cid(tables, left, count, CodeLength::One, file),
         CodeLength::Two => add_each_cid(tables, left, count, CodeLength::Two, file),
         CodeLength::Three => add_each_cid(tables, left, count, CodeLength::Three, file),
@@ -151,7 +153,8 @@ pub(crate) fn add_texts(
     add_text_entries(alloc, tables, (columns, payload), count, fixed, file)
 }
 
-/// Adds the next `count` entries. One unit each, as nearly all have, is read in a loop of its own.
+/// Adds the next `count` entries. One unit each, as nearly all have, is read in a loop of its own, and
+/// so are those of single codes.
 fn add_text_entries(
     alloc: Global,
     tables: &Tables,
@@ -163,7 +166,9 @@ fn add_text_entries(
     ensures { AddsRow (BfEntryAt (tables_seen tables.now) fixed) bf count
         (columns_seen left.entry.0, left.entry.1.now) (file_seen file.old) (file_seen file.new) result }
 {
+    let singles = left.0.counts.is_none();
     match fixed {
+        Some(1) if singles => add_each_text(alloc, tables, left, count, Some(1), file),
         Some(1) => add_each_text(alloc, tables, left, count, Some(1), file),
         _ => add_each_text(alloc, tables, left, count, fixed, file),
     }
