@@ -7,7 +7,7 @@ ghost use Rattle.cmap_binary.specs.BinarySeen.{Adds, AddsRow};
 ghost use Rattle.cmap_binary.specs.BundleSeen.{tables_seen};
 ghost use Rattle.cmap_binary.specs.ColumnsSeen.{cid_columns_seen, columns_seen, shape_seen};
 ghost use Rattle.cmap_binary.specs.Fronts.{FieldAt, RowOf};
-ghost use Rattle.cmap_files.specs.Outcomes.{Reads};
+ghost use Rattle.cmap_files.specs.Outcomes.{Finds, Reads};
 ghost use Rattle.cmap_files.specs.CodeLengths.{length_of};
 ghost use Rattle.cmap_files.specs.DeclarationsSeen.{cid_entry_seen};
 ghost use Rattle.cmap_files.specs.Files.{bf, cid};
@@ -218,7 +218,7 @@ fn read_destination(
     }
 }
 
-/// The `count` units that the text begins with. More than one are gathered in the buffer.
+/// The `count` units that the text begins with. More than two are gathered in the buffer.
 #[inline(always)]
 fn read_units(
     alloc: Global,
@@ -234,6 +234,12 @@ fn read_units(
         };
         return Ok(Units::One([unit]));
     }
+    if count == 2 {
+        let Some(units) = take_two(text) else {
+            return Err(Fault::Refused(Reason::Entry(Segment::Texts)));
+        };
+        return Ok(Units::Two(units));
+    }
     buffer.clear();
     for _ in 0..count {
         let Some(unit) = take_u16(text) else {
@@ -242,4 +248,13 @@ fn read_units(
         buffer.push(unit)?;
     }
     Ok(Units::from_slice(alloc, buffer)?)
+}
+
+/// The two units that the text begins with.
+fn take_two(text: &mut &[u8]) -> Option<[u16; 2]>
+    ensures { Finds (RowOf (FieldAt 2) 2 text.old.now) (λ units. (units, text.new.now)) result }
+{
+    let first = take_u16(text)?;
+    let second = take_u16(text)?;
+    Some([first, second])
 }
