@@ -31,7 +31,7 @@ pub(super) fn find_index<T: HasRange>(
 {
     match blocks.block(code) {
         Some(block) => index_of_last(held, block.begun_by(code), code, looks),
-        None if blocks.left == 0 => None,
+        None if blocks.are_all => None,
         None => find_among_last(held, blocks, code, looks),
     }
 }
