@@ -1,7 +1,7 @@
 //! The open ranges of a sweep: those that have begun, and aren't closed.
 
 ghost use Rattle.std.specs.Prelude.{◌≡◌, ℕ, ◌+◌, ◌-◌, ◌<◌, ◌≤◌, true, false, [], All, OnOk, get_or, length};
-ghost use Rattle.std.specs.BinaryHeap.{heap_items, heap_len};
+ghost use Rattle.std.specs.BinaryHeap.{heap_items};
 ghost use Rattle.cmap_runs.specs.OpenRanges.{Ascend, ClosesTop, HasGreatestOnTop, IsCovered, IsTop, Opens};
 
 use super::held::Run;

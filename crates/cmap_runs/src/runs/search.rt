@@ -66,7 +66,7 @@ fn index_of_last<T: HasRange>(
 }
 
 /// The index of the declaration of the run that holds `code`, by halving. Only the runs that are left
-/// after the blocks may. These come as a whole, so that a search that isn't made asks for less.
+/// after the blocks may.
 #[inline(never)]
 fn find_among_last<T: HasRange>(
     held: &Held<T>,
