@@ -1,8 +1,12 @@
 -- Declarations in a row, each added to a file.
-use Rattle.std.proofs.Common.{◌≡◌, ℕ, ◌+◌, ◌<◌, ◌≤◌, refl, sym, ap, ◌∙◌, List, [], ◌∷◌, ◌++◌, map}
+use Rattle.std.proofs.Common.{Ok, Err, Result, ◌≡◌, ℕ, ◌+◌, ◌<◌, ◌≤◌, refl, sym, ap, ◌∙◌, List, [], ◌∷◌, ◌++◌, map}
 use Rattle.std.proofs.lemmas.List.{map-append}
 use Rattle.cmap_files.specs.Files.{Declaration, File, Lists, lists_of}
 use Rattle.cmap_files.specs.ListsAppended.{append_lists}
+use Rattle.cmap_files.specs.Outcomes.{Succeeds}
+use Rattle.cmap_files.specs.declared.fault.Fault.{Fault}
+use Rattle.cmap_files.specs.declared.fault.Fault.TheVariants.{Refused, Memory}
+use Rattle.cmap_files.specs.declared.fault.Reason.{Reason}
 use Rattle.cmap_files.specs.Only.{IsOnly, HoldsOfNone}
 use Rattle.cmap_files.proofs.ListsMade.{added_more, append_lists-none}
 use Rattle.cmap_binary.specs.BinaryFiles.{declares}
@@ -14,7 +18,7 @@ abbrev pub with_lists : File → Lists → File
 with_lists file lists = record { metadata = file.metadata; lists = lists; uses = file.uses }
 
 -- n things in a row: those before index i are added to the file, as declarations of this kind
-pub record AddsRow {A S : Type 0} (item : S → A × S → Type 0) (kind : A → Declaration) (n : ℕ) (start : S) (old : File) (i : ℕ) (here : S) (now : File) : Type 0 where
+pub record HasAdded {A S : Type 0} (item : S → A × S → Type 0) (kind : A → Declaration) (n : ℕ) (start : S) (old : File) (i : ℕ) (here : S) (now : File) : Type 0 where
   pub entries : List A
   pub row : HasRow item n start i here entries
   pub says : now ≡ with_content old (declares (map kind entries))
@@ -22,8 +26,8 @@ pub record AddsRow {A S : Type 0} (item : S → A × S → Type 0) (kind : A →
 pub adds_none : (file : File) → file ≡ with_content file (declares [])
 adds_none file = ap (with_lists file) (sym (append_lists-none file.lists))
 
-module _ {A S : Type 0} {item : S → A × S → Type 0} {kind : A → Declaration} {n : ℕ} {start : S} {old : File} {i : ℕ} {here : S} {now : File} (has : AddsRow item kind n start old i here now) where
-  pub adds_more : {next : S} {x : A} (new : File) → i < n → IsOnly (item here) (x, next) → new ≡ with_content now (declares (kind x ∷ [])) → AddsRow item kind n start old (i + 1) next new
+module _ {A S : Type 0} {item : S → A × S → Type 0} {kind : A → Declaration} {n : ℕ} {start : S} {old : File} {i : ℕ} {here : S} {now : File} (has : HasAdded item kind n start old i here now) where
+  pub adds_more : {next : S} {x : A} (new : File) → i < n → IsOnly (item here) (x, next) → new ≡ with_content now (declares (kind x ∷ [])) → HasAdded item kind n start old (i + 1) next new
   adds_more {next} {x} new below only says = record {
     entries = has.entries ++ x ∷ [];
     row = row_more item n start i here next has.entries x has.row below only;
@@ -39,5 +43,11 @@ module _ {A S : Type 0} {item : S → A × S → Type 0} {kind : A → Declarati
   pub adds_end : n ≤ i → IsOnly (RowOf item n start) (has.entries, here)
   adds_end = row_end item n start i here has.entries has.row
 
-pub adds_start : {A S : Type 0} (item : S → A × S → Type 0) (kind : A → Declaration) (n : ℕ) (start : S) (old : File) → AddsRow item kind n start old 0 start old
+pub adds_start : {A S : Type 0} (item : S → A × S → Type 0) (kind : A → Declaration) (n : ℕ) (start : S) (old : File) → HasAdded item kind n start old 0 start old
 adds_start item kind n start old = record { entries = []; row = row_start item n start; says = adds_none old }
+
+-- what a call answers in other words
+pub in_words : {P Q P' Q' : Type 0} (result : Result Unit (Fault Reason)) → Succeeds P Q result → (P → P') → (Q → Q') → Succeeds P' Q' result
+in_words (Ok done) holds succeeds refuses = (succeeds holds.0, tt)
+in_words (Err (Refused reason)) holds succeeds refuses = (tt, refuses holds.1)
+in_words (Err Memory) holds succeeds refuses = (tt, tt)

@@ -1,7 +1,7 @@
 -- Private aid: what contracts see of the types of segments, and of a file to which one is added.
-use Rattle.std.specs.Prelude.{◌≡◌, ℕ, List, [], ◌∷◌, ◌++◌, Some, Result}
+use Rattle.std.specs.Prelude.{◌≡◌, ℕ, List, [], ◌∷◌, ◌++◌, map, Some, Result}
 use Rattle.cmap_files.specs.CodeLengths.{length_of}
-use Rattle.cmap_files.specs.Files.{File, lists_of}
+use Rattle.cmap_files.specs.Files.{Declaration, File, lists_of}
 use Rattle.cmap_files.specs.ListsAppended.{append_lists}
 use Rattle.cmap_files.specs.Only.{IsOnly, HoldsOfNone}
 use Rattle.cmap_files.specs.Outcomes.{Succeeds}
@@ -10,7 +10,7 @@ use Rattle.cmap_files.specs.declared.fault.Reason.{Reason}
 use Rattle.cmap_binary.specs.Bundles.{PrefixTables}
 use Rattle.cmap_binary.specs.BinaryFiles as files
 use Rattle.cmap_binary.specs.BinaryFiles.{Content, declares, uses, sets_mode, sets_name, sets_collection, SegmentAt, file_of}
-use Rattle.cmap_binary.specs.Fronts.{AllOf}
+use Rattle.cmap_binary.specs.Fronts.{AllOf, RowOf}
 use Rattle.cmap_binary.specs.declared.kinds.Kind.{Kind}
 use Rattle.cmap_binary.specs.declared.kinds.Kind.TheVariants.{Cids, Texts, Base, Notdefs, Mode, Codespaces, Name, Collection}
 use Rattle.cmap_binary.specs.ColumnsSeen.{shape_seen}
@@ -46,6 +46,17 @@ Adds reads old new = Succeeds (SaysContent reads old new) (HoldsOfNone reads)
 -- the same, and where it adds nothing the file stays as it is
 abbrev pub AddsWhole : (Content → Type 0) → File → File → Result Unit (Fault Reason) → Type 0
 AddsWhole reads old new = Succeeds (SaysContent reads old new) (HoldsOfNone reads × (new ≡ old))
+
+-- n things in a row are read and no others, and the file says them, as declarations of this kind
+pub record SaysRow {A S : Type 0} (item : S → A × S → Type 0) (kind : A → Declaration) (n : ℕ) (start : S) (old new : File) : Type 0 where
+  pub entries : List A
+  pub end : S
+  pub only : IsOnly (RowOf item n start) (entries, end)
+  pub says : new ≡ with_content old (declares (map kind entries))
+
+-- a call that adds things in a row to a file
+abbrev pub AddsRow : {A S : Type 0} → (S → A × S → Type 0) → (A → Declaration) → ℕ → S → File → File → Result Unit (Fault Reason) → Type 0
+AddsRow item kind n start old new = Succeeds (SaysRow item kind n start old new) (HoldsOfNone (RowOf item n start))
 
 -- the bytes are segments in a row, which say together what the file says
 abbrev pub SegmentsSay : PrefixTables → List ℕ → File → Type 0

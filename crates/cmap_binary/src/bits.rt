@@ -17,7 +17,7 @@ pub struct Reader<'a> {
     /// Whole bytes passed.
     byte: usize,
     /// Bits taken of the next one.
-    bit: u8,
+    bit: u32,
 }
 
 impl<'a> Model for Reader<'a> {
@@ -51,7 +51,7 @@ impl<'a> Reader<'a> {
         let byte = *self.bytes.get(self.byte)?;
         let bit = byte >> (7 - self.bit) & 1;
         let next = self.bit + 1;
-        self.byte += usize::from(next / 8);
+        self.byte += (next / 8) as usize;
         self.bit = next % 8;
         Some(bit)
     }
@@ -187,9 +187,9 @@ impl<'a> Reader<'a> {
         requires { count ≤ length (bits_left self.old) }
         ensures { self.new ≡ after_bits self.old count }
     {
-        let bit = usize::from(self.bit) + usize::from(count);
-        self.byte += bit / 8;
-        self.bit = (bit % 8) as u8;
+        let bit = self.bit + u32::from(count);
+        self.byte += (bit / 8) as usize;
+        self.bit = bit % 8;
     }
 
     /// A reader at the same bit.

@@ -27,7 +27,7 @@ pub(crate) struct Columns<'b> {
     /// How many codes each entry leaves out after the end of the one before.
     deltas: Reader<'b>,
     /// How many codes more than two each entry has, where the entries are ranges.
-    counts: Option<Reader<'b>>,
+    pub(crate) counts: Option<Reader<'b>>,
     /// The first code after the entry before.
     base: u64,
     pub(crate) segment: Segment,

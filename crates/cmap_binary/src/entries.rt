@@ -1,15 +1,16 @@
 //! The entries of segments of a binary file.
 
-ghost use Rattle.cmap_binary.specs.BinaryEntries.{CidEntryAt, DestinationAt};
+ghost use Rattle.cmap_binary.specs.BinaryEntries.{BfEntryAt, CidEntryAt, DestinationAt};
 ghost use Rattle.cmap_binary.specs.BinaryFiles as files;
 ghost use Rattle.cmap_binary.specs.BinaryFiles.{SaysAs};
-ghost use Rattle.cmap_binary.specs.BinarySeen.{Adds};
+ghost use Rattle.cmap_binary.specs.BinarySeen.{Adds, AddsRow};
 ghost use Rattle.cmap_binary.specs.BundleSeen.{tables_seen};
-ghost use Rattle.cmap_binary.specs.ColumnsSeen.{cid_columns_seen, shape_seen};
+ghost use Rattle.cmap_binary.specs.ColumnsSeen.{cid_columns_seen, columns_seen, shape_seen};
 ghost use Rattle.cmap_binary.specs.Fronts.{FieldAt, RowOf};
-ghost use Rattle.cmap_files.specs.Outcomes.{Reads};
+ghost use Rattle.cmap_files.specs.Outcomes.{Finds, Reads};
 ghost use Rattle.cmap_files.specs.CodeLengths.{length_of};
 ghost use Rattle.cmap_files.specs.DeclarationsSeen.{cid_entry_seen};
+ghost use Rattle.cmap_files.specs.Files.{bf, cid};
 ghost use Rattle.cmap_files.specs.FilesSeen.{file_seen};
 ghost use Rattle.cmap_files.specs.UnitsSeen.{units_seen};
 
@@ -77,11 +78,48 @@ pub(crate) fn add_cids(
     // A count that is too great gets no more room than there are bytes.
     file.lists
         .reserve_cids(len, usize::from(count).min(payload.len()))?;
-    let mut left = CidColumns {
+    let left = CidColumns {
         columns,
         raws: payload,
         next: 0,
     };
+    add_cid_entries(tables, left, count, len, file)
+}
+
+/// Adds the next `count` entries, for codes of this length. Each length has a loop of its own, which
+/// needn't look for its list; and so have single codes of two bytes, which have no counts to hold.
+fn add_cid_entries(
+    tables: &Tables,
+    left: CidColumns<'_>,
+    count: u16,
+    len: CodeLength,
+    file: &mut File<'_>,
+) -> Result<(), Fault<Reason>>
+    ensures { AddsRow (CidEntryAt (tables_seen tables.now)) (cid (length_of len)) count
+        (cid_columns_seen left.entry) (file_seen file.old) (file_seen file.new) result }
+{
+    let singles = left.columns.counts.is_none();
+    match len {
+        CodeLength::Two if singles => add_each_cid(tables, left, count, CodeLength::Two, file),
+        CodeLength::One => add_each_cid(tables, left, count, CodeLength::One, file),
+        CodeLength::Two => add_each_cid(tables, left, count, CodeLength::Two, file),
+        CodeLength::Three => add_each_cid(tables, left, count, CodeLength::Three, file),
+        CodeLength::Four => add_each_cid(tables, left, count, CodeLength::Four, file),
+    }
+}
+
+/// Adds the next `count` entries one by one.
+#[inline(always)]
+fn add_each_cid(
+    tables: &Tables,
+    mut left: CidColumns<'_>,
+    count: u16,
+    len: CodeLength,
+    file: &mut File<'_>,
+) -> Result<(), Fault<Reason>>
+    ensures { AddsRow (CidEntryAt (tables_seen tables.now)) (cid (length_of len)) count
+        (cid_columns_seen left.entry) (file_seen file.old) (file_seen file.new) result }
+{
     for _ in 0..count {
         let range = left.next_entry(tables)?;
         file.lists.add_cid(len, range)?;
@@ -106,22 +144,61 @@ pub(crate) fn add_texts(
     let Some(count) = take_u16(&mut payload) else {
         return Err(Fault::Refused(Reason::Field(Segment::Texts)));
     };
-    let Some(mut columns) = take_columns(&mut payload, Segment::Texts, shape) else {
+    let Some(columns) = take_columns(&mut payload, Segment::Texts, shape) else {
         return Err(Fault::Refused(Reason::Field(Segment::Texts)));
     };
     file.lists
         .bfs
         .reserve(usize::from(count).min(payload.len()))?;
+    add_text_entries(alloc, tables, (columns, payload), count, fixed, file)
+}
+
+/// Adds the next `count` entries. One unit each, as nearly all have, is read in a loop of its own, and
+/// so are those of single codes.
+fn add_text_entries(
+    alloc: Global,
+    tables: &Tables,
+    left: (Columns<'_>, &[u8]),
+    count: u16,
+    fixed: Option<u8>,
+    file: &mut File<'_>,
+) -> Result<(), Fault<Reason>>
+    ensures { AddsRow (BfEntryAt (tables_seen tables.now) fixed) bf count
+        (columns_seen left.entry.0, left.entry.1.now) (file_seen file.old) (file_seen file.new) result }
+{
+    let singles = left.0.counts.is_none();
+    match fixed {
+        Some(1) if singles => add_each_text(alloc, tables, left, count, Some(1), file),
+        Some(1) => add_each_text(alloc, tables, left, count, Some(1), file),
+        _ => add_each_text(alloc, tables, left, count, fixed, file),
+    }
+}
+
+/// Adds the next `count` entries one by one.
+#[inline(always)]
+fn add_each_text(
+    alloc: Global,
+    tables: &Tables,
+    left: (Columns<'_>, &[u8]),
+    count: u16,
+    fixed: Option<u8>,
+    file: &mut File<'_>,
+) -> Result<(), Fault<Reason>>
+    ensures { AddsRow (BfEntryAt (tables_seen tables.now) fixed) bf count
+        (columns_seen left.entry.0, left.entry.1.now) (file_seen file.old) (file_seen file.new) result }
+{
+    let (mut columns, mut text) = left;
     let mut buffer = Vec::new(alloc);
     for _ in 0..count {
         let range = columns.next_range(tables)?;
-        let units = read_destination(alloc, &mut payload, fixed, &mut buffer)?;
+        let units = read_destination(alloc, &mut text, fixed, &mut buffer)?;
         file.lists.add_bf(BfRange { range, units })?;
     }
     Ok(())
 }
 
 /// The units of the destination that the text begins with.
+#[inline(always)]
 fn read_destination(
     alloc: Global,
     text: &mut &[u8],
@@ -141,7 +218,7 @@ fn read_destination(
     }
 }
 
-/// The `count` units that the text begins with. More than one are gathered in the buffer.
+/// The `count` units that the text begins with. More than two are gathered in the buffer.
 #[inline(always)]
 fn read_units(
     alloc: Global,
@@ -157,6 +234,12 @@ fn read_units(
         };
         return Ok(Units::One([unit]));
     }
+    if count == 2 {
+        let Some(units) = take_two(text) else {
+            return Err(Fault::Refused(Reason::Entry(Segment::Texts)));
+        };
+        return Ok(Units::Two(units));
+    }
     buffer.clear();
     for _ in 0..count {
         let Some(unit) = take_u16(text) else {
@@ -165,4 +248,13 @@ fn read_units(
         buffer.push(unit)?;
     }
     Ok(Units::from_slice(alloc, buffer)?)
+}
+
+/// The two units that the text begins with.
+fn take_two(text: &mut &[u8]) -> Option<[u16; 2]>
+    ensures { Finds (RowOf (FieldAt 2) 2 text.old.now) (λ units. (units, text.new.now)) result }
+{
+    let first = take_u16(text)?;
+    let second = take_u16(text)?;
+    Some([first, second])
 }

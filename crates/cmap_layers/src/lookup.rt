@@ -3,11 +3,12 @@
 ghost use Rattle.std.specs.Prelude.{◌≡◌, ◌*◌, ◌<◌, ◌≤◌, length, map, option_and_then, option_map, is_some, IfOk, IfSome, IsSomeAnd, OnErr};
 ghost use Rattle.std.specs.Option.{option_copied};
 ghost use Rattle.cmap_runs.specs.SearchLooks.{LooksAtMost};
-ghost use Rattle.cmap_tokens.specs.Texts.{only_character, text_of_characters};
+ghost use Rattle.cmap_tokens.specs.Texts.{only_character, text_at, text_of_characters};
 ghost use Rattle.cmap_tokens.specs.TextSeen.{text_seen};
 ghost use Rattle.cmap_files.specs.CodeLengths.{IsCodeLength, length_of};
 ghost use Rattle.cmap_files.specs.DeclarationsSeen.{bf_entry_seen, cid_entry_seen};
 ghost use Rattle.cmap_files.specs.Files.{of_length};
+ghost use Rattle.cmap_files.specs.UnitsSeen.{units_seen};
 ghost use Rattle.cmap_layers.specs.LayersSeen.{by_length_seen, layer_seen, layers_seen};
 ghost use Rattle.cmap_layers.specs.Lookups.{bf_at, bf_of, bf_span, cid_of, cid_span, last_bf, last_cid};
 ghost use Rattle.cmap_layers.specs.LayersDecide.{deciding_bf, layer_cid};
@@ -17,6 +18,7 @@ use crate::layers::Layer;
 use cmap_files::code_length::CodeLength;
 use cmap_files::declarations::{BfRange, ByLength, CidRange};
 use cmap_files::names::Cid;
+use cmap_files::units::Units;
 use cmap_runs::runs::{Looks, Table};
 use cmap_tokens::utf16::{BfString, one_char, text};
 use std::alloc::{AllocError, Global};
@@ -61,7 +63,24 @@ pub fn bf_of(
     let Some(found) = find_bf(layers, code, looks) else {
         return Ok(None);
     };
-    text(alloc, found.units.as_slice(), code - found.range.start)
+    text_of(alloc, found, code - found.range.start)
+}
+
+/// The text of the code at this offset from the start of the declaration. Nearly each text is one
+/// unit.
+#[inline(always)]
+fn text_of(alloc: Global, found: &BfRange, offset: u32) -> Result<Option<BfString>, AllocError>
+    ensures value { IfOk result (λ text. option_map text_seen text
+        ≡ option_map text_of_characters (text_at (units_seen found.now.units) offset)) }
+    ensures err { OnErr result (IsSomeAnd (text_at (units_seen found.now.units) offset)
+        (λ characters. 1 < length characters)) }
+{
+    if let Units::One(units) = &found.units
+        && let Some(character) = one_char(units, offset)
+    {
+        return Ok(Some(BfString::Char(character)));
+    }
+    text(alloc, found.units.as_slice(), offset)
 }
 
 /// The declaration that decides the text of a code.
@@ -111,6 +130,7 @@ fn decided_by(layer: &Layer, code: u32, len: CodeLength, looks: &mut Looks) -> O
 }
 
 /// The text of a code, where it is one character.
+#[inline(always)]
 fn character_of(table: &Table<BfRange>, code: u32, looks: &mut Looks) -> Option<char>
     ensures value { result ≡ only_character (option_and_then
         (λ entry. bf_at entry code) (last_bf (map bf_entry_seen table.now) code)) }

@@ -1,10 +1,13 @@
 pub mod BinaryDigits
 pub mod BlocksMade
+pub mod EachPlace
 pub mod FoundIndex
 pub mod LastIndex
 pub mod LieApart
 pub mod MaximalRuns
 pub mod OpenDecide
+pub mod OpenEnds
+pub mod PartsLeft
 pub mod RangesDecide
 pub mod RunsInOrder
 pub mod StartBits

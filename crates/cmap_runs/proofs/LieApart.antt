@@ -2,11 +2,11 @@
 use Rattle.std.proofs.Common.{◌≡◌, ℕ, zero, suc, ◌+◌, ◌-◌, ◌<◌, ◌≤◌, ◌^◌, List, [], ◌∷◌, ◌++◌, length, sym, ap, ◌∙◌, subst, inl, inr, arith}
 use Rattle.std.specs.Prelude.{All, map}
 use Rattle.std.specs.List.{range_with_len}
-use Rattle.std.specs.List.Sorted.{IsNonDecreasingBy, IsPermutation}
+use Rattle.std.specs.List.Sorted.{IsNonDecreasingBy}
 use Rattle.std.proofs.lemmas.Bool.{cases_lt}
-use Rattle.std.proofs.lemmas.List.{append_assoc, get_or_append_left, get_or_push, length_push, map_push}
+use Rattle.std.proofs.lemmas.List.{get_or_append_left, get_or_push, length_push, map_push}
 use Rattle.std.proofs.lemmas.List.Elements.{All-push}
-use Rattle.std.proofs.lemmas.List.Sorted.{IsNonDecreasingBy-from_all_adjacent, IsPermutation-append_comm, IsPermutation-append_right, IsPermutation-refl, IsPermutation-trans}
+use Rattle.std.proofs.lemmas.List.Sorted.{IsNonDecreasingBy-from_all_adjacent}
 use Rattle.cmap_runs.specs.DeclaredRanges.{LieApart, LieApartBefore, range_at}
 use Rattle.cmap_runs.specs.Ranges.{Span, Run}
 
@@ -41,7 +41,7 @@ pub LieApart-ascend : (ranges : List Run) → LieApart ranges → IsNonDecreasin
 LieApart-ascend ranges lie =
     IsNonDecreasingBy-from_all_adjacent (λ range. range.low) ranges (λ k d lt. omega (arith, lie.apart k d lt, (lie.filled k d (omega arith)).0))
 
--- ---- two parts, of which indices are taken by turns
+-- ---- numbers in a row
 abbrev pub from_to : ℕ → ℕ → List ℕ
 from_to first end = range_with_len first (end - first)
 
@@ -59,20 +59,3 @@ from_to_two first middle end le within =
 pub from_to_more : (first index : ℕ) → first ≤ index → from_to first (index + 1) ≡ from_to first index ++ index ∷ []
 from_to_more first index le =
     from_to_two first index (index + 1) le (omega arith) ∙ ap (λ n. from_to first index ++ range_with_len index n) (let e : index + 1 - index ≡ 1 = omega arith in e)
-
--- none was taken
-pub taken_none : (middle count : ℕ) → middle ≤ count → IsPermutation (range_with_len 0 count) (from_to 0 middle ++ from_to middle count)
-taken_none middle count le =
-    subst (IsPermutation (range_with_len 0 count))
-    (ap (range_with_len 0) (let e : count ≡ count - 0 = omega arith in e) ∙ from_to_two 0 middle count (omega arith) le) (IsPermutation-refl (range_with_len 0 count))
-
--- taken are these, and all others are left in the two parts
-pub taken_first : (all indices : List ℕ) (first next middle : ℕ) (others : List ℕ) → first ≤ next → next ≤ middle
-    → IsPermutation all (indices ++ (from_to first middle ++ others)) → IsPermutation all ((indices ++ from_to first next) ++ (from_to next middle ++ others))
-taken_first all indices first next middle others le within are =
-    subst (IsPermutation all)
-    (ap (λ part. indices ++ (part ++ others)) (from_to_two first next middle le within) ∙ ap (λ ys. indices ++ ys) (append_assoc (from_to first next) (from_to next middle) others)
-    ∙ sym (append_assoc indices (from_to first next) (from_to next middle ++ others))) are
-
-pub turned : (all indices one other : List ℕ) → IsPermutation all (indices ++ (one ++ other)) → IsPermutation all (indices ++ (other ++ one))
-turned all indices one other are = IsPermutation-trans all _ _ are (IsPermutation-append_right indices _ _ (IsPermutation-append_comm one other))

@@ -1,13 +1,13 @@
 -- The open indices tell which declaration decides a code.
-use Rattle.std.proofs.Common.{◌≡◌, ℕ, zero, suc, true, false, true≢false, ◌+◌, ◌<◌, ◌≤◌, ◌⊎◌, List, [], ◌∷◌, ◌++◌, length, get_or, take, Option, refl, sym, ap, ◌∙◌, subst, inl, inr, arith}
-use Rattle.std.specs.Prelude.{Some, None, IsSome, IfSome, All, slice_get}
+use Rattle.std.proofs.Common.{◌≡◌, ℕ, ◌+◌, ◌<◌, ◌≤◌, ◌⊎◌, List, [], ◌∷◌, ◌++◌, length, get_or, take, Option, refl, ap, ◌∙◌, subst, inl, inr, arith}
+use Rattle.std.specs.Prelude.{Some, None, All, slice_get}
 use Rattle.std.specs.List.{Contains}
 use Rattle.std.specs.List.Sorted.{IsPermutation}
 use Rattle.std.proofs.lemmas.Bool.Decides.{nat_tests}
 use Rattle.std.proofs.lemmas.Bool.{cases_lt}
 use Rattle.std.proofs.lemmas.List.Elements.{All-contains, All-push, Contains-append_cases, Contains-append_right, Contains-push_cases}
 use Rattle.std.proofs.lemmas.List.Sorted.{Contains-permutation, IsPermutation-sym}
-use Rattle.std.proofs.lemmas.List.{get_or_default, get_or-take, length-take}
+use Rattle.std.proofs.lemmas.List.{get_or-take, length-take}
 use Rattle.cmap_runs.specs.DeclaredRanges.{IsRange, AreRanges}
 use Rattle.cmap_runs.specs.OpenRanges.{IsCovered, IsGreatest, Opens, StayOpen, AreOpen}
 use Rattle.cmap_runs.specs.Ranges.{Span, Run, AreRunsBelow, joined, last_index}
@@ -58,16 +58,6 @@ first_or_later first x rest at =
       | inr later ↦ inr later
       | inl here ↦ elim (Contains-push_cases [] first x here) [ inr is ↦ inl is | inl none ↦ absurd (omega (arith, none.1)) ]
     ]
-
-pub none_left : (n : ℕ) → (0 < n → false ≡ true) → n ≡ 0
-none_left zero some = refl
-none_left (suc n) some = absurd (true≢false (sym (some (omega arith))))
-
--- what is popped is the one on top
-pub popped : (P : ℕ × ℕ → Type 0) (result : Option (ℕ × ℕ)) (top : ℕ × ℕ) (ends : List (ℕ × ℕ))
-    → IsSome result → Contains ends top → top ≡ get_or ends 0 top → IfSome result (λ x. x ≡ get_or ends 0 x) → IfSome result P → P top
-popped P None top ends some at first same holds = absurd (let e = some in cc)
-popped P (Some x) top ends some at first same holds = subst P (same ∙ sym (get_or_default ends 0 top x (omega (arith, at.1))) ∙ sym first) holds
 
 pub StayOpen-same : (ends : List (ℕ × ℕ)) (code : ℕ) → StayOpen ends ends code
 StayOpen-same ends code = record { kept = λ index last at. inr at; no_more = λ index last at. at }

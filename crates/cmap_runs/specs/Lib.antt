@@ -6,3 +6,4 @@ pub mod Blocks
 pub mod SearchLooks
 pub mod Stretches
 pub mod HeldRuns
+pub mod Parts

@@ -1,7 +1,8 @@
 -- Private aid: open ranges, those that have begun. Each is the index of its declaration with its last code.
-use Rattle.std.specs.Prelude.{◌≡◌, ℕ, ◌<◌, ◌≤◌, ◌⊎◌, List, All, Option, Some, None, slice_get}
+use Rattle.std.specs.Prelude.{◌≡◌, ℕ, ◌<◌, ◌≤◌, ◌⊎◌, List, ◌∷◌, All, Option, Some, None, length, slice_get}
 use Rattle.std.specs.BinaryHeap.{IsHeap}
 use Rattle.std.specs.List.{Contains}
+use Rattle.std.specs.List.Sorted.{IsNonDecreasingBy, IsPermutation}
 use Rattle.std.specs.Ordering.{nat_cmp, ordering_then}
 use Rattle.cmap_runs.specs.Ranges.{Run, Span}
 
@@ -37,3 +38,23 @@ pub record AreOpen (spans : List Span) (begun : List Run) (ends : List (ℕ × �
 -- a heap with the greatest index on top
 abbrev pub HasGreatestOnTop : List (ℕ × ℕ) → Type 0
 HasGreatestOnTop ends = IsHeap (λ x y. ordering_then (nat_cmp x.0 y.0) (nat_cmp x.1 y.1)) ends
+
+-- ascending indices
+abbrev pub Ascend : List (ℕ × ℕ) → Type 0
+Ascend ends = IsNonDecreasingBy (λ (range : ℕ × ℕ). range.0) ends
+
+-- one with the greatest index
+pub record IsTop (ends : List (ℕ × ℕ)) (range : ℕ × ℕ) : Type 0 where
+  pub is : Contains ends range
+  pub greatest : All (λ other. other.0 ≤ range.0) ends
+
+-- it is one with the greatest index, and is closed where it ends before the code
+pub record Closes (before after : List (ℕ × ℕ)) (code : ℕ) (range : ℕ × ℕ) : Type 0 where
+  pub top : IsTop before range
+  pub stays : code ≤ range.1 → after ≡ before
+  pub closed : range.1 < code → IsPermutation before (range ∷ after)
+
+-- where any range is open, it is one with the greatest index
+abbrev pub ClosesTop : List (ℕ × ℕ) → List (ℕ × ℕ) → ℕ → Option (ℕ × ℕ) → Type 0
+ClosesTop before after code None = (length before ≡ 0) × (after ≡ before)
+ClosesTop before after code (Some range) = Closes before after code range

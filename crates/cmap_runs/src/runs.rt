@@ -7,6 +7,7 @@ mod blocks;
 mod held;
 mod indices;
 mod looks;
+mod open;
 mod ranges;
 mod search;
 mod stretch;

@@ -41,33 +41,39 @@ const START: Search = Search {
 /// Nothing is known of the word that comes next.
 static UNKNOWN: Result<Word, Search> = Err(START);
 
-/// The word that comes next; `None` where none does.
+/// The word that comes next; `None` where none does. The two lists come as they are held, and aren't
+/// read for a word that is known.
 #[inline(always)]
 pub(super) fn next_word(
-    counts: &[u32],
-    symbols: &[u32],
+    counts: &Vec<u32>,
+    symbols: &Vec<u32>,
     known: &[Result<Word, Search>],
     reader: &Reader<'_>,
 ) -> Option<Word>
-    requires table { IsTable counts.now symbols.now }
+    requires table { IsTable counts.now.items symbols.now.items }
     requires bytes { length known.now ≡ 256 }
-    requires knows { KnowBytes counts.now symbols.now known.now }
-    ensures { FindsFirst counts.now symbols.now (bits_left reader.now) result }
+    requires knows { KnowBytes counts.now.items symbols.now.items known.now }
+    ensures { FindsFirst counts.now.items symbols.now.items (bits_left reader.now) result }
 {
-    match *look_up(known, reader) {
-        Ok(word) => Some(word),
+    match look_up(known, reader) {
+        Ok(word) => Some(*word),
         Err(search) => find_from(counts, symbols, reader.fork(), search),
     }
 }
 
 /// The word that comes next, which is looked for from there on; `None` where none does.
 #[inline(never)]
-fn find_from(counts: &[u32], symbols: &[u32], reader: Reader<'_>, start: Search) -> Option<Word>
-    requires table { IsTable counts.now symbols.now }
-    requires start { IsSearched counts.now (bits_left reader) (search_seen start) }
-    ensures { FindsFirst counts.now symbols.now (bits_left reader.entry) result }
+fn find_from(
+    counts: &Vec<u32>,
+    symbols: &Vec<u32>,
+    reader: Reader<'_>,
+    start: &Search,
+) -> Option<Word>
+    requires table { IsTable counts.now.items symbols.now.items }
+    requires start { IsSearched counts.now.items (bits_left reader) (search_seen start.now) }
+    ensures { FindsFirst counts.now.items symbols.now.items (bits_left reader.entry) result }
 {
-    find(counts, symbols, reader, start).ok()
+    find(counts, symbols, reader, *start).ok()
 }
 
 /// The word that comes next, which is looked for from there on; or how far it has been looked for,

@@ -191,7 +191,12 @@ impl<T: HasRange> Held<T> {
             ended = self.ended_before(ended, begun, code);
         }
         let left = run_count - ended;
-        Ok(Blocks { list, left })
+        let are_all = left == 0;
+        Ok(Blocks {
+            list,
+            left,
+            are_all,
+        })
     }
 
     /// The block that ends before `code`, and how many runs begin before its end. The first `begun` begin

@@ -1,10 +1,11 @@
 //! The indices of declarations, and whether their ranges lie apart.
 
-ghost use Rattle.std.specs.Prelude.{◌≡◌, ◌+◌, ◌-◌, ◌<◌, ◌≤◌, ◌^◌, true, ◌++◌, All, IfOk, IfSome, length, map};
+ghost use Rattle.std.specs.Prelude.{◌≡◌, ◌+◌, ◌-◌, ◌<◌, ◌≤◌, ◌^◌, true, ◌++◌, All, IfOk, IfSome, get_or, length, map};
 ghost use Rattle.std.specs.List.{range_with_len};
 ghost use Rattle.std.specs.List.Sorted.{IsNonDecreasingBy, IsPermutation};
 ghost use Rattle.std.specs.Vec.{vec_capacity, vec_len};
 ghost use Rattle.cmap_runs.specs.DeclaredRanges.{ArePlacesApart, LieApart, LieApartBefore, range_at};
+ghost use Rattle.cmap_runs.specs.Parts.{AreLeft, nothing_left};
 
 use super::HasRange;
 use super::ranges::{range_at, start_at};
@@ -27,8 +28,6 @@ impl Apart {
         requires room { vec_len self.old.indices + (end - first) ≤ vec_capacity self.old.indices }
         ensures begin { first ≤ result }
         ensures within { result ≤ end }
-        ensures indices { self.new.indices.items
-            ≡ self.old.indices.items ++ range_with_len first (result - first) }
         ensures len { vec_len self.new.indices ≡ vec_len self.old.indices + (result - first) }
         ensures capacity { vec_capacity self.old.indices ≤ vec_capacity self.new.indices }
         ensures apart { LieApartBefore (map T.span declarations.now) self.old.indices.items self.old.next
@@ -47,8 +46,22 @@ impl Apart {
     }
 }
 
-/// The indices of the declarations, in the order of their codes, where they are one or two parts
-/// that ascend, as single codes and then ranges do, and all ranges lie apart.
+/// The most parts that are merged without a sort.
+const MOST_PARTS: usize = 8;
+
+/// What is left of a part of a list of declarations, in which the first codes ascend.
+#[derive(Drop)]
+struct Part {
+    /// The index of the next declaration.
+    next: u32,
+    /// The index after that of the last one.
+    end: u32,
+    /// The first code of the next one; one above all codes where none is left.
+    start: u64,
+}
+
+/// The indices of the declarations, in the order of their codes, where they are a few parts that
+/// ascend, as single codes and then ranges do, and all ranges lie apart.
 pub(super) fn indices_of_parts<T: HasRange>(
     alloc: Global,
     declarations: &[T],
@@ -58,44 +71,131 @@ pub(super) fn indices_of_parts<T: HasRange>(
     ensures { IfOk result (λ indices. IfSome indices
         (λ indices. ArePlacesApart (map T.span declarations.now) indices.items)) }
 {
+    let Some(mut parts) = ascending_parts(alloc, declarations, count)? else {
+        return Ok(None);
+    };
     let indices = Vec::with_capacity(alloc, count as usize)?;
     let mut apart = Apart { indices, next: 0 };
-    let middle = part_end(declarations, count);
-    let (mut first, mut second) = (0, middle);
-    while first < middle || second < count {
-        let (old_first, old_second) = (first, second);
-        let limit = start_before(declarations, second, count);
-        first = apart.add_part(declarations, first, middle, limit);
-        let limit = start_before(declarations, first, middle);
-        second = apart.add_part(declarations, second, count, limit);
-        if first == old_first && second == old_second {
+    while let Some((first, end, limit)) = first_part(parts.as_slice()) {
+        let next = apart.add_part(declarations, first, end, limit);
+        if next == first {
             return Ok(None);
         }
+        let start = start_before(declarations, next, end);
+        parts[0] = Part { next, end, start };
+        move_first(&mut parts);
+    }
+    if apart.indices.len() != declarations.len() {
+        return Ok(None);
     }
     Ok(Some(apart.indices))
 }
 
-/// Where the first part ends, in which the first codes ascend.
-fn part_end<T: HasRange>(declarations: &[T], count: u32) -> u32
+/// The parts in which the first codes ascend, in the order of their first codes; `None` where they are
+/// too many.
+fn ascending_parts<T: HasRange>(
+    alloc: Global,
+    declarations: &[T],
+    count: u32,
+) -> Result<Option<Vec<Part>>, AllocError>
     requires { count ≡ length declarations.now }
-    ensures { result ≤ count }
+    ensures { IfOk result (λ parts. IfSome parts (λ parts. AreLeft parts.items count)) }
 {
-    let mut from = 0;
-    for index in 0..count {
-        let start = range_at(declarations, index).low;
-        if start < from {
-            return index;
+    let mut parts = Vec::new(alloc);
+    let mut first = 0;
+    while first < count {
+        if parts.len() == MOST_PARTS {
+            return Ok(None);
         }
-        from = start;
+        let (next, end) = (first, part_end(declarations, first, count));
+        let start = start_before(declarations, next, end);
+        parts.insert(0, Part { next, end, start })?;
+        move_first(&mut parts);
+        first = end;
     }
-    count
+    Ok(Some(parts))
+}
+
+/// What is left of the first part, and the first code of the part after it; `None` where nothing is
+/// left.
+fn first_part(parts: &[Part]) -> Option<(u32, u32, u64)>
+    ensures { IfSome result (λ first. (0 < length parts.now)
+        × (first.0 ≡ (get_or parts.now 0 nothing_left).next)
+        × (first.1 ≡ (get_or parts.now 0 nothing_left).end)) }
+{
+    let part = parts.first()?;
+    if part.start == u64::MAX {
+        return None;
+    }
+    let limit = match parts.get(1) {
+        Some(other) => other.start,
+        None => u64::MAX,
+    };
+    Some((part.next, part.end, limit))
+}
+
+/// Moves the first part behind all those whose first codes are less.
+#[inline(always)]
+fn move_first(parts: &mut Vec<Part>)
+    ensures { IsPermutation parts.old.items parts.new.items }
+{
+    move_first_of(parts.as_mut_slice());
+}
+
+#[inline(always)]
+fn move_first_of(parts: &mut [Part])
+    ensures { IsPermutation parts.old parts.new }
+{
+    for at in 1..parts.len() {
+        if parts[at - 1].start <= parts[at].start {
+            return;
+        }
+        parts.swap(at - 1, at);
+    }
+}
+
+/// Where the part that begins at `first` ends, in which the first codes ascend.
+fn part_end<T: HasRange>(declarations: &[T], first: u32, count: u32) -> u32
+    requires first { first < count }
+    requires count { count ≡ length declarations.now }
+    ensures { (first < result) × (result ≤ count) }
+{
+    let mut end = end_by_fours(declarations, first + 1, count);
+    while end < count && ascends(declarations, end) {
+        end += 1;
+    }
+    end
+}
+
+/// How far first codes are seen to ascend, where four are looked at together.
+fn end_by_fours<T: HasRange>(declarations: &[T], from: u32, count: u32) -> u32
+    requires from { (0 < from) × (from ≤ count) }
+    requires count { count ≡ length declarations.now }
+    ensures { (from ≤ result) × (result ≤ count) }
+{
+    let mut end = from;
+    while count - end >= 4
+        && ascends(declarations, end)
+        && ascends(declarations, end + 1)
+        && ascends(declarations, end + 2)
+        && ascends(declarations, end + 3)
+    {
+        end += 4;
+    }
+    end
+}
+
+/// Whether the range at `index` begins no earlier than the one before.
+fn ascends<T: HasRange>(declarations: &[T], index: u32) -> bool
+    requires before { 0 < index }
+    requires within { index < length declarations.now }
+{
+    range_at(declarations, index - 1).low <= range_at(declarations, index).low
 }
 
 /// The first code of the range at `index`, where this is before `end`, else one above all codes.
 fn start_before<T: HasRange>(declarations: &[T], index: u32, end: u32) -> u64
     requires { end ≤ length declarations.now }
-    ensures before { index < end → result ≡ (range_at (map T.span declarations.now) index).low }
-    ensures at_end { end ≤ index → 2 ^ 32 ≤ result }
 {
     if index < end {
         u64::from(range_at(declarations, index).low)

@@ -31,8 +31,8 @@ pub(super) fn find_index<T: HasRange>(
 {
     match blocks.block(code) {
         Some(block) => index_of_last(held, block.begun_by(code), code, looks),
-        None if blocks.left == 0 => None,
-        None => find_among_last(held, blocks.left, code, looks),
+        None if blocks.are_all => None,
+        None => find_among_last(held, blocks, code, looks),
     }
 }
 
@@ -65,19 +65,19 @@ fn index_of_last<T: HasRange>(
     Some(last.index)
 }
 
-/// The index of the declaration of the run that holds `code`, by halving. Only the last runs, as many as
-/// `left`, may.
+/// The index of the declaration of the run that holds `code`, by halving. Only the runs that are left
+/// after the blocks may.
 #[inline(never)]
 fn find_among_last<T: HasRange>(
     held: &Held<T>,
-    left: usize,
+    blocks: &Blocks,
     code: u32,
     looks: &mut Looks,
 ) -> Option<usize>
     requires order { IsInOrder held.now.runs }
-    requires within { left ≤ length held.now.runs }
+    requires within { blocks.now.left ≤ length held.now.runs }
     requires before { AllWithin (λ run. run.high < code) held.now.runs 0
-        (length held.now.runs - left) }
+        (length held.now.runs - blocks.now.left) }
     ensures none { IfNone result (All (λ run. ¬ (Holds code run)) held.now.runs) }
     ensures found { IfSome result
         (λ index. Any (λ run. Holds code run × (run.index ≡ index)) held.now.runs) }
@@ -87,7 +87,7 @@ fn find_among_last<T: HasRange>(
     ensures declarations { looks.new.declarations ≡ looks.old.declarations }
 {
     let mut high = held.run_count();
-    let mut low = high - left;
+    let mut low = high - blocks.left;
     while low < high {
         let middle = low + (high - low) / 2;
         let candidate = held.run(middle, looks);

@@ -1,19 +1,18 @@
 //! The runs of declarations, by one sweep over the codes.
 
 ghost use Rattle.std.specs.Prelude.{◌≡◌, ℕ, ◌+◌, ◌-◌, ◌*◌, ◌<◌, ◌≤◌, ◌^◌, List, Option, IfOk, OnOk, length, map};
-ghost use Rattle.std.specs.BinaryHeap.{heap_items, heap_len};
 ghost use Rattle.std.specs.List.Sorted.{IsNonDecreasingBy};
 ghost use Rattle.cmap_runs.specs.DeclaredRanges.{AreRanges};
 ghost use Rattle.cmap_runs.specs.HeldRuns.{indices_within, runs_held};
-ghost use Rattle.cmap_runs.specs.OpenRanges.{HasGreatestOnTop, IsGreatest, Opens, StayOpen};
+ghost use Rattle.cmap_runs.specs.OpenRanges.{IsGreatest, StayOpen};
 ghost use Rattle.cmap_runs.specs.Ranges.{AreRunsBelow, Span, runs_of};
 
 use super::HasRange;
 use super::held::{Run, RunList, Runs};
 use super::indices::{are_apart, indices_in_order, indices_of_parts};
+use super::open::OpenRanges;
 use super::ranges::{ranges_at, ranges_of};
 use std::alloc::{AllocError, Global};
-use std::collections::BinaryHeap;
 
 /// How many codes there are.
 const CODE_COUNT: u64 = 1 << 32;
@@ -60,63 +59,37 @@ fn sweep(alloc: Global, ranges: &[Run]) -> Result<Runs, AllocError>
     ensures few { IfOk result (λ runs. length runs ≤ 2 * length ranges.now - 1) }
 {
     let mut runs = Runs::new(alloc);
-    let mut ends = BinaryHeap::new(alloc);
+    let mut ends = OpenRanges::new(alloc);
     let mut from = 0;
     for range in ranges {
         let next = u64::from(range.low);
         if from < next {
             add_runs(&mut runs, &mut ends, from, next)?;
         }
-        open_range(&mut ends, range)?;
+        ends.open(range)?;
         from = next;
     }
     add_runs(&mut runs, &mut ends, from, CODE_COUNT)?;
     Ok(runs)
 }
 
-/// Opens the range, unless one with a greater index that ends no earlier is open, so that this one
-/// decides no code.
-fn open_range(ends: &mut BinaryHeap<(usize, u32)>, range: &Run) -> Result<(), AllocError>
-    requires { HasGreatestOnTop (heap_items ends.old) }
-    ensures heap { OnOk result (HasGreatestOnTop (heap_items ends.new)) }
-    ensures opens { OnOk result (Opens (heap_items ends.old) (heap_items ends.new) range.now) }
-    ensures few { OnOk result (heap_len ends.new ≤ heap_len ends.old + 1) }
-{
-    if let Some((index, last)) = ends.peek()
-        && range.index < *index
-        && range.high <= *last
-    {
-        return Ok(());
-    }
-    ends.push((range.index, range.high))?;
-    Ok(())
-}
-
 /// Adds the runs of the codes from `from` on and before `to`. The greatest index of an open range
 /// decides a code. `ends` has each with its last code, and those that have ended are closed on the
 /// way.
-fn add_runs(
-    runs: &mut Runs,
-    ends: &mut BinaryHeap<(usize, u32)>,
-    from: u64,
-    to: u64,
-) -> Result<(), AllocError>
+fn add_runs(runs: &mut Runs, ends: &mut OpenRanges, from: u64, to: u64) -> Result<(), AllocError>
     requires order { from ≤ to }
     requires codes { to ≤ 2 ^ 32 }
-    requires heap { HasGreatestOnTop (heap_items ends.old) }
     ensures runs { OnOk result ((decides : ℕ → Option ℕ)
-        → ((code : ℕ) → from ≤ code → code < to
-        → IsGreatest (heap_items ends.old) code (decides code))
+        → ((code : ℕ) → from ≤ code → code < to → IsGreatest ends.old code (decides code))
         → AreRunsBelow decides from runs.old → AreRunsBelow decides to runs.new) }
-    ensures heap { OnOk result (HasGreatestOnTop (heap_items ends.new)) }
-    ensures stay { OnOk result (StayOpen (heap_items ends.old) (heap_items ends.new) to) }
-    ensures fewer { OnOk result (heap_len ends.new ≤ heap_len ends.old) }
-    ensures few { OnOk result (length runs.new + (heap_len ends.new - 1)
-        ≤ length runs.old + heap_len ends.old) }
+    ensures stay { OnOk result (StayOpen ends.old ends.new to) }
+    ensures fewer { OnOk result (length ends.new ≤ length ends.old) }
+    ensures few { OnOk result (length runs.new + (length ends.new - 1)
+        ≤ length runs.old + length ends.old) }
 {
     let mut from = from;
-    while let Some((index, last)) = ends.peek() {
-        let (index, last) = (*index, u64::from(*last));
+    while let Some((index, last)) = ends.close_before(to) {
+        let last = u64::from(last);
         if last >= to {
             if from < to {
                 runs.add(from as u32, (to - 1) as u32, index)?;
@@ -127,7 +100,6 @@ fn add_runs(
             runs.add(from as u32, last as u32, index)?;
             from = last + 1;
         }
-        let _ = ends.pop();
     }
     Ok(())
 }

@@ -8,10 +8,9 @@ use Rattle.cmap_binary.specs.Bundles.{PrefixTables}
 use Rattle.cmap_binary.specs.BinaryEntries.{Shape, CidsOf, CidEntriesOf}
 use Rattle.cmap_binary.specs.BundleSeen.{tables_seen}
 use Rattle.cmap_binary.specs.ColumnsSeen.{shape_seen}
-use Rattle.cmap_files.proofs.Outcomes.{passed_on}
 use Rattle.cmap_binary.proofs.Fronts.{gives, then_none, then_next, then_only}
 use Rattle.cmap_binary.proofs.Reading.{made_none, made_only}
-use Rattle.cmap_binary.proofs.RowsAdded.{with_lists, adds_none, adds_start, adds_more, adds_wrong, adds_end}
+use Rattle.cmap_binary.proofs.RowsAdded.{with_lists, adds_none, in_words}
 use Rattle.cmap_binary.proofs.entries.add_cids.Goals as goal
 
 -- of some entries the columns are read
@@ -28,20 +27,15 @@ returns-then-count-eq0 c = (record { content = _; only = made_only (then_only _ 
 pub returns-in_default-take_columns : goal.returns-in_default-take_columns
 returns-in_default-take_columns c = (tt, made_none (then_next _ c.in-Some.ensures (rw (some_cids _ _ c.in-Some.count _ (omega arith)) (then_none _ _ c.in_default-take_columns.ensures))))
 
-pub loop-init : goal.loop-init
-loop-init c = adds_start _ _ _ _ _
-
-pub returns-in_err-range : goal.returns-in_err-range
-returns-in_err-range c =
-    passed_on _ _ _ c.from_residual-in_err-range.ensures.1 c.in_err-range.ensures.1
-    (λ reason none. made_none (then_next _ c.in-Some.ensures (rw (some_cids _ _ c.in-Some.count _ (omega arith)) (then_next _ c.in-Some-take_columns.ensures (then_none _ _
-    (adds_wrong c.loop.invariant (omega arith) none))))))
-
-pub loop-preserved : goal.loop-preserved
-loop-preserved c = adds_more c.loop.invariant _ (omega arith) c.in_ok-range.ensures.0 (rw c.in_ok-add_cid.ensures.added refl)
-
 pub returns : goal.returns
 returns c =
-    let has = c.loop.invariant in
-    let only = then_only _ c.in-Some-take_columns.ensures (then_only _ (adds_end has (omega arith)) gives) in
-    (record { content = _; only = made_only (then_only _ c.in-Some.ensures (rw (some_cids (tables_seen c.args.tables.now) (shape_seen c.args.shape) c.in-Some.count c.take_u16.new.text.now (omega arith)) only)); says = has.says ∙ ap (λ lists. with_content (with_lists (file_seen c.args.file.now) lists) (declares (map (cid (length_of c.args.len)) has.entries))) c.reserve_cids.ensures.same }, tt)
+    let tables = tables_seen c.args.tables.now in let shape = shape_seen c.args.shape in let len = length_of c.args.len in
+    in_words c.add_cid_entries.result c.add_cid_entries.ensures
+    (λ row.
+    let only = then_only _ c.in-Some-take_columns.ensures (then_only _ row.only gives) in
+    record {
+      content = _;
+      only = made_only (then_only _ c.in-Some.ensures (rw (some_cids tables shape c.in-Some.count c.take_u16.new.text.now (omega arith)) only));
+      says = row.says ∙ ap (λ lists. with_content (with_lists (file_seen c.args.file.now) lists) (declares (map (cid len) row.entries))) c.reserve_cids.ensures.same;
+    })
+    (λ none. made_none (then_next _ c.in-Some.ensures (rw (some_cids tables shape c.in-Some.count _ (omega arith)) (then_next _ c.in-Some-take_columns.ensures (then_none _ _ none)))))

@@ -1,8 +1,6 @@
-use Rattle.std.proofs.Common.{arith, refl}
-use Rattle.cmap_files.proofs.Outcomes.{passed_on}
 use Rattle.cmap_binary.proofs.Fronts.{gives, then_none, then_next, then_only}
 use Rattle.cmap_binary.proofs.Reading.{made_none, made_only}
-use Rattle.cmap_binary.proofs.RowsAdded.{adds_start, adds_more, adds_wrong, adds_end}
+use Rattle.cmap_binary.proofs.RowsAdded.{in_words}
 use Rattle.cmap_binary.proofs.entries.add_texts.Goals as goal
 
 pub returns-in_default : goal.returns-in_default
@@ -11,27 +9,12 @@ returns-in_default c = (tt, made_none (then_none _ _ c.in_default.ensures))
 pub returns-in_default-take_columns : goal.returns-in_default-take_columns
 returns-in_default-take_columns c = (tt, made_none (then_next _ c.in-Some.ensures (then_none _ _ c.in_default-take_columns.ensures)))
 
-pub loop-init : goal.loop-init
-loop-init c = adds_start _ _ _ _ _
-
-pub returns-in_err-range : goal.returns-in_err-range
-returns-in_err-range c =
-    passed_on _ _ _ c.from_residual-in_err-range.ensures.1 c.in_err-range.ensures.next.1
-    (λ reason none. made_none (then_next _ c.in-Some.ensures (then_next _ c.in-Some-take_columns.ensures (then_none _ _
-    (adds_wrong c.loop.invariant (omega arith) (then_none _ _ none))))))
-
-pub returns-in_err-units : goal.returns-in_err-units
-returns-in_err-units c =
-    passed_on _ _ _ c.from_residual-in_err-units.ensures.1 c.in_err-units.ensures.1
-    (λ reason none. made_none (then_next _ c.in-Some.ensures (then_next _ c.in-Some-take_columns.ensures (then_none _ _
-    (adds_wrong c.loop.invariant (omega arith) (then_next _ c.in_ok-range.ensures.next.0 (then_none _ _ none)))))))
-
-pub loop-preserved : goal.loop-preserved
-loop-preserved c =
-    adds_more c.loop.invariant _ (omega arith) (then_only _ c.in_ok-range.ensures.next.0 (then_only _ c.in_ok-units.ensures.0 gives))
-    (rw c.in_ok-add_bf.ensures.added refl)
-
 pub returns : goal.returns
 returns c =
-    let has = c.loop.invariant in
-    (record { content = _; only = made_only (then_only _ c.in-Some.ensures (then_only _ c.in-Some-take_columns.ensures (then_only _ (adds_end has (omega arith)) gives))); says = rw c.reserve.ensures.items at has.says }, tt)
+    in_words c.add_text_entries.result c.add_text_entries.ensures
+    (λ row. record {
+      content = _;
+      only = made_only (then_only _ c.in-Some.ensures (then_only _ c.in-Some-take_columns.ensures (then_only _ row.only gives)));
+      says = rw c.reserve.ensures.items at row.says;
+    })
+    (λ none. made_none (then_next _ c.in-Some.ensures (then_next _ c.in-Some-take_columns.ensures (then_none _ _ none))))

@@ -17,3 +17,6 @@ returns-in_default c = (tt, row_wrong (FieldAt 2) c.args.count c.args.text.now.n
 
 pub returns-in_default-take_u16 : goal.returns-in_default-take_u16
 returns-in_default-take_u16 c = (tt, row_wrong _ _ _ _ _ _ c.loop.invariant (omega arith) c.in_default-take_u16.ensures)
+
+pub returns-in_default-take_two : goal.returns-in_default-take_two
+returns-in_default-take_two c = (tt, rw c.if-count-eq2.true c.in_default-take_two.ensures)

@@ -14,4 +14,4 @@ found counts symbols stream (Ok word) known none = rw append-nil at (known [])
 found counts symbols stream (Err search) known none = none
 
 pub returns : goal.returns
-returns c = rw c.ok.ensures.value (found c.args.counts.now c.args.symbols.now (bits_left c.args.reader) c.find.result c.find.ensures.known c.find.ensures.none)
+returns c = rw c.ok.ensures.value (found c.args.counts.now.items c.args.symbols.now.items (bits_left c.args.reader) c.find.result (rw (c.deref.ensures.value, c.deref-2.ensures.value) at c.find.ensures.known) (rw c.deref.ensures.value at c.find.ensures.none))

@@ -8,8 +8,8 @@ use Rattle.cmap_runs.proofs.runs.search.find_among_last.Goals as goal
 pub loop-low-init : goal.loop-low-init
 loop-low-init g c =
     let number = length c.args.held.now.runs in let count = c.run_count-high.result in
-    let left : count - (count - c.args.left) ≡ c.args.left = omega (arith, c.requires.within) in
-    let fewer : digits c.args.left ≤ digits number = digits_least c.args.left (digits number) (omega (arith, c.requires.within, digits_room number)) in
+    let left : count - (count - c.args.blocks.now.left) ≡ c.args.blocks.now.left = omega (arith, c.requires.within) in
+    let fewer : digits c.args.blocks.now.left ≤ digits number = digits_least c.args.blocks.now.left (digits number) (omega (arith, c.requires.within, digits_room number)) in
     record {
       within = omega arith;
       below = λ k d le lt. c.requires.before k d le (omega (arith, lt));

@@ -1,5 +1,4 @@
 use Rattle.std.proofs.Common.{◌≡◌, ℕ, ◌+◌, ◌-◌, ◌≤◌, ◌<◌, ◌^◌, [], ◌∷◌, ◌++◌, Option, get_or, length, take, sym, ap, ◌∙◌, subst, arith}
-use Rattle.std.specs.BinaryHeap.{heap_items, heap_len}
 use Rattle.std.proofs.lemmas.List.{get_or_read, take_more}
 use Rattle.cmap_runs.specs.DeclaredRanges.{IsRange}
 use Rattle.cmap_runs.specs.OpenRanges.{AreOpen, IsGreatest, Opens, StayOpen}
@@ -18,7 +17,7 @@ loop-range-preserved c =
     let low : (d : Run) → next ≡ (get_or ranges i d).low = λ d. c.from-next.ensures ∙ ap (λ (r : Run). r.low) (is d) in
     let le : from ≤ next = omega (arith, c.loop-range.invariant.later i range (omega arith) lt, low range) in
     let later : (k : ℕ) (d : Run) → i ≤ k → k < length ranges → next ≤ (get_or ranges k d).low = λ k d from_here within. omega (arith, low d, c.requires i k d from_here within) in
-    let before = heap_items c.loop-range.ends in let now = heap_items c.if-from-next.ends in
+    let before = c.loop-range.ends in let now = c.if-from-next.ends in
     let stay : StayOpen before now next =
     elim c.if-from-next.branch [
       | then-from-next+in_ok-add_runs w ↦ rw w.ends-is w.in_ok-add_runs.ensures.stay
@@ -32,7 +31,7 @@ loop-range-preserved c =
       | else-from-next w ↦ λ decides greatest were. let same : from ≡ next = omega (arith, w.if-from-next.false) in rw w.runs-is (subst (λ n. AreRunsBelow decides n c.loop-range.runs) same were)
     ]
     in
-    let few : (length c.if-from-next.runs + (heap_len c.if-from-next.ends - 1) ≤ length c.loop-range.runs + heap_len c.loop-range.ends) × (heap_len c.if-from-next.ends ≤ heap_len c.loop-range.ends) =
+    let few : (length c.if-from-next.runs + (length c.if-from-next.ends - 1) ≤ length c.loop-range.runs + length c.loop-range.ends) × (length c.if-from-next.ends ≤ length c.loop-range.ends) =
     elim c.if-from-next.branch [
       | then-from-next+in_ok-add_runs w ↦ rw (w.runs-is, w.ends-is) (w.in_ok-add_runs.ensures.few, w.in_ok-add_runs.ensures.fewer)
       | else-from-next w ↦ rw (w.runs-is, w.ends-is) (omega arith, omega arith)
@@ -43,12 +42,11 @@ loop-range-preserved c =
       limit = omega arith;
       are = λ spans are.
           let old = c.loop-range.invariant.are spans are in (
-            subst (λ begun. AreOpen spans begun (heap_items c.open_range.new.ends) next) (sym (take_more ranges i range lt ∙ ap (λ r. take i ranges ++ r ∷ []) (sym (is range))))
-                (AreOpen-push range next old.0 le stay (subst (IsRange spans) (sym (is range)) (are.each i range lt)) (omega arith) (subst (Opens now (heap_items c.open_range.new.ends)) (sym c.range.view_is) c.in_ok-open_range.ensures.opens)),
+            subst (λ begun. AreOpen spans begun c.open.new.self next) (sym (take_more ranges i range lt ∙ ap (λ r. take i ranges ++ r ∷ []) (sym (is range))))
+                (AreOpen-push range next old.0 le stay (subst (IsRange spans) (sym (is range)) (are.each i range lt)) (omega arith) (subst (Opens now c.open.new.self) (sym c.range.view_is) c.in_ok-open.ensures.opens)),
             more (last_index spans) (decides_open i next are old.0 later) old.1,
           );
-      heap = c.in_ok-open_range.ensures.heap;
-      few = omega (arith, c.in_ok-open_range.ensures.few, few);
+      few = omega (arith, c.in_ok-open.ensures.few, few);
     }
 
 pub returns-clause-runs : goal.returns-clause-runs

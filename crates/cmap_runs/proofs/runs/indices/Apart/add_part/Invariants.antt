@@ -1,12 +1,10 @@
-use Rattle.std.proofs.Common.{◌≡◌, ◌+◌, ◌-◌, ◌≤◌, ◌++◌, map}
-use Rattle.std.specs.List.{range_with_len}
+use Rattle.std.proofs.Common.{◌≡◌, ◌+◌, ◌-◌, ◌≤◌, map}
 use Rattle.std.specs.Vec.{vec_capacity, vec_len}
 use Rattle.cmap_runs.specs.DeclaredRanges.{LieApartBefore}
 use Rattle.cmap_runs.proofs.runs.indices.Apart.add_part.Given as goal
 
 abbrev pub invariant-loop-index : goal.invariant-loop-index
 invariant-loop-index g l = record {
-  indices : l.self.indices.items ≡ l.fn.self.indices.items ++ range_with_len l.first (l.index - l.first);
   len : vec_len l.self.indices ≡ vec_len l.fn.self.indices + (l.index - l.first);
   capacity : vec_capacity l.fn.self.indices ≤ vec_capacity l.self.indices;
   apart : LieApartBefore (map g.T.HasRange.span l.declarations) l.fn.self.indices.items l.fn.self.next → LieApartBefore (map g.T.HasRange.span l.declarations) l.self.indices.items l.self.next;

@@ -1,0 +1,31 @@
+use Rattle.std.proofs.Common.{ℕ, ◌-◌, ◌<◌, ◌≤◌, List, get_or, length, ◌++◌, sym, subst}
+use Rattle.std.specs.BinaryHeap.{heap_items}
+use Rattle.cmap_runs.specs.OpenRanges.{Ascend, Opens}
+use Rattle.cmap_runs.specs.Ranges.{Run}
+use Rattle.cmap_runs.proofs.OpenDecide.{Opens-push}
+use Rattle.cmap_runs.proofs.OpenEnds.{Ascend-push, one_more_in_heap, one_more_on_stack}
+use Rattle.cmap_runs.proofs.runs.open.OpenRanges.open.Goals as goal
+
+pub invariant_of-self : goal.invariant_of-self
+invariant_of-self c =
+    let stack = c.self.inside.stack.items in let range : ℕ × ℕ = (c.range.inside.index, c.range.inside.high) in
+    let more = Ascend-push stack range c.self.invariant.0 (subst (λ (xs : List (ℕ × ℕ)). (d : ℕ × ℕ) → 0 < length xs → (get_or xs (length xs - 1) d).0 ≤ range.0) c.as_slice.ensures.value (c.comes_last.ensures c.if-comes_last.true)) in
+    (subst Ascend (sym c.in_ok-push.ensures.items) more, c.self.invariant.1)
+
+pub returns-in_ok-push-clause-opens : goal.returns-in_ok-push-clause-opens
+returns-in_ok-push-clause-opens c =
+    let stack = c.self.inside.stack.items in let heap = heap_items c.self.inside.heap in
+    let range : Run = record { low = c.range.inside.low; high = c.range.inside.high; index = c.range.inside.index } in
+    subst (λ before. Opens before (c.push.new.self.items ++ heap) c.args.range.now) c.self.view_is
+    (subst (Opens (stack ++ heap) (c.push.new.self.items ++ heap)) c.range.view_is
+    (Opens-push (stack ++ heap) (c.push.new.self.items ++ heap) range
+    (rw c.in_ok-push.ensures.items (one_more_on_stack stack heap (range.index, range.high)))))
+
+pub returns-in_ok-push-2-clause-opens : goal.returns-in_ok-push-2-clause-opens
+returns-in_ok-push-2-clause-opens c =
+    let stack = c.self.inside.stack.items in let heap = heap_items c.self.inside.heap in let after = heap_items c.push-else-comes_last.new.self in
+    let range : Run = record { low = c.range.inside.low; high = c.range.inside.high; index = c.range.inside.index } in
+    subst (λ before. Opens before (stack ++ after) c.args.range.now) c.self.view_is
+    (subst (Opens (stack ++ heap) (stack ++ after)) c.range.view_is
+    (Opens-push (stack ++ heap) (stack ++ after) range
+    (one_more_in_heap stack heap after (range.index, range.high) c.in_ok-push-2.ensures.permutation)))

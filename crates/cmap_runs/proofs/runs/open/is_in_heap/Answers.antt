@@ -1,0 +1,27 @@
+use Rattle.std.proofs.Common.{◌<◌, ◌≤◌, ℕ, nat_cmp, refl, ap, sym, arith}
+use Rattle.std.specs.Prelude.{All}
+use Rattle.std.specs.BinaryHeap.{heap_items}
+use Rattle.std.proofs.lemmas.Bool.Decides.{nat_tests}
+use Rattle.std.proofs.lemmas.List.Sorted.{first_le_from_greatest}
+use Rattle.cmap_runs.proofs.OpenEnds.{Ascend-top}
+use Rattle.cmap_runs.proofs.runs.open.is_in_heap.Goals as goal
+
+pub returns-in-Some-last-clause-heap : goal.returns-in-Some-last-clause-heap
+returns-in-Some-last-clause-heap c = λ less range top k d within.
+    let on_stack = c.in-Some-last.field-0.now in let in_heap = c.in-Some.field-0.now in
+    let last = Ascend-top c.args.stack.now on_stack c.requires.stack (sym c.in-Some-last.ensures.value) in
+    let first : in_heap.0 ≤ range.0 = omega (arith, top.greatest 0 in_heap (omega (arith, c.args.heap.now.data.ok.0, c.in-Some.ensures.variant.0 refl)), ap (λ (r : ℕ × ℕ). r.0) c.in-Some.ensures.lookup) in
+    let under : on_stack.0 < in_heap.0 = grind (arith, nat_tests, less) in
+    omega (arith, last.greatest k d within, first, under)
+
+pub returns-in-Some-last-clause-stack : goal.returns-in-Some-last-clause-stack
+returns-in-Some-last-clause-stack c = λ no_less range top k d within.
+    let on_stack = c.in-Some-last.field-0.now in let in_heap = c.in-Some.field-0.now in
+    let above : All (λ (other : ℕ × ℕ). other.0 ≤ in_heap.0) (heap_items c.args.heap.now) =
+    first_le_from_greatest nat_cmp in_heap (heap_items c.args.heap.now) (c.in-Some.ensures.greatest c.requires.heap)
+    in
+    let last = Ascend-top c.args.stack.now on_stack c.requires.stack (sym c.in-Some-last.ensures.value) in
+    let at = last.is in
+    let over : on_stack.0 ≤ range.0 = omega (arith, top.greatest at.0 on_stack at.1, ap (λ (r : ℕ × ℕ). r.0) at.2) in
+    let under : in_heap.0 ≤ on_stack.0 = grind (arith, nat_tests, no_less) in
+    omega (arith, above k d within, over, under)
