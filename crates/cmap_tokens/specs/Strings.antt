@@ -83,3 +83,7 @@ pub record IsOnlyValue (piece value : List ℕ) : Type 0 where
 -- the piece stands for two bytes alone, and they write this number, the high one first
 abbrev pub WritesTwoBytes : List ℕ → ℕ → Type 0
 WritesTwoBytes piece number = (value : List ℕ) × IsOnlyValue piece value × AllByRecursion (λ b. b < 2 ^ 8) value × (length value ≡ 2) × (number ≡ number_from_digits 256 value)
+
+-- the piece stands for so many bytes alone, and they write this number, the high one first
+abbrev pub WritesBytes : List ℕ → ℕ → ℕ → Type 0
+WritesBytes piece count number = (value : List ℕ) × IsOnlyValue piece value × AllByRecursion (λ b. b < 2 ^ 8) value × (count ≡ length value) × (number ≡ number_from_digits 256 value)
