@@ -106,6 +106,10 @@ pub(crate) fn add_bf_range<'d>(
     ensures stays { WhereRefused (lists_seen lists.new ≡ lists_seen lists.old) result }
 {
     let end = reader.next_code()?;
+    if let Some(units) = reader.plain_destination() {
+        add_text(lists, start.number, end.number, units)?;
+        return Ok(());
+    }
     let token = reader.required_token()?;
     if is_executable(&token, b"[") {
         return add_list(reader, start.number, end.number, lists);

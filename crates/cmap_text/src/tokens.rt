@@ -103,14 +103,20 @@ impl<'d> TokenReader<'d> {
         code_of(&self.string).ok_or(wrong(Reason::CodeLength, token))
     }
 
-    /// The code of two bytes that comes next, where it stands as most do; `None` of any other token.
+    /// The code that comes next, where it stands as most do; `None` of any other token.
+    #[inline(always)]
     pub(crate) fn plain_code(&mut self) -> Option<Code>
         ensures { MatchOption result (self.new ≡ self.old) (λ code. (piece : List ℕ)
             × (token_in self.old ≡ Ok (String piece, self.new))
             × (code_in (String piece) ≡ Some (code_seen code))) }
     {
-        let number = u32::from(self.scanner.next_two_bytes()?);
-        let len = CodeLength::Two;
+        if let Some(number) = self.scanner.next_two_bytes() {
+            let number = u32::from(number);
+            let len = CodeLength::Two;
+            return Some(Code { len, number });
+        }
+        let (count, number) = self.scanner.next_pairs()?;
+        let len = CodeLength::of(count)?;
         Some(Code { len, number })
     }
 
@@ -145,14 +151,29 @@ impl<'d> TokenReader<'d> {
         Ok(Units::from_slice(self.alloc, &units)?)
     }
 
+    /// The units of the destination that comes next, where it stands as most do; `None` of any other
+    /// token.
+    #[inline(always)]
+    pub(crate) fn plain_destination(&mut self) -> Option<Units>
+        ensures { MatchOption result (self.new ≡ self.old) (λ units. (piece : List ℕ)
+            × (token_in self.old ≡ Ok (String piece, self.new))
+            × (destination_in (String piece) ≡ Some (units_seen units))) }
+    {
+        if let Some(number) = self.scanner.next_two_bytes() {
+            return Some(units_of_number(2, u32::from(number)));
+        }
+        let (count, number) = self.scanner.next_pairs()?;
+        Some(units_of_number(count, number))
+    }
+
     /// The units of the destination that comes next.
     #[inline(always)]
     pub(crate) fn next_destination(&mut self) -> Result<Units, Fault<WrongToken<'d>>>
         ensures { ReadsAs (run next_destination self.old)
             (λ units. (units_seen units, self.new)) self.new result }
     {
-        if let Some(number) = self.scanner.next_two_bytes() {
-            return Ok(units_of_number(2, u32::from(number)));
+        if let Some(units) = self.plain_destination() {
+            return Ok(units);
         }
         let token = self.required_token()?;
         self.destination(&token)
