@@ -61,3 +61,7 @@ one_of p c bytes fail is = grind (arith, nat_tests, is, none_of p c bytes fail)
 pub all_weaker : (p q : ℕ → Bool) (text : List ℕ) → ((c : ℕ) → p c ≡ true → q c ≡ true) → list_all p text ≡ true → list_all q text ≡ true
 all_weaker p q [] weaker all = refl
 all_weaker p q (b ∷ text) weaker all = grind (arith, nat_tests, all, weaker b, all_weaker p q text weaker)
+
+pub all_append : (p : ℕ → Bool) (front rest : List ℕ) → list_all p front ≡ true → list_all p rest ≡ true → list_all p (front ++ rest) ≡ true
+all_append p [] rest all others = others
+all_append p (b ∷ front) rest all others = grind (arith, nat_tests, all, all_append p front rest)

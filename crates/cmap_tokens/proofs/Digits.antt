@@ -1,5 +1,5 @@
 -- The numbers that digits write.
-use Rattle.std.proofs.Common.{suc, zero, Bool, None, inl, inr, length-take-le, ◌≡◌, ℕ, ◌+◌, ◌*◌, ◌-◌, ◌^◌, ◌<◌, ◌≤◌, min, List, length, get_or, take, true, ap, sym, ◌∙◌, ⊎_elim, arith, [], ◌∷◌, map, refl, ◌%◌, ◌/◌, pos, false, ◌==◌, Some}
+use Rattle.std.proofs.Common.{◌++◌, suc, zero, Bool, None, inl, inr, length-take-le, ◌≡◌, ℕ, ◌+◌, ◌*◌, ◌-◌, ◌^◌, ◌<◌, ◌≤◌, min, List, length, get_or, take, true, ap, sym, ◌∙◌, ⊎_elim, arith, [], ◌∷◌, map, refl, ◌%◌, ◌/◌, pos, false, ◌==◌, Some}
 use Rattle.std.specs.Char.{digit_value, is_digit}
 use Rattle.std.specs.List.{list_all, prefix_len}
 use Rattle.std.proofs.lemmas.Bool.{and_from, and_right, leb-true, lt-ltb, ltb-false, cases_Bool, false≢true, cases_lt, and_parts, ltb-true, le-leb}
@@ -197,6 +197,15 @@ paired (a ∷ b ∷ more) all even =
     let byte : 16 * digit_value a + digit_value b < 2 ^ 8 = omega (arith, ltb-true (digit_value a) 16 first, ltb-true (digit_value b) 16 second) in
     let joined : (n : ℕ) → (n * 16 + digit_value a) * 16 + digit_value b ≡ n * 256 + (16 * digit_value a + digit_value b) = λ n. omega arith in
     rw (first, second) (λ n. ap (λ k. number_from_digits_after 16 k (map digit_value more)) (joined n) ∙ number (n * 256 + (16 * digit_value a + digit_value b)), omega (arith, long), (byte, bytes))
+
+-- the bytes of digits in two parts
+pub pairs_split : (front rest : List ℕ) → list_all (λ c. is_digit c 16) front ≡ true → length front % 2 ≡ 0 → hex_value (front ++ rest) ≡ hex_value front ++ hex_value rest
+pairs_split [] rest all even = refl
+pairs_split (a ∷ []) rest all even = absurd (omega (arith, even))
+pairs_split (a ∷ b ∷ more) rest all even =
+    let first : is_digit a 16 ≡ true = grind (arith, nat_tests, all) in
+    let second : is_digit b 16 ≡ true = grind (arith, nat_tests, all) in
+    rw (first, second) (ap (λ bytes. (16 * digit_value a + digit_value b) ∷ bytes) (pairs_split more rest (grind (arith, nat_tests, all)) (omega (arith, even))))
 
 -- digits in pairs are read
 pub pairs_read : (digits : List ℕ) (n : ℕ) → Written 16 8 digits n → length digits ≤ 8 → length digits % 2 ≡ 0

@@ -20,6 +20,10 @@ gap_len in_comment [] = 0
 gap_len true (b ∷ text) = 1 + gap_len (not (ends_comment b)) text
 gap_len false (b ∷ text) = if b == percent then 1 + gap_len true text else if is_white b then 1 + gap_len false text else 0
 
+-- a byte that lies above those that end a comment
+abbrev pub is_plain : ℕ → Bool
+is_plain b = nat_lt carriage_return b
+
 -- how many bytes up to and including >, where only digits and white bytes stand before it
 abbrev pub hex_len : List ℕ → Option ℕ
 hex_len text = if get_or text (prefix_len is_hex_body text) 0 == greater then Some (1 + prefix_len is_hex_body text) else None

@@ -6,7 +6,7 @@ ghost use Rattle.cmap_tokens.specs.Bytes.{is_regular};
 ghost use Rattle.cmap_tokens.specs.Gaps.{IsBlank};
 ghost use Rattle.cmap_tokens.specs.Tokens as tokens;
 ghost use Rattle.cmap_tokens.specs.Tokens.{IsMalformed, name_or_number};
-ghost use Rattle.cmap_tokens.specs.Scanner.{FirstToken, closed_number, short_pairs, spaced_pairs, spaced_two_bytes};
+ghost use Rattle.cmap_tokens.specs.Scanner.{FirstToken, closed_number, closed_parts, short_pairs, spaced_pairs, spaced_parts, spaced_two_bytes};
 ghost use Rattle.cmap_tokens.specs.TokenReading as reading;
 ghost use Rattle.cmap_tokens.specs.TokenSeen.{token_seen};
 
@@ -143,6 +143,41 @@ fn short_pairs(text: &[u8]) -> Option<(u8, u32)>
     } else {
         Some((4, closed_number(text, 8)?))
     }
+}
+
+/// How many bytes a string writes in pairs of digits, six or eight, and the numbers of the first four
+/// and of the others, where a text begins with such a string after one white byte.
+pub(super) fn spaced_parts(text: &[u8]) -> Option<(u8, u32, u32)>
+    ensures front { result ≡ spaced_parts text.now }
+    ensures few { IfSome result (λ first. (6 ≤ first.0) × (first.0 ≤ 8)) }
+    ensures within { IfSome result (λ first. 3 + 2 * first.0 ≤ length text.now) }
+{
+    match text {
+        [blank, b'<', rest @ ..] if is_white(*blank) => {
+            if let Some(found) = closed_parts(rest, 2) {
+                Some(found)
+            } else {
+                closed_parts(rest, 4)
+            }
+        }
+        _ => None,
+    }
+}
+
+/// Four pairs of digits and `count` more, where `>` follows them.
+#[inline(always)]
+fn closed_parts(text: &[u8], count: u8) -> Option<(u8, u32, u32)>
+    requires some { 1 ≤ count }
+    requires few { count ≤ 4 }
+    ensures exact { result ≡ closed_parts count text.now }
+    ensures within { IfSome result (λ first. (first.0 ≡ 4 + count) × (2 * first.0 < length text.now)) }
+{
+    if text.len() < 8 {
+        return None;
+    }
+    let high = hex_number(&text[..8])?;
+    let low = closed_number(&text[8..], 2 * usize::from(count))?;
+    Some((4 + count, high, low))
 }
 
 /// The number of the digits that are the first `len` bytes of a text, where `>` follows them.
