@@ -32,6 +32,10 @@ ReadsAs found seen here = Outcome (λ x. found ≡ Ok (seen x)) (RefusesAt here 
 abbrev pub AddsDeclarations : {A : Type 0} → (files.Lists → Parser files.Lists) → Left → Lists → Lists → Left → Result A (Fault WrongToken) → Type 0
 AddsDeclarations read old before after here = ReadsAs (run (read (lists_seen before)) old) (λ done. (lists_seen after, here)) here
 
+-- what is read from the lists as they were is what is read on from the lists as they are now
+abbrev pub ReadsOn : {A : Type 0} → (files.Lists → Parser files.Lists) → Left → Lists → Lists → Left → Result A (Fault WrongToken) → Type 0
+ReadsOn read old before after here = Outcome (λ done. run (read (lists_seen before)) old ≡ run (read (lists_seen after)) here) (RefusesAt here (run (read (lists_seen before)) old))
+
 -- this holds where it is refused
 abbrev pub WhereRefused : {A : Type 0} → Type 0 → Result A (Fault WrongToken) → Type 0
 WhereRefused holds result = (wrong : WrongToken) → result ≡ Err (Refused wrong) → holds

@@ -60,6 +60,7 @@ pub(crate) fn add_codespace_range<'d>(
 }
 
 /// One entry of CIDs or of notdef CIDs.
+#[inline(always)]
 pub(crate) fn add_cids<'d>(
     reader: &mut TokenReader<'d>,
     start: Code,
@@ -81,6 +82,7 @@ pub(crate) fn add_cids<'d>(
 }
 
 /// code, destination
+#[inline(always)]
 pub(crate) fn add_bf_char<'d>(
     reader: &mut TokenReader<'d>,
     code: Code,
@@ -165,6 +167,7 @@ fn add_destinations<'d>(
 }
 
 /// Adds the units of the text of the code `start`, of a range that ends with the code `end`.
+#[inline(always)]
 fn add_text(lists: &mut Lists, start: u32, end: u32, units: Units) -> Result<(), AllocError>
     ensures { OnOk result (lists_seen lists.new ≡ append_lists (lists_seen lists.old)
         (lists_of (text_of start end (units_seen units)))) }
@@ -182,6 +185,7 @@ struct Filed {
 
 /// What an entry of CIDs declares: code, code, CID for a range and code, CID for a single code,
 /// filed by the length of the first code.
+#[inline(always)]
 fn read_cids<'d>(
     reader: &mut TokenReader<'d>,
     start: Code,

@@ -1,6 +1,6 @@
 //! The tokens of a text in order, and what single tokens stand for.
 
-ghost use Rattle.std.specs.Prelude.{◌≡◌, ◌<◌, ◌≤◌, ◌^◌, ℕ, List, [], bytes_eq, length, min, pos, Ok, Some, MatchOption, option_map};
+ghost use Rattle.std.specs.Prelude.{◌≡◌, ◌+◌, ◌%◌, ◌++◌, ◌<◌, ◌≤◌, ◌^◌, ℕ, List, [], bytes_eq, length, min, pos, Ok, Some, MatchOption, option_map};
 ghost use Rattle.std.specs.Int.Digits.{number_from_digits};
 ghost use Rattle.std.specs.List.{AllByRecursion, list_any};
 ghost use Rattle.std.specs.Option.{option_copied};
@@ -103,6 +103,18 @@ impl<'d> TokenReader<'d> {
         code_of(&self.string).ok_or(wrong(Reason::CodeLength, token))
     }
 
+    /// The code of two bytes that comes next, where it stands as most do; `None` of any other token.
+    #[inline(always)]
+    pub(crate) fn two_byte_code(&mut self) -> Option<Code>
+        ensures { MatchOption result (self.new ≡ self.old) (λ code. (piece : List ℕ)
+            × (token_in self.old ≡ Ok (String piece, self.new))
+            × (code_in (String piece) ≡ Some (code_seen code))) }
+    {
+        let number = u32::from(self.scanner.next_two_bytes()?);
+        let len = CodeLength::Two;
+        Some(Code { len, number })
+    }
+
     /// The code that comes next, where it stands as most do; `None` of any other token.
     #[inline(always)]
     pub(crate) fn plain_code(&mut self) -> Option<Code>
@@ -110,11 +122,20 @@ impl<'d> TokenReader<'d> {
             × (token_in self.old ≡ Ok (String piece, self.new))
             × (code_in (String piece) ≡ Some (code_seen code))) }
     {
-        if let Some(number) = self.scanner.next_two_bytes() {
-            let number = u32::from(number);
-            let len = CodeLength::Two;
-            return Some(Code { len, number });
+        if let Some(code) = self.two_byte_code() {
+            return Some(code);
         }
+        self.short_code()
+    }
+
+    /// The code of any length that comes next, where its digits stand as most do; `None` of any other
+    /// token.
+    #[inline(always)]
+    pub(crate) fn short_code(&mut self) -> Option<Code>
+        ensures { MatchOption result (self.new ≡ self.old) (λ code. (piece : List ℕ)
+            × (token_in self.old ≡ Ok (String piece, self.new))
+            × (code_in (String piece) ≡ Some (code_seen code))) }
+    {
         let (count, number) = self.scanner.next_pairs()?;
         let len = CodeLength::of(count)?;
         Some(Code { len, number })
@@ -162,8 +183,11 @@ impl<'d> TokenReader<'d> {
         if let Some(number) = self.scanner.next_two_bytes() {
             return Some(units_of_number(2, u32::from(number)));
         }
-        let (count, number) = self.scanner.next_pairs()?;
-        Some(units_of_number(count, number))
+        if let Some((count, number)) = self.scanner.next_pairs() {
+            return Some(units_of_number(count, number));
+        }
+        let (count, high, low) = self.scanner.next_parts()?;
+        Some(units_of_parts(count, high, low))
     }
 
     /// The units of the destination that comes next.
@@ -233,6 +257,22 @@ fn units_of_number(len: u8, number: u32) -> Units
         Units::One([low])
     } else {
         Units::Two([high, low])
+    }
+}
+
+/// The units of a destination of `len` bytes, six or eight, where `high` is what the first four write
+/// and `low` what the others do.
+fn units_of_parts(len: u8, high: u32, low: u32) -> Units
+    ensures { (front rest : List ℕ) → AllByRecursion (λ b. b < 2 ^ 8) front → AllByRecursion (λ b. b < 2 ^ 8) rest
+        → length front ≡ 4 → len ≡ 4 + length rest → 6 ≤ len → len ≤ 8 → len % 2 ≡ 0
+        → high ≡ number_from_digits 256 front → low ≡ number_from_digits 256 rest → units_seen result ≡ units_of (front ++ rest) }
+{
+    let (first, second) = ((high / 0x1_0000) as u16, (high % 0x1_0000) as u16);
+    let (third, fourth) = ((low / 0x1_0000) as u16, (low % 0x1_0000) as u16);
+    if len <= 6 {
+        Units::Three([first, second, fourth])
+    } else {
+        Units::Four([first, second, third, fourth])
     }
 }
 

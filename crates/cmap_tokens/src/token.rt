@@ -172,7 +172,7 @@ impl<'a> Model for Scanner<'a> {
 }
 
 impl<'a> Scanner<'a> {
-    ghost use Rattle.std.specs.Prelude.{◌≡◌, ℕ, ◌↔◌, ◌+◌, ◌*◌, ◌<◌, ◌≤◌, ◌^◌, List, [], false, true, length, None, Some, Ok, pos, IfOk, IfSome, IsErr, MatchOption, MatchResult, OnErr};
+    ghost use Rattle.std.specs.Prelude.{◌≡◌, ℕ, ◌↔◌, ◌+◌, ◌*◌, ◌%◌, ◌<◌, ◌≤◌, ◌^◌, List, [], false, true, length, None, Some, Ok, pos, IfOk, IfSome, IsErr, MatchOption, MatchResult, OnErr};
     ghost use Rattle.cmap_tokens.specs.Gaps.{IsBlank};
     ghost use Rattle.cmap_tokens.specs.Tokens.{HasNoFront, IsMalformed};
     ghost use Rattle.cmap_tokens.specs.Resumption.{resumed};
@@ -280,7 +280,7 @@ impl<'a> Scanner<'a> {
             × ReadsToken self.old (tokens.String piece) self.new × WritesParts piece first.0 first.1 first.2
             × LeavesAfter (tokens.String piece) self.old self.new) }
         ensures front { result ≡ spaced_parts (rest_of self.old) }
-        ensures few { IfSome result (λ first. (6 ≤ first.0) × (first.0 ≤ 8)) }
+        ensures few { IfSome result (λ first. (6 ≤ first.0) × (first.0 ≤ 8) × (first.0 % 2 ≡ 0)) }
         ensures moves { IfSome result (λ first. self.new ≡ past (3 + 2 * first.0) self.old) }
         ensures stays { result ≡ None → self.new ≡ self.old }
     {

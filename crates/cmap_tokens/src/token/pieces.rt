@@ -1,6 +1,6 @@
 //! The token that a text begins with.
 
-ghost use Rattle.std.specs.Prelude.{◌≡◌, ℕ, ◌+◌, ◌*◌, ◌<◌, ◌≤◌, false, true, List, ◌∷◌, ◌++◌, length, take, option_map, IfOk, IfSome, IsSome, IsTrue, MatchOption, MatchResult};
+ghost use Rattle.std.specs.Prelude.{◌≡◌, ℕ, ◌+◌, ◌*◌, ◌%◌, ◌<◌, ◌≤◌, false, true, List, ◌∷◌, ◌++◌, length, take, option_map, IfOk, IfSome, IsSome, IsTrue, MatchOption, MatchResult};
 ghost use Rattle.std.specs.List.{prefix_len};
 ghost use Rattle.cmap_tokens.specs.Bytes.{is_regular};
 ghost use Rattle.cmap_tokens.specs.Gaps.{IsBlank};
@@ -149,7 +149,7 @@ fn short_pairs(text: &[u8]) -> Option<(u8, u32)>
 /// and of the others, where a text begins with such a string after one white byte.
 pub(super) fn spaced_parts(text: &[u8]) -> Option<(u8, u32, u32)>
     ensures front { result ≡ spaced_parts text.now }
-    ensures few { IfSome result (λ first. (6 ≤ first.0) × (first.0 ≤ 8)) }
+    ensures few { IfSome result (λ first. (6 ≤ first.0) × (first.0 ≤ 8) × (first.0 % 2 ≡ 0)) }
     ensures within { IfSome result (λ first. 3 + 2 * first.0 ≤ length text.now) }
 {
     match text {
