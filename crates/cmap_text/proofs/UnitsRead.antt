@@ -26,3 +26,7 @@ four_units (a ∷ b ∷ c ∷ d ∷ []) (e ∷ f ∷ g ∷ h ∷ []) high low (a
     let last = two_units e f g h low e_is f_is g_is h_is low_is in
     rw (units.0, units.1, last.0, last.1) refl
 four_units front rest high low front_are rest_are four others high_is low_is = absurd (omega (arith, four, others))
+
+pub one_unit : (bytes : List ℕ) (n : ℕ) → length bytes ≡ 2 → n ≡ number_from_digits 256 bytes → units_of bytes ≡ n ∷ []
+one_unit (a ∷ b ∷ []) n two is = let same : n ≡ 256 * a + b = omega (arith, is) in rw same refl
+one_unit bytes n two is = absurd (omega (arith, two))

@@ -1,10 +1,10 @@
 //! The entries of sections. Each call here has the first code of an entry, reads what follows it, and
 //! adds what the entry declares.
 
-ghost use Rattle.std.specs.Prelude.{◌≡◌, ◌+◌, ◌-◌, OnOk};
+ghost use Rattle.std.specs.Prelude.{◌≡◌, ◌+◌, ◌-◌, IfOk, OnOk};
 ghost use Rattle.cmap_files.specs.CodeLengths.{length_of};
 ghost use Rattle.cmap_files.specs.DeclarationsSeen.{cid_entry_seen, lists_seen};
-ghost use Rattle.cmap_text.specs.EntriesSeen.{AddsDeclarations, AddsTexts, ReadsAs, WhereRefused};
+ghost use Rattle.cmap_text.specs.EntriesSeen.{AddsDeclarations, AddsIf, AddsTexts, ReadsAs, WhereRefused};
 ghost use Rattle.cmap_files.specs.Files.{lists_of};
 ghost use Rattle.cmap_files.specs.ListsAppended.{append_lists};
 ghost use Rattle.cmap_files.specs.UnitsSeen.{units_seen};
@@ -79,6 +79,24 @@ pub(crate) fn add_cids<'d>(
         CidKind::Notdef => lists.add_notdef(filed.len, filed.range)?,
     }
     Ok(())
+}
+
+/// A destination of two bytes after the code of an entry, where it stands as most do. `false` of any
+/// other token, and then nothing moves.
+#[inline(always)]
+pub(crate) fn add_plain_unit<'d>(
+    reader: &mut TokenReader<'d>,
+    code: Code,
+    lists: &mut Lists,
+) -> Result<bool, AllocError>
+    ensures { IfOk result (AddsIf (entry_after files.bf_char (code_seen code))
+        reader.old lists.old lists.new reader.new) }
+{
+    let Some(unit) = reader.plain_unit() else {
+        return Ok(false);
+    };
+    add_text(lists, code.number, code.number, Units::One([unit]))?;
+    Ok(true)
 }
 
 /// code, destination

@@ -1,20 +1,23 @@
 //! Sections: an opener, entries, a closer.
 
-ghost use Rattle.std.specs.Prelude.{◌≡◌, ◌≤◌, OnOk, length, option_map};
+ghost use Rattle.std.specs.Prelude.{◌≡◌, ◌≤◌, IfOk, OnOk, length, option_map};
 ghost use Rattle.cmap_tokens.specs.TokenSeen.{token_seen};
 ghost use Rattle.cmap_files.specs.DeclarationsSeen.{lists_seen};
-ghost use Rattle.cmap_text.specs.EntriesSeen.{AddsDeclarations, ReadsAs, ReadsOn, WhereRefused};
+ghost use Rattle.cmap_text.specs.EntriesSeen.{AddsDeclarations, AddsIf, ReadsAs, ReadsOn, WhereRefused};
 ghost use Rattle.cmap_text.specs.TextFiles as files;
 ghost use Rattle.cmap_text.specs.TextReading.{body_in, code_fault, code_or_closer, entry_after, opened_by};
 ghost use Rattle.cmap_text.specs.TextSeen.{code_seen, extent_seen, kind_seen, section_seen};
 ghost use Rattle.cmap_text.specs.TokenParsers.{head_in};
 
-use crate::entries::{CidKind, Extent, add_bf_char, add_bf_range, add_cids, add_codespace_range};
+use crate::entries::{
+    CidKind, Extent, add_bf_char, add_bf_range, add_cids, add_codespace_range, add_plain_unit,
+};
 use crate::tokens::{Code, TokenReader, is_executable};
 use crate::wrong_token::WrongToken;
 use cmap_files::declarations::Lists;
 use cmap_files::fault::Fault;
 use cmap_tokens::token::Token;
+use std::alloc::AllocError;
 
 /// The kinds of sections.
 #[derive(Clone, Copy)]
@@ -134,9 +137,29 @@ fn read_two_byte_entries<'d>(
     ensures fewer { OnOk result (length reader.new.tokens ≤ length reader.old.tokens) }
 {
     while let Some(start) = reader.two_byte_code() {
-        read_entry(reader, section, start, lists)?;
+        if !add_plain(reader, section, start, lists)? {
+            read_entry(reader, section, start, lists)?;
+        }
     }
     Ok(())
+}
+
+/// Reads what follows the first code of an entry and adds what it declares, where that is a destination
+/// that stands as most do. `false` of any other entry, and then nothing moves.
+#[inline(always)]
+fn add_plain<'d>(
+    reader: &mut TokenReader<'d>,
+    section: Section,
+    start: Code,
+    lists: &mut Lists,
+) -> Result<bool, AllocError>
+    ensures { IfOk result (AddsIf (entry_after (section_seen section) (code_seen start))
+        reader.old lists.old lists.new reader.new) }
+{
+    match section {
+        Section::BfChar => add_plain_unit(reader, start, lists),
+        _ => Ok(false),
+    }
 }
 
 /// The code that the next entry of a section begins with; `None` at the closer.

@@ -1,6 +1,6 @@
 //! The tokens of a text in order, and what single tokens stand for.
 
-ghost use Rattle.std.specs.Prelude.{◌≡◌, ◌+◌, ◌%◌, ◌++◌, ◌<◌, ◌≤◌, ◌^◌, ℕ, List, [], bytes_eq, length, min, pos, Ok, Some, MatchOption, option_map};
+ghost use Rattle.std.specs.Prelude.{◌≡◌, ◌+◌, ◌%◌, ◌++◌, ◌<◌, ◌≤◌, ◌^◌, ℕ, List, [], ◌∷◌, bytes_eq, length, min, pos, Ok, Some, MatchOption, option_map};
 ghost use Rattle.std.specs.Int.Digits.{number_from_digits};
 ghost use Rattle.std.specs.List.{AllByRecursion, list_any};
 ghost use Rattle.std.specs.Option.{option_copied};
@@ -170,6 +170,18 @@ impl<'d> TokenReader<'d> {
         }
         let units = units(self.alloc, &self.string)?;
         Ok(Units::from_slice(self.alloc, &units)?)
+    }
+
+    /// The unit of the destination of two bytes that comes next, where it stands as most do; `None` of
+    /// any other token.
+    #[inline(always)]
+    pub(crate) fn plain_unit(&mut self) -> Option<u16>
+        ensures { MatchOption result (self.new ≡ self.old) (λ unit. (piece : List ℕ)
+            × (token_in self.old ≡ Ok (String piece, self.new))
+            × (destination_in (String piece) ≡ Some (unit ∷ []))) }
+    {
+        let unit = self.scanner.next_two_bytes()?;
+        Some(unit)
     }
 
     /// The units of the destination that comes next, where it stands as most do; `None` of any other
