@@ -5,6 +5,7 @@ pub mod EntriesRead
 pub mod ItemsRead
 pub mod ItemsSaid
 pub mod TextRead
+pub mod UnitsRead
 pub mod ValuesRead
 pub mod Local
 mod TextsAdded

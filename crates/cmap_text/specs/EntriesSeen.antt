@@ -1,5 +1,5 @@
 -- Private aid: what the clauses of calls that read tokens say.
-use Rattle.std.specs.Prelude.{◌≡◌, [], ◌++◌, List, None, Result, Ok, Err, option_map}
+use Rattle.std.specs.Prelude.{Bool, true, false, ◌≡◌, [], ◌++◌, List, None, Result, Ok, Err, option_map}
 use Rattle.cmap_tokens.specs.TokensLeft.{Left}
 use Rattle.cmap_tokens.specs.TokenSeen.{token_seen}
 use Rattle.cmap_files.specs.Files as files
@@ -31,6 +31,15 @@ ReadsAs found seen here = Outcome (λ x. found ≡ Ok (seen x)) (RefusesAt here 
 -- what is read from the lists as they were gives the lists as they are now
 abbrev pub AddsDeclarations : {A : Type 0} → (files.Lists → Parser files.Lists) → Left → Lists → Lists → Left → Result A (Fault WrongToken) → Type 0
 AddsDeclarations read old before after here = ReadsAs (run (read (lists_seen before)) old) (λ done. (lists_seen after, here)) here
+
+-- what is read from the lists as they were is what is read on from the lists as they are now
+abbrev pub ReadsOn : {A : Type 0} → (files.Lists → Parser files.Lists) → Left → Lists → Lists → Left → Result A (Fault WrongToken) → Type 0
+ReadsOn read old before after here = Outcome (λ done. run (read (lists_seen before)) old ≡ run (read (lists_seen after)) here) (RefusesAt here (run (read (lists_seen before)) old))
+
+-- either this is read and gives the lists as they are now, or all is as it was
+abbrev pub AddsIf : (files.Lists → Parser files.Lists) → Left → Lists → Lists → Left → Bool → Type 0
+AddsIf read old before after here true = run (read (lists_seen before)) old ≡ Ok (lists_seen after, here)
+AddsIf read old before after here false = (here ≡ old) × (lists_seen after ≡ lists_seen before)
 
 -- this holds where it is refused
 abbrev pub WhereRefused : {A : Type 0} → Type 0 → Result A (Fault WrongToken) → Type 0

@@ -1,10 +1,10 @@
 //! The entries of sections. Each call here has the first code of an entry, reads what follows it, and
 //! adds what the entry declares.
 
-ghost use Rattle.std.specs.Prelude.{◌≡◌, ◌+◌, ◌-◌, OnOk};
+ghost use Rattle.std.specs.Prelude.{◌≡◌, ◌+◌, ◌-◌, IfOk, OnOk};
 ghost use Rattle.cmap_files.specs.CodeLengths.{length_of};
 ghost use Rattle.cmap_files.specs.DeclarationsSeen.{cid_entry_seen, lists_seen};
-ghost use Rattle.cmap_text.specs.EntriesSeen.{AddsDeclarations, AddsTexts, ReadsAs, WhereRefused};
+ghost use Rattle.cmap_text.specs.EntriesSeen.{AddsDeclarations, AddsIf, AddsTexts, ReadsAs, WhereRefused};
 ghost use Rattle.cmap_files.specs.Files.{lists_of};
 ghost use Rattle.cmap_files.specs.ListsAppended.{append_lists};
 ghost use Rattle.cmap_files.specs.UnitsSeen.{units_seen};
@@ -60,6 +60,7 @@ pub(crate) fn add_codespace_range<'d>(
 }
 
 /// One entry of CIDs or of notdef CIDs.
+#[inline(always)]
 pub(crate) fn add_cids<'d>(
     reader: &mut TokenReader<'d>,
     start: Code,
@@ -80,7 +81,26 @@ pub(crate) fn add_cids<'d>(
     Ok(())
 }
 
+/// A destination of two bytes after the code of an entry, where it stands as most do. `false` of any
+/// other token, and then nothing moves.
+#[inline(always)]
+pub(crate) fn add_plain_unit<'d>(
+    reader: &mut TokenReader<'d>,
+    code: Code,
+    lists: &mut Lists,
+) -> Result<bool, AllocError>
+    ensures { IfOk result (AddsIf (entry_after files.bf_char (code_seen code))
+        reader.old lists.old lists.new reader.new) }
+{
+    let Some(unit) = reader.plain_unit() else {
+        return Ok(false);
+    };
+    add_text(lists, code.number, code.number, Units::One([unit]))?;
+    Ok(true)
+}
+
 /// code, destination
+#[inline(always)]
 pub(crate) fn add_bf_char<'d>(
     reader: &mut TokenReader<'d>,
     code: Code,
@@ -106,6 +126,10 @@ pub(crate) fn add_bf_range<'d>(
     ensures stays { WhereRefused (lists_seen lists.new ≡ lists_seen lists.old) result }
 {
     let end = reader.next_code()?;
+    if let Some(units) = reader.plain_destination() {
+        add_text(lists, start.number, end.number, units)?;
+        return Ok(());
+    }
     let token = reader.required_token()?;
     if is_executable(&token, b"[") {
         return add_list(reader, start.number, end.number, lists);
@@ -161,6 +185,7 @@ fn add_destinations<'d>(
 }
 
 /// Adds the units of the text of the code `start`, of a range that ends with the code `end`.
+#[inline(always)]
 fn add_text(lists: &mut Lists, start: u32, end: u32, units: Units) -> Result<(), AllocError>
     ensures { OnOk result (lists_seen lists.new ≡ append_lists (lists_seen lists.old)
         (lists_of (text_of start end (units_seen units)))) }
@@ -178,6 +203,7 @@ struct Filed {
 
 /// What an entry of CIDs declares: code, code, CID for a range and code, CID for a single code,
 /// filed by the length of the first code.
+#[inline(always)]
 fn read_cids<'d>(
     reader: &mut TokenReader<'d>,
     start: Code,

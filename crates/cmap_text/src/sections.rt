@@ -1,20 +1,23 @@
 //! Sections: an opener, entries, a closer.
 
-ghost use Rattle.std.specs.Prelude.{◌≡◌, option_map};
+ghost use Rattle.std.specs.Prelude.{◌≡◌, ◌≤◌, IfOk, OnOk, length, option_map};
 ghost use Rattle.cmap_tokens.specs.TokenSeen.{token_seen};
 ghost use Rattle.cmap_files.specs.DeclarationsSeen.{lists_seen};
-ghost use Rattle.cmap_text.specs.EntriesSeen.{AddsDeclarations, ReadsAs, WhereRefused};
+ghost use Rattle.cmap_text.specs.EntriesSeen.{AddsDeclarations, AddsIf, ReadsAs, ReadsOn, WhereRefused};
 ghost use Rattle.cmap_text.specs.TextFiles as files;
 ghost use Rattle.cmap_text.specs.TextReading.{body_in, code_fault, code_or_closer, entry_after, opened_by};
-ghost use Rattle.cmap_text.specs.TextSeen.{code_seen, section_seen};
+ghost use Rattle.cmap_text.specs.TextSeen.{code_seen, extent_seen, kind_seen, section_seen};
 ghost use Rattle.cmap_text.specs.TokenParsers.{head_in};
 
-use crate::entries::{CidKind, Extent, add_bf_char, add_bf_range, add_cids, add_codespace_range};
+use crate::entries::{
+    CidKind, Extent, add_bf_char, add_bf_range, add_cids, add_codespace_range, add_plain_unit,
+};
 use crate::tokens::{Code, TokenReader, is_executable};
 use crate::wrong_token::WrongToken;
 use cmap_files::declarations::Lists;
 use cmap_files::fault::Fault;
 use cmap_tokens::token::Token;
+use std::alloc::AllocError;
 
 /// The kinds of sections.
 #[derive(Clone, Copy)]
@@ -65,7 +68,8 @@ impl Section {
     }
 }
 
-/// Reads the entries of a section and its closer.
+/// Reads the entries of a section and its closer. The kinds that most entries are of have loops of
+/// their own.
 pub(crate) fn read_section<'d>(
     reader: &mut TokenReader<'d>,
     section: Section,
@@ -74,10 +78,88 @@ pub(crate) fn read_section<'d>(
     ensures { AddsDeclarations (body_in (section_seen section)) reader.old
         lists.old lists.new reader.new result }
 {
+    match section {
+        Section::Cids(kind, extent) => read_cid_section(reader, kind, extent, lists),
+        Section::BfChar => read_entries(reader, Section::BfChar, lists),
+        _ => read_entries(reader, section, lists),
+    }
+}
+
+/// Reads the entries of a section of CIDs and its closer.
+fn read_cid_section<'d>(
+    reader: &mut TokenReader<'d>,
+    kind: CidKind,
+    extent: Extent,
+    lists: &mut Lists,
+) -> Result<(), Fault<WrongToken<'d>>>
+    ensures { AddsDeclarations (body_in (files.cids (kind_seen kind) (extent_seen extent))) reader.old
+        lists.old lists.new reader.new result }
+{
+    match kind {
+        CidKind::Cid => match extent {
+            Extent::Range => {
+                read_entries(reader, Section::Cids(CidKind::Cid, Extent::Range), lists)
+            }
+            Extent::Single => {
+                read_entries(reader, Section::Cids(CidKind::Cid, Extent::Single), lists)
+            }
+        },
+        CidKind::Notdef => read_entries(reader, Section::Cids(CidKind::Notdef, extent), lists),
+    }
+}
+
+/// Reads the entries of a section and its closer.
+#[inline(always)]
+fn read_entries<'d>(
+    reader: &mut TokenReader<'d>,
+    section: Section,
+    lists: &mut Lists,
+) -> Result<(), Fault<WrongToken<'d>>>
+    ensures { AddsDeclarations (body_in (section_seen section)) reader.old
+        lists.old lists.new reader.new result }
+{
+    read_two_byte_entries(reader, section, lists)?;
     while let Some(start) = next_start(reader, section)? {
         read_entry(reader, section, start, lists)?;
+        read_two_byte_entries(reader, section, lists)?;
     }
     Ok(())
+}
+
+/// Reads the entries of a section that begin with a code of two bytes, up to one that doesn't.
+#[inline(always)]
+fn read_two_byte_entries<'d>(
+    reader: &mut TokenReader<'d>,
+    section: Section,
+    lists: &mut Lists,
+) -> Result<(), Fault<WrongToken<'d>>>
+    ensures reads { ReadsOn (body_in (section_seen section)) reader.old lists.old lists.new reader.new result }
+    ensures fewer { OnOk result (length reader.new.tokens ≤ length reader.old.tokens) }
+{
+    while let Some(start) = reader.two_byte_code() {
+        if !add_plain(reader, section, start, lists)? {
+            read_entry(reader, section, start, lists)?;
+        }
+    }
+    Ok(())
+}
+
+/// Reads what follows the first code of an entry and adds what it declares, where that is a destination
+/// that stands as most do. `false` of any other entry, and then nothing moves.
+#[inline(always)]
+fn add_plain<'d>(
+    reader: &mut TokenReader<'d>,
+    section: Section,
+    start: Code,
+    lists: &mut Lists,
+) -> Result<bool, AllocError>
+    ensures { IfOk result (AddsIf (entry_after (section_seen section) (code_seen start))
+        reader.old lists.old lists.new reader.new) }
+{
+    match section {
+        Section::BfChar => add_plain_unit(reader, start, lists),
+        _ => Ok(false),
+    }
 }
 
 /// The code that the next entry of a section begins with; `None` at the closer.
@@ -89,7 +171,7 @@ pub(crate) fn next_start<'d>(
     ensures { ReadsAs (head_in code_fault (code_or_closer (section_seen section)) reader.old)
         (λ start. (option_map code_seen start, reader.new)) reader.new result }
 {
-    if let Some(code) = reader.plain_code() {
+    if let Some(code) = reader.short_code() {
         return Ok(Some(code));
     }
     let token = reader.required_token()?;

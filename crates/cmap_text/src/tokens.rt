@@ -1,6 +1,6 @@
 //! The tokens of a text in order, and what single tokens stand for.
 
-ghost use Rattle.std.specs.Prelude.{◌≡◌, ◌<◌, ◌≤◌, ◌^◌, ℕ, List, [], bytes_eq, length, min, pos, Ok, Some, MatchOption, option_map};
+ghost use Rattle.std.specs.Prelude.{◌≡◌, ◌+◌, ◌%◌, ◌++◌, ◌<◌, ◌≤◌, ◌^◌, ℕ, List, [], ◌∷◌, bytes_eq, length, min, pos, Ok, Some, MatchOption, option_map};
 ghost use Rattle.std.specs.Int.Digits.{number_from_digits};
 ghost use Rattle.std.specs.List.{AllByRecursion, list_any};
 ghost use Rattle.std.specs.Option.{option_copied};
@@ -104,13 +104,40 @@ impl<'d> TokenReader<'d> {
     }
 
     /// The code of two bytes that comes next, where it stands as most do; `None` of any other token.
-    pub(crate) fn plain_code(&mut self) -> Option<Code>
+    #[inline(always)]
+    pub(crate) fn two_byte_code(&mut self) -> Option<Code>
         ensures { MatchOption result (self.new ≡ self.old) (λ code. (piece : List ℕ)
             × (token_in self.old ≡ Ok (String piece, self.new))
             × (code_in (String piece) ≡ Some (code_seen code))) }
     {
         let number = u32::from(self.scanner.next_two_bytes()?);
         let len = CodeLength::Two;
+        Some(Code { len, number })
+    }
+
+    /// The code that comes next, where it stands as most do; `None` of any other token.
+    #[inline(always)]
+    pub(crate) fn plain_code(&mut self) -> Option<Code>
+        ensures { MatchOption result (self.new ≡ self.old) (λ code. (piece : List ℕ)
+            × (token_in self.old ≡ Ok (String piece, self.new))
+            × (code_in (String piece) ≡ Some (code_seen code))) }
+    {
+        if let Some(code) = self.two_byte_code() {
+            return Some(code);
+        }
+        self.short_code()
+    }
+
+    /// The code of any length that comes next, where its digits stand as most do; `None` of any other
+    /// token.
+    #[inline(always)]
+    pub(crate) fn short_code(&mut self) -> Option<Code>
+        ensures { MatchOption result (self.new ≡ self.old) (λ code. (piece : List ℕ)
+            × (token_in self.old ≡ Ok (String piece, self.new))
+            × (code_in (String piece) ≡ Some (code_seen code))) }
+    {
+        let (count, number) = self.scanner.next_pairs()?;
+        let len = CodeLength::of(count)?;
         Some(Code { len, number })
     }
 
@@ -145,14 +172,44 @@ impl<'d> TokenReader<'d> {
         Ok(Units::from_slice(self.alloc, &units)?)
     }
 
+    /// The unit of the destination of two bytes that comes next, where it stands as most do; `None` of
+    /// any other token.
+    #[inline(always)]
+    pub(crate) fn plain_unit(&mut self) -> Option<u16>
+        ensures { MatchOption result (self.new ≡ self.old) (λ unit. (piece : List ℕ)
+            × (token_in self.old ≡ Ok (String piece, self.new))
+            × (destination_in (String piece) ≡ Some (unit ∷ []))) }
+    {
+        let unit = self.scanner.next_two_bytes()?;
+        Some(unit)
+    }
+
+    /// The units of the destination that comes next, where it stands as most do; `None` of any other
+    /// token.
+    #[inline(always)]
+    pub(crate) fn plain_destination(&mut self) -> Option<Units>
+        ensures { MatchOption result (self.new ≡ self.old) (λ units. (piece : List ℕ)
+            × (token_in self.old ≡ Ok (String piece, self.new))
+            × (destination_in (String piece) ≡ Some (units_seen units))) }
+    {
+        if let Some(number) = self.scanner.next_two_bytes() {
+            return Some(units_of_number(2, u32::from(number)));
+        }
+        if let Some((count, number)) = self.scanner.next_pairs() {
+            return Some(units_of_number(count, number));
+        }
+        let (count, high, low) = self.scanner.next_parts()?;
+        Some(units_of_parts(count, high, low))
+    }
+
     /// The units of the destination that comes next.
     #[inline(always)]
     pub(crate) fn next_destination(&mut self) -> Result<Units, Fault<WrongToken<'d>>>
         ensures { ReadsAs (run next_destination self.old)
             (λ units. (units_seen units, self.new)) self.new result }
     {
-        if let Some(number) = self.scanner.next_two_bytes() {
-            return Ok(units_of_number(2, u32::from(number)));
+        if let Some(units) = self.plain_destination() {
+            return Ok(units);
         }
         let token = self.required_token()?;
         self.destination(&token)
@@ -212,6 +269,22 @@ fn units_of_number(len: u8, number: u32) -> Units
         Units::One([low])
     } else {
         Units::Two([high, low])
+    }
+}
+
+/// The units of a destination of `len` bytes, six or eight, where `high` is what the first four write
+/// and `low` what the others do.
+fn units_of_parts(len: u8, high: u32, low: u32) -> Units
+    ensures { (front rest : List ℕ) → AllByRecursion (λ b. b < 2 ^ 8) front → AllByRecursion (λ b. b < 2 ^ 8) rest
+        → length front ≡ 4 → len ≡ 4 + length rest → 6 ≤ len → len ≤ 8 → len % 2 ≡ 0
+        → high ≡ number_from_digits 256 front → low ≡ number_from_digits 256 rest → units_seen result ≡ units_of (front ++ rest) }
+{
+    let (first, second) = ((high / 0x1_0000) as u16, (high % 0x1_0000) as u16);
+    let (third, fourth) = ((low / 0x1_0000) as u16, (low % 0x1_0000) as u16);
+    if len <= 6 {
+        Units::Three([first, second, fourth])
+    } else {
+        Units::Four([first, second, third, fourth])
     }
 }
 

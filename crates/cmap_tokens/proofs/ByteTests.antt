@@ -1,10 +1,17 @@
 -- What a test of bytes tells of a byte, and of the bytes that a text begins with.
 use Rattle.std.proofs.Common.{◌≡◌, ℕ, ◌+◌, ◌≤◌, Bool, true, false, ◌==◌, List, [], ◌∷◌, ◌++◌, length, take, drop, zero, suc, one-add, refl, sym, ap, subst, inl, inr, arith}
+use Rattle.std.specs.Prelude.{Option, None, Some, if◌then◌else◌}
+use Rattle.std.proofs.lemmas.Option.{none-some}
 use Rattle.std.specs.List.{list_any, list_all, prefix_len}
 use Rattle.std.proofs.lemmas.Bool.{cases_Bool, eqb-true, false≢true}
 use Rattle.std.proofs.lemmas.Bool.Decides.{nat_tests}
 use Rattle.cmap_tokens.specs.Bytes.{begins}
 use Rattle.cmap_tokens.specs.Strings.{begins_with}
+
+-- what a test chose in place of nothing
+pub chosen : {A : Type 0} (test : Bool) (x : Option A) (y : A) → (if test then x else None) ≡ Some y → (test ≡ true) × (x ≡ Some y)
+chosen true x y e = (refl, e)
+chosen false x y e = absurd (none-some y e)
 
 -- a byte that passes is none that fails
 pub other_byte : (p : ℕ → Bool) (k c : ℕ) → p k ≡ false → p c ≡ true → (c == k) ≡ false
@@ -54,3 +61,7 @@ one_of p c bytes fail is = grind (arith, nat_tests, is, none_of p c bytes fail)
 pub all_weaker : (p q : ℕ → Bool) (text : List ℕ) → ((c : ℕ) → p c ≡ true → q c ≡ true) → list_all p text ≡ true → list_all q text ≡ true
 all_weaker p q [] weaker all = refl
 all_weaker p q (b ∷ text) weaker all = grind (arith, nat_tests, all, weaker b, all_weaker p q text weaker)
+
+pub all_append : (p : ℕ → Bool) (front rest : List ℕ) → list_all p front ≡ true → list_all p rest ≡ true → list_all p (front ++ rest) ≡ true
+all_append p [] rest all others = others
+all_append p (b ∷ front) rest all others = grind (arith, nat_tests, all, all_append p front rest)

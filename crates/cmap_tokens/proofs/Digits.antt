@@ -1,17 +1,18 @@
 -- The numbers that digits write.
-use Rattle.std.proofs.Common.{◌≡◌, ℕ, ◌+◌, ◌*◌, ◌-◌, ◌^◌, ◌<◌, ◌≤◌, min, List, length, get_or, take, true, ap, sym, ◌∙◌, ⊎_elim, arith, [], ◌∷◌, map, refl, ◌%◌, ◌/◌, pos, false, ◌==◌, Some}
+use Rattle.std.proofs.Common.{◌++◌, suc, zero, Bool, None, inl, inr, length-take-le, ◌≡◌, ℕ, ◌+◌, ◌*◌, ◌-◌, ◌^◌, ◌<◌, ◌≤◌, min, List, length, get_or, take, true, ap, sym, ◌∙◌, ⊎_elim, arith, [], ◌∷◌, map, refl, ◌%◌, ◌/◌, pos, false, ◌==◌, Some}
 use Rattle.std.specs.Char.{digit_value, is_digit}
-use Rattle.std.specs.List.{list_all}
-use Rattle.std.proofs.lemmas.Bool.{and_from, lt-ltb, cases_lt, and_parts, ltb-true, le-leb}
+use Rattle.std.specs.List.{list_all, prefix_len}
+use Rattle.std.proofs.lemmas.Bool.{and_from, and_right, leb-true, lt-ltb, ltb-false, cases_Bool, false≢true, cases_lt, and_parts, ltb-true, le-leb}
 use Rattle.std.proofs.lemmas.Bool.Decides.{nat_tests}
-use Rattle.std.proofs.lemmas.Int.Digits.{digits_value_is, digits_value_more, number_lt}
-use Rattle.std.proofs.Math.Nat.{mul-le-mul_left, pow-le-pow_right}
-use Rattle.cmap_tokens.specs.Numbers.{digits_number, are_digits, digits_value, Integer, integer, numeral}
-use Rattle.std.specs.Prelude.{Option, option_map, unwrap_or, nat_le}
+use Rattle.std.proofs.lemmas.Int.Digits.{number_after_ge, number_push, digits_value_is, digits_value_more, number_lt}
+use Rattle.std.proofs.Math.Nat.{mul-le-mul_left, pow-le-pow_right, pow-suc}
+use Rattle.cmap_tokens.specs.Numbers.{digits_len, leading_decimal, digits_number, are_digits, digits_value, Integer, integer, numeral}
+use Rattle.std.specs.Prelude.{◌&&◌, Option, nat_lt, option_map, unwrap_or, nat_le}
 use Rattle.std.specs.Int.Digits.{AllBelowBase, number_from_digits_after}
-use Rattle.std.proofs.lemmas.List.{length-map, length-take}
-use Rattle.cmap_tokens.specs.TokenReading.{octal_len}
-use Rattle.cmap_tokens.proofs.ByteTests.{all_front, other_byte}
+use Rattle.std.proofs.lemmas.List.{length-map, length-take, map-append, take-take, take_more}
+use Rattle.cmap_tokens.specs.TokenReading.{hex_weight, leading_digits, octal_len}
+use Rattle.std.proofs.lemmas.Option.{none-some}
+use Rattle.cmap_tokens.proofs.ByteTests.{all_front, chosen, other_byte}
 use Rattle.std.specs.Int.Digits.{number_from_digits}
 use Rattle.std.specs.List.{AllByRecursion}
 use Rattle.cmap_tokens.specs.Strings.{ArePairs, hex_value}
@@ -82,6 +83,104 @@ octal_value text =
     rw (uncapped 8 3 (take (octal_len text) text) (omega arith) (omega (arith, length-take (octal_len text) text)) (omega arith))
     (unwrapped (take (octal_len text) text) (all_front (λ c. is_digit c 8) (octal_len text) text (omega arith)))
 
+-- ---- up to eight hexadecimal digits, which are tested at the end
+are_weights : (digits : List ℕ) → list_all (λ c. is_digit c 16) digits ≡ true → map hex_weight digits ≡ map digit_value digits
+are_weights [] all = refl
+are_weights (c ∷ digits) all =
+    let (first, others) = and_parts (is_digit c 16) (list_all (λ k. is_digit k 16) digits) all in
+    rw first (ap (λ more. digit_value c ∷ more) (are_weights digits others))
+
+-- a byte that is no digit makes the number too large
+too_heavy : (n : ℕ) (digits : List ℕ) → list_all (λ c. is_digit c 16) digits ≡ false → 2 ^ 32 ≤ number_from_digits_after 16 n (map hex_weight digits)
+too_heavy n [] some = absurd (false≢true (sym some))
+too_heavy n (c ∷ digits) some =
+    elim (cases_Bool (is_digit c 16)) [
+      | inl digit ↦ too_heavy (n * 16 + hex_weight c) digits (rw digit at some)
+      | inr other ↦ rw other (omega (arith, number_after_ge 16 (n * 16 + 2 ^ 32) (map hex_weight digits) (omega arith)))
+    ]
+
+pub hex_light : (digits : List ℕ) (n : ℕ) → 0 < length digits → n ≡ number_from_digits 16 (map hex_weight digits) → n < 2 ^ 32 → digits_value 16 digits ≡ Some n
+hex_light digits n some is small =
+    elim (cases_Bool (list_all (λ c. is_digit c 16) digits)) [
+      | inl all ↦
+          let are : are_digits 16 digits ≡ true = and_from _ _ (lt-ltb 0 (length digits) some) all in
+          rw are (ap Some (sym (is ∙ ap (number_from_digits 16) (are_weights digits all))))
+      | inr other ↦ absurd (omega (arith, too_heavy 0 digits other, is, small))
+    ]
+
+pub hex_heavy : (digits : List ℕ) (n : ℕ) → length digits ≤ 8 → n ≡ number_from_digits 16 (map hex_weight digits) → 2 ^ 32 ≤ n → digits_value 16 digits ≡ None
+hex_heavy digits n few is large =
+    elim (cases_Bool (list_all (λ c. is_digit c 16) digits)) [
+      | inl all ↦ absurd (omega (arith, digits_small 16 8 digits (omega arith) all few, is ∙ ap (number_from_digits 16) (are_weights digits all), large))
+      | inr other ↦ let are : are_digits 16 digits ≡ false = and_right _ _ other in rw are refl
+    ]
+
+pub weight_value : (digits : List ℕ) (i : ℕ) → i < length digits → number_from_digits 16 (map hex_weight (take (i + 1) digits)) ≡ number_from_digits 16 (map hex_weight (take i digits)) * 16 + hex_weight (get_or digits i 0)
+weight_value digits i within =
+    ap (λ front. number_from_digits 16 (map hex_weight front)) (take_more digits i 0 within) ∙ ap (number_from_digits 16) (map-append hex_weight (take i digits) (get_or digits i 0 ∷ [])) ∙ number_push 16 (map hex_weight (take i digits)) (hex_weight (get_or digits i 0))
+
+pub most_weight : (b : ℕ) → hex_weight b ≤ 2 ^ 32
+most_weight b = elim (cases_Bool (is_digit b 16)) [ inl digit ↦ rw digit (omega (arith, ltb-true (digit_value b) 16 digit)) | inr other ↦ rw other (omega arith) ]
+
+pub weight_more : (n w i : ℕ) → w ≤ 2 ^ 32 → n + 2 ^ 32 ≤ 2 ^ 32 * 16 ^ i → n * 16 + w + 2 ^ 32 ≤ 2 ^ 32 * 16 ^ (i + 1)
+weight_more n w i light bound =
+    let next : 16 ^ (i + 1) ≡ 16 ^ i * 16 = let s : i + 1 ≡ suc i = omega arith in ap (λ k. 16 ^ k) s ∙ pow-suc 16 i in
+    omega (arith, next)
+
+pub weight_fits : (n i : ℕ) → i ≤ 8 → n + 2 ^ 32 ≤ 2 ^ 32 * 16 ^ i → n + 2 ^ 32 ≤ 2 ^ 64
+weight_fits n i few bound = omega (arith, pow-le-pow_right {n = 16} (omega arith) {i = i} {j = 8} few)
+
+-- ---- the decimal digits that a part of a text begins with
+pub is_decimal : (b weight : ℕ) → (is_digit b 10 ≡ false → 10 ≤ weight) → weight < 10 → is_digit b 10 ≡ true
+is_decimal b weight other small = elim (cases_Bool (is_digit b 10)) [ inl digit ↦ digit | inr fails ↦ absurd (omega (arith, other fails, small)) ]
+
+prefix_take : (p : ℕ → Bool) (n : ℕ) (text : List ℕ) → prefix_len p (take n text) ≡ min n (prefix_len p text)
+prefix_take p zero text = omega arith
+prefix_take p (suc n) [] = omega arith
+prefix_take p (suc n) (b ∷ text) =
+    elim (cases_Bool (p b)) [
+      | inl passes ↦ rw passes (omega (arith, prefix_take p n text))
+      | inr fails ↦ rw fails (omega arith)
+    ]
+
+-- what is read of the first n bytes is read of the text
+pub window_some : (n : ℕ) (text : List ℕ) (first : ℕ × ℕ) → n ≤ length text → n ≤ 19 → leading_digits (take n text) ≡ Some first → leading_decimal text ≡ Some first
+window_some n text first within few is =
+    let front = take n text in
+    let size = length-take-le n text within in
+    let len = digits_len 10 text in
+    let found = digits_len 10 front in
+    let (test, read) = chosen (nat_lt found (length front)) (Some (digits_number 10 (take found front), found)) first is in
+    let same : found ≡ len = omega (arith, ltb-true found (length front) test, prefix_take (λ c. is_digit c 10) n text, size) in
+    let small : len < n = omega (arith, ltb-true found (length front) test, same, size) in
+    let most : nat_le len 18 ≡ true = le-leb len 18 (omega (arith, small, few)) in
+    let ends : nat_lt len (length text) ≡ true = lt-ltb len (length text) (omega (arith, small, within)) in
+    rw (most, ends) (sym (ap (λ k. Some (digits_number 10 (take k front), k)) same ∙ ap (λ digits. Some (digits_number 10 digits, len)) (take-take len n text (omega (arith, small)))) ∙ read)
+
+-- and where nothing is, of as many bytes as count, there is nothing
+window_none : (n : ℕ) (text : List ℕ) → n ≡ min (length text) 19 → leading_digits (take n text) ≡ None → leading_decimal text ≡ None
+window_none n text most is =
+    let front = take n text in
+    let size = length-take n text in
+    let len = digits_len 10 text in
+    let found = digits_len 10 front in
+    let many : n ≤ len =
+    elim (cases_Bool (nat_lt found (length front))) [
+      | inl ends ↦ absurd (none-some (digits_number 10 (take found front), found) (sym is ∙ rw ends refl))
+      | inr on ↦ omega (arith, ltb-false found (length front) on, prefix_take (λ c. is_digit c 10) n text, size, most)
+    ] in
+    elim (cases_Bool (nat_le len 18 && nat_lt len (length text))) [
+      | inl both ↦ let (few, ends) = and_parts (nat_le len 18) (nat_lt len (length text)) both in absurd (omega (arith, leb-true len 18 few, ltb-true len (length text) ends, many, most))
+      | inr fails ↦ rw fails refl
+    ]
+
+window_is : (n : ℕ) (text : List ℕ) (found : Option (ℕ × ℕ)) → n ≡ min (length text) 19 → leading_digits (take n text) ≡ found → found ≡ leading_decimal text
+window_is n text None most is = sym (window_none n text most is)
+window_is n text (Some first) most is = sym (window_some n text first (omega (arith, most)) (omega (arith, most)) is)
+
+pub window_most : (n : ℕ) (text : List ℕ) → n ≡ min (length text) 19 → leading_digits (take n text) ≡ leading_decimal text
+window_most n text most = window_is n text (leading_digits (take n text)) most refl
+
 -- ---- the bytes of paired hexadecimal digits
 -- digits in pairs, and the bytes that they stand for
 abbrev pub Pairs : List ℕ → List ℕ → Type 0
@@ -98,6 +197,15 @@ paired (a ∷ b ∷ more) all even =
     let byte : 16 * digit_value a + digit_value b < 2 ^ 8 = omega (arith, ltb-true (digit_value a) 16 first, ltb-true (digit_value b) 16 second) in
     let joined : (n : ℕ) → (n * 16 + digit_value a) * 16 + digit_value b ≡ n * 256 + (16 * digit_value a + digit_value b) = λ n. omega arith in
     rw (first, second) (λ n. ap (λ k. number_from_digits_after 16 k (map digit_value more)) (joined n) ∙ number (n * 256 + (16 * digit_value a + digit_value b)), omega (arith, long), (byte, bytes))
+
+-- the bytes of digits in two parts
+pub pairs_split : (front rest : List ℕ) → list_all (λ c. is_digit c 16) front ≡ true → length front % 2 ≡ 0 → hex_value (front ++ rest) ≡ hex_value front ++ hex_value rest
+pairs_split [] rest all even = refl
+pairs_split (a ∷ []) rest all even = absurd (omega (arith, even))
+pairs_split (a ∷ b ∷ more) rest all even =
+    let first : is_digit a 16 ≡ true = grind (arith, nat_tests, all) in
+    let second : is_digit b 16 ≡ true = grind (arith, nat_tests, all) in
+    rw (first, second) (ap (λ bytes. (16 * digit_value a + digit_value b) ∷ bytes) (pairs_split more rest (grind (arith, nat_tests, all)) (omega (arith, even))))
 
 -- digits in pairs are read
 pub pairs_read : (digits : List ℕ) (n : ℕ) → Written 16 8 digits n → length digits ≤ 8 → length digits % 2 ≡ 0

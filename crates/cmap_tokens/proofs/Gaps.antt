@@ -1,11 +1,13 @@
 -- Gaps, and the function that measures them.
-use Rattle.std.proofs.Common.{◌≡◌, ℕ, ◌+◌, ◌<◌, ◌≤◌, Bool, true, false, not, ◌==◌, List, [], ◌∷◌, ◌++◌, inl, inr, length, take, Option, Some, None, one-add, refl, sym, ap, ◌∙◌, arith, append-nil}
+use Rattle.std.proofs.Common.{◌≡◌, ℕ, ◌+◌, ◌-◌, ◌<◌, ◌≤◌, Bool, true, false, not, ◌==◌, List, [], ◌∷◌, ◌++◌, inl, inr, length, take, Option, Some, None, one-add, refl, sym, ap, ◌∙◌, arith, append-nil, drop, length-drop, length-take-le}
 use Rattle.std.specs.Prelude.{IsTrue, is_some}
-use Rattle.std.proofs.lemmas.Bool.{cases_Bool}
+use Rattle.std.proofs.lemmas.Bool.{and_parts, cases_Bool}
+use Rattle.std.proofs.lemmas.List.{take-append-drop, drop-drop}
+use Rattle.std.specs.List.{list_all}
 use Rattle.std.proofs.lemmas.Bool.Decides.{nat_tests}
 use Rattle.cmap_tokens.specs.Bytes.{is_white}
 use Rattle.cmap_tokens.specs.Gaps.{ends_comment, comment_after, IsBlank}
-use Rattle.cmap_tokens.specs.TokenReading.{gap_len}
+use Rattle.cmap_tokens.specs.TokenReading.{gap_len, is_plain}
 
 pub gap_len-append : (in_comment after : Bool) (gap text : List ℕ) → comment_after in_comment gap ≡ Some after → gap_len in_comment (gap ++ text) ≡ length gap + gap_len after text
 gap_len-append in_comment after [] text e = let same : in_comment ≡ after = cc in rw same (omega arith)
@@ -51,3 +53,19 @@ pub gap_len-blank : (text : List ℕ) → IsBlank text → gap_len false text �
 gap_len-blank text blank =
     let (after, is) = some_value (comment_after false text) blank in
     ap (gap_len false) (sym (append-nil text)) ∙ gap_len-append false after text [] is ∙ omega arith
+
+-- ---- bytes of a comment that don't end it
+plain_goes_on : (b : ℕ) → is_plain b ≡ true → ends_comment b ≡ false
+plain_goes_on b plain = grind (arith, nat_tests, plain)
+
+plain_passed : (front rest : List ℕ) → list_all is_plain front ≡ true → gap_len true (front ++ rest) ≡ length front + gap_len true rest
+plain_passed [] rest all = omega arith
+plain_passed (b ∷ front) rest all =
+    let (first, others) = and_parts (is_plain b) (list_all is_plain front) all in
+    rw (plain_goes_on b first) (omega (arith, plain_passed front rest others))
+
+pub plain_more : (text : List ℕ) (i n : ℕ) → i + n ≤ length text → list_all is_plain (take (i + n - i) (drop i text)) ≡ true → gap_len true (drop i text) ≡ n + gap_len true (drop (i + n) text)
+plain_more text i n within all =
+    let same : i + n - i ≡ n = omega arith in
+    let size = length-take-le n (drop i text) (omega (arith, length-drop i text, within)) in
+    sym (ap (gap_len true) (take-append-drop n (drop i text))) ∙ plain_passed (take n (drop i text)) (drop n (drop i text)) (rw same at all) ∙ ap (λ k. k + gap_len true (drop n (drop i text))) size ∙ ap (λ t. n + gap_len true t) (drop-drop n i text)

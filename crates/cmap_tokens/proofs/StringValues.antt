@@ -27,7 +27,7 @@ hex_string piece is begins =
       | inr text ↦ absurd (false≢true (sym (text_begins piece text) ∙ begins))
     ]
 
-inside_is : (first last : ℕ) (body : List ℕ) → inside (first ∷ body ++ last ∷ []) ≡ body
+pub inside_is : (first last : ℕ) (body : List ℕ) → inside (first ∷ body ++ last ∷ []) ≡ body
 inside_is first last body =
     let end : length (first ∷ body ++ last ∷ []) - 1 ≡ suc (length body) = omega (arith, length-append body (last ∷ [])) in
     rw end (take_at body (last ∷ []) (length body) refl)

@@ -79,6 +79,13 @@ is_real text = ends_real (digits_len 10 (without_sign text)) (drop (digits_len 1
 unfoldable pub numeral : List ℕ → Option Number
 numeral text = option_or (integer text) (option_or (radix_integer text) (if is_real text then Some Real else None))
 
+-- at most 18 decimal digits that a text begins with, and a byte after them: the number that they write, and how many they are
+abbrev pub leading_decimal : List ℕ → Option (ℕ × ℕ)
+leading_decimal text =
+    if nat_le (digits_len 10 text) 18 && nat_lt (digits_len 10 text) (length text)
+    then Some (digits_number 10 (take (digits_len 10 text) text), digits_len 10 text)
+    else None
+
 -- one to 18 decimal digits that a text begins with, and after them a byte that is not regular: the number that they write, and how many they are
 abbrev pub decimal_front : List ℕ → Option (ℕ × ℕ)
 decimal_front text =

@@ -83,3 +83,19 @@ pub record IsOnlyValue (piece value : List ℕ) : Type 0 where
 -- the piece stands for two bytes alone, and they write this number, the high one first
 abbrev pub WritesTwoBytes : List ℕ → ℕ → Type 0
 WritesTwoBytes piece number = (value : List ℕ) × IsOnlyValue piece value × AllByRecursion (λ b. b < 2 ^ 8) value × (length value ≡ 2) × (number ≡ number_from_digits 256 value)
+
+-- the piece stands for so many bytes alone, and they write this number, the high one first
+abbrev pub WritesBytes : List ℕ → ℕ → ℕ → Type 0
+WritesBytes piece count number = (value : List ℕ) × IsOnlyValue piece value × AllByRecursion (λ b. b < 2 ^ 8) value × (count ≡ length value) × (number ≡ number_from_digits 256 value)
+
+-- the piece stands for so many bytes alone: four write the one number and those after them the other, the high one first
+abbrev pub WritesParts : List ℕ → ℕ → ℕ → ℕ → Type 0
+WritesParts piece count high low =
+    (front rest : List ℕ)
+    × IsOnlyValue piece (front ++ rest)
+    × AllByRecursion (λ b. b < 2 ^ 8) front
+    × AllByRecursion (λ b. b < 2 ^ 8) rest
+    × (length front ≡ 4)
+    × (count ≡ 4 + length rest)
+    × (high ≡ number_from_digits 256 front)
+    × (low ≡ number_from_digits 256 rest)

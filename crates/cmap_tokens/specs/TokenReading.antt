@@ -1,5 +1,5 @@
 -- Private aid: what the code reads, as functions on lists. Public contracts speak of Tokens, Numbers and Strings alone.
-use Rattle.std.specs.Prelude.{zero, suc, ◌%◌, ◌++◌, length, min, get_or, drop, ℕ, ◌+◌, ◌==◌, Bool, true, false, not, List, [], ◌∷◌, take, map, option_map, filter, Option, Some, None, codes, if◌then◌else◌}
+use Rattle.std.specs.Prelude.{zero, suc, ◌^◌, nat_lt, ◌%◌, ◌++◌, length, min, get_or, drop, ℕ, ◌+◌, ◌==◌, Bool, true, false, not, List, [], ◌∷◌, take, map, option_map, filter, Option, Some, None, codes, if◌then◌else◌}
 use Rattle.std.specs.List.{prefix_len}
 use Rattle.std.specs.Option.{option_map_or, option_to_list}
 use Rattle.std.specs.Char.{digit_value, is_digit}
@@ -19,6 +19,10 @@ abbrev pub gap_len : Bool → List ℕ → ℕ
 gap_len in_comment [] = 0
 gap_len true (b ∷ text) = 1 + gap_len (not (ends_comment b)) text
 gap_len false (b ∷ text) = if b == percent then 1 + gap_len true text else if is_white b then 1 + gap_len false text else 0
+
+-- a byte that lies above those that end a comment
+abbrev pub is_plain : ℕ → Bool
+is_plain b = nat_lt carriage_return b
 
 -- how many bytes up to and including >, where only digits and white bytes stand before it
 abbrev pub hex_len : List ℕ → Option ℕ
@@ -126,3 +130,12 @@ value_by_bracket piece = if get_or piece 0 0 == less then hex_value (inside piec
 -- the value of a piece, where it is a string
 unfoldable pub string_value : List ℕ → Option (List ℕ)
 string_value piece = if is_string piece then Some (value_by_bracket piece) else None
+
+-- ---- digits that are tested at the end
+-- the value of a hexadecimal digit, and for any other byte more than eight digits write
+abbrev pub hex_weight : ℕ → ℕ
+hex_weight b = if is_digit b 16 then digit_value b else 2 ^ 32
+
+-- the decimal digits that a text begins with, where a byte follows them: the number that they write, and how many they are
+abbrev pub leading_digits : List ℕ → Option (ℕ × ℕ)
+leading_digits text = if nat_lt (digits_len 10 text) (length text) then Some (digits_number 10 (take (digits_len 10 text) text), digits_len 10 text) else None

@@ -13,7 +13,7 @@ mod values;
 use self::gaps::gap_len;
 use self::lengths::{malformed_len, piece_len};
 use self::numerals::blank_decimal;
-use self::pieces::{TWO_BYTES_LEN, first_token, two_bytes};
+use self::pieces::{TWO_BYTES_LEN, first_token, spaced_pairs, spaced_parts, two_bytes};
 use self::values::{decode_hex, decode_text, pairs_number};
 use std::alloc::AllocError;
 use std::marker::Model;
@@ -172,15 +172,15 @@ impl<'a> Model for Scanner<'a> {
 }
 
 impl<'a> Scanner<'a> {
-    ghost use Rattle.std.specs.Prelude.{◌≡◌, ℕ, ◌↔◌, ◌+◌, ◌<◌, ◌≤◌, ◌^◌, List, [], false, true, length, None, Some, Ok, pos, IfOk, IfSome, IsErr, MatchOption, MatchResult, OnErr};
+    ghost use Rattle.std.specs.Prelude.{◌≡◌, ℕ, ◌↔◌, ◌+◌, ◌*◌, ◌%◌, ◌<◌, ◌≤◌, ◌^◌, List, [], false, true, length, None, Some, Ok, pos, IfOk, IfSome, IsErr, MatchOption, MatchResult, OnErr};
     ghost use Rattle.cmap_tokens.specs.Gaps.{IsBlank};
     ghost use Rattle.cmap_tokens.specs.Tokens.{HasNoFront, IsMalformed};
     ghost use Rattle.cmap_tokens.specs.Resumption.{resumed};
     ghost use Rattle.cmap_tokens.specs.Stops.{StopsAt};
     ghost use Rattle.cmap_tokens.specs.TokensLeft.{HasTokens, IsDecidedByFronts, EndInOrder, LeavesAfter, LeavesNone, start_of, tokens_of};
     ghost use Rattle.cmap_tokens.specs.Numbers.{Integer};
-    ghost use Rattle.cmap_tokens.specs.Scanner.{ReadsToken, past, rest_of, spaced_decimal, spaced_two_bytes};
-    ghost use Rattle.cmap_tokens.specs.Strings.{WritesTwoBytes};
+    ghost use Rattle.cmap_tokens.specs.Scanner.{ReadsToken, past, rest_of, spaced_decimal, spaced_pairs, spaced_parts, spaced_two_bytes};
+    ghost use Rattle.cmap_tokens.specs.Strings.{WritesBytes, WritesParts, WritesTwoBytes};
     ghost use Rattle.cmap_tokens.specs.Tokens as tokens;
     ghost use Rattle.cmap_tokens.specs.TokenSeen.{token_seen};
 
@@ -254,6 +254,39 @@ impl<'a> Scanner<'a> {
         let number = two_bytes(&self.source[self.offset..])?;
         self.offset += TWO_BYTES_LEN;
         Some(number)
+    }
+
+    /// How many bytes the next string stands for, and the number that they write, the high one first,
+    /// where one white byte and then `<`, one to four pairs of digits and `>` come next. The scanner is
+    /// moved past the string. `None` of any other text, and then nothing moves.
+    pub fn next_pairs(&mut self) -> Option<(u8, u32)>
+        ensures token { IfSome result (λ first. (piece : List ℕ)
+            × ReadsToken self.old (tokens.String piece) self.new × WritesBytes piece first.0 first.1
+            × LeavesAfter (tokens.String piece) self.old self.new) }
+        ensures front { result ≡ spaced_pairs (rest_of self.old) }
+        ensures few { IfSome result (λ first. (1 ≤ first.0) × (first.0 ≤ 4)) }
+        ensures moves { IfSome result (λ first. self.new ≡ past (3 + 2 * first.0) self.old) }
+        ensures stays { result ≡ None → self.new ≡ self.old }
+    {
+        let (count, number) = spaced_pairs(&self.source[self.offset..])?;
+        self.offset += 3 + 2 * usize::from(count);
+        Some((count, number))
+    }
+
+    /// The same of a string of six or eight bytes: how many, the number that the first four write, and the
+    /// number that the others write.
+    pub fn next_parts(&mut self) -> Option<(u8, u32, u32)>
+        ensures token { IfSome result (λ first. (piece : List ℕ)
+            × ReadsToken self.old (tokens.String piece) self.new × WritesParts piece first.0 first.1 first.2
+            × LeavesAfter (tokens.String piece) self.old self.new) }
+        ensures front { result ≡ spaced_parts (rest_of self.old) }
+        ensures few { IfSome result (λ first. (6 ≤ first.0) × (first.0 ≤ 8) × (first.0 % 2 ≡ 0)) }
+        ensures moves { IfSome result (λ first. self.new ≡ past (3 + 2 * first.0) self.old) }
+        ensures stays { result ≡ None → self.new ≡ self.old }
+    {
+        let (count, high, low) = spaced_parts(&self.source[self.offset..])?;
+        self.offset += 3 + 2 * usize::from(count);
+        Some((count, high, low))
     }
 
     /// The next number, where one white byte, one to 18 decimal digits and then a byte that ends them

@@ -2,6 +2,7 @@
 //! line, which a form feed ends too.
 
 ghost use Rattle.std.specs.Prelude.{◌≡◌, ◌+◌, ◌≤◌, false, true, drop, length};
+ghost use Rattle.std.specs.List.{list_all};
 ghost use Rattle.cmap_tokens.specs.Gaps as gaps;
 ghost use Rattle.cmap_tokens.specs.TokenReading as reading;
 
@@ -30,6 +31,45 @@ pub(super) fn gap_len(text: &[u8]) -> usize
 
 /// How many bytes are left of a comment, with the byte that ends it.
 fn comment_len(text: &[u8]) -> usize
+    ensures exact { reading.gap_len true text.now
+        ≡ result + reading.gap_len false (drop result text.now) }
+    ensures within { result ≤ length text.now }
+{
+    let plain = plain_len(text);
+    plain + line_len(&text[plain..])
+}
+
+/// How many bytes are passed at once where none of them ends a comment.
+const AT_ONCE: usize = 8;
+
+/// How many bytes of a comment are passed, by eights, before one that may end it.
+fn plain_len(text: &[u8]) -> usize
+    ensures exact { reading.gap_len true text.now
+        ≡ result + reading.gap_len true (drop result text.now) }
+    ensures within { result ≤ length text.now }
+{
+    let mut i = 0;
+    while text.len() - i >= AT_ONCE && are_plain(&text[i..i + AT_ONCE]) {
+        i += AT_ONCE;
+    }
+    i
+}
+
+/// Whether all these bytes lie above those that end a line.
+#[inline(always)]
+fn are_plain(bytes: &[u8]) -> bool
+    ensures { result ≡ list_all reading.is_plain bytes.now }
+{
+    for byte in bytes {
+        if *byte <= b'\r' {
+            return false;
+        }
+    }
+    true
+}
+
+/// How many bytes are left of a comment, with the byte that ends it, by one byte after another.
+fn line_len(text: &[u8]) -> usize
     ensures exact { reading.gap_len true text.now
         ≡ result + reading.gap_len false (drop result text.now) }
     ensures within { result ≤ length text.now }

@@ -5,9 +5,10 @@ ghost use Rattle.std.specs.List.{prefix_len};
 ghost use Rattle.cmap_tokens.specs.Numbers as numbers;
 ghost use Rattle.cmap_tokens.specs.Scanner.{spaced_decimal};
 ghost use Rattle.cmap_tokens.specs.NumberSeen.{number_seen};
+ghost use Rattle.cmap_tokens.specs.TokenReading as reading;
 
 use super::Number;
-use super::byte_class::{digit_value, is_regular, is_white};
+use super::byte_class::{NO_DIGIT, decimal_weight, digit_value, hex_weight, is_regular, is_white};
 
 /// The decimal number that a text begins with after one white byte, and how many digits it has.
 #[tactic(auto, using(std::proofs::lemmas::List::take_rest))]
@@ -23,23 +24,52 @@ pub(super) fn blank_decimal(text: &[u8]) -> Option<(u64, usize)>
 
 /// The number of one to 18 decimal digits that a text begins with, and how many these are. `None`
 /// where more digits come, or a regular byte, or nothing.
+#[inline(always)]
 fn decimal(text: &[u8]) -> Option<(u64, usize)>
     ensures front { result ≡ numbers.decimal_front text.now }
     ensures within { IfSome result (λ first. first.1 ≤ length text.now) }
 {
+    let (number, len) = leading_digits(text)?;
+    if len == 0 || is_regular(text[len]) {
+        return None;
+    }
+    Some((number, len))
+}
+
+/// Most numbers have fewer digits.
+const FEW_DIGITS: usize = 8;
+
+/// No number of more digits is read.
+const MOST_DIGITS: usize = 18;
+
+/// The number that the digits write that a text begins with, and how many these are. `None` where
+/// there are more than 18 of them, and where nothing follows them.
+#[inline(always)]
+fn leading_digits(text: &[u8]) -> Option<(u64, usize)>
+    ensures { result ≡ numbers.leading_decimal text.now }
+{
+    if text.len() >= FEW_DIGITS {
+        if let Some(found) = ended_digits(&text[..FEW_DIGITS]) {
+            return Some(found);
+        }
+    }
+    ended_digits(&text[..text.len().min(MOST_DIGITS + 1)])
+}
+
+/// The number that the digits write that a text begins with, and how many these are. `None` where
+/// nothing follows them.
+#[inline(always)]
+fn ended_digits(text: &[u8]) -> Option<(u64, usize)>
+    requires { length text.now ≤ 19 }
+    ensures { result ≡ reading.leading_digits text.now }
+{
     let mut number: u64 = 0;
     for (i, byte) in text.iter().enumerate() {
-        let digit = digit_value(*byte);
+        let digit = decimal_weight(*byte);
         if digit >= 10 {
-            if i == 0 || is_regular(*byte) {
-                return None;
-            }
             return Some((number, i));
         }
-        if i == 18 {
-            return None;
-        }
-        number = number * 10 + u64::from(digit);
+        number = number * 10 + digit;
     }
     None
 }
@@ -172,6 +202,24 @@ pub(super) fn digits_number(base: u64, text: &[u8]) -> Option<u64>
         number = number.saturating_mul(base).saturating_add(digit);
     }
     Some(number)
+}
+
+/// The number that one to eight hexadecimal digits write.
+#[inline(always)]
+pub(super) fn hex_number(digits: &[u8]) -> Option<u32>
+    requires some { 1 ≤ length digits.now }
+    requires few { length digits.now ≤ 8 }
+    ensures { result ≡ numbers.digits_value 16 digits.now }
+{
+    let mut number: u64 = 0;
+    for byte in digits {
+        number = number * 16 + hex_weight(*byte);
+    }
+    if number < NO_DIGIT {
+        Some(number as u32)
+    } else {
+        None
+    }
 }
 
 /// The integer that digits of a base write after a sign.

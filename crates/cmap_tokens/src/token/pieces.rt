@@ -1,19 +1,19 @@
 //! The token that a text begins with.
 
-ghost use Rattle.std.specs.Prelude.{◌≡◌, ℕ, ◌+◌, ◌≤◌, false, true, List, ◌∷◌, ◌++◌, length, take, option_map, IfOk, IfSome, IsSome, IsTrue, MatchOption, MatchResult};
+ghost use Rattle.std.specs.Prelude.{◌≡◌, ℕ, ◌+◌, ◌*◌, ◌%◌, ◌<◌, ◌≤◌, false, true, List, ◌∷◌, ◌++◌, length, take, option_map, IfOk, IfSome, IsSome, IsTrue, MatchOption, MatchResult};
 ghost use Rattle.std.specs.List.{prefix_len};
 ghost use Rattle.cmap_tokens.specs.Bytes.{is_regular};
 ghost use Rattle.cmap_tokens.specs.Gaps.{IsBlank};
 ghost use Rattle.cmap_tokens.specs.Tokens as tokens;
 ghost use Rattle.cmap_tokens.specs.Tokens.{IsMalformed, name_or_number};
-ghost use Rattle.cmap_tokens.specs.Scanner.{FirstToken, spaced_two_bytes};
+ghost use Rattle.cmap_tokens.specs.Scanner.{FirstToken, closed_number, closed_parts, short_pairs, spaced_pairs, spaced_parts, spaced_two_bytes};
 ghost use Rattle.cmap_tokens.specs.TokenReading as reading;
 ghost use Rattle.cmap_tokens.specs.TokenSeen.{token_seen};
 
 use super::byte_class::{is_regular, is_white};
 use super::gaps::gap_len;
 use super::lengths::{run_len, string_len};
-use super::numerals::{digits_number, number_of};
+use super::numerals::{hex_number, number_of};
 use super::{Malformed, Name, StringToken, Token};
 
 /// The token that a text begins with, and how many bytes it takes with the gap before it.
@@ -109,8 +109,88 @@ pub(super) fn two_bytes(text: &[u8]) -> Option<u16>
 {
     match text {
         [blank, b'<', _, _, _, _, b'>', ..] if is_white(*blank) => {
-            Some(digits_number(16, &text[2..6])? as u16)
+            Some(hex_number(&text[2..6])? as u16)
         }
         _ => None,
+    }
+}
+
+/// How many bytes a string writes in pairs of digits, one to four, and their number, where a text
+/// begins with such a string after one white byte.
+pub(super) fn spaced_pairs(text: &[u8]) -> Option<(u8, u32)>
+    ensures front { result ≡ spaced_pairs text.now }
+    ensures few { IfSome result (λ first. (1 ≤ first.0) × (first.0 ≤ 4)) }
+    ensures within { IfSome result (λ first. 3 + 2 * first.0 ≤ length text.now) }
+{
+    match text {
+        [blank, b'<', rest @ ..] if is_white(*blank) => short_pairs(rest),
+        _ => None,
+    }
+}
+
+/// The same, by the bytes after `<`.
+fn short_pairs(text: &[u8]) -> Option<(u8, u32)>
+    ensures exact { result ≡ short_pairs text.now }
+    ensures few { IfSome result (λ first. (1 ≤ first.0) × (first.0 ≤ 4)) }
+    ensures within { IfSome result (λ first. 2 * first.0 < length text.now) }
+{
+    if let Some(number) = closed_number(text, 2) {
+        Some((1, number))
+    } else if let Some(number) = closed_number(text, 4) {
+        Some((2, number))
+    } else if let Some(number) = closed_number(text, 6) {
+        Some((3, number))
+    } else {
+        Some((4, closed_number(text, 8)?))
+    }
+}
+
+/// How many bytes a string writes in pairs of digits, six or eight, and the numbers of the first four
+/// and of the others, where a text begins with such a string after one white byte.
+pub(super) fn spaced_parts(text: &[u8]) -> Option<(u8, u32, u32)>
+    ensures front { result ≡ spaced_parts text.now }
+    ensures few { IfSome result (λ first. (6 ≤ first.0) × (first.0 ≤ 8) × (first.0 % 2 ≡ 0)) }
+    ensures within { IfSome result (λ first. 3 + 2 * first.0 ≤ length text.now) }
+{
+    match text {
+        [blank, b'<', rest @ ..] if is_white(*blank) => {
+            if let Some(found) = closed_parts(rest, 2) {
+                Some(found)
+            } else {
+                closed_parts(rest, 4)
+            }
+        }
+        _ => None,
+    }
+}
+
+/// Four pairs of digits and `count` more, where `>` follows them.
+#[inline(always)]
+fn closed_parts(text: &[u8], count: u8) -> Option<(u8, u32, u32)>
+    requires some { 1 ≤ count }
+    requires few { count ≤ 4 }
+    ensures exact { result ≡ closed_parts count text.now }
+    ensures within { IfSome result (λ first. (first.0 ≡ 4 + count) × (2 * first.0 < length text.now)) }
+{
+    if text.len() < 8 {
+        return None;
+    }
+    let high = hex_number(&text[..8])?;
+    let low = closed_number(&text[8..], 2 * usize::from(count))?;
+    Some((4 + count, high, low))
+}
+
+/// The number of the digits that are the first `len` bytes of a text, where `>` follows them.
+#[inline(always)]
+fn closed_number(text: &[u8], len: usize) -> Option<u32>
+    requires some { 1 ≤ len }
+    requires few { len ≤ 8 }
+    ensures exact { result ≡ closed_number len text.now }
+    ensures within { IfSome result (λ _. len < length text.now) }
+{
+    if text.len() > len && text[len] == b'>' {
+        hex_number(&text[..len])
+    } else {
+        None
     }
 }

@@ -3,7 +3,7 @@ use Rattle.cmap_tokens.specs.Tokens.{String}
 use Rattle.cmap_text.specs.TextReading.{code_of}
 use Rattle.cmap_text.specs.TokenParsers.{token_in}
 use Rattle.cmap_text.proofs.TokensRead.{read_value, code_of-is}
-use Rattle.cmap_text.proofs.tokens.TokenReader.plain_code.Goals as goal
+use Rattle.cmap_text.proofs.tokens.TokenReader.two_byte_code.Goals as goal
 
 pub returns : goal.returns
 returns c =

@@ -1,0 +1,50 @@
+use Rattle.std.proofs.Common.{◌≡◌, Ok, Some, refl, arith}
+use Rattle.cmap_files.specs.DeclarationsSeen.{lists_seen}
+use Rattle.cmap_text.specs.TextReading.{code_fault, code_or_closer, entry_after}
+use Rattle.cmap_text.specs.TextSeen.{code_seen, section_seen}
+use Rattle.cmap_text.specs.TokenParsers.{head_in}
+use Rattle.cmap_text.proofs.EntriesRead.{body_next, code_starts}
+use Rattle.cmap_text.proofs.Refusals.{passed_on}
+use Rattle.cmap_text.proofs.TokenParsers.{head-shorter, is_there}
+use Rattle.cmap_text.proofs.sections.read_two_byte_entries.Goals as goal
+use Rattle.cmap_text.proofs.sections.read_two_byte_entries.Goals.{In-Some}
+
+starts : (c : In-Some) → head_in code_fault (code_or_closer (section_seen c.args.section)) c.loop-start.reader ≡ Ok (Some (code_seen c.in-Some.start), c.two_byte_code.new.self)
+starts c = let (piece, token, code) = c.in-Some.ensures in code_starts (section_seen c.args.section) c.loop-start.reader c.two_byte_code.new.self piece (code_seen c.in-Some.start) token code
+
+pub loop-start-smaller : goal.loop-start-smaller
+loop-start-smaller c =
+    let section = section_seen c.args.section in
+    let entry = entry_after section (code_seen c.in-Some.start) (lists_seen c.loop-start.lists) in
+    let added = rw c.if-not-branch.false at c.in_ok-add_plain.ensures in
+    omega (arith, head-shorter code_fault (code_or_closer section) c.loop-start.reader _ (starts (goal.at.loop-start-smaller c).In-Some), (is_there entry c.two_byte_code.new.self _ added).2)
+
+pub loop-start-preserved : goal.loop-start-preserved
+loop-start-preserved c =
+    let added = rw c.if-not-branch.false at c.in_ok-add_plain.ensures in
+    record {
+      same = rw (c.loop-start.invariant.same, body_next, starts (goal.at.loop-start-preserved c).In-Some, added) refl;
+      fewer = omega (arith, loop-start-smaller c, c.loop-start.invariant.fewer);
+    }
+
+pub loop-start-smaller-in_ok-read_entry : goal.loop-start-smaller-in_ok-read_entry
+loop-start-smaller-in_ok-read_entry c =
+    let section = section_seen c.args.section in
+    let entry = entry_after section (code_seen c.in-Some.start) (lists_seen c.loop-start.lists) in
+    let stays = rw c.if-not-branch.true at c.in_ok-add_plain.ensures in
+    let adds = rw (stays.0, stays.1) at c.in_ok-read_entry.ensures.adds.0 in
+    omega (arith, head-shorter code_fault (code_or_closer section) c.loop-start.reader _ (starts (goal.at.loop-start-smaller-in_ok-read_entry c).In-Some), (is_there entry c.two_byte_code.new.self _ adds).2)
+
+pub loop-start-preserved-in_ok-read_entry : goal.loop-start-preserved-in_ok-read_entry
+loop-start-preserved-in_ok-read_entry c =
+    let stays = rw c.if-not-branch.true at c.in_ok-add_plain.ensures in
+    let adds = rw (stays.0, stays.1) at c.in_ok-read_entry.ensures.adds.0 in
+    record {
+      same = rw (c.loop-start.invariant.same, body_next, starts (goal.at.loop-start-preserved-in_ok-read_entry c).In-Some, adds) refl;
+      fewer = omega (arith, loop-start-smaller-in_ok-read_entry c, c.loop-start.invariant.fewer);
+    }
+
+pub returns-in_err-read_entry-clause-reads : goal.returns-in_err-read_entry-clause-reads
+returns-in_err-read_entry-clause-reads c =
+    let stays = rw c.if-not-branch.true at c.in_ok-add_plain.ensures in
+    passed_on c.from_residual-in_err-read_entry.result _ _ c.read_entry.new.reader _ _ c.from_residual-in_err-read_entry.ensures.1 c.in_err-read_entry.ensures.adds.1 (λ e is. let refused = rw (stays.0, stays.1) at is in rw (c.loop-start.invariant.same, body_next, starts (goal.at.returns-in_err-read_entry-clause-reads c).In-Some, refused) refl)

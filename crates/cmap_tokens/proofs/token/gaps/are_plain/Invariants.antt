@@ -1,0 +1,7 @@
+use Rattle.std.proofs.Common.{◌≡◌, true, take}
+use Rattle.std.specs.List.{list_all}
+use Rattle.cmap_tokens.specs.TokenReading.{is_plain}
+use Rattle.cmap_tokens.proofs.token.gaps.are_plain.Given as goal
+
+abbrev pub invariant-loop-byte : goal.invariant-loop-byte
+invariant-loop-byte l = list_all is_plain (take l.byte-index l.bytes) ≡ true
