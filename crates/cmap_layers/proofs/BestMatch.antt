@@ -9,12 +9,14 @@ use Rattle.cmap_files.specs.Files.{Codespace}
 use Rattle.cmap_files.specs.declared.code_length.CodeLength.{CodeLength}
 use Rattle.cmap_files.specs.declared.code_length.CodeLength.TheVariants.{One, Two, Three, Four}
 use Rattle.cmap_files.specs.declared.declarations.Codespace as declared
+use Rattle.cmap_files.specs.Only.{HoldsOfNone}
 use Rattle.cmap_layers.specs.Layers.{Layer}
 use Rattle.cmap_layers.specs.LayersSeen.{layer_seen, layers_seen}
 use Rattle.cmap_layers.specs.SpaceBits.{HasFront, IsLeast, IsShortestMatch}
-use Rattle.cmap_layers.specs.StringCodes.{Matches, IsBestMatch, Wants, ranges_of}
+use Rattle.cmap_layers.specs.StringCodes.{BeginsInside, Matches, IsBestMatch, Wants, ranges_of}
 use Rattle.cmap_layers.specs.declared.layers.Layer as made
-use Rattle.cmap_layers.proofs.SpacesFound.{any_of_one}
+use Rattle.cmap_layers.proofs.CodesInside.{front_inside}
+use Rattle.cmap_layers.proofs.SpacesFound.{AreBytes, any_of_one}
 
 -- ---- the ranges of all layers
 in_first : (P : Codespace → Type 0) (xs ys : List Codespace) → Any P xs → Any P (xs ++ ys)
@@ -105,15 +107,24 @@ shortest_of_layer layer front (Some n) (is, least) =
 abbrev pub MatchAtMost : List Codespace → List ℕ → ℕ → ℕ → Type 0
 MatchAtMost spaces text fewer most = All (λ space. (m : ℕ) → Matches space text m → m + fewer ≤ most) spaces
 
-pub all_at_most : (layers : List made.Layer) (text : List ℕ) (most : ℕ) → most ≡ min (length text) 4 → MatchAtMost (ranges_of (layers_seen layers)) text 0 most
-all_at_most layers text most is = all_ranges (λ s. (m : ℕ) → Matches s text m → m + 0 ≤ most) (layers_seen layers) (λ s held m matches.
-    let fits = code_length layers s held in let few = fits.1 in let (short, within, _) = matches in omega arith)
-
 in_front : (text : List ℕ) (n : ℕ) (space : Codespace) → n ≤ length text → Matches space text n → Matches space (take n text) (length (take n text))
 in_front text n space within matches =
     let size = length-take-le n text within in
     let few = matches.0 in
     (omega arith, omega arith, λ k lt. let below : k < n = omega arith in let each = matches.2 k below in let same = get_or-take n text k 0 below in (omega (arith, each.0), omega (arith, each.1)))
+
+-- no range matches four bytes of a string that begins with no code in a range
+pub all_at_most : (layers : List made.Layer) (text : List ℕ) (most : ℕ) → most ≡ min (length text) 3 → AreBytes text → HoldsOfNone (BeginsInside (layers_seen layers) text) → MatchAtMost (ranges_of (layers_seen layers)) text 0 most
+all_at_most layers text most is bytes none = all_ranges (λ s. (m : ℕ) → Matches s text m → m + 0 ≤ most) (layers_seen layers) (λ s held m matches.
+    let fits = code_length layers s held in let (some, four) = fits in let (short, within, _) = matches in
+    elim (cases_lt m 4) [
+      | inl few ↦ omega arith
+      | inr whole ↦
+          let same : m ≡ s.len = omega arith in
+          let here = subst (λ n. Matches s text n) same matches in
+          let front = have_front (layers_seen layers) (take s.len text) s held (in_front text s.len s (omega arith) here) in
+          absurd (none s.len (front_inside text (layers_seen layers) s.len bytes (some, four, omega arith) front))
+    ])
 
 of_front : (text : List ℕ) (n : ℕ) (space : Codespace) → n ≤ length text → Matches space (take n text) (length (take n text)) → Matches space text n
 of_front text n space within matches =

@@ -97,13 +97,16 @@ least_layer text layers count layer before here is old new =
     least_of_both (IsInsideFirst text layers count) (IsInsideRanges text (map codespace_seen layer.spaces)) (IsInsideFirst text layers (count + 1)) before here
     (more_layers text layers count) (λ n. this_layer text layers count layer n is) (λ n. either_layer text layers count layer n is) old new
 
-inside_first : (text : List ℕ) (layers : List Layer) (n : ℕ) → AreBytes text → IsInsideFirst text layers (length layers) n → BeginsInside (layers_seen layers) text n
-inside_first text layers n fits (begins, k, below, has) =
+-- a code whose bytes a range has
+pub front_inside : (text : List ℕ) (all : List layers.Layer) (n : ℕ) → AreBytes text → Begins text n → Any (HaveFront text n) all → BeginsInside all text n
+front_inside text all n fits begins ranges =
     let (some, few, within) = begins in
     let size = length-take-le n text within in
     let number = number_fits (take n text) (taken_bytes text n fits) (omega arith) in
-    let ranges = any_at layer_seen (HaveFront text n) layers k has in
-    (within, (some, few, subst (λ m. front text n < 256 ^ m) size number, any_weaker (HasFront n (take n text)) (λ space. IsWithin space (front text n) n) (layers_seen layers) (λ space. (within_front text n space fits begins).1) ranges))
+    (within, (some, few, subst (λ m. front text n < 256 ^ m) size number, any_weaker (HasFront n (take n text)) (λ space. IsWithin space (front text n) n) all (λ space. (within_front text n space fits begins).1) ranges))
+
+inside_first : (text : List ℕ) (layers : List Layer) (n : ℕ) → AreBytes text → IsInsideFirst text layers (length layers) n → BeginsInside (layers_seen layers) text n
+inside_first text layers n fits (begins, k, below, has) = front_inside text (layers_seen layers) n fits begins (any_at layer_seen (HaveFront text n) layers k has)
 
 first_inside : (text : List ℕ) (layers : List Layer) (n : ℕ) → AreBytes text → BeginsInside (layers_seen layers) text n → IsInsideFirst text layers (length layers) n
 first_inside text layers n fits (within, (some, few, number, ranges)) =

@@ -97,10 +97,11 @@ fn shortest_inside(layers: &[Layer], text: &[u8]) -> Option<(u8, u32)>
 #[cold]
 #[inline(never)]
 fn bytes_wanted(layers: &[Layer], text: &[u8]) -> u8
+    requires { HoldsOfNone (BeginsInside (layers_seen layers.now) text.now) }
     ensures wanted { Wants (ranges_of (layers_seen layers.now)) text.now result }
     ensures length { IsCodeLength result }
 {
-    let most = text.len().min(4);
+    let most = text.len().min(3);
     for fewer in 0..most + 1 {
         if let Some(byte_len) = shortest_with_front(layers, &text[..most - fewer]) {
             return byte_len;

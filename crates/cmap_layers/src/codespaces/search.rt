@@ -23,6 +23,7 @@ pub(super) fn any_of_blocks(blocks: &[Vec<u64>], query: &Query) -> bool
 
 /// The answer of `any_of_blocks`. Each top group is looked at, of its groups those that may have a range, and
 /// of their blocks too.
+#[inline(always)]
 pub(super) fn any_of_tops(
     blocks: &[Vec<u64>],
     groups: &[Vec<u64>],
@@ -44,6 +45,7 @@ pub(super) fn any_of_tops(
 }
 
 /// Whether a range is asked for of the blocks of those groups from `first` on that have their bits set.
+#[inline(always)]
 fn any_of_top(
     blocks: &[Vec<u64>],
     groups: &[Vec<u64>],
@@ -75,6 +77,7 @@ fn any_of_top(
 }
 
 /// Whether a range is asked for of the blocks of the group at this index, if there is one.
+#[inline(always)]
 fn finds_in_group(blocks: &[Vec<u64>], groups: &[Vec<u64>], index: usize, query: &Query) -> bool
     requires groups { AreGroups blocks.now groups.now }
     requires rows { HaveRows blocks.now }
@@ -89,6 +92,7 @@ fn finds_in_group(blocks: &[Vec<u64>], groups: &[Vec<u64>], index: usize, query:
 }
 
 /// Whether a range is asked for of the blocks from `first` on that have their bits set.
+#[inline(always)]
 fn any_of_group(blocks: &[Vec<u64>], first: usize, bits: u64, query: &Query) -> bool
     requires first { first < length blocks.now }
     requires rows { HaveRows blocks.now }
@@ -113,6 +117,7 @@ fn any_of_group(blocks: &[Vec<u64>], first: usize, bits: u64, query: &Query) -> 
 }
 
 /// Whether a range is asked for of the block at this index, if there is one.
+#[inline(always)]
 fn finds_at(blocks: &[Vec<u64>], index: usize, query: &Query) -> bool
     requires rows { HaveRows blocks.now }
     requires query { AreRows query.now }

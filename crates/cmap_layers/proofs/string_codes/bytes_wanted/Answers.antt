@@ -5,7 +5,7 @@ use Rattle.cmap_layers.proofs.BestMatch.{MatchAtMost, all_at_most, best_with_fro
 use Rattle.cmap_layers.proofs.string_codes.bytes_wanted.Goals as goal
 
 pub loop-fewer-init : goal.loop-fewer-init
-loop-fewer-init c = all_at_most c.args.layers.now c.args.text.now c.min-most.result (omega (arith, c.min-most.ensures))
+loop-fewer-init c = all_at_most c.args.layers.now c.args.text.now c.min-most.result (omega (arith, c.min-most.ensures)) (λ k. omega (arith, c.type_inv.text k)) c.requires
 
 pub returns-in-Some-clause-wanted : goal.returns-in-Some-clause-wanted
 returns-in-Some-clause-wanted c =
