@@ -1,0 +1,86 @@
+/* Looks up all codes of two bytes N times, so that callgrind can count a round:
+ *
+ *     measure cid|strict|decode|cids FILE N
+ *
+ * A round calls hayro_cmap_cid or hayro_cmap_cid_strict for each code, hayro_cmap_decode for a string of all of
+ * them, or hayro_cmap_cids for all at once. It prints the sum of the CIDs of the last round. */
+#include "hayro_cmap.h"
+#include <inttypes.h>
+#include <stdio.h>
+#include <stdlib.h>
+#include <string.h>
+
+enum { CODES = 65536 };
+
+static uint8_t string[2 * CODES];
+static hayro_cmap_code codes[CODES];
+static uint32_t cids[CODES];
+
+static void fail(const char *what) {
+    fprintf(stderr, "measure: %s\n", what);
+    exit(2);
+}
+
+static uint8_t *read_all(const char *path, size_t *len) {
+    FILE *in = fopen(path, "rb");
+    if (!in || fseek(in, 0, SEEK_END)) fail("the file can't be read");
+    *len = (size_t)ftell(in);
+    rewind(in);
+    uint8_t *bytes = malloc(*len + 1);
+    if (!bytes || fread(bytes, 1, *len, in) != *len) fail("the file can't be read");
+    fclose(in);
+    return bytes;
+}
+
+static uint64_t one_by_one(hayro_cmap *map, bool strict) {
+    uint64_t sum = 0;
+    uint32_t cid;
+    for (uint32_t code = 0; code < CODES; code++)
+        if (strict ? hayro_cmap_cid_strict(map, code, 2, &cid) : hayro_cmap_cid(map, code, 2, &cid)) sum += cid;
+    return sum;
+}
+
+static uint64_t decoded(hayro_cmap *map) {
+    size_t made, taken;
+    if (hayro_cmap_decode(map, string, sizeof string, codes, CODES, &made, &taken) != HAYRO_CMAP_OK)
+        fail("the string isn't cut into codes");
+    uint64_t sum = 0;
+    for (size_t i = 0; i < made; i++) sum += codes[i].cid;
+    return sum;
+}
+
+static uint64_t at_once(hayro_cmap *map) {
+    if (!hayro_cmap_cids(map, 0, 2, 0, cids, CODES)) fail("there is no map");
+    uint64_t sum = 0;
+    for (size_t i = 0; i < CODES; i++) sum += cids[i];
+    return sum;
+}
+
+static uint64_t round_of(const char *mode, hayro_cmap *map) {
+    if (strcmp(mode, "cid") == 0) return one_by_one(map, false);
+    if (strcmp(mode, "strict") == 0) return one_by_one(map, true);
+    if (strcmp(mode, "decode") == 0) return decoded(map);
+    if (strcmp(mode, "cids") == 0) return at_once(map);
+    fail("the mode is cid, strict, decode or cids");
+    return 0;
+}
+
+int main(int argc, char **argv) {
+    if (argc != 4) fail("three arguments are wanted");
+    for (size_t i = 0; i < CODES; i++) {
+        string[2 * i] = (uint8_t)(i >> 8);
+        string[2 * i + 1] = (uint8_t)i;
+    }
+    size_t len;
+    uint8_t *file = read_all(argv[2], &len);
+    hayro_cmap map = HAYRO_CMAP_EMPTY;
+    if (hayro_cmap_parse(&map, file, len, hayro_cmap_bytes(NULL), 0, hayro_cmap_files(NULL), 0,
+                         HAYRO_CMAP_NO_BUDGET) != HAYRO_CMAP_OK)
+        fail("the file is refused");
+    uint64_t sum = 0;
+    for (long n = strtol(argv[3], NULL, 10); n > 0; n--) sum = round_of(argv[1], &map);
+    printf("%" PRIu64 "\n", sum);
+    hayro_cmap_free(&map);
+    free(file);
+    return 0;
+}
