@@ -1,5 +1,5 @@
 -- Codespace ranges that are asked for: the rows of a query, and whether a range is in all of them.
-use Rattle.std.proofs.Common.{◌≡◌, ◌≢◌, ℕ, zero, suc, ◌+◌, ◌-◌, ◌*◌, ◌/◌, ◌%◌, ◌^◌, ◌<◌, ◌≤◌, ◌⊎◌, List, [], ◌∷◌, length, map, min, take, drop, get_or, get_or-take, Option, Some, None, refl, sym, ap, ◌∙◌, subst, inl, inr, lt-ltb, le-ltb, div-one, slice_get, bit_and, All, Any, arith}
+use Rattle.std.proofs.Common.{◌≡◌, ◌≢◌, ℕ, zero, suc, ◌+◌, ◌-◌, ◌*◌, ◌/◌, ◌%◌, ◌^◌, ◌<◌, ◌≤◌, ◌⊎◌, List, [], ◌∷◌, length, map, max, min, take, drop, get_or, get_or-take, Option, Some, None, refl, sym, ap, ◌∙◌, subst, inl, inr, lt-ltb, le-ltb, div-one, slice_get, bit_and, All, Any, arith}
 use Rattle.std.specs.Prelude.{◌↔◌, IsSomeAnd, slice_index, if◌then◌else◌}
 use Rattle.std.specs.Int.{bit_at, bytes_high_first}
 use Rattle.std.specs.Int as int
@@ -461,3 +461,18 @@ fewest_ranges spaces block front least bytes few are is =
     let ranges = λ (n : ℕ) (fits : IsCodeLength n). any_same (InRows (query_of n front)) (HasFront n front) (map codespace_seen spaces) (λ space. front_rows n front space bytes fits.0 few) in
     least_same (λ n. IsCodeLength n × IsFound block.items (query_of n front)) (λ n. IsCodeLength n × Any (HasFront n front) (map codespace_seen spaces)) least
     (λ n. (λ holds. (holds.0, (ranges n holds.0).0 ((same n holds.0).0 holds.1)), λ holds. (holds.0, (same n holds.0).1 ((ranges n holds.0).1 holds.1)))) is
+
+-- no code is shorter than a front of it, or than those of all ranges
+pub too_few : (spaces : List declared.Codespace) (front : List ℕ) (fewest n : ℕ) → All (λ space. fewest ≤ length_of space.len) spaces → n < max (length front) fewest → Any (HasFront n front) (map codespace_seen spaces) → ⊥
+too_few spaces front fewest n least short some =
+    let (k, below, has) = at_any codespace_seen (HasFront n front) spaces some in
+    elim (slice_get_cases spaces k).1 [
+      | inl (space, within, at, is) ↦
+          let front_has = subst (λ o. IsSomeAnd o (λ space. HasFront n front (codespace_seen space))) at has in
+          let same = front_has.0 in
+          elim (cases_lt n (length front)) [
+            | inl part ↦ let its = front_has.1 n part in let fits = its.0 in omega arith
+            | inr whole ↦ omega (arith, least k space within, ap (λ (s : declared.Codespace). length_of s.len) is)
+          ]
+      | inr past ↦ absurd (subst (λ o. IsSomeAnd o (λ space. HasFront n front (codespace_seen space))) past.1 has)
+    ]

@@ -91,7 +91,7 @@ impl Spaces {
         if let [only] = self.blocks.as_slice() {
             return fewest_with_front(only, front);
         }
-        for byte_len in 1..5 {
+        for byte_len in front.len().max(usize::from(self.fewest)) as u8..5 {
             if self.any_of_all(&Query::of_front(byte_len, front)) {
                 return Some(byte_len);
             }

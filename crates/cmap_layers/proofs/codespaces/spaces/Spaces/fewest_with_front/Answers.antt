@@ -3,7 +3,7 @@ use Rattle.std.proofs.lemmas.Bool.{cases_lt, false≢true}
 use Rattle.cmap_files.specs.CodeLengths.{IsCodeLength}
 use Rattle.cmap_files.specs.DeclarationsSeen.{codespace_seen}
 use Rattle.cmap_layers.specs.SpaceBits.{AreBlocks, HasFront, InRows, IsFound, IsLeast, query_of}
-use Rattle.cmap_layers.proofs.SpacesFound.{any_same, fewest_ranges, only_item}
+use Rattle.cmap_layers.proofs.SpacesFound.{any_same, fewest_ranges, only_item, too_few}
 use Rattle.cmap_layers.proofs.codespaces.spaces.Spaces.fewest_with_front.Goals as goal
 
 pub returns-in-len1 : goal.returns-in-len1
@@ -14,6 +14,10 @@ returns-in-len1 c =
     let rows : c.deref.result.now ≡ block.items = search rules in
     let here = subst (λ rows. IsLeast (λ n. IsCodeLength n × IsFound rows (query_of n front)) c.fewest_with_front.result) rows c.fewest_with_front.ensures in
     rw (← c.self.view_is) (fewest_ranges list block front c.fewest_with_front.result (λ k. omega (arith, c.type_inv.front k)) c.requires (subst (AreBlocks list) is c.self.invariant.by_blocks) here)
+
+pub loop-byte_len-init : goal.loop-byte_len-init
+loop-byte_len-init c = λ n some below found.
+    too_few c.self.inside.list.items c.args.front.now c.self.inside.fewest n c.self.invariant.least (omega arith) (rw c.self.view_is found)
 
 pub returns-then-any_of_all : goal.returns-then-any_of_all
 returns-then-any_of_all c =
