@@ -14,6 +14,8 @@ mod cid_ranges;
 #[cfg(test)]
 mod codes_in_a_row;
 #[cfg(test)]
+mod codespace_ranges;
+#[cfg(test)]
 mod examples;
 #[cfg(test)]
 mod maker;

@@ -1,0 +1,38 @@
+//! A file of many codespace ranges.
+
+use hayro_cmap::{CMap, CMapName};
+use std::alloc::{AllocError, Global};
+use std::test::Fail;
+
+/// A range for each of 4200 even codes of three bytes, and one for codes of two bytes that begin with FF.
+fn file_of_ranges(alloc: Global) -> Result<String, AllocError> {
+    let mut file = String::from_str(alloc, "begincodespacerange ")?;
+    for half in 0..4200 {
+        let code = 2 * half;
+        write!(file, "<{code:06X}> <{code:06X}>\n")?;
+    }
+    file.push_str("<FF00> <FFFF> endcodespacerange begincidrange <000000> <FFFFFF> 0 endcidrange")?;
+    Ok(file)
+}
+
+/// How many bytes the first code of a string has, and whether it lies in a codespace range.
+fn first_code(map: &CMap, string: &[u8]) -> Option<(u8, bool)> {
+    let next = map.next_code(string)?;
+    Some((next.byte_len, next.in_codespace))
+}
+
+#[test]
+fn a_code_is_found_among_thousands_of_codespace_ranges(rt: HostRuntime) -> Result<(), Fail> {
+    let file = file_of_ranges(rt.alloc())?;
+    let no_file: Option<&'static [u8]> = None;
+    let get_cmap = |_name: CMapName<'_>| no_file;
+    let map = CMap::parse(rt.alloc(), file.as_bytes(), None, &get_cmap)?.expect(&rt, "refused");
+    assert!(rt; first_code(&map, b"\0\0\0\0") == Some((3, true)));
+    assert!(rt; first_code(&map, b"\0\x20\xCE\0") == Some((3, true)));
+    assert!(rt; first_code(&map, b"\0\x20\xD0\0") == Some((3, false)));
+    assert!(rt; first_code(&map, b"\0\x10\x01\0") == Some((3, false)));
+    assert!(rt; first_code(&map, b"\xFF\x41\0\0") == Some((2, true)));
+    assert!(rt; map.lookup_cid_code_strict(0x1000, 3) == Some(0x1000));
+    assert!(rt; map.lookup_cid_code_strict(0x1001, 3) == None);
+    Ok(())
+}
