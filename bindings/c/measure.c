@@ -13,7 +13,7 @@
 enum { CODES = 65536 };
 
 static uint8_t string[2 * CODES];
-static hayro_cmap_code codes[CODES];
+static hayro_cmap_code codes[2 * CODES];
 static uint32_t cids[CODES];
 
 static void fail(const char *what) {
@@ -42,7 +42,7 @@ static uint64_t one_by_one(hayro_cmap *map, bool strict) {
 
 static uint64_t decoded(hayro_cmap *map) {
     size_t made, taken;
-    if (hayro_cmap_decode(map, string, sizeof string, codes, CODES, &made, &taken) != HAYRO_CMAP_OK)
+    if (hayro_cmap_decode(map, string, sizeof string, codes, 2 * CODES, &made, &taken) != HAYRO_CMAP_OK)
         fail("the string isn't cut into codes");
     uint64_t sum = 0;
     for (size_t i = 0; i < made; i++) sum += codes[i].cid;
