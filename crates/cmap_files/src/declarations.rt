@@ -1,6 +1,6 @@
 //! What a CMap declares for its codes.
 
-ghost use Rattle.std.specs.Prelude.{◌≡◌, ◌==◌, ◌+◌, ◌≤◌, [], ◌∷◌, ◌++◌, IfOk, OnErr, OnOk, if◌then◌else◌, vec_capacity, vec_len};
+ghost use Rattle.std.specs.Prelude.{◌≡◌, ◌==◌, ◌+◌, ◌<◌, ◌≤◌, [], ◌∷◌, ◌++◌, IfOk, OnErr, OnOk, if◌then◌else◌, vec_capacity, vec_len};
 ghost use Rattle.cmap_files.specs.CodeLengths.{length_of};
 ghost use Rattle.cmap_files.specs.Files.{Declaration, lists_of};
 ghost use Rattle.cmap_files.specs.DeclarationsSeen.{bf_entry_seen, cid_entry_seen, codespace_seen, lists_seen, slot};
@@ -165,8 +165,7 @@ impl Lists {
             (lists_of (Declaration.bf (bf_entry_seen range) ∷ []))) }
         ensures same { OnErr result (lists_seen self.new ≡ lists_seen self.old) }
     {
-        self.bfs.push(range)?;
-        Ok(())
+        push(&mut self.bfs, range)
     }
 
     /// Adds a codespace range.
@@ -175,8 +174,7 @@ impl Lists {
             (lists_of (Declaration.codespace (codespace_seen space) ∷ []))) }
         ensures same { OnErr result (lists_seen self.new ≡ lists_seen self.old) }
     {
-        self.spaces.push(space)?;
-        Ok(())
+        push(&mut self.spaces, space)
     }
 }
 
@@ -200,14 +198,34 @@ fn push_filed(
         × (lists.new.three.items ≡ lists.old.three.items)
         × (lists.new.four.items ≡ lists.old.four.items)) }
 {
-    let pushed = match len {
-        CodeLength::One => lists.one.push(range),
-        CodeLength::Two => lists.two.push(range),
-        CodeLength::Three => lists.three.push(range),
-        CodeLength::Four => lists.four.push(range),
-    };
-    pushed?;
+    match len {
+        CodeLength::One => push(&mut lists.one, range),
+        CodeLength::Two => push(&mut lists.two, range),
+        CodeLength::Three => push(&mut lists.three, range),
+        CodeLength::Four => push(&mut lists.four, range),
+    }
+}
+
+/// Adds a value to a list. A full list grows by a quarter, so that it holds little unused capacity.
+#[inline(always)]
+fn push<T: Drop>(list: &mut Vec<T>, value: T) -> Result<(), AllocError>
+    ensures added { OnOk result (list.new.items ≡ list.old.items ++ value ∷ []) }
+    ensures same { OnErr result (list.new.items ≡ list.old.items) }
+{
+    if list.len() == list.capacity() {
+        grow(list)?;
+    }
+    list.push_reserved(value);
     Ok(())
+}
+
+/// Makes room for more values in a full list.
+#[inline(never)]
+fn grow<T>(list: &mut Vec<T>) -> Result<(), AllocError>
+    ensures same { list.new.items ≡ list.old.items }
+    ensures room { OnOk result (vec_len list.new < vec_capacity list.new) }
+{
+    list.reserve_exact(list.len() / 4 + 16)
 }
 
 fn empty_lists(alloc: Global) -> ByLength<Vec<CidRange>>

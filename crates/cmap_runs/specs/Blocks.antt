@@ -1,5 +1,5 @@
 -- Private aid: the runs of blocks of codes.
-use Rattle.std.specs.Prelude.{◌≡◌, true, ℕ, ◌+◌, ◌-◌, ◌*◌, ◌/◌, ◌<◌, ◌≤◌, ◌^◌, List, length, get_or, count_ones}
+use Rattle.std.specs.Prelude.{ℕ, ◌+◌, ◌-◌, ◌*◌, ◌/◌, ◌<◌, ◌≤◌, ◌^◌, List, All, length, get_or, count_ones}
 use Rattle.std.specs.List.{AllWithin}
 use Rattle.cmap_runs.specs.Ranges.{Run, Holds}
 use Rattle.cmap_runs.specs.declared.runs.blocks.Block.{Block}
@@ -27,4 +27,4 @@ pub record AreBlocks (runs : List Run) (blocks : Blocks) : Type 0 where
       → MayHold runs (32 * i + place) (begun_by (get_or blocks.list.items i d) place)
   pub within : blocks.left ≤ length runs
   pub before : AllWithin (λ run. run.high < 32 * length blocks.list.items) runs 0 (length runs - blocks.left)
-  pub all : blocks.are_all ≡ true → blocks.left ≡ 0
+  pub end : All (λ run. run.high < blocks.end) runs

@@ -38,8 +38,8 @@ pub(super) struct Blocks {
     pub(super) list: Vec<Block>,
     /// How many runs don't end before the first code after the blocks.
     pub(super) left: usize,
-    /// Whether there is no such run, which is asked without that number.
-    pub(super) are_all: bool,
+    /// The code after those of all runs.
+    pub(super) end: u64,
 }
 
 impl Blocks {

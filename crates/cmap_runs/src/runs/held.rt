@@ -1,6 +1,6 @@
 //! What a table holds: runs and declarations. Outside of this module each look at one is counted.
 
-ghost use Rattle.std.specs.Prelude.{◌≡◌, ℕ, ◌+◌, ◌-◌, ◌/◌, ◌%◌, ◌^◌, ◌<◌, ◌≤◌, true, [], Some, IfOk, OnOk, OnErr, count_ones, length, map, slice_get};
+ghost use Rattle.std.specs.Prelude.{◌≡◌, ℕ, ◌+◌, ◌-◌, ◌/◌, ◌%◌, ◌^◌, ◌<◌, ◌≤◌, true, [], All, Some, IfOk, OnOk, OnErr, count_ones, length, map, slice_get};
 ghost use Rattle.std.specs.List.{AllWithin};
 ghost use Rattle.cmap_runs.specs.Blocks.{AreBlocks, HaveBegun, MayHold, begun_by};
 ghost use Rattle.cmap_runs.specs.HeldRuns.{indices_within, runs_held};
@@ -191,12 +191,19 @@ impl<T: HasRange> Held<T> {
             ended = self.ended_before(ended, begun, code);
         }
         let left = run_count - ended;
-        let are_all = left == 0;
-        Ok(Blocks {
-            list,
-            left,
-            are_all,
-        })
+        let end = self.end();
+        Ok(Blocks { list, left, end })
+    }
+
+    /// The code after those of all runs.
+    fn end(&self) -> u64
+        requires { IsInOrder self.now.runs }
+        ensures { All (λ run. run.high < result) self.now.runs }
+    {
+        match self.run_count() {
+            0 => 0,
+            count => u64::from(self.run_at(count - 1).high) + 1,
+        }
     }
 
     /// The block that ends before `code`, and how many runs begin before its end. The first `begun` begin

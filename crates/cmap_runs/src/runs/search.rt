@@ -29,9 +29,11 @@ pub(super) fn find_index<T: HasRange>(
     ensures looked { OnSome result (looks.old.runs + 1 ≤ looks.new.runs) }
     ensures declarations { looks.new.declarations ≡ looks.old.declarations }
 {
+    if u64::from(code) >= blocks.end {
+        return None;
+    }
     match blocks.block(code) {
         Some(block) => index_of_last(held, block.begun_by(code), code, looks),
-        None if blocks.are_all => None,
         None => find_among_last(held, blocks, code, looks),
     }
 }
