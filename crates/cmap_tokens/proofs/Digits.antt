@@ -1,22 +1,22 @@
 -- The numbers that digits write.
-use Rattle.std.proofs.Common.{◌++◌, suc, zero, Bool, None, inl, inr, length-take-le, ◌≡◌, ℕ, ◌+◌, ◌*◌, ◌-◌, ◌^◌, ◌<◌, ◌≤◌, min, List, length, get_or, take, true, ap, sym, ◌∙◌, ⊎_elim, arith, [], ◌∷◌, map, refl, ◌%◌, ◌/◌, pos, false, ◌==◌, Some}
+use Rattle.std.proofs.Common.{◌++◌, suc, zero, Bool, None, inl, inr, length-take-le, ◌≡◌, ℕ, ◌+◌, ◌*◌, ◌-◌, ◌^◌, ◌<◌, ◌≤◌, min, List, length, get_or, take, drop, true, ap, sym, ◌∙◌, ⊎_elim, arith, [], ◌∷◌, map, refl, ◌%◌, ◌/◌, pos, false, ◌==◌, Some}
 use Rattle.std.specs.Char.{digit_value, is_digit}
 use Rattle.std.specs.List.{list_all, prefix_len}
 use Rattle.std.proofs.lemmas.Bool.{and_from, and_right, leb-true, lt-ltb, ltb-false, cases_Bool, false≢true, cases_lt, and_parts, ltb-true, le-leb}
 use Rattle.std.proofs.lemmas.Bool.Decides.{nat_tests}
 use Rattle.std.proofs.lemmas.Int.Digits.{number_after_ge, number_push, digits_value_is, digits_value_more, number_lt}
-use Rattle.std.proofs.Math.Nat.{mul-le-mul_left, pow-le-pow_right, pow-suc}
-use Rattle.cmap_tokens.specs.Numbers.{digits_len, leading_decimal, digits_number, are_digits, digits_value, Integer, integer, numeral}
-use Rattle.std.specs.Prelude.{◌&&◌, Option, nat_lt, option_map, unwrap_or, nat_le}
+use Rattle.std.proofs.Math.Nat.{mul-le-mul_left, mul-le-mul_right, pow-le-pow_right, pow-suc}
+use Rattle.cmap_tokens.specs.Numbers.{decimal_front, digits_len, leading_decimal, digits_number, are_digits, digits_value, Integer, integer, numeral}
+use Rattle.std.specs.Prelude.{◌&&◌, IfSome, Option, nat_lt, option_map, unwrap_or, nat_le}
 use Rattle.std.specs.Int.Digits.{AllBelowBase, number_from_digits_after}
-use Rattle.std.proofs.lemmas.List.{length-map, length-take, map-append, take-take, take_more}
-use Rattle.cmap_tokens.specs.TokenReading.{hex_weight, leading_digits, octal_len}
+use Rattle.std.proofs.lemmas.List.{drop_more, length-map, length-take, map-append, take-append-drop, take-take, take_more}
+use Rattle.cmap_tokens.specs.TokenReading.{weight, leading_digits, octal_len}
 use Rattle.std.proofs.lemmas.Option.{none-some}
-use Rattle.cmap_tokens.proofs.ByteTests.{all_front, chosen, other_byte}
+use Rattle.cmap_tokens.proofs.ByteTests.{all_front, chosen, other_byte, prefix_ends}
 use Rattle.std.specs.Int.Digits.{number_from_digits}
 use Rattle.std.specs.List.{AllByRecursion}
 use Rattle.cmap_tokens.specs.Strings.{ArePairs, hex_value}
-use Rattle.cmap_tokens.specs.Bytes.{is_regular}
+use Rattle.cmap_tokens.specs.Bytes.{begins, is_regular, is_white}
 
 -- ---- a number kept within 64 bits
 -- a number within the limit m goes on by a digit
@@ -83,56 +83,82 @@ octal_value text =
     rw (uncapped 8 3 (take (octal_len text) text) (omega arith) (omega (arith, length-take (octal_len text) text)) (omega arith))
     (unwrapped (take (octal_len text) text) (all_front (λ c. is_digit c 8) (octal_len text) text (omega arith)))
 
--- ---- up to eight hexadecimal digits, which are tested at the end
-are_weights : (digits : List ℕ) → list_all (λ c. is_digit c 16) digits ≡ true → map hex_weight digits ≡ map digit_value digits
-are_weights [] all = refl
-are_weights (c ∷ digits) all =
-    let (first, others) = and_parts (is_digit c 16) (list_all (λ k. is_digit k 16) digits) all in
-    rw first (ap (λ more. digit_value c ∷ more) (are_weights digits others))
+-- ---- up to eight digits, which are tested at the end
+are_weights : (base : ℕ) (digits : List ℕ) → list_all (λ c. is_digit c base) digits ≡ true → map (weight base) digits ≡ map digit_value digits
+are_weights base [] all = refl
+are_weights base (c ∷ digits) all =
+    let (first, others) = and_parts (is_digit c base) (list_all (λ k. is_digit k base) digits) all in
+    rw first (ap (λ more. digit_value c ∷ more) (are_weights base digits others))
 
 -- a byte that is no digit makes the number too large
-too_heavy : (n : ℕ) (digits : List ℕ) → list_all (λ c. is_digit c 16) digits ≡ false → 2 ^ 32 ≤ number_from_digits_after 16 n (map hex_weight digits)
-too_heavy n [] some = absurd (false≢true (sym some))
-too_heavy n (c ∷ digits) some =
-    elim (cases_Bool (is_digit c 16)) [
-      | inl digit ↦ too_heavy (n * 16 + hex_weight c) digits (rw digit at some)
-      | inr other ↦ rw other (omega (arith, number_after_ge 16 (n * 16 + 2 ^ 32) (map hex_weight digits) (omega arith)))
+too_heavy : (base n : ℕ) (digits : List ℕ) → 0 < base → list_all (λ c. is_digit c base) digits ≡ false → 2 ^ 32 ≤ number_from_digits_after base n (map (weight base) digits)
+too_heavy base n [] some fails = absurd (false≢true (sym fails))
+too_heavy base n (c ∷ digits) some fails =
+    elim (cases_Bool (is_digit c base)) [
+      | inl digit ↦ too_heavy base (n * base + weight base c) digits some (rw digit at fails)
+      | inr other ↦ rw other (omega (arith, number_after_ge base (n * base + 2 ^ 32) (map (weight base) digits) some))
     ]
 
-pub hex_light : (digits : List ℕ) (n : ℕ) → 0 < length digits → n ≡ number_from_digits 16 (map hex_weight digits) → n < 2 ^ 32 → digits_value 16 digits ≡ Some n
-hex_light digits n some is small =
-    elim (cases_Bool (list_all (λ c. is_digit c 16) digits)) [
+pub light : (base : ℕ) (digits : List ℕ) (n : ℕ) → 0 < base → 0 < length digits → n ≡ number_from_digits base (map (weight base) digits) → n < 2 ^ 32 → digits_value base digits ≡ Some n
+light base digits n some filled is small =
+    elim (cases_Bool (list_all (λ c. is_digit c base) digits)) [
       | inl all ↦
-          let are : are_digits 16 digits ≡ true = and_from _ _ (lt-ltb 0 (length digits) some) all in
-          rw are (ap Some (sym (is ∙ ap (number_from_digits 16) (are_weights digits all))))
-      | inr other ↦ absurd (omega (arith, too_heavy 0 digits other, is, small))
+          let are : are_digits base digits ≡ true = and_from _ _ (lt-ltb 0 (length digits) filled) all in
+          rw are (ap Some (sym (is ∙ ap (number_from_digits base) (are_weights base digits all))))
+      | inr other ↦ absurd (omega (arith, too_heavy base 0 digits some other, is, small))
     ]
 
-pub hex_heavy : (digits : List ℕ) (n : ℕ) → length digits ≤ 8 → n ≡ number_from_digits 16 (map hex_weight digits) → 2 ^ 32 ≤ n → digits_value 16 digits ≡ None
-hex_heavy digits n few is large =
-    elim (cases_Bool (list_all (λ c. is_digit c 16) digits)) [
-      | inl all ↦ absurd (omega (arith, digits_small 16 8 digits (omega arith) all few, is ∙ ap (number_from_digits 16) (are_weights digits all), large))
-      | inr other ↦ let are : are_digits 16 digits ≡ false = and_right _ _ other in rw are refl
+pub heavy : (base : ℕ) (digits : List ℕ) (n : ℕ) → 0 < base → base ^ 8 ≤ 2 ^ 32 → length digits ≤ 8 → n ≡ number_from_digits base (map (weight base) digits) → 2 ^ 32 ≤ n → digits_value base digits ≡ None
+heavy base digits n some fits few is large =
+    elim (cases_Bool (list_all (λ c. is_digit c base) digits)) [
+      | inl all ↦ absurd (omega (arith, digits_small base 8 digits some all few, is ∙ ap (number_from_digits base) (are_weights base digits all), fits, large))
+      | inr other ↦ let are : are_digits base digits ≡ false = and_right _ _ other in rw are refl
     ]
 
-pub weight_value : (digits : List ℕ) (i : ℕ) → i < length digits → number_from_digits 16 (map hex_weight (take (i + 1) digits)) ≡ number_from_digits 16 (map hex_weight (take i digits)) * 16 + hex_weight (get_or digits i 0)
-weight_value digits i within =
-    ap (λ front. number_from_digits 16 (map hex_weight front)) (take_more digits i 0 within) ∙ ap (number_from_digits 16) (map-append hex_weight (take i digits) (get_or digits i 0 ∷ [])) ∙ number_push 16 (map hex_weight (take i digits)) (hex_weight (get_or digits i 0))
+pub weight_value : (base : ℕ) (digits : List ℕ) (i : ℕ) → i < length digits
+    → number_from_digits base (map (weight base) (take (i + 1) digits)) ≡ number_from_digits base (map (weight base) (take i digits)) * base + weight base (get_or digits i 0)
+weight_value base digits i within =
+    ap (λ front. number_from_digits base (map (weight base) front)) (take_more digits i 0 within) ∙ ap (number_from_digits base) (map-append (weight base) (take i digits) (get_or digits i 0 ∷ [])) ∙ number_push base (map (weight base) (take i digits)) (weight base (get_or digits i 0))
 
-pub most_weight : (b : ℕ) → hex_weight b ≤ 2 ^ 32
-most_weight b = elim (cases_Bool (is_digit b 16)) [ inl digit ↦ rw digit (omega (arith, ltb-true (digit_value b) 16 digit)) | inr other ↦ rw other (omega arith) ]
+pub most_weight : (base b : ℕ) → base ≤ 36 → weight base b ≤ 2 ^ 32
+most_weight base b few = elim (cases_Bool (is_digit b base)) [ inl digit ↦ rw digit (omega (arith, ltb-true (digit_value b) base digit)) | inr other ↦ rw other (omega arith) ]
 
-pub weight_more : (n w i : ℕ) → w ≤ 2 ^ 32 → n + 2 ^ 32 ≤ 2 ^ 32 * 16 ^ i → n * 16 + w + 2 ^ 32 ≤ 2 ^ 32 * 16 ^ (i + 1)
-weight_more n w i light bound =
-    let next : 16 ^ (i + 1) ≡ 16 ^ i * 16 = let s : i + 1 ≡ suc i = omega arith in ap (λ k. 16 ^ k) s ∙ pow-suc 16 i in
-    omega (arith, next)
+pub weight_more : (base n w i : ℕ) → 2 ≤ base → w ≤ 2 ^ 32 → n + 2 ^ 32 ≤ 2 ^ 32 * base ^ i → n * base + w + 2 ^ 32 ≤ 2 ^ 32 * base ^ (i + 1)
+weight_more base n w i some light bound =
+    let next : base ^ (i + 1) ≡ base ^ i * base = let s : i + 1 ≡ suc i = omega arith in ap (λ k. base ^ k) s ∙ pow-suc base i in
+    let grown : (n + 2 ^ 32) * base ≤ 2 ^ 32 * base ^ i * base = mul-le-mul_right base bound in
+    omega (arith, next, grown)
 
-pub weight_fits : (n i : ℕ) → i ≤ 8 → n + 2 ^ 32 ≤ 2 ^ 32 * 16 ^ i → n + 2 ^ 32 ≤ 2 ^ 64
-weight_fits n i few bound = omega (arith, pow-le-pow_right {n = 16} (omega arith) {i = i} {j = 8} few)
+pub weight_fits : (base n i : ℕ) → 0 < base → base ^ 8 ≤ 2 ^ 32 → i ≤ 8 → n + 2 ^ 32 ≤ 2 ^ 32 * base ^ i → n + 2 ^ 32 ≤ 2 ^ 64
+weight_fits base n i some fits few bound = omega (arith, fits, pow-le-pow_right {n = base} some {i = i} {j = 8} few)
+
+pub is_decimal : (b : ℕ) → weight 10 b < 10 → is_digit b 10 ≡ true
+is_decimal b small = elim (cases_Bool (is_digit b 10)) [ inl digit ↦ digit | inr other ↦ absurd (omega (arith, rw other at small)) ]
+
+pub weight_digit : (b : ℕ) → is_digit b 10 ≡ true → weight 10 b ≡ digit_value b
+weight_digit b digit = rw digit refl
+
+white_no_digit : (b : ℕ) → is_white b ≡ true → is_digit b 10 ≡ false
+white_no_digit b white = grind (arith, nat_tests, white)
 
 -- ---- the decimal digits that a part of a text begins with
-pub is_decimal : (b weight : ℕ) → (is_digit b 10 ≡ false → 10 ≤ weight) → weight < 10 → is_digit b 10 ≡ true
-is_decimal b weight other small = elim (cases_Bool (is_digit b 10)) [ inl digit ↦ digit | inr fails ↦ absurd (omega (arith, other fails, small)) ]
+-- digits that a white byte follows
+closed : (len n : ℕ) (text : List ℕ) → 1 ≤ len → len ≤ 8 → len < length text → is_white (get_or text len 0) ≡ true → digits_value 10 (take len text) ≡ Some n → decimal_front text ≡ Some (n, len)
+closed len n text some few within white is =
+    let front = take len text in
+    let are = written 10 8 front n (omega arith) (omega (arith, length-take len text)) is in
+    let whole : text ≡ front ++ drop len text = sym (take-append-drop len text) in
+    let stops : begins (λ c. is_digit c 10) (drop len text) ≡ false = rw (drop_more text len 0 within) (white_no_digit (get_or text len 0) white) in
+    let found : digits_len 10 text ≡ len = ap (digits_len 10) whole ∙ prefix_ends (λ c. is_digit c 10) front (drop len text) are.all stops ∙ length-take-le len text (omega arith) in
+    let filled : nat_le 1 len ≡ true = le-leb 1 len some in
+    let fits : nat_le len 18 ≡ true = le-leb len 18 (omega arith) in
+    let ends : nat_lt len (length text) ≡ true = lt-ltb len (length text) within in
+    rw (found, filled, fits, ends, white) (ap (λ k. Some (k, len)) (sym are.number))
+
+pub closed_front : (len : ℕ) (text : List ℕ) (found : Option ℕ) → 1 ≤ len → len ≤ 8 → len < length text → is_white (get_or text len 0) ≡ true
+    → found ≡ digits_value 10 (take len text) → IfSome found (λ n. decimal_front text ≡ Some (n, len))
+closed_front len text None some few within white is = tt
+closed_front len text (Some n) some few within white is = closed len n text some few within white (sym is)
 
 prefix_take : (p : ℕ → Bool) (n : ℕ) (text : List ℕ) → prefix_len p (take n text) ≡ min n (prefix_len p text)
 prefix_take p zero text = omega arith

@@ -132,9 +132,9 @@ unfoldable pub string_value : List ℕ → Option (List ℕ)
 string_value piece = if is_string piece then Some (value_by_bracket piece) else None
 
 -- ---- digits that are tested at the end
--- the value of a hexadecimal digit, and for any other byte more than eight digits write
-abbrev pub hex_weight : ℕ → ℕ
-hex_weight b = if is_digit b 16 then digit_value b else 2 ^ 32
+-- the value of a digit of a base, and for any other byte more than eight digits write
+abbrev pub weight : ℕ → ℕ → ℕ
+weight base b = if is_digit b base then digit_value b else 2 ^ 32
 
 -- the decimal digits that a text begins with, where a byte follows them: the number that they write, and how many they are
 abbrev pub leading_digits : List ℕ → Option (ℕ × ℕ)

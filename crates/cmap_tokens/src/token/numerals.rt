@@ -29,11 +29,33 @@ fn decimal(text: &[u8]) -> Option<(u64, usize)>
     ensures front { result ≡ numbers.decimal_front text.now }
     ensures within { IfSome result (λ first. first.1 ≤ length text.now) }
 {
+    if let Some(number) = closed_decimal(text, 4) {
+        return Some((number, 4));
+    }
+    if let Some(number) = closed_decimal(text, 5) {
+        return Some((number, 5));
+    }
     let (number, len) = leading_digits(text)?;
     if len == 0 || is_regular(text[len]) {
         return None;
     }
     Some((number, len))
+}
+
+/// The number of the decimal digits that are the first `len` bytes of a text, where a white byte
+/// follows them, as it does in most files.
+#[inline(always)]
+fn closed_decimal(text: &[u8], len: usize) -> Option<u64>
+    requires some { 1 ≤ len }
+    requires few { len ≤ 8 }
+    ensures front { IfSome result (λ number. numbers.decimal_front text.now ≡ Some (number, len)) }
+    ensures within { IfSome result (λ _. len < length text.now) }
+{
+    if text.len() > len && is_white(text[len]) {
+        decimal_number(&text[..len])
+    } else {
+        None
+    }
 }
 
 /// Most numbers have fewer digits.
@@ -220,6 +242,20 @@ pub(super) fn hex_number(digits: &[u8]) -> Option<u32>
     } else {
         None
     }
+}
+
+/// The number that one to eight decimal digits write.
+#[inline(always)]
+fn decimal_number(digits: &[u8]) -> Option<u64>
+    requires some { 1 ≤ length digits.now }
+    requires few { length digits.now ≤ 8 }
+    ensures { result ≡ numbers.digits_value 10 digits.now }
+{
+    let mut number: u64 = 0;
+    for byte in digits {
+        number = number * 10 + decimal_weight(*byte);
+    }
+    if number < NO_DIGIT { Some(number) } else { None }
 }
 
 /// The integer that digits of a base write after a sign.

@@ -1,8 +1,8 @@
 use Rattle.std.proofs.Common.{true, nat_eq, get_or, refl, arith}
 use Rattle.std.proofs.lemmas.Bool.{agree_below_at, eqb-true}
 use Rattle.cmap_tokens.specs.declared.token.byte_class.TheConstants.{HEX_DIGITS}
-use Rattle.cmap_tokens.specs.TokenReading.{hex_weight}
+use Rattle.cmap_tokens.specs.TokenReading.{weight}
 use Rattle.cmap_tokens.proofs.token.byte_class.hex_weight.Goals as goal
 
 pub returns : goal.returns
-returns c = eqb-true _ _ (agree_below_at (λ b. nat_eq (get_or HEX_DIGITS b 0) (hex_weight b)) (λ _. true) 256 c.args.byte refl (omega arith))
+returns c = eqb-true _ _ (agree_below_at (λ b. nat_eq (get_or HEX_DIGITS b 0) (weight 16 b)) (λ _. true) 256 c.args.byte refl (omega arith))

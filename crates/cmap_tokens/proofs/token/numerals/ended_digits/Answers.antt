@@ -2,12 +2,12 @@ use Rattle.std.proofs.Common.{◌≡◌, ◌^◌, ◌<◌, true, get_or, take, a
 use Rattle.std.specs.Char.{is_digit}
 use Rattle.std.proofs.lemmas.List.Sums.{prefix_len-drop_yes}
 use Rattle.cmap_tokens.proofs.ByteTests.{all_front}
-use Rattle.cmap_tokens.proofs.Digits.{digits_number_more, digits_small, is_decimal}
+use Rattle.cmap_tokens.proofs.Digits.{digits_number_more, digits_small, is_decimal, weight_digit}
 use Rattle.cmap_tokens.proofs.token.numerals.ended_digits.Goals as goal
 use Rattle.cmap_tokens.proofs.token.numerals.ended_digits.Goals.{Else-digit-ge10}
 
 digit : (c : Else-digit-ge10) → is_digit (get_or c.args.text.now c.loop-i.i 0) 10 ≡ true
-digit c = is_decimal (get_or c.args.text.now c.loop-i.i 0) c.decimal_weight-digit.result c.decimal_weight-digit.ensures.other c.if-digit-ge10.false
+digit c = is_decimal (get_or c.args.text.now c.loop-i.i 0) (omega (arith, c.decimal_weight-digit.ensures, c.if-digit-ge10.false))
 
 small : (c : Else-digit-ge10) → c.loop-i.number < 10 ^ 18
 small c =
@@ -26,5 +26,5 @@ pub loop-i-preserved : goal.loop-i-preserved
 loop-i-preserved c =
     record {
       digits = omega (arith, c.loop-i.invariant.digits, prefix_len-drop_yes (λ b. is_digit b 10) c.args.text.now c.loop-i.i 0 c.loop-i-test.true (digit c));
-      value = omega (arith, c.decimal_weight-digit.ensures.digit (digit c), c.loop-i.invariant.value, digits_number_more 10 c.args.text.now c.loop-i.i c.loop-i-test.true);
+      value = omega (arith, c.decimal_weight-digit.ensures, weight_digit (get_or c.args.text.now c.loop-i.i 0) (digit c), c.loop-i.invariant.value, digits_number_more 10 c.args.text.now c.loop-i.i c.loop-i-test.true);
     }

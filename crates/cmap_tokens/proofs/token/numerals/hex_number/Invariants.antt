@@ -1,10 +1,10 @@
 use Rattle.std.proofs.Common.{◌≡◌, ◌+◌, ◌*◌, ◌^◌, ◌≤◌, take, map}
 use Rattle.std.specs.Int.Digits.{number_from_digits}
-use Rattle.cmap_tokens.specs.TokenReading.{hex_weight}
+use Rattle.cmap_tokens.specs.TokenReading.{weight}
 use Rattle.cmap_tokens.proofs.token.numerals.hex_number.Given as goal
 
 abbrev pub invariant-loop-byte : goal.invariant-loop-byte
 invariant-loop-byte l = record {
-  value : l.number ≡ number_from_digits 16 (map hex_weight (take l.byte-index l.digits));
+  value : l.number ≡ number_from_digits 16 (map (weight 16) (take l.byte-index l.digits));
   bound : l.number + 2 ^ 32 ≤ 2 ^ 32 * 16 ^ l.byte-index;
 }
