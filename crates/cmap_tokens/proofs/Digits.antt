@@ -17,6 +17,7 @@ use Rattle.std.specs.Int.Digits.{number_from_digits}
 use Rattle.std.specs.List.{AllByRecursion}
 use Rattle.cmap_tokens.specs.Strings.{ArePairs, hex_value}
 use Rattle.cmap_tokens.specs.Bytes.{begins, is_regular, is_white}
+use Rattle.cmap_tokens.specs.Scanner.{spaced_decimal}
 
 -- ---- a number kept within 64 bits
 -- a number within the limit m goes on by a digit
@@ -155,10 +156,20 @@ closed len n text some few within white is =
     let ends : nat_lt len (length text) ≡ true = lt-ltb len (length text) within in
     rw (found, filled, fits, ends, white) (ap (λ k. Some (k, len)) (sym are.number))
 
-pub closed_front : (len : ℕ) (text : List ℕ) (found : Option ℕ) → 1 ≤ len → len ≤ 8 → len < length text → is_white (get_or text len 0) ≡ true
+closed_front : (len : ℕ) (text : List ℕ) (found : Option ℕ) → 1 ≤ len → len ≤ 8 → len < length text → is_white (get_or text len 0) ≡ true
     → found ≡ digits_value 10 (take len text) → IfSome found (λ n. decimal_front text ≡ Some (n, len))
 closed_front len text None some few within white is = tt
 closed_front len text (Some n) some few within white is = closed len n text some few within white (sym is)
+
+-- and a white byte stands before them
+pub spaced_front : (len : ℕ) (text : List ℕ) (found : Option ℕ) → 1 ≤ len → len ≤ 8 → len + 1 < length text → is_white (get_or text 0 0) ≡ true → is_white (get_or text (len + 1) 0) ≡ true
+    → found ≡ digits_value 10 (take (len + 1 - 1) (drop 1 text)) → IfSome found (λ n. spaced_decimal text ≡ Some (n, len))
+spaced_front len [] found some few within before after is = absurd (omega (arith, within))
+spaced_front len (blank ∷ text) found some few within before after is =
+    let place : len + 1 ≡ suc len = omega arith in
+    let white : is_white (get_or text len 0) ≡ true = ap (λ i. is_white (get_or (blank ∷ text) i 0)) (sym place) ∙ after in
+    let count : len + 1 - 1 ≡ len = omega arith in
+    rw before (closed_front len text found some few (omega (arith, within)) white (is ∙ ap (λ n. digits_value 10 (take n text)) count))
 
 prefix_take : (p : ℕ → Bool) (n : ℕ) (text : List ℕ) → prefix_len p (take n text) ≡ min n (prefix_len p text)
 prefix_take p zero text = omega arith

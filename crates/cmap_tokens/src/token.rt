@@ -12,7 +12,7 @@ mod values;
 
 use self::gaps::gap_len;
 use self::lengths::{malformed_len, piece_len};
-use self::numerals::blank_decimal;
+use self::numerals::{blank_decimal, short_decimal};
 use self::pieces::{TWO_BYTES_LEN, first_token, spaced_pairs, spaced_parts, two_bytes};
 use self::values::{decode_hex, decode_text, pairs_number};
 use std::alloc::AllocError;
@@ -292,6 +292,29 @@ impl<'a> Scanner<'a> {
     /// The next number, where one white byte, one to 18 decimal digits and then a byte that ends them
     /// come next. The scanner is moved past the digits. `None` of any other text, and then nothing moves.
     pub fn next_decimal(&mut self) -> Option<u64>
+        ensures token { IfSome result (λ number.
+            ReadsToken self.old (tokens.Numeral (Integer (pos number))) self.new
+            × LeavesAfter (tokens.Numeral (Integer (pos number))) self.old self.new) }
+        ensures front { MatchOption result (spaced_decimal (rest_of self.old) ≡ None) (λ number. (len : ℕ)
+            × (spaced_decimal (rest_of self.old) ≡ Some (number, len)) × (self.new ≡ past (1 + len) self.old)) }
+        ensures few { IfSome result (λ number. number < 10 ^ 18) }
+        ensures stays { result ≡ None → self.new ≡ self.old }
+    {
+        let rest = &self.source[self.offset..];
+        if let Some(number) = short_decimal(rest, 4) {
+            self.offset += 5;
+            return Some(number);
+        }
+        if let Some(number) = short_decimal(rest, 5) {
+            self.offset += 6;
+            return Some(number);
+        }
+        self.next_other_decimal()
+    }
+
+    /// The answer of `next_decimal`, for a number of any length.
+    #[inline(never)]
+    fn next_other_decimal(&mut self) -> Option<u64>
         ensures token { IfSome result (λ number.
             ReadsToken self.old (tokens.Numeral (Integer (pos number))) self.new
             × LeavesAfter (tokens.Numeral (Integer (pos number))) self.old self.new) }

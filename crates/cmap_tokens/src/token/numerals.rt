@@ -22,6 +22,24 @@ pub(super) fn blank_decimal(text: &[u8]) -> Option<(u64, usize)>
     }
 }
 
+/// Where fewer bytes are left, a short decimal number isn't looked for.
+const SHORT_LEN: usize = 7;
+
+/// The decimal number of up to five digits that stands between two white bytes at the head of a text.
+#[inline(always)]
+pub(super) fn short_decimal(text: &[u8], len: usize) -> Option<u64>
+    requires some { 1 ≤ len }
+    requires few { len ≤ 5 }
+    ensures front { IfSome result (λ number. spaced_decimal text.now ≡ Some (number, len)) }
+    ensures within { IfSome result (λ _. 7 ≤ length text.now) }
+{
+    if text.len() >= SHORT_LEN && is_white(text[0]) && is_white(text[len + 1]) {
+        decimal_number(&text[1..len + 1])
+    } else {
+        None
+    }
+}
+
 /// The number of one to 18 decimal digits that a text begins with, and how many these are. `None`
 /// where more digits come, or a regular byte, or nothing.
 #[inline(always)]
@@ -29,33 +47,11 @@ fn decimal(text: &[u8]) -> Option<(u64, usize)>
     ensures front { result ≡ numbers.decimal_front text.now }
     ensures within { IfSome result (λ first. first.1 ≤ length text.now) }
 {
-    if let Some(number) = closed_decimal(text, 4) {
-        return Some((number, 4));
-    }
-    if let Some(number) = closed_decimal(text, 5) {
-        return Some((number, 5));
-    }
     let (number, len) = leading_digits(text)?;
     if len == 0 || is_regular(text[len]) {
         return None;
     }
     Some((number, len))
-}
-
-/// The number of the decimal digits that are the first `len` bytes of a text, where a white byte
-/// follows them, as it does in most files.
-#[inline(always)]
-fn closed_decimal(text: &[u8], len: usize) -> Option<u64>
-    requires some { 1 ≤ len }
-    requires few { len ≤ 8 }
-    ensures front { IfSome result (λ number. numbers.decimal_front text.now ≡ Some (number, len)) }
-    ensures within { IfSome result (λ _. len < length text.now) }
-{
-    if text.len() > len && is_white(text[len]) {
-        decimal_number(&text[..len])
-    } else {
-        None
-    }
 }
 
 /// Most numbers have fewer digits.

@@ -1,25 +1,44 @@
-use Rattle.std.proofs.Common.{◌+◌, sym, ap, ◌∙◌}
+use Rattle.std.proofs.Common.{sym, ap, ◌∙◌}
 use Rattle.std.proofs.lemmas.List.{take_rest}
 use Rattle.cmap_tokens.specs.Scanner.{past, rest_of, spaced_decimal}
 use Rattle.cmap_tokens.proofs.AfterBlank.{decimal_first}
 use Rattle.cmap_tokens.proofs.Fronts.{read_token, left_after}
 use Rattle.cmap_tokens.proofs.token.Scanner.next_decimal.Goals as goal
 
-pub returns-clause-token : goal.returns-clause-token
-returns-clause-token c =
-    let (first, small) = decimal_first _ c.in_ok-number.number c.in_ok-number.len (sym c.in_ok-number.ensures.front) in
-    let read = read_token _ _ _ (1 + c.in_ok-number.len) _ c.self.view_is (take_rest _ c.self.inside.offset) first in
+pub returns-in-Some-clause-token : goal.returns-in-Some-clause-token
+returns-in-Some-clause-token c =
+    let (first, small) = decimal_first _ c.in-Some.number 4 c.in-Some.ensures.front in
+    let read = read_token _ _ _ 5 _ c.self.view_is (take_rest _ c.self.inside.offset) first in
     (read, left_after _ _ _ read)
 
-pub returns-clause-front : goal.returns-clause-front
-returns-clause-front c = (
-  c.in_ok-number.len,
-  ap spaced_decimal (sym (take_rest _ c.self.inside.offset ∙ ap rest_of c.self.view_is)) ∙ sym c.in_ok-number.ensures.front,
-  ap (past (1 + c.in_ok-number.len)) c.self.view_is,
+pub returns-in-Some-clause-front : goal.returns-in-Some-clause-front
+returns-in-Some-clause-front c = (
+  4,
+  ap spaced_decimal (sym (take_rest _ c.self.inside.offset ∙ ap rest_of c.self.view_is)) ∙ c.in-Some.ensures.front,
+  ap (past 5) c.self.view_is,
 )
 
-pub returns-clause-few : goal.returns-clause-few
-returns-clause-few c =
-    let (first, small) = decimal_first _ c.in_ok-number.number c.in_ok-number.len (sym c.in_ok-number.ensures.front) in
-    let read = read_token _ _ _ (1 + c.in_ok-number.len) _ c.self.view_is (take_rest _ c.self.inside.offset) first in
+pub returns-in-Some-clause-few : goal.returns-in-Some-clause-few
+returns-in-Some-clause-few c =
+    let (first, small) = decimal_first _ c.in-Some.number 4 c.in-Some.ensures.front in
+    let read = read_token _ _ _ 5 _ c.self.view_is (take_rest _ c.self.inside.offset) first in
+    small
+
+pub returns-in-Some-short_decimal-clause-token : goal.returns-in-Some-short_decimal-clause-token
+returns-in-Some-short_decimal-clause-token c =
+    let (first, small) = decimal_first _ c.in-Some-short_decimal.number 5 c.in-Some-short_decimal.ensures.front in
+    let read = read_token _ _ _ 6 _ c.self.view_is (take_rest _ c.self.inside.offset) first in
+    (read, left_after _ _ _ read)
+
+pub returns-in-Some-short_decimal-clause-front : goal.returns-in-Some-short_decimal-clause-front
+returns-in-Some-short_decimal-clause-front c = (
+  5,
+  ap spaced_decimal (sym (take_rest _ c.self.inside.offset ∙ ap rest_of c.self.view_is)) ∙ c.in-Some-short_decimal.ensures.front,
+  ap (past 6) c.self.view_is,
+)
+
+pub returns-in-Some-short_decimal-clause-few : goal.returns-in-Some-short_decimal-clause-few
+returns-in-Some-short_decimal-clause-few c =
+    let (first, small) = decimal_first _ c.in-Some-short_decimal.number 5 c.in-Some-short_decimal.ensures.front in
+    let read = read_token _ _ _ 6 _ c.self.view_is (take_rest _ c.self.inside.offset) first in
     small

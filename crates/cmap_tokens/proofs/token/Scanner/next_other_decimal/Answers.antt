@@ -1,0 +1,25 @@
+use Rattle.std.proofs.Common.{◌+◌, sym, ap, ◌∙◌}
+use Rattle.std.proofs.lemmas.List.{take_rest}
+use Rattle.cmap_tokens.specs.Scanner.{past, rest_of, spaced_decimal}
+use Rattle.cmap_tokens.proofs.AfterBlank.{decimal_first}
+use Rattle.cmap_tokens.proofs.Fronts.{read_token, left_after}
+use Rattle.cmap_tokens.proofs.token.Scanner.next_other_decimal.Goals as goal
+
+pub returns-clause-token : goal.returns-clause-token
+returns-clause-token c =
+    let (first, small) = decimal_first _ c.in_ok-number.number c.in_ok-number.len (sym c.in_ok-number.ensures.front) in
+    let read = read_token _ _ _ (1 + c.in_ok-number.len) _ c.self.view_is (take_rest _ c.self.inside.offset) first in
+    (read, left_after _ _ _ read)
+
+pub returns-clause-front : goal.returns-clause-front
+returns-clause-front c = (
+  c.in_ok-number.len,
+  ap spaced_decimal (sym (take_rest _ c.self.inside.offset ∙ ap rest_of c.self.view_is)) ∙ sym c.in_ok-number.ensures.front,
+  ap (past (1 + c.in_ok-number.len)) c.self.view_is,
+)
+
+pub returns-clause-few : goal.returns-clause-few
+returns-clause-few c =
+    let (first, small) = decimal_first _ c.in_ok-number.number c.in_ok-number.len (sym c.in_ok-number.ensures.front) in
+    let read = read_token _ _ _ (1 + c.in_ok-number.len) _ c.self.view_is (take_rest _ c.self.inside.offset) first in
+    small
