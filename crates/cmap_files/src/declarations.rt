@@ -165,7 +165,11 @@ impl Lists {
             (lists_of (Declaration.bf (bf_entry_seen range) ∷ []))) }
         ensures same { OnErr result (lists_seen self.new ≡ lists_seen self.old) }
     {
-        push(&mut self.bfs, range)
+        if self.bfs.len() == self.bfs.capacity() {
+            grow_by_quarter(&mut self.bfs)?;
+        }
+        self.bfs.push_reserved(range);
+        Ok(())
     }
 
     /// Adds a codespace range.
@@ -206,22 +210,23 @@ fn push_filed(
     }
 }
 
-/// Adds a value to a list. A full list grows by a quarter, so that it holds little unused capacity.
+/// Adds a value to a list.
 #[inline(always)]
 fn push<T: Drop>(list: &mut Vec<T>, value: T) -> Result<(), AllocError>
     ensures added { OnOk result (list.new.items ≡ list.old.items ++ value ∷ []) }
     ensures same { OnErr result (list.new.items ≡ list.old.items) }
 {
     if list.len() == list.capacity() {
-        grow(list)?;
+        list.reserve(1)?;
     }
     list.push_reserved(value);
     Ok(())
 }
 
-/// Makes room for more values in a full list.
+/// Makes room for more values, a quarter of those that a list has. Texts take the most memory of a file
+/// while it is read, so their list isn't doubled.
 #[inline(never)]
-fn grow<T>(list: &mut Vec<T>) -> Result<(), AllocError>
+fn grow_by_quarter<T>(list: &mut Vec<T>) -> Result<(), AllocError>
     ensures same { list.new.items ≡ list.old.items }
     ensures room { OnOk result (vec_len list.new < vec_capacity list.new) }
 {
