@@ -1,12 +1,18 @@
 -- What a search of the runs tells of the declarations.
-use Rattle.std.proofs.Common.{◌≡◌, ℕ, ◌<◌, ◌^◌, List, length, Option, refl, sym, ap, ◌∙◌, subst, arith, true}
+use Rattle.std.proofs.Common.{◌≡◌, ℕ, ◌+◌, ◌-◌, ◌*◌, ◌/◌, ◌%◌, ◌<◌, ◌≤◌, ◌^◌, List, length, get_or, Option, refl, sym, ap, ◌∙◌, subst, inl, inr, arith, true}
 use Rattle.std.specs.Prelude.{Some, None, IsSome, All, Any, map, option_map, slice_get}
+use Rattle.std.proofs.lemmas.Bool.{cases_lt}
 use Rattle.std.proofs.lemmas.List.{length-map}
-use Rattle.std.proofs.lemmas.Option.{same_Some, slice_get-map, slice_get_within}
+use Rattle.std.proofs.lemmas.Option.{get_or_from_slice_get, same_Some, slice_get-map, slice_get_within}
+use Rattle.cmap_runs.specs.Blocks.{AreBlocks, MayHold, begun_by}
+use Rattle.cmap_runs.specs.declared.runs.blocks.Block.{Block}
+use Rattle.cmap_runs.specs.declared.runs.blocks.Blocks.{Blocks}
 use Rattle.cmap_runs.specs.Order.{IsInOrder}
-use Rattle.cmap_runs.specs.Ranges.{Span, Run, Holds, IsRun, AreRuns, contains, last_of, last_index, runs_of}
+use Rattle.cmap_runs.specs.Ranges.{Span, Run, Holds, IsRun, AreRuns, contains, digits, last_of, last_index, runs_of}
+use Rattle.cmap_runs.proofs.BinaryDigits.{digits_half}
 use Rattle.cmap_runs.proofs.LastIndex.{ContainsAt, IsLast, is_last}
 use Rattle.cmap_runs.proofs.MaximalRuns.{AreRuns-runs_of, in_order}
+use Rattle.cmap_runs.proofs.RunsInOrder.{after_earlier}
 
 are_runs : (spans : List Span) (runs : List Run) → runs ≡ runs_of spans → AreRuns spans runs
 are_runs spans runs is = subst (AreRuns spans) (sym is) (AreRuns-runs_of spans)
@@ -46,3 +52,46 @@ found_last span_of list now code index x is at view = rw (← view, is) (sym at)
 
 pub none_last : {T : Type 0} (span_of : T → Span) (list now : List T) (code : ℕ) → last_index (map span_of list) code ≡ None → list ≡ now → None ≡ last_of span_of now code
 none_last span_of list now code is view = rw (← view, is) refl
+
+-- ---- the last run that begins up to and including a code
+pub none_past : (runs : List Run) (code end : ℕ) → All (λ run. run.high < end) runs → end ≤ code → All (λ run. ¬ (Holds code run)) runs
+none_past runs code end before past = λ k d within held. omega (arith, before k d within, held.1)
+
+pub none_begun : (runs : List Run) (code begun : ℕ) → MayHold runs code begun → begun ≡ 0 → All (λ run. ¬ (Holds code run)) runs
+none_begun runs code begun may none = λ k d within. may.after k d (omega arith) within
+
+pub none_at_last : (runs : List Run) (code begun : ℕ) (run : Run) → IsInOrder runs → MayHold runs code begun → 0 < begun
+    → slice_get runs (begun - 1) ≡ Some run → run.high < code → All (λ run. ¬ (Holds code run)) runs
+none_at_last runs code begun run order may some is past = λ k d within held.
+    elim (cases_lt k begun) [
+      | inl before ↦
+          let last : (get_or runs (begun - 1) d).high < code = subst (λ (run : Run). run.high < code) (sym (get_or_from_slice_get runs (begun - 1) run d is)) past in
+          omega (arith, after_earlier runs code (begun - 1) k d order (omega arith) (omega (arith, may.within)) last, held.1)
+      | inr after ↦ may.after k d after within held
+    ]
+
+pub may_hold_in : (runs : List Run) (blocks : Blocks) (code begun : ℕ) (block : Block) → AreBlocks runs blocks
+    → (code / 32 < length blocks.list.items) × (block ≡ get_or blocks.list.items (code / 32) block) → begun ≡ begun_by block (code % 32) → MayHold runs code begun
+may_hold_in runs blocks code begun block are (within, is) begins =
+    let place = code % 32 in
+    let parts : 32 * (code / 32) + place ≡ code = omega arith in
+    subst (MayHold runs code) (ap (λ b. begun_by b place) (sym is) ∙ sym begins)
+    (subst (λ n. MayHold runs n (begun_by (get_or blocks.list.items (code / 32) block) place)) parts (are.each (code / 32) place block within (omega arith)))
+
+found_at_last : (runs : List Run) (code begun : ℕ) (run : Run) → MayHold runs code begun → 0 < begun
+    → slice_get runs (begun - 1) ≡ Some run → code ≤ run.high → Any (λ found. Holds code found × (found.index ≡ run.index)) runs
+found_at_last runs code begun run may some is within =
+    let last = get_or_from_slice_get runs (begun - 1) run run is in
+    let begins : run.low ≤ code = subst (λ (run : Run). run.low ≤ code) last (may.before (begun - 1) run (omega arith) (omega arith)) in
+    (begun - 1, run, omega (arith, may.within), last, ((begins, within), refl))
+
+pub found_in_block : (runs : List Run) (blocks : Blocks) (code begun : ℕ) (block : Block) (run last : Run) → AreBlocks runs blocks
+    → (code / 32 < length blocks.list.items) × (block ≡ get_or blocks.list.items (code / 32) block) → begun ≡ begun_by block (code % 32) → 0 < begun
+    → slice_get runs (begun - 1) ≡ Some run → last ≡ run → code ≤ last.high → Any (λ found. Holds code found × (found.index ≡ last.index)) runs
+found_in_block runs blocks code begun block run last are lies begins some is same within =
+    subst (λ (last : Run). Any (λ found. Holds code found × (found.index ≡ last.index)) runs) (sym same)
+    (found_at_last runs code begun run (may_hold_in runs blocks code begun block are lies begins) some is (subst (λ (run : Run). code ≤ run.high) same within))
+
+-- one look is fewer than the number of runs has digits
+pub one_look : (runs most begun : ℕ) → runs ≡ most → 0 < begun → begun ≤ runs → 1 ≤ digits most
+one_look runs most begun same some within = omega (arith, digits_half runs 0 (omega arith) (omega arith), ap digits same)

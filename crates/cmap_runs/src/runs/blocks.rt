@@ -12,23 +12,27 @@ pub(super) const MOST_BLOCKS: usize = 2048;
 /// A shorter list of runs has hardly any blocks.
 pub(super) const FEWEST_RUNS: usize = 512;
 
-/// Where runs begin among the codes of a block. One that no run holds a code of says that none has
-/// begun by then.
+/// Where runs begin among the codes of a block.
 #[derive(Clone, Copy)]
 pub(super) struct Block {
-    /// How many runs begin before the block.
+    /// One more than how many runs begin before the block, and 0 where no run holds a code of it.
     pub(super) begun: u32,
     /// A bit for each code at which a run begins, that of the first code high.
     pub(super) starts: u32,
 }
 
 impl Block {
-    /// How many runs begin up to and including a code of the block.
+    /// How many runs begin up to and including a code of the block, and 0 where no run holds a code of
+    /// it.
+    #[inline(always)]
     pub(super) fn begun_by(&self, code: u32) -> usize
         ensures { result ≡ begun_by self.now (code % 32) }
     {
+        if self.begun == 0 {
+            return 0;
+        }
         let starts = self.starts >> (BLOCK_LEN - 1 - code % BLOCK_LEN);
-        self.begun as usize + starts.count_ones() as usize
+        self.begun as usize - 1 + starts.count_ones() as usize
     }
 }
 

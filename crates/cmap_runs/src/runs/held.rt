@@ -54,12 +54,20 @@ impl Model for Runs {
 }
 
 impl Runs {
-    pub(super) fn new(alloc: Global) -> Runs
-        ensures { result ≡ [] }
+    /// No runs, and room for this many.
+    pub(super) fn with_capacity(alloc: Global, capacity: usize) -> Result<Runs, AllocError>
+        ensures { IfOk result (λ runs. runs ≡ []) }
     {
-        Runs {
-            list: Vec::new(alloc),
-        }
+        Ok(Runs {
+            list: Vec::with_capacity(alloc, capacity)?,
+        })
+    }
+
+    /// Gives back the room that isn't used.
+    pub(super) fn shrink_to_fit(&mut self)
+        ensures { self.new ≡ self.old }
+    {
+        self.list.shrink_to_fit();
     }
 
     /// Adds a run at the end. Where it goes on from the last one, with its index, the two are one.
@@ -231,7 +239,7 @@ impl<T: HasRange> Held<T> {
             }
         } else {
             Block {
-                begun: begun as u32,
+                begun: begun as u32 + 1,
                 starts,
             }
         };

@@ -1,8 +1,7 @@
-//! The search for the run that holds a code.
+//! The search for the run that holds a code after all blocks.
 
 ghost use Rattle.std.specs.Prelude.{◌≡◌, ◌+◌, ◌-◌, ◌<◌, ◌≤◌, All, Any, IfNone, IfSome, OnSome, length};
 ghost use Rattle.std.specs.List.{AllWithin};
-ghost use Rattle.cmap_runs.specs.Blocks.{AreBlocks, MayHold};
 ghost use Rattle.cmap_runs.specs.Order.{IsInOrder};
 ghost use Rattle.cmap_runs.specs.Ranges.{Holds, digits};
 
@@ -11,66 +10,11 @@ use super::blocks::Blocks;
 use super::held::Held;
 use super::looks::Looks;
 
-/// The index of the declaration of the run that holds `code`.
-#[inline(always)]
-pub(super) fn find_index<T: HasRange>(
-    held: &Held<T>,
-    blocks: &Blocks,
-    code: u32,
-    looks: &mut Looks,
-) -> Option<usize>
-    requires order { IsInOrder held.now.runs }
-    requires blocks { AreBlocks held.now.runs blocks.now }
-    ensures none { IfNone result (All (λ run. ¬ (Holds code run)) held.now.runs) }
-    ensures found { IfSome result
-        (λ index. Any (λ run. Holds code run × (run.index ≡ index)) held.now.runs) }
-    ensures bound { looks.new.runs ≤ looks.old.runs + digits (length held.now.runs) }
-    ensures grows { looks.old.runs ≤ looks.new.runs }
-    ensures looked { OnSome result (looks.old.runs + 1 ≤ looks.new.runs) }
-    ensures declarations { looks.new.declarations ≡ looks.old.declarations }
-{
-    if u64::from(code) >= blocks.end {
-        return None;
-    }
-    match blocks.block(code) {
-        Some(block) => index_of_last(held, block.begun_by(code), code, looks),
-        None => find_among_last(held, blocks, code, looks),
-    }
-}
-
-/// The index of the declaration of the last one of the first runs, where it holds `code`. No other run
-/// may.
-#[inline(always)]
-fn index_of_last<T: HasRange>(
-    held: &Held<T>,
-    begun: usize,
-    code: u32,
-    looks: &mut Looks,
-) -> Option<usize>
-    requires order { IsInOrder held.now.runs }
-    requires may_hold { MayHold held.now.runs code begun }
-    ensures none { IfNone result (All (λ run. ¬ (Holds code run)) held.now.runs) }
-    ensures found { IfSome result
-        (λ index. Any (λ run. Holds code run × (run.index ≡ index)) held.now.runs) }
-    ensures bound { looks.new.runs ≤ looks.old.runs + digits (length held.now.runs) }
-    ensures grows { looks.old.runs ≤ looks.new.runs }
-    ensures looked { OnSome result (looks.old.runs + 1 ≤ looks.new.runs) }
-    ensures declarations { looks.new.declarations ≡ looks.old.declarations }
-{
-    if begun == 0 {
-        return None;
-    }
-    let last = held.run(begun - 1, looks);
-    if last.high < code {
-        return None;
-    }
-    Some(last.index)
-}
-
 /// The index of the declaration of the run that holds `code`, by halving. Only the runs that are left
 /// after the blocks may.
+#[cold]
 #[inline(never)]
-fn find_among_last<T: HasRange>(
+pub(super) fn find_among_last<T: HasRange>(
     held: &Held<T>,
     blocks: &Blocks,
     code: u32,

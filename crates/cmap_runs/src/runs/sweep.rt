@@ -89,7 +89,7 @@ fn sweep(alloc: Global, ranges: &[Run]) -> Result<Runs, AllocError>
         (λ runs. (spans : List Span) → AreRanges spans (length spans) ranges.now → runs ≡ runs_of spans) }
     ensures few { IfOk result (λ runs. length runs ≤ 2 * length ranges.now - 1) }
 {
-    let mut runs = Runs::new(alloc);
+    let mut runs = Runs::with_capacity(alloc, ranges.len())?;
     let mut ends = OpenRanges::new(alloc);
     let mut from = 0;
     for range in ranges {
@@ -101,6 +101,7 @@ fn sweep(alloc: Global, ranges: &[Run]) -> Result<Runs, AllocError>
         from = next;
     }
     add_runs(&mut runs, &mut ends, from, CODE_COUNT)?;
+    runs.shrink_to_fit();
     Ok(runs)
 }
 

@@ -9,7 +9,7 @@ use super::HasRange;
 use super::blocks::Blocks;
 use super::held::Held;
 use super::looks::Looks;
-use super::search::find_index;
+use super::search::find_among_last;
 use super::stretch::Stretches;
 use super::sweep::runs_of;
 use std::alloc::{AllocError, Global};
@@ -82,8 +82,22 @@ impl<T: HasRange> Table<T> {
         ensures no_declaration { IfNone result
             (looks.new.declarations ≡ looks.old.declarations) }
     {
-        let index = find_index(&self.held, &self.blocks, code, looks)?;
-        Some(self.held.declaration(index, looks))
+        if u64::from(code) >= self.blocks.end {
+            return None;
+        }
+        let Some(block) = self.blocks.block(code) else {
+            let index = find_among_last(&self.held, &self.blocks, code, looks)?;
+            return Some(self.held.declaration(index, looks));
+        };
+        let begun = block.begun_by(code);
+        if begun == 0 {
+            return None;
+        }
+        let last = self.held.run(begun - 1, looks);
+        if last.high < code {
+            return None;
+        }
+        Some(self.held.declaration(last.index, looks))
     }
 
     /// The stretches of the codes from `first` on. The first of them is searched for, and the rest of

@@ -52,8 +52,9 @@ loop-range-preserved c =
 pub returns-clause-runs : goal.returns-clause-runs
 returns-clause-runs c = λ spans are.
     let ranges = c.args.ranges.now in let i = c.loop-range.range-index in let old = c.loop-range.invariant.are spans are in
-    runs_of-unique spans c.add_runs-2.new.runs
+    c.shrink_to_fit.ensures
+    ∙ runs_of-unique spans c.add_runs-2.new.runs
     (c.in_ok-add_runs-2.ensures.runs (last_index spans) (decides_open i (2 ^ 32) are old.0 (λ k d from_here within. absurd (omega arith))) old.1)
 
 pub returns-clause-few : goal.returns-clause-few
-returns-clause-few c = omega (arith, c.in_ok-add_runs-2.ensures.few)
+returns-clause-few c = omega (arith, c.in_ok-add_runs-2.ensures.few, ap length c.shrink_to_fit.ensures)
