@@ -11,7 +11,7 @@ use Rattle.cmap_files.specs.DeclarationsSeen.{codespace_seen}
 use Rattle.cmap_files.specs.Files.{Codespace}
 use Rattle.cmap_files.specs.declared.declarations.Codespace as declared
 use Rattle.cmap_layers.specs.Lookups.{byte_at}
-use Rattle.cmap_layers.specs.SpaceBits.{HasGroup, HasRow, HaveBits, InRow, IsAt}
+use Rattle.cmap_layers.specs.SpaceBits.{HasGroup, HasRow, HaveBits, InRow, IsAt, row_count, row_of_length, row_of_value, value_row_count}
 
 -- ---- bits
 pub both_set : (a b i : ℕ) → (bit_at (bit_and a b) i ≡ 1) ↔ ((bit_at a i ≡ 1) × (bit_at b i ≡ 1))
@@ -75,23 +75,23 @@ pub written_back : (new old : List ℕ) (n : ℕ) → length new ≡ n → take 
 written_back new old n whole = subst (λ m. take m (new ++ drop (length new) old) ≡ new) whole (take-append_seam new (drop (length new) old))
 
 -- ---- rows
-pub value_row : (space : Codespace) (place value : ℕ) → place < 4 → value < 256 → InRow (256 * place + value) space ↔ IsAt space place value
-value_row space place value few small =
-    let row = 256 * place + value in
+pub value_in_row : (space : Codespace) (place value : ℕ) → place < 4 → value < 256 → InRow (row_of_value place value) space ↔ IsAt space place value
+value_in_row space place value few small =
+    let row = row_of_value place value in
     let at : row / 256 ≡ place = omega arith in
     let its : row % 256 ≡ value = omega arith in (
       λ held. subst (λ p. IsAt space p value) at (subst (λ v. IsAt space (row / 256) v) its (held.0 (omega arith))),
       λ is. (λ _. subst (λ p. IsAt space p (row % 256)) (sym at) (subst (λ v. IsAt space place v) (sym its) is), λ past. absurd (omega arith)),
     )
 
-pub length_row : (space : Codespace) (len : ℕ) → 1 ≤ len → InRow (1023 + len) space ↔ (space.len ≡ len)
-length_row space len some = (λ held. omega (arith, held.1 (omega arith)), λ is. (λ below. absurd (omega arith), λ _. omega arith))
+pub length_in_row : (space : Codespace) (len : ℕ) → 1 ≤ len → InRow (row_of_length len) space ↔ (space.len ≡ len)
+length_in_row space len some = (λ held. omega (arith, held.1 (omega arith)), λ is. (λ below. absurd (omega arith), λ _. omega arith))
 
 -- the rows of a range are that of its length, and those of the values of its places
 abbrev pub IsTouched : Codespace → ℕ → ℕ → Type 0
-IsTouched space places row = (row ≡ 1023 + space.len) ⊎ ((row < 256 * places) × IsAt space (row / 256) (row % 256))
+IsTouched space places row = (row ≡ row_of_length space.len) ⊎ ((row < 256 * places) × IsAt space (row / 256) (row % 256))
 
-pub none_touched : (space : Codespace) (row : ℕ) → IsTouched space 0 row ↔ (row ≡ 1023 + space.len)
+pub none_touched : (space : Codespace) (row : ℕ) → IsTouched space 0 row ↔ (row ≡ row_of_length space.len)
 none_touched space row = (λ either. elim either [ inl its ↦ its | inr below ↦ let low = below.0 in absurd (omega arith) ], λ its. inl its)
 
 pub all_touched : (space : Codespace) (row : ℕ) → 1 ≤ space.len → space.len ≤ 4 → IsTouched space space.len row ↔ InRow row space
@@ -100,7 +100,7 @@ all_touched space row some few = (
     | inl its ↦ (λ below. absurd (omega arith), λ _. omega arith)
     | inr value ↦ let low = value.0 in (λ _. value.1, λ past. absurd (omega arith))
   ],
-  λ held. elim (cases_lt row 1024) [
+  λ held. elim (cases_lt row value_row_count) [
     | inl below ↦ let is = held.0 below in let within = is.0 in inr (omega arith, is)
     | inr past ↦ inl (omega (arith, held.1 past))
   ],
@@ -108,7 +108,7 @@ all_touched space row some few = (
 
 -- and those of one place more, from low to high
 pub touched_more : (space : Codespace) (place low high row : ℕ) → place < space.len → low < 256 → high < 256 → low ≡ byte_at space.low (space.len - suc place) → high ≡ byte_at space.high (space.len - suc place)
-    → (IsTouched space place row ⊎ ((256 * place + low ≤ row) × (row ≤ 256 * place + high))) ↔ IsTouched space (place + 1) row
+    → (IsTouched space place row ⊎ ((row_of_value place low ≤ row) × (row ≤ row_of_value place high))) ↔ IsTouched space (place + 1) row
 touched_more space place low high row within low_fits high_fits low_is high_is = (
   λ either. elim either [
     | inl old ↦ elim old [ inl its ↦ inl its | inr value ↦ let below = value.0 in inr (omega arith, value.1) ]
@@ -132,14 +132,14 @@ touched_more space place low high row within low_fits high_fits low_is high_is =
 )
 
 -- ---- the bits of ranges in a row
-pub no_bits : (spaces : List declared.Codespace) (first : ℕ) (rows : List ℕ) → length rows ≡ 1028 → ((row : ℕ) → row < 1028 → get_or rows row 0 ≡ 0) → HaveBits spaces first 0 rows
+pub no_bits : (spaces : List declared.Codespace) (first : ℕ) (rows : List ℕ) → length rows ≡ row_count → ((row : ℕ) → row < row_count → get_or rows row 0 ≡ 0) → HaveBits spaces first 0 rows
 no_bits spaces first rows size none = record {
   size = size;
   bits = λ row i within. (λ is. absurd (omega (arith, ap (λ n. bit_at n i) (none row within), bit_at-zero i, is)), λ has. absurd (omega (arith, has.0)));
 }
 
-pub more_bits : (spaces : List declared.Codespace) (first n : ℕ) (space : declared.Codespace) (old new : List ℕ) → slice_get spaces (first + n) ≡ Some space → HaveBits spaces first n old → length new ≡ 1028
-    → ((row i : ℕ) → row < 1028 → (bit_at (get_or new row 0) i ≡ 1) ↔ ((bit_at (get_or old row 0) i ≡ 1) ⊎ ((i ≡ n) × InRow row (codespace_seen space)))) → HaveBits spaces first (n + 1) new
+pub more_bits : (spaces : List declared.Codespace) (first n : ℕ) (space : declared.Codespace) (old new : List ℕ) → slice_get spaces (first + n) ≡ Some space → HaveBits spaces first n old → length new ≡ row_count
+    → ((row i : ℕ) → row < row_count → (bit_at (get_or new row 0) i ≡ 1) ↔ ((bit_at (get_or old row 0) i ≡ 1) ⊎ ((i ≡ n) × InRow row (codespace_seen space)))) → HaveBits spaces first (n + 1) new
 more_bits spaces first n space old new at have size set = record {
   size = size;
   bits = λ row i within.
@@ -174,11 +174,11 @@ all_bits spaces first count rows within is have = record {
 }
 
 -- ---- groups of blocks
-pub no_group : (blocks : List (Vec ℕ)) (first : ℕ) (rows : List ℕ) → length rows ≡ 1028 → HasGroup blocks first 0 rows
+pub no_group : (blocks : List (Vec ℕ)) (first : ℕ) (rows : List ℕ) → length rows ≡ row_count → HasGroup blocks first 0 rows
 no_group blocks first rows size = record { size = size; marked = λ b row d below. absurd (omega arith) }
 
-pub more_group : (blocks : List (Vec ℕ)) (first n : ℕ) (old new block : List ℕ) → HasGroup blocks first n old → length new ≡ 1028 → ((d : Vec ℕ) → (get_or blocks (first + n) d).items ≡ block)
-    → ((row : ℕ) → row < 1028 → get_or block row 0 ≢ 0 → bit_at (get_or new row 0) n ≡ 1) → ((row i : ℕ) → row < 1028 → bit_at (get_or old row 0) i ≡ 1 → bit_at (get_or new row 0) i ≡ 1) → HasGroup blocks first (n + 1) new
+pub more_group : (blocks : List (Vec ℕ)) (first n : ℕ) (old new block : List ℕ) → HasGroup blocks first n old → length new ≡ row_count → ((d : Vec ℕ) → (get_or blocks (first + n) d).items ≡ block)
+    → ((row : ℕ) → row < row_count → get_or block row 0 ≢ 0 → bit_at (get_or new row 0) n ≡ 1) → ((row i : ℕ) → row < row_count → bit_at (get_or old row 0) i ≡ 1 → bit_at (get_or new row 0) i ≡ 1) → HasGroup blocks first (n + 1) new
 more_group blocks first n old new block has size is marked kept = record {
   size = size;
   marked = λ b row d below within lt some.

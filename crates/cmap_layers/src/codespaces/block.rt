@@ -4,7 +4,7 @@
 ghost use Rattle.std.specs.Prelude.{◌≡◌, ◌↔◌, ℕ, ◌+◌, ◌*◌, ◌<◌, ◌≤◌, ◌⊎◌, get_or, length, IfOk};
 ghost use Rattle.std.specs.Int.{bit_at};
 ghost use Rattle.cmap_files.specs.DeclarationsSeen.{codespace_seen};
-ghost use Rattle.cmap_layers.specs.SpaceBits.{HaveBits, InRow};
+ghost use Rattle.cmap_layers.specs.SpaceBits.{HaveBits, InRow, row_count, row_of_length, row_of_value};
 
 use super::byte_at;
 use cmap_files::declarations::Codespace;
@@ -13,21 +13,24 @@ use std::alloc::{AllocError, Global};
 /// How many ranges a block has bits for.
 pub(super) const BLOCK_LEN: usize = 64;
 
-/// How many rows a block has: one for each value of each of four bytes, and one for each length.
-pub(super) const ROW_COUNT: usize = 4 * 256 + 4;
+/// How many rows a block has for values: one for each value of each of four bytes.
+const VALUE_ROW_COUNT: usize = 4 * 256;
+
+/// How many rows a block has: those for values, and then one for each length.
+pub(super) const ROW_COUNT: usize = VALUE_ROW_COUNT + 4;
 
 /// The row of the ranges that have a value at a place of their codes; the first byte is at place 0.
 pub(super) fn row_of_value(place: u8, value: u32) -> usize
-    ensures { result ≡ 256 * place + value }
+    ensures { result ≡ row_of_value place value }
 {
     256 * usize::from(place) + value as usize
 }
 
 /// The row of the ranges whose codes have this many bytes.
 pub(super) fn row_of_length(byte_len: u8) -> usize
-    ensures { result ≡ 1023 + byte_len }
+    ensures { result ≡ row_of_length byte_len }
 {
-    1023 + usize::from(byte_len)
+    VALUE_ROW_COUNT - 1 + usize::from(byte_len)
 }
 
 /// The rows of at most 64 ranges, from `first` on.
@@ -49,9 +52,9 @@ pub(super) fn rows_of(
 
 /// Sets the bit of a range in each row that it is in.
 fn add(rows: &mut [u64], space: &Codespace, bit: u32)
-    requires size { length rows.old ≡ 1028 }
+    requires size { length rows.old ≡ row_count }
     requires bit { bit < 64 }
-    ensures { (row i : ℕ) → row < 1028 → (bit_at (get_or rows.new row 0) i ≡ 1)
+    ensures { (row i : ℕ) → row < row_count → (bit_at (get_or rows.new row 0) i ≡ 1)
         ↔ ((bit_at (get_or rows.old row 0) i ≡ 1) ⊎ ((i ≡ bit) × InRow row (codespace_seen space.now))) }
 {
     let len = space.len.count();
