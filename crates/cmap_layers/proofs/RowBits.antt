@@ -1,10 +1,11 @@
 -- Bits of codespace ranges: which are set by a range, and which rows the range is in.
-use Rattle.std.proofs.Common.{◌≡◌, ◌≢◌, ℕ, suc, ◌+◌, ◌-◌, ◌*◌, ◌/◌, ◌%◌, ◌^◌, ◌<◌, ◌≤◌, ◌⊎◌, ◌++◌, not, List, length, take, drop, set, get_or, true≢false, eq-eqb, ne_eqb, min, Some, sym, ap, ◌∙◌, subst, inl, inr, w64, get_or-set_same, get_or-set_other, slice_get, bit_and, bit_or, arith}
+use Rattle.std.proofs.Common.{◌≡◌, ◌≢◌, ℕ, suc, ◌+◌, ◌-◌, ◌*◌, ◌/◌, ◌%◌, ◌^◌, ◌<◌, ◌≤◌, ◌⊎◌, ◌++◌, not, List, length, take, drop, set, get_or, true≢false, eq-eqb, ne_eqb, min, Some, replicate, sym, ap, ◌∙◌, subst, inl, inr, w64, get_or-set_same, get_or-set_other, slice_get, bit_and, bit_or, arith}
 use Rattle.std.specs.Prelude.{◌↔◌, IsSomeAnd, IsTrue, nat_eq}
 use Rattle.std.specs.Int.{bit_at, trailing_zeros}
 use Rattle.std.specs.Global.{Vec}
 use Rattle.std.proofs.lemmas.Bool.{cases_eq, cases_lt}
 use Rattle.std.proofs.lemmas.Nat.Bits.{bit_at-lt, bit_at-trailing_zeros, bit_at_and, bit_at_set_same, bit_at_set_other, bit_at-zero}
+use Rattle.std.proofs.lemmas.List.{get_or-replicate, length-replicate}
 use Rattle.std.proofs.lemmas.Option.{slice_get_cases}
 use Rattle.std.proofs.Math.Seq.{take-append_seam}
 use Rattle.cmap_files.specs.DeclarationsSeen.{codespace_seen}
@@ -132,10 +133,12 @@ touched_more space place low high row within low_fits high_fits low_is high_is =
 )
 
 -- ---- the bits of ranges in a row
-pub no_bits : (spaces : List declared.Codespace) (first : ℕ) (rows : List ℕ) → length rows ≡ row_count → ((row : ℕ) → row < row_count → get_or rows row 0 ≡ 0) → HaveBits spaces first 0 rows
-no_bits spaces first rows size none = record {
-  size = size;
-  bits = λ row i within. (λ is. absurd (omega (arith, ap (λ n. bit_at n i) (none row within), bit_at-zero i, is)), λ has. absurd (omega (arith, has.0)));
+pub no_bits : (spaces : List declared.Codespace) (first : ℕ) (rows : List ℕ) → rows ≡ replicate row_count 0 → HaveBits spaces first 0 rows
+no_bits spaces first rows cleared = record {
+  size = ap (λ (l : List ℕ). length l) cleared ∙ length-replicate {A = ℕ} row_count 0;
+  bits = λ row i within.
+      let none = ap (λ (l : List ℕ). get_or l row 0) cleared ∙ get_or-replicate row_count row 0 0 within in
+      (λ is. absurd (omega (arith, ap (λ n. bit_at n i) none, bit_at-zero i, is)), λ has. absurd (omega (arith, has.0)));
 }
 
 pub more_bits : (spaces : List declared.Codespace) (first n : ℕ) (space : declared.Codespace) (old new : List ℕ) → slice_get spaces (first + n) ≡ Some space → HaveBits spaces first n old → length new ≡ row_count

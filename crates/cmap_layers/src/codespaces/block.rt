@@ -1,7 +1,7 @@
 //! Bits for 64 codespace ranges: which of them have codes of a length, and which have a value at a place
 //! of their codes.
 
-ghost use Rattle.std.specs.Prelude.{◌≡◌, ◌↔◌, ℕ, ◌+◌, ◌*◌, ◌<◌, ◌≤◌, ◌⊎◌, get_or, length, IfOk};
+ghost use Rattle.std.specs.Prelude.{◌≡◌, ◌↔◌, ℕ, ◌+◌, ◌*◌, ◌<◌, ◌≤◌, ◌⊎◌, get_or, length, replicate, IfOk};
 ghost use Rattle.std.specs.Int.{bit_at};
 ghost use Rattle.cmap_files.specs.DeclarationsSeen.{codespace_seen};
 ghost use Rattle.cmap_layers.specs.SpaceBits.{HaveBits, InRow, row_count, row_of_length, row_of_value};
@@ -33,6 +33,22 @@ pub(super) fn row_of_length(byte_len: u8) -> usize
     VALUE_ROW_COUNT - 1 + usize::from(byte_len)
 }
 
+/// How many rows are cleared at once.
+const CLEARED_AT_ONCE: usize = 128;
+
+/// The rows of a block or a group with no range. A long stretch of memory may be cleared byte by byte, so
+/// they are cleared in short ones.
+pub(super) fn no_rows(alloc: Global) -> Result<Vec<u64>, AllocError>
+    ensures { IfOk result (λ rows. rows.items ≡ replicate row_count 0) }
+{
+    let mut rows = Vec::with_capacity(alloc, ROW_COUNT)?;
+    while rows.len() < ROW_COUNT {
+        let len = (rows.len() + CLEARED_AT_ONCE).min(ROW_COUNT);
+        rows.resize(len, 0)?;
+    }
+    Ok(rows)
+}
+
 /// The rows of at most 64 ranges, from `first` on.
 pub(super) fn rows_of(
     alloc: Global,
@@ -42,7 +58,7 @@ pub(super) fn rows_of(
     requires { first ≤ length spaces.now }
     ensures { IfOk result (λ rows. HaveBits spaces.now first 64 rows.items) }
 {
-    let mut rows = vec![in alloc; 0; ROW_COUNT]?;
+    let mut rows = no_rows(alloc)?;
     let count = (spaces.len() - first).min(BLOCK_LEN);
     for index in 0..count {
         add(&mut rows, &spaces[first + index], index as u32);

@@ -4,7 +4,7 @@ ghost use Rattle.std.specs.Prelude.{◌≡◌, ◌≢◌, ℕ, ◌<◌, ◌≤�
 ghost use Rattle.std.specs.Int.{bit_at};
 ghost use Rattle.cmap_layers.specs.SpaceBits.{AreGroups, HasGroup, HaveRows, row_count};
 
-use super::block::{BLOCK_LEN, ROW_COUNT};
+use super::block::{BLOCK_LEN, ROW_COUNT, no_rows};
 use std::alloc::{AllocError, Global};
 
 /// The rows of each group of 64 blocks.
@@ -26,7 +26,7 @@ fn group_of(alloc: Global, blocks: &[Vec<u64>], first: usize) -> Result<Vec<u64>
     requires rows { HaveRows blocks.now }
     ensures { IfOk result (λ rows. HasGroup blocks.now first 64 rows.items) }
 {
-    let mut rows = vec![in alloc; 0; ROW_COUNT]?;
+    let mut rows = no_rows(alloc)?;
     let count = (blocks.len() - first).min(BLOCK_LEN);
     for index in 0..count {
         mark_rows(&mut rows, &blocks[first + index], index as u32);

@@ -1,5 +1,4 @@
-use Rattle.std.proofs.Common.{◌≡◌, ℕ, ◌<◌, ◌+◌, ◌⊎◌, List, length, get_or, ap, sym, ◌∙◌, subst, rules, arith}
-use Rattle.std.proofs.lemmas.List.{get_or-replicate}
+use Rattle.std.proofs.Common.{◌≡◌, ℕ, ◌<◌, ◌+◌, ◌⊎◌, List, length, get_or, ap, sym, subst, rules, arith}
 use Rattle.std.proofs.lemmas.Option.{slice_get-get_or}
 use Rattle.std.specs.Prelude.{◌↔◌}
 use Rattle.std.specs.Int.{bit_at}
@@ -11,9 +10,7 @@ use Rattle.cmap_layers.proofs.RowBits.{all_bits, more_bits, no_bits, written_bac
 use Rattle.cmap_layers.proofs.codespaces.block.rows_of.Goals as goal
 
 pub loop-index-init : goal.loop-index-init
-loop-index-init c =
-    let zeros = c.in_ok-rows.ensures.items_if_clones_equal (λ y same. same) in
-    no_bits c.args.spaces.now c.args.first c.in_ok-rows.rows.items (omega (arith, c.in_ok-rows.ensures.len)) (λ row within. ap (λ rows. get_or rows row 0) zeros ∙ get_or-replicate row_count row 0 0 within)
+loop-index-init c = no_bits c.args.spaces.now c.args.first c.in_ok-rows.rows.items c.in_ok-rows.ensures
 
 pub loop-index-preserved : goal.loop-index-preserved
 loop-index-preserved c =
