@@ -17,9 +17,9 @@ use Rattle.cmap_files.specs.declared.code_length.CodeLength.TheVariants.{One, Tw
 use Rattle.cmap_files.specs.declared.declarations.Codespace as declared
 use Rattle.cmap_layers.specs.Layers.{Layer}
 use Rattle.cmap_layers.specs.Lookups.{IsWithin, byte_at}
-use Rattle.cmap_layers.specs.SpaceBits.{AreBlocks, AreGroups, AreRows, AreSet, Begins, EachRow, HasFront, HasGroup, HaveBits, HaveRows, InRow, InRows, IsFound, IsFoundAmong, IsFoundAt, IsInside, IsInsideRanges, IsInsideWithin, IsLeast, IsSet, front_row, lesser, query_of, row_count, row_of_length, row_of_value}
+use Rattle.cmap_layers.specs.SpaceBits.{AreBlocks, AreGroups, AreRows, AreSet, Begins, EachRow, HasFront, HasGroup, HasRange, HaveBits, HaveRows, InRow, InRows, IsFound, IsFoundAmong, IsFoundAt, IsInside, IsInsideRanges, IsInsideWithin, IsLeast, IsSet, front_row, lesser, query_of, row_count, row_of_length, row_of_value}
 use Rattle.cmap_layers.specs.declared.codespaces.query.Query.{Query}
-use Rattle.cmap_layers.proofs.RowBits.{both_set, length_in_row, some_bit, value_in_row}
+use Rattle.cmap_layers.proofs.RowBits.{both_set, item_within, length_in_row, some_bit, value_in_row}
 
 -- ---- the rows of the first bytes
 front_row-byte : (front : List ℕ) (otherwise k : ℕ) → k < length front → front_row front otherwise k ≡ row_of_value k (slice_index front k)
@@ -185,11 +185,7 @@ set_somewhere : (n i : ℕ) → bit_at n i ≡ 1 → n ≢ 0
 set_somewhere n i set none = omega (arith, ap (λ m. bit_at m i) none, bit_at-zero i, set)
 
 pub found_within : (blocks : List (Vec ℕ)) (query : Query) (index : ℕ) → IsFoundAt blocks query index → index < length blocks
-found_within blocks query index found =
-    elim (slice_get_cases blocks index).1 [
-      | inl here ↦ here.1
-      | inr past ↦ absurd (subst (λ o. IsSomeAnd o (λ rows. IsFound rows.items query)) past.1 found)
-    ]
+found_within blocks query index found = item_within (λ block. IsFound block.items query) blocks index found
 
 pub found_here : (blocks : List (Vec ℕ)) (query : Query) (index : ℕ) (block : Vec ℕ) → slice_get blocks index ≡ Some block → IsFoundAt blocks query index → IsFound block.items query
 found_here blocks query index block at found = subst (λ o. IsSomeAnd o (λ rows. IsFound rows.items query)) at found
@@ -215,7 +211,7 @@ group_found blocks first b rows query has fits below found =
     elim (slice_get_cases blocks (first + b)).1 [
       | inl (block, within, at, is) ↦
           let (i, (one, two, three, four, five)) = subst (λ o. IsSomeAnd o (λ rows. IsFound rows.items query)) at found in
-          let mark = λ (row : ℕ) (fit : row < row_count) (set : bit_at (get_or block.items row 0) i ≡ 1). has.marked b row block below within fit (subst (λ (list : Vec ℕ). get_or list.items row 0 ≢ 0) (sym is) (set_somewhere (get_or block.items row 0) i set)) in
+          let mark = λ (row : ℕ) (fit : row < row_count) (set : bit_at (get_or block.items row 0) i ≡ 1). (has.bits row b fit).1 (below, subst (λ o. IsSomeAnd o (HasRange row)) (sym at) (set_somewhere (get_or block.items row 0) i set)) in
           (mark query.length fits.length one, mark query.first fits.first two, mark query.second fits.second three, mark query.third fits.third four, mark query.fourth fits.fourth five)
       | inr past ↦ absurd (subst (λ o. IsSomeAnd o (λ rows. IsFound rows.items query)) past.1 found)
     ]

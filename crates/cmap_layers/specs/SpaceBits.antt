@@ -36,24 +36,29 @@ row_of_length len = 1023 + len
 abbrev pub InRow : ℕ → Codespace → Type 0
 InRow row space = (row < value_row_count → IsAt space (row / 256) (row % 256)) × (value_row_count ≤ row → row ≡ row_of_length space.len)
 
--- the bit stands for a range at this index that is in the row
-abbrev pub HasRow : List declared.Codespace → ℕ → ℕ → Type 0
-HasRow spaces index row = IsSomeAnd (slice_get spaces index) (λ space. InRow row (codespace_seen space))
-
--- the rows of the ranges from the first one on; of these, the bits of so many are set
-pub record HaveBits (spaces : List declared.Codespace) (first count : ℕ) (rows : List ℕ) : Type 0 where
+-- the rows of the items of a list from the first one on; of these, so many have their bit set in the rows that they have, and no other bit is set
+pub record HaveBitsOf {A : Type 0} (HasRow : ℕ → A → Type 0) (items : List A) (first count : ℕ) (rows : List ℕ) : Type 0 where
   pub size : length rows ≡ row_count
-  pub bits : (row i : ℕ) → row < row_count → (bit_at (get_or rows row 0) i ≡ 1) ↔ ((i < count) × HasRow spaces (first + i) row)
+  pub bits : (row i : ℕ) → row < row_count → (bit_at (get_or rows row 0) i ≡ 1) ↔ ((i < count) × IsSomeAnd (slice_get items (first + i)) (HasRow row))
+
+-- the rows of ranges
+abbrev pub IsInRow : ℕ → declared.Codespace → Type 0
+IsInRow row space = InRow row (codespace_seen space)
+
+abbrev pub HaveBits : List declared.Codespace → ℕ → ℕ → List ℕ → Type 0
+HaveBits = HaveBitsOf IsInRow
 
 -- each block has the bits of 64 ranges, the last one of fewer
 pub record AreBlocks (spaces : List declared.Codespace) (blocks : List (Vec ℕ)) : Type 0 where
   pub each : (b : ℕ) (d : Vec ℕ) → b < length blocks → HaveBits spaces (64 * b) 64 (get_or blocks b d).items
   pub all : length spaces ≤ 64 * length blocks
 
--- the rows of the blocks from the first one on; of these so many have their bit in each row in which they have one
-pub record HasGroup (blocks : List (Vec ℕ)) (first count : ℕ) (rows : List ℕ) : Type 0 where
-  pub size : length rows ≡ row_count
-  pub marked : (b row : ℕ) (d : Vec ℕ) → b < count → first + b < length blocks → row < row_count → get_or (get_or blocks (first + b) d).items row 0 ≢ 0 → bit_at (get_or rows row 0) b ≡ 1
+-- the rows of blocks, which have those in which they have a range
+abbrev pub HasRange : ℕ → Vec ℕ → Type 0
+HasRange row block = get_or block.items row 0 ≢ 0
+
+abbrev pub HasGroup : List (Vec ℕ) → ℕ → ℕ → List ℕ → Type 0
+HasGroup = HaveBitsOf HasRange
 
 -- each group has the bits of 64 blocks, the last one of fewer
 pub record AreGroups (blocks groups : List (Vec ℕ)) : Type 0 where

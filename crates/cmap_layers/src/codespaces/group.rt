@@ -1,6 +1,6 @@
 //! Bits for 64 blocks: which of them have a range in a row at all.
 
-ghost use Rattle.std.specs.Prelude.{◌≡◌, ◌≢◌, ℕ, ◌<◌, ◌≤◌, get_or, length, IfOk};
+ghost use Rattle.std.specs.Prelude.{◌≡◌, ◌≢◌, ◌↔◌, ℕ, ◌<◌, ◌≤◌, ◌⊎◌, get_or, length, IfOk};
 ghost use Rattle.std.specs.Int.{bit_at};
 ghost use Rattle.cmap_layers.specs.SpaceBits.{AreGroups, HasGroup, HaveRows, row_count};
 
@@ -39,10 +39,8 @@ fn mark_rows(rows: &mut [u64], block: &[u64], bit: u32)
     requires rows { length rows.old ≡ row_count }
     requires block { length block.now ≡ row_count }
     requires bit { bit < 64 }
-    ensures marked { (row : ℕ) → row < row_count → get_or block.now row 0 ≢ 0
-        → bit_at (get_or rows.new row 0) bit ≡ 1 }
-    ensures kept { (row i : ℕ) → row < row_count → bit_at (get_or rows.old row 0) i ≡ 1
-        → bit_at (get_or rows.new row 0) i ≡ 1 }
+    ensures { (row i : ℕ) → row < row_count → (bit_at (get_or rows.new row 0) i ≡ 1)
+        ↔ ((bit_at (get_or rows.old row 0) i ≡ 1) ⊎ ((i ≡ bit) × (get_or block.now row 0 ≢ 0))) }
 {
     for row in 0..ROW_COUNT {
         if block[row] != 0 {

@@ -5,12 +5,12 @@ use Rattle.std.specs.Int.{bit_at}
 use Rattle.cmap_files.specs.DeclarationsSeen.{codespace_seen}
 use Rattle.cmap_files.specs.declared.code_length.CodeLength.TheVariants.{One}
 use Rattle.cmap_files.specs.declared.declarations.Codespace.{Codespace}
-use Rattle.cmap_layers.specs.SpaceBits.{HaveBits, InRow, row_count}
+use Rattle.cmap_layers.specs.SpaceBits.{HaveBits, InRow, IsInRow, row_count}
 use Rattle.cmap_layers.proofs.RowBits.{all_bits, more_bits, no_bits, written_back}
 use Rattle.cmap_layers.proofs.codespaces.block.rows_of.Goals as goal
 
 pub loop-index-init : goal.loop-index-init
-loop-index-init c = no_bits c.args.spaces.now c.args.first c.in_ok-rows.rows.items c.in_ok-rows.ensures
+loop-index-init c = no_bits IsInRow c.args.spaces.now c.args.first c.in_ok-rows.rows.items c.in_ok-rows.ensures
 
 pub loop-index-preserved : goal.loop-index-preserved
 loop-index-preserved c =
@@ -22,7 +22,7 @@ loop-index-preserved c =
     let none : Codespace = record { len = One; low = 0; high = 0 } in
     let space = get_or spaces (first + index) none in
     let set : (row i : ℕ) → row < row_count → (bit_at (get_or new row 0) i ≡ 1) ↔ ((bit_at (get_or old row 0) i ≡ 1) ⊎ ((i ≡ index) × InRow row (codespace_seen space))) = λ row i within. rw (← was) (c.add.ensures row i within) in
-    subst (HaveBits spaces first (index + 1)) (sym is) (more_bits spaces first index space old new (slice_get-get_or spaces (first + index) none (omega arith)) c.loop-index.invariant size set)
+    subst (HaveBits spaces first (index + 1)) (sym is) (more_bits IsInRow spaces first index space old new (slice_get-get_or spaces (first + index) none (omega arith)) c.loop-index.invariant size set)
 
 pub returns : goal.returns
-returns c = all_bits c.args.spaces.now c.args.first _ c.loop-index.rows.items c.requires (omega arith) c.loop-index.invariant
+returns c = all_bits IsInRow c.args.spaces.now c.args.first _ c.loop-index.rows.items c.requires (omega arith) c.loop-index.invariant
