@@ -1,17 +1,15 @@
 -- Bits of codespace ranges: which are set by a range, and which rows the range is in.
-use Rattle.std.proofs.Common.{◌≡◌, ◌≢◌, ℕ, suc, ◌+◌, ◌-◌, ◌*◌, ◌/◌, ◌%◌, ◌^◌, ◌<◌, ◌≤◌, ◌⊎◌, ◌++◌, not, List, length, take, drop, set, get_or, true≢false, eq-eqb, ne_eqb, min, Some, sym, ap, ◌∙◌, subst, inl, inr, w64, get_or-set_same, get_or-set_other, slice_get, bit_and, bit_or, arith}
+use Rattle.std.proofs.Common.{◌≡◌, ◌≢◌, ℕ, suc, ◌+◌, ◌-◌, ◌*◌, ◌/◌, ◌%◌, ◌^◌, ◌<◌, ◌≤◌, ◌⊎◌, ◌++◌, not, List, length, take, drop, set, get_or, true≢false, eq-eqb, ne_eqb, min, Some, replicate, sym, ap, ◌∙◌, subst, inl, inr, w64, get_or-set_same, get_or-set_other, slice_get, bit_and, bit_or, arith}
 use Rattle.std.specs.Prelude.{◌↔◌, IsSomeAnd, IsTrue, nat_eq}
 use Rattle.std.specs.Int.{bit_at, trailing_zeros}
-use Rattle.std.specs.Global.{Vec}
 use Rattle.std.proofs.lemmas.Bool.{cases_eq, cases_lt}
 use Rattle.std.proofs.lemmas.Nat.Bits.{bit_at-lt, bit_at-trailing_zeros, bit_at_and, bit_at_set_same, bit_at_set_other, bit_at-zero}
+use Rattle.std.proofs.lemmas.List.{get_or-replicate, length-replicate}
 use Rattle.std.proofs.lemmas.Option.{slice_get_cases}
 use Rattle.std.proofs.Math.Seq.{take-append_seam}
-use Rattle.cmap_files.specs.DeclarationsSeen.{codespace_seen}
 use Rattle.cmap_files.specs.Files.{Codespace}
-use Rattle.cmap_files.specs.declared.declarations.Codespace as declared
 use Rattle.cmap_layers.specs.Lookups.{byte_at}
-use Rattle.cmap_layers.specs.SpaceBits.{HasGroup, HasRow, HaveBits, InRow, IsAt}
+use Rattle.cmap_layers.specs.SpaceBits.{HaveBitsOf, InRow, IsAt, row_count, row_of_length, row_of_value, value_row_count}
 
 -- ---- bits
 pub both_set : (a b i : ℕ) → (bit_at (bit_and a b) i ≡ 1) ↔ ((bit_at a i ≡ 1) × (bit_at b i ≡ 1))
@@ -75,23 +73,23 @@ pub written_back : (new old : List ℕ) (n : ℕ) → length new ≡ n → take 
 written_back new old n whole = subst (λ m. take m (new ++ drop (length new) old) ≡ new) whole (take-append_seam new (drop (length new) old))
 
 -- ---- rows
-pub value_row : (space : Codespace) (place value : ℕ) → place < 4 → value < 256 → InRow (256 * place + value) space ↔ IsAt space place value
-value_row space place value few small =
-    let row = 256 * place + value in
+pub value_in_row : (space : Codespace) (place value : ℕ) → place < 4 → value < 256 → InRow (row_of_value place value) space ↔ IsAt space place value
+value_in_row space place value few small =
+    let row = row_of_value place value in
     let at : row / 256 ≡ place = omega arith in
     let its : row % 256 ≡ value = omega arith in (
       λ held. subst (λ p. IsAt space p value) at (subst (λ v. IsAt space (row / 256) v) its (held.0 (omega arith))),
       λ is. (λ _. subst (λ p. IsAt space p (row % 256)) (sym at) (subst (λ v. IsAt space place v) (sym its) is), λ past. absurd (omega arith)),
     )
 
-pub length_row : (space : Codespace) (len : ℕ) → 1 ≤ len → InRow (1023 + len) space ↔ (space.len ≡ len)
-length_row space len some = (λ held. omega (arith, held.1 (omega arith)), λ is. (λ below. absurd (omega arith), λ _. omega arith))
+pub length_in_row : (space : Codespace) (len : ℕ) → 1 ≤ len → InRow (row_of_length len) space ↔ (space.len ≡ len)
+length_in_row space len some = (λ held. omega (arith, held.1 (omega arith)), λ is. (λ below. absurd (omega arith), λ _. omega arith))
 
 -- the rows of a range are that of its length, and those of the values of its places
 abbrev pub IsTouched : Codespace → ℕ → ℕ → Type 0
-IsTouched space places row = (row ≡ 1023 + space.len) ⊎ ((row < 256 * places) × IsAt space (row / 256) (row % 256))
+IsTouched space places row = (row ≡ row_of_length space.len) ⊎ ((row < 256 * places) × IsAt space (row / 256) (row % 256))
 
-pub none_touched : (space : Codespace) (row : ℕ) → IsTouched space 0 row ↔ (row ≡ 1023 + space.len)
+pub none_touched : (space : Codespace) (row : ℕ) → IsTouched space 0 row ↔ (row ≡ row_of_length space.len)
 none_touched space row = (λ either. elim either [ inl its ↦ its | inr below ↦ let low = below.0 in absurd (omega arith) ], λ its. inl its)
 
 pub all_touched : (space : Codespace) (row : ℕ) → 1 ≤ space.len → space.len ≤ 4 → IsTouched space space.len row ↔ InRow row space
@@ -100,7 +98,7 @@ all_touched space row some few = (
     | inl its ↦ (λ below. absurd (omega arith), λ _. omega arith)
     | inr value ↦ let low = value.0 in (λ _. value.1, λ past. absurd (omega arith))
   ],
-  λ held. elim (cases_lt row 1024) [
+  λ held. elim (cases_lt row value_row_count) [
     | inl below ↦ let is = held.0 below in let within = is.0 in inr (omega arith, is)
     | inr past ↦ inl (omega (arith, held.1 past))
   ],
@@ -108,7 +106,7 @@ all_touched space row some few = (
 
 -- and those of one place more, from low to high
 pub touched_more : (space : Codespace) (place low high row : ℕ) → place < space.len → low < 256 → high < 256 → low ≡ byte_at space.low (space.len - suc place) → high ≡ byte_at space.high (space.len - suc place)
-    → (IsTouched space place row ⊎ ((256 * place + low ≤ row) × (row ≤ 256 * place + high))) ↔ IsTouched space (place + 1) row
+    → (IsTouched space place row ⊎ ((row_of_value place low ≤ row) × (row ≤ row_of_value place high))) ↔ IsTouched space (place + 1) row
 touched_more space place low high row within low_fits high_fits low_is high_is = (
   λ either. elim either [
     | inl old ↦ elim old [ inl its ↦ inl its | inr value ↦ let below = value.0 in inr (omega arith, value.1) ]
@@ -131,70 +129,44 @@ touched_more space place low high row within low_fits high_fits low_is high_is =
   ],
 )
 
--- ---- the bits of ranges in a row
-pub no_bits : (spaces : List declared.Codespace) (first : ℕ) (rows : List ℕ) → length rows ≡ 1028 → ((row : ℕ) → row < 1028 → get_or rows row 0 ≡ 0) → HaveBits spaces first 0 rows
-no_bits spaces first rows size none = record {
-  size = size;
-  bits = λ row i within. (λ is. absurd (omega (arith, ap (λ n. bit_at n i) (none row within), bit_at-zero i, is)), λ has. absurd (omega (arith, has.0)));
+-- ---- the bits of items in a row
+pub item_within : {A : Type 0} (Holds : A → Type 0) (items : List A) (index : ℕ) → IsSomeAnd (slice_get items index) Holds → index < length items
+item_within Holds items index has = elim (slice_get_cases items index).1 [ inl found ↦ found.1 | inr past ↦ absurd (subst (λ o. IsSomeAnd o Holds) past.1 has) ]
+
+pub no_bits : {A : Type 0} (HasRow : ℕ → A → Type 0) (items : List A) (first : ℕ) (rows : List ℕ) → rows ≡ replicate row_count 0 → HaveBitsOf HasRow items first 0 rows
+no_bits HasRow items first rows cleared = record {
+  size = ap (λ (l : List ℕ). length l) cleared ∙ length-replicate {A = ℕ} row_count 0;
+  bits = λ row i within.
+      let none = ap (λ (l : List ℕ). get_or l row 0) cleared ∙ get_or-replicate row_count row 0 0 within in
+      (λ is. absurd (omega (arith, ap (λ n. bit_at n i) none, bit_at-zero i, is)), λ has. absurd (omega (arith, has.0)));
 }
 
-pub more_bits : (spaces : List declared.Codespace) (first n : ℕ) (space : declared.Codespace) (old new : List ℕ) → slice_get spaces (first + n) ≡ Some space → HaveBits spaces first n old → length new ≡ 1028
-    → ((row i : ℕ) → row < 1028 → (bit_at (get_or new row 0) i ≡ 1) ↔ ((bit_at (get_or old row 0) i ≡ 1) ⊎ ((i ≡ n) × InRow row (codespace_seen space)))) → HaveBits spaces first (n + 1) new
-more_bits spaces first n space old new at have size set = record {
+pub more_bits : {A : Type 0} (HasRow : ℕ → A → Type 0) (items : List A) (first n : ℕ) (item : A) (old new : List ℕ) → slice_get items (first + n) ≡ Some item → HaveBitsOf HasRow items first n old → length new ≡ row_count
+    → ((row i : ℕ) → row < row_count → (bit_at (get_or new row 0) i ≡ 1) ↔ ((bit_at (get_or old row 0) i ≡ 1) ⊎ ((i ≡ n) × HasRow row item))) → HaveBitsOf HasRow items first (n + 1) new
+more_bits HasRow items first n item old new at have size set = record {
   size = size;
   bits = λ row i within.
       let was = have.bits row i within in
       let now = set row i within in
-      let here : (i ≡ n) → slice_get spaces (first + i) ≡ Some space = λ same. ap (λ k. slice_get spaces (first + k)) same ∙ at in (
+      let here : (i ≡ n) → slice_get items (first + i) ≡ Some item = λ same. ap (λ k. slice_get items (first + k)) same ∙ at in (
         λ is. elim (now.0 is) [
           | inl before ↦ let (below, has) = was.0 before in (omega arith, has)
-          | inr its ↦ (omega (arith, its.0), subst (λ o. IsSomeAnd o (λ s. InRow row (codespace_seen s))) (sym (here its.0)) its.1)
+          | inr its ↦ (omega (arith, its.0), subst (λ o. IsSomeAnd o (HasRow row)) (sym (here its.0)) its.1)
         ],
         λ has. now.1 (elim (cases_lt i n) [
           | inl below ↦ inl (was.1 (below, has.1))
-          | inr past ↦ let same : i ≡ n = omega (arith, has.0) in inr (same, subst (λ o. IsSomeAnd o (λ s. InRow row (codespace_seen s))) (here same) has.1)
+          | inr past ↦ let same : i ≡ n = omega (arith, has.0) in inr (same, subst (λ o. IsSomeAnd o (HasRow row)) (here same) has.1)
         ]),
       );
 }
 
-HasRow-within : (spaces : List declared.Codespace) (index row : ℕ) → HasRow spaces index row → index < length spaces
-HasRow-within spaces index row has =
-    elim (slice_get_cases spaces index).1 [
-      | inl found ↦ found.1
-      | inr past ↦ absurd (subst (λ o. IsSomeAnd o (λ s. InRow row (codespace_seen s))) past.1 has)
-    ]
-
-pub all_bits : (spaces : List declared.Codespace) (first count : ℕ) (rows : List ℕ) → first ≤ length spaces → count ≡ min (length spaces - first) 64 → HaveBits spaces first count rows → HaveBits spaces first 64 rows
-all_bits spaces first count rows within is have = record {
+pub all_bits : {A : Type 0} (HasRow : ℕ → A → Type 0) (items : List A) (first count : ℕ) (rows : List ℕ) → first ≤ length items → count ≡ min (length items - first) 64 → HaveBitsOf HasRow items first count rows → HaveBitsOf HasRow items first 64 rows
+all_bits HasRow items first count rows within is have = record {
   size = have.size;
   bits = λ row i lt. let bits = have.bits row i lt in (
     λ set. let (below, has) = bits.0 set in (omega arith, has),
-    λ has. let index = HasRow-within spaces (first + i) row has.1 in let below = has.0 in bits.1 (omega arith, has.1),
+    λ has. let index = item_within (HasRow row) items (first + i) has.1 in let below = has.0 in bits.1 (omega arith, has.1),
   );
-}
-
--- ---- groups of blocks
-pub no_group : (blocks : List (Vec ℕ)) (first : ℕ) (rows : List ℕ) → length rows ≡ 1028 → HasGroup blocks first 0 rows
-no_group blocks first rows size = record { size = size; marked = λ b row d below. absurd (omega arith) }
-
-pub more_group : (blocks : List (Vec ℕ)) (first n : ℕ) (old new block : List ℕ) → HasGroup blocks first n old → length new ≡ 1028 → ((d : Vec ℕ) → (get_or blocks (first + n) d).items ≡ block)
-    → ((row : ℕ) → row < 1028 → get_or block row 0 ≢ 0 → bit_at (get_or new row 0) n ≡ 1) → ((row i : ℕ) → row < 1028 → bit_at (get_or old row 0) i ≡ 1 → bit_at (get_or new row 0) i ≡ 1) → HasGroup blocks first (n + 1) new
-more_group blocks first n old new block has size is marked kept = record {
-  size = size;
-  marked = λ b row d below within lt some.
-      elim (cases_lt b n) [
-        | inl before ↦ kept row b lt (has.marked b row d before within lt some)
-        | inr last ↦
-            let same : b ≡ n = omega arith in
-            let there : (get_or blocks (first + b) d).items ≡ block = ap (λ k. (get_or blocks (first + k) d).items) same ∙ is d in
-            subst (λ k. bit_at (get_or new row 0) k ≡ 1) (sym same) (marked row lt (λ none. some (ap (λ rows. get_or rows row 0) there ∙ none)))
-      ];
-}
-
-pub whole_group : (blocks : List (Vec ℕ)) (first count : ℕ) (rows : List ℕ) → first ≤ length blocks → count ≡ min (length blocks - first) 64 → HasGroup blocks first count rows → HasGroup blocks first 64 rows
-whole_group blocks first count rows within is has = record {
-  size = has.size;
-  marked = λ b row d below inside lt some. has.marked b row d (omega arith) inside lt some;
 }
 
 pub row_marked : (old new : List ℕ) (at bit : ℕ) → at < length old → bit < 64 → new ≡ set old at (bit_or (get_or old at 0) (1 * 2 ^ bit % 2 ^ 64)) → (row i : ℕ) → (bit_at (get_or new row 0) i ≡ 1) ↔ ((bit_at (get_or old row 0) i ≡ 1) ⊎ ((i ≡ bit) × (row ≡ at)))

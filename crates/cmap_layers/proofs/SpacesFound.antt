@@ -17,43 +17,43 @@ use Rattle.cmap_files.specs.declared.code_length.CodeLength.TheVariants.{One, Tw
 use Rattle.cmap_files.specs.declared.declarations.Codespace as declared
 use Rattle.cmap_layers.specs.Layers.{Layer}
 use Rattle.cmap_layers.specs.Lookups.{IsWithin, byte_at}
-use Rattle.cmap_layers.specs.SpaceBits.{AreBlocks, AreGroups, AreRows, AreSet, Begins, EachRow, HasFront, HasGroup, HaveBits, HaveRows, InRow, InRows, IsFound, IsFoundAmong, IsFoundAt, IsInside, IsInsideRanges, IsInsideWithin, IsLeast, IsSet, front_row, lesser, query_of}
+use Rattle.cmap_layers.specs.SpaceBits.{AreBlocks, AreGroups, AreRows, AreSet, Begins, EachRow, HasFront, HasGroup, HasRange, HaveBits, HaveRows, InRow, InRows, IsFound, IsFoundAmong, IsFoundAt, IsInside, IsInsideRanges, IsInsideWithin, IsLeast, IsSet, front_row, lesser, query_of, row_count, row_of_length, row_of_value}
 use Rattle.cmap_layers.specs.declared.codespaces.query.Query.{Query}
-use Rattle.cmap_layers.proofs.RowBits.{both_set, length_row, some_bit, value_row}
+use Rattle.cmap_layers.proofs.RowBits.{both_set, item_within, length_in_row, some_bit, value_in_row}
 
 -- ---- the rows of the first bytes
-front_row-byte : (front : List ℕ) (otherwise k : ℕ) → k < length front → front_row front otherwise k ≡ 256 * k + slice_index front k
-front_row-byte front otherwise k within = ap (λ b. if b then 256 * k + slice_index front k else otherwise) (lt-ltb k (length front) within)
+front_row-byte : (front : List ℕ) (otherwise k : ℕ) → k < length front → front_row front otherwise k ≡ row_of_value k (slice_index front k)
+front_row-byte front otherwise k within = ap (λ b. if b then row_of_value k (slice_index front k) else otherwise) (lt-ltb k (length front) within)
 
 front_row-past : (front : List ℕ) (otherwise k : ℕ) → length front ≤ k → front_row front otherwise k ≡ otherwise
-front_row-past front otherwise k past = ap (λ b. if b then 256 * k + slice_index front k else otherwise) (le-ltb k (length front) past)
+front_row-past front otherwise k past = ap (λ b. if b then row_of_value k (slice_index front k) else otherwise) (le-ltb k (length front) past)
 
 abbrev pub AreBytes : List ℕ → Type 0
 AreBytes front = (k : ℕ) → slice_index front k < 256
 
-pub front_row-fits : (front : List ℕ) (len k : ℕ) → AreBytes front → len ≤ 4 → k < 4 → front_row front (1023 + len) k < 1028
+pub front_row-fits : (front : List ℕ) (len k : ℕ) → AreBytes front → len ≤ 4 → k < 4 → front_row front (row_of_length len) k < row_count
 front_row-fits front len k bytes few place =
     elim (cases_lt k (length front)) [
-      | inl within ↦ omega (arith, front_row-byte front (1023 + len) k within, bytes k)
-      | inr past ↦ omega (arith, front_row-past front (1023 + len) k past)
+      | inl within ↦ omega (arith, front_row-byte front (row_of_length len) k within, bytes k)
+      | inr past ↦ omega (arith, front_row-past front (row_of_length len) k past)
     ]
 
-row_of_each : (Holds : ℕ → Type 0) (len : ℕ) (front : List ℕ) → length front ≤ 4 → EachRow Holds (query_of len front) → (k : ℕ) → k < length front → Holds (256 * k + slice_index front k)
-row_of_each Holds len front few all zero within = subst Holds (front_row-byte front (1023 + len) 0 within) all.1
-row_of_each Holds len front few all (suc zero) within = subst Holds (front_row-byte front (1023 + len) 1 within) all.2
-row_of_each Holds len front few all (suc (suc zero)) within = subst Holds (front_row-byte front (1023 + len) 2 within) all.3
-row_of_each Holds len front few all (suc (suc (suc zero))) within = subst Holds (front_row-byte front (1023 + len) 3 within) all.4
+row_of_each : (Holds : ℕ → Type 0) (len : ℕ) (front : List ℕ) → length front ≤ 4 → EachRow Holds (query_of len front) → (k : ℕ) → k < length front → Holds (row_of_value k (slice_index front k))
+row_of_each Holds len front few all zero within = subst Holds (front_row-byte front (row_of_length len) 0 within) all.1
+row_of_each Holds len front few all (suc zero) within = subst Holds (front_row-byte front (row_of_length len) 1 within) all.2
+row_of_each Holds len front few all (suc (suc zero)) within = subst Holds (front_row-byte front (row_of_length len) 2 within) all.3
+row_of_each Holds len front few all (suc (suc (suc zero))) within = subst Holds (front_row-byte front (row_of_length len) 3 within) all.4
 row_of_each Holds len front few all (suc (suc (suc (suc k)))) within = absurd (omega arith)
 
-each_of_row : (Holds : ℕ → Type 0) (len : ℕ) (front : List ℕ) → Holds (1023 + len) → ((j : ℕ) → j < length front → Holds (256 * j + slice_index front j)) → (k : ℕ) → Holds (front_row front (1023 + len) k)
+each_of_row : (Holds : ℕ → Type 0) (len : ℕ) (front : List ℕ) → Holds (row_of_length len) → ((j : ℕ) → j < length front → Holds (row_of_value j (slice_index front j))) → (k : ℕ) → Holds (front_row front (row_of_length len) k)
 each_of_row Holds len front has each k =
     elim (cases_lt k (length front)) [
-      | inl within ↦ subst Holds (sym (front_row-byte front (1023 + len) k within)) (each k within)
-      | inr past ↦ subst Holds (sym (front_row-past front (1023 + len) k past)) has
+      | inl within ↦ subst Holds (sym (front_row-byte front (row_of_length len) k within)) (each k within)
+      | inr past ↦ subst Holds (sym (front_row-past front (row_of_length len) k past)) has
     ]
 
 -- what holds of each row of a query holds of that of the length, and of those of the bytes
-pub each_row : (Holds : ℕ → Type 0) (len : ℕ) (front : List ℕ) → length front ≤ 4 → EachRow Holds (query_of len front) ↔ (Holds (1023 + len) × ((k : ℕ) → k < length front → Holds (256 * k + slice_index front k)))
+pub each_row : (Holds : ℕ → Type 0) (len : ℕ) (front : List ℕ) → length front ≤ 4 → EachRow Holds (query_of len front) ↔ (Holds (row_of_length len) × ((k : ℕ) → k < length front → Holds (row_of_value k (slice_index front k))))
 each_row Holds len front few =
     let row = each_of_row Holds len front in
     (λ all. (all.0, row_of_each Holds len front few all), λ has. (has.0, row has.0 has.1 0, row has.0 has.1 1, row has.0 has.1 2, row has.0 has.1 3))
@@ -71,8 +71,8 @@ query-rows len front bytes few = record {
 pub front_rows : (len : ℕ) (front : List ℕ) (space : Codespace) → AreBytes front → 1 ≤ len → length front ≤ 4 → InRows (query_of len front) space ↔ HasFront len front space
 front_rows len front space bytes some few =
     let rows = each_row (λ row. InRow row space) len front few in
-    let of_length = length_row space len some in
-    let value = λ (k : ℕ) (within : k < length front). value_row space k (slice_index front k) (omega arith) (bytes k) in
+    let of_length = length_in_row space len some in
+    let value = λ (k : ℕ) (within : k < length front). value_in_row space k (slice_index front k) (omega arith) (bytes k) in
     (λ all. let (one, each) = rows.0 all in (of_length.0 one, λ k within. (value k within).0 (each k within)), λ has. rows.1 (of_length.1 has.0, λ k within. (value k within).1 (has.1 k within)))
 
 -- ---- the bytes of a code
@@ -185,11 +185,7 @@ set_somewhere : (n i : ℕ) → bit_at n i ≡ 1 → n ≢ 0
 set_somewhere n i set none = omega (arith, ap (λ m. bit_at m i) none, bit_at-zero i, set)
 
 pub found_within : (blocks : List (Vec ℕ)) (query : Query) (index : ℕ) → IsFoundAt blocks query index → index < length blocks
-found_within blocks query index found =
-    elim (slice_get_cases blocks index).1 [
-      | inl here ↦ here.1
-      | inr past ↦ absurd (subst (λ o. IsSomeAnd o (λ rows. IsFound rows.items query)) past.1 found)
-    ]
+found_within blocks query index found = item_within (λ block. IsFound block.items query) blocks index found
 
 pub found_here : (blocks : List (Vec ℕ)) (query : Query) (index : ℕ) (block : Vec ℕ) → slice_get blocks index ≡ Some block → IsFoundAt blocks query index → IsFound block.items query
 found_here blocks query index block at found = subst (λ o. IsSomeAnd o (λ rows. IsFound rows.items query)) at found
@@ -215,7 +211,7 @@ group_found blocks first b rows query has fits below found =
     elim (slice_get_cases blocks (first + b)).1 [
       | inl (block, within, at, is) ↦
           let (i, (one, two, three, four, five)) = subst (λ o. IsSomeAnd o (λ rows. IsFound rows.items query)) at found in
-          let mark = λ (row : ℕ) (fit : row < 1028) (set : bit_at (get_or block.items row 0) i ≡ 1). has.marked b row block below within fit (subst (λ (list : Vec ℕ). get_or list.items row 0 ≢ 0) (sym is) (set_somewhere (get_or block.items row 0) i set)) in
+          let mark = λ (row : ℕ) (fit : row < row_count) (set : bit_at (get_or block.items row 0) i ≡ 1). (has.bits row b fit).1 (below, subst (λ o. IsSomeAnd o (HasRange row)) (sym at) (set_somewhere (get_or block.items row 0) i set)) in
           (mark query.length fits.length one, mark query.first fits.first two, mark query.second fits.second three, mark query.third fits.third four, mark query.fourth fits.fourth five)
       | inr past ↦ absurd (subst (λ o. IsSomeAnd o (λ rows. IsFound rows.items query)) past.1 found)
     ]
@@ -289,45 +285,45 @@ taken_bytes (byte ∷ text) zero bytes = λ k. omega arith
 taken_bytes (byte ∷ text) (suc n) bytes = first_byte byte (take n text) (bytes 0) (taken_bytes text n (λ k. bytes (suc k)))
 
 -- a bit is set in all rows of a front just where it is in that of its length and in those of its bytes
-pub set_front : (rows text : List ℕ) (n i : ℕ) → n ≤ 4 → n ≤ length text → AreSet rows (query_of n (take n text)) i ↔ (IsSet rows i (1023 + n) × ((k : ℕ) → k < n → IsSet rows i (256 * k + slice_index text k)))
+pub set_front : (rows text : List ℕ) (n i : ℕ) → n ≤ 4 → n ≤ length text → AreSet rows (query_of n (take n text)) i ↔ (IsSet rows i (row_of_length n) × ((k : ℕ) → k < n → IsSet rows i (row_of_value k (slice_index text k))))
 set_front rows text n i few within =
     let front = take n text in
     let size = length-take-le n text within in
     let each = each_row (IsSet rows i) n front (omega arith) in
-    let same = λ (k : ℕ) (lt : k < n). ap (λ value. 256 * k + value) (get_or-take n text k 0 lt) in (
+    let same = λ (k : ℕ) (lt : k < n). ap (λ value. row_of_value k value) (get_or-take n text k 0 lt) in (
       λ all. let (one, set) = each.0 all in (one, λ k lt. subst (IsSet rows i) (same k lt) (set k (omega arith))),
       λ has. each.1 (has.0, λ k lt. let below : k < n = omega arith in subst (IsSet rows i) (sym (same k below)) (has.1 k below)),
     )
 
 -- the bits that are set in the rows of all bytes so far, and of one more
-pub set_more : (rows text : List ℕ) (found row p : ℕ) → row ≡ 256 * p + slice_index text p → ((i : ℕ) → bit_at found i ≡ 1 → (k : ℕ) → k < p → IsSet rows i (256 * k + slice_index text k))
-    → (i : ℕ) → bit_at (bit_and found (get_or rows row 0)) i ≡ 1 → (k : ℕ) → k < p + 1 → IsSet rows i (256 * k + slice_index text k)
+pub set_more : (rows text : List ℕ) (found row p : ℕ) → row ≡ row_of_value p (slice_index text p) → ((i : ℕ) → bit_at found i ≡ 1 → (k : ℕ) → k < p → IsSet rows i (row_of_value k (slice_index text k)))
+    → (i : ℕ) → bit_at (bit_and found (get_or rows row 0)) i ≡ 1 → (k : ℕ) → k < p + 1 → IsSet rows i (row_of_value k (slice_index text k))
 set_more rows text found row p is before i set k below =
     let (old, new) = (both_set found (get_or rows row 0) i).0 set in
     elim (cases_lt k p) [
       | inl less ↦ before i old k less
-      | inr last ↦ let same : p ≡ k = omega arith in subst (λ j. IsSet rows i (256 * j + slice_index text j)) same (subst (IsSet rows i) is new)
+      | inr last ↦ let same : p ≡ k = omega arith in subst (λ j. IsSet rows i (row_of_value j (slice_index text j))) same (subst (IsSet rows i) is new)
     ]
 
-pub all_more : (rows text : List ℕ) (found row p : ℕ) → row ≡ 256 * p + slice_index text p → ((i : ℕ) → i < 64 → ((k : ℕ) → k < p → IsSet rows i (256 * k + slice_index text k)) → bit_at found i ≡ 1)
-    → (i : ℕ) → i < 64 → ((k : ℕ) → k < p + 1 → IsSet rows i (256 * k + slice_index text k)) → bit_at (bit_and found (get_or rows row 0)) i ≡ 1
+pub all_more : (rows text : List ℕ) (found row p : ℕ) → row ≡ row_of_value p (slice_index text p) → ((i : ℕ) → i < 64 → ((k : ℕ) → k < p → IsSet rows i (row_of_value k (slice_index text k))) → bit_at found i ≡ 1)
+    → (i : ℕ) → i < 64 → ((k : ℕ) → k < p + 1 → IsSet rows i (row_of_value k (slice_index text k))) → bit_at (bit_and found (get_or rows row 0)) i ≡ 1
 all_more rows text found row p is before i small each = (both_set found (get_or rows row 0) i).1 (before i small (λ k below. each k (omega arith)), subst (IsSet rows i) (sym is) (each p (omega arith)))
 
 -- no bit is set that a row doesn't have
-pub none_inside : (rows text : List ℕ) (found p : ℕ) → ((row : ℕ) → get_or rows row 0 < 2 ^ 64) → ((i : ℕ) → i < 64 → ((k : ℕ) → k < p → IsSet rows i (256 * k + slice_index text k)) → bit_at found i ≡ 1) → bit_and found (get_or rows (1023 + p) 0) ≡ 0
+pub none_inside : (rows text : List ℕ) (found p : ℕ) → ((row : ℕ) → get_or rows row 0 < 2 ^ 64) → ((i : ℕ) → i < 64 → ((k : ℕ) → k < p → IsSet rows i (row_of_value k (slice_index text k))) → bit_at found i ≡ 1) → bit_and found (get_or rows (row_of_length p) 0) ≡ 0
     → IsInside text rows p → ⊥
 none_inside rows text found p fits all none (begins, (i, set)) =
     let (some, few, within) = begins in
     let (length, each) = (set_front rows text p i few within).0 set in
-    let small = set_below (get_or rows (1023 + p) 0) i (fits (1023 + p)) length in
-    let bit = (both_set found (get_or rows (1023 + p) 0) i).1 (all i small each, length) in
+    let small = set_below (get_or rows (row_of_length p) 0) i (fits (row_of_length p)) length in
+    let bit = (both_set found (get_or rows (row_of_length p) 0) i).1 (all i small each, length) in
     omega (arith, ap (λ n. bit_at n i) none, bit_at-zero i, bit)
 
-pub some_inside : (rows text : List ℕ) (found p : ℕ) → found < 2 ^ 64 → 1 ≤ p → p ≤ 4 → p ≤ length text → ((i : ℕ) → bit_at found i ≡ 1 → (k : ℕ) → k < p → IsSet rows i (256 * k + slice_index text k)) → bit_and found (get_or rows (1023 + p) 0) ≢ 0 → IsInside text rows p
+pub some_inside : (rows text : List ℕ) (found p : ℕ) → found < 2 ^ 64 → 1 ≤ p → p ≤ 4 → p ≤ length text → ((i : ℕ) → bit_at found i ≡ 1 → (k : ℕ) → k < p → IsSet rows i (row_of_value k (slice_index text k))) → bit_and found (get_or rows (row_of_length p) 0) ≢ 0 → IsInside text rows p
 some_inside rows text found p fits some few within set is =
-    let least = and_le_l found (get_or rows (1023 + p) 0) in
-    let (i, bit) = some_bit (bit_and found (get_or rows (1023 + p) 0)) (omega arith) is in
-    let (all, length) = (both_set found (get_or rows (1023 + p) 0) i).0 bit in
+    let least = and_le_l found (get_or rows (row_of_length p) 0) in
+    let (i, bit) = some_bit (bit_and found (get_or rows (row_of_length p) 0)) (omega arith) is in
+    let (all, length) = (both_set found (get_or rows (row_of_length p) 0) i).0 bit in
     ((some, few, within), (i, (set_front rows text p i few within).1 (length, set i all)))
 
 pub least_of_both : (P Q R : ℕ → Type 0) (one other : Option ℕ) → ((n : ℕ) → P n → R n) → ((n : ℕ) → Q n → R n) → ((n : ℕ) → R n → P n ⊎ Q n) → IsLeast P one → IsLeast Q other → IsLeast R (lesser one other)
@@ -427,25 +423,25 @@ none_shorter spaces blocks text fewest bytes are least few n some short found =
     elim (slice_get_cases spaces k).1 [
       | inl (space, within, at, is) ↦
           let rows = subst (λ o. IsSomeAnd o (λ space. InRows query (codespace_seen space))) at all in
-          let len : length_of space.len ≡ n = (length_row (codespace_seen space) n some).0 rows.0 in
+          let len : length_of space.len ≡ n = (length_in_row (codespace_seen space) n some).0 rows.0 in
           omega (arith, least k space within, ap (λ (s : declared.Codespace). length_of s.len) is)
       | inr past ↦ absurd (subst (λ o. IsSomeAnd o (λ space. InRows query (codespace_seen space))) past.1 all)
     ]
 
 -- ---- the fewest bytes of ranges that begin with a front
-pub found_with_front : (rows front : List ℕ) (n bits : ℕ) → length front ≤ 4 → bits < 2 ^ 64 → ((i : ℕ) → bit_at bits i ≡ 1 → (k : ℕ) → k < length front → IsSet rows i (256 * k + slice_index front k)) → bit_and bits (get_or rows (1023 + n) 0) ≢ 0 → IsFound rows (query_of n front)
+pub found_with_front : (rows front : List ℕ) (n bits : ℕ) → length front ≤ 4 → bits < 2 ^ 64 → ((i : ℕ) → bit_at bits i ≡ 1 → (k : ℕ) → k < length front → IsSet rows i (row_of_value k (slice_index front k))) → bit_and bits (get_or rows (row_of_length n) 0) ≢ 0 → IsFound rows (query_of n front)
 found_with_front rows front n bits few fits set some =
-    let least = and_le_l bits (get_or rows (1023 + n) 0) in
-    let (i, bit) = some_bit (bit_and bits (get_or rows (1023 + n) 0)) (omega arith) some in
-    let (all, length) = (both_set bits (get_or rows (1023 + n) 0) i).0 bit in
+    let least = and_le_l bits (get_or rows (row_of_length n) 0) in
+    let (i, bit) = some_bit (bit_and bits (get_or rows (row_of_length n) 0)) (omega arith) some in
+    let (all, length) = (both_set bits (get_or rows (row_of_length n) 0) i).0 bit in
     (i, (each_row (IsSet rows i) n front few).1 (length, set i all))
 
-pub none_with_front : (rows front : List ℕ) (n bits : ℕ) → length front ≤ 4 → ((row : ℕ) → get_or rows row 0 < 2 ^ 64) → ((i : ℕ) → i < 64 → ((k : ℕ) → k < length front → IsSet rows i (256 * k + slice_index front k)) → bit_at bits i ≡ 1) → bit_and bits (get_or rows (1023 + n) 0) ≡ 0
+pub none_with_front : (rows front : List ℕ) (n bits : ℕ) → length front ≤ 4 → ((row : ℕ) → get_or rows row 0 < 2 ^ 64) → ((i : ℕ) → i < 64 → ((k : ℕ) → k < length front → IsSet rows i (row_of_value k (slice_index front k))) → bit_at bits i ≡ 1) → bit_and bits (get_or rows (row_of_length n) 0) ≡ 0
     → IsFound rows (query_of n front) → ⊥
 none_with_front rows front n bits few fits all none (i, set) =
     let (length, each) = (each_row (IsSet rows i) n front few).0 set in
-    let small = set_below (get_or rows (1023 + n) 0) i (fits (1023 + n)) length in
-    let bit = (both_set bits (get_or rows (1023 + n) 0) i).1 (all i small each, length) in
+    let small = set_below (get_or rows (row_of_length n) 0) i (fits (row_of_length n)) length in
+    let bit = (both_set bits (get_or rows (row_of_length n) 0) i).1 (all i small each, length) in
     omega (arith, ap (λ m. bit_at m i) none, bit_at-zero i, bit)
 
 any_ranges : (P Q : Codespace → Type 0) (spaces : List Codespace) → ((space : Codespace) → P space → Q space) → Any P spaces → Any Q spaces

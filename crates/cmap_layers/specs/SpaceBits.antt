@@ -18,28 +18,47 @@ IsAt space place value = (place < space.len) × (byte_at space.low (space.len - 
 abbrev pub HasFront : ℕ → List ℕ → Codespace → Type 0
 HasFront len front space = (space.len ≡ len) × ((k : ℕ) → k < length front → IsAt space k (slice_index front k))
 
--- the range is in the row: there are 256 rows for each of four places, one for each value, and then one for each length
+-- a block has 256 rows for each of four places, one for each value, and then one for each length: so many for values, and so many in all
+abbrev pub value_row_count : ℕ
+value_row_count = 1024
+
+abbrev pub row_count : ℕ
+row_count = 1028
+
+-- the row of the ranges that have a value at a place of their codes, and that of those whose codes have so many bytes
+abbrev pub row_of_value : ℕ → ℕ → ℕ
+row_of_value place value = 256 * place + value
+
+abbrev pub row_of_length : ℕ → ℕ
+row_of_length len = 1023 + len
+
+-- the range is in the row
 abbrev pub InRow : ℕ → Codespace → Type 0
-InRow row space = (row < 1024 → IsAt space (row / 256) (row % 256)) × (1024 ≤ row → space.len ≡ row - 1023)
+InRow row space = (row < value_row_count → IsAt space (row / 256) (row % 256)) × (value_row_count ≤ row → row ≡ row_of_length space.len)
 
--- the bit stands for a range at this index that is in the row
-abbrev pub HasRow : List declared.Codespace → ℕ → ℕ → Type 0
-HasRow spaces index row = IsSomeAnd (slice_get spaces index) (λ space. InRow row (codespace_seen space))
+-- the rows of the items of a list from the first one on; of these, so many have their bit set in the rows that they have, and no other bit is set
+pub record HaveBitsOf {A : Type 0} (HasRow : ℕ → A → Type 0) (items : List A) (first count : ℕ) (rows : List ℕ) : Type 0 where
+  pub size : length rows ≡ row_count
+  pub bits : (row i : ℕ) → row < row_count → (bit_at (get_or rows row 0) i ≡ 1) ↔ ((i < count) × IsSomeAnd (slice_get items (first + i)) (HasRow row))
 
--- the rows of the ranges from the first one on; of these, the bits of so many are set
-pub record HaveBits (spaces : List declared.Codespace) (first count : ℕ) (rows : List ℕ) : Type 0 where
-  pub size : length rows ≡ 1028
-  pub bits : (row i : ℕ) → row < 1028 → (bit_at (get_or rows row 0) i ≡ 1) ↔ ((i < count) × HasRow spaces (first + i) row)
+-- the rows of ranges
+abbrev pub IsInRow : ℕ → declared.Codespace → Type 0
+IsInRow row space = InRow row (codespace_seen space)
+
+abbrev pub HaveBits : List declared.Codespace → ℕ → ℕ → List ℕ → Type 0
+HaveBits = HaveBitsOf IsInRow
 
 -- each block has the bits of 64 ranges, the last one of fewer
 pub record AreBlocks (spaces : List declared.Codespace) (blocks : List (Vec ℕ)) : Type 0 where
   pub each : (b : ℕ) (d : Vec ℕ) → b < length blocks → HaveBits spaces (64 * b) 64 (get_or blocks b d).items
   pub all : length spaces ≤ 64 * length blocks
 
--- the rows of the blocks from the first one on; of these so many have their bit in each row in which they have one
-pub record HasGroup (blocks : List (Vec ℕ)) (first count : ℕ) (rows : List ℕ) : Type 0 where
-  pub size : length rows ≡ 1028
-  pub marked : (b row : ℕ) (d : Vec ℕ) → b < count → first + b < length blocks → row < 1028 → get_or (get_or blocks (first + b) d).items row 0 ≢ 0 → bit_at (get_or rows row 0) b ≡ 1
+-- the rows of blocks, which have those in which they have a range
+abbrev pub HasRange : ℕ → Vec ℕ → Type 0
+HasRange row block = get_or block.items row 0 ≢ 0
+
+abbrev pub HasGroup : List (Vec ℕ) → ℕ → ℕ → List ℕ → Type 0
+HasGroup = HaveBitsOf HasRange
 
 -- each group has the bits of 64 blocks, the last one of fewer
 pub record AreGroups (blocks groups : List (Vec ℕ)) : Type 0 where
@@ -58,19 +77,19 @@ pub record AreFoundBy (spaces : List declared.Codespace) (fewest : ℕ) (blocks 
 
 -- the row of the byte at a place of a front, or another one where the front is shorter
 abbrev pub front_row : List ℕ → ℕ → ℕ → ℕ
-front_row front otherwise place = if nat_lt place (length front) then 256 * place + slice_index front place else otherwise
+front_row front otherwise place = if nat_lt place (length front) then row_of_value place (slice_index front place) else otherwise
 
 -- the rows of the ranges that have codes of this length which may begin with these bytes
 abbrev pub query_of : ℕ → List ℕ → Query
-query_of len front = record { length = 1023 + len; first = front_row front (1023 + len) 0; second = front_row front (1023 + len) 1; third = front_row front (1023 + len) 2; fourth = front_row front (1023 + len) 3 }
+query_of len front = record { length = row_of_length len; first = front_row front (row_of_length len) 0; second = front_row front (row_of_length len) 1; third = front_row front (row_of_length len) 2; fourth = front_row front (row_of_length len) 3 }
 
 -- a block has these rows
 pub record AreRows (query : Query) : Type 0 where
-  pub length : query.length < 1028
-  pub first : query.first < 1028
-  pub second : query.second < 1028
-  pub third : query.third < 1028
-  pub fourth : query.fourth < 1028
+  pub length : query.length < row_count
+  pub first : query.first < row_count
+  pub second : query.second < row_count
+  pub third : query.third < row_count
+  pub fourth : query.fourth < row_count
 
 -- it holds of each row
 abbrev pub EachRow : (ℕ → Type 0) → Query → Type 0
@@ -107,7 +126,7 @@ IsFoundAmong blocks query = (index : ℕ) × IsFoundAt blocks query index
 
 -- each block has all rows
 abbrev pub HaveRows : List (Vec ℕ) → Type 0
-HaveRows blocks = (b : ℕ) (d : Vec ℕ) → b < length blocks → length (get_or blocks b d).items ≡ 1028
+HaveRows blocks = (b : ℕ) (d : Vec ℕ) → b < length blocks → length (get_or blocks b d).items ≡ row_count
 
 -- a range of some block is, of so many from the first one on
 abbrev pub IsFoundWithin : List (Vec ℕ) → Query → ℕ → ℕ → Type 0

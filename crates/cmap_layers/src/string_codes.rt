@@ -66,7 +66,8 @@ pub fn fewest_bytes(layers: &[Layer]) -> u8
 }
 
 /// The answer of `next_code`, where no code in a codespace range has fewer bytes than `fewest`.
-/// It takes as long as `next_code` does.
+/// The layers know that number themselves: `fewest` stands in the contract alone, and it takes as
+/// long as `next_code` does.
 #[inline(always)]
 pub fn next_code_from(layers: &[Layer], text: &[u8], fewest: u8) -> Option<StringCode>
     requires { HaveNoShorter (layers_seen layers.now) fewest }
@@ -75,7 +76,6 @@ pub fn next_code_from(layers: &[Layer], text: &[u8], fewest: u8) -> Option<Strin
     ensures length { IfSome result
         (λ found. IsCodeLength found.byte_len × (found.byte_len ≤ length text.now)) }
 {
-    let _ = fewest;
     next_code(layers, text)
 }
 

@@ -3,7 +3,7 @@
 ghost use Rattle.std.specs.Prelude.{◌≡◌, ℕ, ◌+◌, ◌*◌, ◌<◌, ◌≤◌, length, slice_index, take};
 ghost use Rattle.std.specs.Int.{bit_at};
 ghost use Rattle.cmap_files.specs.CodeLengths.{IsCodeLength};
-ghost use Rattle.cmap_layers.specs.SpaceBits.{AreGroups, HaveRows, IsFound, IsFoundAmong, IsInside, IsInsideWithin, IsLeast, IsSet, lesser, query_of};
+ghost use Rattle.cmap_layers.specs.SpaceBits.{AreGroups, HaveRows, IsFound, IsFoundAmong, IsInside, IsInsideWithin, IsLeast, IsSet, lesser, query_of, row_count, row_of_value};
 
 use super::block::{row_of_length, row_of_value};
 use super::query::Query;
@@ -52,7 +52,7 @@ pub(super) fn shortest_among_groups(
 /// The same of one block.
 #[inline(always)]
 pub(super) fn shortest_in_block(rows: &[u64], text: &[u8]) -> Option<u8>
-    requires { length rows.now ≡ 1028 }
+    requires { length rows.now ≡ row_count }
     ensures { IsLeast (IsInside text.now rows.now) result }
 {
     let mut found = u64::MAX;
@@ -68,7 +68,7 @@ pub(super) fn shortest_in_block(rows: &[u64], text: &[u8]) -> Option<u8>
 
 /// How many bytes the codes have at least of the ranges of a block that may begin with these bytes.
 pub(super) fn fewest_with_front(rows: &[u64], front: &[u8]) -> Option<u8>
-    requires rows { length rows.now ≡ 1028 }
+    requires rows { length rows.now ≡ row_count }
     requires few { length front.now ≤ 4 }
     ensures { IsLeast (λ n. IsCodeLength n × IsFound rows.now (query_of n front.now)) result }
 {
@@ -83,12 +83,12 @@ pub(super) fn fewest_with_front(rows: &[u64], front: &[u8]) -> Option<u8>
 
 /// A bit for each range of a block that may begin with these bytes.
 fn with_front(rows: &[u64], front: &[u8]) -> u64
-    requires rows { length rows.now ≡ 1028 }
+    requires rows { length rows.now ≡ row_count }
     requires few { length front.now ≤ 4 }
     ensures set { (i : ℕ) → bit_at result i ≡ 1 → (k : ℕ) → k < length front.now
-        → IsSet rows.now i (256 * k + slice_index front.now k) }
+        → IsSet rows.now i (row_of_value k (slice_index front.now k)) }
     ensures all { (i : ℕ) → i < 64 → ((k : ℕ) → k < length front.now
-        → IsSet rows.now i (256 * k + slice_index front.now k)) → bit_at result i ≡ 1 }
+        → IsSet rows.now i (row_of_value k (slice_index front.now k))) → bit_at result i ≡ 1 }
 {
     let mut found = u64::MAX;
     for place in 0..front.len() as u8 {

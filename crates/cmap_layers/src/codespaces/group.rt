@@ -1,10 +1,10 @@
 //! Bits for 64 blocks: which of them have a range in a row at all.
 
-ghost use Rattle.std.specs.Prelude.{◌≡◌, ◌≢◌, ℕ, ◌<◌, ◌≤◌, get_or, length, IfOk};
+ghost use Rattle.std.specs.Prelude.{◌≡◌, ◌≢◌, ◌↔◌, ℕ, ◌<◌, ◌≤◌, ◌⊎◌, get_or, length, IfOk};
 ghost use Rattle.std.specs.Int.{bit_at};
-ghost use Rattle.cmap_layers.specs.SpaceBits.{AreGroups, HasGroup, HaveRows};
+ghost use Rattle.cmap_layers.specs.SpaceBits.{AreGroups, HasGroup, HaveRows, row_count};
 
-use super::block::{BLOCK_LEN, ROW_COUNT};
+use super::block::{BLOCK_LEN, ROW_COUNT, no_rows};
 use std::alloc::{AllocError, Global};
 
 /// The rows of each group of 64 blocks.
@@ -26,7 +26,7 @@ fn group_of(alloc: Global, blocks: &[Vec<u64>], first: usize) -> Result<Vec<u64>
     requires rows { HaveRows blocks.now }
     ensures { IfOk result (λ rows. HasGroup blocks.now first 64 rows.items) }
 {
-    let mut rows = vec![in alloc; 0; ROW_COUNT]?;
+    let mut rows = no_rows(alloc)?;
     let count = (blocks.len() - first).min(BLOCK_LEN);
     for index in 0..count {
         mark_rows(&mut rows, &blocks[first + index], index as u32);
@@ -36,13 +36,11 @@ fn group_of(alloc: Global, blocks: &[Vec<u64>], first: usize) -> Result<Vec<u64>
 
 /// Sets a bit in each row in which a block has a range.
 fn mark_rows(rows: &mut [u64], block: &[u64], bit: u32)
-    requires rows { length rows.old ≡ 1028 }
-    requires block { length block.now ≡ 1028 }
+    requires rows { length rows.old ≡ row_count }
+    requires block { length block.now ≡ row_count }
     requires bit { bit < 64 }
-    ensures marked { (row : ℕ) → row < 1028 → get_or block.now row 0 ≢ 0
-        → bit_at (get_or rows.new row 0) bit ≡ 1 }
-    ensures kept { (row i : ℕ) → row < 1028 → bit_at (get_or rows.old row 0) i ≡ 1
-        → bit_at (get_or rows.new row 0) i ≡ 1 }
+    ensures { (row i : ℕ) → row < row_count → (bit_at (get_or rows.new row 0) i ≡ 1)
+        ↔ ((bit_at (get_or rows.old row 0) i ≡ 1) ⊎ ((i ≡ bit) × (get_or block.now row 0 ≢ 0))) }
 {
     for row in 0..ROW_COUNT {
         if block[row] != 0 {

@@ -5,7 +5,7 @@ ghost use Rattle.std.specs.Int.{bit_at};
 ghost use Rattle.cmap_files.specs.CodeLengths.{IsCodeLength, length_of};
 ghost use Rattle.cmap_files.specs.Files.{Codespace};
 ghost use Rattle.cmap_layers.specs.Lookups.{IsWithin};
-ghost use Rattle.cmap_layers.specs.SpaceBits.{AreRows, AreSet, HasFront, InRows, IsFound, front_row, query_of};
+ghost use Rattle.cmap_layers.specs.SpaceBits.{AreRows, AreSet, HasFront, InRows, IsFound, front_row, query_of, row_count};
 
 use super::block::{row_of_length, row_of_value};
 use cmap_files::code_length::CodeLength;
@@ -58,7 +58,7 @@ impl Query {
 
     /// Whether a range of a block is in all rows.
     pub(super) fn finds(&self, rows: &[u64]) -> bool
-        requires size { length rows.now ≡ 1028 }
+        requires size { length rows.now ≡ row_count }
         requires rows { AreRows self.now }
         ensures { IsTrue result ↔ IsFound rows.now self.now }
     {
@@ -67,7 +67,7 @@ impl Query {
 
     /// The bits that are set in all rows.
     pub(super) fn among(&self, rows: &[u64]) -> u64
-        requires size { length rows.now ≡ 1028 }
+        requires size { length rows.now ≡ row_count }
         requires rows { AreRows self.now }
         ensures { (i : ℕ) → (bit_at result i ≡ 1) ↔ AreSet rows.now self.now i }
     {

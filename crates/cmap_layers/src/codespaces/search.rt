@@ -1,8 +1,8 @@
 //! Whether a codespace range is asked for, by the bits of blocks and of groups of them.
 
-ghost use Rattle.std.specs.Prelude.{◌≡◌, ◌↔◌, ℕ, ◌+◌, ◌*◌, ◌<◌, IsTrue, length};
+ghost use Rattle.std.specs.Prelude.{◌≡◌, ◌↔◌, ℕ, ◌+◌, ◌*◌, ◌<◌, ◌≤◌, IfSome, IsTrue, length};
 ghost use Rattle.std.specs.Int.{bit_at};
-ghost use Rattle.cmap_layers.specs.SpaceBits.{AreGroups, AreRows, HaveRows, IsFoundAmong, IsFoundAt, IsFoundWithin};
+ghost use Rattle.cmap_layers.specs.SpaceBits.{AreGroups, AreRows, HaveRows, IsFoundAmong, IsFoundAt, IsFoundWithin, IsLeast};
 
 use super::block::BLOCK_LEN;
 use super::query::Query;
@@ -62,12 +62,7 @@ fn any_of_top(
         → IsFoundWithin blocks.now query.now (64 * (first + bit)) 64 → IsTrue result }
 {
     let mut next = 0;
-    while next < 64 {
-        let left = bits >> next;
-        if left == 0 {
-            break;
-        }
-        let bit = next + left.trailing_zeros();
+    while let Some(bit) = next_bit(bits, next) {
         if finds_in_group(blocks, groups, first + bit as usize, query) {
             return true;
         }
@@ -102,12 +97,7 @@ fn any_of_group(blocks: &[Vec<u64>], first: usize, bits: u64, query: &Query) -> 
         → IsFoundAt blocks.now query.now (first + bit) → IsTrue result }
 {
     let mut next = 0;
-    while next < 64 {
-        let left = bits >> next;
-        if left == 0 {
-            break;
-        }
-        let bit = next + left.trailing_zeros();
+    while let Some(bit) = next_bit(bits, next) {
         if finds_at(blocks, first + bit as usize, query) {
             return true;
         }
@@ -127,4 +117,20 @@ fn finds_at(blocks: &[Vec<u64>], index: usize, query: &Query) -> bool
         Some(rows) => query.finds(rows),
         None => false,
     }
+}
+
+/// The first bit that is set, from a place on.
+#[inline(always)]
+fn next_bit(bits: u64, from: u32) -> Option<u32>
+    ensures within { IfSome result (λ bit. bit < 64) }
+    ensures first { IsLeast (λ bit. (from ≤ bit) × (bit_at bits bit ≡ 1)) result }
+{
+    if from >= 64 {
+        return None;
+    }
+    let left = bits >> from;
+    if left == 0 {
+        return None;
+    }
+    Some(from + left.trailing_zeros())
 }

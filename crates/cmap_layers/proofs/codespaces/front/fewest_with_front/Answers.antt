@@ -1,5 +1,6 @@
-use Rattle.std.proofs.Common.{◌≡◌, ◌+◌, get_or, bit_and, sym, ap, ◌∙◌, inl, inr, arith}
+use Rattle.std.proofs.Common.{◌≡◌, get_or, bit_and, sym, ap, ◌∙◌, inl, inr, arith}
 use Rattle.std.proofs.lemmas.Bool.{cases_lt}
+use Rattle.cmap_layers.specs.SpaceBits.{row_of_length}
 use Rattle.cmap_layers.proofs.SpacesFound.{found_with_front, none_with_front}
 use Rattle.cmap_layers.proofs.codespaces.front.fewest_with_front.Goals as goal
 
@@ -16,7 +17,7 @@ loop-byte_len-preserved c = λ n some below found.
     elim (cases_lt n c.loop-byte_len.byte_len) [
       | inl before ↦ c.loop-byte_len.invariant n some before found
       | inr last ↦
-          let same : c.row_of_length.result ≡ 1023 + n = omega (arith, c.row_of_length.ensures) in
+          let same : c.row_of_length.result ≡ row_of_length n = omega (arith, c.row_of_length.ensures) in
           none_with_front rows front n c.with_front-found.result c.requires.few (λ r. omega (arith, c.type_inv.rows r)) c.with_front-found.ensures.all (sym (ap (λ r. bit_and c.with_front-found.result (get_or rows r 0)) same) ∙ c.if-found-rows-ne0.false) found
     ]
 

@@ -1,9 +1,9 @@
-use Rattle.std.proofs.Common.{◌≡◌, ◌+◌, ◌*◌, get_or, bit_and, ap, subst, inl, inr, arith}
+use Rattle.std.proofs.Common.{◌≡◌, ◌+◌, get_or, bit_and, ap, subst, inl, inr, arith}
 use Rattle.std.specs.Prelude.{slice_index}
 use Rattle.std.proofs.lemmas.Bool.{cases_lt}
 use Rattle.std.proofs.lemmas.Nat.{and_le_l}
 use Rattle.std.proofs.lemmas.Nat.Bits.{bit_at_ones}
-use Rattle.cmap_layers.specs.SpaceBits.{IsInside}
+use Rattle.cmap_layers.specs.SpaceBits.{IsInside, row_of_length, row_of_value}
 use Rattle.cmap_layers.proofs.SpacesFound.{all_more, none_inside, set_more, some_inside}
 use Rattle.cmap_layers.proofs.codespaces.front.shortest_in_block.Goals as goal
 use Rattle.cmap_layers.proofs.codespaces.front.shortest_in_block.Goals.{After-row_of_length}
@@ -15,10 +15,10 @@ loop-place-init c = record {
   none = λ n few inside. let some = inside.0.0 in omega arith;
 }
 
-row : (c : After-row_of_length) → c.row_of_value.result ≡ 256 * c.loop-place.place + slice_index c.args.text.now c.loop-place.place
+row : (c : After-row_of_length) → c.row_of_value.result ≡ row_of_value c.loop-place.place (slice_index c.args.text.now c.loop-place.place)
 row c = omega (arith, c.row_of_value.ensures, c.from-in-loop-place.ensures, ap (slice_index c.args.text.now) c.from.ensures)
 
-last : (c : After-row_of_length) → c.row_of_length.result ≡ 1023 + (c.loop-place.place + 1)
+last : (c : After-row_of_length) → c.row_of_length.result ≡ row_of_length (c.loop-place.place + 1)
 last c = omega (arith, c.row_of_length.ensures)
 
 pub returns-then-found-rows-ne0 : goal.returns-then-found-rows-ne0

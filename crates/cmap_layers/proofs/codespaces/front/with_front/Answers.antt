@@ -1,6 +1,7 @@
-use Rattle.std.proofs.Common.{◌≡◌, ◌+◌, ◌*◌, ap, arith}
+use Rattle.std.proofs.Common.{◌≡◌, ap, arith}
 use Rattle.std.specs.Prelude.{slice_index}
 use Rattle.std.proofs.lemmas.Nat.Bits.{bit_at_ones}
+use Rattle.cmap_layers.specs.SpaceBits.{row_of_value}
 use Rattle.cmap_layers.proofs.SpacesFound.{all_more, set_more}
 use Rattle.cmap_layers.proofs.codespaces.front.with_front.Goals as goal
 
@@ -10,5 +11,5 @@ loop-place-init c = record { set = λ i is k below. absurd (omega arith); all = 
 pub loop-place-preserved : goal.loop-place-preserved
 loop-place-preserved c =
     let rows = c.args.rows.now in let front = c.args.front.now in let p = c.loop-place.place in
-    let row : c.row_of_value.result ≡ 256 * p + slice_index front p = omega (arith, c.row_of_value.ensures, c.from-in-loop-place.ensures, ap (slice_index front) c.from.ensures) in
+    let row : c.row_of_value.result ≡ row_of_value p (slice_index front p) = omega (arith, c.row_of_value.ensures, c.from-in-loop-place.ensures, ap (slice_index front) c.from.ensures) in
     record { set = set_more rows front c.loop-place.found c.row_of_value.result p row c.loop-place.invariant.set; all = all_more rows front c.loop-place.found c.row_of_value.result p row c.loop-place.invariant.all }
