@@ -1,9 +1,5 @@
 -- Private aid: what is left of parts of a list of declarations.
 use Rattle.std.specs.Prelude.{ℕ, ◌-◌, ◌≤◌, List, All, sum_by}
-use Rattle.cmap_runs.specs.DeclaredRanges.{ArePlacesApart}
-use Rattle.cmap_runs.specs.Ranges.{Span}
-use Rattle.cmap_runs.specs.declared.runs.indices.Merged.{Merged}
-use Rattle.cmap_runs.specs.declared.runs.indices.Merged.TheVariants.{Apart, Overlapping, ManyParts}
 use Rattle.cmap_runs.specs.declared.runs.indices.Part.{Part}
 
 -- how many declarations
@@ -17,9 +13,3 @@ pub record AreLeft (parts : List Part) (count : ℕ) : Type 0 where
 
 abbrev pub nothing_left : Part
 nothing_left = record { next = 0; end = 0; start = 0 }
-
--- the indices of ranges that lie apart are those of all declarations
-abbrev pub AreMerged : List Span → Merged → Type 0
-AreMerged spans (Apart indices) = ArePlacesApart spans indices.items
-AreMerged spans Overlapping = Unit {0}
-AreMerged spans ManyParts = Unit {0}

@@ -5,7 +5,7 @@ ghost use Rattle.std.specs.List.{range_with_len};
 ghost use Rattle.std.specs.List.Sorted.{IsNonDecreasingBy, IsPermutation};
 ghost use Rattle.std.specs.Vec.{vec_capacity, vec_len};
 ghost use Rattle.cmap_runs.specs.DeclaredRanges.{ArePlacesApart, LieApart, LieApartBefore, range_at};
-ghost use Rattle.cmap_runs.specs.Parts.{AreLeft, AreMerged, nothing_left};
+ghost use Rattle.cmap_runs.specs.Parts.{AreLeft, nothing_left};
 
 use super::HasRange;
 use super::ranges::{range_at, start_at};
@@ -60,44 +60,35 @@ struct Part {
     start: u64,
 }
 
-/// What a merge of the parts of a list finds, in each of which the first codes ascend.
-#[derive(Drop)]
-pub(super) enum Merged {
-    /// The ranges lie apart; these are the indices of the declarations, in the order of their codes.
-    Apart(Vec<u32>),
-    /// Some ranges overlap, or one is empty.
-    Overlapping,
-    /// The parts are too many to be merged.
-    ManyParts,
-}
-
-/// Merges the parts of a list, as single codes and then ranges are.
-pub(super) fn merged_parts<T: HasRange>(
+/// The indices of the declarations, in the order of their codes, where they are a few parts that
+/// ascend, as single codes and then ranges do, and all ranges lie apart.
+pub(super) fn indices_of_parts<T: HasRange>(
     alloc: Global,
     declarations: &[T],
     count: u32,
-) -> Result<Merged, AllocError>
+) -> Result<Option<Vec<u32>>, AllocError>
     requires { count ≡ length declarations.now }
-    ensures { IfOk result (λ merged. AreMerged (map T.span declarations.now) merged) }
+    ensures { IfOk result (λ indices. IfSome indices
+        (λ indices. ArePlacesApart (map T.span declarations.now) indices.items)) }
 {
     let Some(mut parts) = ascending_parts(alloc, declarations, count)? else {
-        return Ok(Merged::ManyParts);
+        return Ok(None);
     };
     let indices = Vec::with_capacity(alloc, count as usize)?;
     let mut apart = Apart { indices, next: 0 };
     while let Some((first, end, limit)) = first_part(parts.as_slice()) {
         let next = apart.add_part(declarations, first, end, limit);
         if next == first {
-            return Ok(Merged::Overlapping);
+            return Ok(None);
         }
         let start = start_before(declarations, next, end);
         parts[0] = Part { next, end, start };
         move_first(&mut parts);
     }
     if apart.indices.len() != declarations.len() {
-        return Ok(Merged::Overlapping);
+        return Ok(None);
     }
-    Ok(Merged::Apart(apart.indices))
+    Ok(Some(apart.indices))
 }
 
 /// The parts in which the first codes ascend, in the order of their first codes; `None` where they are

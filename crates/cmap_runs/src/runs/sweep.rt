@@ -9,7 +9,7 @@ ghost use Rattle.cmap_runs.specs.Ranges.{AreRunsBelow, Span, runs_of};
 
 use super::HasRange;
 use super::held::{Run, RunList, Runs};
-use super::indices::{Merged, are_apart, indices_in_order, merged_parts};
+use super::indices::{are_apart, indices_in_order, indices_of_parts};
 use super::open::OpenRanges;
 use super::ranges::{ranges_at, ranges_of};
 use std::alloc::{AllocError, Global};
@@ -26,49 +26,18 @@ pub(super) fn runs_of<T: HasRange>(alloc: Global, declarations: &[T]) -> Result<
         ≤ 2 * length declarations.now - 1) }
 {
     let Ok(count) = u32::try_from(declarations.len()) else {
-        return runs_of_ranges(alloc, declarations);
+        let ranges = ranges_of(alloc, declarations)?;
+        return Ok(RunList::Swept(sorted_and_swept(alloc, ranges)?));
     };
-    match merged_parts(alloc, declarations, count)? {
-        Merged::Apart(indices) => Ok(RunList::Ranges(indices)),
-        Merged::Overlapping => runs_of_ranges(alloc, declarations),
-        Merged::ManyParts => runs_of_indices(alloc, declarations, count),
+    if let Some(indices) = indices_of_parts(alloc, declarations, count)? {
+        return Ok(RunList::Ranges(indices));
     }
-}
-
-/// The runs of the declarations, whose indices are put in order first.
-fn runs_of_indices<T: HasRange>(
-    alloc: Global,
-    declarations: &[T],
-    count: u32,
-) -> Result<RunList, AllocError>
-    requires { count ≡ length declarations.now }
-    ensures runs { IfOk result (λ runs. runs_held (map T.span declarations.now) runs
-        ≡ runs_of (map T.span declarations.now)) }
-    ensures within { IfOk result (λ runs. indices_within (length declarations.now) runs) }
-    ensures few { IfOk result (λ runs. length (runs_held (map T.span declarations.now) runs)
-        ≤ 2 * length declarations.now - 1) }
-{
     let ordered = indices_in_order(alloc, declarations, count)?;
     if are_apart(declarations, &ordered) {
         return Ok(RunList::Ranges(ordered));
     }
     let ranges = ranges_at(alloc, declarations, ordered)?;
     Ok(RunList::Swept(sweep(alloc, ranges.as_slice())?))
-}
-
-/// The runs of the declarations, whose ranges are put in order first.
-fn runs_of_ranges<T: HasRange>(
-    alloc: Global,
-    declarations: &[T],
-) -> Result<RunList, AllocError>
-    ensures runs { IfOk result (λ runs. runs_held (map T.span declarations.now) runs
-        ≡ runs_of (map T.span declarations.now)) }
-    ensures within { IfOk result (λ runs. indices_within (length declarations.now) runs) }
-    ensures few { IfOk result (λ runs. length (runs_held (map T.span declarations.now) runs)
-        ≤ 2 * length declarations.now - 1) }
-{
-    let ranges = ranges_of(alloc, declarations)?;
-    Ok(RunList::Swept(sorted_and_swept(alloc, ranges)?))
 }
 
 /// The runs of the declarations that the ranges belong to.

@@ -3,8 +3,8 @@ use Rattle.std.proofs.lemmas.List.{length-map}
 use Rattle.cmap_runs.specs.declared.runs.indices.Part.{Part}
 use Rattle.cmap_runs.proofs.EachPlace.{ArePlacesApart-from_count}
 use Rattle.cmap_runs.proofs.PartsLeft.{GoesOn, goes_on}
-use Rattle.cmap_runs.proofs.runs.indices.merged_parts.Goals as goal
-use Rattle.cmap_runs.proofs.runs.indices.merged_parts.Given.{Over}
+use Rattle.cmap_runs.proofs.runs.indices.indices_of_parts.Goals as goal
+use Rattle.cmap_runs.proofs.runs.indices.indices_of_parts.Given.{Over}
 
 taken : (g : Over) (c : goal.After-move_first g) → GoesOn c.loop-first.parts.items c.move_first.new.parts.items c.args.count c.in-Some-first_part.first c.add_part-next.result
 taken g c =
