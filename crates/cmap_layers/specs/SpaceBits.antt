@@ -18,14 +18,14 @@ IsAt space place value = (place < space.len) × (byte_at space.low (space.len - 
 abbrev pub HasFront : ℕ → List ℕ → Codespace → Type 0
 HasFront len front space = (space.len ≡ len) × ((k : ℕ) → k < length front → IsAt space k (slice_index front k))
 
--- a block has 256 rows for each of four places, one for each value, and then one for each length: so many for values, and so many in all
+-- a block has rows for values, 256 for each of four places, and then a row for each length
 abbrev pub value_row_count : ℕ
 value_row_count = 1024
 
 abbrev pub row_count : ℕ
 row_count = 1028
 
--- the row of the ranges that have a value at a place of their codes, and that of those whose codes have so many bytes
+-- the row of a value at a place of codes, and that of a length of codes
 abbrev pub row_of_value : ℕ → ℕ → ℕ
 row_of_value place value = 256 * place + value
 
@@ -36,7 +36,7 @@ row_of_length len = 1023 + len
 abbrev pub InRow : ℕ → Codespace → Type 0
 InRow row space = (row < value_row_count → IsAt space (row / 256) (row % 256)) × (value_row_count ≤ row → row ≡ row_of_length space.len)
 
--- the rows of the items of a list from the first one on; of these, so many have their bit set in the rows that they have, and no other bit is set
+-- of the items of a list from `first` on, the first `count` have their bits set, each in the rows that it has, and no other bit is set
 pub record HaveBitsOf {A : Type 0} (HasRow : ℕ → A → Type 0) (items : List A) (first count : ℕ) (rows : List ℕ) : Type 0 where
   pub size : length rows ≡ row_count
   pub bits : (row i : ℕ) → row < row_count → (bit_at (get_or rows row 0) i ≡ 1) ↔ ((i < count) × IsSomeAnd (slice_get items (first + i)) (HasRow row))

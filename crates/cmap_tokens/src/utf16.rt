@@ -64,7 +64,7 @@ pub fn units(alloc: Global, bytes: &[u8]) -> Result<Vec<u16>, AllocError>
 /// these are. The offset is added to the last unit. `None` where there is no unit, where the sum
 /// is no unit, or where a surrogate stands alone.
 ///
-/// It fails only if memory runs out. Only a `String` takes some.
+/// It fails only if memory runs out, and only where the text has more than one character.
 pub fn text(alloc: Global, units: &[u16], offset: u32) -> Result<Option<BfString>, AllocError>
     ensures value { IfOk result
         (λ t. option_map text_seen t ≡ option_map text_of_characters (text_at units.now offset)) }
@@ -76,10 +76,13 @@ pub fn text(alloc: Global, units: &[u16], offset: u32) -> Result<Option<BfString
     if let Some(c) = only_char(front, last) {
         return Ok(Some(BfString::Char(c)));
     }
-    if !is_well_formed(front, last) {
-        return Ok(None);
+    match string(alloc, front, last) {
+        Ok(Some(string)) => Ok(Some(BfString::String(string))),
+        Ok(None) => Ok(None),
+        // A surrogate may stand alone where memory ran out.
+        Err(AllocError) if is_well_formed(front, last) => Err(AllocError),
+        Err(AllocError) => Ok(None),
     }
-    Ok(Some(BfString::String(string(alloc, front, last)?)))
 }
 
 /// The character of the text that `text` gives, where it is just one. It takes no memory.
@@ -165,21 +168,20 @@ fn is_well_formed(front: &[u16], last: u16) -> bool
     true
 }
 
-/// All the characters of the units of `front` and `last`.
-fn string(alloc: Global, front: &[u16], last: u16) -> Result<String, AllocError>
-    requires { is_some (characters (front.now ++ last ∷ [])) ≡ true }
-    ensures { IfOk result
-        (λ s. characters (front.now ++ last ∷ []) ≡ Some (chars (string_bytes s))) }
+/// All the characters of the units of `front` and `last`; `None` where a surrogate stands alone.
+fn string(alloc: Global, front: &[u16], last: u16) -> Result<Option<String>, AllocError>
+    ensures { IfOk result (λ string. option_map (λ string. chars (string_bytes string)) string
+        ≡ characters (front.now ++ last ∷ [])) }
 {
     // A unit takes three bytes at most.
     let mut text = String::with_capacity(alloc, 3 * (front.len() + 1))?;
     let mut index = 0;
     while index <= front.len() {
         let Some((c, after)) = char_at(front, last, index) else {
-            unreachable!();
+            return Ok(None);
         };
         text.push(c)?;
         index = after;
     }
-    Ok(text)
+    Ok(Some(text))
 }

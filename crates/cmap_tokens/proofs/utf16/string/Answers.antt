@@ -14,4 +14,4 @@ loop-index-preserved c = record {
 }
 
 pub returns : goal.returns
-returns c = chars-all _ c.args.front.now c.args.last c.loop-index.index _ c.loop-index-test.false c.loop-index.invariant.written
+returns c = sym (chars-all _ c.args.front.now c.args.last c.loop-index.index _ c.loop-index-test.false c.loop-index.invariant.written)
