@@ -91,6 +91,25 @@ fn find_bf<'l>(layers: &'l [Layer], code: u32, looks: &mut Looks) -> Option<&'l 
     ensures looks { LooksAtMost looks.old looks.new (bf_looks (layers_seen layers.now))
         (length layers.now) (is_some result) }
 {
+    match layers {
+        // Most maps have one layer, which is asked without a loop.
+        [only] => last_bf(&only.bfs, code, looks),
+        _ => find_bf_in_turn(layers, code, looks),
+    }
+}
+
+/// The same, by asking each layer in turn.
+fn find_bf_in_turn<'l>(
+    layers: &'l [Layer],
+    code: u32,
+    looks: &mut Looks,
+) -> Option<&'l BfRange>
+    ensures found { option_map bf_entry_seen (option_copied result)
+        ≡ deciding_bf (layers_seen layers.now) code }
+    ensures start { IfSome result (λ found. found.now.range.start ≤ code) }
+    ensures looks { LooksAtMost looks.old looks.new (bf_looks (layers_seen layers.now))
+        (length layers.now) (is_some result) }
+{
     for layer in layers {
         if let Some(found) = last_bf(&layer.bfs, code, looks) {
             return Some(found);
