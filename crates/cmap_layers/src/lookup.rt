@@ -34,6 +34,21 @@ pub fn cid_of(layers: &[Layer], code: u32, byte_len: u8, looks: &mut Looks) -> O
         (3 * length layers.now) (is_some result) }
     ensures outside { (IsCodeLength byte_len → ⊥) → looks.new ≡ looks.old }
 {
+    match layers {
+        // Most maps have one layer, which is asked without a loop.
+        [only] => decided_by(only, code, CodeLength::of(byte_len)?, looks)?,
+        _ => cid_in_turn(layers, code, byte_len, looks),
+    }
+}
+
+/// The same, by asking each layer in turn.
+#[inline(always)]
+fn cid_in_turn(layers: &[Layer], code: u32, byte_len: u8, looks: &mut Looks) -> Option<Cid>
+    ensures value { result ≡ cid_of (layers_seen layers.now) code byte_len }
+    ensures looks { LooksAtMost looks.old looks.new (cid_looks (layers_seen layers.now) byte_len)
+        (3 * length layers.now) (is_some result) }
+    ensures outside { (IsCodeLength byte_len → ⊥) → looks.new ≡ looks.old }
+{
     let len = CodeLength::of(byte_len)?;
     for layer in layers {
         if let Some(decided) = decided_by(layer, code, len, looks) {

@@ -6,8 +6,8 @@ use Rattle.cmap_runs.specs.SearchLooks.{LooksAtMost}
 use Rattle.cmap_layers.specs.LayersSeen.{layer_seen, layers_seen}
 use Rattle.cmap_layers.specs.Searches.{cid_looks}
 use Rattle.cmap_layers.proofs.LayersSearched.{drop_next, Answers, IsSearched, IsSearched-more, IsSearched-decided}
-use Rattle.cmap_layers.proofs.lookup.cid_of.Goals as goal
-use Rattle.cmap_layers.proofs.lookup.cid_of.Goals.{In-Some}
+use Rattle.cmap_layers.proofs.lookup.cid_in_turn.Goals as goal
+use Rattle.cmap_layers.proofs.lookup.cid_in_turn.Goals.{In-Some}
 
 decided : (c : In-Some) → Answers (layers_seen c.args.layers.now) c.args.code c.args.byte_len c.in-Some.decided c.args.looks.now c.decided_by.new.looks
 decided c =
