@@ -114,11 +114,7 @@ fn find_bf<'l>(layers: &'l [Layer], code: u32, looks: &mut Looks) -> Option<&'l 
 }
 
 /// The same, by asking each layer in turn.
-fn find_bf_in_turn<'l>(
-    layers: &'l [Layer],
-    code: u32,
-    looks: &mut Looks,
-) -> Option<&'l BfRange>
+fn find_bf_in_turn<'l>(layers: &'l [Layer], code: u32, looks: &mut Looks) -> Option<&'l BfRange>
     ensures found { option_map bf_entry_seen (option_copied result)
         ≡ deciding_bf (layers_seen layers.now) code }
     ensures start { IfSome result (λ found. found.now.range.start ≤ code) }

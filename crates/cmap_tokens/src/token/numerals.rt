@@ -251,7 +251,11 @@ fn decimal_number(digits: &[u8]) -> Option<u64>
     for byte in digits {
         number = number * 10 + decimal_weight(*byte);
     }
-    if number < NO_DIGIT { Some(number) } else { None }
+    if number < NO_DIGIT {
+        Some(number)
+    } else {
+        None
+    }
 }
 
 /// The integer that digits of a base write after a sign.
