@@ -61,7 +61,8 @@ fn cid_in_turn(layers: &[Layer], code: u32, byte_len: u8, looks: &mut Looks) -> 
 /// The text of a code; what is looked at is counted.
 ///
 /// It is `None` where no declaration contains the code, and where the one that decides gives no
-/// text. It fails only if memory runs out, and only a `String` takes some. ISO 32000-1, 9.10.3.
+/// text. It fails only if memory runs out, and only for a text of more than one character. ISO 32000-1,
+/// 9.10.3.
 pub fn bf_of(
     alloc: Global,
     layers: &[Layer],

@@ -14,17 +14,16 @@ use Rattle.cmap_files.specs.declared.file.File.{File as HeldFile}
 use Rattle.cmap_binary.specs.TableFronts.{TableAt}
 use Rattle.cmap_binary.specs.Bundles.{HoldsTables, IsBundle, PrefixTables}
 use Rattle.cmap_binary.specs.Fronts.{FramedAt, SizedAt}
-use Rattle.cmap_maker.specs.Bundled.{HaveSymbols, IsFramedFile}
-use Rattle.cmap_maker.specs.Keeps.{AreWritten, IsBundleOf, files_seen}
-use Rattle.cmap_maker.specs.PreparedFiles.{IsPrepared}
+use Rattle.cmap_maker.specs.Bundled.{HaveSymbols, IsBundleOf, AreWritten, files_seen}
+use Rattle.cmap_writer.specs.PreparedFiles.{IsPrepared}
 use Rattle.cmap_maker.specs.Slots.{AreSlotsFor, AreSlotsOf, AreSlotsWritten, IsBundleOfSlots, IsFileFor, IsNamedBundle, IsSlotFor, IsSlotWritten, is_index, no_file_bytes, places, source_at}
-use Rattle.cmap_maker.specs.Written.{Appends, Writes, WritesAll}
-use Rattle.cmap_maker.specs.declared.prepared.Prepared.{Prepared}
+use Rattle.cmap_writer.specs.Written.{Appends, Writes, WritesAll, IsFramedFile}
+use Rattle.cmap_writer.specs.declared.prepared.Prepared.{Prepared}
 use Rattle.cmap_maker.specs.declared.slots.Slot.{Slot}
 use Rattle.cmap_maker.specs.declared.slots.Slot.TheVariants as slot
 use Rattle.cmap_maker.specs.declared.source.Source.{Source}
-use Rattle.cmap_maker.proofs.FilesWritten.{AllOf-written, appended_more, appended_none}
-use Rattle.cmap_maker.proofs.FrontsWritten.{FramedAt-written}
+use Rattle.cmap_writer.proofs.FilesWritten.{AllOf-written, appended_more, appended_none}
+use Rattle.cmap_writer.proofs.FrontsWritten.{FramedAt-written}
 
 pub HoldsTables-written : (tables : PrefixTables) (mid text : List ℕ) → Appends [] mid (Writes (TableAt 4) tables.delta) → Appends mid text (Writes (TableAt 1) tables.count) → HoldsTables text tables
 HoldsTables-written tables mid text (first, first_is, delta) (second, second_is, count) = (

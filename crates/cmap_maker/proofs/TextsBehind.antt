@@ -4,8 +4,8 @@ use Rattle.std.specs.Prelude.{codes}
 use Rattle.std.specs.List.{All}
 use Rattle.cmap_tokens.specs.Gaps.{ends_comment}
 use Rattle.cmap_maker.specs.Slots.{IsTextBehind}
-use Rattle.cmap_maker.specs.Written.{Appends, IsFramed, bytes_of}
-use Rattle.cmap_maker.proofs.FrontsWritten.{FramedAt-written}
+use Rattle.cmap_writer.specs.Written.{Appends, IsFramed, bytes_of}
+use Rattle.cmap_writer.proofs.FrontsWritten.{FramedAt-written}
 
 abbrev pub text_head : List ℕ
 text_head = codes "% text"

@@ -1,8 +1,8 @@
 -- Why there is no table, by what another call says.
 use Rattle.cmap_files.specs.declared.fault.Fault.{Fault}
 use Rattle.cmap_files.specs.declared.fault.Fault.TheVariants.{Memory, Refused}
-use Rattle.cmap_maker.specs.declared.obstacle.Obstacle.{Obstacle}
-use Rattle.cmap_maker.specs.declared.obstacle.Obstacle.TheVariants.{NoWord}
+use Rattle.cmap_writer.specs.declared.obstacle.Obstacle.{Obstacle}
+use Rattle.cmap_writer.specs.declared.obstacle.Obstacle.TheVariants.{NoWord}
 use Rattle.cmap_maker.specs.WordsMissing.{IsNoWordIf}
 
 pub IsNoWordIf-weaker : (P Q : Type 0) → (P → Q) → (fault : Fault Obstacle) → IsNoWordIf P fault → IsNoWordIf Q fault

@@ -1,6 +1,6 @@
 -- The numbers that files are spelled by.
 use Rattle.std.specs.Prelude.{ℕ, List, [], flat_map}
-use Rattle.cmap_maker.specs.declared.segments.Segment.{Segment}
+use Rattle.cmap_writer.specs.declared.segments.Segment.{Segment}
 use Rattle.cmap_maker.specs.declared.slots.Slot.{Slot}
 use Rattle.cmap_maker.specs.declared.slots.Slot.TheVariants.{Absent, File, Text}
 

@@ -6,9 +6,9 @@ use Rattle.cmap_files.specs.CMapNames.{index_of_name}
 use Rattle.cmap_files.specs.Files.{File}
 use Rattle.cmap_files.specs.FilesSeen.{file_seen}
 use Rattle.cmap_binary.specs.Bundles.{IsBundle, PrefixTables}
-use Rattle.cmap_maker.specs.Bundled.{IsFramedFile}
-use Rattle.cmap_maker.specs.Keeps.{IsWritten}
-use Rattle.cmap_maker.specs.PreparedFiles.{IsPrepared}
+use Rattle.cmap_writer.specs.Written.{IsFramedFile}
+use Rattle.cmap_writer.specs.Keeps.{IsWritten}
+use Rattle.cmap_writer.specs.PreparedFiles.{IsPrepared}
 use Rattle.cmap_maker.specs.declared.slots.Slot.{Slot}
 use Rattle.cmap_maker.specs.declared.slots.Slot.TheVariants as slot
 use Rattle.cmap_maker.specs.declared.source.Source.{Source}

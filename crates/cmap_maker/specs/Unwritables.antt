@@ -1,11 +1,12 @@
 -- Which source can't be written, and why.
-use Rattle.std.specs.Prelude.{◌≡◌, ℕ, ◌<◌, List, None, get_or, length}
+use Rattle.std.specs.Prelude.{◌≡◌, ℕ, ◌<◌, List, Any, None, get_or, length}
 use Rattle.cmap_files.specs.CMapNames.{index_of_name}
+use Rattle.cmap_files.specs.Files.{File}
 use Rattle.cmap_files.specs.FilesSeen.{file_seen}
-use Rattle.cmap_maker.specs.Obstacles.{IsObstacle}
-use Rattle.cmap_maker.specs.declared.obstacle.Obstacle.{Obstacle}
-use Rattle.cmap_maker.specs.declared.obstacle.Obstacle.TheVariants.{NoPlace, NoWord, TooLong}
-use Rattle.cmap_maker.specs.declared.obstacle.Unwritable.{Unwritable}
+use Rattle.cmap_writer.specs.Obstacles.{IsObstacle}
+use Rattle.cmap_writer.specs.declared.obstacle.Obstacle.{Obstacle}
+use Rattle.cmap_writer.specs.declared.obstacle.Obstacle.TheVariants.{NoPlace, NoWord, TooLong}
+use Rattle.cmap_maker.specs.declared.unwritable.Unwritable.{Unwritable}
 use Rattle.cmap_maker.specs.declared.source.Source.{Source}
 
 -- the name has no place; or the file can't be written for this reason, and has no text that could stand for it
@@ -22,7 +23,19 @@ IsObstacleAt sources index other = (index < length sources) × ((d : Source) →
 abbrev pub IsUnwritableOf : List Source → Unwritable → Type 0
 IsUnwritableOf sources unwritable = IsObstacleAt sources unwritable.index unwritable.obstacle
 
+-- why a bundle of these files can't be written: one of them can't, for another reason than what is too long, or than its code words; of these nothing is said
+abbrev pub IsBundleObstacle : List File → Obstacle → Type 0
+IsBundleObstacle files NoWord = Unit {0}
+IsBundleObstacle files TooLong = Unit {0}
+IsBundleObstacle files other = Any (λ file. IsObstacle file other) files
+
 -- ---- private aid
 -- this source, which has this index, has no text and can't be written
 abbrev pub IsUnwritableAs : Source → ℕ → Unwritable → Type 0
 IsUnwritableAs source index unwritable = (unwritable.index ≡ index) × (source.text ≡ None) × IsObstacle (file_seen source.file.now) unwritable.obstacle
+
+-- of numbers without code words, and of what is too long, nothing is said
+abbrev pub IsSpellingObstacle : Obstacle → Type 0
+IsSpellingObstacle NoWord = Unit {0}
+IsSpellingObstacle TooLong = Unit {0}
+IsSpellingObstacle other = ⊥

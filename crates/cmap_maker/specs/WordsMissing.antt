@@ -1,8 +1,8 @@
 -- Why there is no table.
 use Rattle.cmap_files.specs.declared.fault.Fault.{Fault}
 use Rattle.cmap_files.specs.declared.fault.Fault.TheVariants.{Memory, Refused}
-use Rattle.cmap_maker.specs.declared.obstacle.Obstacle.{Obstacle}
-use Rattle.cmap_maker.specs.declared.obstacle.Obstacle.TheVariants.{NoWord}
+use Rattle.cmap_writer.specs.declared.obstacle.Obstacle.{Obstacle}
+use Rattle.cmap_writer.specs.declared.obstacle.Obstacle.TheVariants.{NoWord}
 
 -- a number has no code word only where this holds; of memory nothing is said, and there is no other reason
 abbrev pub IsNoWordIf : Type 0 → Fault Obstacle → Type 0

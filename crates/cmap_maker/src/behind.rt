@@ -2,13 +2,13 @@
 
 ghost use Rattle.std.specs.Prelude.{◌≡◌, ◌+◌, ◌*◌, ◌/◌, ◌%◌, ◌^◌, ◌∷◌, ◌++◌, ◌≤◌, ◌<◌, ◌↔◌, ℕ, All, IfErr, IfOk, IsTrue, List, false, length, true, ⊤};
 ghost use Rattle.cmap_tokens.specs.Gaps.{ends_comment};
-ghost use Rattle.cmap_maker.specs.Failures.{IsTooLongIf};
+ghost use Rattle.cmap_writer.specs.Failures.{IsTooLongIf};
 ghost use Rattle.cmap_maker.specs.Slots.{IsTextBehind};
-ghost use Rattle.cmap_maker.specs.Written.{Appends, bytes_of};
+ghost use Rattle.cmap_writer.specs.Written.{Appends, bytes_of};
 
-use crate::obstacle::Obstacle;
-use crate::pieces::push_framed;
 use cmap_files::fault::Fault;
+use cmap_writer::Obstacle;
+use cmap_writer::pieces::push_framed;
 use std::alloc::Global;
 
 /// The six bytes that begin a text: a comment, which goes on up to the line end after the length.

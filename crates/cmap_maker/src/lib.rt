@@ -1,34 +1,16 @@
-//! Writers of CMap files in the binary form `bcmap`: what a reader of them reads is what was asked
-//! for.
+//! Makers of bundles of CMap files in the binary form `bcmap`: what a reader of one reads is what was
+//! asked for.
 #![tactic(auto)]
 
 mod behind;
-mod bits;
 mod bundle;
-mod bytes;
-mod cids;
-mod codespaces;
-mod columns;
-mod decided;
-mod file;
 mod lengths;
-mod metadata;
-mod notdefs;
-mod obstacle;
-mod pieces;
-mod prepared;
-mod segments;
 mod slots;
 mod source;
-mod split;
 mod tables;
-mod text_parts;
-mod texts;
-mod words;
+mod unwritable;
 
 pub use bundle::{make_bundle, make_named_bundle};
-pub use columns::Encoders;
-pub use file::write_file;
-pub use obstacle::{Obstacle, Unwritable};
+pub use cmap_writer::{Encoder, Encoders, Obstacle, write_file};
 pub use source::Source;
-pub use words::Encoder;
+pub use unwritable::Unwritable;

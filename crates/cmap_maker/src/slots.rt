@@ -3,19 +3,18 @@
 ghost use Rattle.std.specs.Prelude.{ℕ, IfErr, IfOk, List, Some};
 ghost use Rattle.cmap_files.specs.Outcomes.{RefusesWith};
 ghost use Rattle.cmap_binary.specs.Fronts.{FramedAt};
-ghost use Rattle.cmap_maker.specs.EncodersSeen.{encoders_seen};
-ghost use Rattle.cmap_maker.specs.Obstacles.{IsSpellingObstacle};
+ghost use Rattle.cmap_writer.specs.EncodersSeen.{encoders_seen};
 ghost use Rattle.cmap_maker.specs.Slots.{AreSlotsFor, AreSlotsWritten, IsSlotFor, IsSlotWritten, places, source_at};
-ghost use Rattle.cmap_maker.specs.Unwritables.{IsUnwritableAs, IsUnwritableOf};
-ghost use Rattle.cmap_maker.specs.Written.{Appends, WritesAll};
+ghost use Rattle.cmap_maker.specs.Unwritables.{IsUnwritableAs, IsUnwritableOf, IsSpellingObstacle};
+ghost use Rattle.cmap_writer.specs.Written.{Appends, WritesAll};
 
 use crate::behind::push_text;
-use crate::columns::Encoders;
-use crate::obstacle::{Obstacle, Unwritable};
-use crate::pieces::push_framed;
-use crate::prepared::{Prepared, prepare};
 use crate::source::Source;
+use crate::unwritable::Unwritable;
 use cmap_files::fault::Fault;
+use cmap_writer::pieces::push_framed;
+use cmap_writer::prepared::{Prepared, prepare};
+use cmap_writer::{Encoders, Obstacle};
 use std::alloc::Global;
 
 /// A file of a bundle.

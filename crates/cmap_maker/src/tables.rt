@@ -5,18 +5,16 @@ ghost use Rattle.std.specs.Prelude.{◌≡◌, ◌⊎◌, ◌^◌, ◌≤◌, �
 ghost use Rattle.std.specs.List.Sorted.{IsNonDecreasing, IsPermutation, IsStrictlyIncreasing};
 ghost use Rattle.cmap_files.specs.Outcomes.{RefusesWith};
 ghost use Rattle.cmap_maker.specs.Gathered.{counts_in, deltas_in, segments_in, slot_segments};
-ghost use Rattle.cmap_maker.specs.Obstacles.{IsSpellingObstacle};
+ghost use Rattle.cmap_maker.specs.Unwritables.{IsSpellingObstacle};
 ghost use Rattle.cmap_maker.specs.Tables.{CountsNumber, HasManyNumbers, HasSameNumbers, IsTableFor, symbols_of};
 ghost use Rattle.cmap_maker.specs.TablesHeld.{frequent, lengthy};
 ghost use Rattle.cmap_maker.specs.WordsMissing.{IsNoWordIf};
 
-use crate::columns::Encoders;
 use crate::lengths::word_lengths;
-use crate::obstacle::Obstacle;
-use crate::segments::Segment;
 use crate::slots::Slot;
-use crate::words::Encoder;
 use cmap_files::fault::Fault;
+use cmap_writer::segments::Segment;
+use cmap_writer::{Encoder, Encoders, Obstacle};
 use std::alloc::{AllocError, Global};
 
 /// The most bits of a code word.

@@ -74,7 +74,7 @@ impl Extractor<'_> {
     /// of the ToUnicode CMap, where it has one for the code; else that of the CID in the collection's
     /// map. A code in no codespace range is looked up too.
     ///
-    /// It fails only if memory runs out, and only a text of more than one character takes some.
+    /// It fails only if memory runs out, and only for a text of more than one character.
     pub fn character_of(&self, alloc: Global, code: StringCode) -> Result<Character, AllocError>
         ensures character { IfOk result (IsCharacterOf (font_of self.now) code) }
         ensures err { OnErr result (HasLongText (font_of self.now) code.code code.byte_len) }

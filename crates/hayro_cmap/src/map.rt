@@ -450,8 +450,8 @@ impl CMap {
     /// The Unicode text of `code`: one character, or more of them.
     ///
     /// It is `None` where no declaration contains the code, and where the one that decides gives no
-    /// text: a layer's declaration decides also then. It fails only if memory runs out, and
-    /// only a `String` takes some. ISO 32000-1, 9.10.3.
+    /// text: a layer's declaration decides also then. It fails only if memory runs out, and only for a
+    /// text of more than one character. ISO 32000-1, 9.10.3.
     pub fn lookup_bf_string(&self, alloc: Global, code: u32) -> Result<Option<BfString>, AllocError>
         ensures value { IfOk result
             (λ text. option_map text_seen text ≡ option_map text_of_characters (bf_of self.now code)) }

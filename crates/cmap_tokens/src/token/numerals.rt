@@ -25,7 +25,8 @@ pub(super) fn blank_decimal(text: &[u8]) -> Option<(u64, usize)>
 /// Where fewer bytes are left, a short decimal number isn't looked for.
 const SHORT_LEN: usize = 7;
 
-/// The decimal number of up to five digits that stands between two white bytes at the head of a text.
+/// The decimal number of `len` digits, up to five, that stands between two white bytes at the head of a
+/// text.
 #[inline(always)]
 pub(super) fn short_decimal(text: &[u8], len: usize) -> Option<u64>
     requires some { 1 ≤ len }

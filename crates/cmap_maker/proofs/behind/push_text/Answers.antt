@@ -1,5 +1,5 @@
 use Rattle.std.proofs.Common.{subst}
-use Rattle.cmap_maker.specs.Written.{Appends, IsFramed}
+use Rattle.cmap_writer.specs.Written.{Appends, IsFramed}
 use Rattle.cmap_maker.proofs.TextsBehind.{behind, text_head}
 use Rattle.cmap_maker.proofs.behind.push_text.Goals as goal
 

@@ -1,6 +1,6 @@
 use Rattle.std.proofs.Common.{◌≡◌, ◌+◌, false, All, length, subst, arith}
 use Rattle.cmap_tokens.specs.Gaps.{ends_comment}
-use Rattle.cmap_maker.specs.Written.{bytes_of}
+use Rattle.cmap_writer.specs.Written.{bytes_of}
 use Rattle.cmap_maker.proofs.behind.text_payload.Goals as goal
 
 pub returns-then-not-has_line_end-clause-written : goal.returns-then-not-has_line_end-clause-written

@@ -1,11 +1,11 @@
 use Rattle.std.proofs.Common.{◌+◌, arith, subst, sym, take}
 use Rattle.cmap_files.specs.FilesSeen.{file_seen}
-use Rattle.cmap_maker.specs.Keeps.{files_seen}
-use Rattle.cmap_maker.specs.PreparedFiles.{IsPrepared}
+use Rattle.cmap_maker.specs.Bundled.{files_seen}
+use Rattle.cmap_writer.specs.PreparedFiles.{IsPrepared}
 use Rattle.cmap_maker.specs.Slots.{AreSlotsOf}
 use Rattle.cmap_maker.proofs.BundlesWritten.{file_slots_more}
 use Rattle.cmap_files.proofs.Outcomes.{refuses_on}
-use Rattle.cmap_maker.proofs.ObstaclesMet.{file_among}
+use Rattle.cmap_maker.proofs.BundleObstacles.{file_among}
 use Rattle.cmap_maker.proofs.bundle.file_slots.Goals as goal
 
 pub loop-file-preserved : goal.loop-file-preserved

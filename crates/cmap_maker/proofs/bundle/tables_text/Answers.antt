@@ -1,7 +1,7 @@
 use Rattle.std.proofs.Common.{subst}
 use Rattle.cmap_binary.specs.TableFronts.{TableAt}
-use Rattle.cmap_maker.specs.EncodersSeen.{encoders_seen}
-use Rattle.cmap_maker.specs.Written.{Appends, Writes}
+use Rattle.cmap_writer.specs.EncodersSeen.{encoders_seen}
+use Rattle.cmap_writer.specs.Written.{Appends, Writes}
 use Rattle.cmap_maker.proofs.BundlesWritten.{HoldsTables-written}
 use Rattle.cmap_maker.proofs.bundle.tables_text.Goals as goal
 

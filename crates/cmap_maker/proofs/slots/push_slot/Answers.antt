@@ -1,10 +1,10 @@
 use Rattle.std.proofs.Common.{◌∙◌, ◌++◌, ap, subst, sym}
 use Rattle.std.specs.Prelude.{IfOk}
-use Rattle.cmap_maker.specs.EncodersSeen.{encoders_seen}
+use Rattle.cmap_writer.specs.EncodersSeen.{encoders_seen}
 use Rattle.cmap_maker.specs.Slots.{IsSlotWritten}
-use Rattle.cmap_maker.specs.Written.{Appends}
+use Rattle.cmap_writer.specs.Written.{Appends}
 use Rattle.cmap_files.proofs.Outcomes.{refuses_on}
-use Rattle.cmap_maker.proofs.ObstaclesMet.{by_spelling}
+use Rattle.cmap_maker.proofs.BundleObstacles.{by_spelling}
 use Rattle.cmap_maker.proofs.slots.push_slot.Goals as goal
 
 pub returns-in_ok-extend_from_slice-in-File-clause-written : goal.returns-in_ok-extend_from_slice-in-File-clause-written

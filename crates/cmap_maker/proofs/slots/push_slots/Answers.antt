@@ -1,5 +1,5 @@
 use Rattle.std.proofs.Common.{arith}
-use Rattle.cmap_maker.specs.EncodersSeen.{encoders_seen}
+use Rattle.cmap_writer.specs.EncodersSeen.{encoders_seen}
 use Rattle.cmap_maker.proofs.BundlesWritten.{slots_written_more}
 use Rattle.cmap_maker.proofs.slots.push_slots.Goals as goal
 

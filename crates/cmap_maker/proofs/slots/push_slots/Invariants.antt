@@ -1,5 +1,5 @@
 use Rattle.std.proofs.Common.{take}
-use Rattle.cmap_maker.specs.EncodersSeen.{encoders_seen}
+use Rattle.cmap_writer.specs.EncodersSeen.{encoders_seen}
 use Rattle.cmap_maker.proofs.BundlesWritten.{SlotsWrittenTo}
 use Rattle.cmap_maker.proofs.slots.push_slots.Given as goal
 

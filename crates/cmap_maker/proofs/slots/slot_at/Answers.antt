@@ -10,7 +10,7 @@ use Rattle.std.proofs.lemmas.Result.{IfErr-weaker}
 use Rattle.cmap_files.proofs.Outcomes.{refused_as}
 use Rattle.cmap_files.specs.Outcomes.{RefusesWith}
 use Rattle.cmap_maker.specs.Unwritables.{IsUnwritableAs, IsUnwritableOf}
-use Rattle.cmap_maker.proofs.ObstaclesMet.{unwritable_at}
+use Rattle.cmap_maker.proofs.BundleObstacles.{unwritable_at}
 use Rattle.cmap_maker.proofs.slots.slot_at.Goals as goal
 
 pub returns-then-eq-clause-made : goal.returns-then-eq-clause-made

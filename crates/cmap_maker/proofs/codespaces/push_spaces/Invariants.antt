@@ -1,8 +1,0 @@
-use Rattle.std.proofs.Common.{map, take}
-use Rattle.cmap_files.specs.DeclarationsSeen.{codespace_seen}
-use Rattle.cmap_binary.specs.BinaryFiles.{CodespaceAt}
-use Rattle.cmap_maker.specs.Written.{Appends, WritesAll}
-use Rattle.cmap_maker.proofs.codespaces.push_spaces.Given as goal
-
-abbrev pub invariant-loop-space : goal.invariant-loop-space
-invariant-loop-space l = Appends l.initial.out.items l.out.items (WritesAll CodespaceAt (map codespace_seen (take l.space-index l.spaces)))

@@ -1,9 +1,0 @@
-use Rattle.std.proofs.Common.{map, take}
-use Rattle.cmap_files.specs.FilesSeen.{names_seen}
-use Rattle.cmap_binary.specs.BinaryFiles as files
-use Rattle.cmap_maker.specs.SegmentsWritten.{SegmentByAny}
-use Rattle.cmap_maker.specs.Written.{Appends, WritesAll}
-use Rattle.cmap_maker.proofs.metadata.push_uses.Given as goal
-
-abbrev pub invariant-loop-name : goal.invariant-loop-name
-invariant-loop-name l = Appends l.initial.out.items l.out.items (WritesAll SegmentByAny (map files.uses (names_seen (take l.name-index l.names))))

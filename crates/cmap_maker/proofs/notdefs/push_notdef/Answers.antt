@@ -1,8 +1,0 @@
-use Rattle.std.proofs.Common.{arith}
-use Rattle.cmap_files.specs.CodeLengths.{length_of}
-use Rattle.cmap_files.specs.DeclarationsSeen.{cid_entry_seen}
-use Rattle.cmap_maker.proofs.RowsWritten.{notdef_written}
-use Rattle.cmap_maker.proofs.notdefs.push_notdef.Goals as goal
-
-pub returns-clause-written : goal.returns-clause-written
-returns-clause-written c = notdef_written (length_of c.args.len) (cid_entry_seen c.args.entry.now) c.args.out.now.items c.push_code.new.out.items c.push_code-2.new.out.items c.push_number.new.out.items c.in_ok-push_code.ensures.written c.in_ok-push_code-2.ensures.written c.in_ok-push_number.ensures (omega arith)

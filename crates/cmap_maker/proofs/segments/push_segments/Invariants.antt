@@ -1,7 +1,0 @@
-use Rattle.std.proofs.Common.{take}
-use Rattle.cmap_maker.specs.EncodersSeen.{encoders_seen}
-use Rattle.cmap_maker.proofs.SegmentsAdded.{WrittenWhere}
-use Rattle.cmap_maker.proofs.segments.push_segments.Given as goal
-
-abbrev pub invariant-loop-segment : goal.invariant-loop-segment
-invariant-loop-segment l = WrittenWhere (encoders_seen l.tables) (take l.segment-index l.segments) l.initial.out.items l.out.items

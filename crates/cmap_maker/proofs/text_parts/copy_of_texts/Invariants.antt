@@ -1,9 +1,0 @@
-use Rattle.std.proofs.Common.{◌≡◌, ◌<◌, ◌^◌, All, map, take}
-use Rattle.cmap_files.specs.DeclarationsSeen.{bf_entry_seen}
-use Rattle.cmap_maker.proofs.text_parts.copy_of_texts.Given as goal
-
-abbrev pub invariant-loop-entry : goal.invariant-loop-entry
-invariant-loop-entry l = record {
-  same : map bf_entry_seen l.copy.items ≡ map bf_entry_seen (take l.entry-index l.list);
-  small : All (λ r. r.range.end < 2 ^ 32) l.copy.items;
-}

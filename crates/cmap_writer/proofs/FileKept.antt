@@ -1,0 +1,142 @@
+-- What a file keeps whose lists say the same.
+use Rattle.std.proofs.Common.{◌≡◌, ℕ, Bool, true, false, List, [], ◌∷◌, ◌++◌, Option, Some, None, map, refl, ap, ◌∙◌, sym}
+use Rattle.std.specs.Prelude.{◌==◌, ◌&&◌, nat_le, filter_map, flat_map, if◌then◌else◌, option_map}
+use Rattle.std.specs.List.{last_or}
+use Rattle.std.proofs.lemmas.List.{append-nil}
+use Rattle.std.proofs.lemmas.List.Concat.{flat_map-append}
+use Rattle.std.proofs.lemmas.List.Elements.{filter_map-append}
+use Rattle.std.proofs.lemmas.Option.{none-some, same_Some}
+use Rattle.cmap_files.specs.Files.{BfEntry, ByLength, CidEntry, Declaration, File, FileMetadata, Lists, lists_of, of_length}
+use Rattle.cmap_binary.specs.BinaryFiles.{BodyOf, Content, IsBinaryFile, SegmentAt, collection_set, declared_in, declares, file_of, magic, mode_set, name_set, name_used}
+use Rattle.cmap_binary.specs.BinaryFiles as files
+use Rattle.cmap_layers.specs.Layers.{Layer}
+use Rattle.cmap_tokens.specs.Texts.{only_character}
+use Rattle.cmap_layers.specs.Lookups.{bf_at, bf_of, cid_at, cid_in, decided_cid, decided_text, last_bf, last_cid}
+use Rattle.cmap_writer.specs.Keeps.{AnswerAlike, KeepLists, Keeps}
+use Rattle.cmap_writer.specs.MetadataWritten.{metadata_contents}
+use Rattle.cmap_writer.specs.Pieces.{cid_told}
+use Rattle.cmap_files.specs.Metadata.{Collection, Mode}
+use Rattle.std.specs.Prelude.{option_and_then}
+
+-- ---- what contents say together
+nothing : {A B : Type 0} (f : Content → Option B) (say : A → Content) → ((x : A) → f (say x) ≡ None) → (xs : List A) → filter_map f (map say xs) ≡ []
+nothing f say none [] = refl
+nothing f say none (x ∷ xs) = rw (none x) (nothing f say none xs)
+
+each_name : (names : List (List ℕ)) → filter_map name_used (map files.uses names) ≡ names
+each_name [] = refl
+each_name (x ∷ names) = ap (λ ns. x ∷ ns) (each_name names)
+
+none_declared : (names : List (List ℕ)) → flat_map declared_in (map files.uses names) ≡ []
+none_declared [] = refl
+none_declared (x ∷ names) = none_declared names
+
+all_declared : (parts : List (List Declaration)) → flat_map declared_in (map declares parts) ≡ flat_map (λ part. part) parts
+all_declared [] = refl
+all_declared (part ∷ parts) = ap (λ ds. part ++ ds) (all_declared parts)
+
+module _ (m : FileMetadata) (names : List (List ℕ)) (parts : List (List Declaration)) where
+  later : List Content
+  later = map files.uses names ++ map declares parts
+
+  later_none : {B : Type 0} (f : Content → Option B) → ((x : List ℕ) → f (files.uses x) ≡ None) → ((x : List Declaration) → f (declares x) ≡ None) → filter_map f later ≡ []
+  unfolding later
+  later_none f first second = filter_map-append f (map files.uses names) (map declares parts) ∙ ap (λ xs. xs ++ filter_map f (map declares parts)) (nothing f files.uses first names) ∙ nothing f declares second parts
+
+  first_alone : {B : Type 0} (f : Content → Option B) → ((x : List ℕ) → f (files.uses x) ≡ None) → ((x : List Declaration) → f (declares x) ≡ None) → filter_map f (metadata_contents m ++ later) ≡ filter_map f (metadata_contents m)
+  first_alone f first second = filter_map-append f (metadata_contents m) later ∙ ap (λ xs. filter_map f (metadata_contents m) ++ xs) (later_none f first second) ∙ append-nil _
+
+-- what is said of metadata, and nothing else
+record IsSaid (c : Option Collection) (n : Option (List ℕ)) (w : Option Mode) (contents : List Content) : Type 0 where
+  collection : last_or None (filter_map collection_set contents) ≡ c
+  name : last_or None (filter_map name_set contents) ≡ n
+  mode : option_and_then (λ m. m) (last_or None (filter_map mode_set contents)) ≡ w
+  names : filter_map name_used contents ≡ []
+  declared : flat_map declared_in contents ≡ []
+
+is_said : (c : Option Collection) (n : Option (List ℕ)) (w : Option Mode) → IsSaid c n w (metadata_contents (record { collection = c; name = n; mode = w }))
+is_said None None None = record { collection = refl; name = refl; mode = refl; names = refl; declared = refl }
+is_said None None (Some w) = record { collection = refl; name = refl; mode = refl; names = refl; declared = refl }
+is_said None (Some n) None = record { collection = refl; name = refl; mode = refl; names = refl; declared = refl }
+is_said None (Some n) (Some w) = record { collection = refl; name = refl; mode = refl; names = refl; declared = refl }
+is_said (Some c) None None = record { collection = refl; name = refl; mode = refl; names = refl; declared = refl }
+is_said (Some c) None (Some w) = record { collection = refl; name = refl; mode = refl; names = refl; declared = refl }
+is_said (Some c) (Some n) None = record { collection = refl; name = refl; mode = refl; names = refl; declared = refl }
+is_said (Some c) (Some n) (Some w) = record { collection = refl; name = refl; mode = refl; names = refl; declared = refl }
+
+pub file_said : (m : FileMetadata) (names : List (List ℕ)) (parts : List (List Declaration)) → file_of (metadata_contents m ++ (map files.uses names ++ map declares parts)) ≡ record { metadata = m; lists = lists_of (flat_map (λ part. part) parts); uses = names }
+unfolding later
+file_said m names parts =
+    let said = is_said m.collection m.name m.mode in
+    let used : filter_map name_used (metadata_contents m ++ (map files.uses names ++ map declares parts)) ≡ names =
+    filter_map-append name_used (metadata_contents m) (map files.uses names ++ map declares parts) ∙ ap (λ xs. xs ++ filter_map name_used (map files.uses names ++ map declares parts)) said.names
+    ∙ filter_map-append name_used (map files.uses names) (map declares parts) ∙ ap (λ xs. xs ++ filter_map name_used (map declares parts)) (each_name names) ∙ ap (λ xs. names ++ xs) (nothing name_used declares (λ x. refl) parts) ∙ append-nil names in
+    let declared : flat_map declared_in (metadata_contents m ++ (map files.uses names ++ map declares parts)) ≡ flat_map (λ part. part) parts =
+    flat_map-append declared_in (metadata_contents m) (map files.uses names ++ map declares parts) ∙ ap (λ xs. xs ++ flat_map declared_in (map files.uses names ++ map declares parts)) said.declared
+    ∙ flat_map-append declared_in (map files.uses names) (map declares parts) ∙ ap (λ xs. xs ++ flat_map declared_in (map declares parts)) (none_declared names) ∙ all_declared parts in
+    rw (
+      first_alone m names parts collection_set (λ x. refl) (λ x. refl),
+      first_alone m names parts name_set (λ x. refl) (λ x. refl),
+      first_alone m names parts mode_set (λ x. refl) (λ x. refl),
+      said.collection,
+      said.name,
+      said.mode,
+      used,
+      declared,
+    ) refl
+
+-- ---- what codes stand for
+same_choice : (b : Bool) (x x' y y' : List CidEntry) (code : ℕ) → cid_told x code ≡ cid_told x' code → cid_told y code ≡ cid_told y' code → cid_told (if b then x else y) code ≡ cid_told (if b then x' else y') code
+same_choice true x x' y y' code first second = first
+same_choice false x x' y y' code first second = second
+
+same_decided : (code : ℕ) (o p notdef : Option CidEntry) (character below : Option ℕ) → option_map (λ e. cid_at e code) o ≡ option_map (λ e. cid_at e code) p → decided_cid code o notdef character below ≡ decided_cid code p notdef character below
+same_decided code None None notdef character below is = refl
+same_decided code None (Some e) notdef character below is = absurd (none-some _ is)
+same_decided code (Some e) None notdef character below is = absurd (none-some _ (sym is))
+same_decided code (Some e) (Some f) notdef character below is = same_Some _ _ is
+
+-- what holds of lengths of codes alone
+gate : (b : Bool) (x y x' y' : Option ℕ) → (if b then x else None) ≡ (if b then y else None) → (x ≡ y → x' ≡ y') → (if b then x' else None) ≡ (if b then y' else None)
+gate true x y x' y' same then_same = then_same same
+gate false x y x' y' same then_same = refl
+
+module _ (lists made : Lists) (keep : KeepLists lists made) where
+  same_lengths : (len code : ℕ) → cid_told (of_length made.cids len) code ≡ cid_told (of_length lists.cids len) code
+  same_lengths len code =
+      same_choice (len == 1) _ _ _ _ code (keep.one code) (same_choice (len == 2) _ _ _ _ code (keep.two code) (same_choice (len == 3) _ _ _ _ code (keep.three code) (same_choice (len == 4) _ _ _ _ code (keep.four code) refl)))
+
+  -- what a declaration of texts says of the character of a code
+  text_decided : (code : ℕ) (o p : Option BfEntry) → option_map (λ e. bf_at e code) o ≡ option_map (λ e. bf_at e code) p → option_and_then (λ e. bf_at e code) o ≡ option_and_then (λ e. bf_at e code) p
+  text_decided code None None is = refl
+  text_decided code None (Some e) is = absurd (none-some _ is)
+  text_decided code (Some e) None is = absurd (none-some _ (sym is))
+  text_decided code (Some e) (Some f) is = same_Some _ _ is
+
+  same_decided_text : (code : ℕ) (o p : Option BfEntry) (below : Option (List ℕ)) → option_map (λ e. bf_at e code) o ≡ option_map (λ e. bf_at e code) p → decided_text code o below ≡ decided_text code p below
+  same_decided_text code None None below is = refl
+  same_decided_text code None (Some e) below is = absurd (none-some _ is)
+  same_decided_text code (Some e) None below is = absurd (none-some _ (sym is))
+  same_decided_text code (Some e) (Some f) below is = same_Some _ _ is
+
+  same_answers : (m : FileMetadata) (below others : List Layer) → AnswerAlike below others → AnswerAlike (record { metadata = m; lists = lists } ∷ below) (record { metadata = m; lists = made } ∷ others)
+  same_answers m below others alike = record {
+    cids = λ code len.
+        let old = last_cid (of_length lists.cids len) code in
+        let new = last_cid (of_length made.cids len) code in
+        gate (nat_le 1 len && nat_le len 4) (cid_in others code len) (cid_in below code len) _ _ (alike.cids code len) (λ same.
+        same_decided code new old (last_cid (of_length made.notdefs len) code) (only_character (option_and_then (λ e. bf_at e code) (last_bf made.bfs code))) (cid_in others code len) (same_lengths len code)
+        ∙ ap (λ o. decided_cid code old (last_cid (of_length made.notdefs len) code) (only_character o) (cid_in others code len)) (text_decided code (last_bf made.bfs code) (last_bf lists.bfs code) (keep.bfs code))
+        ∙ ap (λ (n : ByLength). decided_cid code old (last_cid (of_length n len) code) (only_character (option_and_then (λ e. bf_at e code) (last_bf lists.bfs code))) (cid_in others code len)) keep.notdefs
+        ∙ ap (decided_cid code old (last_cid (of_length lists.notdefs len) code) (only_character (option_and_then (λ e. bf_at e code) (last_bf lists.bfs code)))) same);
+    texts = λ code.
+        same_decided_text code (last_bf made.bfs code) (last_bf lists.bfs code) (bf_of others code) (keep.bfs code)
+        ∙ ap (decided_text code (last_bf lists.bfs code)) (alike.texts code);
+  }
+
+pub keeps : (file : File) (made : Lists) → KeepLists file.lists made → Keeps file (record { metadata = file.metadata; lists = made; uses = file.uses })
+keeps file made keep = record { metadata = refl; spaces = keep.spaces; uses = refl; answers = λ below others alike. same_answers file.lists made keep file.metadata below others alike }
+
+-- ---- the file
+abbrev pub head : List ℕ
+head = magic ++ 1 ∷ []

@@ -1,0 +1,95 @@
+-- Obstacles of parts of a file, and of the whole.
+use Rattle.std.proofs.Common.{◌≡◌, ◌∙◌, ℕ, ◌<◌, ◌≤◌, ◌^◌, inl, List, ◌++◌, Some, None, get_or, length, map, ap, sym, subst, arith}
+use Rattle.std.specs.Prelude.{All, Any, IsSomeAnd, Option}
+use Rattle.std.proofs.lemmas.List.{get_or-map, length-map, map-append}
+use Rattle.cmap_files.specs.DeclarationsSeen.{bf_entry_seen, cid_entry_seen, codespace_seen, entries_seen}
+use Rattle.cmap_files.specs.Files as files
+use Rattle.cmap_files.specs.Files.{ByLength, BfEntry, File}
+use Rattle.cmap_files.specs.Outcomes.{RefusesWith}
+use Rattle.cmap_files.specs.UnitsSeen.{units_seen}
+use Rattle.cmap_files.specs.declared.declarations.BfRange.{BfRange}
+use Rattle.cmap_files.specs.declared.declarations.CidRange.{CidRange}
+use Rattle.cmap_files.specs.declared.declarations.Codespace.{Codespace}
+use Rattle.cmap_files.specs.declared.fault.Fault.TheVariants.{Memory, Refused}
+use Rattle.cmap_files.specs.declared.fault.Fault.{Fault}
+use Rattle.cmap_layers.specs.Lookups.{last_bf}
+use Rattle.cmap_binary.specs.Bundles.{PrefixTables}
+use Rattle.cmap_writer.specs.Obstacles.{GivesLargeCid, HasLongText, IsCidListsObstacle, IsCidObstacle, IsLargeEnd, IsLargeNotdef, IsNotdefListsObstacle, IsNotdefObstacle, IsNotdefsObstacle, IsSegmentObstacle, IsSegmentsObstacle, IsSpaceObstacle, IsSpacesObstacle, IsTextObstacle, IsWriteObstacle}
+use Rattle.cmap_writer.specs.PreparedFiles.{IsPrepared}
+use Rattle.cmap_writer.specs.TextParts.{IsDecidedText, IsPartOf}
+use Rattle.cmap_writer.specs.Texts.{IsLongTextIn}
+use Rattle.cmap_writer.specs.declared.obstacle.Obstacle.TheVariants.{LargeCid, LargeCode, NoWord, Text, TooLong}
+use Rattle.cmap_writer.specs.declared.obstacle.Obstacle.{Obstacle}
+use Rattle.cmap_writer.specs.declared.prepared.Prepared.{Prepared}
+use Rattle.cmap_writer.specs.declared.segments.Segment.{Segment}
+use Rattle.cmap_writer.proofs.Told.{Any-left, Any-right}
+
+-- what holds of one element
+pub any_at : {X E : Type 0} (P : E → Type 0) (seen : X → E) (xs : List X) (i : ℕ) (d : X) → i < length xs → P (seen (get_or xs i d)) → Any P (map seen xs)
+any_at P seen xs i d within p = (i, seen (get_or xs i d), omega (arith, within, length-map xs seen), get_or-map seen xs i d (seen (get_or xs i d)) within, p)
+
+-- what holds of an element of a part
+pub any_in : {X E : Type 0} (P : E → Type 0) (seen : X → E) (all done left here later : List X) → all ≡ done ++ left → left ≡ here ++ later → Any P (map seen here) → Any P (map seen all)
+any_in P seen all done left here later whole cut h =
+    let of_left : Any P (map seen left) = subst (λ xs. Any P xs) (sym (ap (map seen) cut ∙ map-append seen here later)) (Any-left P (map seen here) (map seen later) h) in
+    subst (λ xs. Any P xs) (sym (ap (map seen) whole ∙ map-append seen done left)) (Any-right P (map seen done) (map seen left) of_left)
+
+-- ---- notdef declarations
+pub notdef_among : (len : ℕ) (entries : List CidRange) (i : ℕ) (d : CidRange) → i < length entries → (o : Obstacle) → IsNotdefObstacle len (cid_entry_seen (get_or entries i d)) o → IsNotdefsObstacle len (entries_seen entries) o
+notdef_among len entries i d within (LargeCid range) h = any_at (IsLargeNotdef range) cid_entry_seen entries i d within h
+notdef_among len entries i d within (LargeCode code) h = any_at (λ e. IsLargeEnd code len e.start e.end) cid_entry_seen entries i d within h
+notdef_among len entries i d within other h = absurd h
+
+pub notdefs_among : (len : ℕ) (all done left here later : List CidRange) → all ≡ done ++ left → left ≡ here ++ later → (o : Obstacle) → IsNotdefsObstacle len (entries_seen here) o → IsNotdefsObstacle len (entries_seen all) o
+notdefs_among len all done left here later whole cut (LargeCid range) h = any_in (IsLargeNotdef range) cid_entry_seen all done left here later whole cut h
+notdefs_among len all done left here later whole cut (LargeCode code) h = any_in (λ e. IsLargeEnd code len e.start e.end) cid_entry_seen all done left here later whole cut h
+notdefs_among len all done left here later whole cut TooLong h = tt
+notdefs_among len all done left here later whole cut other h = absurd h
+
+pub by_notdef_list : (lists : ByLength) (len : ℕ) (xs : List CidRange) → entries_seen xs ≡ files.of_length lists len → (o : Obstacle) → IsNotdefsObstacle len (entries_seen xs) o → IsNotdefListsObstacle lists o
+by_notdef_list lists len xs is (LargeCid range) h = (len, subst (λ es. Any (IsLargeNotdef range) es) is h)
+by_notdef_list lists len xs is (LargeCode code) h = (len, subst (λ es. Any (λ e. IsLargeEnd code len e.start e.end) es) is h)
+by_notdef_list lists len xs is TooLong h = tt
+by_notdef_list lists len xs is other h = absurd h
+
+-- ---- codespace ranges
+pub space_among : (spaces : List Codespace) (i : ℕ) (d : Codespace) → i < length spaces → (o : Obstacle) → IsSpaceObstacle (codespace_seen (get_or spaces i d)) o → IsSpacesObstacle (map codespace_seen spaces) o
+space_among spaces i d within (LargeCode code) h = any_at (λ space. IsLargeEnd code space.len space.low space.high) codespace_seen spaces i d within h
+space_among spaces i d within other h = absurd h
+
+pub spaces_among : (all done left here later : List Codespace) → all ≡ done ++ left → left ≡ here ++ later → (o : Obstacle) → IsSpacesObstacle (map codespace_seen here) o → IsSpacesObstacle (map codespace_seen all) o
+spaces_among all done left here later whole cut (LargeCode code) h = any_in (λ space. IsLargeEnd code space.len space.low space.high) codespace_seen all done left here later whole cut h
+spaces_among all done left here later whole cut TooLong h = tt
+spaces_among all done left here later whole cut other h = absurd h
+
+-- ---- the whole file
+pub by_cid_list : (lists : ByLength) (len : ℕ) (xs : List CidRange) → entries_seen xs ≡ files.of_length lists len → (o : Obstacle) → IsCidObstacle (entries_seen xs) o → IsCidListsObstacle lists o
+by_cid_list lists len xs is (LargeCid range) h = (len, subst (λ es. GivesLargeCid es range) is h)
+by_cid_list lists len xs is other h = absurd h
+
+-- ---- texts
+some_as : {A : Type 0} (P Q : A → Type 0) (o : Option A) → IsSomeAnd o P → ((x : A) → P x → Q x) → IsSomeAnd o Q
+some_as P Q None h gives = absurd h
+some_as P Q (Some x) h gives = gives x h
+
+element : (P : BfEntry → Type 0) (ranges : List BfRange) (k : ℕ) (e : BfRange) → k < length ranges → get_or ranges k e ≡ e → All P (map bf_entry_seen ranges) → P (bf_entry_seen e)
+element P ranges k e within is all = subst (λ r. P (bf_entry_seen r)) is (subst P (get_or-map bf_entry_seen ranges k e (bf_entry_seen e) within) (all k (bf_entry_seen e) (omega (arith, within, length-map ranges bf_entry_seen))))
+
+pub long_text : (es : List BfEntry) (ranges : List BfRange) → All IsDecidedText (map bf_entry_seen ranges) → All (IsPartOf es) (map bf_entry_seen ranges) → (fault : Fault Obstacle) → IsLongTextIn ranges fault → RefusesWith (IsTextObstacle es) fault
+long_text es ranges small parts (Refused (Text range)) (k, e, within, is, (range_is, long)) =
+    let decided = element IsDecidedText ranges k e within is small in
+    let part = element (IsPartOf es) ranges k e within is parts in
+    inl (subst (λ r. HasLongText es r) range_is (decided.0, some_as (λ d. length (units_seen e.units) ≤ length d.units) (λ d. 2 ^ 8 ≤ length d.units) (last_bf es e.range.start) part (λ d more. omega (arith, more, long))))
+long_text es ranges small parts (Refused other) h = absurd h
+long_text es ranges small parts Memory h = tt
+
+-- ---- numbers without code words
+pub segment_among : (tables : PrefixTables) (segments : List Segment) (i : ℕ) (s : Segment) → i < length segments → s ≡ get_or segments i s → (o : Obstacle) → IsSegmentObstacle tables s o → IsSegmentsObstacle tables segments o
+segment_among tables segments i s within is NoWord h = (i, s, within, sym is, h)
+segment_among tables segments i s within is TooLong h = tt
+segment_among tables segments i s within is other h = absurd h
+
+pub unspelled : (tables : PrefixTables) (file : File) (prepared : Prepared) → IsPrepared file prepared → (o : Obstacle) → IsSegmentsObstacle tables prepared.segments.items o → IsWriteObstacle tables file o
+unspelled tables file prepared is NoWord h = (prepared, is, h)
+unspelled tables file prepared is TooLong h = tt
+unspelled tables file prepared is other h = absurd h

@@ -1,0 +1,28 @@
+use Rattle.std.proofs.Common.{All, map, subst, sym}
+use Rattle.std.proofs.lemmas.List.Sorted.{All-permutation, IsPermutation-map}
+use Rattle.cmap_files.specs.CodeLengths.{length_of}
+use Rattle.cmap_files.specs.DeclarationsSeen.{cid_entry_seen, entries_seen}
+use Rattle.cmap_files.specs.Files.{Declaration}
+use Rattle.cmap_layers.specs.Lookups.{cid_at, cid_span}
+use Rattle.cmap_writer.specs.Pieces.{ArePieces, IsShort}
+use Rattle.cmap_writer.specs.Segments.{AddsSegments}
+use Rattle.cmap_writer.proofs.Told.{pieces_say, same_permuted, same_told}
+use Rattle.cmap_writer.proofs.cids.add_cid_list.Goals as goal
+
+pub add_cids-requires : goal.add_cids-requires
+add_cids-requires c =
+    let pieces = c.in_ok-pieces.pieces.items in
+    let sorted = c.sort_by_key.new.self.items in
+    subst (λ xs. All IsShort (entries_seen xs)) (sym c.deref-2.ensures.value) (All-permutation IsShort (entries_seen pieces) (entries_seen sorted) (IsPermutation-map cid_entry_seen pieces sorted c.sort_by_key.ensures.permutation) c.in_ok-pieces.ensures.0)
+
+pub returns-clause-added : goal.returns-clause-added
+returns-clause-added c =
+    let es = entries_seen c.args.list.now in
+    let ranges = c.in_ok-ranges.ranges.items in
+    let pieces = c.in_ok-pieces.pieces.items in
+    let sorted = c.sort_by_key.new.self.items in
+    let say = c.in_ok-ranges.ensures.same.0 in
+    let parts = subst (λ xs. ArePieces cid_span cid_at IsShort (entries_seen xs) (entries_seen pieces)) c.deref.ensures.value c.in_ok-pieces.ensures in
+    let same = same_permuted cid_span cid_at es (entries_seen pieces) (entries_seen sorted) (IsPermutation-map cid_entry_seen pieces sorted c.sort_by_key.ensures.permutation) (pieces_say cid_span cid_at IsShort es (entries_seen ranges) (entries_seen pieces) parts say) in
+    let added = subst (λ xs. AddsSegments c.args.segments.now.items c.add_cids.new.segments.items (map (Declaration.cid (length_of c.args.len)) (entries_seen xs))) c.deref-2.ensures.value c.in_ok-add_cids.ensures in
+    (entries_seen sorted, added, same_told cid_span cid_at es (entries_seen sorted) same)

@@ -1,0 +1,19 @@
+use Rattle.std.proofs.Common.{◌∙◌, ◌++◌, ap, refl, subst, sym}
+use Rattle.std.proofs.lemmas.List.{append_assoc}
+use Rattle.cmap_writer.specs.ColumnsWritten.{WritesColumn}
+use Rattle.cmap_writer.specs.EncodersSeen.{encoders_seen, shape_seen}
+use Rattle.cmap_writer.specs.Segments.{WritesNumbers}
+use Rattle.cmap_writer.specs.Written.{Appends}
+use Rattle.cmap_writer.proofs.columns.push_columns.Goals as goal
+
+pub returns-in_ok-push_column-in-Ranges-clause-written : goal.returns-in_ok-push_column-in-Ranges-clause-written
+returns-in_ok-push_column-in-Ranges-clause-written c =
+    let tables = encoders_seen c.args.tables.now in
+    let segment = c.args.segment.now in
+    let old = c.args.out.now.items in
+    let mid = c.push_column.new.out.items in
+    let new = c.push_column-in-Ranges.new.out.items in
+    let (first, first_is, deltas) = subst (λ xs. Appends old mid (WritesColumn tables.delta xs)) c.deref.ensures.value c.in_ok-push_column.ensures.written in
+    let (second, second_is, counts) = subst (λ xs. Appends mid new (WritesColumn tables.count xs)) c.deref-in-Ranges.ensures.value c.in_ok-push_column-in-Ranges.ensures.written in
+    let whole = second_is ∙ ap (λ bs. bs ++ second) first_is ∙ append_assoc old first second in
+    subst (λ shape. Appends old new (WritesNumbers tables (shape_seen shape) segment.deltas.items segment.counts.items)) (sym c.in-Ranges.is) (first ++ second, whole, (first, second, refl, deltas, counts))

@@ -1,0 +1,30 @@
+use Rattle.std.proofs.Common.{◌≡◌, ◌-◌, ◌<◌, length, get_or, refl, sym, subst, arith, Some, set, All}
+use Rattle.std.specs.List.{slice_get}
+use Rattle.std.proofs.lemmas.Option.{slice_get_read}
+use Rattle.cmap_files.specs.DeclarationsSeen.{cid_entry_seen, entries_seen}
+use Rattle.cmap_files.specs.declared.declarations.CidRange.{CidRange}
+use Rattle.cmap_layers.specs.Lookups.{cid_at, cid_span}
+use Rattle.cmap_writer.specs.Follows.{GoesOn}
+use Rattle.cmap_writer.specs.Pieces.{CanBeSplit, Takes}
+use Rattle.cmap_writer.proofs.CidParts.{longer, longer_can, longer_takes}
+use Rattle.cmap_writer.proofs.decided.push_joined.Goals as goal
+
+pub returns-then-is_continued-clause-all : goal.returns-then-is_continued-clause-all
+returns-then-is_continued-clause-all c =
+    let xs = c.args.ranges.now.items in
+    let last : CidRange = c.index_mut.result.now in
+    let here = c.deref.ensures.value in
+    let some : 0 < length xs = subst (λ xs. 0 < length xs) here (c.is_continued.ensures.some c.if-is_continued.true) in
+    let n : c.len-last.result - 1 ≡ length xs - 1 = omega arith in
+    let at : slice_get xs (length xs - 1) ≡ Some last = slice_get_read xs (length xs) (length xs - 1) last refl (omega (arith, some)) (subst (λ k. last ≡ get_or xs k last) n c.index_mut.ensures.value) in
+    subst (λ k. All CanBeSplit (entries_seen (set xs k (longer last c.args.range)))) (sym n) (longer_can xs c.args.range last some at c.requires.all c.requires.one (subst (λ ys. (d : CidRange) → GoesOn (get_or ys (length ys - 1) d) c.args.range) here (c.is_continued.ensures.answer c.if-is_continued.true)))
+
+pub returns-then-is_continued-clause-taken : goal.returns-then-is_continued-clause-taken
+returns-then-is_continued-clause-taken c =
+    let xs = c.args.ranges.now.items in
+    let last : CidRange = c.index_mut.result.now in
+    let here = c.deref.ensures.value in
+    let some : 0 < length xs = subst (λ xs. 0 < length xs) here (c.is_continued.ensures.some c.if-is_continued.true) in
+    let n : c.len-last.result - 1 ≡ length xs - 1 = omega arith in
+    let at : slice_get xs (length xs - 1) ≡ Some last = slice_get_read xs (length xs) (length xs - 1) last refl (omega (arith, some)) (subst (λ k. last ≡ get_or xs k last) n c.index_mut.ensures.value) in
+    subst (λ k. Takes cid_span cid_at (entries_seen xs) (entries_seen (set xs k (longer last c.args.range))) (cid_entry_seen c.args.range)) (sym n) (longer_takes xs c.args.range last some at c.requires.all c.requires.one (subst (λ ys. (d : CidRange) → GoesOn (get_or ys (length ys - 1) d) c.args.range) here (c.is_continued.ensures.answer c.if-is_continued.true)))

@@ -1,0 +1,11 @@
+use Rattle.std.proofs.Common.{◌∙◌, ◌++◌, ◌∷◌, [], length, ap, sym}
+use Rattle.std.proofs.lemmas.List.{length-map}
+use Rattle.cmap_files.specs.CodeLengths.{length_of}
+use Rattle.cmap_files.specs.DeclarationsSeen.{cid_entry_seen, entries_seen}
+use Rattle.cmap_writer.proofs.RowsWritten.{notdefs_written}
+use Rattle.cmap_writer.proofs.notdefs.notdef_payload.Goals as goal
+
+pub returns-clause-written : goal.returns-clause-written
+returns-clause-written c =
+    let entries = c.args.entries.now in
+    notdefs_written (length_of c.args.len) (length entries) (entries_seen entries) c.push.new.self.items c.push_number.new.out.items c.push_entries.new.out.items (c.in_ok-push.ensures.items ∙ ap (λ bs. bs ++ c.count.result ∷ []) c.new-payload.ensures.items ∙ ap (λ n. n ∷ []) c.count.ensures) c.in_ok-push_number.ensures (sym (length-map entries cid_entry_seen)) c.requires c.in_ok-push_entries.ensures.written

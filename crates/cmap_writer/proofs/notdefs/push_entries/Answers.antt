@@ -1,0 +1,14 @@
+use Rattle.std.proofs.Common.{arith}
+use Rattle.cmap_files.specs.CodeLengths.{length_of}
+use Rattle.cmap_files.specs.DeclarationsSeen.{cid_entry_seen}
+use Rattle.cmap_binary.specs.BinaryFiles.{NotdefAt}
+use Rattle.cmap_writer.proofs.FilesWritten.{taken_more}
+use Rattle.cmap_files.proofs.Outcomes.{refuses_on}
+use Rattle.cmap_writer.proofs.ObstaclesMet.{notdef_among}
+use Rattle.cmap_writer.proofs.notdefs.push_entries.Goals as goal
+
+pub loop-entry-preserved : goal.loop-entry-preserved
+loop-entry-preserved c = taken_more (NotdefAt (length_of c.args.len)) cid_entry_seen c.args.entries.now c.loop-entry.entry-index _ c.args.out.now.items c.loop-entry.out.items c.push_notdef.new.out.items (omega arith) c.loop-entry.invariant c.in_ok-push_notdef.ensures.written
+
+pub returns-in_err-push_notdef-clause-err : goal.returns-in_err-push_notdef-clause-err
+returns-in_err-push_notdef-clause-err c = refuses_on _ _ c.from_residual.ensures.1 c.in_err-push_notdef.ensures.err (notdef_among (length_of c.args.len) c.args.entries.now c.loop-entry.entry-index _ (omega arith))

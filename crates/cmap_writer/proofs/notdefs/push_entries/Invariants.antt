@@ -1,0 +1,9 @@
+use Rattle.std.proofs.Common.{take}
+use Rattle.cmap_files.specs.CodeLengths.{length_of}
+use Rattle.cmap_files.specs.DeclarationsSeen.{entries_seen}
+use Rattle.cmap_binary.specs.BinaryFiles.{NotdefAt}
+use Rattle.cmap_writer.specs.Written.{Appends, WritesAll}
+use Rattle.cmap_writer.proofs.notdefs.push_entries.Given as goal
+
+abbrev pub invariant-loop-entry : goal.invariant-loop-entry
+invariant-loop-entry l = Appends l.initial.out.items l.out.items (WritesAll (NotdefAt (length_of l.len)) (entries_seen (take l.entry-index l.entries)))

@@ -1,0 +1,13 @@
+use Rattle.std.proofs.Common.{length, map}
+use Rattle.cmap_files.specs.CodeLengths.{length_of}
+use Rattle.cmap_files.specs.DeclarationsSeen.{entries_seen}
+use Rattle.cmap_files.specs.Files.{Declaration}
+use Rattle.cmap_writer.specs.SegmentsWritten.{SegmentByAny}
+use Rattle.cmap_writer.proofs.SegmentsDone.{DoneTo}
+use Rattle.cmap_writer.proofs.notdefs.push_notdefs.Given as goal
+
+abbrev pub invariant-loop-left : goal.invariant-loop-left
+invariant-loop-left l = DoneTo SegmentByAny (λ xs. map (Declaration.notdef (length_of l.len)) (entries_seen xs)) l.entries l.left l.initial.out.items l.out.items
+
+abbrev pub decreases-loop-left : goal.decreases-loop-left
+decreases-loop-left l = length l.left

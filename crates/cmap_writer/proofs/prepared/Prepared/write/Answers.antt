@@ -1,0 +1,25 @@
+use Rattle.std.proofs.Common.{◌∙◌, ◌≡◌, subst}
+use Rattle.cmap_writer.specs.EncodersSeen.{encoders_seen}
+use Rattle.cmap_writer.specs.Written.{Appends, IsFramed}
+use Rattle.cmap_writer.proofs.FileKept.{head}
+use Rattle.cmap_writer.proofs.PreparedKept.{file_framed, file_written}
+use Rattle.cmap_writer.proofs.SegmentsAdded.{WrittenWhere}
+use Rattle.cmap_writer.proofs.prepared.Prepared.write.Goals as goal
+
+pub returns-clause-framed : goal.returns-clause-framed
+returns-clause-framed c =
+    let body = c.push_segments.new.out.items in
+    let bytes = c.push_framed.new.out.items in
+    let framed : Appends c.new-bytes.result.items bytes (IsFramed head body) = subst (λ p. Appends c.new-bytes.result.items bytes (IsFramed head p)) c.deref-3.ensures.value c.in_ok-push_framed.ensures.written in
+    file_framed body bytes (subst (λ old. Appends old bytes (IsFramed head body)) c.new-bytes.ensures.items framed)
+
+pub returns-clause-written : goal.returns-clause-written
+returns-clause-written c file h =
+    let tables = encoders_seen c.args.tables.now in
+    let prepared = c.args.self.now in
+    let body = c.push_segments.new.out.items in
+    let bytes = c.push_framed.new.out.items in
+    let mid : c.in_ok-body.body.items ≡ prepared.fields.items = c.in_ok-body.ensures.items ∙ c.deref.ensures.value in
+    let written : WrittenWhere tables prepared.segments.items prepared.fields.items body = subst (λ old. WrittenWhere tables prepared.segments.items old body) mid (subst (λ ss. WrittenWhere tables ss c.in_ok-body.body.items body) c.deref-2.ensures.value c.in_ok-push_segments.ensures.written) in
+    let framed : Appends c.new-bytes.result.items bytes (IsFramed head body) = subst (λ p. Appends c.new-bytes.result.items bytes (IsFramed head p)) c.deref-3.ensures.value c.in_ok-push_framed.ensures.written in
+    file_written tables file prepared body bytes h written (subst (λ old. Appends old bytes (IsFramed head body)) c.new-bytes.ensures.items framed)

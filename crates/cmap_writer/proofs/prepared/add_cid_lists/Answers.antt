@@ -1,0 +1,30 @@
+use Rattle.std.proofs.Common.{ap, subst}
+use Rattle.cmap_files.specs.DeclarationsSeen.{entries_seen}
+use Rattle.cmap_writer.specs.PreparedFiles.{AddsSameCids}
+use Rattle.cmap_writer.proofs.PreparedKept.{cid_lists}
+use Rattle.cmap_files.proofs.Outcomes.{refuses_on}
+use Rattle.cmap_writer.proofs.ObstaclesMet.{by_cid_list}
+use Rattle.cmap_writer.specs.Obstacles.{by_length_seen}
+use Rattle.cmap_writer.proofs.prepared.add_cid_lists.Goals as goal
+
+pub returns-clause-added : goal.returns-clause-added
+returns-clause-added c =
+    let o = c.args.segments.now.items in
+    let a = c.add_cid_list.new.segments.items in
+    let b = c.add_cid_list-2.new.segments.items in
+    let d = c.add_cid_list-3.new.segments.items in
+    let e = c.add_cid_list-4.new.segments.items in
+    cid_lists c.args.lists.now o a b d e
+    (subst (λ xs. AddsSameCids 1 (entries_seen xs) o a) c.deref.ensures.value c.in_ok-add_cid_list.ensures.added)
+    (subst (λ xs. AddsSameCids 2 (entries_seen xs) a b) c.deref-2.ensures.value c.in_ok-add_cid_list-2.ensures.added)
+    (subst (λ xs. AddsSameCids 3 (entries_seen xs) b d) c.deref-3.ensures.value c.in_ok-add_cid_list-3.ensures.added)
+    (subst (λ xs. AddsSameCids 4 (entries_seen xs) d e) c.deref-4.ensures.value c.in_ok-add_cid_list-4.ensures.added)
+
+pub returns-in_err-add_cid_list-2-clause-err : goal.returns-in_err-add_cid_list-2-clause-err
+returns-in_err-add_cid_list-2-clause-err c = refuses_on _ _ c.from_residual-in_err-add_cid_list-2.ensures.1 c.in_err-add_cid_list-2.ensures.err (by_cid_list (by_length_seen c.args.lists.now) 2 _ (ap entries_seen c.deref-2.ensures.value))
+
+pub returns-in_err-add_cid_list-3-clause-err : goal.returns-in_err-add_cid_list-3-clause-err
+returns-in_err-add_cid_list-3-clause-err c = refuses_on _ _ c.from_residual-in_err-add_cid_list-3.ensures.1 c.in_err-add_cid_list-3.ensures.err (by_cid_list (by_length_seen c.args.lists.now) 3 _ (ap entries_seen c.deref-3.ensures.value))
+
+pub returns-in_err-add_cid_list-4-clause-err : goal.returns-in_err-add_cid_list-4-clause-err
+returns-in_err-add_cid_list-4-clause-err c = refuses_on _ _ c.from_residual-in_err-add_cid_list-4.ensures.1 c.in_err-add_cid_list-4.ensures.err (by_cid_list (by_length_seen c.args.lists.now) 4 _ (ap entries_seen c.deref-4.ensures.value))

@@ -1,0 +1,35 @@
+use Rattle.std.proofs.Common.{ap, map, subst}
+use Rattle.cmap_files.specs.DeclarationsSeen.{entries_seen}
+use Rattle.cmap_files.specs.Files.{Declaration}
+use Rattle.cmap_writer.specs.SegmentsWritten.{DeclareAll, SegmentByAny}
+use Rattle.cmap_writer.specs.Written.{Appends}
+use Rattle.cmap_writer.proofs.ListsKept.{declared_four}
+use Rattle.cmap_files.proofs.Outcomes.{refuses_on}
+use Rattle.cmap_writer.proofs.ObstaclesMet.{by_notdef_list}
+use Rattle.cmap_writer.specs.Obstacles.{by_length_seen}
+use Rattle.cmap_writer.proofs.prepared.push_notdef_lists.Goals as goal
+
+pub returns-clause-written : goal.returns-clause-written
+returns-clause-written c =
+    let o = c.args.out.now.items in
+    let a = c.push_notdefs.new.out.items in
+    let b = c.push_notdefs-2.new.out.items in
+    let d = c.push_notdefs-3.new.out.items in
+    let e = c.push_notdefs-4.new.out.items in
+    declared_four SegmentByAny _ _ _ _ o a b d e
+    (subst (λ xs. Appends o a (DeclareAll SegmentByAny (map (Declaration.notdef 1) (entries_seen xs)))) c.deref.ensures.value c.in_ok-push_notdefs.ensures.written)
+    (subst (λ xs. Appends a b (DeclareAll SegmentByAny (map (Declaration.notdef 2) (entries_seen xs)))) c.deref-2.ensures.value c.in_ok-push_notdefs-2.ensures.written)
+    (subst (λ xs. Appends b d (DeclareAll SegmentByAny (map (Declaration.notdef 3) (entries_seen xs)))) c.deref-3.ensures.value c.in_ok-push_notdefs-3.ensures.written)
+    (subst (λ xs. Appends d e (DeclareAll SegmentByAny (map (Declaration.notdef 4) (entries_seen xs)))) c.deref-4.ensures.value c.in_ok-push_notdefs-4.ensures.written)
+
+pub returns-in_err-push_notdefs-clause-err : goal.returns-in_err-push_notdefs-clause-err
+returns-in_err-push_notdefs-clause-err c = refuses_on _ _ c.from_residual.ensures.1 c.in_err-push_notdefs.ensures.err (by_notdef_list (by_length_seen c.args.lists.now) 1 _ (ap entries_seen c.deref.ensures.value))
+
+pub returns-in_err-push_notdefs-2-clause-err : goal.returns-in_err-push_notdefs-2-clause-err
+returns-in_err-push_notdefs-2-clause-err c = refuses_on _ _ c.from_residual-in_err-push_notdefs-2.ensures.1 c.in_err-push_notdefs-2.ensures.err (by_notdef_list (by_length_seen c.args.lists.now) 2 _ (ap entries_seen c.deref-2.ensures.value))
+
+pub returns-in_err-push_notdefs-3-clause-err : goal.returns-in_err-push_notdefs-3-clause-err
+returns-in_err-push_notdefs-3-clause-err c = refuses_on _ _ c.from_residual-in_err-push_notdefs-3.ensures.1 c.in_err-push_notdefs-3.ensures.err (by_notdef_list (by_length_seen c.args.lists.now) 3 _ (ap entries_seen c.deref-3.ensures.value))
+
+pub returns-in_err-push_notdefs-4-clause-err : goal.returns-in_err-push_notdefs-4-clause-err
+returns-in_err-push_notdefs-4-clause-err c = refuses_on _ _ c.from_residual-in_err-push_notdefs-4.ensures.1 c.in_err-push_notdefs-4.ensures.err (by_notdef_list (by_length_seen c.args.lists.now) 4 _ (ap entries_seen c.deref-4.ensures.value))

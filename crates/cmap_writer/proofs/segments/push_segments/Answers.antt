@@ -1,0 +1,16 @@
+use Rattle.std.proofs.Common.{arith, subst, sym}
+use Rattle.cmap_writer.specs.EncodersSeen.{encoders_seen}
+use Rattle.cmap_writer.specs.Segments.{IsPayloadOf}
+use Rattle.cmap_writer.proofs.SegmentsAdded.{written_more}
+use Rattle.cmap_files.proofs.Outcomes.{refuses_on}
+use Rattle.cmap_writer.proofs.ObstaclesMet.{segment_among}
+use Rattle.cmap_writer.proofs.segments.push_segments.Goals as goal
+
+pub loop-segment-preserved : goal.loop-segment-preserved
+loop-segment-preserved c =
+    let tables = encoders_seen c.args.tables.now in
+    let s = c.segment-item.result in
+    written_more tables c.args.segments.now c.loop-segment.segment-index s c.args.out.now.items c.loop-segment.out.items c.push_segment.new.out.items c.deref.result.now (omega arith) c.segment-item.is c.loop-segment.invariant (subst (IsPayloadOf tables s) (sym c.deref.ensures.value) c.in_ok-payload.ensures.written) c.in_ok-push_segment.ensures.written
+
+pub returns-in_err-payload-clause-err : goal.returns-in_err-payload-clause-err
+returns-in_err-payload-clause-err c = refuses_on _ _ c.from_residual.ensures.1 c.in_err-payload.ensures.err (segment_among (encoders_seen c.args.tables.now) c.args.segments.now c.loop-segment.segment-index c.segment-item.result (omega arith) c.segment-item.is)

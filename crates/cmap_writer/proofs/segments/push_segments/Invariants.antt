@@ -1,0 +1,7 @@
+use Rattle.std.proofs.Common.{take}
+use Rattle.cmap_writer.specs.EncodersSeen.{encoders_seen}
+use Rattle.cmap_writer.proofs.SegmentsAdded.{WrittenWhere}
+use Rattle.cmap_writer.proofs.segments.push_segments.Given as goal
+
+abbrev pub invariant-loop-segment : goal.invariant-loop-segment
+invariant-loop-segment l = WrittenWhere (encoders_seen l.tables) (take l.segment-index l.segments) l.initial.out.items l.out.items

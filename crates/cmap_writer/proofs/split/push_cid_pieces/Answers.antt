@@ -1,0 +1,22 @@
+use Rattle.std.proofs.Common.{◌∙◌, ap, arith}
+use Rattle.std.proofs.lemmas.List.{map-append}
+use Rattle.cmap_files.specs.DeclarationsSeen.{cid_entry_seen, entries_seen}
+use Rattle.cmap_writer.proofs.CidParts.{can_be_split_later, piece_end, piece_more}
+use Rattle.cmap_writer.proofs.split.push_cid_pieces.Goals as goal
+
+pub loop-start-preserved : goal.loop-start-preserved
+loop-start-preserved c =
+    let e = c.args.entry.now in
+    let now = c.loop-start.pieces.items in
+    let i = c.loop-start.invariant in
+    record {
+      can = can_be_split_later c.loop-start.start e.range.end c.loop-start.cid i.can (omega arith);
+      pieces = piece_more (cid_entry_seen e) c.loop-start.start e.range.end c.loop-start.cid (entries_seen c.args.pieces.now.items) (entries_seen now) (entries_seen c.push.new.self.items) i.pieces i.can (omega arith) (ap entries_seen c.in_ok-push.ensures.items ∙ map-append cid_entry_seen now _);
+    }
+
+pub returns : goal.returns
+returns c =
+    let e = c.args.entry.now in
+    let now = c.loop-start.pieces.items in
+    let i = c.loop-start.invariant in
+    piece_end (cid_entry_seen e) c.loop-start.start e.range.end c.loop-start.cid (entries_seen c.args.pieces.now.items) (entries_seen now) (entries_seen c.push-2.new.self.items) i.pieces i.can (omega arith) (ap entries_seen c.in_ok-push-2.ensures.items ∙ map-append cid_entry_seen now _)

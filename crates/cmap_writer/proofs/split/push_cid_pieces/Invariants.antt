@@ -1,0 +1,16 @@
+use Rattle.std.proofs.Common.{◌-◌}
+use Rattle.cmap_files.specs.DeclarationsSeen.{cid_entry_seen, entries_seen}
+use Rattle.cmap_layers.specs.Lookups.{cid_at, cid_span}
+use Rattle.cmap_writer.specs.Pieces.{CanBeSplit, IsShort}
+use Rattle.cmap_writer.proofs.CidParts.{entry}
+use Rattle.cmap_writer.proofs.Told.{PiecesTo}
+use Rattle.cmap_writer.proofs.split.push_cid_pieces.Given as goal
+
+abbrev pub invariant-loop-start : goal.invariant-loop-start
+invariant-loop-start l = record {
+  can : CanBeSplit (entry l.start l.end l.cid);
+  pieces : PiecesTo cid_span cid_at IsShort (cid_entry_seen l.entry) (entry l.start l.end l.cid) (entries_seen l.initial.pieces.items) (entries_seen l.pieces.items);
+}
+
+abbrev pub decreases-loop-start : goal.decreases-loop-start
+decreases-loop-start l = l.end - l.start

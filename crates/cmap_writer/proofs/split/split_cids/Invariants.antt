@@ -1,0 +1,8 @@
+use Rattle.std.proofs.Common.{take}
+use Rattle.cmap_files.specs.DeclarationsSeen.{entries_seen}
+use Rattle.cmap_layers.specs.Lookups.{cid_at, cid_span}
+use Rattle.cmap_writer.specs.Pieces.{ArePieces, IsShort}
+use Rattle.cmap_writer.proofs.split.split_cids.Given as goal
+
+abbrev pub invariant-loop-range : goal.invariant-loop-range
+invariant-loop-range l = ArePieces cid_span cid_at IsShort (entries_seen (take l.range-index l.ranges)) (entries_seen l.pieces.items)

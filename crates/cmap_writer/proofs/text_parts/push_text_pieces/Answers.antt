@@ -1,0 +1,41 @@
+use Rattle.std.proofs.Common.{◌+◌, ◌∙◌, map, ap, arith}
+use Rattle.std.proofs.lemmas.List.{map-append}
+use Rattle.cmap_files.specs.DeclarationsSeen.{bf_entry_seen}
+use Rattle.cmap_writer.proofs.TextParts.{pieces_end, pieces_next, pieces_start}
+use Rattle.cmap_writer.proofs.text_parts.push_text_pieces.Goals as goal
+
+pub loop-start-init : goal.loop-start-init
+loop-start-init c = record {
+  first = omega arith;
+  left = c.requires.0;
+  pieces = pieces_start (bf_entry_seen c.args.entry.now) (map bf_entry_seen c.args.pieces.now.items);
+}
+
+pub loop-start-preserved : goal.loop-start-preserved
+loop-start-preserved c =
+    let e = bf_entry_seen c.args.entry.now in
+    let part = c.in_ok-part_of_text.field-0 in
+    let is = c.in_ok-part_of_text.ensures in
+    let old = map bf_entry_seen c.args.pieces.now.items in
+    let now = c.loop-start.pieces.items in
+    let i = c.loop-start.invariant in
+    let s = c.loop-start.start in
+    let end = ap (λ r. r.end) is.0 in
+    record {
+      first = omega (arith, i.first);
+      left = omega arith;
+      pieces = pieces_next e (bf_entry_seen part) s (s + 256) c.requires i.first (ap (λ r. r.start) is.0) (omega (arith, end)) (omega (arith, end)) (omega (arith, end)) (omega (arith, end)) is.1 old (map bf_entry_seen now) (map bf_entry_seen c.push.new.self.items) i.pieces (ap (map bf_entry_seen) c.in_ok-push.ensures.items ∙ map-append bf_entry_seen now _);
+    }
+
+pub returns : goal.returns
+returns c =
+    let e = bf_entry_seen c.args.entry.now in
+    let part = c.in_ok-part_of_text-2.field-0 in
+    let is = c.in_ok-part_of_text-2.ensures in
+    let old = map bf_entry_seen c.args.pieces.now.items in
+    let new = map bf_entry_seen c.push-2.new.self.items in
+    let now = c.loop-start.pieces.items in
+    let i = c.loop-start.invariant in
+    let s = c.loop-start.start in
+    let end = ap (λ r. r.end) is.0 in
+    pieces_end e (e.end + 1) old new (omega arith) (pieces_next e (bf_entry_seen part) s (e.end + 1) c.requires i.first (ap (λ r. r.start) is.0) (omega (arith, end, i.left)) (omega (arith, end)) (omega (arith, end)) (omega (arith, end)) is.1 old (map bf_entry_seen now) new i.pieces (ap (map bf_entry_seen) c.in_ok-push-2.ensures.items ∙ map-append bf_entry_seen now _))

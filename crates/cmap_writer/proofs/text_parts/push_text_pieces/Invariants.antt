@@ -1,0 +1,14 @@
+use Rattle.std.proofs.Common.{◌-◌, ◌≤◌, map}
+use Rattle.cmap_files.specs.DeclarationsSeen.{bf_entry_seen}
+use Rattle.cmap_writer.proofs.TextParts.{PiecesBefore}
+use Rattle.cmap_writer.proofs.text_parts.push_text_pieces.Given as goal
+
+abbrev pub invariant-loop-start : goal.invariant-loop-start
+invariant-loop-start l = record {
+  first : l.entry.range.start ≤ l.start;
+  left : l.start ≤ l.end;
+  pieces : PiecesBefore (bf_entry_seen l.entry) l.start (map bf_entry_seen l.initial.pieces.items) (map bf_entry_seen l.pieces.items);
+}
+
+abbrev pub decreases-loop-start : goal.decreases-loop-start
+decreases-loop-start l = l.end - l.start

@@ -1,0 +1,15 @@
+use Rattle.std.proofs.Common.{◌∙◌, ◌++◌, ap}
+use Rattle.cmap_writer.specs.Texts.{destinations}
+use Rattle.cmap_writer.proofs.TextsWritten.{segment_declares}
+use Rattle.cmap_writer.proofs.texts.text_segment.Goals as goal
+
+pub returns : goal.returns
+returns c =
+    let form = c.args.form in
+    let entries = c.args.entries.now in
+    segment_declares (record { number = c.number.result; shape = form.shape; deltas = c.in_ok-deltas.field-0; counts = c.in_ok-counts.field-0; values = c.push_texts.new.out }) form.units entries
+    c.requires.held
+    c.number.ensures
+    c.in_ok-deltas.ensures
+    c.in_ok-counts.ensures
+    (c.in_ok-push_texts.ensures ∙ ap (λ bs. bs ++ destinations form.units entries) c.new-values.ensures.items)

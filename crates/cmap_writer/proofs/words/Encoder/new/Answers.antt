@@ -1,0 +1,20 @@
+use Rattle.std.proofs.Common.{◌≡◌, ◌∙◌, length, ap, subst, arith}
+use Rattle.std.specs.List.Sorted.{IsPermutation}
+use Rattle.cmap_binary.specs.PrefixWords.{lengths_from, lengths_of}
+use Rattle.cmap_writer.proofs.WordsMade.{lengths-zip_words}
+use Rattle.cmap_writer.proofs.words.Encoder.new.Goals as goal
+
+pub invariant_of-result : goal.invariant_of-result
+invariant_of-result c =
+    let made = rw c.in-Some.is at c.in_ok-words.ensures in
+    let lens = c.deref-2.result.now in
+    let lens_are : lens ≡ lengths_from 1 c.args.counts.items = c.deref-2.ensures.value ∙ c.in_ok-lens.ensures ∙ ap (lengths_from 1) c.deref.ensures.value in
+    let size : length c.args.symbols.now ≡ length lens = omega (arith, c.deref-2.ensures.len) in
+    record {
+      sound = made.sound;
+      words = made.held;
+      counts = ap lengths_of made.words_are ∙ lengths-zip_words lens c.args.symbols.now size ∙ lens_are;
+      few = c.requires.few;
+      same = subst (λ ws. IsPermutation ws c.in_ok-by_symbol.by_symbol.items) c.deref-3.ensures.value c.in_ok-by_symbol.ensures.same;
+      sorted = c.in_ok-by_symbol.ensures.sorted;
+    }

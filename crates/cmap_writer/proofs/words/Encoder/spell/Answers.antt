@@ -1,0 +1,30 @@
+use Rattle.std.proofs.Common.{◌≤◌, ◌<◌, get_or, length, take, sym, subst, arith, ap}
+use Rattle.cmap_binary.proofs.BitsOfBytes.{length-bits, length-bits_of}
+use Rattle.std.proofs.lemmas.List.{length-append, take_all, take_more}
+use Rattle.cmap_binary.specs.PrefixWords.{BeginWithWordsOf, bits_of}
+use Rattle.cmap_writer.proofs.Spelling.{IsSpelled-push, BeginWithWordsOf-spelled}
+use Rattle.cmap_writer.proofs.words.Encoder.spell.Goals as goal
+
+pub loop-symbol-preserved : goal.loop-symbol-preserved
+loop-symbol-preserved c =
+    let symbols = c.args.symbols.now in
+    let i = c.loop-symbol.symbol-index in
+    let within : i < length symbols = omega arith in
+    let w = c.in-Some.word in
+    let has = c.in-Some.ensures.some in
+    rw (take_more symbols i 0 within, c.in_ok-push.ensures) (
+      IsSpelled-push c.args.self.now (take i symbols) c.loop-symbol.written (get_or symbols i 0) w.len w.value c.loop-symbol.invariant.0 has,
+      omega (arith, c.loop-symbol.invariant.1, has.most, length-append c.loop-symbol.written (bits_of w.len w.value), length-bits_of w.len w.value),
+    )
+
+pub returns : goal.returns
+returns c =
+    let symbols = c.args.symbols.now in
+    let i = c.loop-symbol.symbol-index in
+    let past : length symbols ≤ i = omega arith in
+    let all = rw (take_all i symbols past) at c.loop-symbol.invariant.0 in
+    let (rest, begun, few, zeros) = c.in_ok-finish.ensures in
+    let bytes = c.in_ok-finish.field-0.items in (
+      subst (BeginWithWordsOf c.args.self.now symbols) (sym begun) (BeginWithWordsOf-spelled c.args.self.now symbols c.loop-symbol.written rest all),
+      omega (arith, c.loop-symbol.invariant.1, few, length-bits bytes, ap length begun, length-append c.loop-symbol.written rest),
+    )

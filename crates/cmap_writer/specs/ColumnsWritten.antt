@@ -1,0 +1,21 @@
+-- Columns that are written.
+use Rattle.std.specs.Prelude.{ℕ, List, [], ◌∷◌}
+use Rattle.cmap_runs.specs.Ranges.{Span}
+use Rattle.cmap_binary.specs.BinaryEntries.{Columns, ColumnsAt, Shape, SpanAt}
+use Rattle.cmap_binary.specs.Bundles.{PrefixTables}
+use Rattle.cmap_binary.specs.Fronts.{SizedAt}
+use Rattle.cmap_binary.specs.PrefixWords.{BeginWithWordsOf, CodeWord, bits}
+use Rattle.cmap_writer.specs.Written.{Writes}
+
+-- a sized piece whose bits begin with the code words of these symbols
+abbrev pub WritesColumn : List CodeWord → List ℕ → List ℕ → Type 0
+WritesColumn table symbols bytes = (text : List ℕ) × Writes SizedAt text bytes × BeginWithWordsOf table symbols (bits text)
+
+-- these spans come next in the columns
+abbrev pub HaveSpans : PrefixTables → List Span → Columns → Type 0
+HaveSpans tables [] columns = Unit {0}
+HaveSpans tables (s ∷ spans) columns = (rest : Columns) × SpanAt tables columns (s, rest) × HaveSpans tables spans rest
+
+-- columns that have these spans
+abbrev pub WritesColumns : PrefixTables → Shape → List Span → List ℕ → Type 0
+WritesColumns tables shape spans bytes = (columns : Columns) × Writes (ColumnsAt shape) columns bytes × HaveSpans tables spans columns

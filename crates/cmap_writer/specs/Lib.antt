@@ -1,0 +1,17 @@
+pub mod ColumnsWritten
+pub mod EncodersSeen
+pub mod Failures
+pub mod Follows
+pub mod Held
+pub mod Keeps
+pub mod MetadataWritten
+pub mod Obstacles
+pub mod Pieces
+pub mod PreparedFiles
+pub mod Segments
+pub mod SegmentsWritten
+pub mod Spelled
+pub mod TextParts
+pub mod Texts
+pub mod WordsHeld
+pub mod Written

@@ -1,0 +1,169 @@
+-- Why a file can't be written in the binary form.
+use Rattle.std.specs.Prelude.{◌≡◌, ◌≢◌, ◌⊎◌, ℕ, ℤ, pos, ◌+◌, ◌≤◌, ◌<◌, ◌^◌, List, Any, Contains, Option, Some, None, IsSome, IsSomeAnd, length}
+use Rattle.std.specs.Global.{Vec}
+use Rattle.cmap_runs.specs.declared.runs.Range.{Range}
+use Rattle.cmap_files.specs.DeclarationsSeen.{entries_seen}
+use Rattle.cmap_files.specs.Files.{BfEntry, ByLength, CidEntry, Codespace, File, of_length}
+use Rattle.cmap_files.specs.Metadata.{Collection}
+use Rattle.cmap_files.specs.declared.declarations.ByLength.{ByLength as HeldLists}
+use Rattle.cmap_files.specs.declared.declarations.CidRange.{CidRange}
+use Rattle.cmap_files.specs.Names.{Family, family_of, ordering_of, registry_of}
+use Rattle.cmap_layers.specs.Lookups.{last_bf}
+use Rattle.cmap_binary.specs.Bundles.{PrefixTables}
+use Rattle.cmap_binary.specs.PrefixWords.{CodeWord}
+use Rattle.cmap_writer.specs.Pieces.{cid_told}
+use Rattle.cmap_writer.specs.PreparedFiles.{IsPrepared}
+use Rattle.cmap_writer.specs.Spelled.{IsNoSymbol}
+use Rattle.cmap_writer.specs.declared.prepared.Prepared.{Prepared}
+use Rattle.cmap_writer.specs.declared.segments.Segment.{Segment}
+use Rattle.cmap_writer.specs.declared.obstacle.Obstacle.{Obstacle}
+use Rattle.cmap_writer.specs.declared.obstacle.Obstacle.TheVariants.{CustomFamily, LargeCid, LargeCode, NoPlace, NoWord, Supplement, Text, TooLong, ZeroByte}
+
+-- a CID that two bytes can't say, or none since 32 bits can't say it
+abbrev pub IsLargeCid : Option ℕ → Type 0
+IsLargeCid None = Unit {0}
+IsLargeCid (Some cid) = 2 ^ 16 ≤ cid
+
+-- a list of CIDs gives the last code of the range a large one
+abbrev pub GivesLargeCid : List CidEntry → Range → Type 0
+GivesLargeCid es range = (range.start ≤ range.end) × IsSomeAnd (cid_told es range.end) IsLargeCid
+
+-- a notdef declaration of this range has a large CID
+abbrev pub IsLargeNotdef : Range → CidEntry → Type 0
+IsLargeNotdef range e = (e.start ≡ range.start) × (e.end ≡ range.end) × (2 ^ 16 ≤ e.cid)
+
+-- the code is one of two ends, and this many bytes can't say it
+abbrev pub IsLargeEnd : ℕ → ℕ → ℕ → ℕ → Type 0
+IsLargeEnd code len low high = ((code ≡ low) ⊎ (code ≡ high)) × (256 ^ len ≤ code)
+
+-- a text that names the family holds a zero byte
+abbrev pub HoldsZero : Collection → Type 0
+HoldsZero collection = Contains (registry_of collection.family) 0 ⊎ Contains (ordering_of collection.family) 0
+
+-- the family isn't the one of the texts that name it
+abbrev pub IsMisnamed : Collection → Type 0
+IsMisnamed collection = family_of (registry_of collection.family) (ordering_of collection.family) ≢ collection.family
+
+-- the supplement, which two bytes can't say
+abbrev pub HasWideSupplement : ℤ → Collection → Type 0
+HasWideSupplement n collection = (collection.supplement ≡ n) × ((number : ℕ) → number < 2 ^ 16 → pos number ≢ n)
+
+-- the declaration that decides the text of the first code has more units than a byte can count
+abbrev pub HasLongText : List BfEntry → Range → Type 0
+HasLongText es range = (range.start ≤ range.end) × IsSomeAnd (last_bf es range.start) (λ e. 2 ^ 8 ≤ length e.units)
+
+-- more than 2^16 codes, for each of which a declaration decides a text
+abbrev pub HasManyTexts : List BfEntry → Range → Type 0
+HasManyTexts es range = (range.start + 2 ^ 16 ≤ range.end) × ((code : ℕ) → range.start ≤ code → code ≤ range.end → IsSome (last_bf es code))
+
+-- this holds of a length and of the list for codes of this length
+abbrev pub InSomeList : ByLength → (ℕ → List CidEntry → Type 0) → Type 0
+InSomeList lists P = (len : ℕ) × P len (of_length lists len)
+
+-- the file has this, which the binary form can't say; of what is too long nothing is said
+abbrev pub IsObstacle : File → Obstacle → Type 0
+IsObstacle file (LargeCid range) = InSomeList file.lists.cids (λ len es. GivesLargeCid es range) ⊎ InSomeList file.lists.notdefs (λ len es. Any (IsLargeNotdef range) es)
+IsObstacle file (LargeCode code) = Any (λ space. IsLargeEnd code space.len space.low space.high) file.lists.spaces ⊎ InSomeList file.lists.notdefs (λ len es. Any (λ e. IsLargeEnd code len e.start e.end) es)
+IsObstacle file ZeroByte = IsSomeAnd file.metadata.collection HoldsZero
+IsObstacle file CustomFamily = IsSomeAnd file.metadata.collection IsMisnamed
+IsObstacle file (Supplement n) = IsSomeAnd file.metadata.collection (HasWideSupplement n)
+IsObstacle file (Text range) = HasLongText file.lists.bfs range ⊎ HasManyTexts file.lists.bfs range
+IsObstacle file TooLong = Unit {0}
+IsObstacle file NoWord = ⊥
+IsObstacle file NoPlace = ⊥
+
+-- a number of the segment has no code word in its table
+abbrev pub HasNoWord : PrefixTables → Segment → Type 0
+HasNoWord tables segment = Any (IsNoSymbol tables.delta) segment.deltas.items ⊎ Any (IsNoSymbol tables.count) segment.counts.items
+
+-- segments say what the file says, and one of their numbers has no code word in these tables
+abbrev pub IsUnspelled : PrefixTables → File → Type 0
+IsUnspelled tables file = (prepared : Prepared) × IsPrepared file prepared × Any (HasNoWord tables) prepared.segments.items
+
+-- why a file can't be written by these tables
+abbrev pub IsWriteObstacle : PrefixTables → File → Obstacle → Type 0
+IsWriteObstacle tables file NoWord = IsUnspelled tables file
+IsWriteObstacle tables file other = IsObstacle file other
+
+-- ---- private aid
+abbrev pub by_length_seen : HeldLists (Vec CidRange) → ByLength
+by_length_seen lists = record { one = entries_seen lists.one.items; two = entries_seen lists.two.items; three = entries_seen lists.three.items; four = entries_seen lists.four.items }
+
+-- what part of a file can't be said
+abbrev pub IsCodeObstacle : ℕ → ℕ → Obstacle → Type 0
+IsCodeObstacle len code (LargeCode large) = (large ≡ code) × (256 ^ len ≤ code)
+IsCodeObstacle len code other = ⊥
+
+abbrev pub IsNotdefObstacle : ℕ → CidEntry → Obstacle → Type 0
+IsNotdefObstacle len e (LargeCid range) = IsLargeNotdef range e
+IsNotdefObstacle len e (LargeCode code) = IsLargeEnd code len e.start e.end
+IsNotdefObstacle len e other = ⊥
+
+abbrev pub IsNotdefsObstacle : ℕ → List CidEntry → Obstacle → Type 0
+IsNotdefsObstacle len es (LargeCid range) = Any (IsLargeNotdef range) es
+IsNotdefsObstacle len es (LargeCode code) = Any (λ e. IsLargeEnd code len e.start e.end) es
+IsNotdefsObstacle len es TooLong = Unit {0}
+IsNotdefsObstacle len es other = ⊥
+
+abbrev pub IsNotdefListsObstacle : ByLength → Obstacle → Type 0
+IsNotdefListsObstacle lists (LargeCid range) = InSomeList lists (λ len es. Any (IsLargeNotdef range) es)
+IsNotdefListsObstacle lists (LargeCode code) = InSomeList lists (λ len es. Any (λ e. IsLargeEnd code len e.start e.end) es)
+IsNotdefListsObstacle lists TooLong = Unit {0}
+IsNotdefListsObstacle lists other = ⊥
+
+abbrev pub IsSpaceObstacle : Codespace → Obstacle → Type 0
+IsSpaceObstacle space (LargeCode code) = IsLargeEnd code space.len space.low space.high
+IsSpaceObstacle space other = ⊥
+
+abbrev pub IsSpacesObstacle : List Codespace → Obstacle → Type 0
+IsSpacesObstacle spaces (LargeCode code) = Any (λ space. IsLargeEnd code space.len space.low space.high) spaces
+IsSpacesObstacle spaces TooLong = Unit {0}
+IsSpacesObstacle spaces other = ⊥
+
+abbrev pub IsTerminatedObstacle : List ℕ → Obstacle → Type 0
+IsTerminatedObstacle text ZeroByte = Contains text 0
+IsTerminatedObstacle text other = ⊥
+
+abbrev pub IsFamilyObstacle : Family → Obstacle → Type 0
+IsFamilyObstacle family CustomFamily = family_of (registry_of family) (ordering_of family) ≢ family
+IsFamilyObstacle family other = ⊥
+
+abbrev pub IsCollectionObstacle : Collection → Obstacle → Type 0
+IsCollectionObstacle collection ZeroByte = HoldsZero collection
+IsCollectionObstacle collection CustomFamily = IsMisnamed collection
+IsCollectionObstacle collection (Supplement n) = HasWideSupplement n collection
+IsCollectionObstacle collection other = ⊥
+
+abbrev pub IsMetadataObstacle : Option Collection → Obstacle → Type 0
+IsMetadataObstacle o ZeroByte = IsSomeAnd o HoldsZero
+IsMetadataObstacle o CustomFamily = IsSomeAnd o IsMisnamed
+IsMetadataObstacle o (Supplement n) = IsSomeAnd o (HasWideSupplement n)
+IsMetadataObstacle o TooLong = Unit {0}
+IsMetadataObstacle o other = ⊥
+
+abbrev pub IsCidObstacle : List CidEntry → Obstacle → Type 0
+IsCidObstacle es (LargeCid range) = GivesLargeCid es range
+IsCidObstacle es other = ⊥
+
+abbrev pub IsCidListsObstacle : ByLength → Obstacle → Type 0
+IsCidListsObstacle lists (LargeCid range) = InSomeList lists (λ len es. GivesLargeCid es range)
+IsCidListsObstacle lists other = ⊥
+
+abbrev pub IsTextObstacle : List BfEntry → Obstacle → Type 0
+IsTextObstacle es (Text range) = HasLongText es range ⊎ HasManyTexts es range
+IsTextObstacle es other = ⊥
+
+abbrev pub IsColumnObstacle : List CodeWord → List ℕ → Obstacle → Type 0
+IsColumnObstacle table symbols NoWord = Any (IsNoSymbol table) symbols
+IsColumnObstacle table symbols TooLong = Unit {0}
+IsColumnObstacle table symbols other = ⊥
+
+abbrev pub IsSegmentObstacle : PrefixTables → Segment → Obstacle → Type 0
+IsSegmentObstacle tables segment NoWord = HasNoWord tables segment
+IsSegmentObstacle tables segment TooLong = Unit {0}
+IsSegmentObstacle tables segment other = ⊥
+
+abbrev pub IsSegmentsObstacle : PrefixTables → List Segment → Obstacle → Type 0
+IsSegmentsObstacle tables segments NoWord = Any (HasNoWord tables) segments
+IsSegmentsObstacle tables segments TooLong = Unit {0}
+IsSegmentsObstacle tables segments other = ⊥

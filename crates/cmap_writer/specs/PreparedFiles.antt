@@ -1,0 +1,42 @@
+-- What is to be written of a file, before it is known how its numbers are spelled.
+use Rattle.std.specs.Prelude.{ℕ, List, ◌++◌, map}
+use Rattle.cmap_files.specs.Files.{BfEntry, CidEntry, Declaration, File}
+use Rattle.cmap_binary.specs.BinaryFiles.{Content, declares, file_of}
+use Rattle.std.specs.Global.{Vec}
+use Rattle.cmap_files.specs.DeclarationsSeen.{entries_seen}
+use Rattle.cmap_files.specs.declared.declarations.ByLength.{ByLength}
+use Rattle.cmap_files.specs.declared.declarations.CidRange.{CidRange}
+use Rattle.cmap_writer.specs.Keeps.{HaveSameCids, HaveSameTexts, Keeps, by_length}
+use Rattle.cmap_writer.specs.Segments.{AddsSegments, DeclareEach}
+use Rattle.cmap_writer.specs.SegmentsWritten.{SegmentByAny}
+use Rattle.cmap_writer.specs.Written.{WritesAll}
+use Rattle.cmap_writer.specs.declared.prepared.Prepared.{Prepared}
+use Rattle.cmap_writer.specs.declared.segments.Segment.{Segment}
+
+-- segments by which codes of this length have the CIDs that they have by a list come after the old ones
+abbrev pub AddsSameCids : ℕ → List CidEntry → List Segment → List Segment → Type 0
+AddsSameCids len es old new = (made : List CidEntry) × AddsSegments old new (map (Declaration.cid len) made) × HaveSameCids es made
+
+-- and by which codes have the texts that they have by a list
+abbrev pub AddsSameTexts : List BfEntry → List Segment → List Segment → Type 0
+AddsSameTexts es old new = (made : List BfEntry) × AddsSegments old new (map Declaration.bf made) × HaveSameTexts es made
+
+-- segments without columns, and others, which say together what keeps the file
+pub record IsPrepared (file : File) (prepared : Prepared) : Type 0 where
+  pub contents : List Content
+  pub parts : List (List Declaration)
+  pub fields : WritesAll SegmentByAny contents prepared.fields.items
+  pub segments : DeclareEach prepared.segments.items parts
+  pub keeps : Keeps file (file_of (contents ++ map declares parts))
+
+-- segments by which codes of each length have the CIDs that they have by these lists come after the old ones
+pub record AddsCidLists (lists : ByLength (Vec CidRange)) (old new : List Segment) : Type 0 where
+  pub one : List CidEntry
+  pub two : List CidEntry
+  pub three : List CidEntry
+  pub four : List CidEntry
+  pub added : AddsSegments old new (by_length Declaration.cid one two three four)
+  pub one_same : HaveSameCids (entries_seen lists.one.items) one
+  pub two_same : HaveSameCids (entries_seen lists.two.items) two
+  pub three_same : HaveSameCids (entries_seen lists.three.items) three
+  pub four_same : HaveSameCids (entries_seen lists.four.items) four

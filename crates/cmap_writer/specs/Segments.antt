@@ -1,0 +1,37 @@
+-- Segments of CIDs and of texts, before it is known how their numbers are spelled.
+use Rattle.std.specs.Prelude.{◌≡◌, ℕ, List, [], ◌∷◌, ◌++◌, flat_map, length}
+use Rattle.cmap_files.specs.Files.{Declaration}
+use Rattle.cmap_binary.specs.BinaryEntries as entries
+use Rattle.cmap_binary.specs.BinaryFiles.{IsSegment, declares}
+use Rattle.cmap_binary.specs.Bundles.{PrefixTables}
+use Rattle.cmap_writer.specs.ColumnsWritten.{WritesColumn}
+use Rattle.cmap_writer.specs.EncodersSeen.{shape_seen}
+use Rattle.cmap_writer.specs.Written.{bytes_of}
+use Rattle.cmap_writer.specs.declared.segments.Segment.{Segment}
+
+-- the columns of these numbers: of deltas, and of ranges also of counts
+abbrev pub WritesNumbers : PrefixTables → entries.Shape → List ℕ → List ℕ → List ℕ → Type 0
+WritesNumbers tables entries.ranges deltas counts bytes = (first second : List ℕ) × (bytes ≡ first ++ second) × WritesColumn tables.delta deltas first × WritesColumn tables.count counts second
+WritesNumbers tables entries.singles deltas counts bytes = WritesColumn tables.delta deltas bytes
+
+-- the payload of a segment whose numbers are spelled by these tables
+abbrev pub IsPayloadOf : PrefixTables → Segment → List ℕ → Type 0
+IsPayloadOf tables segment payload = (columns : List ℕ) × WritesNumbers tables (shape_seen segment.shape) segment.deltas.items segment.counts.items columns × (payload ≡ bytes_of 2 (length segment.deltas.items) ++ (columns ++ segment.values.items))
+
+-- it declares these, by whatever tables its numbers are spelled
+abbrev pub DeclaresAll : Segment → List Declaration → Type 0
+DeclaresAll segment ds = (tables : PrefixTables) (payload : List ℕ) → IsPayloadOf tables segment payload → IsSegment tables segment.number payload (declares ds)
+
+-- each of the segments declares one of the parts
+abbrev pub DeclareEach : List Segment → List (List Declaration) → Type 0
+DeclareEach [] [] = Unit {0}
+DeclareEach (segment ∷ segments) (part ∷ parts) = DeclaresAll segment part × DeclareEach segments parts
+DeclareEach segments parts = ⊥
+
+-- segments that declare these, in order
+abbrev pub DeclareInOrder : List Segment → List Declaration → Type 0
+DeclareInOrder segments ds = (parts : List (List Declaration)) × DeclareEach segments parts × (flat_map (λ part. part) parts ≡ ds)
+
+-- segments that declare these come after the old ones
+abbrev pub AddsSegments : List Segment → List Segment → List Declaration → Type 0
+AddsSegments old new ds = (added : List Segment) × (new ≡ old ++ added) × DeclareInOrder added ds

@@ -1,0 +1,145 @@
+//! Columns of a segment: which codes its entries have.
+
+ghost use Rattle.std.specs.Prelude.{◌≡◌, ◌≤◌, IfErr, IfOk, IsTrue, map};
+ghost use Rattle.cmap_files.specs.Outcomes.{RefusesWith};
+ghost use Rattle.cmap_binary.specs.BinaryEntries.{ranges};
+ghost use Rattle.cmap_writer.specs.ColumnsWritten.{WritesColumn};
+ghost use Rattle.cmap_writer.specs.EncodersSeen.{encoders_seen, shape_seen};
+ghost use Rattle.cmap_writer.specs.Held.{AreInOrder, AreShaped, HasShape, counts_by, counts_of, deltas_of};
+ghost use Rattle.cmap_writer.specs.Obstacles.{IsColumnObstacle, IsSegmentObstacle};
+ghost use Rattle.cmap_writer.specs.Segments.{WritesNumbers};
+ghost use Rattle.cmap_writer.specs.Written.{Appends};
+
+use crate::obstacle::Obstacle;
+use crate::pieces::push_sized;
+use crate::segments::Segment;
+use crate::words::Encoder;
+use cmap_files::fault::Fault;
+use cmap_runs::runs::{HasRange, Range};
+use std::alloc::{AllocError, Global};
+
+/// The code words of a bundle: of deltas and of counts.
+#[derive(Debug, Drop)]
+pub struct Encoders {
+    pub delta: Encoder,
+    pub count: Encoder,
+}
+
+/// Whether the entries of a segment are ranges of two codes or more, or single codes.
+#[derive(Clone, Copy)]
+pub(crate) enum Shape {
+    Ranges,
+    Singles,
+}
+
+impl Shape {
+    /// The shape of a range that has a code.
+    pub(crate) fn of(range: Range) -> Shape
+        ensures { range.start ≤ range.end → HasShape (shape_seen result) range.start range.end }
+    {
+        if range.start < range.end {
+            Shape::Ranges
+        } else {
+            Shape::Singles
+        }
+    }
+
+    /// Where segments of this shape stand among those of a list.
+    pub(crate) fn order(self) -> u8 {
+        match self {
+            Shape::Ranges => 0,
+            Shape::Singles => 1,
+        }
+    }
+
+    /// Whether a range has this shape.
+    pub(crate) fn fits(self, range: Range) -> bool
+        ensures { IsTrue result → HasShape (shape_seen self) range.start range.end }
+    {
+        match self {
+            Shape::Ranges => range.start < range.end,
+            Shape::Singles => range.start == range.end,
+        }
+    }
+}
+
+/// Writes columns: of deltas, and of ranges also of counts.
+pub(crate) fn push_columns(
+    alloc: Global,
+    tables: &Encoders,
+    segment: &Segment,
+    out: &mut Vec<u8>,
+) -> Result<(), Fault<Obstacle>>
+    ensures written { IfOk result (λ _. Appends out.old.items out.new.items (WritesNumbers (encoders_seen tables.now)
+        (shape_seen segment.now.shape) segment.now.deltas.items segment.now.counts.items)) }
+    ensures err { IfErr result (RefusesWith (IsSegmentObstacle (encoders_seen tables.now) segment.now)) }
+{
+    push_column(alloc, &tables.delta, &segment.deltas, out)?;
+    match segment.shape {
+        Shape::Singles => Ok(()),
+        Shape::Ranges => {
+            push_column(alloc, &tables.count, &segment.counts, out)?;
+            Ok(())
+        }
+    }
+}
+
+/// Writes a column: the code words of these symbols, in a piece after its length.
+fn push_column(
+    alloc: Global,
+    table: &Encoder,
+    symbols: &[u32],
+    out: &mut Vec<u8>,
+) -> Result<(), Fault<Obstacle>>
+    ensures written { IfOk result (λ _. Appends out.old.items out.new.items (WritesColumn table.now symbols.now)) }
+    ensures err { IfErr result (RefusesWith (IsColumnObstacle table.now symbols.now)) }
+{
+    let Some(text) = table.spell(alloc, symbols)? else {
+        return Err(Fault::Refused(Obstacle::NoWord));
+    };
+    push_sized(out, &text)?;
+    Ok(())
+}
+
+/// How many codes each entry leaves out after the one before.
+pub(crate) fn deltas<T: HasRange>(alloc: Global, entries: &[T]) -> Result<Vec<u32>, AllocError>
+    requires { AreInOrder 0 (map T.span entries.now) }
+    ensures { IfOk result (λ deltas. deltas.items ≡ deltas_of 0 (map T.span entries.now)) }
+{
+    let mut deltas = Vec::with_capacity(alloc, entries.len())?;
+    let mut base = 0;
+    for entry in entries {
+        let range = entry.range();
+        deltas.push((u64::from(range.start) - base) as u32)?;
+        base = u64::from(range.end) + 1;
+    }
+    Ok(deltas)
+}
+
+/// How many codes more than two each range has; nothing of single codes.
+pub(crate) fn counts<T: HasRange>(
+    alloc: Global,
+    shape: Shape,
+    entries: &[T],
+) -> Result<Vec<u32>, AllocError>
+    requires { AreShaped (shape_seen shape) (map T.span entries.now) }
+    ensures { IfOk result (λ counts. counts.items ≡ counts_by (shape_seen shape) (map T.span entries.now)) }
+{
+    match shape {
+        Shape::Singles => Ok(Vec::new(alloc)),
+        Shape::Ranges => range_counts(alloc, entries),
+    }
+}
+
+/// How many codes more than two each range has.
+fn range_counts<T: HasRange>(alloc: Global, entries: &[T]) -> Result<Vec<u32>, AllocError>
+    requires { AreShaped ranges (map T.span entries.now) }
+    ensures { IfOk result (λ counts. counts.items ≡ counts_of (map T.span entries.now)) }
+{
+    let mut counts = Vec::with_capacity(alloc, entries.len())?;
+    for entry in entries {
+        let range = entry.range();
+        counts.push(range.end - range.start - 1)?;
+    }
+    Ok(counts)
+}

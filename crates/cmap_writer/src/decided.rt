@@ -1,0 +1,130 @@
+//! Which codes the declarations of a list decide: ranges that lie apart, so that their order doesn't
+//! matter.
+
+ghost use Rattle.std.specs.Prelude.{◌≡◌, ◌+◌, ◌-◌, ◌<◌, ◌≤◌, ◌^◌, All, IfErr, IfNone, IfOk, IfSome, IsTrue, get_or, length, map};
+ghost use Rattle.cmap_files.specs.DeclarationsSeen.{cid_entry_seen, entries_seen};
+ghost use Rattle.cmap_files.specs.Outcomes.{RefusesWith};
+ghost use Rattle.cmap_layers.specs.Lookups.{cid_at, cid_span};
+ghost use Rattle.cmap_files.specs.declared.declarations.CidRange.{CidRange};
+ghost use Rattle.cmap_writer.specs.Follows.{GoesOn};
+ghost use Rattle.cmap_writer.specs.Obstacles.{IsCidObstacle};
+ghost use Rattle.cmap_writer.specs.Pieces.{CanBeSplit, SayTheSame, Takes};
+
+use crate::obstacle::Obstacle;
+use cmap_files::declarations::CidRange;
+use cmap_files::fault::Fault;
+use cmap_runs::runs::{Looks, Range, Table};
+use std::alloc::{AllocError, Global};
+
+/// The largest CID.
+pub(crate) const LARGEST_CID: u32 = 65535;
+
+/// The ranges of codes for which these declarations decide a CID, in order. Ranges whose CIDs go on are
+/// one. A CID above 65535 is an obstacle.
+pub(crate) fn decided_cids(
+    alloc: Global,
+    list: &[CidRange],
+) -> Result<Vec<CidRange>, Fault<Obstacle>>
+    ensures same { IfOk result (λ ranges. SayTheSame cid_span cid_at (entries_seen list.now) (entries_seen ranges.items) × All CanBeSplit (entries_seen ranges.items)) }
+    ensures err { IfErr result (RefusesWith (IsCidObstacle (entries_seen list.now))) }
+{
+    let table = Table::build(alloc, copy_of(alloc, list)?)?;
+    let mut looks = Looks::new();
+    let mut ranges = Vec::new(alloc);
+    for i in 0..table.run_count() {
+        let (start, end, index) = table.run(i, &mut looks);
+        let range = Range { start, end };
+        let Some(part) = part_of(table.decl(index, &mut looks), range) else {
+            return Err(Fault::Refused(Obstacle::LargeCid(range)));
+        };
+        push_joined(&mut ranges, part)?;
+    }
+    Ok(ranges)
+}
+
+/// A copy of a list.
+fn copy_of(alloc: Global, list: &[CidRange]) -> Result<Vec<CidRange>, AllocError>
+    ensures same { IfOk result (λ copy. copy.items ≡ list.now) }
+    ensures small { IfOk result (λ _. All (λ r. r.range.end < 2 ^ 32) list.now) }
+{
+    let mut copy = Vec::with_capacity(alloc, list.len())?;
+    for entry in list {
+        let end = last_code(&entry.range);
+        let range = Range {
+            start: entry.range.start,
+            end,
+        };
+        copy.push(CidRange {
+            range,
+            cid: entry.cid,
+        })?;
+    }
+    Ok(copy)
+}
+
+/// The last code of a range.
+pub(crate) fn last_code(range: &Range) -> u32
+    ensures is { result ≡ range.now.end }
+    ensures small { result < 2 ^ 32 }
+{
+    range.end
+}
+
+/// The part of a declaration for these codes; `None` where its last CID is above 65535.
+fn part_of(declaration: &CidRange, range: Range) -> Option<CidRange>
+    requires start { declaration.now.range.start ≤ range.start }
+    requires end { range.start ≤ range.end }
+    ensures some { IfSome result (λ part. (part.range ≡ range)
+        × (part.cid ≡ declaration.now.cid + (range.start - declaration.now.range.start))
+        × (part.cid + (range.end - range.start) < 2 ^ 16)) }
+    ensures none { IfNone result
+        (2 ^ 16 ≤ declaration.now.cid + (range.end - declaration.now.range.start)) }
+{
+    let first = u64::from(declaration.cid) + u64::from(range.start - declaration.range.start);
+    if first + u64::from(range.end - range.start) > u64::from(LARGEST_CID) {
+        return None;
+    }
+    Some(CidRange {
+        range,
+        cid: first as u32,
+    })
+}
+
+/// Adds a range, as one with the last range where it goes on from that.
+fn push_joined(ranges: &mut Vec<CidRange>, range: CidRange) -> Result<(), AllocError>
+    requires all { All CanBeSplit (entries_seen ranges.now.items) }
+    requires one { CanBeSplit (cid_entry_seen range) }
+    ensures all { IfOk result (λ _. All CanBeSplit (entries_seen ranges.new.items)) }
+    ensures taken { IfOk result (λ _. Takes cid_span cid_at (entries_seen ranges.old.items) (entries_seen ranges.new.items) (cid_entry_seen range)) }
+{
+    if is_continued(ranges, &range) {
+        let last = ranges.len() - 1;
+        ranges[last].range.end = range.range.end;
+        return Ok(());
+    }
+    ranges.push(range)?;
+    Ok(())
+}
+
+/// Whether a range goes on where the last one ends.
+fn is_continued(ranges: &[CidRange], range: &CidRange) -> bool
+    requires { All CanBeSplit (entries_seen ranges.now) }
+    ensures some { IsTrue result → 0 < length ranges.now }
+    ensures answer { IsTrue result → (d : CidRange) → GoesOn (get_or ranges.now (length ranges.now - 1) d) range.now }
+{
+    match ranges.last() {
+        Some(last) => goes_on(last, range),
+        None => false,
+    }
+}
+
+/// Whether a range goes on where another one ends, with the CIDs after its.
+fn goes_on(last: &CidRange, range: &CidRange) -> bool
+    requires { last.now.range.start ≤ last.now.range.end }
+    ensures { IsTrue result → GoesOn last.now range.now }
+{
+    range.range.start > last.range.end
+        && range.range.start - last.range.end == 1
+        && range.cid > last.cid
+        && range.cid - last.cid == range.range.start - last.range.start
+}

@@ -1,0 +1,31 @@
+//! A file in the binary form.
+
+ghost use Rattle.std.specs.Prelude.{IfErr, IfOk};
+ghost use Rattle.cmap_files.specs.FilesSeen.{file_seen};
+ghost use Rattle.cmap_files.specs.Outcomes.{RefusesWith};
+ghost use Rattle.cmap_writer.specs.EncodersSeen.{encoders_seen};
+ghost use Rattle.cmap_writer.specs.Keeps.{IsWritten};
+ghost use Rattle.cmap_writer.specs.Obstacles.{IsWriteObstacle};
+
+use crate::columns::Encoders;
+use crate::obstacle::Obstacle;
+use crate::prepared::prepare;
+use cmap_files::fault::Fault;
+use cmap_files::file::File;
+use std::alloc::Global;
+
+/// A binary file that keeps what a file says: its metadata, its codespace ranges, the names of the files
+/// that it uses, the CID of each code of each length, and the text of each code.
+///
+/// It is refused with what the binary form can't say.
+pub fn write_file(
+    alloc: Global,
+    tables: &Encoders,
+    file: &File<'_>,
+) -> Result<Vec<u8>, Fault<Obstacle>>
+    ensures written { IfOk result (λ bytes. IsWritten (encoders_seen tables.now) (file_seen file.now) bytes.items) }
+    ensures err { IfErr result (RefusesWith (IsWriteObstacle (encoders_seen tables.now) (file_seen file.now))) }
+{
+    let prepared = prepare(alloc, file)?;
+    prepared.write(alloc, tables)
+}

@@ -1,0 +1,122 @@
+//! Segments of notdef declarations.
+
+ghost use Rattle.std.specs.Prelude.{◌≡◌, ◌+◌, ◌*◌, ◌<◌, ◌^◌, IfErr, IfOk, length, map};
+ghost use Rattle.cmap_files.specs.CodeLengths.{length_of};
+ghost use Rattle.cmap_files.specs.DeclarationsSeen.{cid_entry_seen, entries_seen};
+ghost use Rattle.cmap_files.specs.Files.{Declaration};
+ghost use Rattle.cmap_files.specs.Outcomes.{RefusesWith};
+ghost use Rattle.cmap_binary.specs.BinaryFiles.{NotdefAt, NotdefsIn};
+ghost use Rattle.cmap_binary.specs.Fronts.{CodeAt};
+ghost use Rattle.cmap_writer.specs.Obstacles.{IsCodeObstacle, IsNotdefObstacle, IsNotdefsObstacle};
+ghost use Rattle.cmap_writer.specs.SegmentsWritten.{DeclareAll, SegmentByAny};
+ghost use Rattle.cmap_writer.specs.Written.{Appends, Writes, WritesAll};
+
+use crate::bytes::push_number;
+use crate::decided::LARGEST_CID;
+use crate::obstacle::Obstacle;
+use crate::pieces::push_segment;
+use cmap_files::code_length::CodeLength;
+use cmap_files::declarations::CidRange;
+use cmap_files::fault::Fault;
+use std::alloc::Global;
+
+/// The type of a segment of notdef declarations.
+const NOTDEFS: u8 = 10;
+
+/// The most entries of a segment.
+const MOST: usize = 65535;
+
+/// Writes segments that make these notdef declarations for codes of one length, in order.
+pub(crate) fn push_notdefs(
+    alloc: Global,
+    len: CodeLength,
+    entries: &[CidRange],
+    out: &mut Vec<u8>,
+) -> Result<(), Fault<Obstacle>>
+    ensures written { IfOk result (λ _. Appends out.old.items out.new.items
+        (DeclareAll SegmentByAny (map (Declaration.notdef (length_of len)) (entries_seen entries.now)))) }
+    ensures err { IfErr result (RefusesWith (IsNotdefsObstacle (length_of len) (entries_seen entries.now))) }
+{
+    let mut left = entries;
+    while !left.is_empty() {
+        let (here, later) = left.split_at(left.len().min(MOST));
+        let payload = notdef_payload(alloc, len, here)?;
+        push_segment(out, NOTDEFS, &payload)?;
+        left = later;
+    }
+    Ok(())
+}
+
+/// The payload of a segment of these notdef declarations.
+fn notdef_payload(
+    alloc: Global,
+    len: CodeLength,
+    entries: &[CidRange],
+) -> Result<Vec<u8>, Fault<Obstacle>>
+    requires { length entries.now < 2 ^ 16 }
+    ensures written { IfOk result (λ payload. NotdefsIn payload.items (length_of len, entries_seen entries.now)) }
+    ensures err { IfErr result (RefusesWith (IsNotdefsObstacle (length_of len) (entries_seen entries.now))) }
+{
+    let mut payload = Vec::new(alloc);
+    payload.push(len.count())?;
+    push_number(&mut payload, entries.len() as u32, 2)?;
+    push_entries(&mut payload, len, entries)?;
+    Ok(payload)
+}
+
+/// Writes notdef declarations in a row.
+fn push_entries(
+    out: &mut Vec<u8>,
+    len: CodeLength,
+    entries: &[CidRange],
+) -> Result<(), Fault<Obstacle>>
+    ensures written { IfOk result (λ _. Appends out.old.items out.new.items (WritesAll (NotdefAt (length_of len)) (entries_seen entries.now))) }
+    ensures err { IfErr result (RefusesWith (IsNotdefsObstacle (length_of len) (entries_seen entries.now))) }
+{
+    for entry in entries {
+        push_notdef(out, len, entry)?;
+    }
+    Ok(())
+}
+
+/// Writes a notdef declaration: start, end, and a CID of two bytes.
+fn push_notdef(out: &mut Vec<u8>, len: CodeLength, entry: &CidRange) -> Result<(), Fault<Obstacle>>
+    ensures written { IfOk result (λ _. Appends out.old.items out.new.items (Writes (NotdefAt (length_of len)) (cid_entry_seen entry.now))) }
+    ensures err { IfErr result (RefusesWith (IsNotdefObstacle (length_of len) (cid_entry_seen entry.now))) }
+{
+    if entry.cid > LARGEST_CID {
+        return Err(Fault::Refused(Obstacle::LargeCid(entry.range)));
+    }
+    push_code(out, len, entry.range.start)?;
+    push_code(out, len, entry.range.end)?;
+    push_number(out, entry.cid, 2)?;
+    Ok(())
+}
+
+/// Writes a code of this length.
+pub(crate) fn push_code(
+    out: &mut Vec<u8>,
+    len: CodeLength,
+    code: u32,
+) -> Result<(), Fault<Obstacle>>
+    ensures written { IfOk result (λ _. Appends out.old.items out.new.items (Writes (CodeAt (length_of len)) code)) }
+    ensures err { IfErr result (RefusesWith (IsCodeObstacle (length_of len) code)) }
+{
+    if code > largest_code(len) {
+        return Err(Fault::Refused(Obstacle::LargeCode(code)));
+    }
+    push_number(out, code, len.count())?;
+    Ok(())
+}
+
+/// The largest code of this length.
+fn largest_code(len: CodeLength) -> u32
+    ensures { result + 1 ≡ 2 ^ (8 * length_of len) }
+{
+    match len {
+        CodeLength::One => 0xFF,
+        CodeLength::Two => 0xFFFF,
+        CodeLength::Three => 0xFF_FFFF,
+        CodeLength::Four => 0xFFFF_FFFF,
+    }
+}

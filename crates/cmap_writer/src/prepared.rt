@@ -1,0 +1,102 @@
+//! A file before it is known how its numbers are spelled.
+
+ghost use Rattle.std.specs.Prelude.{IfErr, IfOk};
+ghost use Rattle.cmap_files.specs.Files.{File as Said};
+ghost use Rattle.cmap_files.specs.FilesSeen.{file_seen};
+ghost use Rattle.cmap_files.specs.Outcomes.{RefusesWith};
+ghost use Rattle.cmap_writer.specs.EncodersSeen.{encoders_seen};
+ghost use Rattle.cmap_writer.specs.Keeps.{IsWritten, notdefs_declared};
+ghost use Rattle.cmap_writer.specs.Obstacles.{IsCidListsObstacle, IsNotdefListsObstacle, IsObstacle, IsSegmentsObstacle, by_length_seen};
+ghost use Rattle.cmap_writer.specs.PreparedFiles.{AddsCidLists, IsPrepared};
+ghost use Rattle.cmap_writer.specs.SegmentsWritten.{DeclareAll, SegmentByAny};
+ghost use Rattle.cmap_writer.specs.Written.{Appends, IsFramedFile};
+
+use crate::cids::add_cid_list;
+use crate::codespaces::push_codespaces;
+use crate::columns::Encoders;
+use crate::metadata::{push_metadata, push_uses};
+use crate::notdefs::push_notdefs;
+use crate::obstacle::Obstacle;
+use crate::pieces::push_framed;
+use crate::segments::{Segment, push_segments};
+use crate::texts::add_text_list;
+use cmap_files::code_length::CodeLength;
+use cmap_files::declarations::{ByLength, CidRange};
+use cmap_files::fault::Fault;
+use cmap_files::file::File;
+use std::alloc::Global;
+
+/// What begins a binary file of version 1.
+const HEAD: &[u8] = b"bcmap\x01";
+
+/// A file before it is known how its numbers are spelled.
+#[derive(Drop)]
+pub struct Prepared {
+    /// The segments that hold no columns, as they are written.
+    pub fields: Vec<u8>,
+    pub segments: Vec<Segment>,
+}
+
+/// What is to be written of a file. It is refused with what the binary form can't say.
+pub fn prepare(alloc: Global, file: &File<'_>) -> Result<Prepared, Fault<Obstacle>>
+    ensures made { IfOk result (λ prepared. IsPrepared (file_seen file.now) prepared) }
+    ensures err { IfErr result (RefusesWith (IsObstacle (file_seen file.now))) }
+{
+    let mut fields = Vec::new(alloc);
+    push_metadata(alloc, &file.metadata, &mut fields)?;
+    push_uses(&file.uses, &mut fields)?;
+    push_codespaces(alloc, &file.lists.spaces, &mut fields)?;
+    push_notdef_lists(alloc, &file.lists.notdefs, &mut fields)?;
+    let mut segments = Vec::new(alloc);
+    add_cid_lists(alloc, &file.lists.cids, &mut segments)?;
+    add_text_list(alloc, &file.lists.bfs, &mut segments)?;
+    Ok(Prepared { fields, segments })
+}
+
+/// Writes the notdef declarations for codes of each length.
+fn push_notdef_lists(
+    alloc: Global,
+    lists: &ByLength<Vec<CidRange>>,
+    out: &mut Vec<u8>,
+) -> Result<(), Fault<Obstacle>>
+    ensures written { IfOk result (λ _. Appends out.old.items out.new.items (DeclareAll SegmentByAny (notdefs_declared lists.now))) }
+    ensures err { IfErr result (RefusesWith (IsNotdefListsObstacle (by_length_seen lists.now))) }
+{
+    push_notdefs(alloc, CodeLength::One, &lists.one, out)?;
+    push_notdefs(alloc, CodeLength::Two, &lists.two, out)?;
+    push_notdefs(alloc, CodeLength::Three, &lists.three, out)?;
+    push_notdefs(alloc, CodeLength::Four, &lists.four, out)?;
+    Ok(())
+}
+
+/// Adds segments of the CIDs of codes of each length.
+fn add_cid_lists(
+    alloc: Global,
+    lists: &ByLength<Vec<CidRange>>,
+    segments: &mut Vec<Segment>,
+) -> Result<(), Fault<Obstacle>>
+    ensures added { IfOk result (λ _. AddsCidLists lists.now segments.old.items segments.new.items) }
+    ensures err { IfErr result (RefusesWith (IsCidListsObstacle (by_length_seen lists.now))) }
+{
+    add_cid_list(alloc, CodeLength::One, &lists.one, segments)?;
+    add_cid_list(alloc, CodeLength::Two, &lists.two, segments)?;
+    add_cid_list(alloc, CodeLength::Three, &lists.three, segments)?;
+    add_cid_list(alloc, CodeLength::Four, &lists.four, segments)?;
+    Ok(())
+}
+
+impl Prepared {
+    /// The file, with its numbers spelled by these tables.
+    pub fn write(&self, alloc: Global, tables: &Encoders) -> Result<Vec<u8>, Fault<Obstacle>>
+        ensures framed { IfOk result (λ bytes. IsFramedFile bytes.items) }
+        ensures written { IfOk result (λ bytes. (file : Said) → IsPrepared file self.now
+            → IsWritten (encoders_seen tables.now) file bytes.items) }
+        ensures err { IfErr result (RefusesWith (IsSegmentsObstacle (encoders_seen tables.now) self.now.segments.items)) }
+    {
+        let mut body = Vec::from_slice(alloc, &self.fields)?;
+        push_segments(alloc, tables, &self.segments, &mut body)?;
+        let mut bytes = Vec::new(alloc);
+        push_framed(&mut bytes, HEAD, &body)?;
+        Ok(bytes)
+    }
+}

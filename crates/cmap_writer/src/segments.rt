@@ -1,0 +1,67 @@
+//! Segments of CIDs and of texts, before it is known how their numbers are spelled.
+
+ghost use Rattle.std.specs.Prelude.{IfErr, IfOk, List, map};
+ghost use Rattle.cmap_files.specs.Files.{Declaration};
+ghost use Rattle.cmap_files.specs.Outcomes.{RefusesWith};
+ghost use Rattle.cmap_binary.specs.BinaryFiles.{SegmentAt, declares};
+ghost use Rattle.cmap_writer.specs.EncodersSeen.{encoders_seen};
+ghost use Rattle.cmap_writer.specs.Obstacles.{IsSegmentObstacle, IsSegmentsObstacle};
+ghost use Rattle.cmap_writer.specs.Segments.{DeclareEach, IsPayloadOf};
+ghost use Rattle.cmap_writer.specs.Written.{Appends, WritesAll};
+
+use crate::bytes::push_number;
+use crate::columns::{Encoders, Shape, push_columns};
+use crate::obstacle::Obstacle;
+use crate::pieces::push_segment;
+use cmap_files::fault::Fault;
+use std::alloc::Global;
+
+/// A segment of entries: its type, the numbers that its columns spell, and what follows the columns.
+#[derive(Drop)]
+pub struct Segment {
+    pub(crate) number: u8,
+    pub(crate) shape: Shape,
+    /// How many codes each entry leaves out after the one before.
+    pub deltas: Vec<u32>,
+    /// How many codes more than two each range has; nothing of single codes.
+    pub counts: Vec<u32>,
+    /// The CIDs or the texts of the entries, as they are written.
+    pub(crate) values: Vec<u8>,
+}
+
+/// Writes segments, in order.
+pub(crate) fn push_segments(
+    alloc: Global,
+    tables: &Encoders,
+    segments: &[Segment],
+    out: &mut Vec<u8>,
+) -> Result<(), Fault<Obstacle>>
+    ensures written { IfOk result (λ _. (parts : List (List Declaration)) → DeclareEach segments.now parts
+        → Appends out.old.items out.new.items (WritesAll (SegmentAt (encoders_seen tables.now)) (map declares parts))) }
+    ensures err { IfErr result (RefusesWith (IsSegmentsObstacle (encoders_seen tables.now) segments.now)) }
+{
+    for segment in segments {
+        let payload = payload_of(alloc, tables, segment)?;
+        push_segment(out, segment.number, &payload)?;
+    }
+    Ok(())
+}
+
+/// The payload of a segment.
+fn payload_of(
+    alloc: Global,
+    tables: &Encoders,
+    segment: &Segment,
+) -> Result<Vec<u8>, Fault<Obstacle>>
+    ensures written { IfOk result (λ payload. IsPayloadOf (encoders_seen tables.now) segment.now payload.items) }
+    ensures err { IfErr result (RefusesWith (IsSegmentObstacle (encoders_seen tables.now) segment.now)) }
+{
+    let Ok(count) = u16::try_from(segment.deltas.len()) else {
+        return Err(Fault::Refused(Obstacle::TooLong));
+    };
+    let mut payload = Vec::new(alloc);
+    push_number(&mut payload, u32::from(count), 2)?;
+    push_columns(alloc, tables, segment, &mut payload)?;
+    payload.extend_from_slice(&segment.values)?;
+    Ok(payload)
+}

@@ -1,0 +1,51 @@
+//! Ranges in pieces that a segment can hold.
+
+ghost use Rattle.std.specs.Prelude.{All, IfOk};
+ghost use Rattle.cmap_files.specs.DeclarationsSeen.{cid_entry_seen, entries_seen};
+ghost use Rattle.cmap_layers.specs.Lookups.{cid_at, cid_span};
+ghost use Rattle.cmap_writer.specs.Pieces.{ArePieces, CanBeSplit, IsShort, PushesPieces};
+
+use cmap_files::declarations::CidRange;
+use cmap_runs::runs::Range;
+use std::alloc::{AllocError, Global};
+
+/// How many codes the last one of a short range may be after its first.
+pub(crate) const MOST_AFTER: u32 = 256;
+
+/// The same ranges, in pieces of 1 to 257 codes.
+pub(crate) fn split_cids(alloc: Global, ranges: &[CidRange]) -> Result<Vec<CidRange>, AllocError>
+    requires { All CanBeSplit (entries_seen ranges.now) }
+    ensures { IfOk result (λ pieces. ArePieces cid_span cid_at IsShort (entries_seen ranges.now) (entries_seen pieces.items)) }
+{
+    let mut pieces = Vec::new(alloc);
+    for range in ranges {
+        push_cid_pieces(&mut pieces, range)?;
+    }
+    Ok(pieces)
+}
+
+/// Adds the pieces of a range.
+fn push_cid_pieces(pieces: &mut Vec<CidRange>, entry: &CidRange) -> Result<(), AllocError>
+    requires { CanBeSplit (cid_entry_seen entry.now) }
+    ensures { IfOk result (λ _. PushesPieces cid_span cid_at IsShort (cid_entry_seen entry.now) (entries_seen pieces.old.items) (entries_seen pieces.new.items)) }
+{
+    let end = entry.range.end;
+    let mut start = entry.range.start;
+    let mut cid = entry.cid;
+    while end - start > MOST_AFTER {
+        pieces.push(CidRange {
+            range: Range {
+                start,
+                end: start + (MOST_AFTER - 1),
+            },
+            cid,
+        })?;
+        start += MOST_AFTER;
+        cid += MOST_AFTER;
+    }
+    pieces.push(CidRange {
+        range: Range { start, end },
+        cid,
+    })?;
+    Ok(())
+}

@@ -1,0 +1,144 @@
+//! Which codes the declarations of a list decide to have texts: ranges that lie apart, in pieces that a
+//! segment can hold.
+
+ghost use Rattle.std.specs.Prelude.{◌≡◌, ◌-◌, ◌<◌, ◌≤◌, ◌^◌, [], ◌∷◌, ◌++◌, All, IfErr, IfOk, map};
+ghost use Rattle.cmap_files.specs.DeclarationsSeen.{bf_entry_seen};
+ghost use Rattle.cmap_files.specs.Outcomes.{RefusesWith};
+ghost use Rattle.cmap_files.specs.UnitsSeen.{units_seen};
+ghost use Rattle.cmap_layers.specs.Lookups.{bf_at, bf_span};
+ghost use Rattle.cmap_writer.specs.Obstacles.{IsTextObstacle};
+ghost use Rattle.cmap_writer.specs.Pieces.{ArePieces, CanBeSplitText, IsShortText, PushesPieces, SayTheSame};
+ghost use Rattle.cmap_writer.specs.TextParts.{IsDecidedText, IsPartOf, IsShifted};
+
+use crate::decided::last_code;
+use crate::obstacle::Obstacle;
+use crate::split::MOST_AFTER;
+use cmap_files::declarations::BfRange;
+use cmap_files::fault::Fault;
+use cmap_files::units::Units;
+use cmap_runs::runs::{Looks, Range, Table};
+use std::alloc::{AllocError, Global};
+
+/// How many codes the last one of a range of texts may be after its first.
+const MOST_TEXTS_AFTER: u32 = 65535;
+
+/// The ranges of codes for which these declarations decide a text, in order, each with the units of its
+/// first code; without units where no code of the range has a text.
+pub(crate) fn decided_texts(
+    alloc: Global,
+    list: &[BfRange],
+) -> Result<Vec<BfRange>, Fault<Obstacle>>
+    ensures same { IfOk result (λ ranges. SayTheSame bf_span bf_at (map bf_entry_seen list.now) (map bf_entry_seen ranges.items)) }
+    ensures small { IfOk result (λ ranges. All IsDecidedText (map bf_entry_seen ranges.items)) }
+    ensures parts { IfOk result (λ ranges. All (IsPartOf (map bf_entry_seen list.now)) (map bf_entry_seen ranges.items)) }
+    ensures err { IfErr result (RefusesWith (IsTextObstacle (map bf_entry_seen list.now))) }
+{
+    let table = Table::build(alloc, copy_of_texts(alloc, list)?)?;
+    let mut looks = Looks::new();
+    let mut ranges = Vec::new(alloc);
+    for i in 0..table.run_count() {
+        let (start, end, index) = table.run(i, &mut looks);
+        let range = Range { start, end };
+        if end - start > MOST_TEXTS_AFTER {
+            return Err(Fault::Refused(Obstacle::Text(range)));
+        }
+        let part = part_of_text(alloc, table.decl(index, &mut looks), range)?;
+        ranges.push(part)?;
+    }
+    Ok(ranges)
+}
+
+/// A copy of a list.
+fn copy_of_texts(alloc: Global, list: &[BfRange]) -> Result<Vec<BfRange>, AllocError>
+    ensures same { IfOk result (λ copy. map bf_entry_seen copy.items ≡ map bf_entry_seen list.now) }
+    ensures small { IfOk result (λ copy. All (λ r. r.range.end < 2 ^ 32) copy.items) }
+{
+    let mut copy = Vec::with_capacity(alloc, list.len())?;
+    for entry in list {
+        copy.push(copy_of_text(alloc, entry)?)?;
+    }
+    Ok(copy)
+}
+
+/// A copy of a declaration.
+fn copy_of_text(alloc: Global, entry: &BfRange) -> Result<BfRange, AllocError>
+    ensures same { IfOk result (λ copy. bf_entry_seen copy ≡ bf_entry_seen entry.now) }
+    ensures small { IfOk result (λ copy. copy.range.end < 2 ^ 32) }
+{
+    let range = Range {
+        start: entry.range.start,
+        end: last_code(&entry.range),
+    };
+    let units = entry.units.clone(alloc)?;
+    Ok(BfRange { range, units })
+}
+
+/// The part of a declaration for these codes.
+fn part_of_text(alloc: Global, declaration: &BfRange, range: Range) -> Result<BfRange, AllocError>
+    requires { declaration.now.range.start ≤ range.start }
+    ensures { IfOk result (λ part. (part.range ≡ range)
+        × IsShifted (units_seen declaration.now.units) (range.start - declaration.now.range.start) (units_seen part.units)) }
+{
+    let offset = range.start - declaration.range.start;
+    let units = shifted(alloc, &declaration.units, offset)?;
+    Ok(BfRange { range, units })
+}
+
+/// The units with the offset added to the last one; none where there is no unit, or the sum isn't one.
+fn shifted(alloc: Global, units: &Units, offset: u32) -> Result<Units, AllocError>
+    ensures { IfOk result (λ made. IsShifted (units_seen units.now) offset (units_seen made)) }
+{
+    let [front @ .., last] = units.as_slice() else {
+        return Ok(Units::Empty);
+    };
+    match u16::try_from(u64::from(*last) + u64::from(offset)) {
+        Ok(raised) => with_last(alloc, front, raised),
+        Err(_) => Ok(Units::Empty),
+    }
+}
+
+/// The units of `front`, and a last one.
+fn with_last(alloc: Global, front: &[u16], last: u16) -> Result<Units, AllocError>
+    ensures is { IfOk result (λ made. units_seen made ≡ front.now ++ last ∷ []) }
+    ensures small { IfOk result (λ made. All (λ u. u < 2 ^ 16) (units_seen made)) }
+{
+    let mut units = Vec::with_capacity(alloc, front.len() + 1)?;
+    units.extend_from_slice(front)?;
+    units.push(last)?;
+    Units::from_slice(alloc, &units)
+}
+
+/// The same ranges, in pieces of 1 to 257 codes.
+pub(crate) fn split_texts(alloc: Global, ranges: &[BfRange]) -> Result<Vec<BfRange>, AllocError>
+    requires { All CanBeSplitText (map bf_entry_seen ranges.now) }
+    ensures { IfOk result (λ pieces. ArePieces bf_span bf_at IsShortText (map bf_entry_seen ranges.now) (map bf_entry_seen pieces.items)) }
+{
+    let mut pieces = Vec::new(alloc);
+    for range in ranges {
+        push_text_pieces(alloc, &mut pieces, range)?;
+    }
+    Ok(pieces)
+}
+
+/// Adds the pieces of a range.
+fn push_text_pieces(
+    alloc: Global,
+    pieces: &mut Vec<BfRange>,
+    entry: &BfRange,
+) -> Result<(), AllocError>
+    requires { CanBeSplitText (bf_entry_seen entry.now) }
+    ensures { IfOk result (λ _. PushesPieces bf_span bf_at IsShortText (bf_entry_seen entry.now) (map bf_entry_seen pieces.old.items) (map bf_entry_seen pieces.new.items)) }
+{
+    let end = entry.range.end;
+    let mut start = entry.range.start;
+    while end - start > MOST_AFTER {
+        let range = Range {
+            start,
+            end: start + (MOST_AFTER - 1),
+        };
+        pieces.push(part_of_text(alloc, entry, range)?)?;
+        start += MOST_AFTER;
+    }
+    pieces.push(part_of_text(alloc, entry, Range { start, end })?)?;
+    Ok(())
+}

@@ -1,0 +1,191 @@
+//! Segments of codes with their texts.
+
+ghost use Rattle.std.specs.Prelude.{◌≡◌, ◌≤◌, ◌<◌, ◌^◌, ◌++◌, All, IfErr, IfOk, IsTrue, length, map, take};
+ghost use Rattle.cmap_files.specs.DeclarationsSeen.{bf_entry_seen};
+ghost use Rattle.cmap_files.specs.Files.{Declaration};
+ghost use Rattle.cmap_files.specs.Outcomes.{RefusesWith};
+ghost use Rattle.cmap_writer.specs.EncodersSeen.{shape_seen};
+ghost use Rattle.cmap_writer.specs.Obstacles.{IsTextObstacle};
+ghost use Rattle.cmap_writer.specs.Pieces.{IsShortText};
+ghost use Rattle.cmap_writer.specs.PreparedFiles.{AddsSameTexts};
+ghost use Rattle.cmap_writer.specs.Segments.{AddsSegments, DeclaresAll};
+ghost use Rattle.cmap_writer.specs.Texts.{AreHeldTexts, BeginsWithForm, CanFix, FollowsText, HasForm, IsLongTextIn, IsNumberOf, destination, destinations};
+
+use crate::bytes::push_u16s;
+use crate::columns::{Shape, counts, deltas};
+use crate::obstacle::Obstacle;
+use crate::segments::Segment;
+use crate::text_parts::{decided_texts, split_texts};
+use cmap_files::declarations::BfRange;
+use cmap_files::fault::Fault;
+use std::alloc::{AllocError, Global};
+
+/// The most entries of a segment.
+const MOST: usize = 65535;
+
+/// The most units of a text.
+const MOST_UNITS: usize = 255;
+
+/// Adds segments by which each code has the text that it has by this list.
+pub(crate) fn add_text_list(
+    alloc: Global,
+    list: &[BfRange],
+    segments: &mut Vec<Segment>,
+) -> Result<(), Fault<Obstacle>>
+    ensures added { IfOk result (λ _. AddsSameTexts (map bf_entry_seen list.now) segments.old.items segments.new.items) }
+    ensures err { IfErr result (RefusesWith (IsTextObstacle (map bf_entry_seen list.now))) }
+{
+    let ranges = decided_texts(alloc, list)?;
+    check_units(&ranges)?;
+    let mut pieces = split_texts(alloc, &ranges)?;
+    pieces.sort_by_key(|piece| TextForm::of(piece).number())?;
+    add_texts(alloc, &pieces, segments)?;
+    Ok(())
+}
+
+/// Checks that no text has more than 255 units.
+fn check_units(ranges: &[BfRange]) -> Result<(), Fault<Obstacle>>
+    ensures counted { IfOk result (λ _. All (λ e. length e.units < 2 ^ 8) (map bf_entry_seen ranges.now)) }
+    ensures err { IfErr result (IsLongTextIn ranges.now) }
+{
+    for range in ranges {
+        if range.units.as_slice().len() > MOST_UNITS {
+            return Err(Fault::Refused(Obstacle::Text(range.range)));
+        }
+    }
+    Ok(())
+}
+
+/// How the entries of a segment of texts are written.
+#[derive(Clone, Copy)]
+struct TextForm {
+    shape: Shape,
+    /// How many units each text has; `None` where it is said before each.
+    units: Option<u8>,
+}
+
+impl TextForm {
+    /// The form in which an entry takes the fewest bytes.
+    fn of(entry: &BfRange) -> TextForm
+        ensures fixes { CanFix (shape_seen result.shape) result.units }
+        ensures form { HasForm (shape_seen result.shape) result.units entry.now }
+    {
+        let shape = Shape::of(entry.range);
+        let units = match (shape, entry.units.as_slice().len()) {
+            (_, 1) => Some(1),
+            (_, 2) => Some(2),
+            (Shape::Singles, 3) => Some(3),
+            (Shape::Singles, 4) => Some(4),
+            _ => None,
+        };
+        TextForm { shape, units }
+    }
+
+    /// The type of the segment.
+    fn number(self) -> u8
+        requires { CanFix (shape_seen self.shape) self.units }
+        ensures { IsNumberOf (shape_seen self.shape) self.units result }
+    {
+        match (self.shape, self.units) {
+            (Shape::Ranges, Some(units)) => 0x14 + units,
+            (Shape::Singles, Some(units)) => 0x10 + units,
+            (Shape::Ranges, None) => 0x0F,
+            (Shape::Singles, None) => 0x10,
+        }
+    }
+}
+
+/// Adds segments that declare these pieces of ranges, in order.
+fn add_texts(
+    alloc: Global,
+    pieces: &[BfRange],
+    segments: &mut Vec<Segment>,
+) -> Result<(), AllocError>
+    requires { All IsShortText (map bf_entry_seen pieces.now) }
+    ensures { IfOk result (λ _. AddsSegments segments.old.items segments.new.items
+        (map Declaration.bf (map bf_entry_seen pieces.now))) }
+{
+    let mut left = pieces;
+    while !left.is_empty() {
+        let form = first_form(left);
+        let (here, later) = left.split_at(segment_len(form, left));
+        segments.push(text_segment(alloc, form, here)?)?;
+        left = later;
+    }
+    Ok(())
+}
+
+/// The form of the next entry.
+fn first_form(entries: &[BfRange]) -> TextForm
+    requires { 0 < length entries.now }
+    ensures fixes { CanFix (shape_seen result.shape) result.units }
+    ensures first { BeginsWithForm (shape_seen result.shape) result.units entries.now }
+{
+    TextForm::of(&entries[0])
+}
+
+/// How many entries the next segment holds: all have one form, and each comes after the one before.
+fn segment_len(form: TextForm, entries: &[BfRange]) -> usize
+    requires fixes { CanFix (shape_seen form.shape) form.units }
+    requires first { BeginsWithForm (shape_seen form.shape) form.units entries.now }
+    requires short { All IsShortText (map bf_entry_seen entries.now) }
+    ensures some { 1 ≤ result }
+    ensures within { result ≤ length entries.now }
+    ensures held { AreHeldTexts (shape_seen form.shape) form.units (take result entries.now) }
+{
+    let mut count = 1;
+    while count < entries.len()
+        && count < MOST
+        && follows(form, &entries[count - 1], &entries[count])
+    {
+        count += 1;
+    }
+    count
+}
+
+/// Whether an entry can follow another one in a segment of this form.
+fn follows(form: TextForm, before: &BfRange, entry: &BfRange) -> bool
+    requires { CanFix (shape_seen form.shape) form.units }
+    ensures { IsTrue result → FollowsText (shape_seen form.shape) form.units before.now entry.now }
+{
+    before.range.end < entry.range.start && TextForm::of(entry).number() == form.number()
+}
+
+/// A segment of these codes, with their texts.
+fn text_segment(alloc: Global, form: TextForm, entries: &[BfRange]) -> Result<Segment, AllocError>
+    requires fixes { CanFix (shape_seen form.shape) form.units }
+    requires held { AreHeldTexts (shape_seen form.shape) form.units entries.now }
+    ensures { IfOk result (λ segment. DeclaresAll segment (map Declaration.bf (map bf_entry_seen entries.now))) }
+{
+    let mut values = Vec::new(alloc);
+    push_texts(&mut values, form.units, entries)?;
+    Ok(Segment {
+        number: form.number(),
+        shape: form.shape,
+        deltas: deltas(alloc, entries)?,
+        counts: counts(alloc, form.shape, entries)?,
+        values,
+    })
+}
+
+/// Writes the texts of entries, of which each has as many units as are fixed.
+fn push_texts(out: &mut Vec<u8>, fixed: Option<u8>, entries: &[BfRange]) -> Result<(), AllocError>
+    requires { All IsShortText (map bf_entry_seen entries.now) }
+    ensures { IfOk result (λ _. out.new.items ≡ out.old.items ++ destinations fixed entries.now) }
+{
+    for entry in entries {
+        push_text(out, fixed, entry.units.as_slice())?;
+    }
+    Ok(())
+}
+
+/// Writes the units of a text, after their number where it isn't fixed.
+fn push_text(out: &mut Vec<u8>, fixed: Option<u8>, units: &[u16]) -> Result<(), AllocError>
+    requires { length units.now < 2 ^ 8 }
+    ensures { IfOk result (λ _. out.new.items ≡ out.old.items ++ destination fixed units.now) }
+{
+    if fixed.is_none() {
+        out.push(units.len() as u8)?;
+    }
+    push_u16s(out, units)
+}
