@@ -1,12 +1,14 @@
 -- The runs that begin in a block of codes.
-use Rattle.std.proofs.Common.{◌≡◌, ℕ, zero, suc, ◌+◌, ◌-◌, ◌*◌, ◌/◌, ◌%◌, ◌^◌, ◌<◌, ◌≤◌, List, length, get_or, sym, ap, ◌∙◌, subst, inl, inr, bit_or, arith}
+use Rattle.std.proofs.Common.{◌≡◌, ℕ, zero, suc, ◌+◌, ◌-◌, ◌*◌, ◌/◌, ◌%◌, ◌^◌, ◌<◌, ◌≤◌, List, [], ◌∷◌, ◌++◌, length, get_or, sym, ap, ◌∙◌, subst, inl, inr, bit_or, arith}
 use Rattle.std.specs.Prelude.{count_ones}
 use Rattle.std.specs.List.{AllWithin}
 use Rattle.std.proofs.lemmas.Bool.{cases_lt}
+use Rattle.std.proofs.lemmas.List.{get_or_append_left, get_or_push, length-append}
 use Rattle.std.proofs.lemmas.Nat.{one_shl}
-use Rattle.cmap_runs.specs.Blocks.{HaveBegun, MayHold}
+use Rattle.cmap_runs.specs.Blocks.{HaveBegun, MayHold, begun_by}
 use Rattle.cmap_runs.specs.Order.{IsInOrder}
 use Rattle.cmap_runs.specs.Ranges.{Run}
+use Rattle.cmap_runs.specs.declared.runs.blocks.Block.{Block}
 use Rattle.cmap_runs.proofs.StartBits.{AreBefore, no_starts, no_starts_by, start_added, start_before, start_by, start_later}
 
 low_at_least : (runs : List Run) → IsInOrder runs → (k : ℕ) (d : Run) → k < length runs → k ≤ (get_or runs k d).low
@@ -120,3 +122,18 @@ may_hold runs code begun have = record {
   before = have.before;
   after = λ k d le below held. omega (arith, have.after k d le below, held.0);
 }
+
+-- one more block, whose codes come after those of the others
+pub more_blocks : (runs : List Run) (list new : List Block) (block : Block) (code : ℕ) → new ≡ list ++ block ∷ [] → code ≡ 32 * length list
+    → ((i place : ℕ) (d : Block) → i < length list → place < 32 → MayHold runs (32 * i + place) (begun_by (get_or list i d) place))
+    → ((place : ℕ) → place < 32 → MayHold runs (code + 32 - 32 + place) (begun_by block place))
+    → (i place : ℕ) (d : Block) → i < length new → place < 32 → MayHold runs (32 * i + place) (begun_by (get_or new i d) place)
+more_blocks runs list new block code is code_is old here i place d lt within =
+    elim (cases_lt i (length list)) [
+      | inl before ↦
+          subst (λ b. MayHold runs (32 * i + place) (begun_by b place)) (sym (ap (λ l. get_or l i d) is ∙ get_or_append_left list (block ∷ []) d i before)) (old i place d before within)
+      | inr from ↦
+          let last : length list ≡ i = omega (arith, from, lt, ap length is, length-append list (block ∷ [])) in
+          let first : code + 32 - 32 + place ≡ 32 * i + place = omega (arith, code_is, ap (λ n. 32 * n) last) in
+          subst (λ n. MayHold runs n (begun_by (get_or new i d) place)) first (subst (λ b. MayHold runs (code + 32 - 32 + place) (begun_by b place)) (sym (ap (λ l. get_or l i d) is ∙ get_or_push list block d i last)) (here place within))
+    ]
