@@ -1,11 +1,12 @@
 //! CMap files over other files, and bundles.
 
-use cmap_rows::escapes::{push_escaped, unescaped};
-use cmap_rows::row::Row;
-use cmap_rows::row_error::RowError;
-use cmap_rows::spelled::number;
-use hayro_cmap::bcmap::{Bundle, OwnedBundle, load_embedded};
-use hayro_cmap::{CMap, CMapName, Fault, NamedFiles, ParseError, Refusal, Source};
+use crate::bytes::{asked, number, unescaped};
+use crate::line::Line;
+use crate::maps;
+use crate::row::Row;
+use crate::row_error::RowError;
+use hayro_cmap::bcmap::{Bundle, OwnedBundle};
+use hayro_cmap::{CMap, Cause, Fault, NamedFiles, Refusal, Source};
 use std::alloc::{AllocError, Global};
 use std::cell::Cell;
 
@@ -14,7 +15,7 @@ type NamedBytes<'a> = (&'a [u8], &'a [u8]);
 
 /// What comes of a file.
 #[derive(Drop)]
-pub enum Outcome {
+enum Outcome {
     /// It is accepted.
     Map(CMap),
     /// It is refused.
@@ -27,7 +28,7 @@ pub enum Outcome {
 
 impl Outcome {
     /// The words for it.
-    pub fn words(&self) -> &'static str {
+    fn words(&self) -> &'static str {
         match self {
             Outcome::Map(_) => "accepted",
             Outcome::Refused => "refused",
@@ -39,7 +40,7 @@ impl Outcome {
 
 /// What a row's file is read over.
 #[derive(Drop)]
-pub struct Around<'r> {
+struct Around<'r> {
     /// Files by their names. Where there are any, those of the bundle have none.
     bases: Vec<NamedBytes<'r>>,
     /// The bundle; `None` also where it is invalid.
@@ -49,28 +50,63 @@ pub struct Around<'r> {
     budget: Option<u64>,
 }
 
+/// What comes of a file over what stands beside a row's input, in a word or two.
+pub fn outcome_in_words(
+    alloc: Global,
+    row: &Row<'_>,
+    file: &[u8],
+) -> Result<&'static str, AllocError> {
+    let around = Around::new(alloc, row)?;
+    around.words(alloc, file)
+}
+
+/// Adds what a word asks of the file of a row.
+pub fn push_answer(
+    alloc: Global,
+    row: &Row<'_>,
+    word: &str,
+    rest: &str,
+    line: &mut Line,
+) -> Result<(), RowError> {
+    let around = Around::new(alloc, row)?;
+    around.push_answer(alloc, row.input(), word, rest, line)
+}
+
 impl<'r> Around<'r> {
     /// What stands beside the input of a row.
-    pub fn new(alloc: Global, row: &'r Row<'_>) -> Result<Around<'r>, AllocError> {
+    fn new(alloc: Global, row: &'r Row<'_>) -> Result<Around<'r>, AllocError> {
         let bases = bases_of(alloc, row)?;
         let bundle = bundle_of(alloc, row)?;
         Ok(Around {
             bases,
-            is_no_bundle: row.bundle.is_some() && bundle.is_none(),
+            is_no_bundle: row.bundle().is_some() && bundle.is_none(),
             bundle,
             budget: row.budget,
         })
     }
 
-    /// What comes of a file, in a word or two.
-    pub fn words(&self, alloc: Global, file: &[u8]) -> Result<&'static str, AllocError> {
-        let outcome = self.read(alloc, file)?;
-        Ok(outcome.words())
+    fn push_answer(
+        &self,
+        alloc: Global,
+        file: &[u8],
+        word: &str,
+        rest: &str,
+        line: &mut Line,
+    ) -> Result<(), RowError> {
+        match word {
+            "asked" => self.push_asked(alloc, file, line)?,
+            "cause" => self.push_cause(alloc, file, line)?,
+            "uses" => self.push_uses(alloc, file, line)?,
+            "least" => return self.push_least_budget(alloc, file, rest, line),
+            _ => return self.push_of_map(alloc, file, word, rest, line),
+        }
+        Ok(())
     }
 
-    /// What comes of a file.
-    pub fn read(&self, alloc: Global, file: &[u8]) -> Result<Outcome, AllocError> {
-        self.read_over(alloc, self.budget, file, &self.files())
+    /// What comes of a file, in a word or two.
+    fn words(&self, alloc: Global, file: &[u8]) -> Result<&'static str, AllocError> {
+        let outcome = self.read(alloc, self.budget, file, &self.files())?;
+        Ok(outcome.words())
     }
 
     /// The files that are read by their names.
@@ -89,9 +125,8 @@ impl<'r> Around<'r> {
         }
     }
 
-    /// What comes of a file over files by their names: by `CMap::parse_within`, or without a budget by
-    /// `CMap::parse`.
-    fn read_over(
+    /// What comes of a file over files by their names.
+    fn read(
         &self,
         alloc: Global,
         budget: Option<u64>,
@@ -101,112 +136,108 @@ impl<'r> Around<'r> {
         if self.is_no_bundle {
             return Ok(Outcome::NoBundle);
         }
-        let bundle = self.bundle.as_ref();
-        let get_cmap = |name: CMapName<'_>| files.file(name.to_bytes());
-        match budget {
-            Some(_) => outcome_of(CMap::parse_within(alloc, budget, file, bundle, &get_cmap)),
-            None => match CMap::parse(alloc, file, bundle, &get_cmap)? {
-                Some(map) => Ok(Outcome::Map(map)),
-                None => Ok(Outcome::Refused),
-            },
-        }
-    }
-
-    /// Adds how many files are asked for.
-    pub fn push_asked(
-        &self,
-        alloc: Global,
-        file: &[u8],
-        line: &mut String,
-    ) -> Result<(), AllocError> {
-        let files = self.files();
-        let _outcome = self.read_over(alloc, self.budget, file, &files)?;
-        write!(line, " {}", files.asked.get())
-    }
-
-    /// Adds the names that lead from a file to the one at fault, and what is wrong with it. The files
-    /// of a bundle have no names here.
-    pub fn push_cause(
-        &self,
-        alloc: Global,
-        file: &[u8],
-        line: &mut String,
-    ) -> Result<(), AllocError> {
-        let files = NamedFiles::alone(self.bases.as_slice());
-        match CMap::parse_from(alloc, self.budget, file, self.bundle.as_ref(), &files) {
-            Ok(_map) => line.push_str(" none"),
-            Err(Fault::Refused(refusal)) => push_refusal(&refusal, line),
+        match CMap::parse_from(alloc, budget, file, self.bundle.as_ref(), files) {
+            Ok(map) => Ok(Outcome::Map(map)),
+            Err(Fault::Refused(refusal)) => Ok(outcome_of(refusal.cause)),
             Err(Fault::Memory) => Err(AllocError),
         }
     }
 
-    /// Adds the names of the files that a file uses. None of them is asked for.
-    pub fn push_uses(
+    /// Adds what a word asks of the map of a file.
+    fn push_of_map(
         &self,
         alloc: Global,
         file: &[u8],
-        line: &mut String,
-    ) -> Result<(), AllocError> {
-        if self.is_no_bundle {
-            return line.push_str(" no bundle");
+        word: &str,
+        rest: &str,
+        line: &mut Line,
+    ) -> Result<(), RowError> {
+        let outcome = self.read(alloc, self.budget, file, &self.files())?;
+        match &outcome {
+            Outcome::Map(map) => return maps::push_answer(alloc, map, word, rest, line),
+            _ if maps::is_question(word) => write!(line, " {}", outcome.words()),
+            _ => return Err(RowError::Wrong("an unknown word")),
         }
-        let uses = CMap::uses(alloc, file, self.bundle.as_ref())?;
-        push_names(&uses, line)
+        Ok(())
+    }
+
+    /// Adds how many files are asked for.
+    fn push_asked(&self, alloc: Global, file: &[u8], line: &mut Line) -> Result<(), AllocError> {
+        let files = self.files();
+        let _outcome = self.read(alloc, self.budget, file, &files)?;
+        write!(line, " {}", files.asked.get());
+        Ok(())
+    }
+
+    /// Adds the names that lead from a file to the one at fault, and what is wrong with it. The files
+    /// of a bundle have no names here.
+    fn push_cause(&self, alloc: Global, file: &[u8], line: &mut Line) -> Result<(), AllocError> {
+        let files = NamedFiles::alone(self.bases.as_slice());
+        match CMap::parse_from(alloc, self.budget, file, self.bundle.as_ref(), &files) {
+            Ok(_map) => line.push(" none"),
+            Err(Fault::Refused(refusal)) => push_refusal(&refusal, line),
+            Err(Fault::Memory) => return Err(AllocError),
+        }
+        Ok(())
+    }
+
+    /// Adds the names of the files that a file uses. None of them is asked for.
+    fn push_uses(&self, alloc: Global, file: &[u8], line: &mut Line) -> Result<(), AllocError> {
+        if self.is_no_bundle {
+            line.push(" no bundle");
+            return Ok(());
+        }
+        match CMap::uses(alloc, file, self.bundle.as_ref())? {
+            Some(names) if names.is_empty() => line.push(" none"),
+            Some(names) => push_names(&names, " /", line),
+            None => line.push(" refused"),
+        }
+        Ok(())
     }
 
     /// Adds the budget that a line has, if the files of a file stay within it and pass one byte less.
-    pub fn push_least_budget(
+    fn push_least_budget(
         &self,
         alloc: Global,
         file: &[u8],
         rest: &str,
-        line: &mut String,
+        line: &mut Line,
     ) -> Result<(), RowError> {
-        let digits = rest
-            .strip_prefix("budget ")
-            .ok_or(RowError::Wrong("least budget N"))?;
+        let Some(digits) = rest.strip_prefix("budget ") else {
+            return Err(RowError::Wrong("least budget N"));
+        };
         let least = number(digits)?;
-        write!(line, " budget {least}")?;
-        line.push_str(self.fault_of_least(alloc, file, least)?)?;
-        Ok(())
-    }
-
-    /// What is wrong with the least budget that a line has.
-    fn fault_of_least(
-        &self,
-        alloc: Global,
-        file: &[u8],
-        least: u64,
-    ) -> Result<&'static str, AllocError> {
+        write!(line, " budget {least}");
         if self.is_passed(alloc, file, least)? {
-            return Ok(" too small");
+            line.push(" too small");
+        } else if least > 0 && !self.is_passed(alloc, file, least.saturating_sub(1))? {
+            line.push(" too large");
         }
-        if least > 0 && !self.is_passed(alloc, file, least.saturating_sub(1))? {
-            return Ok(" too large");
-        }
-        Ok("")
+        Ok(())
     }
 
     /// Whether the files of a file pass a budget; the row's own doesn't count.
     fn is_passed(&self, alloc: Global, file: &[u8], budget: u64) -> Result<bool, AllocError> {
-        let outcome = self.read_over(alloc, Some(budget), file, &self.files())?;
+        let outcome = self.read(alloc, Some(budget), file, &self.files())?;
         Ok(matches!(outcome, Outcome::OverBudget))
     }
 }
 
 /// The bundle that stands beside a row's input.
 fn bundle_of<'r>(alloc: Global, row: &'r Row<'_>) -> Result<Option<Bundle<'r>>, AllocError> {
-    match &row.bundle {
-        Some(bundle) => Bundle::parse(alloc, &bundle.bytes),
+    match row.bundle() {
+        Some(bytes) => Bundle::parse(alloc, bytes),
         None => Ok(None),
     }
 }
 
 /// The files that a row's file may use, by their names.
 fn bases_of<'r>(alloc: Global, row: &'r Row<'_>) -> Result<Vec<NamedBytes<'r>>, AllocError> {
-    let mut bases = Vec::with_capacity(alloc, row.bases.len())?;
-    for base in &row.bases {
-        bases.push((base.name.as_bytes(), base.spelled.bytes.as_slice()))?;
+    let mut bases = Vec::new(alloc);
+    for part in &row.parts {
+        if part.word == "base" {
+            bases.push((part.name.as_bytes(), part.bytes.as_slice()))?;
+        }
     }
     Ok(bases)
 }
@@ -235,42 +266,30 @@ impl<'s> Source for CountedFiles<'s> {
     }
 }
 
-/// What a result means. Out of memory is an error.
-fn outcome_of(map: Result<Option<CMap>, ParseError>) -> Result<Outcome, AllocError> {
-    match map {
-        Ok(Some(map)) => Ok(Outcome::Map(map)),
-        Ok(None) => Ok(Outcome::Refused),
-        Err(ParseError::OverBudget) => Ok(Outcome::OverBudget),
-        Err(ParseError::Memory) => Err(AllocError),
+/// What it means that a file is refused.
+fn outcome_of(cause: Cause) -> Outcome {
+    match cause {
+        Cause::OverBudget => Outcome::OverBudget,
+        _ => Outcome::Refused,
     }
 }
 
 /// Adds the names that lead to the file at fault, and what is wrong with it.
-fn push_refusal(refusal: &Refusal<'_>, line: &mut String) -> Result<(), AllocError> {
-    for name in &refusal.names {
-        line.push(' ')?;
-        push_escaped(name, line)?;
-    }
-    write!(line, " {}", refusal.cause)
+fn push_refusal(refusal: &Refusal<'_>, line: &mut Line) {
+    push_names(&refusal.names, " ", line);
+    write!(line, " {}", refusal.cause);
 }
 
-/// Adds the names of the files that a file uses, each after a slash; a file that is refused has none.
-fn push_names(uses: &Option<Vec<&[u8]>>, line: &mut String) -> Result<(), AllocError> {
-    let Some(names) = uses else {
-        return line.push_str(" refused");
-    };
-    if names.is_empty() {
-        return line.push_str(" none");
-    }
+/// Adds the names of files, each after this text.
+fn push_names(names: &[&[u8]], before: &str, line: &mut Line) {
     for name in names {
-        line.push_str(" /")?;
-        push_escaped(name, line)?;
+        line.push(before);
+        line.push_escaped(name);
     }
-    Ok(())
 }
 
 /// Whether bytes are a bundle, also one that owns its files.
-pub fn outcome_of_bundle(alloc: Global, bytes: &[u8]) -> Result<&'static str, RowError> {
+pub fn outcome_of_bundle(alloc: Global, bytes: &[u8]) -> Result<&'static str, AllocError> {
     match (is_bundle(alloc, bytes)?, is_owned_bundle(alloc, bytes)?) {
         (true, true) => Ok("accepted"),
         (false, false) => Ok("refused"),
@@ -293,58 +312,36 @@ pub fn push_held(
     bundle: &[u8],
     word: &str,
     rest: &str,
-    line: &mut String,
+    line: &mut Line,
 ) -> Result<(), RowError> {
-    let (asked, _) = rest
-        .split_once(' ')
-        .ok_or(RowError::Wrong("holds NAME .."))?;
+    let asked = asked(rest, ' ', "holds NAME ..")?;
     if word != "holds" {
         return Err(RowError::Wrong("an unknown word"));
     }
-    write!(line, " {asked} ")?;
+    write!(line, " {asked} ");
     let name = unescaped(alloc, asked)?;
-    Ok(push_file_of(alloc, bundle, CMapName::from_bytes(&name), line)?)
+    push_file_of(alloc, bundle, &name, line)
 }
 
-fn push_file_of(
-    alloc: Global,
-    bundle: &[u8],
-    name: CMapName<'_>,
-    line: &mut String,
-) -> Result<(), AllocError> {
-    let parsed = Bundle::parse(alloc, bundle)?;
-    let file = load_embedded(parsed.as_ref(), name);
-    push_file(alloc, bundle, name, file, line)
+fn push_file_of(alloc: Global, bytes: &[u8], name: &[u8], line: &mut Line) -> Result<(), RowError> {
+    let bundle = Bundle::parse(alloc, bytes)?;
+    let owned = OwnedBundle::parse(alloc, bytes)?;
+    push_file(&bundle.as_ref(), &owned.as_ref(), name, line);
+    Ok(())
 }
 
-/// Adds the file of a name, and sees that a bundle which owns its files has the same.
 fn push_file(
-    alloc: Global,
-    bundle: &[u8],
-    name: CMapName<'_>,
-    file: Option<&[u8]>,
-    line: &mut String,
-) -> Result<(), AllocError> {
+    bundle: &Option<&Bundle<'_>>,
+    owned: &Option<&OwnedBundle>,
+    name: &[u8],
+    line: &mut Line,
+) {
+    let file = bundle.file(name);
     match file {
-        Some(file) => push_escaped(file, line)?,
-        None => line.push_str("none")?,
+        Some(file) => line.push_escaped(file),
+        None => line.push("none"),
     }
-    if is_owned(alloc, bundle, name, file)? {
-        Ok(())
-    } else {
-        line.push_str(" mismatch")
-    }
-}
-
-/// Whether a bundle that owns its files has this one under a name.
-fn is_owned(
-    alloc: Global,
-    bundle: &[u8],
-    name: CMapName<'_>,
-    file: Option<&[u8]>,
-) -> Result<bool, AllocError> {
-    match OwnedBundle::parse(alloc, bundle)? {
-        Some(owned) => Ok(owned.file(name) == file),
-        None => Ok(file.is_none()),
+    if owned.file(name) != file {
+        line.push(" mismatch");
     }
 }

@@ -1,80 +1,64 @@
 //! What a layer of a map has.
 
+use crate::bytes::{asked, number};
+use crate::line::Line;
 use crate::maps::push_name;
-use cmap_rows::row_error::RowError;
-use cmap_rows::spelled::number;
-use hayro_cmap::{ByLength, CMap, CodeLength, Codespace, Layer};
-use std::alloc::AllocError;
+use crate::row_error::RowError;
+use cmap_queries::code_lengths::LENGTHS;
+use hayro_cmap::{ByLength, CMap, Codespace, Layer};
 
 /// Adds the number that a line begins with, and what the layer of that number has.
-pub fn push_layer(map: &CMap, rest: &str, line: &mut String) -> Result<(), RowError> {
-    let (digits, _) = rest
-        .split_once(' ')
-        .ok_or(RowError::Wrong("declared LAYER .."))?;
+pub fn push_layer(map: &CMap, rest: &str, line: &mut Line) -> Result<(), RowError> {
+    let digits = asked(rest, ' ', "declared LAYER ..")?;
     let index = number(digits)? as usize;
-    write!(line, " {digits}")?;
+    write!(line, " {digits}");
     match map.layers().get(index) {
-        Some(layer) => Ok(push_declared(layer, line)?),
-        None => Ok(line.push_str(" none")?),
-    }
-}
-
-fn push_declared(layer: &Layer, line: &mut String) -> Result<(), AllocError> {
-    line.push_str(" name")?;
-    push_name(layer.metadata(), line)?;
-    let counts = layer.counts();
-    line.push_str(" cids")?;
-    push_counts(&counts.cids, line)?;
-    line.push_str(" notdefs")?;
-    push_counts(&counts.notdefs, line)?;
-    write!(line, " bfs {} codespaces", counts.bfs)?;
-    push_codespaces(layer.codespaces(), line)
-}
-
-/// Adds the counts above 0 as `1:3 2:5`.
-fn push_counts(counts: &ByLength<usize>, line: &mut String) -> Result<(), AllocError> {
-    let before = line.len();
-    push_count(counts, CodeLength::One, line)?;
-    push_count(counts, CodeLength::Two, line)?;
-    push_count(counts, CodeLength::Three, line)?;
-    push_count(counts, CodeLength::Four, line)?;
-    if line.len() == before {
-        line.push_str(" none")?;
+        Some(layer) => push_declared(layer, line),
+        None => line.push(" none"),
     }
     Ok(())
 }
 
-fn push_count(
-    counts: &ByLength<usize>,
-    len: CodeLength,
-    line: &mut String,
-) -> Result<(), AllocError> {
-    match counts.get(len) {
-        0 => Ok(()),
-        count => write!(line, " {}:{count}", len.count()),
+fn push_declared(layer: &Layer, line: &mut Line) {
+    line.push(" name");
+    push_name(layer.metadata(), line);
+    let counts = layer.counts();
+    line.push(" cids");
+    push_counts(&counts.cids, line);
+    line.push(" notdefs");
+    push_counts(&counts.notdefs, line);
+    write!(line, " bfs {} codespaces", counts.bfs);
+    push_codespaces(layer.codespaces(), line);
+}
+
+/// Adds the counts above 0 as `1:3 2:5`.
+fn push_counts(counts: &ByLength<usize>, line: &mut Line) {
+    let before = line.len();
+    for len in LENGTHS {
+        let count = *counts.get(*len);
+        if count > 0 {
+            write!(line, " {}:{count}", len.count());
+        }
+    }
+    if line.len() == before {
+        line.push(" none");
     }
 }
 
 /// Adds codespace ranges as `1:00-80 2:8140-9FFC`.
-fn push_codespaces(spaces: &[Codespace], line: &mut String) -> Result<(), AllocError> {
+fn push_codespaces(spaces: &[Codespace], line: &mut Line) {
     if spaces.is_empty() {
-        return line.push_str(" none");
+        line.push(" none");
     }
     for space in spaces {
-        write!(line, " {}:", space.len.count())?;
-        push_code(space.len, space.low, line)?;
-        line.push('-')?;
-        push_code(space.len, space.high, line)?;
+        push_codespace(space, line);
     }
-    Ok(())
 }
 
-/// Adds a code in two digits for each of its bytes.
-fn push_code(len: CodeLength, code: u32, line: &mut String) -> Result<(), AllocError> {
-    match len {
-        CodeLength::One => write!(line, "{code:02X}"),
-        CodeLength::Two => write!(line, "{code:04X}"),
-        CodeLength::Three => write!(line, "{code:06X}"),
-        CodeLength::Four => write!(line, "{code:08X}"),
-    }
+fn push_codespace(space: &Codespace, line: &mut Line) {
+    let len = space.len.count();
+    let digits = usize::from(len).saturating_mul(2);
+    let low = space.low;
+    let high = space.high;
+    write!(line, " {len}:{low:0digits$X}-{high:0digits$X}");
 }

@@ -1,60 +1,79 @@
 //! Whole runs of `cmap_query`, over an input and writers in memory.
 
+use crate::bytes::unescaped;
+use crate::line::Line;
+use crate::row_error::RowError;
 use cmap_queries::answers::run;
-use cmap_rows::escapes::unescaped;
-use cmap_rows::row_error::RowError;
-use std::alloc::{AllocError, Global};
+use std::alloc::Global;
 
 /// Adds how a run on these arguments and this input ends, and the lines that it writes.
 pub fn push_answer(
     alloc: Global,
-    arguments: &str,
+    words: &str,
     input: &[u8],
     word: &str,
-    line: &mut String,
+    line: &mut Line,
 ) -> Result<(), RowError> {
     if word != "ends" {
         return Err(RowError::Wrong("an unknown word"));
     }
-    let arguments = arguments_of(alloc, arguments)?;
-    let mut rest = input;
-    let mut out = Vec::new(alloc);
-    let mut err = Vec::new(alloc);
-    let status = run(alloc, &arguments, &mut rest, &mut out, &mut err);
-    write!(line, " {status}")?;
-    push_lines(out, line)?;
-    push_lines(err, line)?;
-    if !input.is_empty() && rest.len() == input.len() {
-        line.push_str(" unread")?;
-    }
-    Ok(())
+    let mut arguments = Vec::new(alloc);
+    push_arguments(alloc, words, &mut arguments)?;
+    push_run(alloc, &arguments, input, line)
 }
 
-/// The arguments of a line, of which `""` is the empty one.
-fn arguments_of(alloc: Global, line: &str) -> Result<Vec<String>, RowError> {
-    let mut arguments = Vec::new(alloc);
+/// Adds the arguments of a line, of which `""` is the empty one.
+fn push_arguments(alloc: Global, line: &str, arguments: &mut Vec<String>) -> Result<(), RowError> {
     for word in line.split_whitespace() {
         let bytes = unescaped(alloc, if word == "\"\"" { "" } else { word })?;
         arguments.push(text_of(bytes)?)?;
     }
-    Ok(arguments)
+    Ok(())
+}
+
+fn push_run(
+    alloc: Global,
+    arguments: &[String],
+    input: &[u8],
+    line: &mut Line,
+) -> Result<(), RowError> {
+    let mut rest = input;
+    let mut out = Vec::new(alloc);
+    let mut err = Vec::new(alloc);
+    let status = run(alloc, arguments, &mut rest, &mut out, &mut err);
+    let is_unread = !input.is_empty() && rest.len() == input.len();
+    write!(line, " {status}");
+    push_written(&out, &err, is_unread, line)
+}
+
+/// Adds the lines of both outputs, and whether no input was read.
+fn push_written(out: &[u8], err: &[u8], is_unread: bool, line: &mut Line) -> Result<(), RowError> {
+    push_lines(out, line)?;
+    push_lines(err, line)?;
+    if is_unread {
+        line.push(" unread");
+    }
+    Ok(())
 }
 
 fn text_of(bytes: Vec<u8>) -> Result<String, RowError> {
-    String::from_utf8(bytes)
-        .ok()
-        .ok_or(RowError::Wrong("not UTF-8"))
+    match String::from_utf8(bytes) {
+        Ok(text) => Ok(text),
+        Err(_) => Err(RowError::Wrong("not UTF-8")),
+    }
 }
 
 /// Adds lines, parted by ` / `, and `cut` where the last one has no end.
-fn push_lines(bytes: Vec<u8>, line: &mut String) -> Result<(), RowError> {
-    let text = text_of(bytes)?;
+fn push_lines(bytes: &[u8], line: &mut Line) -> Result<(), RowError> {
+    let Ok(text) = str::from_utf8(bytes) else {
+        return Err(RowError::Wrong("not UTF-8"));
+    };
     for (i, part) in text.lines().enumerate() {
-        line.push_str(if i == 0 { " " } else { " / " })?;
-        line.push_str(part)?;
+        line.push(if i == 0 { " " } else { " / " });
+        line.push(part);
     }
-    if !text.is_empty() && !text.as_str().ends_with('\n') {
-        line.push_str(" cut")?;
+    if !text.is_empty() && !text.ends_with('\n') {
+        line.push(" cut");
     }
     Ok(())
 }

@@ -1,13 +1,13 @@
 //! The tokens of a text.
 
-use crate::escapes::push_escaped;
+use crate::line::Line;
 use crate::row_error::RowError;
-use cmap_tokens::token::{Number, Scanner, StringToken, Token};
-use std::alloc::{AllocError, Global};
+use hayro_cmap::token::{Name, Number, Scanner, StringToken, Token};
+use std::alloc::Global;
 
 /// How the strings among tokens are shown.
 #[derive(Clone, Copy)]
-pub enum Strings {
+enum Strings {
     /// By their values, beside all other tokens.
     Values,
     /// As they are written, beside all other tokens.
@@ -41,19 +41,19 @@ pub fn push_answer(
     alloc: Global,
     text: &[u8],
     word: &str,
-    line: &mut String,
+    line: &mut Line,
 ) -> Result<(), RowError> {
     let strings = Strings::named(word)?;
     let end = push_tokens(alloc, text, strings, line)?;
     if !strings.are_alone() {
-        write!(line, " {end}")?;
+        write!(line, " {end}");
     }
     Ok(())
 }
 
 /// Whether the tokens of a text end, or it is malformed.
 pub fn outcome(alloc: Global, text: &[u8]) -> Result<&'static str, RowError> {
-    push_tokens(alloc, text, Strings::Numbers, &mut String::new(alloc))
+    push_tokens(alloc, text, Strings::Numbers, &mut Line::new(alloc))
 }
 
 /// Adds all tokens of a text, and says how they end.
@@ -61,14 +61,12 @@ fn push_tokens(
     alloc: Global,
     text: &[u8],
     strings: Strings,
-    line: &mut String,
+    line: &mut Line,
 ) -> Result<&'static str, RowError> {
     let mut scanner = Scanner::new(text);
     for _ in 0..=text.len() {
         match scanner.next_token() {
-            Ok(Some(Token::String(string))) => push_string(alloc, string, strings, line)?,
-            Ok(Some(_)) if strings.are_alone() => {}
-            Ok(Some(token)) => push_token(token, line)?,
+            Ok(Some(token)) => push_token(alloc, token, strings, line)?,
             Ok(None) => return Ok("end"),
             Err(_) => return Ok("malformed"),
         }
@@ -76,41 +74,50 @@ fn push_tokens(
     Ok("endless")
 }
 
-fn push_token(token: Token<'_>, line: &mut String) -> Result<(), AllocError> {
+fn push_token(
+    alloc: Global,
+    token: Token<'_>,
+    strings: Strings,
+    line: &mut Line,
+) -> Result<(), RowError> {
     match token {
-        Token::Name(name) => {
-            line.push_str(if name.is_literal() {
-                " literal:"
-            } else {
-                " name:"
-            })?;
-            push_escaped(name.as_bytes(), line)
-        }
+        Token::String(string) => return push_string(alloc, string, strings, line),
+        _ if strings.are_alone() => {}
+        Token::Name(name) => push_name(name, line),
         Token::Number(Number::Integer(number)) => write!(line, " integer:{number}"),
-        Token::Number(Number::Real) => line.push_str(" real"),
-        Token::String(_) => Ok(()),
+        Token::Number(Number::Real) => line.push(" real"),
     }
+    Ok(())
+}
+
+fn push_name(name: Name<'_>, line: &mut Line) {
+    line.push(if name.is_literal() {
+        " literal:"
+    } else {
+        " name:"
+    });
+    line.push_escaped(name.as_bytes());
 }
 
 fn push_string(
     alloc: Global,
     string: StringToken<'_>,
     strings: Strings,
-    line: &mut String,
+    line: &mut Line,
 ) -> Result<(), RowError> {
     let value = value_of(alloc, string)?;
-    let pushed = match strings {
+    match strings {
         Strings::Values => push_piece(&value, line),
         Strings::Pieces => push_piece(string.raw(), line),
         Strings::Numbers => push_number(string.plain_number(), line),
         Strings::Lengths => write!(line, " {}", value.len()),
-    };
-    Ok(pushed?)
+    }
+    Ok(())
 }
 
-fn push_piece(bytes: &[u8], line: &mut String) -> Result<(), AllocError> {
-    line.push_str(" string:")?;
-    push_escaped(bytes, line)
+fn push_piece(bytes: &[u8], line: &mut Line) {
+    line.push(" string:");
+    line.push_escaped(bytes);
 }
 
 /// The value of a string, in a vector that held other bytes, which stay where memory runs out.
@@ -125,12 +132,15 @@ fn value_of(alloc: Global, string: StringToken<'_>) -> Result<Vec<u8>, RowError>
 }
 
 /// Adds the number of a plain string, in two digits for each of its bytes.
-pub fn push_number(plain: Option<(u8, u32)>, line: &mut String) -> Result<(), AllocError> {
+fn push_number(plain: Option<(u8, u32)>, line: &mut Line) {
     match plain {
-        Some((1, number)) => write!(line, " 1:{number:02X}"),
-        Some((2, number)) => write!(line, " 2:{number:04X}"),
-        Some((3, number)) => write!(line, " 3:{number:06X}"),
-        Some((len, number)) => write!(line, " {len}:{number:08X}"),
-        None => line.push_str(" none"),
+        Some((len, number)) => push_code(len, number, line),
+        None => line.push(" none"),
     }
+}
+
+/// Adds how many bytes a code has, and the code in two digits for each of them.
+pub fn push_code(len: u8, code: u32, line: &mut Line) {
+    let digits = usize::from(len).saturating_mul(2);
+    write!(line, " {len}:{code:0digits$X}");
 }
