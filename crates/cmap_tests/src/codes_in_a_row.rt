@@ -1,8 +1,8 @@
 //! The CIDs of codes in a row, beside those of one code after another.
 
-use hayro_cmap::{CMap, CMapName};
+use crate::maps::map_over;
+use hayro_cmap::CMap;
 use std::alloc::Global;
-use std::test::Fail;
 
 /// What stands for a code without a CID.
 const ABSENT: u32 = 77_777;
@@ -20,12 +20,8 @@ const BASE: &[u8] = b"begincidrange <0000> <0010> 100 <0012> <0024> 200 <0061> <
 beginbfrange <0100> <0110> <0061> endbfrange";
 
 /// The map of `FILE` over `BASE`.
-fn map_of_two_layers(alloc: Global) -> Result<Option<CMap>, Fail> {
-    let get_cmap = |name: CMapName<'_>| match name {
-        CMapName::Custom(b"Base") => Some(BASE),
-        _ => None,
-    };
-    Ok(CMap::parse(alloc, FILE, None, &get_cmap)?)
+fn map_of_two_layers(alloc: Global) -> Option<CMap> {
+    map_over(alloc, FILE, &[(b"Base", BASE)])
 }
 
 /// What a lookup gives for the code that comes `index` codes after the first.
@@ -50,8 +46,8 @@ fn are_those_of_lookups(map: &CMap, first: u32, byte_len: u8, cids: &[u32]) -> b
 }
 
 #[test]
-fn codes_in_a_row_have_the_cids_of_lookups(rt: HostRuntime) -> Result<(), Fail> {
-    let map = map_of_two_layers(rt.alloc())?.expect(&rt, "refused");
+fn codes_in_a_row_have_the_cids_of_lookups(rt: HostRuntime) {
+    let map = map_of_two_layers(rt.alloc()).expect(&rt, "refused");
     let mut cids = [0; 300];
     for byte_len in 0..6 {
         for first in [0, 0x22, 0x29, 0xFFF0, 0xFFFF_FF00, u32::MAX] {
@@ -59,42 +55,65 @@ fn codes_in_a_row_have_the_cids_of_lookups(rt: HostRuntime) -> Result<(), Fail> 
             assert!(rt; are_those_of_lookups(&map, first, byte_len, &cids));
         }
     }
-    Ok(())
+}
+
+/// The CIDs of codes of two bytes from a first one on: where runs, layers, gaps, notdefs and texts begin
+/// and end.
+const CROSSED: &[(usize, &[u32])] = &[
+    (0x10, &[116, 1, 200, 201]),
+    (0x1F, &[213, 500]),
+    (0x27, &[507, 9, 10, 510, 511, 512, 513, 514, 515, 10, 1]),
+    (0x3F, &[1, 3]),
+    (0x57, &[3, 0x49]),
+    (0x5F, &[0x50, 1, 300, 0x1F600, 1]),
+    (0xFF, &[1, 0x61]),
+    (0x110, &[0x71, ABSENT]),
+];
+
+/// Whether these CIDs stand among others, from one of them on.
+fn has_at(all: &[u32], start: usize, cids: &[u32]) -> bool {
+    match all.get(start..) {
+        Some(rest) => rest.starts_with(cids),
+        None => false,
+    }
 }
 
 #[test]
-fn a_row_crosses_runs_layers_gaps_notdefs_and_texts(rt: HostRuntime) -> Result<(), Fail> {
-    let map = map_of_two_layers(rt.alloc())?.expect(&rt, "refused");
+fn a_row_crosses_runs_layers_gaps_notdefs_and_texts(rt: HostRuntime) {
+    let map = map_of_two_layers(rt.alloc()).expect(&rt, "refused");
     let mut cids = [0; 0x112];
     map.fill_cids(0, 2, ABSENT, &mut cids);
-    assert!(rt; cids[0x10..0x14] == [116, 1, 200, 201]);
-    assert!(rt; cids[0x1F..0x21] == [213, 500]);
-    assert!(rt; cids[0x27..0x32] == [507, 9, 10, 510, 511, 512, 513, 514, 515, 10, 1]);
-    assert!(rt; cids[0x3F..0x41] == [1, 3]);
-    assert!(rt; cids[0x57..0x59] == [3, 0x49]);
-    assert!(rt; cids[0x5F..0x64] == [0x50, 1, 300, 0x1F600, 1]);
-    assert!(rt; cids[0xFF..0x101] == [1, 0x61]);
-    assert!(rt; cids[0x110..] == [0x71, ABSENT]);
-    Ok(())
+    for (start, expected) in CROSSED {
+        assert!(rt; has_at(&cids, *start, expected));
+    }
 }
 
+/// The CIDs of the last codes of four bytes from FFFFFFEF on.
+const LAST: &[u32] = &[
+    ABSENT,
+    4_294_967_290,
+    4_294_967_291,
+    4_294_967_292,
+    4_294_967_293,
+    4_294_967_294,
+    u32::MAX,
+    ABSENT,
+    ABSENT,
+    ABSENT,
+    ABSENT,
+    ABSENT,
+    ABSENT,
+    ABSENT,
+    ABSENT,
+    ABSENT,
+    ABSENT,
+    ABSENT,
+];
+
 #[test]
-fn a_row_ends_with_the_codes_and_the_cids_of_32_bits(rt: HostRuntime) -> Result<(), Fail> {
-    let map = map_of_two_layers(rt.alloc())?.expect(&rt, "refused");
+fn a_row_ends_with_the_codes_and_the_cids_of_32_bits(rt: HostRuntime) {
+    let map = map_of_two_layers(rt.alloc()).expect(&rt, "refused");
     let mut cids = [0; 18];
     map.fill_cids(0xFFFF_FFEF, 4, ABSENT, &mut cids);
-    assert!(rt;
-        cids[..7]
-            == [
-                ABSENT,
-                4_294_967_290,
-                4_294_967_291,
-                4_294_967_292,
-                4_294_967_293,
-                4_294_967_294,
-                u32::MAX
-            ]
-    );
-    assert!(rt; cids[7..].iter().all(|cid| *cid == ABSENT));
-    Ok(())
+    assert!(rt; cids.as_slice() == LAST);
 }

@@ -1,6 +1,6 @@
 //! What rows of data can't show: the callers that the pages show, and tests of the order of calls, of
-//! names by their variants, of a call over a closure, of codes in a row, of many ranges, of files that
-//! are read past their faults, and of the texts of strings.
+//! names by their variants, of a call over a closure, of codes in a row, of a table of many ranges, of
+//! files that are read past their faults, and of the texts of strings.
 #![tactic(auto)]
 
 #[cfg(test)]
@@ -10,15 +10,13 @@ mod bits;
 #[cfg(test)]
 mod caller;
 #[cfg(test)]
-mod cid_ranges;
-#[cfg(test)]
 mod codes_in_a_row;
-#[cfg(test)]
-mod codespace_ranges;
 #[cfg(test)]
 mod examples;
 #[cfg(test)]
 mod maker;
+#[cfg(test)]
+mod maps;
 #[cfg(test)]
 mod names;
 #[cfg(test)]

@@ -9,11 +9,18 @@ use std::test::Fail;
 
 // A bundle with these files for 83pv-RKSJ-H and 90ms-RKSJ-H.
 fn bundle_of(alloc: Global, first: &[u8], second: &[u8]) -> Option<Vec<u8>> {
-    let mut files = Vec::new(alloc);
-    files.push(read_text(alloc, first).ok()?).ok()?;
-    files.push(read_text(alloc, second).ok()?).ok()?;
-    make_bundle(alloc, &files).ok()
+    let first = read_text(alloc, first).ok()?;
+    let second = read_text(alloc, second).ok()?;
+    make_bundle(alloc, &[first, second]).ok()
 }
+
+/// Codes, and their CIDs in the second file.
+const CIDS: &[(u32, Option<u32>)] = &[
+    (0x8140, Some(240)),
+    (0x8150, Some(256)),
+    (0x85FF, Some(1848)),
+    (0x8600, None),
+];
 
 #[test]
 fn a_bundle_that_is_made_answers_as_its_files(rt: HostRuntime) -> Result<(), Fail> {
@@ -22,12 +29,11 @@ fn a_bundle_that_is_made_answers_as_its_files(rt: HostRuntime) -> Result<(), Fai
     let second = b"3 begincidrange <8140> <85FF> 633 <8150> <8150> 7 <8050> <8150> 0 endcidrange";
     let bundle = bundle_of(alloc, first, second).unwrap_or(Vec::new(alloc));
     let other = b"/83pv-RKSJ-H usecmap";
-    let file = b"/90ms-RKSJ-H usecmap";
     assert!(rt; cid_over_bundle(alloc, &bundle, other, 0x8140)? == Some(9));
-    assert!(rt; cid_over_bundle(alloc, &bundle, file, 0x8140)? == Some(240));
-    assert!(rt; cid_over_bundle(alloc, &bundle, file, 0x8150)? == Some(256));
-    assert!(rt; cid_over_bundle(alloc, &bundle, file, 0x85FF)? == Some(1848));
-    assert!(rt; cid_over_bundle(alloc, &bundle, file, 0x8600)?.is_none());
+    let file = b"/90ms-RKSJ-H usecmap";
+    for (code, cid) in CIDS {
+        assert!(rt; cid_over_bundle(alloc, &bundle, file, *code)? == *cid);
+    }
     Ok(())
 }
 
@@ -40,7 +46,7 @@ fn a_cid_above_65535_is_an_obstacle(rt: HostRuntime) {
 // The bundle of one file, which is 90ms-RKSJ-H.
 fn named_bundle(alloc: Global, text: &[u8]) -> Option<Vec<u8>> {
     let file = read_text(alloc, text).ok()?;
-    examples::bundle_of(alloc, &file).ok()?
+    examples::bundle_of(alloc, &file).unwrap_or(None)
 }
 
 #[test]

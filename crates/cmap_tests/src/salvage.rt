@@ -1,33 +1,40 @@
 //! Maps that are read past the faults of their files.
 
-use hayro_cmap::{CMap, Cause, NamedFiles, Reason, SalvagedMap, Stop};
+use hayro_cmap::{CMap, NamedFiles, SalvagedMap};
+use std::alloc::{AllocError, Global};
 use std::test::Fail;
 
-/// Whether these are the faults, in this order, each with the number of the names that lead to it.
-fn has_faults(found: &SalvagedMap<'_>, faults: &[(Cause, usize)]) -> bool {
-    if found.faults.len() != faults.len() {
-        return false;
+/// What is found of a file over others: a line for each fault, with the number of the names that lead to
+/// it; and how many layers the map has, and the CIDs of the codes 41 and 42.
+fn salvaged(
+    alloc: Global,
+    budget: Option<u64>,
+    file: &[u8],
+    files: &[(&[u8], &[u8])],
+) -> Result<String, AllocError> {
+    let source = NamedFiles::alone(files);
+    let found = CMap::salvage(alloc, budget, file, None, &source)?;
+    told(alloc, &found)
+}
+
+fn told(alloc: Global, found: &SalvagedMap<'_>) -> Result<String, AllocError> {
+    let mut text = String::new(alloc);
+    for fault in &found.faults {
+        writeln!(text, "{} {}", fault.names.len(), fault.cause)?;
     }
-    for (fault, (cause, names)) in found.faults.iter().zip(faults.iter()) {
-        if fault.cause != *cause || fault.names.len() != *names {
-            return false;
-        }
-    }
-    true
+    let first = found.map.lookup_cid_code(0x41, 1);
+    let second = found.map.lookup_cid_code(0x42, 1);
+    write!(text, "{} {first:?} {second:?}", found.map.layers().len())?;
+    Ok(text)
 }
 
 #[test]
 fn reading_goes_on_after_each_fault(rt: HostRuntime) -> Result<(), Fail> {
     let top = b"/Base usecmap begincidchar <41> /x <42> 7 endcidchar";
-    let base = b"/Gone usecmap begincidchar <41> 5 endcidchar";
-    let files: [(&[u8], &[u8]); 1] = [(b"Base", base)];
-    let source = NamedFiles::alone(&files);
-    let found = CMap::salvage(rt.alloc(), None, top, None, &source)?;
-    let (offset, reason) = (34, Reason::CidExpected);
-    let wrong = Cause::Malformed(Stop { offset, reason });
-    assert!(rt; has_faults(&found, &[(wrong, 0), (Cause::NoFile, 2)]));
-    assert!(rt; found.map.lookup_cid_code(0x41, 1) == Some(5));
-    assert!(rt; found.map.lookup_cid_code(0x42, 1) == Some(7));
+    let files: &[(&[u8], &[u8])] = &[(b"Base", b"/Gone usecmap begincidchar <41> 5 endcidchar")];
+    let found = salvaged(rt.alloc(), None, top, files)?;
+    let expected = "0 byte 34: a CID was expected\n2 no file has this name\n2 Some(5) Some(7)";
+    assert!(rt; found.as_str() == expected);
     Ok(())
 }
 
@@ -35,23 +42,18 @@ fn reading_goes_on_after_each_fault(rt: HostRuntime) -> Result<(), Fail> {
 #[test]
 fn a_file_that_uses_itself_has_sixteen_layers(rt: HostRuntime) -> Result<(), Fail> {
     let looped = b"/Loop usecmap /Loop usecmap";
-    let files: [(&[u8], &[u8]); 1] = [(b"Loop", looped)];
-    let source = NamedFiles::alone(&files);
-    let found = CMap::salvage(rt.alloc(), None, looped, None, &source)?;
-    assert!(rt; has_faults(&found, &[(Cause::ChainLength, 16)]));
-    assert!(rt; found.map.layers().len() == 16);
+    let files: &[(&[u8], &[u8])] = &[(b"Loop", looped)];
+    let found = salvaged(rt.alloc(), None, looped, files)?;
+    assert!(rt; found.as_str() == "16 more than 16 files in a chain\n16 None None");
     Ok(())
 }
 
 /// The budget has room for the top file alone. The base isn't read, and is a layer that says nothing.
 #[test]
 fn a_base_past_the_budget_says_nothing(rt: HostRuntime) -> Result<(), Fail> {
-    let top = b"/Base usecmap";
-    let files: [(&[u8], &[u8]); 1] = [(b"Base", b"begincidchar <41> 5 endcidchar")];
-    let source = NamedFiles::alone(&files);
-    let found = CMap::salvage(rt.alloc(), Some(20), top, None, &source)?;
-    assert!(rt; has_faults(&found, &[(Cause::OverBudget, 1)]));
-    assert!(rt; found.map.layers().len() == 2);
-    assert!(rt; found.map.lookup_cid_code(0x41, 1).is_none());
+    let files: &[(&[u8], &[u8])] = &[(b"Base", b"begincidchar <41> 5 endcidchar")];
+    let found = salvaged(rt.alloc(), Some(20), b"/Base usecmap", files)?;
+    let expected = "1 the files have more bytes than the budget\n2 None None";
+    assert!(rt; found.as_str() == expected);
     Ok(())
 }

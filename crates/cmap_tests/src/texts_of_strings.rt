@@ -1,8 +1,9 @@
 //! The codes of strings with their CIDs and texts, by the maps of a font.
 
 use crate::examples::text_of_string;
+use crate::maps::map_over;
 use cmap_unicode::{Extractor, ucs2_name};
-use hayro_cmap::{BfString, CMap, Cid, CidFamily, Fault, NamedFiles};
+use hayro_cmap::{BfString, Cid, CidFamily};
 use std::alloc::{AllocError, Global};
 use std::test::Fail;
 
@@ -19,13 +20,16 @@ beginbfchar <20> <00660066> <21> <D800> endbfchar";
 const COLLECTION: &[u8] = b"beginbfchar <0001> <25A1> endbfchar
 beginbfrange <0041> <0043> <65E5> endbfrange beginbfchar <0021> <0078> endbfchar";
 
-/// The map of a file that uses no other.
-fn map_of(alloc: Global, file: &[u8]) -> Result<Option<CMap>, AllocError> {
-    let files: &[(&[u8], &[u8])] = &[];
-    match CMap::parse_from(alloc, None, file, None, &NamedFiles::alone(files)) {
-        Ok(map) => Ok(Some(map)),
-        Err(Fault::Refused(_refusal)) => Ok(None),
-        Err(Fault::Memory) => Err(AllocError),
+/// Whether a string of a font has this text.
+fn has_text(
+    alloc: Global,
+    font: &Extractor<'_>,
+    string: &[u8],
+    text: &str,
+) -> Result<bool, AllocError> {
+    match text_of_string(alloc, font, string)? {
+        Some(found) => Ok(found.as_str() == text),
+        None => Ok(false),
     }
 }
 
@@ -44,34 +48,35 @@ fn begins_with(
 }
 
 #[test]
-fn a_text_is_that_of_the_code_or_else_of_the_cid(rt: HostRuntime) -> Result<(), Fail> {
+fn a_text_is_that_of_the_code_or_else_of_the_cid(rt: HostRuntime) {
     let alloc = rt.alloc();
-    let encoding = map_of(alloc, ENCODING)?.expect(&rt, "refused");
-    let to_unicode = map_of(alloc, TO_UNICODE)?.expect(&rt, "refused");
-    let collection = map_of(alloc, COLLECTION)?.expect(&rt, "refused");
+    let encoding = map_over(alloc, ENCODING, &[]).expect(&rt, "refused");
+    let to_unicode = map_over(alloc, TO_UNICODE, &[]).expect(&rt, "refused");
+    let collection = map_over(alloc, COLLECTION, &[]).expect(&rt, "refused");
     let (to_unicode, collection) = (Some(&to_unicode), Some(&collection));
     let font = Extractor {
         encoding: &encoding,
         to_unicode,
         collection,
     };
-    let text = text_of_string(alloc, &font, b"\x20\x21\x22\x30")?;
-    assert!(rt; text.expect(&rt, "no text").as_str() == "ff\u{65E6}\u{65E7}\u{25A1}");
-    Ok(())
+    let expected = "ff\u{65E6}\u{65E7}\u{25A1}";
+    let is_right = has_text(alloc, &font, b"\x20\x21\x22\x30", expected);
+    assert!(rt; matches!(is_right, Ok(true)));
 }
 
 #[test]
-fn a_cid_is_no_character_and_a_character_is_no_cid(rt: HostRuntime) -> Result<(), Fail> {
+fn a_cid_is_no_character_and_a_character_is_no_cid(rt: HostRuntime) {
     let alloc = rt.alloc();
-    let encoding = map_of(alloc, ENCODING)?.expect(&rt, "refused");
+    let encoding = map_over(alloc, ENCODING, &[]).expect(&rt, "refused");
     let font = Extractor {
         encoding: &encoding,
         to_unicode: None,
         collection: None,
     };
-    assert!(rt; begins_with(alloc, &font, b"\x20\x21", Some(0x41), None)?);
-    assert!(rt; begins_with(alloc, &font, b"\x40", None, None)?);
-    Ok(())
+    let has_cid = begins_with(alloc, &font, b"\x20\x21", Some(0x41), None);
+    assert!(rt; matches!(has_cid, Ok(true)));
+    let has_none = begins_with(alloc, &font, b"\x40", None, None);
+    assert!(rt; matches!(has_none, Ok(true)));
 }
 
 #[test]
