@@ -2,7 +2,8 @@
 
 use crate::request::Mode;
 use cmap_queries::failure::Failure;
-use hayro_cmap::{BfString, CMap, CMapName};
+use hayro_cmap::bcmap::Bundle;
+use hayro_cmap::{BfString, CMap, Fault};
 use std::alloc::{AllocError, Global};
 use std::time::{Clock, Instant};
 
@@ -36,9 +37,9 @@ impl<'d> Work<'d> {
     pub fn new(alloc: Global, mode: Mode, data: &'d [u8]) -> Result<Work<'d>, Failure> {
         match mode {
             Mode::Parse => Ok(Work::Parse(data)),
-            Mode::Lookup => Ok(Work::Lookup(accepted(alloc, data)?)),
-            Mode::Bf => Ok(Work::Bf(accepted(alloc, data)?)),
-            Mode::Decode => Ok(Work::Decode(accepted(alloc, data)?, all_codes(alloc)?)),
+            Mode::Lookup => Ok(Work::Lookup(parse(alloc, data)?)),
+            Mode::Bf => Ok(Work::Bf(parse(alloc, data)?)),
+            Mode::Decode => Ok(Work::Decode(parse(alloc, data)?, all_codes(alloc)?)),
         }
     }
 
@@ -77,10 +78,7 @@ impl<'d> Work<'d> {
     /// The checksum after one more round.
     fn round(&self, alloc: Global, before: u64) -> Result<u64, Failure> {
         match self {
-            Work::Parse(data) => {
-                let accepted = parse(alloc, data)?.is_some();
-                Ok(before.wrapping_add(u64::from(accepted)))
-            }
+            Work::Parse(data) => Ok(before.wrapping_add(accepted(alloc, data)?)),
             Work::Lookup(map) => Ok(cid_sum(map)),
             Work::Bf(map) => Ok(text_sum(alloc, map)?),
             Work::Decode(map, text) => Ok(decoded_sum(map, text)),
@@ -88,15 +86,23 @@ impl<'d> Work<'d> {
     }
 }
 
-/// The map of a file that has one.
-fn accepted(alloc: Global, data: &[u8]) -> Result<CMap, Failure> {
-    parse(alloc, data)?.ok_or(Failure::Refused)
+/// 1 where a file is accepted, and 0 where it is refused.
+fn accepted(alloc: Global, data: &[u8]) -> Result<u64, Failure> {
+    match parse(alloc, data) {
+        Ok(_map) => Ok(1),
+        Err(Failure::Refused) => Ok(0),
+        Err(failure) => Err(failure),
+    }
 }
 
 /// The map of a file that uses no other.
-fn parse(alloc: Global, data: &[u8]) -> Result<Option<CMap>, Failure> {
-    let no_file: Option<&'static [u8]> = None;
-    Ok(CMap::parse(alloc, data, None, &|_name: CMapName<'_>| no_file)?)
+fn parse(alloc: Global, data: &[u8]) -> Result<CMap, Failure> {
+    let no_files: Option<&Bundle<'_>> = None;
+    match CMap::parse_from(alloc, None, data, None, &no_files) {
+        Ok(map) => Ok(map),
+        Err(Fault::Refused(_refusal)) => Err(Failure::Refused),
+        Err(Fault::Memory) => Err(Failure::NoMemory),
+    }
 }
 
 /// The sum of the CIDs of all codes of two bytes; none counts 0.
@@ -137,18 +143,16 @@ fn decoded_sum(map: &CMap, text: &[u8]) -> u64 {
 fn text_sum(alloc: Global, map: &CMap) -> Result<u64, AllocError> {
     let mut sum: u64 = 0;
     for code in 0..CODE_COUNT {
-        let first = map
-            .lookup_bf_string(alloc, code)?
-            .and_then(|text| first_char(&text));
-        sum = sum.wrapping_add(first.map_or(0, u64::from));
+        sum = sum.wrapping_add(first_char(alloc, map, code)?);
     }
     Ok(sum)
 }
 
-/// The first character of a text.
-fn first_char(text: &BfString) -> Option<char> {
-    match text {
-        BfString::Char(c) => Some(*c),
-        BfString::String(text) => text.chars().next(),
+/// The first character of the text of a code; 0 where it has none.
+fn first_char(alloc: Global, map: &CMap, code: u32) -> Result<u64, AllocError> {
+    match map.lookup_bf_string(alloc, code)? {
+        Some(BfString::Char(first)) => Ok(u64::from(first)),
+        Some(BfString::String(text)) => Ok(text.chars().next().map_or(0, u64::from)),
+        None => Ok(0),
     }
 }
