@@ -4,3 +4,4 @@
 pub mod digits;
 pub mod escape;
 pub mod json;
+pub mod object;

@@ -1,0 +1,68 @@
+//! Objects of JSON, made member by member.
+
+use serde_json::{Map, Value, put};
+use std::alloc::{AllocError, Global};
+
+/// An object that is being made. Where memory runs out for a member, `finish` says so.
+#[derive(Drop)]
+pub struct Object {
+    alloc: Global,
+    members: Map<String, Value>,
+    is_whole: bool,
+}
+
+impl Object {
+    /// Without members.
+    pub fn new(alloc: Global) -> Object {
+        Object {
+            alloc,
+            members: Map::new(alloc),
+            is_whole: true,
+        }
+    }
+
+    /// Sets a member to a value.
+    pub fn set(&mut self, key: &str, value: Value) {
+        if put(&mut self.members, self.alloc, key, value).is_err() {
+            self.is_whole = false;
+        }
+    }
+
+    /// Sets a member to a value, for which memory may have run out.
+    pub fn set_made(&mut self, key: &str, value: Result<Value, AllocError>) {
+        match value {
+            Ok(value) => self.set(key, value),
+            Err(AllocError) => self.is_whole = false,
+        }
+    }
+
+    /// Sets a member to a text.
+    pub fn set_text(&mut self, key: &str, text: &str) {
+        self.set_made(key, Value::try_from_str(self.alloc, text));
+    }
+
+    /// Sets a member to a string, for which memory may have run out.
+    pub fn set_string(&mut self, key: &str, text: Result<String, AllocError>) {
+        match text {
+            Ok(text) => self.set(key, Value::from(text)),
+            Err(AllocError) => self.is_whole = false,
+        }
+    }
+
+    /// Sets a member to a list, for which memory may have run out.
+    pub fn set_list(&mut self, key: &str, list: Result<Vec<Value>, AllocError>) {
+        match list {
+            Ok(list) => self.set(key, Value::Array(list)),
+            Err(AllocError) => self.is_whole = false,
+        }
+    }
+
+    /// The object.
+    pub fn finish(self) -> Result<Value, AllocError> {
+        if self.is_whole {
+            Ok(Value::Object(self.members))
+        } else {
+            Err(AllocError)
+        }
+    }
+}
