@@ -10,7 +10,7 @@ use crate::options::RunOptions;
 use crate::output::{report, send};
 use crate::query::Query;
 use hayro_cmap::bcmap::Bundle;
-use hayro_cmap::{CMap, CMapName, load_embedded};
+use hayro_cmap::{CMap, Cause, Fault};
 use std::alloc::Global;
 use std::io::{Read, Write};
 
@@ -53,7 +53,17 @@ fn answers_over<R: Read>(
     input: &mut R,
 ) -> Result<String, Failure> {
     let bytes = read_all(alloc, input)?;
-    let map = map_of(alloc, options, &bytes)?;
+    answers_in(alloc, options, queries, &bytes)
+}
+
+/// The lines that answer the queries, over the file in these bytes.
+fn answers_in(
+    alloc: Global,
+    options: RunOptions,
+    queries: &[Query<'_>],
+    input: &[u8],
+) -> Result<String, Failure> {
+    let map = map_of(alloc, options, input)?;
     Ok(lines_of(alloc, &map, queries)?)
 }
 
@@ -76,6 +86,12 @@ fn map_over(
     file: &[u8],
     bundle: Option<&Bundle<'_>>,
 ) -> Result<CMap, Failure> {
-    let get_cmap = |name: CMapName<'_>| load_embedded(bundle, name);
-    CMap::parse_within(alloc, budget, file, bundle, &get_cmap)?.ok_or(Failure::Refused)
+    match CMap::parse_from(alloc, budget, file, bundle, &bundle) {
+        Ok(map) => Ok(map),
+        Err(Fault::Refused(refusal)) => match refusal.cause {
+            Cause::OverBudget => Err(Failure::OverBudget),
+            _ => Err(Failure::Refused),
+        },
+        Err(Fault::Memory) => Err(Failure::NoMemory),
+    }
 }

@@ -11,7 +11,7 @@ use std::io::{self, ErrorKind};
 
 /// Why a run gives no answers. Its number is the exit status, and its text the line on the standard
 /// error.
-#[derive(Clone, Copy, Debug, PartialEq, Eq)]
+#[derive(Clone, Copy)]
 pub enum Failure {
     /// The input isn't a CMap file, or uses one that is missing, or doesn't begin with a bundle of the
     /// given length.

@@ -40,12 +40,21 @@ fn write_text(
     lines: &mut String,
 ) -> Result<(), AllocError> {
     write!(lines, "bf {}", query.digits)?;
-    match map.lookup_bf_string(alloc, query.code)? {
+    write_text_alone(alloc, query.code, map, lines)?;
+    lines.push('\n')
+}
+
+fn write_text_alone(
+    alloc: Global,
+    code: u32,
+    map: &CMap,
+    lines: &mut String,
+) -> Result<(), AllocError> {
+    match map.lookup_bf_string(alloc, code)? {
         Some(BfString::Char(character)) => write_character(character, lines),
         Some(BfString::String(text)) => write_characters(text.as_str(), lines),
         None => lines.push_str(" none"),
-    }?;
-    lines.push('\n')
+    }
 }
 
 /// Adds the characters of a text to `lines`.
