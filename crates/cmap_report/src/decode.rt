@@ -4,53 +4,48 @@ ghost use Rattle.std.specs.Prelude.{OnOk, string_bytes};
 ghost use Rattle.cmap_escape.specs.Escapes.{AddsLine, AddsOfLine};
 
 use cmap_escape::digits::{byte_digits, code_digits, push_code};
+use cmap_escape::object::Object;
 use cmap_escape::{escape, json};
-use cmap_queries::texts::text_string;
 use cmap_unicode::{Character, Extractor};
-use hayro_cmap::StringCode;
-use serde_json::{Map, Value, put};
+use hayro_cmap::{BfString, StringCode};
+use serde_json::Value;
 use std::alloc::{AllocError, Global};
 
 /// What stands in the row of texts for a code without a text.
 const NO_TEXT: char = '\u{FFFD}';
 
-/// A string of codes, and what they stand for.
+/// The texts of codes in a row.
 #[derive(Drop)]
-struct Decoded {
-    codes: Vec<DecodedCode>,
-    /// The texts of the codes in a row, U+FFFD for each code without one.
+struct Joined {
+    /// The texts, U+FFFD for each code without one.
     text: String,
     /// Whether each code has a text.
     is_whole: bool,
 }
 
-impl Decoded {
-    /// Adds a code, after those that are there.
-    fn add(&mut self, code: DecodedCode) -> Result<(), AllocError> {
-        match &code.text {
-            Some(text) => self.text.push_str(text.as_str())?,
+impl Joined {
+    /// The texts of these codes.
+    fn of(alloc: Global, characters: &[Character]) -> Result<Joined, AllocError> {
+        let mut joined = Joined {
+            text: String::new(alloc),
+            is_whole: true,
+        };
+        for character in characters {
+            joined.add(&character.text)?;
+        }
+        Ok(joined)
+    }
+
+    /// Adds the text of a code, after those that are there.
+    fn add(&mut self, text: &Option<BfString>) -> Result<(), AllocError> {
+        match text {
+            Some(BfString::Char(character)) => self.text.push(*character),
+            Some(BfString::String(text)) => self.text.push_str(text.as_str()),
             None => {
                 self.is_whole = false;
-                self.text.push(NO_TEXT)?;
+                self.text.push(NO_TEXT)
             }
         }
-        Ok(self.codes.push(code)?)
-    }
-}
-
-/// A code of a string, and what it stands for.
-#[derive(Drop)]
-struct DecodedCode {
-    code: StringCode,
-    cid: Option<u32>,
-    text: Option<String>,
-}
-
-impl DecodedCode {
-    fn of(alloc: Global, character: Character) -> Result<DecodedCode, AllocError> {
-        let Character { code, cid, text } = character;
-        let text = text_string(alloc, text)?;
-        Ok(DecodedCode { code, cid, text })
     }
 }
 
@@ -61,12 +56,17 @@ pub fn push_codes(
     font: &Extractor<'_>,
     string: &[u8],
 ) -> Result<(), AllocError> {
-    let decoded = decode(alloc, font, string)?;
-    for code in &decoded.codes {
-        push_code_line(out, code)?;
+    let characters = font.characters(alloc, string)?;
+    for character in &characters {
+        push_code_line(out, character)?;
     }
+    push_joined(out, &Joined::of(alloc, &characters)?)
+}
+
+/// Adds the line of the text of a string.
+fn push_joined(out: &mut String, joined: &Joined) -> Result<(), AllocError> {
     out.push_str("text  ")?;
-    escape::push_quoted(out, decoded.text.as_str())?;
+    escape::push_quoted(out, joined.text.as_str())?;
     out.push('\n')
 }
 
@@ -82,8 +82,7 @@ pub fn push_json(
     // Also where memory runs out.
     ensures printable { AddsOfLine (string_bytes out.old) (string_bytes out.new) }
 {
-    let decoded = decode(alloc, font, string)?;
-    let object = string_object(alloc, decoded, string)?;
+    let object = string_object(alloc, font, string)?;
     json::push_line(alloc, out, &object)
 }
 
@@ -95,10 +94,10 @@ pub fn push_text_line(
     font: &Extractor<'_>,
     string: &[u8],
 ) -> Result<bool, AllocError> {
-    let decoded = decode(alloc, font, string)?;
-    escape::push_text(out, decoded.text.as_str())?;
+    let joined = text_of(alloc, font, string)?;
+    escape::push_text(out, joined.text.as_str())?;
     out.push('\n')?;
-    Ok(decoded.is_whole)
+    Ok(joined.is_whole)
 }
 
 /// Adds the object of the text of a string, ends the line, and gives whether each code has a text.
@@ -113,77 +112,54 @@ pub fn push_text_json(
     // Also where memory runs out.
     ensures printable { AddsOfLine (string_bytes out.old) (string_bytes out.new) }
 {
-    let Decoded { text, is_whole, .. } = decode(alloc, font, string)?;
+    let Joined { text, is_whole } = text_of(alloc, font, string)?;
     let object = text_object(alloc, text, string)?;
     json::push_line(alloc, out, &object)?;
     Ok(is_whole)
 }
 
+/// The text of a string by the CMaps of a font.
+fn text_of(alloc: Global, font: &Extractor<'_>, string: &[u8]) -> Result<Joined, AllocError> {
+    Joined::of(alloc, &font.characters(alloc, string)?)
+}
+
 fn text_object(alloc: Global, text: String, string: &[u8]) -> Result<Value, AllocError> {
-    let mut object = Map::new(alloc);
-    let digits = byte_digits(alloc, string)?;
-    put(&mut object, alloc, "string", Value::from(digits))?;
-    put(&mut object, alloc, "text", Value::from(text))?;
-    Ok(Value::Object(object))
+    let mut object = Object::new(alloc);
+    object.set_string("string", byte_digits(alloc, string));
+    object.set("text", Value::from(text));
+    object.finish()
 }
 
-fn string_object(alloc: Global, decoded: Decoded, string: &[u8]) -> Result<Value, AllocError> {
-    let mut object = Map::new(alloc);
-    let digits = byte_digits(alloc, string)?;
-    put(&mut object, alloc, "string", Value::from(digits))?;
-    put_decoded(alloc, &mut object, decoded)?;
-    Ok(Value::Object(object))
-}
-
-fn put_decoded(
-    alloc: Global,
-    object: &mut Map<String, Value>,
-    decoded: Decoded,
-) -> Result<(), AllocError> {
-    let Decoded { codes, text, .. } = decoded;
-    put(object, alloc, "text", Value::from(text))?;
-    let mut objects = Vec::with_capacity(alloc, codes.len())?;
-    for code in codes {
-        objects.push(code_object(alloc, code)?)?;
-    }
-    put(object, alloc, "codes", Value::Array(objects))
-}
-
-/// The codes of a string by the CMaps of a font, and what they stand for.
-fn decode(alloc: Global, font: &Extractor<'_>, string: &[u8]) -> Result<Decoded, AllocError> {
+fn string_object(alloc: Global, font: &Extractor<'_>, string: &[u8]) -> Result<Value, AllocError> {
     let characters = font.characters(alloc, string)?;
-    let mut decoded = Decoded {
-        codes: Vec::with_capacity(alloc, characters.len())?,
-        text: String::new(alloc),
-        is_whole: true,
-    };
+    let Joined { text, .. } = Joined::of(alloc, &characters)?;
+    let mut object = Object::new(alloc);
+    object.set_string("string", byte_digits(alloc, string));
+    object.set("text", Value::from(text));
+    object.set_list("codes", code_objects(alloc, &characters));
+    object.finish()
+}
+
+fn code_objects(alloc: Global, characters: &[Character]) -> Result<Vec<Value>, AllocError> {
+    let mut objects = Vec::with_capacity(alloc, characters.len())?;
     for character in characters {
-        decoded.add(DecodedCode::of(alloc, character)?)?;
+        objects.push(code_object(alloc, character)?)?;
     }
-    Ok(decoded)
+    Ok(objects)
 }
 
 /// Adds a line: the code in ten columns, its CID in twelve, its text, and where it lies.
-fn push_code_line(out: &mut String, decoded: &DecodedCode) -> Result<(), AllocError> {
-    push_code_column(out, decoded.code)?;
-    match decoded.cid {
-        Some(cid) => write!(out, "{cid:>12}  ")?,
-        None => write!(out, "{:>12}  ", "-")?,
-    }
-    push_text_or_dash(out, &decoded.text)?;
-    out.push_str(match (decoded.code.in_codespace, decoded.code.cut_short) {
-        (true, _) => "\n",
-        (false, false) => "  in no codespace range\n",
-        (false, true) => "  cut short\n",
-    })
-}
-
-/// Adds a text between quotation marks, or `-` where there is none.
-pub(crate) fn push_text_or_dash(out: &mut String, text: &Option<String>) -> Result<(), AllocError> {
-    match text {
-        Some(text) => escape::push_quoted(out, text.as_str()),
-        None => out.push('-'),
-    }
+fn push_code_line(out: &mut String, character: &Character) -> Result<(), AllocError> {
+    push_code_column(out, character.code)?;
+    push_cid_column(out, character.cid)?;
+    push_text_or_dash(out, &character.text)?;
+    out.push_str(
+        match (character.code.in_codespace, character.code.cut_short) {
+            (true, _) => "\n",
+            (false, false) => "  in no codespace range\n",
+            (false, true) => "  cut short\n",
+        },
+    )
 }
 
 fn push_code_column(out: &mut String, code: StringCode) -> Result<(), AllocError> {
@@ -197,24 +173,46 @@ fn push_code_column(out: &mut String, code: StringCode) -> Result<(), AllocError
     })
 }
 
-fn code_object(alloc: Global, decoded: DecodedCode) -> Result<Value, AllocError> {
-    let mut object = Map::new(alloc);
-    put_code(alloc, &mut object, decoded)?;
-    Ok(Value::Object(object))
+fn push_cid_column(out: &mut String, cid: Option<u32>) -> Result<(), AllocError> {
+    match cid {
+        Some(cid) => write!(out, "{cid:>12}  "),
+        None => out.push_str("           -  "),
+    }
 }
 
-fn put_code(
-    alloc: Global,
-    object: &mut Map<String, Value>,
-    decoded: DecodedCode,
+/// Adds a text between quotation marks, or `-` where there is none.
+pub(crate) fn push_text_or_dash(
+    out: &mut String,
+    text: &Option<BfString>,
 ) -> Result<(), AllocError> {
-    let DecodedCode { code, cid, text } = decoded;
-    put(object, alloc, "text", Value::from(text))?;
-    put(object, alloc, "cid", Value::from(cid))?;
-    let digits = code_digits(alloc, code.byte_len, code.code)?;
-    put(object, alloc, "code", Value::from(digits))?;
-    let range = String::from_str(alloc, range_word(code))?;
-    put(object, alloc, "range", Value::from(range))
+    match text {
+        Some(BfString::Char(character)) => {
+            escape::push_quoted(out, character.encode_utf8(&mut [0; 4]))
+        }
+        Some(BfString::String(text)) => escape::push_quoted(out, text.as_str()),
+        None => out.push('-'),
+    }
+}
+
+/// The value of a text, `null` where there is none.
+pub(crate) fn text_value(alloc: Global, text: &Option<BfString>) -> Result<Value, AllocError> {
+    match text {
+        Some(BfString::Char(character)) => {
+            Value::try_from_str(alloc, character.encode_utf8(&mut [0; 4]))
+        }
+        Some(BfString::String(text)) => Value::try_from_str(alloc, text.as_str()),
+        None => Ok(Value::Null),
+    }
+}
+
+fn code_object(alloc: Global, character: &Character) -> Result<Value, AllocError> {
+    let code = character.code;
+    let mut object = Object::new(alloc);
+    object.set_made("text", text_value(alloc, &character.text));
+    object.set("cid", Value::from(character.cid));
+    object.set_string("code", code_digits(alloc, code.byte_len, code.code));
+    object.set_text("range", range_word(code));
+    object.finish()
 }
 
 fn range_word(code: StringCode) -> &'static str {

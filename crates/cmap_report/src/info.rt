@@ -4,16 +4,17 @@ ghost use Rattle.std.specs.Prelude.{OnOk, string_bytes};
 ghost use Rattle.cmap_escape.specs.Escapes.{AddsLine, AddsOfLine};
 
 use cmap_escape::digits::{code_digits, push_code};
+use cmap_escape::object::Object;
 use cmap_escape::{escape, json};
 use cmap_queries::code_lengths::LENGTHS;
 use hayro_cmap::{
     ByLength, CMap, CharacterCollection, CodeLength, Codespace, Layer, Metadata, WritingMode,
 };
-use serde_json::{Map, Value, put};
+use serde_json::Value;
 use std::alloc::{AllocError, Global};
 
 /// Adds the paragraph of a file: what it says, and what those say that it is based on. `uses` has the
-/// names that the file of each layer uses.
+/// names that the file of each layer uses. Each value stands behind a label of seventeen columns.
 pub fn push_info(
     out: &mut String,
     file: &str,
@@ -22,9 +23,7 @@ pub fn push_info(
 ) -> Result<(), AllocError> {
     for (index, layer) in map.layers().iter().enumerate() {
         push_heading(out, file, index)?;
-        push_metadata(out, layer.metadata())?;
-        push_uses(out, names_at(uses, index))?;
-        push_declarations(out, layer)?;
+        push_layer(out, layer, names_at(uses, index))?;
     }
     Ok(())
 }
@@ -41,41 +40,29 @@ fn names_at<T>(uses: &[Vec<T>], index: usize) -> &[T] {
 fn push_heading(out: &mut String, file: &str, index: usize) -> Result<(), AllocError> {
     if index == 0 {
         escape::push_text(out, file)?;
+        out.push('\n')
     } else {
-        write!(out, "layer {}", index.saturating_add(1))?;
+        writeln!(out, "layer {}", index.saturating_add(1))
     }
-    out.push('\n')
 }
 
-/// Adds what a layer declares.
-fn push_declarations(out: &mut String, layer: &Layer) -> Result<(), AllocError> {
+/// Adds what a layer says.
+fn push_layer(out: &mut String, layer: &Layer, uses: &[&[u8]]) -> Result<(), AllocError> {
+    push_metadata(out, layer.metadata())?;
+    push_uses(out, uses)?;
     push_codespaces(out, layer.codespaces())?;
-    let counts = layer.counts();
-    push_counts(out, "CID ranges", &counts.cids)?;
-    push_counts(out, "notdef ranges", &counts.notdefs)?;
-    push_label(out, "text ranges")?;
-    match counts.bfs {
-        0 => out.push_str("-\n"),
-        count => writeln!(out, "{count}"),
-    }
-}
-
-/// Adds what stands in front of a value: its label, in seventeen columns.
-fn push_label(out: &mut String, label: &str) -> Result<(), AllocError> {
-    write!(out, "  {label:<15}")
+    push_declarations(out, layer)
 }
 
 fn push_metadata(out: &mut String, metadata: &Metadata) -> Result<(), AllocError> {
-    push_label(out, "name")?;
-    push_name_or_dash(out, metadata)?;
-    push_label(out, "collection")?;
+    push_name(out, metadata)?;
     push_collection_or_dash(out, metadata)?;
-    push_label(out, "writing mode")?;
-    out.push_str(mode_name(metadata.writing_mode).unwrap_or("-"))?;
-    out.push('\n')
+    let mode = mode_name(metadata.writing_mode).unwrap_or("-");
+    writeln!(out, "  writing mode   {mode}")
 }
 
-fn push_name_or_dash(out: &mut String, metadata: &Metadata) -> Result<(), AllocError> {
+fn push_name(out: &mut String, metadata: &Metadata) -> Result<(), AllocError> {
+    out.push_str("  name           ")?;
     match &metadata.name {
         Some(name) => escape::push_name(out, name)?,
         None => out.push('-')?,
@@ -84,6 +71,7 @@ fn push_name_or_dash(out: &mut String, metadata: &Metadata) -> Result<(), AllocE
 }
 
 fn push_collection_or_dash(out: &mut String, metadata: &Metadata) -> Result<(), AllocError> {
+    out.push_str("  collection     ")?;
     match &metadata.character_collection {
         Some(collection) => push_collection(out, collection)?,
         None => out.push('-')?,
@@ -108,54 +96,63 @@ fn mode_name(mode: Option<WritingMode>) -> Option<&'static str> {
 
 /// Adds the names of the files that are used, each after a slash.
 fn push_uses(out: &mut String, names: &[&[u8]]) -> Result<(), AllocError> {
-    push_label(out, "files used")?;
     if names.is_empty() {
-        return out.push_str("-\n");
+        return out.push_str("  files used     -\n");
     }
-    for (index, name) in names.iter().enumerate() {
-        out.push_str(if index == 0 { "/" } else { " /" })?;
-        escape::push_name(out, name)?;
+    out.push_str("  files used    ")?;
+    for name in names {
+        push_used(out, name)?;
     }
     out.push('\n')
 }
 
+fn push_used(out: &mut String, name: &[u8]) -> Result<(), AllocError> {
+    out.push_str(" /")?;
+    escape::push_name(out, name)
+}
+
 /// Adds codespace ranges, one a line.
 fn push_codespaces(out: &mut String, spaces: &[Codespace]) -> Result<(), AllocError> {
-    push_label(out, "codespaces")?;
     if spaces.is_empty() {
-        return out.push_str("-\n");
+        return out.push_str("  codespaces     -\n");
     }
-    for (index, space) in spaces.iter().enumerate() {
-        if index > 0 {
-            push_label(out, "")?;
-        }
-        push_codespace(out, space)?;
+    let mut label = "  codespaces     ";
+    for space in spaces {
+        push_codespace(out, label, space)?;
+        label = "                 ";
     }
     Ok(())
 }
 
 /// Adds a codespace range as `<8140> <9FFC>`, and ends the line.
-fn push_codespace(out: &mut String, space: &Codespace) -> Result<(), AllocError> {
+fn push_codespace(out: &mut String, label: &str, space: &Codespace) -> Result<(), AllocError> {
     let byte_len = space.len.count();
-    out.push('<')?;
+    write!(out, "{label}<")?;
     push_code(out, byte_len, space.low)?;
     out.push_str("> <")?;
     push_code(out, byte_len, space.high)?;
     out.push_str(">\n")
 }
 
+/// Adds how many declarations a layer has.
+fn push_declarations(out: &mut String, layer: &Layer) -> Result<(), AllocError> {
+    push_counts(out, "  CID ranges     ", &layer.counts().cids)?;
+    push_counts(out, "  notdef ranges  ", &layer.counts().notdefs)?;
+    match layer.texts().decl_count() {
+        0 => out.push_str("  text ranges    -\n"),
+        count => writeln!(out, "  text ranges    {count}"),
+    }
+}
+
 /// Adds a line with the counts above 0, as `2 of 1 byte, 1 of 2 bytes`.
 fn push_counts(out: &mut String, label: &str, counts: &ByLength<usize>) -> Result<(), AllocError> {
-    push_label(out, label)?;
+    out.push_str(label)?;
     let before = out.len();
     for len in LENGTHS {
         let separator = if out.len() == before { "" } else { ", " };
         push_count(out, separator, *len, *counts.get(*len))?;
     }
-    if out.len() == before {
-        out.push('-')?;
-    }
-    out.push('\n')
+    out.push_str(if out.len() == before { "-\n" } else { "\n" })
 }
 
 fn push_count(
@@ -198,87 +195,57 @@ fn file_object(
     map: &CMap,
     uses: &[Vec<&[u8]>],
 ) -> Result<Value, AllocError> {
-    let mut object = Map::new(alloc);
-    let path = String::from_str(alloc, file)?;
-    put(&mut object, alloc, "file", Value::from(path))?;
-    put_layers(alloc, &mut object, map, uses)?;
-    Ok(Value::Object(object))
+    let mut object = Object::new(alloc);
+    object.set_text("file", file);
+    object.set_list("layers", layer_objects(alloc, map, uses));
+    object.finish()
 }
 
-fn put_layers(
-    alloc: Global,
-    object: &mut Map<String, Value>,
-    map: &CMap,
-    uses: &[Vec<&[u8]>],
-) -> Result<(), AllocError> {
+fn layer_objects(alloc: Global, map: &CMap, uses: &[Vec<&[u8]>]) -> Result<Vec<Value>, AllocError> {
     let mut layers = Vec::new(alloc);
     for (index, layer) in map.layers().iter().enumerate() {
         layers.push(layer_object(alloc, layer, names_at(uses, index))?)?;
     }
-    put(object, alloc, "layers", Value::Array(layers))
+    Ok(layers)
 }
 
 fn layer_object(alloc: Global, layer: &Layer, uses: &[&[u8]]) -> Result<Value, AllocError> {
-    let mut object = Map::new(alloc);
-    put_layer(alloc, &mut object, layer, uses)?;
-    Ok(Value::Object(object))
+    let mut object = Object::new(alloc);
+    set_declarations(alloc, &mut object, layer);
+    set_metadata(alloc, &mut object, layer.metadata());
+    object.set_list("uses", escape::escaped_names(alloc, uses));
+    object.finish()
 }
 
-fn put_layer(
-    alloc: Global,
-    object: &mut Map<String, Value>,
-    layer: &Layer,
-    uses: &[&[u8]],
-) -> Result<(), AllocError> {
-    put_declarations(alloc, object, layer)?;
-    put_metadata(alloc, object, layer.metadata())?;
-    let names = escape::escaped_names(alloc, uses)?;
-    put(object, alloc, "uses", Value::Array(names))
-}
-
-fn put_declarations(
-    alloc: Global,
-    object: &mut Map<String, Value>,
-    layer: &Layer,
-) -> Result<(), AllocError> {
+fn set_declarations(alloc: Global, object: &mut Object, layer: &Layer) {
     let counts = layer.counts();
-    put(object, alloc, "cids", count_list(alloc, &counts.cids)?)?;
-    put(
-        object,
-        alloc,
-        "notdefs",
-        count_list(alloc, &counts.notdefs)?,
-    )?;
-    put(object, alloc, "texts", Value::from(counts.bfs))?;
-    let spaces = codespace_lists(alloc, layer.codespaces())?;
-    put(object, alloc, "codespaces", Value::Array(spaces))
+    object.set_list("cids", count_list(alloc, &counts.cids));
+    object.set_list("notdefs", count_list(alloc, &counts.notdefs));
+    object.set("texts", Value::from(counts.bfs));
+    object.set_list("codespaces", codespace_lists(alloc, layer.codespaces()));
 }
 
-fn put_metadata(
-    alloc: Global,
-    object: &mut Map<String, Value>,
-    metadata: &Metadata,
-) -> Result<(), AllocError> {
-    let name = name_string(alloc, metadata)?;
-    put(object, alloc, "name", Value::from(name))?;
-    let collection = collection_string(alloc, metadata)?;
-    put(object, alloc, "collection", Value::from(collection))?;
-    let mode = mode_string(alloc, metadata)?;
-    put(object, alloc, "writing_mode", Value::from(mode))
+fn set_metadata(alloc: Global, object: &mut Object, metadata: &Metadata) {
+    object.set_made("name", name_value(alloc, metadata));
+    object.set_made("collection", collection_value(alloc, metadata));
+    match mode_name(metadata.writing_mode) {
+        Some(mode) => object.set_text("writing_mode", mode),
+        None => object.set("writing_mode", Value::Null),
+    }
 }
 
 /// The counts for codes of one, two, three and four bytes.
-fn count_list(alloc: Global, counts: &ByLength<usize>) -> Result<Value, AllocError> {
-    let mut list = Vec::with_capacity(alloc, LENGTHS.len())?;
+fn count_list(alloc: Global, counts: &ByLength<usize>) -> Result<Vec<Value>, AllocError> {
+    let mut list = Vec::new(alloc);
     for len in LENGTHS {
         list.push(Value::from(*counts.get(*len)))?;
     }
-    Ok(Value::Array(list))
+    Ok(list)
 }
 
 /// Codespace ranges, each as a list of its two ends.
 fn codespace_lists(alloc: Global, spaces: &[Codespace]) -> Result<Vec<Value>, AllocError> {
-    let mut lists = Vec::with_capacity(alloc, spaces.len())?;
+    let mut lists = Vec::new(alloc);
     for space in spaces {
         lists.push(codespace_list(alloc, space)?)?;
     }
@@ -286,33 +253,34 @@ fn codespace_lists(alloc: Global, spaces: &[Codespace]) -> Result<Vec<Value>, Al
 }
 
 fn codespace_list(alloc: Global, space: &Codespace) -> Result<Value, AllocError> {
-    let byte_len = space.len.count();
-    let mut ends = Vec::with_capacity(alloc, 2)?;
-    for end in [space.low, space.high] {
-        ends.push(Value::from(code_digits(alloc, byte_len, end)?))?;
-    }
+    let mut ends = Vec::new(alloc);
+    push_end(alloc, &mut ends, space.len, space.low)?;
+    push_end(alloc, &mut ends, space.len, space.high)?;
     Ok(Value::Array(ends))
 }
 
-fn name_string(alloc: Global, metadata: &Metadata) -> Result<Option<String>, AllocError> {
+fn push_end(
+    alloc: Global,
+    ends: &mut Vec<Value>,
+    len: CodeLength,
+    code: u32,
+) -> Result<(), AllocError> {
+    ends.push(Value::from(code_digits(alloc, len.count(), code)?))?;
+    Ok(())
+}
+
+fn name_value(alloc: Global, metadata: &Metadata) -> Result<Value, AllocError> {
     match &metadata.name {
-        Some(name) => Ok(Some(escape::escaped_name(alloc, name)?)),
-        None => Ok(None),
+        Some(name) => Ok(Value::from(escape::escaped_name(alloc, name)?)),
+        None => Ok(Value::Null),
     }
 }
 
-fn collection_string(alloc: Global, metadata: &Metadata) -> Result<Option<String>, AllocError> {
+fn collection_value(alloc: Global, metadata: &Metadata) -> Result<Value, AllocError> {
     let Some(collection) = &metadata.character_collection else {
-        return Ok(None);
+        return Ok(Value::Null);
     };
     let mut name = String::new(alloc);
     push_collection(&mut name, collection)?;
-    Ok(Some(name))
-}
-
-fn mode_string(alloc: Global, metadata: &Metadata) -> Result<Option<String>, AllocError> {
-    match mode_name(metadata.writing_mode) {
-        Some(mode) => Ok(Some(String::from_str(alloc, mode)?)),
-        None => Ok(None),
-    }
+    Ok(Value::from(name))
 }

@@ -3,20 +3,13 @@
 ghost use Rattle.std.specs.Prelude.{OnOk, string_bytes};
 ghost use Rattle.cmap_escape.specs.Escapes.{AddsLine, AddsOfLine};
 
-use crate::decode::push_text_or_dash;
+use crate::decode::{push_text_or_dash, text_value};
 use cmap_escape::json;
+use cmap_escape::object::Object;
 use cmap_queries::query::{Asked, Query};
-use cmap_queries::texts::text_of;
 use hayro_cmap::CMap;
-use serde_json::{Map, Value, put};
+use serde_json::Value;
 use std::alloc::{AllocError, Global};
-
-/// What a map says to a query.
-#[derive(Drop)]
-enum Answer {
-    Cid(Option<u32>),
-    Text(Option<String>),
-}
 
 /// Adds a line: the argument of the query in thirteen columns, and its answer.
 pub fn push_answer(
@@ -41,10 +34,12 @@ fn push_answer_alone(
     map: &CMap,
     query: &Query<'_>,
 ) -> Result<(), AllocError> {
-    match answer_of(alloc, map, query)? {
-        Answer::Cid(Some(cid)) => write!(out, "{cid}"),
-        Answer::Cid(None) => out.push('-'),
-        Answer::Text(text) => push_text_or_dash(out, &text),
+    match query.asked {
+        Asked::Cid { byte_len } => match map.lookup_cid_code(query.code, byte_len) {
+            Some(cid) => write!(out, "{cid}"),
+            None => out.push('-'),
+        },
+        Asked::Text => push_text_or_dash(out, &map.lookup_bf_string(alloc, query.code)?),
     }
 }
 
@@ -65,29 +60,22 @@ pub fn push_json(
 }
 
 fn query_object(alloc: Global, map: &CMap, query: &Query<'_>) -> Result<Value, AllocError> {
-    let mut object = Map::new(alloc);
-    let word = word_of(alloc, query)?;
-    put(&mut object, alloc, "word", Value::from(word))?;
-    put_answer(alloc, &mut object, answer_of(alloc, map, query)?)?;
-    Ok(Value::Object(object))
-}
-
-fn put_answer(
-    alloc: Global,
-    object: &mut Map<String, Value>,
-    answer: Answer,
-) -> Result<(), AllocError> {
-    match answer {
-        Answer::Cid(cid) => put(object, alloc, "cid", Value::from(cid)),
-        Answer::Text(text) => put(object, alloc, "text", Value::from(text)),
-    }
-}
-
-fn answer_of(alloc: Global, map: &CMap, query: &Query<'_>) -> Result<Answer, AllocError> {
+    let mut object = Object::new(alloc);
+    object.set_string("word", word_of(alloc, query));
     match query.asked {
-        Asked::Cid { byte_len } => Ok(Answer::Cid(map.lookup_cid_code(query.code, byte_len))),
-        Asked::Text => Ok(Answer::Text(text_of(alloc, map, query.code)?)),
+        Asked::Cid { byte_len } => {
+            let cid = map.lookup_cid_code(query.code, byte_len);
+            object.set("cid", Value::from(cid));
+        }
+        Asked::Text => object.set_made("text", text_at(alloc, map, query.code)),
     }
+    object.finish()
+}
+
+/// The value of the text of a code.
+fn text_at(alloc: Global, map: &CMap, code: u32) -> Result<Value, AllocError> {
+    let text = map.lookup_bf_string(alloc, code)?;
+    text_value(alloc, &text)
 }
 
 /// The argument that spells a query.

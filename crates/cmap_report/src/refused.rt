@@ -4,8 +4,9 @@ use crate::fault_line::LineCounter;
 use cmap_binary::is_marked_binary;
 use cmap_escape::escape::{escaped_names, push_name};
 use cmap_escape::json::push_value;
+use cmap_escape::object::Object;
 use hayro_cmap::{Bundle, Cause, NamedFile, NamedFiles, Refusal, Stop};
-use serde_json::{Map, Value, put};
+use serde_json::Value;
 use std::alloc::{AllocError, Global};
 use std::fmt::Write;
 
@@ -81,11 +82,11 @@ fn push_named(out: &mut String, text: &str, name: Option<&[u8]>) -> Result<(), A
 
 /// Adds where reading stopped and why, as `byte 42 (line 3): a CID was expected`.
 fn push_stop(out: &mut String, located: LocatedStop) -> Result<(), AllocError> {
-    write!(out, "byte {}", located.stop.offset)?;
-    if let Some(line) = located.line {
-        write!(out, " (line {line})")?;
+    let Stop { offset, reason } = located.stop;
+    match located.line {
+        Some(line) => write!(out, "byte {offset} (line {line}): {reason}"),
+        None => write!(out, "byte {offset}: {reason}"),
     }
-    write!(out, ": {}", located.stop.reason)
 }
 
 /// Adds the object of a refused file, without an end of the line. `lines` is as in `push_refusal`.
@@ -98,36 +99,29 @@ pub fn push_refusal_json<'n, N: NamedFile>(
     refusal: &Refusal<'n>,
     lines: &mut LineCounter<'n>,
 ) -> Result<(), AllocError> {
-    let mut object = Map::new(alloc);
-    let file = String::from_str(alloc, path)?;
-    put(&mut object, alloc, "file", Value::from(file))?;
-    put(&mut object, alloc, "ok", Value::from(false))?;
-    put_refusal(
-        alloc,
-        &mut object,
-        stop_of(bytes, files, refusal, lines),
-        refusal,
-    )?;
-    push_value(alloc, out, &Value::Object(object))
+    let located = stop_of(bytes, files, refusal, lines);
+    let object = refusal_object(alloc, path, located, refusal)?;
+    push_value(alloc, out, &object)
 }
 
-/// Sets the members that report the file at fault, where reading stopped in it, and why.
-fn put_refusal(
+fn refusal_object(
     alloc: Global,
-    object: &mut Map<String, Value>,
+    path: &str,
     located: Option<LocatedStop>,
     refusal: &Refusal<'_>,
-) -> Result<(), AllocError> {
-    let names = escaped_names(alloc, &refusal.names)?;
-    put(object, alloc, "in", Value::Array(names))?;
+) -> Result<Value, AllocError> {
     let (byte, line) = match located {
         Some(located) => (Some(located.stop.offset), located.line),
         None => (None, None),
     };
-    put(object, alloc, "byte", Value::from(byte))?;
-    put(object, alloc, "line", Value::from(line))?;
-    let reason = reason_of(alloc, refusal)?;
-    put(object, alloc, "reason", Value::from(reason))
+    let mut object = Object::new(alloc);
+    object.set_text("file", path);
+    object.set("ok", Value::from(false));
+    object.set_list("in", escaped_names(alloc, &refusal.names));
+    object.set("byte", Value::from(byte));
+    object.set("line", Value::from(line));
+    object.set_string("reason", reason_of(alloc, refusal));
+    object.finish()
 }
 
 /// What is wrong: where reading stopped, or with the file as a whole.

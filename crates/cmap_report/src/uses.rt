@@ -33,14 +33,25 @@ fn uses_of<'d>(
     file: &'d [u8],
     bundle: Option<&Bundle<'_>>,
 ) -> Result<Vec<&'d [u8]>, AllocError> {
-    if let Some(names) = CMap::uses(alloc, file, bundle)? {
-        return Ok(names);
+    match CMap::uses(alloc, file, bundle)? {
+        Some(names) => Ok(names),
+        None => {
+            let Salvaged { file, faults: _ } = salvaged(alloc, file, bundle)?;
+            Ok(file.uses)
+        }
     }
-    let Salvaged { file, faults: _ } = match bundle {
-        Some(bundle) if is_marked_binary(file) => salvage_binary(alloc, bundle, file)?,
-        _ => salvage_text(alloc, file)?,
-    };
-    Ok(file.uses)
+}
+
+/// What a file says, also past its faults.
+fn salvaged<'d>(
+    alloc: Global,
+    file: &'d [u8],
+    bundle: Option<&Bundle<'_>>,
+) -> Result<Salvaged<'d>, AllocError> {
+    match bundle {
+        Some(bundle) if is_marked_binary(file) => salvage_binary(alloc, bundle, file),
+        _ => salvage_text(alloc, file),
+    }
 }
 
 /// The file under one that uses these: the last of them.
