@@ -1,10 +1,9 @@
 //! What codes have over all layers, run by run.
 
-use crate::line::{Given, Line};
-use cmap_queries::code_lengths::{LENGTHS, has_codes, last_code, text_code_len};
-use cmap_queries::texts::text_string;
+use crate::line::{Given, Line, add_texts_of};
+use cmap_queries::code_lengths::{LENGTHS, has_codes, last_code};
 use hayro_cmap::runs::Range;
-use hayro_cmap::{CMap, CidStretch, Cids, CodeLength, TextStretch, utf16};
+use hayro_cmap::{CMap, CidStretch, Cids, CodeLength, TextStretch};
 use std::alloc::{AllocError, Global};
 
 /// What codes have: their CIDs, for each length that codes of the map have, and then their texts.
@@ -88,19 +87,12 @@ fn add_text(
     stretch: TextStretch<'_>,
     first: u32,
 ) -> Result<(), AllocError> {
-    let Some(declaration) = stretch.declaration else {
-        return Ok(());
-    };
-    let offset = first.saturating_sub(declaration.range.start);
-    let text = utf16::text(alloc, declaration.units.as_slice(), offset)?;
     let range = Range {
         start: first,
         end: stretch.last,
     };
-    lines.push(Line {
-        byte_len: text_code_len(map.layers(), range),
-        range,
-        given: Given::Texts(text_string(alloc, text)?),
-    })?;
-    Ok(())
+    match stretch.declaration {
+        Some(declaration) => add_texts_of(alloc, lines, map, declaration, range),
+        None => Ok(()),
+    }
 }

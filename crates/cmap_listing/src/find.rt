@@ -5,12 +5,14 @@ ghost use Rattle.cmap_escape.specs.Escapes.{AddsLine, AddsOfLine};
 
 use crate::line::push_range;
 use cmap_escape::digits::code_digits;
+use cmap_escape::object::Object;
 use cmap_escape::{escape, json};
+use cmap_queries::arguments::decimal;
 use cmap_queries::code_lengths::{LENGTHS, has_codes, text_code_len};
 use cmap_queries::texts::text_of;
 use hayro_cmap::runs::Range;
 use hayro_cmap::{BfRange, CMap, TextStretch};
-use serde_json::{Map, Value, put};
+use serde_json::Value;
 use std::alloc::{AllocError, Global};
 
 /// What codes are asked for.
@@ -26,9 +28,7 @@ impl<'a> Wanted<'a> {
     /// What an argument asks for: `cid:N` with a decimal number, or `text:TEXT`.
     pub fn parse(argument: &'a str) -> Option<Wanted<'a>> {
         match argument.split_once(':')? {
-            ("cid", digits) if digits.starts_with(|c: char| c.is_ascii_digit()) => {
-                Some(Wanted::Cid(digits.parse::<u32>().ok()?))
-            }
+            ("cid", digits) => Some(Wanted::Cid(u32::try_from(decimal(digits)?).ok()?)),
             ("text", text) if !text.is_empty() => Some(Wanted::Text(text)),
             _ => None,
         }
@@ -53,16 +53,24 @@ pub fn push_codes(
 ) -> Result<(), AllocError> {
     let mut word = String::new(alloc);
     escape::push_text(&mut word, argument)?;
-    let found = codes_of(alloc, map, wanted)?;
+    push_found(out, word.as_str(), &codes_of(alloc, map, wanted)?)
+}
+
+/// Adds a line for each range of codes.
+fn push_found(out: &mut String, word: &str, found: &[Codes]) -> Result<(), AllocError> {
     if found.is_empty() {
         return writeln!(out, "{word:<12} -");
     }
-    for codes in &found {
-        write!(out, "{word:<12} ")?;
-        push_range(out, codes.byte_len, codes.range)?;
-        out.push('\n')?;
+    for codes in found {
+        push_found_line(out, word, *codes)?;
     }
     Ok(())
+}
+
+fn push_found_line(out: &mut String, word: &str, codes: Codes) -> Result<(), AllocError> {
+    write!(out, "{word:<12} ")?;
+    push_range(out, codes.byte_len, codes.range)?;
+    out.push('\n')
 }
 
 /// Adds the object of an argument, and ends the line.
@@ -78,30 +86,47 @@ pub fn push_json(
     // Also where memory runs out.
     ensures printable { AddsOfLine (string_bytes out.old) (string_bytes out.new) }
 {
-    let found = codes_of(alloc, map, wanted)?;
-    let object = codes_object(alloc, argument, &found)?;
+    let object = codes_object(alloc, map, argument, wanted)?;
     json::push_line(alloc, out, &object)
 }
 
-fn codes_object(alloc: Global, argument: &str, found: &[Codes]) -> Result<Value, AllocError> {
-    let mut object = Map::new(alloc);
-    let word = String::from_str(alloc, argument)?;
-    put(&mut object, alloc, "word", Value::from(word))?;
-    let mut ranges = Vec::with_capacity(alloc, found.len())?;
-    for codes in found {
+fn codes_object(
+    alloc: Global,
+    map: &CMap,
+    argument: &str,
+    wanted: Wanted<'_>,
+) -> Result<Value, AllocError> {
+    let mut object = Object::new(alloc);
+    object.set_text("word", argument);
+    object.set_list("codes", code_lists(alloc, map, wanted));
+    object.finish()
+}
+
+/// The codes that are asked for, each range as a list of its two ends.
+fn code_lists(alloc: Global, map: &CMap, wanted: Wanted<'_>) -> Result<Vec<Value>, AllocError> {
+    let mut ranges = Vec::new(alloc);
+    for codes in &codes_of(alloc, map, wanted)? {
         ranges.push(range_list(alloc, *codes)?)?;
     }
-    put(&mut object, alloc, "codes", Value::Array(ranges))?;
-    Ok(Value::Object(object))
+    Ok(ranges)
 }
 
 /// A range as a list of its two ends.
 fn range_list(alloc: Global, codes: Codes) -> Result<Value, AllocError> {
-    let mut ends = Vec::with_capacity(alloc, 2)?;
-    for end in [codes.range.start, codes.range.end] {
-        ends.push(Value::from(code_digits(alloc, codes.byte_len, end)?))?;
-    }
+    let mut ends = Vec::new(alloc);
+    push_end(alloc, &mut ends, codes.byte_len, codes.range.start)?;
+    push_end(alloc, &mut ends, codes.byte_len, codes.range.end)?;
     Ok(Value::Array(ends))
+}
+
+fn push_end(
+    alloc: Global,
+    ends: &mut Vec<Value>,
+    byte_len: u8,
+    code: u32,
+) -> Result<(), AllocError> {
+    ends.push(Value::from(code_digits(alloc, byte_len, code)?))?;
+    Ok(())
 }
 
 /// The codes that are asked for.
@@ -154,9 +179,7 @@ fn codes_of_text(alloc: Global, map: &CMap, text: &str) -> Result<Vec<Codes>, Al
 fn units_of(alloc: Global, text: &str) -> Result<Vec<u16>, AllocError> {
     let mut units = Vec::new(alloc);
     for character in text.chars() {
-        for unit in character.encode_utf16(&mut [0; 2]).iter() {
-            units.push(*unit)?;
-        }
+        units.extend_from_slice(character.encode_utf16(&mut [0; 2]))?;
     }
     Ok(units)
 }

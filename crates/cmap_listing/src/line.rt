@@ -6,8 +6,12 @@ ghost use Rattle.cmap_escape.specs.Escapes.{AddsLine, AddsOfLine};
 use cmap_escape::digits::{code_digits, push_code};
 use cmap_escape::escape::push_quoted;
 use cmap_escape::json;
+use cmap_escape::object::Object;
+use cmap_queries::code_lengths::text_code_len;
+use cmap_queries::texts::text_string;
 use hayro_cmap::runs::Range;
-use serde_json::{Map, Value, put};
+use hayro_cmap::{BfRange, CMap, utf16};
+use serde_json::Value;
 use std::alloc::{AllocError, Global};
 
 /// A declaration of a layer, or what codes in a row have over all layers.
@@ -64,6 +68,24 @@ impl Given {
     }
 }
 
+/// Adds the texts of the codes in a range, which a declaration gives them.
+pub(crate) fn add_texts_of(
+    alloc: Global,
+    lines: &mut Vec<Line>,
+    map: &CMap,
+    declared: &BfRange,
+    range: Range,
+) -> Result<(), AllocError> {
+    let offset = range.start.saturating_sub(declared.range.start);
+    let text = utf16::text(alloc, declared.units.as_slice(), offset)?;
+    lines.push(Line {
+        byte_len: text_code_len(map.layers(), range),
+        range,
+        given: Given::Texts(text_string(alloc, text)?),
+    })?;
+    Ok(())
+}
+
 /// Adds a declaration, as `cid <8140> <817E> 633`, and ends the line.
 pub fn push_line(out: &mut String, line: &Line) -> Result<(), AllocError> {
     out.push_str(line.given.kind())?;
@@ -114,47 +136,23 @@ pub fn push_json(
 }
 
 fn line_object(alloc: Global, line: Line, layer: Option<usize>) -> Result<Value, AllocError> {
-    let mut object = Map::new(alloc);
+    let Range { start, end } = line.range;
+    let mut object = Object::new(alloc);
     if let Some(layer) = layer {
-        put(&mut object, alloc, "layer", Value::from(layer))?;
+        object.set("layer", Value::from(layer));
     }
-    put_line(alloc, &mut object, line)?;
-    Ok(Value::Object(object))
+    object.set_text("kind", line.given.kind());
+    object.set_string("first", code_digits(alloc, line.byte_len, start));
+    object.set_string("last", code_digits(alloc, line.byte_len, end));
+    set_given(&mut object, line.given);
+    object.finish()
 }
 
-fn put_line(alloc: Global, object: &mut Map<String, Value>, line: Line) -> Result<(), AllocError> {
-    let Line {
-        byte_len,
-        range,
-        given,
-    } = line;
-    let kind = String::from_str(alloc, given.kind())?;
-    put(object, alloc, "kind", Value::from(kind))?;
-    put_code(alloc, object, "first", byte_len, range.start)?;
-    put_code(alloc, object, "last", byte_len, range.end)?;
-    put_given(alloc, object, given)
-}
-
-fn put_code(
-    alloc: Global,
-    object: &mut Map<String, Value>,
-    key: &str,
-    byte_len: u8,
-    code: u32,
-) -> Result<(), AllocError> {
-    let digits = code_digits(alloc, byte_len, code)?;
-    put(object, alloc, key, Value::from(digits))
-}
-
-fn put_given(
-    alloc: Global,
-    object: &mut Map<String, Value>,
-    given: Given,
-) -> Result<(), AllocError> {
+fn set_given(object: &mut Object, given: Given) {
     match given {
-        Given::Codespace => Ok(()),
-        Given::Cids(cid) => put(object, alloc, "cid", Value::from(cid)),
-        Given::Notdef(cid) => put(object, alloc, "cid", Value::from(cid)),
-        Given::Texts(text) => put(object, alloc, "text", Value::from(text)),
+        Given::Codespace => {}
+        Given::Cids(cid) => object.set("cid", Value::from(cid)),
+        Given::Notdef(cid) => object.set("cid", Value::from(cid)),
+        Given::Texts(text) => object.set("text", Value::from(text)),
     }
 }

@@ -1,10 +1,9 @@
 //! What the layers of a map declare, declaration by declaration.
 
-use crate::line::{Given, Line};
-use cmap_queries::code_lengths::{LENGTHS, text_code_len};
-use cmap_queries::texts::text_string;
+use crate::line::{Given, Line, add_texts_of};
+use cmap_queries::code_lengths::LENGTHS;
 use hayro_cmap::runs::{Looks, Range, Table};
-use hayro_cmap::{BfRange, CMap, CidRange, CodeLength, Codespace, Layer, utf16};
+use hayro_cmap::{BfRange, CMap, CidRange, CodeLength, Codespace, Layer};
 use std::alloc::{AllocError, Global};
 
 /// What each layer declares, that of the top layer first: its codespace ranges, then its CIDs, its
@@ -103,12 +102,7 @@ fn add_texts(
     let mut looks = Looks::new();
     for index in 0..table.decl_count() {
         let declared = table.decl(index, &mut looks);
-        let text = utf16::text(alloc, declared.units.as_slice(), 0)?;
-        lines.push(Line {
-            byte_len: text_code_len(map.layers(), declared.range),
-            range: declared.range,
-            given: Given::Texts(text_string(alloc, text)?),
-        })?;
+        add_texts_of(alloc, lines, map, declared, declared.range)?;
     }
     Ok(())
 }
