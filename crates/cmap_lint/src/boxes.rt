@@ -27,14 +27,22 @@ impl CodeBox {
 
     /// Whether it has a code.
     fn has_codes(&self) -> bool {
-        (0..4).all(|index: usize| self.low[index] <= self.high[index])
+        for index in 0..4 {
+            if self.low[index] > self.high[index] {
+                return false;
+            }
+        }
+        true
     }
 
     /// Whether it has a code of another one.
     fn meets(&self, other: &CodeBox) -> bool {
-        (0..4).all(|index: usize| {
-            self.low[index] <= other.high[index] && other.low[index] <= self.high[index]
-        })
+        for index in 0..4 {
+            if self.low[index] > other.high[index] || other.low[index] > self.high[index] {
+                return false;
+            }
+        }
+        true
     }
 
     /// How many of its codes are up to and including this one.

@@ -8,6 +8,7 @@ use cmap_queries::code_lengths::text_code_len;
 use hayro_cmap::runs::{Looks, Range};
 use hayro_cmap::{CMap, Layer};
 use std::alloc::{AllocError, Global};
+use std::str::Chars;
 
 /// The warnings about characters.
 pub(crate) const CHARACTER_WARNINGS: &[Warning] = &[
@@ -97,25 +98,44 @@ fn add_span(finding: &mut Finding<'_>, map: &CMap, span: &TextSpan) {
     let Some(last) = characters.next_back() else {
         return;
     };
-    if characters.any(|character| is_among(character, points)) {
-        return add_codes(finding, map, span.codes);
+    if has_any(characters, points) {
+        add_codes(finding, map, span.codes);
+    } else {
+        add_areas(finding, map, span.codes, last);
     }
-    for (start, end) in points {
-        let area = Range {
-            start: *start,
-            end: *end,
-        };
-        if let Some(codes) = codes_with(span.codes, u32::from(last), area) {
-            add_codes(finding, map, codes);
+}
+
+/// Whether one of these characters is one of the points.
+fn has_any(characters: Chars<'_>, points: &[Points]) -> bool {
+    for character in characters {
+        if is_among(character, points) {
+            return true;
         }
     }
+    false
 }
 
 fn is_among(character: char, points: &[Points]) -> bool {
     let point = u32::from(character);
-    points
-        .iter()
-        .any(|(start, end)| *start <= point && point <= *end)
+    for (start, end) in points {
+        if *start <= point && point <= *end {
+            return true;
+        }
+    }
+    false
+}
+
+/// Adds the codes whose last character is one of the points, where the first code has this one.
+fn add_areas(finding: &mut Finding<'_>, map: &CMap, codes: Range, last: char) {
+    for (start, end) in points_of(finding.warning) {
+        let area = Range {
+            start: *start,
+            end: *end,
+        };
+        if let Some(codes) = codes_with(codes, u32::from(last), area) {
+            add_codes(finding, map, codes);
+        }
+    }
 }
 
 /// The codes whose last character is one of an area, where the first code has this one.

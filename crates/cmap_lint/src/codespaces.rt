@@ -4,24 +4,33 @@ use crate::boxes::{CodeBox, boxes_apart, count_outside, first_outside};
 use crate::declared::CID_LISTS;
 use crate::finding::{Finding, Place};
 use crate::ranges::{code_count, push_range, union};
-use crate::text_spans::spans_of;
+use crate::text_spans::without_text;
 use crate::warning::Warning;
 use cmap_queries::code_lengths::LENGTHS;
 use hayro_cmap::runs::{Looks, Range, Table};
 use hayro_cmap::{CMap, CidRange, CodeLength, Codespace, Layer, TextStretch};
 use std::alloc::{AllocError, Global};
 
+/// The lengths of codes among which those without a text are looked for.
+const SHORT_LENGTHS: &[CodeLength] = &[CodeLength::One, CodeLength::Two];
+
 /// That no layer has a codespace range.
 pub(crate) fn no_codespace<'m>(map: &CMap) -> Finding<'m> {
     let mut finding = Finding::new(Warning::NoCodespace);
-    if map
-        .layers()
-        .iter()
-        .all(|layer| layer.codespaces().is_empty())
-    {
+    if !has_codespace(map) {
         finding.add(1, Place::File);
     }
     finding
+}
+
+/// Whether some layer has a codespace range.
+pub(crate) fn has_codespace(map: &CMap) -> bool {
+    for layer in map.layers() {
+        if !layer.codespaces().is_empty() {
+            return true;
+        }
+    }
+    false
 }
 
 /// The codes that the top layer gives a CID or a notdef, and that lie in no codespace range.
@@ -32,16 +41,33 @@ pub(crate) fn outside_codespace<'m>(
 ) -> Result<Finding<'m>, AllocError> {
     let mut finding = Finding::new(Warning::OutsideCodespace);
     for len in LENGTHS {
-        if let Some(boxes) = boxes_apart(alloc, &spaces_of(alloc, map, *len)?)? {
-            let ranges = declared_codes(alloc, layer, *len)?;
-            add_outside(&mut finding, &boxes, &ranges, *len);
-        }
+        add_outside(alloc, &mut finding, map, layer, *len)?;
     }
     Ok(finding)
 }
 
+/// Adds those that have a length.
+fn add_outside(
+    alloc: Global,
+    finding: &mut Finding<'_>,
+    map: &CMap,
+    layer: &Layer,
+    len: CodeLength,
+) -> Result<(), AllocError> {
+    if let Some(boxes) = boxes_of(alloc, map, len)? {
+        let ranges = declared_codes(alloc, layer, len)?;
+        add_outside_boxes(finding, &boxes, &ranges, len);
+    }
+    Ok(())
+}
+
 /// Adds the codes of ranges that lie in none of the boxes.
-fn add_outside(finding: &mut Finding<'_>, boxes: &[CodeBox], ranges: &[Range], len: CodeLength) {
+fn add_outside_boxes(
+    finding: &mut Finding<'_>,
+    boxes: &[CodeBox],
+    ranges: &[Range],
+    len: CodeLength,
+) {
     for range in ranges {
         let count = count_outside(boxes, *range);
         if count > 0 {
@@ -50,6 +76,15 @@ fn add_outside(finding: &mut Finding<'_>, boxes: &[CodeBox], ranges: &[Range], l
             finding.add(count, Place::Code { byte_len, code });
         }
     }
+}
+
+/// The codes of a length that lie in a codespace range of some layer.
+fn boxes_of(
+    alloc: Global,
+    map: &CMap,
+    len: CodeLength,
+) -> Result<Option<Vec<CodeBox>>, AllocError> {
+    boxes_apart(alloc, &spaces_of(alloc, map, len)?)
 }
 
 /// The codespace ranges of a length, those of all layers.
@@ -94,9 +129,9 @@ fn add_ranges(ranges: &mut Vec<Range>, table: &Table<CidRange>) -> Result<(), Al
 /// The codes of one and of two bytes that lie in a codespace range and have no text.
 pub(crate) fn no_mapping<'m>(alloc: Global, map: &CMap) -> Result<Finding<'m>, AllocError> {
     let mut finding = Finding::new(Warning::NoMapping);
-    for len in [CodeLength::One, CodeLength::Two] {
-        if let Some(boxes) = boxes_apart(alloc, &spaces_of(alloc, map, len)?)? {
-            add_unmapped(alloc, &mut finding, map, &boxes, len)?;
+    for len in SHORT_LENGTHS {
+        if let Some(boxes) = boxes_of(alloc, map, *len)? {
+            add_unmapped(alloc, &mut finding, map, &boxes, *len)?;
         }
     }
     Ok(finding)
@@ -160,16 +195,10 @@ fn add_unmapped_stretch(
     codes: Range,
     len: CodeLength,
 ) -> Result<(), AllocError> {
-    let mut count = code_count(codes);
-    let mut code = codes.start;
-    if let Some(declared) = stretch.declaration {
-        for span in &spans_of(alloc, declared, codes)? {
-            count = count.saturating_sub(code_count(span.codes));
-            if span.codes.start == code {
-                code = span.codes.end.saturating_add(1);
-            }
-        }
-    }
+    let (count, code) = match stretch.declaration {
+        Some(declared) => without_text(alloc, declared, codes)?,
+        None => (code_count(codes), codes.start),
+    };
     let byte_len = len.count();
     finding.add(count, Place::Code { byte_len, code });
     Ok(())

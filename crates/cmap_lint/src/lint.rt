@@ -1,7 +1,7 @@
 //! All warnings of a file.
 
 use crate::characters::{CHARACTER_WARNINGS, characters};
-use crate::codespaces::{no_codespace, no_mapping, outside_codespace};
+use crate::codespaces::{has_codespace, no_codespace, no_mapping, outside_codespace};
 use crate::finding::{Finding, Place};
 use crate::identity::{mode_differs, name_differs};
 use crate::overlaps::overlaps;
@@ -9,7 +9,7 @@ use crate::sections::count_differs;
 use crate::shapes::Shapes;
 use crate::text_spans::no_text;
 use crate::warning::Warning;
-use cmap_queries::code_lengths::LENGTHS;
+use cmap_queries::code_lengths::{LENGTHS, has_codes};
 use hayro_cmap::{CMap, Layer};
 use std::alloc::{AllocError, Global};
 
@@ -31,76 +31,99 @@ pub fn findings_of<'m>(
     alloc: Global,
     subject: &Subject<'m>,
 ) -> Result<Vec<Finding<'m>>, AllocError> {
-    let mut found = Vec::new(alloc);
-    add(&mut found, nothing_declared(subject.map))?;
-    add(&mut found, no_codespace(subject.map))?;
+    let mut findings = Findings::new(alloc);
+    findings.add(nothing_declared(subject.map));
+    findings.add(no_codespace(subject.map));
     if let Some(layer) = subject.map.layers().first() {
-        add_of_layer(alloc, &mut found, subject.map, layer)?;
+        findings.add_of_layer(alloc, subject.map, layer);
         if subject.to_unicode {
-            add_to_unicode(alloc, &mut found, subject.map, layer)?;
+            findings.add_to_unicode(alloc, subject.map, layer);
         }
     }
-    add(&mut found, name_differs(subject.map, subject.file_name))?;
-    add(&mut found, mode_differs(subject.map))?;
+    findings.add(name_differs(subject.map, subject.file_name));
+    findings.add(mode_differs(subject.map));
     if let Some(text) = subject.text {
-        add(&mut found, count_differs(text))?;
+        findings.add(count_differs(text));
     }
-    Ok(found)
+    findings.finish()
 }
 
 /// That a file has no codespace range, no declaration and no use of another file.
 pub fn nothing_declared<'m>(map: &CMap) -> Finding<'m> {
     let mut finding = Finding::new(Warning::NothingDeclared);
     if let [layer] = map.layers() {
-        if is_empty(layer) {
+        if layer.texts().decl_count() == 0 && !has_codes_of_any_length(map) {
             finding.add(1, Place::File);
         }
     }
     finding
 }
 
-/// Whether a layer has no codespace range and no declaration.
-fn is_empty(layer: &Layer) -> bool {
-    let counts = layer.counts();
-    layer.codespaces().is_empty()
-        && counts.bfs == 0
-        && LENGTHS.iter().all(|len| *counts.cids.get(*len) == 0 && *counts.notdefs.get(*len) == 0)
+/// Whether a map has a codespace range, or a declaration of CIDs or notdefs.
+fn has_codes_of_any_length(map: &CMap) -> bool {
+    for len in LENGTHS {
+        if has_codes(map, *len) {
+            return true;
+        }
+    }
+    false
 }
 
-/// Adds a warning that concerns something.
-fn add<'m>(found: &mut Vec<Finding<'m>>, finding: Finding<'m>) -> Result<(), AllocError> {
-    if finding.count > 0 {
-        found.push(finding)?;
-    }
-    Ok(())
+/// The warnings that are found so far. Where memory runs out for one, `finish` says so.
+#[derive(Drop)]
+struct Findings<'m> {
+    found: Vec<Finding<'m>>,
+    is_whole: bool,
 }
 
-/// Adds what looks wrong in the declarations of the top layer.
-fn add_of_layer<'m>(
-    alloc: Global,
-    found: &mut Vec<Finding<'m>>,
-    map: &'m CMap,
-    layer: &Layer,
-) -> Result<(), AllocError> {
-    if no_codespace(map).count == 0 {
-        add(found, outside_codespace(alloc, map, layer)?)?;
+impl<'m> Findings<'m> {
+    fn new(alloc: Global) -> Findings<'m> {
+        Findings {
+            found: Vec::new(alloc),
+            is_whole: true,
+        }
     }
-    add(found, overlaps(alloc, map, layer)?)?;
-    let shapes = Shapes::of(map, layer);
-    add(found, shapes.inverted)?;
-    add(found, shapes.crossing)?;
-    add(found, no_text(alloc, map, layer)?)
-}
 
-/// Adds what looks wrong in a map to Unicode.
-fn add_to_unicode<'m>(
-    alloc: Global,
-    found: &mut Vec<Finding<'m>>,
-    map: &'m CMap,
-    layer: &Layer,
-) -> Result<(), AllocError> {
-    for warning in CHARACTER_WARNINGS {
-        add(found, characters(alloc, map, layer, *warning)?)?;
+    /// Adds a warning that concerns something.
+    fn add(&mut self, finding: Finding<'m>) {
+        if finding.count > 0 && self.found.push(finding).is_err() {
+            self.is_whole = false;
+        }
     }
-    add(found, no_mapping(alloc, map)?)
+
+    /// Adds a warning, for which memory may have run out.
+    fn add_found(&mut self, finding: Result<Finding<'m>, AllocError>) {
+        match finding {
+            Ok(finding) => self.add(finding),
+            Err(AllocError) => self.is_whole = false,
+        }
+    }
+
+    /// Adds what looks wrong in the declarations of the top layer.
+    fn add_of_layer(&mut self, alloc: Global, map: &'m CMap, layer: &Layer) {
+        if has_codespace(map) {
+            self.add_found(outside_codespace(alloc, map, layer));
+        }
+        self.add_found(overlaps(alloc, map, layer));
+        let shapes = Shapes::of(map, layer);
+        self.add(shapes.inverted);
+        self.add(shapes.crossing);
+        self.add_found(no_text(alloc, map, layer));
+    }
+
+    /// Adds what looks wrong in a map to Unicode.
+    fn add_to_unicode(&mut self, alloc: Global, map: &'m CMap, layer: &Layer) {
+        for warning in CHARACTER_WARNINGS {
+            self.add_found(characters(alloc, map, layer, *warning));
+        }
+        self.add_found(no_mapping(alloc, map));
+    }
+
+    fn finish(self) -> Result<Vec<Finding<'m>>, AllocError> {
+        if self.is_whole {
+            Ok(self.found)
+        } else {
+            Err(AllocError)
+        }
+    }
 }

@@ -2,7 +2,7 @@
 
 use crate::declared::{CID_LISTS, CidList};
 use crate::finding::{Finding, Place};
-use crate::ranges::{code_count, join, push_range, union};
+use crate::ranges::{code_count, join, push_range, sort, union};
 use crate::warning::Warning;
 use cmap_queries::code_lengths::{LENGTHS, text_code_len};
 use hayro_cmap::runs::{Looks, Range, Table};
@@ -18,12 +18,11 @@ struct Grouped {
 
 /// A declaration of texts by what two that agree have in common: all units but the last, and what the
 /// last one would be at code 0.
-#[derive(Clone, Copy, PartialEq, Eq, PartialOrd, Ord)]
+#[derive(Clone, Copy)]
 struct TextKey<'d> {
     front: &'d [u16],
     at_zero: i64,
-    start: u32,
-    end: u32,
+    range: Range,
 }
 
 /// The codes of the top layer with declarations that disagree.
@@ -36,12 +35,23 @@ pub(crate) fn overlaps<'m>(
     for list in CID_LISTS {
         add_list(alloc, &mut finding, layer, *list)?;
     }
-    let ranges = disputed(alloc, grouped_texts(alloc, layer.texts())?)?;
-    for range in &ranges {
-        let byte_len = text_code_len(map.layers(), *range);
-        add_codes(&mut finding, byte_len, *range);
-    }
+    add_texts(alloc, &mut finding, map, layer)?;
     Ok(finding)
+}
+
+/// Adds the codes whose texts disagree.
+fn add_texts(
+    alloc: Global,
+    finding: &mut Finding<'_>,
+    map: &CMap,
+    layer: &Layer,
+) -> Result<(), AllocError> {
+    let grouped = grouped_texts(alloc, layer.texts())?;
+    for range in &disputed(alloc, grouped)? {
+        let byte_len = text_code_len(map.layers(), *range);
+        add_codes(finding, byte_len, *range);
+    }
+    Ok(())
 }
 
 /// Adds the codes of a list.
@@ -66,8 +76,7 @@ fn add_of_length(
     len: CodeLength,
 ) -> Result<(), AllocError> {
     let grouped = grouped_cids(alloc, list, list.table(layer, len))?;
-    let ranges = disputed(alloc, grouped)?;
-    for range in &ranges {
+    for range in &disputed(alloc, grouped)? {
         add_codes(finding, len.count(), *range);
     }
     Ok(())
@@ -111,21 +120,24 @@ fn push_grouped(grouped: &mut Vec<Grouped>, declared: Grouped) -> Result<(), All
 /// The declarations of texts that have a code, by groups.
 fn grouped_texts(alloc: Global, table: &Table<BfRange>) -> Result<Vec<Grouped>, AllocError> {
     let keys = text_keys(alloc, table)?;
-    let mut grouped = Vec::with_capacity(alloc, keys.len())?;
+    let mut grouped = Vec::new(alloc);
+    push_groups(&mut grouped, &keys)?;
+    Ok(grouped)
+}
+
+/// Adds the declarations of texts, those that agree one after another.
+fn push_groups(grouped: &mut Vec<Grouped>, keys: &[TextKey<'_>]) -> Result<(), AllocError> {
     let mut group: i64 = 0;
     let mut before: Option<TextKey<'_>> = None;
-    for key in &keys {
+    for key in keys {
         if !is_of_group(before, key) {
             group = group.saturating_add(1);
         }
-        let range = Range {
-            start: key.start,
-            end: key.end,
-        };
-        push_grouped(&mut grouped, Grouped { group, range })?;
+        let range = key.range;
+        push_grouped(grouped, Grouped { group, range })?;
         before = Some(*key);
     }
-    Ok(grouped)
+    Ok(())
 }
 
 /// Whether a declaration agrees with the one before it.
@@ -145,18 +157,17 @@ fn text_keys(alloc: Global, table: &Table<BfRange>) -> Result<Vec<TextKey<'_>>, 
             keys.push(key)?;
         }
     }
-    keys.sort()?;
+    keys.sort_by_key(|key| (key.front, key.at_zero))?;
     Ok(keys)
 }
 
 fn text_key(declared: &BfRange) -> Option<TextKey<'_>> {
     let (last, front) = declared.units.as_slice().split_last()?;
-    let Range { start, end } = declared.range;
+    let range = declared.range;
     Some(TextKey {
         front,
-        at_zero: i64::from(*last).saturating_sub(i64::from(start)),
-        start,
-        end,
+        at_zero: i64::from(*last).saturating_sub(i64::from(range.start)),
+        range,
     })
 }
 
@@ -164,37 +175,44 @@ fn text_key(declared: &BfRange) -> Option<TextKey<'_>> {
 fn disputed(alloc: Global, grouped: Vec<Grouped>) -> Result<Vec<Range>, AllocError> {
     let ranges = ranges_of_groups(alloc, grouped)?;
     let mut disputed = Vec::new(alloc);
-    let mut covered: Option<u32> = None;
-    for range in &ranges {
-        if let Some(last) = covered {
-            let end = range.end.min(last);
-            push_range(
-                &mut disputed,
-                Range {
-                    start: range.start,
-                    end,
-                },
-            )?;
-        }
-        covered = Some(range.end.max(covered.unwrap_or(0)));
-    }
+    push_disputed(&mut disputed, &ranges)?;
     union(alloc, disputed)
+}
+
+/// Adds the codes that lie in two of these ranges, which are in the order of their first codes.
+fn push_disputed(disputed: &mut Vec<Range>, ranges: &[Range]) -> Result<(), AllocError> {
+    let mut covered: Option<u32> = None;
+    for range in ranges {
+        let Range { start, end } = *range;
+        if let Some(last) = covered {
+            let end = end.min(last);
+            push_range(disputed, Range { start, end })?;
+        }
+        covered = Some(end.max(covered.unwrap_or(0)));
+    }
+    Ok(())
 }
 
 /// The codes of each group as ranges of which no two of one group have a code in common. They are in
 /// the order of their first codes.
 fn ranges_of_groups(alloc: Global, mut grouped: Vec<Grouped>) -> Result<Vec<Range>, AllocError> {
     grouped.sort_by_key(|declared| (declared.group, declared.range.start))?;
-    let mut ranges: Vec<Range> = Vec::new(alloc);
+    let mut ranges = Vec::new(alloc);
+    push_ranges(&mut ranges, &grouped)?;
+    sort(&mut ranges)?;
+    Ok(ranges)
+}
+
+/// Adds the ranges of groups, each of which is in a row.
+fn push_ranges(ranges: &mut Vec<Range>, grouped: &[Grouped]) -> Result<(), AllocError> {
     let mut before: Option<i64> = None;
-    for declared in &grouped {
+    for declared in grouped {
         if before == Some(declared.group) {
-            join(&mut ranges, declared.range)?;
+            join(ranges, declared.range)?;
         } else {
             ranges.push(declared.range)?;
         }
         before = Some(declared.group);
     }
-    ranges.sort_by_key(|range| range.start)?;
-    Ok(ranges)
+    Ok(())
 }

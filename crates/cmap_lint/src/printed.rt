@@ -6,17 +6,16 @@ ghost use Rattle.cmap_escape.specs.Escapes.{AddsLine, AddsOfLine};
 use crate::finding::{Finding, Place};
 use crate::warning::Warning;
 use cmap_escape::digits::{byte_digits, code_digits, push_code};
+use cmap_escape::object::Object;
 use cmap_escape::{escape, json};
 use hayro_cmap::runs::Range;
-use serde_json::{Map, Value, put};
+use serde_json::Value;
 use std::alloc::{AllocError, Global};
 
 /// Adds a warning about a file, as `FILE: warning: overlap: 25 codes, first <8140>`, and ends the line.
 pub fn push_finding(out: &mut String, file: &str, finding: &Finding<'_>) -> Result<(), AllocError> {
     escape::push_text(out, file)?;
-    out.push_str(": warning: ")?;
-    out.push_str(finding.warning.name())?;
-    out.push_str(": ")?;
+    write!(out, ": warning: {}: ", finding.warning.name())?;
     push_detail(out, finding)?;
     out.push('\n')
 }
@@ -26,23 +25,20 @@ fn push_detail(out: &mut String, finding: &Finding<'_>) -> Result<(), AllocError
     match finding.first {
         Place::File => out.push_str(sentence_of(finding.warning)),
         Place::Name(name) => {
-            out.push_str(sentence_of(finding.warning))?;
-            out.push_str(" /")?;
+            write!(out, "{} /", sentence_of(finding.warning))?;
             escape::push_name(out, name)
         }
         Place::Code { byte_len, code } => {
             push_count(out, finding)?;
-            out.push_str(", first ")?;
             push_code_in_brackets(out, byte_len, code)
         }
         Place::Range { byte_len, range } => {
             push_count(out, finding)?;
-            out.push_str(", first ")?;
             push_range(out, byte_len, range)
         }
         Place::Offset(offset) => {
             push_count(out, finding)?;
-            write!(out, ", first at byte {offset}")
+            write!(out, "at byte {offset}")
         }
     }
 }
@@ -59,11 +55,11 @@ fn sentence_of(warning: Warning) -> &'static str {
     }
 }
 
-/// Adds how many codes, declarations or sections a warning concerns.
+/// Adds how many codes, declarations or sections a warning concerns, up to where the first of them is.
 fn push_count(out: &mut String, finding: &Finding<'_>) -> Result<(), AllocError> {
     let unit = unit_of(finding.warning);
     let plural = if finding.count == 1 { "" } else { "s" };
-    write!(out, "{} {unit}{plural}", finding.count)
+    write!(out, "{} {unit}{plural}, first ", finding.count)
 }
 
 /// What is counted.
@@ -104,48 +100,29 @@ pub fn push_json(
 }
 
 fn finding_object(alloc: Global, file: &str, finding: &Finding<'_>) -> Result<Value, AllocError> {
-    let mut object = Map::new(alloc);
-    let path = String::from_str(alloc, file)?;
-    put(&mut object, alloc, "file", Value::from(path))?;
-    let name = String::from_str(alloc, finding.warning.name())?;
-    put(&mut object, alloc, "warning", Value::from(name))?;
-    put(&mut object, alloc, "count", Value::from(finding.count))?;
-    put_place(alloc, &mut object, finding.first)?;
-    Ok(Value::Object(object))
+    let mut object = Object::new(alloc);
+    object.set_text("file", file);
+    object.set_text("warning", finding.warning.name());
+    object.set("count", Value::from(finding.count));
+    set_place(alloc, &mut object, finding.first);
+    object.finish()
 }
 
-fn put_place(
-    alloc: Global,
-    object: &mut Map<String, Value>,
-    place: Place<'_>,
-) -> Result<(), AllocError> {
+/// Sets where a warning is: a name as it is printed and by its bytes, the ends of a range, or an offset.
+fn set_place(alloc: Global, object: &mut Object, place: Place<'_>) {
     match place {
-        Place::File => Ok(()),
-        Place::Name(name) => put_name(alloc, object, name),
-        Place::Code { byte_len, code } => put_code(alloc, object, "first", byte_len, code),
-        Place::Range { byte_len, range } => {
-            put_code(alloc, object, "first", byte_len, range.start)?;
-            put_code(alloc, object, "last", byte_len, range.end)
+        Place::File => {}
+        Place::Name(name) => {
+            object.set_string("name", escape::escaped_name(alloc, name));
+            object.set_string("name_bytes", byte_digits(alloc, name));
         }
-        Place::Offset(offset) => put(object, alloc, "byte", Value::from(offset)),
+        Place::Code { byte_len, code } => {
+            object.set_string("first", code_digits(alloc, byte_len, code));
+        }
+        Place::Range { byte_len, range } => {
+            object.set_string("first", code_digits(alloc, byte_len, range.start));
+            object.set_string("last", code_digits(alloc, byte_len, range.end));
+        }
+        Place::Offset(offset) => object.set("byte", Value::from(offset)),
     }
-}
-
-/// Sets a name as it is printed, and its bytes in hexadecimal digits.
-fn put_name(alloc: Global, object: &mut Map<String, Value>, name: &[u8]) -> Result<(), AllocError> {
-    let escaped = escape::escaped_name(alloc, name)?;
-    put(object, alloc, "name", Value::from(escaped))?;
-    let digits = byte_digits(alloc, name)?;
-    put(object, alloc, "name_bytes", Value::from(digits))
-}
-
-fn put_code(
-    alloc: Global,
-    object: &mut Map<String, Value>,
-    key: &str,
-    byte_len: u8,
-    code: u32,
-) -> Result<(), AllocError> {
-    let digits = code_digits(alloc, byte_len, code)?;
-    put(object, alloc, key, Value::from(digits))
 }

@@ -29,12 +29,17 @@ pub(crate) fn push_range(ranges: &mut Vec<Range>, range: Range) -> Result<(), Al
 
 /// The codes of ranges, none of which is empty, as ranges that lie apart, in order.
 pub(crate) fn union(alloc: Global, mut ranges: Vec<Range>) -> Result<Vec<Range>, AllocError> {
-    ranges.sort_by_key(|range| range.start)?;
+    sort(&mut ranges)?;
     let mut apart = Vec::new(alloc);
     for range in &ranges {
         join(&mut apart, *range)?;
     }
     Ok(apart)
+}
+
+/// Puts ranges in the order of their first codes.
+pub(crate) fn sort(ranges: &mut Vec<Range>) -> Result<(), AllocError> {
+    ranges.sort_by_key(|range| range.start)
 }
 
 /// Adds a range to those that lie apart and don't start after it.

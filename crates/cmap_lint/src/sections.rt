@@ -17,6 +17,11 @@ const KEYS: &[&[u8]] = &[
     b"WMode",
 ];
 
+/// The names around the texts of a list.
+const LIST_START: &[u8] = b"[";
+
+const LIST_END: &[u8] = b"]";
+
 /// A kind of section.
 struct Kind {
     /// The name that opens it.
@@ -67,17 +72,27 @@ pub(crate) fn count_differs<'m>(text: &[u8]) -> Finding<'m> {
         };
         if is_key(&token) {
             let _value = scanner.next_token();
-        }
-        if let Some(kind) = opened_by(&token) {
-            let offset = scanner.offset().saturating_sub(kind.opener.len());
-            let entries = count_entries(&mut scanner, kind, text.len());
-            if before != Some(entries) || entries > MOST_ENTRIES {
-                finding.add(1, Place::Offset(offset));
-            }
+        } else if let Some(kind) = opened_by(&token) {
+            add_section(&mut finding, &mut scanner, kind, before, text.len());
         }
         before = integer(&token);
     }
     finding
+}
+
+/// Reads a section up to its end, and adds it where the number before it isn't that of its entries.
+fn add_section(
+    finding: &mut Finding<'_>,
+    scanner: &mut Scanner<'_>,
+    kind: &Kind,
+    before: Option<i64>,
+    most: usize,
+) {
+    let offset = scanner.offset().saturating_sub(kind.opener.len());
+    let entries = count_entries(scanner, kind, most);
+    if before != Some(entries) || entries > MOST_ENTRIES {
+        finding.add(1, Place::Offset(offset));
+    }
 }
 
 /// The value of a token that is an integer.
@@ -91,7 +106,7 @@ fn integer(token: &Token<'_>) -> Option<i64> {
 /// Whether a token is a key with a value after it.
 fn is_key(token: &Token<'_>) -> bool {
     match token {
-        Token::Name(name) => name.is_literal() && KEYS.iter().any(|key| *key == name.as_bytes()),
+        Token::Name(name) => name.is_literal() && KEYS.contains(&name.as_bytes()),
         _ => false,
     }
 }
@@ -107,7 +122,12 @@ fn executable<'t>(token: &Token<'t>) -> Option<&'t [u8]> {
 /// The kind of the section that a token opens.
 fn opened_by(token: &Token<'_>) -> Option<&'static Kind> {
     let name = executable(token)?;
-    KINDS.iter().find(|kind| kind.opener == name)
+    for kind in KINDS {
+        if kind.opener == name {
+            return Some(kind);
+        }
+    }
+    None
 }
 
 /// Reads a section up to its end, and counts its entries.
@@ -129,8 +149,8 @@ fn count_parts(scanner: &mut Scanner<'_>, most: usize) -> i64 {
             break;
         };
         match executable(&token) {
-            Some(b"[") => is_in_list = true,
-            Some(b"]") => {
+            Some(name) if name == LIST_START => is_in_list = true,
+            Some(name) if name == LIST_END => {
                 is_in_list = false;
                 parts = parts.saturating_add(1);
             }

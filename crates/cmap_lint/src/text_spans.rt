@@ -51,21 +51,36 @@ pub(crate) fn spans_of(
     if declared.units.as_slice().len() > MOST_UNITS {
         let text = String::new(alloc);
         spans.push(TextSpan { codes, text })?;
-        return Ok(spans);
-    }
-    let Some((last, front)) = declared.units.as_slice().split_last() else {
-        return Ok(spans);
-    };
-    let areas = match front.last() {
-        Some(0xD800..=0xDBFF) => LOW_SURROGATES,
-        _ => SINGLE_UNITS,
-    };
-    for area in areas {
-        if let Some(offsets) = offsets_into(*last, *area) {
-            add_span(alloc, &mut spans, declared, codes, offsets)?;
-        }
+    } else {
+        add_spans(alloc, &mut spans, declared, codes)?;
     }
     Ok(spans)
+}
+
+/// Adds the codes of these that have a text of a declaration, in order.
+fn add_spans(
+    alloc: Global,
+    spans: &mut Vec<TextSpan>,
+    declared: &BfRange,
+    codes: Range,
+) -> Result<(), AllocError> {
+    let Some((last, front)) = declared.units.as_slice().split_last() else {
+        return Ok(());
+    };
+    for area in areas_after(front) {
+        if let Some(offsets) = offsets_into(*last, *area) {
+            add_span(alloc, spans, declared, codes, offsets)?;
+        }
+    }
+    Ok(())
+}
+
+/// The units that may end a text after these.
+fn areas_after(front: &[u16]) -> &'static [Range] {
+    match front.last() {
+        Some(0xD800..=0xDBFF) => LOW_SURROGATES,
+        _ => SINGLE_UNITS,
+    }
 }
 
 /// The offsets by which a unit counts on into an area.
@@ -112,7 +127,8 @@ pub(crate) fn no_text<'m>(
     let mut looks = Looks::new();
     for index in 0..table.decl_count() {
         let declared = table.decl(index, &mut looks);
-        if let Some(code) = first_without_text(alloc, declared)? {
+        let (count, code) = without_text(alloc, declared, declared.range)?;
+        if count > 0 {
             let byte_len = text_code_len(map.layers(), declared.range);
             finding.add(1, Place::Code { byte_len, code });
         }
@@ -120,15 +136,19 @@ pub(crate) fn no_text<'m>(
     Ok(finding)
 }
 
-/// The first code of a declaration without a text.
-fn first_without_text(alloc: Global, declared: &BfRange) -> Result<Option<u32>, AllocError> {
-    let mut left = code_count(declared.range);
-    let mut code = declared.range.start;
-    for span in &spans_of(alloc, declared, declared.range)? {
-        left = left.saturating_sub(code_count(span.codes));
+/// How many of these codes have no text of a declaration, and the first of them, if there is one.
+pub(crate) fn without_text(
+    alloc: Global,
+    declared: &BfRange,
+    codes: Range,
+) -> Result<(u64, u32), AllocError> {
+    let mut count = code_count(codes);
+    let mut code = codes.start;
+    for span in &spans_of(alloc, declared, codes)? {
+        count = count.saturating_sub(code_count(span.codes));
         if span.codes.start == code {
             code = span.codes.end.saturating_add(1);
         }
     }
-    Ok((left > 0).then_some(code))
+    Ok((count, code))
 }

@@ -1,7 +1,7 @@
 //! The warnings, and their names.
 
 /// What can look wrong in a file.
-#[derive(Clone, Copy, PartialEq, Eq)]
+#[derive(Clone, Copy)]
 pub enum Warning {
     /// The file has no codespace range, no declaration and no use of another file.
     NothingDeclared,
