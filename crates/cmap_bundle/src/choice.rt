@@ -77,14 +77,12 @@ impl<'c> Choice<'c> {
     /// Adds a file that is read, unless it has none of the known names or the bundle has its name.
     fn add_read(&mut self, rt: &HostRuntime, chosen: Chosen<'c>) -> Result<(), Failure> {
         if !is_known(chosen.name()) {
-            return self.leave_out_unknown(rt, &chosen);
+            self.leave_out_unknown(rt, &chosen)
+        } else if let Some(path) = self.path_of(chosen.name()) {
+            self.leave_out_again(rt, &chosen, path)
+        } else {
+            Ok(self.files.push(chosen)?)
         }
-        if let Some(path) = self.path_of(chosen.name()) {
-            let reason = already(rt.alloc(), chosen.name(), path)?;
-            return self.leave_out(rt, chosen.candidate, reason.as_str());
-        }
-        self.files.push(chosen)?;
-        Ok(())
     }
 
     /// The path of the file that has this name already.
@@ -99,12 +97,19 @@ impl<'c> Choice<'c> {
 
     fn leave_out_unknown(&mut self, rt: &HostRuntime, chosen: &Chosen<'_>) -> Result<(), Failure> {
         let mut reason = String::new(rt.alloc());
-        if chosen.name().is_empty() {
-            reason.push_str("neither its file name nor a CMapName is one of the known names")?;
-        } else {
-            push_name(&mut reason, chosen.name())?;
-            reason.push_str(" is none of the known names")?;
-        }
+        push_unknown(&mut reason, chosen.name())?;
+        self.leave_out(rt, chosen.candidate, reason.as_str())
+    }
+
+    /// Leaves a file out whose name another one has, that of this path.
+    fn leave_out_again(
+        &mut self,
+        rt: &HostRuntime,
+        chosen: &Chosen<'_>,
+        path: &str,
+    ) -> Result<(), Failure> {
+        let mut reason = String::new(rt.alloc());
+        push_already(&mut reason, chosen.name(), path)?;
         self.leave_out(rt, chosen.candidate, reason.as_str())
     }
 
@@ -136,27 +141,44 @@ impl<'c> Choice<'c> {
     }
 }
 
-/// Why a file is left out whose name another one has, that of this path.
-fn already(alloc: Global, name: &[u8], path: &str) -> Result<String, AllocError> {
-    let mut reason = String::new(alloc);
+/// Adds why a file of this name is left out, which isn't a known one.
+fn push_unknown(reason: &mut String, name: &[u8]) -> Result<(), AllocError> {
+    if name.is_empty() {
+        return reason.push_str("neither its file name nor a CMapName is one of the known names");
+    }
+    push_name(reason, name)?;
+    reason.push_str(" is none of the known names")
+}
+
+/// Adds why a file is left out whose name another one has, that of this path.
+fn push_already(reason: &mut String, name: &[u8], path: &str) -> Result<(), AllocError> {
     reason.push_str("the bundle has ")?;
-    push_name(&mut reason, name)?;
+    push_name(reason, name)?;
     reason.push_str(" already, of ")?;
-    push_text(&mut reason, path)?;
-    Ok(reason)
+    push_text(reason, path)
 }
 
 /// The line of a fault, as `cmap check` prints it.
 fn fault_line(alloc: Global, candidate: &Candidate, stop: Stop) -> Result<String, AllocError> {
+    let mut line = String::new(alloc);
+    push_text(&mut line, candidate.path.as_str())?;
+    line.push_str(": ")?;
+    push_stop(alloc, &mut line, candidate, stop)?;
+    Ok(line)
+}
+
+/// Adds where the reading of a file stopped, and why.
+fn push_stop(
+    alloc: Global,
+    line: &mut String,
+    candidate: &Candidate,
+    stop: Stop,
+) -> Result<(), AllocError> {
     let none: NamedFiles<'_, (&[u8], &[u8]), Bundle<'_>> = NamedFiles::alone(&[]);
     let refusal = Refusal {
         names: Vec::new(alloc),
         cause: Cause::Malformed(stop),
     };
-    let mut line = String::new(alloc);
-    push_text(&mut line, candidate.path.as_str())?;
-    line.push_str(": ")?;
     let mut lines = LineCounter::new();
-    push_refusal(&mut line, &candidate.bytes, &none, &refusal, &mut lines)?;
-    Ok(line)
+    push_refusal(line, &candidate.bytes, &none, &refusal, &mut lines)
 }

@@ -4,10 +4,11 @@ use crate::known_names::KNOWN_NAMES;
 use cmap_binary::is_marked_binary;
 use cmap_escape::escape::{escaped_names, push_name};
 use cmap_escape::json::push_line;
+use cmap_escape::object::Object;
 use cmap_report::uses::uses_by_layer;
 use cmap_sources::bases::file_in;
 use hayro_cmap::{Bundle, NamedFiles};
-use serde_json::{Map, Value, put};
+use serde_json::Value;
 use std::alloc::{AllocError, Global};
 
 /// A file of a bundle.
@@ -79,10 +80,14 @@ pub fn push_contents(out: &mut String, files: &[Held<'_>]) -> Result<(), AllocEr
 fn push_held(out: &mut String, file: &Held<'_>) -> Result<(), AllocError> {
     let Held { name, bytes, uses } = file;
     write!(out, "{name:<18}{:>9}  {:<6} ", bytes.len(), file.form())?;
-    if uses.is_empty() {
-        out.push_str(" -")?;
+    push_uses(out, uses)
+}
+
+fn push_uses(out: &mut String, names: &[&[u8]]) -> Result<(), AllocError> {
+    if names.is_empty() {
+        return out.push_str(" -\n");
     }
-    for name in uses {
+    for name in names {
         out.push_str(" /")?;
         push_name(out, name)?;
     }
@@ -96,26 +101,26 @@ pub fn push_json(
     path: &str,
     files: &[Held<'_>],
 ) -> Result<(), AllocError> {
-    let mut object = Map::new(alloc);
-    put(&mut object, alloc, "absent", Value::from(absent_of(files)))?;
-    let path = String::from_str(alloc, path)?;
-    put(&mut object, alloc, "file", Value::from(path))?;
-    let mut list = Vec::with_capacity(alloc, files.len())?;
+    let mut object = Object::new(alloc);
+    object.set("absent", Value::from(absent_of(files)));
+    object.set_text("file", path);
+    object.set_list("files", held_objects(alloc, files));
+    push_line(alloc, out, &object.finish()?)
+}
+
+fn held_objects(alloc: Global, files: &[Held<'_>]) -> Result<Vec<Value>, AllocError> {
+    let mut objects = Vec::new(alloc);
     for file in files {
-        list.push(held_object(alloc, file)?)?;
+        objects.push(held_object(alloc, file)?)?;
     }
-    put(&mut object, alloc, "files", Value::Array(list))?;
-    push_line(alloc, out, &Value::Object(object))
+    Ok(objects)
 }
 
 fn held_object(alloc: Global, file: &Held<'_>) -> Result<Value, AllocError> {
-    let mut object = Map::new(alloc);
-    put(&mut object, alloc, "bytes", Value::from(file.bytes.len()))?;
-    let form = String::from_str(alloc, file.form())?;
-    put(&mut object, alloc, "form", Value::from(form))?;
-    let name = String::from_str(alloc, file.name)?;
-    put(&mut object, alloc, "name", Value::from(name))?;
-    let uses = escaped_names(alloc, &file.uses)?;
-    put(&mut object, alloc, "uses", Value::Array(uses))?;
-    Ok(Value::Object(object))
+    let mut object = Object::new(alloc);
+    object.set("bytes", Value::from(file.bytes.len()));
+    object.set_text("form", file.form());
+    object.set_text("name", file.name);
+    object.set_list("uses", escaped_names(alloc, &file.uses));
+    object.finish()
 }

@@ -30,28 +30,44 @@ fn push_numbers(
     passed_over: usize,
 ) -> Result<(), AllocError> {
     let files = contents_of(alloc, bundle)?;
+    push_files(out, &files, byte_count)?;
+    push_absent(out, absent_of(&files))?;
+    push_passed_over(out, passed_over)
+}
+
+/// Adds how many files and bytes there are, and which of the files are texts.
+fn push_files(out: &mut String, files: &[Held<'_>], bytes: usize) -> Result<(), AllocError> {
     push_count(out, ": ", files.len(), "file", "files")?;
-    push_count(out, ", ", byte_count, "byte", "bytes")?;
-    push_texts(out, &files)?;
-    if absent_of(&files) > 0 {
-        push_count(
+    push_count(out, ", ", bytes, "byte", "bytes")?;
+    push_texts(out, files)
+}
+
+/// Adds how many names have no file, if any has none.
+fn push_absent(out: &mut String, count: usize) -> Result<(), AllocError> {
+    match count {
+        0 => Ok(()),
+        _ => push_count(
             out,
             "; ",
-            absent_of(&files),
+            count,
             "name without a file",
             "names without a file",
-        )?;
+        ),
     }
-    if passed_over > 0 {
-        push_count(
+}
+
+/// Adds how many files of folders were passed over, if any was.
+fn push_passed_over(out: &mut String, count: usize) -> Result<(), AllocError> {
+    match count {
+        0 => Ok(()),
+        _ => push_count(
             out,
             "; ",
-            passed_over,
+            count,
             "file of another name",
             "files of other names",
-        )?;
+        ),
     }
-    Ok(())
 }
 
 /// Adds which of the files are texts, if any is.

@@ -5,7 +5,9 @@ use crate::difference::{Difference, push_difference};
 use cmap_escape::escape::push_text;
 use cmap_queries::code_lengths::{LENGTHS, last_code};
 use hayro_cmap::runs::{HasRange, Looks, Range, Table};
-use hayro_cmap::{Bundle, BundleFiles, CMap, CodeLength, Codespace, Layer, NamedFiles};
+use hayro_cmap::{
+    Bundle, BundleFiles, CMap, CodeLength, Codespace, Layer, NamedFiles, SalvagedMap,
+};
 use std::alloc::{AllocError, Global};
 
 /// The map of a file as it was given, and the map that the bundle has of its name.
@@ -70,25 +72,31 @@ fn difference_of(
     }
     let given: NamedFiles<'_, (&[u8], &[u8]), Bundle<'_>> = NamedFiles::alone(named);
     let of_file = CMap::salvage(alloc, None, &chosen.candidate.bytes, None, &given)?;
+    difference_from(alloc, &of_file, bundle, bytes)
+}
+
+/// The first thing that a file of a bundle says otherwise.
+fn difference_from(
+    alloc: Global,
+    of_file: &SalvagedMap<'_>,
+    bundle: &Bundle<'_>,
+    bytes: &[u8],
+) -> Result<Option<Difference>, AllocError> {
     let own = Some(bundle);
     let of_bundle = CMap::salvage(alloc, None, bytes, own, &own)?;
+    if of_file.faults.len() != of_bundle.faults.len() {
+        return Ok(Some(Difference::Faults));
+    }
     let pair = Pair {
         of_file: &of_file.map,
         of_bundle: &of_bundle.map,
     };
-    pair.difference(alloc, of_file.faults.len() == of_bundle.faults.len())
+    pair.difference(alloc)
 }
 
 impl Pair<'_> {
-    /// The first thing that differs, where it is known whether both have as many faults.
-    fn difference(
-        &self,
-        alloc: Global,
-        have_like_faults: bool,
-    ) -> Result<Option<Difference>, AllocError> {
-        if !have_like_faults {
-            return Ok(Some(Difference::Faults));
-        }
+    /// The first thing that differs.
+    fn difference(&self, alloc: Global) -> Result<Option<Difference>, AllocError> {
         if let Some(difference) = self.of_metadata() {
             return Ok(Some(difference));
         }
@@ -254,7 +262,15 @@ fn codespaces_of(map: &CMap) -> &[Codespace] {
 
 /// Whether these are the same codespace ranges in the same order.
 fn are_alike(one: &[Codespace], other: &[Codespace]) -> bool {
-    one.len() == other.len() && one.iter().zip(other).all(|(a, b)| is_same(a, b))
+    if one.len() != other.len() {
+        return false;
+    }
+    for (one, other) in one.iter().zip(other) {
+        if !is_same(one, other) {
+            return false;
+        }
+    }
+    true
 }
 
 fn is_same(one: &Codespace, other: &Codespace) -> bool {
