@@ -71,16 +71,12 @@ const KNOWN: &[(&[u8], CMapName<'static>)] = &[
     (b"V", CMapName::V),
 ];
 
-/// Whether a text has this name, and the name this text.
-fn is_named(text: &[u8], name: &CMapName<'_>) -> bool {
-    CMapName::from_bytes(text) == *name && name.to_bytes() == text
-}
-
 #[test]
 fn a_known_text_has_its_name_and_a_name_its_text(rt: HostRuntime) {
     let known = KNOWN;
     assert!(rt; known.len() == 65);
     for (text, name) in known {
-        assert!(rt; is_named(text, name));
+        assert!(rt; CMapName::from_bytes(text) == *name);
+        assert!(rt; name.to_bytes() == *text);
     }
 }
