@@ -1,6 +1,6 @@
 //! `cmap bundle`: makes a bundle of files.
 
-use cmap_arguments::options::Options;
+use crate::options::Options;
 use cmap_bundle::beside::Beside;
 use cmap_bundle::candidates::candidates_of;
 use cmap_bundle::choice::{Chosen, choose};
@@ -33,7 +33,7 @@ pub(crate) fn bundle(rt: &HostRuntime, options: &Options<'_, '_>) -> Result<u8, 
         &bytes,
         candidates.passed_over,
     )?;
-    println!(rt; "{line}")?;
+    rt.println(line.as_str())?;
     Ok(if choice.left_out > 0 {
         REFUSED
     } else {

@@ -1,13 +1,13 @@
 //! `cmap check`: for each file that it is ok, or what is wrong with it.
 
 use crate::lint::{push_warnings, subject_of};
+use crate::options::Options;
 use crate::progress::Progress;
-use cmap_arguments::options::Options;
 use cmap_escape::{escape, json};
 use cmap_sources::bases::Bases;
 use cmap_sources::failure::Failure;
 use cmap_sources::inputs::{read, report_unreadable};
-use cmap_sources::paths::paths_of;
+use cmap_sources::paths::{Paths, paths_of};
 use cmap_sources::reading::{Faults, Form, Input, Manner, Reading, read_over};
 use cmap_sources::status::{ACCEPTED, FAILED, REFUSED};
 use serde_json::{Map, Value, put};
@@ -25,6 +25,14 @@ struct Tally {
     unreadable: usize,
 }
 
+/// A run over many files.
+#[derive(Drop)]
+struct Run<'r, 'm, 'w> {
+    options: &'r Options<'m, 'w>,
+    progress: Progress,
+    tally: Tally,
+}
+
 /// Checks the files and the files of the folders, and gives the status.
 pub(crate) fn check(
     rt: &HostRuntime,
@@ -33,70 +41,95 @@ pub(crate) fn check(
 ) -> Result<u8, Failure> {
     options.lint.check_names(rt)?;
     let paths = paths_of(rt, options.paths, options.list())?;
-    let mut tally = Tally {
-        checked: 0,
-        refused: 0,
-        denied: 0,
-        unreadable: paths.unreadable,
+    check_paths(rt, options, &paths, bases)
+}
+
+fn check_paths(
+    rt: &HostRuntime,
+    options: &Options<'_, '_>,
+    paths: &Paths,
+    bases: &mut Bases<'_>,
+) -> Result<u8, Failure> {
+    let mut run = Run {
+        options,
+        progress: Progress::new(rt, paths.files.len()),
+        tally: Tally {
+            checked: 0,
+            refused: 0,
+            denied: 0,
+            unreadable: paths.unreadable,
+        },
     };
-    let mut progress = Progress::new(rt, paths.files.len());
     for path in &paths.files {
-        check_path(rt, path.as_str(), options, bases, &progress, &mut tally)?;
-        progress.advance(rt)?;
+        run.check_path(rt, path.as_str(), bases)?;
+        run.progress.advance(rt)?;
     }
-    progress.clear(rt)?;
+    run.progress.clear(rt)?;
     if !options.quiet {
-        tally.report(rt)?;
+        run.tally.report(rt)?;
     }
-    Ok(tally.status())
+    Ok(run.tally.status())
 }
 
-/// Checks the file of a path, or reports that it can't be read.
-fn check_path(
-    rt: &HostRuntime,
-    path: &str,
-    options: &Options<'_, '_>,
-    bases: &mut Bases<'_>,
-    progress: &Progress,
-    tally: &mut Tally,
-) -> Result<(), Failure> {
-    match read(rt, path)? {
-        Some(bytes) => {
-            let input = Input {
-                path,
-                bytes: &bytes,
-            };
-            check_file(rt, input, options, bases, progress, tally)
-        }
-        None => {
-            tally.unreadable = tally.unreadable.saturating_add(1);
-            progress.clear(rt)?;
-            report_unreadable(rt, path)?;
-            Ok(())
+impl Run<'_, '_, '_> {
+    /// Checks the file of a path, or reports that it can't be read.
+    fn check_path(
+        &mut self,
+        rt: &HostRuntime,
+        path: &str,
+        bases: &mut Bases<'_>,
+    ) -> Result<(), Failure> {
+        match read(rt, path)? {
+            Some(bytes) => {
+                let input = Input {
+                    path,
+                    bytes: &bytes,
+                };
+                let reading = read_over(rt, input, manner_of(self.options), bases)?;
+                self.print(rt, input, &reading, bases)
+            }
+            None => self.report_unreadable(rt, path),
         }
     }
-}
 
-/// Prints the lines of a file.
-fn check_file(
-    rt: &HostRuntime,
-    input: Input<'_>,
-    options: &Options<'_, '_>,
-    bases: &mut Bases<'_>,
-    progress: &Progress,
-    tally: &mut Tally,
-) -> Result<(), Failure> {
-    let manner = manner_of(options);
-    let reading = read_over(rt, input, manner, bases)?;
-    if bases.has_unreported() {
-        progress.clear(rt)?;
-        bases.report(rt)?;
+    fn report_unreadable(&mut self, rt: &HostRuntime, path: &str) -> Result<(), Failure> {
+        self.tally.unreadable = self.tally.unreadable.saturating_add(1);
+        self.progress.clear(rt)?;
+        report_unreadable(rt, path)?;
+        Ok(())
     }
-    let mut lines = lines_of(rt.alloc(), input.path, manner.form, &reading)?;
-    let is_denied = push_lint(rt.alloc(), &mut lines, input, &reading, options, bases)?;
-    tally.count(&reading, is_denied);
-    print!(rt; "{lines}")?;
-    Ok(())
+
+    /// Prints the lines of a file, after those of bases that can't be read.
+    fn print(
+        &mut self,
+        rt: &HostRuntime,
+        input: Input<'_>,
+        reading: &Reading,
+        bases: &mut Bases<'_>,
+    ) -> Result<(), Failure> {
+        if bases.has_unreported() {
+            self.progress.clear(rt)?;
+            bases.report(rt)?;
+        }
+        let mut lines = String::new(rt.alloc());
+        self.push_lines(rt.alloc(), &mut lines, input, reading, bases)?;
+        Ok(rt.print(lines.as_str())?)
+    }
+
+    /// Adds the lines of a file, and counts it.
+    fn push_lines(
+        &mut self,
+        alloc: Global,
+        lines: &mut String,
+        input: Input<'_>,
+        reading: &Reading,
+        bases: &Bases<'_>,
+    ) -> Result<(), AllocError> {
+        push_reading(alloc, lines, input.path, self.options.json, reading)?;
+        let is_denied = push_lint(alloc, lines, input, reading, self.options, bases)?;
+        self.tally.count(reading, is_denied);
+        Ok(())
+    }
 }
 
 /// Adds the warnings about a file that is accepted, and gives whether one of them is denied.
@@ -168,25 +201,26 @@ impl Tally {
         if self.unreadable > 0 {
             eprint!(rt; ", {} can't be read", self.unreadable)?;
         }
-        eprintln!(rt; "")
+        rt.eprintln("")
     }
 }
 
-/// The lines of a file.
-fn lines_of(
+/// Adds a line for a file that is accepted, else one for each fault.
+fn push_reading(
     alloc: Global,
+    lines: &mut String,
     path: &str,
-    form: Form,
+    json: bool,
     reading: &Reading,
-) -> Result<String, AllocError> {
-    let mut lines = String::new(alloc);
+) -> Result<(), AllocError> {
     if reading.faults.is_empty() {
-        push_accepted(alloc, &mut lines, path, form)?;
+        return push_accepted(alloc, lines, path, json);
     }
     for fault in &reading.faults {
-        writeln!(lines, "{fault}")?;
+        lines.push_str(fault.as_str())?;
+        lines.push('\n')?;
     }
-    Ok(lines)
+    Ok(())
 }
 
 /// Adds the line of a file that is accepted.
@@ -194,16 +228,13 @@ fn push_accepted(
     alloc: Global,
     lines: &mut String,
     path: &str,
-    form: Form,
+    json: bool,
 ) -> Result<(), AllocError> {
-    match form {
-        Form::Json => push_accepted_json(alloc, lines, path)?,
-        Form::Text => {
-            escape::push_text(lines, path)?;
-            lines.push_str(": ok")?;
-        }
+    if json {
+        return push_accepted_json(alloc, lines, path);
     }
-    lines.push_str("\n")
+    escape::push_text(lines, path)?;
+    lines.push_str(": ok\n")
 }
 
 fn push_accepted_json(alloc: Global, line: &mut String, path: &str) -> Result<(), AllocError> {
@@ -211,5 +242,5 @@ fn push_accepted_json(alloc: Global, line: &mut String, path: &str) -> Result<()
     let file = String::from_str(alloc, path)?;
     put(&mut object, alloc, "file", Value::from(file))?;
     put(&mut object, alloc, "ok", Value::from(true))?;
-    json::push_value(alloc, line, &Value::Object(object))
+    json::push_line(alloc, line, &Value::Object(object))
 }

@@ -1,11 +1,13 @@
 //! `cmap find`: the codes that have a CID or a text.
 
-use cmap_arguments::options::Options;
+use crate::options::Options;
 use cmap_listing::find::{Wanted, push_codes, push_json};
 use cmap_sources::bases::Bases;
 use cmap_sources::failure::{Failure, fault};
 use cmap_sources::inputs::map_needed;
 use cmap_sources::status::ACCEPTED;
+use hayro_cmap::CMap;
+use std::alloc::{AllocError, Global};
 
 /// Prints the codes that each argument asks for, and gives the status.
 pub(crate) fn find(
@@ -15,16 +17,26 @@ pub(crate) fn find(
 ) -> Result<u8, Failure> {
     let wanted = wanted_of(rt, options.arguments)?;
     let map = map_needed(rt, options.file, options.manner(), bases)?;
-    let mut lines = String::new(rt.alloc());
-    for (argument, wanted) in &wanted {
-        if options.json {
-            push_json(rt.alloc(), &mut lines, &map, argument, *wanted)?;
+    let lines = lines_of(rt.alloc(), &map, &wanted, options.json)?;
+    rt.print(lines.as_str())?;
+    Ok(ACCEPTED)
+}
+
+fn lines_of(
+    alloc: Global,
+    map: &CMap,
+    wanted: &[(&str, Wanted<'_>)],
+    json: bool,
+) -> Result<String, AllocError> {
+    let mut lines = String::new(alloc);
+    for (argument, wanted) in wanted {
+        if json {
+            push_json(alloc, &mut lines, map, argument, *wanted)?;
         } else {
-            push_codes(rt.alloc(), &mut lines, &map, argument, *wanted)?;
+            push_codes(alloc, &mut lines, map, argument, *wanted)?;
         }
     }
-    print!(rt; "{lines}")?;
-    Ok(ACCEPTED)
+    Ok(lines)
 }
 
 /// What the arguments ask for, each with its argument.

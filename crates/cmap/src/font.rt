@@ -1,6 +1,6 @@
 //! The CMaps of a font, and the strings that are read by them.
 
-use cmap_arguments::options::Options;
+use crate::options::Options;
 use cmap_sources::bases::Bases;
 use cmap_sources::failure::{Failure, fault};
 use cmap_sources::inputs::{STANDARD_INPUT, map_needed, map_of, needed};
@@ -75,10 +75,7 @@ fn collection_of(
     let Some(bytes) = bases.file(rt, &name)? else {
         return Ok(None);
     };
-    match map_of(rt, path, &bytes, options.manner(), bases)? {
-        Some(map) => Ok(Some(map)),
-        None => Err(Failure::Refused),
-    }
+    Ok(Some(map_of(rt, path, &bytes, options.manner(), bases)?))
 }
 
 /// The character collection of the first layer that has one.

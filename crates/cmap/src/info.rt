@@ -1,12 +1,12 @@
 //! `cmap info`: what files say, and what a bundle holds.
 
-use cmap_arguments::options::Options;
+use crate::options::Options;
 use cmap_bundle::contents::{self, contents_of, push_contents};
 use cmap_report::info::{push_info, push_json};
 use cmap_report::uses::uses_by_layer;
 use cmap_sources::bases::{Bases, Files};
 use cmap_sources::failure::{Failure, report};
-use cmap_sources::inputs::{Asked, open};
+use cmap_sources::inputs::{Opened, open};
 use cmap_sources::reading::Input;
 use cmap_sources::status::{ACCEPTED, FAILED, REFUSED};
 use hayro_cmap::CMap;
@@ -24,7 +24,7 @@ pub(crate) fn info(
     let mut status = ACCEPTED;
     for (index, path) in options.paths.iter().enumerate() {
         if index > 0 && !options.json {
-            println!(rt; "")?;
+            rt.println("")?;
         }
         status = status.max(info_of(rt, path, options, bases)?);
     }
@@ -47,7 +47,7 @@ fn info_of_bundle(
     } else {
         push_contents(&mut lines, &files)?;
     }
-    print!(rt; "{lines}")?;
+    rt.print(lines.as_str())?;
     Ok(ACCEPTED)
 }
 
@@ -58,22 +58,31 @@ fn info_of(
     options: &Options<'_, '_>,
     bases: &mut Bases<'_>,
 ) -> Result<u8, Failure> {
-    match open(rt, path, options.manner(), bases)? {
-        Asked::Map(bytes, map) => {
-            let input = Input {
-                path,
-                bytes: &bytes,
-            };
-            let lines = lines_of(rt.alloc(), input, &map, options.json, &bases.files())?;
-            print!(rt; "{lines}")?;
-            Ok(ACCEPTED)
-        }
-        Asked::Refused => Ok(REFUSED),
-        Asked::Unreadable(failure) => {
-            report(rt, &failure)?;
+    match open(rt, path, options.manner(), bases) {
+        Ok(opened) => print_info(rt, path, &opened, options, bases),
+        Err(Failure::Refused) => Ok(REFUSED),
+        Err(Failure::Message(line)) => {
+            report(rt, &Failure::Message(line))?;
             Ok(FAILED)
         }
+        Err(failure) => Err(failure),
     }
+}
+
+fn print_info(
+    rt: &HostRuntime,
+    path: &str,
+    opened: &Opened,
+    options: &Options<'_, '_>,
+    bases: &Bases<'_>,
+) -> Result<u8, Failure> {
+    let input = Input {
+        path,
+        bytes: &opened.bytes,
+    };
+    let lines = lines_of(rt.alloc(), input, &opened.map, options.json, &bases.files())?;
+    rt.print(lines.as_str())?;
+    Ok(ACCEPTED)
 }
 
 /// What a file says, whose map this is.

@@ -1,6 +1,6 @@
 //! `cmap check --lint`: what looks wrong in a file that is accepted.
 
-use cmap_arguments::lint::LintOptions;
+use crate::options::lint::LintOptions;
 use cmap_binary::is_marked_binary;
 use cmap_lint::finding::Finding;
 use cmap_lint::lint::{Subject, findings_of, nothing_declared};

@@ -1,6 +1,6 @@
 //! `cmap list`: what a file and those that it is based on declare.
 
-use cmap_arguments::options::Options;
+use crate::options::Options;
 use cmap_listing::effective::effective_lines;
 use cmap_listing::line::{Line, push_json, push_line};
 use cmap_listing::list::lines_by_layer;
@@ -18,35 +18,37 @@ pub(crate) fn list(
     bases: &mut Bases<'_>,
 ) -> Result<u8, Failure> {
     let map = map_needed(rt, options.file, options.manner(), bases)?;
-    let printed = if options.effective {
-        effective(rt.alloc(), &map, options.json)?
-    } else {
-        declared(rt.alloc(), &map, options.json)?
-    };
-    print!(rt; "{printed}")?;
+    let lines = lines_of(rt.alloc(), &map, options)?;
+    rt.print(lines.as_str())?;
     Ok(ACCEPTED)
 }
 
-/// What codes have over all layers.
-fn effective(alloc: Global, map: &CMap, json: bool) -> Result<String, AllocError> {
+fn lines_of(alloc: Global, map: &CMap, options: &Options<'_, '_>) -> Result<String, AllocError> {
     let mut printed = String::new(alloc);
-    let lines = effective_lines(alloc, map)?;
-    push_lines(alloc, &mut printed, lines, None, json)?;
+    if options.effective {
+        let lines = effective_lines(alloc, map)?;
+        push_lines(alloc, &mut printed, lines, None, options.json)?;
+    } else {
+        push_declared(alloc, &mut printed, map, options.json)?;
+    }
     Ok(printed)
 }
 
 /// The declarations. Each layer but the top one has its number over them.
-fn declared(alloc: Global, map: &CMap, json: bool) -> Result<String, AllocError> {
-    let mut printed = String::new(alloc);
-    let layers = lines_by_layer(alloc, map)?;
-    for (index, lines) in layers.into_iter().enumerate() {
+fn push_declared(
+    alloc: Global,
+    printed: &mut String,
+    map: &CMap,
+    json: bool,
+) -> Result<(), AllocError> {
+    for (index, lines) in lines_by_layer(alloc, map)?.into_iter().enumerate() {
         let layer = index.saturating_add(1);
         if index > 0 && !json {
             writeln!(printed, "layer {layer}")?;
         }
-        push_lines(alloc, &mut printed, lines, Some(layer), json)?;
+        push_lines(alloc, printed, lines, Some(layer), json)?;
     }
-    Ok(printed)
+    Ok(())
 }
 
 fn push_lines(

@@ -1,9 +1,9 @@
 //! `cmap where`: which files arguments stand for.
 
-use cmap_arguments::options::Options;
+use crate::options::Options;
 use cmap_escape::escape::push_text;
 use cmap_escape::json;
-use cmap_sources::bases::{Bases, Location};
+use cmap_sources::bases::Bases;
 use cmap_sources::failure::{Failure, report};
 use cmap_sources::folders::is_file;
 use cmap_sources::inputs::unknown_name;
@@ -40,14 +40,7 @@ fn path_of(
     if is_file(rt, argument) {
         return Ok(Some(String::from_str(rt.alloc(), argument)?));
     }
-    match bases.locate(rt, argument.as_bytes())? {
-        Some(Location::File(path)) => Ok(Some(path)),
-        Some(Location::Bundle) => match options.bundle {
-            Some(path) => Ok(Some(String::from_str(rt.alloc(), path)?)),
-            None => Ok(None),
-        },
-        None => Ok(None),
-    }
+    bases.locate(rt, argument.as_bytes(), options.bundle)
 }
 
 /// Prints the path of the file that an argument stands for.
@@ -58,7 +51,7 @@ fn print_path(rt: &HostRuntime, argument: &str, path: &str, json: bool) -> Resul
     } else {
         push_text(&mut line, path)?;
     }
-    println!(rt; "{line}")?;
+    rt.println(line.as_str())?;
     Ok(())
 }
 

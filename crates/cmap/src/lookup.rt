@@ -1,6 +1,6 @@
 //! `cmap lookup`: the CIDs and the texts of single codes.
 
-use cmap_arguments::options::Options;
+use crate::options::Options;
 use cmap_queries::query::Query;
 use cmap_report::lookup::{push_answer, push_json};
 use cmap_sources::bases::Bases;
@@ -19,7 +19,7 @@ pub(crate) fn lookup(
     let queries = queries_of(rt, options.arguments)?;
     let map = map_needed(rt, options.file, options.manner(), bases)?;
     let lines = lines_of(rt.alloc(), &map, &queries, options.json)?;
-    print!(rt; "{lines}")?;
+    rt.print(lines.as_str())?;
     Ok(ACCEPTED)
 }
 

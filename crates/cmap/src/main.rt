@@ -3,25 +3,28 @@
 
 mod bundle;
 mod check;
+mod command_line;
 mod decode;
 mod find;
+mod flags;
 mod font;
 mod info;
 mod lint;
 mod list;
 mod locate;
 mod lookup;
+mod options;
 mod progress;
 mod text;
+mod usage;
 
+use crate::command_line::command;
+use crate::options::Options;
+use crate::usage::print_usage;
 use clap::ArgMatches;
-use cmap_arguments::command_line::command;
-use cmap_arguments::options::Options;
-use cmap_arguments::usage::print_usage;
 use cmap_sources::bases::Bases;
 use cmap_sources::failure::{Failure, fault, report};
 use cmap_sources::inputs::needed;
-use cmap_sources::search::Search;
 use cmap_sources::status::{FAILED, REFUSED};
 use hayro_cmap::Bundle;
 use std::env;
@@ -77,13 +80,22 @@ fn run_subcommand(
     options: &Options<'_, '_>,
     bundle: Option<&Bundle<'_>>,
 ) -> Result<u8, Failure> {
-    let search = if options.no_predefined {
-        Search::nowhere(rt.alloc())
-    } else {
-        Search::of_environment(rt)?
-    };
-    let mut bases = Bases::new(rt, options.bases, bundle, search)?;
-    let status = match run_over(rt, name, options, &mut bases) {
+    let mut bases = Bases::new(rt.alloc(), bundle);
+    run_over_bases(rt, name, options, &mut bases)
+}
+
+/// Finds the files that others use, and does it over them.
+fn run_over_bases(
+    rt: &HostRuntime,
+    name: &str,
+    options: &Options<'_, '_>,
+    bases: &mut Bases<'_>,
+) -> Result<u8, Failure> {
+    if !options.no_predefined {
+        bases.search.add_environment(rt)?;
+    }
+    bases.add_folders(rt, options.bases)?;
+    let status = match run_over(rt, name, options, bases) {
         Err(Failure::Refused) => REFUSED,
         ran => ran?,
     };

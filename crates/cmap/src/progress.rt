@@ -50,7 +50,7 @@ impl Progress {
     /// Takes the bar away, as before a message and at the end.
     pub(crate) fn clear(&self, rt: &HostRuntime) -> io::Result<()> {
         if self.is_shown {
-            eprint!(rt; "\r\u{1B}[K")?;
+            rt.eprint("\r\u{1B}[K")?;
         }
         Ok(())
     }

@@ -9,7 +9,6 @@ use crate::status::{ACCEPTED, FAILED};
 use hayro_cmap::{Bundle, BundleFiles, NamedFile, NamedFiles};
 use std::alloc::{AllocError, Global};
 use std::collections::BTreeMap;
-use std::mem;
 
 /// A file that others use.
 #[derive(Drop)]
@@ -32,15 +31,6 @@ impl NamedFile for Base {
     }
 }
 
-/// Where a file is that has a name.
-#[derive(Drop)]
-pub enum Location {
-    /// The file of a path.
-    File(String),
-    /// In the bundle.
-    Bundle,
-}
-
 /// What stands in a bundle for a file that isn't there: the head of a version that no reader knows, and
 /// the length.
 const ABSENT: &[u8] = b"bcmap\0\0\0\0\x0A";
@@ -61,8 +51,8 @@ pub struct Bases<'b> {
     pub bundle: Option<&'b Bundle<'b>>,
     /// The paths of the files of folders that aren't read yet, by their names.
     paths: BTreeMap<String, String>,
-    /// Where the names are looked up that neither has.
-    search: Search,
+    /// Where the names are looked up that neither has: at first nowhere.
+    pub search: Search,
     /// The files that are read.
     read: Vec<Base>,
     /// The paths that can't be read, and aren't reported yet.
@@ -72,25 +62,24 @@ pub struct Bases<'b> {
 }
 
 impl<'b> Bases<'b> {
-    /// The files of these folders and of this bundle, and those that a search finds.
-    pub fn new(
-        rt: &HostRuntime,
-        folders: &[&str],
-        bundle: Option<&'b Bundle<'b>>,
-        search: Search,
-    ) -> Result<Self, Failure> {
-        let mut bases = Bases {
+    /// The files of this bundle.
+    pub fn new(alloc: Global, bundle: Option<&'b Bundle<'b>>) -> Self {
+        Bases {
             bundle,
-            paths: BTreeMap::new(rt.alloc()),
-            search,
-            read: Vec::new(rt.alloc()),
-            unreadable: Vec::new(rt.alloc()),
+            paths: BTreeMap::new(alloc),
+            search: Search::nowhere(alloc),
+            read: Vec::new(alloc),
+            unreadable: Vec::new(alloc),
             has_failed: false,
-        };
-        for folder in folders {
-            bases.add_folder(rt, folder)?;
         }
-        Ok(bases)
+    }
+
+    /// Adds the files of these folders.
+    pub fn add_folders(&mut self, rt: &HostRuntime, folders: &[&str]) -> Result<(), Failure> {
+        for folder in folders {
+            self.add_folder(rt, folder)?;
+        }
+        Ok(())
     }
 
     /// Adds the paths of the files of a folder.
@@ -100,17 +89,18 @@ impl<'b> Bases<'b> {
         }
         let found = files_in(rt, folder)?;
         self.has_failed |= found.unreadable > 0;
-        for path in found.files {
-            self.add_path(rt.alloc(), path)?;
+        for path in &found.files {
+            self.add_path(rt.alloc(), path.as_str())?;
         }
         Ok(())
     }
 
     /// Adds the path of a file, unless an earlier one has its name.
-    fn add_path(&mut self, alloc: Global, path: String) -> Result<(), AllocError> {
-        let name = String::from_str(alloc, name_of(path.as_str()))?;
-        if !self.paths.contains_key(&name) {
-            self.paths.insert(name, path)?;
+    fn add_path(&mut self, alloc: Global, path: &str) -> Result<(), AllocError> {
+        let name = name_of(path);
+        if self.paths.get(name).is_none() {
+            let path = String::from_str(alloc, path)?;
+            self.paths.insert(String::from_str(alloc, name)?, path)?;
         }
         Ok(())
     }
@@ -147,19 +137,29 @@ impl<'b> Bases<'b> {
         file_in(self.bundle?, name)
     }
 
+    /// Reads the files of these names that aren't read yet.
+    pub fn read_all(&mut self, rt: &HostRuntime, names: &[Vec<u8>]) -> Result<(), Failure> {
+        for name in names {
+            self.read(rt, name)?;
+        }
+        Ok(())
+    }
+
     /// Reads the file of this name, if it isn't read yet.
-    pub fn read(&mut self, rt: &HostRuntime, name: &[u8]) -> Result<(), Failure> {
+    fn read(&mut self, rt: &HostRuntime, name: &[u8]) -> Result<(), Failure> {
         if !self.has_unread(name) {
             return Ok(());
         }
         match self.unread_bytes(rt, name)? {
-            Some(bytes) => {
-                let name = Vec::from_slice(rt.alloc(), name)?;
-                self.read.push(Base { name, bytes })?;
-            }
+            Some(bytes) => self.add(rt.alloc(), name, bytes)?,
             None => self.search.set_absent(rt.alloc(), name)?,
         }
         Ok(())
+    }
+
+    fn add(&mut self, alloc: Global, name: &[u8], bytes: Vec<u8>) -> Result<(), AllocError> {
+        let name = Vec::from_slice(alloc, name)?;
+        Ok(self.read.push(Base { name, bytes })?)
     }
 
     /// The bytes of the file of this name, which isn't read yet.
@@ -204,16 +204,26 @@ impl<'b> Bases<'b> {
         }
     }
 
-    /// Where the file of this name is.
-    pub fn locate(&mut self, rt: &HostRuntime, name: &[u8]) -> Result<Option<Location>, Failure> {
-        if let Some(path) = self.path(name) {
-            let path = String::from_str(rt.alloc(), path)?;
-            return Ok(Some(Location::File(path)));
+    /// The path of the file of this name; of one in the bundle, this path of the bundle.
+    pub fn locate(
+        &mut self,
+        rt: &HostRuntime,
+        name: &[u8],
+        bundle: Option<&str>,
+    ) -> Result<Option<String>, Failure> {
+        match self.known_path(name, bundle) {
+            Some(path) => Ok(Some(String::from_str(rt.alloc(), path)?)),
+            None => self.search.find(rt, name),
         }
-        if self.bundle_file(name).is_some() {
-            return Ok(Some(Location::Bundle));
+    }
+
+    /// The path of the file of this name in the folders, else that of the bundle which has it.
+    fn known_path<'p>(&'p self, name: &[u8], bundle: Option<&'p str>) -> Option<&'p str> {
+        match self.path(name) {
+            Some(path) => Some(path),
+            None if self.bundle_file(name).is_some() => bundle,
+            None => None,
         }
-        Ok(self.search.find(rt, name)?.map(Location::File))
     }
 
     /// Whether a file of this name would be found if the predefined CMaps of the system were there.
@@ -228,10 +238,11 @@ impl<'b> Bases<'b> {
 
     /// Reports the files that can't be read, each once.
     pub fn report(&mut self, rt: &HostRuntime) -> Result<(), Failure> {
-        for path in mem::replace(&mut self.unreadable, Vec::new(rt.alloc())) {
-            self.has_failed = true;
+        self.has_failed |= self.has_unreported();
+        for path in &self.unreadable {
             report_unreadable(rt, path.as_str())?;
         }
+        self.unreadable.clear();
         Ok(())
     }
 

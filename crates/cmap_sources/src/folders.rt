@@ -2,6 +2,7 @@
 
 use crate::failure::Failure;
 use crate::inputs::{readable, report_unreadable};
+use std::alloc::{AllocError, Global};
 use std::fs::{self, DirEntry, read_dir};
 use std::io;
 
@@ -35,46 +36,48 @@ pub fn is_file(rt: &HostRuntime, path: &str) -> bool {
 /// The files in a folder and its subfolders, but for hidden files and folders. A link to a file counts
 /// as a file, and a link to a folder isn't followed. Each folder that can't be read is reported.
 pub fn files_in(rt: &HostRuntime, folder: &str) -> Result<Found, Failure> {
-    let alloc = rt.alloc();
-    let mut found = Found {
-        files: Vec::new(alloc),
-        unreadable: 0,
-        waiting: Vec::new(alloc),
-    };
-    found.waiting.push(String::from_str(alloc, folder)?)?;
-    for _ in 0..u32::MAX {
-        let Some(next) = found.waiting.pop() else {
-            break;
-        };
-        found.add_folder(rt, next.as_str())?;
-    }
-    found.files.sort()?;
+    let mut found = Found::new(rt.alloc());
+    found.add_all(rt, folder)?;
     Ok(found)
 }
 
-/// The subfolders of a folder, in the order of their paths, but for hidden ones and links. Of a folder that
-/// can't be read there are none.
-pub fn subfolders_of(rt: &HostRuntime, folder: &str) -> Result<Vec<String>, Failure> {
-    match readable(subfolders(rt, folder))? {
-        Some(found) => Ok(found),
-        None => Ok(Vec::new(rt.alloc())),
+/// Adds a folder, and after it its subfolders in the order of their paths, but for hidden ones and links. Of a
+/// folder that can't be read there are none.
+pub fn add_with_subfolders(
+    rt: &HostRuntime,
+    folder: &str,
+    folders: &mut Vec<String>,
+) -> Result<(), Failure> {
+    folders.push(String::from_str(rt.alloc(), folder)?)?;
+    let mut found = Found::new(rt.alloc());
+    if readable(found.add_entries(rt, folder))?.is_some() {
+        found.waiting.sort()?;
+        folders.append(&mut found.waiting)?;
     }
-}
-
-fn subfolders(rt: &HostRuntime, folder: &str) -> io::Result<Vec<String>> {
-    let mut found = Vec::new(rt.alloc());
-    for entry in read_dir(rt, folder)? {
-        let entry = entry?;
-        let path = String::from_str(rt.alloc(), entry.path().as_str())?;
-        if entry.file_type()?.is_dir() && !name_of(path.as_str()).starts_with('.') {
-            found.push(path)?;
-        }
-    }
-    found.sort()?;
-    Ok(found)
+    Ok(())
 }
 
 impl Found {
+    fn new(alloc: Global) -> Found {
+        Found {
+            files: Vec::new(alloc),
+            unreadable: 0,
+            waiting: Vec::new(alloc),
+        }
+    }
+
+    /// Adds what lies in a folder and its subfolders.
+    fn add_all(&mut self, rt: &HostRuntime, folder: &str) -> Result<(), Failure> {
+        self.waiting.push(String::from_str(rt.alloc(), folder)?)?;
+        for _ in 0..u32::MAX {
+            let Some(next) = self.waiting.pop() else {
+                break;
+            };
+            self.add_folder(rt, next.as_str())?;
+        }
+        Ok(self.files.sort()?)
+    }
+
     /// Adds what lies in a folder, or reports that it can't be read.
     fn add_folder(&mut self, rt: &HostRuntime, folder: &str) -> Result<(), Failure> {
         if readable(self.add_entries(rt, folder))?.is_none() {
@@ -93,14 +96,24 @@ impl Found {
 
     /// Adds an entry of a folder, unless it is hidden.
     fn add(&mut self, rt: &HostRuntime, entry: &DirEntry) -> io::Result<()> {
-        let path = String::from_str(rt.alloc(), entry.path().as_str())?;
-        if name_of(path.as_str()).starts_with('.') {
+        if entry.file_name().starts_with('.') {
             return Ok(());
         }
-        if entry.file_type()?.is_dir() {
-            self.waiting.push(path)?;
-        } else if !is_folder(rt, path.as_str()) {
-            self.files.push(path)?;
+        let is_folder = entry.file_type()?.is_dir();
+        Ok(self.add_path(rt, entry.path().as_str(), is_folder)?)
+    }
+
+    /// Adds a file, or a folder that isn't read yet. A link to a folder isn't followed.
+    fn add_path(
+        &mut self,
+        rt: &HostRuntime,
+        path: &str,
+        is_waiting: bool,
+    ) -> Result<(), AllocError> {
+        if is_waiting {
+            self.waiting.push(String::from_str(rt.alloc(), path)?)?;
+        } else if !is_folder(rt, path) {
+            self.files.push(String::from_str(rt.alloc(), path)?)?;
         }
         Ok(())
     }

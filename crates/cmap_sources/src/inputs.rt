@@ -74,46 +74,50 @@ pub fn report_unreadable(rt: &HostRuntime, path: &str) -> Result<u8, Failure> {
     Ok(FAILED)
 }
 
-/// What comes of an argument that asks for a file.
-pub enum Asked {
-    /// The bytes of the file, none where a predefined CMap has no file, and its map.
-    Map(Vec<u8>, CMap),
-    /// The file is refused, and why is on the standard error.
-    Refused,
-    /// No file can be read, and why.
-    Unreadable(Failure),
+/// A file that is read, with its map.
+#[derive(Drop)]
+pub struct Opened {
+    /// The bytes of the file, none where a predefined CMap has no file.
+    pub bytes: Vec<u8>,
+    pub map: CMap,
 }
 
-/// The map of the file that an argument asks for: by its path, or where no file has the path, by its
-/// name.
+/// The file that an argument asks for: by its path, or where no file has the path, by its name. Why a file is
+/// refused goes to the standard error, and that none can be read is a message.
 pub fn open(
     rt: &HostRuntime,
     argument: &str,
     manner: Manner,
     bases: &mut Bases<'_>,
-) -> Result<Asked, Failure> {
+) -> Result<Opened, Failure> {
     if argument != STANDARD_INPUT && !is_file(rt, argument) {
         return open_by_name(rt, argument, manner, bases);
     }
-    match read(rt, argument)? {
-        Some(bytes) => open_bytes(rt, argument, bytes, manner, bases),
-        None => Ok(Asked::Unreadable(unreadable(rt, argument))),
-    }
+    let bytes = needed(rt, argument)?;
+    open_bytes(rt, argument, bytes, manner, bases)
 }
 
-/// The map of the base or of the bundle's file of this name, else of a predefined CMap.
+/// The base or the bundle's file of this name, else a predefined CMap.
 fn open_by_name(
     rt: &HostRuntime,
     name: &str,
     manner: Manner,
     bases: &mut Bases<'_>,
-) -> Result<Asked, Failure> {
-    if let Some(bytes) = bases.file(rt, name.as_bytes())? {
-        return open_bytes(rt, name, bytes, manner, bases);
+) -> Result<Opened, Failure> {
+    match bases.file(rt, name.as_bytes())? {
+        Some(bytes) => open_bytes(rt, name, bytes, manner, bases),
+        None => open_predefined(rt, name, bases),
     }
+}
+
+/// A predefined CMap that has no file.
+fn open_predefined(rt: &HostRuntime, name: &str, bases: &Bases<'_>) -> Result<Opened, Failure> {
     match CMap::open(rt.alloc(), None, name.as_bytes(), None, &bases.read_files()) {
-        Ok(Some(map)) => Ok(Asked::Map(Vec::new(rt.alloc()), map)),
-        Ok(None) | Err(Fault::Refused(_)) => Ok(Asked::Unreadable(missing(rt, name, bases))),
+        Ok(Some(map)) => Ok(Opened {
+            bytes: Vec::new(rt.alloc()),
+            map,
+        }),
+        Ok(None) | Err(Fault::Refused(_)) => Err(missing(rt, name, bases)),
         Err(Fault::Memory) => Err(Failure::Memory),
     }
 }
@@ -124,10 +128,10 @@ fn open_bytes(
     bytes: Vec<u8>,
     manner: Manner,
     bases: &mut Bases<'_>,
-) -> Result<Asked, Failure> {
-    match map_of(rt, path, &bytes, manner, bases)? {
-        Some(map) => Ok(Asked::Map(bytes, map)),
-        None => Ok(Asked::Refused),
+) -> Result<Opened, Failure> {
+    match map_of(rt, path, &bytes, manner, bases) {
+        Ok(map) => Ok(Opened { bytes, map }),
+        Err(failure) => Err(failure),
     }
 }
 
@@ -138,26 +142,30 @@ pub fn map_needed(
     manner: Manner,
     bases: &mut Bases<'_>,
 ) -> Result<CMap, Failure> {
-    match open(rt, argument, manner, bases)? {
-        Asked::Map(_bytes, map) => Ok(map),
-        Asked::Refused => Err(Failure::Refused),
-        Asked::Unreadable(failure) => Err(failure),
+    match open(rt, argument, manner, bases) {
+        Ok(opened) => Ok(opened.map),
+        Err(failure) => Err(failure),
     }
 }
 
 /// The map of a file of these bytes. Its faults go to the standard error: the first one where they aren't
-/// passed over, and there is then no map.
+/// passed over, and the file is then refused.
 pub fn map_of(
     rt: &HostRuntime,
     path: &str,
     bytes: &[u8],
     manner: Manner,
     bases: &mut Bases<'_>,
-) -> Result<Option<CMap>, Failure> {
-    let reading = read_over(rt, Input { path, bytes }, manner, bases)?;
+) -> Result<CMap, Failure> {
+    let mut reading = read_over(rt, Input { path, bytes }, manner, bases)?;
     bases.report(rt)?;
-    for fault in &reading.faults {
+    report_faults(rt, &reading.faults)?;
+    reading.map.take().ok_or(Failure::Refused)
+}
+
+fn report_faults(rt: &HostRuntime, faults: &[String]) -> Result<(), Failure> {
+    for fault in faults {
         eprintln!(rt; "cmap: {fault}")?;
     }
-    Ok(reading.map)
+    Ok(())
 }

@@ -31,16 +31,27 @@ pub fn paths_of(
         files: Vec::new(rt.alloc()),
         unreadable: 0,
     };
-    for path in arguments {
-        paths.add(rt, path)?;
-    }
-    if let Some(PathList { path, end }) = list {
-        paths.add_list(rt, &needed(rt, path)?, end)?;
-    }
+    paths.add_all(rt, arguments, list)?;
     Ok(paths)
 }
 
 impl Paths {
+    /// Adds what the arguments name, and then what the list names.
+    fn add_all(
+        &mut self,
+        rt: &HostRuntime,
+        arguments: &[&str],
+        list: Option<PathList<'_>>,
+    ) -> Result<(), Failure> {
+        for path in arguments {
+            self.add(rt, path)?;
+        }
+        match list {
+            Some(PathList { path, end }) => self.add_list(rt, &needed(rt, path)?, end),
+            None => Ok(()),
+        }
+    }
+
     /// Adds what the paths of a list name, between which this byte stands. Empty ones are passed over.
     fn add_list(&mut self, rt: &HostRuntime, list: &[u8], end: u8) -> Result<(), Failure> {
         for path in list.split(|byte| *byte == end) {

@@ -58,91 +58,100 @@ pub fn read_over(
     manner: Manner,
     bases: &mut Bases<'_>,
 ) -> Result<Reading, Failure> {
-    let mut reading = read_over_known(rt.alloc(), input, manner, bases)?;
-    for _ in 0..u32::MAX {
-        if reading.missing.is_empty() {
-            break;
-        }
-        read_missing(rt, &reading.missing, bases)?;
-        reading = read_over_known(rt.alloc(), input, manner, bases)?;
-    }
+    let mut reading = Reading {
+        map: None,
+        faults: Vec::new(rt.alloc()),
+        missing: Vec::new(rt.alloc()),
+    };
+    reading.read_over(rt, input, manner, bases)?;
     Ok(reading)
 }
 
-/// Reads the files of these names.
-fn read_missing(rt: &HostRuntime, names: &[Vec<u8>], bases: &mut Bases<'_>) -> Result<(), Failure> {
-    for name in names {
-        bases.read(rt, name)?;
-    }
-    Ok(())
-}
-
-/// Reads a file over the files that are read.
-fn read_over_known(
-    alloc: Global,
-    input: Input<'_>,
-    manner: Manner,
-    bases: &Bases<'_>,
-) -> Result<Reading, AllocError> {
-    let files = bases.read_files();
-    match manner.faults {
-        Faults::First => read_strictly(alloc, input, manner, bases, &files),
-        Faults::All => read_past(alloc, input, manner, bases, &files),
-    }
-}
-
-/// Reads a file over these files up to its first fault.
-fn read_strictly<'f>(
-    alloc: Global,
-    input: Input<'f>,
-    manner: Manner,
-    bases: &Bases<'_>,
-    files: &'f Files<'_>,
-) -> Result<Reading, AllocError> {
-    match CMap::parse_from(alloc, manner.budget, input.bytes, bases.bundle, files) {
-        Ok(map) => Reading::new(alloc, Some(map), input, manner.form, bases, &[]),
-        Err(Fault::Refused(refusal)) => {
-            Reading::new(alloc, None, input, manner.form, bases, &[refusal])
-        }
-        Err(Fault::Memory) => Err(AllocError),
-    }
-}
-
-/// Reads a file over these files past its faults.
-fn read_past<'f>(
-    alloc: Global,
-    input: Input<'f>,
-    manner: Manner,
-    bases: &Bases<'_>,
-    files: &'f Files<'_>,
-) -> Result<Reading, AllocError> {
-    let read = CMap::salvage(alloc, manner.budget, input.bytes, bases.bundle, files)?;
-    let SalvagedMap { map, faults } = read;
-    Reading::new(alloc, Some(map), input, manner.form, bases, &faults)
-}
-
 impl Reading {
-    /// The map and the lines of the faults, or the names of files that aren't read yet, where some of the
-    /// faults are that these are missing.
-    fn new(
+    /// Reads a file, and the files that it uses, until none is missing that can be read.
+    fn read_over(
+        &mut self,
+        rt: &HostRuntime,
+        input: Input<'_>,
+        manner: Manner,
+        bases: &mut Bases<'_>,
+    ) -> Result<(), Failure> {
+        for _ in 0..u32::MAX {
+            self.read_over_known(rt.alloc(), input, manner, bases)?;
+            if self.missing.is_empty() {
+                break;
+            }
+            bases.read_all(rt, &self.missing)?;
+        }
+        Ok(())
+    }
+
+    /// Reads a file over the files that are read.
+    fn read_over_known(
+        &mut self,
         alloc: Global,
-        map: Option<CMap>,
+        input: Input<'_>,
+        manner: Manner,
+        bases: &Bases<'_>,
+    ) -> Result<(), AllocError> {
+        let files = bases.read_files();
+        match manner.faults {
+            Faults::First => self.read_strictly(alloc, input, manner, bases, &files),
+            Faults::All => self.read_past(alloc, input, manner, bases, &files),
+        }
+    }
+
+    /// Reads a file over these files, up to its first fault.
+    fn read_strictly<'f>(
+        &mut self,
+        alloc: Global,
+        input: Input<'f>,
+        manner: Manner,
+        bases: &Bases<'_>,
+        files: &'f Files<'_>,
+    ) -> Result<(), AllocError> {
+        match CMap::parse_from(alloc, manner.budget, input.bytes, bases.bundle, files) {
+            Ok(map) => {
+                self.map = Some(map);
+                self.set_faults(alloc, input, manner.form, bases, &[])
+            }
+            Err(Fault::Refused(refusal)) => {
+                self.set_faults(alloc, input, manner.form, bases, &[refusal])
+            }
+            Err(Fault::Memory) => Err(AllocError),
+        }
+    }
+
+    /// Reads a file over these files, past its faults.
+    fn read_past<'f>(
+        &mut self,
+        alloc: Global,
+        input: Input<'f>,
+        manner: Manner,
+        bases: &Bases<'_>,
+        files: &'f Files<'_>,
+    ) -> Result<(), AllocError> {
+        let read = CMap::salvage(alloc, manner.budget, input.bytes, bases.bundle, files)?;
+        let SalvagedMap { map, faults } = read;
+        self.map = Some(map);
+        self.set_faults(alloc, input, manner.form, bases, &faults)
+    }
+
+    /// Sets the lines of the faults, or the names of files that aren't read yet, where some of the faults are
+    /// that these are missing.
+    fn set_faults(
+        &mut self,
+        alloc: Global,
         input: Input<'_>,
         form: Form,
         bases: &Bases<'_>,
         faults: &[Refusal<'_>],
-    ) -> Result<Reading, AllocError> {
-        let missing = missing_names(alloc, bases, faults)?;
-        let faults = if missing.is_empty() {
-            lines_of(alloc, input, form, bases, faults)?
-        } else {
-            Vec::new(alloc)
-        };
-        Ok(Reading {
-            map,
-            faults,
-            missing,
-        })
+    ) -> Result<(), AllocError> {
+        self.missing = missing_names(alloc, bases, faults)?;
+        if self.missing.is_empty() {
+            self.faults = lines_of(alloc, input, form, bases, faults)?;
+        }
+        Ok(())
     }
 }
 

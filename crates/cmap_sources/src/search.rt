@@ -2,7 +2,7 @@
 
 use crate::failure::{Failure, fault};
 use crate::file_names::file_name;
-use crate::folders::{is_file, subfolders_of};
+use crate::folders::{add_with_subfolders, is_file};
 use std::alloc::{AllocError, Global};
 use std::collections::BTreeSet;
 use std::env::{self, VarError};
@@ -42,16 +42,14 @@ impl Search {
         }
     }
 
-    /// In the folders that the environment names, else in those where systems keep the predefined CMaps.
-    pub fn of_environment(rt: &HostRuntime) -> Result<Search, Failure> {
-        let mut search = Search::nowhere(rt.alloc());
+    /// Adds the folders that the environment names, else those where systems keep the predefined CMaps.
+    pub fn add_environment(&mut self, rt: &HostRuntime) -> Result<(), Failure> {
         match env::var(rt, VARIABLE) {
-            Ok(folders) => search.add_listed(rt.alloc(), folders.as_str())?,
-            Err(VarError::NotPresent) => search.add_system(rt.alloc())?,
-            Err(VarError::NotUnicode) => return Err(fault(rt, VARIABLE, "not UTF-8")),
-            Err(VarError::OutOfMemory) => return Err(Failure::Memory),
+            Ok(folders) => Ok(self.add_listed(rt.alloc(), folders.as_str())?),
+            Err(VarError::NotPresent) => Ok(self.add_system(rt.alloc())?),
+            Err(VarError::NotUnicode) => Err(fault(rt, VARIABLE, "not UTF-8")),
+            Err(VarError::OutOfMemory) => Err(Failure::Memory),
         }
-        Ok(search)
     }
 
     /// Adds the folders of a list, between which colons stand. Empty ones are passed over.
@@ -110,16 +108,10 @@ impl Search {
 
     /// Adds the subfolders of each folder after it, unless they are there.
     fn add_subfolders(&mut self, rt: &HostRuntime) -> Result<(), Failure> {
-        if self.has_subfolders {
-            return Ok(());
+        if !self.has_subfolders {
+            self.folders = with_subfolders(rt, &self.folders)?;
+            self.has_subfolders = true;
         }
-        let mut folders = Vec::new(rt.alloc());
-        for folder in &self.folders {
-            folders.push(String::from_str(rt.alloc(), folder.as_str())?)?;
-            folders.append(&mut subfolders_of(rt, folder.as_str())?)?;
-        }
-        self.folders = folders;
-        self.has_subfolders = true;
         Ok(())
     }
 
@@ -130,4 +122,13 @@ impl Search {
         }
         Ok(())
     }
+}
+
+/// The folders, and after each its subfolders.
+fn with_subfolders(rt: &HostRuntime, folders: &[String]) -> Result<Vec<String>, Failure> {
+    let mut all = Vec::new(rt.alloc());
+    for folder in folders {
+        add_with_subfolders(rt, folder.as_str(), &mut all)?;
+    }
+    Ok(all)
 }

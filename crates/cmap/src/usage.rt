@@ -12,9 +12,9 @@ pub fn print_usage(rt: &HostRuntime, error: &Error) -> Result<u8, Failure> {
         let mut shown = String::new(rt.alloc());
         push_text(&mut shown, line)?;
         if error.use_stderr() {
-            eprintln!(rt; "{shown}")?;
+            rt.eprintln(shown.as_str())?;
         } else {
-            println!(rt; "{shown}")?;
+            rt.println(shown.as_str())?;
         }
     }
     Ok(error.exit_code() as u8)

@@ -1,7 +1,10 @@
 //! What the arguments of a subcommand ask for.
 
-use crate::bundle::BundleOptions;
-use crate::lint::LintOptions;
+pub(crate) mod bundle;
+pub(crate) mod lint;
+
+use self::bundle::BundleOptions;
+use self::lint::LintOptions;
 use clap::ArgMatches;
 use cmap_sources::inputs::STANDARD_INPUT;
 use cmap_sources::paths::PathList;

@@ -1,10 +1,9 @@
-//! The options of `check` about warnings.
+//! What the options of `check` about warnings ask for.
 
-use crate::options::given;
-use clap::{Arg, ArgAction, ArgMatches};
+use super::given;
+use clap::ArgMatches;
 use cmap_lint::warning::Warning;
 use cmap_sources::failure::{Failure, fault};
-use std::alloc::{AllocError, Global};
 
 /// The argument of `--deny` that stands for all warnings.
 const ALL: &str = "all";
@@ -47,31 +46,4 @@ impl<'m, 'w> LintOptions<'m, 'w> {
             .iter()
             .any(|name| *name == ALL || *name == warning.name())
     }
-}
-
-/// The options of `check` alone.
-pub fn options<'a>(alloc: Global) -> Result<Vec<Arg<'a>>, AllocError> {
-    Ok(vec![in alloc; lint(alloc), to_unicode(alloc), deny(alloc)]?)
-}
-
-fn lint<'a>(alloc: Global) -> Arg<'a> {
-    Arg::new(alloc, "lint")
-        .long("lint")
-        .action(ArgAction::SetTrue)
-        .help("Also what looks wrong in files that are accepted")
-}
-
-fn to_unicode<'a>(alloc: Global) -> Arg<'a> {
-    Arg::new(alloc, "to-unicode")
-        .long("to-unicode")
-        .action(ArgAction::SetTrue)
-        .help("As --lint, and what looks wrong in maps to Unicode")
-}
-
-fn deny<'a>(alloc: Global) -> Arg<'a> {
-    Arg::new(alloc, "deny")
-        .long("deny")
-        .value_name("NAME")
-        .action(ArgAction::Append)
-        .help("As --lint, with status 1 where there is a warning of this name; all is each name")
 }

@@ -1,0 +1,242 @@
+//! The command line.
+
+use crate::flags::{
+    BASE, BUDGET, BUNDLE, DENY, EFFECTIVE, FILES_FROM, FIRST, Flag, JSON, LENIENT, LINT,
+    LINT_TO_UNICODE, NAME, NO_PREDEFINED, NULL, OUTPUT, QUIET, TO_UNICODE, VERIFY,
+};
+use clap::{Arg, ArgAction, Command};
+use std::alloc::{AllocError, Global};
+
+/// A subcommand, and what stands after its name.
+struct Subcommand {
+    name: &'static str,
+    about: &'static str,
+    /// Its options, in the order in which the help has them.
+    flags: &'static [Flag],
+    /// Whether one file stands before the other arguments.
+    has_file: bool,
+    /// The other arguments; `list` has an option in their place.
+    arguments: Option<Arguments>,
+}
+
+/// Arguments of a subcommand, of which there is one at least.
+struct Arguments {
+    /// What they are found by.
+    id: &'static str,
+    /// What the help calls one of them.
+    value_name: &'static str,
+    /// The option that may stand for them.
+    unless: Option<&'static str>,
+    /// What the help says of them.
+    help: &'static str,
+}
+
+const SUBCOMMANDS: &[Subcommand] = &[
+    Subcommand {
+        name: "info",
+        about: "Prints what files say: their names, codespace ranges, declarations and layers",
+        flags: &[BASE, BUNDLE, NO_PREDEFINED, JSON, BUDGET, LENIENT],
+        has_file: false,
+        arguments: Some(Arguments {
+            id: "FILE",
+            value_name: "FILE",
+            unless: Some("bundle"),
+            help: "CMap files, each by its path or its name; - is the standard input",
+        }),
+    },
+    Subcommand {
+        name: "list",
+        about: "Prints each declaration of a file and of those that it is based on",
+        flags: &[
+            BASE,
+            BUNDLE,
+            NO_PREDEFINED,
+            JSON,
+            BUDGET,
+            LENIENT,
+            EFFECTIVE,
+        ],
+        has_file: true,
+        arguments: None,
+    },
+    Subcommand {
+        name: "find",
+        about: "Prints the codes that have a CID or a text",
+        flags: &[BASE, BUNDLE, NO_PREDEFINED, JSON, BUDGET, LENIENT],
+        has_file: true,
+        arguments: Some(Arguments {
+            id: "ARGUMENT",
+            value_name: "WANTED",
+            unless: None,
+            help: "cid:N for the codes of a CID, text:TEXT for those of a text",
+        }),
+    },
+    Subcommand {
+        name: "check",
+        about: "Prints for each file that it is ok, or where it is wrong and why",
+        flags: &[
+            BASE,
+            BUNDLE,
+            NO_PREDEFINED,
+            JSON,
+            BUDGET,
+            FILES_FROM,
+            NULL,
+            FIRST,
+            QUIET,
+            LINT,
+            LINT_TO_UNICODE,
+            DENY,
+        ],
+        has_file: false,
+        arguments: Some(Arguments {
+            id: "FILE",
+            value_name: "FILE|FOLDER",
+            unless: Some("files-from"),
+            help: "CMap files, and folders of them; - is the standard input",
+        }),
+    },
+    Subcommand {
+        name: "decode",
+        about: "Prints the codes of strings, with their CIDs and their texts",
+        flags: &[
+            BASE,
+            BUNDLE,
+            NO_PREDEFINED,
+            JSON,
+            TO_UNICODE,
+            BUDGET,
+            LENIENT,
+        ],
+        has_file: true,
+        arguments: Some(Arguments {
+            id: "ARGUMENT",
+            value_name: "HEX",
+            unless: None,
+            help: "Strings, two hexadecimal digits for each byte; - reads them from the standard input",
+        }),
+    },
+    Subcommand {
+        name: "text",
+        about: "Prints the texts of strings",
+        flags: &[
+            BASE,
+            BUNDLE,
+            NO_PREDEFINED,
+            JSON,
+            TO_UNICODE,
+            BUDGET,
+            LENIENT,
+        ],
+        has_file: true,
+        arguments: Some(Arguments {
+            id: "ARGUMENT",
+            value_name: "HEX",
+            unless: None,
+            help: "Strings, two hexadecimal digits for each byte; - reads them from the standard input",
+        }),
+    },
+    Subcommand {
+        name: "where",
+        about: "Prints the paths of the files that names stand for",
+        flags: &[BASE, BUNDLE, NO_PREDEFINED, JSON],
+        has_file: false,
+        arguments: Some(Arguments {
+            id: "FILE",
+            value_name: "NAME",
+            unless: None,
+            help: "Names of CMaps",
+        }),
+    },
+    Subcommand {
+        name: "bundle",
+        about: "Makes a bundle of the files that have known names",
+        flags: &[OUTPUT, NAME, VERIFY],
+        has_file: false,
+        arguments: Some(Arguments {
+            id: "FILE",
+            value_name: "FILE|FOLDER",
+            unless: Some("name"),
+            help: "CMap files, and folders of them; - is the standard input",
+        }),
+    },
+    Subcommand {
+        name: "lookup",
+        about: "Prints the CIDs and the texts of single codes",
+        flags: &[BASE, BUNDLE, NO_PREDEFINED, JSON, BUDGET, LENIENT],
+        has_file: true,
+        arguments: Some(Arguments {
+            id: "ARGUMENT",
+            value_name: "CODE",
+            unless: None,
+            help: "L:HEX for the CID of a code of L bytes, bf:HEX for the text of a code",
+        }),
+    },
+];
+
+/// The command line of `cmap`.
+pub fn command<'a>(alloc: Global) -> Result<Command<'a>, AllocError> {
+    let mut command = program(alloc)?;
+    for subcommand in SUBCOMMANDS {
+        command = command.subcommand(subcommand.command(alloc)?)?;
+    }
+    Ok(command)
+}
+
+fn program<'a>(alloc: Global) -> Result<Command<'a>, AllocError> {
+    Command::new(alloc, "cmap")
+        .about("Prints what is in CMap files, where they are wrong, and what strings say")
+        .version("1.0.0 (a port of hayro-cmap 0.1.1)")
+        .subcommand_required(true)
+        .arg_required_else_help(true)
+        .bin_name("cmap")
+}
+
+impl Subcommand {
+    fn command<'a>(&self, alloc: Global) -> Result<Command<'a>, AllocError> {
+        let command = self.add_flags(alloc, Command::new(alloc, self.name).about(self.about))?;
+        let command = if self.has_file {
+            command.arg(file(alloc))?
+        } else {
+            command
+        };
+        match &self.arguments {
+            Some(arguments) => command.arg(arguments.arg(alloc)?),
+            None => Ok(command),
+        }
+    }
+
+    /// The subcommand with its options.
+    fn add_flags<'a>(
+        &self,
+        alloc: Global,
+        mut command: Command<'a>,
+    ) -> Result<Command<'a>, AllocError> {
+        for flag in self.flags {
+            command = command.arg(flag.arg(alloc))?;
+        }
+        Ok(command)
+    }
+}
+
+impl Arguments {
+    /// The arguments, for which an option may stand.
+    fn arg<'a>(&self, alloc: Global) -> Result<Arg<'a>, AllocError> {
+        let arg = Arg::new(alloc, self.id)
+            .value_name(self.value_name)
+            .help(self.help)
+            .action(ArgAction::Append)
+            .num_args(1..);
+        match self.unless {
+            Some(option) => arg.required_unless_present(option),
+            None => Ok(arg.required(true)),
+        }
+    }
+}
+
+fn file<'a>(alloc: Global) -> Arg<'a> {
+    Arg::new(alloc, "FILE")
+        .required(true)
+        .action(ArgAction::Set)
+        .help("A CMap file, by its path or its name; - is the standard input")
+}
