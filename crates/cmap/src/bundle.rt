@@ -3,7 +3,7 @@
 use crate::options::Options;
 use cmap_bundle::beside::Beside;
 use cmap_bundle::candidates::candidates_of;
-use cmap_bundle::choice::{Chosen, choose};
+use cmap_bundle::choice::{Choice, Chosen, choose};
 use cmap_bundle::making::bundle_of;
 use cmap_bundle::summary::push_summary;
 use cmap_bundle::verify::differences;
@@ -20,25 +20,39 @@ pub(crate) fn bundle(rt: &HostRuntime, options: &Options<'_, '_>) -> Result<u8, 
     }
     let candidates = candidates_of(rt, options.bundling.named, options.paths)?;
     let choice = choose(rt, &candidates.files)?;
+    bundle_of_choice(rt, options, &choice, candidates.passed_over)
+}
+
+/// Makes a bundle of the files that were chosen.
+fn bundle_of_choice(
+    rt: &HostRuntime,
+    options: &Options<'_, '_>,
+    choice: &Choice<'_>,
+    passed_over: usize,
+) -> Result<u8, Failure> {
+    let output = options.bundling.output;
     if choice.files.is_empty() {
         return Err(fault(rt, output, "not written, since there is no file for it"));
     }
     let bytes = bundle_of(rt.alloc(), &choice.files)?;
     put(rt, output, &bytes, &choice.files, options.bundling.verify)?;
-    let mut line = String::new(rt.alloc());
-    push_summary(
-        rt.alloc(),
-        &mut line,
-        output,
-        &bytes,
-        candidates.passed_over,
-    )?;
-    rt.println(line.as_str())?;
+    print_summary(rt, output, &bytes, passed_over)?;
     Ok(if choice.left_out > 0 {
         REFUSED
     } else {
         ACCEPTED
     })
+}
+
+fn print_summary(
+    rt: &HostRuntime,
+    output: &str,
+    bytes: &[u8],
+    passed_over: usize,
+) -> Result<(), Failure> {
+    let mut line = String::new(rt.alloc());
+    push_summary(rt.alloc(), &mut line, output, bytes, passed_over)?;
+    Ok(rt.println(line.as_str())?)
 }
 
 /// Puts a bundle of these bytes in its place, where it is to be compared only if it says what the files say.
@@ -65,20 +79,25 @@ fn compare(
     files: &[Chosen<'_>],
 ) -> Result<(), Failure> {
     let bytes = needed(rt, beside.path())?;
-    let Some(bundle) = Bundle::parse(rt.alloc(), &bytes)? else {
-        return Err(fault(rt, output, "not written, since it is an invalid bundle"));
-    };
-    let lines = differences(rt.alloc(), &bundle, files)?;
+    match Bundle::parse(rt.alloc(), &bytes)? {
+        Some(bundle) => compare_bundle(rt, output, &bundle, files),
+        None => Err(fault(rt, output, "not written, since it is an invalid bundle")),
+    }
+}
+
+fn compare_bundle(
+    rt: &HostRuntime,
+    output: &str,
+    bundle: &Bundle<'_>,
+    files: &[Chosen<'_>],
+) -> Result<(), Failure> {
+    let lines = differences(rt.alloc(), bundle, files)?;
     for line in &lines {
         eprintln!(rt; "cmap: {line}")?;
     }
     if lines.is_empty() {
-        Ok(())
-    } else {
-        Err(fault(
-            rt,
-            output,
-            "not written, since it says something else than the files",
-        ))
+        return Ok(());
     }
+    let wrong = "not written, since it says something else than the files";
+    Err(fault(rt, output, wrong))
 }

@@ -24,31 +24,33 @@ pub(crate) fn list(
 }
 
 fn lines_of(alloc: Global, map: &CMap, options: &Options<'_, '_>) -> Result<String, AllocError> {
-    let mut printed = String::new(alloc);
     if options.effective {
-        let lines = effective_lines(alloc, map)?;
-        push_lines(alloc, &mut printed, lines, None, options.json)?;
+        effective(alloc, map, options.json)
     } else {
-        push_declared(alloc, &mut printed, map, options.json)?;
+        declared(alloc, map, options.json)
     }
+}
+
+/// What codes have over all layers.
+fn effective(alloc: Global, map: &CMap, json: bool) -> Result<String, AllocError> {
+    let mut printed = String::new(alloc);
+    let lines = effective_lines(alloc, map)?;
+    push_lines(alloc, &mut printed, lines, None, json)?;
     Ok(printed)
 }
 
 /// The declarations. Each layer but the top one has its number over them.
-fn push_declared(
-    alloc: Global,
-    printed: &mut String,
-    map: &CMap,
-    json: bool,
-) -> Result<(), AllocError> {
-    for (index, lines) in lines_by_layer(alloc, map)?.into_iter().enumerate() {
+fn declared(alloc: Global, map: &CMap, json: bool) -> Result<String, AllocError> {
+    let mut printed = String::new(alloc);
+    let layers = lines_by_layer(alloc, map)?;
+    for (index, lines) in layers.into_iter().enumerate() {
         let layer = index.saturating_add(1);
         if index > 0 && !json {
             writeln!(printed, "layer {layer}")?;
         }
-        push_lines(alloc, printed, lines, Some(layer), json)?;
+        push_lines(alloc, &mut printed, lines, Some(layer), json)?;
     }
-    Ok(())
+    Ok(printed)
 }
 
 fn push_lines(

@@ -63,17 +63,27 @@ fn run_command(rt: &HostRuntime, matches: &ArgMatches<'_>) -> Result<u8, Failure
     if name == "bundle" {
         return bundle::bundle(rt, &options);
     }
-    let Some(path) = options.bundle else {
-        return run_subcommand(rt, name, &options, None);
-    };
+    match options.bundle {
+        Some(path) => run_over_bundle(rt, name, &options, path),
+        None => run_subcommand(rt, name, &options, None),
+    }
+}
+
+/// Does it over the bundle of a path.
+fn run_over_bundle(
+    rt: &HostRuntime,
+    name: &str,
+    options: &Options<'_, '_>,
+    path: &str,
+) -> Result<u8, Failure> {
     let bytes = needed(rt, path)?;
     match Bundle::parse(rt.alloc(), &bytes)? {
-        Some(bundle) => run_subcommand(rt, name, &options, Some(&bundle)),
+        Some(bundle) => run_subcommand(rt, name, options, Some(&bundle)),
         None => Err(fault(rt, path, "invalid bundle")),
     }
 }
 
-/// Does it over a bundle.
+/// Does it over a bundle, or without one.
 fn run_subcommand(
     rt: &HostRuntime,
     name: &str,

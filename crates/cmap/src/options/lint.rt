@@ -42,8 +42,11 @@ impl<'m, 'w> LintOptions<'m, 'w> {
 
     /// Whether a warning makes the status 1.
     pub fn denies(&self, warning: Warning) -> bool {
-        self.denied
-            .iter()
-            .any(|name| *name == ALL || *name == warning.name())
+        for name in self.denied {
+            if *name == ALL || *name == warning.name() {
+                return true;
+            }
+        }
+        false
     }
 }
