@@ -1,6 +1,6 @@
 use Rattle.std.proofs.Common.{◌≡◌, ◌+◌, ◌≤◌, drop}
-use Rattle.cmap_report.specs.LineEnds.{line_ends}
-use Rattle.cmap_report.proofs.fault_line.ends_in.Given as goal
+use Rattle.cmap_refusals.specs.LineEnds.{line_ends}
+use Rattle.cmap_refusals.proofs.fault_line.ends_in.Given as goal
 
 abbrev pub invariant-loop-i : goal.invariant-loop-i
 invariant-loop-i l = record {
