@@ -1,12 +1,12 @@
 //! `cmap bundle`: makes a bundle of files.
 
-use crate::options::Options;
 use cmap_bundle::beside::Beside;
 use cmap_bundle::candidates::candidates_of;
 use cmap_bundle::choice::{Choice, Chosen, choose};
 use cmap_bundle::making::bundle_of;
 use cmap_bundle::summary::push_summary;
 use cmap_bundle::verify::differences;
+use cmap_commands::options::Options;
 use cmap_sources::failure::{Failure, fault};
 use cmap_sources::inputs::{STANDARD_INPUT, needed};
 use cmap_sources::status::{ACCEPTED, REFUSED};

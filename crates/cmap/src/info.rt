@@ -1,7 +1,7 @@
 //! `cmap info`: what files say, and what a bundle holds.
 
-use crate::options::Options;
 use cmap_bundle::contents::{self, contents_of, push_contents};
+use cmap_commands::options::Options;
 use cmap_report::info::{push_info, push_json};
 use cmap_report::uses::uses_by_layer;
 use cmap_sources::bases::{Bases, Files};

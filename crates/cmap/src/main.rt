@@ -2,26 +2,13 @@
 #![tactic(auto)]
 
 mod bundle;
-mod check;
-mod command_line;
-mod decode;
-mod find;
-mod flags;
-mod font;
 mod info;
-mod lint;
-mod list;
-mod locate;
-mod lookup;
-mod options;
-mod progress;
-mod text;
-mod usage;
 
-use crate::command_line::command;
-use crate::options::Options;
-use crate::usage::print_usage;
 use clap::ArgMatches;
+use cmap_commands::command_line::command;
+use cmap_commands::options::Options;
+use cmap_commands::usage::print_usage;
+use cmap_commands::{check, decode, find, list, locate, lookup, text};
 use cmap_sources::bases::Bases;
 use cmap_sources::failure::{Failure, fault, report};
 use cmap_sources::inputs::needed;

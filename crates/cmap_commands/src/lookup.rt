@@ -11,7 +11,7 @@ use hayro_cmap::CMap;
 use std::alloc::{AllocError, Global};
 
 /// Prints the answer to each query, and gives the status.
-pub(crate) fn lookup(
+pub fn lookup(
     rt: &HostRuntime,
     options: &Options<'_, '_>,
     bases: &mut Bases<'_>,

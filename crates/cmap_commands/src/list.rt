@@ -12,7 +12,7 @@ use hayro_cmap::CMap;
 use std::alloc::{AllocError, Global};
 
 /// Prints each declaration, layer by layer, or what codes have over all layers, and gives the status.
-pub(crate) fn list(
+pub fn list(
     rt: &HostRuntime,
     options: &Options<'_, '_>,
     bases: &mut Bases<'_>,

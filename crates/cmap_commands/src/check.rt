@@ -34,7 +34,7 @@ struct Run<'r, 'm, 'w> {
 }
 
 /// Checks the files and the files of the folders, and gives the status.
-pub(crate) fn check(
+pub fn check(
     rt: &HostRuntime,
     options: &Options<'_, '_>,
     bases: &mut Bases<'_>,

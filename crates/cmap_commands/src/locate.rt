@@ -12,7 +12,7 @@ use serde_json::{Map, Value, put};
 use std::alloc::{AllocError, Global};
 
 /// Prints the path of the file that each argument stands for, and gives the status.
-pub(crate) fn locate(
+pub fn locate(
     rt: &HostRuntime,
     options: &Options<'_, '_>,
     bases: &mut Bases<'_>,

@@ -10,7 +10,7 @@ use hayro_cmap::CMap;
 use std::alloc::{AllocError, Global};
 
 /// Prints the codes that each argument asks for, and gives the status.
-pub(crate) fn find(
+pub fn find(
     rt: &HostRuntime,
     options: &Options<'_, '_>,
     bases: &mut Bases<'_>,

@@ -9,7 +9,7 @@ use cmap_sources::status::ACCEPTED;
 use cmap_unicode::Extractor;
 
 /// Prints the codes of each string, and gives the status.
-pub(crate) fn decode(
+pub fn decode(
     rt: &HostRuntime,
     options: &Options<'_, '_>,
     bases: &mut Bases<'_>,

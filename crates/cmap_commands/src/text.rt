@@ -9,7 +9,7 @@ use cmap_sources::status::{ACCEPTED, REFUSED};
 use cmap_unicode::Extractor;
 
 /// Prints the text of each string, and gives the status: whether each code has a text.
-pub(crate) fn text(
+pub fn text(
     rt: &HostRuntime,
     options: &Options<'_, '_>,
     bases: &mut Bases<'_>,

@@ -1,7 +1,7 @@
 //! What the arguments of a subcommand ask for.
 
-pub(crate) mod bundle;
-pub(crate) mod lint;
+pub mod bundle;
+pub mod lint;
 
 use self::bundle::BundleOptions;
 use self::lint::LintOptions;
