@@ -2,14 +2,14 @@
 
 use hayro_cmap::{CMap, CMapName};
 use std::cell::Cell;
+use std::test::Fail;
 
 #[test]
-fn files_are_asked_for_in_the_order_of_the_uses(rt: HostRuntime) {
+fn files_are_asked_for_in_the_order_of_the_uses(rt: HostRuntime) -> Result<(), Fail> {
     // The names that were asked, a digit each.
     let asked = Cell::new(0u32);
-    let map = CMap::parse_within(
+    let map = CMap::parse(
         rt.alloc(),
-        Some(1000),
         b"/A usecmap /B usecmap /A usecmap",
         None,
         &|name: CMapName<'_>| {
@@ -24,7 +24,8 @@ fn files_are_asked_for_in_the_order_of_the_uses(rt: HostRuntime) {
                 _ => Some(b""),
             }
         },
-    );
-    assert!(rt; matches!(map, Ok(Some(_))));
+    )?;
+    assert!(rt; map.is_some());
     assert!(rt; asked.get() == 13213);
+    Ok(())
 }
