@@ -31,8 +31,9 @@ fn push_numbers(
 ) -> Result<(), AllocError> {
     let files = contents_of(alloc, bundle)?;
     push_files(out, &files, byte_count)?;
-    push_absent(out, absent_of(&files))?;
-    push_passed_over(out, passed_over)
+    let absent = absent_of(&files);
+    push_any(out, absent, "name without a file", "names without a file")?;
+    push_any(out, passed_over, "file of another name", "files of other names")
 }
 
 /// Adds how many files and bytes there are, and which of the files are texts.
@@ -42,31 +43,11 @@ fn push_files(out: &mut String, files: &[Held<'_>], bytes: usize) -> Result<(), 
     push_texts(out, files)
 }
 
-/// Adds how many names have no file, if any has none.
-fn push_absent(out: &mut String, count: usize) -> Result<(), AllocError> {
+/// Adds how many there are of something, if there is any.
+fn push_any(out: &mut String, count: usize, one: &str, more: &str) -> Result<(), AllocError> {
     match count {
         0 => Ok(()),
-        _ => push_count(
-            out,
-            "; ",
-            count,
-            "name without a file",
-            "names without a file",
-        ),
-    }
-}
-
-/// Adds how many files of folders were passed over, if any was.
-fn push_passed_over(out: &mut String, count: usize) -> Result<(), AllocError> {
-    match count {
-        0 => Ok(()),
-        _ => push_count(
-            out,
-            "; ",
-            count,
-            "file of another name",
-            "files of other names",
-        ),
+        _ => push_count(out, "; ", count, one, more),
     }
 }
 

@@ -31,6 +31,25 @@ struct Arguments {
     help: &'static str,
 }
 
+/// The options of a subcommand that takes strings.
+const STRING_FLAGS: &[Flag] = &[
+    BASE,
+    BUNDLE,
+    NO_PREDEFINED,
+    JSON,
+    TO_UNICODE,
+    BUDGET,
+    LENIENT,
+];
+
+/// Strings, of which there is one at least.
+const STRINGS: Arguments = Arguments {
+    id: "ARGUMENT",
+    value_name: "HEX",
+    unless: None,
+    help: "Strings, two hexadecimal digits for each byte; - reads them from the standard input",
+};
+
 const SUBCOMMANDS: &[Subcommand] = &[
     Subcommand {
         name: "info",
@@ -99,42 +118,16 @@ const SUBCOMMANDS: &[Subcommand] = &[
     Subcommand {
         name: "decode",
         about: "Prints the codes of strings, with their CIDs and their texts",
-        flags: &[
-            BASE,
-            BUNDLE,
-            NO_PREDEFINED,
-            JSON,
-            TO_UNICODE,
-            BUDGET,
-            LENIENT,
-        ],
+        flags: STRING_FLAGS,
         has_file: true,
-        arguments: Some(Arguments {
-            id: "ARGUMENT",
-            value_name: "HEX",
-            unless: None,
-            help: "Strings, two hexadecimal digits for each byte; - reads them from the standard input",
-        }),
+        arguments: Some(STRINGS),
     },
     Subcommand {
         name: "text",
         about: "Prints the texts of strings",
-        flags: &[
-            BASE,
-            BUNDLE,
-            NO_PREDEFINED,
-            JSON,
-            TO_UNICODE,
-            BUDGET,
-            LENIENT,
-        ],
+        flags: STRING_FLAGS,
         has_file: true,
-        arguments: Some(Arguments {
-            id: "ARGUMENT",
-            value_name: "HEX",
-            unless: None,
-            help: "Strings, two hexadecimal digits for each byte; - reads them from the standard input",
-        }),
+        arguments: Some(STRINGS),
     },
     Subcommand {
         name: "where",

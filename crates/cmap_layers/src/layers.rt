@@ -44,15 +44,7 @@ impl Layer {
         ensures { IfOk result (λ layer. layer_seen layer
             ≡ record { metadata = metadata_seen metadata; lists = lists_seen lists }) }
     {
-        let Lists {
-            cids,
-            notdefs,
-            bfs,
-            spaces,
-        } = lists;
-        let bfs = Table::build(alloc, bfs)?;
-        let (cids, notdefs) = build_tables(alloc, cids, notdefs)?;
-        let spaces = Spaces::build(alloc, spaces)?;
+        let (cids, notdefs, bfs, spaces) = tables_of(alloc, lists)?;
         Ok(Layer {
             metadata,
             cids,
@@ -148,6 +140,43 @@ fn lengths_of(tables: &ByLength<Table<CidRange>>) -> ByLength<usize>
         three: tables.three.decl_count(),
         four: tables.four.decl_count(),
     }
+}
+
+/// The tables of the CIDs, of the notdefs and of the texts, and the codespace ranges.
+type Tables = (
+    ByLength<Table<CidRange>>,
+    ByLength<Table<CidRange>>,
+    Table<BfRange>,
+    Spaces,
+);
+
+/// The tables of all declarations of a file.
+fn tables_of(alloc: Global, lists: Lists) -> Result<Tables, AllocError>
+    ensures { IfOk result (λ tables. tables
+        ≡ (lists_held lists.cids, lists_held lists.notdefs, lists.bfs.items, lists.spaces.items)) }
+{
+    let Lists {
+        cids,
+        notdefs,
+        bfs,
+        spaces,
+    } = lists;
+    let (bfs, spaces) = build_texts_and_spaces(alloc, bfs, spaces)?;
+    let (cids, notdefs) = build_tables(alloc, cids, notdefs)?;
+    Ok((cids, notdefs, bfs, spaces))
+}
+
+/// The table of the texts, and the codespace ranges.
+fn build_texts_and_spaces(
+    alloc: Global,
+    bfs: Vec<BfRange>,
+    spaces: Vec<Codespace>,
+) -> Result<(Table<BfRange>, Spaces), AllocError>
+    ensures { IfOk result (λ built. built ≡ (bfs.items, spaces.items)) }
+{
+    let bfs = Table::build(alloc, bfs)?;
+    let spaces = Spaces::build(alloc, spaces)?;
+    Ok((bfs, spaces))
 }
 
 /// The tables of the CIDs and of the notdefs.
