@@ -1,18 +1,17 @@
 //! The command `cmap`: what is in a CMap file, where it is wrong, and what a string says.
 #![tactic(auto)]
 
-mod bundle;
-mod info;
-
 use clap::ArgMatches;
-use cmap_commands::command_line::command;
+use cmap_bundle::command::{Asked, bundle};
+use cmap_bundle::contents::print_contents;
+use cmap_command_line::command::command;
 use cmap_commands::options::Options;
 use cmap_commands::usage::print_usage;
-use cmap_commands::{check, decode, find, list, locate, lookup, text};
+use cmap_commands::{check, decode, find, info, list, locate, lookup, text};
 use cmap_sources::bases::Bases;
 use cmap_sources::failure::{Failure, fault, report};
 use cmap_sources::inputs::needed;
-use cmap_sources::status::{FAILED, REFUSED};
+use cmap_sources::status::{ACCEPTED, FAILED, REFUSED};
 use hayro_cmap::Bundle;
 use std::env;
 use std::process::ExitCode;
@@ -48,11 +47,21 @@ fn run_command(rt: &HostRuntime, matches: &ArgMatches<'_>) -> Result<u8, Failure
         return Err(Failure::Message(message));
     }
     if name == "bundle" {
-        return bundle::bundle(rt, &options);
+        return bundle(rt, &bundle_asked(&options));
     }
     match options.bundle {
         Some(path) => run_over_bundle(rt, name, &options, path),
         None => run_subcommand(rt, name, &options, None),
+    }
+}
+
+/// The bundle that the arguments ask for.
+fn bundle_asked<'m, 'w>(options: &Options<'m, 'w>) -> Asked<'m, 'w> {
+    Asked {
+        output: options.bundling.output,
+        named: options.bundling.named,
+        paths: options.paths,
+        is_compared: options.bundling.verify,
     }
 }
 
@@ -107,6 +116,7 @@ fn run_over(
     bases: &mut Bases<'_>,
 ) -> Result<u8, Failure> {
     match name {
+        "info" if options.paths.is_empty() => info_of_bundle(rt, options, bases),
         "info" => info::info(rt, options, bases),
         "find" => find::find(rt, options, bases),
         "list" => list::list(rt, options, bases),
@@ -116,4 +126,17 @@ fn run_over(
         "where" => locate::locate(rt, options, bases),
         _ => lookup::lookup(rt, options, bases),
     }
+}
+
+/// Prints what the bundle holds.
+fn info_of_bundle(
+    rt: &HostRuntime,
+    options: &Options<'_, '_>,
+    bases: &Bases<'_>,
+) -> Result<u8, Failure> {
+    let (Some(path), Some(bundle)) = (options.bundle, bases.bundle) else {
+        return Ok(FAILED);
+    };
+    print_contents(rt, path, bundle, options.json)?;
+    Ok(ACCEPTED)
 }

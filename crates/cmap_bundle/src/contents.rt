@@ -7,6 +7,7 @@ use cmap_escape::json::push_line;
 use cmap_escape::object::Object;
 use cmap_report::uses::uses_by_layer;
 use cmap_sources::bases::file_in;
+use cmap_sources::failure::Failure;
 use hayro_cmap::{Bundle, NamedFiles};
 use serde_json::Value;
 use std::alloc::{AllocError, Global};
@@ -63,8 +64,25 @@ pub fn absent_of(files: &[Held<'_>]) -> usize {
     KNOWN_NAMES.len().saturating_sub(files.len())
 }
 
+/// Prints what a bundle holds, which has this path.
+pub fn print_contents(
+    rt: &HostRuntime,
+    path: &str,
+    bundle: &Bundle<'_>,
+    json: bool,
+) -> Result<(), Failure> {
+    let files = contents_of(rt.alloc(), bundle)?;
+    let mut lines = String::new(rt.alloc());
+    if json {
+        push_json(rt.alloc(), &mut lines, path, &files)?;
+    } else {
+        push_contents(&mut lines, &files)?;
+    }
+    Ok(rt.print(lines.as_str())?)
+}
+
 /// Adds a line for each file of a bundle, and how many names have none.
-pub fn push_contents(out: &mut String, files: &[Held<'_>]) -> Result<(), AllocError> {
+fn push_contents(out: &mut String, files: &[Held<'_>]) -> Result<(), AllocError> {
     for file in files {
         push_held(out, file)?;
     }
@@ -95,7 +113,7 @@ fn push_uses(out: &mut String, names: &[&[u8]]) -> Result<(), AllocError> {
 }
 
 /// Adds the object of a bundle, which has this path, and ends the line.
-pub fn push_json(
+fn push_json(
     alloc: Global,
     out: &mut String,
     path: &str,

@@ -5,6 +5,7 @@
 pub mod beside;
 pub mod candidates;
 pub mod choice;
+pub mod command;
 pub mod contents;
 pub mod difference;
 pub mod known_names;

@@ -33,7 +33,12 @@ fn push_numbers(
     push_files(out, &files, byte_count)?;
     let absent = absent_of(&files);
     push_any(out, absent, "name without a file", "names without a file")?;
-    push_any(out, passed_over, "file of another name", "files of other names")
+    push_any(
+        out,
+        passed_over,
+        "file of another name",
+        "files of other names",
+    )
 }
 
 /// Adds how many files and bytes there are, and which of the files are texts.

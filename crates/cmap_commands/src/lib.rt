@@ -1,13 +1,11 @@
-//! The command line of `cmap`, and what its subcommands do with maps: all but those that go through
-//! bundles.
+//! What the subcommands of `cmap` do with maps: all but `bundle`.
 #![tactic(auto)]
 
 pub mod check;
-pub mod command_line;
 pub mod decode;
 pub mod find;
-mod flags;
 mod font;
+pub mod info;
 mod lint;
 pub mod list;
 pub mod locate;

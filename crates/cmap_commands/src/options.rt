@@ -6,12 +6,10 @@ pub mod lint;
 use self::bundle::BundleOptions;
 use self::lint::LintOptions;
 use clap::ArgMatches;
+use cmap_command_line::flags::TO_UNICODE_FILE;
 use cmap_sources::inputs::STANDARD_INPUT;
 use cmap_sources::paths::PathList;
 use cmap_sources::reading::{Faults, Form, Manner};
-
-/// What the option that names a ToUnicode CMap is found by; `check` has an option of this name too.
-pub const TO_UNICODE: &str = "to-unicode-file";
 
 /// What the arguments of a subcommand ask for.
 #[derive(Clone, Copy)]
@@ -64,7 +62,7 @@ impl<'m, 'w> Options<'m, 'w> {
             bundle: matches.get_str("bundle"),
             no_predefined: matches.get_flag("no-predefined"),
             budget: matches.get_one::<u64>("budget"),
-            to_unicode: matches.get_str(TO_UNICODE),
+            to_unicode: matches.get_str(TO_UNICODE_FILE),
             json: matches.get_flag("json"),
             effective: matches.get_flag("effective"),
             bundling: BundleOptions::of(matches),

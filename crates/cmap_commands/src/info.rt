@@ -1,7 +1,6 @@
-//! `cmap info`: what files say, and what a bundle holds.
+//! `cmap info`: what files say.
 
-use cmap_bundle::contents::{self, contents_of, push_contents};
-use cmap_commands::options::Options;
+use crate::options::Options;
 use cmap_report::info::{push_info, push_json};
 use cmap_report::uses::uses_by_layer;
 use cmap_sources::bases::{Bases, Files};
@@ -12,15 +11,12 @@ use cmap_sources::status::{ACCEPTED, FAILED, REFUSED};
 use hayro_cmap::CMap;
 use std::alloc::{AllocError, Global};
 
-/// Prints what each file says, or without any what the bundle holds, and gives the status.
-pub(crate) fn info(
+/// Prints what each file says, and gives the status.
+pub fn info(
     rt: &HostRuntime,
     options: &Options<'_, '_>,
     bases: &mut Bases<'_>,
 ) -> Result<u8, Failure> {
-    if options.paths.is_empty() {
-        return info_of_bundle(rt, options, bases);
-    }
     let mut status = ACCEPTED;
     for (index, path) in options.paths.iter().enumerate() {
         if index > 0 && !options.json {
@@ -29,26 +25,6 @@ pub(crate) fn info(
         status = status.max(info_of(rt, path, options, bases)?);
     }
     Ok(status)
-}
-
-/// Prints what the bundle holds.
-fn info_of_bundle(
-    rt: &HostRuntime,
-    options: &Options<'_, '_>,
-    bases: &Bases<'_>,
-) -> Result<u8, Failure> {
-    let (Some(path), Some(bundle)) = (options.bundle, bases.bundle) else {
-        return Ok(FAILED);
-    };
-    let files = contents_of(rt.alloc(), bundle)?;
-    let mut lines = String::new(rt.alloc());
-    if options.json {
-        contents::push_json(rt.alloc(), &mut lines, path, &files)?;
-    } else {
-        push_contents(&mut lines, &files)?;
-    }
-    rt.print(lines.as_str())?;
-    Ok(ACCEPTED)
 }
 
 /// Prints what a file says.

@@ -1,4 +1,4 @@
-//! The command line.
+//! The subcommands, with what stands after the name of each.
 
 use crate::flags::{
     BASE, BUDGET, BUNDLE, DENY, EFFECTIVE, FILES_FROM, FIRST, Flag, JSON, LENIENT, LINT,

@@ -1,8 +1,10 @@
 //! The options of the subcommands.
 
-use crate::options;
 use clap::{Arg, ArgAction, value_parser};
 use std::alloc::Global;
+
+/// What the option that names a ToUnicode CMap is found by; `check` has an option of this name too.
+pub const TO_UNICODE_FILE: &str = "to-unicode-file";
 
 /// An option of subcommands.
 pub(crate) struct Flag {
@@ -112,7 +114,7 @@ pub(crate) const EFFECTIVE: Flag = Flag {
 
 /// Of `decode` and `text`; `check` has an option of this name too.
 pub(crate) const TO_UNICODE: Flag = Flag {
-    id: options::TO_UNICODE,
+    id: TO_UNICODE_FILE,
     short: None,
     long: "to-unicode",
     value: Value::Text("FILE"),

@@ -1,41 +1,53 @@
 //! `cmap bundle`: makes a bundle of files.
 
-use cmap_bundle::beside::Beside;
-use cmap_bundle::candidates::candidates_of;
-use cmap_bundle::choice::{Choice, Chosen, choose};
-use cmap_bundle::making::bundle_of;
-use cmap_bundle::summary::push_summary;
-use cmap_bundle::verify::differences;
-use cmap_commands::options::Options;
+use crate::beside::Beside;
+use crate::candidates::candidates_of;
+use crate::choice::{Choice, Chosen, choose};
+use crate::making::bundle_of;
+use crate::summary::push_summary;
+use crate::verify::differences;
 use cmap_sources::failure::{Failure, fault};
 use cmap_sources::inputs::{STANDARD_INPUT, needed};
 use cmap_sources::status::{ACCEPTED, REFUSED};
 use hayro_cmap::Bundle;
 
+/// Which bundle is asked for.
+#[derive(Clone, Copy)]
+pub struct Asked<'m, 'w> {
+    /// The path of the bundle.
+    pub output: &'w str,
+    /// The arguments `NAME=FILE`.
+    pub named: &'m [&'w str],
+    /// The files and the folders.
+    pub paths: &'m [&'w str],
+    /// Whether what the bundle says is compared with the files.
+    pub is_compared: bool,
+}
+
 /// Makes a bundle, and gives the status.
-pub(crate) fn bundle(rt: &HostRuntime, options: &Options<'_, '_>) -> Result<u8, Failure> {
-    let output = options.bundling.output;
+pub fn bundle(rt: &HostRuntime, asked: &Asked<'_, '_>) -> Result<u8, Failure> {
+    let output = asked.output;
     if output == STANDARD_INPUT {
         return Err(fault(rt, output, "a bundle is written to a file"));
     }
-    let candidates = candidates_of(rt, options.bundling.named, options.paths)?;
+    let candidates = candidates_of(rt, asked.named, asked.paths)?;
     let choice = choose(rt, &candidates.files)?;
-    bundle_of_choice(rt, options, &choice, candidates.passed_over)
+    bundle_of_choice(rt, asked, &choice, candidates.passed_over)
 }
 
 /// Makes a bundle of the files that were chosen.
 fn bundle_of_choice(
     rt: &HostRuntime,
-    options: &Options<'_, '_>,
+    asked: &Asked<'_, '_>,
     choice: &Choice<'_>,
     passed_over: usize,
 ) -> Result<u8, Failure> {
-    let output = options.bundling.output;
+    let output = asked.output;
     if choice.files.is_empty() {
         return Err(fault(rt, output, "not written, since there is no file for it"));
     }
     let bytes = bundle_of(rt.alloc(), &choice.files)?;
-    put(rt, output, &bytes, &choice.files, options.bundling.verify)?;
+    put(rt, output, &bytes, &choice.files, asked.is_compared)?;
     print_summary(rt, output, &bytes, passed_over)?;
     Ok(if choice.left_out > 0 {
         REFUSED
