@@ -1,4 +1,5 @@
 use Rattle.std.proofs.Common.{None, ap, ◌+◌, drop, ◌∙◌, arith}
+use Rattle.std.proofs.lemmas.Grind.{common_steps}
 use Rattle.cmap_files.specs.CodeLengths.{length_of}
 use Rattle.cmap_layers.specs.LayersSeen.{layer_seen, layers_seen}
 use Rattle.cmap_layers.specs.Lookups.{cid_in}
@@ -15,3 +16,6 @@ loop-layer-preserved c = let len = length_of c.args.len in record {
       let none = rw c.in_default.is at (c.stretch_in-stretch.ensures.cids code le (omega arith)) in
       c.loop-layer.invariant.passed code le (omega arith) ∙ ap (λ rest. cid_in rest code len) next ∙ layer_decides (layer_seen c.layer-item.result) below code len None none;
 }
+
+pub returns-in-Some-clause-cids : goal.returns-in-Some-clause-cids
+returns-in-Some-clause-cids c = grind (arith, common_steps)
