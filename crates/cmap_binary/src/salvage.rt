@@ -5,9 +5,9 @@ ghost use Rattle.cmap_files.specs.Faults.{Ascend};
 ghost use Rattle.cmap_files.specs.Files as files;
 ghost use Rattle.cmap_files.specs.FilesSeen.{file_seen};
 ghost use Rattle.cmap_files.specs.ListsAppended.{no_file};
-ghost use Rattle.cmap_files.specs.Only.{HoldsOfNone};
-ghost use Rattle.cmap_files.specs.Outcomes.{Finds};
-ghost use Rattle.cmap_binary.specs.BinaryFiles.{IsBinaryFile, IsSegment};
+ghost use Rattle.cmap_files.specs.Only.{IsOnly, HoldsOfNone};
+ghost use Rattle.cmap_files.specs.Outcomes.{Finds, Succeeds};
+ghost use Rattle.cmap_binary.specs.BinaryFiles.{Content, IsBinaryFile, IsSegment};
 ghost use Rattle.cmap_binary.specs.BinarySalvage.{AfterHeader, BeginsWithin, BodyRead, SalvagesBinary, SegmentsSalvaged};
 ghost use Rattle.cmap_binary.specs.BinarySeen.{AddsWhole};
 ghost use Rattle.cmap_binary.specs.BundleSeen.{bundle_seen, tables_seen};
@@ -107,7 +107,7 @@ fn salvage_segments<'d>(
 }
 
 /// Reads a segment, and adds what it says to the file. Where it is at fault the file stays as it is: so
-/// it is read into another file first.
+/// it is read once before.
 fn try_segment<'d>(
     alloc: Global,
     tables: &Tables,
@@ -118,6 +118,22 @@ fn try_segment<'d>(
     ensures { AddsWhole (IsSegment (tables_seen tables.now) number payload.now)
         (file_seen file.old) (file_seen file.new) result }
 {
-    read_segment(alloc, tables, number, payload, &mut File::new(alloc))?;
-    read_segment(alloc, tables, number, payload, file)
+    match check_segment(alloc, tables, number, payload) {
+        Ok(()) => read_segment(alloc, tables, number, payload, file),
+        Err(fault) => Err(fault),
+    }
+}
+
+/// Whether a segment says something.
+fn check_segment(
+    alloc: Global,
+    tables: &Tables,
+    number: u8,
+    payload: &[u8],
+) -> Result<(), Fault<Reason>>
+    ensures { Succeeds ((content : Content) × IsOnly (IsSegment (tables_seen tables.now) number payload.now) content)
+        (HoldsOfNone (IsSegment (tables_seen tables.now) number payload.now)) result }
+{
+    let mut file = File::new(alloc);
+    read_segment(alloc, tables, number, payload, &mut file)
 }

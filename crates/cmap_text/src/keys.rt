@@ -4,7 +4,7 @@ ghost use Rattle.std.specs.Prelude.{◌≡◌, IfOk, option_map};
 ghost use Rattle.cmap_tokens.specs.TokenSeen.{token_seen};
 ghost use Rattle.cmap_files.specs.MetadataSeen.{collection_seen, metadata_seen, mode_seen};
 ghost use Rattle.cmap_files.specs.Only.{IsOnly};
-ghost use Rattle.cmap_text.specs.TextFiles.{GivesText, IsCollection, IsMetadata, mode_in, name_in, supplement_in};
+ghost use Rattle.cmap_text.specs.TextFiles.{GivesText, IsCollection, IsMetadata, collection_of, mode_in, name_in, supplement_in};
 ghost use Rattle.cmap_text.specs.TextReading.{key_in, no_values, with_value};
 ghost use Rattle.cmap_text.specs.TextSeen.{key_name, values_seen};
 
@@ -103,14 +103,27 @@ impl<'d> Values<'d> {
     {
         let registry = text_of(alloc, self.registry)?;
         let ordering = text_of(alloc, self.ordering)?;
-        let supplement = supplement_of(self.supplement);
-        match (registry, ordering, supplement) {
-            (Some(registry), Some(ordering), Some(supplement)) => {
-                let family = CidFamily::from_registry_ordering(alloc, &registry, &ordering)?;
-                Ok(Some(CharacterCollection { family, supplement }))
-            }
-            _ => Ok(None),
+        collection_of(alloc, registry, ordering, supplement_of(self.supplement))
+    }
+}
+
+/// The character collection of these parts; `None` unless all are there.
+fn collection_of(
+    alloc: Global,
+    registry: Option<Vec<u8>>,
+    ordering: Option<Vec<u8>>,
+    supplement: Option<i32>,
+) -> Result<Option<CharacterCollection>, AllocError>
+    ensures { IfOk result (λ found. option_map collection_seen found
+        ≡ collection_of (option_map (λ bytes. bytes.items) registry)
+        (option_map (λ bytes. bytes.items) ordering) supplement) }
+{
+    match (registry, ordering, supplement) {
+        (Some(registry), Some(ordering), Some(supplement)) => {
+            let family = CidFamily::from_registry_ordering(alloc, &registry, &ordering)?;
+            Ok(Some(CharacterCollection { family, supplement }))
         }
+        _ => Ok(None),
     }
 }
 
