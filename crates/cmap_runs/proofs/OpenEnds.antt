@@ -1,8 +1,9 @@
 -- Open ranges, of which some lie on a stack and others in a heap.
-use Rattle.std.proofs.Common.{◌≡◌, ℕ, ◌-◌, ◌<◌, ◌≤◌, List, [], ◌∷◌, ◌++◌, length, get_or, Option, sym, ap, subst, arith, length-append}
-use Rattle.std.specs.Prelude.{Some, None, All, slice_get}
+use Rattle.std.proofs.Common.{◌≡◌, ℕ, ◌-◌, ◌<◌, ◌≤◌, List, [], ◌∷◌, ◌++◌, length, get_or, Option, sym, ap, ◌∙◌, subst, arith, length-append}
+use Rattle.std.specs.Prelude.{Some, None, All, IfSome, IsSome, slice_get}
 use Rattle.std.specs.List.Sorted.{IsPermutation}
-use Rattle.std.proofs.lemmas.List.{append_assoc}
+use Rattle.std.proofs.lemmas.Bool.{false≢true}
+use Rattle.std.proofs.lemmas.List.{append_assoc, get_or_append_left}
 use Rattle.std.proofs.lemmas.List.Elements.{All-append, Contains-append_left, Contains-append_right}
 use Rattle.std.proofs.lemmas.List.Sorted.{IsNonDecreasingBy-push, IsPermutation-append_left, IsPermutation-append_right, IsPermutation-sym, IsPermutation-to_front, IsPermutation-trans}
 use Rattle.std.proofs.lemmas.Option.{get_or_from_slice_get, slice_get_within}
@@ -16,6 +17,18 @@ Ascend-top stack top ascend is =
       is = (end, lt, get_or_from_slice_get stack end top top is);
       greatest = λ k d within. omega (arith, ascend k end d (omega arith) lt, ap (λ (range : ℕ × ℕ). range.0) (get_or_from_slice_get stack end top d is));
     }
+
+pub Ascend-front : (left rest : List (ℕ × ℕ)) → Ascend (left ++ rest) → Ascend left
+Ascend-front left rest ascend i j d le within =
+    let first = ap (λ (range : ℕ × ℕ). range.0) (get_or_append_left left rest d i (omega arith)) in
+    let second = ap (λ (range : ℕ × ℕ). range.0) (get_or_append_left left rest d j within) in
+    omega (arith, ascend i j d le (omega (arith, length-append left rest)), first, second)
+
+-- what is taken out of a heap is what was seen on top of it
+pub taken_top : (heap left : List (ℕ × ℕ)) (top : ℕ × ℕ) (taken : Option (ℕ × ℕ)) → 0 < length heap → top ≡ get_or heap 0 top → IsSome taken → IfSome taken (λ x. x ≡ get_or heap 0 x) → IfSome taken (λ x. IsPermutation heap (x ∷ left)) → IsPermutation heap (top ∷ left)
+taken_top [] left top taken filled seen some first moved = absurd (omega (arith, filled))
+taken_top (x ∷ heap) left top None filled seen some first moved = absurd (false≢true some)
+taken_top (x ∷ heap) left top (Some y) filled seen some first moved = subst (λ z. IsPermutation (x ∷ heap) (z ∷ left)) (first ∙ sym seen) moved
 
 pub Ascend-push : (stack : List (ℕ × ℕ)) (range : ℕ × ℕ) → Ascend stack → ((d : ℕ × ℕ) → 0 < length stack → (get_or stack (length stack - 1) d).0 ≤ range.0) → Ascend (stack ++ range ∷ [])
 Ascend-push stack range ascend last = IsNonDecreasingBy-push (λ (range : ℕ × ℕ). range.0) stack range ascend last

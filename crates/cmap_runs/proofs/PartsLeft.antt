@@ -6,7 +6,7 @@ use Rattle.std.specs.List.Sorted.{IsPermutation}
 use Rattle.std.proofs.Math.Seq.{take-append_seam}
 use Rattle.std.proofs.lemmas.List.Elements.{All-set}
 use Rattle.std.proofs.lemmas.List.Sorted.{All-permutation, IsPermutation-insert, IsPermutation-trans, sum_by-IsPermutation}
-use Rattle.std.proofs.lemmas.List.Sums.{sum_by-insert, sum_by-set}
+use Rattle.std.proofs.lemmas.List.Sums.{get_or-le-sum_by, sum_by-insert, sum_by-set}
 use Rattle.cmap_runs.specs.Parts.{AreLeft, left_of, nothing_left}
 use Rattle.cmap_runs.specs.declared.runs.indices.Part.{Part}
 
@@ -28,6 +28,9 @@ each_with_one parts after count part each begins ends moved =
 pub left_with_one : (parts after : List Part) (part : Part) → IsPermutation (insert parts 0 part) after → left_of after ≡ left_of parts + (part.end - part.next)
 left_with_one parts after part moved =
     sum_by-IsPermutation (λ (part : Part). part.end - part.next) (insert parts 0 part) after moved ∙ sum_by-insert (λ (part : Part). part.end - part.next) parts 0 part
+
+pub first_left : (parts : List Part) → 0 < length parts → (get_or parts 0 nothing_left).end - (get_or parts 0 nothing_left).next ≤ left_of parts
+first_left parts some = get_or-le-sum_by (λ (part : Part). part.end - part.next) parts 0 nothing_left some
 
 -- the first part goes on at `next`
 pub record GoesOn (parts after : List Part) (count first next : ℕ) : Type 0 where

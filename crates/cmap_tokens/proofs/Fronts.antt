@@ -116,6 +116,10 @@ malformed_is text n gap more e =
       λ _ _ _ _ front. no_front front (sym (e ∙ ap first_piece rest)),
     )
 
+-- what a scanner reads is what its cursor has left
+pub left_is : (text : List ℕ) (passed : ℕ) (cursor : Cursor) → record { source = text; passed = passed } ≡ cursor → take (length text - passed) (drop passed text) ≡ rest_of cursor
+left_is text passed cursor same = take_rest text passed ∙ ap rest_of same
+
 -- the token of what is left
 pub read_token : (here old : Cursor) (text : List ℕ) (len : ℕ) (token : Token) → here ≡ old → text ≡ rest_of here → FirstToken text token len → ReadsToken old token (past len here)
 read_token here old text len token same is first =

@@ -1,13 +1,14 @@
 -- Gaps, and the function that measures them.
-use Rattle.std.proofs.Common.{◌≡◌, ℕ, ◌+◌, ◌-◌, ◌<◌, ◌≤◌, Bool, true, false, not, ◌==◌, List, [], ◌∷◌, ◌++◌, inl, inr, length, take, Option, Some, None, one-add, refl, sym, ap, ◌∙◌, arith, append-nil, drop, length-drop, length-take-le}
+use Rattle.std.proofs.Common.{◌≡◌, ℕ, ◌+◌, ◌-◌, ◌<◌, ◌≤◌, Bool, true, false, not, ◌==◌, List, [], ◌∷◌, ◌++◌, inl, inr, length, get_or, take, Option, Some, None, one-add, refl, sym, ap, ◌∙◌, arith, append-nil, drop, length-drop, length-take-le}
 use Rattle.std.specs.Prelude.{IsTrue, is_some}
-use Rattle.std.proofs.lemmas.Bool.{and_parts, cases_Bool}
-use Rattle.std.proofs.lemmas.List.{take-append-drop, drop-drop}
+use Rattle.std.proofs.lemmas.Bool.{and_parts, cases_Bool, eq-eqb}
+use Rattle.std.proofs.lemmas.List.{drop_more, drop-drop, take-append-drop, take_rest}
 use Rattle.std.specs.List.{list_all}
 use Rattle.std.proofs.lemmas.Bool.Decides.{nat_tests}
 use Rattle.cmap_tokens.specs.Bytes.{is_white}
 use Rattle.cmap_tokens.specs.Gaps.{ends_comment, comment_after, IsBlank}
 use Rattle.cmap_tokens.specs.TokenReading.{gap_len, is_plain}
+use Rattle.cmap_tokens.proofs.ByteTests.{other_byte}
 
 pub gap_len-append : (in_comment after : Bool) (gap text : List ℕ) → comment_after in_comment gap ≡ Some after → gap_len in_comment (gap ++ text) ≡ length gap + gap_len after text
 gap_len-append in_comment after [] text e = let same : in_comment ≡ after = cc in rw same (omega arith)
@@ -69,3 +70,21 @@ plain_more text i n within all =
     let same : i + n - i ≡ n = omega arith in
     let size = length-take-le n (drop i text) (omega (arith, length-drop i text, within)) in
     sym (ap (gap_len true) (take-append-drop n (drop i text))) ∙ plain_passed (take n (drop i text)) (drop n (drop i text)) (rw same at all) ∙ ap (λ k. k + gap_len true (drop n (drop i text))) size ∙ ap (λ t. n + gap_len true t) (drop-drop n i text)
+
+-- ---- a gap, from one of its bytes on
+pub white_passed : (text : List ℕ) (i : ℕ) → i < length text → is_white (get_or text i 0) ≡ true → gap_len false (drop i text) ≡ 1 + gap_len false (drop (i + 1) text)
+white_passed text i within white =
+    let not_percent : (get_or text i 0 == 37) ≡ false = other_byte is_white 37 (get_or text i 0) refl white in
+    ap (gap_len false) (drop_more text i 0 within) ∙ rw (not_percent, white) refl
+
+pub comment_passed : (text : List ℕ) (i n : ℕ) → i < length text → get_or text i 0 ≡ 37 → let rest = take (length text - (i + 1)) (drop (i + 1) text) in gap_len true rest ≡ n + gap_len false (drop n rest) → gap_len false (drop i text) ≡ (1 + n) + gap_len false (drop (i + (1 + n)) text)
+comment_passed text i n within percent e =
+    let is_percent : (get_or text i 0 == 37) ≡ true = eq-eqb _ 37 percent in
+    let begins : gap_len false (drop i text) ≡ 1 + gap_len true (drop (i + 1) text) = ap (gap_len false) (drop_more text i 0 within) ∙ rw is_percent refl in
+    let same : i + 1 + n ≡ i + (1 + n) = omega arith in
+    let after : drop n (drop (i + 1) text) ≡ drop (i + (1 + n)) text = drop-drop n (i + 1) text ∙ ap (λ k. drop k text) same in
+    let more = rw (take_rest text (i + 1)) at e in
+    omega (arith, begins, more, ap (gap_len false) after)
+
+pub gap_ends : (text : List ℕ) (i : ℕ) → i < length text → is_white (get_or text i 0) ≡ false → (get_or text i 0 == 37) ≡ false → gap_len false (drop i text) ≡ 0
+gap_ends text i within solid other = ap (gap_len false) (drop_more text i 0 within) ∙ rw (other, solid) refl

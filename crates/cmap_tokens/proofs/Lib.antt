@@ -4,6 +4,8 @@ pub mod Decided
 pub mod Digits
 pub mod Fronts
 pub mod Gaps
+pub mod NumbersSpelled
+pub mod SpacedStrings
 pub mod Stops
 pub mod StringCuts
 pub mod StringLengths

@@ -1,17 +1,19 @@
 -- Texts in UTF-16, character by character.
-use Rattle.std.proofs.Common.{◌≡◌, ℕ, ◌+◌, ◌<◌, true, ◌&&◌, ltb, List, [], ◌∷◌, ◌++◌, inl, inr, length, get_or, drop, Option, Some, None, Result, Ok, Err, is_some, option_map, refl, ap, ◌∙◌, sym, arith, append_assoc, append-nil, length-append, length-drop}
+use Rattle.std.proofs.Common.{◌≡◌, ℕ, ◌+◌, ◌<◌, true, ◌&&◌, ltb, List, [], ◌∷◌, ◌++◌, inl, inr, length, get_or, take, drop, ◌-◌, ◌^◌, Option, Some, None, Result, Ok, Err, is_some, option_map, option_and_then, nat_lt, refl, ap, ◌∙◌, sym, arith, append_assoc, append-nil, length-append, length-drop}
 use Rattle.std.specs.Prelude.{if◌then◌else◌}
 use Rattle.std.specs.Bool.{then_some}
 use Rattle.std.specs.Option.{IsSomeAnd}
-use Rattle.std.specs.Result.{OnErr}
+use Rattle.std.specs.Result.{OkIff, OnErr, result_ok}
 use Rattle.std.specs.Char.{IsScalar, encode_utf8}
 use Rattle.std.specs.Char.Utf16.{utf16_chars, lone_unit_char, surrogate_pair_char, is_high_surrogate, is_low_surrogate}
 use Rattle.std.specs.Str.{chars, IsUtf8}
-use Rattle.std.proofs.lemmas.Bool.{and_parts, cases_Bool, cases_lt, le-ltb, lt-ltb}
+use Rattle.std.proofs.lemmas.Bool.{and_parts, cases_Bool, cases_lt, cond-false, cond-true, le-ltb, lt-ltb}
 use Rattle.std.proofs.lemmas.Bool.Decides.{nat_tests}
 use Rattle.std.proofs.lemmas.List.{drop_all, drop_more, get_or_past}
+use Rattle.std.proofs.lemmas.Option.{slice_get-get_or}
+use Rattle.std.proofs.lemmas.Result.{OkIff-at_err, OkIff-at_ok}
 use Rattle.std.proofs.lemmas.Str.{utf16_chars-nil, chars-append, chars-encodes}
-use Rattle.cmap_tokens.specs.Texts.{all_some, characters, only_character}
+use Rattle.cmap_tokens.specs.Texts.{all_some, characters, only_character, shifted}
 
 -- what is left of the characters, from an index on
 abbrev pub characters_from : List ℕ → ℕ → Option (List ℕ)
@@ -117,3 +119,20 @@ chars-push old new us c i j all utf8 scalar_c e first so_far =
 -- and all of them
 pub chars-all : (cs front : List ℕ) (last i : ℕ) (all : Option (List ℕ)) → length front < i → all ≡ option_map (λ rest. cs ++ rest) (characters_from (front ++ last ∷ []) i) → all ≡ Some cs
 chars-all cs front last i all past e = e ∙ ap (option_map (λ rest. cs ++ rest)) (characters_end front last i past) ∙ ap Some (append-nil cs)
+
+-- ---- the units with an offset added to the last one
+abbrev pub with_last : List ℕ → ℕ → List ℕ
+with_last units last = take (length units - 1) units ++ last ∷ []
+
+abbrev added : List ℕ → ℕ → ℕ → Option (List ℕ)
+added units offset last = if nat_lt (last + offset) (2 ^ 16) then Some (with_last units (last + offset)) else None
+
+pub shifted_by : {E : Type 0} (r : Result ℕ E) (units : List ℕ) (offset last more : ℕ) → 0 < length units → last ≡ get_or units (length units - 1) 0 → more ≡ offset → OkIff r (last + more < 65536) (last + more)
+    → shifted units offset ≡ option_map (with_last units) (result_ok r)
+shifted_by {E = E} (Ok sum) units offset last more some last_is more_is iff =
+    let (small, same) = OkIff-at_ok {E = E} (Ok sum) (last + more < 65536) (last + more) sum iff refl in
+    let sum_is : get_or units (length units - 1) 0 + offset ≡ sum = omega (arith, same, last_is, more_is) in
+    ap (option_and_then (added units offset)) (slice_get-get_or units (length units - 1) 0 (omega arith)) ∙ cond-true _ _ _ (lt-ltb (get_or units (length units - 1) 0 + offset) (2 ^ 16) (omega (arith, small, last_is, more_is))) ∙ ap (λ s. Some (with_last units s)) sum_is
+shifted_by {E = E} (Err e) units offset last more some last_is more_is iff =
+    let large : last + more < 65536 → ⊥ = OkIff-at_err {T = ℕ} {E = E} (Err e) (last + more < 65536) (last + more) e iff refl in
+    ap (option_and_then (added units offset)) (slice_get-get_or units (length units - 1) 0 (omega arith)) ∙ cond-false _ _ _ (le-ltb (get_or units (length units - 1) 0 + offset) (2 ^ 16) (omega (arith, large, last_is, more_is)))

@@ -1,8 +1,8 @@
 -- The pieces of tokens: what the code reads is what the grammar says, both ways.
-use Rattle.std.proofs.Common.{◌≡◌, ℕ, ◌+◌, ◌<◌, ◌≤◌, true, false, not, ◌||◌, ◌==◌, List, [], ◌∷◌, ◌++◌, length, take, drop, Option, Some, None, one-add, refl, sym, ap, ◌∙◌, subst, inl, inr, arith, append_assoc}
+use Rattle.std.proofs.Common.{◌≡◌, ℕ, ◌+◌, ◌<◌, ◌≤◌, true, false, not, ◌||◌, ◌==◌, List, [], ◌∷◌, ◌++◌, length, get_or, take, drop, Option, Some, None, one-add, refl, sym, ap, ◌∙◌, subst, inl, inr, arith, append_assoc}
 use Rattle.std.specs.Prelude.{IfSome, IsTrue, codes}
 use Rattle.std.specs.List.{list_all, prefix_len}
-use Rattle.std.proofs.lemmas.Bool.{cond-true, and_parts, or_left, both_ways, cases_Bool, not-true}
+use Rattle.std.proofs.lemmas.Bool.{cond-true, and_parts, or_left, both_ways, cases_Bool, false≢true, not-true}
 use Rattle.std.proofs.lemmas.List.{take_at}
 use Rattle.std.proofs.lemmas.List.Folds.{length-prefix_len}
 use Rattle.std.proofs.lemmas.List.Sums.{prefix_len-le-length}
@@ -102,6 +102,17 @@ first_is (b ∷ text) =
                 rw (special, not_bracket, not_slash, not_less, not_greater, not_open) tt))))
           ]
     ]
+
+-- ---- what is read, by the first bytes of a text
+pub slash_read : (text name : List ℕ) → get_or text 0 0 ≡ 47 → name ≡ drop 1 text → Some (Name true (take (prefix_len is_regular name) name), 1 + prefix_len is_regular name) ≡ first_piece text
+unfolding first_piece
+slash_read [] name is same = absurd (omega (arith, is))
+slash_read (b ∷ text) name is same = rw (is, same) refl
+
+pub run_read : (text : List ℕ) → is_regular (get_or text 0 0) ≡ true → Some (name_or_number (take (prefix_len is_regular text) text), prefix_len is_regular text) ≡ first_piece text
+unfolding first_piece
+run_read [] regular = absurd (false≢true regular)
+run_read (b ∷ text) regular = sym (cond-true _ _ _ regular)
 
 -- the other way: a token is read, where what follows doesn't make it longer
 pub record IsRead (piece : List ℕ) (token : Token) (rest : List ℕ) : Type 0 where

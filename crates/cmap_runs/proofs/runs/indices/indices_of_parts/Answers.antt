@@ -2,7 +2,7 @@ use Rattle.std.proofs.Common.{map, refl, arith}
 use Rattle.std.proofs.lemmas.List.{length-map}
 use Rattle.cmap_runs.specs.declared.runs.indices.Part.{Part}
 use Rattle.cmap_runs.proofs.EachPlace.{ArePlacesApart-from_count}
-use Rattle.cmap_runs.proofs.PartsLeft.{GoesOn, goes_on}
+use Rattle.cmap_runs.proofs.PartsLeft.{GoesOn, first_left, goes_on}
 use Rattle.cmap_runs.proofs.runs.indices.indices_of_parts.Goals as goal
 use Rattle.cmap_runs.proofs.runs.indices.indices_of_parts.Given.{Over}
 
@@ -30,3 +30,8 @@ returns g c =
     let spans = map g.T.HasRange.span c.args.declarations.now in let indices = c.loop-first.apart.indices in
     ArePlacesApart-from_count spans indices.items c.loop-first.invariant.apart.apart
     (omega (arith, length-map c.args.declarations.now g.T.HasRange.span, indices.ok.0))
+
+pub add_part-next-requires-clause-room : goal.add_part-next-requires-clause-room
+add_part-next-requires-clause-room g c =
+    let found = rw c.as_slice.ensures.value at c.in-Some-first_part.ensures in
+    omega (arith, c.loop-first.invariant.room, first_left c.loop-first.parts.items found.0, found.1, found.2)

@@ -1,11 +1,12 @@
-use Rattle.std.proofs.Common.{◌≡◌, ◌++◌, ◌∷◌, ◌-◌, get_or, length, sym, ap, ◌∙◌, subst, arith}
+use Rattle.std.proofs.Common.{◌≡◌, ◌++◌, ◌∷◌, ◌-◌, get_or, length, refl, sym, ap, ◌∙◌, subst, arith}
 use Rattle.std.specs.Prelude.{Some, slice_get}
 use Rattle.std.specs.List.Sorted.{IsPermutation}
 use Rattle.std.specs.Option.{option_to_list}
 use Rattle.std.specs.Vec.{vec_len}
 use Rattle.std.proofs.lemmas.List.Sorted.{IsPermutation-to_front}
 use Rattle.std.proofs.lemmas.Option.{get_or_from_slice_get, slice_get_within}
-use Rattle.cmap_runs.proofs.OpenEnds.{Ascend-top}
+use Rattle.cmap_runs.specs.OpenRanges.{Ascend}
+use Rattle.cmap_runs.proofs.OpenEnds.{Ascend-front, Ascend-top}
 use Rattle.cmap_runs.proofs.runs.open.close_on_stack.Goals as goal
 
 pub returns-then-from-to-clause-closes : goal.returns-then-from-to-clause-closes
@@ -21,4 +22,17 @@ returns-then-from-to-clause-closes c =
       top = Ascend-top stack range c.requires is;
       stays = λ le. absurd (omega (arith, le, c.if-from-to.true, c.from.ensures));
       closed = λ _. subst (λ xs. IsPermutation xs (range ∷ left)) (sym (c.pop.ensures.items ∙ ap (λ popped. left ++ option_to_list popped) taken)) (IsPermutation-to_front left range);
+    }
+
+pub returns-then-from-to-clause-stack : goal.returns-then-from-to-clause-stack
+returns-then-from-to-clause-stack c = Ascend-front c.pop.new.self.items (option_to_list c.pop.result) (subst Ascend c.pop.ensures.items c.requires)
+
+pub returns-else-from-to-clause-closes : goal.returns-else-from-to-clause-closes
+returns-else-from-to-clause-closes c =
+    let range = c.in_ok-range.field-0.now in let stack = c.args.stack.now.items in
+    let is : slice_get stack (length stack - 1) ≡ Some range = subst (λ xs. slice_get xs (length xs - 1) ≡ Some range) c.deref.ensures.value (sym c.in_ok-range.ensures.value) in
+    record {
+      top = Ascend-top stack range c.requires is;
+      stays = λ _. refl;
+      closed = λ less. absurd (omega (arith, less, c.if-from-to.false, c.from.ensures));
     }

@@ -1,8 +1,8 @@
 use Rattle.std.proofs.Common.{◌+◌, sym, ap, ◌∙◌}
 use Rattle.std.proofs.lemmas.List.{take_rest}
-use Rattle.cmap_tokens.specs.Scanner.{past, rest_of, spaced_decimal}
+use Rattle.cmap_tokens.specs.Scanner.{past, spaced_decimal}
 use Rattle.cmap_tokens.proofs.AfterBlank.{decimal_first}
-use Rattle.cmap_tokens.proofs.Fronts.{read_token, left_after}
+use Rattle.cmap_tokens.proofs.Fronts.{left_after, left_is, read_token}
 use Rattle.cmap_tokens.proofs.token.Scanner.next_other_decimal.Goals as goal
 
 pub returns-clause-token : goal.returns-clause-token
@@ -14,7 +14,7 @@ returns-clause-token c =
 pub returns-clause-front : goal.returns-clause-front
 returns-clause-front c = (
   c.in_ok-number.len,
-  ap spaced_decimal (sym (take_rest _ c.self.inside.offset ∙ ap rest_of c.self.view_is)) ∙ sym c.in_ok-number.ensures.front,
+  sym (c.in_ok-number.ensures.front ∙ ap spaced_decimal (left_is _ _ _ c.self.view_is)),
   ap (past (1 + c.in_ok-number.len)) c.self.view_is,
 )
 
@@ -23,3 +23,6 @@ returns-clause-few c =
     let (first, small) = decimal_first _ c.in_ok-number.number c.in_ok-number.len (sym c.in_ok-number.ensures.front) in
     let read = read_token _ _ _ (1 + c.in_ok-number.len) _ c.self.view_is (take_rest _ c.self.inside.offset) first in
     small
+
+pub returns-in_err-number-clause-front : goal.returns-in_err-number-clause-front
+returns-in_err-number-clause-front c = rw c.from_residual.ensures (sym (c.in_err-number.ensures.front ∙ ap spaced_decimal (left_is _ _ _ c.self.view_is)))

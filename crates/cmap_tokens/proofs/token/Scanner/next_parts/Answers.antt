@@ -1,9 +1,9 @@
 use Rattle.std.proofs.Common.{◌+◌, ◌*◌, sym, ap, ◌∙◌}
 use Rattle.std.proofs.lemmas.List.{take_rest}
-use Rattle.cmap_tokens.specs.Scanner.{rest_of, spaced_parts}
+use Rattle.cmap_tokens.specs.Scanner.{spaced_parts}
 use Rattle.cmap_tokens.specs.Tokens.{String}
 use Rattle.cmap_tokens.proofs.AfterBlank.{parts_first}
-use Rattle.cmap_tokens.proofs.Fronts.{read_token, left_after}
+use Rattle.cmap_tokens.proofs.Fronts.{left_after, left_is, read_token}
 use Rattle.cmap_tokens.proofs.token.Scanner.next_parts.Goals as goal
 
 pub returns-clause-token : goal.returns-clause-token
@@ -13,4 +13,7 @@ returns-clause-token c =
     (piece, read, writes, left_after _ _ _ read)
 
 pub returns-clause-front : goal.returns-clause-front
-returns-clause-front c = sym (ap spaced_parts (sym (take_rest _ c.self.inside.offset ∙ ap rest_of c.self.view_is)) ∙ sym c.in_ok-count.ensures.front)
+returns-clause-front c = c.in_ok-count.ensures.front ∙ ap spaced_parts (left_is _ _ _ c.self.view_is)
+
+pub returns-in_err-count-clause-front : goal.returns-in_err-count-clause-front
+returns-in_err-count-clause-front c = c.from_residual.ensures ∙ c.in_err-count.ensures.front ∙ ap spaced_parts (left_is _ _ _ c.self.view_is)

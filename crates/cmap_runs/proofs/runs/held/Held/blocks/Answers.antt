@@ -1,5 +1,4 @@
-use Rattle.std.proofs.Common.{◌-◌, length, arith}
-use Rattle.std.proofs.lemmas.List.{length-append}
+use Rattle.std.proofs.Common.{length, ap, arith}
 use Rattle.cmap_runs.proofs.BlocksMade.{more_blocks}
 use Rattle.cmap_runs.proofs.runs.held.Held.blocks.Goals as goal
 
@@ -15,3 +14,26 @@ loop-ended-preserved g c = record {
   number = omega (arith, c.push_reserved.ensures.len, c.if-len-most.true, c.len.ensures);
   room = omega (arith, c.loop-ended.invariant.room, c.push_reserved.ensures.capacity);
 }
+
+pub loop-ended-init : goal.loop-ended-init
+loop-ended-init g c = record {
+  blocks = λ i place d within small. absurd (omega (arith, within, ap length c.in_ok-list.ensures.items));
+  code = omega (arith, ap length c.in_ok-list.ensures.items);
+  within = omega arith;
+  before = λ k d from below. absurd (omega (arith, below));
+  later = λ k d from below. omega arith;
+  fewer = omega arith;
+  ended = λ k d from below. absurd (omega (arith, below));
+  number = omega (arith, ap length c.in_ok-list.ensures.items);
+  room = omega (arith, c.in_ok-list.ensures.capacity);
+}
+
+pub returns-clause-blocks : goal.returns-clause-blocks
+returns-clause-blocks g c =
+    let at = c.loop-ended.invariant in
+    record {
+      each = at.blocks;
+      within = omega (arith, c.run_count-run_count.ensures);
+      before = λ k d from below. omega (arith, at.code, at.ended k d from (omega (arith, below, at.fewer, at.within, c.run_count-run_count.ensures)));
+      end = c.end-end.ensures;
+    }

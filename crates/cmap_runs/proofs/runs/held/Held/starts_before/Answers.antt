@@ -2,8 +2,16 @@ use Rattle.std.proofs.Common.{◌≡◌, ◌-◌, ◌%◌, ◌<◌, ◌≤◌, l
 use Rattle.std.proofs.lemmas.Bool.{cases_lt}
 use Rattle.std.proofs.lemmas.Option.{get_or_from_slice_get}
 use Rattle.cmap_runs.specs.Ranges.{Run}
-use Rattle.cmap_runs.proofs.BlocksMade.{last_start, next_start, none_begun}
+use Rattle.cmap_runs.proofs.BlocksMade.{first_start, last_start, next_start, none_begun}
 use Rattle.cmap_runs.proofs.runs.held.Held.starts_before.Goals as goal
+
+pub loop-index-init : goal.loop-index-init
+loop-index-init g c = record {
+  within = c.requires.within;
+  more = omega arith;
+  before = λ k d from below. omega (arith, c.requires.begun k d from below);
+  starts = first_start c.args.self.now.runs (c.args.code - 32) c.args.begun c.requires.begun;
+}
 
 pub loop-index-preserved : goal.loop-index-preserved
 loop-index-preserved g c =

@@ -1,4 +1,4 @@
-use Rattle.std.proofs.Common.{ℕ, ◌-◌, ◌<◌, ◌≤◌, List, get_or, length, ◌++◌, sym, subst}
+use Rattle.std.proofs.Common.{ℕ, ◌+◌, ◌-◌, ◌<◌, ◌≤◌, List, get_or, length, ◌++◌, sym, ap, subst, arith, length-append}
 use Rattle.std.specs.BinaryHeap.{heap_items}
 use Rattle.cmap_runs.specs.OpenRanges.{Ascend, Opens}
 use Rattle.cmap_runs.specs.Ranges.{Run}
@@ -29,3 +29,14 @@ returns-in_ok-push-2-clause-opens c =
     (subst (Opens (stack ++ heap) (stack ++ after)) c.range.view_is
     (Opens-push (stack ++ heap) (stack ++ after) range
     (one_more_in_heap stack heap after (range.index, range.high) c.in_ok-push-2.ensures.permutation)))
+
+pub returns-in_ok-push-clause-few : goal.returns-in_ok-push-clause-few
+returns-in_ok-push-clause-few c =
+    let few : length (c.push.new.self.items ++ heap_items c.self.inside.heap) ≤ length c.args.self.now + 1 = omega (arith, ap length c.in_ok-push.ensures.items, ap length c.self.view_is, length-append {A = ℕ × ℕ}) in
+    few
+
+pub returns-in_ok-push-2-clause-few : goal.returns-in_ok-push-2-clause-few
+returns-in_ok-push-2-clause-few c =
+    let before = c.self.inside.heap in let after = c.push-else-comes_last.new.self in
+    let few : length (c.self.inside.stack.items ++ heap_items after) ≤ length c.args.self.now + 1 = omega (arith, c.in_ok-push-2.ensures.len, before.data.ok.0, after.data.ok.0, ap length c.self.view_is, length-append {A = ℕ × ℕ}) in
+    few

@@ -1,0 +1,19 @@
+use Rattle.std.proofs.Common.{◌≡◌, None, Some, drop, sym, ap, ◌∙◌, arith}
+use Rattle.std.specs.Option.{option_or}
+use Rattle.std.proofs.lemmas.List.{take_rest}
+use Rattle.cmap_tokens.specs.Scanner.{closed_parts}
+use Rattle.cmap_tokens.proofs.SpacedStrings.{spaced_parts_are}
+use Rattle.cmap_tokens.proofs.token.pieces.spaced_parts.Goals as goal
+
+pub returns-in-Some-clause-front : goal.returns-in-Some-clause-front
+returns-in-Some-clause-front c =
+    let rest = drop 2 c.args.text.now in
+    let found : Some c.in-Some.found ≡ closed_parts 2 rest = c.in-Some.ensures.exact ∙ ap (closed_parts 2) (take_rest c.args.text.now 2) in
+    sym (spaced_parts_are c.args.text.now (omega arith) (sym c.if-is_white.ensures) ∙ ap (λ first. option_or first (closed_parts 4 rest)) (sym found))
+
+pub returns-in_default-closed_parts-clause-front : goal.returns-in_default-closed_parts-clause-front
+returns-in_default-closed_parts-clause-front c =
+    let rest = drop 2 c.args.text.now in
+    let none : None ≡ closed_parts 2 rest = c.in_default-closed_parts.ensures.exact ∙ ap (closed_parts 2) (take_rest c.args.text.now 2) in
+    c.closed_parts-in_default-closed_parts.ensures.exact ∙ ap (closed_parts 4) (take_rest c.args.text.now 2)
+    ∙ sym (spaced_parts_are c.args.text.now (omega arith) (sym c.if-is_white.ensures) ∙ ap (λ first. option_or first (closed_parts 4 rest)) (sym none))
