@@ -177,11 +177,7 @@ fn count_symbol(frequencies: &mut Vec<Frequency>, symbol: u32) -> Result<(), All
 fn words_of(alloc: Global, frequencies: &[Frequency]) -> Result<Vec<WordLength>, AllocError>
     ensures { IfOk result (λ words. IsPermutation (frequent frequencies.now) (lengthy words.items)) }
 {
-    let times: Vec<u64> = frequencies
-        .iter()
-        .map(|frequency| frequency.times)
-        .collect(alloc)?;
-    let lens = word_lengths(alloc, &times)?;
+    let lens = word_lengths(alloc, &times_of(alloc, frequencies)?)?;
     let mut words = Vec::with_capacity(alloc, frequencies.len())?;
     for i in 0..frequencies.len() {
         words.push(WordLength {
@@ -191,6 +187,16 @@ fn words_of(alloc: Global, frequencies: &[Frequency]) -> Result<Vec<WordLength>,
     }
     words.sort_by_key(|word| word.len)?;
     Ok(words)
+}
+
+/// How often each of these symbols comes.
+fn times_of(alloc: Global, frequencies: &[Frequency]) -> Result<Vec<u64>, AllocError>
+    ensures { IfOk result (λ times. length times.items ≡ length frequencies.now) }
+{
+    frequencies
+        .iter()
+        .map(|frequency| frequency.times)
+        .collect(alloc)
 }
 
 /// How many words there are of each length, from 1 to 32.

@@ -12,6 +12,7 @@ pub mod MetadataHeld
 pub mod NumbersWritten
 pub mod ObstaclesMet
 pub mod PreparedKept
+pub mod RowsAdded
 pub mod RowsWritten
 pub mod RunParts
 pub mod SegmentsAdded

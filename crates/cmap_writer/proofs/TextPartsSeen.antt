@@ -16,7 +16,7 @@ use Rattle.cmap_layers.specs.Lookups.{bf_at, bf_span, last_bf}
 use Rattle.cmap_writer.specs.Pieces.{ArePieces, CanBeSplitText, Has, IsShortText, PushesPieces, SaysAs}
 use Rattle.cmap_writer.specs.TextParts.{IsDecidedText, IsPartOf, IsShifted, ShiftsTo}
 use Rattle.cmap_writer.proofs.CidParts.{last_split}
-use Rattle.cmap_writer.proofs.RunParts.{index_within, run_contained, run_is, run_of, run_told, spans_same}
+use Rattle.cmap_writer.proofs.RunParts.{index_within, run_contained, run_is, run_of, run_told}
 use Rattle.cmap_writer.proofs.TextParts.{lost, raised, same_text, text_has, text_within}
 use Rattle.cmap_writer.proofs.Told.{pieces_more}
 
@@ -35,12 +35,6 @@ module _ (units : List ℕ) (last offset : ℕ) (some : 0 < length units) (last_
   lost_units past = subst (λ us. IsShifted us offset []) (sym parted) (lost (take (length units - 1) units) last offset past)
 
 -- ---- the declaration that decides a run
-pub same_spans : (xs ys : List BfRange) → map bf_entry_seen xs ≡ map bf_entry_seen ys → map bf_range_span xs ≡ map bf_range_span ys
-same_spans xs ys is = spans xs ∙ ap (map bf_span) is ∙ sym (spans ys)
-  where
-    spans : (zs : List BfRange) → map bf_range_span zs ≡ map bf_span (map bf_entry_seen zs)
-    spans zs = spans_same bf_range_span bf_entry_seen bf_span bf_at (λ x. refl) zs
-
 same_option : {A : Type 0} (o : Option A) (x : A) → option_map (λ y. y) o ≡ Some x → o ≡ Some x
 same_option None x is = is
 same_option (Some y) x is = is

@@ -29,6 +29,15 @@ pub(crate) fn decided_cids(
     ensures err { IfErr result (RefusesWith (IsCidObstacle (entries_seen list.now))) }
 {
     let table = Table::build(alloc, copy_of(alloc, list)?)?;
+    ranges_of(alloc, &table)
+}
+
+/// The ranges of codes for which the declarations of a table decide a CID, as `decided_cids` has them.
+fn ranges_of(alloc: Global, table: &Table<CidRange>) -> Result<Vec<CidRange>, Fault<Obstacle>>
+    requires { All (λ r. r.range.end < 2 ^ 32) table.now }
+    ensures same { IfOk result (λ ranges. SayTheSame cid_span cid_at (entries_seen table.now) (entries_seen ranges.items) × All CanBeSplit (entries_seen ranges.items)) }
+    ensures err { IfErr result (RefusesWith (IsCidObstacle (entries_seen table.now))) }
+{
     let mut looks = Looks::new();
     let mut ranges = Vec::new(alloc);
     for i in 0..table.run_count() {

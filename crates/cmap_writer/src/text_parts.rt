@@ -34,6 +34,17 @@ pub(crate) fn decided_texts(
     ensures err { IfErr result (RefusesWith (IsTextObstacle (map bf_entry_seen list.now))) }
 {
     let table = Table::build(alloc, copy_of_texts(alloc, list)?)?;
+    text_ranges_of(alloc, &table)
+}
+
+/// The ranges of codes for which the declarations of a table decide a text, as `decided_texts` has them.
+fn text_ranges_of(alloc: Global, table: &Table<BfRange>) -> Result<Vec<BfRange>, Fault<Obstacle>>
+    requires { All (λ r. r.range.end < 2 ^ 32) table.now }
+    ensures same { IfOk result (λ ranges. SayTheSame bf_span bf_at (map bf_entry_seen table.now) (map bf_entry_seen ranges.items)) }
+    ensures small { IfOk result (λ ranges. All IsDecidedText (map bf_entry_seen ranges.items)) }
+    ensures parts { IfOk result (λ ranges. All (IsPartOf (map bf_entry_seen table.now)) (map bf_entry_seen ranges.items)) }
+    ensures err { IfErr result (RefusesWith (IsTextObstacle (map bf_entry_seen table.now))) }
+{
     let mut looks = Looks::new();
     let mut ranges = Vec::new(alloc);
     for i in 0..table.run_count() {

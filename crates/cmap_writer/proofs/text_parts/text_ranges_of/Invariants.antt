@@ -5,12 +5,12 @@ use Rattle.cmap_layers.specs.Lookups.{bf_at, bf_span}
 use Rattle.cmap_writer.specs.Pieces.{AllSayAs}
 use Rattle.cmap_writer.specs.TextParts.{IsDecidedText, IsPartOf}
 use Rattle.cmap_writer.proofs.RunParts.{HaveRuns}
-use Rattle.cmap_writer.proofs.text_parts.decided_texts.Given as goal
+use Rattle.cmap_writer.proofs.text_parts.text_ranges_of.Given as goal
 
 abbrev pub invariant-loop-i : goal.invariant-loop-i
 invariant-loop-i l = record {
-  right : AllSayAs bf_span bf_at (map bf_entry_seen l.list) (map bf_entry_seen l.ranges.items);
+  right : AllSayAs bf_span bf_at (map bf_entry_seen l.table) (map bf_entry_seen l.ranges.items);
   small : All IsDecidedText (map bf_entry_seen l.ranges.items);
-  parts : All (IsPartOf (map bf_entry_seen l.list)) (map bf_entry_seen l.ranges.items);
-  whole : HaveRuns bf_span (runs_of (map bf_range_span l.list)) (map bf_entry_seen l.ranges.items) l.i;
+  parts : All (IsPartOf (map bf_entry_seen l.table)) (map bf_entry_seen l.ranges.items);
+  whole : HaveRuns bf_span (runs_of (map bf_range_span l.table)) (map bf_entry_seen l.ranges.items) l.i;
 }

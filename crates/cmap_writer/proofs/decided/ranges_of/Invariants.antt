@@ -4,11 +4,11 @@ use Rattle.cmap_files.specs.DeclarationsSeen.{cid_range_span, entries_seen}
 use Rattle.cmap_layers.specs.Lookups.{cid_at, cid_span}
 use Rattle.cmap_writer.specs.Pieces.{AllSayAs, CanBeSplit}
 use Rattle.cmap_writer.proofs.RunParts.{HaveRuns}
-use Rattle.cmap_writer.proofs.decided.decided_cids.Given as goal
+use Rattle.cmap_writer.proofs.decided.ranges_of.Given as goal
 
 abbrev pub invariant-loop-i : goal.invariant-loop-i
 invariant-loop-i l = record {
-  right : AllSayAs cid_span cid_at (entries_seen l.list) (entries_seen l.ranges.items);
+  right : AllSayAs cid_span cid_at (entries_seen l.table) (entries_seen l.ranges.items);
   small : All CanBeSplit (entries_seen l.ranges.items);
-  whole : HaveRuns cid_span (runs_of (map cid_range_span l.list)) (entries_seen l.ranges.items) l.i;
+  whole : HaveRuns cid_span (runs_of (map cid_range_span l.table)) (entries_seen l.ranges.items) l.i;
 }

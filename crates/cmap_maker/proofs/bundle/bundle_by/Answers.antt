@@ -3,7 +3,7 @@ use Rattle.cmap_binary.specs.Fronts.{SizedAt}
 use Rattle.cmap_writer.specs.EncodersSeen.{encoders_seen}
 use Rattle.cmap_writer.specs.Written.{Appends, Writes}
 use Rattle.cmap_maker.proofs.BundlesWritten.{bundle_written}
-use Rattle.cmap_maker.proofs.bundle.bundle_of.Goals as goal
+use Rattle.cmap_maker.proofs.bundle.bundle_by.Goals as goal
 
 pub returns-clause-written : goal.returns-clause-written
 returns-clause-written c =
@@ -11,4 +11,4 @@ returns-clause-written c =
     let mid = c.push_sized.new.out.items in
     let sized = subst (λ old. Appends old mid (Writes SizedAt text)) c.new-bytes.ensures.items (subst (λ p. Appends c.new-bytes.result.items mid (Writes SizedAt p)) c.deref.ensures.value c.in_ok-push_sized.ensures.written) in
     let (texts, appended, each) = c.in_ok-push_slots.ensures.written in
-    bundle_written (encoders_seen c.in_ok-tables.tables) c.args.slots.now text mid c.push_slots.new.out.items c.in_ok-text.ensures.written sized texts appended each
+    bundle_written (encoders_seen c.args.tables.now) c.args.slots.now text mid c.push_slots.new.out.items c.in_ok-text.ensures.written sized texts appended each

@@ -1,0 +1,58 @@
+use Rattle.std.proofs.Common.{◌≡◌, List, length, map, refl, subst, arith}
+use Rattle.cmap_runs.specs.Ranges.{Run, runs_of}
+use Rattle.cmap_files.specs.DeclarationsSeen.{cid_entry_seen, cid_range_span, entries_seen}
+use Rattle.cmap_files.specs.declared.declarations.CidRange.{CidRange}
+use Rattle.cmap_layers.specs.Lookups.{cid_at, cid_span}
+use Rattle.cmap_writer.proofs.DecidedParts.{declaration_within, large_given, part_can, part_has, part_right, run_within}
+use Rattle.cmap_writer.proofs.RunParts.{HaveRuns, have_all, have_more}
+use Rattle.cmap_writer.proofs.decided.ranges_of.Goals as goal
+
+abbrev runs : List CidRange → List Run
+runs list = runs_of (map cid_range_span list)
+
+pub decl-requires : goal.decl-requires
+decl-requires c = declaration_within c.args.table.now (runs c.args.table.now) c.run_count-i-end.ensures.runs.0 c.loop-i.i c.run-start.result.0 c.run-start.result.1 c.run-start.result.2 c.run-start.ensures.run
+
+pub part_of-requires-clause-start : goal.part_of-requires-clause-start
+part_of-requires-clause-start c = (run_within c.args.table.now (runs c.args.table.now) c.run_count-i-end.ensures.runs.0 c.loop-i.i c.run-start.result.0 c.run-start.result.1 c.run-start.result.2 c.run-start.ensures.run c.decl.result.now c.decl.ensures.declaration).0
+
+pub part_of-requires-clause-end : goal.part_of-requires-clause-end
+part_of-requires-clause-end c = (run_within c.args.table.now (runs c.args.table.now) c.run_count-i-end.ensures.runs.0 c.loop-i.i c.run-start.result.0 c.run-start.result.1 c.run-start.result.2 c.run-start.ensures.run c.decl.result.now c.decl.ensures.declaration).1
+
+pub push_joined-requires-clause-one : goal.push_joined-requires-clause-one
+push_joined-requires-clause-one c =
+    let is = rw c.in-Some.is at c.part_of.ensures.some in
+    part_can c.args.table.now (runs c.args.table.now) c.run_count-i-end.ensures.runs.0 c.loop-i.i c.run-start.result.0 c.run-start.result.1 c.run-start.result.2 c.run-start.ensures.run c.decl.result.now c.decl.ensures.declaration c.in-Some.part _ refl refl is.0 is.1 is.2
+
+pub loop-i-preserved : goal.loop-i-preserved
+loop-i-preserved c =
+    let table = c.args.table.now in
+    let are = c.run_count-i-end.ensures.runs.0 in
+    let i = c.loop-i.i in
+    let low = c.run-start.result.0 in
+    let high = c.run-start.result.1 in
+    let index = c.run-start.result.2 in
+    let at = c.run-start.ensures.run in
+    let e = c.decl.result.now in
+    let there = c.decl.ensures.declaration in
+    let is = rw c.in-Some.is at c.part_of.ensures.some in
+    let part = c.in-Some.part in
+    let old = entries_seen c.loop-i.ranges.items in
+    let new = entries_seen c.push_joined.new.ranges.items in
+    let says = part_right table (runs table) are i low high index at e there part _ refl refl is.0 is.1 in
+    let taken = c.in_ok-push_joined.ensures.taken in
+    record {
+      right = taken.0 (entries_seen table) c.loop-i.invariant.right says;
+      small = c.in_ok-push_joined.ensures.all;
+      whole = have_more cid_range_span cid_entry_seen cid_span cid_at (λ x. refl) table (runs table) are old new i low high index (cid_entry_seen part) c.loop-i.invariant.whole at taken.1 (part_has table (runs table) are i low high index at e there part _ refl refl is.0 is.1);
+    }
+
+pub returns-clause-same : goal.returns-clause-same
+returns-clause-same c =
+    let table = c.args.table.now in
+    let ranges = entries_seen c.loop-i.ranges.items in
+    let end : c.loop-i.i ≡ length (runs table) = omega arith in
+    (have_all cid_range_span cid_entry_seen cid_span cid_at (λ x. refl) table (runs table) c.run_count-i-end.ensures.runs.0 ranges c.requires c.loop-i.invariant.right (subst (HaveRuns cid_span (runs table) ranges) end c.loop-i.invariant.whole), c.loop-i.invariant.small)
+
+pub returns-in_default-clause-err : goal.returns-in_default-clause-err
+returns-in_default-clause-err c = large_given c.args.table.now (runs c.args.table.now) c.run_count-i-end.ensures.runs.0 c.loop-i.i c.run-start.result.0 c.run-start.result.1 c.run-start.result.2 c.run-start.ensures.run c.decl.result.now c.decl.ensures.declaration c.in_default.ensures.none

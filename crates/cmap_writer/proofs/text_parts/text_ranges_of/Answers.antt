@@ -1,0 +1,60 @@
+use Rattle.std.proofs.Common.{◌≡◌, ◌∙◌, inr, ◌++◌, ◌∷◌, [], All, List, length, map, ap, refl, subst, sym, arith}
+use Rattle.std.proofs.lemmas.List.{map-append}
+use Rattle.std.proofs.lemmas.List.Elements.{All-push}
+use Rattle.cmap_runs.specs.Ranges.{Run, runs_of}
+use Rattle.cmap_files.specs.DeclarationsSeen.{bf_entry_seen, bf_range_span}
+use Rattle.cmap_files.specs.declared.declarations.BfRange.{BfRange}
+use Rattle.cmap_layers.specs.Lookups.{bf_at, bf_span}
+use Rattle.cmap_writer.specs.Pieces.{AllSayAs, Cover, SaysAs}
+use Rattle.cmap_writer.specs.TextParts.{IsDecidedText, IsPartOf}
+use Rattle.cmap_writer.proofs.RunParts.{HaveRuns, have_all, have_more}
+use Rattle.cmap_writer.proofs.TextPartsSeen.{all_told, declaration_within, part_decided, part_from, part_has, part_right, run_filled, run_within}
+use Rattle.cmap_writer.proofs.text_parts.text_ranges_of.Goals as goal
+
+abbrev runs : List BfRange → List Run
+runs list = runs_of (map bf_range_span list)
+
+pub overflow_sub-end : goal.overflow_sub-end
+overflow_sub-end c = run_filled c.args.table.now (runs c.args.table.now) c.run_count-i-end.ensures.runs.0 c.loop-i.i c.run-start.result.0 c.run-start.result.1 c.run-start.result.2 c.run-start.ensures.run
+
+pub decl-requires : goal.decl-requires
+decl-requires c = declaration_within c.args.table.now (runs c.args.table.now) c.run_count-i-end.ensures.runs.0 c.loop-i.i c.run-start.result.0 c.run-start.result.1 c.run-start.result.2 c.run-start.ensures.run
+
+pub part_of_text-requires : goal.part_of_text-requires
+part_of_text-requires c = (run_within c.args.table.now (runs c.args.table.now) c.run_count-i-end.ensures.runs.0 c.loop-i.i c.run-start.result.0 c.run-start.result.1 c.run-start.result.2 c.run-start.ensures.run c.decl.result.now c.decl.ensures.declaration).0
+
+pub loop-i-preserved : goal.loop-i-preserved
+loop-i-preserved c =
+    let table = c.args.table.now in
+    let are = c.run_count-i-end.ensures.runs.0 in
+    let i = c.loop-i.i in
+    let low = c.run-start.result.0 in
+    let high = c.run-start.result.1 in
+    let index = c.run-start.result.2 in
+    let at = c.run-start.ensures.run in
+    let e = c.decl.result.now in
+    let there = c.decl.ensures.declaration in
+    let is = c.in_ok-part.ensures in
+    let part = c.in_ok-part.part in
+    let old = map bf_entry_seen c.loop-i.ranges.items in
+    let new = map bf_entry_seen c.push.new.self.items in
+    let pushed : new ≡ old ++ bf_entry_seen part ∷ [] = ap (map bf_entry_seen) c.in_ok-push.ensures.items ∙ map-append bf_entry_seen c.loop-i.ranges.items (part ∷ []) in
+    let says = part_right table (runs table) are i low high index at e there part _ refl refl is.0 is.1 in
+    let decided : IsDecidedText (bf_entry_seen part) = part_decided table (runs table) are i low high index at e there part _ refl refl is.0 is.1 (omega arith) in
+    let from = part_from table (runs table) are i low high index at e there part _ refl refl is.0 is.1 in
+    record {
+      right = subst (AllSayAs bf_span bf_at (map bf_entry_seen table)) (sym pushed) (All-push (SaysAs bf_span bf_at (map bf_entry_seen table)) old (bf_entry_seen part) c.loop-i.invariant.right says);
+      small = subst (All IsDecidedText) (sym pushed) (All-push IsDecidedText old (bf_entry_seen part) c.loop-i.invariant.small decided);
+      parts = subst (All (IsPartOf (map bf_entry_seen table))) (sym pushed) (All-push (IsPartOf (map bf_entry_seen table)) old (bf_entry_seen part) c.loop-i.invariant.parts from);
+      whole = have_more bf_range_span bf_entry_seen bf_span bf_at (λ x. refl) table (runs table) are old new i low high index (bf_entry_seen part) c.loop-i.invariant.whole at (λ code. subst (λ es. Cover bf_span es code) (sym pushed)) (part_has table (runs table) are i low high index at e there part _ refl refl is.0 is.1);
+    }
+
+pub returns-clause-same : goal.returns-clause-same
+returns-clause-same c =
+    let table = c.args.table.now in
+    let ranges = map bf_entry_seen c.loop-i.ranges.items in
+    let end : c.loop-i.i ≡ length (runs table) = omega arith in
+    have_all bf_range_span bf_entry_seen bf_span bf_at (λ x. refl) table (runs table) c.run_count-i-end.ensures.runs.0 ranges c.requires c.loop-i.invariant.right (subst (HaveRuns bf_span (runs table) ranges) end c.loop-i.invariant.whole)
+
+pub returns-then-end-start-gt-MOST_TEXTS_AFTER-clause-err : goal.returns-then-end-start-gt-MOST_TEXTS_AFTER-clause-err
+returns-then-end-start-gt-MOST_TEXTS_AFTER-clause-err c = inr (omega arith, all_told c.args.table.now (runs c.args.table.now) c.run_count-i-end.ensures.runs.0 c.loop-i.i c.run-start.result.0 c.run-start.result.1 c.run-start.result.2 c.run-start.ensures.run)
