@@ -1,7 +1,7 @@
 //! Tables of code words for the numbers that files are spelled by: the more often a number comes,
 //! the shorter its word.
 
-ghost use Rattle.std.specs.Prelude.{◌≡◌, ◌⊎◌, ◌^◌, ◌≤◌, ◌++◌, All, Any, Contains, IfErr, IfOk, length};
+ghost use Rattle.std.specs.Prelude.{◌≡◌, ◌⊎◌, ◌^◌, ◌≤◌, ◌++◌, All, Any, Contains, IfErr, IfOk, length, map};
 ghost use Rattle.std.specs.List.Sorted.{IsNonDecreasing, IsPermutation, IsStrictlyIncreasing};
 ghost use Rattle.cmap_files.specs.Outcomes.{RefusesWith};
 ghost use Rattle.cmap_maker.specs.Gathered.{counts_in, deltas_in, segments_in, slot_segments};
@@ -191,7 +191,7 @@ fn words_of(alloc: Global, frequencies: &[Frequency]) -> Result<Vec<WordLength>,
 
 /// How often each of these symbols comes.
 fn times_of(alloc: Global, frequencies: &[Frequency]) -> Result<Vec<u64>, AllocError>
-    ensures { IfOk result (λ times. length times.items ≡ length frequencies.now) }
+    ensures { IfOk result (λ times. times.items ≡ map (λ frequency. frequency.times) frequencies.now) }
 {
     frequencies
         .iter()
