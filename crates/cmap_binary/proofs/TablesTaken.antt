@@ -5,7 +5,7 @@ use Rattle.std.proofs.lemmas.Bool.{cases_Bool, leb-true}
 use Rattle.std.proofs.lemmas.List.{drop-drop, get_or-drop, length-drop, length-map}
 use Rattle.std.proofs.lemmas.Option.{none-some, same_Some}
 use Rattle.std.proofs.Math.Nat.{mul-suc}
-use Rattle.cmap_files.specs.BigEndian.{big_endian}
+use Rattle.cmap_values.specs.BigEndian.{big_endian}
 use Rattle.cmap_files.specs.Only.{IsOnly}
 use Rattle.cmap_binary.specs.Fronts.{FieldAt, RowOf}
 use Rattle.cmap_binary.specs.PrefixWords.{CodeWord, lengths_from}

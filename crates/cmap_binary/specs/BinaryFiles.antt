@@ -1,7 +1,7 @@
 -- CMap files in the binary form bcmap: segments, each of which says one thing.
 use Rattle.std.specs.Prelude.{◌≡◌, ℕ, zero, suc, pos, List, [], ◌∷◌, ◌++◌, map, flat_map, filter_map, take, drop, codes, slice_get, slice_index, Option, Some, None, option_and_then}
 use Rattle.std.specs.List.{last_or}
-use Rattle.cmap_files.specs.Names.{family_of}
+use Rattle.cmap_values.specs.Names.{family_of}
 use Rattle.cmap_files.specs.Files.{CidEntry, Codespace, Declaration, Mode, Collection, File, lists_of, mode_numbered}
 use Rattle.cmap_binary.specs.Bundles.{PrefixTables}
 use Rattle.cmap_binary.specs.BinaryEntries.{Shape, ranges, singles, CidEntriesIn, BfEntriesIn}

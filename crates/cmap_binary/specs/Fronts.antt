@@ -1,7 +1,7 @@
 -- What bytes begin with: a value, and the bytes after it.
 use Rattle.std.specs.Prelude.{◌≡◌, ℕ, zero, suc, ◌+◌, ◌<◌, ◌≤◌, List, [], ◌∷◌, length, take, drop, slice_index, Some}
 use Rattle.std.specs.List.{IsSplitAt}
-pub use Rattle.cmap_files.specs.CodeLengths.{IsCodeLength}
+pub use Rattle.cmap_values.specs.CodeLengths.{IsCodeLength}
 use Rattle.cmap_binary.specs.Reader.{number_at}
 
 -- first this, which leaves something; then that, of what is left

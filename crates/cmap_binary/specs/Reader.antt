@@ -1,6 +1,6 @@
 -- Bytes that are read in order, byte by byte or bit by bit.
 use Rattle.std.specs.Prelude.{◌≡◌, ℕ, ◌+◌, ◌*◌, ◌/◌, ◌%◌, ◌<◌, ◌^◌, Bool, nat_le, List, length, take, drop, Option, Some, None, option_map, if◌then◌else◌}
-use Rattle.cmap_files.specs.BigEndian.{big_endian}
+use Rattle.cmap_values.specs.BigEndian.{big_endian}
 use Rattle.cmap_binary.specs.PrefixWords.{bits}
 
 -- the bytes, and how many of their bits have been taken

@@ -1,6 +1,6 @@
 -- What contracts see of a reader that takes a prefix table.
 use Rattle.std.specs.Prelude.{◌≡◌, ◌+◌, ◌*◌, ◌==◌, ℕ, List, length, take, Option, Result, slice_index, IfOk, MatchOption, OnErr, if◌then◌else◌}
-use Rattle.cmap_files.specs.BigEndian.{big_endian}
+use Rattle.cmap_values.specs.BigEndian.{big_endian}
 use Rattle.cmap_files.specs.Only.{IsOnly, HoldsOfNone}
 use Rattle.cmap_binary.specs.Reader.{Reading, after_bytes, bytes_left}
 use Rattle.cmap_binary.specs.PrefixWords.{CodeWord, IsSound, IsPrefixFree}

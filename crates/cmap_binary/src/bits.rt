@@ -5,7 +5,7 @@ ghost use Rattle.std.specs.List.{before_first};
 ghost use Rattle.cmap_binary.specs.Reader.{bits_left, bytes_left, IsAtByte, after_bits, after_bytes, front, number_at, AnswersByByte, AnswersBy};
 ghost use Rattle.cmap_binary.specs.PrefixWords.{bits};
 
-use cmap_files::code_length::read_code;
+use cmap_values::code_length::read_code;
 use std::marker::Model;
 
 /// Bytes, and how far they have been read. Bits are taken from the high bit of each byte on, and

@@ -5,13 +5,13 @@ ghost use Rattle.std.specs.Option.{option_copied};
 ghost use Rattle.cmap_binary.specs.BundleSeen.{bundle_seen, tables_seen};
 ghost use Rattle.cmap_binary.specs.Bundles.{AreFiles, HoldsTables, IsBundle};
 ghost use Rattle.cmap_files.specs.Outcomes.{Finds};
-ghost use Rattle.cmap_files.specs.CMapNames.{index_of_name};
+ghost use Rattle.cmap_values.specs.CMapNames.{index_of_name};
 ghost use Rattle.cmap_files.specs.FilesSeen.{names_seen};
 
 use crate::bits::Reader;
 use crate::pieces::{take_framed, take_sized};
 use crate::prefix::PrefixTable;
-use cmap_files::names::CMapName;
+use cmap_values::names::CMapName;
 use std::alloc::{AllocError, Global};
 
 /// Prefix tables of binary CMap files, and such files by their indices. The files are slices of the

@@ -8,8 +8,8 @@ ghost use Rattle.cmap_files.specs.DeclarationsSeen.{cid_entry_seen, codespace_se
 ghost use Rattle.cmap_files.specs.FilesSeen.{file_seen};
 
 use crate::pieces::{take_byte, take_code, take_terminated, take_u16};
-use cmap_files::character_collection::{CharacterCollection, CidFamily};
-use cmap_files::code_length::CodeLength;
+use cmap_values::character_collection::{CharacterCollection, CidFamily};
+use cmap_values::code_length::CodeLength;
 use cmap_files::declarations::{CidRange, Codespace};
 use cmap_files::fault::{Fault, Reason, Segment};
 use cmap_files::file::File;

@@ -5,7 +5,7 @@ ghost use Rattle.cmap_binary.specs.BinaryFiles.{kind_of};
 ghost use Rattle.cmap_binary.specs.BinarySeen.{kind_seen};
 
 use crate::columns::Shape;
-use cmap_files::code_length::CodeLength;
+use cmap_values::code_length::CodeLength;
 
 /// What a segment holds.
 #[derive(Clone, Copy)]

@@ -4,13 +4,13 @@ ghost use Rattle.std.specs.Prelude.{◌≡◌, [], IfOk, option_and_then, slice_
 ghost use Rattle.std.specs.Option.{option_copied};
 ghost use Rattle.cmap_binary.specs.BundleSeen.{bundle_seen};
 ghost use Rattle.cmap_binary.specs.Bundles.{IsBundle};
-ghost use Rattle.cmap_files.specs.CMapNames.{index_of_name};
+ghost use Rattle.cmap_values.specs.CMapNames.{index_of_name};
 ghost use Rattle.cmap_files.specs.FilesSeen.{names_seen};
 ghost use Rattle.cmap_files.specs.Outcomes.{Finds};
 ghost use Rattle.cmap_binary.specs.Copies.{copies_seen};
 
 use crate::bundle::Bundle;
-use cmap_files::names::CMapName;
+use cmap_values::names::CMapName;
 use std::alloc::{AllocError, Global};
 use std::marker::Model;
 

@@ -3,11 +3,11 @@
 
 ghost use Rattle.std.specs.Prelude.{◌<◌, ◌^◌};
 ghost use Rattle.cmap_binary.specs.Fronts.{ByteAt, CodeAt, FieldAt, FramedAt, SizedAt, TerminatedAt};
-ghost use Rattle.cmap_files.specs.CodeLengths.{IsCodeLength};
+ghost use Rattle.cmap_values.specs.CodeLengths.{IsCodeLength};
 ghost use Rattle.cmap_files.specs.Outcomes.{Finds};
 
 use crate::bits::Reader;
-use cmap_files::code_length::CodeLength;
+use cmap_values::code_length::CodeLength;
 
 /// How many bytes the length of a piece has.
 const SIZE: usize = 4;

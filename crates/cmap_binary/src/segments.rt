@@ -13,7 +13,7 @@ use crate::kinds::Kind;
 use crate::pieces::take_byte;
 use cmap_files::fault::{Fault, Reason, Segment};
 use cmap_files::file::File;
-use cmap_files::writing_mode::WritingMode;
+use cmap_values::writing_mode::WritingMode;
 use std::alloc::Global;
 
 /// Reads a segment, and adds what it says to the file.

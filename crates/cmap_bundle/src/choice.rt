@@ -6,7 +6,7 @@ use cmap_binary::is_marked_binary;
 use cmap_escape::escape::{push_name, push_text};
 use cmap_files::fault::{Fault, Stop};
 use cmap_files::file::File;
-use cmap_files::names::CMapName;
+use cmap_values::names::CMapName;
 use cmap_refusals::fault_line::LineCounter;
 use cmap_refusals::refused::push_refusal;
 use cmap_sources::failure::Failure;

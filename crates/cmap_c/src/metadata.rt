@@ -2,7 +2,7 @@
 
 ghost use Rattle.std.specs.Prelude.{◌≡◌, MatchOption, option_and_then, option_map, slice_get, true, false};
 ghost use Rattle.std.specs.Option.{option_copied};
-ghost use Rattle.cmap_files.specs.Names.{ordering_of, registry_of};
+ghost use Rattle.cmap_values.specs.Names.{ordering_of, registry_of};
 ghost use Rattle.cmap_layers.specs.LayersSeen.{collection_seen, mode_seen};
 ghost use Rattle.cmap_c.specs.Handles.{handle_collection, handle_name, handle_mode, layer_collection, layer_mode, layer_name, metadata_at, mode_number};
 ghost use Rattle.cmap_c.specs.Rooms.{IsPut};

@@ -1,4 +1,3 @@
 pub mod ListsMade
 pub mod Outcomes
 pub mod LastOfLists
-pub mod OneName

@@ -1,16 +1,16 @@
 -- What contracts see of declarations.
 use Rattle.std.specs.Prelude.{List, map}
 use Rattle.cmap_runs.specs.Ranges.{Span}
-use Rattle.cmap_files.specs.CodeLengths.{length_of}
+use Rattle.cmap_values.specs.CodeLengths.{length_of}
 use Rattle.cmap_files.specs.Files as files
-use Rattle.cmap_files.specs.declared.code_length.CodeLength.{CodeLength}
-use Rattle.cmap_files.specs.declared.code_length.CodeLength.TheVariants.{One, Two, Three, Four}
+use Rattle.cmap_values.specs.declared.code_length.CodeLength.{CodeLength}
+use Rattle.cmap_values.specs.declared.code_length.CodeLength.TheVariants.{One, Two, Three, Four}
 use Rattle.cmap_files.specs.declared.declarations.ByLength.{ByLength}
 use Rattle.cmap_files.specs.declared.declarations.CidRange.{CidRange}
 use Rattle.cmap_files.specs.declared.declarations.BfRange.{BfRange}
 use Rattle.cmap_files.specs.declared.declarations.Codespace.{Codespace}
 use Rattle.cmap_files.specs.declared.declarations.Lists.{Lists}
-use Rattle.cmap_files.specs.UnitsSeen.{units_seen}
+use Rattle.cmap_values.specs.UnitsSeen.{units_seen}
 
 abbrev pub cid_range_span : CidRange → Span
 cid_range_span declaration = record { start = declaration.range.start; end = declaration.range.end }

@@ -1,6 +1,6 @@
 -- What one file says: its metadata, its declarations, and the files that it uses.
 use Rattle.std.specs.Prelude.{ℕ, List, [], ◌∷◌, ◌==◌, if◌then◌else◌}
-pub use Rattle.cmap_files.specs.Metadata.{Mode, horizontal, vertical, Collection, FileMetadata, mode_numbered}
+pub use Rattle.cmap_values.specs.Metadata.{Mode, horizontal, vertical, Collection, FileMetadata, mode_numbered}
 
 -- codes from start to end: start + k has the CID cid + k, or in a notdef declaration cid itself
 pub record CidEntry : Type 0 where

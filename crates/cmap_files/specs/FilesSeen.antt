@@ -3,7 +3,7 @@ use Rattle.std.specs.Prelude.{ℕ, List, map}
 use Rattle.std.specs.Borrow.{Bor}
 use Rattle.cmap_files.specs.Files as files
 use Rattle.cmap_files.specs.DeclarationsSeen.{lists_seen}
-use Rattle.cmap_files.specs.MetadataSeen.{metadata_seen}
+use Rattle.cmap_values.specs.MetadataSeen.{metadata_seen}
 use Rattle.cmap_files.specs.declared.file.File.{File}
 
 abbrev pub names_seen : List (Bor (List ℕ)) → List (List ℕ)

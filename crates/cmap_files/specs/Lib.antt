@@ -2,13 +2,6 @@ pub mod Only
 pub mod Outcomes
 pub mod Faults
 pub mod Files
-pub mod UnitsSeen
 pub mod DeclarationsSeen
 pub mod FilesSeen
 pub mod ListsAppended
-pub mod BigEndian
-pub mod CodeLengths
-pub mod Names
-pub mod CMapNames
-pub mod Metadata
-pub mod MetadataSeen

@@ -1,14 +1,14 @@
 //! What a CMap declares for its codes.
 
 ghost use Rattle.std.specs.Prelude.{◌≡◌, ◌==◌, ◌+◌, ◌<◌, ◌≤◌, [], ◌∷◌, ◌++◌, IfOk, OnErr, OnOk, if◌then◌else◌, vec_capacity, vec_len};
-ghost use Rattle.cmap_files.specs.CodeLengths.{length_of};
+ghost use Rattle.cmap_values.specs.CodeLengths.{length_of};
 ghost use Rattle.cmap_files.specs.Files.{Declaration, lists_of};
 ghost use Rattle.cmap_files.specs.DeclarationsSeen.{bf_entry_seen, cid_entry_seen, codespace_seen, lists_seen, slot};
 ghost use Rattle.cmap_files.specs.ListsAppended.{no_lists, append_lists};
 
-use crate::code_length::CodeLength;
-use crate::names::Cid;
-use crate::units::Units;
+use cmap_values::code_length::CodeLength;
+use cmap_values::names::Cid;
+use cmap_values::units::Units;
 use cmap_runs::runs::{HasRange, Range};
 use std::alloc::{AllocError, Global};
 

@@ -6,7 +6,7 @@ ghost use Rattle.cmap_files.specs.FilesSeen.{file_seen};
 
 use crate::declarations::Lists;
 use crate::fault::Stop;
-use crate::metadata::Metadata;
+use cmap_values::metadata::Metadata;
 use std::alloc::Global;
 
 /// What one file says, and the names of the files that it uses, in order.

@@ -3,7 +3,7 @@ use Rattle.std.proofs.Common.{◌≡◌, ℕ, zero, suc, ◌+◌, ◌-◌, ◌^�
 use Rattle.std.specs.Prelude.{◌↔◌, IsSomeAnd, slice_index}
 use Rattle.std.proofs.lemmas.Bool.{cases_lt}
 use Rattle.std.proofs.lemmas.List.{length-take-le}
-use Rattle.cmap_files.specs.BigEndian.{big_endian}
+use Rattle.cmap_values.specs.BigEndian.{big_endian}
 use Rattle.cmap_files.specs.DeclarationsSeen.{codespace_seen}
 use Rattle.cmap_files.specs.Files.{Codespace}
 use Rattle.cmap_layers.specs.Layers as layers

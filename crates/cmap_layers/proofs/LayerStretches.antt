@@ -3,11 +3,11 @@ use Rattle.std.proofs.Common.{◌≡◌, ℕ, ◌≤◌, List, ◌∷◌, Option
 use Rattle.std.specs.Prelude.{◌&&◌, nat_le, option_map, unwrap_or}
 use Rattle.std.specs.Option.{option_or}
 use Rattle.cmap_runs.specs.Stretches.{IsStretch}
-use Rattle.cmap_files.specs.CodeLengths.{length_of}
+use Rattle.cmap_values.specs.CodeLengths.{length_of}
 use Rattle.cmap_files.specs.DeclarationsSeen.{bf_entry_seen, bf_range_span, cid_entry_seen, cid_range_span, entries_seen}
 use Rattle.cmap_files.specs.Files.{BfEntry, CidEntry}
-use Rattle.cmap_files.specs.declared.code_length.CodeLength.{CodeLength}
-use Rattle.cmap_files.specs.declared.code_length.CodeLength.TheVariants.{One, Two, Three, Four}
+use Rattle.cmap_values.specs.declared.code_length.CodeLength.{CodeLength}
+use Rattle.cmap_values.specs.declared.code_length.CodeLength.TheVariants.{One, Two, Three, Four}
 use Rattle.cmap_files.specs.declared.declarations.BfRange.{BfRange}
 use Rattle.cmap_files.specs.declared.declarations.CidRange.{CidRange}
 use Rattle.cmap_layers.specs.Layers.{Layer}

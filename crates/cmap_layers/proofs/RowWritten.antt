@@ -6,7 +6,7 @@ use Rattle.std.proofs.lemmas.Bool.Decides.{nat_tests}
 use Rattle.std.proofs.lemmas.List.{places}
 use borrow.Rule.Slice.PartMut.{mid_of, put_mid}
 use Rattle.cmap_tokens.specs.Texts.{only_character}
-use Rattle.cmap_files.specs.CodeLengths.{IsCodeLength}
+use Rattle.cmap_values.specs.CodeLengths.{IsCodeLength}
 use Rattle.cmap_runs.specs.Stretches.{IsStretch}
 use Rattle.cmap_files.specs.DeclarationsSeen.{bf_entry_seen, bf_range_span, cid_entry_seen, cid_range_span, entries_seen}
 use Rattle.cmap_files.specs.Files.{CidEntry, of_length}

@@ -1,7 +1,7 @@
 -- What contracts see of layers.
 use Rattle.std.specs.Prelude.{List, map}
 use Rattle.std.specs.Global.{Vec}
-pub use Rattle.cmap_files.specs.MetadataSeen.{family_seen, collection_seen, mode_seen, metadata_seen, HoldsTexts}
+pub use Rattle.cmap_values.specs.MetadataSeen.{family_seen, collection_seen, mode_seen, metadata_seen, HoldsTexts}
 use Rattle.cmap_files.specs.Files as files
 use Rattle.cmap_layers.specs.Layers as layers
 use Rattle.cmap_files.specs.DeclarationsSeen.{entries_seen, bf_entry_seen, codespace_seen}

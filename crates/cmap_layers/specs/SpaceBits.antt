@@ -3,7 +3,7 @@ use Rattle.std.specs.Prelude.{◌≡◌, ◌≢◌, ◌↔◌, MatchOption, Opti
 use Rattle.std.specs.Global.{Vec}
 use Rattle.std.specs.Int.{bit_at}
 use Rattle.cmap_files.specs.DeclarationsSeen.{codespace_seen}
-use Rattle.cmap_files.specs.CodeLengths.{IsCodeLength, length_of}
+use Rattle.cmap_values.specs.CodeLengths.{IsCodeLength, length_of}
 use Rattle.cmap_files.specs.Files.{Codespace}
 use Rattle.cmap_files.specs.declared.declarations.Codespace as declared
 use Rattle.cmap_layers.specs.Lookups.{byte_at}

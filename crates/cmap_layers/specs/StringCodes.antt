@@ -2,7 +2,7 @@
 use Rattle.std.specs.Prelude.{◌≡◌, ◌↔◌, IsTrue, ℕ, suc, ◌-◌, ◌<◌, ◌≤◌, ◌⊎◌, min, List, [], length, take, slice_index, All, Any}
 use Rattle.std.specs.Bool.{MatchBool}
 use Rattle.std.specs.List.{flat_map}
-use Rattle.cmap_files.specs.BigEndian.{big_endian}
+use Rattle.cmap_values.specs.BigEndian.{big_endian}
 use Rattle.cmap_files.specs.Files.{Codespace}
 use Rattle.cmap_files.specs.Only.{HoldsOfNone}
 use Rattle.cmap_layers.specs.Layers.{Layer}

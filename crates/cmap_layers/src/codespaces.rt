@@ -2,7 +2,7 @@
 //! ISO 32000-1, 9.7.6.2.
 
 ghost use Rattle.std.specs.Prelude.{◌≡◌, ◌↔◌, ◌<◌, ◌≤◌, ◌^◌, Any, IsTrue, length};
-ghost use Rattle.cmap_files.specs.CodeLengths.{IsCodeLength, length_of};
+ghost use Rattle.cmap_values.specs.CodeLengths.{IsCodeLength, length_of};
 ghost use Rattle.cmap_layers.specs.LayersSeen.{layers_seen};
 ghost use Rattle.cmap_layers.specs.Lookups.{InCodespace, byte_at};
 ghost use Rattle.cmap_layers.specs.SpaceBits.{AreRows, HasFront, InRows, IsLeast};
@@ -16,7 +16,7 @@ mod search;
 mod spaces;
 
 use crate::layers::Layer;
-use cmap_files::code_length::CodeLength;
+use cmap_values::code_length::CodeLength;
 use front::lesser;
 use query::Query;
 pub(crate) use spaces::Spaces;

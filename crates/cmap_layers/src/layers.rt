@@ -1,16 +1,16 @@
 //! The layers of a map: what each file in a chain says, its declarations in tables.
 
 ghost use Rattle.std.specs.Prelude.{◌≡◌, IfOk, map};
-ghost use Rattle.cmap_files.specs.CodeLengths.{length_of};
+ghost use Rattle.cmap_values.specs.CodeLengths.{length_of};
 ghost use Rattle.cmap_files.specs.DeclarationsSeen.{bf_entry_seen, codespace_seen, entries_seen, lists_seen};
 ghost use Rattle.cmap_files.specs.Files.{of_length};
 ghost use Rattle.cmap_layers.specs.Counts.{counts_of, lengths_of};
 ghost use Rattle.cmap_layers.specs.LayersSeen.{by_length_seen, layer_seen, lists_held, metadata_seen};
 
 use crate::codespaces::Spaces;
-use cmap_files::code_length::CodeLength;
+use cmap_values::code_length::CodeLength;
 use cmap_files::declarations::{BfRange, ByLength, CidRange, Codespace, Lists};
-use cmap_files::metadata::Metadata;
+use cmap_values::metadata::Metadata;
 use cmap_runs::runs::{Looks, Table};
 use std::alloc::{AllocError, Global};
 

@@ -2,7 +2,7 @@
 
 ghost use Rattle.std.specs.Prelude.{◌≡◌, ℕ, ◌+◌, ◌-◌, ◌<◌, ◌≤◌, ◌^◌, length, map, min, nat_lt, option_and_then, option_map, slice_index, unwrap_or, if◌then◌else◌};
 ghost use Rattle.cmap_tokens.specs.Texts.{only_character};
-ghost use Rattle.cmap_files.specs.CodeLengths.{length_of};
+ghost use Rattle.cmap_values.specs.CodeLengths.{length_of};
 ghost use Rattle.cmap_files.specs.DeclarationsSeen.{bf_entry_seen, cid_entry_seen, entries_seen};
 ghost use Rattle.cmap_layers.specs.LayersSeen.{layers_seen};
 ghost use Rattle.cmap_layers.specs.Lookups.{bf_at};
@@ -10,9 +10,9 @@ ghost use Rattle.cmap_layers.specs.Rows.{AreCidsOf};
 ghost use Rattle.cmap_layers.specs.RowsWritten.{IsWritten, character_said, cid_said, given};
 
 use crate::layers::Layer;
-use cmap_files::code_length::CodeLength;
+use cmap_values::code_length::CodeLength;
 use cmap_files::declarations::{BfRange, CidRange};
-use cmap_files::names::Cid;
+use cmap_values::names::Cid;
 use cmap_runs::runs::{Looks, Table};
 use cmap_tokens::utf16::one_char;
 

@@ -5,7 +5,7 @@ ghost use Rattle.std.specs.Prelude.{◌≡◌, ◌+◌, ◌-◌, ◌^◌, ◌<�
 ghost use Rattle.std.specs.Option.{option_copied};
 ghost use Rattle.cmap_runs.specs.Stretches.{IsStretch};
 ghost use Rattle.cmap_tokens.specs.Texts.{only_character, text_at};
-ghost use Rattle.cmap_files.specs.CodeLengths.{length_of};
+ghost use Rattle.cmap_values.specs.CodeLengths.{length_of};
 ghost use Rattle.cmap_files.specs.DeclarationsSeen.{bf_entry_seen, cid_entry_seen};
 ghost use Rattle.cmap_layers.specs.CodeStretches.{AreCodesAmong, AreCodesBelow, Decides, IsCidStretch, IsTextStretch};
 ghost use Rattle.cmap_layers.specs.LayersDecide.{layer_cid};
@@ -14,9 +14,9 @@ ghost use Rattle.cmap_layers.specs.Lookups.{bf_at, cid_at};
 ghost use Rattle.cmap_layers.specs.RowsWritten.{character_said};
 
 use crate::layers::Layer;
-use cmap_files::code_length::CodeLength;
+use cmap_values::code_length::CodeLength;
 use cmap_files::declarations::{BfRange, CidRange};
-use cmap_files::names::Cid;
+use cmap_values::names::Cid;
 use cmap_runs::runs::{HasRange, Looks, Range, Stretch, Table};
 use cmap_tokens::utf16::one_char;
 use std::alloc::{AllocError, Global};

@@ -2,7 +2,7 @@
 //! ISO 32000-1, 9.7.6.2 and 9.7.6.3.
 
 ghost use Rattle.std.specs.Prelude.{◌≡◌, ◌≤◌, [], length, IfSome, MatchOption};
-ghost use Rattle.cmap_files.specs.CodeLengths.{IsCodeLength};
+ghost use Rattle.cmap_values.specs.CodeLengths.{IsCodeLength};
 ghost use Rattle.cmap_files.specs.Only.{HoldsOfNone, IsOnly};
 ghost use Rattle.cmap_layers.specs.LayersSeen.{layers_seen};
 ghost use Rattle.cmap_layers.specs.Lookups.{HaveNoShorter};
@@ -11,7 +11,7 @@ ghost use Rattle.cmap_layers.specs.StringCodes.{BeginsInside, IsNextCode, IsShor
 
 use crate::codespaces::{any_has_front, shortest};
 use crate::layers::Layer;
-use cmap_files::code_length::read_code;
+use cmap_values::code_length::read_code;
 
 /// The code that a string begins with. ISO 32000-1, 9.7.6.2.
 #[derive(Clone, Copy, Debug, PartialEq, Eq)]

@@ -2,7 +2,7 @@
 use Rattle.std.specs.Prelude.{◌≡◌, ◌==◌, ℕ, ◌<◌, ◌⊎◌, Bool, false, List, [], ◌∷◌, ◌++◌, All, Option, Some, None, codes, get_or, length, if◌then◌else◌}
 use Rattle.std.specs.Borrow.{Bor}
 use Rattle.cmap_tokens.specs.Gaps.{ends_comment}
-use Rattle.cmap_files.specs.CMapNames.{index_of_name}
+use Rattle.cmap_values.specs.CMapNames.{index_of_name}
 use Rattle.cmap_files.specs.Files.{File}
 use Rattle.cmap_files.specs.FilesSeen.{file_seen}
 use Rattle.cmap_binary.specs.Bundles.{IsBundle, PrefixTables}

@@ -1,6 +1,6 @@
 -- Which source can't be written, and why.
 use Rattle.std.specs.Prelude.{◌≡◌, ℕ, ◌<◌, List, Any, None, get_or, length}
-use Rattle.cmap_files.specs.CMapNames.{index_of_name}
+use Rattle.cmap_values.specs.CMapNames.{index_of_name}
 use Rattle.cmap_files.specs.Files.{File}
 use Rattle.cmap_files.specs.FilesSeen.{file_seen}
 use Rattle.cmap_writer.specs.Obstacles.{IsObstacle}

@@ -1,7 +1,7 @@
 //! A file that a bundle is to hold.
 
 use cmap_files::file::File;
-use cmap_files::names::CMapName;
+use cmap_values::names::CMapName;
 
 /// A file that a bundle is to hold, by its name.
 #[derive(Clone, Copy)]

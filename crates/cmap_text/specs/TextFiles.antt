@@ -1,12 +1,12 @@
 -- CMap files as text: tokens read as items, nothing executed. Adobe Technical Notes 5014 and 5411, with what PDF writers make of them.
 use Rattle.std.specs.Prelude.{◌≡◌, ◌≢◌, ℕ, ℤ, pos, negsuc, ◌+◌, ◌-◌, ◌<◌, ◌≤◌, ◌^◌, true, false, ◌&&◌, List, [], ◌∷◌, ◌++◌, ◌⊎◌, length, map, filter_map, flat_map, bytes_eq, codes, Contains, Option, Some, None, option_map, option_and_then, neg_ℤ, int_le, if◌then◌else◌}
 use Rattle.std.specs.List.{AllZip, last_or, enumerate_from}
-use Rattle.cmap_files.specs.BigEndian.{big_endian}
+use Rattle.cmap_values.specs.BigEndian.{big_endian}
 use Rattle.cmap_tokens.specs.Numbers.{Number}
 use Rattle.cmap_tokens.specs.Tokens.{Token, Tokens}
 use Rattle.cmap_tokens.specs.Strings.{IsValue}
 use Rattle.cmap_tokens.specs.Texts.{units_of}
-use Rattle.cmap_files.specs.Names.{family_of}
+use Rattle.cmap_values.specs.Names.{family_of}
 use Rattle.cmap_files.specs.Files.{CidEntry, Declaration, Mode, Collection, FileMetadata, File, lists_of, mode_numbered}
 
 -- the names that take the next token as their value

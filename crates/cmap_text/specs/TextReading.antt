@@ -1,6 +1,6 @@
 -- How the tokens of a text are read, and what they are read as, or which token is wrong and why. What a file means is said by TextFiles alone.
 use Rattle.std.specs.Prelude.{◌≡◌, ℕ, zero, suc, ◌+◌, ◌-◌, ◌^◌, ◌==◌, ◌&&◌, nat_lt, nat_le, pos, Bool, true, false, List, [], ◌∷◌, ◌++◌, length, codes, bytes_eq, find, Option, Some, None, option_map, option_and_then, is_some, min, Result, Err, if◌then◌else◌}
-use Rattle.cmap_files.specs.BigEndian.{big_endian}
+use Rattle.cmap_values.specs.BigEndian.{big_endian}
 use Rattle.cmap_tokens.specs.Numbers.{Number}
 use Rattle.cmap_tokens.specs.Texts.{units_of}
 use Rattle.cmap_tokens.specs.TokenReading.{string_value}

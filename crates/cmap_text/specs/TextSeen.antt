@@ -2,7 +2,7 @@
 use Rattle.std.specs.Prelude.{ℕ, List, codes, option_map}
 use Rattle.std.specs.Option.{option_copied}
 use Rattle.cmap_tokens.specs.TokenSeen.{token_seen}
-use Rattle.cmap_files.specs.CodeLengths.{length_of}
+use Rattle.cmap_values.specs.CodeLengths.{length_of}
 use Rattle.cmap_files.specs.DeclarationsSeen.{lists_seen}
 use Rattle.cmap_files.specs.FilesSeen.{names_seen}
 use Rattle.cmap_text.specs.TextFiles as files

@@ -2,12 +2,12 @@
 //! adds what the entry declares.
 
 ghost use Rattle.std.specs.Prelude.{◌≡◌, ◌+◌, ◌-◌, IfOk, OnOk};
-ghost use Rattle.cmap_files.specs.CodeLengths.{length_of};
+ghost use Rattle.cmap_values.specs.CodeLengths.{length_of};
 ghost use Rattle.cmap_files.specs.DeclarationsSeen.{cid_entry_seen, lists_seen};
 ghost use Rattle.cmap_text.specs.EntriesSeen.{AddsDeclarations, AddsIf, AddsTexts, ReadsAs, WhereRefused};
 ghost use Rattle.cmap_files.specs.Files.{lists_of};
 ghost use Rattle.cmap_files.specs.ListsAppended.{append_lists};
-ghost use Rattle.cmap_files.specs.UnitsSeen.{units_seen};
+ghost use Rattle.cmap_values.specs.UnitsSeen.{units_seen};
 ghost use Rattle.cmap_text.specs.TextFiles as files;
 ghost use Rattle.cmap_text.specs.TextSeen.{code_seen, extent_seen, kind_seen};
 ghost use Rattle.cmap_text.specs.TextReading.{cids_after, entry_after, list_in, text_of};
@@ -15,10 +15,10 @@ ghost use Rattle.cmap_text.specs.TokenParsers.{listed, run};
 
 use crate::tokens::{Code, TokenReader, is_executable};
 use crate::wrong_token::{WrongToken, wrong};
-use cmap_files::code_length::CodeLength;
+use cmap_values::code_length::CodeLength;
 use cmap_files::declarations::{BfRange, CidRange, Codespace, Lists};
 use cmap_files::fault::{Fault, Reason};
-use cmap_files::units::Units;
+use cmap_values::units::Units;
 use cmap_runs::runs::Range;
 use std::alloc::AllocError;
 

@@ -2,16 +2,16 @@
 
 ghost use Rattle.std.specs.Prelude.{◌≡◌, IfOk, option_map};
 ghost use Rattle.cmap_tokens.specs.TokenSeen.{token_seen};
-ghost use Rattle.cmap_files.specs.MetadataSeen.{collection_seen, metadata_seen, mode_seen};
+ghost use Rattle.cmap_values.specs.MetadataSeen.{collection_seen, metadata_seen, mode_seen};
 ghost use Rattle.cmap_files.specs.Only.{IsOnly};
 ghost use Rattle.cmap_text.specs.TextFiles.{GivesText, IsCollection, IsMetadata, collection_of, mode_in, name_in, supplement_in};
 ghost use Rattle.cmap_text.specs.TextReading.{key_in, no_values, with_value};
 ghost use Rattle.cmap_text.specs.TextSeen.{key_name, values_seen};
 
 use crate::tokens::is_literal;
-use cmap_files::character_collection::{CharacterCollection, CidFamily};
-use cmap_files::metadata::Metadata;
-use cmap_files::writing_mode::WritingMode;
+use cmap_values::character_collection::{CharacterCollection, CidFamily};
+use cmap_values::metadata::Metadata;
+use cmap_values::writing_mode::WritingMode;
 use cmap_tokens::token::{Number, Token};
 use std::alloc::{AllocError, Global};
 

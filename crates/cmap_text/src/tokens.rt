@@ -4,7 +4,7 @@ ghost use Rattle.std.specs.Prelude.{◌≡◌, ◌+◌, ◌%◌, ◌++◌, ◌<�
 ghost use Rattle.std.specs.Int.Digits.{number_from_digits};
 ghost use Rattle.std.specs.List.{AllByRecursion, list_any};
 ghost use Rattle.std.specs.Option.{option_copied};
-ghost use Rattle.cmap_files.specs.UnitsSeen.{units_seen};
+ghost use Rattle.cmap_values.specs.UnitsSeen.{units_seen};
 ghost use Rattle.cmap_files.specs.declared.fault.Reason.TheVariants.{CidExpected, TextExpected};
 ghost use Rattle.cmap_tokens.specs.Texts.{units_of};
 ghost use Rattle.cmap_tokens.specs.Numbers.{Integer};
@@ -20,10 +20,10 @@ ghost use Rattle.cmap_text.specs.TextSeen.{code_seen};
 ghost use Rattle.cmap_text.specs.TokenParsers.{next_in, or_wrong, run, token_in};
 
 use crate::wrong_token::{WrongToken, no_token, wrong};
-use cmap_files::code_length::{CodeLength, read_code};
+use cmap_values::code_length::{CodeLength, read_code};
 use cmap_files::fault::{Fault, Reason};
-use cmap_files::names::Cid;
-use cmap_files::units::Units;
+use cmap_values::names::Cid;
+use cmap_values::units::Units;
 use cmap_tokens::token::{Number, Scanner, Token};
 use cmap_tokens::utf16::units;
 use std::alloc::Global;

@@ -2,7 +2,7 @@
 
 ghost use Rattle.std.specs.Prelude.{◌≡◌, ◌≤◌, map, option_map, IfSome};
 ghost use Rattle.std.specs.Option.{option_copied};
-ghost use Rattle.cmap_files.specs.CodeLengths.{length_of};
+ghost use Rattle.cmap_values.specs.CodeLengths.{length_of};
 ghost use Rattle.cmap_files.specs.DeclarationsSeen.{cid_entry_seen, entries_seen};
 ghost use Rattle.cmap_layers.specs.LayersSeen.{layer_seen};
 ghost use Rattle.cmap_layers.specs.Lookups.{last_cid};

@@ -1,8 +1,8 @@
 //! The maps from the CIDs of character collections to Unicode.
 
 ghost use Rattle.std.specs.Prelude.{◌≡◌, IfOk, IfSome};
-ghost use Rattle.cmap_files.specs.MetadataSeen.{family_seen};
-ghost use Rattle.cmap_files.specs.Names.{ucs2_cmap_of};
+ghost use Rattle.cmap_values.specs.MetadataSeen.{family_seen};
+ghost use Rattle.cmap_values.specs.Names.{ucs2_cmap_of};
 ghost use Rattle.cmap_unicode.specs.Collections.{ucs2_name_of};
 
 use hayro_cmap::CidFamily;

@@ -4,7 +4,7 @@ ghost use Rattle.std.specs.Prelude.{◌≡◌, ◌≤◌, ℕ, List, [], Some, I
 ghost use Rattle.std.specs.Option.{option_copied};
 ghost use Rattle.cmap_tokens.specs.Texts.{more};
 ghost use Rattle.cmap_tokens.specs.TextSeen.{text_seen};
-ghost use Rattle.cmap_files.specs.CodeLengths.{IsCodeLength};
+ghost use Rattle.cmap_values.specs.CodeLengths.{IsCodeLength};
 ghost use Rattle.cmap_unicode.specs.Characters.{AreCharactersOf, BeginsWithLongText, IsCharacterOf, IsNextCharacter, font_of};
 ghost use Rattle.cmap_unicode.specs.TextsOfCodes.{HasLongText, text_in, text_of};
 

@@ -15,7 +15,7 @@ use Rattle.cmap_layers.specs.Lookups.{bf_at, bf_of, cid_at, cid_in, decided_cid,
 use Rattle.cmap_writer.specs.Keeps.{AnswerAlike, KeepLists, Keeps}
 use Rattle.cmap_writer.specs.MetadataWritten.{metadata_contents}
 use Rattle.cmap_writer.specs.Pieces.{cid_told}
-use Rattle.cmap_files.specs.Metadata.{Collection, Mode}
+use Rattle.cmap_values.specs.Metadata.{Collection, Mode}
 use Rattle.std.specs.Prelude.{option_and_then}
 
 -- ---- what contents say together

@@ -11,11 +11,11 @@ use Rattle.cmap_files.specs.FilesSeen.{names_seen}
 use Rattle.cmap_binary.specs.BinaryFiles as files
 use Rattle.std.proofs.Common.{Global, None, Option, Some, Vec}
 use Rattle.std.specs.Prelude.{option_map}
-use Rattle.cmap_files.specs.Metadata.{Collection, Mode}
-use Rattle.cmap_files.specs.MetadataSeen.{collection_seen, metadata_seen, mode_seen}
-use Rattle.cmap_files.specs.declared.metadata.Metadata.{Metadata}
+use Rattle.cmap_values.specs.Metadata.{Collection, Mode}
+use Rattle.cmap_values.specs.MetadataSeen.{collection_seen, metadata_seen, mode_seen}
+use Rattle.cmap_values.specs.declared.metadata.Metadata.{Metadata}
 use Rattle.cmap_writer.specs.MetadataWritten.{from_option, metadata_contents}
-use Rattle.cmap_files.specs.Names.{Family, IsCustom, adobe_japan1, adobe_gb1, adobe_cns1, adobe_korea1, adobe_identity, custom, family_of}
+use Rattle.cmap_values.specs.Names.{Family, IsCustom, adobe_japan1, adobe_gb1, adobe_cns1, adobe_korea1, adobe_identity, custom, family_of}
 use Rattle.cmap_binary.specs.BinaryFiles.{CollectionIn, Content, IsSegment}
 use Rattle.cmap_binary.specs.Bundles.{PrefixTables}
 use Rattle.cmap_writer.specs.SegmentsWritten.{SegmentByAny}

@@ -6,7 +6,7 @@ use Rattle.cmap_files.specs.DeclarationsSeen.{bf_entry_seen, cid_entry_seen, cod
 use Rattle.cmap_files.specs.Files as files
 use Rattle.cmap_files.specs.Files.{ByLength, BfEntry, File}
 use Rattle.cmap_files.specs.Outcomes.{RefusesWith}
-use Rattle.cmap_files.specs.UnitsSeen.{units_seen}
+use Rattle.cmap_values.specs.UnitsSeen.{units_seen}
 use Rattle.cmap_files.specs.declared.declarations.BfRange.{BfRange}
 use Rattle.cmap_files.specs.declared.declarations.CidRange.{CidRange}
 use Rattle.cmap_files.specs.declared.declarations.Codespace.{Codespace}

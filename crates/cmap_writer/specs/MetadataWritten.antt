@@ -1,6 +1,6 @@
 -- Metadata as segments say it.
 use Rattle.std.specs.Prelude.{List, [], ◌∷◌, ◌++◌, Option, Some, None}
-use Rattle.cmap_files.specs.Metadata.{FileMetadata}
+use Rattle.cmap_values.specs.Metadata.{FileMetadata}
 use Rattle.cmap_binary.specs.BinaryFiles.{Content, sets_collection, sets_mode, sets_name}
 
 -- what is said of a value that may be there

@@ -4,10 +4,10 @@ use Rattle.std.specs.Global.{Vec}
 use Rattle.cmap_runs.specs.declared.runs.Range.{Range}
 use Rattle.cmap_files.specs.DeclarationsSeen.{entries_seen}
 use Rattle.cmap_files.specs.Files.{BfEntry, ByLength, CidEntry, Codespace, File, of_length}
-use Rattle.cmap_files.specs.Metadata.{Collection}
+use Rattle.cmap_values.specs.Metadata.{Collection}
 use Rattle.cmap_files.specs.declared.declarations.ByLength.{ByLength as HeldLists}
 use Rattle.cmap_files.specs.declared.declarations.CidRange.{CidRange}
-use Rattle.cmap_files.specs.Names.{Family, family_of, ordering_of, registry_of}
+use Rattle.cmap_values.specs.Names.{Family, family_of, ordering_of, registry_of}
 use Rattle.cmap_layers.specs.Lookups.{last_bf}
 use Rattle.cmap_binary.specs.Bundles.{PrefixTables}
 use Rattle.cmap_binary.specs.PrefixWords.{CodeWord}

@@ -1,7 +1,7 @@
 //! Segments of codes with their CIDs.
 
 ghost use Rattle.std.specs.Prelude.{◌≡◌, ◌≤◌, ◌<◌, ◌++◌, All, IfErr, IfOk, IsTrue, flat_map, length, map, take};
-ghost use Rattle.cmap_files.specs.CodeLengths.{length_of};
+ghost use Rattle.cmap_values.specs.CodeLengths.{length_of};
 ghost use Rattle.cmap_files.specs.DeclarationsSeen.{entries_seen};
 ghost use Rattle.cmap_files.specs.Files.{Declaration};
 ghost use Rattle.cmap_files.specs.Outcomes.{RefusesWith};
@@ -20,7 +20,7 @@ use crate::decided::decided_cids;
 use crate::obstacle::Obstacle;
 use crate::segments::Segment;
 use crate::split::split_cids;
-use cmap_files::code_length::CodeLength;
+use cmap_values::code_length::CodeLength;
 use cmap_files::declarations::CidRange;
 use cmap_files::fault::Fault;
 use std::alloc::{AllocError, Global};

@@ -2,9 +2,9 @@
 
 ghost use Rattle.std.specs.Prelude.{◌≡◌, ◌<◌, ◌^◌, ⊤, IfErr, IfNone, IfOk, IfSome, Some, map, option_map, pos};
 ghost use Rattle.cmap_files.specs.FilesSeen.{names_seen};
-ghost use Rattle.cmap_files.specs.Metadata.{mode_numbered};
-ghost use Rattle.cmap_files.specs.MetadataSeen.{collection_seen, family_seen, metadata_seen, mode_seen};
-ghost use Rattle.cmap_files.specs.Names.{family_of, ordering_of, registry_of};
+ghost use Rattle.cmap_values.specs.Metadata.{mode_numbered};
+ghost use Rattle.cmap_values.specs.MetadataSeen.{collection_seen, family_seen, metadata_seen, mode_seen};
+ghost use Rattle.cmap_values.specs.Names.{family_of, ordering_of, registry_of};
 ghost use Rattle.cmap_files.specs.Outcomes.{RefusesWith};
 ghost use Rattle.cmap_binary.specs.BinaryFiles as files;
 ghost use Rattle.cmap_binary.specs.BinaryFiles.{CollectionIn, sets_collection, sets_mode, sets_name};
@@ -18,10 +18,10 @@ ghost use Rattle.cmap_writer.specs.Written.{Appends, Writes, WritesAll};
 use crate::bytes::push_number;
 use crate::obstacle::Obstacle;
 use crate::pieces::push_segment;
-use cmap_files::character_collection::{CharacterCollection, CidFamily};
+use cmap_values::character_collection::{CharacterCollection, CidFamily};
 use cmap_files::fault::Fault;
-use cmap_files::metadata::Metadata;
-use cmap_files::writing_mode::WritingMode;
+use cmap_values::metadata::Metadata;
+use cmap_values::writing_mode::WritingMode;
 use std::alloc::Global;
 
 /// The types of segments.

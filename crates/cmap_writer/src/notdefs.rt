@@ -1,7 +1,7 @@
 //! Segments of notdef declarations.
 
 ghost use Rattle.std.specs.Prelude.{◌≡◌, ◌+◌, ◌*◌, ◌<◌, ◌^◌, IfErr, IfOk, length, map};
-ghost use Rattle.cmap_files.specs.CodeLengths.{length_of};
+ghost use Rattle.cmap_values.specs.CodeLengths.{length_of};
 ghost use Rattle.cmap_files.specs.DeclarationsSeen.{cid_entry_seen, entries_seen};
 ghost use Rattle.cmap_files.specs.Files.{Declaration};
 ghost use Rattle.cmap_files.specs.Outcomes.{RefusesWith};
@@ -15,7 +15,7 @@ use crate::bytes::push_number;
 use crate::decided::LARGEST_CID;
 use crate::obstacle::Obstacle;
 use crate::pieces::push_segment;
-use cmap_files::code_length::CodeLength;
+use cmap_values::code_length::CodeLength;
 use cmap_files::declarations::CidRange;
 use cmap_files::fault::Fault;
 use std::alloc::Global;

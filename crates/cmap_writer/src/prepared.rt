@@ -20,7 +20,7 @@ use crate::obstacle::Obstacle;
 use crate::pieces::push_framed;
 use crate::segments::{Segment, push_segments};
 use crate::texts::add_text_list;
-use cmap_files::code_length::CodeLength;
+use cmap_values::code_length::CodeLength;
 use cmap_files::declarations::{ByLength, CidRange};
 use cmap_files::fault::Fault;
 use cmap_files::file::File;

@@ -2,8 +2,8 @@
 use Rattle.std.proofs.Common.{◌∙◌, sym, ℕ, List, Option}
 use Rattle.std.specs.Borrow.{Bor}
 use Rattle.std.specs.Fn.{Shared}
-use Rattle.cmap_files.proofs.OneName.{IsSameName-from_text}
-use Rattle.cmap_files.specs.declared.names.CMapName.{CMapName}
+use Rattle.cmap_values.proofs.OneName.{IsSameName-from_text}
+use Rattle.cmap_values.specs.declared.names.CMapName.{CMapName}
 use Rattle.hayro_cmap.specs.Answers.{Answers, AnswersByName, IsByName}
 
 pub IsByName-from_answers : {F : Type 0} (calls : Shared F (CMapName × Unit {0}) (Option (Bor (List ℕ)))) (get_cmap : F)

@@ -3,10 +3,10 @@ use Rattle.std.specs.Prelude.{◌≡◌, ℕ, List, Option, option_and_then, sli
 use Rattle.std.specs.Borrow.{Bor}
 use Rattle.std.specs.Option.{option_copied}
 use Rattle.std.specs.Fn.{Shared}
-use Rattle.cmap_files.specs.declared.names.CMapName.{CMapName}
+use Rattle.cmap_values.specs.declared.names.CMapName.{CMapName}
 use Rattle.cmap_binary.specs.Bundles.{Bundle}
-use Rattle.cmap_files.specs.CMapNames.{IsNameOf, IsSameName}
-use Rattle.cmap_files.specs.Names.{index_of_text}
+use Rattle.cmap_values.specs.CMapNames.{IsNameOf, IsSameName}
+use Rattle.cmap_values.specs.Names.{index_of_text}
 
 module _ {F : Type 0} (calls : Shared F (CMapName × Unit {0}) (Option (Bor (List ℕ)))) (get_cmap : F) where
   -- asked for the name of this text, it may answer these bytes

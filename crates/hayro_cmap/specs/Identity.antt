@@ -1,6 +1,6 @@
 -- The predefined CMaps Identity-H and Identity-V: codes of two bytes are CIDs. ISO 32000-1, 9.7.5.2.
 use Rattle.std.specs.Prelude.{ℕ, pos, List, [], ◌∷◌, Some}
-use Rattle.cmap_files.specs.Names.{adobe_identity}
+use Rattle.cmap_values.specs.Names.{adobe_identity}
 use Rattle.cmap_files.specs.Files.{Declaration, Mode, lists_of}
 use Rattle.cmap_layers.specs.Layers.{Layer}
 

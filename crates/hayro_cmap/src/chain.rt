@@ -19,7 +19,7 @@ use cmap_binary::{Bundle, is_marked_binary, read_binary};
 use cmap_files::declarations::Lists;
 use cmap_files::fault::{Fault, Stop};
 use cmap_files::file::File;
-use cmap_files::metadata::Metadata;
+use cmap_values::metadata::Metadata;
 use cmap_layers::layers::Layer;
 use cmap_text::read_text;
 use std::alloc::{AllocError, Global};

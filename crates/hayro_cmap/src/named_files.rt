@@ -7,7 +7,7 @@ ghost use Rattle.hayro_cmap.specs.NamedFiles.{file_named};
 
 use crate::source::Source;
 use cmap_binary::{Bundle, OwnedBundle, load_embedded};
-use cmap_files::names::CMapName;
+use cmap_values::names::CMapName;
 
 /// A file and its name.
 pub trait NamedFile {

@@ -4,7 +4,7 @@ ghost use Rattle.std.specs.Prelude.{ℕ, List, Option};
 ghost use Rattle.std.specs.Option.{option_copied};
 ghost use Rattle.hayro_cmap.specs.Answers.{Answers};
 
-use cmap_files::names::CMapName;
+use cmap_values::names::CMapName;
 use std::marker::PhantomData;
 
 /// What finds the bytes of a file by the text of its name.

@@ -5,7 +5,7 @@ ghost use Rattle.cmap_binary.specs.Fronts.{FieldAt, RowOf};
 ghost use Rattle.cmap_binary.specs.Reader.{IsAtByte};
 ghost use Rattle.cmap_binary.specs.TableFronts.{LengthCountsAt, MostAt, TableAt};
 ghost use Rattle.cmap_binary.specs.TableTaken.{ParsesTable};
-ghost use Rattle.cmap_files.specs.CodeLengths.{IsCodeLength};
+ghost use Rattle.cmap_values.specs.CodeLengths.{IsCodeLength};
 ghost use Rattle.cmap_files.specs.Outcomes.{Finds};
 
 use super::PrefixTable;

@@ -2,7 +2,7 @@
 
 ghost use Rattle.std.specs.Prelude.{◌≡◌, ℕ, ◌+◌, ◌*◌, ◌<◌, ◌≤◌, length, slice_index, take};
 ghost use Rattle.std.specs.Int.{bit_at};
-ghost use Rattle.cmap_files.specs.CodeLengths.{IsCodeLength};
+ghost use Rattle.cmap_values.specs.CodeLengths.{IsCodeLength};
 ghost use Rattle.cmap_layers.specs.SpaceBits.{AreGroups, HaveRows, IsFound, IsFoundAmong, IsInside, IsInsideWithin, IsLeast, IsSet, lesser, query_of, row_count, row_of_value};
 
 use super::block::{row_of_length, row_of_value};

@@ -2,13 +2,13 @@
 
 ghost use Rattle.std.specs.Prelude.{◌≡◌, ◌↔◌, ℕ, ◌≤◌, length, IsTrue};
 ghost use Rattle.std.specs.Int.{bit_at};
-ghost use Rattle.cmap_files.specs.CodeLengths.{IsCodeLength, length_of};
+ghost use Rattle.cmap_values.specs.CodeLengths.{IsCodeLength, length_of};
 ghost use Rattle.cmap_files.specs.Files.{Codespace};
 ghost use Rattle.cmap_layers.specs.Lookups.{IsWithin};
 ghost use Rattle.cmap_layers.specs.SpaceBits.{AreRows, AreSet, HasFront, InRows, IsFound, front_row, query_of, row_count};
 
 use super::block::{row_of_length, row_of_value};
-use cmap_files::code_length::CodeLength;
+use cmap_values::code_length::CodeLength;
 
 /// The rows that the ranges have to be in: that of their length, and that of each byte. Where fewer than
 /// four bytes are given, the row of the length stands in their place.

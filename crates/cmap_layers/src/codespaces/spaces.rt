@@ -1,7 +1,7 @@
 //! The codespace ranges of a layer, with blocks of bits by which they are found.
 
 ghost use Rattle.std.specs.Prelude.{◌≡◌, ◌↔◌, ◌≤◌, All, Any, IfOk, IsTrue, length, map};
-ghost use Rattle.cmap_files.specs.CodeLengths.{IsCodeLength, length_of};
+ghost use Rattle.cmap_values.specs.CodeLengths.{IsCodeLength, length_of};
 ghost use Rattle.cmap_files.specs.DeclarationsSeen.{codespace_seen};
 ghost use Rattle.cmap_layers.specs.SpaceBits.{AreBlocks, AreRows, HasFront, InRows, IsInsideRanges, IsLeast};
 

@@ -1,4 +1,4 @@
-use Rattle.cmap_files.specs.CodeLengths.{length_of}
+use Rattle.cmap_values.specs.CodeLengths.{length_of}
 use Rattle.cmap_files.specs.Files.{cid}
 use Rattle.cmap_files.specs.FilesSeen.{file_seen}
 use Rattle.cmap_binary.specs.BinaryEntries.{CidEntryAt}

@@ -1,5 +1,5 @@
 use Rattle.std.proofs.Common.{ℕ, List}
-use Rattle.cmap_files.specs.CodeLengths.{IsCodeLength}
+use Rattle.cmap_values.specs.CodeLengths.{IsCodeLength}
 use Rattle.cmap_files.specs.Only.{HoldsOfNone}
 use Rattle.cmap_binary.specs.Fronts.{CodeAt}
 use Rattle.cmap_binary.proofs.Fronts.{gives, then_none, then_next, then_only}

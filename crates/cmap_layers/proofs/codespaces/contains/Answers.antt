@@ -1,4 +1,4 @@
-use Rattle.cmap_files.specs.CodeLengths.{length_of}
+use Rattle.cmap_values.specs.CodeLengths.{length_of}
 use Rattle.cmap_files.specs.Files.{Codespace}
 use Rattle.cmap_layers.specs.LayersSeen.{layers_seen}
 use Rattle.cmap_layers.specs.Lookups.{IsWithin}

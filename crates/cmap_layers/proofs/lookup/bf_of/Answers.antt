@@ -2,7 +2,7 @@ use Rattle.std.proofs.Common.{◌≡◌, ◌-◌, ◌<◌, sym, ap, ◌∙◌, s
 use Rattle.std.specs.Prelude.{IfOk, OnErr, IsSomeAnd, option_map, option_and_then}
 use Rattle.cmap_tokens.specs.TextSeen.{text_seen}
 use Rattle.cmap_tokens.specs.Texts.{text_at, text_of_characters}
-use Rattle.cmap_files.specs.UnitsSeen.{units_seen}
+use Rattle.cmap_values.specs.UnitsSeen.{units_seen}
 use Rattle.cmap_layers.specs.LayersSeen.{layers_seen}
 use Rattle.cmap_layers.specs.Lookups.{bf_at, bf_of}
 use Rattle.cmap_layers.proofs.LayersSearched.{bf_of-deciding_bf}

@@ -1,6 +1,6 @@
 use Rattle.std.proofs.Common.{None, ap, ◌+◌, drop, ◌∙◌, arith}
 use Rattle.std.proofs.lemmas.Grind.{common_steps}
-use Rattle.cmap_files.specs.CodeLengths.{length_of}
+use Rattle.cmap_values.specs.CodeLengths.{length_of}
 use Rattle.cmap_layers.specs.LayersSeen.{layer_seen, layers_seen}
 use Rattle.cmap_layers.specs.Lookups.{cid_in}
 use Rattle.cmap_layers.proofs.LayerStretches.{layer_decides}

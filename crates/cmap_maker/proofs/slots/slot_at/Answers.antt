@@ -2,7 +2,7 @@ use Rattle.std.proofs.Common.{◌≡◌, ◌∙◌, Some, ap, arith, subst, sym,
 use Rattle.std.specs.Prelude.{IfOk}
 use lib.Dec.{eqb}
 use Rattle.std.specs.Option.{option_eq}
-use Rattle.cmap_files.specs.CMapNames.{index_of_name}
+use Rattle.cmap_values.specs.CMapNames.{index_of_name}
 use Rattle.cmap_maker.specs.Slots.{IsSlotFor}
 use Rattle.cmap_maker.specs.declared.source.Source.{Source}
 use Rattle.cmap_maker.proofs.BundlesWritten.{same_item, source_found}

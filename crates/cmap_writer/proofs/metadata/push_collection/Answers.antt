@@ -1,6 +1,6 @@
 use Rattle.std.proofs.Common.{refl, sym, subst}
-use Rattle.cmap_files.specs.MetadataSeen.{collection_seen}
-use Rattle.cmap_files.specs.declared.character_collection.CharacterCollection.{CharacterCollection}
+use Rattle.cmap_values.specs.MetadataSeen.{collection_seen}
+use Rattle.cmap_values.specs.declared.character_collection.CharacterCollection.{CharacterCollection}
 use Rattle.cmap_binary.specs.BinaryFiles.{CollectionIn, sets_collection}
 use Rattle.cmap_writer.specs.MetadataWritten.{from_option}
 use Rattle.cmap_writer.specs.SegmentsWritten.{SegmentByAny}

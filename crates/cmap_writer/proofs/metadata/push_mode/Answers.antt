@@ -1,6 +1,6 @@
 use Rattle.std.proofs.Common.{[], ◌∷◌, Some, ap, refl, sym, subst}
-use Rattle.cmap_files.specs.MetadataSeen.{mode_seen}
-use Rattle.cmap_files.specs.declared.writing_mode.WritingMode.{WritingMode}
+use Rattle.cmap_values.specs.MetadataSeen.{mode_seen}
+use Rattle.cmap_values.specs.declared.writing_mode.WritingMode.{WritingMode}
 use Rattle.cmap_binary.specs.BinaryFiles.{sets_mode}
 use Rattle.cmap_writer.specs.MetadataWritten.{from_option}
 use Rattle.cmap_writer.specs.SegmentsWritten.{SegmentByAny}

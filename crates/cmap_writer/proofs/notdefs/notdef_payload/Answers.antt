@@ -1,6 +1,6 @@
 use Rattle.std.proofs.Common.{◌∙◌, ◌++◌, ◌∷◌, [], length, ap, sym}
 use Rattle.std.proofs.lemmas.List.{length-map}
-use Rattle.cmap_files.specs.CodeLengths.{length_of}
+use Rattle.cmap_values.specs.CodeLengths.{length_of}
 use Rattle.cmap_files.specs.DeclarationsSeen.{cid_entry_seen, entries_seen}
 use Rattle.cmap_writer.proofs.RowsWritten.{notdefs_written}
 use Rattle.cmap_writer.proofs.notdefs.notdef_payload.Goals as goal

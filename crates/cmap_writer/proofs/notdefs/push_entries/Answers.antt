@@ -1,5 +1,5 @@
 use Rattle.std.proofs.Common.{arith}
-use Rattle.cmap_files.specs.CodeLengths.{length_of}
+use Rattle.cmap_values.specs.CodeLengths.{length_of}
 use Rattle.cmap_files.specs.DeclarationsSeen.{cid_entry_seen}
 use Rattle.cmap_binary.specs.BinaryFiles.{NotdefAt}
 use Rattle.cmap_writer.proofs.FilesWritten.{taken_more}

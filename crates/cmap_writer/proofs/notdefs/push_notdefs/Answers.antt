@@ -1,6 +1,6 @@
 use Rattle.std.proofs.Common.{◌∙◌, ◌++◌, ◌≡◌, drop, map, refl, ap, sym, subst}
 use Rattle.std.proofs.lemmas.List.{map-append, take-append-drop}
-use Rattle.cmap_files.specs.CodeLengths.{length_of}
+use Rattle.cmap_values.specs.CodeLengths.{length_of}
 use Rattle.cmap_files.specs.DeclarationsSeen.{cid_entry_seen, entries_seen}
 use Rattle.cmap_files.specs.Files.{Declaration}
 use Rattle.cmap_binary.specs.BinaryFiles.{NotdefsIn, declares}

@@ -1,7 +1,7 @@
 use Rattle.std.proofs.Common.{◌≡◌, ◌∙◌, ◌+◌, ◌-◌, ◌≤◌, ◌^◌, inl, inr, ◌++◌, ◌∷◌, [], length, take, ap, subst, arith}
 use Rattle.std.specs.Result.{IfOk}
 use Rattle.std.proofs.lemmas.Bool.{cases_lt}
-use Rattle.cmap_files.specs.UnitsSeen.{units_seen}
+use Rattle.cmap_values.specs.UnitsSeen.{units_seen}
 use Rattle.cmap_writer.specs.TextParts.{IsShifted}
 use Rattle.cmap_writer.proofs.TextPartsSeen.{lost_units, raised_units}
 use Rattle.cmap_writer.proofs.text_parts.shifted.Goals as goal

@@ -1,5 +1,5 @@
 use Rattle.std.proofs.Common.{All, ◌<◌, ◌^◌, length, take}
-use Rattle.cmap_files.specs.UnitsSeen.{units_seen}
+use Rattle.cmap_values.specs.UnitsSeen.{units_seen}
 use Rattle.cmap_writer.proofs.texts.check_units.Given as goal
 
 abbrev pub invariant-loop-range : goal.invariant-loop-range

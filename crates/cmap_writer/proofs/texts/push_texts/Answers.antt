@@ -1,5 +1,5 @@
 use Rattle.std.proofs.Common.{◌<◌, ◌^◌, ◌++◌, ap, ◌∙◌, length, subst, sym}
-use Rattle.cmap_files.specs.UnitsSeen.{units_seen}
+use Rattle.cmap_values.specs.UnitsSeen.{units_seen}
 use Rattle.cmap_writer.specs.Texts.{destination}
 use Rattle.cmap_writer.proofs.RowsAdded.{rows_done, rows_more}
 use Rattle.cmap_writer.proofs.TextsMade.{short_units}

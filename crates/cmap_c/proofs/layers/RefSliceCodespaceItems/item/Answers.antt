@@ -1,5 +1,5 @@
 use Rattle.cmap_files.specs.DeclarationsSeen.{codespace_seen}
-use Rattle.cmap_files.specs.declared.code_length.CodeLength.TheVariants.{One}
+use Rattle.cmap_values.specs.declared.code_length.CodeLength.TheVariants.{One}
 use Rattle.cmap_c.specs.Handles.{range_seen}
 use Rattle.cmap_c.proofs.FilledRows.{mapped_index}
 use Rattle.cmap_c.proofs.layers.RefSliceCodespaceItems.item.Goals as goal

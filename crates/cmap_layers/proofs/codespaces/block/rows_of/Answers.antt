@@ -3,7 +3,7 @@ use Rattle.std.proofs.lemmas.Option.{slice_get-get_or}
 use Rattle.std.specs.Prelude.{◌↔◌}
 use Rattle.std.specs.Int.{bit_at}
 use Rattle.cmap_files.specs.DeclarationsSeen.{codespace_seen}
-use Rattle.cmap_files.specs.declared.code_length.CodeLength.TheVariants.{One}
+use Rattle.cmap_values.specs.declared.code_length.CodeLength.TheVariants.{One}
 use Rattle.cmap_files.specs.declared.declarations.Codespace.{Codespace}
 use Rattle.cmap_layers.specs.SpaceBits.{HaveBits, InRow, IsInRow, row_count}
 use Rattle.cmap_layers.proofs.RowBits.{all_bits, more_bits, no_bits, written_back}

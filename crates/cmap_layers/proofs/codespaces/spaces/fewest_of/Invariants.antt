@@ -1,5 +1,5 @@
 use Rattle.std.proofs.Common.{◌<◌, ◌≤◌, ℕ, get_or}
-use Rattle.cmap_files.specs.CodeLengths.{IsCodeLength, length_of}
+use Rattle.cmap_values.specs.CodeLengths.{IsCodeLength, length_of}
 use Rattle.cmap_files.specs.declared.declarations.Codespace.{Codespace}
 use Rattle.cmap_layers.proofs.codespaces.spaces.fewest_of.Given as goal
 

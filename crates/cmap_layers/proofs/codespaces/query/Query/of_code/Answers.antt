@@ -1,5 +1,5 @@
 use Rattle.std.proofs.Common.{[], ◌∷◌, get_or, ap}
-use Rattle.cmap_files.specs.declared.code_length.CodeLength.TheVariants.{One, Two, Three, Four}
+use Rattle.cmap_values.specs.declared.code_length.CodeLength.TheVariants.{One, Two, Three, Four}
 use Rattle.cmap_layers.proofs.SpacesFound.{code_found}
 use Rattle.cmap_layers.proofs.codespaces.query.Query.of_code.Goals as goal
 

@@ -1,6 +1,6 @@
 use Rattle.std.proofs.Common.{◌≡◌, ◌∙◌, Any, map, sym, subst, inl, inr, rules, arith}
 use Rattle.std.proofs.lemmas.Bool.{cases_lt, false≢true}
-use Rattle.cmap_files.specs.CodeLengths.{IsCodeLength}
+use Rattle.cmap_values.specs.CodeLengths.{IsCodeLength}
 use Rattle.cmap_files.specs.DeclarationsSeen.{codespace_seen}
 use Rattle.cmap_layers.specs.SpaceBits.{AreBlocks, HasFront, InRows, IsFound, IsLeast, query_of}
 use Rattle.cmap_layers.proofs.SpacesFound.{any_same, fewest_ranges, only_item, too_few}

@@ -1,5 +1,0 @@
-use Rattle.cmap_files.proofs.OneName.{IsNameOf-own_text}
-use Rattle.cmap_files.proofs.names.CMapName.to_bytes.Goals as goal
-
-pub returns-clause-known : goal.returns-clause-known
-returns-clause-known c some = IsNameOf-own_text _ _ c.text.ensures some

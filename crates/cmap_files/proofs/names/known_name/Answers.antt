@@ -1,5 +1,0 @@
-use Rattle.cmap_files.proofs.OneName.{index-variant}
-use Rattle.cmap_files.proofs.names.known_name.Goals as goal
-
-pub returns : goal.returns
-returns c = index-variant c.args.at _ c.requires

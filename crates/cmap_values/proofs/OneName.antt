@@ -1,0 +1,72 @@
+-- The name of a text is one name.
+use Rattle.std.proofs.Common.{◌≡◌, refl, sym, ◌∙◌, ap, ℕ, ◌<◌, List, [], ◌∷◌, map, Some, None, get_or, zero-add, inl, inr, ◌⊎◌}
+use Rattle.std.specs.Prelude.{unwrap_or, IsSome}
+use Rattle.std.specs.List.{range_with_len}
+use Rattle.std.proofs.lemmas.List.{get_or-map}
+use Rattle.std.proofs.lemmas.List.FromFn.{get_or-map-range_with_len}
+use Rattle.std.proofs.lemmas.Bool.{false≢true}
+use Rattle.std.specs.Borrow.{Bor}
+use Rattle.cmap_values.specs.declared.names.CMapName.{CMapName}
+use Rattle.cmap_values.specs.declared.names.CMapName.TheVariants.{N83pvRksjH, N90msRksjH, N90msRksjV, N90mspRksjH, N90mspRksjV, N90pvRksjH, AddRksjH, AddRksjV, AdobeCns1Ucs2, AdobeGb1Ucs2, AdobeJapan1Ucs2, AdobeKorea1Ucs2, B5pcH, B5pcV, CnsEucH, CnsEucV, ETenB5H, ETenB5V, ETenmsB5H, ETenmsB5V, EucH, EucV, ExtRksjH, ExtRksjV, GbEucH, GbEucV, GbkEucH, GbkEucV, Gbk2kH, Gbk2kV, GbkpEucH, GbkpEucV, GbpcEucH, GbpcEucV, H, HKscsB5H, HKscsB5V, IdentityH, IdentityV, KscEucH, KscEucV, KscmsUhcH, KscmsUhcHwH, KscmsUhcHwV, KscmsUhcV, KscpcEucH, UniCnsUcs2H, UniCnsUcs2V, UniCnsUtf16H, UniCnsUtf16V, UniGbUcs2H, UniGbUcs2V, UniGbUtf16H, UniGbUtf16V, UniJisUcs2H, UniJisUcs2HwH, UniJisUcs2HwV, UniJisUcs2V, UniJisUtf16H, UniJisUtf16V, UniKsUcs2H, UniKsUcs2V, UniKsUtf16H, UniKsUtf16V, V, Custom}
+use Rattle.cmap_values.specs.CMapNames.{index_of_name, name_bytes, IsNameOf, IsSameName}
+use Rattle.cmap_values.specs.Names.{known_names, index_of_text}
+
+abbrev pub variants : List CMapName
+variants = N83pvRksjH ∷ N90msRksjH ∷ N90msRksjV ∷ N90mspRksjH ∷ N90mspRksjV ∷ N90pvRksjH ∷ AddRksjH ∷ AddRksjV ∷ AdobeCns1Ucs2 ∷ AdobeGb1Ucs2 ∷ AdobeJapan1Ucs2 ∷ AdobeKorea1Ucs2 ∷ B5pcH ∷ B5pcV ∷ CnsEucH ∷ CnsEucV ∷ ETenB5H ∷ ETenB5V ∷ ETenmsB5H ∷ ETenmsB5V ∷ EucH ∷ EucV ∷ ExtRksjH ∷ ExtRksjV ∷ GbEucH ∷ GbEucV ∷ GbkEucH ∷ GbkEucV ∷ Gbk2kH ∷ Gbk2kV ∷ GbkpEucH ∷ GbkpEucV ∷ GbpcEucH ∷ GbpcEucV ∷ H ∷ HKscsB5H ∷ HKscsB5V ∷ IdentityH ∷ IdentityV ∷ KscEucH ∷ KscEucV ∷ KscmsUhcH ∷ KscmsUhcHwH ∷ KscmsUhcHwV ∷ KscmsUhcV ∷ KscpcEucH ∷ UniCnsUcs2H ∷ UniCnsUcs2V ∷ UniCnsUtf16H ∷ UniCnsUtf16V ∷ UniGbUcs2H ∷ UniGbUcs2V ∷ UniGbUtf16H ∷ UniGbUtf16V ∷ UniJisUcs2H ∷ UniJisUcs2HwH ∷ UniJisUcs2HwV ∷ UniJisUcs2V ∷ UniJisUtf16H ∷ UniJisUtf16V ∷ UniKsUcs2H ∷ UniKsUcs2V ∷ UniKsUtf16H ∷ UniKsUtf16V ∷ V ∷ []
+
+named : ℕ → CMapName
+named k = get_or variants k (Custom (record { ref_ptr = (0, 0); now = [] }))
+
+pub index-variant : (at : ℕ) (d : CMapName) → at < 65 → index_of_name (get_or variants at d) ≡ Some at
+unfolding known_names
+index-variant at d lt =
+    let indices : map index_of_name variants ≡ map Some (range_with_len 0 65) = refl in
+    sym (get_or-map index_of_name variants at d None lt) ∙ ap (λ indices. get_or indices at None) indices ∙ get_or-map-range_with_len Some 0 65 at at None lt (zero-add at)
+
+-- a name is the one at its index, or custom
+Sorted : CMapName → Type 0
+Sorted name = ((k : ℕ) × (index_of_name name ≡ Some k) × (name ≡ named k) × (name_bytes name ≡ get_or known_names k []) × (index_of_text (name_bytes name) ≡ Some k)) ⊎ ((text : Bor (List ℕ)) × (name ≡ Custom text))
+
+sorted : (name : CMapName) → Sorted name
+unfolding known_names named Sorted
+sorted (Custom text) = inr (text, refl)
+sorted name = inl (unwrap_or (index_of_name name) 0, refl, refl, refl, refl)
+
+-- the text of a name that has an index
+known_text-of : (name : CMapName) (at : ℕ) → Sorted name → index_of_name name ≡ Some at → name_bytes name ≡ get_or known_names at []
+unfolding Sorted
+known_text-of name at (inl (k, here, named, text, text_at)) is = let same : k ≡ at = cc in text ∙ ap (λ k. get_or known_names k []) same
+known_text-of name at (inr (text, named)) is = let none : index_of_name name ≡ None = ap index_of_name named in absurd (cc)
+
+pub known_text : (name : CMapName) (at : ℕ) → index_of_name name ≡ Some at → name_bytes name ≡ get_or known_names at []
+known_text name at is = known_text-of name at (sorted name) is
+
+-- a name that isn't custom has the index of its text
+indexed : (name : CMapName) → Sorted name → ((text : Bor (List ℕ)) → name ≡ Custom text → ⊥) → index_of_text (name_bytes name) ≡ index_of_name name
+unfolding Sorted
+indexed name (inl (k, at, is, text, text_at)) known = text_at ∙ sym at
+indexed name (inr (text, is)) known = absurd (known text is)
+
+pub index-of_known : (name : CMapName) → ((text : Bor (List ℕ)) → name ≡ Custom text → ⊥) → index_of_text (name_bytes name) ≡ index_of_name name
+index-of_known name known = indexed name (sorted name) known
+
+-- the name of the text of a name that has an index is that name
+named_of : (text : List ℕ) (name : CMapName) → Sorted name → text ≡ name_bytes name → IsSome (index_of_name name) → IsNameOf text name
+unfolding Sorted
+named_of text name (inl (k, at, is, text_is, text_at)) same some = (sym same, at ∙ sym text_at ∙ ap index_of_text (sym same))
+named_of text name (inr (custom, is)) same some = absurd (false≢true (rw is at some))
+
+pub IsNameOf-own_text : (text : List ℕ) (name : CMapName) → text ≡ name_bytes name → IsSome (index_of_name name) → IsNameOf text name
+IsNameOf-own_text text name same some = named_of text name (sorted name) same some
+
+by_kinds : (name other : CMapName) → Sorted name → Sorted other → index_of_name name ≡ index_of_name other → name_bytes name ≡ name_bytes other → IsSameName name other
+unfolding Sorted
+by_kinds name other (inl x) (inl y) e t = let k : x.0 ≡ y.0 = cc in inl (x.2 ∙ ap named k ∙ sym y.2)
+by_kinds name other (inl x) (inr y) e t = let f : index_of_name other ≡ None = ap index_of_name y.1 in let g : Some x.0 ≡ None = cc in absurd (cc)
+by_kinds name other (inr x) (inl y) e t = let f : index_of_name name ≡ None = ap index_of_name x.1 in let g : Some y.0 ≡ None = cc in absurd (cc)
+by_kinds name other (inr x) (inr y) e t =
+    let f : name_bytes name ≡ x.0.now = ap name_bytes x.1 in let g : name_bytes other ≡ y.0.now = ap name_bytes y.1 in
+    inr (x.0, y.0, x.1, y.1, cc)
+
+pub IsSameName-from_text : (text : List ℕ) (name other : CMapName) → IsNameOf text name → IsNameOf text other → IsSameName name other
+IsSameName-from_text text name other n o = by_kinds name other (sorted name) (sorted other) (n.1 ∙ sym o.1) (n.0 ∙ sym o.0)

@@ -1,0 +1,55 @@
+//! How many bytes a code has, and the number that these write.
+
+ghost use Rattle.std.specs.Prelude.{◌≡◌, option_map, MatchOption};
+ghost use Rattle.cmap_values.specs.CodeLengths.{IsCodeLength, code_seen, code_written, length_of};
+
+/// How many bytes a code has: one to four.
+#[derive(Clone, Copy, Debug, PartialEq, Eq)]
+pub enum CodeLength {
+    One,
+    Two,
+    Three,
+    Four,
+}
+
+impl CodeLength {
+    /// The length of codes of `count` bytes; `None` unless these are one to four.
+    pub fn of(count: u8) -> Option<CodeLength>
+        ensures { MatchOption result (IsCodeLength count → ⊥)
+            (λ len. IsCodeLength count × (length_of len ≡ count)) }
+    {
+        match count {
+            1 => Some(CodeLength::One),
+            2 => Some(CodeLength::Two),
+            3 => Some(CodeLength::Three),
+            4 => Some(CodeLength::Four),
+            _ => None,
+        }
+    }
+
+    /// The number of bytes.
+    pub fn count(self) -> u8
+        ensures { result ≡ length_of self }
+    {
+        match self {
+            CodeLength::One => 1,
+            CodeLength::Two => 2,
+            CodeLength::Three => 3,
+            CodeLength::Four => 4,
+        }
+    }
+}
+
+/// The code that one to four bytes write, the first one high: its length, and its number. `None` of
+/// no bytes, and of more than four.
+pub fn read_code(bytes: &[u8]) -> Option<(CodeLength, u32)>
+    ensures { option_map code_seen result ≡ code_written bytes.now }
+{
+    match *bytes {
+        [a] => Some((CodeLength::One, u32::from(a))),
+        [a, b] => Some((CodeLength::Two, u32::from_be_bytes([0, 0, a, b]))),
+        [a, b, c] => Some((CodeLength::Three, u32::from_be_bytes([0, a, b, c]))),
+        [a, b, c, d] => Some((CodeLength::Four, u32::from_be_bytes([a, b, c, d]))),
+        _ => None,
+    }
+}

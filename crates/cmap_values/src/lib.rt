@@ -1,0 +1,10 @@
+//! The values that files, layers and callers share: the names of CMaps, families of character
+//! collections, metadata, lengths of codes, and units of texts.
+#![tactic(auto)]
+
+pub mod character_collection;
+pub mod code_length;
+pub mod metadata;
+pub mod names;
+pub mod units;
+pub mod writing_mode;
