@@ -1,16 +1,16 @@
 -- A binary file that is read past its faults: of a file just what it says, of other bytes a fault, and one answer.
 use Rattle.std.proofs.Common.{◌≡◌, ◌≢◌, ℕ, ◌+◌, ◌≤◌, refl, sym, ap, ◌∙◌, subst, List, [], ◌∷◌, ◌++◌, length, map, arith}
 use Rattle.std.proofs.lemmas.List.{map-append}
-use Rattle.cmap_files.specs.Faults.{Ascend}
+use Rattle.cmap_values.specs.Faults.{Ascend}
 use Rattle.cmap_files.specs.Files.{File}
-use Rattle.cmap_files.specs.Only.{IsOnly, HoldsOfNone}
-use Rattle.cmap_files.specs.declared.fault.Stop.{Stop}
-use Rattle.cmap_binary.specs.Bundles.{PrefixTables}
+use Rattle.cmap_values.specs.Only.{IsOnly, HoldsOfNone}
+use Rattle.cmap_values.specs.declared.fault.Stop.{Stop}
+use Rattle.cmap_packed.specs.Bundles.{PrefixTables}
 use Rattle.cmap_binary.specs.BinaryFiles.{BodyOf, Content, IsBinaryFile, SegmentAt, file_of}
 use Rattle.cmap_binary.specs.BinarySalvage.{BeginsWithin, BodyRead, SalvagesBinary, SegmentSays, SegmentsFrom, at_fault, cut_short, ended, no_header, said, whole, wrong_length}
-use Rattle.cmap_binary.specs.Fronts.{AllOf, FramedAt}
+use Rattle.cmap_packed.specs.Fronts.{AllOf, FramedAt}
 use Rattle.cmap_binary.proofs.Bodies.{after_alone, after_within, body_alone, body_follows, body_within}
-use Rattle.cmap_binary.proofs.Fronts.{framed_alone, no_frame}
+use Rattle.cmap_packed.proofs.Fronts.{framed_alone, no_frame}
 
 abbrev pub offsets : List Stop → List ℕ
 offsets faults = map (λ stop. stop.offset) faults

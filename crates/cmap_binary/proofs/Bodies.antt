@@ -1,10 +1,10 @@
 -- What follows the header of a binary file.
 use Rattle.std.proofs.Common.{◌≡◌, ℕ, ◌+◌, ◌≤◌, refl, sym, ap, ◌∙◌, List, length, take, drop, arith}
 use Rattle.std.proofs.lemmas.List.{length-drop, length-take-le, take-take}
-use Rattle.cmap_files.specs.Only.{HoldsOfNone}
+use Rattle.cmap_values.specs.Only.{HoldsOfNone}
 use Rattle.cmap_binary.specs.BinaryFiles.{BodyOf}
 use Rattle.cmap_binary.specs.BinarySalvage.{AfterHeader}
-use Rattle.cmap_binary.proofs.Fronts.{framed_alone}
+use Rattle.cmap_packed.proofs.Fronts.{framed_alone}
 
 module _ (bytes : List ℕ) where
   -- the body stands after a header of ten bytes

@@ -5,8 +5,8 @@ use Rattle.std.proofs.lemmas.List.Sums.{sum_by-cons}
 use Rattle.cmap_files.specs.Files.{CidEntry}
 use Rattle.cmap_runs.specs.Ranges.{Span}
 use Rattle.cmap_binary.specs.BinaryEntries.{CidColumns, Columns, CidEntryAt, SymbolAt, WidthAt, cid_from}
-use Rattle.cmap_binary.specs.Bundles.{PrefixTables}
-use Rattle.cmap_binary.specs.Fronts.{FieldAt, RowOf}
+use Rattle.cmap_packed.specs.Bundles.{PrefixTables}
+use Rattle.cmap_packed.specs.Fronts.{FieldAt, RowOf}
 
 abbrev pub entry_at : ℕ → ℕ → ℕ → CidEntry
 entry_at start end cid = record { start = start; end = end; cid = cid }

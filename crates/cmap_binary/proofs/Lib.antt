@@ -1,17 +1,7 @@
 pub mod BinarySalvaged
-pub mod BitsOfBytes
-pub mod BitsPeeked
-pub mod BitsTaken
 pub mod Bodies
-pub mod BytesTaken
 pub mod EntrySums
-pub mod Fronts
-pub mod Lengths
-pub mod RankedWords
 pub mod Reading
 pub mod RowsAdded
 pub mod SegmentsSaid
 pub mod SegmentsSalvaged
-pub mod TablesDecoded
-pub mod TablesTaken
-pub mod WordsSearched

@@ -1,6 +1,6 @@
 -- What a segment says, by the one value that is read of it.
 use Rattle.std.proofs.Common.{refl, ap, ◌∙◌}
-use Rattle.cmap_files.specs.Only.{IsOnly, HoldsOfNone}
+use Rattle.cmap_values.specs.Only.{IsOnly, HoldsOfNone}
 use Rattle.cmap_binary.specs.BinaryFiles.{Content, Made}
 
 -- what is made of a value

@@ -3,16 +3,16 @@ use Rattle.std.proofs.Common.{Ok, Err, Result, ◌≡◌, ℕ, ◌+◌, ◌<◌,
 use Rattle.std.proofs.lemmas.List.{map-append}
 use Rattle.cmap_files.specs.Files.{Declaration, File, Lists, lists_of}
 use Rattle.cmap_files.specs.ListsAppended.{append_lists}
-use Rattle.cmap_files.specs.Outcomes.{Succeeds}
-use Rattle.cmap_files.specs.declared.fault.Fault.{Fault}
-use Rattle.cmap_files.specs.declared.fault.Fault.TheVariants.{Refused, Memory}
-use Rattle.cmap_files.specs.declared.fault.Reason.{Reason}
-use Rattle.cmap_files.specs.Only.{IsOnly, HoldsOfNone}
+use Rattle.cmap_values.specs.Outcomes.{Succeeds}
+use Rattle.cmap_values.specs.declared.fault.Fault.{Fault}
+use Rattle.cmap_values.specs.declared.fault.Fault.TheVariants.{Refused, Memory}
+use Rattle.cmap_values.specs.declared.fault.Reason.{Reason}
+use Rattle.cmap_values.specs.Only.{IsOnly, HoldsOfNone}
 use Rattle.cmap_files.proofs.ListsMade.{added_more, append_lists-none}
 use Rattle.cmap_binary.specs.BinaryFiles.{declares}
 use Rattle.cmap_binary.specs.BinarySeen.{with_content}
-use Rattle.cmap_binary.specs.Fronts.{RowOf}
-use Rattle.cmap_binary.proofs.Fronts.{HasRow, row_start, row_more, row_wrong, row_end}
+use Rattle.cmap_packed.specs.Fronts.{RowOf}
+use Rattle.cmap_packed.proofs.Fronts.{HasRow, row_start, row_more, row_wrong, row_end}
 
 abbrev pub with_lists : File → Lists → File
 with_lists file lists = record { metadata = file.metadata; lists = lists; uses = file.uses }

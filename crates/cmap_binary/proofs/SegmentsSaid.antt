@@ -11,9 +11,9 @@ use Rattle.cmap_files.proofs.LastOfLists.{last_or-push}
 use Rattle.cmap_files.proofs.ListsMade.{append_lists-none, lists_of-append}
 use Rattle.cmap_binary.specs.BinaryFiles.{Content, declares, uses, sets_mode, sets_name, sets_collection, declared_in, name_used, mode_set, name_set, collection_set, SegmentAt, file_of}
 use Rattle.cmap_binary.specs.BinarySeen.{with_content}
-use Rattle.cmap_binary.specs.Bundles.{PrefixTables}
-use Rattle.cmap_binary.specs.Fronts.{AllOf}
-use Rattle.cmap_binary.proofs.Fronts.{Continues}
+use Rattle.cmap_packed.specs.Bundles.{PrefixTables}
+use Rattle.cmap_packed.specs.Fronts.{AllOf}
+use Rattle.cmap_packed.proofs.Fronts.{Continues}
 
 module _ (contents : List Content) (content : Content) where
   last_at : {A : Type 0} (f : Content → Option A) (o : Option A) → f content ≡ o → last_or None (filter_map f (contents ++ content ∷ [])) ≡ option_or o (last_or None (filter_map f contents))

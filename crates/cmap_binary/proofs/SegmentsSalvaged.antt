@@ -2,15 +2,15 @@
 use Rattle.std.proofs.Common.{◌≡◌, ◌≢◌, ℕ, ◌+◌, ◌-◌, ◌≤◌, sym, ap, ◌∙◌, subst, List, [], ◌∷◌, ◌++◌, length, arith, append_assoc, append-nil}
 use Rattle.cmap_files.specs.Files.{File}
 use Rattle.cmap_files.specs.ListsAppended.{no_file}
-use Rattle.cmap_files.specs.Only.{IsOnly, HoldsOfNone}
-use Rattle.cmap_files.specs.declared.fault.Reason.{Reason}
-use Rattle.cmap_files.specs.declared.fault.Reason.TheVariants.{SegmentLength}
-use Rattle.cmap_files.specs.declared.fault.Stop.{Stop}
+use Rattle.cmap_values.specs.Only.{IsOnly, HoldsOfNone}
+use Rattle.cmap_values.specs.declared.fault.Reason.{Reason}
+use Rattle.cmap_values.specs.declared.fault.Reason.TheVariants.{SegmentLength}
+use Rattle.cmap_values.specs.declared.fault.Stop.{Stop}
 use Rattle.cmap_binary.specs.BinaryFiles.{Content, file_of}
 use Rattle.cmap_binary.specs.BinarySalvage.{SegmentSays, SegmentsFrom, SegmentsSalvaged, at_fault, cut_short, ended, said}
 use Rattle.cmap_binary.specs.BinarySeen.{with_content}
-use Rattle.cmap_binary.specs.Bundles.{PrefixTables}
-use Rattle.cmap_binary.specs.Fronts.{FramedAt}
+use Rattle.cmap_packed.specs.Bundles.{PrefixTables}
+use Rattle.cmap_packed.specs.Fronts.{FramedAt}
 use Rattle.cmap_binary.proofs.SegmentsSaid.{file_more}
 
 -- where in the file the bytes stand that are left of a body

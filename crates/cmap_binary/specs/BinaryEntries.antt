@@ -1,10 +1,10 @@
 -- The entries of a segment of a binary file, each by what the one before leaves.
 use Rattle.std.specs.Prelude.{ℕ, zero, suc, ◌+◌, ◌-◌, ◌<◌, ◌^◌, List, [], Option, Some, None}
-use Rattle.cmap_binary.specs.PrefixWords.{CodeWord, Decodes, bits}
+use Rattle.cmap_packed.specs.PrefixWords.{CodeWord, Decodes, bits}
 use Rattle.cmap_runs.specs.Ranges.{Span}
 use Rattle.cmap_files.specs.Files.{CidEntry, BfEntry}
-use Rattle.cmap_binary.specs.Bundles.{PrefixTables}
-use Rattle.cmap_binary.specs.Fronts.{Then, Gives, GivesIf, RowOf, ListOf, ByteAt, FieldAt, SizedAt}
+use Rattle.cmap_packed.specs.Bundles.{PrefixTables}
+use Rattle.cmap_packed.specs.Fronts.{Then, Gives, GivesIf, RowOf, ListOf, ByteAt, FieldAt, SizedAt}
 
 -- whether the entries of a segment are ranges, or single codes
 pub data Shape : Type 0 where

@@ -1,13 +1,13 @@
 -- What a binary file says apart from its faults: each segment by itself.
 use Rattle.std.specs.Prelude.{◌≡◌, ◌≢◌, ℕ, ◌+◌, ◌≤◌, List, [], ◌∷◌, ◌++◌, length, take, drop, slice_index}
 use Rattle.cmap_files.specs.Files.{File}
-use Rattle.cmap_files.specs.Only.{IsOnly, HoldsOfNone}
-use Rattle.cmap_files.specs.declared.fault.Reason.{Reason}
-use Rattle.cmap_files.specs.declared.fault.Reason.TheVariants.{Header, SegmentLength}
-use Rattle.cmap_files.specs.declared.fault.Stop.{Stop}
-use Rattle.cmap_binary.specs.Bundles.{PrefixTables}
+use Rattle.cmap_values.specs.Only.{IsOnly, HoldsOfNone}
+use Rattle.cmap_values.specs.declared.fault.Reason.{Reason}
+use Rattle.cmap_values.specs.declared.fault.Reason.TheVariants.{Header, SegmentLength}
+use Rattle.cmap_values.specs.declared.fault.Stop.{Stop}
+use Rattle.cmap_packed.specs.Bundles.{PrefixTables}
 use Rattle.cmap_binary.specs.BinaryFiles.{BodyOf, Content, IsSegment, file_of, magic}
-use Rattle.cmap_binary.specs.Fronts.{BytesAt, FramedAt, GivesIf, Then}
+use Rattle.cmap_packed.specs.Fronts.{BytesAt, FramedAt, GivesIf, Then}
 
 -- a segment, with its type and its length, says this
 abbrev pub SegmentSays : PrefixTables → List ℕ → Content → Type 0

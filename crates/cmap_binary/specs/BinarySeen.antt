@@ -3,14 +3,14 @@ use Rattle.std.specs.Prelude.{◌≡◌, ℕ, List, [], ◌∷◌, ◌++◌, map
 use Rattle.cmap_values.specs.CodeLengths.{length_of}
 use Rattle.cmap_files.specs.Files.{Declaration, File, lists_of}
 use Rattle.cmap_files.specs.ListsAppended.{append_lists}
-use Rattle.cmap_files.specs.Only.{IsOnly, HoldsOfNone}
-use Rattle.cmap_files.specs.Outcomes.{Succeeds}
-use Rattle.cmap_files.specs.declared.fault.Fault.{Fault}
-use Rattle.cmap_files.specs.declared.fault.Reason.{Reason}
-use Rattle.cmap_binary.specs.Bundles.{PrefixTables}
+use Rattle.cmap_values.specs.Only.{IsOnly, HoldsOfNone}
+use Rattle.cmap_values.specs.Outcomes.{Succeeds}
+use Rattle.cmap_values.specs.declared.fault.Fault.{Fault}
+use Rattle.cmap_values.specs.declared.fault.Reason.{Reason}
+use Rattle.cmap_packed.specs.Bundles.{PrefixTables}
 use Rattle.cmap_binary.specs.BinaryFiles as files
 use Rattle.cmap_binary.specs.BinaryFiles.{Content, declares, uses, sets_mode, sets_name, sets_collection, SegmentAt, file_of}
-use Rattle.cmap_binary.specs.Fronts.{AllOf, RowOf}
+use Rattle.cmap_packed.specs.Fronts.{AllOf, RowOf}
 use Rattle.cmap_binary.specs.declared.kinds.Kind.{Kind}
 use Rattle.cmap_binary.specs.declared.kinds.Kind.TheVariants.{Cids, Texts, Base, Notdefs, Mode, Codespaces, Name, Collection}
 use Rattle.cmap_binary.specs.ColumnsSeen.{shape_seen}

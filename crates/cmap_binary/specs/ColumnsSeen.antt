@@ -1,6 +1,6 @@
 -- Private aid: what contracts see of the columns of a segment.
 use Rattle.std.specs.Prelude.{option_map}
-use Rattle.cmap_binary.specs.Reader.{bits_left}
+use Rattle.cmap_packed.specs.Reader.{bits_left}
 use Rattle.cmap_runs.specs.Ranges.{Span}
 use Rattle.cmap_runs.specs.declared.runs.Range.{Range}
 use Rattle.cmap_binary.specs.BinaryEntries as entries

@@ -2,14 +2,4 @@ pub mod BinaryEntries
 pub mod BinaryFiles
 pub mod BinarySalvage
 pub mod BinarySeen
-pub mod BundleSeen
-pub mod Bundles
 pub mod ColumnsSeen
-pub mod Copies
-pub mod Fronts
-pub mod PrefixWords
-pub mod Reader
-pub mod TableTaken
-pub mod TableFronts
-pub mod WordsByLength
-pub mod WordsFound

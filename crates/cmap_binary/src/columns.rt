@@ -1,18 +1,18 @@
 //! Columns of the segments of a binary file: where the codes of the entries lie.
 
 ghost use Rattle.std.specs.Prelude.{◌≡◌, ◌+◌, ◌<◌, ◌≤◌, ◌^◌, IfOk, MatchOption, option_map};
-ghost use Rattle.cmap_binary.specs.Reader.{bits_left};
+ghost use Rattle.cmap_packed.specs.Reader.{bits_left};
 ghost use Rattle.cmap_binary.specs.BinaryEntries.{ColumnsAt, CountsAt, SpanAt, SymbolAt, WidthAt};
-ghost use Rattle.cmap_binary.specs.BundleSeen.{tables_seen};
+ghost use Rattle.cmap_packed.specs.BundleSeen.{tables_seen};
 ghost use Rattle.cmap_binary.specs.ColumnsSeen.{columns_seen, shape_seen, span_seen};
-ghost use Rattle.cmap_files.specs.Outcomes.{Finds, Reads};
+ghost use Rattle.cmap_values.specs.Outcomes.{Finds, Reads};
 
-use crate::bits::Reader;
-use crate::bundle::Tables;
-use crate::pieces::take_sized;
-use crate::prefix::PrefixTable;
-use cmap_files::fault::{Fault, Reason, Segment};
+use cmap_packed::Tables;
+use cmap_packed::bits::Reader;
+use cmap_packed::pieces::take_sized;
+use cmap_packed::prefix::PrefixTable;
 use cmap_runs::runs::Range;
+use cmap_values::fault::{Fault, Reason, Segment};
 
 /// Whether the entries of a segment are ranges, or single codes.
 #[derive(Clone, Copy)]

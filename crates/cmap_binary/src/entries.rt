@@ -4,23 +4,23 @@ ghost use Rattle.cmap_binary.specs.BinaryEntries.{BfEntryAt, CidEntryAt, Destina
 ghost use Rattle.cmap_binary.specs.BinaryFiles as files;
 ghost use Rattle.cmap_binary.specs.BinaryFiles.{SaysAs};
 ghost use Rattle.cmap_binary.specs.BinarySeen.{Adds, AddsRow};
-ghost use Rattle.cmap_binary.specs.BundleSeen.{tables_seen};
+ghost use Rattle.cmap_packed.specs.BundleSeen.{tables_seen};
 ghost use Rattle.cmap_binary.specs.ColumnsSeen.{cid_columns_seen, columns_seen, shape_seen};
-ghost use Rattle.cmap_binary.specs.Fronts.{FieldAt, RowOf};
-ghost use Rattle.cmap_files.specs.Outcomes.{Finds, Reads};
+ghost use Rattle.cmap_packed.specs.Fronts.{FieldAt, RowOf};
+ghost use Rattle.cmap_values.specs.Outcomes.{Finds, Reads};
 ghost use Rattle.cmap_values.specs.CodeLengths.{length_of};
 ghost use Rattle.cmap_files.specs.DeclarationsSeen.{cid_entry_seen};
 ghost use Rattle.cmap_files.specs.Files.{bf, cid};
 ghost use Rattle.cmap_files.specs.FilesSeen.{file_seen};
 ghost use Rattle.cmap_values.specs.UnitsSeen.{units_seen};
 
-use crate::bundle::Tables;
 use crate::columns::{Columns, Shape, take_columns};
-use crate::pieces::{take_byte, take_u16};
-use cmap_values::code_length::CodeLength;
 use cmap_files::declarations::{BfRange, CidRange};
-use cmap_files::fault::{Fault, Reason, Segment};
 use cmap_files::file::File;
+use cmap_packed::Tables;
+use cmap_packed::pieces::{take_byte, take_u16};
+use cmap_values::code_length::CodeLength;
+use cmap_values::fault::{Fault, Reason, Segment};
 use cmap_values::units::Units;
 use std::alloc::Global;
 

@@ -3,17 +3,17 @@
 ghost use Rattle.cmap_binary.specs.BinaryFiles as files;
 ghost use Rattle.cmap_binary.specs.BinaryFiles.{CodespaceAt, NotdefAt, SaysAs};
 ghost use Rattle.cmap_binary.specs.BinarySeen.{Adds, no_tables};
-ghost use Rattle.cmap_files.specs.Outcomes.{Finds};
+ghost use Rattle.cmap_values.specs.Outcomes.{Finds};
 ghost use Rattle.cmap_files.specs.DeclarationsSeen.{cid_entry_seen, codespace_seen};
 ghost use Rattle.cmap_files.specs.FilesSeen.{file_seen};
 
-use crate::pieces::{take_byte, take_code, take_terminated, take_u16};
+use cmap_files::declarations::{CidRange, Codespace};
+use cmap_files::file::File;
+use cmap_packed::pieces::{take_byte, take_code, take_terminated, take_u16};
+use cmap_runs::runs::Range;
 use cmap_values::character_collection::{CharacterCollection, CidFamily};
 use cmap_values::code_length::CodeLength;
-use cmap_files::declarations::{CidRange, Codespace};
-use cmap_files::fault::{Fault, Reason, Segment};
-use cmap_files::file::File;
-use cmap_runs::runs::Range;
+use cmap_values::fault::{Fault, Reason, Segment};
 use std::alloc::Global;
 
 /// Adds the notdef declarations of a segment with this payload: the width of their codes, their

@@ -3,17 +3,17 @@
 ghost use Rattle.std.specs.Prelude.{◌≡◌, ◌↔◌, ◌+◌, IfErr, IfOk, IsTrue, length};
 ghost use Rattle.cmap_binary.specs.BinaryFiles.{BodyOf, IsBinaryFile, IsMarkedBinary};
 ghost use Rattle.cmap_binary.specs.BinarySeen.{SegmentsSay};
-ghost use Rattle.cmap_binary.specs.BundleSeen.{bundle_seen, tables_seen};
-ghost use Rattle.cmap_files.specs.Only.{IsOnly, HoldsOfNone};
-ghost use Rattle.cmap_files.specs.Outcomes.{Finds, ReadsFile, StopsWithin};
+ghost use Rattle.cmap_packed.specs.BundleSeen.{bundle_seen, tables_seen};
+ghost use Rattle.cmap_values.specs.Only.{IsOnly, HoldsOfNone};
+ghost use Rattle.cmap_values.specs.Outcomes.{Finds, ReadsFile, StopsWithin};
 ghost use Rattle.cmap_files.specs.FilesSeen.{file_seen};
 ghost use Rattle.cmap_files.specs.ListsAppended.{no_file};
 
-use crate::bundle::{Bundle, Tables};
-use crate::pieces::take_framed;
 use crate::segments::read_segment;
-use cmap_files::fault::{Fault, Reason, Stop};
 use cmap_files::file::File;
+use cmap_packed::pieces::take_framed;
+use cmap_packed::{Bundle, Tables};
+use cmap_values::fault::{Fault, Reason, Stop};
 use std::alloc::Global;
 
 /// What begins a binary file.
@@ -52,7 +52,7 @@ pub fn read_binary<'d>(
         return Err(Fault::Refused(Stop { offset, reason }));
     };
     let mut file = File::new(alloc);
-    read_segments(alloc, &bundle.tables, body, &mut file)?;
+    read_segments(alloc, bundle.tables(), body, &mut file)?;
     Ok(file)
 }
 

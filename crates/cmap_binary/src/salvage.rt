@@ -1,23 +1,23 @@
 //! What a binary file says apart from its faults: reading goes on after each.
 
 ghost use Rattle.std.specs.Prelude.{◌≡◌, [], IfOk, OnOk, length};
-ghost use Rattle.cmap_files.specs.Faults.{Ascend};
+ghost use Rattle.cmap_values.specs.Faults.{Ascend};
 ghost use Rattle.cmap_files.specs.Files as files;
 ghost use Rattle.cmap_files.specs.FilesSeen.{file_seen};
 ghost use Rattle.cmap_files.specs.ListsAppended.{no_file};
-ghost use Rattle.cmap_files.specs.Only.{IsOnly, HoldsOfNone};
-ghost use Rattle.cmap_files.specs.Outcomes.{Finds, Succeeds};
+ghost use Rattle.cmap_values.specs.Only.{IsOnly, HoldsOfNone};
+ghost use Rattle.cmap_values.specs.Outcomes.{Finds, Succeeds};
 ghost use Rattle.cmap_binary.specs.BinaryFiles.{Content, IsBinaryFile, IsSegment};
 ghost use Rattle.cmap_binary.specs.BinarySalvage.{AfterHeader, BeginsWithin, BodyRead, SalvagesBinary, SegmentsSalvaged};
 ghost use Rattle.cmap_binary.specs.BinarySeen.{AddsWhole};
-ghost use Rattle.cmap_binary.specs.BundleSeen.{bundle_seen, tables_seen};
+ghost use Rattle.cmap_packed.specs.BundleSeen.{bundle_seen, tables_seen};
 
-use crate::bundle::{Bundle, Tables};
 use crate::file::{HEAD, HEADER_LEN, SEGMENT_HEAD, TYPE_LEN, split_body};
-use crate::pieces::take_framed;
 use crate::segments::read_segment;
-use cmap_files::fault::{Fault, Reason, Stop};
 use cmap_files::file::{File, Salvaged};
+use cmap_packed::pieces::take_framed;
+use cmap_packed::{Bundle, Tables};
+use cmap_values::fault::{Fault, Reason, Stop};
 use std::alloc::{AllocError, Global};
 
 /// What a binary file says apart from its faults, by the tables of a bundle, and the faults. A segment
@@ -49,7 +49,7 @@ pub fn salvage_binary<'d>(
     let mut faults = Vec::new(alloc);
     let body = salvage_body(bytes, &mut faults)?;
     let mut file = File::new(alloc);
-    salvage_segments(alloc, &bundle.tables, body, &mut file, &mut faults)?;
+    salvage_segments(alloc, bundle.tables(), body, &mut file, &mut faults)?;
     Ok(Salvaged { file, faults })
 }
 

@@ -4,7 +4,7 @@ use crate::candidates::Candidate;
 use crate::known_names::is_known;
 use cmap_binary::is_marked_binary;
 use cmap_escape::escape::{push_name, push_text};
-use cmap_files::fault::{Fault, Stop};
+use cmap_values::fault::{Fault, Stop};
 use cmap_files::file::File;
 use cmap_values::names::CMapName;
 use cmap_refusals::fault_line::LineCounter;

@@ -3,7 +3,7 @@
 use crate::choice::Chosen;
 use crate::obstacle::push_obstacle;
 use cmap_escape::escape::push_text;
-use cmap_files::fault::Fault;
+use cmap_values::fault::Fault;
 use cmap_maker::{Source, Unwritable, make_named_bundle};
 use cmap_sources::failure::Failure;
 use std::alloc::{AllocError, Global};

@@ -2,10 +2,10 @@
 use Rattle.std.specs.Prelude.{◌≡◌, ℕ, ◌≤◌, ◌-◌, ◌==◌, List, ◌++◌, Option, Some, None, if◌then◌else◌, length, map, option_map}
 use Rattle.std.proofs.Math.ListN.{replicate}
 use Rattle.std.specs.List.{concat}
-use Rattle.cmap_files.specs.declared.fault.Reason.{Reason}
-use Rattle.cmap_files.specs.declared.fault.Reason.TheVariants as reason
-use Rattle.cmap_files.specs.declared.fault.Segment.{Segment}
-use Rattle.cmap_files.specs.declared.fault.Segment.TheVariants as segment
+use Rattle.cmap_values.specs.declared.fault.Reason.{Reason}
+use Rattle.cmap_values.specs.declared.fault.Reason.TheVariants as reason
+use Rattle.cmap_values.specs.declared.fault.Segment.{Segment}
+use Rattle.cmap_values.specs.declared.fault.Segment.TheVariants as segment
 use Rattle.hayro_cmap.specs.declared.refusal.Cause.{Cause}
 use Rattle.hayro_cmap.specs.declared.refusal.Cause.TheVariants as cause
 use Rattle.cmap_c.specs.Rooms.{IsPut}

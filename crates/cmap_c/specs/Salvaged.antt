@@ -1,7 +1,7 @@
 -- What C gets of a file that is read past its faults: a map, the faults as far as they have room, and the names that lead to each.
 use Rattle.std.specs.Prelude.{◌≡◌, ℕ, ◌⊎◌, List, ◌++◌, Option, Some, drop, length, map, option_map, take}
 use Rattle.std.specs.List.{concat}
-use Rattle.cmap_binary.specs.Bundles.{Bundle, PrefixTables}
+use Rattle.cmap_packed.specs.Bundles.{Bundle, PrefixTables}
 use Rattle.cmap_layers.specs.Layers.{Layer}
 use Rattle.hayro_cmap.specs.Maps.{ExceedsBudget, HasNoMap}
 use Rattle.hayro_cmap.specs.Salvage.{BeginsWithFault, GivesMap, NamedFault, SalvagesMap}

@@ -1,7 +1,7 @@
 -- The codes of a string, as C sees them.
 use Rattle.std.specs.Prelude.{◌≡◌, ℕ, ◌<◌, ◌≤◌, ◌⊎◌, List, [], ◌∷◌, ◌++◌, drop, length, map, is_some, unwrap_or}
 use Rattle.std.specs.Int.{from_bool}
-use Rattle.cmap_files.specs.Only.{IsOnly}
+use Rattle.cmap_values.specs.Only.{IsOnly}
 use Rattle.cmap_layers.specs.Layers.{Layer}
 use Rattle.cmap_layers.specs.Lookups.{cid_of}
 use Rattle.cmap_layers.specs.StringCodes.{IsNextCode}

@@ -1,8 +1,8 @@
 //! Bundles that C holds.
 
 ghost use Rattle.std.specs.Prelude.{◌≡◌, ◌⊎◌, None, Some, IsSomeAnd, MatchOption, MatchResult, is_some, option_map};
-ghost use Rattle.cmap_binary.specs.Bundles.{IsBundle};
-ghost use Rattle.cmap_files.specs.Only.{IsOnly, HoldsOfNone};
+ghost use Rattle.cmap_packed.specs.Bundles.{IsBundle};
+ghost use Rattle.cmap_values.specs.Only.{IsOnly, HoldsOfNone};
 ghost use Rattle.hayro_cmap.specs.Answers.{embedded};
 ghost use Rattle.cmap_c.specs.Rooms.{IsPut};
 ghost use Rattle.cmap_c.specs.Statuses.{number};

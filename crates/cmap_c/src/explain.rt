@@ -2,7 +2,7 @@
 
 ghost use Rattle.std.specs.Prelude.{◌≡◌, ◌≢◌, ◌⊎◌, ◌≤◌, None, IfErr, IfOk, IsSomeAnd, OnOk};
 ghost use Rattle.std.specs.Option.{option_copied};
-ghost use Rattle.cmap_files.specs.Outcomes.{RefusesWith};
+ghost use Rattle.cmap_values.specs.Outcomes.{RefusesWith};
 ghost use Rattle.hayro_cmap.specs.declared.refusal.Cause.TheVariants as Cause;
 ghost use Rattle.cmap_c.specs.Faults.{IsExplained, IsToldWith};
 ghost use Rattle.cmap_c.specs.NamedFiles.{ExceedsBudgetOver, FitsBudgetOver, HasNoMapOver, IsMapOver, LeadsToFaultOver, budget_of};

@@ -2,8 +2,8 @@
 
 ghost use Rattle.std.specs.Prelude.{◌≡◌, ◌≤◌, IfOk, length};
 ghost use Rattle.std.specs.List.{concat};
-ghost use Rattle.cmap_files.specs.FilesSeen.{names_seen};
-ghost use Rattle.cmap_files.specs.Outcomes.{Finds};
+ghost use Rattle.cmap_values.specs.NamesSeen.{names_seen};
+ghost use Rattle.cmap_values.specs.Outcomes.{Finds};
 ghost use Rattle.cmap_c.specs.Faults.{HasNames, HasNumbers, IsToldOf, fault_numbers, numbers_of, possible_cause, possible_reason, reason_number, segment_number, segment_numbered, segment_of, status_of};
 
 use crate::names::joined;

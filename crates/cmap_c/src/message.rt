@@ -1,7 +1,7 @@
 //! Why a file gives no map, in English, for C.
 
 ghost use Rattle.std.specs.Prelude.{◌≡◌, ◌⊎◌, ℕ, List};
-ghost use Rattle.cmap_files.specs.Only.{IsOnly, HoldsOfNone};
+ghost use Rattle.cmap_values.specs.Only.{IsOnly, HoldsOfNone};
 ghost use Rattle.hayro_cmap.specs.declared.refusal.Cause.{Cause};
 ghost use Rattle.cmap_c.specs.Faults.{HasNumbers};
 ghost use Rattle.cmap_c.specs.Rooms.{IsPut};

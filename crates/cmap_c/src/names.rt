@@ -2,7 +2,7 @@
 
 ghost use Rattle.std.specs.Prelude.{◌≡◌, ◌++◌, IfOk, OnOk};
 ghost use Rattle.std.specs.List.{concat};
-ghost use Rattle.cmap_files.specs.FilesSeen.{names_seen};
+ghost use Rattle.cmap_values.specs.NamesSeen.{names_seen};
 
 use crate::room::Items;
 use std::alloc::{AllocError, Global};
@@ -32,7 +32,7 @@ impl<'n> Items for &'n [&'n [u8]] {
     type Item = usize;
 
     ghost use Rattle.std.specs.Prelude.{length, map};
-    ghost use Rattle.cmap_files.specs.FilesSeen.{names_seen};
+    ghost use Rattle.cmap_values.specs.NamesSeen.{names_seen};
 
     ghost items = { λ names. map length (names_seen names.now) };
 

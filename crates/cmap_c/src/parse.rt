@@ -2,9 +2,9 @@
 
 ghost use Rattle.std.specs.Prelude.{◌≡◌, ◌≢◌, ◌⊎◌, ◌≤◌, [], None, Some, IfErr, IfOk, IsErrOf, IsOk, IsSomeAnd, option_map};
 ghost use Rattle.std.specs.Option.{option_copied};
-ghost use Rattle.cmap_binary.specs.BundleSeen.{tables_given};
-ghost use Rattle.cmap_binary.specs.Bundles.{IsBundle};
-ghost use Rattle.cmap_files.specs.Only.{HoldsOfNone};
+ghost use Rattle.cmap_packed.specs.BundleSeen.{tables_given};
+ghost use Rattle.cmap_packed.specs.Bundles.{IsBundle};
+ghost use Rattle.cmap_values.specs.Only.{HoldsOfNone};
 ghost use Rattle.hayro_cmap.specs.Maps.{ExceedsBudget, FitsBudget, HasNoMap, IsMapOf};
 ghost use Rattle.cmap_c.specs.NamedFiles.{ExceedsBudgetOver, FitsBudgetOver, HasNoMapOver, IsMapOver, OfGiven, answers, budget_of, bundle_in};
 ghost use Rattle.cmap_c.specs.Statuses.{number};

@@ -3,7 +3,7 @@
 ghost use Rattle.std.specs.Prelude.{◌≡◌, ◌⊎◌, ◌≤◌, None, IfOk, length};
 ghost use Rattle.std.specs.List.{All};
 ghost use Rattle.std.specs.Option.{option_copied};
-ghost use Rattle.cmap_binary.specs.BundleSeen.{tables_given};
+ghost use Rattle.cmap_packed.specs.BundleSeen.{tables_given};
 ghost use Rattle.hayro_cmap.specs.SalvageSeen.{faults_seen};
 ghost use Rattle.cmap_c.specs.NamedFiles.{answers, budget_of, bundle_in};
 ghost use Rattle.cmap_c.specs.Salvaged.{AreFaultsShown, IsSalvage, IsSalvageOver, IsSalvaged, IsSalvagedWith};

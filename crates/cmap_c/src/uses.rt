@@ -3,9 +3,9 @@
 ghost use Rattle.std.specs.Prelude.{◌≡◌, ◌⊎◌, ◌≤◌, ℕ, List, IfErr, IfOk, IsErrOf, length};
 ghost use Rattle.std.specs.List.{concat};
 ghost use Rattle.std.specs.Option.{option_copied};
-ghost use Rattle.cmap_binary.specs.BundleSeen.{tables_given};
-ghost use Rattle.cmap_files.specs.FilesSeen.{names_seen};
-ghost use Rattle.cmap_files.specs.Only.{IsOnly, HoldsOfNone};
+ghost use Rattle.cmap_packed.specs.BundleSeen.{tables_given};
+ghost use Rattle.cmap_values.specs.NamesSeen.{names_seen};
+ghost use Rattle.cmap_values.specs.Only.{IsOnly, HoldsOfNone};
 ghost use Rattle.hayro_cmap.specs.Layers.{AreUses, Means};
 ghost use Rattle.cmap_c.specs.NamedFiles.{AreUsesOver};
 ghost use Rattle.cmap_c.specs.Rooms.{AreBothPut};

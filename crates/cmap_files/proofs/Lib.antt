@@ -1,3 +1,2 @@
 pub mod ListsMade
-pub mod Outcomes
 pub mod LastOfLists

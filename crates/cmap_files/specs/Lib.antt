@@ -1,6 +1,3 @@
-pub mod Only
-pub mod Outcomes
-pub mod Faults
 pub mod Files
 pub mod DeclarationsSeen
 pub mod FilesSeen

@@ -6,10 +6,10 @@ ghost use Rattle.cmap_files.specs.Files.{Declaration, lists_of};
 ghost use Rattle.cmap_files.specs.DeclarationsSeen.{bf_entry_seen, cid_entry_seen, codespace_seen, lists_seen, slot};
 ghost use Rattle.cmap_files.specs.ListsAppended.{no_lists, append_lists};
 
+use cmap_runs::runs::{HasRange, Range};
 use cmap_values::code_length::CodeLength;
 use cmap_values::names::Cid;
 use cmap_values::units::Units;
-use cmap_runs::runs::{HasRange, Range};
 use std::alloc::{AllocError, Global};
 
 /// Codes from a start to an end, with their CIDs.

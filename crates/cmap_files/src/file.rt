@@ -5,7 +5,7 @@ ghost use Rattle.cmap_files.specs.ListsAppended.{no_file};
 ghost use Rattle.cmap_files.specs.FilesSeen.{file_seen};
 
 use crate::declarations::Lists;
-use crate::fault::Stop;
+use cmap_values::fault::Stop;
 use cmap_values::metadata::Metadata;
 use std::alloc::Global;
 

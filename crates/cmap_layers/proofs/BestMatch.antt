@@ -9,7 +9,7 @@ use Rattle.cmap_files.specs.Files.{Codespace}
 use Rattle.cmap_values.specs.declared.code_length.CodeLength.{CodeLength}
 use Rattle.cmap_values.specs.declared.code_length.CodeLength.TheVariants.{One, Two, Three, Four}
 use Rattle.cmap_files.specs.declared.declarations.Codespace as declared
-use Rattle.cmap_files.specs.Only.{HoldsOfNone}
+use Rattle.cmap_values.specs.Only.{HoldsOfNone}
 use Rattle.cmap_layers.specs.Layers.{Layer}
 use Rattle.cmap_layers.specs.LayersSeen.{layer_seen, layers_seen}
 use Rattle.cmap_layers.specs.SpaceBits.{HasFront, IsLeast, IsShortestMatch}

@@ -4,7 +4,7 @@ use Rattle.std.specs.Prelude.{◌<◌, ◌↔◌, IsTrue, MatchOption, nat_lt}
 use Rattle.std.specs.Bool.{MatchBool}
 use Rattle.std.proofs.lemmas.Bool.{cases_lt, false≢true}
 use Rattle.std.proofs.lemmas.Bool.Decides.{Decides-ltb, same_from_decides}
-use Rattle.cmap_files.specs.Only.{HoldsOfNone, IsOnly}
+use Rattle.cmap_values.specs.Only.{HoldsOfNone, IsOnly}
 use Rattle.cmap_layers.specs.Layers.{Layer}
 use Rattle.cmap_layers.specs.StringCodes.{BeginsInside, IsCutShort, IsNextCode, IsShortestInside, IsTakenOutside, Wants, front, ranges_of}
 use Rattle.cmap_layers.specs.declared.string_codes.StringCode.{StringCode}

@@ -3,7 +3,7 @@
 
 ghost use Rattle.std.specs.Prelude.{◌≡◌, ◌≤◌, [], length, IfSome, MatchOption};
 ghost use Rattle.cmap_values.specs.CodeLengths.{IsCodeLength};
-ghost use Rattle.cmap_files.specs.Only.{HoldsOfNone, IsOnly};
+ghost use Rattle.cmap_values.specs.Only.{HoldsOfNone, IsOnly};
 ghost use Rattle.cmap_layers.specs.LayersSeen.{layers_seen};
 ghost use Rattle.cmap_layers.specs.Lookups.{HaveNoShorter};
 ghost use Rattle.cmap_layers.specs.SpaceBits.{IsShortestMatch};

@@ -3,11 +3,11 @@ use Rattle.std.proofs.Common.{◌≡◌, ◌∙◌, ℕ, ◌<◌, List, Some, No
 use Rattle.std.proofs.lemmas.Option.{same_Some, slice_get-get_or}
 use Rattle.cmap_files.specs.Files.{File}
 use Rattle.cmap_files.specs.FilesSeen.{file_seen}
-use Rattle.cmap_files.specs.Outcomes.{RefusesWith}
-use Rattle.cmap_files.specs.declared.fault.Fault.TheVariants.{Memory, Refused}
-use Rattle.cmap_files.specs.declared.fault.Fault.{Fault}
+use Rattle.cmap_values.specs.Outcomes.{RefusesWith}
+use Rattle.cmap_values.specs.declared.fault.Fault.TheVariants.{Memory, Refused}
+use Rattle.cmap_values.specs.declared.fault.Fault.{Fault}
 use Rattle.cmap_files.specs.declared.file.File.{File as HeldFile}
-use Rattle.cmap_binary.specs.Bundles.{PrefixTables}
+use Rattle.cmap_packed.specs.Bundles.{PrefixTables}
 use Rattle.cmap_maker.specs.Bundled.{files_seen}
 use Rattle.cmap_writer.specs.Obstacles.{IsObstacle, IsSegmentsObstacle}
 use Rattle.cmap_maker.specs.Unwritables.{IsObstacleAt, IsSourceObstacle, IsUnwritableAs, IsUnwritableOf, IsBundleObstacle, IsSpellingObstacle}

@@ -8,7 +8,7 @@ use Rattle.std.proofs.lemmas.List.{append-nil, get_or-take, length-append, lengt
 use Rattle.std.proofs.lemmas.List.Elements.{All-from_get_or, All-more, All-push, All-weaker, Contains-append_left, Contains-get_or, Contains-push, All-contains, All-replicate}
 use Rattle.std.proofs.lemmas.List.Folds.{sum_by-replicate}
 use Rattle.std.proofs.lemmas.List.Sorted.{Contains-permutation, IsPermutation-sym, length_permutation}
-use Rattle.cmap_binary.specs.PrefixWords.{AreWordLengths, CodeWord, lengths_from, zip_words}
+use Rattle.cmap_packed.specs.PrefixWords.{AreWordLengths, CodeWord, lengths_from, zip_words}
 use Rattle.cmap_maker.specs.Tables.{CountsNumber, HasManyNumbers, HasSameNumbers, symbols_of}
 
 -- ---- the symbols of a table

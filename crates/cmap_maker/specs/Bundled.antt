@@ -3,7 +3,7 @@ use Rattle.std.specs.Prelude.{ℕ, ◌<◌, ◌^◌, List, [], ◌∷◌, All, m
 use Rattle.cmap_files.specs.Files.{File}
 use Rattle.cmap_files.specs.FilesSeen.{file_seen}
 use Rattle.cmap_files.specs.declared.file.File.{File as HeldFile}
-use Rattle.cmap_binary.specs.Bundles.{IsBundle, PrefixTables}
+use Rattle.cmap_packed.specs.Bundles.{IsBundle, PrefixTables}
 use Rattle.cmap_writer.specs.Keeps.{IsWritten}
 
 -- deltas of four bytes and counts of one

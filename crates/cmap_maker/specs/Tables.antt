@@ -2,7 +2,7 @@
 use Rattle.std.specs.Prelude.{◌≡◌, ◌⊎◌, ℕ, ◌<◌, ◌-◌, ◌≤◌, ◌^◌, List, [], ◌∷◌, ◌++◌, length, map}
 use Rattle.std.specs.List.{All, Any, Contains, slice_index_or}
 use Rattle.std.specs.List.Sorted.{IsStrictlyIncreasing}
-use Rattle.cmap_binary.specs.PrefixWords.{CodeWord}
+use Rattle.cmap_packed.specs.PrefixWords.{CodeWord}
 
 abbrev pub symbols_of : List CodeWord → List ℕ
 symbols_of table = map (λ w. w.symbol) table

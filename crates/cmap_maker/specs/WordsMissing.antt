@@ -1,6 +1,6 @@
 -- Why there is no table.
-use Rattle.cmap_files.specs.declared.fault.Fault.{Fault}
-use Rattle.cmap_files.specs.declared.fault.Fault.TheVariants.{Memory, Refused}
+use Rattle.cmap_values.specs.declared.fault.Fault.{Fault}
+use Rattle.cmap_values.specs.declared.fault.Fault.TheVariants.{Memory, Refused}
 use Rattle.cmap_writer.specs.declared.obstacle.Obstacle.{Obstacle}
 use Rattle.cmap_writer.specs.declared.obstacle.Obstacle.TheVariants.{NoWord}
 

@@ -6,7 +6,7 @@ ghost use Rattle.cmap_writer.specs.Failures.{IsTooLongIf};
 ghost use Rattle.cmap_maker.specs.Slots.{IsTextBehind};
 ghost use Rattle.cmap_writer.specs.Written.{Appends, bytes_of};
 
-use cmap_files::fault::Fault;
+use cmap_values::fault::Fault;
 use cmap_writer::Obstacle;
 use cmap_writer::pieces::push_framed;
 use std::alloc::Global;

@@ -1,8 +1,8 @@
 //! The files of a bundle, each at the index of its name.
 
 ghost use Rattle.std.specs.Prelude.{ℕ, IfErr, IfOk, List, Some};
-ghost use Rattle.cmap_files.specs.Outcomes.{RefusesWith};
-ghost use Rattle.cmap_binary.specs.Fronts.{FramedAt};
+ghost use Rattle.cmap_values.specs.Outcomes.{RefusesWith};
+ghost use Rattle.cmap_packed.specs.Fronts.{FramedAt};
 ghost use Rattle.cmap_writer.specs.EncodersSeen.{encoders_seen};
 ghost use Rattle.cmap_maker.specs.Slots.{AreSlotsFor, AreSlotsWritten, IsSlotFor, IsSlotWritten, places, source_at};
 ghost use Rattle.cmap_maker.specs.Unwritables.{IsUnwritableAs, IsUnwritableOf, IsSpellingObstacle};
@@ -11,7 +11,7 @@ ghost use Rattle.cmap_writer.specs.Written.{Appends, WritesAll};
 use crate::behind::push_text;
 use crate::source::Source;
 use crate::unwritable::Unwritable;
-use cmap_files::fault::Fault;
+use cmap_values::fault::Fault;
 use cmap_writer::pieces::push_framed;
 use cmap_writer::prepared::{Prepared, prepare};
 use cmap_writer::{Encoders, Obstacle};

@@ -3,7 +3,7 @@
 
 ghost use Rattle.std.specs.Prelude.{◌≡◌, ◌⊎◌, ◌^◌, ◌≤◌, ◌++◌, All, Any, Contains, IfErr, IfOk, length, map};
 ghost use Rattle.std.specs.List.Sorted.{IsNonDecreasing, IsPermutation, IsStrictlyIncreasing};
-ghost use Rattle.cmap_files.specs.Outcomes.{RefusesWith};
+ghost use Rattle.cmap_values.specs.Outcomes.{RefusesWith};
 ghost use Rattle.cmap_maker.specs.Gathered.{counts_in, deltas_in, segments_in, slot_segments};
 ghost use Rattle.cmap_maker.specs.Unwritables.{IsSpellingObstacle};
 ghost use Rattle.cmap_maker.specs.Tables.{CountsNumber, HasManyNumbers, HasSameNumbers, IsTableFor, symbols_of};
@@ -12,7 +12,7 @@ ghost use Rattle.cmap_maker.specs.WordsMissing.{IsNoWordIf};
 
 use crate::lengths::word_lengths;
 use crate::slots::Slot;
-use cmap_files::fault::Fault;
+use cmap_values::fault::Fault;
 use cmap_writer::segments::Segment;
 use cmap_writer::{Encoder, Encoders, Obstacle};
 use std::alloc::{AllocError, Global};

@@ -7,9 +7,9 @@ use Rattle.cmap_tokens.proofs.Decided.{in_order}
 use Rattle.cmap_tokens.proofs.Decided as fronts
 use Rattle.cmap_tokens.proofs.Fronts.{has_tokens}
 use Rattle.cmap_tokens.specs.TokensLeft.{EndedToken, Left, AreInOrder, EndInOrder, Agree, AgreesTo, start_of, tokens_of}
-use Rattle.cmap_files.specs.Only.{HoldsOfNone}
-use Rattle.cmap_files.specs.declared.fault.Reason.{Reason}
-use Rattle.cmap_files.specs.declared.fault.Reason.TheVariants.{EndWithinSection, MalformedToken}
+use Rattle.cmap_values.specs.Only.{HoldsOfNone}
+use Rattle.cmap_values.specs.declared.fault.Reason.{Reason}
+use Rattle.cmap_values.specs.declared.fault.Reason.TheVariants.{EndWithinSection, MalformedToken}
 use Rattle.cmap_text.specs.TextFiles.{IsTextFile}
 use Rattle.cmap_text.specs.TokenParsers.{Found, Refused, missing, offset_of, after, followed_by, head_in, listed_so, next_in, or_wrong, token_in, Parser, done, head, giving, chain, repeat, listed, round, run, ItemParser, reads, takes_value, wanted, run_item}
 use Rattle.cmap_text.specs.TextReading.{all_said, item_after, item_said, nothing_said, Said}

@@ -3,11 +3,11 @@ use Rattle.std.proofs.Common.{◌≡◌, refl, sym, false}
 use Rattle.std.specs.Prelude.{Option, Some, None, Result, Ok, Err, IsErrAnd, option_map}
 use Rattle.std.specs.Option.{ok_or}
 use Rattle.cmap_tokens.specs.TokensLeft.{Left}
-use Rattle.cmap_files.specs.Outcomes.{Outcome, RefusesWith}
-use Rattle.cmap_files.specs.declared.fault.Fault.{Fault}
-use Rattle.cmap_files.specs.declared.fault.Fault.TheVariants as fault
-use Rattle.cmap_files.specs.declared.fault.Reason.{Reason}
-use Rattle.cmap_files.proofs.Outcomes as outcomes
+use Rattle.cmap_values.specs.Outcomes.{Outcome, RefusesWith}
+use Rattle.cmap_values.specs.declared.fault.Fault.{Fault}
+use Rattle.cmap_values.specs.declared.fault.Fault.TheVariants as fault
+use Rattle.cmap_values.specs.declared.fault.Reason.{Reason}
+use Rattle.cmap_values.proofs.Outcomes as outcomes
 use Rattle.cmap_text.specs.EntriesSeen.{RefusesAt, refused_seen}
 use Rattle.cmap_text.specs.TokenParsers.{Refused, or_wrong}
 use Rattle.cmap_text.specs.declared.wrong_token.WrongToken.{WrongToken}

@@ -1,8 +1,8 @@
 -- Where a text is refused: it is no file, and the bytes up to there decide it.
 use Rattle.std.proofs.Common.{◌≡◌, ℕ, ◌+◌, List, ◌++◌, ◌≤◌, length, take, subst, arith}
-use Rattle.cmap_files.specs.Only.{HoldsOfNone}
-use Rattle.cmap_files.specs.Outcomes.{DecidedBy}
-use Rattle.cmap_files.specs.declared.fault.Stop.{Stop}
+use Rattle.cmap_values.specs.Only.{HoldsOfNone}
+use Rattle.cmap_values.specs.Outcomes.{DecidedBy}
+use Rattle.cmap_values.specs.declared.fault.Stop.{Stop}
 use Rattle.cmap_tokens.proofs.Fronts.{has_tokens}
 use Rattle.cmap_tokens.specs.TokensLeft.{start_of, tokens_of}
 use Rattle.cmap_text.specs.TextFiles.{IsTextFile}

@@ -2,9 +2,9 @@
 use Rattle.std.proofs.Common.{◌≡◌, ◌≤◌, ◌∙◌, ℕ, refl, sym, ap, subst, List, [], ◌∷◌, length}
 use Rattle.std.specs.Prelude.{Ok, Err}
 use Rattle.cmap_files.specs.Files.{File}
-use Rattle.cmap_files.specs.Only.{HoldsOfNone}
-use Rattle.cmap_files.specs.Outcomes.{DecidedBy}
-use Rattle.cmap_files.specs.declared.fault.Stop.{Stop}
+use Rattle.cmap_values.specs.Only.{HoldsOfNone}
+use Rattle.cmap_values.specs.Outcomes.{DecidedBy}
+use Rattle.cmap_values.specs.declared.fault.Stop.{Stop}
 use Rattle.cmap_tokens.proofs.Fronts.{has_tokens}
 use Rattle.cmap_tokens.specs.TokensLeft.{start_of, tokens_of}
 use Rattle.cmap_text.specs.Salvage.{SalvagesFile, stop_of}

@@ -4,7 +4,7 @@ use Rattle.std.proofs.lemmas.List.{length-map}
 use Rattle.std.specs.Prelude.{map, Option, Some, None, Result, Ok, Err}
 use Rattle.cmap_tokens.specs.Tokens.{Token}
 use Rattle.cmap_tokens.specs.TokensLeft.{EndedToken, Left}
-use Rattle.cmap_files.specs.declared.fault.Reason.{Reason}
+use Rattle.cmap_values.specs.declared.fault.Reason.{Reason}
 use Rattle.cmap_text.specs.TokenParsers.{Found, after, followed_by, head_in, in_a_list, listed_so, or_wrong, Parser, done, head, giving, chain, repeat, listed, repeated, repeated_within, round, run}
 
 pub err-ok : {A E : Type 0} (e : E) (x : A) → ◌≡◌ {A = Result A E} (Err e) (Ok x) → ⊥

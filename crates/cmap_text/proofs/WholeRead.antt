@@ -5,8 +5,8 @@ use Rattle.std.specs.Prelude.{codes, Option, Some, None, Ok, Err}
 use Rattle.cmap_tokens.specs.Tokens.{Token}
 use Rattle.cmap_tokens.specs.TokensLeft.{HasTokens, Left, start_of, tokens_of}
 use Rattle.cmap_files.specs.Files.{File, FileMetadata, Lists}
-use Rattle.cmap_files.specs.Only.{IsOnly, HoldsOfNone}
-use Rattle.cmap_files.specs.declared.fault.Stop.{Stop}
+use Rattle.cmap_values.specs.Only.{IsOnly, HoldsOfNone}
+use Rattle.cmap_values.specs.declared.fault.Stop.{Stop}
 use Rattle.cmap_text.specs.TextFiles.{Section, IsMetadata, IsTextFile}
 use Rattle.cmap_text.specs.TextReading.{all_said, body_in, Code, code_fault, code_or_closer, entry_after, is_executable, item_after, item_said, nothing_said, opened_by, Said, with_lists, with_other}
 use Rattle.cmap_text.specs.TokenParsers.{Found, Refused, followed_by, head_in, next_in, or_wrong, round, run, token_in}

@@ -4,10 +4,10 @@ use Rattle.cmap_tokens.specs.TokensLeft.{Left}
 use Rattle.cmap_tokens.specs.TokenSeen.{token_seen}
 use Rattle.cmap_files.specs.Files as files
 use Rattle.cmap_files.specs.DeclarationsSeen.{lists_seen}
-use Rattle.cmap_files.specs.Outcomes.{Outcome}
+use Rattle.cmap_values.specs.Outcomes.{Outcome}
 use Rattle.cmap_files.specs.declared.declarations.Lists.{Lists}
-use Rattle.cmap_files.specs.declared.fault.Fault.{Fault}
-use Rattle.cmap_files.specs.declared.fault.Fault.TheVariants.{Refused}
+use Rattle.cmap_values.specs.declared.fault.Fault.{Fault}
+use Rattle.cmap_values.specs.declared.fault.Fault.TheVariants.{Refused}
 use Rattle.cmap_text.specs.TokenParsers.{Parser, run}
 use Rattle.cmap_text.specs.TokenParsers as parsers
 use Rattle.cmap_text.specs.declared.wrong_token.WrongToken.{WrongToken}

@@ -5,7 +5,7 @@ use Rattle.cmap_tokens.specs.Resumption.{resumed}
 use Rattle.cmap_tokens.specs.Tokens.{Token}
 use Rattle.cmap_tokens.specs.TokensLeft.{Left, tokens_of, start_of}
 use Rattle.cmap_files.specs.Files.{Declaration, File, Lists, lists_of}
-use Rattle.cmap_files.specs.declared.fault.Stop.{Stop}
+use Rattle.cmap_values.specs.declared.fault.Stop.{Stop}
 use Rattle.cmap_text.specs.TextFiles.{IsEntry, IsMetadata, Section}
 use Rattle.cmap_text.specs.TokenParsers.{Found, Refused, head_in, next_in, offset_of, or_wrong, run, token_in}
 use Rattle.cmap_text.specs.TextReading.{Code, Said, all_said, code_fault, code_or_closer, entry_after, is_executable, item_said, nothing_said, opened_by, with_lists, with_other}

@@ -2,9 +2,9 @@
 use Rattle.std.specs.Prelude.{◌≡◌, ℕ, List, [], None, Result}
 use Rattle.cmap_tokens.specs.TokenSeen.{token_seen}
 use Rattle.cmap_tokens.specs.TokensLeft.{Left}
-use Rattle.cmap_files.specs.Outcomes.{Outcome}
-use Rattle.cmap_files.specs.declared.fault.Fault.{Fault}
-use Rattle.cmap_files.specs.declared.fault.Stop.{Stop}
+use Rattle.cmap_values.specs.Outcomes.{Outcome}
+use Rattle.cmap_values.specs.declared.fault.Fault.{Fault}
+use Rattle.cmap_values.specs.declared.fault.Stop.{Stop}
 use Rattle.cmap_text.specs.EntriesSeen.{refused_seen}
 use Rattle.cmap_text.specs.Salvage as salvage
 use Rattle.cmap_text.specs.Salvage.{Part, faulted, step}

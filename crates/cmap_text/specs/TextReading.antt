@@ -8,9 +8,9 @@ use Rattle.cmap_tokens.specs.Tokens.{Token}
 use Rattle.cmap_tokens.specs.TokensLeft.{Left}
 use Rattle.cmap_files.specs.Files.{CidEntry, Declaration, Lists, lists_of}
 use Rattle.cmap_files.specs.ListsAppended.{no_lists, append_lists}
-use Rattle.cmap_files.specs.declared.fault.Reason.{Reason}
-use Rattle.cmap_files.specs.declared.fault.Reason.TheVariants.{BracketExpected, CidExpected, CodeExpected, CodeLength, TextExpected, UnequalLengths, UseWithoutName}
-use Rattle.cmap_files.specs.declared.fault.Stop.{Stop}
+use Rattle.cmap_values.specs.declared.fault.Reason.{Reason}
+use Rattle.cmap_values.specs.declared.fault.Reason.TheVariants.{BracketExpected, CidExpected, CodeExpected, CodeLength, TextExpected, UnequalLengths, UseWithoutName}
+use Rattle.cmap_values.specs.declared.fault.Stop.{Stop}
 use Rattle.cmap_text.specs.TokenParsers.{Found, Refused, offset_of, Parser, done, head, giving, chain, repeat, listed, ItemParser, reads, takes_value, wanted, run_item, next_in, repeated}
 use Rattle.cmap_text.specs.TextFiles.{Extent, range, single, Section, codespace_range, cids, bf_range, bf_char, mapped, notdef, keys, opener, closer, use_word, declares_bf, declares_cid, other, literal_head, Values}
 

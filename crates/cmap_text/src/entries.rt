@@ -17,7 +17,7 @@ use crate::tokens::{Code, TokenReader, is_executable};
 use crate::wrong_token::{WrongToken, wrong};
 use cmap_values::code_length::CodeLength;
 use cmap_files::declarations::{BfRange, CidRange, Codespace, Lists};
-use cmap_files::fault::{Fault, Reason};
+use cmap_values::fault::{Fault, Reason};
 use cmap_values::units::Units;
 use cmap_runs::runs::Range;
 use std::alloc::AllocError;

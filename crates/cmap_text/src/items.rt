@@ -3,8 +3,8 @@
 ghost use Rattle.std.specs.Prelude.{◌≡◌, ◌++◌, ℕ, List, [], ◌∷◌, None, Some, false, IfErr, OnOk};
 ghost use Rattle.std.specs.Borrow.{Bor};
 ghost use Rattle.std.specs.Option.{option_copied};
-ghost use Rattle.cmap_files.specs.Outcomes.{RefusesWith};
-ghost use Rattle.cmap_files.specs.declared.fault.Reason.TheVariants.{UseWithoutName};
+ghost use Rattle.cmap_values.specs.Outcomes.{RefusesWith};
+ghost use Rattle.cmap_values.specs.declared.fault.Reason.TheVariants.{UseWithoutName};
 ghost use Rattle.cmap_tokens.specs.TokenSeen.{token_seen};
 ghost use Rattle.cmap_text.specs.EntriesSeen.{ReadsAs, WhereRefused};
 ghost use Rattle.cmap_text.specs.TextReading.{all_said, item_said, nothing_said, opened_by, with_other};
@@ -15,7 +15,7 @@ use crate::sections::{Section, read_section};
 use crate::tokens::{TokenReader, is_executable, literal_name};
 use crate::wrong_token::{WrongToken, wrong};
 use cmap_files::declarations::Lists;
-use cmap_files::fault::{Fault, Reason};
+use cmap_values::fault::{Fault, Reason};
 use cmap_tokens::token::Token;
 use std::alloc::Global;
 

@@ -3,7 +3,7 @@
 ghost use Rattle.std.specs.Prelude.{◌≡◌, IfOk, option_map};
 ghost use Rattle.cmap_tokens.specs.TokenSeen.{token_seen};
 ghost use Rattle.cmap_values.specs.MetadataSeen.{collection_seen, metadata_seen, mode_seen};
-ghost use Rattle.cmap_files.specs.Only.{IsOnly};
+ghost use Rattle.cmap_values.specs.Only.{IsOnly};
 ghost use Rattle.cmap_text.specs.TextFiles.{GivesText, IsCollection, IsMetadata, collection_of, mode_in, name_in, supplement_in};
 ghost use Rattle.cmap_text.specs.TextReading.{key_in, no_values, with_value};
 ghost use Rattle.cmap_text.specs.TextSeen.{key_name, values_seen};

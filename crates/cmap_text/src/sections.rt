@@ -15,7 +15,7 @@ use crate::entries::{
 use crate::tokens::{Code, TokenReader, is_executable};
 use crate::wrong_token::WrongToken;
 use cmap_files::declarations::Lists;
-use cmap_files::fault::Fault;
+use cmap_values::fault::Fault;
 use cmap_tokens::token::Token;
 use std::alloc::AllocError;
 

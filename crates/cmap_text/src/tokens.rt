@@ -5,7 +5,7 @@ ghost use Rattle.std.specs.Int.Digits.{number_from_digits};
 ghost use Rattle.std.specs.List.{AllByRecursion, list_any};
 ghost use Rattle.std.specs.Option.{option_copied};
 ghost use Rattle.cmap_values.specs.UnitsSeen.{units_seen};
-ghost use Rattle.cmap_files.specs.declared.fault.Reason.TheVariants.{CidExpected, TextExpected};
+ghost use Rattle.cmap_values.specs.declared.fault.Reason.TheVariants.{CidExpected, TextExpected};
 ghost use Rattle.cmap_tokens.specs.Texts.{units_of};
 ghost use Rattle.cmap_tokens.specs.Numbers.{Integer};
 ghost use Rattle.cmap_tokens.specs.Resumption.{resumed};
@@ -21,7 +21,7 @@ ghost use Rattle.cmap_text.specs.TokenParsers.{next_in, or_wrong, run, token_in}
 
 use crate::wrong_token::{WrongToken, no_token, wrong};
 use cmap_values::code_length::{CodeLength, read_code};
-use cmap_files::fault::{Fault, Reason};
+use cmap_values::fault::{Fault, Reason};
 use cmap_values::names::Cid;
 use cmap_values::units::Units;
 use cmap_tokens::token::{Number, Scanner, Token};

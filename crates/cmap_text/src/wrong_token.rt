@@ -1,9 +1,9 @@
 //! Which token is wrong, and why.
 
 ghost use Rattle.std.specs.Prelude.{◌≡◌, None, Some, false, true};
-ghost use Rattle.cmap_files.specs.declared.fault.Fault.TheVariants.{Refused};
+ghost use Rattle.cmap_values.specs.declared.fault.Fault.TheVariants.{Refused};
 
-use cmap_files::fault::{Fault, Reason};
+use cmap_values::fault::{Fault, Reason};
 use cmap_tokens::token::Token;
 
 /// Why a reader of tokens goes no further.

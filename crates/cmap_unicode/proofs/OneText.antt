@@ -4,7 +4,7 @@ use Rattle.std.specs.Prelude.{◌<◌, IsSomeAnd, OnErr, option_and_then, option
 use Rattle.std.specs.Option.{option_or}
 use Rattle.std.proofs.lemmas.Option.{none-some, same_Some}
 use Rattle.cmap_tokens.specs.Texts.{Text, more, text_of_characters}
-use Rattle.cmap_files.specs.Only.{IsOnly}
+use Rattle.cmap_values.specs.Only.{IsOnly}
 use Rattle.cmap_unicode.specs.Cids.{declared_cid}
 use Rattle.cmap_unicode.specs.TextsOfCodes.{Font, HasLongText, IsTextOf, by_cid, by_code, text_in, text_of, unknown}
 

@@ -2,7 +2,7 @@
 use Rattle.std.specs.Prelude.{◌≡◌, ℕ, List, [], ◌∷◌, drop, option_map}
 use Rattle.std.specs.Option.{option_copied}
 use Rattle.cmap_tokens.specs.TextSeen.{text_seen}
-use Rattle.cmap_files.specs.Only.{IsOnly}
+use Rattle.cmap_values.specs.Only.{IsOnly}
 use Rattle.cmap_layers.specs.StringCodes.{IsNextCode}
 use Rattle.cmap_layers.specs.declared.string_codes.StringCode.{StringCode}
 use Rattle.cmap_unicode.specs.Cids.{declared_cid}

@@ -1,7 +1,11 @@
+pub mod Only
+pub mod Outcomes
+pub mod Faults
 pub mod UnitsSeen
 pub mod BigEndian
 pub mod CodeLengths
 pub mod Names
 pub mod CMapNames
+pub mod NamesSeen
 pub mod Metadata
 pub mod MetadataSeen

@@ -1,9 +1,10 @@
 //! The values that files, layers and callers share: the names of CMaps, families of character
-//! collections, metadata, lengths of codes, and units of texts.
+//! collections, metadata, lengths of codes, units of texts, and why a file is refused.
 #![tactic(auto)]
 
 pub mod character_collection;
 pub mod code_length;
+pub mod fault;
 pub mod metadata;
 pub mod names;
 pub mod units;

@@ -251,7 +251,7 @@ struct CountedFiles<'s> {
 
 impl<'s> Source for CountedFiles<'s> {
     ghost use Rattle.std.specs.Prelude.{◌≡◌, ⊤};
-    ghost use Rattle.cmap_binary.specs.BundleSeen.{bundle_seen};
+    ghost use Rattle.cmap_packed.specs.BundleSeen.{bundle_seen};
     ghost use Rattle.hayro_cmap.specs.NamedFiles.{file_named};
 
     ghost can_ask = { λ counted. ⊤ };

@@ -8,7 +8,7 @@ use Rattle.std.proofs.lemmas.List.{drop_at, length-append, take_at}
 use Rattle.std.proofs.lemmas.Nat.{and_mask, mod-pow-add, pow-add}
 use Rattle.std.proofs.Math.Nat.{add-mul, mod-eq_of_lt, mul_assoc}
 use Rattle.cmap_values.specs.BigEndian.{big_endian}
-use Rattle.cmap_binary.specs.Reader.{front, number_at}
+use Rattle.cmap_packed.specs.Reader.{front, number_at}
 use Rattle.cmap_writer.specs.Written.{bytes_of}
 
 pub length-bytes_of : (width n : ℕ) → length (bytes_of width n) ≡ width

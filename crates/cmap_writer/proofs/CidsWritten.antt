@@ -7,10 +7,10 @@ use Rattle.cmap_values.specs.CodeLengths.{length_of}
 use Rattle.cmap_files.specs.Files.{CidEntry, Declaration}
 use Rattle.cmap_values.specs.declared.code_length.CodeLength.{CodeLength}
 use Rattle.cmap_values.specs.declared.code_length.CodeLength.TheVariants.{One, Two, Three, Four}
-use Rattle.cmap_binary.specs.Bundles.{PrefixTables}
+use Rattle.cmap_packed.specs.Bundles.{PrefixTables}
 use Rattle.cmap_binary.specs.BinaryEntries.{CidColumns, CidEntriesIn, CidEntriesOf, CidEntryAt, Columns, Shape, ranges, singles}
 use Rattle.cmap_binary.specs.BinaryFiles.{IsSegment, declares}
-use Rattle.cmap_binary.specs.Fronts.{RowOf}
+use Rattle.cmap_packed.specs.Fronts.{RowOf}
 use Rattle.cmap_writer.specs.ColumnsWritten.{HaveSpans, WritesColumns}
 use Rattle.cmap_writer.specs.Held.{AreHeld, AreOwnCids, entry_span, spans_of}
 use Rattle.cmap_writer.specs.Written.{bytes_of, Appends}

@@ -2,8 +2,8 @@
 use Rattle.std.proofs.Common.{◌≡◌, ℕ, ◌+◌, ◌-◌, List, [], ◌∷◌, ◌++◌, Some, None, Option, refl, ap, ◌∙◌, sym, subst, arith}
 use Rattle.std.proofs.lemmas.List.{append_assoc}
 use Rattle.cmap_runs.specs.Ranges.{Span}
-use Rattle.cmap_binary.specs.PrefixWords.{BeginWithWordsOf, CodeWord, bits}
-use Rattle.cmap_binary.specs.Bundles.{PrefixTables}
+use Rattle.cmap_packed.specs.PrefixWords.{BeginWithWordsOf, CodeWord, bits}
+use Rattle.cmap_packed.specs.Bundles.{PrefixTables}
 use Rattle.cmap_binary.specs.BinaryEntries.{Columns, ColumnsAt, WidthAt, ranges, singles}
 use Rattle.cmap_writer.specs.ColumnsWritten.{HaveSpans, WritesColumn, WritesColumns}
 use Rattle.cmap_writer.specs.Held.{AreInOrder, AreShaped, counts_of, deltas_of}

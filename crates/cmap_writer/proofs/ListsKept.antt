@@ -7,7 +7,7 @@ use Rattle.cmap_files.specs.Files.{BfEntry, ByLength, CidEntry, Codespace, Decla
 use Rattle.cmap_files.specs.ListsAppended.{append_lists}
 use Rattle.cmap_files.proofs.ListsMade.{lists_of-append}
 use Rattle.cmap_binary.specs.BinaryFiles.{Content, SegmentAt, declares}
-use Rattle.cmap_binary.specs.Bundles.{PrefixTables}
+use Rattle.cmap_packed.specs.Bundles.{PrefixTables}
 use Rattle.cmap_writer.specs.Keeps.{by_length}
 use Rattle.cmap_writer.specs.SegmentsWritten.{DeclareAll, SegmentByAny}
 use Rattle.cmap_writer.specs.Written.{Appends, WritesAll}

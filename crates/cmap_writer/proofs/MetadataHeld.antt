@@ -7,7 +7,7 @@ use Rattle.std.proofs.lemmas.Bool.{cases_Bool}
 use Rattle.std.proofs.lemmas.List.Elements.{All-cons, All-nil}
 use Rattle.std.proofs.lemmas.List.{append_assoc, append-nil, length-append, map-append, take_at, take_more}
 use Rattle.std.specs.Borrow.{Bor}
-use Rattle.cmap_files.specs.FilesSeen.{names_seen}
+use Rattle.cmap_values.specs.NamesSeen.{names_seen}
 use Rattle.cmap_binary.specs.BinaryFiles as files
 use Rattle.std.proofs.Common.{Global, None, Option, Some, Vec}
 use Rattle.std.specs.Prelude.{option_map}
@@ -17,9 +17,9 @@ use Rattle.cmap_values.specs.declared.metadata.Metadata.{Metadata}
 use Rattle.cmap_writer.specs.MetadataWritten.{from_option, metadata_contents}
 use Rattle.cmap_values.specs.Names.{Family, IsCustom, adobe_japan1, adobe_gb1, adobe_cns1, adobe_korea1, adobe_identity, custom, family_of}
 use Rattle.cmap_binary.specs.BinaryFiles.{CollectionIn, Content, IsSegment}
-use Rattle.cmap_binary.specs.Bundles.{PrefixTables}
+use Rattle.cmap_packed.specs.Bundles.{PrefixTables}
 use Rattle.cmap_writer.specs.SegmentsWritten.{SegmentByAny}
-use Rattle.cmap_binary.specs.Fronts.{FieldAt, TerminatedAt}
+use Rattle.cmap_packed.specs.Fronts.{FieldAt, TerminatedAt}
 use Rattle.cmap_writer.specs.Written.{bytes_of, Appends, Writes, WritesAll}
 use Rattle.cmap_writer.proofs.FilesWritten.{appended_more, joined}
 use Rattle.cmap_writer.proofs.FrontsWritten.{FieldAt-written, SaysSegment}

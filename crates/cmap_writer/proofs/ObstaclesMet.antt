@@ -5,15 +5,15 @@ use Rattle.std.proofs.lemmas.List.{get_or-map, length-map, map-append}
 use Rattle.cmap_files.specs.DeclarationsSeen.{bf_entry_seen, cid_entry_seen, codespace_seen, entries_seen}
 use Rattle.cmap_files.specs.Files as files
 use Rattle.cmap_files.specs.Files.{ByLength, BfEntry, File}
-use Rattle.cmap_files.specs.Outcomes.{RefusesWith}
+use Rattle.cmap_values.specs.Outcomes.{RefusesWith}
 use Rattle.cmap_values.specs.UnitsSeen.{units_seen}
 use Rattle.cmap_files.specs.declared.declarations.BfRange.{BfRange}
 use Rattle.cmap_files.specs.declared.declarations.CidRange.{CidRange}
 use Rattle.cmap_files.specs.declared.declarations.Codespace.{Codespace}
-use Rattle.cmap_files.specs.declared.fault.Fault.TheVariants.{Memory, Refused}
-use Rattle.cmap_files.specs.declared.fault.Fault.{Fault}
+use Rattle.cmap_values.specs.declared.fault.Fault.TheVariants.{Memory, Refused}
+use Rattle.cmap_values.specs.declared.fault.Fault.{Fault}
 use Rattle.cmap_layers.specs.Lookups.{last_bf}
-use Rattle.cmap_binary.specs.Bundles.{PrefixTables}
+use Rattle.cmap_packed.specs.Bundles.{PrefixTables}
 use Rattle.cmap_writer.specs.Obstacles.{GivesLargeCid, HasLongText, IsCidListsObstacle, IsCidObstacle, IsLargeEnd, IsLargeNotdef, IsNotdefListsObstacle, IsNotdefObstacle, IsNotdefsObstacle, IsSegmentObstacle, IsSegmentsObstacle, IsSpaceObstacle, IsSpacesObstacle, IsTextObstacle, IsWriteObstacle}
 use Rattle.cmap_writer.specs.PreparedFiles.{IsPrepared}
 use Rattle.cmap_writer.specs.TextParts.{IsDecidedText, IsPartOf}

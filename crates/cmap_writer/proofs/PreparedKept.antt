@@ -6,7 +6,7 @@ use Rattle.std.proofs.lemmas.List.Concat.{flat_map-append}
 use Rattle.cmap_files.specs.Files.{BfEntry, ByLength, Declaration, File, Lists, lists_of}
 use Rattle.cmap_binary.specs.BinaryFiles.{BodyOf, Content, IsBinaryFile, SegmentAt, declares, file_of, magic}
 use Rattle.cmap_binary.specs.BinaryFiles as files
-use Rattle.cmap_binary.specs.Bundles.{PrefixTables}
+use Rattle.cmap_packed.specs.Bundles.{PrefixTables}
 use Rattle.cmap_writer.specs.Keeps.{HaveSameCids, HaveSameTexts, IsWritten, KeepLists, Keeps, by_length}
 use Rattle.cmap_writer.specs.MetadataWritten.{metadata_contents}
 use Rattle.std.specs.Global.{Vec}

@@ -8,10 +8,10 @@ use Rattle.cmap_files.specs.DeclarationsSeen.{bf_entry_seen, bf_range_span}
 use Rattle.cmap_files.specs.Files.{Declaration}
 use Rattle.cmap_values.specs.UnitsSeen.{units_seen}
 use Rattle.cmap_files.specs.declared.declarations.BfRange.{BfRange}
-use Rattle.cmap_binary.specs.Bundles.{PrefixTables}
+use Rattle.cmap_packed.specs.Bundles.{PrefixTables}
 use Rattle.cmap_binary.specs.BinaryEntries.{BfEntriesIn, BfEntryAt, Columns, DestinationAt, Shape, ranges, singles}
 use Rattle.cmap_binary.specs.BinaryFiles.{SaysIfKind, declares}
-use Rattle.cmap_binary.specs.Fronts.{FieldAt, RowOf}
+use Rattle.cmap_packed.specs.Fronts.{FieldAt, RowOf}
 use Rattle.cmap_writer.specs.ColumnsWritten.{HaveSpans, WritesColumns}
 use Rattle.cmap_writer.specs.EncodersSeen.{shape_seen}
 use Rattle.cmap_writer.specs.Held.{AreInOrder, AreShaped, counts_by, deltas_of}

@@ -2,9 +2,9 @@
 use Rattle.std.specs.Prelude.{ℕ, List, [], ◌∷◌}
 use Rattle.cmap_runs.specs.Ranges.{Span}
 use Rattle.cmap_binary.specs.BinaryEntries.{Columns, ColumnsAt, Shape, SpanAt}
-use Rattle.cmap_binary.specs.Bundles.{PrefixTables}
-use Rattle.cmap_binary.specs.Fronts.{SizedAt}
-use Rattle.cmap_binary.specs.PrefixWords.{BeginWithWordsOf, CodeWord, bits}
+use Rattle.cmap_packed.specs.Bundles.{PrefixTables}
+use Rattle.cmap_packed.specs.Fronts.{SizedAt}
+use Rattle.cmap_packed.specs.PrefixWords.{BeginWithWordsOf, CodeWord, bits}
 use Rattle.cmap_writer.specs.Written.{Writes}
 
 -- a sized piece whose bits begin with the code words of these symbols

@@ -7,7 +7,7 @@ use Rattle.cmap_files.specs.declared.declarations.ByLength.{ByLength}
 use Rattle.cmap_files.specs.declared.declarations.CidRange.{CidRange}
 use Rattle.cmap_layers.specs.Layers.{Layer, layer_of}
 use Rattle.cmap_layers.specs.Lookups.{bf_of, cid_of}
-use Rattle.cmap_binary.specs.Bundles.{PrefixTables}
+use Rattle.cmap_packed.specs.Bundles.{PrefixTables}
 use Rattle.cmap_binary.specs.BinaryFiles.{IsBinaryFile}
 use Rattle.cmap_writer.specs.Written.{IsFramedFile}
 use Rattle.cmap_writer.specs.Pieces.{cid_told, text_told}

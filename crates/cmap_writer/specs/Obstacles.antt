@@ -9,8 +9,8 @@ use Rattle.cmap_files.specs.declared.declarations.ByLength.{ByLength as HeldList
 use Rattle.cmap_files.specs.declared.declarations.CidRange.{CidRange}
 use Rattle.cmap_values.specs.Names.{Family, family_of, ordering_of, registry_of}
 use Rattle.cmap_layers.specs.Lookups.{last_bf}
-use Rattle.cmap_binary.specs.Bundles.{PrefixTables}
-use Rattle.cmap_binary.specs.PrefixWords.{CodeWord}
+use Rattle.cmap_packed.specs.Bundles.{PrefixTables}
+use Rattle.cmap_packed.specs.PrefixWords.{CodeWord}
 use Rattle.cmap_writer.specs.Pieces.{cid_told}
 use Rattle.cmap_writer.specs.PreparedFiles.{IsPrepared}
 use Rattle.cmap_writer.specs.Spelled.{IsNoSymbol}

@@ -3,7 +3,7 @@ use Rattle.std.specs.Prelude.{◌≡◌, ℕ, List, [], ◌∷◌, ◌++◌, fla
 use Rattle.cmap_files.specs.Files.{Declaration}
 use Rattle.cmap_binary.specs.BinaryEntries as entries
 use Rattle.cmap_binary.specs.BinaryFiles.{IsSegment, declares}
-use Rattle.cmap_binary.specs.Bundles.{PrefixTables}
+use Rattle.cmap_packed.specs.Bundles.{PrefixTables}
 use Rattle.cmap_writer.specs.ColumnsWritten.{WritesColumn}
 use Rattle.cmap_writer.specs.EncodersSeen.{shape_seen}
 use Rattle.cmap_writer.specs.Written.{bytes_of}

@@ -3,8 +3,8 @@ use Rattle.std.specs.Prelude.{◌≡◌, ℕ, ◌<◌, ◌≤◌, ◌^◌, List,
 use Rattle.cmap_files.specs.DeclarationsSeen.{bf_entry_seen, bf_range_span}
 use Rattle.cmap_values.specs.UnitsSeen.{units_seen}
 use Rattle.cmap_files.specs.declared.declarations.BfRange.{BfRange}
-use Rattle.cmap_files.specs.declared.fault.Fault.{Fault}
-use Rattle.cmap_files.specs.declared.fault.Fault.TheVariants.{Memory, Refused}
+use Rattle.cmap_values.specs.declared.fault.Fault.{Fault}
+use Rattle.cmap_values.specs.declared.fault.Fault.TheVariants.{Memory, Refused}
 use Rattle.cmap_binary.specs.BinaryEntries.{Shape, ranges, singles}
 use Rattle.cmap_binary.specs.BinaryFiles.{kind_of, texts}
 use Rattle.cmap_writer.specs.Held.{AreInOrder, AreShaped, HasShape}

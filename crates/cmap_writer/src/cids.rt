@@ -4,7 +4,7 @@ ghost use Rattle.std.specs.Prelude.{◌≡◌, ◌≤◌, ◌<◌, ◌++◌, All
 ghost use Rattle.cmap_values.specs.CodeLengths.{length_of};
 ghost use Rattle.cmap_files.specs.DeclarationsSeen.{entries_seen};
 ghost use Rattle.cmap_files.specs.Files.{Declaration};
-ghost use Rattle.cmap_files.specs.Outcomes.{RefusesWith};
+ghost use Rattle.cmap_values.specs.Outcomes.{RefusesWith};
 ghost use Rattle.cmap_writer.specs.EncodersSeen.{shape_seen};
 ghost use Rattle.cmap_writer.specs.Follows.{Follows, HasShapeOf};
 ghost use Rattle.cmap_writer.specs.Held.{AreHeld};
@@ -22,7 +22,7 @@ use crate::segments::Segment;
 use crate::split::split_cids;
 use cmap_values::code_length::CodeLength;
 use cmap_files::declarations::CidRange;
-use cmap_files::fault::Fault;
+use cmap_values::fault::Fault;
 use std::alloc::{AllocError, Global};
 
 /// The most entries of a segment.

@@ -3,7 +3,7 @@
 ghost use Rattle.std.specs.Prelude.{◌<◌, ◌^◌, IfErr, IfOk, length, map};
 ghost use Rattle.cmap_files.specs.DeclarationsSeen.{codespace_seen};
 ghost use Rattle.cmap_files.specs.Files.{Declaration};
-ghost use Rattle.cmap_files.specs.Outcomes.{RefusesWith};
+ghost use Rattle.cmap_values.specs.Outcomes.{RefusesWith};
 ghost use Rattle.cmap_binary.specs.BinaryFiles.{CodespaceAt, CodespacesIn};
 ghost use Rattle.cmap_writer.specs.Obstacles.{IsSpaceObstacle, IsSpacesObstacle};
 ghost use Rattle.cmap_writer.specs.SegmentsWritten.{DeclareAll, SegmentByAny};
@@ -13,7 +13,7 @@ use crate::notdefs::push_code;
 use crate::obstacle::Obstacle;
 use crate::pieces::push_segment;
 use cmap_files::declarations::Codespace;
-use cmap_files::fault::Fault;
+use cmap_values::fault::Fault;
 use std::alloc::Global;
 
 /// The type of a segment of codespace ranges.

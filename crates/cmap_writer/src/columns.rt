@@ -1,7 +1,7 @@
 //! Columns of a segment: which codes its entries have.
 
 ghost use Rattle.std.specs.Prelude.{◌≡◌, ◌≤◌, IfErr, IfOk, IsTrue, map};
-ghost use Rattle.cmap_files.specs.Outcomes.{RefusesWith};
+ghost use Rattle.cmap_values.specs.Outcomes.{RefusesWith};
 ghost use Rattle.cmap_binary.specs.BinaryEntries.{ranges};
 ghost use Rattle.cmap_writer.specs.ColumnsWritten.{WritesColumn};
 ghost use Rattle.cmap_writer.specs.EncodersSeen.{encoders_seen, shape_seen};
@@ -14,7 +14,7 @@ use crate::obstacle::Obstacle;
 use crate::pieces::push_sized;
 use crate::segments::Segment;
 use crate::words::Encoder;
-use cmap_files::fault::Fault;
+use cmap_values::fault::Fault;
 use cmap_runs::runs::{HasRange, Range};
 use std::alloc::{AllocError, Global};
 

@@ -3,7 +3,7 @@
 
 ghost use Rattle.std.specs.Prelude.{◌≡◌, ◌+◌, ◌-◌, ◌<◌, ◌≤◌, ◌^◌, All, IfErr, IfNone, IfOk, IfSome, IsTrue, get_or, length, map};
 ghost use Rattle.cmap_files.specs.DeclarationsSeen.{cid_entry_seen, entries_seen};
-ghost use Rattle.cmap_files.specs.Outcomes.{RefusesWith};
+ghost use Rattle.cmap_values.specs.Outcomes.{RefusesWith};
 ghost use Rattle.cmap_layers.specs.Lookups.{cid_at, cid_span};
 ghost use Rattle.cmap_files.specs.declared.declarations.CidRange.{CidRange};
 ghost use Rattle.cmap_writer.specs.Follows.{GoesOn};
@@ -12,7 +12,7 @@ ghost use Rattle.cmap_writer.specs.Pieces.{CanBeSplit, SayTheSame, Takes};
 
 use crate::obstacle::Obstacle;
 use cmap_files::declarations::CidRange;
-use cmap_files::fault::Fault;
+use cmap_values::fault::Fault;
 use cmap_runs::runs::{Looks, Range, Table};
 use std::alloc::{AllocError, Global};
 

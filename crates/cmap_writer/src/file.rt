@@ -2,7 +2,7 @@
 
 ghost use Rattle.std.specs.Prelude.{IfErr, IfOk};
 ghost use Rattle.cmap_files.specs.FilesSeen.{file_seen};
-ghost use Rattle.cmap_files.specs.Outcomes.{RefusesWith};
+ghost use Rattle.cmap_values.specs.Outcomes.{RefusesWith};
 ghost use Rattle.cmap_writer.specs.EncodersSeen.{encoders_seen};
 ghost use Rattle.cmap_writer.specs.Keeps.{IsWritten};
 ghost use Rattle.cmap_writer.specs.Obstacles.{IsWriteObstacle};
@@ -10,7 +10,7 @@ ghost use Rattle.cmap_writer.specs.Obstacles.{IsWriteObstacle};
 use crate::columns::Encoders;
 use crate::obstacle::Obstacle;
 use crate::prepared::prepare;
-use cmap_files::fault::Fault;
+use cmap_values::fault::Fault;
 use cmap_files::file::File;
 use std::alloc::Global;
 

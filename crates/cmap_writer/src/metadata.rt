@@ -1,14 +1,14 @@
 //! Segments of what a file states about itself, and of the names that it uses.
 
 ghost use Rattle.std.specs.Prelude.{◌≡◌, ◌<◌, ◌^◌, ⊤, IfErr, IfNone, IfOk, IfSome, Some, map, option_map, pos};
-ghost use Rattle.cmap_files.specs.FilesSeen.{names_seen};
+ghost use Rattle.cmap_values.specs.NamesSeen.{names_seen};
 ghost use Rattle.cmap_values.specs.Metadata.{mode_numbered};
 ghost use Rattle.cmap_values.specs.MetadataSeen.{collection_seen, family_seen, metadata_seen, mode_seen};
 ghost use Rattle.cmap_values.specs.Names.{family_of, ordering_of, registry_of};
-ghost use Rattle.cmap_files.specs.Outcomes.{RefusesWith};
+ghost use Rattle.cmap_values.specs.Outcomes.{RefusesWith};
 ghost use Rattle.cmap_binary.specs.BinaryFiles as files;
 ghost use Rattle.cmap_binary.specs.BinaryFiles.{CollectionIn, sets_collection, sets_mode, sets_name};
-ghost use Rattle.cmap_binary.specs.Fronts.{TerminatedAt};
+ghost use Rattle.cmap_packed.specs.Fronts.{TerminatedAt};
 ghost use Rattle.cmap_writer.specs.Failures.{IsTooLongIf};
 ghost use Rattle.cmap_writer.specs.MetadataWritten.{from_option, metadata_contents};
 ghost use Rattle.cmap_writer.specs.Obstacles.{HasWideSupplement, IsCollectionObstacle, IsFamilyObstacle, IsMetadataObstacle, IsTerminatedObstacle};
@@ -19,7 +19,7 @@ use crate::bytes::push_number;
 use crate::obstacle::Obstacle;
 use crate::pieces::push_segment;
 use cmap_values::character_collection::{CharacterCollection, CidFamily};
-use cmap_files::fault::Fault;
+use cmap_values::fault::Fault;
 use cmap_values::metadata::Metadata;
 use cmap_values::writing_mode::WritingMode;
 use std::alloc::Global;

@@ -4,9 +4,9 @@ ghost use Rattle.std.specs.Prelude.{◌≡◌, ◌+◌, ◌*◌, ◌<◌, ◌^�
 ghost use Rattle.cmap_values.specs.CodeLengths.{length_of};
 ghost use Rattle.cmap_files.specs.DeclarationsSeen.{cid_entry_seen, entries_seen};
 ghost use Rattle.cmap_files.specs.Files.{Declaration};
-ghost use Rattle.cmap_files.specs.Outcomes.{RefusesWith};
+ghost use Rattle.cmap_values.specs.Outcomes.{RefusesWith};
 ghost use Rattle.cmap_binary.specs.BinaryFiles.{NotdefAt, NotdefsIn};
-ghost use Rattle.cmap_binary.specs.Fronts.{CodeAt};
+ghost use Rattle.cmap_packed.specs.Fronts.{CodeAt};
 ghost use Rattle.cmap_writer.specs.Obstacles.{IsCodeObstacle, IsNotdefObstacle, IsNotdefsObstacle};
 ghost use Rattle.cmap_writer.specs.SegmentsWritten.{DeclareAll, SegmentByAny};
 ghost use Rattle.cmap_writer.specs.Written.{Appends, Writes, WritesAll};
@@ -17,7 +17,7 @@ use crate::obstacle::Obstacle;
 use crate::pieces::push_segment;
 use cmap_values::code_length::CodeLength;
 use cmap_files::declarations::CidRange;
-use cmap_files::fault::Fault;
+use cmap_values::fault::Fault;
 use std::alloc::Global;
 
 /// The type of a segment of notdef declarations.

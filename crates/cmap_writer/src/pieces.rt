@@ -1,15 +1,15 @@
 //! Pieces that tell their length.
 
 ghost use Rattle.std.specs.Prelude.{◌≡◌, ◌+◌, ◌<◌, ◌≤◌, ◌^◌, ◌∷◌, [], IfErr, IfOk, length};
-ghost use Rattle.cmap_binary.specs.Bundles.{PrefixTables};
+ghost use Rattle.cmap_packed.specs.Bundles.{PrefixTables};
 ghost use Rattle.cmap_binary.specs.BinaryFiles.{Content, IsSegment, SegmentAt};
-ghost use Rattle.cmap_binary.specs.Fronts.{FramedAt, SizedAt};
+ghost use Rattle.cmap_packed.specs.Fronts.{FramedAt, SizedAt};
 ghost use Rattle.cmap_writer.specs.Failures.{IsTooLongIf};
 ghost use Rattle.cmap_writer.specs.Written.{Appends, Writes, IsFramed};
 
 use crate::bytes::push_number;
 use crate::obstacle::Obstacle;
-use cmap_files::fault::Fault;
+use cmap_values::fault::Fault;
 
 /// How many bytes the length of a piece has.
 const SIZE: usize = 4;

@@ -3,7 +3,7 @@
 ghost use Rattle.std.specs.Prelude.{IfErr, IfOk};
 ghost use Rattle.cmap_files.specs.Files.{File as Said};
 ghost use Rattle.cmap_files.specs.FilesSeen.{file_seen};
-ghost use Rattle.cmap_files.specs.Outcomes.{RefusesWith};
+ghost use Rattle.cmap_values.specs.Outcomes.{RefusesWith};
 ghost use Rattle.cmap_writer.specs.EncodersSeen.{encoders_seen};
 ghost use Rattle.cmap_writer.specs.Keeps.{IsWritten, notdefs_declared};
 ghost use Rattle.cmap_writer.specs.Obstacles.{IsCidListsObstacle, IsNotdefListsObstacle, IsObstacle, IsSegmentsObstacle, by_length_seen};
@@ -22,7 +22,7 @@ use crate::segments::{Segment, push_segments};
 use crate::texts::add_text_list;
 use cmap_values::code_length::CodeLength;
 use cmap_files::declarations::{ByLength, CidRange};
-use cmap_files::fault::Fault;
+use cmap_values::fault::Fault;
 use cmap_files::file::File;
 use std::alloc::Global;
 

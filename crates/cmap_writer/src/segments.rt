@@ -2,7 +2,7 @@
 
 ghost use Rattle.std.specs.Prelude.{IfErr, IfOk, List, map};
 ghost use Rattle.cmap_files.specs.Files.{Declaration};
-ghost use Rattle.cmap_files.specs.Outcomes.{RefusesWith};
+ghost use Rattle.cmap_values.specs.Outcomes.{RefusesWith};
 ghost use Rattle.cmap_binary.specs.BinaryFiles.{SegmentAt, declares};
 ghost use Rattle.cmap_writer.specs.EncodersSeen.{encoders_seen};
 ghost use Rattle.cmap_writer.specs.Obstacles.{IsSegmentObstacle, IsSegmentsObstacle};
@@ -13,7 +13,7 @@ use crate::bytes::push_number;
 use crate::columns::{Encoders, Shape, push_columns};
 use crate::obstacle::Obstacle;
 use crate::pieces::push_segment;
-use cmap_files::fault::Fault;
+use cmap_values::fault::Fault;
 use std::alloc::Global;
 
 /// A segment of entries: its type, the numbers that its columns spell, and what follows the columns.

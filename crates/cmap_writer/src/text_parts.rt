@@ -3,7 +3,7 @@
 
 ghost use Rattle.std.specs.Prelude.{◌≡◌, ◌-◌, ◌<◌, ◌≤◌, ◌^◌, [], ◌∷◌, ◌++◌, All, IfErr, IfOk, map};
 ghost use Rattle.cmap_files.specs.DeclarationsSeen.{bf_entry_seen};
-ghost use Rattle.cmap_files.specs.Outcomes.{RefusesWith};
+ghost use Rattle.cmap_values.specs.Outcomes.{RefusesWith};
 ghost use Rattle.cmap_values.specs.UnitsSeen.{units_seen};
 ghost use Rattle.cmap_layers.specs.Lookups.{bf_at, bf_span};
 ghost use Rattle.cmap_writer.specs.Obstacles.{IsTextObstacle};
@@ -14,7 +14,7 @@ use crate::decided::last_code;
 use crate::obstacle::Obstacle;
 use crate::split::MOST_AFTER;
 use cmap_files::declarations::BfRange;
-use cmap_files::fault::Fault;
+use cmap_values::fault::Fault;
 use cmap_values::units::Units;
 use cmap_runs::runs::{Looks, Range, Table};
 use std::alloc::{AllocError, Global};

@@ -3,7 +3,7 @@
 ghost use Rattle.std.specs.Prelude.{◌≡◌, ◌≤◌, ◌<◌, ◌^◌, ◌++◌, All, IfErr, IfOk, IsTrue, length, map, take};
 ghost use Rattle.cmap_files.specs.DeclarationsSeen.{bf_entry_seen};
 ghost use Rattle.cmap_files.specs.Files.{Declaration};
-ghost use Rattle.cmap_files.specs.Outcomes.{RefusesWith};
+ghost use Rattle.cmap_values.specs.Outcomes.{RefusesWith};
 ghost use Rattle.cmap_writer.specs.EncodersSeen.{shape_seen};
 ghost use Rattle.cmap_writer.specs.Obstacles.{IsTextObstacle};
 ghost use Rattle.cmap_writer.specs.Pieces.{IsShortText};
@@ -17,7 +17,7 @@ use crate::obstacle::Obstacle;
 use crate::segments::Segment;
 use crate::text_parts::{decided_texts, split_texts};
 use cmap_files::declarations::BfRange;
-use cmap_files::fault::Fault;
+use cmap_values::fault::Fault;
 use std::alloc::{AllocError, Global};
 
 /// The most entries of a segment.

@@ -6,11 +6,11 @@ use Rattle.std.proofs.Math.ListN.{length-map}
 use Rattle.std.proofs.lemmas.List.{get_or-map, map-append}
 use Rattle.std.proofs.lemmas.List.Elements.{Contains-get_or}
 use Rattle.cmap_files.specs.Files.{File}
-use Rattle.cmap_files.specs.FilesSeen.{names_seen}
-use Rattle.cmap_files.specs.Only.{HoldsOfNone}
+use Rattle.cmap_values.specs.NamesSeen.{names_seen}
+use Rattle.cmap_values.specs.Only.{HoldsOfNone}
 use Rattle.hayro_cmap.specs.BytesSpent.{About, Refuses, GoesOver, GoesOverAt, of_file, of_use}
 use Rattle.hayro_cmap.specs.Budgets.{IsOver, StaysWithin}
-use Rattle.cmap_binary.specs.Bundles.{PrefixTables}
+use Rattle.cmap_packed.specs.Bundles.{PrefixTables}
 use Rattle.hayro_cmap.specs.Layers.{AreLayers, Means}
 use Rattle.hayro_cmap.specs.Refusals.{Blames, Fails, IsFault, IsFaultWithin, IsMissing, IsUseFault, IsUseFaultWithin}
 use Rattle.hayro_cmap.specs.declared.refusal.Cause.{Cause}

@@ -2,9 +2,9 @@
 use Rattle.std.proofs.Common.{◌≤◌, ◌∷◌, [], inl, inr, ℕ, List, length}
 use Rattle.std.specs.Prelude.{Option, Some, None}
 use Rattle.cmap_files.specs.Files.{File}
-use Rattle.cmap_files.specs.Only.{HoldsOfNone}
-use Rattle.cmap_files.specs.declared.fault.Stop.{Stop}
-use Rattle.cmap_binary.specs.Bundles.{PrefixTables}
+use Rattle.cmap_values.specs.Only.{HoldsOfNone}
+use Rattle.cmap_values.specs.declared.fault.Stop.{Stop}
+use Rattle.cmap_packed.specs.Bundles.{PrefixTables}
 use Rattle.cmap_binary.proofs.BinarySalvaged.{file_where_no_fault, no_file_where_fault}
 use Rattle.cmap_text.proofs.TextFaults as text
 use Rattle.hayro_cmap.specs.Layers.{Means}

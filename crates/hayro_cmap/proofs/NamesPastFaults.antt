@@ -5,8 +5,8 @@ use Rattle.std.specs.List.{All}
 use Rattle.std.proofs.Math.ListN.{length-append}
 use Rattle.std.proofs.Math.ListN.{length-map}
 use Rattle.std.proofs.lemmas.List.Elements.{All-append, All-cons, All-head, All-nil, All-tail}
-use Rattle.cmap_binary.specs.Bundles.{PrefixTables}
-use Rattle.cmap_files.specs.FilesSeen.{names_seen}
+use Rattle.cmap_packed.specs.Bundles.{PrefixTables}
+use Rattle.cmap_values.specs.NamesSeen.{names_seen}
 use Rattle.cmap_layers.specs.Layers.{Layer}
 use Rattle.hayro_cmap.specs.Salvage.{Found, NamedFault, Opening, Salvages, SalvagesEach, SalvagesMap, SalvagesNamed, SalvagesUse, faults_of}
 use Rattle.hayro_cmap.specs.SalvageSeen.{fault_seen, faults_seen}

@@ -2,9 +2,9 @@
 use Rattle.std.proofs.Common.{◌≡◌, ℕ, zero, suc, refl, sym, ap, ◌∙◌, subst, false, List, [], ◌∷◌, ◌++◌, length, inl, inr, arith, append-nil, append_assoc}
 use Rattle.std.specs.Prelude.{Contains, map, Option, Some}
 use Rattle.cmap_files.specs.Files.{File}
-use Rattle.cmap_files.specs.Only.{IsOnly, HoldsOfNone}
-use Rattle.cmap_files.specs.declared.fault.Stop.{Stop}
-use Rattle.cmap_binary.specs.Bundles.{PrefixTables}
+use Rattle.cmap_values.specs.Only.{IsOnly, HoldsOfNone}
+use Rattle.cmap_values.specs.declared.fault.Stop.{Stop}
+use Rattle.cmap_packed.specs.Bundles.{PrefixTables}
 use Rattle.cmap_layers.specs.Layers.{Layer, layer_of}
 use Rattle.hayro_cmap.specs.Answers.{IsByName}
 use Rattle.hayro_cmap.specs.BytesSpent.{About, Leaves, Resolves, GoesOverAt, of_file, of_use, of_uses}

@@ -5,8 +5,8 @@ use Rattle.std.specs.List.{AllZip, last_or}
 use Rattle.std.specs.Borrow.{Bor}
 use Rattle.std.proofs.Math.ListN.{length-map}
 use Rattle.std.proofs.lemmas.List.{drop_more, drop_all, get_or-map}
-use Rattle.cmap_files.specs.FilesSeen.{names_seen}
-use Rattle.cmap_files.specs.Only.{IsOnly, HoldsOfNone}
+use Rattle.cmap_values.specs.NamesSeen.{names_seen}
+use Rattle.cmap_values.specs.Only.{IsOnly, HoldsOfNone}
 use Rattle.hayro_cmap.specs.Budgets.{IsOver, Trail}
 use Rattle.hayro_cmap.specs.BytesSpent.{About, Leaves, Spends, Resolves, Refuses, GoesOver, GoesOverAt, of_uses}
 use Rattle.cmap_layers.specs.Layers.{Layer}

@@ -1,7 +1,7 @@
 -- What a file finds and opens: its own layer and length, and what its uses do.
 use Rattle.std.proofs.Common.{◌≡◌, refl, sym, ap, subst, ◌∙◌, ℕ, suc, Bool, true, false, List, [], ◌∷◌, length, Option, arith, inl, inr, sum}
 use Rattle.cmap_files.specs.Files.{File}
-use Rattle.cmap_files.specs.Only.{IsOnly, HoldsOfNone}
+use Rattle.cmap_values.specs.Only.{IsOnly, HoldsOfNone}
 use Rattle.hayro_cmap.specs.Budgets.{IsOver, Trail, Opens, StaysWithin}
 use Rattle.hayro_cmap.specs.BytesSpent.{About, Leaves, Spends, Resolves, Refuses, GoesOver, GoesOverAt, of_file, of_use, of_uses}
 use Rattle.cmap_layers.specs.Layers.{Layer, layer_of}

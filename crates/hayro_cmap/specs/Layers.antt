@@ -4,7 +4,7 @@ use Rattle.std.specs.List.{AllZip, last_or}
 use Rattle.cmap_files.specs.Files.{File}
 use Rattle.cmap_layers.specs.Layers.{Layer, layer_of}
 use Rattle.cmap_text.specs.TextFiles.{IsTextFile}
-use Rattle.cmap_binary.specs.Bundles.{PrefixTables}
+use Rattle.cmap_packed.specs.Bundles.{PrefixTables}
 use Rattle.cmap_binary.specs.BinaryFiles.{IsMarkedBinary, IsBinaryFile}
 
 -- what bytes mean: where there is a bundle, by its tables, bytes that are marked so are a binary file; all others are a text file

@@ -1,7 +1,7 @@
 -- What is said of a file over those that it uses: by the tables of a bundle, where there is one, and with these answers to names.
 use Rattle.std.specs.Prelude.{ℕ, List, Option}
-use Rattle.cmap_binary.specs.Bundles.{PrefixTables}
-use Rattle.cmap_files.specs.Only.{IsOnly, HoldsOfNone}
+use Rattle.cmap_packed.specs.Bundles.{PrefixTables}
+use Rattle.cmap_values.specs.Only.{IsOnly, HoldsOfNone}
 use Rattle.cmap_layers.specs.Layers.{Layer}
 use Rattle.hayro_cmap.specs.Budgets.{PassesBudget, StaysWithin}
 use Rattle.hayro_cmap.specs.Layers.{AreLayers, Means}

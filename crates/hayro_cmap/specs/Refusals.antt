@@ -2,12 +2,12 @@
 use Rattle.std.specs.Prelude.{◌≡◌, ℕ, zero, suc, ◌<◌, ◌≤◌, List, [], ◌∷◌, ◌++◌, ◌⊎◌, length, Contains, Option, Some, None}
 use Rattle.std.specs.Borrow.{Bor}
 use Rattle.cmap_files.specs.Files.{File}
-use Rattle.cmap_files.specs.FilesSeen.{names_seen}
+use Rattle.cmap_values.specs.NamesSeen.{names_seen}
 use Rattle.cmap_binary.specs.BinaryFiles.{IsMarkedBinary}
-use Rattle.cmap_binary.specs.Bundles.{PrefixTables}
-use Rattle.cmap_files.specs.Only.{HoldsOfNone}
-use Rattle.cmap_files.specs.Outcomes.{DecidedBy}
-use Rattle.cmap_files.specs.declared.fault.Stop.{Stop}
+use Rattle.cmap_packed.specs.Bundles.{PrefixTables}
+use Rattle.cmap_values.specs.Only.{HoldsOfNone}
+use Rattle.cmap_values.specs.Outcomes.{DecidedBy}
+use Rattle.cmap_values.specs.declared.fault.Stop.{Stop}
 use Rattle.cmap_text.specs.TextFiles.{IsTextFile}
 use Rattle.hayro_cmap.specs.Budgets.{OpensFirst, OpensUseFirst, PassesAt}
 use Rattle.hayro_cmap.specs.BytesSpent.{About, Refuses, GoesOver}

@@ -2,11 +2,11 @@
 use Rattle.std.specs.Prelude.{◌≡◌, ℕ, zero, suc, Bool, true, false, List, [], ◌∷◌, ◌++◌, ◌⊎◌, length, map, Option, Some, None}
 use Rattle.cmap_files.specs.Files.{File}
 use Rattle.cmap_files.specs.ListsAppended.{no_file}
-use Rattle.cmap_files.specs.Only.{IsOnly, HoldsOfNone}
-use Rattle.cmap_files.specs.declared.fault.Stop.{Stop}
+use Rattle.cmap_values.specs.Only.{IsOnly, HoldsOfNone}
+use Rattle.cmap_values.specs.declared.fault.Stop.{Stop}
 use Rattle.cmap_binary.specs.BinaryFiles.{IsMarkedBinary}
 use Rattle.cmap_binary.specs.BinarySalvage.{SalvagesBinary}
-use Rattle.cmap_binary.specs.Bundles.{PrefixTables}
+use Rattle.cmap_packed.specs.Bundles.{PrefixTables}
 use Rattle.cmap_layers.specs.Layers.{Layer, layer_of}
 use Rattle.cmap_text.specs.Salvage.{SalvagesFile}
 use Rattle.hayro_cmap.specs.Budgets.{IsOver}

@@ -4,10 +4,10 @@ ghost use Rattle.std.specs.Prelude.{◌≡◌, OnErr, OnOk, IfErr};
 ghost use Rattle.hayro_cmap.specs.Budgets.{IsOver};
 ghost use Rattle.hayro_cmap.specs.BytesSpent.{Leaves};
 ghost use Rattle.hayro_cmap.specs.declared.refusal.Cause.TheVariants.{OverBudget};
-ghost use Rattle.cmap_files.specs.declared.fault.Fault.TheVariants.{Refused};
+ghost use Rattle.cmap_values.specs.declared.fault.Fault.TheVariants.{Refused};
 
 use crate::refusal::Cause;
-use cmap_files::fault::Fault;
+use cmap_values::fault::Fault;
 use std::alloc::AllocError;
 
 /// Why a map couldn't be read within a budget.

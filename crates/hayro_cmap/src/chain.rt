@@ -1,10 +1,11 @@
 //! Files over the files that they use.
 
 ghost use Rattle.std.specs.Prelude.{◌≡◌, ◌∷◌, length, suc, IfErr, IfOk};
-ghost use Rattle.cmap_binary.specs.BundleSeen.{tables_given};
+ghost use Rattle.cmap_packed.specs.BundleSeen.{tables_given};
 ghost use Rattle.cmap_files.specs.DeclarationsSeen.{lists_seen};
-ghost use Rattle.cmap_files.specs.FilesSeen.{file_seen, names_seen};
-ghost use Rattle.cmap_files.specs.Outcomes.{ReadsFile, RefusesWith};
+ghost use Rattle.cmap_files.specs.FilesSeen.{file_seen};
+ghost use Rattle.cmap_values.specs.NamesSeen.{names_seen};
+ghost use Rattle.cmap_values.specs.Outcomes.{ReadsFile, RefusesWith};
 ghost use Rattle.hayro_cmap.specs.Answers.{IsByName};
 ghost use Rattle.hayro_cmap.specs.BytesSpent.{Resolves, of_file, of_use};
 ghost use Rattle.cmap_layers.specs.Layers.{layer_of};
@@ -15,13 +16,14 @@ ghost use Rattle.hayro_cmap.specs.Refusals.{Blames, Fails, IsDecidedAsText, IsFa
 use crate::budget::spend;
 use crate::refusal::Cause;
 use crate::source::Source;
-use cmap_binary::{Bundle, is_marked_binary, read_binary};
+use cmap_binary::{is_marked_binary, read_binary};
 use cmap_files::declarations::Lists;
-use cmap_files::fault::{Fault, Stop};
 use cmap_files::file::File;
-use cmap_values::metadata::Metadata;
 use cmap_layers::layers::Layer;
+use cmap_packed::Bundle;
 use cmap_text::read_text;
+use cmap_values::fault::{Fault, Stop};
+use cmap_values::metadata::Metadata;
 use std::alloc::{AllocError, Global};
 
 /// How many files may stand in a chain, the top one counted.

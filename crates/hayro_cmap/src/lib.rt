@@ -11,21 +11,21 @@ mod salvage;
 mod source;
 
 pub use budget::ParseError;
-pub use cmap_binary::{Bundle, OwnedBundle, load_embedded};
+pub use cmap_files::declarations::{BfRange, ByLength, CidRange, Codespace};
+pub use cmap_layers::layers::{DeclarationCounts, Layer};
+pub use cmap_layers::stretches::{CidStretch, Cids, TextStretch};
+pub use cmap_layers::string_codes::StringCode;
+pub use cmap_packed::{Bundle, OwnedBundle, load_embedded};
+pub use cmap_runs::runs;
+pub use cmap_tokens::token;
+pub use cmap_tokens::utf16::{self, BfString};
 pub use cmap_values::character_collection::{CharacterCollection, CidFamily};
 pub use cmap_values::code_length::CodeLength;
-pub use cmap_files::declarations::{BfRange, ByLength, CidRange, Codespace};
-pub use cmap_files::fault::{Fault, Reason, Segment, Stop};
+pub use cmap_values::fault::{Fault, Reason, Segment, Stop};
 pub use cmap_values::metadata::Metadata;
 pub use cmap_values::names::{CMapName, Cid};
 pub use cmap_values::units::Units;
 pub use cmap_values::writing_mode::WritingMode;
-pub use cmap_layers::layers::{DeclarationCounts, Layer};
-pub use cmap_layers::stretches::{CidStretch, Cids, TextStretch};
-pub use cmap_layers::string_codes::StringCode;
-pub use cmap_runs::runs;
-pub use cmap_tokens::token;
-pub use cmap_tokens::utf16::{self, BfString};
 pub use map::CMap;
 pub use named_files::{BundleFiles, NamedFile, NamedFiles};
 pub use refusal::{Cause, Refusal};
@@ -34,7 +34,7 @@ pub use source::Source;
 
 /// The parts of the binary form of CMap files: bits and numbers, prefix tables, bundles.
 pub mod bcmap {
-    pub use cmap_binary::bits::Reader;
-    pub use cmap_binary::prefix::PrefixTable;
-    pub use cmap_binary::{Bundle, OwnedBundle, load_embedded};
+    pub use cmap_packed::bits::Reader;
+    pub use cmap_packed::prefix::PrefixTable;
+    pub use cmap_packed::{Bundle, OwnedBundle, load_embedded};
 }

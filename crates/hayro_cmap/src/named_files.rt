@@ -6,7 +6,7 @@ ghost use Rattle.hayro_cmap.specs.Answers.{embedded};
 ghost use Rattle.hayro_cmap.specs.NamedFiles.{file_named};
 
 use crate::source::Source;
-use cmap_binary::{Bundle, OwnedBundle, load_embedded};
+use cmap_packed::{Bundle, OwnedBundle, load_embedded};
 use cmap_values::names::CMapName;
 
 /// A file and its name.
@@ -44,7 +44,7 @@ impl<'a> NamedFile for (&'a [u8], &'a [u8]) {
 /// A bundle whose files are found by their names: over the bytes that were parsed, or with copies of
 /// its files.
 pub trait BundleFiles {
-    ghost use Rattle.cmap_binary.specs.Bundles.{Bundle};
+    ghost use Rattle.cmap_packed.specs.Bundles.{Bundle};
 
     /// The tables and the files.
     ghost bundle_of: { Self → Bundle };
@@ -55,7 +55,7 @@ pub trait BundleFiles {
 }
 
 impl<'b> BundleFiles for Bundle<'b> {
-    ghost use Rattle.cmap_binary.specs.BundleSeen.{bundle_seen};
+    ghost use Rattle.cmap_packed.specs.BundleSeen.{bundle_seen};
 
     ghost bundle_of = { bundle_seen };
 

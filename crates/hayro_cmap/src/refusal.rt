@@ -2,7 +2,7 @@
 
 ghost use Rattle.std.specs.Prelude.{◌≡◌};
 
-use cmap_files::fault::Stop;
+use cmap_values::fault::Stop;
 use std::fmt::{self, Display, Formatter, Write};
 
 /// Why a file gives no map.

@@ -1,8 +1,9 @@
 //! Files over the files that they use, read past their faults.
 
 ghost use Rattle.std.specs.Prelude.{◌≡◌, ◌∷◌, [], false, map, suc, IfOk, OnOk};
-ghost use Rattle.cmap_binary.specs.BundleSeen.{tables_given};
-ghost use Rattle.cmap_files.specs.FilesSeen.{file_seen, names_seen};
+ghost use Rattle.cmap_packed.specs.BundleSeen.{tables_given};
+ghost use Rattle.cmap_files.specs.FilesSeen.{file_seen};
+ghost use Rattle.cmap_values.specs.NamesSeen.{names_seen};
 ghost use Rattle.cmap_layers.specs.LayersSeen.{layers_seen};
 ghost use Rattle.hayro_cmap.specs.Answers.{IsByName};
 ghost use Rattle.hayro_cmap.specs.Salvage.{IsReadPast, Salvages, SalvagesBytes, SalvagesNamed, SalvagesUse, faults_of};
@@ -14,11 +15,12 @@ use crate::chain::{put_over, read_file};
 use crate::map::CMap;
 use crate::refusal::{Cause, Refusal};
 use crate::source::Source;
-use cmap_binary::{Bundle, is_marked_binary, salvage_binary};
-use cmap_files::fault::{Fault, Stop};
+use cmap_binary::{is_marked_binary, salvage_binary};
 use cmap_files::file::{File, Salvaged};
 use cmap_layers::layers::Layer;
+use cmap_packed::Bundle;
 use cmap_text::salvage_text;
+use cmap_values::fault::{Fault, Stop};
 use std::alloc::{AllocError, Global};
 
 /// What a file says over the files that it uses, apart from their faults, and the faults.

@@ -1,4 +1,4 @@
-use Rattle.cmap_binary.proofs.Fronts.{gives, then_none, then_next, then_only}
+use Rattle.cmap_packed.proofs.Fronts.{gives, then_none, then_next, then_only}
 use Rattle.cmap_binary.proofs.columns.take_columns.Goals as goal
 
 pub returns-in_err-take_sized : goal.returns-in_err-take_sized

@@ -4,11 +4,11 @@ use Rattle.cmap_files.specs.Files.{cid}
 use Rattle.cmap_files.specs.FilesSeen.{file_seen}
 use Rattle.cmap_binary.specs.BinaryFiles.{declares}
 use Rattle.cmap_binary.specs.BinarySeen.{with_content}
-use Rattle.cmap_binary.specs.Bundles.{PrefixTables}
+use Rattle.cmap_packed.specs.Bundles.{PrefixTables}
 use Rattle.cmap_binary.specs.BinaryEntries.{Shape, CidsOf, CidEntriesOf}
-use Rattle.cmap_binary.specs.BundleSeen.{tables_seen}
+use Rattle.cmap_packed.specs.BundleSeen.{tables_seen}
 use Rattle.cmap_binary.specs.ColumnsSeen.{shape_seen}
-use Rattle.cmap_binary.proofs.Fronts.{gives, then_none, then_next, then_only}
+use Rattle.cmap_packed.proofs.Fronts.{gives, then_none, then_next, then_only}
 use Rattle.cmap_binary.proofs.Reading.{made_none, made_only}
 use Rattle.cmap_binary.proofs.RowsAdded.{with_lists, adds_none, in_words}
 use Rattle.cmap_binary.proofs.entries.add_cids.Goals as goal

@@ -1,5 +1,5 @@
 use Rattle.std.proofs.Common.{refl, arith}
-use Rattle.cmap_files.proofs.Outcomes.{passed_on}
+use Rattle.cmap_values.proofs.Outcomes.{passed_on}
 use Rattle.cmap_binary.proofs.RowsAdded.{adds_start, adds_more, adds_wrong, adds_end}
 use Rattle.cmap_binary.proofs.entries.add_each_cid.Goals as goal
 

@@ -1,4 +1,4 @@
-use Rattle.cmap_binary.proofs.Fronts.{gives, then_none, then_next, then_only}
+use Rattle.cmap_packed.proofs.Fronts.{gives, then_none, then_next, then_only}
 use Rattle.cmap_binary.proofs.Reading.{made_none, made_only}
 use Rattle.cmap_binary.proofs.RowsAdded.{in_words}
 use Rattle.cmap_binary.proofs.entries.add_texts.Goals as goal

@@ -1,4 +1,4 @@
-use Rattle.cmap_binary.proofs.Fronts.{then_none}
+use Rattle.cmap_packed.proofs.Fronts.{then_none}
 use Rattle.cmap_binary.proofs.entries.read_destination.Goals as goal
 
 pub returns-in_default : goal.returns-in_default

@@ -1,6 +1,6 @@
 use Rattle.std.proofs.Common.{arith, refl}
 use Rattle.cmap_binary.specs.BinaryFiles.{NotdefAt}
-use Rattle.cmap_binary.proofs.Fronts.{gives, row_start, row_wrong, then_none, then_next, then_only}
+use Rattle.cmap_packed.proofs.Fronts.{gives, row_start, row_wrong, then_none, then_next, then_only}
 use Rattle.cmap_binary.proofs.Reading.{made_none, made_only}
 use Rattle.cmap_binary.proofs.RowsAdded.{adds_none, adds_start, adds_more, adds_wrong, adds_end}
 use Rattle.cmap_binary.proofs.fields.add_notdefs.Goals as goal

@@ -1,13 +1,13 @@
 use Rattle.std.proofs.Common.{ℕ, List, refl, subst, arith}
-use Rattle.cmap_files.specs.Only.{IsOnly, HoldsOfNone}
-use Rattle.cmap_binary.specs.Bundles.{PrefixTables}
-use Rattle.cmap_binary.specs.BundleSeen.{tables_seen}
+use Rattle.cmap_values.specs.Only.{IsOnly, HoldsOfNone}
+use Rattle.cmap_packed.specs.Bundles.{PrefixTables}
+use Rattle.cmap_packed.specs.BundleSeen.{tables_seen}
 use Rattle.cmap_binary.specs.BinaryFiles.{BodyOf, IsBinaryFile, SegmentAt}
 use Rattle.cmap_binary.specs.BinarySeen.{SegmentsSay}
-use Rattle.cmap_binary.specs.Fronts.{AllOf}
+use Rattle.cmap_packed.specs.Fronts.{AllOf}
 use Rattle.cmap_binary.proofs.Bodies.{body_within}
-use Rattle.cmap_binary.proofs.Fronts.{Continues, continues_only, continues_none}
-use Rattle.cmap_files.proofs.Outcomes.{passed_on}
+use Rattle.cmap_packed.proofs.Fronts.{Continues, continues_only, continues_none}
+use Rattle.cmap_values.proofs.Outcomes.{passed_on}
 use Rattle.cmap_binary.proofs.file.read_binary.Goals as goal
 
 no_body : (tables : PrefixTables) (bytes : List ℕ) → HoldsOfNone (BodyOf bytes) → HoldsOfNone (IsBinaryFile tables bytes)

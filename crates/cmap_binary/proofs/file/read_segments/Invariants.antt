@@ -1,6 +1,6 @@
 use Rattle.std.proofs.Common.{◌≤◌, length}
 use Rattle.cmap_files.specs.FilesSeen.{file_seen}
-use Rattle.cmap_binary.specs.BundleSeen.{tables_seen}
+use Rattle.cmap_packed.specs.BundleSeen.{tables_seen}
 use Rattle.cmap_binary.proofs.SegmentsSaid.{SaidSoFar}
 use Rattle.cmap_binary.proofs.file.read_segments.Given as goal
 

@@ -1,7 +1,7 @@
 use Rattle.std.proofs.Common.{◌≡◌, [], ◌∷◌, ◌++◌, take, rules}
 use Rattle.std.proofs.lemmas.List.{take_rest}
 use Rattle.cmap_binary.specs.BinaryFiles.{magic}
-use Rattle.cmap_binary.proofs.Fronts.{gives_if, then_none, then_only}
+use Rattle.cmap_packed.proofs.Fronts.{gives_if, then_none, then_only}
 use Rattle.cmap_binary.proofs.file.split_body.Goals as goal
 
 pub returns-in_err-file : goal.returns-in_err-file

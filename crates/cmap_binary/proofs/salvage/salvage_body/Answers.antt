@@ -1,8 +1,8 @@
 use Rattle.std.proofs.Common.{◌≡◌, ℕ, List, [], ◌∷◌, ◌++◌, Some, None, refl, sym, ap, ◌∙◌, subst}
 use Rattle.std.specs.Borrow.{Bor}
 use Rattle.std.specs.Prelude.{Option, unwrap_or}
-use Rattle.cmap_files.specs.Only.{HoldsOfNone}
-use Rattle.cmap_files.specs.Outcomes.{Finds}
+use Rattle.cmap_values.specs.Only.{HoldsOfNone}
+use Rattle.cmap_values.specs.Outcomes.{Finds}
 use Rattle.cmap_binary.specs.BinaryFiles.{BodyOf}
 use Rattle.cmap_binary.specs.BinarySalvage.{AfterHeader, BodyRead, header_fault, no_header, whole, wrong_length}
 use Rattle.cmap_binary.proofs.salvage.salvage_body.Goals as goal

@@ -1,6 +1,6 @@
 use Rattle.std.proofs.Common.{length}
 use Rattle.cmap_files.specs.FilesSeen.{file_seen}
-use Rattle.cmap_binary.specs.BundleSeen.{tables_seen}
+use Rattle.cmap_packed.specs.BundleSeen.{tables_seen}
 use Rattle.cmap_binary.proofs.SegmentsSalvaged.{SalvagedSoFar}
 use Rattle.cmap_binary.proofs.salvage.salvage_segments.Given as goal
 

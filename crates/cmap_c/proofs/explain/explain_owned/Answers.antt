@@ -1,5 +1,5 @@
 use Rattle.std.proofs.Common.{◌∙◌, refl, sym}
-use Rattle.cmap_files.specs.FilesSeen.{names_seen}
+use Rattle.cmap_values.specs.NamesSeen.{names_seen}
 use Rattle.cmap_c.specs.NamedFiles.{ExceedsBudgetOver, FitsBudgetOver, HasNoMapOver, IsMapOver, LeadsToFaultOver}
 use Rattle.cmap_c.proofs.explain.explain_owned.Goals as goal
 

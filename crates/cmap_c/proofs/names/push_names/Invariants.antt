@@ -1,6 +1,6 @@
 use Rattle.std.proofs.Common.{◌≡◌, ◌++◌, drop, vec_items}
 use Rattle.std.specs.List.{concat}
-use Rattle.cmap_files.specs.FilesSeen.{names_seen}
+use Rattle.cmap_values.specs.NamesSeen.{names_seen}
 use Rattle.cmap_c.proofs.names.push_names.Given as goal
 
 abbrev pub invariant-loop-name : goal.invariant-loop-name

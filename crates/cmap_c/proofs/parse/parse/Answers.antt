@@ -1,9 +1,9 @@
 use Rattle.std.proofs.Common.{◌≡◌, ◌≢◌, [], length, rules, None, Some}
 use Rattle.std.proofs.lemmas.List.{nil_from_length}
 use Rattle.std.proofs.lemmas.Result.{IfOk-weaker}
-use Rattle.cmap_binary.specs.BundleSeen.{bundle_seen}
-use Rattle.cmap_binary.specs.Bundles.{IsBundle}
-use Rattle.cmap_files.specs.Only.{IsOnly}
+use Rattle.cmap_packed.specs.BundleSeen.{bundle_seen}
+use Rattle.cmap_packed.specs.Bundles.{IsBundle}
+use Rattle.cmap_values.specs.Only.{IsOnly}
 use Rattle.cmap_c.specs.NamedFiles.{ExceedsBudgetOver, FitsBudgetOver, HasNoMapOver, IsMapOver, OfGiven}
 use Rattle.cmap_c.proofs.GivenBundles.{OfGiven-none, OfGiven-some}
 use Rattle.cmap_c.proofs.parse.parse.Goals as goal

@@ -4,7 +4,7 @@ use Rattle.cmap_maker.specs.Bundled.{files_seen}
 use Rattle.cmap_writer.specs.PreparedFiles.{IsPrepared}
 use Rattle.cmap_maker.specs.Slots.{AreSlotsOf}
 use Rattle.cmap_maker.proofs.BundlesWritten.{file_slots_more}
-use Rattle.cmap_files.proofs.Outcomes.{refuses_on}
+use Rattle.cmap_values.proofs.Outcomes.{refuses_on}
 use Rattle.cmap_maker.proofs.BundleObstacles.{file_among}
 use Rattle.cmap_maker.proofs.bundle.file_slots.Goals as goal
 

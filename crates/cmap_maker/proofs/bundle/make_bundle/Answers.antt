@@ -4,8 +4,8 @@ use Rattle.cmap_maker.specs.Bundled.{IsBundleOf, files_seen}
 use Rattle.cmap_maker.specs.Slots.{IsBundleOfSlots}
 use Rattle.cmap_maker.proofs.BundlesWritten.{bundle_of_files}
 use Rattle.std.proofs.lemmas.Result.{IfErr-weaker}
-use Rattle.cmap_files.proofs.Outcomes.{refused_as}
-use Rattle.cmap_files.specs.Outcomes.{RefusesWith}
+use Rattle.cmap_values.proofs.Outcomes.{refused_as}
+use Rattle.cmap_values.specs.Outcomes.{RefusesWith}
 use Rattle.cmap_maker.specs.Unwritables.{IsBundleObstacle, IsSpellingObstacle}
 use Rattle.cmap_maker.proofs.BundleObstacles.{spelling_of_bundle}
 use Rattle.cmap_maker.proofs.bundle.make_bundle.Goals as goal

@@ -3,7 +3,7 @@ use Rattle.std.specs.Prelude.{IfOk}
 use Rattle.cmap_writer.specs.EncodersSeen.{encoders_seen}
 use Rattle.cmap_maker.specs.Slots.{IsSlotWritten}
 use Rattle.cmap_writer.specs.Written.{Appends}
-use Rattle.cmap_files.proofs.Outcomes.{refuses_on}
+use Rattle.cmap_values.proofs.Outcomes.{refuses_on}
 use Rattle.cmap_maker.proofs.BundleObstacles.{by_spelling}
 use Rattle.cmap_maker.proofs.slots.push_slot.Goals as goal
 

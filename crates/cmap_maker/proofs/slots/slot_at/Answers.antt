@@ -7,8 +7,8 @@ use Rattle.cmap_maker.specs.Slots.{IsSlotFor}
 use Rattle.cmap_maker.specs.declared.source.Source.{Source}
 use Rattle.cmap_maker.proofs.BundlesWritten.{same_item, source_found}
 use Rattle.std.proofs.lemmas.Result.{IfErr-weaker}
-use Rattle.cmap_files.proofs.Outcomes.{refused_as}
-use Rattle.cmap_files.specs.Outcomes.{RefusesWith}
+use Rattle.cmap_values.proofs.Outcomes.{refused_as}
+use Rattle.cmap_values.specs.Outcomes.{RefusesWith}
 use Rattle.cmap_maker.specs.Unwritables.{IsUnwritableAs, IsUnwritableOf}
 use Rattle.cmap_maker.proofs.BundleObstacles.{unwritable_at}
 use Rattle.cmap_maker.proofs.slots.slot_at.Goals as goal

@@ -1,4 +1,4 @@
-use Rattle.cmap_files.proofs.Outcomes.{passed_on}
+use Rattle.cmap_values.proofs.Outcomes.{passed_on}
 use Rattle.cmap_tokens.proofs.Fronts.{has_tokens}
 use Rattle.cmap_text.proofs.Stops.{decided_text, refused_text}
 use Rattle.cmap_text.proofs.TextRead.{text_file}

@@ -6,7 +6,7 @@ use Rattle.cmap_binary.specs.BinaryFiles.{CodespacesIn, declares}
 use Rattle.cmap_writer.specs.SegmentsWritten.{SegmentByAny}
 use Rattle.cmap_writer.proofs.MetadataHeld.{by_any}
 use Rattle.cmap_writer.proofs.SegmentsDone.{done_more}
-use Rattle.cmap_files.proofs.Outcomes.{refuses_on}
+use Rattle.cmap_values.proofs.Outcomes.{refuses_on}
 use Rattle.cmap_writer.proofs.ObstaclesMet.{spaces_among}
 use Rattle.cmap_writer.proofs.codespaces.push_codespaces.Goals as goal
 

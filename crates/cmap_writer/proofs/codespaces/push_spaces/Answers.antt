@@ -2,7 +2,7 @@ use Rattle.std.proofs.Common.{arith}
 use Rattle.cmap_files.specs.DeclarationsSeen.{codespace_seen}
 use Rattle.cmap_binary.specs.BinaryFiles.{CodespaceAt}
 use Rattle.cmap_writer.proofs.FilesWritten.{taken_more}
-use Rattle.cmap_files.proofs.Outcomes.{refuses_on}
+use Rattle.cmap_values.proofs.Outcomes.{refuses_on}
 use Rattle.cmap_writer.proofs.ObstaclesMet.{space_among}
 use Rattle.cmap_writer.proofs.codespaces.push_spaces.Goals as goal
 

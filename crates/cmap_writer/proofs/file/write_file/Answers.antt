@@ -1,7 +1,7 @@
 use Rattle.std.proofs.lemmas.Result.{IfErr-weaker}
-use Rattle.cmap_files.proofs.Outcomes.{refused_as}
+use Rattle.cmap_values.proofs.Outcomes.{refused_as}
 use Rattle.cmap_files.specs.FilesSeen.{file_seen}
-use Rattle.cmap_files.specs.Outcomes.{RefusesWith}
+use Rattle.cmap_values.specs.Outcomes.{RefusesWith}
 use Rattle.cmap_writer.specs.EncodersSeen.{encoders_seen}
 use Rattle.cmap_writer.specs.Obstacles.{IsSegmentsObstacle, IsWriteObstacle}
 use Rattle.cmap_writer.proofs.ObstaclesMet.{unspelled}

@@ -1,7 +1,7 @@
 use Rattle.std.proofs.Common.{◌∙◌, ◌++◌, ap, subst}
 use Rattle.cmap_values.specs.MetadataSeen.{collection_seen}
 use Rattle.cmap_values.specs.Names.{ordering_of, registry_of}
-use Rattle.cmap_binary.specs.Fronts.{TerminatedAt}
+use Rattle.cmap_packed.specs.Fronts.{TerminatedAt}
 use Rattle.cmap_writer.specs.Written.{bytes_of, Appends, Writes}
 use Rattle.cmap_writer.proofs.MetadataHeld.{collection_written, seen_as}
 use Rattle.cmap_writer.proofs.metadata.collection_payload.Goals as goal

@@ -1,6 +1,6 @@
 use Rattle.std.proofs.Common.{arith, map, refl, subst}
 use Rattle.std.proofs.lemmas.List.{take_all}
-use Rattle.cmap_files.specs.FilesSeen.{names_seen}
+use Rattle.cmap_values.specs.NamesSeen.{names_seen}
 use Rattle.cmap_binary.specs.BinaryFiles as files
 use Rattle.cmap_writer.specs.SegmentsWritten.{SegmentByAny}
 use Rattle.cmap_writer.specs.Written.{Appends, WritesAll}

@@ -2,7 +2,7 @@ use Rattle.std.proofs.Common.{ap, subst}
 use Rattle.cmap_files.specs.DeclarationsSeen.{entries_seen}
 use Rattle.cmap_writer.specs.PreparedFiles.{AddsSameCids}
 use Rattle.cmap_writer.proofs.PreparedKept.{cid_lists}
-use Rattle.cmap_files.proofs.Outcomes.{refuses_on}
+use Rattle.cmap_values.proofs.Outcomes.{refuses_on}
 use Rattle.cmap_writer.proofs.ObstaclesMet.{by_cid_list}
 use Rattle.cmap_writer.specs.Obstacles.{by_length_seen}
 use Rattle.cmap_writer.proofs.prepared.add_cid_lists.Goals as goal

@@ -1,7 +1,8 @@
 use Rattle.std.proofs.Common.{map, subst}
 use Rattle.cmap_files.specs.DeclarationsSeen.{bf_entry_seen, codespace_seen}
 use Rattle.cmap_files.specs.Files.{Declaration}
-use Rattle.cmap_files.specs.FilesSeen.{file_seen, names_seen}
+use Rattle.cmap_files.specs.FilesSeen.{file_seen}
+use Rattle.cmap_values.specs.NamesSeen.{names_seen}
 use Rattle.cmap_binary.specs.BinaryFiles as files
 use Rattle.cmap_writer.specs.MetadataWritten.{metadata_contents}
 use Rattle.cmap_writer.specs.PreparedFiles.{AddsCidLists, AddsSameTexts}

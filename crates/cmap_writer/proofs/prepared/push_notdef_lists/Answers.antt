@@ -4,7 +4,7 @@ use Rattle.cmap_files.specs.Files.{Declaration}
 use Rattle.cmap_writer.specs.SegmentsWritten.{DeclareAll, SegmentByAny}
 use Rattle.cmap_writer.specs.Written.{Appends}
 use Rattle.cmap_writer.proofs.ListsKept.{declared_four}
-use Rattle.cmap_files.proofs.Outcomes.{refuses_on}
+use Rattle.cmap_values.proofs.Outcomes.{refuses_on}
 use Rattle.cmap_writer.proofs.ObstaclesMet.{by_notdef_list}
 use Rattle.cmap_writer.specs.Obstacles.{by_length_seen}
 use Rattle.cmap_writer.proofs.prepared.push_notdef_lists.Goals as goal

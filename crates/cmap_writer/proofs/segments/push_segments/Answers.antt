@@ -2,7 +2,7 @@ use Rattle.std.proofs.Common.{arith, subst, sym}
 use Rattle.cmap_writer.specs.EncodersSeen.{encoders_seen}
 use Rattle.cmap_writer.specs.Segments.{IsPayloadOf}
 use Rattle.cmap_writer.proofs.SegmentsAdded.{written_more}
-use Rattle.cmap_files.proofs.Outcomes.{refuses_on}
+use Rattle.cmap_values.proofs.Outcomes.{refuses_on}
 use Rattle.cmap_writer.proofs.ObstaclesMet.{segment_among}
 use Rattle.cmap_writer.proofs.segments.push_segments.Goals as goal
 

@@ -7,7 +7,7 @@ use Rattle.cmap_writer.specs.Pieces.{ArePieces, IsShortText}
 use Rattle.cmap_writer.specs.Segments.{AddsSegments}
 use Rattle.cmap_writer.specs.TextParts.{IsDecidedText, IsPartOf}
 use Rattle.cmap_writer.proofs.Told.{pieces_say, same_permuted, same_told}
-use Rattle.cmap_files.proofs.Outcomes.{refuses_on}
+use Rattle.cmap_values.proofs.Outcomes.{refuses_on}
 use Rattle.cmap_writer.proofs.ObstaclesMet.{long_text}
 use Rattle.cmap_writer.proofs.texts.add_text_list.Goals as goal
 

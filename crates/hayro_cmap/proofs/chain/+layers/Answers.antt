@@ -1,8 +1,9 @@
 use Rattle.std.proofs.Common.{refl, sym, ◌∙◌, ◌-◌, [], append-nil, arith}
-use Rattle.cmap_binary.specs.BundleSeen.{tables_given}
-use Rattle.cmap_files.specs.FilesSeen.{file_seen, names_seen}
+use Rattle.cmap_packed.specs.BundleSeen.{tables_given}
+use Rattle.cmap_files.specs.FilesSeen.{file_seen}
+use Rattle.cmap_values.specs.NamesSeen.{names_seen}
 use Rattle.hayro_cmap.specs.Layers.{Means}
-use Rattle.cmap_files.proofs.Outcomes.{refuses_on}
+use Rattle.cmap_values.proofs.Outcomes.{refuses_on}
 use Rattle.hayro_cmap.proofs.Blamed.{blames_file, blames_here, blames_missing, blames_use, fails_as, used_at}
 use Rattle.hayro_cmap.proofs.OneUse.{Resolves-answered, Refuses-answered, Refuses-unanswered, GoesOver-answered, GoesOverAt-answered}
 use Rattle.hayro_cmap.proofs.UsesInOrder.{AreUsed-none, AreUsed-at, AreUsed-end, AreUsed-more, Resolves-used, Refuses-used, GoesOver-used, GoesOverAt-used}

@@ -1,7 +1,8 @@
 use Rattle.std.proofs.Common.{refl, ◌-◌, arith}
 use Rattle.std.specs.Global.{Vec}
-use Rattle.cmap_binary.specs.BundleSeen.{tables_given}
-use Rattle.cmap_files.specs.FilesSeen.{file_seen, names_seen}
+use Rattle.cmap_packed.specs.BundleSeen.{tables_given}
+use Rattle.cmap_files.specs.FilesSeen.{file_seen}
+use Rattle.cmap_values.specs.NamesSeen.{names_seen}
 use Rattle.cmap_layers.specs.LayersSeen.{layers_seen}
 use Rattle.cmap_layers.specs.declared.layers.Layer.{Layer}
 use Rattle.hayro_cmap.proofs.Walked.{ok_as, use_under, walked_at, walked_end, walked_more, walked_none, walks_file, walks_named}

@@ -1,6 +1,6 @@
 use Rattle.std.proofs.Common.{drop, ◌+◌, ◌*◌}
-use Rattle.cmap_binary.specs.BundleSeen.{tables_given}
-use Rattle.cmap_files.specs.FilesSeen.{names_seen}
+use Rattle.cmap_packed.specs.BundleSeen.{tables_given}
+use Rattle.cmap_values.specs.NamesSeen.{names_seen}
 use Rattle.cmap_layers.specs.LayersSeen.{layers_seen}
 use Rattle.hayro_cmap.proofs.Walked.{Walked, use_under}
 use Rattle.hayro_cmap.proofs.salvage.+salvage.Given as goal

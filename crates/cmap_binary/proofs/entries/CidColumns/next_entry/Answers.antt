@@ -1,7 +1,7 @@
 use Rattle.std.proofs.Common.{◌≡◌, ◌≢◌, ℕ, zero, suc, refl, ◌∙◌}
 use Rattle.cmap_binary.specs.BinaryEntries.{cid_from}
-use Rattle.cmap_files.proofs.Outcomes.{passed_on}
-use Rattle.cmap_binary.proofs.Fronts.{gives_if, gives_none, then_none, then_next, then_only}
+use Rattle.cmap_values.proofs.Outcomes.{passed_on}
+use Rattle.cmap_packed.proofs.Fronts.{gives_if, gives_none, then_none, then_next, then_only}
 use Rattle.cmap_binary.proofs.entries.CidColumns.next_entry.Goals.{then-raw-eq0, else-raw-eq0}
 use Rattle.cmap_binary.proofs.entries.CidColumns.next_entry.Goals as goal
 

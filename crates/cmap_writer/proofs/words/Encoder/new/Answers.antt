@@ -1,6 +1,6 @@
 use Rattle.std.proofs.Common.{◌≡◌, ◌∙◌, length, ap, subst, arith}
 use Rattle.std.specs.List.Sorted.{IsPermutation}
-use Rattle.cmap_binary.specs.PrefixWords.{lengths_from, lengths_of}
+use Rattle.cmap_packed.specs.PrefixWords.{lengths_from, lengths_of}
 use Rattle.cmap_writer.proofs.WordsMade.{lengths-zip_words}
 use Rattle.cmap_writer.proofs.words.Encoder.new.Goals as goal
 

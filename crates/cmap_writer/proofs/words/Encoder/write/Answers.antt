@@ -3,7 +3,7 @@ use Rattle.std.specs.List.{All, flat_map}
 use Rattle.cmap_writer.specs.Written.{bytes_of, Appends, Writes}
 use Rattle.cmap_writer.proofs.TablesWritten.{table_written}
 use Rattle.cmap_writer.proofs.FrontsWritten.{fields}
-use Rattle.cmap_binary.specs.TableFronts.{TableAt}
+use Rattle.cmap_packed.specs.TableFronts.{TableAt}
 use Rattle.cmap_writer.proofs.words.Encoder.write.Goals as goal
 
 pub returns : goal.returns

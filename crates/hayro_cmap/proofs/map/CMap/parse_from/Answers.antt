@@ -1,7 +1,7 @@
 use Rattle.std.proofs.Common.{◌≤◌, ap, arith, length}
 use Rattle.std.proofs.Math.ListN.{length-map}
 use Rattle.std.specs.Prelude.{false}
-use Rattle.cmap_binary.specs.BundleSeen.{tables_given}
+use Rattle.cmap_packed.specs.BundleSeen.{tables_given}
 use Rattle.hayro_cmap.specs.Layers.{Means}
 use Rattle.hayro_cmap.proofs.Blamed.{no_layers}
 use Rattle.hayro_cmap.proofs.FewNames.{IsFaultWithin-few}

@@ -1,4 +1,4 @@
-use Rattle.cmap_binary.specs.BundleSeen.{tables_given}
+use Rattle.cmap_packed.specs.BundleSeen.{tables_given}
 use Rattle.cmap_layers.specs.LayersSeen.{layers_seen}
 use Rattle.hayro_cmap.specs.SalvageSeen.{faults_seen}
 use Rattle.hayro_cmap.proofs.NamesPastFaults.{map_few}

@@ -1,6 +1,6 @@
 use Rattle.std.proofs.Common.{◌≡◌, take}
 use Rattle.std.specs.Prelude.{map}
-use Rattle.cmap_files.specs.FilesSeen.{names_seen}
+use Rattle.cmap_values.specs.NamesSeen.{names_seen}
 use Rattle.hayro_cmap.specs.Salvage.{faults_of}
 use Rattle.hayro_cmap.specs.SalvageSeen.{GoesOn, opening_seen}
 use Rattle.hayro_cmap.specs.declared.refusal.Cause.TheVariants.{Malformed}

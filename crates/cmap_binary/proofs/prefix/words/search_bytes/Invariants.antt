@@ -1,6 +1,0 @@
-use Rattle.std.proofs.Common.{◌≡◌, length}
-use Rattle.cmap_binary.specs.WordsFound.{KnowBytes}
-use Rattle.cmap_binary.proofs.prefix.words.search_bytes.Given as goal
-
-abbrev pub invariant-loop-byte : goal.invariant-loop-byte
-invariant-loop-byte l = (length l.known.items ≡ l.byte) × KnowBytes l.counts l.symbols l.known.items

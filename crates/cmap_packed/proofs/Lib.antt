@@ -1,0 +1,10 @@
+pub mod BitsOfBytes
+pub mod BitsPeeked
+pub mod BitsTaken
+pub mod BytesTaken
+pub mod Fronts
+pub mod Lengths
+pub mod RankedWords
+pub mod TablesDecoded
+pub mod TablesTaken
+pub mod WordsSearched

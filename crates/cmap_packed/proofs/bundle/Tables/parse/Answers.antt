@@ -1,0 +1,16 @@
+use Rattle.std.proofs.Common.{refl}
+use Rattle.cmap_packed.proofs.BytesTaken.{IsAtByte-moved}
+use Rattle.cmap_packed.proofs.Fronts.{gives, then_none, then_next, then_only}
+use Rattle.cmap_packed.proofs.bundle.Tables.parse.Goals as goal
+
+pub returns-in_default : goal.returns-in_default
+returns-in_default c = then_none _ _ (rw c.new-reader.ensures at (rw c.in_default.is at c.in_ok-delta.ensures.ok).0)
+
+pub parse_count-requires : goal.parse_count-requires
+parse_count-requires c = IsAtByte-moved _ _ _ (rw c.new-reader.ensures refl) (rw c.in-Some.is at c.in_ok-delta.ensures.ok).moves
+
+pub returns-in_default-2 : goal.returns-in_default-2
+returns-in_default-2 c = then_next _ (rw (c.new-reader.ensures, c.in-Some.is) at c.in_ok-delta.ensures.ok).front (then_none _ _ (rw c.in_default-2.is at c.in_ok-count.ensures.ok).0)
+
+pub returns : goal.returns
+returns c = then_only _ (rw (c.new-reader.ensures, c.in-Some.is) at c.in_ok-delta.ensures.ok).front (then_only _ (rw c.in-Some-2.is at c.in_ok-count.ensures.ok).front gives)

@@ -1,0 +1,10 @@
+use Rattle.std.proofs.Common.{ap, sym, ◌∙◌, [], ◌∷◌, ◌++◌}
+use Rattle.std.proofs.lemmas.List.{map-append, map_more}
+use Rattle.cmap_packed.specs.Copies.{copies_seen}
+use Rattle.cmap_packed.proofs.owned_bundle.copied.Goals as goal
+
+pub loop-file-preserved : goal.loop-file-preserved
+loop-file-preserved c =
+    ap copies_seen c.in_ok-push.ensures.items ∙ map-append (λ copy. copy.items) _ _
+    ∙ (λ k. c.loop-file.invariant k ++ c.in_ok-from_slice.ensures.items k ∷ [])
+    ∙ sym (map_more (λ file. file.now) _ c.loop-file.file-index _ c.loop-file-test.true)

@@ -1,0 +1,27 @@
+-- Bundles: prefix tables, and files by their indices.
+use Rattle.std.specs.Prelude.{ℕ, List}
+use Rattle.cmap_packed.specs.PrefixWords.{CodeWord}
+use Rattle.cmap_packed.specs.TableFronts.{TableAt}
+use Rattle.cmap_packed.specs.Fronts.{Then, Gives, AllOf, FramedAt, SizedAt}
+
+-- the prefix tables of a bundle: of deltas and of counts
+pub record PrefixTables : Type 0 where
+  pub delta : List CodeWord
+  pub count : List CodeWord
+
+-- its files, index by index
+pub record Bundle : Type 0 where
+  pub tables : PrefixTables
+  pub files : List (List ℕ)
+
+-- a text that begins with the two tables; what follows them is ignored
+abbrev pub HoldsTables : List ℕ → PrefixTables → Type 0
+HoldsTables text = Then (TableAt 4 text) (λ delta mid. Then (TableAt 1 mid) (λ count ignored. Gives (record { delta = delta; count = count })))
+
+-- files, each of which tells its length after six bytes, which aren't checked
+abbrev pub AreFiles : List ℕ → List (List ℕ) → Type 0
+AreFiles = AllOf (FramedAt 6)
+
+-- the bytes are a bundle with these tables, in a sized piece, and these files after it
+unfoldable pub IsBundle : List ℕ → Bundle → Type 0
+IsBundle bytes = Then (SizedAt bytes) (λ text rest bundle. HoldsTables text bundle.tables × AreFiles rest bundle.files)

@@ -1,0 +1,10 @@
+pub mod BundleSeen
+pub mod Bundles
+pub mod Copies
+pub mod Fronts
+pub mod PrefixWords
+pub mod Reader
+pub mod TableTaken
+pub mod TableFronts
+pub mod WordsByLength
+pub mod WordsFound

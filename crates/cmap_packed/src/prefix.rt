@@ -1,0 +1,93 @@
+//! Prefix tables: symbols that are spelled by words of bits, none of which begins another one.
+
+ghost use Rattle.std.specs.Prelude.{◌≡◌, ℕ, IfSome, IfNone};
+ghost use Rattle.cmap_packed.specs.PrefixWords.{BeginsAt, Decodes};
+ghost use Rattle.cmap_packed.specs.Reader.{bits_left, IsAtByte, after_bits};
+ghost use Rattle.cmap_packed.specs.TableTaken.{ParsesTable};
+
+mod reading;
+mod words;
+
+use self::reading::parse;
+use self::words::{Search, Word, next_word};
+use crate::bits::Reader;
+use std::alloc::{AllocError, Global};
+use std::marker::Model;
+
+/// Symbols, each spelled by a word of 1 to 32 bits, so that bits can be read word by word. A row
+/// of bits need not begin with a word. A clause sees the symbols in the order of their words,
+/// each with the length of its word in bits.
+#[derive(Debug, Drop)]
+pub struct PrefixTable {
+    /// How many words there are of each length, from 1 on.
+    counts: Vec<u32>,
+    symbols: Vec<u32>,
+    /// What is known of the word that comes next, by each byte.
+    known: Vec<Result<Word, Search>>,
+}
+
+impl Model for PrefixTable {
+    ghost use Rattle.std.specs.Prelude.{◌≡◌, List, length};
+    ghost use Rattle.cmap_packed.specs.PrefixWords.{CodeWord};
+
+    ghost Value = { List CodeWord };
+
+    ghost use Rattle.cmap_packed.specs.WordsByLength.{words_of, IsTable};
+    ghost use Rattle.cmap_packed.specs.WordsFound.{KnowBytes};
+
+    ghost view = { λ t. words_of t.counts.items t.symbols.items };
+
+    ghost invariant = { λ t. record {
+      table : IsTable t.counts.items t.symbols.items;
+      bytes : length t.known.items ≡ 256;
+      knows : KnowBytes t.counts.items t.symbols.items t.known.items;
+    } };
+}
+
+impl PrefixTable {
+    /// The table that comes next, whose symbols have four bytes each: two bytes that are 0 where
+    /// there is no symbol, a byte that says how many lengths are counted, the counts of two bytes
+    /// each from length 1 on, and the symbols, all big-endian. `None` where none stands there:
+    /// where bytes are missing, a word is longer than 32 bits, or there are more words than fit.
+    ///
+    /// It fails only if memory runs out. Only a table moves the reader, to the byte after
+    /// it.
+    pub fn parse_delta(
+        alloc: Global,
+        reader: &mut Reader<'_>,
+    ) -> Result<Option<PrefixTable>, AllocError>
+        requires { IsAtByte reader.old }
+        ensures { ParsesTable 4 reader.old reader.new result }
+    {
+        parse(alloc, reader, 4)
+    }
+
+    /// The table that comes next, whose symbols have one byte each. All else is as in
+    /// `parse_delta`.
+    pub fn parse_count(
+        alloc: Global,
+        reader: &mut Reader<'_>,
+    ) -> Result<Option<PrefixTable>, AllocError>
+        requires { IsAtByte reader.old }
+        ensures { ParsesTable 1 reader.old reader.new result }
+    {
+        parse(alloc, reader, 1)
+    }
+
+    /// The symbol whose word comes next, and the reader moves past that word; `None` where no
+    /// word of the table does, and then the reader stays. It takes no memory.
+    #[inline(always)]
+    pub fn decode(&self, reader: &mut Reader<'_>) -> Option<u32>
+        ensures found { IfSome result (λ symbol. (len : ℕ)
+            × Decodes self.now (bits_left reader.old) symbol len (bits_left reader.new)
+            × (reader.new ≡ after_bits reader.old len)) }
+        ensures none { IfNone result ((i : ℕ) → BeginsAt self.now (bits_left reader.old) i → ⊥) }
+        ensures only { (i j : ℕ) → BeginsAt self.now (bits_left reader.old) i
+            → BeginsAt self.now (bits_left reader.old) j → i ≡ j }
+        ensures unmoved { IfNone result (reader.new ≡ reader.old) }
+    {
+        let word = next_word(&self.counts, &self.symbols, &self.known, reader)?;
+        reader.skip_bits(word.len);
+        Some(word.symbol)
+    }
+}
