@@ -4,13 +4,13 @@ use crate::candidates::Candidate;
 use crate::known_names::is_known;
 use cmap_binary::is_marked_binary;
 use cmap_escape::escape::{push_name, push_text};
-use cmap_values::fault::{Fault, Stop};
 use cmap_files::file::File;
-use cmap_values::names::CMapName;
 use cmap_refusals::fault_line::LineCounter;
 use cmap_refusals::refused::push_refusal;
 use cmap_sources::failure::Failure;
 use cmap_text::read_text;
+use cmap_values::fault::{Fault, Stop};
+use cmap_values::names::CMapName;
 use hayro_cmap::{Bundle, Cause, NamedFiles, Refusal};
 use std::alloc::{AllocError, Global};
 

@@ -3,9 +3,9 @@
 use crate::choice::Chosen;
 use crate::obstacle::push_obstacle;
 use cmap_escape::escape::push_text;
-use cmap_values::fault::Fault;
 use cmap_maker::{Source, Unwritable, make_named_bundle};
 use cmap_sources::failure::Failure;
+use cmap_values::fault::Fault;
 use std::alloc::{AllocError, Global};
 
 /// The bundle of these files. One that the binary form can't say stands in it as its text.

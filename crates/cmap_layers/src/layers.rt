@@ -8,10 +8,10 @@ ghost use Rattle.cmap_layers.specs.Counts.{counts_of, lengths_of};
 ghost use Rattle.cmap_layers.specs.LayersSeen.{by_length_seen, layer_seen, lists_held, metadata_seen};
 
 use crate::codespaces::Spaces;
-use cmap_values::code_length::CodeLength;
 use cmap_files::declarations::{BfRange, ByLength, CidRange, Codespace, Lists};
-use cmap_values::metadata::Metadata;
 use cmap_runs::runs::{Looks, Table};
+use cmap_values::code_length::CodeLength;
+use cmap_values::metadata::Metadata;
 use std::alloc::{AllocError, Global};
 
 /// A layer of a map: what one file states about itself and its codes, without the files that it uses.

@@ -15,12 +15,12 @@ ghost use Rattle.cmap_layers.specs.LayersDecide.{deciding_bf, layer_cid};
 ghost use Rattle.cmap_layers.specs.Searches.{bf_looks, cid_looks, finds_text, layer_looks, search_looks};
 
 use crate::layers::Layer;
-use cmap_values::code_length::CodeLength;
 use cmap_files::declarations::{BfRange, ByLength, CidRange};
-use cmap_values::names::Cid;
-use cmap_values::units::Units;
 use cmap_runs::runs::{Looks, Table};
 use cmap_tokens::utf16::{BfString, one_char, text};
+use cmap_values::code_length::CodeLength;
+use cmap_values::names::Cid;
+use cmap_values::units::Units;
 use std::alloc::{AllocError, Global};
 
 /// The CID of a code of `byte_len` bytes, big-endian; what is looked at is counted.

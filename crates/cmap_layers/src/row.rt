@@ -10,11 +10,11 @@ ghost use Rattle.cmap_layers.specs.Rows.{AreCidsOf};
 ghost use Rattle.cmap_layers.specs.RowsWritten.{IsWritten, character_said, cid_said, given};
 
 use crate::layers::Layer;
-use cmap_values::code_length::CodeLength;
 use cmap_files::declarations::{BfRange, CidRange};
-use cmap_values::names::Cid;
 use cmap_runs::runs::{Looks, Table};
 use cmap_tokens::utf16::one_char;
+use cmap_values::code_length::CodeLength;
+use cmap_values::names::Cid;
 
 /// What the declarations of a table give to codes.
 #[derive(Clone, Copy)]

@@ -14,11 +14,11 @@ ghost use Rattle.cmap_layers.specs.Lookups.{bf_at, cid_at};
 ghost use Rattle.cmap_layers.specs.RowsWritten.{character_said};
 
 use crate::layers::Layer;
-use cmap_values::code_length::CodeLength;
 use cmap_files::declarations::{BfRange, CidRange};
-use cmap_values::names::Cid;
 use cmap_runs::runs::{HasRange, Looks, Range, Stretch, Table};
 use cmap_tokens::utf16::one_char;
+use cmap_values::code_length::CodeLength;
+use cmap_values::names::Cid;
 use std::alloc::{AllocError, Global};
 
 /// The CIDs that codes in a row have.

@@ -15,11 +15,11 @@ ghost use Rattle.cmap_text.specs.TokenParsers.{listed, run};
 
 use crate::tokens::{Code, TokenReader, is_executable};
 use crate::wrong_token::{WrongToken, wrong};
-use cmap_values::code_length::CodeLength;
 use cmap_files::declarations::{BfRange, CidRange, Codespace, Lists};
+use cmap_runs::runs::Range;
+use cmap_values::code_length::CodeLength;
 use cmap_values::fault::{Fault, Reason};
 use cmap_values::units::Units;
-use cmap_runs::runs::Range;
 use std::alloc::AllocError;
 
 /// Which CIDs an entry declares: those of its codes, or the one of all codes that have no other.

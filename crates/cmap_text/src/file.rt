@@ -16,8 +16,8 @@ ghost use Rattle.cmap_text.specs.TextSeen.{said_seen, values_seen};
 use crate::items::{Said, read_items};
 use crate::tokens::TokenReader;
 use crate::wrong_token::WrongToken;
-use cmap_values::fault::{Fault, Stop};
 use cmap_files::file::File;
+use cmap_values::fault::{Fault, Stop};
 use cmap_values::metadata::Metadata;
 use std::alloc::Global;
 

@@ -9,10 +9,10 @@ ghost use Rattle.cmap_text.specs.TextReading.{key_in, no_values, with_value};
 ghost use Rattle.cmap_text.specs.TextSeen.{key_name, values_seen};
 
 use crate::tokens::is_literal;
+use cmap_tokens::token::{Number, Token};
 use cmap_values::character_collection::{CharacterCollection, CidFamily};
 use cmap_values::metadata::Metadata;
 use cmap_values::writing_mode::WritingMode;
-use cmap_tokens::token::{Number, Token};
 use std::alloc::{AllocError, Global};
 
 /// The keys of what a file states about itself.

@@ -22,9 +22,9 @@ use crate::items::{Said, read_item};
 use crate::sections::{Section, next_start, read_entry};
 use crate::tokens::{TokenReader, is_executable, is_word};
 use crate::wrong_token::{WrongToken, wrong};
-use cmap_values::fault::{Fault, Reason, Stop};
 use cmap_files::file::{File, Salvaged};
 use cmap_tokens::token::Token;
+use cmap_values::fault::{Fault, Reason, Stop};
 use std::alloc::{AllocError, Global};
 
 /// What comes next.

@@ -15,8 +15,8 @@ use crate::entries::{
 use crate::tokens::{Code, TokenReader, is_executable};
 use crate::wrong_token::WrongToken;
 use cmap_files::declarations::Lists;
-use cmap_values::fault::Fault;
 use cmap_tokens::token::Token;
+use cmap_values::fault::Fault;
 use std::alloc::AllocError;
 
 /// The kinds of sections.

@@ -20,12 +20,12 @@ ghost use Rattle.cmap_text.specs.TextSeen.{code_seen};
 ghost use Rattle.cmap_text.specs.TokenParsers.{next_in, or_wrong, run, token_in};
 
 use crate::wrong_token::{WrongToken, no_token, wrong};
+use cmap_tokens::token::{Number, Scanner, Token};
+use cmap_tokens::utf16::units;
 use cmap_values::code_length::{CodeLength, read_code};
 use cmap_values::fault::{Fault, Reason};
 use cmap_values::names::Cid;
 use cmap_values::units::Units;
-use cmap_tokens::token::{Number, Scanner, Token};
-use cmap_tokens::utf16::units;
 use std::alloc::Global;
 use std::marker::Model;
 

@@ -3,8 +3,8 @@
 ghost use Rattle.std.specs.Prelude.{◌≡◌, None, Some, false, true};
 ghost use Rattle.cmap_values.specs.declared.fault.Fault.TheVariants.{Refused};
 
-use cmap_values::fault::{Fault, Reason};
 use cmap_tokens::token::Token;
+use cmap_values::fault::{Fault, Reason};
 
 /// Why a reader of tokens goes no further.
 #[derive(Clone, Copy)]

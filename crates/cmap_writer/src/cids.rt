@@ -20,8 +20,8 @@ use crate::decided::decided_cids;
 use crate::obstacle::Obstacle;
 use crate::segments::Segment;
 use crate::split::split_cids;
-use cmap_values::code_length::CodeLength;
 use cmap_files::declarations::CidRange;
+use cmap_values::code_length::CodeLength;
 use cmap_values::fault::Fault;
 use std::alloc::{AllocError, Global};
 

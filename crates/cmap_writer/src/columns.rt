@@ -14,8 +14,8 @@ use crate::obstacle::Obstacle;
 use crate::pieces::push_sized;
 use crate::segments::Segment;
 use crate::words::Encoder;
-use cmap_values::fault::Fault;
 use cmap_runs::runs::{HasRange, Range};
+use cmap_values::fault::Fault;
 use std::alloc::{AllocError, Global};
 
 /// The code words of a bundle: of deltas and of counts.

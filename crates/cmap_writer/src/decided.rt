@@ -12,8 +12,8 @@ ghost use Rattle.cmap_writer.specs.Pieces.{CanBeSplit, SayTheSame, Takes};
 
 use crate::obstacle::Obstacle;
 use cmap_files::declarations::CidRange;
-use cmap_values::fault::Fault;
 use cmap_runs::runs::{Looks, Range, Table};
+use cmap_values::fault::Fault;
 use std::alloc::{AllocError, Global};
 
 /// The largest CID.

@@ -10,8 +10,8 @@ ghost use Rattle.cmap_writer.specs.Obstacles.{IsWriteObstacle};
 use crate::columns::Encoders;
 use crate::obstacle::Obstacle;
 use crate::prepared::prepare;
-use cmap_values::fault::Fault;
 use cmap_files::file::File;
+use cmap_values::fault::Fault;
 use std::alloc::Global;
 
 /// A binary file that keeps what a file says: its metadata, its codespace ranges, the names of the files

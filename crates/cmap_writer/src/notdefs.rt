@@ -15,8 +15,8 @@ use crate::bytes::push_number;
 use crate::decided::LARGEST_CID;
 use crate::obstacle::Obstacle;
 use crate::pieces::push_segment;
-use cmap_values::code_length::CodeLength;
 use cmap_files::declarations::CidRange;
+use cmap_values::code_length::CodeLength;
 use cmap_values::fault::Fault;
 use std::alloc::Global;
 

@@ -20,10 +20,10 @@ use crate::obstacle::Obstacle;
 use crate::pieces::push_framed;
 use crate::segments::{Segment, push_segments};
 use crate::texts::add_text_list;
-use cmap_values::code_length::CodeLength;
 use cmap_files::declarations::{ByLength, CidRange};
-use cmap_values::fault::Fault;
 use cmap_files::file::File;
+use cmap_values::code_length::CodeLength;
+use cmap_values::fault::Fault;
 use std::alloc::Global;
 
 /// What begins a binary file of version 1.

@@ -14,9 +14,9 @@ use crate::decided::last_code;
 use crate::obstacle::Obstacle;
 use crate::split::MOST_AFTER;
 use cmap_files::declarations::BfRange;
+use cmap_runs::runs::{Looks, Range, Table};
 use cmap_values::fault::Fault;
 use cmap_values::units::Units;
-use cmap_runs::runs::{Looks, Range, Table};
 use std::alloc::{AllocError, Global};
 
 /// How many codes the last one of a range of texts may be after its first.
