@@ -1,4 +1,5 @@
-//! What the subcommands of `cmap` do with maps: all but `bundle`.
+//! What the subcommands of `cmap` do with maps. What `bundle` does, and what `info` prints of a
+//! bundle alone, are in `cmap_bundle`.
 #![tactic(auto)]
 
 pub mod check;

@@ -1,5 +1,6 @@
 use Rattle.std.proofs.Common.{ℕ, List, refl, subst, arith}
 use Rattle.cmap_values.specs.Only.{IsOnly, HoldsOfNone}
+use Rattle.cmap_files.specs.FilesSeen.{file_seen}
 use Rattle.cmap_packed.specs.Bundles.{PrefixTables}
 use Rattle.cmap_packed.specs.BundleSeen.{tables_seen}
 use Rattle.cmap_binary.specs.BinaryFiles.{BodyOf, IsBinaryFile, SegmentAt}
@@ -27,10 +28,12 @@ returns-in_default c = (tt, (no_body _ _ c.in_default.ensures, omega arith))
 pub returns-in_err-read_segments : goal.returns-in_err-read_segments
 returns-in_err-read_segments c =
     passed_on _ _ _ c.from_residual.ensures.1 c.in_err-read_segments.ensures.stops (λ stop stops. (
-      continues_none (body_says (tables_seen c.args.bundle.now.tables) _ _ c.in-Some.ensures) stops.0,
+      continues_none (body_says (tables_seen c.args.bundle.now.tables) _ _ c.in-Some.ensures) (subst (λ tables. HoldsOfNone (SegmentsSay tables c.in-Some.body.now)) c.tables.ensures stops.0),
       omega (arith, stops.1, body_within _ _ c.in-Some.ensures.holds),
     ))
 
 pub returns : goal.returns
 returns c =
-    (continues_only (body_says (tables_seen c.args.bundle.now.tables) _ _ c.in-Some.ensures) c.in_ok-read_segments.ensures.says, tt)
+    let says : IsOnly (SegmentsSay (tables_seen c.args.bundle.now.tables) c.in-Some.body.now) (file_seen c.read_segments.new.file) =
+          subst (λ tables. IsOnly (SegmentsSay tables c.in-Some.body.now) (file_seen c.read_segments.new.file)) c.tables.ensures c.in_ok-read_segments.ensures.says in
+    (continues_only (body_says (tables_seen c.args.bundle.now.tables) _ _ c.in-Some.ensures) says, tt)
