@@ -35,5 +35,5 @@ returns-in_err-read_segments c =
 pub returns : goal.returns
 returns c =
     let says : IsOnly (SegmentsSay (tables_seen c.args.bundle.now.tables) c.in-Some.body.now) (file_seen c.read_segments.new.file) =
-          subst (λ tables. IsOnly (SegmentsSay tables c.in-Some.body.now) (file_seen c.read_segments.new.file)) c.tables.ensures c.in_ok-read_segments.ensures.says in
+    subst (λ tables. IsOnly (SegmentsSay tables c.in-Some.body.now) (file_seen c.read_segments.new.file)) c.tables.ensures c.in_ok-read_segments.ensures.says in
     (continues_only (body_says (tables_seen c.args.bundle.now.tables) _ _ c.in-Some.ensures) says, tt)
