@@ -1,6 +1,6 @@
 -- A walk through files over files that are read past their faults: what is found, and which faults are added.
-use Rattle.std.proofs.Common.{◌≡◌, ℕ, suc, ◌+◌, ◌<◌, ◌≤◌, refl, sym, ap, ◌∙◌, subst, false, List, [], ◌∷◌, ◌++◌, drop, get_or, length, inr, append-nil, append_assoc}
-use Rattle.std.specs.Prelude.{IfOk, Option, Some, Result, Ok, Err}
+use Rattle.std.proofs.Common.{◌≡◌, ℕ, suc, ◌+◌, ◌<◌, ◌≤◌, refl, sym, ap, ◌∙◌, subst, false, List, [], ◌∷◌, ◌++◌, drop, get_or, length, inl, inr, append-nil, append_assoc}
+use Rattle.std.specs.Prelude.{IfOk, Option, Some, None, Result, Ok, Err}
 use Rattle.std.specs.Borrow.{Bor}
 use Rattle.std.proofs.Math.ListN.{length-map}
 use Rattle.std.proofs.lemmas.List.{drop_more, drop_all, get_or-map}
@@ -8,8 +8,9 @@ use Rattle.cmap_files.specs.Files.{File}
 use Rattle.cmap_values.specs.NamesSeen.{names_seen}
 use Rattle.cmap_packed.specs.Bundles.{PrefixTables}
 use Rattle.cmap_layers.specs.Layers.{Layer, layer_of}
-use Rattle.hayro_cmap.specs.Salvage.{Found, NamedFault, Opening, Salvages, SalvagesEach, SalvagesMap, SalvagesNamed, SalvagesUse, faults_of}
+use Rattle.hayro_cmap.specs.Salvage.{Found, NamedFault, Opening, Salvages, SalvagesEach, SalvagesMap, SalvagesNamed, SalvagesUse, faults_of, no_layers}
 use Rattle.hayro_cmap.specs.SalvageSeen.{GoesOn, ReadsOn, Walks, faults_seen, opening_seen}
+use Rattle.hayro_cmap.specs.declared.refusal.Cause.TheVariants.{NoFile}
 use Rattle.hayro_cmap.specs.declared.salvage.Walk.{Walk}
 
 -- what holds of an answer, by what else holds of it
@@ -92,6 +93,13 @@ walks_named tables answer n below room names name bytes said old new layers (fau
   on,
   subst (λ m. SalvagesNamed answer (Salvages tables answer m) m names name (opening_seen old) (record { layers = layers; faults = faults; after = opening_seen new })) room (inr (bytes, said, finds)),
 )
+
+-- no file answers it
+pub walks_missing : (tables : Option PrefixTables) (answer : List ℕ → Option (List ℕ) → Type 0) (n below : ℕ) (room : suc n ≡ below) (names : List (List ℕ)) (name : List ℕ) → answer name None → (old new : Walk)
+    → GoesOn old new (faults_of names (NoFile ∷ [])) → opening_seen new ≡ opening_seen old → Walks (SalvagesNamed answer (Salvages tables answer below) below names name) old new []
+walks_missing tables answer n below room names name said old new on same =
+    let faults = faults_of names (NoFile ∷ []) in
+    (faults, on, subst (λ m. SalvagesNamed answer (Salvages tables answer m) m names name (opening_seen old) (no_layers faults (opening_seen new))) room (inl (said, ap (no_layers faults) same)))
 
 -- the top file
 pub walks_map : (tables : Option PrefixTables) (answer : List ℕ → Option (List ℕ) → Type 0) (bytes : List ℕ) (budget : Option ℕ) (start end : Walk) (layers : List Layer) → start.names.items ≡ [] → start.faults.items ≡ [] → opening_seen start ≡ record { left = budget; closed = false }
