@@ -1,12 +1,22 @@
-use Rattle.std.proofs.Common.{◌≡◌, ◌≢◌, [], length, rules, None, Some}
+use Rattle.std.proofs.Common.{◌≡◌, ◌≢◌, ◌≤◌, IfErr, Result, Ok, Err, [], arith, length, rules, None, Some}
 use Rattle.std.proofs.lemmas.List.{nil_from_length}
 use Rattle.std.proofs.lemmas.Result.{IfOk-weaker}
 use Rattle.cmap_packed.specs.BundleSeen.{bundle_seen}
 use Rattle.cmap_packed.specs.Bundles.{IsBundle}
 use Rattle.cmap_values.specs.Only.{IsOnly}
 use Rattle.cmap_c.specs.NamedFiles.{ExceedsBudgetOver, FitsBudgetOver, HasNoMapOver, IsMapOver, OfGiven}
+use Rattle.cmap_c.specs.Statuses.{number}
+use Rattle.cmap_c.specs.declared.status.Status.{Status}
+use Rattle.cmap_c.specs.declared.status.Status.TheVariants.{NotABundle}
 use Rattle.cmap_c.proofs.GivenBundles.{OfGiven-none, OfGiven-some}
 use Rattle.cmap_c.proofs.parse.parse.Goals as goal
+
+not_three : (1 ≤ number NotABundle) × (number NotABundle ≤ 3) → ⊥
+not_three few = omega arith
+
+few_as : {A : Type 0} (made : Result A Status) → IfErr made (λ status. (1 ≤ number status) × (number status ≤ 3)) → IfErr made (λ status. (1 ≤ number status) × (number status ≤ 4))
+few_as (Ok map) few = few
+few_as (Err status) few = (few.0, omega arith)
 
 pub returns-then-is_empty-clause-accepts : goal.returns-then-is_empty-clause-accepts
 returns-then-is_empty-clause-accepts c =
@@ -57,3 +67,15 @@ returns-in-Ok-Some-clause-within c h =
     let some : c.args.bundle.now ≢ [] = search rules in
     let only : IsOnly (IsBundle c.args.bundle.now) (bundle_seen c.in-Ok-Some.bundle) = rw c.in-Ok-Some.field-0-is at c.in-Ok-Some.ensures in
     OfGiven-some _ (λ given. FitsBudgetOver given c.args.files.now c.args.data.now c.args.budget) _ some only (c.parse_from.ensures.within h)
+
+pub returns-then-is_empty-clause-not_a_bundle : goal.returns-then-is_empty-clause-not_a_bundle
+returns-then-is_empty-clause-not_a_bundle c h = absurd (not_three (rw h at c.parse_owned.ensures.failed))
+
+pub returns-then-is_empty-clause-failed : goal.returns-then-is_empty-clause-failed
+returns-then-is_empty-clause-failed c = few_as _ c.parse_owned.ensures.failed
+
+pub returns-in-Ok-Some-clause-not_a_bundle : goal.returns-in-Ok-Some-clause-not_a_bundle
+returns-in-Ok-Some-clause-not_a_bundle c h = absurd (not_three (rw h at c.parse_from.ensures.failed))
+
+pub returns-in-Ok-Some-clause-failed : goal.returns-in-Ok-Some-clause-failed
+returns-in-Ok-Some-clause-failed c = few_as _ c.parse_from.ensures.failed

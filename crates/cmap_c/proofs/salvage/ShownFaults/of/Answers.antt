@@ -1,0 +1,28 @@
+use Rattle.std.proofs.Common.{◌≡◌, ◌++◌, ◌+◌, ◌<◌, ℕ, List, [], ◌∷◌, add-one, append_assoc, drop, drop-cons, get_or, length, refl}
+use Rattle.std.specs.Borrow.{Bor}
+use Rattle.std.specs.List.{concat}
+use Rattle.cmap_values.specs.NamesSeen.{names_seen}
+use Rattle.hayro_cmap.specs.SalvageSeen.{fault_seen, faults_seen}
+use Rattle.hayro_cmap.specs.declared.refusal.Refusal.{Refusal}
+use Rattle.cmap_c.specs.Faults.{fault_numbers}
+use Rattle.cmap_c.specs.Salvaged.{names_joined, numbers_of_all}
+use Rattle.cmap_c.specs.declared.fault.FaultNumbers.{FaultNumbers}
+use Rattle.cmap_c.proofs.salvage.ShownFaults.of.Goals as goal
+
+module _ (faults : List Refusal) (i : ℕ) (fault : Refusal) (within : i < length faults) (is : fault ≡ get_or faults i fault) where
+  left : faults_seen (drop i faults) ≡ fault_seen fault ∷ faults_seen (drop (i + 1) faults)
+  left = rw (drop-cons faults i fault within, ← is, add-one) refl
+
+  next_numbers : (old new all : List FaultNumbers) (numbers : FaultNumbers) (names : List (Bor (List ℕ))) → new ≡ old ++ (numbers ∷ []) → numbers ≡ fault_numbers (names_seen names) fault.cause → names ≡ fault.names.items
+      → old ++ numbers_of_all (faults_seen (drop i faults)) ≡ all → new ++ numbers_of_all (faults_seen (drop (i + 1) faults)) ≡ all
+  next_numbers old new all numbers names pushed whole same before = rw (pushed, append_assoc, whole, same) (rw left at before)
+
+  next_names : (old new all : List ℕ) (names : List (Bor (List ℕ))) → new ≡ old ++ concat (names_seen names) → names ≡ fault.names.items
+      → old ++ names_joined (faults_seen (drop i faults)) ≡ all → new ++ names_joined (faults_seen (drop (i + 1) faults)) ≡ all
+  next_names old new all names pushed same before = rw (pushed, append_assoc, same) (rw left at before)
+
+pub loop-fault-preserved : goal.loop-fault-preserved
+loop-fault-preserved c =
+    let numbers = next_numbers c.args.faults.now c.loop-fault.fault-index c.fault-item.result c.loop-fault-test.true c.fault-item.is _ _ _ _ _ c.in_ok-push.ensures.items c.of.ensures.whole c.deref.ensures.value c.loop-fault.invariant.0 in
+    let names = next_names c.args.faults.now c.loop-fault.fault-index c.fault-item.result c.loop-fault-test.true c.fault-item.is _ _ _ _ c.in_ok-push_names.ensures c.deref-in-loop-fault.ensures.value c.loop-fault.invariant.1 in
+    (numbers, names)

@@ -1,0 +1,24 @@
+use Rattle.std.proofs.Common.{◌≡◌, ◌++◌, ◌∙◌, ℕ, List, drop, length, take}
+use Rattle.std.proofs.Math.ListN.{length-map}
+use Rattle.cmap_c.specs.Faults.{fault_numbers}
+use Rattle.cmap_c.specs.Salvaged.{numbers_of_all}
+use Rattle.cmap_c.proofs.salvage.hayro_cmap_salvage.Goals as goal
+
+heads : {A : Type 0} (old new items shown : List A) (many : ℕ) → items ≡ shown → length shown ≡ many → new ≡ take (length old) items ++ drop (length items) old → new ≡ take (length old) shown ++ drop many old
+heads old new items shown many same count put = rw (same, count) at put
+
+pub returns-clause-says : goal.returns-clause-says
+returns-clause-says c _ =
+    let said = rw c.limit.ensures at c.in-Ok.ensures.says in
+    let faults = said.0 in
+    let many : length (numbers_of_all faults) ≡ length faults = length-map faults (λ fault. fault_numbers fault.names fault.cause) in
+    record {
+      layers = c.in-Ok.salvaged.map.value;
+      faults = faults;
+      said = said.1;
+      is_map = c.put.ensures;
+      are_counted = rw (c.in-Ok.salvaged.shown.faults.ok.0, said.2.0, many) at c.len.ensures;
+      are_there = heads c.args.faults.now c.put_head.new.room c.deref.result.now (numbers_of_all faults) (length faults) (c.deref.ensures.value ∙ said.2.0) many c.put_head.ensures;
+      put = c.put_bytes.result;
+      are_put = rw (c.deref-2.ensures.value, said.2.1) at c.put_bytes.ensures;
+    }
