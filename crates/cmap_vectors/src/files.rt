@@ -325,23 +325,34 @@ pub fn push_held(
 
 fn push_file_of(alloc: Global, bytes: &[u8], name: &[u8], line: &mut Line) -> Result<(), RowError> {
     let bundle = Bundle::parse(alloc, bytes)?;
-    let owned = OwnedBundle::parse(alloc, bytes)?;
-    push_file(&bundle.as_ref(), &owned.as_ref(), name, line);
-    Ok(())
+    push_file(alloc, bundle.as_ref(), bytes, name, line)
 }
 
 fn push_file(
-    bundle: &Option<&Bundle<'_>>,
-    owned: &Option<&OwnedBundle>,
+    alloc: Global,
+    bundle: Option<&Bundle<'_>>,
+    bytes: &[u8],
     name: &[u8],
     line: &mut Line,
-) {
+) -> Result<(), RowError> {
     let file = bundle.file(name);
     match file {
         Some(file) => line.push_escaped(file),
         None => line.push("none"),
     }
-    if owned.file(name) != file {
+    if !is_owned_file(alloc, bytes, name, file)? {
         line.push(" mismatch");
     }
+    Ok(())
+}
+
+/// Whether a bundle that owns its files has this one.
+fn is_owned_file(
+    alloc: Global,
+    bytes: &[u8],
+    name: &[u8],
+    file: Option<&[u8]>,
+) -> Result<bool, AllocError> {
+    let owned = OwnedBundle::parse(alloc, bytes)?;
+    Ok(owned.as_ref().file(name) == file)
 }

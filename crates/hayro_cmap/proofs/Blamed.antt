@@ -8,14 +8,15 @@ use Rattle.std.proofs.lemmas.List.Elements.{Contains-get_or}
 use Rattle.cmap_files.specs.Files.{File}
 use Rattle.cmap_values.specs.NamesSeen.{names_seen}
 use Rattle.cmap_values.specs.Only.{HoldsOfNone}
-use Rattle.hayro_cmap.specs.BytesSpent.{About, Refuses, GoesOver, GoesOverAt, of_file, of_use}
+use Rattle.hayro_cmap.specs.BytesSpent.{About, Refuses, GoesOver, GoesOverAt, of_file, of_use, of_uses}
 use Rattle.hayro_cmap.specs.Budgets.{IsOver, StaysWithin}
 use Rattle.cmap_packed.specs.Bundles.{PrefixTables}
 use Rattle.hayro_cmap.specs.Layers.{AreLayers, Means}
-use Rattle.hayro_cmap.specs.Refusals.{Blames, Fails, IsFault, IsFaultWithin, IsMissing, IsUseFault, IsUseFaultWithin}
+use Rattle.hayro_cmap.specs.Refusals.{Blames, Fails, FailsToOpen, IsFault, IsFaultOfUses, IsFaultWithin, IsMissing, IsUseFault, IsUseFaultWithin}
 use Rattle.hayro_cmap.specs.declared.refusal.Cause.{Cause}
 use Rattle.hayro_cmap.specs.declared.refusal.Cause.TheVariants.{Malformed, NoFile, ChainLength, OverBudget}
-use Rattle.hayro_cmap.proofs.WholeFile.{GoesOverAt-here, StaysWithin-from_spent}
+use Rattle.hayro_cmap.proofs.OneNameMore.{one_more}
+use Rattle.hayro_cmap.proofs.WholeFile.{GoesOver-here, GoesOverAt-here, Refuses-no_file, StaysWithin-from_spent}
 
 pub fails_as : {K L : Type 0} {a : About K} {b : About L} {k : K} {l : L} {budget left start : Option ℕ} → (Refuses a k budget left → Refuses b l start left) → (GoesOver a k budget → GoesOver b l start) → (cause : Cause) → Fails a k budget left cause → Fails b l start left cause
 fails_as refuses over (Malformed stop) fails = refuses fails
@@ -24,10 +25,6 @@ fails_as refuses over ChainLength fails = refuses fails
 fails_as refuses over OverBudget fails = over fails
 
 module _ (tables : Option PrefixTables) (answer : List ℕ → Option (List ℕ) → Type 0) where
-  -- one name more
-  one_more : (old : List (Bor (List ℕ))) (name : Bor (List ℕ)) → names_seen (old ++ name ∷ []) ≡ names_seen old ++ name.now ∷ []
-  one_more old name = map-append (λ x. x.now) old (name ∷ [])
-
   pub blames_missing : (budget : Option ℕ) (below : ℕ) (old new : List (Bor (List ℕ))) (name : Bor (List ℕ)) (cause : Cause) → new ≡ old ++ name ∷ [] → IsMissing tables answer below name.now cause → Blames (IsUseFaultWithin tables answer budget below name.now) old new cause
   blames_missing budget below old new name (Malformed stop) is missing = absurd missing
   blames_missing budget below old new name NoFile is missing = (name.now ∷ [], ap names_seen is ∙ one_more old name, (refl, inl (missing, refl)))
@@ -55,6 +52,20 @@ module _ (tables : Option PrefixTables) (answer : List ℕ → Option (List ℕ)
     leads_use budget below n name.now base room said over cause names fault,
   )
 
+  -- what leads from a use leads from the uses
+  module _ (budget left : Option ℕ) (below : ℕ) (uses : List (List ℕ)) (name : List ℕ) (used : Contains uses name) where
+    leads_uses : ((names : List (List ℕ)) → GoesOverAt (of_use (Means tables) answer below) name left names → GoesOverAt (of_uses (of_use (Means tables) answer below)) uses budget names)
+        → (cause : Cause) (names : List (List ℕ)) → IsUseFaultWithin tables answer left below name names cause → IsFaultOfUses tables answer budget below uses names cause
+    leads_uses over (Malformed stop) names fault = (name, used, fault)
+    leads_uses over NoFile names fault = (name, used, fault)
+    leads_uses over ChainLength names fault = (name, used, fault)
+    leads_uses over OverBudget names fault = over names fault
+
+    pub blames_uses : (old mid new : List (Bor (List ℕ))) → names_seen mid ≡ names_seen old
+        → ((names : List (List ℕ)) → GoesOverAt (of_use (Means tables) answer below) name left names → GoesOverAt (of_uses (of_use (Means tables) answer below)) uses budget names)
+        → (cause : Cause) → Blames (IsUseFaultWithin tables answer left below name) mid new cause → Blames (IsFaultOfUses tables answer budget below uses) old new cause
+    blames_uses old mid new same over cause (names, is, fault) = (names, is ∙ ap (λ l. l ++ names) same, leads_uses over cause names fault)
+
   -- what leads from a use leads from the file that has it
   module _ (budget left : Option ℕ) (below : ℕ) (bytes : List ℕ) (file : File) (name : List ℕ) (meant : Means tables bytes file) (uses : Contains file.uses name) where
     of_use_here : (cause : Cause) (names : List (List ℕ)) → IsUseFault tables answer below name names cause → IsFault tables answer (suc below) bytes names cause
@@ -73,15 +84,33 @@ module _ (tables : Option PrefixTables) (answer : List ℕ → Option (List ℕ)
     leads_file over ChainLength names fault = of_use_here ChainLength names fault
     leads_file over OverBudget names fault = over names fault
 
-  pub blames_file : (budget left : Option ℕ) (below : ℕ) (bytes : List ℕ) (old mid new : List (Bor (List ℕ))) (file : File) (name : List ℕ) → names_seen mid ≡ names_seen old → Means tables bytes file → Contains file.uses name
-      → ((names : List (List ℕ)) → GoesOverAt (of_use (Means tables) answer below) name left names → GoesOverAt (of_file (Means tables) answer (suc below)) bytes budget names)
-      → (cause : Cause) → Blames (IsUseFaultWithin tables answer left below name) mid new cause → Blames (IsFaultWithin tables answer budget (suc below) bytes) old new cause
-  blames_file budget left below bytes old mid new file name same meant uses over cause (names, is, fault) =
-      (names, is ∙ ap (λ l. l ++ names) same, leads_file budget left below bytes file name meant uses over cause names fault)
+  -- what leads from the uses leads from the file that has them
+  module _ (budget left : Option ℕ) (below : ℕ) (bytes : List ℕ) (file : File) (meant : Means tables bytes file) where
+    leads_on : ((names : List (List ℕ)) → GoesOverAt (of_uses (of_use (Means tables) answer below)) file.uses left names → GoesOverAt (of_file (Means tables) answer (suc below)) bytes budget names)
+        → (cause : Cause) (names : List (List ℕ)) → IsFaultOfUses tables answer left below file.uses names cause → IsFaultWithin tables answer budget (suc below) bytes names cause
+    leads_on over (Malformed stop) names (name, uses, fault) = of_use_here budget left below bytes file name meant uses (Malformed stop) names fault
+    leads_on over NoFile names (name, uses, fault) = of_use_here budget left below bytes file name meant uses NoFile names fault
+    leads_on over ChainLength names (name, uses, fault) = of_use_here budget left below bytes file name meant uses ChainLength names fault
+    leads_on over OverBudget names fault = over names fault
 
-  -- the file passes the budget by itself
-  pub blames_here : (budget : Option ℕ) (below : ℕ) (bytes : List ℕ) (names : List (Bor (List ℕ))) → IsOver budget (length bytes) → Blames (IsFaultWithin tables answer budget (suc below) bytes) names names OverBudget
-  blames_here budget below bytes names over = ([], sym (append-nil (names_seen names)), GoesOverAt-here (Means tables) answer below bytes budget over)
+    pub blames_file : (old new : List (Bor (List ℕ)))
+        → ((names : List (List ℕ)) → GoesOverAt (of_uses (of_use (Means tables) answer below)) file.uses left names → GoesOverAt (of_file (Means tables) answer (suc below)) bytes budget names)
+        → (cause : Cause) → Blames (IsFaultOfUses tables answer left below file.uses) old new cause → Blames (IsFaultWithin tables answer budget (suc below) bytes) old new cause
+    blames_file old new over cause (names, is, fault) = (names, is, leads_on over cause names fault)
+
+  -- the file can't be opened
+  module _ (below : ℕ) (bytes : List ℕ) (budget left : Option ℕ) where
+    pub fails_to_open : (cause : Cause) → FailsToOpen tables bytes budget left cause → Fails (of_file (Means tables) answer (suc below)) bytes budget left cause
+    fails_to_open (Malformed stop) (none, within, decided, leaves) = Refuses-no_file (Means tables) answer below bytes budget left none leaves
+    fails_to_open NoFile fails = absurd fails
+    fails_to_open ChainLength fails = absurd fails
+    fails_to_open OverBudget over = GoesOver-here (Means tables) answer below bytes budget over
+
+    pub blames_open : (names : List (Bor (List ℕ))) (cause : Cause) → FailsToOpen tables bytes budget left cause → Blames (IsFaultWithin tables answer budget (suc below) bytes) names names cause
+    blames_open names (Malformed stop) (none, within, decided, leaves) = ([], sym (append-nil (names_seen names)), (none, within, decided))
+    blames_open names NoFile fails = absurd fails
+    blames_open names ChainLength fails = absurd fails
+    blames_open names OverBudget over = ([], sym (append-nil (names_seen names)), GoesOverAt-here (Means tables) answer below bytes budget over)
 
 -- all causes but one say that there are no layers
 pub no_layers : (means : List ℕ → File → Type 0) (answer : List ℕ → Option (List ℕ) → Type 0) (most : ℕ) (bytes : List ℕ) (budget left : Option ℕ) (cause : Cause) → Fails (of_file means answer most) bytes budget left cause

@@ -6,6 +6,7 @@ pub mod FilesMeant
 pub mod FirstFiles
 pub mod LayersFit
 pub mod OneName
+pub mod OneNameMore
 pub mod OneUse
 pub mod UsesInOrder
 pub mod WholeFile

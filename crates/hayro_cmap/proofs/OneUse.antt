@@ -62,3 +62,10 @@ module _ (means : List ℕ → File → Type 0) (answer : List ℕ → Option (L
       leaves = Leaves-none budget;
     };
   })
+
+-- the chain has no room for the file
+pub Refuses-no_room : (means : List ℕ → File → Type 0) (answer : List ℕ → Option (List ℕ) → Type 0) (name : List ℕ) (budget : Option ℕ) → Refuses (of_use means answer 0) name budget budget
+Refuses-no_room means answer name budget = record {
+  none = λ layers h. h.2;
+  spent = record { lengths = []; opened = record { holds = refl; alone = λ other o. o }; leaves = Leaves-none budget };
+}

@@ -1,5 +1,5 @@
 -- A walk through files over files that are read past their faults: what is found, and which faults are added.
-use Rattle.std.proofs.Common.{◌≡◌, ℕ, suc, ◌+◌, ◌<◌, ◌≤◌, refl, sym, ap, ◌∙◌, subst, false, List, [], ◌∷◌, ◌++◌, drop, get_or, length, inl, inr, append-nil, append_assoc}
+use Rattle.std.proofs.Common.{◌≡◌, ℕ, suc, ◌+◌, ◌<◌, ◌≤◌, refl, sym, ap, ◌∙◌, subst, false, true, List, [], ◌∷◌, ◌++◌, drop, get_or, length, inl, inr, append-nil, append_assoc}
 use Rattle.std.specs.Prelude.{IfOk, Option, Some, None, Result, Ok, Err}
 use Rattle.std.specs.Borrow.{Bor}
 use Rattle.std.proofs.Math.ListN.{length-map}
@@ -10,7 +10,7 @@ use Rattle.cmap_packed.specs.Bundles.{PrefixTables}
 use Rattle.cmap_layers.specs.Layers.{Layer, layer_of}
 use Rattle.hayro_cmap.specs.Salvage.{Found, NamedFault, Opening, Salvages, SalvagesEach, SalvagesMap, SalvagesNamed, SalvagesUse, faults_of, no_layers}
 use Rattle.hayro_cmap.specs.SalvageSeen.{GoesOn, ReadsOn, Walks, faults_seen, opening_seen}
-use Rattle.hayro_cmap.specs.declared.refusal.Cause.TheVariants.{NoFile}
+use Rattle.hayro_cmap.specs.declared.refusal.Cause.TheVariants.{ChainLength, NoFile}
 use Rattle.hayro_cmap.specs.declared.salvage.Walk.{Walk}
 
 -- what holds of an answer, by what else holds of it
@@ -58,6 +58,9 @@ module _ (use_from : List (List ℕ) → List ℕ → List Layer → Opening →
   walked_all names base start here (done, on, all) =
       subst (λ f. SalvagesEach (use_from (names_seen start.names.items)) names [] (opening_seen start) (record { layers = base; faults = f; after = opening_seen here })) (append-nil done) (all (record { layers = base; faults = []; after = opening_seen here }) refl)
 
+  pub walks_each : (names : List (List ℕ)) (base : List Layer) (start here : Walk) → Walked names [] base start here → Walks (SalvagesEach (use_from (names_seen start.names.items)) names []) start here base
+  walks_each names base start here walked = (walked.0, walked.1, walked_all names base start here walked)
+
   -- the names are those of the items of a slice
   module _ (items uses : List (Bor (List ℕ))) (i : ℕ) (base : List Layer) (start here : Walk) (same : items ≡ uses) (walked : Walked (names_seen items) (drop i (names_seen items)) base start here) where
     walked_as : (rest : List (List ℕ)) → drop i (names_seen items) ≡ rest → Walked (names_seen uses) rest base start here
@@ -77,13 +80,13 @@ module _ (tables : Option PrefixTables) (answer : List ℕ → Option (List ℕ)
   use_under leading = SalvagesUse answer (Salvages tables answer below) below leading
 
   -- a file, then its uses
-  pub walks_file : (bytes : List ℕ) (file : File) (base : List Layer) (old start new : Walk) → ReadsOn tables bytes old start file → Walked use_under file.uses [] base start new
+  pub walks_file : (bytes : List ℕ) (file : File) (base : List Layer) (old start new : Walk) → ReadsOn tables bytes old start file → Walks (SalvagesEach (use_under (names_seen start.names.items)) file.uses []) start new base
       → Walks (Salvages tables answer (suc below) (names_seen old.names.items) bytes) old new (layer_of file ∷ base)
-  walks_file bytes file base old start new (causes, reads, on, closed) walked =
-      let under : Found = record { layers = base; faults = walked.0; after = opening_seen new } in
-      let each = subst (λ leading. SalvagesEach (use_under leading) file.uses [] (opening_seen start) under) on.names (walked_all use_under file.uses base start new walked) in
+  walks_file bytes file base old start new (causes, reads, on, closed) (faults, later, finds) =
+      let under : Found = record { layers = base; faults = faults; after = opening_seen new } in
+      let each = subst (λ leading. SalvagesEach (use_under leading) file.uses [] (opening_seen start) under) on.names finds in
       let each_here = subst (λ is_closed. SalvagesEach (use_under (names_seen old.names.items)) file.uses [] (record { left = start.left; closed = is_closed }) under) closed each in
-      (faults_of (names_seen old.names.items) causes ++ walked.0, GoesOn-more on walked.1, (file, causes, start.left, under, reads, each_here, refl))
+      (faults_of (names_seen old.names.items) causes ++ faults, GoesOn-more on later, (file, causes, start.left, under, reads, each_here, refl))
 
 -- the file that answers a name
 pub walks_named : (tables : Option PrefixTables) (answer : List ℕ → Option (List ℕ) → Type 0) (n below : ℕ) (room : suc n ≡ below) (names : List (List ℕ)) (name bytes : List ℕ) → answer name (Some bytes) → (old new : Walk) (layers : List Layer)
@@ -100,6 +103,12 @@ pub walks_missing : (tables : Option PrefixTables) (answer : List ℕ → Option
 walks_missing tables answer n below room names name said old new on same =
     let faults = faults_of names (NoFile ∷ []) in
     (faults, on, subst (λ m. SalvagesNamed answer (Salvages tables answer m) m names name (opening_seen old) (no_layers faults (opening_seen new))) room (inl (said, ap (no_layers faults) same)))
+
+-- the chain has no room for the file
+pub no_room : (answer : List ℕ → Option (List ℕ) → Type 0) (salvages : List (List ℕ) → List ℕ → Opening → Found → Type 0) (below : ℕ) → below ≡ 0 → (names : List (List ℕ)) (name : List ℕ) (opening after : Opening) → after ≡ record { left = opening.left; closed = true }
+    → SalvagesNamed answer salvages below names name opening (no_layers (faults_of names (ChainLength ∷ [])) after)
+no_room answer salvages below none names name opening after same =
+    subst (λ m. SalvagesNamed answer salvages m names name opening (no_layers (faults_of names (ChainLength ∷ [])) after)) (sym none) (ap (no_layers (faults_of names (ChainLength ∷ []))) same)
 
 -- the top file
 pub walks_map : (tables : Option PrefixTables) (answer : List ℕ → Option (List ℕ) → Type 0) (bytes : List ℕ) (budget : Option ℕ) (start end : Walk) (layers : List Layer) → start.names.items ≡ [] → start.faults.items ≡ [] → opening_seen start ≡ record { left = budget; closed = false }

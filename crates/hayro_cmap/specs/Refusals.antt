@@ -9,8 +9,8 @@ use Rattle.cmap_values.specs.Only.{HoldsOfNone}
 use Rattle.cmap_values.specs.Outcomes.{DecidedBy}
 use Rattle.cmap_values.specs.declared.fault.Stop.{Stop}
 use Rattle.cmap_text.specs.TextFiles.{IsTextFile}
-use Rattle.hayro_cmap.specs.Budgets.{OpensFirst, OpensUseFirst, PassesAt}
-use Rattle.hayro_cmap.specs.BytesSpent.{About, Refuses, GoesOver}
+use Rattle.hayro_cmap.specs.Budgets.{IsOver, OpensFirst, OpensUseFirst, PassesAt}
+use Rattle.hayro_cmap.specs.BytesSpent.{About, Leaves, Refuses, GoesOver, of_use, of_uses}
 use Rattle.hayro_cmap.specs.Layers.{Means}
 use Rattle.hayro_cmap.specs.declared.refusal.Cause.{Cause}
 use Rattle.hayro_cmap.specs.declared.refusal.Cause.TheVariants.{Malformed, NoFile, ChainLength, OverBudget}
@@ -60,7 +60,19 @@ module _ (tables : Option PrefixTables) (answer : List ℕ → Option (List ℕ)
   IsUseFaultWithin budget most name names OverBudget = PassesAt (OpensUseFirst answer (OpensFirst (Means tables) answer most) most name) budget names
   IsUseFaultWithin budget most name names cause = IsUseFault most name names cause
 
+  -- the same from one of several uses
+  abbrev pub IsFaultOfUses : Option ℕ → ℕ → List (List ℕ) → List (List ℕ) → Cause → Type 0
+  IsFaultOfUses budget most uses names OverBudget = PassesAt ((of_uses (of_use (Means tables) answer most)).opens_first uses) budget names
+  IsFaultOfUses budget most uses names cause = (name : List ℕ) × Contains uses name × IsUseFault most name names cause
+
 -- ---- private aid
+-- how a file fails to open, by itself
+abbrev pub FailsToOpen : Option PrefixTables → List ℕ → Option ℕ → Option ℕ → Cause → Type 0
+FailsToOpen tables bytes budget left (Malformed stop) = HoldsOfNone (Means tables bytes) × (stop.offset ≤ length bytes) × IsDecidedAsText tables bytes stop × Leaves budget (length bytes) left
+FailsToOpen tables bytes budget left OverBudget = IsOver budget (length bytes)
+FailsToOpen tables bytes budget left NoFile = ⊥
+FailsToOpen tables bytes budget left ChainLength = ⊥
+
 -- how a search for the layers of a file or of a use fails
 abbrev pub Fails : {Key : Type 0} → About Key → Key → Option ℕ → Option ℕ → Cause → Type 0
 Fails about key budget left (Malformed stop) = Refuses about key budget left

@@ -1,17 +1,18 @@
 //! Files over the files that they use.
 
-ghost use Rattle.std.specs.Prelude.{◌≡◌, ◌∷◌, length, suc, IfErr, IfOk};
+ghost use Rattle.std.specs.Prelude.{◌≡◌, ◌∷◌, length, suc, Err, IfErr, IfOk, MatchResult};
+ghost use Rattle.cmap_values.specs.Only.{IsOnly};
 ghost use Rattle.cmap_packed.specs.BundleSeen.{tables_given};
 ghost use Rattle.cmap_files.specs.DeclarationsSeen.{lists_seen};
 ghost use Rattle.cmap_files.specs.FilesSeen.{file_seen};
 ghost use Rattle.cmap_values.specs.NamesSeen.{names_seen};
-ghost use Rattle.cmap_values.specs.Outcomes.{ReadsFile, RefusesWith};
+ghost use Rattle.cmap_values.specs.Outcomes.{Outcome, ReadsFile, RefusesWith};
 ghost use Rattle.hayro_cmap.specs.Answers.{IsByName};
-ghost use Rattle.hayro_cmap.specs.BytesSpent.{Resolves, of_file, of_use};
+ghost use Rattle.hayro_cmap.specs.BytesSpent.{Leaves, Resolves, of_file, of_use, of_uses};
 ghost use Rattle.cmap_layers.specs.Layers.{layer_of};
 ghost use Rattle.hayro_cmap.specs.Layers.{Means};
 ghost use Rattle.cmap_layers.specs.LayersSeen.{layers_seen, metadata_seen};
-ghost use Rattle.hayro_cmap.specs.Refusals.{Blames, Fails, IsDecidedAsText, IsFaultWithin, IsUseFaultWithin};
+ghost use Rattle.hayro_cmap.specs.Refusals.{Blames, Fails, FailsToOpen, IsDecidedAsText, IsFaultOfUses, IsFaultWithin, IsUseFaultWithin};
 
 use crate::budget::spend;
 use crate::refusal::Cause;
@@ -33,9 +34,8 @@ pub(crate) const MOST_FILES: u8 = 16;
 /// grammar, a use has no answer, or more than `below` files stand under it in a chain.
 ///
 /// The length of each file that is opened, this one too, is first taken from what is `left` of the
-/// budget. A file is read whole before those that it uses are asked for. Each use is resolved,
-/// though only the layers of the last one are kept. Where one is refused, the names that lead from
-/// this file to it are added to `names`.
+/// budget. A file is read whole before those that it uses are asked for. Where one is refused, the
+/// names that lead from this file to it are added to `names`.
 #[cycle(layers)]
 pub(crate) fn find_layers<'a, S: Source>(
     alloc: Global,
@@ -48,28 +48,68 @@ pub(crate) fn find_layers<'a, S: Source>(
 ) -> Result<Vec<Layer>, Fault<Cause>>
     requires can_ask { S.can_ask source.now }
     requires by_name { IsByName (S.answers source.now) }
-    ensures found { IfOk result (λ layers. Resolves
-        (of_file (Means (tables_given bundle.entry)) (S.answers source.now) (suc below))
-        bytes.now (layers_seen layers.items) left.old left.new) }
-    ensures stays { IfOk result (λ _. names_seen names.new.items ≡ names_seen names.old.items) }
-    ensures fails { IfErr result (RefusesWith (Fails
-        (of_file (Means (tables_given bundle.entry)) (S.answers source.now) (suc below))
-        bytes.now left.old left.new)) }
-    ensures blames { IfErr result (RefusesWith (Blames
-        (IsFaultWithin (tables_given bundle.entry) (S.answers source.now) left.old (suc below) bytes.now)
-        names.old.items names.new.items)) }
+    ensures { Outcome
+        (λ layers. Resolves (of_file (Means (tables_given bundle.entry)) (S.answers source.now) (suc below))
+        bytes.now (layers_seen layers.items) left.old left.new
+        × (names_seen names.new.items ≡ names_seen names.old.items))
+        (λ cause. Fails (of_file (Means (tables_given bundle.entry)) (S.answers source.now) (suc below))
+        bytes.now left.old left.new cause
+        × Blames (IsFaultWithin (tables_given bundle.entry) (S.answers source.now) left.old (suc below) bytes.now) names.old.items names.new.items cause)
+        result }
+{
+    let file = open_file(alloc, bytes, bundle, left)?;
+    let base = find_base(alloc, &file.uses, bundle, source, below, left, names);
+    put_over_found(alloc, file, base)
+}
+
+/// What a file says, of which the length is first taken from what is `left` of the budget.
+fn open_file<'a>(
+    alloc: Global,
+    bytes: &'a [u8],
+    bundle: Option<&Bundle<'_>>,
+    left: &mut Option<u64>,
+) -> Result<File<'a>, Fault<Cause>>
+    ensures { Outcome
+        (λ file. IsOnly (Means (tables_given bundle.entry) bytes.now) (file_seen file)
+        × Leaves left.old (length bytes.now) left.new)
+        (FailsToOpen (tables_given bundle.entry) bytes.now left.old left.new) result }
 {
     spend(left, bytes.len())?;
-    let file = match read_file(alloc, bytes, bundle) {
-        Ok(file) => file,
-        Err(Fault::Refused(stop)) => return Err(Fault::Refused(Cause::Malformed(stop))),
-        Err(Fault::Memory) => return Err(Fault::Memory),
-    };
+    match read_file(alloc, bytes, bundle) {
+        Ok(file) => Ok(file),
+        Err(Fault::Refused(stop)) => Err(Fault::Refused(Cause::Malformed(stop))),
+        Err(Fault::Memory) => Err(Fault::Memory),
+    }
+}
+
+/// The layers of the last one of the files that uses name; none where there is no use. Each use is
+/// resolved.
+#[cycle(layers)]
+fn find_base<'a, S: Source>(
+    alloc: Global,
+    uses: &[&'a [u8]],
+    bundle: Option<&Bundle<'_>>,
+    source: &'a S,
+    below: u8,
+    left: &mut Option<u64>,
+    names: &mut Vec<&'a [u8]>,
+) -> Result<Vec<Layer>, Fault<Cause>>
+    requires can_ask { S.can_ask source.now }
+    requires by_name { IsByName (S.answers source.now) }
+    ensures { Outcome
+        (λ layers. Resolves (of_uses (of_use (Means (tables_given bundle.entry)) (S.answers source.now) below))
+        (names_seen uses.now) (layers_seen layers.items) left.old left.new
+        × (names_seen names.new.items ≡ names_seen names.old.items))
+        (λ cause. Fails (of_uses (of_use (Means (tables_given bundle.entry)) (S.answers source.now) below))
+        (names_seen uses.now) left.old left.new cause
+        × Blames (IsFaultOfUses (tables_given bundle.entry) (S.answers source.now) left.old below (names_seen uses.now)) names.old.items names.new.items cause)
+        result }
+{
     let mut base = Vec::new(alloc);
-    for name in &file.uses {
+    for name in uses {
         base = find_used(alloc, *name, bundle, source, below, left, names)?;
     }
-    Ok(put_over(alloc, file, base)?)
+    Ok(base)
 }
 
 /// The layers of the file that a use names. It is refused where `below` is 0, since no file may stand
@@ -86,16 +126,14 @@ fn find_used<'a, S: Source>(
 ) -> Result<Vec<Layer>, Fault<Cause>>
     requires can_ask { S.can_ask source.now }
     requires by_name { IsByName (S.answers source.now) }
-    ensures found { IfOk result (λ layers. Resolves
-        (of_use (Means (tables_given bundle.entry)) (S.answers source.now) below)
-        name.now (layers_seen layers.items) left.old left.new) }
-    ensures stays { IfOk result (λ _. names_seen names.new.items ≡ names_seen names.old.items) }
-    ensures fails { IfErr result (RefusesWith (Fails
-        (of_use (Means (tables_given bundle.entry)) (S.answers source.now) below)
-        name.now left.old left.new)) }
-    ensures blames { IfErr result (RefusesWith (Blames
-        (IsUseFaultWithin (tables_given bundle.entry) (S.answers source.now) left.old below name.now)
-        names.old.items names.new.items)) }
+    ensures { Outcome
+        (λ layers. Resolves (of_use (Means (tables_given bundle.entry)) (S.answers source.now) below)
+        name.now (layers_seen layers.items) left.old left.new
+        × (names_seen names.new.items ≡ names_seen names.old.items))
+        (λ cause. Fails (of_use (Means (tables_given bundle.entry)) (S.answers source.now) below)
+        name.now left.old left.new cause
+        × Blames (IsUseFaultWithin (tables_given bundle.entry) (S.answers source.now) left.old below name.now) names.old.items names.new.items cause)
+        result }
 {
     names.push(name)?;
     if below == 0 {
@@ -120,6 +158,26 @@ pub(crate) fn put_over(
         ≡ layer_of (file_seen file.entry) ∷ layers_seen base.items) }
 {
     layer_over(alloc, file.metadata, file.lists, base)
+}
+
+/// The same, where the layers that it is based on are found.
+fn put_over_found(
+    alloc: Global,
+    file: File<'_>,
+    base: Result<Vec<Layer>, Fault<Cause>>,
+) -> Result<Vec<Layer>, Fault<Cause>>
+    ensures { MatchResult base
+        (λ base. Outcome (λ layers. layers_seen layers.items
+        ≡ layer_of (file_seen file.entry) ∷ layers_seen base.items) (λ cause. ⊥) result)
+        (λ fault. result ≡ Err fault) }
+{
+    match base {
+        Ok(base) => match put_over(alloc, file, base) {
+            Ok(layers) => Ok(layers),
+            Err(AllocError) => Err(Fault::Memory),
+        },
+        Err(fault) => Err(fault),
+    }
 }
 
 /// A layer over those that it is based on.

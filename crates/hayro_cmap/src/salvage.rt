@@ -6,7 +6,7 @@ ghost use Rattle.cmap_files.specs.FilesSeen.{file_seen};
 ghost use Rattle.cmap_values.specs.NamesSeen.{names_seen};
 ghost use Rattle.cmap_layers.specs.LayersSeen.{layers_seen};
 ghost use Rattle.hayro_cmap.specs.Answers.{IsByName};
-ghost use Rattle.hayro_cmap.specs.Salvage.{IsReadPast, Salvages, SalvagesBytes, SalvagesNamed, SalvagesUse, faults_of};
+ghost use Rattle.hayro_cmap.specs.Salvage.{IsReadPast, Salvages, SalvagesBytes, SalvagesEach, SalvagesNamed, SalvagesUse, faults_of};
 ghost use Rattle.hayro_cmap.specs.SalvageSeen.{GoesOn, ReadsOn, Walks, opening_seen};
 ghost use Rattle.hayro_cmap.specs.declared.refusal.Cause.TheVariants.{Malformed};
 
@@ -102,11 +102,34 @@ pub(crate) fn salvage_layers<'a, S: Source>(
         walk.old walk.new (layers_seen layers.items)) }
 {
     let file = read_within(alloc, bytes, bundle, walk)?;
+    let base = salvage_base(alloc, &file.uses, bundle, source, below, walk)?;
+    put_over(alloc, file, base)
+}
+
+/// The layers of what can be read of the files that uses name, one after another: those of the last
+/// one.
+#[cycle(salvage)]
+fn salvage_base<'a, S: Source>(
+    alloc: Global,
+    uses: &[&'a [u8]],
+    bundle: Option<&Bundle<'_>>,
+    source: &'a S,
+    below: u8,
+    walk: &mut Walk<'a>,
+) -> Result<Vec<Layer>, AllocError>
+    requires can_ask { S.can_ask source.now }
+    requires by_name { IsByName (S.answers source.now) }
+    ensures { IfOk result (λ layers. Walks
+        (SalvagesEach (SalvagesUse (S.answers source.now)
+        (Salvages (tables_given bundle.entry) (S.answers source.now) below)
+        below (names_seen walk.old.names.items)) (names_seen uses.now) [])
+        walk.old walk.new (layers_seen layers.items)) }
+{
     let mut base = Vec::new(alloc);
-    for name in &file.uses {
+    for name in uses {
         base = salvage_used(alloc, *name, base, bundle, source, below, walk)?;
     }
-    Ok(put_over(alloc, file, base)?)
+    Ok(base)
 }
 
 /// The layers of what can be read of the file that a use names. Once a chain was too long, those that

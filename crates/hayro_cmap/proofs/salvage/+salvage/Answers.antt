@@ -1,27 +1,55 @@
-use Rattle.std.proofs.Common.{refl, ◌-◌, arith}
+use Rattle.std.proofs.Common.{◌≡◌, refl, ap, ◌∙◌, ◌-◌, arith, [], ◌∷◌, ◌++◌, inl, inr}
 use Rattle.std.specs.Global.{Vec}
 use Rattle.cmap_packed.specs.BundleSeen.{tables_given}
 use Rattle.cmap_files.specs.FilesSeen.{file_seen}
 use Rattle.cmap_values.specs.NamesSeen.{names_seen}
 use Rattle.cmap_layers.specs.LayersSeen.{layers_seen}
 use Rattle.cmap_layers.specs.declared.layers.Layer.{Layer}
-use Rattle.hayro_cmap.proofs.Walked.{ok_as, use_under, walked_at, walked_end, walked_more, walked_none, walks_file, walks_missing, walks_named}
+use Rattle.cmap_layers.specs.Layers.{layer_of}
+use Rattle.hayro_cmap.specs.Salvage.{Salvages, faults_of}
+use Rattle.hayro_cmap.specs.SalvageSeen.{opening_seen}
+use Rattle.hayro_cmap.specs.declared.refusal.Cause.TheVariants.{ChainLength}
+use Rattle.hayro_cmap.proofs.OneNameMore.{names_back, one_more}
+use Rattle.hayro_cmap.proofs.Walked.{GoesOn-none, no_room, ok_as, use_under, walked_at, walked_end, walked_more, walked_none, walks_each, walks_file, walks_missing, walks_named}
 use Rattle.hayro_cmap.proofs.salvage.+salvage.Goals as goal
-
-pub salvage_layers-loop-name-init : goal.salvage_layers-loop-name-init
-salvage_layers-loop-name-init g t c =
-    rw c.new-base.ensures.items (walked_none (use_under (tables_given c.args.bundle) (g.S.Source.answers c.args.source.now) c.args.below) (names_seen c.deref-name-items.result.now) c.read_within.new.walk)
-
-pub salvage_layers-loop-name-preserved : goal.salvage_layers-loop-name-preserved
-salvage_layers-loop-name-preserved g t c =
-    let from = use_under (tables_given c.args.bundle) (g.S.Source.answers c.args.source.now) c.args.below in
-    walked_more from _ _ (layers_seen c.loop-name.base.items) _ _ _ _ _ (walked_at from _ _ c.loop-name.name-index _ _ _ refl c.loop-name.invariant c.loop-name-test.true) c.in_ok-base.ensures
 
 pub salvage_layers-returns : goal.salvage_layers-returns
 salvage_layers-returns g t c =
+    ok_as {P = λ (layers : Vec Layer). layers_seen layers.items ≡ layer_of (file_seen c.in_ok-file.file) ∷ layers_seen c.in_ok-base.base.items} _ c.put_over.ensures (λ layers is. rw is (walks_file (tables_given c.args.bundle) (g.S.Source.answers c.args.source.now) c.args.below c.args.bytes.now (file_seen c.in_ok-file.file) (layers_seen c.in_ok-base.base.items) c.args.walk.now c.read_within.new.walk c.salvage_base.new.walk c.in_ok-file.ensures (rw c.deref.ensures.value at c.in_ok-base.ensures)))
+
+pub salvage_base-loop-name-init : goal.salvage_base-loop-name-init
+salvage_base-loop-name-init g t c =
+    rw c.new-base.ensures.items (walked_none (use_under (tables_given c.args.bundle) (g.S.Source.answers c.args.source.now) c.args.below) (names_seen c.args.uses.now) c.args.walk.now)
+
+pub salvage_base-loop-name-preserved : goal.salvage_base-loop-name-preserved
+salvage_base-loop-name-preserved g t c =
     let from = use_under (tables_given c.args.bundle) (g.S.Source.answers c.args.source.now) c.args.below in
-    let walked = walked_end from _ _ c.loop-name.name-index _ _ _ c.deref-name-items.ensures.value c.loop-name.invariant c.loop-name-test.false in
-    rw c.in_ok-put_over.ensures (walks_file (tables_given c.args.bundle) (g.S.Source.answers c.args.source.now) c.args.below c.args.bytes.now (file_seen c.in_ok-file.file) (layers_seen c.loop-name.base.items) c.args.walk.now c.read_within.new.walk c.loop-name.walk c.in_ok-file.ensures walked)
+    walked_more from _ _ (layers_seen c.loop-name.base.items) _ _ _ _ _ (walked_at from _ _ c.loop-name.name-index _ _ _ refl c.loop-name.invariant c.loop-name-test.true) c.in_ok-base.ensures
+
+pub salvage_base-returns : goal.salvage_base-returns
+salvage_base-returns g t c =
+    let from = use_under (tables_given c.args.bundle) (g.S.Source.answers c.args.source.now) c.args.below in
+    walks_each from (names_seen c.args.uses.now) _ _ _ (walked_end from _ _ c.loop-name.name-index _ _ _ refl c.loop-name.invariant c.loop-name-test.false)
+
+pub salvage_used-returns-then-walk : goal.salvage_used-returns-then-walk
+salvage_used-returns-then-walk g t c = ([], GoesOn-none c.args.walk.now, inl (c.if-walk.true, refl))
+
+pub salvage_used-returns : goal.salvage_used-returns
+salvage_used-returns g t c =
+    let (faults, on, finds) = c.in_ok-layers.ensures in
+    let pushed : names_seen c.push.new.self.items ≡ names_seen c.args.walk.now.names.items ++ c.args.name.now ∷ [] = ap names_seen c.in_ok-push.ensures.items ∙ one_more c.args.walk.now.names.items c.args.name in
+    let back = names_back _ _ _ _ c.args.name c.in_ok-push.ensures.items on.names (rw c.salvage_named.new.walk.names.ok.0 at c.pop.ensures.rest) in
+    (faults, record { names = back; added = on.added }, inr (c.if-walk.false, rw pushed at finds))
+
+pub salvage_named-returns-then-below-eq0 : goal.salvage_named-returns-then-below-eq0
+salvage_named-returns-then-below-eq0 g t c =
+    let names = names_seen c.args.walk.now.names.items in
+    let on = c.in_ok-add_fault.ensures.added in
+    rw c.new.ensures.items (
+      faults_of names (ChainLength ∷ []),
+      record { names = on.names; added = on.added },
+      no_room (g.S.Source.answers c.args.source.now) (Salvages (tables_given c.args.bundle) (g.S.Source.answers c.args.source.now) c.args.below) c.args.below c.if-below-eq0.true names c.args.name.now (opening_seen c.args.walk.now) (opening_seen c.add_fault.new.self) c.add_fault.ensures.same,
+    )
 
 pub salvage_named-returns-in_default : goal.salvage_named-returns-in_default
 salvage_named-returns-in_default g t c =

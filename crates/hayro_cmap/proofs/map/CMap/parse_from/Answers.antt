@@ -11,32 +11,27 @@ use Rattle.hayro_cmap.proofs.map.CMap.parse_from.Goals as goal
 
 pub invariant_of-result : goal.invariant_of-result
 invariant_of-result g c =
-    layers-fit (Means (tables_given c.args.bundle)) (g.S.Source.answers c.args.source.now) c.args.«data».now c.in-Ok.layers.items c.in-Ok.ensures.found.only.holds
+    layers-fit (Means (tables_given c.args.bundle)) (g.S.Source.answers c.args.source.now) c.args.«data».now c.in-Ok.layers.items c.in-Ok.ensures.0.0.only.holds
 
-pub returns-in-Ok-clause-within : goal.returns-in-Ok-clause-within
-returns-in-Ok-clause-within g c =
-    StaysWithin-from_spent (Means (tables_given c.args.bundle)) (g.S.Source.answers c.args.source.now) 16 c.args.«data».now c.args.budget false c.find_layers.new.left c.in-Ok.ensures.found.spent
+pub returns-in-Ok : goal.returns-in-Ok
+returns-in-Ok g c =
+    let found = c.in-Ok.ensures.0.0 in
+    let within = StaysWithin-from_spent (Means (tables_given c.args.bundle)) (g.S.Source.answers c.args.source.now) 16 c.args.«data».now c.args.budget false c.find_layers.new.left found.spent in
+    record { accepts = found.only; within = within; refuses = tt; over = tt; blames = tt; few = tt }
 
-pub returns-in-Err-Refused-clause-refuses : goal.returns-in-Err-Refused-clause-refuses
-returns-in-Err-Refused-clause-refuses g c =
-    let is = c.in-Err-Refused.field-0-is in
-    no_layers (Means (tables_given c.args.bundle)) (g.S.Source.answers c.args.source.now) 16 c.args.«data».now c.args.budget c.find_layers.new.left c.in-Err-Refused.cause (rw is at c.in-Err-Refused.ensures.fails)
-
-pub returns-in-Err-Refused-clause-over : goal.returns-in-Err-Refused-clause-over
-returns-in-Err-Refused-clause-over g c over =
-    let is = c.in-Err-Refused.field-0-is in
-    let (names, same, passes) = rw (is, over) at c.in-Err-Refused.ensures.blames in
-    record { first = (names, passes); all = rw (is, over) at c.in-Err-Refused.ensures.fails }
-
-pub returns-in-Err-Refused-clause-blames : goal.returns-in-Err-Refused-clause-blames
-returns-in-Err-Refused-clause-blames g c =
-    let is = c.in-Err-Refused.field-0-is in
-    let (names, same, fault) = rw (is, c.new-names.ensures.items) at c.in-Err-Refused.ensures.blames in
-    rw same fault
-
-pub returns-in-Err-Refused-clause-few : goal.returns-in-Err-Refused-clause-few
-returns-in-Err-Refused-clause-few g c =
-    let is = c.in-Err-Refused.field-0-is in
-    let (names, same, fault) = rw (is, c.new-names.ensures.items) at c.in-Err-Refused.ensures.blames in
-    let few : length names ≤ 16 = IsFaultWithin-few (tables_given c.args.bundle) (g.S.Source.answers c.args.source.now) c.args.budget 16 c.args.«data».now names c.in-Err-Refused.cause fault in
-    omega (arith, few, simp length-map at (ap length same))
+pub returns-in-Err-Refused : goal.returns-in-Err-Refused
+returns-in-Err-Refused g c =
+    let tables = tables_given c.args.bundle in let answers = g.S.Source.answers c.args.source.now in
+    let bytes = c.args.«data».now in let budget = c.args.budget in
+    let cause = c.in-Err-Refused.cause in
+    let fails = (rw c.in-Err-Refused.field-0-is at c.in-Err-Refused.ensures.1).0 in
+    let (names, same, fault) = (rw (c.in-Err-Refused.field-0-is, c.new-names.ensures.items) at c.in-Err-Refused.ensures.1).1 in
+    let few : length names ≤ 16 = IsFaultWithin-few tables answers budget 16 bytes names cause fault in
+    record {
+      accepts = tt;
+      within = tt;
+      refuses = no_layers (Means tables) answers 16 bytes budget c.find_layers.new.left cause fails;
+      over = λ over. record { first = (names, rw over at fault); all = rw over at fails };
+      blames = rw same fault;
+      few = omega (arith, few, simp length-map at (ap length same));
+    }

@@ -9,3 +9,6 @@ returns-in-Err-Refused g c =
     let refuses = rw c.in-Err-Refused.field-0-is at c.in-Err-Refused.ensures.refuses in
     let (none, fits) = refuses c.in_default.not-OverBudget in
     record { accepts = tt; refuses = none; within = fits; some = λ e. cc; over = λ e. cc }
+
+pub returns-in-Ok : goal.returns-in-Ok
+returns-in-Ok g c = record { accepts = c.in-Ok.ensures.accepts; refuses = tt; within = c.in-Ok.ensures.within; some = λ e. cc; over = λ e. cc }
