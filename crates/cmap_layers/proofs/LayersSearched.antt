@@ -5,7 +5,8 @@ use Rattle.cmap_runs.specs.SearchLooks.{LooksAtMost}
 use Rattle.cmap_runs.specs.declared.runs.looks.Looks.{Looks}
 use Rattle.std.specs.Option.{option_or}
 use Rattle.std.proofs.lemmas.List.Sums.{sum_by-cons}
-use Rattle.std.proofs.lemmas.Bool.{cond-true}
+use Rattle.std.proofs.lemmas.Bool.{and_from, and_parts, cond-true, false_from_ne_true, le-leb, leb-true}
+use Rattle.cmap_values.specs.CodeLengths.{IsCodeLength}
 use Rattle.cmap_files.specs.Files.{BfEntry}
 use Rattle.cmap_layers.specs.Layers.{Layer}
 use Rattle.cmap_layers.specs.Lookups.{cid_in, cid_of, bf_at, last_bf, bf_of, decided_text}
@@ -88,6 +89,36 @@ IsSearched-decided layers layer below code len answer before now after within se
       ∙ ap (λ decision. unwrap_or decision (cid_in below code len)) (sym decided));
   looks = rw (has_looks layers len within) (looked_last before now after _ _ _ _ _ _ (is_some answer) (next_looked layers layer below code len before now searched) looks);
 }
+
+pub IsSearched-none : (layers : List Layer) (code len : ℕ) (before : Looks) → IsSearched layers layers code len before before
+IsSearched-none layers code len before = record {
+  value = refl;
+  looked = record { runs = omega arith; runs_grow = omega arith; declarations = omega arith; declarations_grow = omega arith };
+}
+
+-- no layer decides
+pub IsSearched-end : (layers : List Layer) (code len : ℕ) (before after : Looks) → nat_le 1 len && nat_le len 4 ≡ true → IsSearched layers [] code len before after → Answers layers code len None before after
+IsSearched-end layers code len before after within searched = record {
+  value = sym (has_length layers code len within ∙ searched.value);
+  looks = rw (has_looks layers len within) (record {
+    most_runs = omega (arith, searched.looked.runs);
+    some_run = omega (arith, searched.looked.runs_grow);
+    most_declarations = omega (arith, searched.looked.declarations);
+    some_declaration = omega (arith, searched.looked.declarations_grow);
+  });
+}
+
+pub within_lengths : (len : ℕ) → IsCodeLength len → nat_le 1 len && nat_le len 4 ≡ true
+within_lengths len few = and_from _ _ (le-leb 1 len few.0) (le-leb len 4 few.1)
+
+-- no code has this length
+pub Answers-outside : (layers : List Layer) (code len : ℕ) (before : Looks) → (IsCodeLength len → ⊥) → Answers layers code len None before before
+Answers-outside layers code len before outside =
+    let past : nat_le 1 len && nat_le len 4 ≡ false = false_from_ne_true _ (λ within. let parts = and_parts _ _ within in outside (leb-true 1 len parts.0, leb-true len 4 parts.1)) in
+    record {
+      value = sym (ap (λ b. if b then cid_in layers code len else None) past);
+      looks = record { most_runs = omega arith; some_run = omega arith; most_declarations = omega arith; some_declaration = omega arith };
+    }
 
 -- ---- the text of a code
 decided_text-option_or : (code : ℕ) (o deciding : Option BfEntry) (below : Option (List ℕ)) → below ≡ option_and_then (λ e. bf_at e code) deciding → decided_text code o below ≡ option_and_then (λ e. bf_at e code) (option_or o deciding)

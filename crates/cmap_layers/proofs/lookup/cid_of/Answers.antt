@@ -1,0 +1,47 @@
+use Rattle.std.proofs.Common.{◌≡◌, ◌≤◌, ◌<◌, List, [], ◌∷◌, None, refl, ap, ◌∙◌, arith, get_or, length}
+use Rattle.std.proofs.lemmas.List.{drop_all, length-map}
+use Rattle.cmap_layers.specs.LayersSeen.{layer_seen, layers_seen}
+use Rattle.cmap_layers.proofs.LayersSearched.{drop_next, within_lengths, Answers, Answers-outside, IsSearched-decided, IsSearched-end, IsSearched-more, IsSearched-none}
+use Rattle.cmap_layers.proofs.lookup.cid_of.Goals as goal
+use Rattle.cmap_layers.proofs.lookup.cid_of.Goals.{After-from_residual-in_err-decided_by-in-len1, In_ok-decided_by-in-len1}
+
+-- a list of one element
+only_one : {A : Type 0} (xs : List A) (x : A) → 1 ≤ length xs → length xs < 2 → x ≡ get_or xs 0 x → xs ≡ x ∷ []
+only_one xs x some few is = drop_next xs 0 x some is ∙ ap (λ rest. x ∷ rest) (drop_all 1 xs (omega (arith, few)))
+
+pub returns-in_err-of-in-len1 : goal.returns-in_err-of-in-len1
+returns-in_err-of-in-len1 c =
+    let none = Answers-outside (layers_seen c.args.layers.now) c.args.code c.args.byte_len c.args.looks.now c.in_err-of-in-len1.ensures in
+    let is = c.from_residual.ensures in
+    record { value = is ∙ none.value; looks = rw is (simp length-map at none.looks); outside = λ _. refl }
+
+decided : (c : In_ok-decided_by-in-len1) → Answers (layers_seen c.args.layers.now) c.args.code c.args.byte_len c.in_ok-decided_by-in-len1.field-0 c.args.looks.now c.decided_by.new.looks
+decided c =
+    let (few, len_is) = c.in_ok-of-in-len1.ensures in
+    let layer = layer_seen c.only-item.result in
+    rw (only_one c.args.layers.now c.only-item.result c.in-len1.len_at_least c.in-len1.len_below c.only-item.is)
+    (IsSearched-decided (layer ∷ []) layer [] c.args.code c.args.byte_len c.in_ok-decided_by-in-len1.field-0 c.args.looks.now c.args.looks.now c.decided_by.new.looks (within_lengths _ few) (IsSearched-none (layer ∷ []) c.args.code c.args.byte_len c.args.looks.now)
+    (rw len_is at c.in_ok-decided_by-in-len1.ensures.value) (rw len_is at c.in_ok-decided_by-in-len1.ensures.looks))
+
+pub returns-in_ok-decided_by-in-len1 : goal.returns-in_ok-decided_by-in-len1
+returns-in_ok-decided_by-in-len1 c =
+    let few = c.in_ok-of-in-len1.ensures.0 in
+    record { value = (decided c).value; looks = simp length-map at (decided c).looks; outside = λ outside. absurd (outside few) }
+
+undecided : (c : After-from_residual-in_err-decided_by-in-len1) → Answers (layers_seen c.args.layers.now) c.args.code c.args.byte_len None c.args.looks.now c.decided_by.new.looks
+undecided c =
+    let (few, len_is) = c.in_ok-of-in-len1.ensures in
+    let layer = layer_seen c.only-item.result in
+    let searched = IsSearched-more (layer ∷ []) layer [] c.args.code c.args.byte_len c.args.looks.now c.args.looks.now c.decided_by.new.looks _ (IsSearched-none (layer ∷ []) c.args.code c.args.byte_len c.args.looks.now)
+    (rw len_is at c.in_err-decided_by-in-len1.ensures.value) (rw len_is at c.in_err-decided_by-in-len1.ensures.looks) in
+    rw (only_one c.args.layers.now c.only-item.result c.in-len1.len_at_least c.in-len1.len_below c.only-item.is)
+    (IsSearched-end (layer ∷ []) c.args.code c.args.byte_len c.args.looks.now c.decided_by.new.looks (within_lengths _ few) searched)
+
+pub returns-in_err-decided_by-in-len1 : goal.returns-in_err-decided_by-in-len1
+returns-in_err-decided_by-in-len1 c =
+    let few = c.in_ok-of-in-len1.ensures.0 in
+    let is = c.from_residual-in_err-decided_by-in-len1.ensures in
+    record { value = is ∙ (undecided c).value; looks = rw is (simp length-map at (undecided c).looks); outside = λ outside. absurd (outside few) }
+
+pub returns-in_default : goal.returns-in_default
+returns-in_default c = c.cid_in_turn.ensures
