@@ -37,3 +37,26 @@ returns-clause-blocks g c =
       before = λ k d from below. omega (arith, at.code, at.ended k d from (omega (arith, below, at.fewer, at.within, c.run_count-run_count.ensures)));
       end = c.end-end.ensures;
     }
+
+pub next_block-count-requires : goal.next_block-count-requires
+next_block-count-requires g c =
+    let at = c.loop-ended.invariant in
+    record {
+      order = c.requires;
+      code = (omega arith, omega (arith, at.code));
+      within = (at.fewer, at.within);
+      begun = λ k d from below. omega (arith, at.before k d from below);
+      later = λ k d from below. omega (arith, at.later k d from below);
+      ended = λ k d from below. omega (arith, at.ended k d from below);
+    }
+
+pub ended_before-ended-requires : goal.ended_before-ended-requires
+ended_before-ended-requires g c =
+    let at = c.loop-ended.invariant in
+    record {
+      order = c.requires;
+      within = c.next_block-count.ensures.within.1;
+      ended = λ k d from below. omega (arith, at.ended k d from below);
+      fewer = omega (arith, at.fewer, c.next_block-count.ensures.within.0);
+      begun = c.next_block-count.ensures.before;
+    }
