@@ -18,6 +18,7 @@ pub mod RunParts
 pub mod SegmentsAdded
 pub mod SegmentsDone
 pub mod SegmentsMade
+pub mod ShapesCounted
 pub mod Spelling
 pub mod TablesWritten
 pub mod TextParts

@@ -1,11 +1,12 @@
 -- Obstacles of parts of a file, and of the whole.
-use Rattle.std.proofs.Common.{◌≡◌, ◌∙◌, ℕ, ◌<◌, ◌≤◌, ◌^◌, inl, List, ◌++◌, Some, None, get_or, length, map, ap, sym, subst, arith}
-use Rattle.std.specs.Prelude.{All, Any, IsSomeAnd, Option}
+use Rattle.std.proofs.Common.{◌≡◌, ◌∙◌, ℕ, ◌<◌, ◌≤◌, ◌^◌, ◌⊎◌, inl, inr, List, Ok, Err, ◌++◌, Some, None, get_or, length, map, ap, sym, subst, arith}
+use Rattle.std.specs.Prelude.{All, Any, IfErr, IsErrAnd, IsSomeAnd, Option, Result}
 use Rattle.std.proofs.lemmas.List.{get_or-map, length-map, map-append}
 use Rattle.cmap_files.specs.DeclarationsSeen.{bf_entry_seen, cid_entry_seen, codespace_seen, entries_seen}
 use Rattle.cmap_files.specs.Files as files
 use Rattle.cmap_files.specs.Files.{ByLength, BfEntry, File}
 use Rattle.cmap_values.specs.Outcomes.{RefusesWith}
+use Rattle.cmap_values.proofs.Outcomes.{refused_as}
 use Rattle.cmap_values.specs.UnitsSeen.{units_seen}
 use Rattle.cmap_files.specs.declared.declarations.BfRange.{BfRange}
 use Rattle.cmap_files.specs.declared.declarations.CidRange.{CidRange}
@@ -14,11 +15,13 @@ use Rattle.cmap_values.specs.declared.fault.Fault.TheVariants.{Memory, Refused}
 use Rattle.cmap_values.specs.declared.fault.Fault.{Fault}
 use Rattle.cmap_layers.specs.Lookups.{last_bf}
 use Rattle.cmap_packed.specs.Bundles.{PrefixTables}
-use Rattle.cmap_writer.specs.Obstacles.{GivesLargeCid, HasLongText, IsCidListsObstacle, IsCidObstacle, IsLargeEnd, IsLargeNotdef, IsNotdefListsObstacle, IsNotdefObstacle, IsNotdefsObstacle, IsSegmentObstacle, IsSegmentsObstacle, IsSpaceObstacle, IsSpacesObstacle, IsTextObstacle, IsWriteObstacle}
+use Rattle.cmap_writer.specs.Obstacles.{GivesLargeCid, HasLongText, HasManyTexts, IsCidListsObstacle, IsCidObstacle, IsColumnObstacle, IsLargeEnd, IsLargeNotdef, IsMetadataObstacle, IsNotdefListsObstacle, IsNotdefObstacle, IsNotdefsObstacle, IsObstacle, IsSegmentObstacle, IsSegmentsObstacle, IsSpaceObstacle, IsSpacesObstacle, IsTextObstacle, IsWriteObstacle}
+use Rattle.cmap_writer.specs.Failures.{IsTooLongIf}
 use Rattle.cmap_writer.specs.PreparedFiles.{IsPrepared}
+use Rattle.cmap_writer.specs.Spelled.{IsNoSymbol}
 use Rattle.cmap_writer.specs.TextParts.{IsDecidedText, IsPartOf}
 use Rattle.cmap_writer.specs.Texts.{IsLongTextIn}
-use Rattle.cmap_writer.specs.declared.obstacle.Obstacle.TheVariants.{LargeCid, LargeCode, NoWord, Text, TooLong}
+use Rattle.cmap_writer.specs.declared.obstacle.Obstacle.TheVariants.{CustomFamily, LargeCid, LargeCode, NoWord, Supplement, Text, TooLong, ZeroByte}
 use Rattle.cmap_writer.specs.declared.obstacle.Obstacle.{Obstacle}
 use Rattle.cmap_writer.specs.declared.prepared.Prepared.{Prepared}
 use Rattle.cmap_writer.specs.declared.segments.Segment.{Segment}
@@ -93,3 +96,59 @@ pub unspelled : (tables : PrefixTables) (file : File) (prepared : Prepared) → 
 unspelled tables file prepared is NoWord h = (prepared, is, h)
 unspelled tables file prepared is TooLong h = tt
 unspelled tables file prepared is other h = absurd h
+
+-- ---- a column of a segment
+pub by_deltas : (tables : PrefixTables) (segment : Segment) (symbols : List ℕ) → symbols ≡ segment.deltas.items → (o : Obstacle) → IsColumnObstacle tables.delta symbols o → IsSegmentObstacle tables segment o
+by_deltas tables segment symbols is NoWord h = inl (subst (Any (IsNoSymbol tables.delta)) is h)
+by_deltas tables segment symbols is TooLong h = tt
+by_deltas tables segment symbols is other h = absurd h
+
+pub by_counts : (tables : PrefixTables) (segment : Segment) (symbols : List ℕ) → symbols ≡ segment.counts.items → (o : Obstacle) → IsColumnObstacle tables.count symbols o → IsSegmentObstacle tables segment o
+by_counts tables segment symbols is NoWord h = inr (subst (Any (IsNoSymbol tables.count)) is h)
+by_counts tables segment symbols is TooLong h = tt
+by_counts tables segment symbols is other h = absurd h
+
+-- ---- parts of a file
+pub by_metadata : (file : File) (o : Obstacle) → IsMetadataObstacle file.metadata.collection o → IsObstacle file o
+by_metadata file ZeroByte h = h
+by_metadata file CustomFamily h = h
+by_metadata file (Supplement n) h = h
+by_metadata file TooLong h = tt
+by_metadata file other h = absurd h
+
+pub by_spaces : (file : File) (spaces : List files.Codespace) → spaces ≡ file.lists.spaces → (o : Obstacle) → IsSpacesObstacle spaces o → IsObstacle file o
+by_spaces file spaces is (LargeCode code) h = inl (subst (Any (λ space. IsLargeEnd code space.len space.low space.high)) is h)
+by_spaces file spaces is TooLong h = tt
+by_spaces file spaces is other h = absurd h
+
+pub by_notdefs : (file : File) (o : Obstacle) → IsNotdefListsObstacle file.lists.notdefs o → IsObstacle file o
+by_notdefs file (LargeCid range) h = inr h
+by_notdefs file (LargeCode code) h = inr h
+by_notdefs file TooLong h = tt
+by_notdefs file other h = absurd h
+
+pub by_cids : (file : File) (o : Obstacle) → IsCidListsObstacle file.lists.cids o → IsObstacle file o
+by_cids file (LargeCid range) h = inl h
+by_cids file other h = absurd h
+
+pub by_texts : (file : File) (es : List BfEntry) → es ≡ file.lists.bfs → (o : Obstacle) → IsTextObstacle es o → IsObstacle file o
+by_texts file es is (Text range) h = subst (λ es. HasLongText es range ⊎ HasManyTexts es range) is h
+by_texts file es is other h = absurd h
+
+-- ---- what is too long
+pub long_on : {A : Type 0} (long more : Type 0) (result : Result A (Fault Obstacle)) (fault : Fault Obstacle) → IsErrAnd result (λ e. e ≡ fault) → IsTooLongIf long fault → (long → more) → IfErr result (IsTooLongIf more)
+long_on long more (Ok x) fault is h gives = absurd is
+long_on long more (Err error) (Refused TooLong) is h gives = rw is (gives h)
+long_on long more (Err error) (Refused other) is h gives = absurd h
+long_on long more (Err error) Memory is h gives = rw is tt
+
+pub too_long : {A : Type 0} (long : Type 0) (P : Obstacle → Type 0) (result : Result A (Fault Obstacle)) (fault : Fault Obstacle) → IsErrAnd result (λ e. e ≡ fault) → IsTooLongIf long fault → P TooLong → IfErr result (RefusesWith P)
+too_long long P (Ok x) fault is h p = absurd is
+too_long long P (Err error) (Refused TooLong) is h p = rw is p
+too_long long P (Err error) (Refused other) is h p = absurd h
+too_long long P (Err error) Memory is h p = rw is tt
+
+-- what holds of a result that is handed on
+pub refused_on : {A : Type 0} {P Q : Obstacle → Type 0} (result : Result A (Fault Obstacle)) → IfErr result (RefusesWith P) → ((o : Obstacle) → P o → Q o) → IfErr result (RefusesWith Q)
+refused_on (Ok x) h gives = tt
+refused_on (Err fault) h gives = refused_as fault h gives

@@ -44,8 +44,7 @@ pub(crate) fn push_metadata(
 {
     push_collection(alloc, &metadata.character_collection, out)?;
     push_name(&metadata.name, out)?;
-    push_mode(metadata.writing_mode, out)?;
-    Ok(())
+    push_mode(metadata.writing_mode, out)
 }
 
 /// Writes segments for the names of the files that are used, in order.
