@@ -142,6 +142,12 @@ long_on long more (Err error) (Refused TooLong) is h gives = rw is (gives h)
 long_on long more (Err error) (Refused other) is h gives = absurd h
 long_on long more (Err error) Memory is h gives = rw is tt
 
+pub long_of : {A : Type 0} (long more : Type 0) (result : Result A (Fault Obstacle)) → IfErr result (IsTooLongIf long) → (long → more) → IfErr result (IsTooLongIf more)
+long_of long more (Ok x) h gives = tt
+long_of long more (Err (Refused TooLong)) h gives = gives h
+long_of long more (Err (Refused other)) h gives = absurd h
+long_of long more (Err Memory) h gives = tt
+
 pub too_long : {A : Type 0} (long : Type 0) (P : Obstacle → Type 0) (result : Result A (Fault Obstacle)) (fault : Fault Obstacle) → IsErrAnd result (λ e. e ≡ fault) → IsTooLongIf long fault → P TooLong → IfErr result (RefusesWith P)
 too_long long P (Ok x) fault is h p = absurd is
 too_long long P (Err error) (Refused TooLong) is h p = rw is p
@@ -152,3 +158,12 @@ too_long long P (Err error) Memory is h p = rw is tt
 pub refused_on : {A : Type 0} {P Q : Obstacle → Type 0} (result : Result A (Fault Obstacle)) → IfErr result (RefusesWith P) → ((o : Obstacle) → P o → Q o) → IfErr result (RefusesWith Q)
 refused_on (Ok x) h gives = tt
 refused_on (Err fault) h gives = refused_as fault h gives
+
+-- ---- a want of memory
+pub memory_on : {A : Type 0} (P : Obstacle → Type 0) (result : Result A (Fault Obstacle)) → IsErrAnd result (λ e. e ≡ Memory) → IfErr result (RefusesWith P)
+memory_on P (Ok x) is = absurd is
+memory_on P (Err error) is = rw is tt
+
+pub memory_long : {A : Type 0} (long : Type 0) (result : Result A (Fault Obstacle)) → IsErrAnd result (λ e. e ≡ Memory) → IfErr result (IsTooLongIf long)
+memory_long long (Ok x) is = absurd is
+memory_long long (Err error) is = rw is tt

@@ -64,10 +64,10 @@ fn push_name(name: &Option<Vec<u8>>, out: &mut Vec<u8>) -> Result<(), Fault<Obst
         (WritesAll SegmentByAny (from_option (λ name. sets_name name.items) name.now))) }
     ensures err { IfErr result (IsTooLongIf ⊤) }
 {
-    if let Some(name) = name {
-        push_segment(out, NAME, name)?;
+    match name {
+        Some(name) => push_segment(out, NAME, name),
+        None => Ok(()),
     }
-    Ok(())
 }
 
 /// Writes a segment for a writing mode.
@@ -76,10 +76,10 @@ fn push_mode(mode: Option<WritingMode>, out: &mut Vec<u8>) -> Result<(), Fault<O
         (WritesAll SegmentByAny (from_option (λ mode. sets_mode (Some (mode_seen mode))) mode))) }
     ensures err { IfErr result (IsTooLongIf ⊤) }
 {
-    if let Some(mode) = mode {
-        push_segment(out, MODE, &[mode_number(mode)])?;
+    match mode {
+        Some(mode) => push_segment(out, MODE, &[mode_number(mode)]),
+        None => Ok(()),
     }
-    Ok(())
 }
 
 /// The number of a writing mode.

@@ -7,6 +7,7 @@ use Rattle.cmap_files.specs.declared.declarations.BfRange.{BfRange}
 use Rattle.cmap_layers.specs.Lookups.{bf_at, bf_span}
 use Rattle.cmap_writer.specs.Pieces.{AllSayAs, Cover, SaysAs}
 use Rattle.cmap_writer.specs.TextParts.{IsDecidedText, IsPartOf}
+use Rattle.cmap_writer.proofs.ObstaclesMet.{memory_on}
 use Rattle.cmap_writer.proofs.RunParts.{HaveRuns, have_all, have_more}
 use Rattle.cmap_writer.proofs.TextPartsSeen.{all_told, declaration_within, part_decided, part_from, part_has, part_right, run_filled, run_within}
 use Rattle.cmap_writer.proofs.text_parts.text_ranges_of.Goals as goal
@@ -58,3 +59,9 @@ returns-clause-same c =
 
 pub returns-then-end-start-gt-MOST_TEXTS_AFTER-clause-err : goal.returns-then-end-start-gt-MOST_TEXTS_AFTER-clause-err
 returns-then-end-start-gt-MOST_TEXTS_AFTER-clause-err c = inr (omega arith, all_told c.args.table.now (runs c.args.table.now) c.run_count-i-end.ensures.runs.0 c.loop-i.i c.run-start.result.0 c.run-start.result.1 c.run-start.result.2 c.run-start.ensures.run)
+
+pub returns-in_err-part-clause-err : goal.returns-in_err-part-clause-err
+returns-in_err-part-clause-err c = memory_on _ _ c.from_residual.ensures.1
+
+pub returns-in_err-push-clause-err : goal.returns-in_err-push-clause-err
+returns-in_err-push-clause-err c = memory_on _ _ c.from_residual-in_err-push.ensures.1
