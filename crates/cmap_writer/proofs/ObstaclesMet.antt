@@ -1,6 +1,6 @@
 -- Obstacles of parts of a file, and of the whole.
 use Rattle.std.proofs.Common.{◌≡◌, ◌∙◌, ℕ, ◌<◌, ◌≤◌, ◌^◌, ◌⊎◌, inl, inr, List, Ok, Err, ◌++◌, Some, None, get_or, length, map, ap, sym, subst, arith}
-use Rattle.std.specs.Prelude.{All, Any, IfErr, IsErrAnd, IsSomeAnd, Option, Result}
+use Rattle.std.specs.Prelude.{All, Any, Contains, IfErr, IsErrAnd, IsSomeAnd, Option, Result}
 use Rattle.std.proofs.lemmas.List.{get_or-map, length-map, map-append}
 use Rattle.cmap_files.specs.DeclarationsSeen.{bf_entry_seen, cid_entry_seen, codespace_seen, entries_seen}
 use Rattle.cmap_files.specs.Files as files
@@ -13,9 +13,11 @@ use Rattle.cmap_files.specs.declared.declarations.CidRange.{CidRange}
 use Rattle.cmap_files.specs.declared.declarations.Codespace.{Codespace}
 use Rattle.cmap_values.specs.declared.fault.Fault.TheVariants.{Memory, Refused}
 use Rattle.cmap_values.specs.declared.fault.Fault.{Fault}
+use Rattle.cmap_values.specs.Metadata.{Collection}
+use Rattle.cmap_values.specs.Names.{ordering_of, registry_of}
 use Rattle.cmap_layers.specs.Lookups.{last_bf}
 use Rattle.cmap_packed.specs.Bundles.{PrefixTables}
-use Rattle.cmap_writer.specs.Obstacles.{GivesLargeCid, HasLongText, HasManyTexts, IsCidListsObstacle, IsCidObstacle, IsColumnObstacle, IsLargeEnd, IsLargeNotdef, IsMetadataObstacle, IsNotdefListsObstacle, IsNotdefObstacle, IsNotdefsObstacle, IsObstacle, IsSegmentObstacle, IsSegmentsObstacle, IsSpaceObstacle, IsSpacesObstacle, IsTextObstacle, IsWriteObstacle}
+use Rattle.cmap_writer.specs.Obstacles.{GivesLargeCid, HasLongText, HasManyTexts, IsCidListsObstacle, IsCidObstacle, IsCollectionObstacle, IsColumnObstacle, IsFamilyObstacle, IsLargeEnd, IsLargeNotdef, IsMetadataObstacle, IsNotdefListsObstacle, IsNotdefObstacle, IsNotdefsObstacle, IsObstacle, IsSegmentObstacle, IsSegmentsObstacle, IsSpaceObstacle, IsSpacesObstacle, IsTerminatedObstacle, IsTextObstacle, IsWriteObstacle}
 use Rattle.cmap_writer.specs.Failures.{IsTooLongIf}
 use Rattle.cmap_writer.specs.PreparedFiles.{IsPrepared}
 use Rattle.cmap_writer.specs.Spelled.{IsNoSymbol}
@@ -107,6 +109,19 @@ pub by_counts : (tables : PrefixTables) (segment : Segment) (symbols : List ℕ)
 by_counts tables segment symbols is NoWord h = inr (subst (Any (IsNoSymbol tables.count)) is h)
 by_counts tables segment symbols is TooLong h = tt
 by_counts tables segment symbols is other h = absurd h
+
+-- ---- a character collection
+pub by_family : (collection : Collection) (o : Obstacle) → IsFamilyObstacle collection.family o → IsCollectionObstacle collection o
+by_family collection CustomFamily h = h
+by_family collection other h = absurd h
+
+pub by_registry : (collection : Collection) (text : List ℕ) → text ≡ registry_of collection.family → (o : Obstacle) → IsTerminatedObstacle text o → IsCollectionObstacle collection o
+by_registry collection text is ZeroByte h = inl (subst (λ t. Contains t 0) is h)
+by_registry collection text is other h = absurd h
+
+pub by_ordering : (collection : Collection) (text : List ℕ) → text ≡ ordering_of collection.family → (o : Obstacle) → IsTerminatedObstacle text o → IsCollectionObstacle collection o
+by_ordering collection text is ZeroByte h = inr (subst (λ t. Contains t 0) is h)
+by_ordering collection text is other h = absurd h
 
 -- ---- parts of a file
 pub by_metadata : (file : File) (o : Obstacle) → IsMetadataObstacle file.metadata.collection o → IsObstacle file o

@@ -38,6 +38,14 @@ range_number (suc zero) some few = refl
 range_number (suc (suc zero)) some few = refl
 range_number (suc (suc (suc n))) some few = absurd (omega arith)
 
+pub single_number : (n : ℕ) → 1 ≤ n → n ≤ 4 → IsNumberOf singles (Some n) (16 + n)
+single_number zero some few = absurd (omega arith)
+single_number (suc zero) some few = refl
+single_number (suc (suc zero)) some few = refl
+single_number (suc (suc (suc zero))) some few = refl
+single_number (suc (suc (suc (suc zero)))) some few = refl
+single_number (suc (suc (suc (suc (suc n))))) some few = absurd (omega arith)
+
 -- ---- short entries
 pub short_units : (xs : List BfRange) (i : ℕ) (d : BfRange) → i < length xs → All IsShortText (map bf_entry_seen xs) → length (units_seen (get_or xs i d).units) < 2 ^ 8
 short_units [] i d within short = absurd (omega arith)

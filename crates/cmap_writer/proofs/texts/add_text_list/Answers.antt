@@ -8,7 +8,7 @@ use Rattle.cmap_writer.specs.Segments.{AddsSegments}
 use Rattle.cmap_writer.specs.TextParts.{IsDecidedText, IsPartOf}
 use Rattle.cmap_writer.proofs.Told.{pieces_say, same_permuted, same_told}
 use Rattle.cmap_values.proofs.Outcomes.{refuses_on}
-use Rattle.cmap_writer.proofs.ObstaclesMet.{long_text}
+use Rattle.cmap_writer.proofs.ObstaclesMet.{long_text, memory_on}
 use Rattle.cmap_writer.proofs.TextsMade.{can_split}
 use Rattle.cmap_writer.proofs.texts.add_text_list.Goals as goal
 
@@ -40,3 +40,12 @@ pub split_texts-requires : goal.split_texts-requires
 split_texts-requires c =
     let ranges = map bf_entry_seen c.in_ok-ranges.ranges.items in
     subst (λ xs. All CanBeSplitText (map bf_entry_seen xs)) (sym c.deref-2.ensures.value) (can_split ranges c.in_ok-ranges.ensures.small (subst (λ xs. All (λ e. length e.units < 2 ^ 8) (map bf_entry_seen xs)) c.deref.ensures.value c.in_ok-check_units.ensures.counted))
+
+pub returns-in_err-pieces-clause-err : goal.returns-in_err-pieces-clause-err
+returns-in_err-pieces-clause-err c = memory_on _ _ c.from_residual-in_err-pieces.ensures.1
+
+pub returns-in_err-sort_by_key-clause-err : goal.returns-in_err-sort_by_key-clause-err
+returns-in_err-sort_by_key-clause-err c = memory_on _ _ c.from_residual-in_err-sort_by_key.ensures.1
+
+pub returns-in_err-add_texts-clause-err : goal.returns-in_err-add_texts-clause-err
+returns-in_err-add_texts-clause-err c = memory_on _ _ c.from_residual-in_err-add_texts.ensures.1

@@ -1,9 +1,9 @@
-use Rattle.std.proofs.Common.{◌<◌, ◌^◌, ◌≡◌, ◌∙◌, ◌++◌, ◌∷◌, [], ap, arith, get_or, sym, take}
+use Rattle.std.proofs.Common.{◌<◌, ◌^◌, ◌≡◌, ◌∙◌, ◌++◌, ◌∷◌, [], All, ap, arith, get_or, sym, take}
 use Rattle.std.proofs.lemmas.List.Elements.{All-more, All-nil, All-same}
 use Rattle.std.proofs.lemmas.List.{take_all, take_more}
-use Rattle.std.proofs.lemmas.Result.{IfOk-from_err}
+use Rattle.std.proofs.lemmas.Result.{IfOk-from_err, IfOk-weaker}
 use Rattle.cmap_files.specs.declared.declarations.CidRange.{CidRange}
-use Rattle.cmap_writer.proofs.decided.copy_of.Goals as goal
+use Rattle.cmap_writer.proofs.decided.table_of.Goals as goal
 
 pub loop-entry-preserved : goal.loop-entry-preserved
 loop-entry-preserved c =
@@ -21,17 +21,12 @@ loop-entry-preserved c =
 pub loop-entry-init : goal.loop-entry-init
 loop-entry-init c = record { same = c.in_ok-copy.ensures.items; small = All-nil (λ (r : CidRange). r.range.end < 2 ^ 32) }
 
-pub returns-clause-same : goal.returns-clause-same
-returns-clause-same c = c.loop-entry.invariant.same ∙ take_all c.loop-entry.entry-index c.args.list.now c.loop-entry-test.false
-
-pub returns-clause-small : goal.returns-clause-small
-returns-clause-small c =
+pub returns : goal.returns
+returns c = 
     let list = c.args.list.now in
     let i = c.loop-entry.entry-index in
-    All-same (λ (r : CidRange). r.range.end < 2 ^ 32) list (take i list) (sym (take_all i list c.loop-entry-test.false)) c.loop-entry.invariant.small
+    let inv = c.loop-entry.invariant in
+    IfOk-weaker c.build.result _ (λ table. (table ≡ list) × All (λ (r : CidRange). r.range.end < 2 ^ 32) table) (λ table is. (is ∙ inv.same ∙ take_all i list c.loop-entry-test.false, All-same (λ (r : CidRange). r.range.end < 2 ^ 32) table (take i list) (is ∙ inv.same) inv.small)) c.build.ensures
 
-pub returns-in_err-push-clause-same : goal.returns-in_err-push-clause-same
-returns-in_err-push-clause-same c = IfOk-from_err _ _ c.from_residual-in_err-push.ensures.0
-
-pub returns-in_err-push-clause-small : goal.returns-in_err-push-clause-small
-returns-in_err-push-clause-small c = IfOk-from_err _ _ c.from_residual-in_err-push.ensures.0
+pub returns-in_err-push : goal.returns-in_err-push
+returns-in_err-push c = IfOk-from_err _ _ c.from_residual-in_err-push.ensures.0

@@ -1,9 +1,10 @@
-use Rattle.std.proofs.Common.{◌<◌, ◌^◌, ◌∙◌, [], ◌∷◌, ◌++◌, All, ap, map, subst, sym, take}
+use Rattle.std.proofs.Common.{◌≡◌, ◌<◌, ◌^◌, ◌∙◌, [], ◌∷◌, ◌++◌, All, ap, map, subst, sym, take}
 use Rattle.std.proofs.lemmas.List.{map_more, map_push, take_all}
-use Rattle.std.proofs.lemmas.List.Elements.{All-push}
+use Rattle.std.proofs.lemmas.List.Elements.{All-push, All-same}
+use Rattle.std.proofs.lemmas.Result.{IfOk-weaker}
 use Rattle.cmap_files.specs.DeclarationsSeen.{bf_entry_seen}
 use Rattle.cmap_files.specs.declared.declarations.BfRange.{BfRange}
-use Rattle.cmap_writer.proofs.text_parts.copy_of_texts.Goals as goal
+use Rattle.cmap_writer.proofs.text_parts.text_table.Goals as goal
 
 pub loop-entry-preserved : goal.loop-entry-preserved
 loop-entry-preserved c =
@@ -18,5 +19,9 @@ loop-entry-preserved c =
       small = subst (All (λ (r : BfRange). r.range.end < 2 ^ 32)) (sym pushed) (All-push (λ (r : BfRange). r.range.end < 2 ^ 32) copy e c.loop-entry.invariant.small c.in_ok-copy_of_text.ensures.small);
     }
 
-pub returns-clause-same : goal.returns-clause-same
-returns-clause-same c = c.loop-entry.invariant.same ∙ ap (map bf_entry_seen) (take_all c.loop-entry.entry-index c.args.list.now c.loop-entry-test.false)
+pub returns : goal.returns
+returns c = 
+    let list = c.args.list.now in
+    let i = c.loop-entry.entry-index in
+    let inv = c.loop-entry.invariant in
+    IfOk-weaker c.build.result _ (λ table. (map bf_entry_seen table ≡ map bf_entry_seen list) × All (λ (r : BfRange). r.range.end < 2 ^ 32) table) (λ table is. (ap (map bf_entry_seen) is ∙ inv.same ∙ ap (map bf_entry_seen) (take_all i list c.loop-entry-test.false), All-same (λ (r : BfRange). r.range.end < 2 ^ 32) table c.loop-entry.copy.items is inv.small)) c.build.ensures
