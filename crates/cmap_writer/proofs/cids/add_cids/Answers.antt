@@ -45,7 +45,7 @@ pub split_at-requires : goal.split_at-requires
 split_at-requires c = c.segment_len.ensures.within
 
 pub returns : goal.returns
-returns c = 
+returns c =
     let say : List CidRange → List Declaration = λ xs. map (Declaration.cid (length_of c.args.len)) (entries_seen xs) in
     let none : c.loop-left.left.now ≡ [] = nil_from_length c.loop-left.left.now (eqb-true (length c.loop-left.left.now) 0 (sym c.loop-left-test.ensures)) in
     added_all say c.args.pieces.now c.args.segments.now.items c.loop-left.segments.items (subst (λ left. AddedTo say c.args.pieces.now left c.args.segments.now.items c.loop-left.segments.items) none c.loop-left.invariant.done)

@@ -16,7 +16,7 @@ pub loop-count-init : goal.loop-count-init
 loop-count-init c = record { some = omega arith; within = c.requires.first.0; few = omega arith; follow = λ k d one below within. absurd (omega (arith, one, below)) }
 
 pub loop-count-preserved : goal.loop-count-preserved
-loop-count-preserved c = 
+loop-count-preserved c =
     let i = c.loop-count.invariant in
     record {
       some = omega arith;

@@ -18,12 +18,12 @@ returns-in-Ranges-clause-written c =
     let new = c.push_column-in-Ranges.new.out.items in
     let (first, first_is, deltas) = subst (λ xs. Appends old mid (WritesColumn tables.delta xs)) c.deref.ensures.value c.in_ok-push_column.ensures.written in
     IfOk-weaker _ _ _ (λ _ more.
-        let (second, second_is, counts) = subst (λ xs. Appends mid new (WritesColumn tables.count xs)) c.deref-in-Ranges.ensures.value more in
-        let whole = second_is ∙ ap (λ bs. bs ++ second) first_is ∙ append_assoc old first second in
-        subst (λ shape. Appends old new (WritesNumbers tables (shape_seen shape) segment.deltas.items segment.counts.items)) (sym c.in-Ranges.is) (first ++ second, whole, (first, second, refl, deltas, counts))) c.push_column-in-Ranges.ensures.written
+    let (second, second_is, counts) = subst (λ xs. Appends mid new (WritesColumn tables.count xs)) c.deref-in-Ranges.ensures.value more in
+    let whole = second_is ∙ ap (λ bs. bs ++ second) first_is ∙ append_assoc old first second in
+    subst (λ shape. Appends old new (WritesNumbers tables (shape_seen shape) segment.deltas.items segment.counts.items)) (sym c.in-Ranges.is) (first ++ second, whole, (first, second, refl, deltas, counts))) c.push_column-in-Ranges.ensures.written
 
 pub returns-in-Singles-clause-written : goal.returns-in-Singles-clause-written
-returns-in-Singles-clause-written c = 
+returns-in-Singles-clause-written c =
     let tables = encoders_seen c.args.tables.now in
     let segment = c.args.segment.now in
     let old = c.args.out.now.items in

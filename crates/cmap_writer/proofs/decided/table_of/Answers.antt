@@ -22,7 +22,7 @@ pub loop-entry-init : goal.loop-entry-init
 loop-entry-init c = record { same = c.in_ok-copy.ensures.items; small = All-nil (λ (r : CidRange). r.range.end < 2 ^ 32) }
 
 pub returns : goal.returns
-returns c = 
+returns c =
     let list = c.args.list.now in
     let i = c.loop-entry.entry-index in
     let inv = c.loop-entry.invariant in

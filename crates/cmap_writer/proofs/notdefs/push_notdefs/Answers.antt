@@ -42,7 +42,7 @@ pub loop-left-init : goal.loop-left-init
 loop-left-init c = done_none SegmentByAny (λ xs. map (Declaration.notdef (length_of c.args.len)) (entries_seen xs)) refl c.args.entries.now c.args.out.now.items
 
 pub returns-clause-written : goal.returns-clause-written
-returns-clause-written c = 
+returns-clause-written c =
     let say : List CidRange → List Declaration = λ xs. map (Declaration.notdef (length_of c.args.len)) (entries_seen xs) in
     let none : c.loop-left.left.now ≡ [] = nil_from_length c.loop-left.left.now (eqb-true (length c.loop-left.left.now) 0 (sym c.loop-left-test.ensures)) in
     done_all SegmentByAny say c.args.entries.now c.args.out.now.items c.loop-left.out.items (subst (λ left. DoneTo SegmentByAny say c.args.entries.now left c.args.out.now.items c.loop-left.out.items) none c.loop-left.invariant)

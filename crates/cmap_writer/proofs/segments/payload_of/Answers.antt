@@ -6,7 +6,7 @@ use Rattle.cmap_writer.proofs.NumbersWritten.{payload_is}
 use Rattle.cmap_writer.proofs.segments.payload_of.Goals as goal
 
 pub returns-clause-written : goal.returns-clause-written
-returns-clause-written c = 
+returns-clause-written c =
     let segment = c.args.segment.now in
     payload_is (encoders_seen c.args.tables.now) segment c.push_number.new.out.items c.push_columns.new.out.items c.extend_from_slice.new.self.items c.from.result (c.in_ok-push_number.ensures ∙ ap (λ bs. bs ++ bytes_of 2 c.from.result) c.new-payload.ensures.items) (omega arith) c.in_ok-push_columns.ensures.written (c.in_ok-extend_from_slice.ensures.items ∙ ap (λ bs. c.push_columns.new.out.items ++ bs) c.deref.ensures.value)
 

@@ -20,7 +20,7 @@ loop-entry-preserved c =
     }
 
 pub returns : goal.returns
-returns c = 
+returns c =
     let list = c.args.list.now in
     let i = c.loop-entry.entry-index in
     let inv = c.loop-entry.invariant in

@@ -46,7 +46,7 @@ pub text_segment-requires-clause-held : goal.text_segment-requires-clause-held
 text_segment-requires-clause-held c = subst (AreHeldTexts (shape_seen c.first_form-form.result.shape) c.first_form-form.result.units) (sym c.split_at.ensures.front) c.segment_len.ensures.held
 
 pub returns : goal.returns
-returns c = 
+returns c =
     let say : List BfRange → List Declaration = λ xs. map Declaration.bf (map bf_entry_seen xs) in
     let none : c.loop-left.left.now ≡ [] = nil_from_length c.loop-left.left.now (eqb-true (length c.loop-left.left.now) 0 (sym c.loop-left-test.ensures)) in
     added_all say c.args.pieces.now c.args.segments.now.items c.loop-left.segments.items (subst (λ left. AddedTo say c.args.pieces.now left c.args.segments.now.items c.loop-left.segments.items) none c.loop-left.invariant.done)

@@ -12,7 +12,7 @@ returns-in-Ranges-Some c =
     subst (λ shape. IsNumberOf (shape_seen shape) c.args.self.units (20 + h.units)) (sym h.is-0) (subst (λ units. IsNumberOf ranges units (20 + h.units)) (sym h.is-1) (range_number h.units fixes.0 fixes.1))
 
 pub returns-in-Singles-Some : goal.returns-in-Singles-Some
-returns-in-Singles-Some c = 
+returns-in-Singles-Some c =
     let h = c.in-Singles-Some in
     let fixes : CanFix singles (Some h.units) = subst (CanFix singles) h.is-1 (subst (λ shape. CanFix (shape_seen shape) c.args.self.units) h.is-0 c.requires) in
     subst (λ shape. IsNumberOf (shape_seen shape) c.args.self.units (16 + h.units)) (sym h.is-0) (subst (λ units. IsNumberOf singles units (16 + h.units)) (sym h.is-1) (single_number h.units fixes.0 fixes.1))

@@ -13,14 +13,14 @@ returns c =
     let width = c.args.width in
     let fit = subst (λ t. All (λ p. p.symbol < 2 ^ (8 * width)) t) (sym c.self.view_is) c.requires.symbols in
     IfOk-weaker _ _ _ (λ _ symbols.
-        subst (λ t. Appends c.args.out.now.items c.push_symbols.new.out.items (Writes (TableAt width) t)) c.self.view_is
-        (table_written width _ c.args.out.now.items c.push_number.new.out.items c.push.new.self.items c.push_u16s.new.out.items c.push_symbols.new.out.items i.counts.items i.words.items
-        c.in_ok-push_number.ensures
-        c.in_ok-push.ensures.items
-        (c.in_ok-push_u16s.ensures.written ∙ ap (λ ns. c.push.new.self.items ++ fields 2 ns) c.deref.ensures.value)
-        (symbols ∙ ap (λ ws. c.push_u16s.new.out.items ++ flat_map (λ w. bytes_of width w.symbol) ws) c.deref-2.ensures.value)
-        (c.len.ensures ∙ sym c.deref.ensures.len ∙ ap length c.deref.ensures.value)
-        (subst (λ ns. All (λ n. n < 2 ^ 16) ns) c.deref.ensures.value c.in_ok-push_u16s.ensures.small)
-        fit
-        c.self.invariant.sound
-        c.self.invariant.counts)) c.push_symbols.ensures
+    subst (λ t. Appends c.args.out.now.items c.push_symbols.new.out.items (Writes (TableAt width) t)) c.self.view_is
+    (table_written width _ c.args.out.now.items c.push_number.new.out.items c.push.new.self.items c.push_u16s.new.out.items c.push_symbols.new.out.items i.counts.items i.words.items
+    c.in_ok-push_number.ensures
+    c.in_ok-push.ensures.items
+    (c.in_ok-push_u16s.ensures.written ∙ ap (λ ns. c.push.new.self.items ++ fields 2 ns) c.deref.ensures.value)
+    (symbols ∙ ap (λ ws. c.push_u16s.new.out.items ++ flat_map (λ w. bytes_of width w.symbol) ws) c.deref-2.ensures.value)
+    (c.len.ensures ∙ sym c.deref.ensures.len ∙ ap length c.deref.ensures.value)
+    (subst (λ ns. All (λ n. n < 2 ^ 16) ns) c.deref.ensures.value c.in_ok-push_u16s.ensures.small)
+    fit
+    c.self.invariant.sound
+    c.self.invariant.counts)) c.push_symbols.ensures
