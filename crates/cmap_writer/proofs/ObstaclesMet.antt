@@ -4,7 +4,7 @@ use Rattle.std.specs.Prelude.{All, Any, Contains, IfErr, IsErrAnd, IsSomeAnd, Op
 use Rattle.std.proofs.lemmas.List.{get_or-map, length-map, map-append}
 use Rattle.cmap_files.specs.DeclarationsSeen.{bf_entry_seen, cid_entry_seen, codespace_seen, entries_seen}
 use Rattle.cmap_files.specs.Files as files
-use Rattle.cmap_files.specs.Files.{ByLength, BfEntry, File}
+use Rattle.cmap_files.specs.Files.{ByLength, BfEntry, CidEntry, File}
 use Rattle.cmap_values.specs.Outcomes.{RefusesWith}
 use Rattle.cmap_values.proofs.Outcomes.{refused_as}
 use Rattle.cmap_values.specs.UnitsSeen.{units_seen}
@@ -17,7 +17,7 @@ use Rattle.cmap_values.specs.Metadata.{Collection}
 use Rattle.cmap_values.specs.Names.{ordering_of, registry_of}
 use Rattle.cmap_layers.specs.Lookups.{last_bf}
 use Rattle.cmap_packed.specs.Bundles.{PrefixTables}
-use Rattle.cmap_writer.specs.Obstacles.{GivesLargeCid, HasLongText, HasManyTexts, IsCidListsObstacle, IsCidObstacle, IsCollectionObstacle, IsColumnObstacle, IsFamilyObstacle, IsLargeEnd, IsLargeNotdef, IsMetadataObstacle, IsNotdefListsObstacle, IsNotdefObstacle, IsNotdefsObstacle, IsObstacle, IsSegmentObstacle, IsSegmentsObstacle, IsSpaceObstacle, IsSpacesObstacle, IsTerminatedObstacle, IsTextObstacle, IsWriteObstacle}
+use Rattle.cmap_writer.specs.Obstacles.{GivesLargeCid, HasLongText, HasManyTexts, IsCidListsObstacle, IsCidObstacle, IsCodeObstacle, IsCollectionObstacle, IsColumnObstacle, IsFamilyObstacle, IsLargeEnd, IsLargeNotdef, IsMetadataObstacle, IsNotdefListsObstacle, IsNotdefObstacle, IsNotdefsObstacle, IsObstacle, IsSegmentObstacle, IsSegmentsObstacle, IsSpaceObstacle, IsSpacesObstacle, IsTerminatedObstacle, IsTextObstacle, IsWriteObstacle}
 use Rattle.cmap_writer.specs.Failures.{IsTooLongIf}
 use Rattle.cmap_writer.specs.PreparedFiles.{IsPrepared}
 use Rattle.cmap_writer.specs.Spelled.{IsNoSymbol}
@@ -57,7 +57,23 @@ by_notdef_list lists len xs is (LargeCode code) h = (len, subst (λ es. Any (λ 
 by_notdef_list lists len xs is TooLong h = tt
 by_notdef_list lists len xs is other h = absurd h
 
+pub by_start : (len : ℕ) (e : CidEntry) (o : Obstacle) → IsCodeObstacle len e.start o → IsNotdefObstacle len e o
+by_start len e (LargeCode code) (is, past) = (inl is, subst (λ n. 256 ^ len ≤ n) (sym is) past)
+by_start len e other h = absurd h
+
+pub by_end : (len : ℕ) (e : CidEntry) (o : Obstacle) → IsCodeObstacle len e.end o → IsNotdefObstacle len e o
+by_end len e (LargeCode code) (is, past) = (inr is, subst (λ n. 256 ^ len ≤ n) (sym is) past)
+by_end len e other h = absurd h
+
 -- ---- codespace ranges
+pub by_low : (space : files.Codespace) (o : Obstacle) → IsCodeObstacle space.len space.low o → IsSpaceObstacle space o
+by_low space (LargeCode code) (is, past) = (inl is, subst (λ n. 256 ^ space.len ≤ n) (sym is) past)
+by_low space other h = absurd h
+
+pub by_high : (space : files.Codespace) (o : Obstacle) → IsCodeObstacle space.len space.high o → IsSpaceObstacle space o
+by_high space (LargeCode code) (is, past) = (inr is, subst (λ n. 256 ^ space.len ≤ n) (sym is) past)
+by_high space other h = absurd h
+
 pub space_among : (spaces : List Codespace) (i : ℕ) (d : Codespace) → i < length spaces → (o : Obstacle) → IsSpaceObstacle (codespace_seen (get_or spaces i d)) o → IsSpacesObstacle (map codespace_seen spaces) o
 space_among spaces i d within (LargeCode code) h = any_at (λ space. IsLargeEnd code space.len space.low space.high) codespace_seen spaces i d within h
 space_among spaces i d within other h = absurd h

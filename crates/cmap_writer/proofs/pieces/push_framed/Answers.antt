@@ -25,3 +25,9 @@ overflow_cast-front c = omega arith
 
 pub returns-clause-written : goal.returns-clause-written
 returns-clause-written c = framed_written c.args.out.now.items c.extend_from_slice.new.self.items c.push_number.new.out.items c.extend_from_slice-2.new.self.items c.args.front.now c.args.payload.now _ c.in_ok-extend_from_slice.ensures.items c.in_ok-push_number.ensures c.in_ok-extend_from_slice-2.ensures.items refl (omega arith)
+
+pub returns-in_err-push_number-clause-err : goal.returns-in_err-push_number-clause-err
+returns-in_err-push_number-clause-err c = memory_long _ _ c.from_residual-in_err-push_number.ensures.1
+
+pub returns-in_err-extend_from_slice-2-clause-err : goal.returns-in_err-extend_from_slice-2-clause-err
+returns-in_err-extend_from_slice-2-clause-err c = memory_long _ _ c.from_residual-in_err-extend_from_slice-2.ensures.1

@@ -3,6 +3,7 @@ use Rattle.cmap_values.proofs.Outcomes.{refuses_on}
 use Rattle.cmap_writer.specs.EncodersSeen.{encoders_seen}
 use Rattle.cmap_writer.specs.Written.{bytes_of}
 use Rattle.cmap_writer.proofs.NumbersWritten.{payload_is}
+use Rattle.cmap_writer.proofs.ObstaclesMet.{memory_on}
 use Rattle.cmap_writer.proofs.segments.payload_of.Goals as goal
 
 pub returns-clause-written : goal.returns-clause-written
@@ -12,3 +13,9 @@ returns-clause-written c =
 
 pub returns-in_err-push_columns-clause-err : goal.returns-in_err-push_columns-clause-err
 returns-in_err-push_columns-clause-err c = refuses_on _ _ c.from_residual-in_err-push_columns.ensures.1 c.in_err-push_columns.ensures.err (λ o h. h)
+
+pub returns-in_err-push_number-clause-err : goal.returns-in_err-push_number-clause-err
+returns-in_err-push_number-clause-err c = memory_on _ _ c.from_residual.ensures.1
+
+pub returns-in_err-extend_from_slice-clause-err : goal.returns-in_err-extend_from_slice-clause-err
+returns-in_err-extend_from_slice-clause-err c = memory_on _ _ c.from_residual-in_err-extend_from_slice.ensures.1
