@@ -31,10 +31,10 @@ pub returns-in_default : goal.returns-in_default
 returns-in_default c = no_bundle _ c.in_default.ensures
 
 pub returns-in_default-2 : goal.returns-in_default-2
-returns-in_default-2 c = no_tables _ _ _ c.in-Some.ensures (rw c.in_default-2.is at c.in_ok-tables.ensures)
+returns-in_default-2 c = no_files _ _ _ c.in-Some.ensures (rw c.in_default-2.is at c.in_ok-files.ensures)
 
 pub returns-in_default-3 : goal.returns-in_default-3
-returns-in_default-3 c = no_files _ _ _ c.in-Some.ensures (rw c.in_default-3.is at c.in_ok-files.ensures)
+returns-in_default-3 c = no_tables _ _ _ c.in-Some.ensures (rw c.in_default-3.is at c.in_ok-tables.ensures)
 
 pub returns : goal.returns
-returns c = bundle_only _ _ _ c.in-Some.ensures _ _ (rw c.in-Some-2.is at c.in_ok-tables.ensures) (rw c.in-Some-3.is at c.in_ok-files.ensures)
+returns c = bundle_only _ _ _ c.in-Some.ensures _ _ (rw c.in-Some-3.is at c.in_ok-tables.ensures) (rw c.in-Some-2.is at c.in_ok-files.ensures)
