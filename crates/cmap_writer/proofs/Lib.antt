@@ -3,6 +3,7 @@ pub mod BytesWritten
 pub mod CidParts
 pub mod CidsWritten
 pub mod ColumnsHeld
+pub mod ColumnsMade
 pub mod DecidedParts
 pub mod FileKept
 pub mod FilesWritten
@@ -18,7 +19,6 @@ pub mod RunParts
 pub mod SegmentsAdded
 pub mod SegmentsDone
 pub mod SegmentsMade
-pub mod ShapesCounted
 pub mod Spelling
 pub mod TablesWritten
 pub mod TextParts

@@ -1,6 +1,6 @@
 use Rattle.std.proofs.Common.{◌∙◌, ◌++◌, ◌-◌, ap, arith, map}
 use Rattle.cmap_writer.specs.Held.{counts_of}
-use Rattle.cmap_writer.proofs.ShapesCounted.{count_more, counts_done, next_shaped}
+use Rattle.cmap_writer.proofs.ColumnsMade.{count_more, counts_done, next_shaped}
 use Rattle.cmap_writer.proofs.columns.range_counts.Goals as goal
 
 pub loop-entry-init : goal.loop-entry-init
