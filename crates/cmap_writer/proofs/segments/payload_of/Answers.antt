@@ -1,4 +1,4 @@
-use Rattle.std.proofs.Common.{◌∙◌, ◌++◌, ap, arith, subst}
+use Rattle.std.proofs.Common.{◌∙◌, ◌++◌, ap, arith}
 use Rattle.cmap_values.proofs.Outcomes.{refuses_on}
 use Rattle.cmap_writer.specs.EncodersSeen.{encoders_seen}
 use Rattle.cmap_writer.specs.Written.{bytes_of}
