@@ -139,6 +139,12 @@ pub by_ordering : (collection : Collection) (text : List ℕ) → text ≡ order
 by_ordering collection text is ZeroByte h = inr (subst (λ t. Contains t 0) is h)
 by_ordering collection text is other h = absurd h
 
+pub by_collection : (said : Option Collection) (collection : Collection) → said ≡ Some collection → (o : Obstacle) → IsCollectionObstacle collection o → IsMetadataObstacle said o
+by_collection said collection is ZeroByte h = rw is h
+by_collection said collection is CustomFamily h = rw is h
+by_collection said collection is (Supplement n) h = rw is h
+by_collection said collection is other h = absurd h
+
 -- ---- parts of a file
 pub by_metadata : (file : File) (o : Obstacle) → IsMetadataObstacle file.metadata.collection o → IsObstacle file o
 by_metadata file ZeroByte h = h
@@ -189,6 +195,12 @@ too_long long P (Err error) Memory is h p = rw is tt
 pub refused_on : {A : Type 0} {P Q : Obstacle → Type 0} (result : Result A (Fault Obstacle)) → IfErr result (RefusesWith P) → ((o : Obstacle) → P o → Q o) → IfErr result (RefusesWith Q)
 refused_on (Ok x) h gives = tt
 refused_on (Err fault) h gives = refused_as fault h gives
+
+pub too_long_of : {A : Type 0} (long : Type 0) (P : Obstacle → Type 0) (result : Result A (Fault Obstacle)) → IfErr result (IsTooLongIf long) → P TooLong → IfErr result (RefusesWith P)
+too_long_of long P (Ok x) h p = tt
+too_long_of long P (Err (Refused TooLong)) h p = p
+too_long_of long P (Err (Refused other)) h p = absurd h
+too_long_of long P (Err Memory) h p = tt
 
 -- ---- a want of memory
 pub memory_on : {A : Type 0} (P : Obstacle → Type 0) (result : Result A (Fault Obstacle)) → IsErrAnd result (λ e. e ≡ Memory) → IfErr result (RefusesWith P)

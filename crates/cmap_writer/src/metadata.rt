@@ -102,11 +102,13 @@ fn push_collection(
         (WritesAll SegmentByAny (from_option (λ collection. sets_collection (collection_seen collection)) collection.now))) }
     ensures err { IfErr result (RefusesWith (IsMetadataObstacle (option_map collection_seen collection.now))) }
 {
-    if let Some(collection) = collection {
-        let payload = collection_payload(alloc, collection)?;
-        push_segment(out, COLLECTION, &payload)?;
+    match collection {
+        Some(collection) => {
+            let payload = collection_payload(alloc, collection)?;
+            push_segment(out, COLLECTION, &payload)
+        }
+        None => Ok(()),
     }
-    Ok(())
 }
 
 /// The payload of a segment for a character collection.
@@ -142,14 +144,12 @@ fn check_family(alloc: Global, family: &CidFamily) -> Result<(), Fault<Obstacle>
     ensures same { IfOk result (λ _. family_of (registry_of (family_seen family.now)) (ordering_of (family_seen family.now)) ≡ family_seen family.now) }
     ensures err { IfErr result (RefusesWith (IsFamilyObstacle (family_seen family.now))) }
 {
-    match family {
-        CidFamily::Custom { registry, ordering } => {
-            match CidFamily::from_registry_ordering(alloc, registry, ordering)? {
-                CidFamily::Custom { .. } => Ok(()),
-                _ => Err(Fault::Refused(Obstacle::CustomFamily)),
-            }
-        }
-        _ => Ok(()),
+    let CidFamily::Custom { registry, ordering } = family else {
+        return Ok(());
+    };
+    match CidFamily::from_registry_ordering(alloc, registry, ordering)? {
+        CidFamily::Custom { .. } => Ok(()),
+        _ => Err(Fault::Refused(Obstacle::CustomFamily)),
     }
 }
 
