@@ -1,5 +1,6 @@
 use Rattle.std.proofs.Common.{All, map, subst, sym}
 use Rattle.std.proofs.lemmas.List.Sorted.{All-permutation, IsPermutation-map}
+use Rattle.std.proofs.lemmas.Result.{IfOk-from_err}
 use Rattle.cmap_values.specs.CodeLengths.{length_of}
 use Rattle.cmap_files.specs.DeclarationsSeen.{cid_entry_seen, entries_seen}
 use Rattle.cmap_files.specs.Files.{Declaration}
@@ -40,3 +41,15 @@ returns-in_err-sort_by_key-clause-err c = memory_on _ _ c.from_residual-in_err-s
 
 pub returns-in_err-add_cids-clause-err : goal.returns-in_err-add_cids-clause-err
 returns-in_err-add_cids-clause-err c = memory_on _ _ c.from_residual-in_err-add_cids.ensures.1
+
+pub returns-in_err-ranges-clause-added : goal.returns-in_err-ranges-clause-added
+returns-in_err-ranges-clause-added c = IfOk-from_err _ _ c.from_residual.ensures.0
+
+pub returns-in_err-pieces-clause-added : goal.returns-in_err-pieces-clause-added
+returns-in_err-pieces-clause-added c = IfOk-from_err _ _ c.from_residual-in_err-pieces.ensures.0
+
+pub returns-in_err-sort_by_key-clause-added : goal.returns-in_err-sort_by_key-clause-added
+returns-in_err-sort_by_key-clause-added c = IfOk-from_err _ _ c.from_residual-in_err-sort_by_key.ensures.0
+
+pub returns-in_err-add_cids-clause-added : goal.returns-in_err-add_cids-clause-added
+returns-in_err-add_cids-clause-added c = IfOk-from_err _ _ c.from_residual-in_err-add_cids.ensures.0

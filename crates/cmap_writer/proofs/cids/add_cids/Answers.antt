@@ -2,6 +2,7 @@ use Rattle.std.proofs.Common.{◌∙◌, ◌++◌, ◌≡◌, List, [], length, 
 use Rattle.std.specs.List.{All}
 use Rattle.std.proofs.lemmas.Bool.{eqb-true}
 use Rattle.std.proofs.lemmas.List.{map-append, nil_from_length, take-append-drop}
+use Rattle.std.proofs.lemmas.Result.{IfOk-from_err}
 use Rattle.cmap_values.specs.CodeLengths.{length_of}
 use Rattle.cmap_files.specs.DeclarationsSeen.{cid_entry_seen, entries_seen}
 use Rattle.cmap_files.specs.Files.{Declaration}
@@ -49,3 +50,9 @@ returns c =
     let say : List CidRange → List Declaration = λ xs. map (Declaration.cid (length_of c.args.len)) (entries_seen xs) in
     let none : c.loop-left.left.now ≡ [] = nil_from_length c.loop-left.left.now (eqb-true (length c.loop-left.left.now) 0 (sym c.loop-left-test.ensures)) in
     added_all say c.args.pieces.now c.args.segments.now.items c.loop-left.segments.items (subst (λ left. AddedTo say c.args.pieces.now left c.args.segments.now.items c.loop-left.segments.items) none c.loop-left.invariant.done)
+
+pub returns-in_err-cid_segment : goal.returns-in_err-cid_segment
+returns-in_err-cid_segment c = IfOk-from_err _ _ c.from_residual.ensures.0
+
+pub returns-in_err-push : goal.returns-in_err-push
+returns-in_err-push c = IfOk-from_err _ _ c.from_residual-in_err-push.ensures.0

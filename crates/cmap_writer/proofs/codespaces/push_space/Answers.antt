@@ -1,5 +1,5 @@
 use Rattle.std.proofs.Common.{◌∙◌, ◌++◌, ◌∷◌, [], ap}
-use Rattle.std.proofs.lemmas.Result.{IfOk-weaker}
+use Rattle.std.proofs.lemmas.Result.{IfOk-from_err, IfOk-weaker}
 use Rattle.cmap_files.specs.DeclarationsSeen.{codespace_seen}
 use Rattle.cmap_values.proofs.Outcomes.{refuses_on}
 use Rattle.cmap_writer.proofs.ObstaclesMet.{by_high, by_low, memory_on, refused_on}
@@ -20,3 +20,9 @@ returns-in_err-push_code-clause-err c = refuses_on _ _ c.from_residual-in_err-pu
 
 pub returns-clause-err : goal.returns-clause-err
 returns-clause-err c = refused_on _ c.push_code-2.ensures.err (by_high (codespace_seen c.args.space))
+
+pub returns-in_err-push-clause-written : goal.returns-in_err-push-clause-written
+returns-in_err-push-clause-written c = IfOk-from_err _ _ c.from_residual.ensures.0
+
+pub returns-in_err-push_code-clause-written : goal.returns-in_err-push_code-clause-written
+returns-in_err-push_code-clause-written c = IfOk-from_err _ _ c.from_residual-in_err-push_code.ensures.0

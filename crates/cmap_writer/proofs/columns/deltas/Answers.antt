@@ -1,4 +1,5 @@
 use Rattle.std.proofs.Common.{◌∙◌, ◌++◌, ◌+◌, ◌-◌, ap, arith, map}
+use Rattle.std.proofs.lemmas.Result.{IfOk-from_err}
 use Rattle.cmap_writer.specs.Held.{deltas_of}
 use Rattle.cmap_writer.proofs.ColumnsMade.{delta_more, deltas_done, next_ordered, ordered_more}
 use Rattle.cmap_writer.proofs.columns.deltas.Goals as goal
@@ -36,3 +37,9 @@ loop-entry-preserved g c =
 
 pub returns : goal.returns
 returns g c = deltas_done g.T.HasRange.span c.args.entries.now c.loop-entry.entry-index c.loop-entry.base c.loop-entry.deltas.items c.loop-entry-test.false c.loop-entry.invariant.deltas
+
+pub returns-in_err-deltas : goal.returns-in_err-deltas
+returns-in_err-deltas g c = IfOk-from_err _ _ c.from_residual.ensures.0
+
+pub returns-in_err-push : goal.returns-in_err-push
+returns-in_err-push g c = IfOk-from_err _ _ c.from_residual-in_err-push.ensures.0

@@ -1,4 +1,5 @@
 use Rattle.std.proofs.Common.{subst}
+use Rattle.std.proofs.lemmas.Result.{IfOk-from_err}
 use Rattle.cmap_packed.specs.Fronts.{SizedAt}
 use Rattle.cmap_writer.specs.Written.{Appends, Writes}
 use Rattle.cmap_writer.proofs.ObstaclesMet.{memory_on, too_long}
@@ -16,3 +17,9 @@ returns-in_err-push_sized-clause-err c = too_long _ _ _ _ c.from_residual-in_err
 
 pub returns-in_err-text-clause-err : goal.returns-in_err-text-clause-err
 returns-in_err-text-clause-err c = memory_on _ _ c.from_residual.ensures.1
+
+pub returns-in_err-text-clause-written : goal.returns-in_err-text-clause-written
+returns-in_err-text-clause-written c = IfOk-from_err _ _ c.from_residual.ensures.0
+
+pub returns-in_err-push_sized-clause-written : goal.returns-in_err-push_sized-clause-written
+returns-in_err-push_sized-clause-written c = IfOk-from_err _ _ c.from_residual-in_err-push_sized.ensures.0

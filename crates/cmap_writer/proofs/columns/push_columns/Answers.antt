@@ -1,6 +1,6 @@
 use Rattle.std.proofs.Common.{◌∙◌, ◌++◌, ap, refl, subst, sym}
 use Rattle.std.proofs.lemmas.List.{append_assoc}
-use Rattle.std.proofs.lemmas.Result.{IfOk-weaker}
+use Rattle.std.proofs.lemmas.Result.{IfOk-from_err, IfOk-weaker}
 use Rattle.cmap_values.proofs.Outcomes.{refuses_on}
 use Rattle.cmap_writer.specs.ColumnsWritten.{WritesColumn}
 use Rattle.cmap_writer.specs.EncodersSeen.{encoders_seen, shape_seen}
@@ -35,3 +35,6 @@ returns-in_err-push_column-clause-err c = refuses_on _ _ c.from_residual.ensures
 
 pub returns-in-Ranges-clause-err : goal.returns-in-Ranges-clause-err
 returns-in-Ranges-clause-err c = refused_on _ c.push_column-in-Ranges.ensures.err (by_counts (encoders_seen c.args.tables.now) c.args.segment.now _ c.deref-in-Ranges.ensures.value)
+
+pub returns-in_err-push_column-clause-written : goal.returns-in_err-push_column-clause-written
+returns-in_err-push_column-clause-written c = IfOk-from_err _ _ c.from_residual.ensures.0

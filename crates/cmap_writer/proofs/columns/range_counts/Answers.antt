@@ -1,4 +1,5 @@
 use Rattle.std.proofs.Common.{◌∙◌, ◌++◌, ◌-◌, ap, arith, map}
+use Rattle.std.proofs.lemmas.Result.{IfOk-from_err}
 use Rattle.cmap_writer.specs.Held.{counts_of}
 use Rattle.cmap_writer.proofs.ColumnsMade.{count_more, counts_done, next_shaped}
 use Rattle.cmap_writer.proofs.columns.range_counts.Goals as goal
@@ -29,3 +30,9 @@ loop-entry-preserved g c =
 
 pub returns : goal.returns
 returns g c = counts_done g.T.HasRange.span c.args.entries.now c.loop-entry.entry-index c.loop-entry.counts.items c.loop-entry-test.false c.loop-entry.invariant.counts
+
+pub returns-in_err-counts : goal.returns-in_err-counts
+returns-in_err-counts g c = IfOk-from_err _ _ c.from_residual.ensures.0
+
+pub returns-in_err-push : goal.returns-in_err-push
+returns-in_err-push g c = IfOk-from_err _ _ c.from_residual-in_err-push.ensures.0

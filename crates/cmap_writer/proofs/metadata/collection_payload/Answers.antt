@@ -1,4 +1,5 @@
 use Rattle.std.proofs.Common.{◌∙◌, ◌++◌, ap, subst}
+use Rattle.std.proofs.lemmas.Result.{IfOk-from_err}
 use Rattle.cmap_values.specs.MetadataSeen.{collection_seen}
 use Rattle.cmap_values.specs.Names.{ordering_of, registry_of}
 use Rattle.cmap_packed.specs.Fronts.{TerminatedAt}
@@ -34,3 +35,15 @@ returns-in_err-push_terminated-2-clause-err c = refuses_on _ _ c.from_residual-i
 
 pub returns-in_err-push_number-clause-err : goal.returns-in_err-push_number-clause-err
 returns-in_err-push_number-clause-err c = memory_on _ _ c.from_residual-in_err-push_number.ensures.1
+
+pub returns-in_err-check_family-clause-written : goal.returns-in_err-check_family-clause-written
+returns-in_err-check_family-clause-written c = IfOk-from_err _ _ c.from_residual.ensures.0
+
+pub returns-in_err-push_terminated-clause-written : goal.returns-in_err-push_terminated-clause-written
+returns-in_err-push_terminated-clause-written c = IfOk-from_err _ _ c.from_residual-in_err-push_terminated.ensures.0
+
+pub returns-in_err-push_terminated-2-clause-written : goal.returns-in_err-push_terminated-2-clause-written
+returns-in_err-push_terminated-2-clause-written c = IfOk-from_err _ _ c.from_residual-in_err-push_terminated-2.ensures.0
+
+pub returns-in_err-push_number-clause-written : goal.returns-in_err-push_number-clause-written
+returns-in_err-push_number-clause-written c = IfOk-from_err _ _ c.from_residual-in_err-push_number.ensures.0

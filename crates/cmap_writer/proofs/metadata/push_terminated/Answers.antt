@@ -1,4 +1,5 @@
 use Rattle.std.proofs.Common.{◌∙◌, sym}
+use Rattle.std.proofs.lemmas.Result.{IfOk-from_err}
 use Rattle.cmap_writer.proofs.MetadataHeld.{has_zero, no_zero, terminated}
 use Rattle.cmap_writer.proofs.ObstaclesMet.{memory_on}
 use Rattle.cmap_writer.proofs.metadata.push_terminated.Goals as goal
@@ -14,3 +15,9 @@ returns-in_err-extend_from_slice-clause-err c = memory_on _ _ c.from_residual.en
 
 pub returns-in_err-push-clause-err : goal.returns-in_err-push-clause-err
 returns-in_err-push-clause-err c = memory_on _ _ c.from_residual-in_err-push.ensures.1
+
+pub returns-in_err-extend_from_slice-clause-written : goal.returns-in_err-extend_from_slice-clause-written
+returns-in_err-extend_from_slice-clause-written c = IfOk-from_err _ _ c.from_residual.ensures.0
+
+pub returns-in_err-push-clause-written : goal.returns-in_err-push-clause-written
+returns-in_err-push-clause-written c = IfOk-from_err _ _ c.from_residual-in_err-push.ensures.0

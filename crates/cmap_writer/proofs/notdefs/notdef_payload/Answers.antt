@@ -1,5 +1,6 @@
 use Rattle.std.proofs.Common.{◌∙◌, ◌++◌, ◌∷◌, [], length, ap, sym}
 use Rattle.std.proofs.lemmas.List.{length-map}
+use Rattle.std.proofs.lemmas.Result.{IfOk-from_err}
 use Rattle.cmap_values.specs.CodeLengths.{length_of}
 use Rattle.cmap_files.specs.DeclarationsSeen.{cid_entry_seen, entries_seen}
 use Rattle.cmap_values.proofs.Outcomes.{refuses_on}
@@ -20,3 +21,12 @@ returns-in_err-push_number-clause-err c = memory_on _ _ c.from_residual-in_err-p
 
 pub returns-in_err-push_entries-clause-err : goal.returns-in_err-push_entries-clause-err
 returns-in_err-push_entries-clause-err c = refuses_on _ _ c.from_residual-in_err-push_entries.ensures.1 c.in_err-push_entries.ensures.err (λ o h. h)
+
+pub returns-in_err-push-clause-written : goal.returns-in_err-push-clause-written
+returns-in_err-push-clause-written c = IfOk-from_err _ _ c.from_residual.ensures.0
+
+pub returns-in_err-push_number-clause-written : goal.returns-in_err-push_number-clause-written
+returns-in_err-push_number-clause-written c = IfOk-from_err _ _ c.from_residual-in_err-push_number.ensures.0
+
+pub returns-in_err-push_entries-clause-written : goal.returns-in_err-push_entries-clause-written
+returns-in_err-push_entries-clause-written c = IfOk-from_err _ _ c.from_residual-in_err-push_entries.ensures.0

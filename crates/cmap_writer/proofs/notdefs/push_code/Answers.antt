@@ -1,4 +1,5 @@
 use Rattle.std.proofs.Common.{◌∙◌, ◌++◌, ap, arith}
+use Rattle.std.proofs.lemmas.Result.{IfOk-from_err}
 use Rattle.cmap_writer.specs.Written.{bytes_of}
 use Rattle.cmap_writer.proofs.ObstaclesMet.{memory_on}
 use Rattle.cmap_writer.proofs.RowsWritten.{code_written}
@@ -9,3 +10,6 @@ returns-clause-written c = code_written c.args.len c.args.code c.args.out.now.it
 
 pub returns-in_err-push_number-clause-err : goal.returns-in_err-push_number-clause-err
 returns-in_err-push_number-clause-err c = memory_on _ _ c.from_residual.ensures.1
+
+pub returns-in_err-push_number-clause-written : goal.returns-in_err-push_number-clause-written
+returns-in_err-push_number-clause-written c = IfOk-from_err _ _ c.from_residual.ensures.0

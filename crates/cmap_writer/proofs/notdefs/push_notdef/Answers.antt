@@ -1,4 +1,5 @@
 use Rattle.std.proofs.Common.{arith}
+use Rattle.std.proofs.lemmas.Result.{IfOk-from_err}
 use Rattle.cmap_values.specs.CodeLengths.{length_of}
 use Rattle.cmap_files.specs.DeclarationsSeen.{cid_entry_seen}
 use Rattle.cmap_values.proofs.Outcomes.{refuses_on}
@@ -17,3 +18,12 @@ returns-in_err-push_code-2-clause-err c = refuses_on _ _ c.from_residual-in_err-
 
 pub returns-in_err-push_number-clause-err : goal.returns-in_err-push_number-clause-err
 returns-in_err-push_number-clause-err c = memory_on _ _ c.from_residual-in_err-push_number.ensures.1
+
+pub returns-in_err-push_code-clause-written : goal.returns-in_err-push_code-clause-written
+returns-in_err-push_code-clause-written c = IfOk-from_err _ _ c.from_residual.ensures.0
+
+pub returns-in_err-push_code-2-clause-written : goal.returns-in_err-push_code-2-clause-written
+returns-in_err-push_code-2-clause-written c = IfOk-from_err _ _ c.from_residual-in_err-push_code-2.ensures.0
+
+pub returns-in_err-push_number-clause-written : goal.returns-in_err-push_number-clause-written
+returns-in_err-push_number-clause-written c = IfOk-from_err _ _ c.from_residual-in_err-push_number.ensures.0

@@ -1,4 +1,5 @@
 use Rattle.std.proofs.Common.{refl, arith}
+use Rattle.std.proofs.lemmas.Result.{IfOk-from_err}
 use Rattle.cmap_writer.proofs.FrontsWritten.{framed_written}
 use Rattle.cmap_writer.proofs.ObstaclesMet.{memory_long}
 use Rattle.cmap_writer.proofs.pieces.push_framed.Goals as goal
@@ -31,3 +32,12 @@ returns-in_err-push_number-clause-err c = memory_long _ _ c.from_residual-in_err
 
 pub returns-in_err-extend_from_slice-2-clause-err : goal.returns-in_err-extend_from_slice-2-clause-err
 returns-in_err-extend_from_slice-2-clause-err c = memory_long _ _ c.from_residual-in_err-extend_from_slice-2.ensures.1
+
+pub returns-in_err-extend_from_slice-clause-written : goal.returns-in_err-extend_from_slice-clause-written
+returns-in_err-extend_from_slice-clause-written c = IfOk-from_err _ _ c.from_residual.ensures.0
+
+pub returns-in_err-push_number-clause-written : goal.returns-in_err-push_number-clause-written
+returns-in_err-push_number-clause-written c = IfOk-from_err _ _ c.from_residual-in_err-push_number.ensures.0
+
+pub returns-in_err-extend_from_slice-2-clause-written : goal.returns-in_err-extend_from_slice-2-clause-written
+returns-in_err-extend_from_slice-2-clause-written c = IfOk-from_err _ _ c.from_residual-in_err-extend_from_slice-2.ensures.0

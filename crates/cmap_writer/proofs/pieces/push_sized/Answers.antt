@@ -1,5 +1,6 @@
 use Rattle.std.proofs.Common.{ℕ, length, refl, ap, arith}
 use Rattle.std.proofs.lemmas.List.{length-append}
+use Rattle.std.proofs.lemmas.Result.{IfOk-from_err}
 use Rattle.cmap_writer.proofs.BytesWritten.{length-bytes_of}
 use Rattle.cmap_writer.proofs.FrontsWritten.{sized_written}
 use Rattle.cmap_writer.proofs.ObstaclesMet.{memory_long}
@@ -16,3 +17,15 @@ returns-in_err-push_number-clause-err c = memory_long _ _ c.from_residual.ensure
 
 pub returns-in_err-extend_from_slice-clause-err : goal.returns-in_err-extend_from_slice-clause-err
 returns-in_err-extend_from_slice-clause-err c = memory_long _ _ c.from_residual-in_err-extend_from_slice.ensures.1
+
+pub returns-in_err-push_number-clause-written : goal.returns-in_err-push_number-clause-written
+returns-in_err-push_number-clause-written c = IfOk-from_err _ _ c.from_residual.ensures.0
+
+pub returns-in_err-push_number-clause-len : goal.returns-in_err-push_number-clause-len
+returns-in_err-push_number-clause-len c = IfOk-from_err _ _ c.from_residual.ensures.0
+
+pub returns-in_err-extend_from_slice-clause-written : goal.returns-in_err-extend_from_slice-clause-written
+returns-in_err-extend_from_slice-clause-written c = IfOk-from_err _ _ c.from_residual-in_err-extend_from_slice.ensures.0
+
+pub returns-in_err-extend_from_slice-clause-len : goal.returns-in_err-extend_from_slice-clause-len
+returns-in_err-extend_from_slice-clause-len c = IfOk-from_err _ _ c.from_residual-in_err-extend_from_slice.ensures.0

@@ -1,5 +1,5 @@
 use Rattle.std.proofs.Common.{ap, subst}
-use Rattle.std.proofs.lemmas.Result.{IfOk-weaker}
+use Rattle.std.proofs.lemmas.Result.{IfOk-from_err, IfOk-weaker}
 use Rattle.cmap_files.specs.DeclarationsSeen.{entries_seen}
 use Rattle.cmap_writer.specs.PreparedFiles.{AddsSameCids}
 use Rattle.cmap_writer.proofs.PreparedKept.{cid_lists}
@@ -31,3 +31,12 @@ returns-in_err-add_cid_list-clause-err c = refuses_on _ _ c.from_residual.ensure
 
 pub returns-clause-err : goal.returns-clause-err
 returns-clause-err c = refused_on _ c.add_cid_list-4.ensures.err (by_cid_list (by_length_seen c.args.lists.now) 4 _ (ap entries_seen c.deref-4.ensures.value))
+
+pub returns-in_err-add_cid_list-clause-added : goal.returns-in_err-add_cid_list-clause-added
+returns-in_err-add_cid_list-clause-added c = IfOk-from_err _ _ c.from_residual.ensures.0
+
+pub returns-in_err-add_cid_list-2-clause-added : goal.returns-in_err-add_cid_list-2-clause-added
+returns-in_err-add_cid_list-2-clause-added c = IfOk-from_err _ _ c.from_residual-in_err-add_cid_list-2.ensures.0
+
+pub returns-in_err-add_cid_list-3-clause-added : goal.returns-in_err-add_cid_list-3-clause-added
+returns-in_err-add_cid_list-3-clause-added c = IfOk-from_err _ _ c.from_residual-in_err-add_cid_list-3.ensures.0

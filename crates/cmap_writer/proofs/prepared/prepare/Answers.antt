@@ -1,4 +1,5 @@
 use Rattle.std.proofs.Common.{ap, map, subst}
+use Rattle.std.proofs.lemmas.Result.{IfOk-from_err}
 use Rattle.cmap_files.specs.DeclarationsSeen.{bf_entry_seen, codespace_seen}
 use Rattle.cmap_files.specs.Files.{Declaration}
 use Rattle.cmap_files.specs.FilesSeen.{file_seen}
@@ -47,3 +48,21 @@ returns-in_err-add_cid_lists-clause-err c = refuses_on _ _ c.from_residual-in_er
 
 pub returns-in_err-add_text_list-clause-err : goal.returns-in_err-add_text_list-clause-err
 returns-in_err-add_text_list-clause-err c = refuses_on _ _ c.from_residual-in_err-add_text_list.ensures.1 c.in_err-add_text_list.ensures.err (by_texts (file_seen c.args.file.now) _ (ap (map bf_entry_seen) c.deref-3.ensures.value))
+
+pub returns-in_err-push_metadata-clause-made : goal.returns-in_err-push_metadata-clause-made
+returns-in_err-push_metadata-clause-made c = IfOk-from_err _ _ c.from_residual.ensures.0
+
+pub returns-in_err-push_uses-clause-made : goal.returns-in_err-push_uses-clause-made
+returns-in_err-push_uses-clause-made c = IfOk-from_err _ _ c.from_residual-in_err-push_uses.ensures.0
+
+pub returns-in_err-push_codespaces-clause-made : goal.returns-in_err-push_codespaces-clause-made
+returns-in_err-push_codespaces-clause-made c = IfOk-from_err _ _ c.from_residual-in_err-push_codespaces.ensures.0
+
+pub returns-in_err-push_notdef_lists-clause-made : goal.returns-in_err-push_notdef_lists-clause-made
+returns-in_err-push_notdef_lists-clause-made c = IfOk-from_err _ _ c.from_residual-in_err-push_notdef_lists.ensures.0
+
+pub returns-in_err-add_cid_lists-clause-made : goal.returns-in_err-add_cid_lists-clause-made
+returns-in_err-add_cid_lists-clause-made c = IfOk-from_err _ _ c.from_residual-in_err-add_cid_lists.ensures.0
+
+pub returns-in_err-add_text_list-clause-made : goal.returns-in_err-add_text_list-clause-made
+returns-in_err-add_text_list-clause-made c = IfOk-from_err _ _ c.from_residual-in_err-add_text_list.ensures.0

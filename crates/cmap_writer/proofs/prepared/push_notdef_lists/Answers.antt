@@ -1,5 +1,5 @@
 use Rattle.std.proofs.Common.{ap, map, subst}
-use Rattle.std.proofs.lemmas.Result.{IfOk-weaker}
+use Rattle.std.proofs.lemmas.Result.{IfOk-from_err, IfOk-weaker}
 use Rattle.cmap_files.specs.DeclarationsSeen.{entries_seen}
 use Rattle.cmap_files.specs.Files.{Declaration}
 use Rattle.cmap_writer.specs.SegmentsWritten.{DeclareAll, SegmentByAny}
@@ -33,3 +33,12 @@ returns-in_err-push_notdefs-3-clause-err c = refuses_on _ _ c.from_residual-in_e
 
 pub returns-clause-err : goal.returns-clause-err
 returns-clause-err c = refused_on _ c.push_notdefs-4.ensures.err (by_notdef_list (by_length_seen c.args.lists.now) 4 _ (ap entries_seen c.deref-4.ensures.value))
+
+pub returns-in_err-push_notdefs-clause-written : goal.returns-in_err-push_notdefs-clause-written
+returns-in_err-push_notdefs-clause-written c = IfOk-from_err _ _ c.from_residual.ensures.0
+
+pub returns-in_err-push_notdefs-2-clause-written : goal.returns-in_err-push_notdefs-2-clause-written
+returns-in_err-push_notdefs-2-clause-written c = IfOk-from_err _ _ c.from_residual-in_err-push_notdefs-2.ensures.0
+
+pub returns-in_err-push_notdefs-3-clause-written : goal.returns-in_err-push_notdefs-3-clause-written
+returns-in_err-push_notdefs-3-clause-written c = IfOk-from_err _ _ c.from_residual-in_err-push_notdefs-3.ensures.0

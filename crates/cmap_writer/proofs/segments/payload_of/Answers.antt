@@ -1,4 +1,5 @@
 use Rattle.std.proofs.Common.{◌∙◌, ◌++◌, ap, arith}
+use Rattle.std.proofs.lemmas.Result.{IfOk-from_err}
 use Rattle.cmap_values.proofs.Outcomes.{refuses_on}
 use Rattle.cmap_writer.specs.EncodersSeen.{encoders_seen}
 use Rattle.cmap_writer.specs.Written.{bytes_of}
@@ -19,3 +20,12 @@ returns-in_err-push_number-clause-err c = memory_on _ _ c.from_residual.ensures.
 
 pub returns-in_err-extend_from_slice-clause-err : goal.returns-in_err-extend_from_slice-clause-err
 returns-in_err-extend_from_slice-clause-err c = memory_on _ _ c.from_residual-in_err-extend_from_slice.ensures.1
+
+pub returns-in_err-push_number-clause-written : goal.returns-in_err-push_number-clause-written
+returns-in_err-push_number-clause-written c = IfOk-from_err _ _ c.from_residual.ensures.0
+
+pub returns-in_err-push_columns-clause-written : goal.returns-in_err-push_columns-clause-written
+returns-in_err-push_columns-clause-written c = IfOk-from_err _ _ c.from_residual-in_err-push_columns.ensures.0
+
+pub returns-in_err-extend_from_slice-clause-written : goal.returns-in_err-extend_from_slice-clause-written
+returns-in_err-extend_from_slice-clause-written c = IfOk-from_err _ _ c.from_residual-in_err-extend_from_slice.ensures.0

@@ -88,3 +88,15 @@ returns-in_err-part-clause-same c = IfOk-from_err _ _ c.from_residual.ensures.0
 
 pub returns-in_err-push-clause-same : goal.returns-in_err-push-clause-same
 returns-in_err-push-clause-same c = IfOk-from_err _ _ c.from_residual-in_err-push.ensures.0
+
+pub returns-in_err-part-clause-small : goal.returns-in_err-part-clause-small
+returns-in_err-part-clause-small c = IfOk-from_err _ _ c.from_residual.ensures.0
+
+pub returns-in_err-part-clause-parts : goal.returns-in_err-part-clause-parts
+returns-in_err-part-clause-parts c = IfOk-from_err _ _ c.from_residual.ensures.0
+
+pub returns-in_err-push-clause-small : goal.returns-in_err-push-clause-small
+returns-in_err-push-clause-small c = IfOk-from_err _ _ c.from_residual-in_err-push.ensures.0
+
+pub returns-in_err-push-clause-parts : goal.returns-in_err-push-clause-parts
+returns-in_err-push-clause-parts c = IfOk-from_err _ _ c.from_residual-in_err-push.ensures.0

@@ -18,3 +18,12 @@ returns-in_err-extend_from_slice-clause-is c = IfOk-from_err _ _ c.from_residual
 
 pub returns-in_err-push-clause-is : goal.returns-in_err-push-clause-is
 returns-in_err-push-clause-is c = IfOk-from_err _ _ c.from_residual-in_err-push.ensures.0
+
+pub returns-in_err-units-clause-small : goal.returns-in_err-units-clause-small
+returns-in_err-units-clause-small c = IfOk-from_err _ _ c.from_residual.ensures.0
+
+pub returns-in_err-extend_from_slice-clause-small : goal.returns-in_err-extend_from_slice-clause-small
+returns-in_err-extend_from_slice-clause-small c = IfOk-from_err _ _ c.from_residual-in_err-extend_from_slice.ensures.0
+
+pub returns-in_err-push-clause-small : goal.returns-in_err-push-clause-small
+returns-in_err-push-clause-small c = IfOk-from_err _ _ c.from_residual-in_err-push.ensures.0

@@ -2,6 +2,7 @@ use Rattle.std.proofs.Common.{◌∙◌, ◌++◌, ◌≡◌, List, [], length, 
 use Rattle.std.specs.List.{All}
 use Rattle.std.proofs.lemmas.Bool.{eqb-true}
 use Rattle.std.proofs.lemmas.List.{map-append, nil_from_length, take-append-drop}
+use Rattle.std.proofs.lemmas.Result.{IfOk-from_err}
 use Rattle.cmap_files.specs.DeclarationsSeen.{bf_entry_seen}
 use Rattle.cmap_files.specs.Files.{Declaration}
 use Rattle.cmap_files.specs.declared.declarations.BfRange.{BfRange}
@@ -50,3 +51,9 @@ returns c =
     let say : List BfRange → List Declaration = λ xs. map Declaration.bf (map bf_entry_seen xs) in
     let none : c.loop-left.left.now ≡ [] = nil_from_length c.loop-left.left.now (eqb-true (length c.loop-left.left.now) 0 (sym c.loop-left-test.ensures)) in
     added_all say c.args.pieces.now c.args.segments.now.items c.loop-left.segments.items (subst (λ left. AddedTo say c.args.pieces.now left c.args.segments.now.items c.loop-left.segments.items) none c.loop-left.invariant.done)
+
+pub returns-in_err-text_segment : goal.returns-in_err-text_segment
+returns-in_err-text_segment c = IfOk-from_err _ _ c.from_residual.ensures.0
+
+pub returns-in_err-push : goal.returns-in_err-push
+returns-in_err-push c = IfOk-from_err _ _ c.from_residual-in_err-push.ensures.0

@@ -24,3 +24,18 @@ loop-count-preserved c =
       few = omega arith;
       follow = follow_texts (shape_seen c.args.form.shape) c.args.form.units c.args.entries.now c.loop-count.count c.index-entries-count.result c.index-entries-count-then-count-lt-MOST.result c.loop-count-test.true c.index-entries-count.is c.index-entries-count-then-count-lt-MOST.is (c.if-follows.ensures refl) i.follow;
     }
+
+pub overflow_sub-count : goal.overflow_sub-count
+overflow_sub-count c = c.loop-count.invariant.some
+
+pub bounds-entries-count-then-count-lt-MOST : goal.bounds-entries-count-then-count-lt-MOST
+bounds-entries-count-then-count-lt-MOST c = c.loop-count-test.true
+
+pub bounds-entries-count : goal.bounds-entries-count
+bounds-entries-count c = omega (arith, c.loop-count-test.true)
+
+pub overflow_add-count : goal.overflow_add-count
+overflow_add-count c = omega (arith, c.if-count-lt-MOST.true)
+
+pub loop-count-smaller : goal.loop-count-smaller
+loop-count-smaller c = omega (arith, c.loop-count-test.true)

@@ -1,4 +1,5 @@
 use Rattle.std.proofs.Common.{◌∙◌, ap, ◌++◌, ◌∷◌, [], sym, arith}
+use Rattle.std.proofs.lemmas.Result.{IfOk-from_err}
 use Rattle.cmap_packed.specs.PrefixWords.{bits, bits_of}
 use Rattle.cmap_writer.proofs.BitsWritten.{bit_fits, few_bits, filled, pushed}
 use Rattle.cmap_writer.proofs.bits.BitWriter.push_bit.Goals as goal
@@ -17,3 +18,6 @@ invariant_of-self-else-self-eq7 c = (omega (arith, c.self.invariant.0, c.if-self
 
 pub returns-in_ok-push : goal.returns-in_ok-push
 returns-in_ok-push c = filled c.self.inside.bytes.items c.push.new.self.items c.self.inside.pending c.args.bit c.requires c.in_ok-push.ensures.items ∙ ap (λ v. v ++ c.args.bit ∷ []) (ap (λ k. bits c.self.inside.bytes.items ++ bits_of k c.self.inside.pending) (sym c.if-self-eq7.true) ∙ c.self.view_is)
+
+pub returns-in_err-push : goal.returns-in_err-push
+returns-in_err-push c = IfOk-from_err _ _ c.from_residual.ensures.0

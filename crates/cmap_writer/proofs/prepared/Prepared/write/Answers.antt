@@ -1,4 +1,5 @@
 use Rattle.std.proofs.Common.{◌∙◌, ◌≡◌, subst}
+use Rattle.std.proofs.lemmas.Result.{IfOk-from_err}
 use Rattle.cmap_writer.specs.EncodersSeen.{encoders_seen}
 use Rattle.cmap_writer.specs.Written.{Appends, IsFramed}
 use Rattle.cmap_writer.proofs.FileKept.{head}
@@ -35,3 +36,21 @@ returns-in_err-push_segments-clause-err c = refuses_on _ _ c.from_residual-in_er
 
 pub returns-in_err-push_framed-clause-err : goal.returns-in_err-push_framed-clause-err
 returns-in_err-push_framed-clause-err c = too_long _ _ _ _ c.from_residual-in_err-push_framed.ensures.1 c.in_err-push_framed.ensures.err tt
+
+pub returns-in_err-body-clause-framed : goal.returns-in_err-body-clause-framed
+returns-in_err-body-clause-framed c = IfOk-from_err _ _ c.from_residual.ensures.0
+
+pub returns-in_err-body-clause-written : goal.returns-in_err-body-clause-written
+returns-in_err-body-clause-written c = IfOk-from_err _ _ c.from_residual.ensures.0
+
+pub returns-in_err-push_segments-clause-framed : goal.returns-in_err-push_segments-clause-framed
+returns-in_err-push_segments-clause-framed c = IfOk-from_err _ _ c.from_residual-in_err-push_segments.ensures.0
+
+pub returns-in_err-push_segments-clause-written : goal.returns-in_err-push_segments-clause-written
+returns-in_err-push_segments-clause-written c = IfOk-from_err _ _ c.from_residual-in_err-push_segments.ensures.0
+
+pub returns-in_err-push_framed-clause-framed : goal.returns-in_err-push_framed-clause-framed
+returns-in_err-push_framed-clause-framed c = IfOk-from_err _ _ c.from_residual-in_err-push_framed.ensures.0
+
+pub returns-in_err-push_framed-clause-written : goal.returns-in_err-push_framed-clause-written
+returns-in_err-push_framed-clause-written c = IfOk-from_err _ _ c.from_residual-in_err-push_framed.ensures.0

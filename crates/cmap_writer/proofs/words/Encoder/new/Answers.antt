@@ -1,5 +1,6 @@
 use Rattle.std.proofs.Common.{◌≡◌, ◌∙◌, length, ap, subst, sym, arith}
 use Rattle.std.specs.List.Sorted.{IsPermutation}
+use Rattle.std.proofs.lemmas.Result.{IfOk-from_err}
 use Rattle.cmap_packed.specs.PrefixWords.{AreWordLengths, lengths_from, lengths_of, zip_words}
 use Rattle.cmap_writer.proofs.WordsMade.{lengths-zip_words}
 use Rattle.cmap_writer.proofs.words.Encoder.new.Goals as goal
@@ -33,3 +34,12 @@ returns c =
     let lens_are : lens ≡ lengths_from 1 c.args.counts.items = c.deref-2.ensures.value ∙ c.in_ok-lens.ensures ∙ ap (lengths_from 1) c.deref.ensures.value in
     let size : length symbols ≡ length lens = omega (arith, c.deref-2.ensures.len) in
     (size ∙ ap length lens_are, made.words_are ∙ ap (λ ls. zip_words ls symbols) lens_are)
+
+pub returns-in_err-lens : goal.returns-in_err-lens
+returns-in_err-lens c = IfOk-from_err _ _ c.from_residual.ensures.0
+
+pub returns-in_err-words : goal.returns-in_err-words
+returns-in_err-words c = IfOk-from_err _ _ c.from_residual-in_err-words.ensures.0
+
+pub returns-in_err-by_symbol : goal.returns-in_err-by_symbol
+returns-in_err-by_symbol c = IfOk-from_err _ _ c.from_residual-in_err-by_symbol.ensures.0
