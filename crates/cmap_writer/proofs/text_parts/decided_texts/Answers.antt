@@ -1,11 +1,13 @@
 use Rattle.std.proofs.Common.{All, map, subst}
 use Rattle.std.specs.Prelude.{IfErr, IfOk}
+use Rattle.std.proofs.lemmas.Result.{IfOk-from_err}
 use Rattle.cmap_files.specs.DeclarationsSeen.{bf_entry_seen}
 use Rattle.cmap_values.specs.Outcomes.{RefusesWith}
 use Rattle.cmap_layers.specs.Lookups.{bf_at, bf_span}
 use Rattle.cmap_writer.specs.Obstacles.{IsTextObstacle}
 use Rattle.cmap_writer.specs.Pieces.{SayTheSame}
 use Rattle.cmap_writer.specs.TextParts.{IsPartOf}
+use Rattle.cmap_writer.proofs.ObstaclesMet.{memory_on}
 use Rattle.cmap_writer.proofs.text_parts.decided_texts.Goals as goal
 
 pub text_ranges_of-requires : goal.text_ranges_of-requires
@@ -22,3 +24,15 @@ returns-clause-parts c =
 pub returns-clause-err : goal.returns-clause-err
 returns-clause-err c =
     subst (λ es. IfErr c.text_ranges_of.result (RefusesWith (IsTextObstacle es))) c.in_ok-table.ensures.0 c.text_ranges_of.ensures.err
+
+pub returns-in_err-table-clause-same : goal.returns-in_err-table-clause-same
+returns-in_err-table-clause-same c = IfOk-from_err _ _ c.from_residual.ensures.0
+
+pub returns-in_err-table-clause-small : goal.returns-in_err-table-clause-small
+returns-in_err-table-clause-small c = IfOk-from_err _ _ c.from_residual.ensures.0
+
+pub returns-in_err-table-clause-parts : goal.returns-in_err-table-clause-parts
+returns-in_err-table-clause-parts c = IfOk-from_err _ _ c.from_residual.ensures.0
+
+pub returns-in_err-table-clause-err : goal.returns-in_err-table-clause-err
+returns-in_err-table-clause-err c = memory_on _ _ c.from_residual.ensures.1

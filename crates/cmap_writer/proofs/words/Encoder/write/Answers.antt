@@ -1,6 +1,6 @@
 use Rattle.std.proofs.Common.{◌<◌, ◌*◌, ◌^◌, ◌∙◌, ◌++◌, length, ap, sym, subst}
 use Rattle.std.specs.List.{All, flat_map}
-use Rattle.std.proofs.lemmas.Result.{IfOk-weaker}
+use Rattle.std.proofs.lemmas.Result.{IfOk-from_err, IfOk-weaker}
 use Rattle.cmap_writer.specs.Written.{bytes_of, Appends, Writes}
 use Rattle.cmap_writer.proofs.TablesWritten.{table_written}
 use Rattle.cmap_writer.proofs.FrontsWritten.{fields}
@@ -24,3 +24,12 @@ returns c =
     fit
     c.self.invariant.sound
     c.self.invariant.counts)) c.push_symbols.ensures
+
+pub returns-in_err-push_number : goal.returns-in_err-push_number
+returns-in_err-push_number c = IfOk-from_err _ _ c.from_residual.ensures.0
+
+pub returns-in_err-push : goal.returns-in_err-push
+returns-in_err-push c = IfOk-from_err _ _ c.from_residual-in_err-push.ensures.0
+
+pub returns-in_err-push_u16s : goal.returns-in_err-push_u16s
+returns-in_err-push_u16s c = IfOk-from_err _ _ c.from_residual-in_err-push_u16s.ensures.0
