@@ -68,14 +68,15 @@ bits_of-bit (suc left) n bit some is =
     let e : suc left - 1 ≡ left = omega arith in
     ap (λ b. b ∷ bits_of (suc left - 1) n) (is ∙ and_mask (n / 2 ^ (suc left - 1)) 1) ∙ ap (λ k. n / 2 ^ k % 2 ∷ bits_of k n) e
 
--- fewer bits than a byte has
+-- a number of fewer than eight bits has at most seven
 pub few_bits : (count n : ℕ) → count < 8 → n < 2 ^ count → n < 2 ^ 7
 few_bits count n few small = omega (arith, small, pow-le-pow_right {n = 2} (omega arith) {i = count} {j = 7} (omega (arith, few)))
 
+-- with a bit after it, a number has one bit more
 pub bit_fits : (count n bit : ℕ) → n < 2 ^ count → bit < 2 → n * 2 + bit < 2 ^ (count + 1)
 bit_fits count n bit small one = omega (arith, small, one, pow-add 2 count 1)
 
--- bits that fill a byte
+-- seven bits and one more are a byte
 pub filled : (bytes new : List ℕ) (n bit : ℕ) → bit < 2 → new ≡ bytes ++ (n * 2 + bit) ∷ [] → bits new ++ [] ≡ (bits bytes ++ bits_of 7 n) ++ bit ∷ []
 filled bytes new n bit small is =
     append-nil (bits new) ∙ ap bits is ∙ flat_map-append (bits_of 8) bytes ((n * 2 + bit) ∷ []) ∙ ap (λ bs. bits bytes ++ bs) (append-nil (bits_of 8 (n * 2 + bit))) ∙ pushed bytes 7 n bit small

@@ -24,6 +24,7 @@ module _ {X : Type 0} (span : X → Span) (xs : List X) (i : ℕ) where
     pub next_ordered : (base : ℕ) → AreInOrder base (map span (drop i xs)) → AreInOrder base (map span (x ∷ drop (i + 1) xs))
     next_ordered base ordered = subst (λ ys. AreInOrder base (map span ys)) next_is ordered
 
+    -- and those after it come after it
     pub ordered_more : (base next : ℕ) → next ≡ (span x).end + 1 → AreInOrder base (map span (drop i xs)) → AreInOrder next (map span (drop (i + 1) xs))
     ordered_more base next is ordered = subst (λ n. AreInOrder n (map span (drop (i + 1) xs))) (sym is) (next_ordered base ordered).3
 
@@ -33,9 +34,10 @@ module _ {X : Type 0} (span : X → Span) (xs : List X) (i : ℕ) where
         let later = map span (drop (i + 1) xs) in
         ap (λ ns. ns ++ deltas_of next later) more ∙ append_assoc old (delta ∷ []) (deltas_of next later) ∙ ap (λ n. old ++ n ∷ deltas_of next later) delta_is ∙ ap (λ n. old ++ ((span x).start - base) ∷ deltas_of n later) next_base ∙ ap (λ ys. old ++ deltas_of base (map span ys)) (sym next_is) ∙ before
 
-  -- after the last one they are all there
+  -- after the last one the deltas are all there
   pub deltas_done : (base : ℕ) (now : List ℕ) → length xs ≤ i → now ++ deltas_of base (map span (drop i xs)) ≡ deltas_of 0 (map span xs) → now ≡ deltas_of 0 (map span xs)
   deltas_done base now past before = sym (append-nil now) ∙ ap (λ ys. now ++ deltas_of base (map span ys)) (sym (drop_all i xs past)) ∙ before
 
+  -- so are the counts
   pub counts_done : (now : List ℕ) → length xs ≤ i → now ++ counts_of (map span (drop i xs)) ≡ counts_of (map span xs) → now ≡ counts_of (map span xs)
   counts_done now past before = sym (append-nil now) ∙ ap (λ ys. now ++ counts_of (map span ys)) (sym (drop_all i xs past)) ∙ before

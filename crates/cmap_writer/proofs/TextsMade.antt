@@ -38,6 +38,7 @@ range_number (suc zero) some few = refl
 range_number (suc (suc zero)) some few = refl
 range_number (suc (suc (suc n))) some few = absurd (omega arith)
 
+-- the type of single codes that fix a number of units
 pub single_number : (n : ℕ) → 1 ≤ n → n ≤ 4 → IsNumberOf singles (Some n) (16 + n)
 single_number zero some few = absurd (omega arith)
 single_number (suc zero) some few = refl
