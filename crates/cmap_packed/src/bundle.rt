@@ -42,10 +42,10 @@ impl<'b> Bundle<'b> {
         let Some(text) = take_sized(&mut bytes) else {
             return Ok(None);
         };
-        let Some(tables) = Tables::parse(alloc, text)? else {
+        let Some(files) = split_files(alloc, bytes)? else {
             return Ok(None);
         };
-        let Some(files) = split_files(alloc, bytes)? else {
+        let Some(tables) = Tables::parse(alloc, text)? else {
             return Ok(None);
         };
         Ok(Some(Bundle { tables, files }))

@@ -2,8 +2,9 @@
 use Rattle.std.proofs.Common.{◌≡◌, ℕ, zero, suc, ◌+◌, ◌-◌, ◌*◌, ◌/◌, ◌%◌, ◌^◌, ◌<◌, ◌≤◌, List, [], ◌∷◌, ◌++◌, length, replicate, refl, ap, ◌∙◌, sym, arith}
 use Rattle.std.proofs.lemmas.List.{append_assoc, append-nil}
 use Rattle.std.proofs.lemmas.List.Concat.{flat_map-append}
-use Rattle.std.proofs.lemmas.Nat.{pow-add, shl-shr, shl_whole}
-use Rattle.std.proofs.Math.Nat.{mul_assoc}
+use Rattle.std.specs.Prelude.{bit_and}
+use Rattle.std.proofs.lemmas.Nat.{and_mask, pow-add, shl-shr, shl_whole}
+use Rattle.std.proofs.Math.Nat.{mul_assoc, pow-le-pow_right}
 use Rattle.cmap_packed.specs.PrefixWords.{bits, bits_of}
 use Rattle.cmap_packed.proofs.BitsOfBytes.{bits_of-split, length-bits_of}
 
@@ -59,3 +60,23 @@ finished_full bytes new view count n none made seen =
     let e : count ≡ 0 = omega arith in
     let front : bits bytes ++ [] ≡ view = rw e at seen in
     ([], ap bits made ∙ sym (append-nil (bits bytes)) ∙ front ∙ sym (append-nil view), omega arith, refl)
+
+-- one bit more of a number, the high one first
+pub bits_of-bit : (left n bit : ℕ) → 0 < left → bit ≡ bit_and (n / 2 ^ (left - 1)) 1 → bit ∷ bits_of (left - 1) n ≡ bits_of left n
+bits_of-bit zero n bit some is = absurd (omega arith)
+bits_of-bit (suc left) n bit some is =
+    let e : suc left - 1 ≡ left = omega arith in
+    ap (λ b. b ∷ bits_of (suc left - 1) n) (is ∙ and_mask (n / 2 ^ (suc left - 1)) 1) ∙ ap (λ k. n / 2 ^ k % 2 ∷ bits_of k n) e
+
+-- a number of fewer than eight bits has at most seven
+pub few_bits : (count n : ℕ) → count < 8 → n < 2 ^ count → n < 2 ^ 7
+few_bits count n few small = omega (arith, small, pow-le-pow_right {n = 2} (omega arith) {i = count} {j = 7} (omega (arith, few)))
+
+-- with a bit after it, a number has one bit more
+pub bit_fits : (count n bit : ℕ) → n < 2 ^ count → bit < 2 → n * 2 + bit < 2 ^ (count + 1)
+bit_fits count n bit small one = omega (arith, small, one, pow-add 2 count 1)
+
+-- seven bits and one more are a byte
+pub filled : (bytes new : List ℕ) (n bit : ℕ) → bit < 2 → new ≡ bytes ++ (n * 2 + bit) ∷ [] → bits new ++ [] ≡ (bits bytes ++ bits_of 7 n) ++ bit ∷ []
+filled bytes new n bit small is =
+    append-nil (bits new) ∙ ap bits is ∙ flat_map-append (bits_of 8) bytes ((n * 2 + bit) ∷ []) ∙ ap (λ bs. bits bytes ++ bs) (append-nil (bits_of 8 (n * 2 + bit))) ∙ pushed bytes 7 n bit small

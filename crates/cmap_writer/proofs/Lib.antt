@@ -3,6 +3,7 @@ pub mod BytesWritten
 pub mod CidParts
 pub mod CidsWritten
 pub mod ColumnsHeld
+pub mod ColumnsMade
 pub mod DecidedParts
 pub mod FileKept
 pub mod FilesWritten

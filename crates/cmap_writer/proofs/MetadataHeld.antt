@@ -1,9 +1,8 @@
 -- Metadata that is written, and read back.
 use Rattle.std.proofs.Common.{◌≡◌, ℕ, zero, suc, pos, ◌+◌, ◌^◌, ◌<◌, Bool, true, false, List, inl, inr, [], ◌∷◌, ◌++◌, length, drop, get_or, map, take, refl, ap, ◌∙◌, sym, subst, arith}
 use Rattle.std.specs.Prelude.{◌==◌, ◌&&◌, bytes_eq, codes, if◌then◌else◌}
-use Rattle.std.specs.List.{All, list_any, slice_index}
-use Rattle.std.proofs.lemmas.Bool.{eqb-false}
-use Rattle.std.proofs.lemmas.Bool.{cases_Bool}
+use Rattle.std.specs.List.{All, Contains, list_any, slice_index}
+use Rattle.std.proofs.lemmas.Bool.{cases_Bool, eqb-false, eqb-true}
 use Rattle.std.proofs.lemmas.List.Elements.{All-cons, All-nil}
 use Rattle.std.proofs.lemmas.List.{append_assoc, append-nil, length-append, map-append, take_at, take_more}
 use Rattle.std.specs.Borrow.{Bor}
@@ -58,6 +57,14 @@ no_zero [] is = All-nil (λ b. b ≡ 0 → ⊥)
 no_zero (x ∷ text) is = elim (cases_Bool (x == 0)) [
   | inl zero_here ↦ let e : false ≡ true = sym (rw zero_here at is) in cc
   | inr other ↦ All-cons (λ b. b ≡ 0 → ⊥) x text (eqb-false x 0 other) (no_zero text (rw other at is))
+]
+
+-- a text with a zero byte
+pub has_zero : (text : List ℕ) → list_any (λ y. y == 0) text ≡ true → Contains text 0
+has_zero [] is = cc
+has_zero (x ∷ text) is = elim (cases_Bool (x == 0)) [
+  | inl here ↦ (0, omega arith, eqb-true x 0 here)
+  | inr other ↦ let (k, within, at) = has_zero text (rw other at is) in (suc k, omega (arith, within), at)
 ]
 
 -- registry, ordering, supplement

@@ -9,8 +9,10 @@ use Rattle.cmap_packed.specs.Bundles.{PrefixTables}
 use Rattle.cmap_binary.specs.BinaryEntries.{CidEntriesIn, Shape, ranges, singles}
 use Rattle.cmap_writer.specs.ColumnsWritten.{WritesColumns}
 use Rattle.cmap_writer.specs.Held.{AreHeld, AreInOrder, AreShaped, counts_by, deltas_of, entry_span, spans_of}
-use Rattle.cmap_writer.specs.Segments.{WritesNumbers}
-use Rattle.cmap_writer.specs.Written.{bytes_of}
+use Rattle.cmap_writer.specs.EncodersSeen.{shape_seen}
+use Rattle.cmap_writer.specs.Segments.{IsPayloadOf, WritesNumbers}
+use Rattle.cmap_writer.specs.Written.{Appends, bytes_of}
+use Rattle.cmap_writer.specs.declared.segments.Segment.{Segment}
 use Rattle.cmap_writer.proofs.CidsWritten.{cids, payload_written}
 use Rattle.cmap_writer.proofs.ColumnsHeld.{range_columns, single_columns}
 
@@ -35,3 +37,7 @@ pub cids_spelled : (tables : PrefixTables) (shape : Shape) (es : List CidEntry) 
 cids_spelled tables shape es deltas counts values columns payload h deltas_are counts_are values_are spelled is =
     let n = length deltas in
     payload_written tables shape es (bytes_of 2 n) (bytes_of 2 n ++ columns) payload n refl (ap length deltas_are ∙ length_deltas_of 0 (spans_of es) ∙ length-map es entry_span) (columns, refl, numbers_columns tables shape (spans_of es) deltas counts columns h.order h.shaped deltas_are counts_are spelled) (is ∙ ap (λ vs. bytes_of 2 n ++ (columns ++ vs)) values_are ∙ sym (append_assoc (bytes_of 2 n) columns (cids es))) h
+
+-- the payload of a segment, piece by piece
+pub payload_is : (tables : PrefixTables) (segment : Segment) (a b new : List ℕ) (count : ℕ) → a ≡ bytes_of 2 count → count ≡ length segment.deltas.items → Appends a b (WritesNumbers tables (shape_seen segment.shape) segment.deltas.items segment.counts.items) → new ≡ b ++ segment.values.items → IsPayloadOf tables segment new
+payload_is tables segment a b new count first size (columns, second, spelled) third = (columns, spelled, third ∙ ap (λ bs. bs ++ segment.values.items) (second ∙ ap (λ bs. bs ++ columns) (first ∙ ap (bytes_of 2) size)) ∙ append_assoc (bytes_of 2 (length segment.deltas.items)) columns segment.values.items)

@@ -1,24 +1,29 @@
 -- Obstacles of parts of a file, and of the whole.
-use Rattle.std.proofs.Common.{◌≡◌, ◌∙◌, ℕ, ◌<◌, ◌≤◌, ◌^◌, inl, List, ◌++◌, Some, None, get_or, length, map, ap, sym, subst, arith}
-use Rattle.std.specs.Prelude.{All, Any, IsSomeAnd, Option}
+use Rattle.std.proofs.Common.{◌≡◌, ◌∙◌, ℕ, ◌<◌, ◌≤◌, ◌^◌, ◌⊎◌, inl, inr, List, Ok, Err, ◌++◌, Some, None, get_or, length, map, ap, sym, subst, arith}
+use Rattle.std.specs.Prelude.{All, Any, Contains, IfErr, IsErrAnd, IsSomeAnd, Option, Result}
 use Rattle.std.proofs.lemmas.List.{get_or-map, length-map, map-append}
 use Rattle.cmap_files.specs.DeclarationsSeen.{bf_entry_seen, cid_entry_seen, codespace_seen, entries_seen}
 use Rattle.cmap_files.specs.Files as files
-use Rattle.cmap_files.specs.Files.{ByLength, BfEntry, File}
+use Rattle.cmap_files.specs.Files.{ByLength, BfEntry, CidEntry, File}
 use Rattle.cmap_values.specs.Outcomes.{RefusesWith}
+use Rattle.cmap_values.proofs.Outcomes.{refused_as}
 use Rattle.cmap_values.specs.UnitsSeen.{units_seen}
 use Rattle.cmap_files.specs.declared.declarations.BfRange.{BfRange}
 use Rattle.cmap_files.specs.declared.declarations.CidRange.{CidRange}
 use Rattle.cmap_files.specs.declared.declarations.Codespace.{Codespace}
 use Rattle.cmap_values.specs.declared.fault.Fault.TheVariants.{Memory, Refused}
 use Rattle.cmap_values.specs.declared.fault.Fault.{Fault}
+use Rattle.cmap_values.specs.Metadata.{Collection}
+use Rattle.cmap_values.specs.Names.{ordering_of, registry_of}
 use Rattle.cmap_layers.specs.Lookups.{last_bf}
 use Rattle.cmap_packed.specs.Bundles.{PrefixTables}
-use Rattle.cmap_writer.specs.Obstacles.{GivesLargeCid, HasLongText, IsCidListsObstacle, IsCidObstacle, IsLargeEnd, IsLargeNotdef, IsNotdefListsObstacle, IsNotdefObstacle, IsNotdefsObstacle, IsSegmentObstacle, IsSegmentsObstacle, IsSpaceObstacle, IsSpacesObstacle, IsTextObstacle, IsWriteObstacle}
+use Rattle.cmap_writer.specs.Obstacles.{GivesLargeCid, HasLongText, HasManyTexts, IsCidListsObstacle, IsCidObstacle, IsCodeObstacle, IsCollectionObstacle, IsColumnObstacle, IsFamilyObstacle, IsLargeEnd, IsLargeNotdef, IsMetadataObstacle, IsNotdefListsObstacle, IsNotdefObstacle, IsNotdefsObstacle, IsObstacle, IsSegmentObstacle, IsSegmentsObstacle, IsSpaceObstacle, IsSpacesObstacle, IsTerminatedObstacle, IsTextObstacle, IsWriteObstacle}
+use Rattle.cmap_writer.specs.Failures.{IsTooLongIf}
 use Rattle.cmap_writer.specs.PreparedFiles.{IsPrepared}
+use Rattle.cmap_writer.specs.Spelled.{IsNoSymbol}
 use Rattle.cmap_writer.specs.TextParts.{IsDecidedText, IsPartOf}
 use Rattle.cmap_writer.specs.Texts.{IsLongTextIn}
-use Rattle.cmap_writer.specs.declared.obstacle.Obstacle.TheVariants.{LargeCid, LargeCode, NoWord, Text, TooLong}
+use Rattle.cmap_writer.specs.declared.obstacle.Obstacle.TheVariants.{CustomFamily, LargeCid, LargeCode, NoWord, Supplement, Text, TooLong, ZeroByte}
 use Rattle.cmap_writer.specs.declared.obstacle.Obstacle.{Obstacle}
 use Rattle.cmap_writer.specs.declared.prepared.Prepared.{Prepared}
 use Rattle.cmap_writer.specs.declared.segments.Segment.{Segment}
@@ -52,7 +57,27 @@ by_notdef_list lists len xs is (LargeCode code) h = (len, subst (λ es. Any (λ 
 by_notdef_list lists len xs is TooLong h = tt
 by_notdef_list lists len xs is other h = absurd h
 
+-- a start that is too large is an obstacle of the declaration
+pub by_start : (len : ℕ) (e : CidEntry) (o : Obstacle) → IsCodeObstacle len e.start o → IsNotdefObstacle len e o
+by_start len e (LargeCode code) (is, past) = (inl is, subst (λ n. 256 ^ len ≤ n) (sym is) past)
+by_start len e other h = absurd h
+
+-- so is an end
+pub by_end : (len : ℕ) (e : CidEntry) (o : Obstacle) → IsCodeObstacle len e.end o → IsNotdefObstacle len e o
+by_end len e (LargeCode code) (is, past) = (inr is, subst (λ n. 256 ^ len ≤ n) (sym is) past)
+by_end len e other h = absurd h
+
 -- ---- codespace ranges
+-- a low end that is too large is an obstacle of the range
+pub by_low : (space : files.Codespace) (o : Obstacle) → IsCodeObstacle space.len space.low o → IsSpaceObstacle space o
+by_low space (LargeCode code) (is, past) = (inl is, subst (λ n. 256 ^ space.len ≤ n) (sym is) past)
+by_low space other h = absurd h
+
+-- so is a high end
+pub by_high : (space : files.Codespace) (o : Obstacle) → IsCodeObstacle space.len space.high o → IsSpaceObstacle space o
+by_high space (LargeCode code) (is, past) = (inr is, subst (λ n. 256 ^ space.len ≤ n) (sym is) past)
+by_high space other h = absurd h
+
 pub space_among : (spaces : List Codespace) (i : ℕ) (d : Codespace) → i < length spaces → (o : Obstacle) → IsSpaceObstacle (codespace_seen (get_or spaces i d)) o → IsSpacesObstacle (map codespace_seen spaces) o
 space_among spaces i d within (LargeCode code) h = any_at (λ space. IsLargeEnd code space.len space.low space.high) codespace_seen spaces i d within h
 space_among spaces i d within other h = absurd h
@@ -93,3 +118,116 @@ pub unspelled : (tables : PrefixTables) (file : File) (prepared : Prepared) → 
 unspelled tables file prepared is NoWord h = (prepared, is, h)
 unspelled tables file prepared is TooLong h = tt
 unspelled tables file prepared is other h = absurd h
+
+-- ---- a column of a segment
+-- a delta without a code word is an obstacle of the segment
+pub by_deltas : (tables : PrefixTables) (segment : Segment) (symbols : List ℕ) → symbols ≡ segment.deltas.items → (o : Obstacle) → IsColumnObstacle tables.delta symbols o → IsSegmentObstacle tables segment o
+by_deltas tables segment symbols is NoWord h = inl (subst (Any (IsNoSymbol tables.delta)) is h)
+by_deltas tables segment symbols is TooLong h = tt
+by_deltas tables segment symbols is other h = absurd h
+
+-- so is a count
+pub by_counts : (tables : PrefixTables) (segment : Segment) (symbols : List ℕ) → symbols ≡ segment.counts.items → (o : Obstacle) → IsColumnObstacle tables.count symbols o → IsSegmentObstacle tables segment o
+by_counts tables segment symbols is NoWord h = inr (subst (Any (IsNoSymbol tables.count)) is h)
+by_counts tables segment symbols is TooLong h = tt
+by_counts tables segment symbols is other h = absurd h
+
+-- ---- a character collection
+-- what is wrong with the family is wrong with the collection
+pub by_family : (collection : Collection) (o : Obstacle) → IsFamilyObstacle collection.family o → IsCollectionObstacle collection o
+by_family collection CustomFamily h = h
+by_family collection other h = absurd h
+
+-- a zero byte in the registry is an obstacle of the collection
+pub by_registry : (collection : Collection) (text : List ℕ) → text ≡ registry_of collection.family → (o : Obstacle) → IsTerminatedObstacle text o → IsCollectionObstacle collection o
+by_registry collection text is ZeroByte h = inl (subst (λ t. Contains t 0) is h)
+by_registry collection text is other h = absurd h
+
+-- so is one in the ordering
+pub by_ordering : (collection : Collection) (text : List ℕ) → text ≡ ordering_of collection.family → (o : Obstacle) → IsTerminatedObstacle text o → IsCollectionObstacle collection o
+by_ordering collection text is ZeroByte h = inr (subst (λ t. Contains t 0) is h)
+by_ordering collection text is other h = absurd h
+
+-- what is wrong with the collection is wrong with the metadata
+pub by_collection : (said : Option Collection) (collection : Collection) → said ≡ Some collection → (o : Obstacle) → IsCollectionObstacle collection o → IsMetadataObstacle said o
+by_collection said collection is ZeroByte h = rw is h
+by_collection said collection is CustomFamily h = rw is h
+by_collection said collection is (Supplement n) h = rw is h
+by_collection said collection is other h = absurd h
+
+-- ---- parts of a file
+-- an obstacle of the metadata is one of the file
+pub by_metadata : (file : File) (o : Obstacle) → IsMetadataObstacle file.metadata.collection o → IsObstacle file o
+by_metadata file ZeroByte h = h
+by_metadata file CustomFamily h = h
+by_metadata file (Supplement n) h = h
+by_metadata file TooLong h = tt
+by_metadata file other h = absurd h
+
+-- so is one of its codespace ranges
+pub by_spaces : (file : File) (spaces : List files.Codespace) → spaces ≡ file.lists.spaces → (o : Obstacle) → IsSpacesObstacle spaces o → IsObstacle file o
+by_spaces file spaces is (LargeCode code) h = inl (subst (Any (λ space. IsLargeEnd code space.len space.low space.high)) is h)
+by_spaces file spaces is TooLong h = tt
+by_spaces file spaces is other h = absurd h
+
+-- and one of its notdef declarations
+pub by_notdefs : (file : File) (o : Obstacle) → IsNotdefListsObstacle file.lists.notdefs o → IsObstacle file o
+by_notdefs file (LargeCid range) h = inr h
+by_notdefs file (LargeCode code) h = inr h
+by_notdefs file TooLong h = tt
+by_notdefs file other h = absurd h
+
+-- and one of its CIDs
+pub by_cids : (file : File) (o : Obstacle) → IsCidListsObstacle file.lists.cids o → IsObstacle file o
+by_cids file (LargeCid range) h = inl h
+by_cids file other h = absurd h
+
+-- and one of its texts
+pub by_texts : (file : File) (es : List BfEntry) → es ≡ file.lists.bfs → (o : Obstacle) → IsTextObstacle es o → IsObstacle file o
+by_texts file es is (Text range) h = subst (λ es. HasLongText es range ⊎ HasManyTexts es range) is h
+by_texts file es is other h = absurd h
+
+-- ---- what is too long
+-- a call that is refused as too long, passed on by `?` for another reason to be so
+pub long_on : {A : Type 0} (long more : Type 0) (result : Result A (Fault Obstacle)) (fault : Fault Obstacle) → IsErrAnd result (λ e. e ≡ fault) → IsTooLongIf long fault → (long → more) → IfErr result (IsTooLongIf more)
+long_on long more (Ok x) fault is h gives = absurd is
+long_on long more (Err error) (Refused TooLong) is h gives = rw is (gives h)
+long_on long more (Err error) (Refused other) is h gives = absurd h
+long_on long more (Err error) Memory is h gives = rw is tt
+
+-- and one whose result is handed on
+pub long_of : {A : Type 0} (long more : Type 0) (result : Result A (Fault Obstacle)) → IfErr result (IsTooLongIf long) → (long → more) → IfErr result (IsTooLongIf more)
+long_of long more (Ok x) h gives = tt
+long_of long more (Err (Refused TooLong)) h gives = gives h
+long_of long more (Err (Refused other)) h gives = absurd h
+long_of long more (Err Memory) h gives = tt
+
+-- what is too long is refused as this, passed on by `?`
+pub too_long : {A : Type 0} (long : Type 0) (P : Obstacle → Type 0) (result : Result A (Fault Obstacle)) (fault : Fault Obstacle) → IsErrAnd result (λ e. e ≡ fault) → IsTooLongIf long fault → P TooLong → IfErr result (RefusesWith P)
+too_long long P (Ok x) fault is h p = absurd is
+too_long long P (Err error) (Refused TooLong) is h p = rw is p
+too_long long P (Err error) (Refused other) is h p = absurd h
+too_long long P (Err error) Memory is h p = rw is tt
+
+-- what holds of a result that is handed on
+pub refused_on : {A : Type 0} {P Q : Obstacle → Type 0} (result : Result A (Fault Obstacle)) → IfErr result (RefusesWith P) → ((o : Obstacle) → P o → Q o) → IfErr result (RefusesWith Q)
+refused_on (Ok x) h gives = tt
+refused_on (Err fault) h gives = refused_as fault h gives
+
+-- and where the result is handed on
+pub too_long_of : {A : Type 0} (long : Type 0) (P : Obstacle → Type 0) (result : Result A (Fault Obstacle)) → IfErr result (IsTooLongIf long) → P TooLong → IfErr result (RefusesWith P)
+too_long_of long P (Ok x) h p = tt
+too_long_of long P (Err (Refused TooLong)) h p = p
+too_long_of long P (Err (Refused other)) h p = absurd h
+too_long_of long P (Err Memory) h p = tt
+
+-- ---- a want of memory
+-- of a want of memory nothing is said
+pub memory_on : {A : Type 0} (P : Obstacle → Type 0) (result : Result A (Fault Obstacle)) → IsErrAnd result (λ e. e ≡ Memory) → IfErr result (RefusesWith P)
+memory_on P (Ok x) is = absurd is
+memory_on P (Err error) is = rw is tt
+
+-- nor is something too long
+pub memory_long : {A : Type 0} (long : Type 0) (result : Result A (Fault Obstacle)) → IsErrAnd result (λ e. e ≡ Memory) → IfErr result (IsTooLongIf long)
+memory_long long (Ok x) is = absurd is
+memory_long long (Err error) is = rw is tt

@@ -90,3 +90,7 @@ pub get_or_same : {X : Type 0} (P : X → Type 0) (xs : List X) (i : ℕ) (d e :
 get_or_same P [] i d e within p = absurd (omega arith)
 get_or_same P (x ∷ xs) zero d e within p = p
 get_or_same P (x ∷ xs) (suc i) d e within p = get_or_same P xs i d e (omega arith) p
+
+-- an entry follows the one before, whatever stands for those out of reach
+pub follow_next : (shape : Shape) (xs : List CidRange) (count : ℕ) (b e : CidRange) → count < length xs → Follows shape (get_or xs (count - 1) b) (get_or xs count e) → (d : CidRange) → Follows shape (get_or xs (count - 1) d) (get_or xs count d)
+follow_next shape xs count b e within here d = get_or_same (λ x. Follows shape (get_or xs (count - 1) d) x) xs count e d within (get_or_same (λ x. Follows shape x (get_or xs count e)) xs (count - 1) b d (omega arith) here)

@@ -1,16 +1,20 @@
 -- Codes with their texts that are taken segment by segment.
-use Rattle.std.proofs.Common.{◌≡◌, ℕ, zero, suc, ◌+◌, ◌-◌, ◌^◌, ◌<◌, ◌≤◌, List, [], ◌∷◌, Option, Some, None, length, drop, get_or, map, take, refl, ap, ◌∙◌, sym, subst, arith}
+use Rattle.std.proofs.Common.{◌≡◌, ℕ, zero, suc, ◌+◌, ◌-◌, ◌^◌, ◌<◌, ◌≤◌, List, inl, inr, [], ◌∷◌, Option, Some, None, length, drop, get_or, map, take, refl, ap, ◌∙◌, sym, subst, arith}
 use Rattle.std.specs.List.{All}
+use Rattle.std.proofs.lemmas.Bool.{cases_lt}
 use Rattle.std.proofs.lemmas.List.{drop-map, length-take-le, take-map}
 use Rattle.std.proofs.lemmas.List.Elements.{All-cons, All-drop, All-head, All-nil, All-tail, All-take}
 use Rattle.cmap_files.specs.DeclarationsSeen.{bf_entry_seen, bf_range_span}
+use Rattle.cmap_files.specs.Files.{BfEntry}
 use Rattle.cmap_values.specs.UnitsSeen.{units_seen}
 use Rattle.cmap_files.specs.declared.declarations.BfRange.{BfRange}
 use Rattle.cmap_binary.specs.BinaryEntries.{Shape, ranges, singles}
 use Rattle.cmap_binary.specs.BinaryFiles.{Kind, texts}
 use Rattle.cmap_writer.specs.Held.{AreInOrder, AreShaped}
-use Rattle.cmap_writer.specs.Pieces.{IsShortText}
+use Rattle.cmap_writer.specs.Pieces.{CanBeSplitText, IsShortText}
+use Rattle.cmap_writer.specs.TextParts.{IsDecidedText}
 use Rattle.cmap_writer.specs.Texts.{AreHeldTexts, BeginsWithForm, FollowsText, HasForm, HasUnits, IsNumberOf}
+use Rattle.cmap_writer.proofs.SegmentsMade.{get_or_same}
 
 -- ---- a type of segments has one form
 shape_in : Option Kind → Shape
@@ -33,6 +37,15 @@ range_number zero some few = absurd (omega arith)
 range_number (suc zero) some few = refl
 range_number (suc (suc zero)) some few = refl
 range_number (suc (suc (suc n))) some few = absurd (omega arith)
+
+-- the type of single codes that fix a number of units
+pub single_number : (n : ℕ) → 1 ≤ n → n ≤ 4 → IsNumberOf singles (Some n) (16 + n)
+single_number zero some few = absurd (omega arith)
+single_number (suc zero) some few = refl
+single_number (suc (suc zero)) some few = refl
+single_number (suc (suc (suc zero))) some few = refl
+single_number (suc (suc (suc (suc zero)))) some few = refl
+single_number (suc (suc (suc (suc (suc n))))) some few = absurd (omega arith)
 
 -- ---- short entries
 pub short_units : (xs : List BfRange) (i : ℕ) (d : BfRange) → i < length xs → All IsShortText (map bf_entry_seen xs) → length (units_seen (get_or xs i d).units) < 2 ^ 8
@@ -92,3 +105,18 @@ held_texts shape fixed count xs few within short first later =
       short = short_front count xs short;
       few = omega (arith, few, length-take-le count xs within);
     }
+
+-- an entry that follows the last one is one more
+pub follow_texts : (shape : Shape) (fixed : Option ℕ) (xs : List BfRange) (count : ℕ) (b e : BfRange) → count < length xs → b ≡ get_or xs (count - 1) b → e ≡ get_or xs count e → FollowsText shape fixed b e → FollowTexts shape fixed xs count → FollowTexts shape fixed xs (count + 1)
+follow_texts shape fixed xs count b e inside b_is e_is here before k d one below within = elim (cases_lt k count) [
+  | inl earlier ↦ before k d one earlier within
+  | inr last ↦
+      let at : count ≡ k = omega (arith, below, last) in
+      let at_e = get_or_same (λ x. FollowsText shape fixed b x) xs count e d inside (subst (λ x. FollowsText shape fixed b x) e_is here) in
+      let both : FollowsText shape fixed (get_or xs (count - 1) d) (get_or xs count d) = get_or_same (λ x. FollowsText shape fixed x (get_or xs count d)) xs (count - 1) b d (omega (arith, inside)) (subst (λ x. FollowsText shape fixed x (get_or xs count d)) b_is at_e) in
+      rw at at both
+]
+
+-- ranges that can be split
+pub can_split : (es : List BfEntry) → All IsDecidedText es → All (λ e. length e.units < 2 ^ 8) es → All CanBeSplitText es
+can_split es decided counted k d within = let e = decided k d within in (e.0, e.1, counted k d within, e.3)

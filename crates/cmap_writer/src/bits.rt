@@ -7,7 +7,7 @@ use std::alloc::{AllocError, Global};
 use std::marker::Model;
 
 /// Bits that have been written. A clause sees them all, in order.
-#[derive(Debug, Drop)]
+#[derive(Drop)]
 pub(crate) struct BitWriter {
     /// The bytes that are full.
     bytes: Vec<u8>,

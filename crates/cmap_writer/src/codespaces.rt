@@ -72,6 +72,5 @@ fn push_space(out: &mut Vec<u8>, space: Codespace) -> Result<(), Fault<Obstacle>
 {
     out.push(space.len.count())?;
     push_code(out, space.len, space.low)?;
-    push_code(out, space.len, space.high)?;
-    Ok(())
+    push_code(out, space.len, space.high)
 }

@@ -77,10 +77,7 @@ pub(crate) fn push_columns(
     push_column(alloc, &tables.delta, &segment.deltas, out)?;
     match segment.shape {
         Shape::Singles => Ok(()),
-        Shape::Ranges => {
-            push_column(alloc, &tables.count, &segment.counts, out)?;
-            Ok(())
-        }
+        Shape::Ranges => push_column(alloc, &tables.count, &segment.counts, out),
     }
 }
 

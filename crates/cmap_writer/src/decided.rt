@@ -28,7 +28,7 @@ pub(crate) fn decided_cids(
     ensures same { IfOk result (λ ranges. SayTheSame cid_span cid_at (entries_seen list.now) (entries_seen ranges.items) × All CanBeSplit (entries_seen ranges.items)) }
     ensures err { IfErr result (RefusesWith (IsCidObstacle (entries_seen list.now))) }
 {
-    let table = Table::build(alloc, copy_of(alloc, list)?)?;
+    let table = table_of(alloc, list)?;
     ranges_of(alloc, &table)
 }
 
@@ -51,10 +51,9 @@ fn ranges_of(alloc: Global, table: &Table<CidRange>) -> Result<Vec<CidRange>, Fa
     Ok(ranges)
 }
 
-/// A copy of a list.
-fn copy_of(alloc: Global, list: &[CidRange]) -> Result<Vec<CidRange>, AllocError>
-    ensures same { IfOk result (λ copy. copy.items ≡ list.now) }
-    ensures small { IfOk result (λ _. All (λ r. r.range.end < 2 ^ 32) list.now) }
+/// The table of a list.
+fn table_of(alloc: Global, list: &[CidRange]) -> Result<Table<CidRange>, AllocError>
+    ensures { IfOk result (λ table. (table ≡ list.now) × All (λ r. r.range.end < 2 ^ 32) table) }
 {
     let mut copy = Vec::with_capacity(alloc, list.len())?;
     for entry in list {
@@ -68,7 +67,7 @@ fn copy_of(alloc: Global, list: &[CidRange]) -> Result<Vec<CidRange>, AllocError
             cid: entry.cid,
         })?;
     }
-    Ok(copy)
+    Table::build(alloc, copy)
 }
 
 /// The last code of a range.

@@ -44,8 +44,7 @@ pub(crate) fn push_metadata(
 {
     push_collection(alloc, &metadata.character_collection, out)?;
     push_name(&metadata.name, out)?;
-    push_mode(metadata.writing_mode, out)?;
-    Ok(())
+    push_mode(metadata.writing_mode, out)
 }
 
 /// Writes segments for the names of the files that are used, in order.
@@ -65,10 +64,10 @@ fn push_name(name: &Option<Vec<u8>>, out: &mut Vec<u8>) -> Result<(), Fault<Obst
         (WritesAll SegmentByAny (from_option (λ name. sets_name name.items) name.now))) }
     ensures err { IfErr result (IsTooLongIf ⊤) }
 {
-    if let Some(name) = name {
-        push_segment(out, NAME, name)?;
+    match name {
+        Some(name) => push_segment(out, NAME, name),
+        None => Ok(()),
     }
-    Ok(())
 }
 
 /// Writes a segment for a writing mode.
@@ -77,10 +76,10 @@ fn push_mode(mode: Option<WritingMode>, out: &mut Vec<u8>) -> Result<(), Fault<O
         (WritesAll SegmentByAny (from_option (λ mode. sets_mode (Some (mode_seen mode))) mode))) }
     ensures err { IfErr result (IsTooLongIf ⊤) }
 {
-    if let Some(mode) = mode {
-        push_segment(out, MODE, &[mode_number(mode)])?;
+    match mode {
+        Some(mode) => push_segment(out, MODE, &[mode_number(mode)]),
+        None => Ok(()),
     }
-    Ok(())
 }
 
 /// The number of a writing mode.
@@ -103,11 +102,13 @@ fn push_collection(
         (WritesAll SegmentByAny (from_option (λ collection. sets_collection (collection_seen collection)) collection.now))) }
     ensures err { IfErr result (RefusesWith (IsMetadataObstacle (option_map collection_seen collection.now))) }
 {
-    if let Some(collection) = collection {
-        let payload = collection_payload(alloc, collection)?;
-        push_segment(out, COLLECTION, &payload)?;
+    match collection {
+        Some(collection) => {
+            let payload = collection_payload(alloc, collection)?;
+            push_segment(out, COLLECTION, &payload)
+        }
+        None => Ok(()),
     }
-    Ok(())
 }
 
 /// The payload of a segment for a character collection.
@@ -143,14 +144,12 @@ fn check_family(alloc: Global, family: &CidFamily) -> Result<(), Fault<Obstacle>
     ensures same { IfOk result (λ _. family_of (registry_of (family_seen family.now)) (ordering_of (family_seen family.now)) ≡ family_seen family.now) }
     ensures err { IfErr result (RefusesWith (IsFamilyObstacle (family_seen family.now))) }
 {
-    match family {
-        CidFamily::Custom { registry, ordering } => {
-            match CidFamily::from_registry_ordering(alloc, registry, ordering)? {
-                CidFamily::Custom { .. } => Ok(()),
-                _ => Err(Fault::Refused(Obstacle::CustomFamily)),
-            }
-        }
-        _ => Ok(()),
+    let CidFamily::Custom { registry, ordering } = family else {
+        return Ok(());
+    };
+    match CidFamily::from_registry_ordering(alloc, registry, ordering)? {
+        CidFamily::Custom { .. } => Ok(()),
+        _ => Err(Fault::Refused(Obstacle::CustomFamily)),
     }
 }
 

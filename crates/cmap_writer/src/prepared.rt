@@ -65,8 +65,7 @@ fn push_notdef_lists(
     push_notdefs(alloc, CodeLength::One, &lists.one, out)?;
     push_notdefs(alloc, CodeLength::Two, &lists.two, out)?;
     push_notdefs(alloc, CodeLength::Three, &lists.three, out)?;
-    push_notdefs(alloc, CodeLength::Four, &lists.four, out)?;
-    Ok(())
+    push_notdefs(alloc, CodeLength::Four, &lists.four, out)
 }
 
 /// Adds segments of the CIDs of codes of each length.
@@ -81,8 +80,7 @@ fn add_cid_lists(
     add_cid_list(alloc, CodeLength::One, &lists.one, segments)?;
     add_cid_list(alloc, CodeLength::Two, &lists.two, segments)?;
     add_cid_list(alloc, CodeLength::Three, &lists.three, segments)?;
-    add_cid_list(alloc, CodeLength::Four, &lists.four, segments)?;
-    Ok(())
+    add_cid_list(alloc, CodeLength::Four, &lists.four, segments)
 }
 
 impl Prepared {

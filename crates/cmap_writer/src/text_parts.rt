@@ -33,7 +33,7 @@ pub(crate) fn decided_texts(
     ensures parts { IfOk result (λ ranges. All (IsPartOf (map bf_entry_seen list.now)) (map bf_entry_seen ranges.items)) }
     ensures err { IfErr result (RefusesWith (IsTextObstacle (map bf_entry_seen list.now))) }
 {
-    let table = Table::build(alloc, copy_of_texts(alloc, list)?)?;
+    let table = text_table(alloc, list)?;
     text_ranges_of(alloc, &table)
 }
 
@@ -59,16 +59,16 @@ fn text_ranges_of(alloc: Global, table: &Table<BfRange>) -> Result<Vec<BfRange>,
     Ok(ranges)
 }
 
-/// A copy of a list.
-fn copy_of_texts(alloc: Global, list: &[BfRange]) -> Result<Vec<BfRange>, AllocError>
-    ensures same { IfOk result (λ copy. map bf_entry_seen copy.items ≡ map bf_entry_seen list.now) }
-    ensures small { IfOk result (λ copy. All (λ r. r.range.end < 2 ^ 32) copy.items) }
+/// The table of a list.
+fn text_table(alloc: Global, list: &[BfRange]) -> Result<Table<BfRange>, AllocError>
+    ensures { IfOk result (λ table. (map bf_entry_seen table ≡ map bf_entry_seen list.now)
+        × All (λ r. r.range.end < 2 ^ 32) table) }
 {
     let mut copy = Vec::with_capacity(alloc, list.len())?;
     for entry in list {
         copy.push(copy_of_text(alloc, entry)?)?;
     }
-    Ok(copy)
+    Table::build(alloc, copy)
 }
 
 /// A copy of a declaration.

@@ -111,8 +111,7 @@ impl Encoder {
         push_number(out, FILLED, 2)?;
         out.push(self.counts.len() as u8)?;
         push_u16s(out, &self.counts)?;
-        push_symbols(out, &self.words, width)?;
-        Ok(())
+        push_symbols(out, &self.words, width)
     }
 
     /// The bytes whose bits begin with the code words of these symbols, in order; `None` where one

@@ -1,5 +1,6 @@
 use Rattle.std.proofs.Common.{ap, ◌∙◌, append-nil}
 use Rattle.std.proofs.lemmas.List.{map-append}
+use Rattle.std.proofs.lemmas.Result.{IfOk-from_err}
 use Rattle.cmap_values.specs.NamesSeen.{names_seen}
 use Rattle.cmap_packed.specs.Fronts.{FramedAt}
 use Rattle.cmap_packed.proofs.Fronts.{all_end, all_more, all_wrong, continues_none, continues_only, emptied, filled, no_frame}
@@ -17,3 +18,6 @@ pub returns : goal.returns
 returns c =
     let only = continues_only c.loop-bytes.invariant (all_end (FramedAt 6) _ (emptied c.loop-bytes-test.ensures) (no_frame 6)) in
     rw append-nil at only
+
+pub returns-in_err-push : goal.returns-in_err-push
+returns-in_err-push c = IfOk-from_err _ _ c.from_residual.ensures.0

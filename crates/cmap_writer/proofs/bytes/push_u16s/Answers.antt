@@ -1,5 +1,6 @@
 use Rattle.std.proofs.Common.{arith, ap, ◌++◌, ◌∙◌}
 use Rattle.std.proofs.lemmas.List.{get_or_default}
+use Rattle.std.proofs.lemmas.Result.{IfOk-from_err}
 use Rattle.cmap_writer.specs.Written.{bytes_of}
 use Rattle.cmap_writer.proofs.RowsAdded.{rows_done, rows_more}
 use Rattle.cmap_writer.proofs.bytes.push_u16s.Goals as goal
@@ -15,3 +16,6 @@ returns-clause-small c k d inside = omega (arith, get_or_default c.args.numbers.
 
 pub returns-in_err-push_number-clause-small : goal.returns-in_err-push_number-clause-small
 returns-in_err-push_number-clause-small c k d inside = omega (arith, get_or_default c.args.numbers.now k d 0 inside, c.type_inv.numbers k)
+
+pub returns-in_err-push_number-clause-written : goal.returns-in_err-push_number-clause-written
+returns-in_err-push_number-clause-written c = IfOk-from_err _ _ c.from_residual.ensures.0

@@ -1,11 +1,14 @@
 use Rattle.std.proofs.Common.{All, map, subst, sym}
 use Rattle.std.proofs.lemmas.List.Sorted.{All-permutation, IsPermutation-map}
+use Rattle.std.proofs.lemmas.Result.{IfOk-from_err}
 use Rattle.cmap_values.specs.CodeLengths.{length_of}
 use Rattle.cmap_files.specs.DeclarationsSeen.{cid_entry_seen, entries_seen}
 use Rattle.cmap_files.specs.Files.{Declaration}
 use Rattle.cmap_layers.specs.Lookups.{cid_at, cid_span}
 use Rattle.cmap_writer.specs.Pieces.{ArePieces, IsShort}
 use Rattle.cmap_writer.specs.Segments.{AddsSegments}
+use Rattle.cmap_values.proofs.Outcomes.{refuses_on}
+use Rattle.cmap_writer.proofs.ObstaclesMet.{memory_on}
 use Rattle.cmap_writer.proofs.Told.{pieces_say, same_permuted, same_told}
 use Rattle.cmap_writer.proofs.cids.add_cid_list.Goals as goal
 
@@ -26,3 +29,27 @@ returns-clause-added c =
     let same = same_permuted cid_span cid_at es (entries_seen pieces) (entries_seen sorted) (IsPermutation-map cid_entry_seen pieces sorted c.sort_by_key.ensures.permutation) (pieces_say cid_span cid_at IsShort es (entries_seen ranges) (entries_seen pieces) parts say) in
     let added = subst (λ xs. AddsSegments c.args.segments.now.items c.add_cids.new.segments.items (map (Declaration.cid (length_of c.args.len)) (entries_seen xs))) c.deref-2.ensures.value c.in_ok-add_cids.ensures in
     (entries_seen sorted, added, same_told cid_span cid_at es (entries_seen sorted) same)
+
+pub returns-in_err-ranges-clause-err : goal.returns-in_err-ranges-clause-err
+returns-in_err-ranges-clause-err c = refuses_on _ _ c.from_residual.ensures.1 c.in_err-ranges.ensures.err (λ o h. h)
+
+pub returns-in_err-pieces-clause-err : goal.returns-in_err-pieces-clause-err
+returns-in_err-pieces-clause-err c = memory_on _ _ c.from_residual-in_err-pieces.ensures.1
+
+pub returns-in_err-sort_by_key-clause-err : goal.returns-in_err-sort_by_key-clause-err
+returns-in_err-sort_by_key-clause-err c = memory_on _ _ c.from_residual-in_err-sort_by_key.ensures.1
+
+pub returns-in_err-add_cids-clause-err : goal.returns-in_err-add_cids-clause-err
+returns-in_err-add_cids-clause-err c = memory_on _ _ c.from_residual-in_err-add_cids.ensures.1
+
+pub returns-in_err-ranges-clause-added : goal.returns-in_err-ranges-clause-added
+returns-in_err-ranges-clause-added c = IfOk-from_err _ _ c.from_residual.ensures.0
+
+pub returns-in_err-pieces-clause-added : goal.returns-in_err-pieces-clause-added
+returns-in_err-pieces-clause-added c = IfOk-from_err _ _ c.from_residual-in_err-pieces.ensures.0
+
+pub returns-in_err-sort_by_key-clause-added : goal.returns-in_err-sort_by_key-clause-added
+returns-in_err-sort_by_key-clause-added c = IfOk-from_err _ _ c.from_residual-in_err-sort_by_key.ensures.0
+
+pub returns-in_err-add_cids-clause-added : goal.returns-in_err-add_cids-clause-added
+returns-in_err-add_cids-clause-added c = IfOk-from_err _ _ c.from_residual-in_err-add_cids.ensures.0

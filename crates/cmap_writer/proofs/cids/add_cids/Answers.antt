@@ -1,11 +1,16 @@
-use Rattle.std.proofs.Common.{◌∙◌, ◌++◌, ◌≡◌, drop, map, ap, sym, subst}
+use Rattle.std.proofs.Common.{◌∙◌, ◌++◌, ◌≡◌, List, [], length, drop, map, refl, ap, sym, subst}
 use Rattle.std.specs.List.{All}
-use Rattle.std.proofs.lemmas.List.{map-append, take-append-drop}
+use Rattle.std.proofs.lemmas.Bool.{eqb-true}
+use Rattle.std.proofs.lemmas.List.{map-append, nil_from_length, take-append-drop}
+use Rattle.std.proofs.lemmas.Result.{IfOk-from_err}
 use Rattle.cmap_values.specs.CodeLengths.{length_of}
 use Rattle.cmap_files.specs.DeclarationsSeen.{cid_entry_seen, entries_seen}
 use Rattle.cmap_files.specs.Files.{Declaration}
+use Rattle.cmap_files.specs.declared.declarations.CidRange.{CidRange}
 use Rattle.cmap_writer.specs.Pieces.{IsShort}
-use Rattle.cmap_writer.proofs.SegmentsAdded.{added_more}
+use Rattle.cmap_writer.specs.EncodersSeen.{shape_seen}
+use Rattle.cmap_writer.specs.Held.{AreHeld}
+use Rattle.cmap_writer.proofs.SegmentsAdded.{AddedTo, added_all, added_more, added_none}
 use Rattle.cmap_writer.proofs.SegmentsMade.{short_later}
 use Rattle.cmap_writer.proofs.cids.add_cids.Goals as goal
 
@@ -21,3 +26,33 @@ loop-left-preserved c =
       short = subst (λ xs. All IsShort (entries_seen xs)) (sym c.split_at.ensures.back) (short_later count left c.loop-left.invariant.short);
       done = added_more (λ xs. map cid (entries_seen xs)) (λ a b. ap (map cid) (map-append cid_entry_seen a b) ∙ map-append cid (entries_seen a) (entries_seen b)) c.args.pieces.now left here later c.args.segments.now.items c.loop-left.segments.items c.push.new.self.items _ c.loop-left.invariant.done cut c.in_ok-push.ensures.items c.in_ok-cid_segment.ensures;
     }
+
+pub loop-left-init : goal.loop-left-init
+loop-left-init c = record { short = c.requires; done = added_none (λ xs. map (Declaration.cid (length_of c.args.len)) (entries_seen xs)) refl c.args.pieces.now c.args.segments.now.items }
+
+pub cid_segment-requires : goal.cid_segment-requires
+cid_segment-requires c = subst (λ xs. AreHeld (shape_seen c.first_shape-shape.result) (entries_seen xs)) (sym c.split_at.ensures.front) c.segment_len.ensures.held
+
+pub segment_len-requires-clause-short : goal.segment_len-requires-clause-short
+segment_len-requires-clause-short c = c.loop-left.invariant.short
+
+pub first_shape-shape-requires-clause-short : goal.first_shape-shape-requires-clause-short
+first_shape-shape-requires-clause-short c = c.loop-left.invariant.short
+
+pub segment_len-requires-clause-first : goal.segment_len-requires-clause-first
+segment_len-requires-clause-first c = c.first_shape-shape.ensures
+
+pub split_at-requires : goal.split_at-requires
+split_at-requires c = c.segment_len.ensures.within
+
+pub returns : goal.returns
+returns c =
+    let say : List CidRange → List Declaration = λ xs. map (Declaration.cid (length_of c.args.len)) (entries_seen xs) in
+    let none : c.loop-left.left.now ≡ [] = nil_from_length c.loop-left.left.now (eqb-true (length c.loop-left.left.now) 0 (sym c.loop-left-test.ensures)) in
+    added_all say c.args.pieces.now c.args.segments.now.items c.loop-left.segments.items (subst (λ left. AddedTo say c.args.pieces.now left c.args.segments.now.items c.loop-left.segments.items) none c.loop-left.invariant.done)
+
+pub returns-in_err-cid_segment : goal.returns-in_err-cid_segment
+returns-in_err-cid_segment c = IfOk-from_err _ _ c.from_residual.ensures.0
+
+pub returns-in_err-push : goal.returns-in_err-push
+returns-in_err-push c = IfOk-from_err _ _ c.from_residual-in_err-push.ensures.0

@@ -1,4 +1,5 @@
 use Rattle.std.proofs.Common.{◌-◌, ◌*◌, ◌∙◌, ◌≡◌, ◌++◌, map, ap, sym, subst}
+use Rattle.std.proofs.lemmas.Result.{IfOk-from_err}
 use Rattle.cmap_values.specs.CodeLengths.{length_of}
 use Rattle.cmap_files.specs.DeclarationsSeen.{entries_seen}
 use Rattle.cmap_files.specs.Files.{Declaration}
@@ -30,3 +31,15 @@ returns c tables payload (columns, spelled, is) =
       | in-Ranges w ↦ subst (λ n. IsSegment tables n payload content) (sym (w.number-is ∙ ap (λ n. 2 * n - 1) w.count.ensures)) (IsSegment-ranges tables len payload es (subst (λ s. CidEntriesIn tables (shape_seen s) payload es) w.in-Ranges.is within))
       | in-Singles w ↦ subst (λ n. IsSegment tables n payload content) (sym (w.number-is ∙ ap (λ n. 2 * n) w.count-in-Singles.ensures)) (IsSegment-singles tables len payload es (subst (λ s. CidEntriesIn tables (shape_seen s) payload es) w.in-Singles.is within))
     ]
+
+pub returns-in_err-values : goal.returns-in_err-values
+returns-in_err-values c = IfOk-from_err _ _ c.from_residual.ensures.0
+
+pub returns-in_err-push_raw_cids : goal.returns-in_err-push_raw_cids
+returns-in_err-push_raw_cids c = IfOk-from_err _ _ c.from_residual-in_err-push_raw_cids.ensures.0
+
+pub returns-in_err-deltas : goal.returns-in_err-deltas
+returns-in_err-deltas c = IfOk-from_err _ _ c.from_residual-in_err-deltas.ensures.0
+
+pub returns-in_err-counts : goal.returns-in_err-counts
+returns-in_err-counts c = IfOk-from_err _ _ c.from_residual-in_err-counts.ensures.0

@@ -1,13 +1,16 @@
-use Rattle.std.proofs.Common.{◌∙◌, ◌++◌, ◌≡◌, drop, map, refl, ap, sym, subst}
-use Rattle.std.proofs.lemmas.List.{map-append, take-append-drop}
+use Rattle.std.proofs.Common.{◌∙◌, ◌++◌, ◌≡◌, List, [], drop, length, map, refl, ap, sym, subst}
+use Rattle.std.proofs.lemmas.Bool.{eqb-true}
+use Rattle.std.proofs.lemmas.List.{map-append, nil_from_length, take-append-drop}
+use Rattle.std.proofs.lemmas.Result.{IfOk-from_err}
 use Rattle.cmap_files.specs.DeclarationsSeen.{codespace_seen}
 use Rattle.cmap_files.specs.Files.{Declaration}
 use Rattle.cmap_binary.specs.BinaryFiles.{CodespacesIn, declares}
+use Rattle.cmap_files.specs.declared.declarations.Codespace.{Codespace}
 use Rattle.cmap_writer.specs.SegmentsWritten.{SegmentByAny}
 use Rattle.cmap_writer.proofs.MetadataHeld.{by_any}
-use Rattle.cmap_writer.proofs.SegmentsDone.{done_more}
+use Rattle.cmap_writer.proofs.SegmentsDone.{DoneTo, done_all, done_more, done_none}
 use Rattle.cmap_values.proofs.Outcomes.{refuses_on}
-use Rattle.cmap_writer.proofs.ObstaclesMet.{spaces_among}
+use Rattle.cmap_writer.proofs.ObstaclesMet.{spaces_among, too_long}
 use Rattle.cmap_writer.proofs.codespaces.push_codespaces.Goals as goal
 
 pub loop-left-preserved : goal.loop-left-preserved
@@ -32,3 +35,21 @@ returns-in_err-payload-clause-err c =
     let count = c.min.result in
     let cut : left ≡ here ++ later = sym (take-append-drop count left) ∙ ap (λ xs. xs ++ drop count left) (sym c.split_at.ensures.front) ∙ ap (λ xs. here ++ xs) (sym c.split_at.ensures.back) in
     refuses_on _ _ c.from_residual.ensures.1 c.in_err-payload.ensures.err (spaces_among c.args.spaces.now c.loop-left.invariant.done left here later c.loop-left.invariant.parts cut)
+
+pub loop-left-init : goal.loop-left-init
+loop-left-init c = done_none SegmentByAny (λ xs. map Declaration.codespace (map codespace_seen xs)) refl c.args.spaces.now c.args.out.now.items
+
+pub returns-clause-written : goal.returns-clause-written
+returns-clause-written c =
+    let say : List Codespace → List Declaration = λ xs. map Declaration.codespace (map codespace_seen xs) in
+    let none : c.loop-left.left.now ≡ [] = nil_from_length c.loop-left.left.now (eqb-true (length c.loop-left.left.now) 0 (sym c.loop-left-test.ensures)) in
+    done_all SegmentByAny say c.args.spaces.now c.args.out.now.items c.loop-left.out.items (subst (λ left. DoneTo SegmentByAny say c.args.spaces.now left c.args.out.now.items c.loop-left.out.items) none c.loop-left.invariant)
+
+pub returns-in_err-payload-clause-written : goal.returns-in_err-payload-clause-written
+returns-in_err-payload-clause-written c = IfOk-from_err _ _ c.from_residual.ensures.0
+
+pub returns-in_err-push_segment-clause-written : goal.returns-in_err-push_segment-clause-written
+returns-in_err-push_segment-clause-written c = IfOk-from_err _ _ c.from_residual-in_err-push_segment.ensures.0
+
+pub returns-in_err-push_segment-clause-err : goal.returns-in_err-push_segment-clause-err
+returns-in_err-push_segment-clause-err c = too_long _ _ _ _ c.from_residual-in_err-push_segment.ensures.1 c.in_err-push_segment.ensures.err tt

@@ -1,7 +1,10 @@
-use Rattle.std.proofs.Common.{arith}
+use Rattle.std.proofs.Common.{arith, map, subst}
+use Rattle.std.proofs.lemmas.List.{take_all}
+use Rattle.std.proofs.lemmas.Result.{IfOk-from_err}
 use Rattle.cmap_files.specs.DeclarationsSeen.{codespace_seen}
 use Rattle.cmap_binary.specs.BinaryFiles.{CodespaceAt}
-use Rattle.cmap_writer.proofs.FilesWritten.{taken_more}
+use Rattle.cmap_writer.specs.Written.{Appends, WritesAll}
+use Rattle.cmap_writer.proofs.FilesWritten.{appended_none, taken_more}
 use Rattle.cmap_values.proofs.Outcomes.{refuses_on}
 use Rattle.cmap_writer.proofs.ObstaclesMet.{space_among}
 use Rattle.cmap_writer.proofs.codespaces.push_spaces.Goals as goal
@@ -11,3 +14,12 @@ loop-space-preserved c = taken_more CodespaceAt codespace_seen c.args.spaces.now
 
 pub returns-in_err-push_space-clause-err : goal.returns-in_err-push_space-clause-err
 returns-in_err-push_space-clause-err c = refuses_on _ _ c.from_residual.ensures.1 c.in_err-push_space.ensures.err (space_among c.args.spaces.now c.loop-space.space-index _ (omega arith))
+
+pub loop-space-init : goal.loop-space-init
+loop-space-init c = appended_none CodespaceAt c.args.out.now.items
+
+pub returns-clause-written : goal.returns-clause-written
+returns-clause-written c = subst (λ xs. Appends c.args.out.now.items c.loop-space.out.items (WritesAll CodespaceAt (map codespace_seen xs))) (take_all c.loop-space.space-index c.args.spaces.now c.loop-space-test.false) c.loop-space.invariant
+
+pub returns-in_err-push_space-clause-written : goal.returns-in_err-push_space-clause-written
+returns-in_err-push_space-clause-written c = IfOk-from_err _ _ c.from_residual.ensures.0

@@ -1,19 +1,40 @@
 use Rattle.std.proofs.Common.{◌∙◌, ◌++◌, ap, refl, subst, sym}
 use Rattle.std.proofs.lemmas.List.{append_assoc}
+use Rattle.std.proofs.lemmas.Result.{IfOk-from_err, IfOk-weaker}
+use Rattle.cmap_values.proofs.Outcomes.{refuses_on}
 use Rattle.cmap_writer.specs.ColumnsWritten.{WritesColumn}
 use Rattle.cmap_writer.specs.EncodersSeen.{encoders_seen, shape_seen}
 use Rattle.cmap_writer.specs.Segments.{WritesNumbers}
 use Rattle.cmap_writer.specs.Written.{Appends}
+use Rattle.cmap_writer.proofs.ObstaclesMet.{by_counts, by_deltas, refused_on}
 use Rattle.cmap_writer.proofs.columns.push_columns.Goals as goal
 
-pub returns-in_ok-push_column-in-Ranges-clause-written : goal.returns-in_ok-push_column-in-Ranges-clause-written
-returns-in_ok-push_column-in-Ranges-clause-written c =
+pub returns-in-Ranges-clause-written : goal.returns-in-Ranges-clause-written
+returns-in-Ranges-clause-written c =
     let tables = encoders_seen c.args.tables.now in
     let segment = c.args.segment.now in
     let old = c.args.out.now.items in
     let mid = c.push_column.new.out.items in
     let new = c.push_column-in-Ranges.new.out.items in
     let (first, first_is, deltas) = subst (λ xs. Appends old mid (WritesColumn tables.delta xs)) c.deref.ensures.value c.in_ok-push_column.ensures.written in
-    let (second, second_is, counts) = subst (λ xs. Appends mid new (WritesColumn tables.count xs)) c.deref-in-Ranges.ensures.value c.in_ok-push_column-in-Ranges.ensures.written in
+    IfOk-weaker _ _ _ (λ _ more.
+    let (second, second_is, counts) = subst (λ xs. Appends mid new (WritesColumn tables.count xs)) c.deref-in-Ranges.ensures.value more in
     let whole = second_is ∙ ap (λ bs. bs ++ second) first_is ∙ append_assoc old first second in
-    subst (λ shape. Appends old new (WritesNumbers tables (shape_seen shape) segment.deltas.items segment.counts.items)) (sym c.in-Ranges.is) (first ++ second, whole, (first, second, refl, deltas, counts))
+    subst (λ shape. Appends old new (WritesNumbers tables (shape_seen shape) segment.deltas.items segment.counts.items)) (sym c.in-Ranges.is) (first ++ second, whole, (first, second, refl, deltas, counts))) c.push_column-in-Ranges.ensures.written
+
+pub returns-in-Singles-clause-written : goal.returns-in-Singles-clause-written
+returns-in-Singles-clause-written c =
+    let tables = encoders_seen c.args.tables.now in
+    let segment = c.args.segment.now in
+    let old = c.args.out.now.items in
+    let new = c.push_column.new.out.items in
+    subst (λ shape. Appends old new (WritesNumbers tables (shape_seen shape) segment.deltas.items segment.counts.items)) (sym c.in-Singles.is) (subst (λ xs. Appends old new (WritesColumn tables.delta xs)) c.deref.ensures.value c.in_ok-push_column.ensures.written)
+
+pub returns-in_err-push_column-clause-err : goal.returns-in_err-push_column-clause-err
+returns-in_err-push_column-clause-err c = refuses_on _ _ c.from_residual.ensures.1 c.in_err-push_column.ensures.err (by_deltas (encoders_seen c.args.tables.now) c.args.segment.now _ c.deref.ensures.value)
+
+pub returns-in-Ranges-clause-err : goal.returns-in-Ranges-clause-err
+returns-in-Ranges-clause-err c = refused_on _ c.push_column-in-Ranges.ensures.err (by_counts (encoders_seen c.args.tables.now) c.args.segment.now _ c.deref-in-Ranges.ensures.value)
+
+pub returns-in_err-push_column-clause-written : goal.returns-in_err-push_column-clause-written
+returns-in_err-push_column-clause-written c = IfOk-from_err _ _ c.from_residual.ensures.0

@@ -1,12 +1,15 @@
-use Rattle.std.proofs.Common.{◌≡◌, ◌-◌, ◌<◌, length, get_or, refl, sym, subst, arith, Some, set, All}
+use Rattle.std.proofs.Common.{◌≡◌, ◌-◌, ◌<◌, ◌∷◌, [], ◌∙◌, ap, length, get_or, refl, sym, subst, arith, Some, set, All}
 use Rattle.std.specs.List.{slice_get}
+use Rattle.std.proofs.lemmas.List.{map-append}
+use Rattle.std.proofs.lemmas.List.Elements.{All-push}
 use Rattle.std.proofs.lemmas.Option.{slice_get_read}
+use Rattle.std.proofs.lemmas.Result.{IfOk-from_err}
 use Rattle.cmap_files.specs.DeclarationsSeen.{cid_entry_seen, entries_seen}
 use Rattle.cmap_files.specs.declared.declarations.CidRange.{CidRange}
 use Rattle.cmap_layers.specs.Lookups.{cid_at, cid_span}
 use Rattle.cmap_writer.specs.Follows.{GoesOn}
 use Rattle.cmap_writer.specs.Pieces.{CanBeSplit, Takes}
-use Rattle.cmap_writer.proofs.CidParts.{longer, longer_can, longer_takes}
+use Rattle.cmap_writer.proofs.CidParts.{longer, longer_can, longer_takes, takes_pushed}
 use Rattle.cmap_writer.proofs.decided.push_joined.Goals as goal
 
 pub returns-then-is_continued-clause-all : goal.returns-then-is_continued-clause-all
@@ -28,3 +31,22 @@ returns-then-is_continued-clause-taken c =
     let n : c.len-last.result - 1 ≡ length xs - 1 = omega arith in
     let at : slice_get xs (length xs - 1) ≡ Some last = slice_get_read xs (length xs) (length xs - 1) last refl (omega (arith, some)) (subst (λ k. last ≡ get_or xs k last) n c.index_mut.ensures.value) in
     subst (λ k. Takes cid_span cid_at (entries_seen xs) (entries_seen (set xs k (longer last c.args.range))) (cid_entry_seen c.args.range)) (sym n) (longer_takes xs c.args.range last some at c.requires.all c.requires.one (subst (λ ys. (d : CidRange) → GoesOn (get_or ys (length ys - 1) d) c.args.range) here (c.is_continued.ensures.answer c.if-is_continued.true)))
+
+pub is_continued-requires : goal.is_continued-requires
+is_continued-requires c = subst (λ xs. All CanBeSplit (entries_seen xs)) (sym c.deref.ensures.value) c.requires.all
+
+pub returns-clause-all : goal.returns-clause-all
+returns-clause-all c =
+    let xs = c.args.ranges.now.items in
+    subst (All CanBeSplit) (sym (ap entries_seen c.in_ok-push.ensures.items ∙ map-append cid_entry_seen xs (c.args.range ∷ []))) (All-push CanBeSplit (entries_seen xs) (cid_entry_seen c.args.range) c.requires.all c.requires.one)
+
+pub returns-clause-taken : goal.returns-clause-taken
+returns-clause-taken c =
+    let xs = c.args.ranges.now.items in
+    takes_pushed (entries_seen xs) (entries_seen c.push.new.self.items) (cid_entry_seen c.args.range) (ap entries_seen c.in_ok-push.ensures.items ∙ map-append cid_entry_seen xs (c.args.range ∷ []))
+
+pub returns-in_err-push-clause-all : goal.returns-in_err-push-clause-all
+returns-in_err-push-clause-all c = IfOk-from_err _ _ c.from_residual.ensures.0
+
+pub returns-in_err-push-clause-taken : goal.returns-in_err-push-clause-taken
+returns-in_err-push-clause-taken c = IfOk-from_err _ _ c.from_residual.ensures.0

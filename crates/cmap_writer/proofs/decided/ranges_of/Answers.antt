@@ -1,10 +1,14 @@
 use Rattle.std.proofs.Common.{◌≡◌, List, length, map, refl, subst, arith}
+use Rattle.std.proofs.lemmas.List.Elements.{All-nil}
+use Rattle.std.proofs.lemmas.Result.{IfOk-from_err}
 use Rattle.cmap_runs.specs.Ranges.{Run, runs_of}
 use Rattle.cmap_files.specs.DeclarationsSeen.{cid_entry_seen, cid_range_span, entries_seen}
 use Rattle.cmap_files.specs.declared.declarations.CidRange.{CidRange}
 use Rattle.cmap_layers.specs.Lookups.{cid_at, cid_span}
+use Rattle.cmap_writer.specs.Pieces.{CanBeSplit, SaysAs}
 use Rattle.cmap_writer.proofs.DecidedParts.{declaration_within, large_given, part_can, part_has, part_right, run_within}
-use Rattle.cmap_writer.proofs.RunParts.{HaveRuns, have_all, have_more}
+use Rattle.cmap_writer.proofs.ObstaclesMet.{memory_on}
+use Rattle.cmap_writer.proofs.RunParts.{HaveRuns, have_all, have_more, have_none}
 use Rattle.cmap_writer.proofs.decided.ranges_of.Goals as goal
 
 abbrev runs : List CidRange → List Run
@@ -56,3 +60,21 @@ returns-clause-same c =
 
 pub returns-in_default-clause-err : goal.returns-in_default-clause-err
 returns-in_default-clause-err c = large_given c.args.table.now (runs c.args.table.now) c.run_count-i-end.ensures.runs.0 c.loop-i.i c.run-start.result.0 c.run-start.result.1 c.run-start.result.2 c.run-start.ensures.run c.decl.result.now c.decl.ensures.declaration c.in_default.ensures.none
+
+pub returns-in_err-push_joined-clause-err : goal.returns-in_err-push_joined-clause-err
+returns-in_err-push_joined-clause-err c = memory_on _ _ c.from_residual.ensures.1
+
+pub returns-in_err-push_joined-clause-same : goal.returns-in_err-push_joined-clause-same
+returns-in_err-push_joined-clause-same c = IfOk-from_err _ _ c.from_residual.ensures.0
+
+pub push_joined-requires-clause-all : goal.push_joined-requires-clause-all
+push_joined-requires-clause-all c = c.loop-i.invariant.small
+
+pub loop-i-init : goal.loop-i-init
+loop-i-init c =
+    let table = c.args.table.now in
+    rw c.new-ranges.ensures.items (record {
+      right = All-nil (SaysAs cid_span cid_at (entries_seen table));
+      small = All-nil CanBeSplit;
+      whole = have_none cid_range_span cid_entry_seen cid_span cid_at (λ x. refl) table (runs table) c.run_count-i-end.ensures.runs.0;
+    })

@@ -1,8 +1,11 @@
-use Rattle.std.proofs.Common.{arith}
+use Rattle.std.proofs.Common.{arith, subst}
+use Rattle.std.proofs.lemmas.List.{take_all}
+use Rattle.std.proofs.lemmas.Result.{IfOk-from_err}
 use Rattle.cmap_values.specs.CodeLengths.{length_of}
-use Rattle.cmap_files.specs.DeclarationsSeen.{cid_entry_seen}
+use Rattle.cmap_files.specs.DeclarationsSeen.{cid_entry_seen, entries_seen}
 use Rattle.cmap_binary.specs.BinaryFiles.{NotdefAt}
-use Rattle.cmap_writer.proofs.FilesWritten.{taken_more}
+use Rattle.cmap_writer.specs.Written.{Appends, WritesAll}
+use Rattle.cmap_writer.proofs.FilesWritten.{appended_none, taken_more}
 use Rattle.cmap_values.proofs.Outcomes.{refuses_on}
 use Rattle.cmap_writer.proofs.ObstaclesMet.{notdef_among}
 use Rattle.cmap_writer.proofs.notdefs.push_entries.Goals as goal
@@ -12,3 +15,12 @@ loop-entry-preserved c = taken_more (NotdefAt (length_of c.args.len)) cid_entry_
 
 pub returns-in_err-push_notdef-clause-err : goal.returns-in_err-push_notdef-clause-err
 returns-in_err-push_notdef-clause-err c = refuses_on _ _ c.from_residual.ensures.1 c.in_err-push_notdef.ensures.err (notdef_among (length_of c.args.len) c.args.entries.now c.loop-entry.entry-index _ (omega arith))
+
+pub loop-entry-init : goal.loop-entry-init
+loop-entry-init c = appended_none (NotdefAt (length_of c.args.len)) c.args.out.now.items
+
+pub returns-clause-written : goal.returns-clause-written
+returns-clause-written c = subst (λ xs. Appends c.args.out.now.items c.loop-entry.out.items (WritesAll (NotdefAt (length_of c.args.len)) (entries_seen xs))) (take_all c.loop-entry.entry-index c.args.entries.now c.loop-entry-test.false) c.loop-entry.invariant
+
+pub returns-in_err-push_notdef-clause-written : goal.returns-in_err-push_notdef-clause-written
+returns-in_err-push_notdef-clause-written c = IfOk-from_err _ _ c.from_residual.ensures.0

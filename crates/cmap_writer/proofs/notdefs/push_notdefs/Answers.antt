@@ -1,14 +1,17 @@
-use Rattle.std.proofs.Common.{◌∙◌, ◌++◌, ◌≡◌, drop, map, refl, ap, sym, subst}
-use Rattle.std.proofs.lemmas.List.{map-append, take-append-drop}
+use Rattle.std.proofs.Common.{◌∙◌, ◌++◌, ◌≡◌, List, [], drop, length, map, refl, ap, sym, subst}
+use Rattle.std.proofs.lemmas.Bool.{eqb-true}
+use Rattle.std.proofs.lemmas.List.{map-append, nil_from_length, take-append-drop}
+use Rattle.std.proofs.lemmas.Result.{IfOk-from_err}
 use Rattle.cmap_values.specs.CodeLengths.{length_of}
 use Rattle.cmap_files.specs.DeclarationsSeen.{cid_entry_seen, entries_seen}
 use Rattle.cmap_files.specs.Files.{Declaration}
 use Rattle.cmap_binary.specs.BinaryFiles.{NotdefsIn, declares}
+use Rattle.cmap_files.specs.declared.declarations.CidRange.{CidRange}
 use Rattle.cmap_writer.specs.SegmentsWritten.{SegmentByAny}
 use Rattle.cmap_writer.proofs.MetadataHeld.{by_any}
-use Rattle.cmap_writer.proofs.SegmentsDone.{done_more}
+use Rattle.cmap_writer.proofs.SegmentsDone.{DoneTo, done_all, done_more, done_none}
 use Rattle.cmap_values.proofs.Outcomes.{refuses_on}
-use Rattle.cmap_writer.proofs.ObstaclesMet.{notdefs_among}
+use Rattle.cmap_writer.proofs.ObstaclesMet.{notdefs_among, too_long}
 use Rattle.cmap_writer.proofs.notdefs.push_notdefs.Goals as goal
 
 pub loop-left-preserved : goal.loop-left-preserved
@@ -34,3 +37,21 @@ returns-in_err-payload-clause-err c =
     let count = c.min.result in
     let cut : left ≡ here ++ later = sym (take-append-drop count left) ∙ ap (λ xs. xs ++ drop count left) (sym c.split_at.ensures.front) ∙ ap (λ xs. here ++ xs) (sym c.split_at.ensures.back) in
     refuses_on _ _ c.from_residual.ensures.1 c.in_err-payload.ensures.err (notdefs_among (length_of c.args.len) c.args.entries.now c.loop-left.invariant.done left here later c.loop-left.invariant.parts cut)
+
+pub loop-left-init : goal.loop-left-init
+loop-left-init c = done_none SegmentByAny (λ xs. map (Declaration.notdef (length_of c.args.len)) (entries_seen xs)) refl c.args.entries.now c.args.out.now.items
+
+pub returns-clause-written : goal.returns-clause-written
+returns-clause-written c =
+    let say : List CidRange → List Declaration = λ xs. map (Declaration.notdef (length_of c.args.len)) (entries_seen xs) in
+    let none : c.loop-left.left.now ≡ [] = nil_from_length c.loop-left.left.now (eqb-true (length c.loop-left.left.now) 0 (sym c.loop-left-test.ensures)) in
+    done_all SegmentByAny say c.args.entries.now c.args.out.now.items c.loop-left.out.items (subst (λ left. DoneTo SegmentByAny say c.args.entries.now left c.args.out.now.items c.loop-left.out.items) none c.loop-left.invariant)
+
+pub returns-in_err-payload-clause-written : goal.returns-in_err-payload-clause-written
+returns-in_err-payload-clause-written c = IfOk-from_err _ _ c.from_residual.ensures.0
+
+pub returns-in_err-push_segment-clause-written : goal.returns-in_err-push_segment-clause-written
+returns-in_err-push_segment-clause-written c = IfOk-from_err _ _ c.from_residual-in_err-push_segment.ensures.0
+
+pub returns-in_err-push_segment-clause-err : goal.returns-in_err-push_segment-clause-err
+returns-in_err-push_segment-clause-err c = too_long _ _ _ _ c.from_residual-in_err-push_segment.ensures.1 c.in_err-push_segment.ensures.err tt

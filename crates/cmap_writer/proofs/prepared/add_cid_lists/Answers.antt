@@ -1,9 +1,10 @@
 use Rattle.std.proofs.Common.{ap, subst}
+use Rattle.std.proofs.lemmas.Result.{IfOk-from_err, IfOk-weaker}
 use Rattle.cmap_files.specs.DeclarationsSeen.{entries_seen}
 use Rattle.cmap_writer.specs.PreparedFiles.{AddsSameCids}
 use Rattle.cmap_writer.proofs.PreparedKept.{cid_lists}
 use Rattle.cmap_values.proofs.Outcomes.{refuses_on}
-use Rattle.cmap_writer.proofs.ObstaclesMet.{by_cid_list}
+use Rattle.cmap_writer.proofs.ObstaclesMet.{by_cid_list, refused_on}
 use Rattle.cmap_writer.specs.Obstacles.{by_length_seen}
 use Rattle.cmap_writer.proofs.prepared.add_cid_lists.Goals as goal
 
@@ -14,11 +15,10 @@ returns-clause-added c =
     let b = c.add_cid_list-2.new.segments.items in
     let d = c.add_cid_list-3.new.segments.items in
     let e = c.add_cid_list-4.new.segments.items in
-    cid_lists c.args.lists.now o a b d e
-    (subst (λ xs. AddsSameCids 1 (entries_seen xs) o a) c.deref.ensures.value c.in_ok-add_cid_list.ensures.added)
-    (subst (λ xs. AddsSameCids 2 (entries_seen xs) a b) c.deref-2.ensures.value c.in_ok-add_cid_list-2.ensures.added)
-    (subst (λ xs. AddsSameCids 3 (entries_seen xs) b d) c.deref-3.ensures.value c.in_ok-add_cid_list-3.ensures.added)
-    (subst (λ xs. AddsSameCids 4 (entries_seen xs) d e) c.deref-4.ensures.value c.in_ok-add_cid_list-4.ensures.added)
+    let first = subst (λ xs. AddsSameCids 1 (entries_seen xs) o a) c.deref.ensures.value c.in_ok-add_cid_list.ensures.added in
+    let second = subst (λ xs. AddsSameCids 2 (entries_seen xs) a b) c.deref-2.ensures.value c.in_ok-add_cid_list-2.ensures.added in
+    let third = subst (λ xs. AddsSameCids 3 (entries_seen xs) b d) c.deref-3.ensures.value c.in_ok-add_cid_list-3.ensures.added in
+    IfOk-weaker _ _ _ (λ _ last. cid_lists c.args.lists.now o a b d e first second third (subst (λ xs. AddsSameCids 4 (entries_seen xs) d e) c.deref-4.ensures.value last)) c.add_cid_list-4.ensures.added
 
 pub returns-in_err-add_cid_list-2-clause-err : goal.returns-in_err-add_cid_list-2-clause-err
 returns-in_err-add_cid_list-2-clause-err c = refuses_on _ _ c.from_residual-in_err-add_cid_list-2.ensures.1 c.in_err-add_cid_list-2.ensures.err (by_cid_list (by_length_seen c.args.lists.now) 2 _ (ap entries_seen c.deref-2.ensures.value))
@@ -26,5 +26,17 @@ returns-in_err-add_cid_list-2-clause-err c = refuses_on _ _ c.from_residual-in_e
 pub returns-in_err-add_cid_list-3-clause-err : goal.returns-in_err-add_cid_list-3-clause-err
 returns-in_err-add_cid_list-3-clause-err c = refuses_on _ _ c.from_residual-in_err-add_cid_list-3.ensures.1 c.in_err-add_cid_list-3.ensures.err (by_cid_list (by_length_seen c.args.lists.now) 3 _ (ap entries_seen c.deref-3.ensures.value))
 
-pub returns-in_err-add_cid_list-4-clause-err : goal.returns-in_err-add_cid_list-4-clause-err
-returns-in_err-add_cid_list-4-clause-err c = refuses_on _ _ c.from_residual-in_err-add_cid_list-4.ensures.1 c.in_err-add_cid_list-4.ensures.err (by_cid_list (by_length_seen c.args.lists.now) 4 _ (ap entries_seen c.deref-4.ensures.value))
+pub returns-in_err-add_cid_list-clause-err : goal.returns-in_err-add_cid_list-clause-err
+returns-in_err-add_cid_list-clause-err c = refuses_on _ _ c.from_residual.ensures.1 c.in_err-add_cid_list.ensures.err (by_cid_list (by_length_seen c.args.lists.now) 1 _ (ap entries_seen c.deref.ensures.value))
+
+pub returns-clause-err : goal.returns-clause-err
+returns-clause-err c = refused_on _ c.add_cid_list-4.ensures.err (by_cid_list (by_length_seen c.args.lists.now) 4 _ (ap entries_seen c.deref-4.ensures.value))
+
+pub returns-in_err-add_cid_list-clause-added : goal.returns-in_err-add_cid_list-clause-added
+returns-in_err-add_cid_list-clause-added c = IfOk-from_err _ _ c.from_residual.ensures.0
+
+pub returns-in_err-add_cid_list-2-clause-added : goal.returns-in_err-add_cid_list-2-clause-added
+returns-in_err-add_cid_list-2-clause-added c = IfOk-from_err _ _ c.from_residual-in_err-add_cid_list-2.ensures.0
+
+pub returns-in_err-add_cid_list-3-clause-added : goal.returns-in_err-add_cid_list-3-clause-added
+returns-in_err-add_cid_list-3-clause-added c = IfOk-from_err _ _ c.from_residual-in_err-add_cid_list-3.ensures.0

@@ -1,4 +1,5 @@
-use Rattle.std.proofs.Common.{map, subst}
+use Rattle.std.proofs.Common.{ap, map, subst}
+use Rattle.std.proofs.lemmas.Result.{IfOk-from_err}
 use Rattle.cmap_files.specs.DeclarationsSeen.{bf_entry_seen, codespace_seen}
 use Rattle.cmap_files.specs.Files.{Declaration}
 use Rattle.cmap_files.specs.FilesSeen.{file_seen}
@@ -8,6 +9,8 @@ use Rattle.cmap_writer.specs.MetadataWritten.{metadata_contents}
 use Rattle.cmap_writer.specs.PreparedFiles.{AddsCidLists, AddsSameTexts}
 use Rattle.cmap_writer.specs.SegmentsWritten.{DeclareAll, SegmentByAny}
 use Rattle.cmap_writer.specs.Written.{Appends, WritesAll}
+use Rattle.cmap_values.proofs.Outcomes.{refuses_on}
+use Rattle.cmap_writer.proofs.ObstaclesMet.{by_cids, by_metadata, by_notdefs, by_spaces, by_texts, too_long}
 use Rattle.cmap_writer.proofs.PreparedKept.{prepared_is}
 use Rattle.cmap_writer.proofs.prepared.prepare.Goals as goal
 
@@ -27,3 +30,39 @@ returns-clause-made c =
     let cids = subst (λ old. AddsCidLists lists.cids old some) c.new-segments.ensures.items c.in_ok-add_cid_lists.ensures.added in
     let (texts, added, same) = subst (λ xs. AddsSameTexts (map bf_entry_seen xs) some all) c.deref-3.ensures.value c.in_ok-add_text_list.ensures.added in
     prepared_is file (record { fields = c.push_notdef_lists.new.out; segments = c.add_text_list.new.segments }) (record { one = cids.one; two = cids.two; three = cids.three; four = cids.four }) texts a b d some said uses spaces c.in_ok-push_notdef_lists.ensures.written cids.added added cids.one_same cids.two_same cids.three_same cids.four_same same
+
+pub returns-in_err-push_metadata-clause-err : goal.returns-in_err-push_metadata-clause-err
+returns-in_err-push_metadata-clause-err c = refuses_on _ _ c.from_residual.ensures.1 c.in_err-push_metadata.ensures.err (by_metadata (file_seen c.args.file.now))
+
+pub returns-in_err-push_uses-clause-err : goal.returns-in_err-push_uses-clause-err
+returns-in_err-push_uses-clause-err c = too_long _ _ _ _ c.from_residual-in_err-push_uses.ensures.1 c.in_err-push_uses.ensures.err tt
+
+pub returns-in_err-push_codespaces-clause-err : goal.returns-in_err-push_codespaces-clause-err
+returns-in_err-push_codespaces-clause-err c = refuses_on _ _ c.from_residual-in_err-push_codespaces.ensures.1 c.in_err-push_codespaces.ensures.err (by_spaces (file_seen c.args.file.now) _ (ap (map codespace_seen) c.deref-2.ensures.value))
+
+pub returns-in_err-push_notdef_lists-clause-err : goal.returns-in_err-push_notdef_lists-clause-err
+returns-in_err-push_notdef_lists-clause-err c = refuses_on _ _ c.from_residual-in_err-push_notdef_lists.ensures.1 c.in_err-push_notdef_lists.ensures.err (by_notdefs (file_seen c.args.file.now))
+
+pub returns-in_err-add_cid_lists-clause-err : goal.returns-in_err-add_cid_lists-clause-err
+returns-in_err-add_cid_lists-clause-err c = refuses_on _ _ c.from_residual-in_err-add_cid_lists.ensures.1 c.in_err-add_cid_lists.ensures.err (by_cids (file_seen c.args.file.now))
+
+pub returns-in_err-add_text_list-clause-err : goal.returns-in_err-add_text_list-clause-err
+returns-in_err-add_text_list-clause-err c = refuses_on _ _ c.from_residual-in_err-add_text_list.ensures.1 c.in_err-add_text_list.ensures.err (by_texts (file_seen c.args.file.now) _ (ap (map bf_entry_seen) c.deref-3.ensures.value))
+
+pub returns-in_err-push_metadata-clause-made : goal.returns-in_err-push_metadata-clause-made
+returns-in_err-push_metadata-clause-made c = IfOk-from_err _ _ c.from_residual.ensures.0
+
+pub returns-in_err-push_uses-clause-made : goal.returns-in_err-push_uses-clause-made
+returns-in_err-push_uses-clause-made c = IfOk-from_err _ _ c.from_residual-in_err-push_uses.ensures.0
+
+pub returns-in_err-push_codespaces-clause-made : goal.returns-in_err-push_codespaces-clause-made
+returns-in_err-push_codespaces-clause-made c = IfOk-from_err _ _ c.from_residual-in_err-push_codespaces.ensures.0
+
+pub returns-in_err-push_notdef_lists-clause-made : goal.returns-in_err-push_notdef_lists-clause-made
+returns-in_err-push_notdef_lists-clause-made c = IfOk-from_err _ _ c.from_residual-in_err-push_notdef_lists.ensures.0
+
+pub returns-in_err-add_cid_lists-clause-made : goal.returns-in_err-add_cid_lists-clause-made
+returns-in_err-add_cid_lists-clause-made c = IfOk-from_err _ _ c.from_residual-in_err-add_cid_lists.ensures.0
+
+pub returns-in_err-add_text_list-clause-made : goal.returns-in_err-add_text_list-clause-made
+returns-in_err-add_text_list-clause-made c = IfOk-from_err _ _ c.from_residual-in_err-add_text_list.ensures.0

@@ -1,5 +1,6 @@
 use Rattle.std.proofs.Common.{◌∙◌, ap, arith}
 use Rattle.std.proofs.lemmas.List.{map-append}
+use Rattle.std.proofs.lemmas.Result.{IfOk-from_err}
 use Rattle.cmap_files.specs.DeclarationsSeen.{cid_entry_seen, entries_seen}
 use Rattle.cmap_writer.proofs.CidParts.{can_be_split_later, piece_end, piece_more}
 use Rattle.cmap_writer.proofs.split.push_cid_pieces.Goals as goal
@@ -20,3 +21,9 @@ returns c =
     let now = c.loop-start.pieces.items in
     let i = c.loop-start.invariant in
     piece_end (cid_entry_seen e) c.loop-start.start e.range.end c.loop-start.cid (entries_seen c.args.pieces.now.items) (entries_seen now) (entries_seen c.push-2.new.self.items) i.pieces i.can (omega arith) (ap entries_seen c.in_ok-push-2.ensures.items ∙ map-append cid_entry_seen now _)
+
+pub returns-in_err-push : goal.returns-in_err-push
+returns-in_err-push c = IfOk-from_err _ _ c.from_residual.ensures.0
+
+pub returns-in_err-push-2 : goal.returns-in_err-push-2
+returns-in_err-push-2 c = IfOk-from_err _ _ c.from_residual-in_err-push-2.ensures.0

@@ -1,4 +1,5 @@
 use Rattle.std.proofs.Common.{arith}
+use Rattle.std.proofs.lemmas.Result.{IfOk-from_err}
 use Rattle.cmap_files.specs.DeclarationsSeen.{entries_seen}
 use Rattle.cmap_writer.proofs.CidParts.{one_can, pieces_of_all, pieces_of_more}
 use Rattle.cmap_writer.proofs.split.split_cids.Goals as goal
@@ -11,3 +12,6 @@ loop-range-preserved c = pieces_of_more c.args.ranges.now c.loop-range.range-ind
 
 pub returns : goal.returns
 returns c = pieces_of_all c.args.ranges.now c.loop-range.range-index (entries_seen c.loop-range.pieces.items) (omega arith) c.loop-range.invariant
+
+pub returns-in_err-push_cid_pieces : goal.returns-in_err-push_cid_pieces
+returns-in_err-push_cid_pieces c = IfOk-from_err _ _ c.from_residual.ensures.0

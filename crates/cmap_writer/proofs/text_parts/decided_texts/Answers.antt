@@ -1,27 +1,38 @@
-use Rattle.std.proofs.Common.{◌≡◌, ◌∙◌, ◌<◌, ◌^◌, All, ap, map, subst, sym}
+use Rattle.std.proofs.Common.{All, map, subst}
 use Rattle.std.specs.Prelude.{IfErr, IfOk}
+use Rattle.std.proofs.lemmas.Result.{IfOk-from_err}
 use Rattle.cmap_files.specs.DeclarationsSeen.{bf_entry_seen}
 use Rattle.cmap_values.specs.Outcomes.{RefusesWith}
 use Rattle.cmap_layers.specs.Lookups.{bf_at, bf_span}
 use Rattle.cmap_writer.specs.Obstacles.{IsTextObstacle}
 use Rattle.cmap_writer.specs.Pieces.{SayTheSame}
 use Rattle.cmap_writer.specs.TextParts.{IsPartOf}
+use Rattle.cmap_writer.proofs.ObstaclesMet.{memory_on}
 use Rattle.cmap_writer.proofs.text_parts.decided_texts.Goals as goal
 
 pub text_ranges_of-requires : goal.text_ranges_of-requires
-text_ranges_of-requires c = subst (All (λ r. r.range.end < 2 ^ 32)) (sym c.in_ok-table.ensures) c.in_ok-copy_of_texts.ensures.small
+text_ranges_of-requires c = c.in_ok-table.ensures.1
 
 pub returns-clause-same : goal.returns-clause-same
 returns-clause-same c =
-    let seen_is : map bf_entry_seen c.in_ok-table.table ≡ map bf_entry_seen c.args.list.now = ap (map bf_entry_seen) c.in_ok-table.ensures ∙ c.in_ok-copy_of_texts.ensures.same in
-    subst (λ es. IfOk c.text_ranges_of.result (λ ranges. SayTheSame bf_span bf_at es (map bf_entry_seen ranges.items))) seen_is c.text_ranges_of.ensures.same
+    subst (λ es. IfOk c.text_ranges_of.result (λ ranges. SayTheSame bf_span bf_at es (map bf_entry_seen ranges.items))) c.in_ok-table.ensures.0 c.text_ranges_of.ensures.same
 
 pub returns-clause-parts : goal.returns-clause-parts
 returns-clause-parts c =
-    let seen_is : map bf_entry_seen c.in_ok-table.table ≡ map bf_entry_seen c.args.list.now = ap (map bf_entry_seen) c.in_ok-table.ensures ∙ c.in_ok-copy_of_texts.ensures.same in
-    subst (λ es. IfOk c.text_ranges_of.result (λ ranges. All (IsPartOf es) (map bf_entry_seen ranges.items))) seen_is c.text_ranges_of.ensures.parts
+    subst (λ es. IfOk c.text_ranges_of.result (λ ranges. All (IsPartOf es) (map bf_entry_seen ranges.items))) c.in_ok-table.ensures.0 c.text_ranges_of.ensures.parts
 
 pub returns-clause-err : goal.returns-clause-err
 returns-clause-err c =
-    let seen_is : map bf_entry_seen c.in_ok-table.table ≡ map bf_entry_seen c.args.list.now = ap (map bf_entry_seen) c.in_ok-table.ensures ∙ c.in_ok-copy_of_texts.ensures.same in
-    subst (λ es. IfErr c.text_ranges_of.result (RefusesWith (IsTextObstacle es))) seen_is c.text_ranges_of.ensures.err
+    subst (λ es. IfErr c.text_ranges_of.result (RefusesWith (IsTextObstacle es))) c.in_ok-table.ensures.0 c.text_ranges_of.ensures.err
+
+pub returns-in_err-table-clause-same : goal.returns-in_err-table-clause-same
+returns-in_err-table-clause-same c = IfOk-from_err _ _ c.from_residual.ensures.0
+
+pub returns-in_err-table-clause-small : goal.returns-in_err-table-clause-small
+returns-in_err-table-clause-small c = IfOk-from_err _ _ c.from_residual.ensures.0
+
+pub returns-in_err-table-clause-parts : goal.returns-in_err-table-clause-parts
+returns-in_err-table-clause-parts c = IfOk-from_err _ _ c.from_residual.ensures.0
+
+pub returns-in_err-table-clause-err : goal.returns-in_err-table-clause-err
+returns-in_err-table-clause-err c = memory_on _ _ c.from_residual.ensures.1

@@ -1,5 +1,6 @@
 use Rattle.std.proofs.Common.{◌+◌, ◌∙◌, map, ap, arith}
 use Rattle.std.proofs.lemmas.List.{map-append}
+use Rattle.std.proofs.lemmas.Result.{IfOk-from_err}
 use Rattle.cmap_files.specs.DeclarationsSeen.{bf_entry_seen}
 use Rattle.cmap_writer.proofs.TextParts.{pieces_end, pieces_next, pieces_start}
 use Rattle.cmap_writer.proofs.text_parts.push_text_pieces.Goals as goal
@@ -39,3 +40,15 @@ returns c =
     let s = c.loop-start.start in
     let end = ap (λ r. r.end) is.0 in
     pieces_end e (e.end + 1) old new (omega arith) (pieces_next e (bf_entry_seen part) s (e.end + 1) c.requires i.first (ap (λ r. r.start) is.0) (omega (arith, end, i.left)) (omega (arith, end)) (omega (arith, end)) (omega (arith, end)) is.1 old (map bf_entry_seen now) new i.pieces (ap (map bf_entry_seen) c.in_ok-push-2.ensures.items ∙ map-append bf_entry_seen now _))
+
+pub returns-in_err-part_of_text : goal.returns-in_err-part_of_text
+returns-in_err-part_of_text c = IfOk-from_err _ _ c.from_residual.ensures.0
+
+pub returns-in_err-push : goal.returns-in_err-push
+returns-in_err-push c = IfOk-from_err _ _ c.from_residual-in_err-push.ensures.0
+
+pub returns-in_err-part_of_text-2 : goal.returns-in_err-part_of_text-2
+returns-in_err-part_of_text-2 c = IfOk-from_err _ _ c.from_residual-in_err-part_of_text-2.ensures.0
+
+pub returns-in_err-push-2 : goal.returns-in_err-push-2
+returns-in_err-push-2 c = IfOk-from_err _ _ c.from_residual-in_err-push-2.ensures.0

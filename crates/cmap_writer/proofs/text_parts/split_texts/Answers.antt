@@ -1,4 +1,5 @@
 use Rattle.std.proofs.Common.{map, arith, subst, sym}
+use Rattle.std.proofs.lemmas.Result.{IfOk-from_err}
 use Rattle.cmap_files.specs.DeclarationsSeen.{bf_entry_seen}
 use Rattle.cmap_layers.specs.Lookups.{bf_at, bf_span}
 use Rattle.cmap_writer.specs.Pieces.{CanBeSplitText, IsShortText, PushesPieces}
@@ -19,3 +20,6 @@ loop-range-preserved c =
 
 pub returns : goal.returns
 returns c = texts_all c.args.ranges.now c.loop-range.range-index (map bf_entry_seen c.loop-range.pieces.items) (omega arith) c.loop-range.invariant
+
+pub returns-in_err-push_text_pieces : goal.returns-in_err-push_text_pieces
+returns-in_err-push_text_pieces c = IfOk-from_err _ _ c.from_residual.ensures.0

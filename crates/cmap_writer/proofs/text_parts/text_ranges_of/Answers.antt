@@ -1,13 +1,15 @@
 use Rattle.std.proofs.Common.{◌≡◌, ◌∙◌, inr, ◌++◌, ◌∷◌, [], All, List, length, map, ap, refl, subst, sym, arith}
 use Rattle.std.proofs.lemmas.List.{map-append}
-use Rattle.std.proofs.lemmas.List.Elements.{All-push}
+use Rattle.std.proofs.lemmas.List.Elements.{All-nil, All-push}
+use Rattle.std.proofs.lemmas.Result.{IfOk-from_err}
 use Rattle.cmap_runs.specs.Ranges.{Run, runs_of}
 use Rattle.cmap_files.specs.DeclarationsSeen.{bf_entry_seen, bf_range_span}
 use Rattle.cmap_files.specs.declared.declarations.BfRange.{BfRange}
 use Rattle.cmap_layers.specs.Lookups.{bf_at, bf_span}
 use Rattle.cmap_writer.specs.Pieces.{AllSayAs, Cover, SaysAs}
 use Rattle.cmap_writer.specs.TextParts.{IsDecidedText, IsPartOf}
-use Rattle.cmap_writer.proofs.RunParts.{HaveRuns, have_all, have_more}
+use Rattle.cmap_writer.proofs.ObstaclesMet.{memory_on}
+use Rattle.cmap_writer.proofs.RunParts.{HaveRuns, have_all, have_more, have_none}
 use Rattle.cmap_writer.proofs.TextPartsSeen.{all_told, declaration_within, part_decided, part_from, part_has, part_right, run_filled, run_within}
 use Rattle.cmap_writer.proofs.text_parts.text_ranges_of.Goals as goal
 
@@ -58,3 +60,43 @@ returns-clause-same c =
 
 pub returns-then-end-start-gt-MOST_TEXTS_AFTER-clause-err : goal.returns-then-end-start-gt-MOST_TEXTS_AFTER-clause-err
 returns-then-end-start-gt-MOST_TEXTS_AFTER-clause-err c = inr (omega arith, all_told c.args.table.now (runs c.args.table.now) c.run_count-i-end.ensures.runs.0 c.loop-i.i c.run-start.result.0 c.run-start.result.1 c.run-start.result.2 c.run-start.ensures.run)
+
+pub returns-in_err-part-clause-err : goal.returns-in_err-part-clause-err
+returns-in_err-part-clause-err c = memory_on _ _ c.from_residual.ensures.1
+
+pub returns-in_err-push-clause-err : goal.returns-in_err-push-clause-err
+returns-in_err-push-clause-err c = memory_on _ _ c.from_residual-in_err-push.ensures.1
+
+pub loop-i-init : goal.loop-i-init
+loop-i-init c =
+    let table = c.args.table.now in
+    rw c.new-ranges.ensures.items (record {
+      right = All-nil (SaysAs bf_span bf_at (map bf_entry_seen table));
+      small = All-nil IsDecidedText;
+      parts = All-nil (IsPartOf (map bf_entry_seen table));
+      whole = have_none bf_range_span bf_entry_seen bf_span bf_at (λ x. refl) table (runs table) c.run_count-i-end.ensures.runs.0;
+    })
+
+pub returns-clause-small : goal.returns-clause-small
+returns-clause-small c = c.loop-i.invariant.small
+
+pub returns-clause-parts : goal.returns-clause-parts
+returns-clause-parts c = c.loop-i.invariant.parts
+
+pub returns-in_err-part-clause-same : goal.returns-in_err-part-clause-same
+returns-in_err-part-clause-same c = IfOk-from_err _ _ c.from_residual.ensures.0
+
+pub returns-in_err-push-clause-same : goal.returns-in_err-push-clause-same
+returns-in_err-push-clause-same c = IfOk-from_err _ _ c.from_residual-in_err-push.ensures.0
+
+pub returns-in_err-part-clause-small : goal.returns-in_err-part-clause-small
+returns-in_err-part-clause-small c = IfOk-from_err _ _ c.from_residual.ensures.0
+
+pub returns-in_err-part-clause-parts : goal.returns-in_err-part-clause-parts
+returns-in_err-part-clause-parts c = IfOk-from_err _ _ c.from_residual.ensures.0
+
+pub returns-in_err-push-clause-small : goal.returns-in_err-push-clause-small
+returns-in_err-push-clause-small c = IfOk-from_err _ _ c.from_residual-in_err-push.ensures.0
+
+pub returns-in_err-push-clause-parts : goal.returns-in_err-push-clause-parts
+returns-in_err-push-clause-parts c = IfOk-from_err _ _ c.from_residual-in_err-push.ensures.0

@@ -1,10 +1,15 @@
-use Rattle.std.proofs.Common.{◌∙◌, ◌++◌, ◌≡◌, drop, map, ap, sym, subst}
+use Rattle.std.proofs.Common.{◌∙◌, ◌++◌, ◌≡◌, List, [], length, drop, map, refl, ap, sym, subst}
 use Rattle.std.specs.List.{All}
-use Rattle.std.proofs.lemmas.List.{map-append, take-append-drop}
+use Rattle.std.proofs.lemmas.Bool.{eqb-true}
+use Rattle.std.proofs.lemmas.List.{map-append, nil_from_length, take-append-drop}
+use Rattle.std.proofs.lemmas.Result.{IfOk-from_err}
 use Rattle.cmap_files.specs.DeclarationsSeen.{bf_entry_seen}
 use Rattle.cmap_files.specs.Files.{Declaration}
+use Rattle.cmap_files.specs.declared.declarations.BfRange.{BfRange}
+use Rattle.cmap_writer.specs.EncodersSeen.{shape_seen}
 use Rattle.cmap_writer.specs.Pieces.{IsShortText}
-use Rattle.cmap_writer.proofs.SegmentsAdded.{added_more}
+use Rattle.cmap_writer.specs.Texts.{AreHeldTexts}
+use Rattle.cmap_writer.proofs.SegmentsAdded.{AddedTo, added_all, added_more, added_none}
 use Rattle.cmap_writer.proofs.TextsMade.{short_back}
 use Rattle.cmap_writer.proofs.texts.add_texts.Goals as goal
 
@@ -19,3 +24,36 @@ loop-left-preserved c =
       short = subst (λ xs. All IsShortText (map bf_entry_seen xs)) (sym c.split_at.ensures.back) (short_back count left c.loop-left.invariant.short);
       done = added_more (λ xs. map Declaration.bf (map bf_entry_seen xs)) (λ a b. ap (map Declaration.bf) (map-append bf_entry_seen a b) ∙ map-append Declaration.bf (map bf_entry_seen a) (map bf_entry_seen b)) c.args.pieces.now left here later c.args.segments.now.items c.loop-left.segments.items c.push.new.self.items c.in_ok-text_segment.field-0 c.loop-left.invariant.done cut c.in_ok-push.ensures.items c.in_ok-text_segment.ensures;
     }
+
+pub loop-left-init : goal.loop-left-init
+loop-left-init c = record { short = c.requires; done = added_none (λ xs. map Declaration.bf (map bf_entry_seen xs)) refl c.args.pieces.now c.args.segments.now.items }
+
+pub segment_len-requires-clause-fixes : goal.segment_len-requires-clause-fixes
+segment_len-requires-clause-fixes c = c.first_form-form.ensures.fixes
+
+pub segment_len-requires-clause-first : goal.segment_len-requires-clause-first
+segment_len-requires-clause-first c = c.first_form-form.ensures.first
+
+pub segment_len-requires-clause-short : goal.segment_len-requires-clause-short
+segment_len-requires-clause-short c = c.loop-left.invariant.short
+
+pub split_at-requires : goal.split_at-requires
+split_at-requires c = c.segment_len.ensures.within
+
+pub text_segment-requires-clause-fixes : goal.text_segment-requires-clause-fixes
+text_segment-requires-clause-fixes c = c.first_form-form.ensures.fixes
+
+pub text_segment-requires-clause-held : goal.text_segment-requires-clause-held
+text_segment-requires-clause-held c = subst (AreHeldTexts (shape_seen c.first_form-form.result.shape) c.first_form-form.result.units) (sym c.split_at.ensures.front) c.segment_len.ensures.held
+
+pub returns : goal.returns
+returns c =
+    let say : List BfRange → List Declaration = λ xs. map Declaration.bf (map bf_entry_seen xs) in
+    let none : c.loop-left.left.now ≡ [] = nil_from_length c.loop-left.left.now (eqb-true (length c.loop-left.left.now) 0 (sym c.loop-left-test.ensures)) in
+    added_all say c.args.pieces.now c.args.segments.now.items c.loop-left.segments.items (subst (λ left. AddedTo say c.args.pieces.now left c.args.segments.now.items c.loop-left.segments.items) none c.loop-left.invariant.done)
+
+pub returns-in_err-text_segment : goal.returns-in_err-text_segment
+returns-in_err-text_segment c = IfOk-from_err _ _ c.from_residual.ensures.0
+
+pub returns-in_err-push : goal.returns-in_err-push
+returns-in_err-push c = IfOk-from_err _ _ c.from_residual-in_err-push.ensures.0

@@ -1,4 +1,5 @@
 use Rattle.std.proofs.Common.{◌<◌, ◌^◌, ◌++◌, ap, ◌∙◌, length, subst, sym}
+use Rattle.std.proofs.lemmas.Result.{IfOk-from_err}
 use Rattle.cmap_values.specs.UnitsSeen.{units_seen}
 use Rattle.cmap_writer.specs.Texts.{destination}
 use Rattle.cmap_writer.proofs.RowsAdded.{rows_done, rows_more}
@@ -18,3 +19,6 @@ loop-entry-preserved c =
 
 pub returns : goal.returns
 returns c = rows_done (λ e. destination c.args.fixed (units_seen e.units)) c.args.entries.now c.loop-entry.entry-index c.args.out.now.items c.loop-entry.out.items c.loop-entry-test.false c.loop-entry.invariant
+
+pub returns-in_err-push_text : goal.returns-in_err-push_text
+returns-in_err-push_text c = IfOk-from_err _ _ c.from_residual.ensures.0

@@ -1,4 +1,5 @@
 use Rattle.std.proofs.Common.{◌∙◌, ◌++◌, ap}
+use Rattle.std.proofs.lemmas.Result.{IfOk-from_err}
 use Rattle.cmap_writer.specs.Texts.{destinations}
 use Rattle.cmap_writer.proofs.TextsWritten.{segment_declares}
 use Rattle.cmap_writer.proofs.texts.text_segment.Goals as goal
@@ -13,3 +14,12 @@ returns c =
     c.in_ok-deltas.ensures
     c.in_ok-counts.ensures
     (c.in_ok-push_texts.ensures ∙ ap (λ bs. bs ++ destinations form.units entries) c.new-values.ensures.items)
+
+pub returns-in_err-push_texts : goal.returns-in_err-push_texts
+returns-in_err-push_texts c = IfOk-from_err _ _ c.from_residual.ensures.0
+
+pub returns-in_err-deltas : goal.returns-in_err-deltas
+returns-in_err-deltas c = IfOk-from_err _ _ c.from_residual-in_err-deltas.ensures.0
+
+pub returns-in_err-counts : goal.returns-in_err-counts
+returns-in_err-counts c = IfOk-from_err _ _ c.from_residual-in_err-counts.ensures.0

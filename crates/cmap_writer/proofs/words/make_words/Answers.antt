@@ -1,6 +1,7 @@
 use Rattle.std.proofs.Common.{◌≤◌, ◌<◌, ◌∷◌, get_or, length, take, ap, sym, refl, ◌∙◌, arith}
 use Rattle.std.proofs.lemmas.List.{take_all}
 use Rattle.std.proofs.Math.Numerals.{add-one}
+use Rattle.std.proofs.lemmas.Result.{IfOk-from_err}
 use Rattle.cmap_packed.specs.PrefixWords.{zip_words}
 use Rattle.cmap_writer.proofs.WordsMade.{AreWordsTo-push, IsSound-made, zip_words-more, no_word_more}
 use Rattle.cmap_writer.specs.declared.words.Word.{Word}
@@ -38,3 +39,6 @@ returns c =
 
 pub returns-in_default : goal.returns-in_default
 returns-in_default c = no_word_more c.args.lens.now c.args.symbols.now c.loop-i.words.items c.loop-i.last c.loop-i.next c.loop-i.i (omega arith) c.requires c.loop-i.invariant.0 c.loop-i.invariant.1 c.loop-i.invariant.2 c.in_default.ensures.none
+
+pub returns-in_err-push : goal.returns-in_err-push
+returns-in_err-push c = IfOk-from_err _ _ c.from_residual.ensures.0

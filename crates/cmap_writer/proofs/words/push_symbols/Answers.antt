@@ -1,3 +1,4 @@
+use Rattle.std.proofs.lemmas.Result.{IfOk-from_err}
 use Rattle.cmap_writer.specs.Written.{bytes_of}
 use Rattle.cmap_writer.specs.declared.words.Word.{Word}
 use Rattle.cmap_writer.proofs.RowsAdded.{rows_done, rows_more}
@@ -10,3 +11,6 @@ loop-word-preserved c =
 
 pub returns : goal.returns
 returns c = rows_done (λ w. bytes_of c.args.width w.symbol) c.args.words.now c.loop-word.word-index c.args.out.now.items c.loop-word.out.items c.loop-word-test.false c.loop-word.invariant
+
+pub returns-in_err-push_number : goal.returns-in_err-push_number
+returns-in_err-push_number c = IfOk-from_err _ _ c.from_residual.ensures.0

@@ -1,5 +1,6 @@
 use Rattle.std.proofs.Common.{◌≡◌, ◌+◌, ◌<◌, ◌++◌, get_or, length, replicate, take, ap, sym, ◌∙◌, arith}
 use Rattle.std.proofs.lemmas.List.{take_more, length-take-le}
+use Rattle.std.proofs.lemmas.Result.{IfOk-from_err}
 use Rattle.cmap_packed.specs.PrefixWords.{lengths_from}
 use Rattle.cmap_writer.proofs.TablesWritten.{lengths_from-push}
 use Rattle.cmap_writer.proofs.words.word_lengths.Goals as goal
@@ -15,3 +16,6 @@ loop-i-preserved c =
     ∙ ap (λ n. lengths_from 1 (take i counts) ++ replicate (get_or counts i 0) n) (sym len)
     ∙ sym (lengths_from-push 1 (take i counts) (get_or counts i 0))
     ∙ ap (lengths_from 1) (sym (take_more counts i 0 within))
+
+pub returns-in_err-push_copies : goal.returns-in_err-push_copies
+returns-in_err-push_copies c = IfOk-from_err _ _ c.from_residual.ensures.0

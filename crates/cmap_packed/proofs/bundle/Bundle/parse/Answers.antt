@@ -1,4 +1,5 @@
 use Rattle.std.proofs.Common.{ap, ◌∙◌, List, ℕ}
+use Rattle.std.proofs.lemmas.Result.{IfOk-from_err}
 use Rattle.cmap_values.specs.Only.{IsOnly, HoldsOfNone}
 use Rattle.cmap_packed.specs.Bundles.{AreFiles, Bundle, HoldsTables, IsBundle, PrefixTables}
 use Rattle.cmap_packed.specs.Fronts.{SizedAt}
@@ -31,10 +32,16 @@ pub returns-in_default : goal.returns-in_default
 returns-in_default c = no_bundle _ c.in_default.ensures
 
 pub returns-in_default-2 : goal.returns-in_default-2
-returns-in_default-2 c = no_tables _ _ _ c.in-Some.ensures (rw c.in_default-2.is at c.in_ok-tables.ensures)
+returns-in_default-2 c = no_files _ _ _ c.in-Some.ensures (rw c.in_default-2.is at c.in_ok-files.ensures)
 
 pub returns-in_default-3 : goal.returns-in_default-3
-returns-in_default-3 c = no_files _ _ _ c.in-Some.ensures (rw c.in_default-3.is at c.in_ok-files.ensures)
+returns-in_default-3 c = no_tables _ _ _ c.in-Some.ensures (rw c.in_default-3.is at c.in_ok-tables.ensures)
 
 pub returns : goal.returns
-returns c = bundle_only _ _ _ c.in-Some.ensures _ _ (rw c.in-Some-2.is at c.in_ok-tables.ensures) (rw c.in-Some-3.is at c.in_ok-files.ensures)
+returns c = bundle_only _ _ _ c.in-Some.ensures _ _ (rw c.in-Some-3.is at c.in_ok-tables.ensures) (rw c.in-Some-2.is at c.in_ok-files.ensures)
+
+pub returns-in_err-files : goal.returns-in_err-files
+returns-in_err-files c = IfOk-from_err _ _ c.from_residual.ensures.0
+
+pub returns-in_err-tables : goal.returns-in_err-tables
+returns-in_err-tables c = IfOk-from_err _ _ c.from_residual-in_err-tables.ensures.0

@@ -1,4 +1,5 @@
 use Rattle.std.proofs.Common.{arith}
+use Rattle.std.proofs.lemmas.Result.{IfOk-from_err}
 use Rattle.cmap_packed.proofs.Fronts.{row_start, row_more, row_wrong, row_end}
 use Rattle.cmap_packed.proofs.prefix.reading.take_fields.Goals as goal
 
@@ -13,3 +14,6 @@ returns-in_default c = row_wrong _ _ _ _ _ _ c.loop.invariant (omega arith) c.in
 
 pub returns : goal.returns
 returns c = row_end _ _ _ _ _ _ c.loop.invariant (omega arith)
+
+pub returns-in_err-push : goal.returns-in_err-push
+returns-in_err-push c = IfOk-from_err _ _ c.from_residual.ensures.0

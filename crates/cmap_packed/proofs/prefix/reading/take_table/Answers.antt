@@ -1,4 +1,5 @@
 use Rattle.std.proofs.Common.{ℕ, List, length}
+use Rattle.std.proofs.lemmas.Result.{IfOk-from_err}
 use Rattle.cmap_values.specs.Only.{IsOnly}
 use Rattle.cmap_packed.specs.Fronts.{FieldAt, RowOf}
 use Rattle.cmap_packed.specs.PrefixWords.{AreWordLengths, lengths_from}
@@ -40,3 +41,12 @@ pub returns : goal.returns
 returns c =
     let made = rw c.deref.ensures.value at c.in-Some-count_words.ensures in
     then_only _ (rw c.in-Some.is at c.in_ok-counts.ensures) (then_only _ (rw (c.in-Some-2.is, made.0) at c.in_ok-symbols.ensures) (gives_if made.1))
+
+pub returns-in_err-counts : goal.returns-in_err-counts
+returns-in_err-counts c = IfOk-from_err _ _ c.from_residual.ensures.0
+
+pub returns-in_err-symbols : goal.returns-in_err-symbols
+returns-in_err-symbols c = IfOk-from_err _ _ c.from_residual-in_err-symbols.ensures.0
+
+pub returns-in_err-known : goal.returns-in_err-known
+returns-in_err-known c = IfOk-from_err _ _ c.from_residual-in_err-known.ensures.0

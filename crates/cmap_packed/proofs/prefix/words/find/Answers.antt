@@ -1,7 +1,8 @@
-use Rattle.std.proofs.Common.{◌∙◌, ap, Some, refl, arith}
+use Rattle.std.proofs.Common.{◌≡◌, ◌∙◌, ap, Some, refl, subst, arith}
 use Rattle.cmap_packed.proofs.BitsTaken.{NextBit-read, no_bit_left, moved_on}
 use Rattle.cmap_packed.proofs.WordsSearched.{NextBit, searched_all, searched_bits, searched_counts, searched_hit, searched_next, symbol_within}
 use Rattle.cmap_packed.specs.Reader.{bits_left}
+use Rattle.cmap_packed.specs.WordsByLength.{IsSearched}
 use Rattle.cmap_packed.proofs.prefix.words.find.Goals as goal
 use Rattle.cmap_packed.proofs.prefix.words.find.Goals.{After-from}
 
@@ -32,3 +33,14 @@ loop-i-preserved c = record {
 
 pub returns-clause-none : goal.returns-clause-none
 returns-clause-none c = searched_all c.loop-i.invariant.searched c.requires.table (omega arith)
+
+pub returns-in_default-clause-known : goal.returns-in_default-clause-known
+returns-in_default-clause-known c = c.loop-i.invariant.searched
+
+pub returns-in_default-read_bit-clause-known : goal.returns-in_default-read_bit-clause-known
+returns-in_default-read_bit-clause-known c = c.loop-i.invariant.searched
+
+pub returns-clause-known : goal.returns-clause-known
+returns-clause-known c =
+    let end : c.loop-i.i ≡ 32 = omega arith in
+    subst (λ len. IsSearched c.args.counts.now (bits_left c.args.reader) (record { len = len; rank = c.loop-i.rank; past = c.loop-i.past })) end c.loop-i.invariant.searched

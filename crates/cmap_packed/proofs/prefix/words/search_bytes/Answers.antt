@@ -1,6 +1,7 @@
 use Rattle.std.proofs.Common.{◌≡◌, ℕ, ◌<◌, ◌++◌, List, [], ◌∷◌, inl, inr, length, get_or, sym, subst, arith}
 use Rattle.std.proofs.lemmas.Bool.{cases_lt}
 use Rattle.std.proofs.lemmas.List.{get_or_append_left, get_or_push, length_push}
+use Rattle.std.proofs.lemmas.Result.{IfOk-from_err}
 use Rattle.cmap_packed.specs.PrefixWords.{bits}
 use Rattle.cmap_packed.specs.WordsFound.{IsKnown}
 use Rattle.cmap_packed.proofs.WordsSearched.{IsSearched-start}
@@ -23,3 +24,9 @@ loop-byte-preserved c =
     let known = λ (n : ℕ). IsKnown c.args.counts.now c.args.symbols.now (bits (n ∷ [])) in
     let here = subst (λ n. known n c.find.result) (sym size) (rw c.new.ensures at c.find.ensures.known) in
     rw c.in_ok-push.ensures.items (omega (arith, size, length_push items c.find.result), one_more known items c.find.result c.loop-byte.invariant.1 here)
+
+pub returns-in_err-known : goal.returns-in_err-known
+returns-in_err-known c = IfOk-from_err _ _ c.from_residual.ensures.0
+
+pub returns-in_err-push : goal.returns-in_err-push
+returns-in_err-push c = IfOk-from_err _ _ c.from_residual-in_err-push.ensures.0

@@ -1,7 +1,11 @@
 use Rattle.std.proofs.Common.{◌∙◌, ◌≡◌, subst}
+use Rattle.std.proofs.lemmas.Result.{IfOk-from_err}
 use Rattle.cmap_writer.specs.EncodersSeen.{encoders_seen}
 use Rattle.cmap_writer.specs.Written.{Appends, IsFramed}
 use Rattle.cmap_writer.proofs.FileKept.{head}
+use Rattle.cmap_values.proofs.Outcomes.{refuses_on}
+use Rattle.cmap_writer.specs.Obstacles.{IsSegmentsObstacle}
+use Rattle.cmap_writer.proofs.ObstaclesMet.{memory_on, too_long}
 use Rattle.cmap_writer.proofs.PreparedKept.{file_framed, file_written}
 use Rattle.cmap_writer.proofs.SegmentsAdded.{WrittenWhere}
 use Rattle.cmap_writer.proofs.prepared.Prepared.write.Goals as goal
@@ -23,3 +27,30 @@ returns-clause-written c file h =
     let written : WrittenWhere tables prepared.segments.items prepared.fields.items body = subst (λ old. WrittenWhere tables prepared.segments.items old body) mid (subst (λ ss. WrittenWhere tables ss c.in_ok-body.body.items body) c.deref-2.ensures.value c.in_ok-push_segments.ensures.written) in
     let framed : Appends c.new-bytes.result.items bytes (IsFramed head body) = subst (λ p. Appends c.new-bytes.result.items bytes (IsFramed head p)) c.deref-3.ensures.value c.in_ok-push_framed.ensures.written in
     file_written tables file prepared body bytes h written (subst (λ old. Appends old bytes (IsFramed head body)) c.new-bytes.ensures.items framed)
+
+pub returns-in_err-body-clause-err : goal.returns-in_err-body-clause-err
+returns-in_err-body-clause-err c = memory_on _ _ c.from_residual.ensures.1
+
+pub returns-in_err-push_segments-clause-err : goal.returns-in_err-push_segments-clause-err
+returns-in_err-push_segments-clause-err c = refuses_on _ _ c.from_residual-in_err-push_segments.ensures.1 c.in_err-push_segments.ensures.err (λ o h. subst (λ ss. IsSegmentsObstacle (encoders_seen c.args.tables.now) ss o) c.deref-2.ensures.value h)
+
+pub returns-in_err-push_framed-clause-err : goal.returns-in_err-push_framed-clause-err
+returns-in_err-push_framed-clause-err c = too_long _ _ _ _ c.from_residual-in_err-push_framed.ensures.1 c.in_err-push_framed.ensures.err tt
+
+pub returns-in_err-body-clause-framed : goal.returns-in_err-body-clause-framed
+returns-in_err-body-clause-framed c = IfOk-from_err _ _ c.from_residual.ensures.0
+
+pub returns-in_err-body-clause-written : goal.returns-in_err-body-clause-written
+returns-in_err-body-clause-written c = IfOk-from_err _ _ c.from_residual.ensures.0
+
+pub returns-in_err-push_segments-clause-framed : goal.returns-in_err-push_segments-clause-framed
+returns-in_err-push_segments-clause-framed c = IfOk-from_err _ _ c.from_residual-in_err-push_segments.ensures.0
+
+pub returns-in_err-push_segments-clause-written : goal.returns-in_err-push_segments-clause-written
+returns-in_err-push_segments-clause-written c = IfOk-from_err _ _ c.from_residual-in_err-push_segments.ensures.0
+
+pub returns-in_err-push_framed-clause-framed : goal.returns-in_err-push_framed-clause-framed
+returns-in_err-push_framed-clause-framed c = IfOk-from_err _ _ c.from_residual-in_err-push_framed.ensures.0
+
+pub returns-in_err-push_framed-clause-written : goal.returns-in_err-push_framed-clause-written
+returns-in_err-push_framed-clause-written c = IfOk-from_err _ _ c.from_residual-in_err-push_framed.ensures.0

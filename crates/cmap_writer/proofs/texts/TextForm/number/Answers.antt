@@ -1,8 +1,8 @@
 use Rattle.std.proofs.Common.{◌+◌, Some, subst, sym}
-use Rattle.cmap_binary.specs.BinaryEntries.{ranges}
+use Rattle.cmap_binary.specs.BinaryEntries.{ranges, singles}
 use Rattle.cmap_writer.specs.EncodersSeen.{shape_seen}
 use Rattle.cmap_writer.specs.Texts.{CanFix, IsNumberOf}
-use Rattle.cmap_writer.proofs.TextsMade.{range_number}
+use Rattle.cmap_writer.proofs.TextsMade.{range_number, single_number}
 use Rattle.cmap_writer.proofs.texts.TextForm.number.Goals as goal
 
 pub returns-in-Ranges-Some : goal.returns-in-Ranges-Some
@@ -10,3 +10,9 @@ returns-in-Ranges-Some c =
     let h = c.in-Ranges-Some in
     let fixes : CanFix ranges (Some h.units) = subst (CanFix ranges) h.is-1 (subst (λ shape. CanFix (shape_seen shape) c.args.self.units) h.is-0 c.requires) in
     subst (λ shape. IsNumberOf (shape_seen shape) c.args.self.units (20 + h.units)) (sym h.is-0) (subst (λ units. IsNumberOf ranges units (20 + h.units)) (sym h.is-1) (range_number h.units fixes.0 fixes.1))
+
+pub returns-in-Singles-Some : goal.returns-in-Singles-Some
+returns-in-Singles-Some c =
+    let h = c.in-Singles-Some in
+    let fixes : CanFix singles (Some h.units) = subst (CanFix singles) h.is-1 (subst (λ shape. CanFix (shape_seen shape) c.args.self.units) h.is-0 c.requires) in
+    subst (λ shape. IsNumberOf (shape_seen shape) c.args.self.units (16 + h.units)) (sym h.is-0) (subst (λ units. IsNumberOf singles units (16 + h.units)) (sym h.is-1) (single_number h.units fixes.0 fixes.1))

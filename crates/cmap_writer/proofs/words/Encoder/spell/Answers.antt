@@ -1,6 +1,7 @@
 use Rattle.std.proofs.Common.{◌≤◌, ◌<◌, get_or, length, take, sym, subst, arith, ap}
+use Rattle.std.proofs.lemmas.Result.{IfOk-from_err}
 use Rattle.cmap_packed.proofs.BitsOfBytes.{length-bits, length-bits_of}
-use Rattle.std.proofs.lemmas.List.{length-append, take_all, take_more}
+use Rattle.std.proofs.lemmas.List.{get_or_default, length-append, take_all, take_more}
 use Rattle.cmap_packed.specs.PrefixWords.{BeginWithWordsOf, bits_of}
 use Rattle.cmap_writer.proofs.Spelling.{IsSpelled-push, BeginWithWordsOf-spelled}
 use Rattle.cmap_writer.proofs.words.Encoder.spell.Goals as goal
@@ -28,3 +29,15 @@ returns c =
       subst (BeginWithWordsOf c.args.self.now symbols) (sym begun) (BeginWithWordsOf-spelled c.args.self.now symbols c.loop-symbol.written rest all),
       omega (arith, c.loop-symbol.invariant.1, few, length-bits bytes, ap length begun, length-append c.loop-symbol.written rest),
     )
+
+pub returns-in_default : goal.returns-in_default
+returns-in_default c =
+    let symbols = c.args.symbols.now in
+    let i = c.loop-symbol.symbol-index in
+    (i, get_or symbols i 0, c.loop-symbol-test.true, get_or_default symbols i (get_or symbols i 0) 0 c.loop-symbol-test.true, c.in_default.ensures.none)
+
+pub returns-in_err-push : goal.returns-in_err-push
+returns-in_err-push c = IfOk-from_err _ _ c.from_residual.ensures.0
+
+pub returns-in_err-finish : goal.returns-in_err-finish
+returns-in_err-finish c = IfOk-from_err _ _ c.from_residual-in_err-finish.ensures.0

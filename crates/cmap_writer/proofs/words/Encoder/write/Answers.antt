@@ -1,5 +1,6 @@
 use Rattle.std.proofs.Common.{◌<◌, ◌*◌, ◌^◌, ◌∙◌, ◌++◌, length, ap, sym, subst}
 use Rattle.std.specs.List.{All, flat_map}
+use Rattle.std.proofs.lemmas.Result.{IfOk-from_err, IfOk-weaker}
 use Rattle.cmap_writer.specs.Written.{bytes_of, Appends, Writes}
 use Rattle.cmap_writer.proofs.TablesWritten.{table_written}
 use Rattle.cmap_writer.proofs.FrontsWritten.{fields}
@@ -11,14 +12,24 @@ returns c =
     let i = c.self.inside in
     let width = c.args.width in
     let fit = subst (λ t. All (λ p. p.symbol < 2 ^ (8 * width)) t) (sym c.self.view_is) c.requires.symbols in
+    IfOk-weaker _ _ _ (λ _ symbols.
     subst (λ t. Appends c.args.out.now.items c.push_symbols.new.out.items (Writes (TableAt width) t)) c.self.view_is
     (table_written width _ c.args.out.now.items c.push_number.new.out.items c.push.new.self.items c.push_u16s.new.out.items c.push_symbols.new.out.items i.counts.items i.words.items
     c.in_ok-push_number.ensures
     c.in_ok-push.ensures.items
     (c.in_ok-push_u16s.ensures.written ∙ ap (λ ns. c.push.new.self.items ++ fields 2 ns) c.deref.ensures.value)
-    (c.in_ok-push_symbols.ensures ∙ ap (λ ws. c.push_u16s.new.out.items ++ flat_map (λ w. bytes_of width w.symbol) ws) c.deref-2.ensures.value)
+    (symbols ∙ ap (λ ws. c.push_u16s.new.out.items ++ flat_map (λ w. bytes_of width w.symbol) ws) c.deref-2.ensures.value)
     (c.len.ensures ∙ sym c.deref.ensures.len ∙ ap length c.deref.ensures.value)
     (subst (λ ns. All (λ n. n < 2 ^ 16) ns) c.deref.ensures.value c.in_ok-push_u16s.ensures.small)
     fit
     c.self.invariant.sound
-    c.self.invariant.counts)
+    c.self.invariant.counts)) c.push_symbols.ensures
+
+pub returns-in_err-push_number : goal.returns-in_err-push_number
+returns-in_err-push_number c = IfOk-from_err _ _ c.from_residual.ensures.0
+
+pub returns-in_err-push : goal.returns-in_err-push
+returns-in_err-push c = IfOk-from_err _ _ c.from_residual-in_err-push.ensures.0
+
+pub returns-in_err-push_u16s : goal.returns-in_err-push_u16s
+returns-in_err-push_u16s c = IfOk-from_err _ _ c.from_residual-in_err-push_u16s.ensures.0

@@ -1,5 +1,5 @@
 use Rattle.std.proofs.Common.{◌≡◌, ◌<◌, ◌^◌, All, take}
-use Rattle.cmap_writer.proofs.decided.copy_of.Given as goal
+use Rattle.cmap_writer.proofs.decided.table_of.Given as goal
 
 abbrev pub invariant-loop-entry : goal.invariant-loop-entry
 invariant-loop-entry l = record {

@@ -1,0 +1,15 @@
+use Rattle.std.proofs.Common.{◌∙◌, ◌++◌, ap, arith}
+use Rattle.std.proofs.lemmas.Result.{IfOk-from_err}
+use Rattle.cmap_writer.specs.Written.{bytes_of}
+use Rattle.cmap_writer.proofs.ObstaclesMet.{memory_on}
+use Rattle.cmap_writer.proofs.RowsWritten.{code_written}
+use Rattle.cmap_writer.proofs.notdefs.push_code.Goals as goal
+
+pub returns-clause-written : goal.returns-clause-written
+returns-clause-written c = code_written c.args.len c.args.code c.args.out.now.items c.push_number.new.out.items (c.in_ok-push_number.ensures ∙ ap (λ n. c.args.out.now.items ++ bytes_of n c.args.code) c.count.ensures) (omega (arith, c.largest_code.ensures))
+
+pub returns-in_err-push_number-clause-err : goal.returns-in_err-push_number-clause-err
+returns-in_err-push_number-clause-err c = memory_on _ _ c.from_residual.ensures.1
+
+pub returns-in_err-push_number-clause-written : goal.returns-in_err-push_number-clause-written
+returns-in_err-push_number-clause-written c = IfOk-from_err _ _ c.from_residual.ensures.0
