@@ -61,6 +61,16 @@ impl BundleHandle {
         };
     }
 
+    /// Gives an empty handle the bundle that was taken from it, if it had one.
+    pub(crate) fn put_back(&mut self, found: Option<Box<Shared<OwnedBundle>>>)
+        requires { self.old.slot.bundle ≡ None }
+        ensures { self.new.slot.bundle ≡ option_map (λ b. b.value) found }
+    {
+        if let Some(bundle) = found {
+            self.put(bundle);
+        }
+    }
+
     /// Gives an empty handle the bundle that was made, or none where memory ran out.
     fn keep(&mut self, made: Result<Box<Shared<OwnedBundle>>, AllocError>) -> u32
         requires { self.old.slot.bundle ≡ None }
