@@ -10,10 +10,6 @@ below_two : {n : ℕ} → 1 < n → (n ≡ 0) ⊎ (n ≡ 1) → ⊥
 below_two many (inl is) = omega arith
 below_two many (inr is) = omega arith
 
-pub one_of_two : {A : Type 0} {n a b : ℕ} → (n ≡ a → A) → (n ≡ b → A) → (n ≡ a) ⊎ (n ≡ b) → A
-one_of_two first second (inl is) = first is
-one_of_two first second (inr is) = second is
-
 module _ (IsMap : List Layer → Type 0) (none fits over invalid absent : Type 0) where
   -- what each number says
   pub record Ended (status : ℕ) (now : Option (List Layer)) : Type 0 where

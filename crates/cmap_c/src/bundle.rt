@@ -1,6 +1,7 @@
 //! Bundles that C holds.
 
 ghost use Rattle.std.specs.Prelude.{◌≡◌, ◌⊎◌, None, Some, IsSomeAnd, MatchOption, MatchResult, is_some, option_map};
+ghost use Rattle.std.specs.Option.{option_copied};
 ghost use Rattle.cmap_packed.specs.Bundles.{IsBundle};
 ghost use Rattle.cmap_values.specs.Only.{IsOnly, HoldsOfNone};
 ghost use Rattle.hayro_cmap.specs.Answers.{embedded};
@@ -9,8 +10,8 @@ ghost use Rattle.cmap_c.specs.Statuses.{number};
 ghost use Rattle.cmap_c.specs.declared.status.Status.TheVariants.{Absent, Done, NoMemory, NotABundle};
 
 use crate::loose::Loose;
-use crate::room::put_bytes;
-use crate::shared::Shared;
+use crate::room::put_found;
+use crate::shared::{Shared, lent};
 use crate::slot::BundleSlot;
 use crate::status::Status;
 use hayro_cmap::BundleFiles;
@@ -102,7 +103,7 @@ pub extern "C" fn hayro_cmap_bundle_open(
         ⊎ (((result ≡ number NoMemory) ⊎ (result ≡ number NotABundle))
         × (bundle.new.slot.bundle ≡ None)) }
 {
-    let _old = bundle.take(alloc);
+    hayro_cmap_bundle_free(bundle, alloc);
     match OwnedBundle::parse(alloc, bytes) {
         Ok(Some(parsed)) => bundle.keep(Shared::new(alloc, parsed)),
         Ok(None) => Status::NotABundle.number(),
@@ -121,7 +122,7 @@ pub extern "C" fn hayro_cmap_bundle_share(
     ensures shared { ((result ≡ number Done) × (other.new.slot.bundle ≡ bundle.old.slot.bundle))
         ⊎ ((result ≡ number NoMemory) × (other.new.slot.bundle ≡ None)) }
 {
-    let _old = other.take(alloc);
+    hayro_cmap_bundle_free(other, alloc);
     let Some(found) = bundle.take(alloc) else {
         return Status::Done.number();
     };
@@ -144,15 +145,17 @@ pub extern "C" fn hayro_cmap_bundle_file(
         ((result ≡ number Absent) × (room.new ≡ room.old) × (needed.new ≡ needed.old))
         (λ bytes. IsPut bytes room.old room.new needed.new result) }
 {
-    let Some(found) = bundle.take(alloc) else {
-        return Status::Absent.number();
-    };
-    let status = match found.value().file_of(name) {
-        Some(bytes) => put_bytes(bytes, room, needed),
-        None => Status::Absent.number(),
-    };
-    bundle.put(found);
+    let found = bundle.take(alloc);
+    let status = put_found(file_of(lent(&found), name), room, needed);
+    bundle.put_back(found);
     status
+}
+
+/// The file of this name in a bundle, if there is one that has it.
+fn file_of<'b>(bundle: Option<&'b OwnedBundle>, name: &[u8]) -> Option<&'b [u8]>
+    ensures { option_copied result ≡ embedded (option_copied bundle.entry) name.now }
+{
+    bundle?.file_of(name)
 }
 
 /// Frees the bundle, if there is one.

@@ -11,7 +11,7 @@ ghost use Rattle.cmap_c.specs.declared.status.Status.TheVariants.{Done, Refused,
 use crate::bundle::BundleHandle;
 use crate::fault::{FaultNumbers, Told, status_of};
 use crate::files::BaseFile;
-use crate::handle::MapHandle;
+use crate::handle::{MapHandle, hayro_cmap_free};
 use crate::parse::{limit, tables_of};
 use crate::room::put_bytes;
 use crate::shared::lent;
@@ -51,7 +51,7 @@ pub extern "C" fn hayro_cmap_explain(
     ensures failed { (result ≡ number Done)
         ⊎ ((result ≤ number OverBudget) × (map.new.slot.map ≡ None)) }
 {
-    let _old = map.take(alloc);
+    hayro_cmap_free(map, alloc);
     let found = bundle.take(alloc);
     let explained = explain_owned(alloc, limit(budget), data, lent(&found), files);
     bundle.put_back(found);
@@ -91,10 +91,7 @@ fn explain_owned(
     let source = NamedFiles { files, bundle };
     match CMap::parse_from(alloc, budget, data, tables_of(bundle), &source) {
         Ok(map) => Ok(map),
-        Err(Fault::Refused(refusal)) => match Told::of(alloc, &refusal) {
-            Ok(told) => Err(Fault::Refused(told)),
-            Err(_) => Err(Fault::Memory),
-        },
+        Err(Fault::Refused(refusal)) => Err(Told::of(alloc, &refusal)),
         Err(Fault::Memory) => Err(Fault::Memory),
     }
 }

@@ -2,6 +2,7 @@
 
 ghost use Rattle.std.specs.Prelude.{◌≡◌, ◌-◌, ◌<◌, ◌≤◌, None, MatchOption, MatchResult, length};
 ghost use Rattle.std.specs.Bool.{MatchBool};
+ghost use Rattle.std.specs.Option.{option_copied};
 ghost use Rattle.cmap_unicode.specs.Characters.{font_of};
 ghost use Rattle.cmap_c.specs.Extracted.{IsExtracted, bytes_of, character_seen, font_given};
 ghost use Rattle.cmap_c.specs.ExtractedParts.{IsMade, IsPutAt, IsStop};
@@ -13,7 +14,7 @@ use crate::handle::MapHandle;
 use crate::shared::lent;
 use crate::status::Status;
 use cmap_unicode::{Character, Extractor};
-use hayro_cmap::BfString;
+use hayro_cmap::{BfString, CMap};
 use std::alloc::Global;
 
 /// A code of a string with its CID, and with its text in a room for texts. It has no padding, and each
@@ -65,23 +66,55 @@ pub extern "C" fn hayro_cmap_extract(
         (font_given layers to_unicode.old.slot.map collection.old.slot.map)
         string.now characters.old characters.new text.old text.new extracted.new result) }
 {
-    *extracted = Extracted::none();
-    let Some(found) = encoding.take(alloc) else {
-        return Status::Absent.number();
-    };
+    let codes = encoding.take(alloc);
     let texts = to_unicode.take(alloc);
     let texts_of_cids = collection.take(alloc);
-    let (to_unicode_map, collection_map) = (lent(&texts), lent(&texts_of_cids));
-    let font = Extractor {
-        encoding: found.value(),
-        to_unicode: to_unicode_map,
-        collection: collection_map,
-    };
-    let status = extract(alloc, &font, string, characters, text, extracted);
-    encoding.put(found);
+    let status = extract_by(
+        alloc,
+        lent(&codes),
+        lent(&texts),
+        lent(&texts_of_cids),
+        string,
+        characters,
+        text,
+        extracted,
+    );
+    encoding.put_back(codes);
     to_unicode.put_back(texts);
     collection.put_back(texts_of_cids);
     status
+}
+
+/// Cuts a string into codes by these maps; none without the first.
+fn extract_by(
+    alloc: Global,
+    encoding: Option<&CMap>,
+    to_unicode: Option<&CMap>,
+    collection: Option<&CMap>,
+    string: &[u8],
+    characters: &mut [ExtractedCharacter],
+    text: &mut [u8],
+    extracted: &mut Extracted,
+) -> u32
+    ensures { MatchOption (option_copied encoding.entry)
+        ((result ≡ number Absent) × (characters.new ≡ characters.old) × (text.new ≡ text.old)
+        × (extracted.new ≡ record { made = 0; taken = 0; used = 0 }))
+        (λ layers. IsExtracted (font_given layers (option_copied to_unicode.entry)
+        (option_copied collection.entry)) string.now characters.old characters.new
+        text.old text.new extracted.new result) }
+{
+    *extracted = Extracted::none();
+    match encoding {
+        Some(encoding) => {
+            let font = Extractor {
+                encoding,
+                to_unicode,
+                collection,
+            };
+            extract(alloc, &font, string, characters, text, extracted)
+        }
+        None => Status::Absent.number(),
+    }
 }
 
 impl Extracted {

@@ -1,16 +1,15 @@
 //! Why a file gives no map, by the numbers of the header.
 
-ghost use Rattle.std.specs.Prelude.{◌≡◌, ◌≤◌, IfOk, length};
-ghost use Rattle.std.specs.List.{concat};
+ghost use Rattle.std.specs.Prelude.{◌≡◌, ◌≤◌, length};
 ghost use Rattle.cmap_values.specs.NamesSeen.{names_seen};
-ghost use Rattle.cmap_values.specs.Outcomes.{Finds};
+ghost use Rattle.cmap_values.specs.Outcomes.{Finds, RefusesWith};
 ghost use Rattle.cmap_c.specs.Faults.{HasNames, HasNumbers, IsToldOf, fault_numbers, numbers_of, possible_cause, possible_reason, reason_number, segment_number, segment_numbered, segment_of, status_of};
 
 use crate::names::joined;
 use crate::room::fill;
 use crate::status::Status;
-use hayro_cmap::{Cause, Reason, Refusal, Segment, Stop};
-use std::alloc::{AllocError, Global};
+use hayro_cmap::{Cause, Fault, Reason, Refusal, Segment, Stop};
+use std::alloc::Global;
 
 /// The most names that lead to a file at fault.
 const MOST_NAMES: usize = 16;
@@ -94,16 +93,20 @@ pub(crate) struct Told {
 }
 
 impl Told {
-    pub(crate) fn of(alloc: Global, refusal: &Refusal<'_>) -> Result<Told, AllocError>
+    /// What C is told of a refusal, or that memory ran out.
+    pub(crate) fn of(alloc: Global, refusal: &Refusal<'_>) -> Fault<Told>
         requires { length refusal.now.names.items ≤ 16 }
-        ensures { IfOk result
-            (IsToldOf (names_seen refusal.now.names.items) refusal.now.cause) }
+        ensures { RefusesWith
+            (IsToldOf (names_seen refusal.now.names.items) refusal.now.cause) result }
     {
-        Ok(Told {
-            cause: refusal.cause,
-            fault: FaultNumbers::of(&refusal.names, refusal.cause),
-            names: joined(alloc, &refusal.names)?,
-        })
+        match joined(alloc, &refusal.names) {
+            Ok(names) => Fault::Refused(Told {
+                cause: refusal.cause,
+                fault: FaultNumbers::of(&refusal.names, refusal.cause),
+                names,
+            }),
+            Err(_) => Fault::Memory,
+        }
     }
 }
 

@@ -101,7 +101,7 @@ pub extern "C" fn hayro_cmap_share(map: &mut MapHandle, alloc: Global, other: &m
     ensures shared { ((result ≡ number Done) × (other.new.slot.map ≡ map.old.slot.map))
         ⊎ ((result ≡ number NoMemory) × (other.new.slot.map ≡ None)) }
 {
-    let _old = other.take(alloc);
+    hayro_cmap_free(other, alloc);
     let Some(found) = map.take(alloc) else {
         return Status::Done.number();
     };

@@ -11,7 +11,7 @@ ghost use Rattle.cmap_c.specs.declared.status.Status.TheVariants.{Done, Refused,
 use crate::bundle::BundleHandle;
 use crate::fault::status_of;
 use crate::files::BaseFile;
-use crate::handle::MapHandle;
+use crate::handle::{MapHandle, hayro_cmap_free};
 use crate::parse::{limit, tables_of};
 use crate::shared::lent;
 use crate::status::Status;
@@ -45,7 +45,7 @@ pub extern "C" fn hayro_cmap_open(
     ensures failed { (result ≡ number Done)
         ⊎ (((result ≤ number OverBudget) ⊎ (result ≡ number Absent)) × (map.new.slot.map ≡ None)) }
 {
-    let _old = map.take(alloc);
+    hayro_cmap_free(map, alloc);
     let found = bundle.take(alloc);
     let opened = open_owned(alloc, limit(budget), name, lent(&found), files);
     bundle.put_back(found);

@@ -13,7 +13,7 @@ ghost use Rattle.cmap_c.specs.declared.status.Status.TheVariants.{Done, Refused,
 use crate::bundle::BundleHandle;
 use crate::fault::status_of;
 use crate::files::BaseFile;
-use crate::handle::MapHandle;
+use crate::handle::{MapHandle, hayro_cmap_free};
 use crate::shared::lent;
 use crate::status::Status;
 use hayro_cmap::bcmap::{Bundle, OwnedBundle};
@@ -45,7 +45,7 @@ pub extern "C" fn hayro_cmap_parse<'a>(
     ensures failed { (result ≡ number Done)
         ⊎ ((result ≤ number NotABundle) × (map.new.slot.map ≡ None)) }
 {
-    let _old = map.take(alloc);
+    hayro_cmap_free(map, alloc);
     map.keep_read(alloc, parse(alloc, limit(budget), data, bundle, files))
 }
 
@@ -72,7 +72,7 @@ pub extern "C" fn hayro_cmap_parse_over(
     ensures failed { (result ≡ number Done)
         ⊎ ((result ≤ number OverBudget) × (map.new.slot.map ≡ None)) }
 {
-    let _old = map.take(alloc);
+    hayro_cmap_free(map, alloc);
     let found = bundle.take(alloc);
     let parsed = parse_owned(alloc, limit(budget), data, lent(&found), files);
     bundle.put_back(found);

@@ -12,7 +12,7 @@ ghost use Rattle.cmap_c.specs.declared.status.Status.TheVariants.{Done, NoMemory
 use crate::bundle::BundleHandle;
 use crate::fault::FaultNumbers;
 use crate::files::BaseFile;
-use crate::handle::MapHandle;
+use crate::handle::{MapHandle, hayro_cmap_free};
 use crate::names::push_names;
 use crate::parse::{limit, tables_of};
 use crate::room::{put_bytes, put_head};
@@ -49,7 +49,7 @@ pub extern "C" fn hayro_cmap_salvage(
     ensures failed { (result ≡ number Done)
         ⊎ ((result ≡ number NoMemory) × (map.new.slot.map ≡ None)) }
 {
-    let _old = map.take(alloc);
+    hayro_cmap_free(map, alloc);
     let read = bundle.take(alloc);
     let salvaged = salvage_owned(alloc, limit(budget), data, lent(&read), files);
     bundle.put_back(read);

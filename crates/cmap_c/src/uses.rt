@@ -60,12 +60,10 @@ fn put_names(
     room: &mut [u8],
     needed: &mut usize,
 ) -> u32
-    ensures put { (result ≡ number NoMemory → ⊥) → AreBothPut (names_seen used.now)
+    ensures { ((result ≡ number NoMemory) × (name_lens.new ≡ name_lens.old)
+        × (names.new ≡ names.old) × (room.new ≡ room.old) × (needed.new ≡ needed.old))
+        ⊎ AreBothPut (names_seen used.now)
         name_lens.old name_lens.new names.new room.old room.new needed.new result }
-    ensures unwritten { result ≡ number NoMemory
-        → (name_lens.new ≡ name_lens.old) × (names.new ≡ names.old) × (room.new ≡ room.old)
-        × (needed.new ≡ needed.old) }
-    ensures ends { ((result ≡ number Done) ⊎ (result ≡ number NoRoom)) ⊎ (result ≡ number NoMemory) }
 {
     let Ok(bytes) = joined(alloc, used) else {
         return Status::NoMemory.number();

@@ -7,13 +7,13 @@ use Rattle.cmap_c.proofs.MapsExplained.{explains, told_ends, unwritten}
 use Rattle.cmap_c.proofs.explain.hayro_cmap_explain.Goals as goal
 
 -- the map, or why there is none
-explained : (c : goal.Joined-old) → IsExplainedOver c.args.bundle.now.slot.bundle c.args.files.now c.args.data.now (budget_of c.args.budget) c.explain_owned-explained.result
+explained : (c : goal.After-keep_read) → IsExplainedOver c.args.bundle.now.slot.bundle c.args.files.now c.args.data.now (budget_of c.args.budget) c.explain_owned-explained.result
 explained c =
     let given : option_copied c.lent.result ≡ c.args.bundle.now.slot.bundle = c.lent.ensures ∙ c.take-found.ensures.bundle in
     rw (given, c.limit.ensures) at c.explain_owned-explained.ensures
 
 -- what the number says that is returned
-says : (c : goal.Joined-old) → let bundle = c.args.bundle.now.slot.bundle in let files = c.args.files.now in let bytes = c.args.data.now in let budget = budget_of c.args.budget in
+says : (c : goal.After-keep_read) → let bundle = c.args.bundle.now.slot.bundle in let files = c.args.files.now in let bytes = c.args.data.now in let budget = budget_of c.args.budget in
     Ended (IsMapOver bundle files bytes) (HasNoMapOver bundle files bytes) (FitsBudgetOver bundle files bytes budget) (ExceedsBudgetOver bundle files bytes budget) ⊥ ⊥ c.keep_read.result c.keep_read.new.self.slot.map
 says c = ended _ _ _ _ _ _ c.tell.result _ _ (told_ends _ _ _ _ c.explain_owned-explained.result _ _ _ _ _ _ _ (explained c) c.tell.ensures) c.keep_read.ensures
 

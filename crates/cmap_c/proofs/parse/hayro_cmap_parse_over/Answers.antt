@@ -5,7 +5,7 @@ use Rattle.cmap_c.proofs.MapsKept.{Ended, ended, few}
 use Rattle.cmap_c.proofs.parse.hayro_cmap_parse_over.Goals as goal
 
 -- what the number says that is returned
-says : (c : goal.Joined-old) → let bundle = c.args.bundle.now.slot.bundle in let files = c.args.files.now in let bytes = c.args.data.now in let budget = budget_of c.args.budget in
+says : (c : goal.After-keep_read) → let bundle = c.args.bundle.now.slot.bundle in let files = c.args.files.now in let bytes = c.args.data.now in let budget = budget_of c.args.budget in
     Ended (IsMapOver bundle files bytes) (HasNoMapOver bundle files bytes) (FitsBudgetOver bundle files bytes budget) (ExceedsBudgetOver bundle files bytes budget) ⊥ ⊥ c.keep_read.result c.keep_read.new.self.slot.map
 says c =
     let given : option_copied c.lent.result ≡ c.args.bundle.now.slot.bundle = c.lent.ensures ∙ c.take-found.ensures.bundle in
