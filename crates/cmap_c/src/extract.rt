@@ -182,17 +182,29 @@ fn next_code(
         × IsStop (font_of font.now) string.now (length text.old - start) end) }
 {
     match font.next(alloc, string) {
-        Ok(Some(found)) => {
-            let mut buffer = [0; 4];
-            let bytes = utf8_of(&found.text, &mut buffer);
-            if put_at(bytes, start, text) {
-                Ok(code_of(&found, start, bytes.len()))
-            } else {
-                Err(Status::NoRoom)
-            }
-        }
+        Ok(Some(found)) => match put_character(&found, start, text) {
+            Some(next) => Ok(next),
+            None => Err(Status::NoRoom),
+        },
         Ok(None) => Err(Status::Done),
         Err(_) => Err(Status::NoMemory),
+    }
+}
+
+/// A code, whose text is written at an offset of the room, if it has room for it there.
+fn put_character(found: &Character, start: usize, text: &mut [u8]) -> Option<ExtractedCharacter>
+    requires { start ≤ length text.old }
+    ensures { MatchOption result ((text.new ≡ text.old)
+        × (length text.old - start < length (bytes_of found.now.text)))
+        (λ made. (made ≡ character_seen start found.now)
+        × IsPutAt (bytes_of found.now.text) start text.old text.new) }
+{
+    let mut buffer = [0; 4];
+    let bytes = utf8_of(&found.text, &mut buffer);
+    if put_at(bytes, start, text) {
+        Some(code_of(found, start, bytes.len()))
+    } else {
+        None
     }
 }
 

@@ -210,8 +210,7 @@ pub extern "C" fn hayro_cmap_layer_writing_mode(
 fn name_at(map: Option<&CMap>, layer: usize) -> Option<&[u8]>
     ensures { option_copied result ≡ layer_name (option_copied map.entry) layer }
 {
-    let name = layer_at(map, layer)?.metadata().name.as_ref()?;
-    Some(name)
+    layer_at(map, layer)?.metadata().name.as_deref()
 }
 
 /// The character collection that the file of a layer gives.

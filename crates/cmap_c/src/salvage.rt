@@ -71,13 +71,13 @@ pub(crate) struct Salvaged {
 }
 
 impl Salvaged {
-    fn of(alloc: Global, salvaged: SalvagedMap<'_>) -> Result<Salvaged, AllocError>
-        requires { All (λ fault. length fault.names.items ≤ 16) salvaged.faults.items }
-        ensures { IfOk result (λ made. (made.map.value ≡ salvaged.entry.map)
-            × AreFaultsShown (faults_seen salvaged.entry.faults.items) made.shown) }
+    fn of(alloc: Global, map: CMap, faults: &[Refusal<'_>]) -> Result<Salvaged, AllocError>
+        requires { All (λ fault. length fault.names.items ≤ 16) faults.now }
+        ensures { IfOk result (λ made. (made.map.value ≡ map)
+            × AreFaultsShown (faults_seen faults.now) made.shown) }
     {
-        let shown = ShownFaults::of(alloc, &salvaged.faults)?;
-        let map = Shared::new(alloc, salvaged.map)?;
+        let shown = ShownFaults::of(alloc, faults)?;
+        let map = Shared::new(alloc, map)?;
         Ok(Salvaged { map, shown })
     }
 }
@@ -121,7 +121,7 @@ fn salvage_owned(
 {
     let source = NamedFiles { files, bundle };
     match CMap::salvage(alloc, budget, data, tables_of(bundle), &source) {
-        Ok(salvaged) => Salvaged::of(alloc, salvaged),
+        Ok(SalvagedMap { map, faults }) => Salvaged::of(alloc, map, &faults),
         Err(error) => Err(error),
     }
 }

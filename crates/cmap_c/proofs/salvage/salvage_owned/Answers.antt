@@ -13,11 +13,13 @@ use Rattle.cmap_c.proofs.salvage.salvage_owned.Goals as goal
 pub returns-in-Ok : goal.returns-in-Ok
 unfolding IsSalvageOver
 returns-in-Ok c =
-    let faults = faults_seen c.in-Ok.salvaged.faults.items in
+    let found = c.in-Ok.field-0 in
+    let faults = faults_seen c.deref.result.now in
+    let same : c.deref.result.now ≡ found.faults.items = c.deref.ensures.value in
     let names = answers (option_copied c.args.bundle) c.args.files.now in
-    let said : IsSalvage (tables_given c.tables_of.result) names c.args.data.now c.args.budget c.in-Ok.salvaged.map faults =
+    let said : IsSalvage (tables_given c.tables_of.result) names c.args.data.now c.args.budget found.map (faults_seen found.faults.items) =
     record { says = c.in-Ok.ensures.says; right = c.in-Ok.ensures.right; wrong = c.in-Ok.ensures.wrong } in
-    let says : (map : List Layer) → map ≡ c.in-Ok.salvaged.map → IsSalvageOver (option_copied c.args.bundle) c.args.files.now c.args.data.now c.args.budget map faults =
-    λ map is. rw is (subst (λ (tables : Option PrefixTables). IsSalvage tables names c.args.data.now c.args.budget c.in-Ok.salvaged.map faults) c.tables_of.ensures said) in
-    IfOk-weaker c.of.result (λ (made : Salvaged). (made.map.value ≡ c.in-Ok.salvaged.map) × AreFaultsShown faults made.shown) (IsSalvagedWith (IsSalvageOver (option_copied c.args.bundle) c.args.files.now c.args.data.now c.args.budget))
+    let says : (map : List Layer) → map ≡ found.map → IsSalvageOver (option_copied c.args.bundle) c.args.files.now c.args.data.now c.args.budget map faults =
+    λ map is. rw (is, same) (subst (λ (tables : Option PrefixTables). IsSalvage tables names c.args.data.now c.args.budget found.map (faults_seen found.faults.items)) c.tables_of.ensures said) in
+    IfOk-weaker c.of.result (λ (made : Salvaged). (made.map.value ≡ found.map) × AreFaultsShown faults made.shown) (IsSalvagedWith (IsSalvageOver (option_copied c.args.bundle) c.args.files.now c.args.data.now c.args.budget))
     (λ made is. (faults, says made.map.value is.0, is.1)) c.of.ensures
