@@ -8,7 +8,7 @@ use Rattle.hayro_cmap.specs.declared.refusal.Cause.{Cause}
 use Rattle.hayro_cmap.specs.declared.refusal.Cause.TheVariants as cause
 use Rattle.hayro_cmap.specs.declared.refusal.Refusal.{Refusal}
 use Rattle.cmap_c.specs.Endings.{Ends}
-use Rattle.cmap_c.specs.Faults.{status_of}
+use Rattle.cmap_c.specs.Faults.{ending_of, status_of}
 use Rattle.cmap_c.specs.Statuses.{number}
 use Rattle.cmap_c.specs.declared.status.Status.{Status}
 
@@ -19,9 +19,10 @@ module _ (IsMap : List Layer → Type 0) (none fits over invalid absent : Type 0
   ends_of cause.ChainLength refuses passes = refuses (λ is. cc)
   ends_of cause.OverBudget refuses passes = passes refl
 
-  pub refused : (f : Fault Refusal) (refusal : Refusal) (s : Status) → f ≡ fault.Refused refusal → s ≡ status_of refusal.cause
+  pub refused : (f : Fault Refusal) (s : Status) → s ≡ ending_of f
       → RefusesWith (λ (r : Refusal). r.cause ≢ cause.OverBudget → none × fits) f → RefusesWith (λ (r : Refusal). r.cause ≡ cause.OverBudget → over) f → Ends IsMap none fits over invalid absent (Err s)
-  refused f refusal s is ended refuses passes = rw ended (ends_of refusal.cause (rw is at refuses) (rw is at passes))
+  refused (fault.Refused refusal) s ended refuses passes = rw ended (ends_of refusal.cause refuses passes)
+  refused fault.Memory s ended refuses passes = rw ended tt
 
 -- the number is one of two
 pub number_of_cause : (c : Cause) (n : ℕ) → n ≡ number (status_of c) → (n ≡ 1) ⊎ (n ≡ 3)

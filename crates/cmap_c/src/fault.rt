@@ -3,7 +3,7 @@
 ghost use Rattle.std.specs.Prelude.{◌≡◌, ◌≤◌, length};
 ghost use Rattle.cmap_values.specs.NamesSeen.{names_seen};
 ghost use Rattle.cmap_values.specs.Outcomes.{Finds, RefusesWith};
-ghost use Rattle.cmap_c.specs.Faults.{HasNames, HasNumbers, IsToldOf, fault_numbers, numbers_of, possible_cause, possible_reason, reason_number, segment_number, segment_numbered, segment_of, status_of};
+ghost use Rattle.cmap_c.specs.Faults.{HasNames, HasNumbers, IsToldOf, ending_of, fault_numbers, numbers_of, possible_cause, possible_reason, reason_number, segment_number, segment_numbered, segment_of, status_of};
 
 use crate::names::joined;
 use crate::room::fill;
@@ -117,6 +117,16 @@ pub(crate) fn status_of(cause: Cause) -> Status
     match cause {
         Cause::Malformed(_) | Cause::NoFile | Cause::ChainLength => Status::Refused,
         Cause::OverBudget => Status::OverBudget,
+    }
+}
+
+/// How a call ends for which a file is refused, or memory runs out.
+pub(crate) fn ending_of(fault: Fault<Refusal<'_>>) -> Status
+    ensures { result ≡ ending_of fault.entry }
+{
+    match fault {
+        Fault::Refused(refusal) => status_of(refusal.cause),
+        Fault::Memory => Status::NoMemory,
     }
 }
 

@@ -9,14 +9,14 @@ ghost use Rattle.cmap_c.specs.Statuses.{number};
 ghost use Rattle.cmap_c.specs.declared.status.Status.TheVariants.{Done, Refused, OverBudget, Absent};
 
 use crate::bundle::BundleHandle;
-use crate::fault::status_of;
+use crate::fault::ending_of;
 use crate::files::BaseFile;
 use crate::handle::{MapHandle, hayro_cmap_free};
 use crate::parse::{limit, tables_of};
 use crate::shared::lent;
 use crate::status::Status;
 use hayro_cmap::bcmap::OwnedBundle;
-use hayro_cmap::{CMap, Fault, NamedFiles};
+use hayro_cmap::{CMap, NamedFiles};
 use std::alloc::Global;
 
 /// The map of the file of this name: the first of `files` with the name, else that of the bundle. Where
@@ -66,7 +66,6 @@ fn open_owned(
     match CMap::open(alloc, budget, name, tables_of(bundle), &source) {
         Ok(Some(map)) => Ok(map),
         Ok(None) => Err(Status::Absent),
-        Err(Fault::Refused(refusal)) => Err(status_of(refusal.cause)),
-        Err(Fault::Memory) => Err(Status::NoMemory),
+        Err(fault) => Err(ending_of(fault)),
     }
 }

@@ -11,13 +11,13 @@ ghost use Rattle.cmap_c.specs.Statuses.{number};
 ghost use Rattle.cmap_c.specs.declared.status.Status.TheVariants.{Done, Refused, OverBudget, NotABundle};
 
 use crate::bundle::BundleHandle;
-use crate::fault::status_of;
+use crate::fault::ending_of;
 use crate::files::BaseFile;
 use crate::handle::{MapHandle, hayro_cmap_free};
 use crate::shared::lent;
 use crate::status::Status;
 use hayro_cmap::bcmap::{Bundle, OwnedBundle};
-use hayro_cmap::{BundleFiles, CMap, Fault, NamedFiles};
+use hayro_cmap::{BundleFiles, CMap, NamedFiles};
 use std::alloc::Global;
 
 /// The map of the file `data`, over files by their names: the first of `files` with the name, else
@@ -156,7 +156,6 @@ fn parse_from<B: BundleFiles>(
     let source = NamedFiles { files, bundle };
     match CMap::parse_from(alloc, budget, data, tables, &source) {
         Ok(map) => Ok(map),
-        Err(Fault::Refused(refusal)) => Err(status_of(refusal.cause)),
-        Err(Fault::Memory) => Err(Status::NoMemory),
+        Err(fault) => Err(ending_of(fault)),
     }
 }

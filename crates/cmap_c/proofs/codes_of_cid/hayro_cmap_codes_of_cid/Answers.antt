@@ -1,4 +1,4 @@
-use Rattle.std.proofs.Common.{◌≡◌, ◌∙◌, arith, refl}
+use Rattle.std.proofs.Common.{◌≡◌, ◌∙◌, refl}
 use Rattle.cmap_c.proofs.codes_of_cid.hayro_cmap_codes_of_cid.Goals as goal
 
 pub returns-in_default-clause-codes : goal.returns-in_default-clause-codes

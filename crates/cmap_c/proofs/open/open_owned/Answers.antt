@@ -11,12 +11,12 @@ pub returns-in-Ok-None : goal.returns-in-Ok-None
 unfolding IsUnknownOver
 returns-in-Ok-None c = rw c.in-Ok-None.field-0-is at c.in-Ok-None.ensures.absent
 
-pub returns-in-Err-Refused : goal.returns-in-Err-Refused
+pub returns-in-Err : goal.returns-in-Err
 unfolding HasNoMapNamed FitsBudgetNamed ExceedsBudgetNamed
-returns-in-Err-Refused c =
+returns-in-Err c =
     let bundle = option_copied c.args.bundle in
     let files = c.args.files.now in
     let name = c.args.name.now in
     let budget = c.args.budget in
     refused (IsMapNamed bundle files name) (HasNoMapNamed bundle files name) (FitsBudgetNamed bundle files name budget) (ExceedsBudgetNamed bundle files name budget) ⊥ (IsUnknownOver bundle files name)
-    _ c.in-Err-Refused.refusal _ c.in-Err-Refused.field-0-is c.status_of.ensures (rw c.tables_of.ensures at c.in-Err-Refused.ensures.refuses) (rw c.tables_of.ensures at c.in-Err-Refused.ensures.over)
+    _ _ c.ending_of.ensures (rw c.tables_of.ensures at c.in-Err.ensures.refuses) (rw c.tables_of.ensures at c.in-Err.ensures.over)

@@ -7,11 +7,11 @@ use Rattle.cmap_c.proofs.parse.parse_from.Goals as goal
 pub returns-in-Ok : goal.returns-in-Ok
 returns-in-Ok g c = (c.in-Ok.ensures.accepts, c.in-Ok.ensures.within)
 
-pub returns-in-Err-Refused : goal.returns-in-Err-Refused
-returns-in-Err-Refused g c =
+pub returns-in-Err : goal.returns-in-Err
+returns-in-Err g c =
     let tables = tables_given c.args.tables in
     let names = answers (bundle_in g.B.BundleFiles.bundle_of c.args.bundle) c.args.files.now in
     let bytes = c.args.data.now in
     let budget = c.args.budget in
     refused (IsMapOf tables names bytes) (HasNoMap tables names bytes) (FitsBudget tables names bytes budget) (ExceedsBudget tables names bytes budget) ⊥ ⊥
-    _ c.in-Err-Refused.refusal _ c.in-Err-Refused.field-0-is c.status_of.ensures c.in-Err-Refused.ensures.refuses c.in-Err-Refused.ensures.over
+    _ _ c.ending_of.ensures c.in-Err.ensures.refuses c.in-Err.ensures.over

@@ -10,7 +10,7 @@ use Rattle.cmap_c.proofs.utf8_text.hayro_cmap_text.Goals as goal
 
 -- what is put doesn't end for a want of memory
 not_memory : (bytes old new : List ℕ) (needed status : ℕ) → IsPut bytes old new needed status → status ≡ 2 → ⊥
-not_memory bytes old new needed status put two = elim put.1 [ | inl all ↦ omega (arith, all.1, two) | inr none ↦ omega (arith, none.1, two) ]
+not_memory bytes old new needed status put two = elim put.1 [ inl all ↦ omega (arith, all.1, two) | inr none ↦ omega (arith, none.1, two) ]
 
 none_found : (A : Type 0) (P : List ℕ → Type 0) (found : Option (List ℕ)) → None ≡ option_map text_of_characters found → A → MatchOption found A P
 none_found A P None same absent = absent
