@@ -1,14 +1,15 @@
 -- What C is told of a file that has no map, and how the call then ends.
 use Rattle.std.proofs.Common.{◌≡◌, ◌≢◌, ◌⊎◌, ◌∙◌, ℕ, List, Option, Ok, Err, Result, arith, inl, inr, refl, sym}
 use Rattle.cmap_packed.specs.Bundles.{Bundle}
+use Rattle.cmap_values.specs.NamesSeen.{names_seen}
 use Rattle.cmap_values.specs.Outcomes.{RefusesWith}
 use Rattle.cmap_values.specs.declared.fault.Fault.{Fault}
 use Rattle.cmap_values.specs.declared.fault.Fault.TheVariants as fault
 use Rattle.cmap_layers.specs.Layers.{Layer}
-use Rattle.hayro_cmap.specs.declared.refusal.Cause.{Cause}
 use Rattle.hayro_cmap.specs.declared.refusal.Cause.TheVariants as cause
+use Rattle.hayro_cmap.specs.declared.refusal.Refusal.{Refusal}
 use Rattle.cmap_c.specs.Endings.{EndsOver, IsExplainedOver, IsKept, IsTold}
-use Rattle.cmap_c.specs.Faults.{IsExplained, IsToldOf, status_of}
+use Rattle.cmap_c.specs.Faults.{IsExplained, IsToldFrom, status_of}
 use Rattle.cmap_c.specs.NamedFiles.{ExceedsBudgetOver, FitsBudgetOver, HasNoMapOver, IsMapOver, LeadsToFaultOver}
 use Rattle.cmap_c.specs.Statuses.{number}
 use Rattle.cmap_c.specs.declared.fault.FaultNumbers.{FaultNumbers}
@@ -32,13 +33,15 @@ ended : (s : Status) (read : Result (List Layer) Status) (status : ℕ) (now : O
 ended s read status now is done = (rw is at done).0
 
 module _ (bundle : Option Bundle) (files : List BaseFile) (bytes : List ℕ) (budget : Option ℕ) where
-  -- C is told of a refusal, if there is memory for it
-  pub told : (names : List (List ℕ)) (c : Cause) (f : Fault Told) → (c ≢ cause.OverBudget → HasNoMapOver bundle files bytes × FitsBudgetOver bundle files bytes budget) → (c ≡ cause.OverBudget → ExceedsBudgetOver bundle files bytes budget)
-      → LeadsToFaultOver bundle files bytes budget names c → RefusesWith (IsToldOf names c) f → IsExplainedOver bundle files bytes budget (Err f)
-  told names c fault.Memory refuses over blames is = (tt, tt)
-  told names c (fault.Refused of) refuses over blames is =
-      let same : of.cause ≡ c = is.0 in
-      (tt, ((λ other. refuses (λ passes. other (same ∙ passes))), (λ passes. over (sym same ∙ passes)), rw same (names, blames, (refl, is.1, is.2, is.3))))
+  -- what C is told of a fault is why there is no map
+  pub told : (f : Fault Refusal) (t : Fault Told) → RefusesWith (λ (r : Refusal). r.cause ≢ cause.OverBudget → HasNoMapOver bundle files bytes × FitsBudgetOver bundle files bytes budget) f
+      → RefusesWith (λ (r : Refusal). r.cause ≡ cause.OverBudget → ExceedsBudgetOver bundle files bytes budget) f
+      → RefusesWith (λ (r : Refusal). LeadsToFaultOver bundle files bytes budget (names_seen r.names.items) r.cause) f → IsToldFrom f t → IsExplainedOver bundle files bytes budget (Err t)
+  told fault.Memory t refuses over blames is = rw is (tt, tt)
+  told (fault.Refused r) fault.Memory refuses over blames is = (tt, tt)
+  told (fault.Refused r) (fault.Refused of) refuses over blames is =
+      let same : of.cause ≡ r.cause = is.0 in
+      (tt, ((λ other. refuses (λ passes. other (same ∙ passes))), (λ passes. over (sym same ∙ passes)), rw same (names_seen r.names.items, blames, (refl, is.1, is.2, is.3))))
 
   pub told_ends : (explained : Result (List Layer) (Fault Told)) (old_fault new_fault : FaultNumbers) (old new : List ℕ) (old_needed needed : ℕ) (read : Result (List Layer) Status)
       → IsExplainedOver bundle files bytes budget explained → IsTold explained old_fault new_fault old new old_needed needed read → EndsOver bundle files bytes budget read

@@ -2,6 +2,8 @@
 use Rattle.std.specs.Prelude.{◌≡◌, ℕ, ◌≤◌, ◌-◌, ◌==◌, List, ◌++◌, Option, Some, None, if◌then◌else◌, length, map, option_map}
 use Rattle.std.proofs.Math.ListN.{replicate}
 use Rattle.std.specs.List.{concat}
+use Rattle.cmap_values.specs.NamesSeen.{names_seen}
+use Rattle.cmap_values.specs.Outcomes.{RefusesWith}
 use Rattle.cmap_values.specs.declared.fault.Fault.{Fault}
 use Rattle.cmap_values.specs.declared.fault.Fault.TheVariants as fault
 use Rattle.cmap_values.specs.declared.fault.Reason.{Reason}
@@ -117,6 +119,11 @@ pub record IsExplained (leads : List (List ℕ) → Cause → Type 0) (fault : F
   pub are_put : IsPut (concat path) old new needed put
 
 -- ---- private aid
+-- C is told of a refusal, if there is memory for it
+abbrev pub IsToldFrom : Fault Refusal → Fault Told → Type 0
+IsToldFrom (fault.Refused refusal) told = RefusesWith (IsToldOf (names_seen refusal.names.items) refusal.cause) told
+IsToldFrom fault.Memory told = told ≡ fault.Memory
+
 -- how a call ends for which a file is refused, or memory runs out
 abbrev pub ending_of : Fault Refusal → Status
 ending_of (fault.Refused refusal) = status_of refusal.cause

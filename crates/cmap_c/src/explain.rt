@@ -91,7 +91,6 @@ fn explain_owned(
     let source = NamedFiles { files, bundle };
     match CMap::parse_from(alloc, budget, data, tables_of(bundle), &source) {
         Ok(map) => Ok(map),
-        Err(Fault::Refused(refusal)) => Err(Told::of(alloc, &refusal)),
-        Err(Fault::Memory) => Err(Fault::Memory),
+        Err(fault) => Err(Told::of(alloc, fault)),
     }
 }

@@ -3,7 +3,7 @@
 ghost use Rattle.std.specs.Prelude.{◌≡◌, ◌≤◌, length};
 ghost use Rattle.cmap_values.specs.NamesSeen.{names_seen};
 ghost use Rattle.cmap_values.specs.Outcomes.{Finds, RefusesWith};
-ghost use Rattle.cmap_c.specs.Faults.{HasNames, HasNumbers, IsToldOf, ending_of, fault_numbers, numbers_of, possible_cause, possible_reason, reason_number, segment_number, segment_numbered, segment_of, status_of};
+ghost use Rattle.cmap_c.specs.Faults.{HasNames, HasNumbers, IsToldFrom, ending_of, fault_numbers, numbers_of, possible_cause, possible_reason, reason_number, segment_number, segment_numbered, segment_of, status_of};
 
 use crate::names::joined;
 use crate::room::fill;
@@ -94,11 +94,13 @@ pub(crate) struct Told {
 
 impl Told {
     /// What C is told of a refusal, or that memory ran out.
-    pub(crate) fn of(alloc: Global, refusal: &Refusal<'_>) -> Fault<Told>
-        requires { length refusal.now.names.items ≤ 16 }
-        ensures { RefusesWith
-            (IsToldOf (names_seen refusal.now.names.items) refusal.now.cause) result }
+    pub(crate) fn of(alloc: Global, fault: Fault<Refusal<'_>>) -> Fault<Told>
+        requires { RefusesWith (λ refusal. length refusal.names.items ≤ 16) fault }
+        ensures { IsToldFrom fault.entry result }
     {
+        let Fault::Refused(refusal) = fault else {
+            return Fault::Memory;
+        };
         match joined(alloc, &refusal.names) {
             Ok(names) => Fault::Refused(Told {
                 cause: refusal.cause,
