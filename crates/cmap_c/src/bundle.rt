@@ -1,7 +1,6 @@
 //! Bundles that C holds.
 
 ghost use Rattle.std.specs.Prelude.{◌≡◌, ◌⊎◌, None, Some, IsSomeAnd, MatchOption, MatchResult, is_some, option_map};
-ghost use Rattle.std.specs.Option.{option_copied};
 ghost use Rattle.cmap_packed.specs.Bundles.{IsBundle};
 ghost use Rattle.cmap_values.specs.Only.{IsOnly, HoldsOfNone};
 ghost use Rattle.hayro_cmap.specs.Answers.{embedded};
@@ -11,7 +10,7 @@ ghost use Rattle.cmap_c.specs.declared.status.Status.TheVariants.{Absent, Done, 
 
 use crate::loose::Loose;
 use crate::room::put_found;
-use crate::shared::{Shared, lent};
+use crate::shared::Shared;
 use crate::slot::BundleSlot;
 use crate::status::Status;
 use hayro_cmap::BundleFiles;
@@ -145,17 +144,12 @@ pub extern "C" fn hayro_cmap_bundle_file(
         ((result ≡ number Absent) × (room.new ≡ room.old) × (needed.new ≡ needed.old))
         (λ bytes. IsPut bytes room.old room.new needed.new result) }
 {
-    let found = bundle.take(alloc);
-    let status = put_found(file_of(lent(&found), name), room, needed);
-    bundle.put_back(found);
+    let Some(found) = bundle.take(alloc) else {
+        return Status::Absent.number();
+    };
+    let status = put_found(found.value().file_of(name), room, needed);
+    bundle.put(found);
     status
-}
-
-/// The file of this name in a bundle, if there is one that has it.
-fn file_of<'b>(bundle: Option<&'b OwnedBundle>, name: &[u8]) -> Option<&'b [u8]>
-    ensures { option_copied result ≡ embedded (option_copied bundle.entry) name.now }
-{
-    bundle?.file_of(name)
 }
 
 /// Frees the bundle, if there is one.

@@ -2,7 +2,6 @@
 
 ghost use Rattle.std.specs.Prelude.{◌≡◌, ◌-◌, ◌<◌, ◌≤◌, None, MatchOption, MatchResult, length};
 ghost use Rattle.std.specs.Bool.{MatchBool};
-ghost use Rattle.std.specs.Option.{option_copied};
 ghost use Rattle.cmap_unicode.specs.Characters.{font_of};
 ghost use Rattle.cmap_c.specs.Extracted.{IsExtracted, bytes_of, character_seen, font_given};
 ghost use Rattle.cmap_c.specs.ExtractedParts.{IsMade, IsPutAt, IsStop};
@@ -14,7 +13,7 @@ use crate::handle::MapHandle;
 use crate::shared::lent;
 use crate::status::Status;
 use cmap_unicode::{Character, Extractor};
-use hayro_cmap::{BfString, CMap};
+use hayro_cmap::BfString;
 use std::alloc::Global;
 
 /// A code of a string with its CID, and with its text in a room for texts. It has no padding, and each
@@ -66,55 +65,23 @@ pub extern "C" fn hayro_cmap_extract(
         (font_given layers to_unicode.old.slot.map collection.old.slot.map)
         string.now characters.old characters.new text.old text.new extracted.new result) }
 {
-    let codes = encoding.take(alloc);
+    *extracted = Extracted::none();
+    let Some(found) = encoding.take(alloc) else {
+        return Status::Absent.number();
+    };
     let texts = to_unicode.take(alloc);
     let texts_of_cids = collection.take(alloc);
-    let status = extract_by(
-        alloc,
-        lent(&codes),
-        lent(&texts),
-        lent(&texts_of_cids),
-        string,
-        characters,
-        text,
-        extracted,
-    );
-    encoding.put_back(codes);
+    let (to_unicode_map, collection_map) = (lent(&texts), lent(&texts_of_cids));
+    let font = Extractor {
+        encoding: found.value(),
+        to_unicode: to_unicode_map,
+        collection: collection_map,
+    };
+    let status = extract(alloc, &font, string, characters, text, extracted);
+    encoding.put(found);
     to_unicode.put_back(texts);
     collection.put_back(texts_of_cids);
     status
-}
-
-/// Cuts a string into codes by these maps; none without the first.
-fn extract_by(
-    alloc: Global,
-    encoding: Option<&CMap>,
-    to_unicode: Option<&CMap>,
-    collection: Option<&CMap>,
-    string: &[u8],
-    characters: &mut [ExtractedCharacter],
-    text: &mut [u8],
-    extracted: &mut Extracted,
-) -> u32
-    ensures { MatchOption (option_copied encoding.entry)
-        ((result ≡ number Absent) × (characters.new ≡ characters.old) × (text.new ≡ text.old)
-        × (extracted.new ≡ record { made = 0; taken = 0; used = 0 }))
-        (λ layers. IsExtracted (font_given layers (option_copied to_unicode.entry)
-        (option_copied collection.entry)) string.now characters.old characters.new
-        text.old text.new extracted.new result) }
-{
-    *extracted = Extracted::none();
-    match encoding {
-        Some(encoding) => {
-            let font = Extractor {
-                encoding,
-                to_unicode,
-                collection,
-            };
-            extract(alloc, &font, string, characters, text, extracted)
-        }
-        None => Status::Absent.number(),
-    }
 }
 
 impl Extracted {
@@ -182,29 +149,17 @@ fn next_code(
         × IsStop (font_of font.now) string.now (length text.old - start) end) }
 {
     match font.next(alloc, string) {
-        Ok(Some(found)) => match put_character(&found, start, text) {
-            Some(next) => Ok(next),
-            None => Err(Status::NoRoom),
-        },
+        Ok(Some(found)) => {
+            let mut buffer = [0; 4];
+            let bytes = utf8_of(&found.text, &mut buffer);
+            if put_at(bytes, start, text) {
+                Ok(code_of(&found, start, bytes.len()))
+            } else {
+                Err(Status::NoRoom)
+            }
+        }
         Ok(None) => Err(Status::Done),
         Err(_) => Err(Status::NoMemory),
-    }
-}
-
-/// A code, whose text is written at an offset of the room, if it has room for it there.
-fn put_character(found: &Character, start: usize, text: &mut [u8]) -> Option<ExtractedCharacter>
-    requires { start ≤ length text.old }
-    ensures { MatchOption result ((text.new ≡ text.old)
-        × (length text.old - start < length (bytes_of found.now.text)))
-        (λ made. (made ≡ character_seen start found.now)
-        × IsPutAt (bytes_of found.now.text) start text.old text.new) }
-{
-    let mut buffer = [0; 4];
-    let bytes = utf8_of(&found.text, &mut buffer);
-    if put_at(bytes, start, text) {
-        Some(code_of(found, start, bytes.len()))
-    } else {
-        None
     }
 }
 
