@@ -1,31 +1,32 @@
--- How a call ends says whether the budget is passed, and it is one of two ways.
-use Rattle.std.proofs.Common.{◌≡◌, ◌≢◌, ◌≤◌, arith, refl}
+-- How a call ends for which a file is refused, and what its status says.
+use Rattle.std.proofs.Common.{◌≡◌, ◌≢◌, ◌⊎◌, ℕ, List, Err, refl, inl, inr}
+use Rattle.cmap_values.specs.Outcomes.{RefusesWith}
+use Rattle.cmap_values.specs.declared.fault.Fault.{Fault}
+use Rattle.cmap_values.specs.declared.fault.Fault.TheVariants as fault
+use Rattle.cmap_layers.specs.Layers.{Layer}
 use Rattle.hayro_cmap.specs.declared.refusal.Cause.{Cause}
 use Rattle.hayro_cmap.specs.declared.refusal.Cause.TheVariants as cause
-use Rattle.cmap_c.specs.Faults.{status_of}
+use Rattle.hayro_cmap.specs.declared.refusal.Refusal.{Refusal}
+use Rattle.cmap_c.specs.Endings.{Ends}
+use Rattle.cmap_c.specs.Faults.{ending_of, status_of}
 use Rattle.cmap_c.specs.Statuses.{number}
-use Rattle.cmap_c.specs.declared.status.Status.TheVariants.{Refused, OverBudget, Absent}
+use Rattle.cmap_c.specs.declared.status.Status.{Status}
 
-pub cause_of_refused : (c : Cause) → status_of c ≡ Refused → c ≢ cause.OverBudget
-cause_of_refused (cause.Malformed stop) refused = λ over. cc
-cause_of_refused cause.NoFile refused = λ over. cc
-cause_of_refused cause.ChainLength refused = λ over. cc
-cause_of_refused cause.OverBudget refused = absurd (cc)
+module _ (IsMap : List Layer → Type 0) (none fits over invalid absent : Type 0) where
+  pub ends_of : (c : Cause) → (c ≢ cause.OverBudget → none × fits) → (c ≡ cause.OverBudget → over) → Ends IsMap none fits over invalid absent (Err (status_of c))
+  ends_of (cause.Malformed stop) refuses passes = refuses (λ is. cc)
+  ends_of cause.NoFile refuses passes = refuses (λ is. cc)
+  ends_of cause.ChainLength refuses passes = refuses (λ is. cc)
+  ends_of cause.OverBudget refuses passes = passes refl
 
-pub cause_of_over : (c : Cause) → status_of c ≡ OverBudget → c ≡ cause.OverBudget
-cause_of_over (cause.Malformed stop) over = absurd (cc)
-cause_of_over cause.NoFile over = absurd (cc)
-cause_of_over cause.ChainLength over = absurd (cc)
-cause_of_over cause.OverBudget over = refl
+  pub refused : (f : Fault Refusal) (s : Status) → s ≡ ending_of f
+      → RefusesWith (λ (r : Refusal). r.cause ≢ cause.OverBudget → none × fits) f → RefusesWith (λ (r : Refusal). r.cause ≡ cause.OverBudget → over) f → Ends IsMap none fits over invalid absent (Err s)
+  refused (fault.Refused refusal) s ended refuses passes = rw ended (ends_of refusal.cause refuses passes)
+  refused fault.Memory s ended refuses passes = rw ended tt
 
-pub status_of_few : (c : Cause) → (1 ≤ number (status_of c)) × (number (status_of c) ≤ 3)
-status_of_few (cause.Malformed stop) = (omega arith, omega arith)
-status_of_few cause.NoFile = (omega arith, omega arith)
-status_of_few cause.ChainLength = (omega arith, omega arith)
-status_of_few cause.OverBudget = (omega arith, omega arith)
-
-pub status_of-not_absent : (c : Cause) → status_of c ≢ Absent
-status_of-not_absent (cause.Malformed stop) = λ absent. cc
-status_of-not_absent cause.NoFile = λ absent. cc
-status_of-not_absent cause.ChainLength = λ absent. cc
-status_of-not_absent cause.OverBudget = λ absent. cc
+-- the number is one of two
+pub number_of_cause : (c : Cause) (n : ℕ) → n ≡ number (status_of c) → (n ≡ 1) ⊎ (n ≡ 3)
+number_of_cause (cause.Malformed stop) n is = inl is
+number_of_cause cause.NoFile n is = inl is
+number_of_cause cause.ChainLength n is = inl is
+number_of_cause cause.OverBudget n is = inr is

@@ -2,18 +2,23 @@
 use Rattle.std.specs.Prelude.{◌≡◌, ℕ, ◌≤◌, ◌-◌, ◌==◌, List, ◌++◌, Option, Some, None, if◌then◌else◌, length, map, option_map}
 use Rattle.std.proofs.Math.ListN.{replicate}
 use Rattle.std.specs.List.{concat}
+use Rattle.cmap_values.specs.NamesSeen.{names_seen}
+use Rattle.cmap_values.specs.Outcomes.{RefusesWith}
+use Rattle.cmap_values.specs.declared.fault.Fault.{Fault}
+use Rattle.cmap_values.specs.declared.fault.Fault.TheVariants as fault
 use Rattle.cmap_values.specs.declared.fault.Reason.{Reason}
 use Rattle.cmap_values.specs.declared.fault.Reason.TheVariants as reason
 use Rattle.cmap_values.specs.declared.fault.Segment.{Segment}
 use Rattle.cmap_values.specs.declared.fault.Segment.TheVariants as segment
 use Rattle.hayro_cmap.specs.declared.refusal.Cause.{Cause}
 use Rattle.hayro_cmap.specs.declared.refusal.Cause.TheVariants as cause
+use Rattle.hayro_cmap.specs.declared.refusal.Refusal.{Refusal}
 use Rattle.cmap_c.specs.Rooms.{IsPut}
 use Rattle.cmap_c.specs.Statuses.{number}
 use Rattle.cmap_c.specs.declared.fault.FaultNumbers.{FaultNumbers}
 use Rattle.cmap_c.specs.declared.fault.Told.{Told}
 use Rattle.cmap_c.specs.declared.status.Status.{Status}
-use Rattle.cmap_c.specs.declared.status.Status.TheVariants.{Refused, OverBudget}
+use Rattle.cmap_c.specs.declared.status.Status.TheVariants.{Refused, NoMemory, OverBudget}
 
 -- the number of a segment
 abbrev pub segment_number : Segment → ℕ
@@ -114,6 +119,16 @@ pub record IsExplained (leads : List (List ℕ) → Cause → Type 0) (fault : F
   pub are_put : IsPut (concat path) old new needed put
 
 -- ---- private aid
+-- C is told of a refusal, if there is memory for it
+abbrev pub IsToldFrom : Fault Refusal → Fault Told → Type 0
+IsToldFrom (fault.Refused refusal) told = RefusesWith (IsToldOf (names_seen refusal.names.items) refusal.cause) told
+IsToldFrom fault.Memory told = told ≡ fault.Memory
+
+-- how a call ends for which a file is refused, or memory runs out
+abbrev pub ending_of : Fault Refusal → Status
+ending_of (fault.Refused refusal) = status_of refusal.cause
+ending_of fault.Memory = NoMemory
+
 -- the segment of a number
 abbrev pub segment_numbered : ℕ → Option Segment
 segment_numbered n =

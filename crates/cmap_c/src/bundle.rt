@@ -9,7 +9,7 @@ ghost use Rattle.cmap_c.specs.Statuses.{number};
 ghost use Rattle.cmap_c.specs.declared.status.Status.TheVariants.{Absent, Done, NoMemory, NotABundle};
 
 use crate::loose::Loose;
-use crate::room::put_bytes;
+use crate::room::put_found;
 use crate::shared::Shared;
 use crate::slot::BundleSlot;
 use crate::status::Status;
@@ -61,6 +61,16 @@ impl BundleHandle {
         };
     }
 
+    /// Gives an empty handle the bundle that was taken from it, if it had one.
+    pub(crate) fn put_back(&mut self, found: Option<Box<Shared<OwnedBundle>>>)
+        requires { self.old.slot.bundle ≡ None }
+        ensures { self.new.slot.bundle ≡ option_map (λ b. b.value) found }
+    {
+        if let Some(bundle) = found {
+            self.put(bundle);
+        }
+    }
+
     /// Gives an empty handle the bundle that was made, or none where memory ran out.
     fn keep(&mut self, made: Result<Box<Shared<OwnedBundle>>, AllocError>) -> u32
         requires { self.old.slot.bundle ≡ None }
@@ -92,7 +102,7 @@ pub extern "C" fn hayro_cmap_bundle_open(
         ⊎ (((result ≡ number NoMemory) ⊎ (result ≡ number NotABundle))
         × (bundle.new.slot.bundle ≡ None)) }
 {
-    let _old = bundle.take(alloc);
+    hayro_cmap_bundle_free(bundle, alloc);
     match OwnedBundle::parse(alloc, bytes) {
         Ok(Some(parsed)) => bundle.keep(Shared::new(alloc, parsed)),
         Ok(None) => Status::NotABundle.number(),
@@ -111,7 +121,7 @@ pub extern "C" fn hayro_cmap_bundle_share(
     ensures shared { ((result ≡ number Done) × (other.new.slot.bundle ≡ bundle.old.slot.bundle))
         ⊎ ((result ≡ number NoMemory) × (other.new.slot.bundle ≡ None)) }
 {
-    let _old = other.take(alloc);
+    hayro_cmap_bundle_free(other, alloc);
     let Some(found) = bundle.take(alloc) else {
         return Status::Done.number();
     };
@@ -137,10 +147,7 @@ pub extern "C" fn hayro_cmap_bundle_file(
     let Some(found) = bundle.take(alloc) else {
         return Status::Absent.number();
     };
-    let status = match found.value().file_of(name) {
-        Some(bytes) => put_bytes(bytes, room, needed),
-        None => Status::Absent.number(),
-    };
+    let status = put_found(found.value().file_of(name), room, needed);
     bundle.put(found);
     status
 }

@@ -1,6 +1,6 @@
 //! What the file of a layer declares for its codes, for C.
 
-ghost use Rattle.std.specs.Prelude.{◌≡◌, MatchOption, Some, option_map};
+ghost use Rattle.std.specs.Prelude.{◌≡◌, MatchOption, option_map};
 ghost use Rattle.std.specs.Option.{option_copied};
 ghost use Rattle.cmap_files.specs.DeclarationsSeen.{bf_entry_seen};
 ghost use Rattle.cmap_layers.specs.LayersSeen.{layer_seen};
@@ -11,7 +11,9 @@ ghost use Rattle.cmap_c.specs.Statuses.{number};
 ghost use Rattle.cmap_c.specs.declared.status.Status.TheVariants.{Absent};
 
 use crate::handle::MapHandle;
+use crate::layers::layer_at;
 use crate::room::{Items, put, put_items};
+use crate::shared::lent;
 use crate::status::Status;
 use cmap_runs::runs::{Looks, Table};
 use hayro_cmap::{BfRange, CMap, CidRange, CodeLength, Layer};
@@ -99,14 +101,9 @@ pub extern "C" fn hayro_cmap_cid_ranges(
         ((result ≡ number Absent) × (ranges.new ≡ ranges.old) × (needed.new ≡ needed.old))
         (λ given. IsPut (cids_declared given byte_len) ranges.old ranges.new needed.new result) }
 {
-    let Some(found) = map.take(alloc) else {
-        return Status::Absent.number();
-    };
-    let status = match found.value().layers().get(layer) {
-        Some(given) => put_cids(given, byte_len, ranges, needed),
-        None => Status::Absent.number(),
-    };
-    map.put(found);
+    let found = map.take(alloc);
+    let status = put_cids(layer_at(lent(&found), layer), byte_len, ranges, needed);
+    map.put_back(found);
     status
 }
 
@@ -125,14 +122,9 @@ pub extern "C" fn hayro_cmap_notdef_ranges(
         ((result ≡ number Absent) × (ranges.new ≡ ranges.old) × (needed.new ≡ needed.old))
         (λ given. IsPut (notdefs_declared given byte_len) ranges.old ranges.new needed.new result) }
 {
-    let Some(found) = map.take(alloc) else {
-        return Status::Absent.number();
-    };
-    let status = match found.value().layers().get(layer) {
-        Some(given) => put_notdefs(given, byte_len, ranges, needed),
-        None => Status::Absent.number(),
-    };
-    map.put(found);
+    let found = map.take(alloc);
+    let status = put_notdefs(layer_at(lent(&found), layer), byte_len, ranges, needed);
+    map.put_back(found);
     status
 }
 
@@ -150,14 +142,9 @@ pub extern "C" fn hayro_cmap_text_ranges(
         ((result ≡ number Absent) × (ranges.new ≡ ranges.old) × (needed.new ≡ needed.old))
         (λ given. IsPut (texts_declared given) ranges.old ranges.new needed.new result) }
 {
-    let Some(found) = map.take(alloc) else {
-        return Status::Absent.number();
-    };
-    let status = match found.value().layers().get(layer) {
-        Some(given) => put_items(given.texts(), ranges, needed),
-        None => Status::Absent.number(),
-    };
-    map.put(found);
+    let found = map.take(alloc);
+    let status = put_texts(layer_at(lent(&found), layer), ranges, needed);
+    map.put_back(found);
     status
 }
 
@@ -176,44 +163,73 @@ pub extern "C" fn hayro_cmap_text_units(
         ((result ≡ number Absent) × (units.new ≡ units.old) × (needed.new ≡ needed.old))
         (λ declared. IsPut declared.units units.old units.new needed.new result) }
 {
-    let Some(found) = map.take(alloc) else {
-        return Status::Absent.number();
-    };
-    let status = match text_at(found.value(), layer, index) {
+    let found = map.take(alloc);
+    let status = match text_at(lent(&found), layer, index) {
         Some(declared) => put(declared.units.as_slice(), units, needed),
         None => Status::Absent.number(),
     };
-    map.put(found);
+    map.put_back(found);
     status
 }
 
-/// Writes the declarations of CIDs of a layer.
-fn put_cids(layer: &Layer, byte_len: u8, ranges: &mut [DeclaredCids], needed: &mut usize) -> u32
-    ensures { IsPut (cids_declared (layer_seen layer.now) byte_len) ranges.old ranges.new
-        needed.new result }
+/// Writes the declarations of CIDs of a layer, if there is one.
+fn put_cids(
+    layer: Option<&Layer>,
+    byte_len: u8,
+    ranges: &mut [DeclaredCids],
+    needed: &mut usize,
+) -> u32
+    ensures { MatchOption (option_map layer_seen (option_copied layer.entry))
+        ((result ≡ number Absent) × (ranges.new ≡ ranges.old) × (needed.new ≡ needed.old))
+        (λ given. IsPut (cids_declared given byte_len) ranges.old ranges.new needed.new result) }
 {
+    let Some(layer) = layer else {
+        return Status::Absent.number();
+    };
     match CodeLength::of(byte_len) {
         Some(len) => put_items(layer.cids(len), ranges, needed),
         None => put(&[], ranges, needed),
     }
 }
 
-/// Writes the declarations of notdefs of a layer.
-fn put_notdefs(layer: &Layer, byte_len: u8, ranges: &mut [DeclaredCids], needed: &mut usize) -> u32
-    ensures { IsPut (notdefs_declared (layer_seen layer.now) byte_len) ranges.old ranges.new
-        needed.new result }
+/// Writes the declarations of notdefs of a layer, if there is one.
+fn put_notdefs(
+    layer: Option<&Layer>,
+    byte_len: u8,
+    ranges: &mut [DeclaredCids],
+    needed: &mut usize,
+) -> u32
+    ensures { MatchOption (option_map layer_seen (option_copied layer.entry))
+        ((result ≡ number Absent) × (ranges.new ≡ ranges.old) × (needed.new ≡ needed.old))
+        (λ given. IsPut (notdefs_declared given byte_len) ranges.old ranges.new needed.new result) }
 {
+    let Some(layer) = layer else {
+        return Status::Absent.number();
+    };
     match CodeLength::of(byte_len) {
         Some(len) => put_items(layer.notdefs(len), ranges, needed),
         None => put(&[], ranges, needed),
     }
 }
 
-/// The declaration of texts at an index of a layer.
-fn text_at(map: &CMap, layer: usize, index: usize) -> Option<&BfRange>
-    ensures { option_map bf_entry_seen (option_copied result) ≡ text_in (Some map.now) layer index }
+/// Writes the declarations of texts of a layer, if there is one.
+fn put_texts(layer: Option<&Layer>, ranges: &mut [DeclaredTexts], needed: &mut usize) -> u32
+    ensures { MatchOption (option_map layer_seen (option_copied layer.entry))
+        ((result ≡ number Absent) × (ranges.new ≡ ranges.old) × (needed.new ≡ needed.old))
+        (λ given. IsPut (texts_declared given) ranges.old ranges.new needed.new result) }
 {
-    let texts = map.layers().get(layer)?.texts();
+    match layer {
+        Some(layer) => put_items(layer.texts(), ranges, needed),
+        None => Status::Absent.number(),
+    }
+}
+
+/// The declaration of texts at an index of a layer.
+fn text_at(map: Option<&CMap>, layer: usize, index: usize) -> Option<&BfRange>
+    ensures { option_map bf_entry_seen (option_copied result)
+        ≡ text_in (option_copied map.entry) layer index }
+{
+    let texts = layer_at(map, layer)?.texts();
     if index < texts.decl_count() {
         Some(texts.decl(index, &mut Looks::new()))
     } else {

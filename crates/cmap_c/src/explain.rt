@@ -1,10 +1,9 @@
 //! Maps of files, or why there is none, for C.
 
-ghost use Rattle.std.specs.Prelude.{◌≡◌, ◌≢◌, ◌⊎◌, ◌≤◌, None, IfErr, IfOk, IsSomeAnd, OnOk};
+ghost use Rattle.std.specs.Prelude.{◌≡◌, ◌⊎◌, ◌≤◌, None, IsSomeAnd};
 ghost use Rattle.std.specs.Option.{option_copied};
-ghost use Rattle.cmap_values.specs.Outcomes.{RefusesWith};
-ghost use Rattle.hayro_cmap.specs.declared.refusal.Cause.TheVariants as Cause;
-ghost use Rattle.cmap_c.specs.Faults.{IsExplained, IsToldWith};
+ghost use Rattle.cmap_c.specs.Endings.{IsExplainedOver, IsTold};
+ghost use Rattle.cmap_c.specs.Faults.{IsExplained};
 ghost use Rattle.cmap_c.specs.NamedFiles.{ExceedsBudgetOver, FitsBudgetOver, HasNoMapOver, IsMapOver, LeadsToFaultOver, budget_of};
 ghost use Rattle.cmap_c.specs.Statuses.{number};
 ghost use Rattle.cmap_c.specs.declared.status.Status.TheVariants.{Done, Refused, NoMemory, OverBudget};
@@ -12,10 +11,10 @@ ghost use Rattle.cmap_c.specs.declared.status.Status.TheVariants.{Done, Refused,
 use crate::bundle::BundleHandle;
 use crate::fault::{FaultNumbers, Told, status_of};
 use crate::files::BaseFile;
-use crate::handle::MapHandle;
+use crate::handle::{MapHandle, hayro_cmap_free};
 use crate::parse::{limit, tables_of};
 use crate::room::put_bytes;
-use crate::shared::Shared;
+use crate::shared::lent;
 use crate::status::Status;
 use hayro_cmap::bcmap::OwnedBundle;
 use hayro_cmap::{CMap, Fault, NamedFiles};
@@ -52,46 +51,31 @@ pub extern "C" fn hayro_cmap_explain(
     ensures failed { (result ≡ number Done)
         ⊎ ((result ≤ number OverBudget) × (map.new.slot.map ≡ None)) }
 {
-    let _old = map.take(alloc);
-    match explain_over(alloc, limit(budget), data, bundle, files) {
-        Ok(parsed) => map.keep(Shared::new(alloc, parsed)),
+    hayro_cmap_free(map, alloc);
+    let found = bundle.take(alloc);
+    let explained = explain_owned(alloc, limit(budget), data, lent(&found), files);
+    bundle.put_back(found);
+    map.keep_read(alloc, tell(explained, fault, room, needed))
+}
+
+/// The map, or how the call ends without one; C is told why there is none.
+fn tell(
+    explained: Result<CMap, Fault<Told>>,
+    fault: &mut FaultNumbers,
+    room: &mut [u8],
+    needed: &mut usize,
+) -> Result<CMap, Status>
+    ensures { IsTold explained fault.old fault.new room.old room.new needed.old needed.new result }
+{
+    match explained {
+        Ok(map) => Ok(map),
         Err(Fault::Refused(told)) => {
             *fault = told.fault;
             put_bytes(&told.names, room, needed);
-            status_of(told.cause).number()
+            Err(status_of(told.cause))
         }
-        Err(Fault::Memory) => Status::NoMemory.number(),
+        Err(Fault::Memory) => Err(Status::NoMemory),
     }
-}
-
-/// The map of a file over these files and those of a handle's bundle, if it has one; or why there is
-/// none.
-fn explain_over(
-    alloc: Global,
-    budget: Option<u64>,
-    data: &[u8],
-    bundle: &mut BundleHandle,
-    files: &[BaseFile<'_>],
-) -> Result<CMap, Fault<Told>>
-    ensures same { bundle.new.slot.bundle ≡ bundle.old.slot.bundle }
-    ensures accepts { IfOk result
-        (IsMapOver bundle.old.slot.bundle files.now «data».now) }
-    ensures within { OnOk result
-        (FitsBudgetOver bundle.old.slot.bundle files.now «data».now budget) }
-    ensures refuses { IfErr result (RefusesWith (λ told. told.cause ≢ Cause.OverBudget
-        → HasNoMapOver bundle.old.slot.bundle files.now «data».now
-        × FitsBudgetOver bundle.old.slot.bundle files.now «data».now budget)) }
-    ensures over { IfErr result (RefusesWith (λ told. told.cause ≡ Cause.OverBudget
-        → ExceedsBudgetOver bundle.old.slot.bundle files.now «data».now budget)) }
-    ensures explains { IfErr result (RefusesWith (IsToldWith
-        (LeadsToFaultOver bundle.old.slot.bundle files.now «data».now budget))) }
-{
-    let Some(found) = bundle.take(alloc) else {
-        return explain_owned(alloc, budget, data, None, files);
-    };
-    let explained = explain_owned(alloc, budget, data, Some(found.value()), files);
-    bundle.put(found);
-    explained
 }
 
 /// The map of a file over these files and those of a bundle, if there is one; or why there is none.
@@ -102,25 +86,11 @@ fn explain_owned(
     bundle: Option<&OwnedBundle>,
     files: &[BaseFile<'_>],
 ) -> Result<CMap, Fault<Told>>
-    ensures accepts { IfOk result
-        (IsMapOver (option_copied bundle.entry) files.now «data».now) }
-    ensures within { OnOk result
-        (FitsBudgetOver (option_copied bundle.entry) files.now «data».now budget) }
-    ensures refuses { IfErr result (RefusesWith (λ told. told.cause ≢ Cause.OverBudget
-        → HasNoMapOver (option_copied bundle.entry) files.now «data».now
-        × FitsBudgetOver (option_copied bundle.entry) files.now «data».now budget)) }
-    ensures over { IfErr result (RefusesWith (λ told. told.cause ≡ Cause.OverBudget
-        → ExceedsBudgetOver (option_copied bundle.entry) files.now «data».now budget)) }
-    ensures explains { IfErr result (RefusesWith (IsToldWith
-        (LeadsToFaultOver (option_copied bundle.entry) files.now «data».now budget))) }
+    ensures { IsExplainedOver (option_copied bundle.entry) files.now «data».now budget result }
 {
     let source = NamedFiles { files, bundle };
     match CMap::parse_from(alloc, budget, data, tables_of(bundle), &source) {
         Ok(map) => Ok(map),
-        Err(Fault::Refused(refusal)) => match Told::of(alloc, &refusal) {
-            Ok(told) => Err(Fault::Refused(told)),
-            Err(_) => Err(Fault::Memory),
-        },
-        Err(Fault::Memory) => Err(Fault::Memory),
+        Err(fault) => Err(Told::of(alloc, fault)),
     }
 }

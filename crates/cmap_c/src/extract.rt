@@ -1,8 +1,7 @@
 //! The codes of a string with their CIDs and their texts, for C.
 
-ghost use Rattle.std.specs.Prelude.{◌≡◌, ◌-◌, ◌<◌, ◌≤◌, None, MatchOption, MatchResult, length, option_map};
+ghost use Rattle.std.specs.Prelude.{◌≡◌, ◌-◌, ◌<◌, ◌≤◌, None, MatchOption, MatchResult, length};
 ghost use Rattle.std.specs.Bool.{MatchBool};
-ghost use Rattle.std.specs.Option.{option_copied};
 ghost use Rattle.cmap_unicode.specs.Characters.{font_of};
 ghost use Rattle.cmap_c.specs.Extracted.{IsExtracted, bytes_of, character_seen, font_given};
 ghost use Rattle.cmap_c.specs.ExtractedParts.{IsMade, IsPutAt, IsStop};
@@ -11,10 +10,10 @@ ghost use Rattle.cmap_c.specs.declared.status.Status.TheVariants.{Absent};
 
 use crate::decode::Code;
 use crate::handle::MapHandle;
-use crate::shared::Shared;
+use crate::shared::lent;
 use crate::status::Status;
 use cmap_unicode::{Character, Extractor};
-use hayro_cmap::{BfString, CMap};
+use hayro_cmap::BfString;
 use std::alloc::Global;
 
 /// A code of a string with its CID, and with its text in a room for texts. It has no padding, and each
@@ -80,29 +79,9 @@ pub extern "C" fn hayro_cmap_extract(
     };
     let status = extract(alloc, &font, string, characters, text, extracted);
     encoding.put(found);
-    put_back(to_unicode, texts);
-    put_back(collection, texts_of_cids);
+    to_unicode.put_back(texts);
+    collection.put_back(texts_of_cids);
     status
-}
-
-/// The map that was taken from a handle, if it had one.
-fn lent(map: &Option<Box<Shared<CMap>>>) -> Option<&CMap>
-    ensures { option_copied result ≡ option_map (λ b. b.value) map.now }
-{
-    match map {
-        Some(map) => Some(map.value()),
-        None => None,
-    }
-}
-
-/// Gives an empty handle the map that was taken from it, if it had one.
-fn put_back(handle: &mut MapHandle, map: Option<Box<Shared<CMap>>>)
-    requires { handle.old.slot.map ≡ None }
-    ensures { handle.new.slot.map ≡ option_map (λ b. b.value) map }
-{
-    if let Some(map) = map {
-        handle.put(map);
-    }
 }
 
 impl Extracted {

@@ -1,16 +1,15 @@
 //! Why a file gives no map, by the numbers of the header.
 
-ghost use Rattle.std.specs.Prelude.{◌≡◌, ◌≤◌, IfOk, length};
-ghost use Rattle.std.specs.List.{concat};
+ghost use Rattle.std.specs.Prelude.{◌≡◌, ◌≤◌, length};
 ghost use Rattle.cmap_values.specs.NamesSeen.{names_seen};
-ghost use Rattle.cmap_values.specs.Outcomes.{Finds};
-ghost use Rattle.cmap_c.specs.Faults.{HasNames, HasNumbers, IsToldOf, fault_numbers, numbers_of, possible_cause, possible_reason, reason_number, segment_number, segment_numbered, segment_of, status_of};
+ghost use Rattle.cmap_values.specs.Outcomes.{Finds, RefusesWith};
+ghost use Rattle.cmap_c.specs.Faults.{HasNames, HasNumbers, IsToldFrom, ending_of, fault_numbers, numbers_of, possible_cause, possible_reason, reason_number, segment_number, segment_numbered, segment_of, status_of};
 
 use crate::names::joined;
 use crate::room::fill;
 use crate::status::Status;
-use hayro_cmap::{Cause, Reason, Refusal, Segment, Stop};
-use std::alloc::{AllocError, Global};
+use hayro_cmap::{Cause, Fault, Reason, Refusal, Segment, Stop};
+use std::alloc::Global;
 
 /// The most names that lead to a file at fault.
 const MOST_NAMES: usize = 16;
@@ -94,16 +93,22 @@ pub(crate) struct Told {
 }
 
 impl Told {
-    pub(crate) fn of(alloc: Global, refusal: &Refusal<'_>) -> Result<Told, AllocError>
-        requires { length refusal.now.names.items ≤ 16 }
-        ensures { IfOk result
-            (IsToldOf (names_seen refusal.now.names.items) refusal.now.cause) }
+    /// What C is told of a refusal, or that memory ran out.
+    pub(crate) fn of(alloc: Global, fault: Fault<Refusal<'_>>) -> Fault<Told>
+        requires { RefusesWith (λ refusal. length refusal.names.items ≤ 16) fault }
+        ensures { IsToldFrom fault.entry result }
     {
-        Ok(Told {
-            cause: refusal.cause,
-            fault: FaultNumbers::of(&refusal.names, refusal.cause),
-            names: joined(alloc, &refusal.names)?,
-        })
+        let Fault::Refused(refusal) = fault else {
+            return Fault::Memory;
+        };
+        match joined(alloc, &refusal.names) {
+            Ok(names) => Fault::Refused(Told {
+                cause: refusal.cause,
+                fault: FaultNumbers::of(&refusal.names, refusal.cause),
+                names,
+            }),
+            Err(_) => Fault::Memory,
+        }
     }
 }
 
@@ -114,6 +119,16 @@ pub(crate) fn status_of(cause: Cause) -> Status
     match cause {
         Cause::Malformed(_) | Cause::NoFile | Cause::ChainLength => Status::Refused,
         Cause::OverBudget => Status::OverBudget,
+    }
+}
+
+/// How a call ends for which a file is refused, or memory runs out.
+pub(crate) fn ending_of(fault: Fault<Refusal<'_>>) -> Status
+    ensures { result ≡ ending_of fault.entry }
+{
+    match fault {
+        Fault::Refused(refusal) => status_of(refusal.cause),
+        Fault::Memory => Status::NoMemory,
     }
 }
 

@@ -1,6 +1,7 @@
 //! Maps that C holds.
 
 ghost use Rattle.std.specs.Prelude.{◌≡◌, ◌⊎◌, None, Some, MatchResult, is_some, option_map};
+ghost use Rattle.cmap_c.specs.Endings.{IsKept};
 ghost use Rattle.cmap_c.specs.Statuses.{number};
 ghost use Rattle.cmap_c.specs.declared.status.Status.TheVariants.{Done, NoMemory};
 
@@ -55,6 +56,16 @@ impl MapHandle {
         };
     }
 
+    /// Gives an empty handle the map that was taken from it, if it had one.
+    pub(crate) fn put_back(&mut self, found: Option<Box<Shared<CMap>>>)
+        requires { self.old.slot.map ≡ None }
+        ensures { self.new.slot.map ≡ option_map (λ b. b.value) found }
+    {
+        if let Some(map) = found {
+            self.put(map);
+        }
+    }
+
     /// Gives an empty handle the map that was made, or none where memory ran out.
     pub(crate) fn keep(&mut self, made: Result<Box<Shared<CMap>>, AllocError>) -> u32
         requires { self.old.slot.map ≡ None }
@@ -70,6 +81,17 @@ impl MapHandle {
             Err(_) => Status::NoMemory.number(),
         }
     }
+
+    /// Gives an empty handle the map that was read, if there is one, and says how the call ends.
+    pub(crate) fn keep_read(&mut self, alloc: Global, read: Result<CMap, Status>) -> u32
+        requires { self.old.slot.map ≡ None }
+        ensures { IsKept read result self.new.slot.map }
+    {
+        match read {
+            Ok(map) => self.keep(Shared::new(alloc, map)),
+            Err(status) => status.number(),
+        }
+    }
 }
 
 /// Gives an `other` handle the same map, or none where there is none. A map that it has is freed.
@@ -79,7 +101,7 @@ pub extern "C" fn hayro_cmap_share(map: &mut MapHandle, alloc: Global, other: &m
     ensures shared { ((result ≡ number Done) × (other.new.slot.map ≡ map.old.slot.map))
         ⊎ ((result ≡ number NoMemory) × (other.new.slot.map ≡ None)) }
 {
-    let _old = other.take(alloc);
+    hayro_cmap_free(other, alloc);
     let Some(found) = map.take(alloc) else {
         return Status::Done.number();
     };

@@ -6,7 +6,7 @@ ghost use Rattle.hayro_cmap.specs.Identity.{identity_layer};
 ghost use Rattle.cmap_c.specs.Statuses.{number};
 ghost use Rattle.cmap_c.specs.declared.status.Status.TheVariants.{Done, NoMemory};
 
-use crate::handle::MapHandle;
+use crate::handle::{MapHandle, hayro_cmap_free};
 use crate::shared::Shared;
 use crate::status::Status;
 use hayro_cmap::CMap;
@@ -23,7 +23,7 @@ pub extern "C" fn hayro_cmap_identity(map: &mut MapHandle, alloc: Global, vertic
     ensures failed { (result ≡ number Done)
         ⊎ ((result ≡ number NoMemory) × (map.new.slot.map ≡ None)) }
 {
-    let _old = map.take(alloc);
+    hayro_cmap_free(map, alloc);
     let made = if vertical {
         CMap::identity_v(alloc)
     } else {

@@ -1,6 +1,8 @@
 //! The layers of a map and their codespace ranges, for C.
 
-ghost use Rattle.std.specs.Prelude.{◌≡◌, ◌≤◌, MatchOption, length};
+ghost use Rattle.std.specs.Prelude.{◌≡◌, ◌≤◌, MatchOption, length, option_map};
+ghost use Rattle.std.specs.Option.{option_copied};
+ghost use Rattle.cmap_layers.specs.LayersSeen.{layer_seen};
 ghost use Rattle.cmap_c.specs.Handles.{layer_in, ranges_seen};
 ghost use Rattle.cmap_c.specs.Rooms.{IsPut};
 ghost use Rattle.cmap_c.specs.Statuses.{number};
@@ -8,8 +10,9 @@ ghost use Rattle.cmap_c.specs.declared.status.Status.TheVariants.{Absent};
 
 use crate::handle::MapHandle;
 use crate::room::{Items, put_items};
+use crate::shared::lent;
 use crate::status::Status;
-use hayro_cmap::Codespace;
+use hayro_cmap::{CMap, Codespace, Layer};
 use std::alloc::Global;
 
 /// A codespace range: codes of `byte_len` bytes, each byte between those of `low` and `high`.
@@ -71,13 +74,19 @@ pub extern "C" fn hayro_cmap_codespaces(
         ((result ≡ number Absent) × (ranges.new ≡ ranges.old) × (needed.new ≡ needed.old))
         (λ given. IsPut (ranges_seen given.lists.spaces) ranges.old ranges.new needed.new result) }
 {
-    let Some(found) = map.take(alloc) else {
-        return Status::Absent.number();
-    };
-    let status = match found.value().layers().get(layer) {
+    let found = map.take(alloc);
+    let status = match layer_at(lent(&found), layer) {
         Some(given) => put_items(&given.codespaces(), ranges, needed),
         None => Status::Absent.number(),
     };
-    map.put(found);
+    map.put_back(found);
     status
+}
+
+/// The layer at an index of a map, where there is a map that has one.
+pub(crate) fn layer_at(map: Option<&CMap>, layer: usize) -> Option<&Layer>
+    ensures { option_map layer_seen (option_copied result)
+        ≡ layer_in (option_copied map.entry) layer }
+{
+    map?.layers().get(layer)
 }

@@ -1,16 +1,18 @@
 //! What the file of a map, and that of each of its layers, says of itself, for C.
 
-ghost use Rattle.std.specs.Prelude.{◌≡◌, MatchOption, option_and_then, option_map, slice_get, true, false};
+ghost use Rattle.std.specs.Prelude.{◌≡◌, MatchOption, option_map, true, false};
 ghost use Rattle.std.specs.Option.{option_copied};
 ghost use Rattle.cmap_values.specs.Names.{ordering_of, registry_of};
 ghost use Rattle.cmap_layers.specs.LayersSeen.{collection_seen, mode_seen};
-ghost use Rattle.cmap_c.specs.Handles.{handle_collection, handle_name, handle_mode, layer_collection, layer_mode, layer_name, metadata_at, mode_number};
+ghost use Rattle.cmap_c.specs.Handles.{handle_collection, handle_name, handle_mode, layer_collection, layer_mode, layer_name, mode_number};
 ghost use Rattle.cmap_c.specs.Rooms.{IsPut};
 ghost use Rattle.cmap_c.specs.Statuses.{number};
 ghost use Rattle.cmap_c.specs.declared.status.Status.TheVariants.{Absent};
 
 use crate::handle::MapHandle;
-use crate::room::put_bytes;
+use crate::layers::layer_at;
+use crate::room::{put_bytes, put_found};
+use crate::shared::lent;
 use crate::status::Status;
 use hayro_cmap::{CMap, CharacterCollection, WritingMode};
 use std::alloc::Global;
@@ -46,14 +48,9 @@ pub extern "C" fn hayro_cmap_layer_name(
         ((result ≡ number Absent) × (room.new ≡ room.old) × (needed.new ≡ needed.old))
         (λ name. IsPut name room.old room.new needed.new result) }
 {
-    let Some(found) = map.take(alloc) else {
-        return Status::Absent.number();
-    };
-    let status = match name_at(found.value(), layer) {
-        Some(name) => put_bytes(name, room, needed),
-        None => Status::Absent.number(),
-    };
-    map.put(found);
+    let found = map.take(alloc);
+    let status = put_found(name_at(lent(&found), layer), room, needed);
+    map.put_back(found);
     status
 }
 
@@ -88,14 +85,12 @@ pub extern "C" fn hayro_cmap_layer_registry(
         ((result ≡ number Absent) × (room.new ≡ room.old) × (needed.new ≡ needed.old))
         (λ given. IsPut (registry_of given.family) room.old room.new needed.new result) }
 {
-    let Some(found) = map.take(alloc) else {
-        return Status::Absent.number();
-    };
-    let status = match collection_at(found.value(), layer) {
+    let found = map.take(alloc);
+    let status = match collection_at(lent(&found), layer) {
         Some(given) => put_bytes(given.family.registry(), room, needed),
         None => Status::Absent.number(),
     };
-    map.put(found);
+    map.put_back(found);
     status
 }
 
@@ -130,14 +125,12 @@ pub extern "C" fn hayro_cmap_layer_ordering(
         ((result ≡ number Absent) × (room.new ≡ room.old) × (needed.new ≡ needed.old))
         (λ given. IsPut (ordering_of given.family) room.old room.new needed.new result) }
 {
-    let Some(found) = map.take(alloc) else {
-        return Status::Absent.number();
-    };
-    let status = match collection_at(found.value(), layer) {
+    let found = map.take(alloc);
+    let status = match collection_at(lent(&found), layer) {
         Some(given) => put_bytes(given.family.ordering(), room, needed),
         None => Status::Absent.number(),
     };
-    map.put(found);
+    map.put_back(found);
     status
 }
 
@@ -171,17 +164,15 @@ pub extern "C" fn hayro_cmap_layer_supplement(
         ((result ≡ false) × (supplement.new ≡ supplement.old))
         (λ given. (result ≡ true) × (supplement.new ≡ given.supplement)) }
 {
-    let Some(found) = map.take(alloc) else {
-        return false;
-    };
-    let has = match collection_at(found.value(), layer) {
+    let found = map.take(alloc);
+    let has = match collection_at(lent(&found), layer) {
         Some(given) => {
             *supplement = given.supplement;
             true
         }
         None => false,
     };
-    map.put(found);
+    map.put_back(found);
     has
 }
 
@@ -205,11 +196,9 @@ pub extern "C" fn hayro_cmap_layer_writing_mode(
     ensures same { map.new.slot.map ≡ map.old.slot.map }
     ensures mode { result ≡ mode_number (layer_mode map.old.slot.map layer) }
 {
-    let Some(found) = map.take(alloc) else {
-        return 2;
-    };
-    let mode = mode_at(found.value(), layer);
-    map.put(found);
+    let found = map.take(alloc);
+    let mode = mode_at(lent(&found), layer);
+    map.put_back(found);
     match mode {
         Some(WritingMode::Horizontal) => 0,
         Some(WritingMode::Vertical) => 1,
@@ -218,30 +207,26 @@ pub extern "C" fn hayro_cmap_layer_writing_mode(
 }
 
 /// The name that the file of a layer gives.
-fn name_at(map: &CMap, layer: usize) -> Option<&[u8]>
-    ensures { option_copied result
-        ≡ option_and_then (λ metadata. metadata.name) (metadata_at map.now layer) }
+fn name_at(map: Option<&CMap>, layer: usize) -> Option<&[u8]>
+    ensures { option_copied result ≡ layer_name (option_copied map.entry) layer }
 {
-    let name = map.layers().get(layer)?.metadata().name.as_ref()?;
-    Some(name)
+    layer_at(map, layer)?.metadata().name.as_deref()
 }
 
 /// The character collection that the file of a layer gives.
-fn collection_at(map: &CMap, layer: usize) -> Option<&CharacterCollection>
+fn collection_at(map: Option<&CMap>, layer: usize) -> Option<&CharacterCollection>
     ensures { option_map collection_seen (option_copied result)
-        ≡ option_and_then (λ metadata. metadata.collection) (metadata_at map.now layer) }
+        ≡ layer_collection (option_copied map.entry) layer }
 {
-    map.layers()
-        .get(layer)?
+    layer_at(map, layer)?
         .metadata()
         .character_collection
         .as_ref()
 }
 
 /// The writing mode that the file of a layer gives.
-fn mode_at(map: &CMap, layer: usize) -> Option<WritingMode>
-    ensures { option_map mode_seen result
-        ≡ option_and_then (λ metadata. metadata.mode) (metadata_at map.now layer) }
+fn mode_at(map: Option<&CMap>, layer: usize) -> Option<WritingMode>
+    ensures { option_map mode_seen result ≡ layer_mode (option_copied map.entry) layer }
 {
-    map.layers().get(layer)?.metadata().writing_mode
+    layer_at(map, layer)?.metadata().writing_mode
 }

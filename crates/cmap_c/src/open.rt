@@ -1,21 +1,22 @@
 //! Maps of files that are opened by their names, for C.
 
-ghost use Rattle.std.specs.Prelude.{◌≡◌, ◌⊎◌, ◌≤◌, None, IfErr, IfOk, IsErrOf, IsOk, IsSomeAnd};
+ghost use Rattle.std.specs.Prelude.{◌≡◌, ◌⊎◌, ◌≤◌, None, IsSomeAnd};
 ghost use Rattle.std.specs.Option.{option_copied};
+ghost use Rattle.cmap_c.specs.Endings.{EndsNamed};
 ghost use Rattle.cmap_c.specs.NamedFiles.{budget_of};
 ghost use Rattle.cmap_c.specs.Opened.{ExceedsBudgetNamed, FitsBudgetNamed, HasNoMapNamed, IsMapNamed, IsUnknownOver};
 ghost use Rattle.cmap_c.specs.Statuses.{number};
 ghost use Rattle.cmap_c.specs.declared.status.Status.TheVariants.{Done, Refused, OverBudget, Absent};
 
 use crate::bundle::BundleHandle;
-use crate::fault::status_of;
+use crate::fault::ending_of;
 use crate::files::BaseFile;
-use crate::handle::MapHandle;
+use crate::handle::{MapHandle, hayro_cmap_free};
 use crate::parse::{limit, tables_of};
-use crate::shared::Shared;
+use crate::shared::lent;
 use crate::status::Status;
 use hayro_cmap::bcmap::OwnedBundle;
-use hayro_cmap::{CMap, Fault, NamedFiles};
+use hayro_cmap::{CMap, NamedFiles};
 use std::alloc::Global;
 
 /// The map of the file of this name: the first of `files` with the name, else that of the bundle. Where
@@ -44,40 +45,11 @@ pub extern "C" fn hayro_cmap_open(
     ensures failed { (result ≡ number Done)
         ⊎ (((result ≤ number OverBudget) ⊎ (result ≡ number Absent)) × (map.new.slot.map ≡ None)) }
 {
-    let _old = map.take(alloc);
-    match open_over(alloc, limit(budget), name, bundle, files) {
-        Ok(opened) => map.keep(Shared::new(alloc, opened)),
-        Err(status) => status.number(),
-    }
-}
-
-/// The map of the file of this name, over these files and those of a handle's bundle, if it has one.
-fn open_over(
-    alloc: Global,
-    budget: Option<u64>,
-    name: &[u8],
-    bundle: &mut BundleHandle,
-    files: &[BaseFile<'_>],
-) -> Result<CMap, Status>
-    ensures same { bundle.new.slot.bundle ≡ bundle.old.slot.bundle }
-    ensures accepts { IfOk result (IsMapNamed bundle.old.slot.bundle files.now name.now) }
-    ensures absent { IsErrOf result Absent
-        → IsUnknownOver bundle.old.slot.bundle files.now name.now }
-    ensures refuses { IsErrOf result Refused
-        → HasNoMapNamed bundle.old.slot.bundle files.now name.now }
-    ensures over { IsErrOf result OverBudget
-        → ExceedsBudgetNamed bundle.old.slot.bundle files.now name.now budget }
-    ensures within { (IsOk result ⊎ IsErrOf result Refused)
-        → FitsBudgetNamed bundle.old.slot.bundle files.now name.now budget }
-    ensures failed { IfErr result (λ status. (1 ≤ number status)
-        × ((number status ≤ 3) ⊎ (status ≡ Absent))) }
-{
-    let Some(found) = bundle.take(alloc) else {
-        return open_owned(alloc, budget, name, None, files);
-    };
-    let opened = open_owned(alloc, budget, name, Some(found.value()), files);
-    bundle.put(found);
-    opened
+    hayro_cmap_free(map, alloc);
+    let found = bundle.take(alloc);
+    let opened = open_owned(alloc, limit(budget), name, lent(&found), files);
+    bundle.put_back(found);
+    map.keep_read(alloc, opened)
 }
 
 /// The map of the file of this name, over these files and those of a bundle, if there is one.
@@ -88,23 +60,12 @@ fn open_owned(
     bundle: Option<&OwnedBundle>,
     files: &[BaseFile<'_>],
 ) -> Result<CMap, Status>
-    ensures accepts { IfOk result (IsMapNamed (option_copied bundle.entry) files.now name.now) }
-    ensures absent { IsErrOf result Absent
-        → IsUnknownOver (option_copied bundle.entry) files.now name.now }
-    ensures refuses { IsErrOf result Refused
-        → HasNoMapNamed (option_copied bundle.entry) files.now name.now }
-    ensures over { IsErrOf result OverBudget
-        → ExceedsBudgetNamed (option_copied bundle.entry) files.now name.now budget }
-    ensures within { (IsOk result ⊎ IsErrOf result Refused)
-        → FitsBudgetNamed (option_copied bundle.entry) files.now name.now budget }
-    ensures failed { IfErr result (λ status. (1 ≤ number status)
-        × ((number status ≤ 3) ⊎ (status ≡ Absent))) }
+    ensures { EndsNamed (option_copied bundle.entry) files.now name.now budget result }
 {
     let source = NamedFiles { files, bundle };
     match CMap::open(alloc, budget, name, tables_of(bundle), &source) {
         Ok(Some(map)) => Ok(map),
         Ok(None) => Err(Status::Absent),
-        Err(Fault::Refused(refusal)) => Err(status_of(refusal.cause)),
-        Err(Fault::Memory) => Err(Status::NoMemory),
+        Err(fault) => Err(ending_of(fault)),
     }
 }

@@ -1,22 +1,23 @@
 //! Maps of files, for C.
 
-ghost use Rattle.std.specs.Prelude.{◌≡◌, ◌≢◌, ◌⊎◌, ◌≤◌, [], None, Some, IfErr, IfOk, IsErrOf, IsOk, IsSomeAnd, option_map};
+ghost use Rattle.std.specs.Prelude.{◌≡◌, ◌≢◌, ◌⊎◌, ◌≤◌, [], None, Some, IsSomeAnd, option_map};
 ghost use Rattle.std.specs.Option.{option_copied};
 ghost use Rattle.cmap_packed.specs.BundleSeen.{tables_given};
 ghost use Rattle.cmap_packed.specs.Bundles.{IsBundle};
 ghost use Rattle.cmap_values.specs.Only.{HoldsOfNone};
-ghost use Rattle.hayro_cmap.specs.Maps.{ExceedsBudget, FitsBudget, HasNoMap, IsMapOf};
+ghost use Rattle.cmap_c.specs.Endings.{Ends, EndsBy, EndsOver};
 ghost use Rattle.cmap_c.specs.NamedFiles.{ExceedsBudgetOver, FitsBudgetOver, HasNoMapOver, IsMapOver, OfGiven, answers, budget_of, bundle_in};
 ghost use Rattle.cmap_c.specs.Statuses.{number};
 ghost use Rattle.cmap_c.specs.declared.status.Status.TheVariants.{Done, Refused, OverBudget, NotABundle};
 
 use crate::bundle::BundleHandle;
+use crate::fault::ending_of;
 use crate::files::BaseFile;
-use crate::handle::MapHandle;
-use crate::shared::Shared;
+use crate::handle::{MapHandle, hayro_cmap_free};
+use crate::shared::lent;
 use crate::status::Status;
 use hayro_cmap::bcmap::{Bundle, OwnedBundle};
-use hayro_cmap::{BundleFiles, CMap, Cause, Fault, NamedFiles};
+use hayro_cmap::{BundleFiles, CMap, NamedFiles};
 use std::alloc::Global;
 
 /// The map of the file `data`, over files by their names: the first of `files` with the name, else
@@ -44,11 +45,8 @@ pub extern "C" fn hayro_cmap_parse<'a>(
     ensures failed { (result ≡ number Done)
         ⊎ ((result ≤ number NotABundle) × (map.new.slot.map ≡ None)) }
 {
-    let _old = map.take(alloc);
-    match parse(alloc, limit(budget), data, bundle, files) {
-        Ok(parsed) => map.keep(Shared::new(alloc, parsed)),
-        Err(status) => status.number(),
-    }
+    hayro_cmap_free(map, alloc);
+    map.keep_read(alloc, parse(alloc, limit(budget), data, bundle, files))
 }
 
 /// The map of the file `data`, as `hayro_cmap_parse` gives it, over a bundle that is open already, or
@@ -74,11 +72,11 @@ pub extern "C" fn hayro_cmap_parse_over(
     ensures failed { (result ≡ number Done)
         ⊎ ((result ≤ number OverBudget) × (map.new.slot.map ≡ None)) }
 {
-    let _old = map.take(alloc);
-    match parse_over(alloc, limit(budget), data, bundle, files) {
-        Ok(parsed) => map.keep(Shared::new(alloc, parsed)),
-        Err(status) => status.number(),
-    }
+    hayro_cmap_free(map, alloc);
+    let found = bundle.take(alloc);
+    let parsed = parse_owned(alloc, limit(budget), data, lent(&found), files);
+    bundle.put_back(found);
+    map.keep_read(alloc, parsed)
 }
 
 /// The budget that a number stands for.
@@ -100,17 +98,13 @@ fn parse<'a>(
     bundle: &'a [u8],
     files: &[BaseFile<'a>],
 ) -> Result<CMap, Status>
-    ensures accepts { IfOk result
-        (λ layers. OfGiven bundle.now (λ given. IsMapOver given files.now «data».now layers)) }
-    ensures refuses { IsErrOf result Refused
-        → OfGiven bundle.now (λ given. HasNoMapOver given files.now «data».now) }
-    ensures over { IsErrOf result OverBudget
-        → OfGiven bundle.now (λ given. ExceedsBudgetOver given files.now «data».now budget) }
-    ensures within { (IsOk result ⊎ IsErrOf result Refused)
-        → OfGiven bundle.now (λ given. FitsBudgetOver given files.now «data».now budget) }
-    ensures not_a_bundle { IsErrOf result NotABundle
-        → (bundle.now ≢ []) × HoldsOfNone (IsBundle bundle.now) }
-    ensures failed { IfErr result (λ status. (1 ≤ number status) × (number status ≤ 4)) }
+    ensures { Ends
+        (λ layers. OfGiven bundle.now (λ given. IsMapOver given files.now «data».now layers))
+        (OfGiven bundle.now (λ given. HasNoMapOver given files.now «data».now))
+        (OfGiven bundle.now (λ given. FitsBudgetOver given files.now «data».now budget))
+        (OfGiven bundle.now (λ given. ExceedsBudgetOver given files.now «data».now budget))
+        ((bundle.now ≢ []) × HoldsOfNone (IsBundle bundle.now))
+        ⊥ result }
 {
     if bundle.is_empty() {
         return parse_owned(alloc, budget, data, None, files);
@@ -122,33 +116,6 @@ fn parse<'a>(
     }
 }
 
-/// The map of a file over these files and those of a handle's bundle, if it has one.
-fn parse_over(
-    alloc: Global,
-    budget: Option<u64>,
-    data: &[u8],
-    bundle: &mut BundleHandle,
-    files: &[BaseFile<'_>],
-) -> Result<CMap, Status>
-    ensures same { bundle.new.slot.bundle ≡ bundle.old.slot.bundle }
-    ensures accepts { IfOk result
-        (IsMapOver bundle.old.slot.bundle files.now «data».now) }
-    ensures refuses { IsErrOf result Refused
-        → HasNoMapOver bundle.old.slot.bundle files.now «data».now }
-    ensures over { IsErrOf result OverBudget
-        → ExceedsBudgetOver bundle.old.slot.bundle files.now «data».now budget }
-    ensures within { (IsOk result ⊎ IsErrOf result Refused)
-        → FitsBudgetOver bundle.old.slot.bundle files.now «data».now budget }
-    ensures failed { IfErr result (λ status. (1 ≤ number status) × (number status ≤ 3)) }
-{
-    let Some(found) = bundle.take(alloc) else {
-        return parse_owned(alloc, budget, data, None, files);
-    };
-    let parsed = parse_owned(alloc, budget, data, Some(found.value()), files);
-    bundle.put(found);
-    parsed
-}
-
 /// The map of a file over these files and those of a bundle, if there is one.
 fn parse_owned(
     alloc: Global,
@@ -157,15 +124,7 @@ fn parse_owned(
     bundle: Option<&OwnedBundle>,
     files: &[BaseFile<'_>],
 ) -> Result<CMap, Status>
-    ensures accepts { IfOk result
-        (IsMapOver (option_copied bundle.entry) files.now «data».now) }
-    ensures refuses { IsErrOf result Refused
-        → HasNoMapOver (option_copied bundle.entry) files.now «data».now }
-    ensures over { IsErrOf result OverBudget
-        → ExceedsBudgetOver (option_copied bundle.entry) files.now «data».now budget }
-    ensures within { (IsOk result ⊎ IsErrOf result Refused)
-        → FitsBudgetOver (option_copied bundle.entry) files.now «data».now budget }
-    ensures failed { IfErr result (λ status. (1 ≤ number status) × (number status ≤ 3)) }
+    ensures { EndsOver (option_copied bundle.entry) files.now «data».now budget result }
 {
     parse_from(alloc, budget, data, tables_of(bundle), files, bundle)
 }
@@ -191,23 +150,12 @@ fn parse_from<B: BundleFiles>(
     files: &[BaseFile<'_>],
     bundle: Option<&B>,
 ) -> Result<CMap, Status>
-    ensures accepts { IfOk result (IsMapOf (tables_given tables.entry)
-        (answers (bundle_in B.bundle_of bundle.entry) files.now) «data».now) }
-    ensures refuses { IsErrOf result Refused → HasNoMap (tables_given tables.entry)
-        (answers (bundle_in B.bundle_of bundle.entry) files.now) «data».now }
-    ensures over { IsErrOf result OverBudget → ExceedsBudget (tables_given tables.entry)
-        (answers (bundle_in B.bundle_of bundle.entry) files.now) «data».now budget }
-    ensures within { (IsOk result ⊎ IsErrOf result Refused) → FitsBudget (tables_given tables.entry)
-        (answers (bundle_in B.bundle_of bundle.entry) files.now) «data».now budget }
-    ensures failed { IfErr result (λ status. (1 ≤ number status) × (number status ≤ 3)) }
+    ensures { EndsBy (tables_given tables.entry)
+        (answers (bundle_in B.bundle_of bundle.entry) files.now) «data».now budget result }
 {
     let source = NamedFiles { files, bundle };
     match CMap::parse_from(alloc, budget, data, tables, &source) {
         Ok(map) => Ok(map),
-        Err(Fault::Refused(refusal)) => match refusal.cause {
-            Cause::OverBudget => Err(Status::OverBudget),
-            _ => Err(Status::Refused),
-        },
-        Err(Fault::Memory) => Err(Status::NoMemory),
+        Err(fault) => Err(ending_of(fault)),
     }
 }

@@ -1,7 +1,10 @@
 //! Room that C hands in.
 
-ghost use Rattle.std.specs.Prelude.{◌≡◌, ◌≤◌, ◌<◌, ◌++◌, List, Some, drop, length, slice_get, take};
+ghost use Rattle.std.specs.Prelude.{◌≡◌, ◌≤◌, ◌<◌, ◌++◌, List, MatchOption, Some, drop, length, slice_get, take};
+ghost use Rattle.std.specs.Option.{option_copied};
 ghost use Rattle.cmap_c.specs.Rooms.{IsPut};
+ghost use Rattle.cmap_c.specs.Statuses.{number};
+ghost use Rattle.cmap_c.specs.declared.status.Status.TheVariants.{Absent};
 
 use crate::status::Status;
 
@@ -71,4 +74,16 @@ pub(crate) fn put_bytes(bytes: &[u8], room: &mut [u8], needed: &mut usize) -> u3
     ensures { IsPut bytes.now room.old room.new needed.new result }
 {
     put(bytes, room, needed)
+}
+
+/// The same of bytes that are found, if they are.
+pub(crate) fn put_found(bytes: Option<&[u8]>, room: &mut [u8], needed: &mut usize) -> u32
+    ensures { MatchOption (option_copied bytes.entry)
+        ((result ≡ number Absent) × (room.new ≡ room.old) × (needed.new ≡ needed.old))
+        (λ found. IsPut found room.old room.new needed.new result) }
+{
+    match bytes {
+        Some(bytes) => put_bytes(bytes, room, needed),
+        None => Status::Absent.number(),
+    }
 }

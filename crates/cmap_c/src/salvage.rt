@@ -3,24 +3,23 @@
 ghost use Rattle.std.specs.Prelude.{◌≡◌, ◌⊎◌, ◌≤◌, None, IfOk, length};
 ghost use Rattle.std.specs.List.{All};
 ghost use Rattle.std.specs.Option.{option_copied};
-ghost use Rattle.cmap_packed.specs.BundleSeen.{tables_given};
 ghost use Rattle.hayro_cmap.specs.SalvageSeen.{faults_seen};
-ghost use Rattle.cmap_c.specs.NamedFiles.{answers, budget_of, bundle_in};
-ghost use Rattle.cmap_c.specs.Salvaged.{AreFaultsShown, IsSalvage, IsSalvageOver, IsSalvaged, IsSalvagedWith};
+ghost use Rattle.cmap_c.specs.NamedFiles.{budget_of};
+ghost use Rattle.cmap_c.specs.Salvaged.{AreFaultsShown, IsSalvageOver, IsSalvaged, IsSalvagedWith};
 ghost use Rattle.cmap_c.specs.Statuses.{number};
 ghost use Rattle.cmap_c.specs.declared.status.Status.TheVariants.{Done, NoMemory};
 
 use crate::bundle::BundleHandle;
 use crate::fault::FaultNumbers;
 use crate::files::BaseFile;
-use crate::handle::MapHandle;
+use crate::handle::{MapHandle, hayro_cmap_free};
 use crate::names::push_names;
 use crate::parse::{limit, tables_of};
 use crate::room::{put_bytes, put_head};
-use crate::shared::Shared;
+use crate::shared::{Shared, lent};
 use crate::status::Status;
-use hayro_cmap::bcmap::{Bundle, OwnedBundle};
-use hayro_cmap::{BundleFiles, CMap, NamedFiles, Refusal, SalvagedMap};
+use hayro_cmap::bcmap::OwnedBundle;
+use hayro_cmap::{CMap, NamedFiles, Refusal, SalvagedMap};
 use std::alloc::{AllocError, Global};
 
 /// The map of the file `data` over files as `hayro_cmap_parse_over` takes them, where each is read past
@@ -50,8 +49,11 @@ pub extern "C" fn hayro_cmap_salvage(
     ensures failed { (result ≡ number Done)
         ⊎ ((result ≡ number NoMemory) × (map.new.slot.map ≡ None)) }
 {
-    let _old = map.take(alloc);
-    let Ok(salvaged) = salvage_over(alloc, limit(budget), data, bundle, files) else {
+    hayro_cmap_free(map, alloc);
+    let read = bundle.take(alloc);
+    let salvaged = salvage_owned(alloc, limit(budget), data, lent(&read), files);
+    bundle.put_back(read);
+    let Ok(salvaged) = salvaged else {
         return Status::NoMemory.number();
     };
     map.put(salvaged.map);
@@ -66,6 +68,18 @@ pub extern "C" fn hayro_cmap_salvage(
 pub(crate) struct Salvaged {
     pub(crate) map: Box<Shared<CMap>>,
     pub(crate) shown: ShownFaults,
+}
+
+impl Salvaged {
+    fn of(alloc: Global, map: CMap, faults: &[Refusal<'_>]) -> Result<Salvaged, AllocError>
+        requires { All (λ fault. length fault.names.items ≤ 16) faults.now }
+        ensures { IfOk result (λ made. (made.map.value ≡ map)
+            × AreFaultsShown (faults_seen faults.now) made.shown) }
+    {
+        let shown = ShownFaults::of(alloc, faults)?;
+        let map = Shared::new(alloc, map)?;
+        Ok(Salvaged { map, shown })
+    }
 }
 
 /// Faults, as C has them.
@@ -94,26 +108,6 @@ impl ShownFaults {
     }
 }
 
-/// What is read of a file over these files and those of a handle's bundle, if it has one.
-fn salvage_over(
-    alloc: Global,
-    budget: Option<u64>,
-    data: &[u8],
-    bundle: &mut BundleHandle,
-    files: &[BaseFile<'_>],
-) -> Result<Salvaged, AllocError>
-    ensures same { bundle.new.slot.bundle ≡ bundle.old.slot.bundle }
-    ensures says { IfOk result (IsSalvagedWith
-        (IsSalvageOver bundle.old.slot.bundle files.now «data».now budget)) }
-{
-    let Some(found) = bundle.take(alloc) else {
-        return salvage_owned(alloc, budget, data, None, files);
-    };
-    let salvaged = salvage_owned(alloc, budget, data, Some(found.value()), files);
-    bundle.put(found);
-    salvaged
-}
-
 /// What is read of a file over these files and those of a bundle, if there is one.
 fn salvage_owned(
     alloc: Global,
@@ -125,26 +119,9 @@ fn salvage_owned(
     ensures { IfOk result (IsSalvagedWith
         (IsSalvageOver (option_copied bundle.entry) files.now «data».now budget)) }
 {
-    salvage_by(alloc, budget, data, tables_of(bundle), files, bundle)
-}
-
-/// What is read of a file over these files and those of a bundle, if there is one; binary files are read by
-/// the `tables`.
-fn salvage_by<B: BundleFiles>(
-    alloc: Global,
-    budget: Option<u64>,
-    data: &[u8],
-    tables: Option<&Bundle<'_>>,
-    files: &[BaseFile<'_>],
-    bundle: Option<&B>,
-) -> Result<Salvaged, AllocError>
-    ensures { IfOk result (IsSalvagedWith (IsSalvage (tables_given tables.entry)
-        (answers (bundle_in B.bundle_of bundle.entry) files.now) «data».now budget)) }
-{
     let source = NamedFiles { files, bundle };
-    let SalvagedMap { map, faults } = CMap::salvage(alloc, budget, data, tables, &source)?;
-    Ok(Salvaged {
-        map: Shared::new(alloc, map)?,
-        shown: ShownFaults::of(alloc, &faults)?,
-    })
+    match CMap::salvage(alloc, budget, data, tables_of(bundle), &source) {
+        Ok(SalvagedMap { map, faults }) => Salvaged::of(alloc, map, &faults),
+        Err(error) => Err(error),
+    }
 }

@@ -1,41 +1,42 @@
-use Rattle.std.proofs.Common.{◌≡◌, ◌∙◌, ap, sym}
-use Rattle.cmap_c.specs.Faults.{status_of}
-use Rattle.cmap_c.specs.NamedFiles.{IsMapOver}
-use Rattle.cmap_c.specs.Statuses.{number}
-use Rattle.cmap_c.specs.declared.status.Status.TheVariants.{Refused, OverBudget}
-use Rattle.cmap_c.proofs.MapsKept.{kept_map}
-use Rattle.cmap_c.proofs.StatusNumbers.{number-injective}
-use Rattle.cmap_c.proofs.StatusOfCauses.{cause_of_over, cause_of_refused}
+use Rattle.std.proofs.Common.{◌≡◌, ◌∙◌}
+use Rattle.std.specs.Option.{option_copied}
+use Rattle.cmap_c.specs.Endings.{IsExplainedOver}
+use Rattle.cmap_c.specs.NamedFiles.{ExceedsBudgetOver, FitsBudgetOver, HasNoMapOver, IsMapOver, budget_of}
+use Rattle.cmap_c.proofs.MapsKept.{Ended, ended, few}
+use Rattle.cmap_c.proofs.MapsExplained.{explains, told_ends, unwritten}
 use Rattle.cmap_c.proofs.explain.hayro_cmap_explain.Goals as goal
 
-pub returns-in-Ok-clause-accepts : goal.returns-in-Ok-clause-accepts
-returns-in-Ok-clause-accepts c = kept_map (IsMapOver c.args.bundle.now.slot.bundle c.args.files.now c.args.data.now) _ _ c.new.result c.keep.result c.keep.new.self.slot.map c.in-Ok.ensures.accepts c.new.ensures c.keep.ensures
+-- the map, or why there is none
+explained : (c : goal.After-keep_read) → IsExplainedOver c.args.bundle.now.slot.bundle c.args.files.now c.args.data.now (budget_of c.args.budget) c.explain_owned-explained.result
+explained c =
+    let given : option_copied c.lent.result ≡ c.args.bundle.now.slot.bundle = c.lent.ensures ∙ c.take-found.ensures.bundle in
+    rw (given, c.limit.ensures) at c.explain_owned-explained.ensures
 
--- the status of the cause that is told
-is_status : (c : goal.Joined-old-2) → c.number.result ≡ number (status_of c.in-Err-Refused.told.cause)
-is_status c = c.number.ensures ∙ ap number (rw c.in-Err-Refused.field-0-is at c.status_of.ensures)
+-- what the number says that is returned
+says : (c : goal.After-keep_read) → let bundle = c.args.bundle.now.slot.bundle in let files = c.args.files.now in let bytes = c.args.data.now in let budget = budget_of c.args.budget in
+    Ended (IsMapOver bundle files bytes) (HasNoMapOver bundle files bytes) (FitsBudgetOver bundle files bytes budget) (ExceedsBudgetOver bundle files bytes budget) ⊥ ⊥ c.keep_read.result c.keep_read.new.self.slot.map
+says c = ended _ _ _ _ _ _ c.tell.result _ _ (told_ends _ _ _ _ c.explain_owned-explained.result _ _ _ _ _ _ _ (explained c) c.tell.ensures) c.keep_read.ensures
 
-pub returns-in-Err-Refused-clause-refuses : goal.returns-in-Err-Refused-clause-refuses
-returns-in-Err-Refused-clause-refuses c h =
-    let refuses = rw c.in-Err-Refused.field-0-is at c.in-Err-Refused.ensures.refuses in
-    (refuses (cause_of_refused c.in-Err-Refused.told.cause (number-injective _ Refused (sym (is_status c) ∙ h)))).0
+pub returns-clause-same : goal.returns-clause-same
+returns-clause-same c = c.put_back.ensures ∙ c.take-found.ensures.bundle
 
-pub returns-in-Err-Refused-clause-over : goal.returns-in-Err-Refused-clause-over
-returns-in-Err-Refused-clause-over c h =
-    let over = rw (c.limit.ensures, c.in-Err-Refused.field-0-is) at c.in-Err-Refused.ensures.over in
-    over (cause_of_over c.in-Err-Refused.told.cause (number-injective _ OverBudget (sym (is_status c) ∙ h)))
+pub returns-clause-accepts : goal.returns-clause-accepts
+returns-clause-accepts c = (says c).accepts
 
-pub returns-in-Err-Refused-clause-explains : goal.returns-in-Err-Refused-clause-explains
-returns-in-Err-Refused-clause-explains c _ =
-    let explains = rw (c.limit.ensures, c.in-Err-Refused.field-0-is) at c.in-Err-Refused.ensures.explains in
-    let bytes = rw c.in-Err-Refused.field-0-is at c.deref.ensures.value in
-    rw c.in-Err-Refused.told-is (record {
-      path = explains.0;
-      cause = c.in-Err-Refused.told.cause;
-      leads_there = explains.1;
-      numbers = explains.2.1;
-      lengths = explains.2.2;
-      is_status = is_status c;
-      put = c.put_bytes.result;
-      are_put = rw (bytes, explains.2.3) at c.put_bytes.ensures;
-    })
+pub returns-clause-refuses : goal.returns-clause-refuses
+returns-clause-refuses c = (says c).refuses
+
+pub returns-clause-over : goal.returns-clause-over
+returns-clause-over c = (says c).passes
+
+pub returns-clause-within : goal.returns-clause-within
+returns-clause-within c = (says c).within
+
+pub returns-clause-explains : goal.returns-clause-explains
+returns-clause-explains c = explains _ _ _ _ c.explain_owned-explained.result _ _ _ _ _ _ _ _ _ (explained c) c.tell.ensures c.keep_read.ensures
+
+pub returns-clause-unwritten : goal.returns-clause-unwritten
+returns-clause-unwritten c = unwritten c.explain_owned-explained.result _ _ _ _ _ _ _ _ _ c.tell.ensures c.keep_read.ensures
+
+pub returns-clause-failed : goal.returns-clause-failed
+returns-clause-failed c = few (says c).failed

@@ -1,21 +1,36 @@
-use Rattle.std.proofs.Common.{◌∙◌, Err, ap, inr, sym}
-use Rattle.cmap_c.specs.NamedFiles.{IsMapOver, OfGiven}
-use Rattle.cmap_c.specs.declared.status.Status.TheVariants.{Refused, OverBudget, NotABundle}
-use Rattle.cmap_c.proofs.MapsKept.{kept_map}
-use Rattle.cmap_c.proofs.StatusNumbers.{number-injective}
+use Rattle.std.proofs.Common.{◌≡◌, ◌≢◌, ◌≤◌, ◌⊎◌, ℕ, [], arith, inl, inr}
+use Rattle.cmap_packed.specs.Bundles.{IsBundle}
+use Rattle.cmap_values.specs.Only.{HoldsOfNone}
+use Rattle.cmap_c.specs.NamedFiles.{ExceedsBudgetOver, FitsBudgetOver, HasNoMapOver, IsMapOver, OfGiven, budget_of}
+use Rattle.cmap_c.proofs.MapsKept.{Ended, ended}
 use Rattle.cmap_c.proofs.parse.hayro_cmap_parse.Goals as goal
 
-pub returns-in-Ok-clause-accepts : goal.returns-in-Ok-clause-accepts
-returns-in-Ok-clause-accepts c = kept_map (λ layers. OfGiven c.args.bundle.now (λ given. IsMapOver given c.args.files.now c.args.data.now layers)) _ _ c.new.result c.keep.result c.keep.new.self.slot.map c.in-Ok.ensures.accepts c.new.ensures c.keep.ensures
+-- what the number says that is returned
+says : (c : goal.After-keep_read) → let bytes = c.args.bundle.now in let files = c.args.files.now in let file = c.args.data.now in let budget = budget_of c.args.budget in
+    Ended (λ map. OfGiven bytes (λ given. IsMapOver given files file map)) (OfGiven bytes (λ given. HasNoMapOver given files file)) (OfGiven bytes (λ given. FitsBudgetOver given files file budget))
+    (OfGiven bytes (λ given. ExceedsBudgetOver given files file budget)) ((bytes ≢ []) × HoldsOfNone (IsBundle bytes)) ⊥ c.keep_read.result c.keep_read.new.self.slot.map
+says c = ended _ _ _ _ _ _ c.parse.result _ _ (rw c.limit.ensures at c.parse.ensures) c.keep_read.ensures
+
+at_most_four : {n : ℕ} {A B : Type 0} → (n ≡ 0) ⊎ (((n ≤ 3) ⊎ (((n ≡ 4) × B) ⊎ ((n ≡ 5) × ⊥))) × A) → (n ≡ 0) ⊎ ((n ≤ 4) × A)
+at_most_four (inl done) = inl done
+at_most_four (inr (inl below, rest)) = inr (omega arith, rest)
+at_most_four (inr (inr (inl four), rest)) = let is = four.0 in inr (omega arith, rest)
+at_most_four (inr (inr (inr five), rest)) = absurd five.1
+
+pub returns-clause-accepts : goal.returns-clause-accepts
+returns-clause-accepts c = (says c).accepts
 
 pub returns-clause-refuses : goal.returns-clause-refuses
-returns-clause-refuses c h = c.in-Err.ensures.refuses (ap Err (number-injective c.in-Err.status Refused (sym c.number.ensures ∙ h)))
+returns-clause-refuses c = (says c).refuses
 
 pub returns-clause-over : goal.returns-clause-over
-returns-clause-over c h = rw c.limit.ensures at (c.in-Err.ensures.over (ap Err (number-injective c.in-Err.status OverBudget (sym c.number.ensures ∙ h))))
+returns-clause-over c = (says c).passes
+
+pub returns-clause-within : goal.returns-clause-within
+returns-clause-within c = (says c).within
 
 pub returns-clause-not_a_bundle : goal.returns-clause-not_a_bundle
-returns-clause-not_a_bundle c h = c.in-Err.ensures.not_a_bundle (ap Err (number-injective c.in-Err.status NotABundle (sym c.number.ensures ∙ h)))
+returns-clause-not_a_bundle c = (says c).not_a_bundle
 
 pub returns-clause-failed : goal.returns-clause-failed
-returns-clause-failed c = inr (rw c.number.ensures c.in-Err.ensures.failed.1, c.take-old.ensures.empty)
+returns-clause-failed c = at_most_four (says c).failed

@@ -1,18 +1,30 @@
-use Rattle.std.proofs.Common.{◌∙◌, Err, ap, inr, sym}
-use Rattle.cmap_c.specs.NamedFiles.{IsMapOver}
-use Rattle.cmap_c.specs.declared.status.Status.TheVariants.{Refused, OverBudget}
-use Rattle.cmap_c.proofs.MapsKept.{kept_map}
-use Rattle.cmap_c.proofs.StatusNumbers.{number-injective}
+use Rattle.std.proofs.Common.{◌≡◌, ◌∙◌}
+use Rattle.std.specs.Option.{option_copied}
+use Rattle.cmap_c.specs.NamedFiles.{ExceedsBudgetOver, FitsBudgetOver, HasNoMapOver, IsMapOver, budget_of}
+use Rattle.cmap_c.proofs.MapsKept.{Ended, ended, few}
 use Rattle.cmap_c.proofs.parse.hayro_cmap_parse_over.Goals as goal
 
-pub returns-in-Ok-clause-accepts : goal.returns-in-Ok-clause-accepts
-returns-in-Ok-clause-accepts c = kept_map (IsMapOver c.args.bundle.now.slot.bundle c.args.files.now c.args.data.now) _ _ c.new.result c.keep.result c.keep.new.self.slot.map c.in-Ok.ensures.accepts c.new.ensures c.keep.ensures
+-- what the number says that is returned
+says : (c : goal.After-keep_read) → let bundle = c.args.bundle.now.slot.bundle in let files = c.args.files.now in let bytes = c.args.data.now in let budget = budget_of c.args.budget in
+    Ended (IsMapOver bundle files bytes) (HasNoMapOver bundle files bytes) (FitsBudgetOver bundle files bytes budget) (ExceedsBudgetOver bundle files bytes budget) ⊥ ⊥ c.keep_read.result c.keep_read.new.self.slot.map
+says c =
+    let given : option_copied c.lent.result ≡ c.args.bundle.now.slot.bundle = c.lent.ensures ∙ c.take-found.ensures.bundle in
+    ended _ _ _ _ _ _ c.parse_owned-parsed.result _ _ (rw (given, c.limit.ensures) at c.parse_owned-parsed.ensures) c.keep_read.ensures
+
+pub returns-clause-same : goal.returns-clause-same
+returns-clause-same c = c.put_back.ensures ∙ c.take-found.ensures.bundle
+
+pub returns-clause-accepts : goal.returns-clause-accepts
+returns-clause-accepts c = (says c).accepts
 
 pub returns-clause-refuses : goal.returns-clause-refuses
-returns-clause-refuses c h = c.in-Err.ensures.refuses (ap Err (number-injective c.in-Err.status Refused (sym c.number.ensures ∙ h)))
+returns-clause-refuses c = (says c).refuses
 
 pub returns-clause-over : goal.returns-clause-over
-returns-clause-over c h = rw c.limit.ensures at (c.in-Err.ensures.over (ap Err (number-injective c.in-Err.status OverBudget (sym c.number.ensures ∙ h))))
+returns-clause-over c = (says c).passes
+
+pub returns-clause-within : goal.returns-clause-within
+returns-clause-within c = (says c).within
 
 pub returns-clause-failed : goal.returns-clause-failed
-returns-clause-failed c = inr (rw c.number.ensures c.in-Err.ensures.failed.1, c.take-old.ensures.empty)
+returns-clause-failed c = few (says c).failed

@@ -1,17 +1,17 @@
+use Rattle.cmap_packed.specs.BundleSeen.{tables_given}
+use Rattle.hayro_cmap.specs.Maps.{ExceedsBudget, FitsBudget, HasNoMap, IsMapOf}
+use Rattle.cmap_c.specs.NamedFiles.{answers, bundle_in}
+use Rattle.cmap_c.proofs.StatusOfCauses.{refused}
 use Rattle.cmap_c.proofs.parse.parse_from.Goals as goal
 
-pub returns-in-Err-Refused-clause-refuses : goal.returns-in-Err-Refused-clause-refuses
-returns-in-Err-Refused-clause-refuses g c =
-    let refuses = rw c.in-Err-Refused.field-0-is at c.in-Err-Refused.ensures.refuses in
-    λ is. (refuses c.in_default.not-OverBudget).0
+pub returns-in-Ok : goal.returns-in-Ok
+returns-in-Ok g c = (c.in-Ok.ensures.accepts, c.in-Ok.ensures.within)
 
-pub returns-in-Err-Refused-clause-within : goal.returns-in-Err-Refused-clause-within
-returns-in-Err-Refused-clause-within g c =
-    let refuses = rw c.in-Err-Refused.field-0-is at c.in-Err-Refused.ensures.refuses in
-    λ is. (refuses c.in_default.not-OverBudget).1
-
-pub returns-in-Ok-clause-accepts : goal.returns-in-Ok-clause-accepts
-returns-in-Ok-clause-accepts g c = c.in-Ok.ensures.accepts
-
-pub returns-in-Ok-clause-within : goal.returns-in-Ok-clause-within
-returns-in-Ok-clause-within g c _ = c.in-Ok.ensures.within
+pub returns-in-Err : goal.returns-in-Err
+returns-in-Err g c =
+    let tables = tables_given c.args.tables in
+    let names = answers (bundle_in g.B.BundleFiles.bundle_of c.args.bundle) c.args.files.now in
+    let bytes = c.args.data.now in
+    let budget = c.args.budget in
+    refused (IsMapOf tables names bytes) (HasNoMap tables names bytes) (FitsBudget tables names bytes budget) (ExceedsBudget tables names bytes budget) ⊥ ⊥
+    _ _ c.ending_of.ensures c.in-Err.ensures.refuses c.in-Err.ensures.over

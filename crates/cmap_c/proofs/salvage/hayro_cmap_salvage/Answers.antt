@@ -1,5 +1,6 @@
 use Rattle.std.proofs.Common.{◌≡◌, ◌++◌, ◌∙◌, ℕ, List, drop, length, take}
 use Rattle.std.proofs.Math.ListN.{length-map}
+use Rattle.std.specs.Option.{option_copied}
 use Rattle.cmap_c.specs.Faults.{fault_numbers}
 use Rattle.cmap_c.specs.Salvaged.{numbers_of_all}
 use Rattle.cmap_c.proofs.salvage.hayro_cmap_salvage.Goals as goal
@@ -9,7 +10,8 @@ heads old new items shown many same count put = rw (same, count) at put
 
 pub returns-clause-says : goal.returns-clause-says
 returns-clause-says c _ =
-    let said = rw c.limit.ensures at c.in-Ok.ensures.says in
+    let given : option_copied c.lent.result ≡ c.args.bundle.now.slot.bundle = c.lent.ensures ∙ c.take-read.ensures.bundle in
+    let said = rw (given, c.limit.ensures) at c.in-Ok.ensures in
     let faults = said.0 in
     let many : length (numbers_of_all faults) ≡ length faults = length-map faults (λ fault. fault_numbers fault.names fault.cause) in
     record {

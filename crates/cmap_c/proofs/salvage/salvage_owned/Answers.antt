@@ -1,6 +1,25 @@
-use Rattle.cmap_c.specs.Salvaged.{IsSalvageOver}
+use Rattle.std.proofs.Common.{◌≡◌, List, Option, subst}
+use Rattle.std.proofs.lemmas.Result.{IfOk-weaker}
+use Rattle.std.specs.Option.{option_copied}
+use Rattle.cmap_packed.specs.BundleSeen.{tables_given}
+use Rattle.cmap_packed.specs.Bundles.{PrefixTables}
+use Rattle.cmap_layers.specs.Layers.{Layer}
+use Rattle.hayro_cmap.specs.SalvageSeen.{faults_seen}
+use Rattle.cmap_c.specs.NamedFiles.{answers}
+use Rattle.cmap_c.specs.Salvaged.{AreFaultsShown, IsSalvage, IsSalvageOver, IsSalvagedWith}
+use Rattle.cmap_c.specs.declared.salvage.Salvaged.{Salvaged}
 use Rattle.cmap_c.proofs.salvage.salvage_owned.Goals as goal
 
-pub returns : goal.returns
+pub returns-in-Ok : goal.returns-in-Ok
 unfolding IsSalvageOver
-returns c = rw c.tables_of.ensures at c.salvage_by.ensures
+returns-in-Ok c =
+    let found = c.in-Ok.field-0 in
+    let faults = faults_seen c.deref.result.now in
+    let same : c.deref.result.now ≡ found.faults.items = c.deref.ensures.value in
+    let names = answers (option_copied c.args.bundle) c.args.files.now in
+    let said : IsSalvage (tables_given c.tables_of.result) names c.args.data.now c.args.budget found.map (faults_seen found.faults.items) =
+    record { says = c.in-Ok.ensures.says; right = c.in-Ok.ensures.right; wrong = c.in-Ok.ensures.wrong } in
+    let says : (map : List Layer) → map ≡ found.map → IsSalvageOver (option_copied c.args.bundle) c.args.files.now c.args.data.now c.args.budget map faults =
+    λ map is. rw (is, same) (subst (λ (tables : Option PrefixTables). IsSalvage tables names c.args.data.now c.args.budget found.map (faults_seen found.faults.items)) c.tables_of.ensures said) in
+    IfOk-weaker c.of.result (λ (made : Salvaged). (made.map.value ≡ found.map) × AreFaultsShown faults made.shown) (IsSalvagedWith (IsSalvageOver (option_copied c.args.bundle) c.args.files.now c.args.data.now c.args.budget))
+    (λ made is. (faults, says made.map.value is.0, is.1)) c.of.ensures

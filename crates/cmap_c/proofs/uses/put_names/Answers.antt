@@ -8,8 +8,8 @@ use Rattle.cmap_c.proofs.uses.put_names.Goals as goal
 not_below : {a b : ℕ} → a ≤ b → b < a → ⊥
 not_below few many = omega arith
 
-pub returns-then-used-name_lens-clause-put : goal.returns-then-used-name_lens-clause-put
-returns-then-used-name_lens-clause-put c _ =
+pub returns-then-used-name_lens : goal.returns-then-used-name_lens
+returns-then-used-name_lens c =
     let count : length c.args.used.now ≡ length (names_seen c.args.used.now) = sym (length-map c.args.used.now (λ name. name.now)) in
     let bytes : c.in-Ok.bytes.items ≡ concat (names_seen c.args.used.now) = c.in-Ok.ensures in
     let needed : c.len.result ≡ length (concat (names_seen c.args.used.now)) = rw (c.in-Ok.bytes.ok.0, bytes) at c.len.ensures in
@@ -18,10 +18,10 @@ returns-then-used-name_lens-clause-put c _ =
       | then-used-name_lens-via-then-used-name_lens w ↦ inl (rw count at w.if-used-name_lens.true)
       | then-used-name_lens-via-else-used-name_lens+then-len-room w ↦ inr (rw (w.len-else-used-name_lens.ensures, c.in-Ok.bytes.ok.0, bytes) at w.if-len-room.true)
     ] in
-    (count, needed, inr (passed, c.number-then-used-name_lens.ensures, refl, refl))
+    inr (count, needed, inr (passed, c.number-then-used-name_lens.ensures, refl, refl))
 
-pub returns-clause-put : goal.returns-clause-put
-returns-clause-put c _ =
+pub returns : goal.returns
+returns c =
     let count : length c.args.used.now ≡ length (names_seen c.args.used.now) = sym (length-map c.args.used.now (λ name. name.now)) in
     let bytes : c.in-Ok.bytes.items ≡ concat (names_seen c.args.used.now) = c.in-Ok.ensures in
     let few : length (names_seen c.args.used.now) ≤ length c.args.name_lens.now = rw count at c.if-used-name_lens.false in
@@ -29,6 +29,6 @@ returns-clause-put c _ =
     let put = rw (c.deref.ensures.value, bytes) at c.put_bytes.ensures in
     let lengths = rw (length-map (names_seen c.args.used.now) length) at c.fill.ensures in
     elim put.1 [
-      | inl all ↦ (count, put.0, inl (few, fits, all.1, lengths, all.2))
+      | inl all ↦ inr (count, put.0, inl (few, fits, all.1, lengths, all.2))
       | inr none ↦ absurd (not_below fits none.0)
     ]

@@ -1,9 +1,0 @@
-use Rattle.std.proofs.Common.{refl}
-use Rattle.cmap_layers.specs.LayersSeen.{layer_seen}
-use Rattle.cmap_c.proofs.LayersFound.{found_at, said_at}
-use Rattle.cmap_c.proofs.metadata.collection_at.Goals as goal
-
-pub returns : goal.returns
-returns c =
-    let at = found_at layer_seen c.layers.result.now c.args.map.now c.args.layer c.in_ok-get.field-0.now c.layers.ensures.layers c.in_ok-get.ensures.lookup.3 in
-    said_at (λ metadata. metadata.collection) c.args.map.now c.args.layer _ _ _ at c.metadata.ensures (rw c.as_ref.ensures.value refl)
