@@ -2,15 +2,14 @@
 
 ghost use Rattle.std.specs.Prelude.{◌≡◌, ◌≤◌, IfOk, OnOk, length, option_map};
 ghost use Rattle.cmap_tokens.specs.TokenSeen.{token_seen};
-ghost use Rattle.cmap_files.specs.DeclarationsSeen.{lists_seen};
-ghost use Rattle.cmap_text.specs.EntriesSeen.{AddsDeclarations, AddsIf, ReadsAs, ReadsOn, WhereRefused};
+ghost use Rattle.cmap_text.specs.EntriesSeen.{AddsDeclarations, AddsEntry, AddsIf, ReadsAs, ReadsOn};
 ghost use Rattle.cmap_text.specs.TextFiles as files;
 ghost use Rattle.cmap_text.specs.TextReading.{body_in, code_fault, code_or_closer, entry_after, opened_by};
 ghost use Rattle.cmap_text.specs.TextSeen.{code_seen, extent_seen, kind_seen, section_seen};
 ghost use Rattle.cmap_text.specs.TokenParsers.{head_in};
 
 use crate::entries::{
-    CidKind, Extent, add_bf_char, add_bf_range, add_cids, add_codespace_range, add_plain_unit,
+    CidKind, Extent, add_bf_range, add_cids, add_codespace_range, add_destination, add_plain_unit,
 };
 use crate::tokens::{Code, TokenReader, is_executable};
 use crate::wrong_token::WrongToken;
@@ -118,12 +117,13 @@ fn read_entries<'d>(
     ensures { AddsDeclarations (body_in (section_seen section)) reader.old
         lists.old lists.new reader.new result }
 {
-    read_two_byte_entries(reader, section, lists)?;
-    while let Some(start) = next_start(reader, section)? {
-        read_entry(reader, section, start, lists)?;
+    loop {
         read_two_byte_entries(reader, section, lists)?;
+        match next_start(reader, section)? {
+            Some(start) => read_entry(reader, section, start, lists)?,
+            None => return Ok(()),
+        }
     }
-    Ok(())
 }
 
 /// Reads the entries of a section that begin with a code of two bytes, up to one that doesn't.
@@ -174,11 +174,18 @@ pub(crate) fn next_start<'d>(
     if let Some(code) = reader.short_code() {
         return Ok(Some(code));
     }
-    let token = reader.required_token()?;
-    if is_executable(&token, section.closer()) {
-        return Ok(None);
+    match reader.required_token() {
+        Ok(token) => {
+            if is_executable(&token, section.closer()) {
+                return Ok(None);
+            }
+            match reader.code(&token) {
+                Ok(code) => Ok(Some(code)),
+                Err(fault) => Err(fault),
+            }
+        }
+        Err(fault) => Err(fault),
     }
-    Ok(Some(reader.code(&token)?))
 }
 
 /// Reads what follows the first code of an entry, and adds what the entry declares.
@@ -189,14 +196,13 @@ pub(crate) fn read_entry<'d>(
     start: Code,
     lists: &mut Lists,
 ) -> Result<(), Fault<WrongToken<'d>>>
-    ensures adds { AddsDeclarations (entry_after (section_seen section) (code_seen start)) reader.old
+    ensures { AddsEntry (entry_after (section_seen section) (code_seen start)) reader.old
         lists.old lists.new reader.new result }
-    ensures stays { WhereRefused (lists_seen lists.new ≡ lists_seen lists.old) result }
 {
     match section {
         Section::Codespaces => add_codespace_range(reader, start, lists),
         Section::Cids(kind, extent) => add_cids(reader, start, kind, extent, lists),
         Section::BfRange => add_bf_range(reader, start, lists),
-        Section::BfChar => add_bf_char(reader, start, lists),
+        Section::BfChar => add_destination(reader, start.number, lists),
     }
 }

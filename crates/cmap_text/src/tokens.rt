@@ -149,8 +149,10 @@ impl<'d> TokenReader<'d> {
         if let Some(code) = self.plain_code() {
             return Ok(code);
         }
-        let token = self.required_token()?;
-        self.code(&token)
+        match self.required_token() {
+            Ok(token) => self.code(&token),
+            Err(fault) => Err(fault),
+        }
     }
 
     /// The units of the destination that a token is: a string that isn't empty.
@@ -211,8 +213,10 @@ impl<'d> TokenReader<'d> {
         if let Some(units) = self.plain_destination() {
             return Ok(units);
         }
-        let token = self.required_token()?;
-        self.destination(&token)
+        match self.required_token() {
+            Ok(token) => self.destination(&token),
+            Err(fault) => Err(fault),
+        }
     }
 
     /// The CID that comes next: an integer of 32 bits without sign.
