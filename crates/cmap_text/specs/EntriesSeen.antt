@@ -7,7 +7,7 @@ use Rattle.cmap_files.specs.DeclarationsSeen.{lists_seen}
 use Rattle.cmap_values.specs.Outcomes.{Outcome}
 use Rattle.cmap_files.specs.declared.declarations.Lists.{Lists}
 use Rattle.cmap_values.specs.declared.fault.Fault.{Fault}
-use Rattle.cmap_text.specs.TokenParsers.{Found, Parser, run}
+use Rattle.cmap_text.specs.TokenParsers.{Parser, run}
 use Rattle.cmap_text.specs.TokenParsers as parsers
 use Rattle.cmap_text.specs.declared.wrong_token.WrongToken.{WrongToken}
 
@@ -31,17 +31,13 @@ ReadsAs found seen here = Outcome (λ x. found ≡ Ok (seen x)) (RefusesAt here 
 abbrev pub AddsDeclarations : {A : Type 0} → (files.Lists → Parser files.Lists) → Left → Lists → Lists → Left → Result A (Fault WrongToken) → Type 0
 AddsDeclarations read old before after here = ReadsAs (run (read (lists_seen before)) old) (λ done. (lists_seen after, here)) here
 
--- what is found with the lists as they were gives the lists as they are now; where it is refused, this holds
-abbrev pub AddsOr : {A : Type 0} → Type 0 → (files.Lists → Found files.Lists) → Lists → Lists → Left → Result A (Fault WrongToken) → Type 0
-AddsOr holds found before after here = Outcome (λ done. found (lists_seen before) ≡ Ok (lists_seen after, here)) (λ wrong. RefusesAt here (found (lists_seen before)) wrong × holds)
-
--- where it is refused, the lists are as they were
-abbrev pub AddsFound : {A : Type 0} → (files.Lists → Found files.Lists) → Lists → Lists → Left → Result A (Fault WrongToken) → Type 0
-AddsFound found before after here = AddsOr (lists_seen after ≡ lists_seen before) found before after here
+-- the same, and this holds where it is refused
+abbrev pub AddsOr : {A : Type 0} → Type 0 → (files.Lists → Parser files.Lists) → Left → Lists → Lists → Left → Result A (Fault WrongToken) → Type 0
+AddsOr holds read old before after here = Outcome (λ done. run (read (lists_seen before)) old ≡ Ok (lists_seen after, here)) (λ wrong. RefusesAt here (run (read (lists_seen before)) old) wrong × holds)
 
 -- an entry, or a part of one, is added whole, or the lists are as they were
 abbrev pub AddsEntry : {A : Type 0} → (files.Lists → Parser files.Lists) → Left → Lists → Lists → Left → Result A (Fault WrongToken) → Type 0
-AddsEntry read old before after here = AddsFound (λ lists. run (read lists) old) before after here
+AddsEntry read old before after here = AddsOr (lists_seen after ≡ lists_seen before) read old before after here
 
 -- what is read from the lists as they were is what is read on from the lists as they are now
 abbrev pub ReadsOn : {A : Type 0} → (files.Lists → Parser files.Lists) → Left → Lists → Lists → Left → Result A (Fault WrongToken) → Type 0

@@ -198,7 +198,7 @@ fn add_destinations<'d>(
     end: u32,
     lists: &mut Lists,
 ) -> Result<(), Fault<WrongToken<'d>>>
-    ensures { AddsOr (AddsTexts lists.old lists.new) (λ old. run (list_in (end + 1 - start) start old) reader.old)
+    ensures { AddsOr (AddsTexts lists.old lists.new) (list_in (end + 1 - start) start) reader.old
         lists.old lists.new reader.new result }
 {
     for code in u64::from(start)..u64::from(end) + 1 {

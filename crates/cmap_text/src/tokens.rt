@@ -227,8 +227,13 @@ impl<'d> TokenReader<'d> {
         if let Some(number) = self.scanner.next_decimal() {
             return cid_of_number(number);
         }
-        let token = self.required_token()?;
-        cid_of(&token).ok_or(wrong(Reason::CidExpected, &token))
+        match self.required_token() {
+            Ok(token) => match cid_of(&token) {
+                Some(cid) => Ok(cid),
+                None => Err(wrong(Reason::CidExpected, &token)),
+            },
+            Err(fault) => Err(fault),
+        }
     }
 
     /// Goes on after the piece that is no token, where none comes; `text` is the text that is read.
