@@ -51,3 +51,8 @@ no_memory P R (Err e) is = (tt, rw is tt)
 -- what is refused, without what else holds
 pub without_more : (Q : Type 0) (R : WrongToken → Type 0) (fault : Fault WrongToken) → RefusesWith (λ wrong. R wrong × Q) fault → RefusesWith R fault
 without_more Q R fault is = outcomes.refused_as fault is (λ wrong both. both.0)
+
+-- what holds of the answer of a call that refuses nothing
+pub added_so : {T : Type 0} (P Q : T → Type 0) (R : WrongToken → Type 0) (r : Result T (Fault WrongToken)) → Outcome P (λ wrong. ⊥) r → ((x : T) → P x → Q x) → Outcome Q R r
+added_so P Q R (Ok x) is gives = (gives x is.0, tt)
+added_so P Q R (Err fault) is gives = (tt, outcomes.refused_as fault is.1 (λ wrong none. absurd none))

@@ -1,12 +1,12 @@
 //! The entries of sections. Each call here has the first code of an entry, reads what follows it, and
 //! adds what the entry declares.
 
-ghost use Rattle.std.specs.Prelude.{◌≡◌, ℕ, ◌+◌, ◌-◌, [], ◌∷◌, IfOk, OnOk};
+ghost use Rattle.std.specs.Prelude.{◌≡◌, ℕ, ◌+◌, ◌-◌, [], ◌∷◌};
 ghost use Rattle.cmap_values.specs.CodeLengths.{length_of};
 ghost use Rattle.cmap_files.specs.DeclarationsSeen.{cid_entry_seen, lists_seen};
-ghost use Rattle.cmap_text.specs.EntriesSeen.{AddsEntry, AddsIf, AddsOr, AddsTexts, ReadsAs};
-ghost use Rattle.cmap_files.specs.Files.{Lists as ListsSeen, lists_of};
-ghost use Rattle.cmap_files.specs.ListsAppended.{append_lists};
+ghost use Rattle.cmap_text.specs.EntriesSeen.{Adds, AddsEntry, AddsIf, AddsOr, AddsTexts, ReadsAs};
+ghost use Rattle.cmap_files.specs.Files.{Lists as ListsSeen};
+ghost use Rattle.cmap_values.specs.Outcomes.{Outcome};
 ghost use Rattle.cmap_values.specs.UnitsSeen.{units_seen};
 ghost use Rattle.cmap_text.specs.TextFiles as files;
 ghost use Rattle.cmap_text.specs.TextSeen.{code_seen, extent_seen, kind_seen};
@@ -20,7 +20,6 @@ use cmap_runs::runs::Range;
 use cmap_values::code_length::CodeLength;
 use cmap_values::fault::{Fault, Reason};
 use cmap_values::units::Units;
-use std::alloc::AllocError;
 
 /// Which CIDs an entry declares: those of its codes, or the one of all codes that have no other.
 #[derive(Clone, Copy)]
@@ -77,21 +76,27 @@ pub(crate) fn add_cids<'d>(
         reader.old lists.old lists.new reader.new result }
 {
     match read_cids(reader, start, extent) {
-        Ok(filed) => Ok(add_filed(lists, kind, filed)?),
+        Ok(filed) => add_filed(lists, kind, filed),
         Err(fault) => Err(fault),
     }
 }
 
 /// Adds a declaration of CIDs.
 #[inline(always)]
-fn add_filed(lists: &mut Lists, kind: CidKind, filed: Filed) -> Result<(), AllocError>
-    ensures { OnOk result (lists_seen lists.new ≡ adding (lists_seen lists.old)
-        (files.declares_cid (kind_seen kind) (length_of filed.len) (cid_entry_seen filed.range) ∷ [])) }
+fn add_filed<'d>(
+    lists: &mut Lists,
+    kind: CidKind,
+    filed: Filed,
+) -> Result<(), Fault<WrongToken<'d>>>
+    ensures { Adds (λ old. adding old
+        (files.declares_cid (kind_seen kind) (length_of filed.len) (cid_entry_seen filed.range) ∷ []))
+        lists.old lists.new result }
 {
-    match kind {
+    let added = match kind {
         CidKind::Cid => lists.add_cid(filed.len, filed.range),
         CidKind::Notdef => lists.add_notdef(filed.len, filed.range),
-    }
+    };
+    Ok(added?)
 }
 
 /// A destination of two bytes after the code of an entry, where it stands as most do. `false` of any
@@ -101,15 +106,17 @@ pub(crate) fn add_plain_unit<'d>(
     reader: &mut TokenReader<'d>,
     code: Code,
     lists: &mut Lists,
-) -> Result<bool, AllocError>
-    ensures { IfOk result (AddsIf (entry_after files.bf_char (code_seen code))
-        reader.old lists.old lists.new reader.new) }
+) -> Result<bool, Fault<WrongToken<'d>>>
+    ensures { Outcome (AddsIf (entry_after files.bf_char (code_seen code))
+        reader.old lists.old lists.new reader.new) (λ wrong. ⊥) result }
 {
-    let Some(unit) = reader.plain_unit() else {
-        return Ok(false);
-    };
-    add_text(lists, code.number, code.number, Units::One([unit]))?;
-    Ok(true)
+    match reader.plain_unit() {
+        Some(unit) => match add_text(lists, code.number, code.number, Units::One([unit])) {
+            Ok(()) => Ok(true),
+            Err(fault) => Err(fault),
+        },
+        None => Ok(false),
+    }
 }
 
 /// The destination of a code, which comes next.
@@ -122,7 +129,7 @@ pub(crate) fn add_destination<'d>(
     ensures { AddsEntry (text_after code) reader.old lists.old lists.new reader.new result }
 {
     match reader.next_destination() {
-        Ok(units) => Ok(add_text(lists, code, code, units)?),
+        Ok(units) => add_text(lists, code, code, units),
         Err(fault) => Err(fault),
     }
 }
@@ -153,7 +160,7 @@ fn add_texts<'d>(
     ensures { AddsEntry (texts_after start end) reader.old lists.old lists.new reader.new result }
 {
     if let Some(units) = reader.plain_destination() {
-        return Ok(add_text(lists, start, end, units)?);
+        return add_text(lists, start, end, units);
     }
     match reader.required_token() {
         Ok(token) => {
@@ -161,7 +168,7 @@ fn add_texts<'d>(
                 return add_list(reader, start, end, lists);
             }
             match reader.destination(&token) {
-                Ok(units) => Ok(add_text(lists, start, end, units)?),
+                Ok(units) => add_text(lists, start, end, units),
                 Err(fault) => Err(fault),
             }
         }
@@ -225,12 +232,16 @@ fn end_list<'d>(reader: &mut TokenReader<'d>) -> Result<(), Fault<WrongToken<'d>
 
 /// Adds the units of the text of the code `start`, of a range that ends with the code `end`.
 #[inline(always)]
-fn add_text(lists: &mut Lists, start: u32, end: u32, units: Units) -> Result<(), AllocError>
-    ensures { OnOk result (lists_seen lists.new ≡ append_lists (lists_seen lists.old)
-        (lists_of (text_of start end (units_seen units)))) }
+fn add_text<'d>(
+    lists: &mut Lists,
+    start: u32,
+    end: u32,
+    units: Units,
+) -> Result<(), Fault<WrongToken<'d>>>
+    ensures { Adds (λ old. adding old (text_of start end (units_seen units))) lists.old lists.new result }
 {
     let range = Range { start, end };
-    lists.add_bf(BfRange { range, units })
+    Ok(lists.add_bf(BfRange { range, units })?)
 }
 
 /// A declaration of CIDs, and the length of the codes that it is filed by.

@@ -1,6 +1,7 @@
 //! Sections: an opener, entries, a closer.
 
-ghost use Rattle.std.specs.Prelude.{◌≡◌, ◌≤◌, IfOk, OnOk, length, option_map};
+ghost use Rattle.std.specs.Prelude.{◌≡◌, option_map};
+ghost use Rattle.cmap_values.specs.Outcomes.{Outcome};
 ghost use Rattle.cmap_tokens.specs.TokenSeen.{token_seen};
 ghost use Rattle.cmap_text.specs.EntriesSeen.{AddsDeclarations, AddsEntry, AddsIf, ReadsAs, ReadsOn};
 ghost use Rattle.cmap_text.specs.TextFiles as files;
@@ -16,7 +17,6 @@ use crate::wrong_token::WrongToken;
 use cmap_files::declarations::Lists;
 use cmap_tokens::token::Token;
 use cmap_values::fault::Fault;
-use std::alloc::AllocError;
 
 /// The kinds of sections.
 #[derive(Clone, Copy)]
@@ -133,8 +133,7 @@ fn read_two_byte_entries<'d>(
     section: Section,
     lists: &mut Lists,
 ) -> Result<(), Fault<WrongToken<'d>>>
-    ensures reads { ReadsOn (body_in (section_seen section)) reader.old lists.old lists.new reader.new result }
-    ensures fewer { OnOk result (length reader.new.tokens ≤ length reader.old.tokens) }
+    ensures { ReadsOn (body_in (section_seen section)) reader.old lists.old lists.new reader.new result }
 {
     while let Some(start) = reader.two_byte_code() {
         if !add_plain(reader, section, start, lists)? {
@@ -152,9 +151,9 @@ fn add_plain<'d>(
     section: Section,
     start: Code,
     lists: &mut Lists,
-) -> Result<bool, AllocError>
-    ensures { IfOk result (AddsIf (entry_after (section_seen section) (code_seen start))
-        reader.old lists.old lists.new reader.new) }
+) -> Result<bool, Fault<WrongToken<'d>>>
+    ensures { Outcome (AddsIf (entry_after (section_seen section) (code_seen start))
+        reader.old lists.old lists.new reader.new) (λ wrong. ⊥) result }
 {
     match section {
         Section::BfChar => add_plain_unit(reader, start, lists),

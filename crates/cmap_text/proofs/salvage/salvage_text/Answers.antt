@@ -21,3 +21,15 @@ returns-clause-first c = λ none.
     let (parts, metadata) = c.in_ok-metadata.ensures in
     let (salvages, ascend, declared) = parts c.new-said.ensures c.new-faults.ensures.items in
     salvage_first c.args.text.now (said_seen c.read_parts.new.said) c.read_parts.new.faults.items salvages (has_tokens c.args.text.now) _ metadata none
+
+pub returns-clause-declared : goal.returns-clause-declared
+returns-clause-declared c =
+    let (parts, metadata) = c.in_ok-metadata.ensures in
+    let (salvages, ascend, declared) = parts c.new-said.ensures c.new-faults.ensures.items in
+    declared
+
+pub returns-clause-ascend : goal.returns-clause-ascend
+returns-clause-ascend c =
+    let (parts, metadata) = c.in_ok-metadata.ensures in
+    let (salvages, ascend, declared) = parts c.new-said.ensures c.new-faults.ensures.items in
+    ascend
