@@ -12,9 +12,11 @@ use Rattle.cmap_text.proofs.TokenParsers.{bound, same_Ok}
 pub no_texts : (lists : Lists) → lists ≡ with_texts lists []
 no_texts lists = rw (append-nil lists.bfs) refl
 
+-- equal pairs have equal parts
 pairs : (a b : Lists) (left here : Left) → ◌≡◌ {A = Lists × Left} (a, left) (b, here) → (a ≡ b) × (left ≡ here)
 pairs a b left here is = (ap (λ p. p.0) is, ap (λ p. p.1) is)
 
+-- lists with one destination more
 pub more_texts : (old now new : Lists) (code : ℕ) (left here : Left) → ((more : List BfEntry) × (now ≡ with_texts old more)) → run (text_after code now) left ≡ Ok (new, here) → (more : List BfEntry) × (new ≡ with_texts old more)
 more_texts old now new code left here (more, is) adds =
     let (p, found, gives) = bound _ (run next_destination left) (new, here) adds in
