@@ -1,9 +1,9 @@
 //! The entries of sections. Each call here has the first code of an entry, reads what follows it, and
 //! adds what the entry declares.
 
-ghost use Rattle.std.specs.Prelude.{◌≡◌, ℕ, ◌+◌, ◌-◌, [], ◌∷◌};
+ghost use Rattle.std.specs.Prelude.{ℕ, ◌+◌, ◌-◌, [], ◌∷◌};
 ghost use Rattle.cmap_values.specs.CodeLengths.{length_of};
-ghost use Rattle.cmap_files.specs.DeclarationsSeen.{cid_entry_seen, lists_seen};
+ghost use Rattle.cmap_files.specs.DeclarationsSeen.{cid_entry_seen};
 ghost use Rattle.cmap_text.specs.EntriesSeen.{Adds, AddsEntry, AddsIf, AddsOr, AddsTexts, ReadsAs};
 ghost use Rattle.cmap_files.specs.Files.{Lists as ListsSeen};
 ghost use Rattle.cmap_values.specs.Outcomes.{Outcome};
