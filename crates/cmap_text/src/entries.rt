@@ -1,12 +1,11 @@
 //! The entries of sections. Each call here has the first code of an entry, reads what follows it, and
 //! adds what the entry declares.
 
-ghost use Rattle.std.specs.Prelude.{ℕ, ◌+◌, ◌-◌, [], ◌∷◌};
+ghost use Rattle.std.specs.Prelude.{ℕ, ◌+◌, ◌-◌, [], ◌∷◌, IfOk};
 ghost use Rattle.cmap_values.specs.CodeLengths.{length_of};
 ghost use Rattle.cmap_files.specs.DeclarationsSeen.{cid_entry_seen};
 ghost use Rattle.cmap_text.specs.EntriesSeen.{Adds, AddsEntry, AddsIf, AddsOr, AddsTexts, ReadsAs};
 ghost use Rattle.cmap_files.specs.Files.{Lists as ListsSeen};
-ghost use Rattle.cmap_values.specs.Outcomes.{Outcome};
 ghost use Rattle.cmap_values.specs.UnitsSeen.{units_seen};
 ghost use Rattle.cmap_text.specs.TextFiles as files;
 ghost use Rattle.cmap_text.specs.TextSeen.{code_seen, extent_seen, kind_seen};
@@ -20,6 +19,7 @@ use cmap_runs::runs::Range;
 use cmap_values::code_length::CodeLength;
 use cmap_values::fault::{Fault, Reason};
 use cmap_values::units::Units;
+use std::alloc::AllocError;
 
 /// Which CIDs an entry declares: those of its codes, or the one of all codes that have no other.
 #[derive(Clone, Copy)]
@@ -106,17 +106,20 @@ pub(crate) fn add_plain_unit<'d>(
     reader: &mut TokenReader<'d>,
     code: Code,
     lists: &mut Lists,
-) -> Result<bool, Fault<WrongToken<'d>>>
-    ensures { Outcome (AddsIf (entry_after files.bf_char (code_seen code))
-        reader.old lists.old lists.new reader.new) (λ wrong. ⊥) result }
+) -> Result<bool, AllocError>
+    ensures { IfOk result (AddsIf (entry_after files.bf_char (code_seen code))
+        reader.old lists.old lists.new reader.new) }
 {
-    match reader.plain_unit() {
-        Some(unit) => match add_text(lists, code.number, code.number, Units::One([unit])) {
-            Ok(()) => Ok(true),
-            Err(fault) => Err(fault),
-        },
-        None => Ok(false),
-    }
+    let Some(unit) = reader.plain_unit() else {
+        return Ok(false);
+    };
+    let range = Range {
+        start: code.number,
+        end: code.number,
+    };
+    let units = Units::One([unit]);
+    lists.add_bf(BfRange { range, units })?;
+    Ok(true)
 }
 
 /// The destination of a code, which comes next.

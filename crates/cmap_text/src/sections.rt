@@ -1,7 +1,6 @@
 //! Sections: an opener, entries, a closer.
 
-ghost use Rattle.std.specs.Prelude.{◌≡◌, option_map};
-ghost use Rattle.cmap_values.specs.Outcomes.{Outcome};
+ghost use Rattle.std.specs.Prelude.{◌≡◌, IfOk, option_map};
 ghost use Rattle.cmap_tokens.specs.TokenSeen.{token_seen};
 ghost use Rattle.cmap_text.specs.EntriesSeen.{AddsDeclarations, AddsEntry, AddsIf, ReadsAs, ReadsOn};
 ghost use Rattle.cmap_text.specs.TextFiles as files;
@@ -17,6 +16,7 @@ use crate::wrong_token::WrongToken;
 use cmap_files::declarations::Lists;
 use cmap_tokens::token::Token;
 use cmap_values::fault::Fault;
+use std::alloc::AllocError;
 
 /// The kinds of sections.
 #[derive(Clone, Copy)]
@@ -151,9 +151,9 @@ fn add_plain<'d>(
     section: Section,
     start: Code,
     lists: &mut Lists,
-) -> Result<bool, Fault<WrongToken<'d>>>
-    ensures { Outcome (AddsIf (entry_after (section_seen section) (code_seen start))
-        reader.old lists.old lists.new reader.new) (λ wrong. ⊥) result }
+) -> Result<bool, AllocError>
+    ensures { IfOk result (AddsIf (entry_after (section_seen section) (code_seen start))
+        reader.old lists.old lists.new reader.new) }
 {
     match section {
         Section::BfChar => add_plain_unit(reader, start, lists),

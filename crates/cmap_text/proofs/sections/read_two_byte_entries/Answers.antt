@@ -1,11 +1,10 @@
 use Rattle.std.proofs.Common.{◌≡◌, Ok, Some, refl, arith}
 use Rattle.cmap_files.specs.DeclarationsSeen.{lists_seen}
-use Rattle.cmap_values.proofs.Outcomes as outcomes
 use Rattle.cmap_text.specs.TextReading.{code_fault, code_or_closer, entry_after}
 use Rattle.cmap_text.specs.TextSeen.{code_seen, section_seen}
 use Rattle.cmap_text.specs.TokenParsers.{head_in}
 use Rattle.cmap_text.proofs.EntriesRead.{body_next, code_starts}
-use Rattle.cmap_text.proofs.Refusals.{passed_on, without_more}
+use Rattle.cmap_text.proofs.Refusals.{no_memory, passed_on, without_more}
 use Rattle.cmap_text.proofs.TokenParsers.{head-shorter, is_there}
 use Rattle.cmap_text.proofs.sections.read_two_byte_entries.Goals as goal
 use Rattle.cmap_text.proofs.sections.read_two_byte_entries.Goals.{In-Some}
@@ -17,12 +16,12 @@ pub loop-start-smaller : goal.loop-start-smaller
 loop-start-smaller c =
     let section = section_seen c.args.section in
     let entry = entry_after section (code_seen c.in-Some.start) (lists_seen c.loop-start.lists) in
-    let added = rw c.if-not-branch.false at c.in_ok-add_plain.ensures.0 in
+    let added = rw c.if-not-branch.false at c.in_ok-add_plain.ensures in
     omega (arith, head-shorter code_fault (code_or_closer section) c.loop-start.reader _ (starts (goal.at.loop-start-smaller c).In-Some), (is_there entry c.two_byte_code.new.self _ added).2)
 
 pub loop-start-preserved : goal.loop-start-preserved
 loop-start-preserved c =
-    let added = rw c.if-not-branch.false at c.in_ok-add_plain.ensures.0 in
+    let added = rw c.if-not-branch.false at c.in_ok-add_plain.ensures in
     record {
       same = rw (c.loop-start.invariant.same, body_next, starts (goal.at.loop-start-preserved c).In-Some, added) refl;
       fewer = omega (arith, loop-start-smaller c, c.loop-start.invariant.fewer);
@@ -32,13 +31,13 @@ pub loop-start-smaller-in_ok-read_entry : goal.loop-start-smaller-in_ok-read_ent
 loop-start-smaller-in_ok-read_entry c =
     let section = section_seen c.args.section in
     let entry = entry_after section (code_seen c.in-Some.start) (lists_seen c.loop-start.lists) in
-    let stays = rw c.if-not-branch.true at c.in_ok-add_plain.ensures.0 in
+    let stays = rw c.if-not-branch.true at c.in_ok-add_plain.ensures in
     let adds = rw (stays.0, stays.1) at c.in_ok-read_entry.ensures.0 in
     omega (arith, head-shorter code_fault (code_or_closer section) c.loop-start.reader _ (starts (goal.at.loop-start-smaller-in_ok-read_entry c).In-Some), (is_there entry c.two_byte_code.new.self _ adds).2)
 
 pub loop-start-preserved-in_ok-read_entry : goal.loop-start-preserved-in_ok-read_entry
 loop-start-preserved-in_ok-read_entry c =
-    let stays = rw c.if-not-branch.true at c.in_ok-add_plain.ensures.0 in
+    let stays = rw c.if-not-branch.true at c.in_ok-add_plain.ensures in
     let adds = rw (stays.0, stays.1) at c.in_ok-read_entry.ensures.0 in
     record {
       same = rw (c.loop-start.invariant.same, body_next, starts (goal.at.loop-start-preserved-in_ok-read_entry c).In-Some, adds) refl;
@@ -47,8 +46,8 @@ loop-start-preserved-in_ok-read_entry c =
 
 pub returns-in_err-read_entry : goal.returns-in_err-read_entry
 returns-in_err-read_entry c =
-    let stays = rw c.if-not-branch.true at c.in_ok-add_plain.ensures.0 in
+    let stays = rw c.if-not-branch.true at c.in_ok-add_plain.ensures in
     passed_on c.from_residual-in_err-read_entry.result _ _ c.read_entry.new.reader _ _ c.from_residual-in_err-read_entry.ensures.1 (without_more _ _ _ c.in_err-read_entry.ensures.1) (λ e is. let refused = rw (stays.0, stays.1) at is in rw (c.loop-start.invariant.same, body_next, starts (goal.at.returns-in_err-read_entry c).In-Some, refused) refl)
 
 pub returns-in_err-add_plain : goal.returns-in_err-add_plain
-returns-in_err-add_plain c = outcomes.passed_on _ c.from_residual.result _ c.from_residual.ensures.1 c.in_err-add_plain.ensures.1 (λ wrong none. absurd none)
+returns-in_err-add_plain c = no_memory _ _ c.from_residual.result c.from_residual.ensures.1
