@@ -44,22 +44,16 @@ pub(crate) fn add_codespace_range<'d>(
     ensures { AddsEntry (entry_after files.codespace_range (code_seen low)) reader.old
         lists.old lists.new reader.new result }
 {
-    match reader.required_token() {
-        Ok(token) => match reader.code(&token) {
-            Ok(high) => {
-                if low.len != high.len {
-                    return Err(wrong(Reason::UnequalLengths, &token));
-                }
-                Ok(lists.add_codespace(Codespace {
-                    len: low.len,
-                    low: low.number,
-                    high: high.number,
-                })?)
-            }
-            Err(fault) => Err(fault),
-        },
-        Err(fault) => Err(fault),
+    let token = reader.required_token()?;
+    let high = reader.code(&token)?;
+    if low.len != high.len {
+        return Err(wrong(Reason::UnequalLengths, &token));
     }
+    Ok(lists.add_codespace(Codespace {
+        len: low.len,
+        low: low.number,
+        high: high.number,
+    })?)
 }
 
 /// One entry of CIDs or of notdef CIDs.
@@ -165,18 +159,12 @@ fn add_texts<'d>(
     if let Some(units) = reader.plain_destination() {
         return add_text(lists, start, end, units);
     }
-    match reader.required_token() {
-        Ok(token) => {
-            if is_executable(&token, b"[") {
-                return add_list(reader, start, end, lists);
-            }
-            match reader.destination(&token) {
-                Ok(units) => add_text(lists, start, end, units),
-                Err(fault) => Err(fault),
-            }
-        }
-        Err(fault) => Err(fault),
+    let token = reader.required_token()?;
+    if is_executable(&token, b"[") {
+        return add_list(reader, start, end, lists);
     }
+    let units = reader.destination(&token)?;
+    add_text(lists, start, end, units)
 }
 
 /// One destination for each code from `start` to `end`, and the closing bracket. A list that is refused
@@ -222,15 +210,11 @@ fn end_list<'d>(reader: &mut TokenReader<'d>) -> Result<(), Fault<WrongToken<'d>
     ensures { (start : ℕ) → (lists : ListsSeen)
         → ReadsAs (run (list_in 0 start lists) reader.old) (λ done. (lists, reader.new)) reader.new result }
 {
-    match reader.required_token() {
-        Ok(token) => {
-            if !is_executable(&token, b"]") {
-                return Err(wrong(Reason::BracketExpected, &token));
-            }
-            Ok(())
-        }
-        Err(fault) => Err(fault),
+    let token = reader.required_token()?;
+    if !is_executable(&token, b"]") {
+        return Err(wrong(Reason::BracketExpected, &token));
     }
+    Ok(())
 }
 
 /// Adds the units of the text of the code `start`, of a range that ends with the code `end`.

@@ -173,18 +173,11 @@ pub(crate) fn next_start<'d>(
     if let Some(code) = reader.short_code() {
         return Ok(Some(code));
     }
-    match reader.required_token() {
-        Ok(token) => {
-            if is_executable(&token, section.closer()) {
-                return Ok(None);
-            }
-            match reader.code(&token) {
-                Ok(code) => Ok(Some(code)),
-                Err(fault) => Err(fault),
-            }
-        }
-        Err(fault) => Err(fault),
+    let token = reader.required_token()?;
+    if is_executable(&token, section.closer()) {
+        return Ok(None);
     }
+    Ok(Some(reader.code(&token)?))
 }
 
 /// Reads what follows the first code of an entry, and adds what the entry declares.
