@@ -175,14 +175,11 @@ fn read_one<'d>(
     ensures { ReadsPart (entry (section_seen section)) (said_seen said.old) (said_seen said.new)
         reader.old reader.new result }
 {
-    match next_start(reader, section) {
-        Ok(Some(start)) => match read_entry(reader, section, start, &mut said.lists) {
-            Ok(()) => Ok(Next::Entry(section)),
-            Err(fault) => Err(fault),
-        },
-        Ok(None) => Ok(Next::Item),
-        Err(fault) => Err(fault),
-    }
+    let Some(start) = next_start(reader, section)? else {
+        return Ok(Next::Item);
+    };
+    read_entry(reader, section, start, &mut said.lists)?;
+    Ok(Next::Entry(section))
 }
 
 /// Passes over a token of a list of which an entry is lost.
@@ -193,19 +190,15 @@ fn pass_list<'d>(
     ensures { (said : reading.Said) → ReadsPart (list_of (section_seen section)) said said
         reader.old reader.new result }
 {
-    match reader.required_token() {
-        Ok(token) => {
-            if is_executable(&token, b"]") {
-                Ok(Next::Entry(section))
-            } else if !is_word(&token) {
-                Ok(Next::InList(section))
-            } else if is_executable(&token, section.closer()) {
-                Ok(Next::Item)
-            } else {
-                Err(wrong(Reason::CodeExpected, &token))
-            }
-        }
-        Err(fault) => Err(fault),
+    let token = reader.required_token()?;
+    if is_executable(&token, b"]") {
+        Ok(Next::Entry(section))
+    } else if !is_word(&token) {
+        Ok(Next::InList(section))
+    } else if is_executable(&token, section.closer()) {
+        Ok(Next::Item)
+    } else {
+        Err(wrong(Reason::CodeExpected, &token))
     }
 }
 

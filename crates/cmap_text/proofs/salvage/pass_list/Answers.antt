@@ -13,6 +13,7 @@ use Rattle.cmap_text.specs.TextReading.{code_fault, code_in, is_executable}
 use Rattle.cmap_text.specs.TokenParsers.{wrong}
 use Rattle.cmap_text.specs.TextSeen.{section_seen}
 use Rattle.cmap_text.proofs.Faulted.{faulty_part}
+use Rattle.cmap_values.proofs.Outcomes.{passed_on}
 use Rattle.cmap_text.proofs.salvage.pass_list.Goals as goal
 
 -- a word is no code
@@ -25,15 +26,15 @@ wrong_in_list : (text : List ℕ) (part : Part) (section : Section) (t : Token) 
 wrong_in_list text part section t left in_list is_name goes_on = let (none, reason) = no_code t is_name in rw (← in_list, ← is_name, ← goes_on, none, reason) refl
 
 pub returns-then-is_executable : goal.returns-then-is_executable
-returns-then-is_executable c = λ said. (λ text faults. rw (c.in-Ok.ensures.0, ← c.if-is_executable.ensures) refl, tt)
+returns-then-is_executable c = λ said. (λ text faults. rw (c.in_ok-token.ensures.0, ← c.if-is_executable.ensures) refl, tt)
 
 pub returns-then-not-is_word : goal.returns-then-not-is_word
-returns-then-not-is_word c = λ said. (λ text faults. rw (c.in-Ok.ensures.0, ← c.if-is_executable.ensures, ← c.if-not-is_word.ensures) refl, tt)
+returns-then-not-is_word c = λ said. (λ text faults. rw (c.in_ok-token.ensures.0, ← c.if-is_executable.ensures, ← c.if-not-is_word.ensures) refl, tt)
 
 pub returns-then-is_executable-2 : goal.returns-then-is_executable-2
 returns-then-is_executable-2 c = λ said.
     let closes = rw c.closer.ensures at c.if-is_executable-2.ensures in
-    (λ text faults. rw (c.in-Ok.ensures.0, ← c.if-is_executable.ensures, ← c.if-not-is_word.ensures, ← closes) refl, tt)
+    (λ text faults. rw (c.in_ok-token.ensures.0, ← c.if-is_executable.ensures, ← c.if-not-is_word.ensures, ← closes) refl, tt)
 
 pub returns-else-is_executable-2 : goal.returns-else-is_executable-2
 returns-else-is_executable-2 c = λ said.
@@ -41,10 +42,11 @@ returns-else-is_executable-2 c = λ said.
     let closes = rw c.closer.ensures at c.if-is_executable-2.ensures in (
       tt,
       rw c.wrong.ensures (
-        λ text faults. ap (after_list text (part_of (list_of section) said c.args.reader.now faults) section) c.in-Ok.ensures.0 ∙ wrong_in_list text (part_of (list_of section) said c.args.reader.now faults) section (token_seen c.in-Ok.token) c.required_token.new.self c.if-is_executable.ensures c.if-not-is_word.ensures closes,
+        λ text faults. ap (after_list text (part_of (list_of section) said c.args.reader.now faults) section) c.in_ok-token.ensures.0 ∙ wrong_in_list text (part_of (list_of section) said c.args.reader.now faults) section (token_seen c.in_ok-token.token) c.required_token.new.self c.if-is_executable.ensures c.if-not-is_word.ensures closes,
         λ none. absurd (none-some _ (sym none)),
       ),
     )
 
-pub returns-in-Err : goal.returns-in-Err
-returns-in-Err c = λ said. (tt, faulty_part (list_of (section_seen c.args.section)) said said c.args.reader.now c.required_token.new.self _ _ c.in-Err.ensures.1 (λ wrong is text faults. rw is.0 refl) (λ wrong is. is.1))
+pub returns-in_err-token : goal.returns-in_err-token
+returns-in_err-token c = λ said.
+    passed_on _ _ _ c.from_residual.ensures.1 (faulty_part (list_of (section_seen c.args.section)) said said c.args.reader.now c.required_token.new.self _ _ c.in_err-token.ensures.1 (λ wrong is text faults. rw is.0 refl) (λ wrong is. is.1)) (λ wrong is. is)
