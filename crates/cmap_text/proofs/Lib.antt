@@ -16,3 +16,4 @@ mod PartsDeclare
 mod WholeRead
 mod Stops
 pub mod TextFaults
+mod ItemKinds

@@ -1,6 +1,6 @@
 //! The tokens of a text in order, and what single tokens stand for.
 
-ghost use Rattle.std.specs.Prelude.{◌≡◌, ◌+◌, ◌%◌, ◌++◌, ◌<◌, ◌≤◌, ◌^◌, ℕ, List, [], ◌∷◌, bytes_eq, length, min, pos, Ok, Some, MatchOption, option_map};
+ghost use Rattle.std.specs.Prelude.{◌≡◌, ◌+◌, ◌%◌, ◌++◌, ◌<◌, ◌≤◌, ◌^◌, ℕ, List, [], ◌∷◌, bytes_eq, length, min, pos, Ok, Some, IfOk, MatchOption, option_map};
 ghost use Rattle.std.specs.Int.Digits.{number_from_digits};
 ghost use Rattle.std.specs.List.{AllByRecursion, list_any};
 ghost use Rattle.std.specs.Option.{option_copied};
@@ -26,7 +26,7 @@ use cmap_values::code_length::{CodeLength, read_code};
 use cmap_values::fault::{Fault, Reason};
 use cmap_values::names::Cid;
 use cmap_values::units::Units;
-use std::alloc::Global;
+use std::alloc::{AllocError, Global};
 use std::marker::Model;
 
 /// A code, and how many bytes it has.
@@ -149,8 +149,10 @@ impl<'d> TokenReader<'d> {
         if let Some(code) = self.plain_code() {
             return Ok(code);
         }
-        let token = self.required_token()?;
-        self.code(&token)
+        match self.required_token() {
+            Ok(token) => self.code(&token),
+            Err(fault) => Err(fault),
+        }
     }
 
     /// The units of the destination that a token is: a string that isn't empty.
@@ -168,8 +170,7 @@ impl<'d> TokenReader<'d> {
         if self.string.is_empty() {
             return Err(wrong(Reason::TextExpected, token));
         }
-        let units = units(self.alloc, &self.string)?;
-        Ok(Units::from_slice(self.alloc, &units)?)
+        Ok(units_of_bytes(self.alloc, &self.string)?)
     }
 
     /// The unit of the destination of two bytes that comes next, where it stands as most do; `None` of
@@ -211,8 +212,10 @@ impl<'d> TokenReader<'d> {
         if let Some(units) = self.plain_destination() {
             return Ok(units);
         }
-        let token = self.required_token()?;
-        self.destination(&token)
+        match self.required_token() {
+            Ok(token) => self.destination(&token),
+            Err(fault) => Err(fault),
+        }
     }
 
     /// The CID that comes next: an integer of 32 bits without sign.
@@ -223,8 +226,13 @@ impl<'d> TokenReader<'d> {
         if let Some(number) = self.scanner.next_decimal() {
             return cid_of_number(number);
         }
-        let token = self.required_token()?;
-        cid_of(&token).ok_or(wrong(Reason::CidExpected, &token))
+        match self.required_token() {
+            Ok(token) => match cid_of(&token) {
+                Some(cid) => Ok(cid),
+                None => Err(wrong(Reason::CidExpected, &token)),
+            },
+            Err(fault) => Err(fault),
+        }
     }
 
     /// Goes on after the piece that is no token, where none comes; `text` is the text that is read.
@@ -257,6 +265,14 @@ fn code_of(bytes: &[u8]) -> Option<Code>
 {
     let (len, number) = read_code(bytes)?;
     Some(Code { len, number })
+}
+
+/// The units of a destination of these bytes.
+fn units_of_bytes(alloc: Global, bytes: &[u8]) -> Result<Units, AllocError>
+    ensures { IfOk result (λ made. units_seen made ≡ units_of bytes.now) }
+{
+    let units = units(alloc, bytes)?;
+    Units::from_slice(alloc, &units)
 }
 
 /// The units of a destination of `len` bytes, one to four, where `number` is what these write.
