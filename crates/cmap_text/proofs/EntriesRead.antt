@@ -3,18 +3,17 @@ use Rattle.std.proofs.Common.{◌≡◌, ℕ, zero, suc, false, ◌+◌, refl, s
 use Rattle.std.proofs.lemmas.Bool.{cases_Bool, eqb-true, eq-eqb}
 use Rattle.std.proofs.lemmas.Option.{none-some, same_Some}
 use Rattle.std.specs.List.{AllZip, enumerate_from}
-use Rattle.std.specs.Prelude.{codes, map, flat_map, Ok, Option, Some, None, ◌==◌, is_some, option_and_then, if◌then◌else◌}
+use Rattle.std.specs.Prelude.{codes, map, flat_map, Ok, Some, None, ◌==◌}
 use Rattle.cmap_values.specs.BigEndian.{big_endian}
-use Rattle.cmap_values.specs.declared.fault.Reason.TheVariants.{UnequalLengths}
 use Rattle.cmap_tokens.specs.Tokens.{Token}
 use Rattle.cmap_tokens.specs.TokensLeft.{Left}
 use Rattle.cmap_files.specs.Files.{Declaration, Lists}
 use Rattle.cmap_files.proofs.ListsMade.{added_more, append_lists-none}
 use Rattle.cmap_text.specs.TextFiles.{Section, codespace_range, cids, range, single, bf_range, bf_char, closer, declares_bf, declares_cid, IsCode, IsDestination, IsEntry, AreEntries}
-use Rattle.cmap_text.specs.TextReading.{adding, body_in, Code, code_fault, code_in, code_or_closer, codespace, codespace_fault, codespace_to, destination_in, entry_after, is_executable, list_in, text_of, texts_from}
-use Rattle.cmap_text.specs.TokenParsers.{followed_by, head_in, or_wrong, round, run, token_in}
+use Rattle.cmap_text.specs.TextReading.{adding, body_in, Code, code_fault, code_in, code_or_closer, codespace, destination_in, entry_after, is_executable, list_in, text_of, texts_from}
+use Rattle.cmap_text.specs.TokenParsers.{followed_by, head_in, round, run, token_in}
 use Rattle.cmap_text.proofs.TokensRead.{some_bound, some_mapped, tested, written, code_is, code_found, cid_is, cid_found, destination_is, destination_found, is_executable-found, is_executable-own}
-use Rattle.cmap_text.proofs.TokenParsers.{Implies, Means, Relation, Rounds, repeat_next, wrong_mapped}
+use Rattle.cmap_text.proofs.TokenParsers.{Implies, Means, Relation, Rounds, repeat_next}
 
 abbrev opening_bracket : Token
 opening_bracket = Token.Name false (codes "[")
@@ -152,15 +151,3 @@ body_next section = repeat_next code_fault (code_or_closer section) (λ now code
 -- a string that is a code begins an entry
 pub code_starts : (section : Section) (here next : Left) (piece : List ℕ) (code : Code) → token_in here ≡ Ok (Token.String piece, next) → code_in (Token.String piece) ≡ Some code → head_in code_fault (code_or_closer section) here ≡ Ok (Some code, next)
 code_starts section here next piece code is reads = rw (is, reads) refl
-
--- a token that is no closer begins an entry if it is a code
-pub code_begins : (section : Section) (t : Token) (left : Left) → false ≡ is_executable (closer section) t → or_wrong (code_fault t) (code_or_closer section t) t left ≡ followed_by (λ code next. Ok (Some code, next)) (or_wrong (code_fault t) (code_in t) t left)
-code_begins section t left other = rw (← other) (wrong_mapped Some (code_fault t) (code_in t) t left)
-
--- the code that ends a codespace, and then its length
-pub codespace_ends : (low : Code) (t : Token) (left : Left) → or_wrong (codespace_fault t) (codespace_to low t) t left ≡ followed_by (λ high. or_wrong UnequalLengths (codespace low high) t) (or_wrong (code_fault t) (code_in t) t left)
-codespace_ends low t left = at (code_in t)
-  where
-    at : (code : Option Code) → or_wrong (if is_some code then UnequalLengths else code_fault t) (option_and_then (codespace low) code) t left ≡ followed_by (λ high. or_wrong UnequalLengths (codespace low high) t) (or_wrong (code_fault t) code t left)
-    at None = refl
-    at (Some high) = refl

@@ -16,4 +16,3 @@ mod PartsDeclare
 mod WholeRead
 mod Stops
 pub mod TextFaults
-mod ItemKinds

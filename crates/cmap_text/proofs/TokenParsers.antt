@@ -1,7 +1,7 @@
 -- What parsers of tokens find is what the tokens begin with, and they find all that is there.
 use Rattle.std.proofs.Common.{◌≡◌, ℕ, zero, suc, ◌+◌, ◌<◌, ◌≤◌, refl, sym, ap, ◌∙◌, subst, List, [], ◌∷◌, length, arith}
 use Rattle.std.proofs.lemmas.List.{length-map}
-use Rattle.std.specs.Prelude.{map, Option, Some, None, Result, Ok, Err, option_map}
+use Rattle.std.specs.Prelude.{map, Option, Some, None, Result, Ok, Err}
 use Rattle.cmap_tokens.specs.Tokens.{Token}
 use Rattle.cmap_tokens.specs.TokensLeft.{EndedToken, Left}
 use Rattle.cmap_values.specs.declared.fault.Reason.{Reason}
@@ -20,11 +20,6 @@ bound more (Ok p) y is = (p, refl, is)
 pub listed_ok : {A : Type 0} (found : Found A) (p : A × Left) → listed_so found ≡ Ok p → found ≡ Ok p
 listed_ok (Err e) p is = absurd (err-ok (in_a_list e) p is)
 listed_ok (Ok q) p is = is
-
--- what a token is, or else it is wrong, by a function of it
-pub wrong_mapped : {A B : Type 0} (f : A → B) (reason : Reason) (found : Option A) (t : Token) (left : Left) → or_wrong reason (option_map f found) t left ≡ followed_by (λ x next. Ok (f x, next)) (or_wrong reason found t left)
-wrong_mapped f reason None t left = refl
-wrong_mapped f reason (Some x) t left = refl
 
 -- the tokens that are left
 abbrev pub words : Left → List Token

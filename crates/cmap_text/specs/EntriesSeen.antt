@@ -1,5 +1,5 @@
 -- Private aid: what the clauses of calls that read tokens say.
-use Rattle.std.specs.Prelude.{Bool, true, false, ◌≡◌, ◌≤◌, length, [], ◌++◌, List, None, Result, Ok, Err, option_map}
+use Rattle.std.specs.Prelude.{Bool, true, false, ◌≡◌, [], ◌++◌, List, None, Result, Ok, Err, option_map}
 use Rattle.cmap_tokens.specs.TokensLeft.{Left}
 use Rattle.cmap_tokens.specs.TokenSeen.{token_seen}
 use Rattle.cmap_files.specs.Files as files
@@ -7,6 +7,7 @@ use Rattle.cmap_files.specs.DeclarationsSeen.{lists_seen}
 use Rattle.cmap_values.specs.Outcomes.{Outcome}
 use Rattle.cmap_files.specs.declared.declarations.Lists.{Lists}
 use Rattle.cmap_values.specs.declared.fault.Fault.{Fault}
+use Rattle.cmap_values.specs.declared.fault.Fault.TheVariants.{Refused}
 use Rattle.cmap_text.specs.TokenParsers.{Parser, run}
 use Rattle.cmap_text.specs.TokenParsers as parsers
 use Rattle.cmap_text.specs.declared.wrong_token.WrongToken.{WrongToken}
@@ -31,26 +32,18 @@ ReadsAs found seen here = Outcome (λ x. found ≡ Ok (seen x)) (RefusesAt here 
 abbrev pub AddsDeclarations : {A : Type 0} → (files.Lists → Parser files.Lists) → Left → Lists → Lists → Left → Result A (Fault WrongToken) → Type 0
 AddsDeclarations read old before after here = ReadsAs (run (read (lists_seen before)) old) (λ done. (lists_seen after, here)) here
 
--- the same, and this holds where it is refused
-abbrev pub AddsOr : {A : Type 0} → Type 0 → (files.Lists → Parser files.Lists) → Left → Lists → Lists → Left → Result A (Fault WrongToken) → Type 0
-AddsOr holds read old before after here = Outcome (λ done. run (read (lists_seen before)) old ≡ Ok (lists_seen after, here)) (λ wrong. RefusesAt here (run (read (lists_seen before)) old) wrong × holds)
-
--- the lists with what is added; nothing is refused
-abbrev pub Adds : {A : Type 0} → (files.Lists → files.Lists) → Lists → Lists → Result A (Fault WrongToken) → Type 0
-Adds added before after = Outcome (λ done. lists_seen after ≡ added (lists_seen before)) (λ wrong. ⊥)
-
--- an entry, or a part of one, is added whole, or the lists are as they were
-abbrev pub AddsEntry : {A : Type 0} → (files.Lists → Parser files.Lists) → Left → Lists → Lists → Left → Result A (Fault WrongToken) → Type 0
-AddsEntry read old before after here = AddsOr (lists_seen after ≡ lists_seen before) read old before after here
-
--- what is read from the lists as they were is what is read on from the lists as they are now, of no more tokens
+-- what is read from the lists as they were is what is read on from the lists as they are now
 abbrev pub ReadsOn : {A : Type 0} → (files.Lists → Parser files.Lists) → Left → Lists → Lists → Left → Result A (Fault WrongToken) → Type 0
-ReadsOn read old before after here = Outcome (λ done. (run (read (lists_seen before)) old ≡ run (read (lists_seen after)) here) × (length here.tokens ≤ length old.tokens)) (RefusesAt here (run (read (lists_seen before)) old))
+ReadsOn read old before after here = Outcome (λ done. run (read (lists_seen before)) old ≡ run (read (lists_seen after)) here) (RefusesAt here (run (read (lists_seen before)) old))
 
 -- either this is read and gives the lists as they are now, or all is as it was
 abbrev pub AddsIf : (files.Lists → Parser files.Lists) → Left → Lists → Lists → Left → Bool → Type 0
 AddsIf read old before after here true = run (read (lists_seen before)) old ≡ Ok (lists_seen after, here)
 AddsIf read old before after here false = (here ≡ old) × (lists_seen after ≡ lists_seen before)
+
+-- this holds where it is refused
+abbrev pub WhereRefused : {A : Type 0} → Type 0 → Result A (Fault WrongToken) → Type 0
+WhereRefused holds result = (wrong : WrongToken) → result ≡ Err (Refused wrong) → holds
 
 -- the lists are as they were, but for texts at their end
 abbrev pub AddsTexts : Lists → Lists → Type 0

@@ -92,10 +92,6 @@ codespace_fault t = if is_some (code_in t) then UnequalLengths else code_fault t
 abbrev pub text_of : ℕ → ℕ → List ℕ → List Declaration
 text_of start end units = declares_bf start end units ∷ []
 
--- a destination of this code
-abbrev pub text_after : ℕ → Lists → Parser Lists
-text_after code lists = giving (λ units. adding lists (text_of code code units)) next_destination
-
 -- a destination for each of count codes from this one on, and the ] after them
 unfoldable pub list_in : ℕ → ℕ → Lists → Parser Lists
 list_in zero start lists = head (λ t. BracketExpected) (λ t. if is_executable (codes "]") t then Some lists else None)
@@ -109,16 +105,12 @@ abbrev pub texts_from : ℕ → ℕ → Lists → Option (List ℕ) → Parser L
 texts_from start end lists None = listed (list_in (end + 1 - start) start lists)
 texts_from start end lists (Some units) = done (adding lists (text_of start end units))
 
--- the texts of the codes from start to end
-abbrev pub texts_after : ℕ → ℕ → Lists → Parser Lists
-texts_after start end lists = chain (head (λ t. TextExpected) list_or_destination) (texts_from start end lists)
-
 -- what comes after the first code of an entry
 abbrev pub entry_after : Section → Code → Lists → Parser Lists
 entry_after codespace_range start lists = giving (adding lists) (head codespace_fault (codespace_to start))
 entry_after (cids kind extent) start lists = giving (λ p. adding lists (declares_cid kind p.0 p.1 ∷ [])) (cids_after extent start)
-entry_after bf_range start lists = chain next_code (λ end. texts_after start.number end.number lists)
-entry_after bf_char start lists = text_after start.number lists
+entry_after bf_range start lists = chain next_code (λ end. chain (head (λ t. TextExpected) list_or_destination) (texts_from start.number end.number lists))
+entry_after bf_char start lists = giving (λ units. adding lists (text_of start.number start.number units)) next_destination
 
 -- the code that an entry of a section begins with, or none at the closer
 abbrev pub code_or_closer : Section → Token → Option (Option Code)

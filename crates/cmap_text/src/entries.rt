@@ -1,15 +1,16 @@
 //! The entries of sections. Each call here has the first code of an entry, reads what follows it, and
 //! adds what the entry declares.
 
-ghost use Rattle.std.specs.Prelude.{ℕ, ◌+◌, ◌-◌, [], ◌∷◌, IfOk};
+ghost use Rattle.std.specs.Prelude.{◌≡◌, ◌+◌, ◌-◌, IfOk, OnOk};
 ghost use Rattle.cmap_values.specs.CodeLengths.{length_of};
-ghost use Rattle.cmap_files.specs.DeclarationsSeen.{cid_entry_seen};
-ghost use Rattle.cmap_text.specs.EntriesSeen.{Adds, AddsEntry, AddsIf, AddsOr, AddsTexts, ReadsAs};
-ghost use Rattle.cmap_files.specs.Files.{Lists as ListsSeen};
+ghost use Rattle.cmap_files.specs.DeclarationsSeen.{cid_entry_seen, lists_seen};
+ghost use Rattle.cmap_text.specs.EntriesSeen.{AddsDeclarations, AddsIf, AddsTexts, ReadsAs, WhereRefused};
+ghost use Rattle.cmap_files.specs.Files.{lists_of};
+ghost use Rattle.cmap_files.specs.ListsAppended.{append_lists};
 ghost use Rattle.cmap_values.specs.UnitsSeen.{units_seen};
 ghost use Rattle.cmap_text.specs.TextFiles as files;
 ghost use Rattle.cmap_text.specs.TextSeen.{code_seen, extent_seen, kind_seen};
-ghost use Rattle.cmap_text.specs.TextReading.{adding, cids_after, entry_after, list_in, text_after, text_of, texts_after};
+ghost use Rattle.cmap_text.specs.TextReading.{cids_after, entry_after, list_in, text_of};
 ghost use Rattle.cmap_text.specs.TokenParsers.{listed, run};
 
 use crate::tokens::{Code, TokenReader, is_executable};
@@ -41,19 +42,21 @@ pub(crate) fn add_codespace_range<'d>(
     low: Code,
     lists: &mut Lists,
 ) -> Result<(), Fault<WrongToken<'d>>>
-    ensures { AddsEntry (entry_after files.codespace_range (code_seen low)) reader.old
+    ensures adds { AddsDeclarations (entry_after files.codespace_range (code_seen low)) reader.old
         lists.old lists.new reader.new result }
+    ensures stays { WhereRefused (lists_seen lists.new ≡ lists_seen lists.old) result }
 {
     let token = reader.required_token()?;
     let high = reader.code(&token)?;
     if low.len != high.len {
         return Err(wrong(Reason::UnequalLengths, &token));
     }
-    Ok(lists.add_codespace(Codespace {
+    lists.add_codespace(Codespace {
         len: low.len,
         low: low.number,
         high: high.number,
-    })?)
+    })?;
+    Ok(())
 }
 
 /// One entry of CIDs or of notdef CIDs.
@@ -65,32 +68,17 @@ pub(crate) fn add_cids<'d>(
     extent: Extent,
     lists: &mut Lists,
 ) -> Result<(), Fault<WrongToken<'d>>>
-    ensures { AddsEntry
+    ensures adds { AddsDeclarations
         (entry_after (files.cids (kind_seen kind) (extent_seen extent)) (code_seen start))
         reader.old lists.old lists.new reader.new result }
+    ensures stays { WhereRefused (lists_seen lists.new ≡ lists_seen lists.old) result }
 {
-    match read_cids(reader, start, extent) {
-        Ok(filed) => add_filed(lists, kind, filed),
-        Err(fault) => Err(fault),
+    let filed = read_cids(reader, start, extent)?;
+    match kind {
+        CidKind::Cid => lists.add_cid(filed.len, filed.range)?,
+        CidKind::Notdef => lists.add_notdef(filed.len, filed.range)?,
     }
-}
-
-/// Adds a declaration of CIDs.
-#[inline(always)]
-fn add_filed<'d>(
-    lists: &mut Lists,
-    kind: CidKind,
-    filed: Filed,
-) -> Result<(), Fault<WrongToken<'d>>>
-    ensures { Adds (λ old. adding old
-        (files.declares_cid (kind_seen kind) (length_of filed.len) (cid_entry_seen filed.range) ∷ []))
-        lists.old lists.new result }
-{
-    let added = match kind {
-        CidKind::Cid => lists.add_cid(filed.len, filed.range),
-        CidKind::Notdef => lists.add_notdef(filed.len, filed.range),
-    };
-    Ok(added?)
+    Ok(())
 }
 
 /// A destination of two bytes after the code of an entry, where it stands as most do. `false` of any
@@ -107,28 +95,24 @@ pub(crate) fn add_plain_unit<'d>(
     let Some(unit) = reader.plain_unit() else {
         return Ok(false);
     };
-    let range = Range {
-        start: code.number,
-        end: code.number,
-    };
-    let units = Units::One([unit]);
-    lists.add_bf(BfRange { range, units })?;
+    add_text(lists, code.number, code.number, Units::One([unit]))?;
     Ok(true)
 }
 
-/// The destination of a code, which comes next.
+/// code, destination
 #[inline(always)]
-pub(crate) fn add_destination<'d>(
+pub(crate) fn add_bf_char<'d>(
     reader: &mut TokenReader<'d>,
-    code: u32,
+    code: Code,
     lists: &mut Lists,
 ) -> Result<(), Fault<WrongToken<'d>>>
-    ensures { AddsEntry (text_after code) reader.old lists.old lists.new reader.new result }
+    ensures adds { AddsDeclarations (entry_after files.bf_char (code_seen code)) reader.old
+        lists.old lists.new reader.new result }
+    ensures stays { WhereRefused (lists_seen lists.new ≡ lists_seen lists.old) result }
 {
-    match reader.next_destination() {
-        Ok(units) => add_text(lists, code, code, units),
-        Err(fault) => Err(fault),
-    }
+    let units = reader.next_destination()?;
+    add_text(lists, code.number, code.number, units)?;
+    Ok(())
 }
 
 /// code, code, and one destination or a list of them
@@ -137,34 +121,22 @@ pub(crate) fn add_bf_range<'d>(
     start: Code,
     lists: &mut Lists,
 ) -> Result<(), Fault<WrongToken<'d>>>
-    ensures { AddsEntry (entry_after files.bf_range (code_seen start)) reader.old
+    ensures adds { AddsDeclarations (entry_after files.bf_range (code_seen start)) reader.old
         lists.old lists.new reader.new result }
+    ensures stays { WhereRefused (lists_seen lists.new ≡ lists_seen lists.old) result }
 {
-    match reader.next_code() {
-        Ok(end) => add_texts(reader, start.number, end.number, lists),
-        Err(fault) => Err(fault),
-    }
-}
-
-/// One destination or a list of them, of the codes from `start` to `end`.
-#[inline(always)]
-fn add_texts<'d>(
-    reader: &mut TokenReader<'d>,
-    start: u32,
-    end: u32,
-    lists: &mut Lists,
-) -> Result<(), Fault<WrongToken<'d>>>
-    ensures { AddsEntry (texts_after start end) reader.old lists.old lists.new reader.new result }
-{
+    let end = reader.next_code()?;
     if let Some(units) = reader.plain_destination() {
-        return add_text(lists, start, end, units);
+        add_text(lists, start.number, end.number, units)?;
+        return Ok(());
     }
     let token = reader.required_token()?;
     if is_executable(&token, b"[") {
-        return add_list(reader, start, end, lists);
+        return add_list(reader, start.number, end.number, lists);
     }
     let units = reader.destination(&token)?;
-    add_text(lists, start, end, units)
+    add_text(lists, start.number, end.number, units)?;
+    Ok(())
 }
 
 /// One destination for each code from `start` to `end`, and the closing bracket. A list that is refused
@@ -175,8 +147,9 @@ fn add_list<'d>(
     end: u32,
     lists: &mut Lists,
 ) -> Result<(), Fault<WrongToken<'d>>>
-    ensures { AddsEntry (λ old. listed (list_in (end + 1 - start) start old)) reader.old
+    ensures adds { AddsDeclarations (λ old. listed (list_in (end + 1 - start) start old)) reader.old
         lists.old lists.new reader.new result }
+    ensures stays { WhereRefused (lists_seen lists.new ≡ lists_seen lists.old) result }
 {
     let count = lists.bfs.len();
     match add_destinations(reader, start, end, lists) {
@@ -196,20 +169,14 @@ fn add_destinations<'d>(
     end: u32,
     lists: &mut Lists,
 ) -> Result<(), Fault<WrongToken<'d>>>
-    ensures { AddsOr (AddsTexts lists.old lists.new) (list_in (end + 1 - start) start) reader.old
+    ensures adds { AddsDeclarations (list_in (end + 1 - start) start) reader.old
         lists.old lists.new reader.new result }
+    ensures texts { WhereRefused (AddsTexts lists.old lists.new) result }
 {
     for code in u64::from(start)..u64::from(end) + 1 {
-        add_destination(reader, code as u32, lists)?;
+        let units = reader.next_destination()?;
+        add_text(lists, code as u32, code as u32, units)?;
     }
-    end_list(reader)
-}
-
-/// The closing bracket of a list.
-fn end_list<'d>(reader: &mut TokenReader<'d>) -> Result<(), Fault<WrongToken<'d>>>
-    ensures { (start : ℕ) → (lists : ListsSeen)
-        → ReadsAs (run (list_in 0 start lists) reader.old) (λ done. (lists, reader.new)) reader.new result }
-{
     let token = reader.required_token()?;
     if !is_executable(&token, b"]") {
         return Err(wrong(Reason::BracketExpected, &token));
@@ -219,16 +186,12 @@ fn end_list<'d>(reader: &mut TokenReader<'d>) -> Result<(), Fault<WrongToken<'d>
 
 /// Adds the units of the text of the code `start`, of a range that ends with the code `end`.
 #[inline(always)]
-fn add_text<'d>(
-    lists: &mut Lists,
-    start: u32,
-    end: u32,
-    units: Units,
-) -> Result<(), Fault<WrongToken<'d>>>
-    ensures { Adds (λ old. adding old (text_of start end (units_seen units))) lists.old lists.new result }
+fn add_text(lists: &mut Lists, start: u32, end: u32, units: Units) -> Result<(), AllocError>
+    ensures { OnOk result (lists_seen lists.new ≡ append_lists (lists_seen lists.old)
+        (lists_of (text_of start end (units_seen units)))) }
 {
     let range = Range { start, end };
-    Ok(lists.add_bf(BfRange { range, units })?)
+    lists.add_bf(BfRange { range, units })
 }
 
 /// A declaration of CIDs, and the length of the codes that it is filed by.

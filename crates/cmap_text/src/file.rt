@@ -19,7 +19,7 @@ use crate::wrong_token::WrongToken;
 use cmap_files::file::File;
 use cmap_values::fault::{Fault, Stop};
 use cmap_values::metadata::Metadata;
-use std::alloc::{AllocError, Global};
+use std::alloc::Global;
 
 /// What a text file says.
 pub fn read_text<'d>(alloc: Global, text: &'d [u8]) -> Result<File<'d>, Fault<Stop>>
@@ -57,10 +57,7 @@ fn read_said<'d>(
 {
     let mut reader = TokenReader::new(alloc, text);
     match read_items(&mut reader, said) {
-        Ok(()) => match said.values.metadata(alloc) {
-            Ok(metadata) => Ok(metadata),
-            Err(AllocError) => Err(Fault::Memory),
-        },
+        Ok(()) => Ok(said.values.metadata(alloc)?),
         Err(Fault::Refused(wrong)) => Err(Fault::Refused(stop_of(&reader, wrong, text.len()))),
         Err(Fault::Memory) => Err(Fault::Memory),
     }

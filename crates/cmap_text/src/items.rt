@@ -1,12 +1,12 @@
 //! The items of a text: keys with their values, sections, uses of other files, and tokens by themselves.
 
-ghost use Rattle.std.specs.Prelude.{◌≡◌, ◌++◌, ℕ, List, [], ◌∷◌, None, Ok, Some, false};
+ghost use Rattle.std.specs.Prelude.{◌≡◌, ◌++◌, ℕ, List, [], ◌∷◌, None, Some, false, IfErr, OnOk};
 ghost use Rattle.std.specs.Borrow.{Bor};
 ghost use Rattle.std.specs.Option.{option_copied};
-ghost use Rattle.cmap_values.specs.Outcomes.{Outcome};
+ghost use Rattle.cmap_values.specs.Outcomes.{RefusesWith};
 ghost use Rattle.cmap_values.specs.declared.fault.Reason.TheVariants.{UseWithoutName};
 ghost use Rattle.cmap_tokens.specs.TokenSeen.{token_seen};
-ghost use Rattle.cmap_text.specs.EntriesSeen.{ReadsAs, RefusesAt};
+ghost use Rattle.cmap_text.specs.EntriesSeen.{ReadsAs, WhereRefused};
 ghost use Rattle.cmap_text.specs.TextReading.{all_said, item_said, nothing_said, opened_by, with_other};
 ghost use Rattle.cmap_text.specs.TextSeen.{said_seen};
 
@@ -49,17 +49,17 @@ fn add_use<'d>(
     operand: Option<&'d [u8]>,
     token: &Token<'d>,
 ) -> Result<(), Fault<WrongToken<'d>>>
-    ensures { Outcome
-        (λ added. (name : Bor (List ℕ)) × (operand.entry ≡ Some name)
-        × (uses.new.items ≡ uses.old.items ++ name ∷ []))
-        (λ wrong. (option_copied operand.entry ≡ None)
-        × (wrong ≡ record { token = Some token.now; reason = UseWithoutName; in_list = false })
-        × (uses.new.items ≡ uses.old.items)) result }
+    ensures added { OnOk result ((name : Bor (List ℕ)) × (operand.entry ≡ Some name)
+        × (uses.new.items ≡ uses.old.items ++ name ∷ [])) }
+    ensures refused { IfErr result (RefusesWith (λ wrong. (option_copied operand.entry ≡ None)
+        × (wrong ≡ record { token = Some token.now; reason = UseWithoutName; in_list = false }))) }
+    ensures stays { WhereRefused (uses.new.items ≡ uses.old.items) result }
 {
-    match operand {
-        Some(name) => Ok(uses.push(name)?),
-        None => Err(wrong(Reason::UseWithoutName, token)),
-    }
+    let Some(name) = operand else {
+        return Err(wrong(Reason::UseWithoutName, token));
+    };
+    uses.push(name)?;
+    Ok(())
 }
 
 /// Reads all the items of a text.
@@ -70,13 +70,10 @@ pub(crate) fn read_items<'d>(
     ensures { ReadsAs (all_said (said_seen said.old) reader.old) (λ done. (said_seen said.new, reader.new))
         reader.new result }
 {
-    loop {
-        match reader.next_token() {
-            Ok(Some(token)) => read_item(reader, &token, said)?,
-            Ok(None) => return Ok(()),
-            Err(fault) => return Err(fault),
-        }
+    while let Some(token) = reader.next_token()? {
+        read_item(reader, &token, said)?;
     }
+    Ok(())
 }
 
 /// Reads what follows the first token of an item.
@@ -85,12 +82,12 @@ pub(crate) fn read_item<'d>(
     first: &Token<'d>,
     said: &mut Said<'d>,
 ) -> Result<(), Fault<WrongToken<'d>>>
+    ensures reads { ReadsAs (item_said (said_seen said.old) (token_seen first.now) reader.old)
+        (λ done. (said_seen said.new, reader.new)) reader.new result }
+
     // An item at fault says no more than its first token by itself, but a section keeps its entries.
-    ensures { Outcome
-        (λ done. item_said (said_seen said.old) (token_seen first.now) reader.old ≡ Ok (said_seen said.new, reader.new))
-        (λ wrong. RefusesAt reader.new (item_said (said_seen said.old) (token_seen first.now) reader.old) wrong
-        × (opened_by (token_seen first.now) ≡ None
-        → said_seen said.new ≡ with_other (said_seen said.old) (token_seen first.now))) result }
+    ensures fault { WhereRefused (opened_by (token_seen first.now) ≡ None
+        → said_seen said.new ≡ with_other (said_seen said.old) (token_seen first.now)) result }
 {
     let operand = said.operand;
     said.operand = literal_name(first);
@@ -100,14 +97,8 @@ pub(crate) fn read_item<'d>(
     if is_executable(first, b"usecmap") {
         return add_use(&mut said.uses, operand, first);
     }
-    match Key::of(first) {
-        Some(key) => match reader.next_token() {
-            Ok(value) => {
-                said.values.set(key, value);
-                Ok(())
-            }
-            Err(fault) => Err(fault),
-        },
-        None => Ok(()),
+    if let Some(key) = Key::of(first) {
+        said.values.set(key, reader.next_token()?);
     }
+    Ok(())
 }

@@ -1,21 +1,21 @@
 //! What a text says apart from its faults: reading goes on after each.
 
-ghost use Rattle.std.specs.Prelude.{◌≡◌, ◌↔◌, [], None, false, length, if◌then◌else◌, IfOk};
+ghost use Rattle.std.specs.Prelude.{◌≡◌, ◌↔◌, [], None, false, length, if◌then◌else◌, IfOk, OnOk};
 ghost use Rattle.cmap_tokens.specs.TokenSeen.{token_seen};
+ghost use Rattle.cmap_tokens.specs.TokensLeft.{start_of, tokens_of};
 ghost use Rattle.cmap_files.specs.DeclarationsSeen.{lists_seen};
 ghost use Rattle.cmap_values.specs.Faults.{Ascend};
 ghost use Rattle.cmap_files.specs.Files as files;
 ghost use Rattle.cmap_files.specs.FilesSeen.{file_seen};
-ghost use Rattle.cmap_values.specs.MetadataSeen.{metadata_seen};
-ghost use Rattle.cmap_values.specs.Only.{HoldsOfNone, IsOnly};
+ghost use Rattle.cmap_values.specs.Only.{HoldsOfNone};
 ghost use Rattle.cmap_text.specs.EntriesSeen.{refused_seen};
 ghost use Rattle.cmap_text.specs.Salvage.{AreDeclared, BeginsRefused, Salvages, SalvagesFile, entry, faulted, list_of, nothing, rest_of, step};
 ghost use Rattle.cmap_text.specs.Salvage as salvage;
 ghost use Rattle.cmap_text.specs.SalvageSeen.{ReadsPart, next_seen, part_of};
-ghost use Rattle.cmap_text.specs.TextFiles.{IsMetadata, IsTextFile};
+ghost use Rattle.cmap_text.specs.TextFiles.{IsTextFile};
 ghost use Rattle.cmap_text.specs.TextReading as reading;
 ghost use Rattle.cmap_text.specs.TextReading.{nothing_said};
-ghost use Rattle.cmap_text.specs.TextSeen.{said_seen, section_seen, values_seen};
+ghost use Rattle.cmap_text.specs.TextSeen.{said_seen, section_seen};
 
 use crate::file::stop_of;
 use crate::items::{Said, read_item};
@@ -25,7 +25,6 @@ use crate::wrong_token::{WrongToken, wrong};
 use cmap_files::file::{File, Salvaged};
 use cmap_tokens::token::Token;
 use cmap_values::fault::{Fault, Reason, Stop};
-use cmap_values::metadata::Metadata;
 use std::alloc::{AllocError, Global};
 
 /// What comes next.
@@ -67,10 +66,10 @@ pub fn salvage_text<'d>(alloc: Global, text: &'d [u8]) -> Result<Salvaged<'d>, A
 {
     let mut said = Said::new(alloc);
     let mut faults = Vec::new(alloc);
-    let metadata = read_parts(alloc, text, &mut said, &mut faults)?;
+    read_parts(alloc, text, &mut said, &mut faults)?;
     Ok(Salvaged {
         file: File {
-            metadata,
+            metadata: said.values.metadata(alloc)?,
             lists: said.lists,
             uses: said.uses,
         },
@@ -78,25 +77,24 @@ pub fn salvage_text<'d>(alloc: Global, text: &'d [u8]) -> Result<Salvaged<'d>, A
     })
 }
 
-/// Reads all the parts of a text, and gives what its keys say of the file.
+/// Reads all the parts of a text.
 fn read_parts<'d>(
     alloc: Global,
     text: &'d [u8],
     said: &mut Said<'d>,
     faults: &mut Vec<Stop>,
-) -> Result<Metadata, AllocError>
-    ensures { IfOk result (λ metadata. (said_seen said.old ≡ nothing_said → faults.old.items ≡ []
+) -> Result<(), AllocError>
+    ensures { OnOk result (said_seen said.old ≡ nothing_said → faults.old.items ≡ []
         → Salvages text.now (said_seen said.new) faults.new.items
         × Ascend 0 faults.new.items (length text.now)
-        × AreDeclared text.now (lists_seen said.new.lists))
-        × IsOnly (IsMetadata (values_seen said.new.values)) (metadata_seen metadata)) }
+        × AreDeclared text.now (lists_seen said.new.lists)) }
 {
     let mut reader = TokenReader::new(alloc, text);
     let mut next = Next::Item;
     while is_something(next) {
         next = read_on(&mut reader, text, next, said, faults)?;
     }
-    said.values.metadata(alloc)
+    Ok(())
 }
 
 fn is_something(next: Next<'_>) -> bool
@@ -135,10 +133,9 @@ fn read_part<'d>(
         reader.old reader.new result }
 {
     match next {
-        Next::Item => match reader.next_token() {
-            Ok(Some(first)) => read_rest(reader, first, said),
-            Ok(None) => Ok(Next::Nothing),
-            Err(fault) => Err(fault),
+        Next::Item => match reader.next_token()? {
+            Some(first) => read_rest(reader, first, said),
+            None => Ok(Next::Nothing),
         },
         Next::After(first) => read_rest(reader, first, said),
         Next::Entry(section) => read_one(reader, section, said),
@@ -160,10 +157,8 @@ fn read_rest<'d>(
         said.operand = None;
         return Ok(Next::Entry(section));
     }
-    match read_item(reader, &first, said) {
-        Ok(()) => Ok(Next::Item),
-        Err(fault) => Err(fault),
-    }
+    read_item(reader, &first, said)?;
+    Ok(Next::Item)
 }
 
 /// Reads an entry of a section, or its closer.

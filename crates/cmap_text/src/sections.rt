@@ -1,15 +1,16 @@
 //! Sections: an opener, entries, a closer.
 
-ghost use Rattle.std.specs.Prelude.{◌≡◌, IfOk, option_map};
+ghost use Rattle.std.specs.Prelude.{◌≡◌, ◌≤◌, IfOk, OnOk, length, option_map};
 ghost use Rattle.cmap_tokens.specs.TokenSeen.{token_seen};
-ghost use Rattle.cmap_text.specs.EntriesSeen.{AddsDeclarations, AddsEntry, AddsIf, ReadsAs, ReadsOn};
+ghost use Rattle.cmap_files.specs.DeclarationsSeen.{lists_seen};
+ghost use Rattle.cmap_text.specs.EntriesSeen.{AddsDeclarations, AddsIf, ReadsAs, ReadsOn, WhereRefused};
 ghost use Rattle.cmap_text.specs.TextFiles as files;
 ghost use Rattle.cmap_text.specs.TextReading.{body_in, code_fault, code_or_closer, entry_after, opened_by};
 ghost use Rattle.cmap_text.specs.TextSeen.{code_seen, extent_seen, kind_seen, section_seen};
 ghost use Rattle.cmap_text.specs.TokenParsers.{head_in};
 
 use crate::entries::{
-    CidKind, Extent, add_bf_range, add_cids, add_codespace_range, add_destination, add_plain_unit,
+    CidKind, Extent, add_bf_char, add_bf_range, add_cids, add_codespace_range, add_plain_unit,
 };
 use crate::tokens::{Code, TokenReader, is_executable};
 use crate::wrong_token::WrongToken;
@@ -117,13 +118,12 @@ fn read_entries<'d>(
     ensures { AddsDeclarations (body_in (section_seen section)) reader.old
         lists.old lists.new reader.new result }
 {
-    loop {
+    read_two_byte_entries(reader, section, lists)?;
+    while let Some(start) = next_start(reader, section)? {
+        read_entry(reader, section, start, lists)?;
         read_two_byte_entries(reader, section, lists)?;
-        match next_start(reader, section)? {
-            Some(start) => read_entry(reader, section, start, lists)?,
-            None => return Ok(()),
-        }
     }
+    Ok(())
 }
 
 /// Reads the entries of a section that begin with a code of two bytes, up to one that doesn't.
@@ -133,7 +133,8 @@ fn read_two_byte_entries<'d>(
     section: Section,
     lists: &mut Lists,
 ) -> Result<(), Fault<WrongToken<'d>>>
-    ensures { ReadsOn (body_in (section_seen section)) reader.old lists.old lists.new reader.new result }
+    ensures reads { ReadsOn (body_in (section_seen section)) reader.old lists.old lists.new reader.new result }
+    ensures fewer { OnOk result (length reader.new.tokens ≤ length reader.old.tokens) }
 {
     while let Some(start) = reader.two_byte_code() {
         if !add_plain(reader, section, start, lists)? {
@@ -188,13 +189,14 @@ pub(crate) fn read_entry<'d>(
     start: Code,
     lists: &mut Lists,
 ) -> Result<(), Fault<WrongToken<'d>>>
-    ensures { AddsEntry (entry_after (section_seen section) (code_seen start)) reader.old
+    ensures adds { AddsDeclarations (entry_after (section_seen section) (code_seen start)) reader.old
         lists.old lists.new reader.new result }
+    ensures stays { WhereRefused (lists_seen lists.new ≡ lists_seen lists.old) result }
 {
     match section {
         Section::Codespaces => add_codespace_range(reader, start, lists),
         Section::Cids(kind, extent) => add_cids(reader, start, kind, extent, lists),
         Section::BfRange => add_bf_range(reader, start, lists),
-        Section::BfChar => add_destination(reader, start.number, lists),
+        Section::BfChar => add_bf_char(reader, start, lists),
     }
 }

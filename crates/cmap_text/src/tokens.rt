@@ -1,6 +1,6 @@
 //! The tokens of a text in order, and what single tokens stand for.
 
-ghost use Rattle.std.specs.Prelude.{◌≡◌, ◌+◌, ◌%◌, ◌++◌, ◌<◌, ◌≤◌, ◌^◌, ℕ, List, [], ◌∷◌, bytes_eq, length, min, pos, Ok, Some, IfOk, MatchOption, option_map};
+ghost use Rattle.std.specs.Prelude.{◌≡◌, ◌+◌, ◌%◌, ◌++◌, ◌<◌, ◌≤◌, ◌^◌, ℕ, List, [], ◌∷◌, bytes_eq, length, min, pos, Ok, Some, MatchOption, option_map};
 ghost use Rattle.std.specs.Int.Digits.{number_from_digits};
 ghost use Rattle.std.specs.List.{AllByRecursion, list_any};
 ghost use Rattle.std.specs.Option.{option_copied};
@@ -26,7 +26,7 @@ use cmap_values::code_length::{CodeLength, read_code};
 use cmap_values::fault::{Fault, Reason};
 use cmap_values::names::Cid;
 use cmap_values::units::Units;
-use std::alloc::{AllocError, Global};
+use std::alloc::Global;
 use std::marker::Model;
 
 /// A code, and how many bytes it has.
@@ -149,10 +149,8 @@ impl<'d> TokenReader<'d> {
         if let Some(code) = self.plain_code() {
             return Ok(code);
         }
-        match self.required_token() {
-            Ok(token) => self.code(&token),
-            Err(fault) => Err(fault),
-        }
+        let token = self.required_token()?;
+        self.code(&token)
     }
 
     /// The units of the destination that a token is: a string that isn't empty.
@@ -170,7 +168,8 @@ impl<'d> TokenReader<'d> {
         if self.string.is_empty() {
             return Err(wrong(Reason::TextExpected, token));
         }
-        Ok(units_of_bytes(self.alloc, &self.string)?)
+        let units = units(self.alloc, &self.string)?;
+        Ok(Units::from_slice(self.alloc, &units)?)
     }
 
     /// The unit of the destination of two bytes that comes next, where it stands as most do; `None` of
@@ -212,10 +211,8 @@ impl<'d> TokenReader<'d> {
         if let Some(units) = self.plain_destination() {
             return Ok(units);
         }
-        match self.required_token() {
-            Ok(token) => self.destination(&token),
-            Err(fault) => Err(fault),
-        }
+        let token = self.required_token()?;
+        self.destination(&token)
     }
 
     /// The CID that comes next: an integer of 32 bits without sign.
@@ -226,13 +223,8 @@ impl<'d> TokenReader<'d> {
         if let Some(number) = self.scanner.next_decimal() {
             return cid_of_number(number);
         }
-        match self.required_token() {
-            Ok(token) => match cid_of(&token) {
-                Some(cid) => Ok(cid),
-                None => Err(wrong(Reason::CidExpected, &token)),
-            },
-            Err(fault) => Err(fault),
-        }
+        let token = self.required_token()?;
+        cid_of(&token).ok_or(wrong(Reason::CidExpected, &token))
     }
 
     /// Goes on after the piece that is no token, where none comes; `text` is the text that is read.
@@ -265,14 +257,6 @@ fn code_of(bytes: &[u8]) -> Option<Code>
 {
     let (len, number) = read_code(bytes)?;
     Some(Code { len, number })
-}
-
-/// The units of a destination of these bytes.
-fn units_of_bytes(alloc: Global, bytes: &[u8]) -> Result<Units, AllocError>
-    ensures { IfOk result (λ made. units_seen made ≡ units_of bytes.now) }
-{
-    let units = units(alloc, bytes)?;
-    Units::from_slice(alloc, &units)
 }
 
 /// The units of a destination of `len` bytes, one to four, where `number` is what these write.

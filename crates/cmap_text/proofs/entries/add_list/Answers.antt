@@ -1,4 +1,4 @@
-use Rattle.std.proofs.Common.{◌∙◌, refl, sym, ap, take}
+use Rattle.std.proofs.Common.{◌∙◌, sym, ap, Err, take}
 use Rattle.std.specs.Prelude.{map}
 use Rattle.std.proofs.lemmas.List.{length-map}
 use Rattle.std.proofs.lemmas.List.{take-map}
@@ -6,9 +6,8 @@ use Rattle.cmap_files.specs.DeclarationsSeen.{bf_entry_seen, lists_seen}
 use Rattle.cmap_text.proofs.TextsAdded.{cut_back}
 use Rattle.cmap_text.proofs.entries.add_list.Goals as goal
 
-pub returns-in-Err-Refused : goal.returns-in-Err-Refused
-returns-in-Err-Refused c =
-    let ((refused, none), (more, texts)) = rw c.in-Err-Refused.field-0-is at c.in-Err-Refused.ensures.1 in
+pub returns-in-Err-Refused-clause-stays : goal.returns-in-Err-Refused-clause-stays
+returns-in-Err-Refused-clause-stays c = λ wrong is.
+    let (more, texts) = c.in-Err-Refused.ensures.texts c.in-Err-Refused.wrong (ap Err c.in-Err-Refused.field-0-is) in
     let kept = ap (map bf_entry_seen) c.truncate.ensures.items in
-    let stays = cut_back (lists_seen c.args.lists.now) (lists_seen c.add_destinations.new.lists) more _ texts (kept ∙ sym (take-map bf_entry_seen c.len-count.result _) ∙ ap (λ n. take n (map bf_entry_seen c.add_destinations.new.lists.bfs.items)) (c.len-count.ensures ∙ c.args.lists.now.bfs.ok.0 ∙ sym (length-map _ bf_entry_seen))) in
-    (tt, (rw (c.within_list.ensures, refused) (refl, none), stays))
+    cut_back (lists_seen c.args.lists.now) (lists_seen c.add_destinations.new.lists) more _ texts (kept ∙ sym (take-map bf_entry_seen c.len-count.result _) ∙ ap (λ n. take n (map bf_entry_seen c.add_destinations.new.lists.bfs.items)) (c.len-count.ensures ∙ c.args.lists.now.bfs.ok.0 ∙ sym (length-map _ bf_entry_seen)))

@@ -1,32 +1,9 @@
-use Rattle.std.proofs.Common.{Err, refl, sym, subst}
-use Rattle.cmap_text.specs.Salvage.{item}
+use Rattle.std.proofs.Common.{sym, subst}
 use Rattle.cmap_text.specs.SalvageSeen.{ReadsPart, next_seen}
 use Rattle.cmap_text.specs.TextSeen.{said_seen}
-use Rattle.cmap_text.proofs.Faulted.{faulty_part}
 use Rattle.cmap_text.proofs.salvage.read_part.Goals as goal
 
 pub returns-in-InList : goal.returns-in-InList
 returns-in-InList c =
     let said = said_seen c.args.said.now in
     subst (λ n. ReadsPart (next_seen n) said said c.args.reader.now c.pass_list.new.reader c.pass_list.result) (sym c.in-InList.is) (c.pass_list.ensures said)
-
-pub returns-in-Ok-Some : goal.returns-in-Ok-Some
-returns-in-Ok-Some c =
-    let token = rw c.in-Ok-Some.field-0-is at c.in-Ok-Some.ensures.0 in
-    rw (c.in-Item.is, token) c.read_rest.ensures
-
-pub returns-in-Ok-None : goal.returns-in-Ok-None
-returns-in-Ok-None c =
-    let end = rw c.in-Ok-None.field-0-is at c.in-Ok-None.ensures.0 in
-    rw (c.in-Item.is, end) (λ text faults. refl, tt)
-
-pub returns-in-Err : goal.returns-in-Err
-returns-in-Err c =
-    let said = said_seen c.args.said.now in
-    subst (λ n. ReadsPart (next_seen n) said said c.args.reader.now c.next_token.new.self (Err c.in-Err.fault)) (sym c.in-Item.is) (tt, faulty_part item said said c.args.reader.now c.next_token.new.self _ _ c.in-Err.ensures.1 (λ wrong is text faults. rw is.0 refl) (λ wrong is. is.1))
-
-pub returns-in-After : goal.returns-in-After
-returns-in-After c = subst (λ n. ReadsPart (next_seen n) (said_seen c.args.said.now) (said_seen c.read_rest-in-After.new.said) c.args.reader.now c.read_rest-in-After.new.reader c.read_rest-in-After.result) (sym c.in-After.is) c.read_rest-in-After.ensures
-
-pub returns-in-Entry : goal.returns-in-Entry
-returns-in-Entry c = subst (λ n. ReadsPart (next_seen n) (said_seen c.args.said.now) (said_seen c.read_one.new.said) c.args.reader.now c.read_one.new.reader c.read_one.result) (sym c.in-Entry.is) c.read_one.ensures

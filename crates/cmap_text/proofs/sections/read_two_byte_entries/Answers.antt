@@ -4,7 +4,7 @@ use Rattle.cmap_text.specs.TextReading.{code_fault, code_or_closer, entry_after}
 use Rattle.cmap_text.specs.TextSeen.{code_seen, section_seen}
 use Rattle.cmap_text.specs.TokenParsers.{head_in}
 use Rattle.cmap_text.proofs.EntriesRead.{body_next, code_starts}
-use Rattle.cmap_text.proofs.Refusals.{no_memory, passed_on, without_more}
+use Rattle.cmap_text.proofs.Refusals.{passed_on}
 use Rattle.cmap_text.proofs.TokenParsers.{head-shorter, is_there}
 use Rattle.cmap_text.proofs.sections.read_two_byte_entries.Goals as goal
 use Rattle.cmap_text.proofs.sections.read_two_byte_entries.Goals.{In-Some}
@@ -32,22 +32,19 @@ loop-start-smaller-in_ok-read_entry c =
     let section = section_seen c.args.section in
     let entry = entry_after section (code_seen c.in-Some.start) (lists_seen c.loop-start.lists) in
     let stays = rw c.if-not-branch.true at c.in_ok-add_plain.ensures in
-    let adds = rw (stays.0, stays.1) at c.in_ok-read_entry.ensures.0 in
+    let adds = rw (stays.0, stays.1) at c.in_ok-read_entry.ensures.adds.0 in
     omega (arith, head-shorter code_fault (code_or_closer section) c.loop-start.reader _ (starts (goal.at.loop-start-smaller-in_ok-read_entry c).In-Some), (is_there entry c.two_byte_code.new.self _ adds).2)
 
 pub loop-start-preserved-in_ok-read_entry : goal.loop-start-preserved-in_ok-read_entry
 loop-start-preserved-in_ok-read_entry c =
     let stays = rw c.if-not-branch.true at c.in_ok-add_plain.ensures in
-    let adds = rw (stays.0, stays.1) at c.in_ok-read_entry.ensures.0 in
+    let adds = rw (stays.0, stays.1) at c.in_ok-read_entry.ensures.adds.0 in
     record {
       same = rw (c.loop-start.invariant.same, body_next, starts (goal.at.loop-start-preserved-in_ok-read_entry c).In-Some, adds) refl;
       fewer = omega (arith, loop-start-smaller-in_ok-read_entry c, c.loop-start.invariant.fewer);
     }
 
-pub returns-in_err-read_entry : goal.returns-in_err-read_entry
-returns-in_err-read_entry c =
+pub returns-in_err-read_entry-clause-reads : goal.returns-in_err-read_entry-clause-reads
+returns-in_err-read_entry-clause-reads c =
     let stays = rw c.if-not-branch.true at c.in_ok-add_plain.ensures in
-    passed_on c.from_residual-in_err-read_entry.result _ _ c.read_entry.new.reader _ _ c.from_residual-in_err-read_entry.ensures.1 (without_more _ _ _ c.in_err-read_entry.ensures.1) (λ e is. let refused = rw (stays.0, stays.1) at is in rw (c.loop-start.invariant.same, body_next, starts (goal.at.returns-in_err-read_entry c).In-Some, refused) refl)
-
-pub returns-in_err-add_plain : goal.returns-in_err-add_plain
-returns-in_err-add_plain c = no_memory _ _ c.from_residual.result c.from_residual.ensures.1
+    passed_on c.from_residual-in_err-read_entry.result _ _ c.read_entry.new.reader _ _ c.from_residual-in_err-read_entry.ensures.1 c.in_err-read_entry.ensures.adds.1 (λ e is. let refused = rw (stays.0, stays.1) at is in rw (c.loop-start.invariant.same, body_next, starts (goal.at.returns-in_err-read_entry-clause-reads c).In-Some, refused) refl)
