@@ -1,8 +1,8 @@
 //! The codes of a string with their CIDs and their texts, for C.
 
-ghost use Rattle.std.specs.Prelude.{◌≡◌, ◌-◌, ◌<◌, ◌≤◌, None, MatchOption, MatchResult, length};
+ghost use Rattle.std.specs.Prelude.{◌≡◌, ◌-◌, ◌<◌, ◌≤◌, None, MatchOption, MatchResult, length, option_map};
 ghost use Rattle.std.specs.Bool.{MatchBool};
-ghost use Rattle.cmap_unicode.specs.Characters.{font_of};
+ghost use Rattle.cmap_extract.specs.FontSeen.{font_seen, layers_given};
 ghost use Rattle.cmap_c.specs.Extracted.{IsExtracted, bytes_of, character_seen, font_given};
 ghost use Rattle.cmap_c.specs.ExtractedParts.{IsMade, IsPutAt, IsStop};
 ghost use Rattle.cmap_c.specs.Statuses.{number};
@@ -10,10 +10,10 @@ ghost use Rattle.cmap_c.specs.declared.status.Status.TheVariants.{Absent};
 
 use crate::decode::Code;
 use crate::handle::MapHandle;
-use crate::shared::lent;
+use crate::shared::Shared;
 use crate::status::Status;
-use cmap_unicode::{Character, Extractor};
-use hayro_cmap::BfString;
+use cmap_extract::{Character, Font};
+use hayro_cmap::{BfString, CMap, Layer};
 use std::alloc::Global;
 
 /// A code of a string with its CID, and with its text in a room for texts. It has no padding, and each
@@ -71,17 +71,27 @@ pub extern "C" fn hayro_cmap_extract(
     };
     let texts = to_unicode.take(alloc);
     let texts_of_cids = collection.take(alloc);
-    let (to_unicode_map, collection_map) = (lent(&texts), lent(&texts_of_cids));
-    let font = Extractor {
-        encoding: found.value(),
-        to_unicode: to_unicode_map,
-        collection: collection_map,
+    let (texts_layers, collection_layers) = (layers_lent(&texts), layers_lent(&texts_of_cids));
+    let font = Font {
+        encoding: found.value().layers(),
+        to_unicode: texts_layers,
+        collection: collection_layers,
     };
     let status = extract(alloc, &font, string, characters, text, extracted);
     encoding.put(found);
     to_unicode.put_back(texts);
     collection.put_back(texts_of_cids);
     status
+}
+
+/// The layers of the map that was taken from a handle, if it had one.
+fn layers_lent(found: &Option<Box<Shared<CMap>>>) -> Option<&[Layer]>
+    ensures { layers_given result ≡ option_map (λ shared. shared.value) found.now }
+{
+    match found {
+        Some(shared) => Some(shared.value().layers()),
+        None => None,
+    }
 }
 
 impl Extracted {
@@ -100,14 +110,14 @@ impl Extracted {
 /// Cuts a string into codes, as many as there is room for; nothing is extracted before.
 fn extract(
     alloc: Global,
-    font: &Extractor<'_>,
+    font: &Font<'_>,
     string: &[u8],
     characters: &mut [ExtractedCharacter],
     text: &mut [u8],
     extracted: &mut Extracted,
 ) -> u32
     requires { extracted.old ≡ record { made = 0; taken = 0; used = 0 } }
-    ensures { IsExtracted (font_of font.now) string.now characters.old characters.new text.old text.new
+    ensures { IsExtracted (font_seen font.now) string.now characters.old characters.new text.old text.new
         extracted.new result }
 {
     while extracted.made < characters.len() {
@@ -137,16 +147,16 @@ fn extract(
 /// The next code of a string, with its text at an offset of the room for texts.
 fn next_code(
     alloc: Global,
-    font: &Extractor<'_>,
+    font: &Font<'_>,
     string: &[u8],
     start: usize,
     text: &mut [u8],
 ) -> Result<ExtractedCharacter, Status>
     requires { start ≤ length text.old }
     ensures { MatchResult result
-        (IsMade (font_of font.now) string.now start text.old text.new)
+        (IsMade (font_seen font.now) string.now start text.old text.new)
         (λ end. (text.new ≡ text.old)
-        × IsStop (font_of font.now) string.now (length text.old - start) end) }
+        × IsStop (font_seen font.now) string.now (length text.old - start) end) }
 {
     match font.next(alloc, string) {
         Ok(Some(found)) => {

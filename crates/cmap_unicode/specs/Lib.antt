@@ -2,4 +2,3 @@ pub mod Cids
 pub mod TextsOfCodes
 pub mod Characters
 pub mod Collections
-pub mod LayersTried

@@ -7,5 +7,6 @@ mod collections;
 mod extractor;
 
 pub use cids::declared_cid;
+pub use cmap_extract::Character;
 pub use collections::ucs2_name;
-pub use extractor::{Character, Extractor};
+pub use extractor::Extractor;

@@ -5,8 +5,8 @@ use Rattle.std.specs.Option.{option_or}
 use Rattle.std.proofs.lemmas.Option.{none-some, same_Some}
 use Rattle.cmap_tokens.specs.Texts.{Text, more, text_of_characters}
 use Rattle.cmap_values.specs.Only.{IsOnly}
-use Rattle.cmap_unicode.specs.Cids.{declared_cid}
-use Rattle.cmap_unicode.specs.TextsOfCodes.{Font, HasLongText, IsTextOf, by_cid, by_code, text_in, text_of, unknown}
+use Rattle.cmap_extract.specs.Cids.{declared_cid}
+use Rattle.cmap_extract.specs.TextsOfCodes.{Font, HasLongText, IsTextOf, by_cid, by_code, text_in, text_of, unknown}
 
 module _ (font : Font) (code len : ℕ) where
   -- the ToUnicode CMap has no text for the code, which has this CID

@@ -1,0 +1,114 @@
+//! The CMaps of a font, by which its strings are read.
+
+ghost use Rattle.std.specs.Prelude.{◌≡◌, ◌≤◌, ℕ, List, [], Some, IfOk, IfSome, MatchOption, OnErr, length, option_map};
+ghost use Rattle.cmap_tokens.specs.Texts.{more};
+ghost use Rattle.cmap_tokens.specs.TextSeen.{text_seen};
+ghost use Rattle.cmap_values.specs.CodeLengths.{IsCodeLength};
+ghost use Rattle.cmap_extract.specs.Characters.{BeginsWithLongText, IsCharacterOf, IsNextCharacter};
+ghost use Rattle.cmap_extract.specs.FontSeen.{font_seen, layers_given};
+ghost use Rattle.cmap_extract.specs.TextsOfCodes.{HasLongText, text_in, text_of};
+
+use crate::cids::declared_cid;
+use cmap_layers::layers::Layer;
+use cmap_layers::lookup::bf_of;
+use cmap_layers::string_codes::{StringCode, next_code};
+use cmap_runs::runs::Looks;
+use cmap_tokens::utf16::BfString;
+use cmap_values::names::Cid;
+use std::alloc::{AllocError, Global};
+
+/// The layers of the CMaps of a font. ISO 32000-1, 9.7.5 and 9.10.2.
+#[derive(Clone, Copy)]
+pub struct Font<'m> {
+    /// Those of the font's CMap: it cuts strings into codes, and gives codes their CIDs.
+    pub encoding: &'m [Layer],
+    /// Those of the font's ToUnicode CMap, if it has one: it gives codes their texts.
+    pub to_unicode: Option<&'m [Layer]>,
+    /// Those of the map of the font's character collection, if there is one. Its codes are CIDs, to
+    /// which it gives texts.
+    pub collection: Option<&'m [Layer]>,
+}
+
+/// A code of a string, with its CID and its text.
+#[derive(Debug, Drop)]
+pub struct Character {
+    /// The code.
+    pub code: StringCode,
+    /// The CID that the font's CMap declares for it.
+    pub cid: Option<Cid>,
+    /// Its text.
+    pub text: Option<BfString>,
+}
+
+impl Font<'_> {
+    /// The code that a string begins with, with its CID and its text; `None` where the string is empty.
+    ///
+    /// It is the code that `next_code` gives of the layers of the font's CMap; `character_of` has the
+    /// rest.
+    pub fn next(&self, alloc: Global, string: &[u8]) -> Result<Option<Character>, AllocError>
+        ensures character { IfOk result
+            (λ found. MatchOption found (string.now ≡ []) (IsNextCharacter (font_seen self.now) string.now)) }
+        ensures length { IfOk result (λ found. IfSome found (λ character.
+            IsCodeLength character.code.byte_len × (character.code.byte_len ≤ length string.now))) }
+        ensures err { OnErr result (BeginsWithLongText (font_seen self.now) string.now) }
+    {
+        match next_code(self.encoding, string) {
+            Some(code) => Ok(Some(self.character_of(alloc, code)?)),
+            None => Ok(None),
+        }
+    }
+
+    /// A code with its CID and its text.
+    ///
+    /// The CID is the one that the font's CMap declares, as `declared_cid` gives it. The text is that
+    /// of the ToUnicode CMap, where it has one for the code; else that of the CID in the collection's
+    /// map. A code in no codespace range is looked up too.
+    ///
+    /// It fails only if memory runs out, and only for a text of more than one character.
+    pub fn character_of(&self, alloc: Global, code: StringCode) -> Result<Character, AllocError>
+        ensures character { IfOk result (IsCharacterOf (font_seen self.now) code) }
+        ensures err { OnErr result (HasLongText (font_seen self.now) code.code code.byte_len) }
+    {
+        let cid = declared_cid(self.encoding, code.code, code.byte_len);
+        let text = self.text_of(alloc, code.code, cid)?;
+        Ok(Character { code, cid, text })
+    }
+
+    /// The text of a code with this CID.
+    fn text_of(
+        &self,
+        alloc: Global,
+        code: u32,
+        cid: Option<Cid>,
+    ) -> Result<Option<BfString>, AllocError>
+        ensures value { IfOk result
+            (λ text. option_map text_seen text ≡ text_of (font_seen self.now) code cid) }
+        ensures err { OnErr result ((characters : List ℕ)
+            × (text_of (font_seen self.now) code cid ≡ Some (more characters))) }
+    {
+        if let Some(text) = text_in(alloc, self.to_unicode, code)? {
+            return Ok(Some(text));
+        }
+        match cid {
+            Some(cid) => text_in(alloc, self.collection, cid),
+            None => Ok(None),
+        }
+    }
+}
+
+/// The text of a code in the layers of a map, if there is one.
+fn text_in(
+    alloc: Global,
+    layers: Option<&[Layer]>,
+    code: u32,
+) -> Result<Option<BfString>, AllocError>
+    ensures value { IfOk result
+        (λ text. option_map text_seen text ≡ text_in (layers_given layers.entry) code) }
+    ensures err { OnErr result ((characters : List ℕ)
+        × (text_in (layers_given layers.entry) code ≡ Some (more characters))) }
+{
+    match layers {
+        Some(layers) => bf_of(alloc, layers, code, &mut Looks::new()),
+        None => Ok(None),
+    }
+}
