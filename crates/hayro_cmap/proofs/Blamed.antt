@@ -3,13 +3,13 @@ use Rattle.std.proofs.Common.{◌≡◌, ℕ, suc, ◌<◌, refl, sym, ap, ◌�
 use Rattle.std.specs.Prelude.{◌⊎◌, Contains, Option, Some}
 use Rattle.std.specs.Borrow.{Bor}
 use Rattle.std.proofs.Math.ListN.{length-map}
-use Rattle.std.proofs.lemmas.List.{get_or-map, map-append}
+use Rattle.std.proofs.lemmas.List.{get_or-map}
 use Rattle.std.proofs.lemmas.List.Elements.{Contains-get_or}
 use Rattle.cmap_files.specs.Files.{File}
 use Rattle.cmap_values.specs.NamesSeen.{names_seen}
 use Rattle.cmap_values.specs.Only.{HoldsOfNone}
 use Rattle.hayro_cmap.specs.BytesSpent.{About, Refuses, GoesOver, GoesOverAt, of_file, of_use, of_uses}
-use Rattle.hayro_cmap.specs.Budgets.{IsOver, StaysWithin}
+use Rattle.hayro_cmap.specs.Budgets.{StaysWithin}
 use Rattle.cmap_packed.specs.Bundles.{PrefixTables}
 use Rattle.hayro_cmap.specs.Layers.{AreLayers, Means}
 use Rattle.hayro_cmap.specs.Refusals.{Blames, Fails, FailsToOpen, IsFault, IsFaultOfUses, IsFaultWithin, IsMissing, IsUseFault, IsUseFaultWithin}

@@ -1,16 +1,20 @@
 -- Why files have no layers: the file at fault, and what is wrong with it.
-use Rattle.std.specs.Prelude.{◌≡◌, ℕ, zero, suc, ◌<◌, ◌≤◌, List, [], ◌∷◌, ◌++◌, ◌⊎◌, length, Contains, Option, Some, None}
+use Rattle.std.specs.Prelude.{◌≡◌, ℕ, zero, suc, ◌<◌, ◌≤◌, List, [], ◌∷◌, ◌++◌, ◌⊎◌, length, Contains, Option, Some, None, Result}
 use Rattle.std.specs.Borrow.{Bor}
+use Rattle.std.specs.Global.{Vec}
 use Rattle.cmap_files.specs.Files.{File}
 use Rattle.cmap_values.specs.NamesSeen.{names_seen}
 use Rattle.cmap_binary.specs.BinaryFiles.{IsMarkedBinary}
 use Rattle.cmap_packed.specs.Bundles.{PrefixTables}
 use Rattle.cmap_values.specs.Only.{HoldsOfNone}
-use Rattle.cmap_values.specs.Outcomes.{DecidedBy}
+use Rattle.cmap_values.specs.Outcomes.{DecidedBy, Outcome}
+use Rattle.cmap_values.specs.declared.fault.Fault.{Fault}
 use Rattle.cmap_values.specs.declared.fault.Stop.{Stop}
 use Rattle.cmap_text.specs.TextFiles.{IsTextFile}
+use Rattle.cmap_layers.specs.LayersSeen.{layers_seen}
+use Rattle.cmap_layers.specs.declared.layers.Layer.{Layer}
 use Rattle.hayro_cmap.specs.Budgets.{IsOver, OpensFirst, OpensUseFirst, PassesAt}
-use Rattle.hayro_cmap.specs.BytesSpent.{About, Leaves, Refuses, GoesOver, of_use, of_uses}
+use Rattle.hayro_cmap.specs.BytesSpent.{About, Leaves, Refuses, Resolves, GoesOver, of_use, of_uses}
 use Rattle.hayro_cmap.specs.Layers.{Means}
 use Rattle.hayro_cmap.specs.declared.refusal.Cause.{Cause}
 use Rattle.hayro_cmap.specs.declared.refusal.Cause.TheVariants.{Malformed, NoFile, ChainLength, OverBudget}
@@ -60,12 +64,12 @@ module _ (tables : Option PrefixTables) (answer : List ℕ → Option (List ℕ)
   IsUseFaultWithin budget most name names OverBudget = PassesAt (OpensUseFirst answer (OpensFirst (Means tables) answer most) most name) budget names
   IsUseFaultWithin budget most name names cause = IsUseFault most name names cause
 
-  -- the same from one of several uses
-  abbrev pub IsFaultOfUses : Option ℕ → ℕ → List (List ℕ) → List (List ℕ) → Cause → Type 0
-  IsFaultOfUses budget most uses names OverBudget = PassesAt ((of_uses (of_use (Means tables) answer most)).opens_first uses) budget names
-  IsFaultOfUses budget most uses names cause = (name : List ℕ) × Contains uses name × IsUseFault most name names cause
-
 -- ---- private aid
+-- the names lead to a fault from one of several uses, within a budget
+abbrev pub IsFaultOfUses : Option PrefixTables → (List ℕ → Option (List ℕ) → Type 0) → Option ℕ → ℕ → List (List ℕ) → List (List ℕ) → Cause → Type 0
+IsFaultOfUses tables answer budget most uses names OverBudget = PassesAt ((of_uses (of_use (Means tables) answer most)).opens_first uses) budget names
+IsFaultOfUses tables answer budget most uses names cause = (name : List ℕ) × Contains uses name × IsUseFault tables answer most name names cause
+
 -- how a file fails to open, by itself
 abbrev pub FailsToOpen : Option PrefixTables → List ℕ → Option ℕ → Option ℕ → Cause → Type 0
 FailsToOpen tables bytes budget left (Malformed stop) = HoldsOfNone (Means tables bytes) × (stop.offset ≤ length bytes) × IsDecidedAsText tables bytes stop × Leaves budget (length bytes) left
@@ -83,3 +87,9 @@ Fails about key budget left OverBudget = GoesOver about key budget
 -- the names that are added lead to a fault
 abbrev pub Blames : (List (List ℕ) → Cause → Type 0) → List (Bor (List ℕ)) → List (Bor (List ℕ)) → Cause → Type 0
 Blames leads old new cause = (names : List (List ℕ)) × (names_seen new ≡ names_seen old ++ names) × leads names cause
+
+-- what a search for the layers of a file or of uses answers: they are found, and no name is added, or the names that are added lead to a fault
+abbrev pub Searches : {Key : Type 0} → About Key → (List (List ℕ) → Cause → Type 0) → Key → Option ℕ → Option ℕ → List (Bor (List ℕ)) → List (Bor (List ℕ)) → Result (Vec Layer) (Fault Cause) → Type 0
+Searches about leads key budget left old new = Outcome
+    (λ layers. Resolves about key (layers_seen layers.items) budget left × (names_seen new ≡ names_seen old))
+    (λ cause. Fails about key budget left cause × Blames leads old new cause)

@@ -8,11 +8,11 @@ ghost use Rattle.cmap_files.specs.FilesSeen.{file_seen};
 ghost use Rattle.cmap_values.specs.NamesSeen.{names_seen};
 ghost use Rattle.cmap_values.specs.Outcomes.{Outcome, ReadsFile, RefusesWith};
 ghost use Rattle.hayro_cmap.specs.Answers.{IsByName};
-ghost use Rattle.hayro_cmap.specs.BytesSpent.{Leaves, Resolves, of_file, of_use, of_uses};
+ghost use Rattle.hayro_cmap.specs.BytesSpent.{Leaves, of_file, of_use, of_uses};
 ghost use Rattle.cmap_layers.specs.Layers.{layer_of};
 ghost use Rattle.hayro_cmap.specs.Layers.{Means};
 ghost use Rattle.cmap_layers.specs.LayersSeen.{layers_seen, metadata_seen};
-ghost use Rattle.hayro_cmap.specs.Refusals.{Blames, Fails, FailsToOpen, IsDecidedAsText, IsFaultOfUses, IsFaultWithin, IsUseFaultWithin};
+ghost use Rattle.hayro_cmap.specs.Refusals.{FailsToOpen, IsDecidedAsText, IsFaultOfUses, IsFaultWithin, IsUseFaultWithin, Searches};
 
 use crate::budget::spend;
 use crate::refusal::Cause;
@@ -48,14 +48,9 @@ pub(crate) fn find_layers<'a, S: Source>(
 ) -> Result<Vec<Layer>, Fault<Cause>>
     requires can_ask { S.can_ask source.now }
     requires by_name { IsByName (S.answers source.now) }
-    ensures { Outcome
-        (λ layers. Resolves (of_file (Means (tables_given bundle.entry)) (S.answers source.now) (suc below))
-        bytes.now (layers_seen layers.items) left.old left.new
-        × (names_seen names.new.items ≡ names_seen names.old.items))
-        (λ cause. Fails (of_file (Means (tables_given bundle.entry)) (S.answers source.now) (suc below))
-        bytes.now left.old left.new cause
-        × Blames (IsFaultWithin (tables_given bundle.entry) (S.answers source.now) left.old (suc below) bytes.now) names.old.items names.new.items cause)
-        result }
+    ensures { Searches (of_file (Means (tables_given bundle.entry)) (S.answers source.now) (suc below))
+        (IsFaultWithin (tables_given bundle.entry) (S.answers source.now) left.old (suc below) bytes.now)
+        bytes.now left.old left.new names.old.items names.new.items result }
 {
     let file = open_file(alloc, bytes, bundle, left)?;
     let base = find_base(alloc, &file.uses, bundle, source, below, left, names);
@@ -96,14 +91,9 @@ fn find_base<'a, S: Source>(
 ) -> Result<Vec<Layer>, Fault<Cause>>
     requires can_ask { S.can_ask source.now }
     requires by_name { IsByName (S.answers source.now) }
-    ensures { Outcome
-        (λ layers. Resolves (of_uses (of_use (Means (tables_given bundle.entry)) (S.answers source.now) below))
-        (names_seen uses.now) (layers_seen layers.items) left.old left.new
-        × (names_seen names.new.items ≡ names_seen names.old.items))
-        (λ cause. Fails (of_uses (of_use (Means (tables_given bundle.entry)) (S.answers source.now) below))
-        (names_seen uses.now) left.old left.new cause
-        × Blames (IsFaultOfUses (tables_given bundle.entry) (S.answers source.now) left.old below (names_seen uses.now)) names.old.items names.new.items cause)
-        result }
+    ensures { Searches (of_uses (of_use (Means (tables_given bundle.entry)) (S.answers source.now) below))
+        (IsFaultOfUses (tables_given bundle.entry) (S.answers source.now) left.old below (names_seen uses.now))
+        (names_seen uses.now) left.old left.new names.old.items names.new.items result }
 {
     let mut base = Vec::new(alloc);
     for name in uses {
@@ -126,14 +116,9 @@ fn find_used<'a, S: Source>(
 ) -> Result<Vec<Layer>, Fault<Cause>>
     requires can_ask { S.can_ask source.now }
     requires by_name { IsByName (S.answers source.now) }
-    ensures { Outcome
-        (λ layers. Resolves (of_use (Means (tables_given bundle.entry)) (S.answers source.now) below)
-        name.now (layers_seen layers.items) left.old left.new
-        × (names_seen names.new.items ≡ names_seen names.old.items))
-        (λ cause. Fails (of_use (Means (tables_given bundle.entry)) (S.answers source.now) below)
-        name.now left.old left.new cause
-        × Blames (IsUseFaultWithin (tables_given bundle.entry) (S.answers source.now) left.old below name.now) names.old.items names.new.items cause)
-        result }
+    ensures { Searches (of_use (Means (tables_given bundle.entry)) (S.answers source.now) below)
+        (IsUseFaultWithin (tables_given bundle.entry) (S.answers source.now) left.old below name.now)
+        name.now left.old left.new names.old.items names.new.items result }
 {
     names.push(name)?;
     if below == 0 {
