@@ -1,5 +1,6 @@
 use Rattle.std.proofs.Common.{◌≡◌, ◌+◌, [], ◌∷◌, ◌++◌, drop, arith, length-append}
 use Rattle.std.specs.Char.Utf16.{utf16_chars, lone_unit_char}
+use Rattle.std.proofs.lemmas.Option.{MatchOption-from_none}
 use Rattle.std.proofs.lemmas.Grind.{common_steps}
 use Rattle.cmap_tokens.specs.Texts.{all_some, characters}
 use Rattle.cmap_tokens.proofs.TextsOfUnits.{lone_at, pair_at}
@@ -21,3 +22,12 @@ returns-in_err-from_u32-clause-value c = let lone = alone (goal.at.returns-in_er
 
 pub returns-clause-value : goal.returns-clause-value
 returns-clause-value c = let lone = alone (goal.at.returns-clause-value c).After-from_u32 in grind (arith, common_steps)
+
+pub returns-in-Some-clause-scalar : goal.returns-in-Some-clause-scalar
+returns-in-Some-clause-scalar c = c.in-Some.ensures.scalar
+
+pub returns-in_err-from_u32-clause-after : goal.returns-in_err-from_u32-clause-after
+returns-in_err-from_u32-clause-after c = MatchOption-from_none _ _ c.from_residual.ensures
+
+pub returns-in_err-from_u32-clause-scalar : goal.returns-in_err-from_u32-clause-scalar
+returns-in_err-from_u32-clause-scalar c = MatchOption-from_none _ _ c.from_residual.ensures

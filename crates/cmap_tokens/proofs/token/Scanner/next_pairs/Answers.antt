@@ -1,5 +1,6 @@
-use Rattle.std.proofs.Common.{◌+◌, ◌*◌, sym, ap, ◌∙◌}
+use Rattle.std.proofs.Common.{◌+◌, ◌*◌, sym, ap, refl, ◌∙◌}
 use Rattle.std.proofs.lemmas.List.{take_rest}
+use Rattle.std.proofs.lemmas.Option.{MatchOption-from_none}
 use Rattle.cmap_tokens.specs.Scanner.{spaced_pairs}
 use Rattle.cmap_tokens.specs.Tokens.{String}
 use Rattle.cmap_tokens.proofs.AfterBlank.{pairs_first}
@@ -15,5 +16,11 @@ returns-clause-token c =
 pub returns-clause-front : goal.returns-clause-front
 returns-clause-front c = c.in_ok-count.ensures.front ∙ ap spaced_pairs (left_is _ _ _ c.self.view_is)
 
-pub returns-in_err-count-clause-front : goal.returns-in_err-count-clause-front
-returns-in_err-count-clause-front c = c.from_residual.ensures ∙ c.in_err-count.ensures.front ∙ ap spaced_pairs (left_is _ _ _ c.self.view_is)
+pub returns-in_err-count : goal.returns-in_err-count
+returns-in_err-count c = record {
+  token = MatchOption-from_none _ _ c.from_residual.ensures;
+  front = c.from_residual.ensures ∙ c.in_err-count.ensures.front ∙ ap spaced_pairs (left_is _ _ _ c.self.view_is);
+  few = MatchOption-from_none _ _ c.from_residual.ensures;
+  moves = MatchOption-from_none _ _ c.from_residual.ensures;
+  stays = λ _. refl;
+}

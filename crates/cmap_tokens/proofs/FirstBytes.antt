@@ -1,0 +1,97 @@
+-- What is read of a text, by its first byte.
+use Rattle.std.proofs.Common.{◌≡◌, ℕ, ◌+◌, ◌-◌, ◌<◌, ◌≤◌, ◌==◌, true, false, List, [], ◌∷◌, length, get_or, take, drop, Option, None, Some, inl, inr, one-add, ap, refl, sym, arith, length-drop}
+use Rattle.std.specs.Prelude.{◌⊎◌, IfSome}
+use Rattle.std.specs.List.{prefix_len}
+use Rattle.std.proofs.lemmas.Bool.{and_left, cond-true, ne_eqb, or_from}
+use Rattle.std.proofs.lemmas.List.{take_rest}
+use Rattle.cmap_tokens.specs.Bytes.{is_white}
+use Rattle.cmap_tokens.specs.Numbers.{are_digits, decimal_front, integer_in_base, is_exponent, radix_integer, without_sign}
+use Rattle.cmap_tokens.specs.Scanner.{spaced_decimal}
+use Rattle.cmap_tokens.specs.Tokens.{is_hex_body, opened}
+use Rattle.cmap_tokens.specs.TokenReading.{one_more, hex_len, text_len, string_len, malformed_len, escape, first_part, return_len}
+
+-- what is found within the rest after the first bytes is found within the text
+pub rest_within : (found : Option ℕ) (text : List ℕ) (n : ℕ) → n ≤ length text → IfSome found (λ len. len ≤ n + length (take (length text - n) (drop n text))) → IfSome found (λ len. len ≤ length text)
+rest_within None text n some within = tt
+rest_within (Some len) text n some within = omega (arith, some, within, ap length (take_rest text n), length-drop n text)
+
+-- ---- strings
+pub hex_string_len : (text : List ℕ) → get_or text 0 0 ≡ 60 → string_len text ≡ one_more (hex_len (drop 1 text))
+hex_string_len [] is = absurd (omega (arith, is))
+hex_string_len (b ∷ text) is = rw is refl
+
+pub text_string_len : (text : List ℕ) → get_or text 0 0 ≡ 40 → string_len text ≡ one_more (text_len opened (drop 1 text))
+text_string_len [] is = absurd (omega (arith, is))
+text_string_len (b ∷ text) is = rw is refl
+
+pub no_string_len : (text : List ℕ) → (get_or text 0 0 ≡ 60 → ⊥) → (get_or text 0 0 ≡ 40 → ⊥) → string_len text ≡ None
+no_string_len [] not_less not_open = refl
+no_string_len (b ∷ text) not_less not_open = rw (ne_eqb b 60 not_less, ne_eqb b 40 not_open) refl
+
+-- ---- what is no token
+pub malformed_less : (text : List ℕ) → get_or text 0 0 ≡ 60 → malformed_len text ≡ 1 + prefix_len is_hex_body (drop 1 text)
+malformed_less [] is = absurd (omega (arith, is))
+malformed_less (b ∷ text) is = rw is refl
+
+pub malformed_greater : (text : List ℕ) → get_or text 0 0 ≡ 62 → malformed_len text ≡ 1
+malformed_greater [] is = absurd (omega (arith, is))
+malformed_greater (b ∷ text) is = rw is refl
+
+pub malformed_open : (text : List ℕ) → get_or text 0 0 ≡ 40 → malformed_len text ≡ length text
+malformed_open [] is = absurd (omega (arith, is))
+malformed_open (b ∷ text) is = rw is (one-add (length text))
+
+pub malformed_none : (text : List ℕ) → (get_or text 0 0 ≡ 60 → ⊥) → (get_or text 0 0 ≡ 62 → ⊥) → (get_or text 0 0 ≡ 40 → ⊥) → malformed_len text ≡ 0
+malformed_none [] not_less not_greater not_open = refl
+malformed_none (b ∷ text) not_less not_greater not_open = rw (ne_eqb b 60 not_less, ne_eqb b 62 not_greater, ne_eqb b 40 not_open) refl
+
+-- ---- numbers
+pub exponent_rest : (text : List ℕ) → (get_or text 0 0 ≡ 101) ⊎ (get_or text 0 0 ≡ 69) → are_digits 10 (without_sign (drop 1 text)) ≡ is_exponent text
+exponent_rest [] (inl is) = absurd (omega (arith, is))
+exponent_rest [] (inr is) = absurd (omega (arith, is))
+exponent_rest (b ∷ text) (inl is) = rw is refl
+exponent_rest (b ∷ text) (inr is) = rw is refl
+
+pub no_exponent : (text : List ℕ) → (get_or text 0 0 ≡ 101 → ⊥) → (get_or text 0 0 ≡ 69 → ⊥) → false ≡ is_exponent text
+no_exponent [] small large = refl
+no_exponent (b ∷ text) small large = sym (and_left _ _ (or_from _ _ (ne_eqb b 101 small) (ne_eqb b 69 large)))
+
+pub radix_two : (run : List ℕ) → (get_or run 1 0 ≡ 35 → ⊥) → get_or run 2 0 ≡ 35 → integer_in_base (take 2 run) (drop 3 run) ≡ radix_integer run
+unfolding radix_integer
+radix_two [] first is = absurd (omega (arith, is))
+radix_two (a ∷ []) first is = absurd (omega (arith, is))
+radix_two (a ∷ b ∷ []) first is = absurd (omega (arith, is))
+radix_two (a ∷ b ∷ c ∷ digits) first is = let other : (b == 35) ≡ false = ne_eqb b 35 first in rw (other, is) refl
+
+pub radix_one : (run : List ℕ) → get_or run 1 0 ≡ 35 → integer_in_base (take 1 run) (drop 2 run) ≡ radix_integer run
+unfolding radix_integer
+radix_one [] is = absurd (omega (arith, is))
+radix_one (a ∷ []) is = absurd (omega (arith, is))
+radix_one (a ∷ b ∷ []) is = rw is refl
+radix_one (a ∷ b ∷ c ∷ digits) is = rw is refl
+
+pub no_radix : (run : List ℕ) → (get_or run 1 0 ≡ 35 → ⊥) → (get_or run 2 0 ≡ 35 → ⊥) → None ≡ radix_integer run
+unfolding radix_integer
+no_radix [] first second = refl
+no_radix (a ∷ []) first second = refl
+no_radix (a ∷ b ∷ []) first second = let other : (b == 35) ≡ false = ne_eqb b 35 first in rw other refl
+no_radix (a ∷ b ∷ c ∷ digits) first second = let other : (b == 35) ≡ false = ne_eqb b 35 first in let nor : (c == 35) ≡ false = ne_eqb c 35 second in rw (other, nor) refl
+
+pub decimal_after : (text : List ℕ) → is_white (get_or text 0 0) ≡ true → decimal_front (drop 1 text) ≡ spaced_decimal text
+decimal_after text white = sym (cond-true _ _ _ white)
+
+-- ---- parts of strings
+pub part_escape : (body : List ℕ) → get_or body 0 0 ≡ 92 → ((escape (drop 1 body)).0, 1 + (escape (drop 1 body)).1) ≡ first_part body
+unfolding first_part
+part_escape [] is = absurd (omega (arith, is))
+part_escape (b ∷ body) is = rw is refl
+
+pub part_return : (body : List ℕ) → get_or body 0 0 ≡ 13 → (Some 10, return_len (drop 1 body)) ≡ first_part body
+unfolding first_part
+part_return [] is = absurd (omega (arith, is))
+part_return (b ∷ body) is = rw is refl
+
+pub part_plain : (body : List ℕ) → 0 < length body → (get_or body 0 0 ≡ 92 → ⊥) → (get_or body 0 0 ≡ 13 → ⊥) → (Some (get_or body 0 0), 1) ≡ first_part body
+unfolding first_part
+part_plain [] some not_escape not_return = absurd (omega (arith, some))
+part_plain (b ∷ body) some not_escape not_return = rw (ne_eqb b 92 not_escape, ne_eqb b 13 not_return) refl
