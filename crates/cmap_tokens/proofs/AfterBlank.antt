@@ -7,13 +7,13 @@ use Rattle.std.specs.Option.{option_map_or, option_or}
 use Rattle.std.proofs.lemmas.Option.{none-some, same_Some}
 use Rattle.std.proofs.Math.Seq.{drop-cons}
 use Rattle.std.proofs.lemmas.Bool.{and_parts, eqb-true, false≢true, leb-true, ltb-true, or_right}
-use Rattle.std.proofs.lemmas.List.{drop_at, get_or_past, take-append-drop, take_more}
+use Rattle.std.proofs.lemmas.List.{drop_at, take-append-drop, take_more}
 use Rattle.cmap_tokens.specs.Bytes.{is_white, is_regular}
 use Rattle.cmap_tokens.specs.Numbers.{Integer, decimal_front, digits_len, digits_value, digits_number}
 use Rattle.cmap_tokens.specs.Scanner.{FirstToken, OnlyFront, closed_number, closed_pairs, closed_parts, short_pairs, spaced_pairs, spaced_parts, spaced_decimal, spaced_two_bytes}
 use Rattle.cmap_tokens.specs.Strings.{IsOnlyValue, WritesBytes, WritesParts, WritesTwoBytes, hex_value, inside}
 use Rattle.cmap_tokens.specs.Tokens.{Token, Name, Numeral, String, Front, IsHexString, IsToken, begins_name, begins_regular, is_hex_body}
-use Rattle.cmap_tokens.proofs.ByteTests.{all_append, all_front, chosen, all_weaker, other_byte}
+use Rattle.cmap_tokens.proofs.ByteTests.{all_append, all_front, byte_within, chosen, all_weaker, other_byte}
 use Rattle.cmap_tokens.proofs.Digits.{pairs_read, pairs_split, digit_regular, digits_numeral, digits_small, paired, written}
 use Rattle.cmap_tokens.proofs.Fronts.{front_only}
 use Rattle.cmap_tokens.proofs.StringValues.{Answers, inside_is, one_value, plain_value}
@@ -67,7 +67,7 @@ closed_first blank count n text white some few e =
     let rest = drop (len + 1) text in
     let (ends, read) = chosen (get_or text len 0 == 62) (digits_value 16 digits) n e in
     let last : get_or text len 0 ≡ 62 = eqb-true _ 62 ends in
-    let within : len < length text = grind (arith, last, get_or_past text len 0) in
+    let within : len < length text = byte_within text len 62 last (omega arith) in
     let size : length digits ≡ len = length-take-le len text (omega (arith, within)) in
     let is = written 16 8 digits n (omega arith) (omega (arith, size, few)) read in
     let whole : text ≡ (digits ++ 62 ∷ []) ++ rest = sym (take-append-drop (len + 1) text) ∙ ap (λ front. front ++ rest) (take_more text len 0 within ∙ ap (λ b. digits ++ b ∷ []) last) in
@@ -133,7 +133,7 @@ parts_of blank count text first white some few e =
     let (high, closed, counted) = parts_are (digits_value 16 front) (closed_number len after) (4 + count) first e in
     let (ends, low) = chosen (get_or after len 0 == 62) (digits_value 16 rest) first.2 closed in
     let last : get_or after len 0 ≡ 62 = eqb-true _ 62 ends in
-    let within : len < length after = grind (arith, last, get_or_past after len 0) in
+    let within : len < length after = byte_within after len 62 last (omega arith) in
     let front_size : length front ≡ 8 = length-take-le 8 text (omega (arith, within, length-drop 8 text)) in
     let rest_size : length rest ≡ len = length-take-le len after (omega (arith, within)) in
     let high_is = written 16 8 front first.1 (omega arith) (omega (arith, front_size)) high in

@@ -1,9 +1,10 @@
 -- What a test of bytes tells of a byte, and of the bytes that a text begins with.
-use Rattle.std.proofs.Common.{◌≡◌, ℕ, ◌+◌, ◌≤◌, Bool, true, false, ◌==◌, List, [], ◌∷◌, ◌++◌, length, take, drop, zero, suc, one-add, refl, sym, ap, ◌∙◌, subst, inl, inr, arith}
+use Rattle.std.proofs.Common.{◌≡◌, ℕ, ◌+◌, ◌<◌, ◌≤◌, Bool, true, false, ◌==◌, List, [], ◌∷◌, ◌++◌, length, get_or, take, drop, zero, suc, one-add, refl, sym, ap, ◌∙◌, subst, inl, inr, arith}
 use Rattle.std.specs.Prelude.{Option, None, Some, if◌then◌else◌}
 use Rattle.std.proofs.lemmas.Option.{none-some}
 use Rattle.std.specs.List.{list_any, list_all, prefix_len}
-use Rattle.std.proofs.lemmas.Bool.{and_from, and_parts, both_ways, cases_Bool, eqb-true, false_from_ne_true, false≢true, ne_eqb, or_from, or_parts}
+use Rattle.std.proofs.lemmas.Bool.{and_from, and_parts, both_ways, cases_Bool, cases_lt, eqb-true, false_from_ne_true, false≢true, ne_eqb, or_from, or_parts}
+use Rattle.std.proofs.lemmas.List.{get_or_past}
 use Rattle.cmap_tokens.specs.Bytes.{begins}
 use Rattle.cmap_tokens.specs.Strings.{begins_with}
 
@@ -19,6 +20,10 @@ other_byte p k c fails passes = ne_eqb c k (λ same. both_ways (p c) (ap p same 
 -- by whether a byte is this one
 pub by_byte : (b k : ℕ) (P : ℕ → Type 0) → P k → ((b == k) ≡ false → P b) → P b
 by_byte b k P is other = elim (cases_Bool (b == k)) [ inl same ↦ subst P (sym (eqb-true b k same)) is | inr fails ↦ other fails ]
+
+-- a byte that isn't 0 lies within the text
+pub byte_within : (text : List ℕ) (i b : ℕ) → get_or text i 0 ≡ b → 0 < b → i < length text
+byte_within text i b is some = elim (cases_lt i (length text)) [ inl within ↦ within | inr past ↦ absurd (omega (arith, is, some, get_or_past text i 0 past)) ]
 
 pub begins_with_is : (c : ℕ) (text : List ℕ) → begins_with c text ≡ true → (rest : List ℕ) × (text ≡ c ∷ rest)
 begins_with_is c [] e = absurd (false≢true e)

@@ -5,10 +5,10 @@ use Rattle.std.specs.List.{list_all, prefix_len}
 use Rattle.std.specs.Option.{option_map_or}
 use Rattle.std.proofs.Math.Seq.{get_or-append_seam}
 use Rattle.std.proofs.lemmas.Bool.{cases_Bool, eq-eqb, eqb-true}
-use Rattle.std.proofs.lemmas.List.{at_drop_more, get_or_past, nil_from_length, take_all, take_more}
+use Rattle.std.proofs.lemmas.List.{at_drop_more, nil_from_length, take_all, take_more}
 use Rattle.cmap_tokens.specs.Tokens.{Inside, after_byte, closes_at_end, opened, is_hex_body, IsHexString, IsString}
 use Rattle.cmap_tokens.specs.TokenReading.{one_more, hex_len, text_len, string_len, is_string, is_paired}
-use Rattle.cmap_tokens.proofs.ByteTests.{all_prefix, by_byte, prefix_len-append_all}
+use Rattle.cmap_tokens.proofs.ByteTests.{all_prefix, by_byte, byte_within, prefix_len-append_all}
 
 one_more_some : (count : Option ℕ) (m : ℕ) → one_more count ≡ Some m → (k : ℕ) × (count ≡ Some k) × (m ≡ suc k)
 one_more_some None m e = cc
@@ -23,7 +23,7 @@ hex_is text n e =
           let last : get_or text len 0 ≡ 62 = eqb-true _ 62 ends in
           let at : 1 + len ≡ n = let some = rw ends at e in cc in
           let long : n ≡ len + 1 = omega (arith, at) in
-          let within : len < length text = grind (arith, last, get_or_past text len 0) in
+          let within : len < length text = byte_within text len 62 last (omega arith) in
           ((take len text, rw (long, take_more text len 0 within, last) refl, all_prefix is_hex_body text), omega (arith, long, within))
       | inr other ↦ let at = rw other at e in cc
     ]

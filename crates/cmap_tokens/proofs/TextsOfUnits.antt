@@ -13,6 +13,7 @@ use Rattle.std.proofs.lemmas.List.{drop_all, drop_more, get_or_past}
 use Rattle.std.proofs.lemmas.Option.{slice_get-get_or}
 use Rattle.std.proofs.lemmas.Result.{OkIff-at_err, OkIff-at_ok}
 use Rattle.std.proofs.lemmas.Str.{utf16_chars-nil, chars-append, chars-encodes}
+use Rattle.cmap_tokens.proofs.ByteTests.{chosen}
 use Rattle.cmap_tokens.specs.Texts.{all_some, characters, only_character, shifted}
 
 -- what is left of the characters, from an index on
@@ -25,6 +26,11 @@ characters_end front last i past = ap characters (drop_all i (front ++ last ∷ 
 -- ---- the character at an index
 low_within : (us : List ℕ) (i v : ℕ) → v ≡ get_or us i 0 → is_low_surrogate v ≡ true → i < length us
 low_within us i v v_is low = grind (arith, nat_tests, v_is, low, get_or_past us i 0)
+
+pub pair_within : (us : List ℕ) (i u v c : ℕ) → v ≡ get_or us (i + 1) 0 → Some c ≡ (if is_high_surrogate u && is_low_surrogate v then Some (surrogate_pair_char u v) else None) → i + 1 < length us
+pair_within us i u v c v_is found =
+    let (pair, same) = chosen (is_high_surrogate u && is_low_surrogate v) (Some (surrogate_pair_char u v)) c (sym found) in
+    low_within us (i + 1) v v_is (and_parts (is_high_surrogate u) (is_low_surrogate v) pair).1
 
 pub pair_at : (us : List ℕ) (i u v c : ℕ) → i < length us → u ≡ get_or us i 0 → v ≡ get_or us (i + 1) 0 → Some c ≡ (if is_high_surrogate u && is_low_surrogate v then Some (surrogate_pair_char u v) else None)
     → characters_from us i ≡ option_map (λ cs. c ∷ cs) (characters_from us (i + 2))

@@ -1,7 +1,7 @@
 use Rattle.std.proofs.Common.{ap, ◌∙◌, refl, rules, subst}
 use Rattle.std.proofs.lemmas.Bool.{false≢true}
 use Rattle.std.proofs.lemmas.List.{take_rest}
-use Rattle.std.proofs.lemmas.Result.{MatchResult-from_err}
+use Rattle.std.proofs.lemmas.Result.{IfOk-from_err, MatchResult-from_err}
 use Rattle.cmap_tokens.specs.Gaps.{IsBlank}
 use Rattle.cmap_tokens.specs.Tokens.{IsMalformed}
 use Rattle.cmap_tokens.specs.Scanner.{rest_of}
@@ -13,10 +13,10 @@ returns-in_err-token c =
     let malformed = subst IsMalformed (take_rest _ c.self.inside.offset ∙ ap rest_of c.self.view_is) c.in_err-token.ensures.outcome in
     let left = leaves_malformed _ malformed in
     record {
-      token = search rules;
+      token = IfOk-from_err _ _ c.from_residual.ensures.0;
       end = search rules;
       malformed = (λ e. malformed, λ h. c.from_residual.ensures.0);
-      end_stays = search rules;
+      end_stays = λ _. refl;
       err_stays = search rules;
       left = MatchResult-from_err c.from_residual.result _ _ c.from_residual.ensures.0 (λ _. left);
     }
@@ -25,11 +25,11 @@ pub returns-in_default : goal.returns-in_default
 returns-in_default c =
     let blank = subst IsBlank (take_rest _ c.self.inside.offset ∙ ap rest_of c.self.view_is) (rw c.in_default.is at c.in_ok-token.ensures.outcome) in
     record {
-      token = search rules;
+      token = tt;
       end = (λ e. blank, λ h. refl);
       malformed = (λ e. absurd (false≢true e), λ malformed. absurd (malformed.0 blank));
-      end_stays = search rules;
-      err_stays = search rules;
+      end_stays = λ _. refl;
+      err_stays = tt;
       left = leaves_blank _ blank;
     }
 
@@ -40,7 +40,7 @@ returns c =
       token = read;
       end = (λ e. cc, λ blank. absurd (front_not_blank read.2.front blank));
       malformed = (λ e. absurd (false≢true e), λ malformed. absurd (malformed.1 _ _ _ _ read.2.front));
-      end_stays = search rules;
-      err_stays = search rules;
+      end_stays = λ e. cc;
+      err_stays = tt;
       left = left_after _ _ _ read;
     }
