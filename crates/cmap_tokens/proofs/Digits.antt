@@ -2,11 +2,11 @@
 use Rattle.std.proofs.Common.{◌++◌, suc, zero, Bool, None, inl, inr, length-take-le, ◌≡◌, ℕ, ◌+◌, ◌*◌, ◌-◌, ◌^◌, ◌<◌, ◌≤◌, min, List, length, get_or, take, drop, true, ap, sym, ◌∙◌, ⊎_elim, arith, [], ◌∷◌, map, refl, ◌%◌, ◌/◌, pos, false, ◌==◌, Some}
 use Rattle.std.specs.Char.{digit_value, is_digit}
 use Rattle.std.specs.List.{list_all, prefix_len}
-use Rattle.std.proofs.lemmas.Bool.{and_from, and_right, leb-true, lt-ltb, ltb-false, cases_Bool, false≢true, cases_lt, and_parts, ltb-true, le-leb, not_from_false}
+use Rattle.std.proofs.lemmas.Bool.{and_cases, and_from, and_left, and_right, cond-false, lt-leb, not_from_true, leb-true, lt-ltb, ltb-false, cases_Bool, false≢true, cases_lt, and_parts, ltb-true, le-leb, not_from_false}
 use Rattle.std.proofs.lemmas.Int.Digits.{number_after_ge, number_push, digits_value_is, digits_value_more, number_lt}
 use Rattle.std.proofs.Math.Nat.{mul-le-mul_left, mul-le-mul_right, pow-le-pow_right, pow-suc}
 use Rattle.cmap_tokens.specs.Numbers.{decimal_front, digits_len, leading_decimal, digits_number, are_digits, digits_value, Integer, integer, numeral}
-use Rattle.std.specs.Prelude.{◌&&◌, IfSome, Option, nat_lt, option_map, unwrap_or, nat_le, codes}
+use Rattle.std.specs.Prelude.{◌&&◌, ◌⊎◌, IfSome, Option, nat_lt, option_map, unwrap_or, nat_le, codes}
 use Rattle.std.specs.Int.Digits.{AllBelowBase, number_from_digits_after}
 use Rattle.std.proofs.lemmas.List.{drop_more, length-map, length-take, map-append, take-append-drop, take-take, take_more}
 use Rattle.cmap_tokens.specs.TokenReading.{weight, leading_digits, octal_len}
@@ -174,6 +174,40 @@ spaced_front len (blank ∷ text) found some few within before after is =
     let white : is_white (get_or text len 0) ≡ true = ap (λ i. is_white (get_or (blank ∷ text) i 0)) (sym place) ∙ after in
     let count : len + 1 - 1 ≡ len = omega arith in
     rw before (closed_front len text found some few (omega (arith, within)) white (is ∙ ap (λ n. digits_value 10 (take n text)) count))
+
+-- the digits that a text begins with, and the byte after them
+pub decimal_from : (text : List ℕ) (number len : ℕ) → Some (number, len) ≡ leading_decimal text → (len ≡ 0 → ⊥) → is_regular (get_or text len 0) ≡ false → (Some (number, len) ≡ decimal_front text) × (len ≤ length text)
+decimal_from text number len e some special =
+    let n = digits_len 10 text in
+    let few : Bool = nat_le n 18 in
+    let ends : Bool = nat_lt n (length text) in
+    let (test, same) = chosen (few && ends) (Some (digits_number 10 (take n text), n)) (number, len) (sym e) in
+    let found : n ≡ len = ap (λ p. p.1) (same_Some _ _ same) in
+    let (is_few, within) = and_parts few ends test in
+    let stops : is_regular (get_or text n 0) ≡ false = ap (λ k. is_regular (get_or text k 0)) found ∙ special in
+    let filled : nat_le 1 n ≡ true = le-leb 1 n (omega (arith, found, some)) in
+    (sym (rw (filled, is_few, within, stops) same), omega (arith, found, ltb-true n (length text) within))
+
+pub no_decimal : (text : List ℕ) → None ≡ leading_decimal text → None ≡ decimal_front text
+no_decimal text e =
+    let n = digits_len 10 text in
+    elim (cases_Bool (nat_le n 18 && nat_lt n (length text))) [
+      | inl both ↦ let clash = rw both at e in cc
+      | inr fails ↦ elim (and_cases (nat_le n 18) (nat_lt n (length text)) fails) [
+          | inl many ↦ sym (cond-false _ _ _ (and_left _ _ (and_left _ _ (and_right (nat_le 1 n) _ many))))
+          | inr open_end ↦ sym (cond-false _ _ _ (and_left _ _ (and_right (nat_le 1 n && nat_le n 18) _ open_end)))
+        ]
+    ]
+
+pub not_decimal : (text : List ℕ) (number len : ℕ) → Some (number, len) ≡ leading_decimal text → (len ≡ 0) ⊎ (is_regular (get_or text len 0) ≡ true) → None ≡ decimal_front text
+not_decimal text number len e fails =
+    let n = digits_len 10 text in
+    let (test, same) = chosen (nat_le n 18 && nat_lt n (length text)) (Some (digits_number 10 (take n text), n)) (number, len) (sym e) in
+    let found : n ≡ len = ap (λ p. p.1) (same_Some _ _ same) in
+    elim fails [
+      | inl none ↦ sym (cond-false _ _ _ (and_left _ _ (and_left _ _ (and_left _ (nat_le n 18) (lt-leb 1 n (omega (arith, found, none)))))))
+      | inr regular ↦ sym (cond-false _ _ _ (and_right (nat_le 1 n && nat_le n 18 && nat_lt n (length text)) _ (not_from_true _ (ap (λ k. is_regular (get_or text k 0)) found ∙ regular))))
+    ]
 
 prefix_take : (p : ℕ → Bool) (n : ℕ) (text : List ℕ) → prefix_len p (take n text) ≡ min n (prefix_len p text)
 prefix_take p zero text = omega arith

@@ -1,6 +1,7 @@
-use Rattle.std.proofs.Common.{◌≡◌, ℕ, ◌+◌, ◌*◌, ◌-◌, ◌≤◌, ◌%◌, ◌==◌, false, List, [], ◌∷◌, ◌++◌, length, get_or, take, drop, vec_len, vec_capacity, inl, inr, refl, sym, ap, ◌∙◌, arith, append_assoc, length-take, length-drop}
+use Rattle.std.proofs.Common.{◌≡◌, ℕ, ◌+◌, ◌*◌, ◌-◌, ◌≤◌, ◌%◌, ◌==◌, false, List, [], ◌∷◌, ◌++◌, length, get_or, take, drop, vec_len, vec_capacity, inl, inr, refl, sym, ap, ◌∙◌, arith, append-nil, append_assoc, length-take, length-drop}
 use Rattle.std.proofs.lemmas.Bool.{cases_eq, ltb-false, ltb-true, ne_eqb}
 use Rattle.std.proofs.lemmas.List.{nil_from_length, take_rest}
+use Rattle.std.proofs.lemmas.Result.{IfOk-from_err}
 use Rattle.cmap_tokens.specs.Texts.{byte_pairs, units_of}
 use Rattle.cmap_tokens.proofs.utf16.units.Goals as goal
 use Rattle.cmap_tokens.proofs.utf16.units.Goals.{then-first-lt1, in-len1, else-first-lt1+else-first-lt2}
@@ -48,4 +49,18 @@ byte_pairs-more (a ∷ b ∷ bytes) h =
 pub loop-pairs-preserved : goal.loop-pairs-preserved
 loop-pairs-preserved c =
     let more = byte_pairs-more c.loop-pairs.pairs.now c.in-len2-up.len_at_least in
-    grind (arith, append_assoc, length-take, length-drop)
+    grind (arith, append-nil, append_assoc, length-take, length-drop)
+
+pub returns-in_err-units : goal.returns-in_err-units
+returns-in_err-units c = IfOk-from_err _ _ c.from_residual.ensures.0
+
+pub push_reserved-requires : goal.push_reserved-requires
+push_reserved-requires c = omega (arith, c.in-len1.len_at_least, c.in_ok-units.ensures.len, c.in_ok-units.ensures.capacity)
+
+pub push_reserved-requires-in-len2-up : goal.push_reserved-requires-in-len2-up
+push_reserved-requires-in-len2-up c = omega (arith, c.in-len2-up.len_at_least, c.loop-pairs.invariant.room)
+
+pub returns : goal.returns
+returns c =
+    let none : c.loop-pairs.pairs.now ≡ [] = nil_from_length c.loop-pairs.pairs.now (omega (arith, c.in_default-pairs.len_below, c.loop-pairs.invariant.even)) in
+    sym (append-nil c.loop-pairs.units.items) ∙ ap (λ pairs. c.loop-pairs.units.items ++ byte_pairs pairs) (sym none) ∙ c.loop-pairs.invariant.written
