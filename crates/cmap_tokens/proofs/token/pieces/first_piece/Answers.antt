@@ -1,14 +1,15 @@
-use Rattle.std.proofs.Common.{◌≡◌, ℕ, ◌<◌, Option, Some, true, get_or, length, inl, inr, refl, sym, ap, ◌∙◌, arith}
+use Rattle.std.proofs.Common.{◌≡◌, ℕ, ◌<◌, Option, None, Some, true, false, get_or, length, inl, inr, refl, sym, ap, ◌∙◌, arith}
 use Rattle.std.specs.Prelude.{◌⊎◌, option_map}
 use Rattle.std.proofs.lemmas.Bool.{cases_eq, eqb-true, ltb-true}
 use Rattle.std.proofs.lemmas.Bool.Decides.{nat_tests}
 use Rattle.std.proofs.lemmas.List.{get_or_past, take_rest}
+use Rattle.cmap_tokens.specs.Bytes.{is_regular}
 use Rattle.cmap_tokens.specs.Tokens.{Token, is_bracket}
 use Rattle.cmap_tokens.specs.TokenReading.{first_piece}
 use Rattle.cmap_tokens.specs.TokenSeen.{token_seen}
-use Rattle.cmap_tokens.proofs.TokenPieces.{bracket_read, double_read, run_read, slash_read, string_read}
+use Rattle.cmap_tokens.proofs.TokenPieces.{bracket_read, double_read, none_read, nothing_read, run_read, slash_read, string_read}
 use Rattle.cmap_tokens.proofs.token.pieces.first_piece.Goals as goal
-use Rattle.cmap_tokens.proofs.token.pieces.first_piece.Goals.{in-60+in-60-text-3, in-62+in-62-text-4, then-text-lt2+in-40-1, else-text-lt2+in-60+in_default-1, else-text-lt2+in-40-1}
+use Rattle.cmap_tokens.proofs.token.pieces.first_piece.Goals.{in-60+in-60-text-3, in-62+in-62-text-4, then-text-lt2+in-40-1, else-text-lt2+in-60+in_default-1, else-text-lt2+in-40-1, in_default-via-then-text-lt1, in_default-via-else-text-lt1+in-len1-up+else-is_regular, then-text-lt2+in_default-1, else-text-lt2+in-62+in_default-1, else-text-lt2+in_default-1}
 
 both : (token other : Token) (len n : ℕ) → token ≡ other → len ≡ n → ◌≡◌ {A = Option (Token × ℕ)} (Some (token, len)) (Some (other, n))
 both token other len n same_token same_len = cc
@@ -53,3 +54,27 @@ returns-in-len1-up c = record {
   exact = both _ _ _ _ c.run_piece.ensures.token c.run_piece.ensures.len ∙ run_read c.args.text.now (sym c.if-is_regular.ensures);
   within = c.run_piece.ensures.within;
 }
+
+pub returns-in_default : goal.returns-in_default
+returns-in_default c =
+    let text = c.args.text.now in
+    let b = get_or text 0 0 in
+    let none : None ≡ first_piece text =
+    elim c.in_default.branch [
+      | in_default-via-then-text-lt1 w ↦ nothing_read text (omega (arith, ltb-true))
+      | in_default-via-else-text-lt1+in-len1-up+else-is_regular w ↦
+          let special : is_regular b ≡ false = sym w.if-is_regular.ensures in
+          elim w.in-len1-up-1.branch [
+            | then-text-lt2+in_default-1 v ↦
+                let short : length text < 2 = omega (arith, ltb-true) in
+                none_read text special (grind (arith, nat_tests)) (λ e. grind (arith, e)) (λ e. grind (arith, e)) (λ e. grind (arith, e))
+                (λ _ e. omega (arith, e, get_or_past text 1 0 (omega (arith, short))))
+            | else-text-lt2+in-62+in_default-1 v ↦
+                none_read text special (grind (arith, nat_tests)) (λ e. grind (arith, e)) (λ e. grind (arith, e)) (λ e. grind (arith, e))
+                (λ _ e. omega (arith, e))
+            | else-text-lt2+in_default-1 v ↦
+                none_read text special (grind (arith, nat_tests)) (λ e. grind (arith, e)) (λ e. grind (arith, e)) (λ e. grind (arith, e))
+                (λ e _. grind (arith, e))
+          ]
+    ] in
+    record { exact = none; within = tt }
