@@ -289,6 +289,12 @@ pairs_read digits n is few even =
     let are = paired digits is.all even in
     ((is.all, even, is.filled, few), omega (arith, are.1), is.number ∙ are.0 0)
 
+pub no_pairs : (digits : List ℕ) → None ≡ capped 16 digits → ArePairs digits → ⊥
+no_pairs digits e pairs =
+    let are : are_digits 16 digits ≡ true = and_from _ _ (lt-ltb 0 (length digits) pairs.2) pairs.0 in
+    let some : capped 16 digits ≡ Some (min (digits_number 16 digits) (2 ^ 64 - 1)) = rw are refl in
+    none-some _ (e ∙ some)
+
 -- ---- a run of decimal digits is the number that they write
 pub digit_regular : (b : ℕ) → is_digit b 10 ≡ true → is_regular b ≡ true
 digit_regular b digit =

@@ -14,6 +14,11 @@ use Rattle.cmap_tokens.specs.Strings.{escape_value}
 use Rattle.cmap_tokens.specs.Tokens.{is_hex_body, opened}
 use Rattle.cmap_tokens.specs.TokenReading.{one_more, hex_len, text_len, string_len, malformed_len, escape, first_part, octal, return_len}
 
+-- what holds anyway
+pub if_any : {A : Type 0} (found : Option A) (P : Type 0) → P → IfSome found (λ _. P)
+if_any None P holds = tt
+if_any (Some x) P holds = holds
+
 -- what is found within the rest after the first bytes is found within the text
 pub rest_within : (found : Option ℕ) (text : List ℕ) (n : ℕ) → n ≤ length text → IfSome found (λ len. len ≤ n + length (take (length text - n) (drop n text))) → IfSome found (λ len. len ≤ length text)
 rest_within None text n some within = tt

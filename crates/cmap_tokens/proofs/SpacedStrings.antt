@@ -1,5 +1,5 @@
 -- Strings after one white byte: what their definitions give where the parts are known.
-use Rattle.std.proofs.Common.{◌≡◌, ℕ, ◌+◌, ◌*◌, ◌-◌, ◌<◌, ◌≤◌, ◌==◌, true, false, List, length, get_or, take, drop, Option, None, Some, refl, sym, ap, ◌∙◌, arith, length-drop}
+use Rattle.std.proofs.Common.{◌≡◌, ℕ, ◌+◌, ◌*◌, ◌-◌, ◌%◌, ◌<◌, ◌≤◌, ◌==◌, true, false, List, length, get_or, take, drop, Option, None, Some, refl, sym, ap, ◌∙◌, arith, length-drop}
 use Rattle.std.specs.Prelude.{IfSome, option_and_then, option_map, ◌&&◌, if◌then◌else◌}
 use Rattle.std.specs.Option.{option_or}
 use Rattle.std.proofs.lemmas.Bool.{and_from, and_left, and_parts, and_right, cond-false, cond-true, eq-eqb, eqb-true, false_from_ne_true, ne_eqb}
@@ -32,6 +32,12 @@ short_pairs_are text one two three four e f g h = rw (e, f, g, h) refl
 pub pairs_within : (found : Option (ℕ × ℕ)) (text : List ℕ) → 2 ≤ length text → IfSome found (λ first. 2 * first.0 < length (take (length text - 2) (drop 2 text))) → IfSome found (λ first. 3 + 2 * first.0 ≤ length text)
 pairs_within None text some within = tt
 pairs_within (Some first) text some within = omega (arith, some, within, ap length (take_rest text 2), length-drop 2 text)
+
+pub parts_within : (found : Option (ℕ × ℕ × ℕ)) (text : List ℕ) (count : ℕ) → 2 ≤ length text → 2 ≤ count → count ≤ 4 → count % 2 ≡ 0 → IfSome found (λ first. (first.0 ≡ 4 + count) × (2 * first.0 < length (take (length text - 2) (drop 2 text))))
+    → IfSome found (λ first. (6 ≤ first.0) × (first.0 ≤ 8) × (first.0 % 2 ≡ 0)) × IfSome found (λ first. 3 + 2 * first.0 ≤ length text)
+parts_within None text count some least most even within = (tt, tt)
+parts_within (Some first) text count some least most even (is, within) =
+    ((omega (arith, is, least), omega (arith, is, most), omega (arith, is, even)), omega (arith, some, within, ap length (take_rest text 2), length-drop 2 text))
 
 -- no string where no < follows, or no white byte stands
 pub not_spaced : {A : Type 0} (text : List ℕ) (found : Option A) → (get_or text 1 0 ≡ 60 → ⊥) → None ≡ (if (get_or text 1 0 == 60) && is_white (get_or text 0 0) then found else None)

@@ -1,6 +1,6 @@
 use Rattle.std.proofs.Common.{◌+◌, sym, ap, refl, ◌∙◌}
 use Rattle.std.proofs.lemmas.List.{take_rest}
-use Rattle.std.proofs.lemmas.Option.{MatchOption-from_none}
+use Rattle.std.proofs.lemmas.Option.{MatchOption-from_none, none-some}
 use Rattle.cmap_tokens.specs.Scanner.{past, spaced_decimal}
 use Rattle.cmap_tokens.proofs.AfterBlank.{decimal_first}
 use Rattle.cmap_tokens.proofs.Fronts.{left_after, left_is, read_token}
@@ -32,3 +32,6 @@ returns-in_err-number c = record {
   few = MatchOption-from_none _ _ c.from_residual.ensures;
   stays = λ _. refl;
 }
+
+pub returns-clause-stays : goal.returns-clause-stays
+returns-clause-stays c = λ e. absurd (none-some _ (sym e))

@@ -1,7 +1,7 @@
 use Rattle.std.proofs.Common.{◌+◌, ◌*◌, sym, ap, refl, ◌∙◌}
 use Rattle.std.proofs.lemmas.List.{take_rest}
-use Rattle.std.proofs.lemmas.Option.{MatchOption-from_none}
-use Rattle.cmap_tokens.specs.Scanner.{spaced_pairs}
+use Rattle.std.proofs.lemmas.Option.{MatchOption-from_none, none-some}
+use Rattle.cmap_tokens.specs.Scanner.{past, spaced_pairs}
 use Rattle.cmap_tokens.specs.Tokens.{String}
 use Rattle.cmap_tokens.proofs.AfterBlank.{pairs_first}
 use Rattle.cmap_tokens.proofs.Fronts.{left_after, left_is, read_token}
@@ -24,3 +24,12 @@ returns-in_err-count c = record {
   moves = MatchOption-from_none _ _ c.from_residual.ensures;
   stays = λ _. refl;
 }
+
+pub returns-clause-few : goal.returns-clause-few
+returns-clause-few c = c.in_ok-count.ensures.few
+
+pub returns-clause-moves : goal.returns-clause-moves
+returns-clause-moves c = ap (past (3 + 2 * c.from.result)) c.self.view_is ∙ ap (λ n. past (3 + 2 * n) c.args.self.now) c.from.ensures
+
+pub returns-clause-stays : goal.returns-clause-stays
+returns-clause-stays c = λ e. absurd (none-some _ (sym e))

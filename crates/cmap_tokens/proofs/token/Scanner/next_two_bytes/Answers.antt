@@ -1,7 +1,7 @@
 use Rattle.std.proofs.Common.{sym, ap, refl, ◌∙◌}
 use Rattle.std.proofs.lemmas.List.{take_rest}
-use Rattle.std.proofs.lemmas.Option.{MatchOption-from_none}
-use Rattle.cmap_tokens.specs.Scanner.{spaced_two_bytes}
+use Rattle.std.proofs.lemmas.Option.{MatchOption-from_none, none-some}
+use Rattle.cmap_tokens.specs.Scanner.{past, spaced_two_bytes}
 use Rattle.cmap_tokens.specs.Tokens.{String}
 use Rattle.cmap_tokens.proofs.AfterBlank.{two_bytes_first}
 use Rattle.cmap_tokens.proofs.Fronts.{left_after, left_is, read_token}
@@ -23,3 +23,9 @@ returns-in_err-number c = record {
   moves = MatchOption-from_none _ _ c.from_residual.ensures;
   stays = λ _. refl;
 }
+
+pub returns-clause-moves : goal.returns-clause-moves
+returns-clause-moves c = ap (past 7) c.self.view_is
+
+pub returns-clause-stays : goal.returns-clause-stays
+returns-clause-stays c = λ e. absurd (none-some _ (sym e))
