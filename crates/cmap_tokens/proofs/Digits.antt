@@ -289,6 +289,13 @@ pairs_read digits n is few even =
     let are = paired digits is.all even in
     ((is.all, even, is.filled, few), omega (arith, are.1), is.number ∙ are.0 0)
 
+pub not_capped : (base : ℕ) (digits : List ℕ) → are_digits base digits ≡ false → None ≡ capped base digits
+not_capped base digits fails = rw fails refl
+
+pub is_capped : (base n : ℕ) (digits : List ℕ) → 0 < length digits → list_all (λ c. is_digit c base) digits ≡ true → n ≡ min (digits_number base digits) (2 ^ 64 - 1) → Some n ≡ capped base digits
+is_capped base n digits some all is =
+    let are : are_digits base digits ≡ true = and_from _ _ (lt-ltb 0 (length digits) some) all in rw are (ap Some is)
+
 pub no_pairs : (digits : List ℕ) → None ≡ capped 16 digits → ArePairs digits → ⊥
 no_pairs digits e pairs =
     let are : are_digits 16 digits ≡ true = and_from _ _ (lt-ltb 0 (length digits) pairs.2) pairs.0 in
