@@ -194,9 +194,9 @@ no_decimal text e =
     elim (cases_Bool (nat_le n 18 && nat_lt n (length text))) [
       | inl both ↦ let clash = rw both at e in cc
       | inr fails ↦ elim (and_cases (nat_le n 18) (nat_lt n (length text)) fails) [
-          | inl many ↦ sym (cond-false _ _ _ (and_left _ _ (and_left _ _ (and_right (nat_le 1 n) _ many))))
-          | inr open_end ↦ sym (cond-false _ _ _ (and_left _ _ (and_right (nat_le 1 n && nat_le n 18) _ open_end)))
-        ]
+        | inl many ↦ sym (cond-false _ _ _ (and_left _ _ (and_left _ _ (and_right (nat_le 1 n) _ many))))
+        | inr open_end ↦ sym (cond-false _ _ _ (and_left _ _ (and_right (nat_le 1 n && nat_le n 18) _ open_end)))
+      ]
     ]
 
 pub not_decimal : (text : List ℕ) (number len : ℕ) → Some (number, len) ≡ leading_decimal text → (len ≡ 0) ⊎ (is_regular (get_or text len 0) ≡ true) → None ≡ decimal_front text

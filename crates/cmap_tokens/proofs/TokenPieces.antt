@@ -136,7 +136,7 @@ none_read [] special not_bracket not_slash not_less not_open single = refl
 none_read (b ∷ text) special not_bracket not_slash not_less not_open single =
     let P : ℕ → Type 0 = λ c. (c ≡ 62 → get_or text 0 0 ≡ 62 → ⊥) → is_regular c ≡ false → is_bracket c ≡ false → (c == 47) ≡ false → (c == 60) ≡ false → (c == 40) ≡ false → None ≡ first_piece (c ∷ text) in
     by_byte b 62 P (λ single _ _ _ _ _. single_greater text (single refl)) (λ not_greater _ special not_bracket not_slash not_less not_open. rw (special, not_bracket, not_slash, not_less, not_greater, not_open) refl) single
-        special not_bracket (ne_eqb b 47 not_slash) (ne_eqb b 60 not_less) (ne_eqb b 40 not_open)
+    special not_bracket (ne_eqb b 47 not_slash) (ne_eqb b 60 not_less) (ne_eqb b 40 not_open)
 
 pub double_read : (text : List ℕ) (b : ℕ) → (b ≡ 60) ⊎ (b ≡ 62) → get_or text 0 0 ≡ b → get_or text 1 0 ≡ b → Some (Name false (take 2 text), 2) ≡ first_piece text
 unfolding first_piece

@@ -15,8 +15,8 @@ pub returns-else-contains : goal.returns-else-contains
 returns-else-contains c =
     elim c.else-contains.branch [
       | else-contains-via-then-contains+else-contains-2 w ↦ record {
-          value = sym (cond-false _ _ _ (and_right _ _ (contained 0xDC00 0xE000 c.args.low w.contains-then-contains.result _ w.contains-then-contains.ensures.value w.if-contains-2.false)));
-          scalar = tt;
-        }
+        value = sym (cond-false _ _ _ (and_right _ _ (contained 0xDC00 0xE000 c.args.low w.contains-then-contains.result _ w.contains-then-contains.ensures.value w.if-contains-2.false)));
+        scalar = tt;
+      }
       | else-contains-via-else-contains w ↦ record { value = sym (cond-false _ _ _ (and_left _ _ (contained 0xD800 0xDC00 c.args.high c.contains.result _ c.contains.ensures.value w.if-contains.false))); scalar = tt }
     ]

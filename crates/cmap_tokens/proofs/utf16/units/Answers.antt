@@ -27,16 +27,16 @@ loop-pairs-init c =
     let split = c.split_at.ensures in
     elim c.if-first-lt1.branch [
       | then-first-lt1 w ↦ record {
-          written = begun _ _ _ _ split.front split.back (ap (λ units. units.items) w.units-is ∙ c.in_ok-units.ensures.items ∙ sym (nil_from_length c.split_at.result.0.now (omega (arith, ltb-true))));
-          even = omega (arith, split.back_len);
-          room = omega (arith, ap (λ units. vec_len units) w.units-is, ap (λ units. vec_capacity units) w.units-is, c.in_ok-units.ensures.len, c.in_ok-units.ensures.capacity);
-        }
+        written = begun _ _ _ _ split.front split.back (ap (λ units. units.items) w.units-is ∙ c.in_ok-units.ensures.items ∙ sym (nil_from_length c.split_at.result.0.now (omega (arith, ltb-true))));
+        even = omega (arith, split.back_len);
+        room = omega (arith, ap (λ units. vec_len units) w.units-is, ap (λ units. vec_capacity units) w.units-is, c.in_ok-units.ensures.len, c.in_ok-units.ensures.capacity);
+      }
       | in-len1 w ↦ record {
-          written = begun _ _ _ _ split.front split.back
-              (ap (λ units. units.items) w.units-is ∙ w.push_reserved.ensures.items ∙ ap (λ items. items ++ w.from.result ∷ []) c.in_ok-units.ensures.items ∙ ap (λ b. b ∷ []) w.from.ensures ∙ sym (one_byte c.split_at.result.0.now (omega arith)));
-          even = omega (arith, split.back_len);
-          room = omega (arith, ap (λ units. vec_len units) w.units-is, ap (λ units. vec_capacity units) w.units-is, w.push_reserved.ensures.len, w.push_reserved.ensures.capacity, c.in_ok-units.ensures.len, c.in_ok-units.ensures.capacity);
-        }
+        written = begun _ _ _ _ split.front split.back
+            (ap (λ units. units.items) w.units-is ∙ w.push_reserved.ensures.items ∙ ap (λ items. items ++ w.from.result ∷ []) c.in_ok-units.ensures.items ∙ ap (λ b. b ∷ []) w.from.ensures ∙ sym (one_byte c.split_at.result.0.now (omega arith)));
+        even = omega (arith, split.back_len);
+        room = omega (arith, ap (λ units. vec_len units) w.units-is, ap (λ units. vec_capacity units) w.units-is, w.push_reserved.ensures.len, w.push_reserved.ensures.capacity, c.in_ok-units.ensures.len, c.in_ok-units.ensures.capacity);
+      }
       | else-first-lt1+else-first-lt2 w ↦ absurd (omega (arith, split.front_len, ltb-false))
     ]
 
