@@ -11,11 +11,11 @@ use Rattle.std.specs.Str.{chars, IsUtf8}
 use Rattle.std.proofs.lemmas.Bool.{and_from, and_parts, cases_Bool, cases_lt, cases_order, cond-false, cond-true, eq-eqb, false≢true, le-leb, le-ltb, lt-leb, lt-ltb, ltb-true, ne_eqb}
 use Rattle.std.proofs.lemmas.Bool.Decides.{nat_tests}
 use Rattle.std.proofs.lemmas.List.{drop_all, drop_more, get_or_past}
-use Rattle.std.proofs.lemmas.Option.{slice_get-get_or}
+use Rattle.std.proofs.lemmas.Option.{none-some, slice_get-get_or}
 use Rattle.std.proofs.lemmas.Result.{OkIff-at_err, OkIff-at_ok}
 use Rattle.std.proofs.lemmas.Str.{utf16_chars-nil, chars-append, chars-encodes}
 use Rattle.cmap_tokens.proofs.ByteTests.{chosen}
-use Rattle.cmap_tokens.specs.Texts.{all_some, characters, only_character, shifted}
+use Rattle.cmap_tokens.specs.Texts.{all_some, characters, one, only_character, shifted, text_at, text_of_characters}
 
 -- what is left of the characters, from an index on
 abbrev pub characters_from : List ℕ → ℕ → Option (List ℕ)
@@ -183,3 +183,16 @@ shifted_by {E = E} (Ok sum) units offset last more some last_is more_is iff =
 shifted_by {E = E} (Err e) units offset last more some last_is more_is iff =
     let large : last + more < 65536 → ⊥ = OkIff-at_err {T = ℕ} {E = E} (Err e) (last + more < 65536) (last + more) e iff refl in
     ap (option_and_then (added units offset)) (slice_get-get_or units (length units - 1) 0 (omega arith)) ∙ cond-false _ _ _ (le-ltb (get_or units (length units - 1) 0 + offset) (2 ^ 16) (omega (arith, large, last_is, more_is)))
+
+-- ---- a text as it is answered
+pub text_of_none : (units : List ℕ) (offset : ℕ) → shifted units offset ≡ None → None ≡ option_map text_of_characters (text_at units offset)
+text_of_none units offset none = sym (ap (λ s. option_map text_of_characters (option_and_then characters s)) none)
+
+text_of_one : (cs : Option (List ℕ)) (c : ℕ) → Some c ≡ only_character cs → Some (one c) ≡ option_map text_of_characters cs
+text_of_one None c e = absurd (none-some c (sym e))
+text_of_one (Some []) c e = absurd (none-some c (sym e))
+text_of_one (Some (d ∷ [])) c e = ap (λ o. option_map one o) e
+text_of_one (Some (d ∷ f ∷ cs)) c e = absurd (none-some c (sym e))
+
+pub text_of_char : (units us : List ℕ) (offset c : ℕ) → shifted units offset ≡ Some us → Some c ≡ only_character (characters us) → Some (one c) ≡ option_map text_of_characters (text_at units offset)
+text_of_char units us offset c is found = text_of_one (characters us) c found ∙ sym (ap (λ s. option_map text_of_characters (option_and_then characters s)) is)

@@ -1,12 +1,11 @@
 use Rattle.std.proofs.Common.{◌≡◌, ℕ, ◌<◌, Option, None, Some, true, false, get_or, length, inl, inr, refl, sym, ap, ◌∙◌, arith}
-use Rattle.std.specs.Prelude.{◌⊎◌, option_map}
+use Rattle.std.specs.Prelude.{◌⊎◌}
 use Rattle.std.proofs.lemmas.Bool.{cases_eq, eqb-true, ltb-true}
 use Rattle.std.proofs.lemmas.Bool.Decides.{nat_tests}
 use Rattle.std.proofs.lemmas.List.{get_or_past, take_rest}
 use Rattle.cmap_tokens.specs.Bytes.{is_regular}
 use Rattle.cmap_tokens.specs.Tokens.{Token, is_bracket}
 use Rattle.cmap_tokens.specs.TokenReading.{first_piece}
-use Rattle.cmap_tokens.specs.TokenSeen.{token_seen}
 use Rattle.cmap_tokens.proofs.TokenPieces.{bracket_read, double_read, none_read, nothing_read, run_read, slash_read, string_read}
 use Rattle.cmap_tokens.proofs.token.pieces.first_piece.Goals as goal
 use Rattle.cmap_tokens.proofs.token.pieces.first_piece.Goals.{in-60+in-60-text-3, in-62+in-62-text-4, then-text-lt2+in-40-1, else-text-lt2+in-60+in_default-1, else-text-lt2+in-40-1, in_default-via-then-text-lt1, in_default-via-else-text-lt1+in-len1-up+else-is_regular, then-text-lt2+in_default-1, else-text-lt2+in-62+in_default-1, else-text-lt2+in_default-1}
