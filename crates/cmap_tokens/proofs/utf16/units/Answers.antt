@@ -18,6 +18,9 @@ units_begun (b ∷ bytes) =
 begun : (bytes front back items : List ℕ) → front ≡ take (length bytes % 2) bytes → back ≡ drop (length bytes % 2) bytes → items ≡ front → items ++ byte_pairs back ≡ units_of bytes
 begun bytes front back items front_is back_is items_are = rw (items_are, front_is, back_is) (units_begun bytes)
 
+room_left : (len cap before half front n : ℕ) → len ≡ n → cap ≡ before → front + half ≤ before → n ≤ front → len + half ≤ cap
+room_left len cap before half front n is same capacity within = omega (arith, is, same, capacity, within)
+
 one_byte : (front : List ℕ) → length front ≡ 1 → front ≡ get_or front 0 0 ∷ []
 one_byte [] long = absurd (omega (arith, long))
 one_byte (b ∷ front) long = ap (λ t. b ∷ t) (nil_from_length front (omega (arith, long)))
@@ -29,13 +32,13 @@ loop-pairs-init c =
       | then-first-lt1 w ↦ record {
         written = begun _ _ _ _ split.front split.back (ap (λ units. units.items) w.units-is ∙ c.in_ok-units.ensures.items ∙ sym (nil_from_length c.split_at.result.0.now (omega (arith, ltb-true))));
         even = omega (arith, split.back_len);
-        room = omega (arith, ap (λ units. vec_len units) w.units-is, ap (λ units. vec_capacity units) w.units-is, c.in_ok-units.ensures.len, c.in_ok-units.ensures.capacity);
+        room = room_left _ _ _ _ (length c.split_at.result.0.now) 0 (ap (λ units. vec_len units) w.units-is ∙ c.in_ok-units.ensures.len) (ap (λ units. vec_capacity units) w.units-is) c.in_ok-units.ensures.capacity (omega arith);
       }
       | in-len1 w ↦ record {
         written = begun _ _ _ _ split.front split.back
             (ap (λ units. units.items) w.units-is ∙ w.push_reserved.ensures.items ∙ ap (λ items. items ++ w.from.result ∷ []) c.in_ok-units.ensures.items ∙ ap (λ b. b ∷ []) w.from.ensures ∙ sym (one_byte c.split_at.result.0.now (omega arith)));
         even = omega (arith, split.back_len);
-        room = omega (arith, ap (λ units. vec_len units) w.units-is, ap (λ units. vec_capacity units) w.units-is, w.push_reserved.ensures.len, w.push_reserved.ensures.capacity, c.in_ok-units.ensures.len, c.in_ok-units.ensures.capacity);
+        room = room_left _ _ _ _ (length c.split_at.result.0.now) 1 (ap (λ units. vec_len units) w.units-is ∙ w.push_reserved.ensures.len ∙ ap (λ n. n + 1) c.in_ok-units.ensures.len) (ap (λ units. vec_capacity units) w.units-is ∙ w.push_reserved.ensures.capacity) c.in_ok-units.ensures.capacity w.in-len1.len_at_least;
       }
       | else-first-lt1+else-first-lt2 w ↦ absurd (omega (arith, split.front_len, ltb-false))
     ]
@@ -49,7 +52,7 @@ byte_pairs-more (a ∷ b ∷ bytes) h =
 pub loop-pairs-preserved : goal.loop-pairs-preserved
 loop-pairs-preserved c =
     let more = byte_pairs-more c.loop-pairs.pairs.now c.in-len2-up.len_at_least in
-    grind (arith, append-nil, append_assoc, length-take, length-drop)
+    grind (arith, append_assoc, length-take, length-drop)
 
 pub returns-in_err-units : goal.returns-in_err-units
 returns-in_err-units c = IfOk-from_err _ _ c.from_residual.ensures.0
