@@ -7,13 +7,13 @@ use Rattle.std.specs.Option.{option_map_or, option_or}
 use Rattle.std.proofs.lemmas.Option.{none-some, same_Some}
 use Rattle.std.proofs.Math.Seq.{drop-cons}
 use Rattle.std.proofs.lemmas.Bool.{and_parts, eqb-true, false≢true, leb-true, ltb-true, or_right}
-use Rattle.std.proofs.lemmas.List.{drop_at, get_or_past, take-append-drop, take_more}
+use Rattle.std.proofs.lemmas.List.{drop_at, drop_more, take-append-drop, take_more}
 use Rattle.cmap_tokens.specs.Bytes.{is_white, is_regular}
 use Rattle.cmap_tokens.specs.Numbers.{Integer, decimal_front, digits_len, digits_value, digits_number}
 use Rattle.cmap_tokens.specs.Scanner.{FirstToken, OnlyFront, closed_number, closed_pairs, closed_parts, short_pairs, spaced_pairs, spaced_parts, spaced_decimal, spaced_two_bytes}
 use Rattle.cmap_tokens.specs.Strings.{IsOnlyValue, WritesBytes, WritesParts, WritesTwoBytes, hex_value, inside}
 use Rattle.cmap_tokens.specs.Tokens.{Token, Name, Numeral, String, Front, IsHexString, IsToken, begins_name, begins_regular, is_hex_body}
-use Rattle.cmap_tokens.proofs.ByteTests.{all_append, all_front, chosen, all_weaker, other_byte}
+use Rattle.cmap_tokens.proofs.ByteTests.{all_append, all_front, byte_within, chosen, all_weaker, other_byte}
 use Rattle.cmap_tokens.proofs.Digits.{pairs_read, pairs_split, digit_regular, digits_numeral, digits_small, paired, written}
 use Rattle.cmap_tokens.proofs.Fronts.{front_only}
 use Rattle.cmap_tokens.proofs.StringValues.{Answers, inside_is, one_value, plain_value}
@@ -38,24 +38,33 @@ two_bytes_written a b c d n all is =
     let hex : IsHexString piece = (digits, refl, all_weaker (λ k. is_digit k 16) is_hex_body digits (λ k digit. or_right (is_white k) (is_digit k 16) digit) all) in
     ((hex_value digits, record { holds = inl (hex, refl); alone = λ other other_is. one_value piece other _ other_is (inl (hex, refl)) }, are.2, omega (arith, are.1), is ∙ are.0 0), hex)
 
-pub two_bytes_first : (text : List ℕ) (n : ℕ) → spaced_two_bytes text ≡ Some n → (piece : List ℕ) × FirstToken text (String piece) 7 × WritesTwoBytes piece n
-two_bytes_first (blank ∷ l ∷ a ∷ b ∷ c ∷ d ∷ g ∷ rest) n e =
-    let digits : List ℕ = a ∷ b ∷ c ∷ d ∷ [] in
-    let (tests, read) = chosen ((g == 62) && (l == 60) && is_white blank) (digits_value 16 digits) n e in
+abbrev TwoBytes : List ℕ → ℕ → Type 0
+TwoBytes text n = (piece : List ℕ) × FirstToken text (String piece) 7 × WritesTwoBytes piece n
+
+two_bytes_at : (blank l a b c d g n : ℕ) (rest : List ℕ) → ((g == 62) && (l == 60) && is_white blank) ≡ true → digits_value 16 (a ∷ b ∷ c ∷ d ∷ []) ≡ Some n → TwoBytes (blank ∷ l ∷ a ∷ b ∷ c ∷ d ∷ g ∷ rest) n
+two_bytes_at blank l a b c d g n rest tests read =
     let (ends, white) = and_parts ((g == 62) && (l == 60)) (is_white blank) tests in
     let (ends, opens) = and_parts (g == 62) (l == 60) ends in
     let greater : g ≡ 62 = eqb-true g 62 ends in
     let less : l ≡ 60 = eqb-true l 60 opens in
-    let is = written 16 4 digits n (omega arith) (omega arith) read in
+    let is = written 16 4 (a ∷ b ∷ c ∷ d ∷ []) n (omega arith) (omega arith) read in
     let (writes, hex) = two_bytes_written a b c d n is.all is.number in
-    (_, first_after_blank _ blank 7 _ rest _ (rw (greater, less) refl) white (inr (inr (inr (inl hex, refl)))) (λ h. cc) refl, writes)
-two_bytes_first [] n e = cc
-two_bytes_first (a ∷ []) n e = cc
-two_bytes_first (a ∷ b ∷ []) n e = cc
-two_bytes_first (a ∷ b ∷ c ∷ []) n e = cc
-two_bytes_first (a ∷ b ∷ c ∷ d ∷ []) n e = cc
-two_bytes_first (a ∷ b ∷ c ∷ d ∷ f ∷ []) n e = cc
-two_bytes_first (a ∷ b ∷ c ∷ d ∷ f ∷ g ∷ []) n e = cc
+    (_, first_after_blank _ blank 7 _ rest _ (rw (greater, less) refl) white (inr (inr (inr (inl hex, refl)))) (λ h. absurd (false≢true h)) refl, writes)
+
+-- a text that is long enough, by its bytes
+seven_bytes : (text : List ℕ) → 6 < length text → text ≡ get_or text 0 0 ∷ get_or text 1 0 ∷ get_or text 2 0 ∷ get_or text 3 0 ∷ get_or text 4 0 ∷ get_or text 5 0 ∷ get_or text 6 0 ∷ drop 7 text
+seven_bytes text long =
+    drop_more text 0 0 (omega (arith, long)) ∙ ap (λ t. get_or text 0 0 ∷ t) (drop_more text 1 0 (omega (arith, long)) ∙ ap (λ t. get_or text 1 0 ∷ t) (drop_more text 2 0 (omega (arith, long)) ∙ ap (λ t. get_or text 2 0 ∷ t) (drop_more text 3 0 (omega (arith, long))
+    ∙ ap (λ t. get_or text 3 0 ∷ t) (drop_more text 4 0 (omega (arith, long)) ∙ ap (λ t. get_or text 4 0 ∷ t) (drop_more text 5 0 (omega (arith, long)) ∙ ap (λ t. get_or text 5 0 ∷ t) (drop_more text 6 0 long))))))
+
+pub two_bytes_first : (text : List ℕ) (n : ℕ) → spaced_two_bytes text ≡ Some n → TwoBytes text n
+two_bytes_first text n e =
+    let tests : Bool = (get_or text 6 0 == 62) && (get_or text 1 0 == 60) && is_white (get_or text 0 0) in
+    let (are, read) = chosen tests (digits_value 16 (take 4 (drop 2 text))) n e in
+    let ends = (and_parts (get_or text 6 0 == 62) (get_or text 1 0 == 60) (and_parts ((get_or text 6 0 == 62) && (get_or text 1 0 == 60)) (is_white (get_or text 0 0)) are).0).0 in
+    let whole = seven_bytes text (byte_within text 6 62 (eqb-true _ 62 ends) (omega arith)) in
+    subst (λ t. TwoBytes t n) (sym whole)
+    (two_bytes_at (get_or text 0 0) (get_or text 1 0) (get_or text 2 0) (get_or text 3 0) (get_or text 4 0) (get_or text 5 0) (get_or text 6 0) n (drop 7 text) are (ap (λ t. digits_value 16 (take 4 (drop 2 t))) (sym whole) ∙ read))
 
 -- ---- < one to four pairs of digits >
 closed_first : (blank count n : ℕ) (text : List ℕ) → is_white blank ≡ true → 1 ≤ count → count ≤ 4 → closed_number (2 * count) text ≡ Some n
@@ -67,7 +76,7 @@ closed_first blank count n text white some few e =
     let rest = drop (len + 1) text in
     let (ends, read) = chosen (get_or text len 0 == 62) (digits_value 16 digits) n e in
     let last : get_or text len 0 ≡ 62 = eqb-true _ 62 ends in
-    let within : len < length text = grind (arith, last, get_or_past text len 0) in
+    let within : len < length text = byte_within text len 62 last (omega arith) in
     let size : length digits ≡ len = length-take-le len text (omega (arith, within)) in
     let is = written 16 8 digits n (omega arith) (omega (arith, size, few)) read in
     let whole : text ≡ (digits ++ 62 ∷ []) ++ rest = sym (take-append-drop (len + 1) text) ∙ ap (λ front. front ++ rest) (take_more text len 0 within ∙ ap (λ b. digits ++ b ∷ []) last) in
@@ -76,7 +85,7 @@ closed_first blank count n text white some few e =
     let body : inside piece ≡ digits = inside_is 60 62 digits in
     let answer : Answers (inside piece) (Some (count, n)) = rw body (pairs, omega (arith, bytes, size), number) in (
       piece,
-      first_after_blank (blank ∷ 60 ∷ text) blank (3 + len) piece rest (String piece) (ap (λ t. blank ∷ 60 ∷ t) whole) white (inr (inr (inr (inl hex, refl)))) (λ h. cc) (omega (arith, size, length-append digits (62 ∷ []))),
+      first_after_blank (blank ∷ 60 ∷ text) blank (3 + len) piece rest (String piece) (ap (λ t. blank ∷ 60 ∷ t) whole) white (inr (inr (inr (inl hex, refl)))) (λ h. absurd (false≢true h)) (omega (arith, size, length-append digits (62 ∷ []))),
       plain_value piece (Some (count, n)) hex answer,
     )
 
@@ -101,8 +110,8 @@ short_first blank rest first white e =
     ⊎_elim (pairs_of blank 3 rest first white (omega arith) (omega arith)) (pairs_of blank 4 rest first white (omega arith) (omega arith)) (cases_or (closed_pairs 3 rest) (closed_pairs 4 rest) first e)) (cases_or (closed_pairs 2 rest) _ first e)) (cases_or (closed_pairs 1 rest) _ first e)
 
 pairs_at : (text : List ℕ) (first : ℕ × ℕ) → spaced_pairs text ≡ Some first → (piece : List ℕ) × FirstToken text (String piece) (3 + 2 * first.0) × WritesBytes piece first.0 first.1
-pairs_at [] first e = cc
-pairs_at (a ∷ []) first e = cc
+pairs_at [] first e = absurd (none-some first e)
+pairs_at (a ∷ []) first e = absurd (none-some first e)
 pairs_at (blank ∷ l ∷ rest) first e =
     let (tests, read) = chosen ((l == 60) && is_white blank) (short_pairs rest) first e in
     let (opens, white) = and_parts (l == 60) (is_white blank) tests in
@@ -133,7 +142,7 @@ parts_of blank count text first white some few e =
     let (high, closed, counted) = parts_are (digits_value 16 front) (closed_number len after) (4 + count) first e in
     let (ends, low) = chosen (get_or after len 0 == 62) (digits_value 16 rest) first.2 closed in
     let last : get_or after len 0 ≡ 62 = eqb-true _ 62 ends in
-    let within : len < length after = grind (arith, last, get_or_past after len 0) in
+    let within : len < length after = byte_within after len 62 last (omega arith) in
     let front_size : length front ≡ 8 = length-take-le 8 text (omega (arith, within, length-drop 8 text)) in
     let rest_size : length rest ≡ len = length-take-le len after (omega (arith, within)) in
     let high_is = written 16 8 front first.1 (omega arith) (omega (arith, front_size)) high in
@@ -147,7 +156,7 @@ parts_of blank count text first white some few e =
     let (front_pairs, front_bytes, front_number) = pairs_read front first.1 high_is (omega (arith, front_size)) (omega (arith, front_size)) in
     let (rest_pairs, rest_bytes, rest_number) = pairs_read rest first.2 low_is (omega (arith, rest_size, few)) (omega (arith, rest_size)) in (
       piece,
-      first_after_blank (blank ∷ 60 ∷ text) blank (3 + 2 * first.0) piece end (String piece) (ap (λ t. blank ∷ 60 ∷ t) whole) white (inr (inr (inr (inl hex, refl)))) (λ h. cc) (omega (arith, counted, front_size, rest_size, length-append front rest, length-append digits (62 ∷ []))),
+      first_after_blank (blank ∷ 60 ∷ text) blank (3 + 2 * first.0) piece end (String piece) (ap (λ t. blank ∷ 60 ∷ t) whole) white (inr (inr (inr (inl hex, refl)))) (λ h. absurd (false≢true h)) (omega (arith, counted, front_size, rest_size, length-append front rest, length-append digits (62 ∷ []))),
       (
         hex_value front,
         hex_value rest,
@@ -162,8 +171,8 @@ parts_of blank count text first white some few e =
     )
 
 parts_at : (text : List ℕ) (first : ℕ × ℕ × ℕ) → spaced_parts text ≡ Some first → Parts text first
-parts_at [] first e = cc
-parts_at (a ∷ []) first e = cc
+parts_at [] first e = absurd (none-some first e)
+parts_at (a ∷ []) first e = absurd (none-some first e)
 parts_at (blank ∷ l ∷ rest) first e =
     let (tests, read) = chosen ((l == 60) && is_white blank) (option_or (closed_parts 2 rest) (closed_parts 4 rest)) first e in
     let (opens, white) = and_parts (l == 60) (is_white blank) tests in
@@ -203,7 +212,7 @@ decimal_is text first e =
     subst (λ (r : Option (ℕ × ℕ)). IfSome r (λ k. Decimal text k.0 k.1)) read is
 
 pub decimal_first : (text : List ℕ) (number len : ℕ) → spaced_decimal text ≡ Some (number, len) → FirstToken text (Numeral (Integer (pos number))) (1 + len) × (number < 10 ^ 18)
-decimal_first [] number len e = cc
+decimal_first [] number len e = absurd (none-some (number, len) e)
 decimal_first (blank ∷ text) number len e =
     let p : ℕ → Bool = λ c. is_digit c 10 in
     let (white, front) = chosen (is_white blank) (decimal_front text) (number, len) e in

@@ -2,13 +2,13 @@
 use Rattle.std.proofs.Common.{◌≡◌, ℕ, ◌+◌, ◌<◌, Bool, true, false, not, ◌==◌, List, [], ◌∷◌, ◌++◌, length, take, drop, Option, Some, None, zero, suc, inl, inr, refl, sym, ap, ◌∙◌, subst, arith, append_assoc, length-append, length-drop, length-take-le, ◌-◌, one-add}
 use Rattle.std.specs.List.{prefix_len}
 use Rattle.std.proofs.lemmas.Bool.{cases_Bool, lt-leb}
+use Rattle.std.proofs.lemmas.Option.{none-some}
 use Rattle.std.proofs.Math.ListN.{get_or-append}
 use Rattle.std.proofs.Math.Seq.{take-append-add}
-use Rattle.std.proofs.lemmas.Bool.Decides.{nat_tests}
-use Rattle.std.proofs.lemmas.List.Folds.{prefix_len-append}
 use Rattle.std.proofs.lemmas.List.{drop-append-le, take-append-drop}
+use Rattle.cmap_tokens.specs.Bytes.{is_regular, is_white}
 use Rattle.cmap_tokens.specs.Gaps.{ends_comment}
-use Rattle.cmap_tokens.specs.Tokens.{Token, Front, begins_regular, is_hex_body}
+use Rattle.cmap_tokens.specs.Tokens.{Token, Front, begins_regular, is_bracket, is_hex_body}
 use Rattle.cmap_tokens.specs.TokenReading.{one_more, gap_len, hex_len, string_of, first_piece, malformed_len}
 use Rattle.cmap_tokens.specs.TokensLeft.{after_gap, Agree, AgreesTo, IsDecidedByFronts, EndInOrder, Left, EndedToken, start_of, tokens_of, with_token}
 use Rattle.cmap_tokens.proofs.ByteTests.{by_byte}
@@ -17,10 +17,23 @@ use Rattle.cmap_tokens.proofs.Fronts.{front_long, left_from, left_front, left_no
 gap_kept : (in_comment : Bool) (front s t : List ℕ) → gap_len in_comment (front ++ s) < length front → gap_len in_comment (front ++ t) ≡ gap_len in_comment (front ++ s)
 gap_kept in_comment [] s t short = absurd (omega (arith, short))
 gap_kept true (b ∷ front) s t short = ap (λ n. 1 + n) (gap_kept (not (ends_comment b)) front s t (omega (arith, short)))
-gap_kept false (b ∷ front) s t short = grind (arith, nat_tests, gap_kept true front s t, gap_kept false front s t)
+gap_kept false (b ∷ front) s t short =
+    elim (cases_Bool (b == 37)) [
+      | inl percent ↦ let less = rw percent at short in rw percent (ap (λ n. 1 + n) (gap_kept true front s t (omega (arith, less))))
+      | inr other ↦
+          elim (cases_Bool (is_white b)) [
+            | inl white ↦ let less = rw (other, white) at short in rw (other, white) (ap (λ n. 1 + n) (gap_kept false front s t (omega (arith, less))))
+            | inr solid ↦ rw (other, solid) refl
+          ]
+    ]
 
 hex_kept : (front s t : List ℕ) → prefix_len is_hex_body (front ++ s) < length front → prefix_len is_hex_body (front ++ t) ≡ prefix_len is_hex_body (front ++ s)
-hex_kept front s t short = grind (arith, nat_tests, prefix_len-append is_hex_body front s, prefix_len-append is_hex_body front t)
+hex_kept [] s t short = absurd (omega (arith, short))
+hex_kept (b ∷ front) s t short =
+    elim (cases_Bool (is_hex_body b)) [
+      | inl passes ↦ let less = rw passes at short in rw passes (ap (λ n. 1 + n) (hex_kept front s t (omega (arith, less))))
+      | inr fails ↦ rw fails refl
+    ]
 
 hex_len-kept : (front s t : List ℕ) → prefix_len is_hex_body (front ++ s) < length front → hex_len (front ++ t) ≡ hex_len (front ++ s)
 hex_len-kept front s t short =
@@ -51,6 +64,22 @@ unfolding first_piece
 greater_kept [] s t e short = absurd (omega (arith, short))
 greater_kept (b ∷ front) s t e short = (e, refl)
 
+nothing_first : (b : ℕ) (text other : List ℕ) → (b == 60) ≡ false → (b == 62) ≡ false → (b == 40) ≡ false → first_piece (b ∷ text) ≡ None → first_piece (b ∷ other) ≡ None
+unfolding first_piece
+nothing_first b text other not_less not_greater not_open e =
+    elim (cases_Bool (is_regular b)) [
+      | inl regular ↦ let clash = rw regular at e in absurd (none-some _ (sym clash))
+      | inr special ↦
+          elim (cases_Bool (is_bracket b)) [
+            | inl bracket ↦ let clash = rw (special, bracket) at e in absurd (none-some _ (sym clash))
+            | inr not_bracket ↦
+                elim (cases_Bool (b == 47)) [
+                  | inl slash ↦ let clash = rw (special, not_bracket, slash) at e in absurd (none-some _ (sym clash))
+                  | inr not_slash ↦ rw (special, not_bracket, not_slash, not_less, not_greater, not_open) refl
+                ]
+          ]
+    ]
+
 nothing_kept : (front s t : List ℕ) → NoneKept front s t
 unfolding first_piece
 nothing_kept [] s t = λ e short. absurd (omega (arith, short))
@@ -58,7 +87,7 @@ nothing_kept (b ∷ front) s t =
     let P : ℕ → Type 0 = λ c. NoneKept (c ∷ front) s t in
     by_byte b 60 P (less_kept front s t) (λ not_less. by_byte b 62 P (greater_kept front s t) (λ not_greater.
     by_byte b 40 P (λ e short. absurd (omega (arith, short, length-append front s))) (λ not_open e short.
-    grind (arith, nat_tests, e, not_less, not_greater, not_open))))
+    (nothing_first b (front ++ s) (front ++ t) not_less not_greater not_open e, rw (not_less, not_greater, not_open) refl))))
 
 pub none_kept : (front s t text : List ℕ) → text ≡ front ++ s → first_piece (after_gap text) ≡ None → gap_len false text + malformed_len (after_gap text) < length front
     → (gap_len false (front ++ t) ≡ gap_len false text) × (first_piece (after_gap (front ++ t)) ≡ None) × (malformed_len (after_gap (front ++ t)) ≡ malformed_len (after_gap text))

@@ -2,17 +2,16 @@
 use Rattle.std.proofs.Common.{◌++◌, suc, zero, Bool, None, inl, inr, length-take-le, ◌≡◌, ℕ, ◌+◌, ◌*◌, ◌-◌, ◌^◌, ◌<◌, ◌≤◌, min, List, length, get_or, take, drop, true, ap, sym, ◌∙◌, ⊎_elim, arith, [], ◌∷◌, map, refl, ◌%◌, ◌/◌, pos, false, ◌==◌, Some}
 use Rattle.std.specs.Char.{digit_value, is_digit}
 use Rattle.std.specs.List.{list_all, prefix_len}
-use Rattle.std.proofs.lemmas.Bool.{and_from, and_right, leb-true, lt-ltb, ltb-false, cases_Bool, false≢true, cases_lt, and_parts, ltb-true, le-leb}
-use Rattle.std.proofs.lemmas.Bool.Decides.{nat_tests}
+use Rattle.std.proofs.lemmas.Bool.{and_cases, and_from, and_left, and_right, cond-false, lt-leb, not_from_true, leb-true, lt-ltb, ltb-false, cases_Bool, false≢true, cases_lt, and_parts, ltb-true, le-leb, not_from_false}
 use Rattle.std.proofs.lemmas.Int.Digits.{number_after_ge, number_push, digits_value_is, digits_value_more, number_lt}
 use Rattle.std.proofs.Math.Nat.{mul-le-mul_left, mul-le-mul_right, pow-le-pow_right, pow-suc}
 use Rattle.cmap_tokens.specs.Numbers.{decimal_front, digits_len, leading_decimal, digits_number, are_digits, digits_value, Integer, integer, numeral}
-use Rattle.std.specs.Prelude.{◌&&◌, IfSome, Option, nat_lt, option_map, unwrap_or, nat_le}
+use Rattle.std.specs.Prelude.{◌&&◌, ◌⊎◌, IfSome, Option, nat_lt, option_map, unwrap_or, nat_le, codes}
 use Rattle.std.specs.Int.Digits.{AllBelowBase, number_from_digits_after}
 use Rattle.std.proofs.lemmas.List.{drop_more, length-map, length-take, map-append, take-append-drop, take-take, take_more}
 use Rattle.cmap_tokens.specs.TokenReading.{weight, leading_digits, octal_len}
-use Rattle.std.proofs.lemmas.Option.{none-some}
-use Rattle.cmap_tokens.proofs.ByteTests.{all_front, chosen, other_byte, prefix_ends}
+use Rattle.std.proofs.lemmas.Option.{none-some, same_Some}
+use Rattle.cmap_tokens.proofs.ByteTests.{all_front, chosen, none_of, one_of, other_byte, prefix_ends}
 use Rattle.std.specs.Int.Digits.{number_from_digits}
 use Rattle.std.specs.List.{AllByRecursion}
 use Rattle.cmap_tokens.specs.Strings.{ArePairs, hex_value}
@@ -39,7 +38,7 @@ digits_number_more base text i h =
 -- ---- up to three octal digits
 pub below_base : (base : ℕ) (digits : List ℕ) → list_all (λ c. is_digit c base) digits ≡ true → AllBelowBase base (map digit_value digits)
 below_base base [] all = tt
-below_base base (c ∷ digits) all = (grind (arith, nat_tests, all), below_base base digits (grind (arith, nat_tests, all)))
+below_base base (c ∷ digits) all = let (first, others) = and_parts (is_digit c base) (list_all (λ k. is_digit k base) digits) all in (ltb-true (digit_value c) base first, below_base base digits others)
 
 -- so many digits write a number below this one
 pub digits_small : (base m : ℕ) (digits : List ℕ) → 0 < base → list_all (λ c. is_digit c base) digits ≡ true → length digits ≤ m → digits_number base digits < base ^ m
@@ -52,7 +51,14 @@ abbrev pub capped : ℕ → List ℕ → Option ℕ
 capped base digits = option_map (λ n. min n (2 ^ 64 - 1)) (digits_value base digits)
 
 uncapped : (base m : ℕ) (digits : List ℕ) → 0 < base → length digits ≤ m → base ^ m ≤ 2 ^ 64 → capped base digits ≡ digits_value base digits
-uncapped base m digits some few fits = grind (arith, nat_tests, digits_small base m digits some)
+uncapped base m digits some few fits =
+    elim (cases_Bool (are_digits base digits)) [
+      | inl are ↦
+          let small = digits_small base m digits some (and_parts (nat_lt 0 (length digits)) (list_all (λ c. is_digit c base) digits) are).1 few in
+          let under : min (digits_number base digits) (2 ^ 64 - 1) ≡ digits_number base digits = omega (arith, small, fits) in
+          rw are (ap Some under)
+      | inr fails ↦ rw fails refl
+    ]
 
 -- at most m digits that write a number
 pub record Written (base m : ℕ) (digits : List ℕ) (n : ℕ) : Type 0 where
@@ -63,13 +69,11 @@ pub record Written (base m : ℕ) (digits : List ℕ) (n : ℕ) : Type 0 where
   pub small : n < base ^ m
 
 pub written : (base m : ℕ) (digits : List ℕ) (n : ℕ) → 0 < base → length digits ≤ m → digits_value base digits ≡ Some n → Written base m digits n
-written base m digits n some few is = record {
-  value = is;
-  filled = grind (arith, nat_tests, is);
-  all = grind (arith, nat_tests, is);
-  number = grind (arith, nat_tests, is);
-  small = grind (arith, nat_tests, is, digits_small base m digits some);
-}
+written base m digits n some few is =
+    let (are, read) = chosen (are_digits base digits) (Some (digits_number base digits)) n is in
+    let (filled, all) = and_parts (nat_lt 0 (length digits)) (list_all (λ c. is_digit c base) digits) are in
+    let number : n ≡ digits_number base digits = sym (same_Some _ _ read) in
+    record { value = is; filled = ltb-true 0 (length digits) filled; all = all; number = number; small = omega (arith, number, digits_small base m digits some all few) }
 
 -- and no cap is met
 pub written_uncapped : (base m : ℕ) (digits : List ℕ) (n : ℕ) → 0 < base → length digits ≤ m → base ^ m ≤ 2 ^ 64 → Some n ≡ capped base digits → Written base m digits n
@@ -77,7 +81,7 @@ written_uncapped base m digits n some few fits is = written base m digits n some
 
 unwrapped : (digits : List ℕ) → list_all (λ c. is_digit c 8) digits ≡ true → unwrap_or (digits_value 8 digits) 0 ≡ digits_number 8 digits
 unwrapped [] all = refl
-unwrapped (c ∷ digits) all = grind (arith, nat_tests, all)
+unwrapped (c ∷ digits) all = let are : are_digits 8 (c ∷ digits) ≡ true = and_from _ _ (lt-ltb 0 (length (c ∷ digits)) (omega arith)) all in rw are refl
 
 pub octal_value : (text : List ℕ) → unwrap_or (capped 8 (take (octal_len text) text)) 0 ≡ digits_number 8 (take (octal_len text) text)
 octal_value text =
@@ -140,7 +144,7 @@ pub weight_digit : (b : ℕ) → is_digit b 10 ≡ true → weight 10 b ≡ digi
 weight_digit b digit = rw digit refl
 
 white_no_digit : (b : ℕ) → is_white b ≡ true → is_digit b 10 ≡ false
-white_no_digit b white = grind (arith, nat_tests, white)
+white_no_digit b white = one_of (λ c. is_digit c 10) b (0 ∷ 9 ∷ 10 ∷ 12 ∷ 13 ∷ 32 ∷ []) refl white
 
 -- ---- the decimal digits that a part of a text begins with
 -- digits that a white byte follows
@@ -170,6 +174,40 @@ spaced_front len (blank ∷ text) found some few within before after is =
     let white : is_white (get_or text len 0) ≡ true = ap (λ i. is_white (get_or (blank ∷ text) i 0)) (sym place) ∙ after in
     let count : len + 1 - 1 ≡ len = omega arith in
     rw before (closed_front len text found some few (omega (arith, within)) white (is ∙ ap (λ n. digits_value 10 (take n text)) count))
+
+-- the digits that a text begins with, and the byte after them
+pub decimal_from : (text : List ℕ) (number len : ℕ) → Some (number, len) ≡ leading_decimal text → (len ≡ 0 → ⊥) → is_regular (get_or text len 0) ≡ false → (Some (number, len) ≡ decimal_front text) × (len ≤ length text)
+decimal_from text number len e some special =
+    let n = digits_len 10 text in
+    let few : Bool = nat_le n 18 in
+    let ends : Bool = nat_lt n (length text) in
+    let (test, same) = chosen (few && ends) (Some (digits_number 10 (take n text), n)) (number, len) (sym e) in
+    let found : n ≡ len = ap (λ p. p.1) (same_Some _ _ same) in
+    let (is_few, within) = and_parts few ends test in
+    let stops : is_regular (get_or text n 0) ≡ false = ap (λ k. is_regular (get_or text k 0)) found ∙ special in
+    let filled : nat_le 1 n ≡ true = le-leb 1 n (omega (arith, found, some)) in
+    (sym (rw (filled, is_few, within, stops) same), omega (arith, found, ltb-true n (length text) within))
+
+pub no_decimal : (text : List ℕ) → None ≡ leading_decimal text → None ≡ decimal_front text
+no_decimal text e =
+    let n = digits_len 10 text in
+    elim (cases_Bool (nat_le n 18 && nat_lt n (length text))) [
+      | inl both ↦ let clash = rw both at e in cc
+      | inr fails ↦ elim (and_cases (nat_le n 18) (nat_lt n (length text)) fails) [
+        | inl many ↦ sym (cond-false _ _ _ (and_left _ _ (and_left _ _ (and_right (nat_le 1 n) _ many))))
+        | inr open_end ↦ sym (cond-false _ _ _ (and_left _ _ (and_right (nat_le 1 n && nat_le n 18) _ open_end)))
+      ]
+    ]
+
+pub not_decimal : (text : List ℕ) (number len : ℕ) → Some (number, len) ≡ leading_decimal text → (len ≡ 0) ⊎ (is_regular (get_or text len 0) ≡ true) → None ≡ decimal_front text
+not_decimal text number len e fails =
+    let n = digits_len 10 text in
+    let (test, same) = chosen (nat_le n 18 && nat_lt n (length text)) (Some (digits_number 10 (take n text), n)) (number, len) (sym e) in
+    let found : n ≡ len = ap (λ p. p.1) (same_Some _ _ same) in
+    elim fails [
+      | inl none ↦ sym (cond-false _ _ _ (and_left _ _ (and_left _ _ (and_left _ (nat_le n 18) (lt-leb 1 n (omega (arith, found, none)))))))
+      | inr regular ↦ sym (cond-false _ _ _ (and_right (nat_le 1 n && nat_le n 18 && nat_lt n (length text)) _ (not_from_true _ (ap (λ k. is_regular (get_or text k 0)) found ∙ regular))))
+    ]
 
 prefix_take : (p : ℕ → Bool) (n : ℕ) (text : List ℕ) → prefix_len p (take n text) ≡ min n (prefix_len p text)
 prefix_take p zero text = omega arith
@@ -228,9 +266,9 @@ pub paired : (digits : List ℕ) → list_all (λ c. is_digit c 16) digits ≡ t
 paired [] all even = (λ n. refl, refl, tt)
 paired (a ∷ []) all even = absurd (omega (arith, even))
 paired (a ∷ b ∷ more) all even =
-    let first : is_digit a 16 ≡ true = grind (arith, nat_tests, all) in
-    let second : is_digit b 16 ≡ true = grind (arith, nat_tests, all) in
-    let (number, long, bytes) = paired more (grind (arith, nat_tests, all)) (omega (arith, even)) in
+    let (first, later) = and_parts (is_digit a 16) (list_all (λ c. is_digit c 16) (b ∷ more)) all in
+    let (second, others) = and_parts (is_digit b 16) (list_all (λ c. is_digit c 16) more) later in
+    let (number, long, bytes) = paired more others (omega (arith, even)) in
     let byte : 16 * digit_value a + digit_value b < 2 ^ 8 = omega (arith, ltb-true (digit_value a) 16 first, ltb-true (digit_value b) 16 second) in
     let joined : (n : ℕ) → (n * 16 + digit_value a) * 16 + digit_value b ≡ n * 256 + (16 * digit_value a + digit_value b) = λ n. omega arith in
     rw (first, second) (λ n. ap (λ k. number_from_digits_after 16 k (map digit_value more)) (joined n) ∙ number (n * 256 + (16 * digit_value a + digit_value b)), omega (arith, long), (byte, bytes))
@@ -240,9 +278,9 @@ pub pairs_split : (front rest : List ℕ) → list_all (λ c. is_digit c 16) fro
 pairs_split [] rest all even = refl
 pairs_split (a ∷ []) rest all even = absurd (omega (arith, even))
 pairs_split (a ∷ b ∷ more) rest all even =
-    let first : is_digit a 16 ≡ true = grind (arith, nat_tests, all) in
-    let second : is_digit b 16 ≡ true = grind (arith, nat_tests, all) in
-    rw (first, second) (ap (λ bytes. (16 * digit_value a + digit_value b) ∷ bytes) (pairs_split more rest (grind (arith, nat_tests, all)) (omega (arith, even))))
+    let (first, later) = and_parts (is_digit a 16) (list_all (λ c. is_digit c 16) (b ∷ more)) all in
+    let (second, others) = and_parts (is_digit b 16) (list_all (λ c. is_digit c 16) more) later in
+    rw (first, second) (ap (λ bytes. (16 * digit_value a + digit_value b) ∷ bytes) (pairs_split more rest others (omega (arith, even))))
 
 -- digits in pairs are read
 pub pairs_read : (digits : List ℕ) (n : ℕ) → Written 16 8 digits n → length digits ≤ 8 → length digits % 2 ≡ 0
@@ -251,9 +289,24 @@ pairs_read digits n is few even =
     let are = paired digits is.all even in
     ((is.all, even, is.filled, few), omega (arith, are.1), is.number ∙ are.0 0)
 
+pub not_capped : (base : ℕ) (digits : List ℕ) → are_digits base digits ≡ false → None ≡ capped base digits
+not_capped base digits fails = rw fails refl
+
+pub is_capped : (base n : ℕ) (digits : List ℕ) → 0 < length digits → list_all (λ c. is_digit c base) digits ≡ true → n ≡ min (digits_number base digits) (2 ^ 64 - 1) → Some n ≡ capped base digits
+is_capped base n digits some all is =
+    let are : are_digits base digits ≡ true = and_from _ _ (lt-ltb 0 (length digits) some) all in rw are (ap Some is)
+
+pub no_pairs : (digits : List ℕ) → None ≡ capped 16 digits → ArePairs digits → ⊥
+no_pairs digits e pairs =
+    let are : are_digits 16 digits ≡ true = and_from _ _ (lt-ltb 0 (length digits) pairs.2) pairs.0 in
+    let some : capped 16 digits ≡ Some (min (digits_number 16 digits) (2 ^ 64 - 1)) = rw are refl in
+    none-some _ (e ∙ some)
+
 -- ---- a run of decimal digits is the number that they write
 pub digit_regular : (b : ℕ) → is_digit b 10 ≡ true → is_regular b ≡ true
-digit_regular b digit = grind (arith, nat_tests, digit)
+digit_regular b digit =
+    let p : ℕ → Bool = λ c. is_digit c 10 in
+    and_from _ _ (not_from_false _ (none_of p b (0 ∷ 9 ∷ 10 ∷ 12 ∷ 13 ∷ 32 ∷ []) refl digit)) (not_from_false _ (none_of p b (codes "()<>[]{}/%") refl digit))
 
 pub digits_numeral : (digits : List ℕ) → 0 < length digits → list_all (λ c. is_digit c 10) digits ≡ true → digits_number 10 digits < 2 ^ 63 → numeral digits ≡ Some (Integer (pos (digits_number 10 digits)))
 unfolding numeral integer

@@ -1,10 +1,9 @@
 -- Gaps, and the function that measures them.
 use Rattle.std.proofs.Common.{◌≡◌, ℕ, ◌+◌, ◌-◌, ◌<◌, ◌≤◌, Bool, true, false, not, ◌==◌, List, [], ◌∷◌, ◌++◌, inl, inr, length, get_or, take, Option, Some, None, one-add, refl, sym, ap, ◌∙◌, arith, append-nil, drop, length-drop, length-take-le}
 use Rattle.std.specs.Prelude.{IsTrue, is_some}
-use Rattle.std.proofs.lemmas.Bool.{and_parts, cases_Bool, eq-eqb}
+use Rattle.std.proofs.lemmas.Bool.{and_parts, cases_Bool, eq-eqb, ltb-true, ne_eqb, or_from}
 use Rattle.std.proofs.lemmas.List.{drop_more, drop-drop, take-append-drop, take_rest}
 use Rattle.std.specs.List.{list_all}
-use Rattle.std.proofs.lemmas.Bool.Decides.{nat_tests}
 use Rattle.cmap_tokens.specs.Bytes.{is_white}
 use Rattle.cmap_tokens.specs.Gaps.{ends_comment, comment_after, IsBlank}
 use Rattle.cmap_tokens.specs.TokenReading.{gap_len, is_plain}
@@ -13,7 +12,15 @@ use Rattle.cmap_tokens.proofs.ByteTests.{other_byte}
 pub gap_len-append : (in_comment after : Bool) (gap text : List ℕ) → comment_after in_comment gap ≡ Some after → gap_len in_comment (gap ++ text) ≡ length gap + gap_len after text
 gap_len-append in_comment after [] text e = let same : in_comment ≡ after = cc in rw same (omega arith)
 gap_len-append true after (b ∷ gap) text e = omega (arith, gap_len-append (not (ends_comment b)) after gap text e)
-gap_len-append false after (b ∷ gap) text e = grind (arith, nat_tests, e, gap_len-append true after gap text, gap_len-append false after gap text)
+gap_len-append false after (b ∷ gap) text e =
+    elim (cases_Bool (b == 37)) [
+      | inl percent ↦ let more = rw percent at e in rw percent (omega (arith, gap_len-append true after gap text more))
+      | inr other ↦
+          elim (cases_Bool (is_white b)) [
+            | inl white ↦ let more = rw (other, white) at e in rw (other, white) (omega (arith, gap_len-append false after gap text more))
+            | inr solid ↦ let none = rw (other, solid) at e in cc
+          ]
+    ]
 
 -- the measured front of a text is all of it, or a gap
 pub record Measured (in_comment : Bool) (text : List ℕ) : Type 0 where
@@ -34,8 +41,14 @@ measured false (b ∷ text) =
     let comment = measured true text in
     let white = measured false text in
     record {
-      within = grind (arith, nat_tests, comment.within, white.within);
-      blank = grind (arith, nat_tests, comment.blank, white.blank);
+      within = elim (cases_Bool (b == 37)) [
+        | inl percent ↦ rw percent (omega (arith, comment.within))
+        | inr other ↦ elim (cases_Bool (is_white b)) [ inl blank ↦ rw (other, blank) (omega (arith, white.within)) | inr solid ↦ rw (other, solid) (omega arith) ]
+      ];
+      blank = elim (cases_Bool (b == 37)) [
+        | inl percent ↦ rw percent (λ h. comment.blank (omega (arith, h)))
+        | inr other ↦ elim (cases_Bool (is_white b)) [ inl blank ↦ rw (other, blank) (λ h. white.blank (omega (arith, h))) | inr solid ↦ rw (other, solid) (λ h. absurd (omega (arith, h))) ]
+      ];
       gap = elim (cases_Bool (b == 37)) [
         | inl percent ↦ rw (percent, one-add (gap_len true text)) (λ h. rw percent (comment.gap (omega (arith, h))))
         | inr other ↦
@@ -57,7 +70,8 @@ gap_len-blank text blank =
 
 -- ---- bytes of a comment that don't end it
 plain_goes_on : (b : ℕ) → is_plain b ≡ true → ends_comment b ≡ false
-plain_goes_on b plain = grind (arith, nat_tests, plain)
+plain_goes_on b plain =
+    let above : 13 < b = ltb-true 13 b plain in or_from _ _ (ne_eqb b 10 (λ same. omega (arith, same, above))) (or_from _ _ (ne_eqb b 12 (λ same. omega (arith, same, above))) (or_from _ _ (ne_eqb b 13 (λ same. omega (arith, same, above))) refl))
 
 plain_passed : (front rest : List ℕ) → list_all is_plain front ≡ true → gap_len true (front ++ rest) ≡ length front + gap_len true rest
 plain_passed [] rest all = omega arith

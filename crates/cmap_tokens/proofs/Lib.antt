@@ -1,7 +1,9 @@
 pub mod AfterBlank
+pub mod BytesPassed
 pub mod ByteTests
 pub mod Decided
 pub mod Digits
+pub mod FirstBytes
 pub mod Fronts
 pub mod Gaps
 pub mod NumbersSpelled

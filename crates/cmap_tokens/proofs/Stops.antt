@@ -36,7 +36,15 @@ gap_front false (suc n) (b ∷ text) few =
 comment_after-append : (in_comment after : Bool) (gap text : List ℕ) → comment_after in_comment gap ≡ Some after → comment_after in_comment (gap ++ text) ≡ comment_after after text
 comment_after-append in_comment after [] text e = let same : in_comment ≡ after = cc in rw same refl
 comment_after-append true after (b ∷ gap) text e = comment_after-append (not (ends_comment b)) after gap text e
-comment_after-append false after (b ∷ gap) text e = grind (arith, nat_tests, e, comment_after-append true after gap text, comment_after-append false after gap text)
+comment_after-append false after (b ∷ gap) text e =
+    elim (cases_Bool (b == 37)) [
+      | inl percent ↦ let more = rw percent at e in rw percent (comment_after-append true after gap text more)
+      | inr other ↦
+          elim (cases_Bool (is_white b)) [
+            | inl white ↦ let more = rw (other, white) at e in rw (other, white) (comment_after-append false after gap text more)
+            | inr solid ↦ let none = rw (other, solid) at e in cc
+          ]
+    ]
 
 line_closes : (in_comment : Bool) → comment_after in_comment (10 ∷ []) ≡ Some false
 line_closes true = refl

@@ -5,10 +5,10 @@ use Rattle.std.specs.List.{list_all, prefix_len}
 use Rattle.std.specs.Option.{option_map_or}
 use Rattle.std.proofs.Math.Seq.{get_or-append_seam}
 use Rattle.std.proofs.lemmas.Bool.{cases_Bool, eq-eqb, eqb-true}
-use Rattle.std.proofs.lemmas.List.{at_drop_more, get_or_past, nil_from_length, take_all, take_more}
+use Rattle.std.proofs.lemmas.List.{at_drop_all, at_drop_more, nil_from_length, take_all, take_more}
 use Rattle.cmap_tokens.specs.Tokens.{Inside, after_byte, closes_at_end, opened, is_hex_body, IsHexString, IsString}
 use Rattle.cmap_tokens.specs.TokenReading.{one_more, hex_len, text_len, string_len, is_string, is_paired}
-use Rattle.cmap_tokens.proofs.ByteTests.{all_prefix, by_byte, prefix_len-append_all}
+use Rattle.cmap_tokens.proofs.ByteTests.{all_prefix, by_byte, byte_within, prefix_len-append_all}
 
 one_more_some : (count : Option ℕ) (m : ℕ) → one_more count ≡ Some m → (k : ℕ) × (count ≡ Some k) × (m ≡ suc k)
 one_more_some None m e = cc
@@ -23,7 +23,7 @@ hex_is text n e =
           let last : get_or text len 0 ≡ 62 = eqb-true _ 62 ends in
           let at : 1 + len ≡ n = let some = rw ends at e in cc in
           let long : n ≡ len + 1 = omega (arith, at) in
-          let within : len < length text = grind (arith, last, get_or_past text len 0) in
+          let within : len < length text = byte_within text len 62 last (omega arith) in
           ((take len text, rw (long, take_more text len 0 within, last) refl, all_prefix is_hex_body text), omega (arith, long, within))
       | inr other ↦ let at = rw other at e in cc
     ]
@@ -110,3 +110,16 @@ ends_from false depth (b ∷ bytes) =
     ]) (λ not_close.
     by_byte b 40 P (λ closes. byte_before 40 false false bytes (λ _. refl) (ends_from false (depth + 1) bytes closes)) (λ not_open closes.
     byte_before b false false bytes (λ body. ap (λ t. is_paired t body) plain) (ends_from false depth bytes (rw (plain, not_open, not_close, closes_at_end) at closes)))))
+
+-- the ) that closes the first parenthesis
+pub closed_here : (text : List ℕ) (i depth : ℕ) (escaped : Bool) (all : Option ℕ) → i < length text → get_or text i 0 ≡ 41 → depth ≡ 1 → escaped ≡ false
+    → option_map (λ n. i + n) (text_len (Some (record { escaped = escaped; depth = depth })) (drop i text)) ≡ all → Some (i + 2) ≡ one_more all
+closed_here text i depth escaped all within is one plain so_far =
+    let state : Inside = record { escaped = escaped; depth = depth } in
+    let end : text_len (Some state) (drop i text) ≡ Some 1 = at_drop_more (text_len (Some state)) text i 0 within ∙ rw (is, one, plain) refl in
+    let sum : i + 2 ≡ 1 + (i + 1) = omega arith in
+    ap Some sum ∙ ap (λ n. one_more (option_map (λ n. i + n) n)) (sym end) ∙ ap one_more so_far
+
+-- and none
+pub never_closed : (text : List ℕ) (i : ℕ) (state : Inside) (all : Option ℕ) → length text ≤ i → option_map (λ n. i + n) (text_len (Some state) (drop i text)) ≡ all → None ≡ one_more all
+never_closed text i state all past so_far = ap (λ n. one_more (option_map (λ n. i + n) n)) (sym (at_drop_all (text_len (Some state)) text i past)) ∙ ap one_more so_far

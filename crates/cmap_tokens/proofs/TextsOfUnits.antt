@@ -1,19 +1,21 @@
 -- Texts in UTF-16, character by character.
-use Rattle.std.proofs.Common.{◌≡◌, ℕ, ◌+◌, ◌<◌, true, ◌&&◌, ltb, List, [], ◌∷◌, ◌++◌, inl, inr, length, get_or, take, drop, ◌-◌, ◌^◌, Option, Some, None, Result, Ok, Err, is_some, option_map, option_and_then, nat_lt, refl, ap, ◌∙◌, sym, arith, append_assoc, append-nil, length-append, length-drop}
-use Rattle.std.specs.Prelude.{if◌then◌else◌}
+use Rattle.std.proofs.Common.{◌≡◌, ℕ, ◌+◌, ◌*◌, ◌<◌, ◌==◌, Bool, true, false, ◌&&◌, ltb, List, [], ◌∷◌, ◌++◌, inl, inr, length, get_or, take, drop, ◌-◌, ◌^◌, Option, Some, None, Result, Ok, Err, is_some, option_map, option_and_then, nat_lt, refl, ap, ◌∙◌, sym, subst, arith, append_assoc, append-nil, length-append, length-drop}
+use Rattle.std.specs.Prelude.{IfSome, SomeIff, if◌then◌else◌, nat_le}
+use Rattle.std.specs.Ordering.{is_le, is_lt, nat_cmp}
 use Rattle.std.specs.Bool.{then_some}
 use Rattle.std.specs.Option.{IsSomeAnd}
 use Rattle.std.specs.Result.{OkIff, OnErr, result_ok}
-use Rattle.std.specs.Char.{IsScalar, encode_utf8}
+use Rattle.std.specs.Char.{InScalarRange, IsScalar, encode_utf8}
 use Rattle.std.specs.Char.Utf16.{utf16_chars, lone_unit_char, surrogate_pair_char, is_high_surrogate, is_low_surrogate}
 use Rattle.std.specs.Str.{chars, IsUtf8}
-use Rattle.std.proofs.lemmas.Bool.{and_parts, cases_Bool, cases_lt, cond-false, cond-true, le-ltb, lt-ltb}
+use Rattle.std.proofs.lemmas.Bool.{and_from, and_parts, cases_Bool, cases_lt, cases_order, cond-false, cond-true, eq-eqb, false≢true, le-leb, le-ltb, lt-leb, lt-ltb, ltb-true, ne_eqb}
 use Rattle.std.proofs.lemmas.Bool.Decides.{nat_tests}
 use Rattle.std.proofs.lemmas.List.{drop_all, drop_more, get_or_past}
-use Rattle.std.proofs.lemmas.Option.{slice_get-get_or}
+use Rattle.std.proofs.lemmas.Option.{none-some, slice_get-get_or}
 use Rattle.std.proofs.lemmas.Result.{OkIff-at_err, OkIff-at_ok}
 use Rattle.std.proofs.lemmas.Str.{utf16_chars-nil, chars-append, chars-encodes}
-use Rattle.cmap_tokens.specs.Texts.{all_some, characters, only_character, shifted}
+use Rattle.cmap_tokens.proofs.ByteTests.{chosen}
+use Rattle.cmap_tokens.specs.Texts.{all_some, characters, one, only_character, shifted, text_at, text_of_characters}
 
 -- what is left of the characters, from an index on
 abbrev pub characters_from : List ℕ → ℕ → Option (List ℕ)
@@ -22,9 +24,54 @@ characters_from us i = characters (drop i us)
 pub characters_end : (front : List ℕ) (last i : ℕ) → length front < i → characters_from (front ++ last ∷ []) i ≡ Some []
 characters_end front last i past = ap characters (drop_all i (front ++ last ∷ []) (omega (arith, past, length-append front (last ∷ [])))) ∙ ap all_some utf16_chars-nil
 
+-- ---- a pair of surrogates
+order_le : (a b : ℕ) → is_le (nat_cmp a b) ≡ nat_le a b
+order_le a b =
+    elim (cases_order a b) [
+      | inl same ↦ let not_less : nat_lt a b ≡ false = le-ltb a b (omega (arith, same)) in let equal : (a == b) ≡ true = eq-eqb a b same in let at_most : nat_le a b ≡ true = le-leb a b (omega (arith, same)) in rw (not_less, equal, at_most) refl
+      | inr (inl less) ↦ let below : nat_lt a b ≡ true = lt-ltb a b less in let at_most : nat_le a b ≡ true = le-leb a b (omega (arith, less)) in rw (below, at_most) refl
+      | inr (inr more) ↦
+          let not_less : nat_lt a b ≡ false = le-ltb a b (omega (arith, more)) in
+          let other : (a == b) ≡ false = ne_eqb a b (λ same. omega (arith, more, same)) in
+          let above : nat_le a b ≡ false = lt-leb a b more in
+          rw (not_less, other, above) refl
+    ]
+
+order_lt : (a b : ℕ) → is_lt (nat_cmp a b) ≡ nat_lt a b
+order_lt a b =
+    elim (cases_Bool (nat_lt a b)) [
+      | inl less ↦ rw less refl
+      | inr not_less ↦ elim (cases_Bool (a == b)) [ inl same ↦ rw (not_less, same) refl | inr other ↦ rw (not_less, other) refl ]
+    ]
+
+-- a range contains a number, or doesn't
+pub contained : (a b x : ℕ) (found is : Bool) → found ≡ (is_le (nat_cmp a x) && is_lt (nat_cmp x b)) → found ≡ is → (nat_le a x && nat_lt x b) ≡ is
+contained a b x found is value found_is = sym (value ∙ ap (λ t. t && is_lt (nat_cmp x b)) (order_le a x) ∙ ap (λ t. nat_le a x && t) (order_lt x b)) ∙ found_is
+
+made : (r : Option ℕ) (P : Type 0) (v : ℕ) → SomeIff r P v → is_some r ≡ true → (r ≡ Some v) × P
+made None P v value some = absurd (false≢true some)
+made (Some x) P v value some = (ap Some value.1, value.0)
+
+pub pair_made : (high low h l : ℕ) (r : Option ℕ) → is_high_surrogate high ≡ true → is_low_surrogate low ≡ true → h ≡ high - 0xD800 → l ≡ low - 0xDC00 → SomeIff r (IsScalar (65536 + h * 1024 + l)) (65536 + h * 1024 + l)
+    → (InScalarRange (65536 + h * 1024 + l) → is_some r ≡ true) → (r ≡ (if is_high_surrogate high && is_low_surrogate low then Some (surrogate_pair_char high low) else None)) × IfSome r IsScalar
+pair_made high low h l r high_in low_in h_is l_is value succeeds =
+    let n = 65536 + h * 1024 + l in
+    let (high_from, high_to) = and_parts (nat_le 0xD800 high) (nat_lt high 0xDC00) high_in in
+    let (low_from, low_to) = and_parts (nat_le 0xDC00 low) (nat_lt low 0xE000) low_in in
+    let high_small : high < 0xDC00 = ltb-true high 0xDC00 high_to in
+    let low_small : low < 0xE000 = ltb-true low 0xE000 low_to in
+    let (is, scalar) = made r (IsScalar n) n value (succeeds (inr (omega (arith, h_is), omega (arith, h_is, l_is, high_small, low_small)))) in
+    let same : n ≡ surrogate_pair_char high low = rw (h_is, l_is) refl in
+    (is ∙ ap Some same ∙ sym (cond-true _ _ _ (and_from _ _ high_in low_in)), subst (λ o. IfSome o IsScalar) (sym is) scalar)
+
 -- ---- the character at an index
 low_within : (us : List ℕ) (i v : ℕ) → v ≡ get_or us i 0 → is_low_surrogate v ≡ true → i < length us
 low_within us i v v_is low = grind (arith, nat_tests, v_is, low, get_or_past us i 0)
+
+pub pair_within : (us : List ℕ) (i u v c : ℕ) → v ≡ get_or us (i + 1) 0 → Some c ≡ (if is_high_surrogate u && is_low_surrogate v then Some (surrogate_pair_char u v) else None) → i + 1 < length us
+pair_within us i u v c v_is found =
+    let (pair, same) = chosen (is_high_surrogate u && is_low_surrogate v) (Some (surrogate_pair_char u v)) c (sym found) in
+    low_within us (i + 1) v v_is (and_parts (is_high_surrogate u) (is_low_surrogate v) pair).1
 
 pub pair_at : (us : List ℕ) (i u v c : ℕ) → i < length us → u ≡ get_or us i 0 → v ≡ get_or us (i + 1) 0 → Some c ≡ (if is_high_surrogate u && is_low_surrogate v then Some (surrogate_pair_char u v) else None)
     → characters_from us i ≡ option_map (λ cs. c ∷ cs) (characters_from us (i + 2))
@@ -136,3 +183,16 @@ shifted_by {E = E} (Ok sum) units offset last more some last_is more_is iff =
 shifted_by {E = E} (Err e) units offset last more some last_is more_is iff =
     let large : last + more < 65536 → ⊥ = OkIff-at_err {T = ℕ} {E = E} (Err e) (last + more < 65536) (last + more) e iff refl in
     ap (option_and_then (added units offset)) (slice_get-get_or units (length units - 1) 0 (omega arith)) ∙ cond-false _ _ _ (le-ltb (get_or units (length units - 1) 0 + offset) (2 ^ 16) (omega (arith, large, last_is, more_is)))
+
+-- ---- a text as it is answered
+pub text_of_none : (units : List ℕ) (offset : ℕ) → shifted units offset ≡ None → None ≡ option_map text_of_characters (text_at units offset)
+text_of_none units offset none = sym (ap (λ s. option_map text_of_characters (option_and_then characters s)) none)
+
+text_of_one : (cs : Option (List ℕ)) (c : ℕ) → Some c ≡ only_character cs → Some (one c) ≡ option_map text_of_characters cs
+text_of_one None c e = absurd (none-some c (sym e))
+text_of_one (Some []) c e = absurd (none-some c (sym e))
+text_of_one (Some (d ∷ [])) c e = ap (λ o. option_map one o) e
+text_of_one (Some (d ∷ f ∷ cs)) c e = absurd (none-some c (sym e))
+
+pub text_of_char : (units us : List ℕ) (offset c : ℕ) → shifted units offset ≡ Some us → Some c ≡ only_character (characters us) → Some (one c) ≡ option_map text_of_characters (text_at units offset)
+text_of_char units us offset c is found = text_of_one (characters us) c found ∙ sym (ap (λ s. option_map text_of_characters (option_and_then characters s)) is)

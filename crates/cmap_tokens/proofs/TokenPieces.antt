@@ -1,8 +1,8 @@
 -- The pieces of tokens: what the code reads is what the grammar says, both ways.
 use Rattle.std.proofs.Common.{◌≡◌, ℕ, ◌+◌, ◌<◌, ◌≤◌, true, false, not, ◌||◌, ◌==◌, List, [], ◌∷◌, ◌++◌, length, get_or, take, drop, Option, Some, None, one-add, refl, sym, ap, ◌∙◌, subst, inl, inr, arith, append_assoc}
-use Rattle.std.specs.Prelude.{IfSome, IsTrue, codes}
+use Rattle.std.specs.Prelude.{◌⊎◌, IfSome, IsTrue, codes}
 use Rattle.std.specs.List.{list_all, prefix_len}
-use Rattle.std.proofs.lemmas.Bool.{cond-true, and_parts, or_left, both_ways, cases_Bool, false≢true, not-true}
+use Rattle.std.proofs.lemmas.Bool.{cond-true, and_parts, or_left, both_ways, cases_Bool, false≢true, ne_eqb, not-true}
 use Rattle.std.proofs.lemmas.List.{take_at}
 use Rattle.std.proofs.lemmas.List.Folds.{length-prefix_len}
 use Rattle.std.proofs.lemmas.List.Sums.{prefix_len-le-length}
@@ -113,6 +113,45 @@ pub run_read : (text : List ℕ) → is_regular (get_or text 0 0) ≡ true → S
 unfolding first_piece
 run_read [] regular = absurd (false≢true regular)
 run_read (b ∷ text) regular = sym (cond-true _ _ _ regular)
+
+pub bracket_read : (text : List ℕ) → is_bracket (get_or text 0 0) ≡ true → Some (Name false (take 1 text), 1) ≡ first_piece text
+unfolding first_piece
+bracket_read [] bracket = cc
+bracket_read (b ∷ text) bracket = rw ((bracket_special b bracket).0, bracket) refl
+
+single_greater : (text : List ℕ) → (get_or text 0 0 ≡ 62 → ⊥) → None ≡ first_piece (62 ∷ text)
+unfolding first_piece
+single_greater [] single = refl
+single_greater (b ∷ text) single = let other : (b == 62) ≡ false = ne_eqb b 62 single in rw other refl
+
+pub nothing_read : (text : List ℕ) → length text < 1 → None ≡ first_piece text
+unfolding first_piece
+nothing_read [] none = refl
+nothing_read (b ∷ text) none = absurd (omega (arith, none))
+
+-- no piece begins so
+pub none_read : (text : List ℕ) → is_regular (get_or text 0 0) ≡ false → is_bracket (get_or text 0 0) ≡ false → (get_or text 0 0 ≡ 47 → ⊥) → (get_or text 0 0 ≡ 60 → ⊥) → (get_or text 0 0 ≡ 40 → ⊥) → (get_or text 0 0 ≡ 62 → get_or text 1 0 ≡ 62 → ⊥) → None ≡ first_piece text
+unfolding first_piece
+none_read [] special not_bracket not_slash not_less not_open single = refl
+none_read (b ∷ text) special not_bracket not_slash not_less not_open single =
+    let P : ℕ → Type 0 = λ c. (c ≡ 62 → get_or text 0 0 ≡ 62 → ⊥) → is_regular c ≡ false → is_bracket c ≡ false → (c == 47) ≡ false → (c == 60) ≡ false → (c == 40) ≡ false → None ≡ first_piece (c ∷ text) in
+    by_byte b 62 P (λ single _ _ _ _ _. single_greater text (single refl)) (λ not_greater _ special not_bracket not_slash not_less not_open. rw (special, not_bracket, not_slash, not_less, not_greater, not_open) refl) single
+    special not_bracket (ne_eqb b 47 not_slash) (ne_eqb b 60 not_less) (ne_eqb b 40 not_open)
+
+pub double_read : (text : List ℕ) (b : ℕ) → (b ≡ 60) ⊎ (b ≡ 62) → get_or text 0 0 ≡ b → get_or text 1 0 ≡ b → Some (Name false (take 2 text), 2) ≡ first_piece text
+unfolding first_piece
+double_read [] b is first second = elim is [ inl less ↦ absurd (omega (arith, first, less)) | inr greater ↦ absurd (omega (arith, first, greater)) ]
+double_read (a ∷ []) b is first second = elim is [ inl less ↦ absurd (omega (arith, second, less)) | inr greater ↦ absurd (omega (arith, second, greater)) ]
+double_read (a ∷ d ∷ text) b (inl less) first second = rw (first, second, less) refl
+double_read (a ∷ d ∷ text) b (inr greater) first second = rw (first, second, greater) refl
+
+pub string_read : (text : List ℕ) → ((get_or text 0 0 ≡ 60) × (get_or text 1 0 ≡ 60 → ⊥)) ⊎ (get_or text 0 0 ≡ 40) → string_of text (string_len text) ≡ first_piece text
+unfolding first_piece
+string_read [] (inl (less, single)) = absurd (omega (arith, less))
+string_read [] (inr opens) = absurd (omega (arith, opens))
+string_read (a ∷ []) (inl (less, single)) = rw less refl
+string_read (a ∷ b ∷ text) (inl (less, single)) = let other : (b == 60) ≡ false = ne_eqb b 60 single in rw (less, other) refl
+string_read (a ∷ text) (inr opens) = rw opens refl
 
 -- the other way: a token is read, where what follows doesn't make it longer
 pub record IsRead (piece : List ℕ) (token : Token) (rest : List ℕ) : Type 0 where

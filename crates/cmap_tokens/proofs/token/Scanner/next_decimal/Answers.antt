@@ -1,5 +1,6 @@
 use Rattle.std.proofs.Common.{sym, ap, ◌∙◌}
 use Rattle.std.proofs.lemmas.List.{take_rest}
+use Rattle.std.proofs.lemmas.Option.{none-some}
 use Rattle.cmap_tokens.specs.Scanner.{past, rest_of, spaced_decimal}
 use Rattle.cmap_tokens.proofs.AfterBlank.{decimal_first}
 use Rattle.cmap_tokens.proofs.Fronts.{read_token, left_after}
@@ -42,3 +43,17 @@ returns-in-Some-short_decimal-clause-few c =
     let (first, small) = decimal_first _ c.in-Some-short_decimal.number 5 c.in-Some-short_decimal.ensures.front in
     let read = read_token _ _ _ 6 _ c.self.view_is (take_rest _ c.self.inside.offset) first in
     small
+
+pub returns-in-Some-clause-stays : goal.returns-in-Some-clause-stays
+returns-in-Some-clause-stays c = λ e. absurd (none-some _ (sym e))
+
+pub returns-in-Some-short_decimal-clause-stays : goal.returns-in-Some-short_decimal-clause-stays
+returns-in-Some-short_decimal-clause-stays c = λ e. absurd (none-some _ (sym e))
+
+pub returns : goal.returns
+returns c = record {
+  token = c.next_other_decimal.ensures.token;
+  front = c.next_other_decimal.ensures.front;
+  few = c.next_other_decimal.ensures.few;
+  stays = c.next_other_decimal.ensures.stays;
+}

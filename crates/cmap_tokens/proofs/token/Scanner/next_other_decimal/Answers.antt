@@ -1,5 +1,6 @@
-use Rattle.std.proofs.Common.{◌+◌, sym, ap, ◌∙◌}
+use Rattle.std.proofs.Common.{◌+◌, sym, ap, refl, ◌∙◌}
 use Rattle.std.proofs.lemmas.List.{take_rest}
+use Rattle.std.proofs.lemmas.Option.{MatchOption-from_none, none-some}
 use Rattle.cmap_tokens.specs.Scanner.{past, spaced_decimal}
 use Rattle.cmap_tokens.proofs.AfterBlank.{decimal_first}
 use Rattle.cmap_tokens.proofs.Fronts.{left_after, left_is, read_token}
@@ -24,5 +25,13 @@ returns-clause-few c =
     let read = read_token _ _ _ (1 + c.in_ok-number.len) _ c.self.view_is (take_rest _ c.self.inside.offset) first in
     small
 
-pub returns-in_err-number-clause-front : goal.returns-in_err-number-clause-front
-returns-in_err-number-clause-front c = rw c.from_residual.ensures (sym (c.in_err-number.ensures.front ∙ ap spaced_decimal (left_is _ _ _ c.self.view_is)))
+pub returns-in_err-number : goal.returns-in_err-number
+returns-in_err-number c = record {
+  token = MatchOption-from_none _ _ c.from_residual.ensures;
+  front = rw c.from_residual.ensures (sym (c.in_err-number.ensures.front ∙ ap spaced_decimal (left_is _ _ _ c.self.view_is)));
+  few = MatchOption-from_none _ _ c.from_residual.ensures;
+  stays = λ _. refl;
+}
+
+pub returns-clause-stays : goal.returns-clause-stays
+returns-clause-stays c = λ e. absurd (none-some _ (sym e))

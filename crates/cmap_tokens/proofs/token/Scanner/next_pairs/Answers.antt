@@ -1,6 +1,7 @@
-use Rattle.std.proofs.Common.{◌+◌, ◌*◌, sym, ap, ◌∙◌}
+use Rattle.std.proofs.Common.{◌+◌, ◌*◌, sym, ap, refl, ◌∙◌}
 use Rattle.std.proofs.lemmas.List.{take_rest}
-use Rattle.cmap_tokens.specs.Scanner.{spaced_pairs}
+use Rattle.std.proofs.lemmas.Option.{MatchOption-from_none, none-some}
+use Rattle.cmap_tokens.specs.Scanner.{past, spaced_pairs}
 use Rattle.cmap_tokens.specs.Tokens.{String}
 use Rattle.cmap_tokens.proofs.AfterBlank.{pairs_first}
 use Rattle.cmap_tokens.proofs.Fronts.{left_after, left_is, read_token}
@@ -15,5 +16,20 @@ returns-clause-token c =
 pub returns-clause-front : goal.returns-clause-front
 returns-clause-front c = c.in_ok-count.ensures.front ∙ ap spaced_pairs (left_is _ _ _ c.self.view_is)
 
-pub returns-in_err-count-clause-front : goal.returns-in_err-count-clause-front
-returns-in_err-count-clause-front c = c.from_residual.ensures ∙ c.in_err-count.ensures.front ∙ ap spaced_pairs (left_is _ _ _ c.self.view_is)
+pub returns-in_err-count : goal.returns-in_err-count
+returns-in_err-count c = record {
+  token = MatchOption-from_none _ _ c.from_residual.ensures;
+  front = c.from_residual.ensures ∙ c.in_err-count.ensures.front ∙ ap spaced_pairs (left_is _ _ _ c.self.view_is);
+  few = MatchOption-from_none _ _ c.from_residual.ensures;
+  moves = MatchOption-from_none _ _ c.from_residual.ensures;
+  stays = λ _. refl;
+}
+
+pub returns-clause-few : goal.returns-clause-few
+returns-clause-few c = c.in_ok-count.ensures.few
+
+pub returns-clause-moves : goal.returns-clause-moves
+returns-clause-moves c = ap (past (3 + 2 * c.from.result)) c.self.view_is ∙ ap (λ n. past (3 + 2 * n) c.args.self.now) c.from.ensures
+
+pub returns-clause-stays : goal.returns-clause-stays
+returns-clause-stays c = λ e. absurd (none-some _ (sym e))

@@ -1,23 +1,27 @@
-use Rattle.std.proofs.Common.{ap, ◌∙◌, refl, rules, subst}
+use Rattle.std.proofs.Common.{◌≡◌, Option, Some, None, Result, Ok, sym, ap, ◌∙◌, refl, subst}
+use Rattle.std.specs.Prelude.{is_err}
 use Rattle.std.proofs.lemmas.Bool.{false≢true}
 use Rattle.std.proofs.lemmas.List.{take_rest}
-use Rattle.std.proofs.lemmas.Result.{MatchResult-from_err}
+use Rattle.std.proofs.lemmas.Result.{IfOk-from_err, MatchResult-from_err}
 use Rattle.cmap_tokens.specs.Gaps.{IsBlank}
 use Rattle.cmap_tokens.specs.Tokens.{IsMalformed}
 use Rattle.cmap_tokens.specs.Scanner.{rest_of}
 use Rattle.cmap_tokens.proofs.Fronts.{front_not_blank, read_token, left_after, leaves_blank, leaves_malformed}
 use Rattle.cmap_tokens.proofs.token.Scanner.next_token.Goals as goal
 
+some_not_none : {A E : Type 0} (x : A) → ◌≡◌ {A = Result (Option A) E} (Ok (Some x)) (Ok None) → ⊥
+some_not_none x e = cc
+
 pub returns-in_err-token : goal.returns-in_err-token
 returns-in_err-token c =
     let malformed = subst IsMalformed (take_rest _ c.self.inside.offset ∙ ap rest_of c.self.view_is) c.in_err-token.ensures.outcome in
     let left = leaves_malformed _ malformed in
     record {
-      token = search rules;
-      end = search rules;
+      token = IfOk-from_err _ _ c.from_residual.ensures.0;
+      end = (λ e. absurd (false≢true (sym (ap is_err e) ∙ c.from_residual.ensures.0)), λ blank. absurd (malformed.0 blank));
       malformed = (λ e. malformed, λ h. c.from_residual.ensures.0);
-      end_stays = search rules;
-      err_stays = search rules;
+      end_stays = λ _. refl;
+      err_stays = MatchResult-from_err c.from_residual.result _ _ c.from_residual.ensures.0 (λ _. refl);
       left = MatchResult-from_err c.from_residual.result _ _ c.from_residual.ensures.0 (λ _. left);
     }
 
@@ -25,11 +29,11 @@ pub returns-in_default : goal.returns-in_default
 returns-in_default c =
     let blank = subst IsBlank (take_rest _ c.self.inside.offset ∙ ap rest_of c.self.view_is) (rw c.in_default.is at c.in_ok-token.ensures.outcome) in
     record {
-      token = search rules;
+      token = tt;
       end = (λ e. blank, λ h. refl);
       malformed = (λ e. absurd (false≢true e), λ malformed. absurd (malformed.0 blank));
-      end_stays = search rules;
-      err_stays = search rules;
+      end_stays = λ _. refl;
+      err_stays = tt;
       left = leaves_blank _ blank;
     }
 
@@ -38,9 +42,9 @@ returns c =
     let read = read_token _ _ _ c.in-Some.len _ c.self.view_is (take_rest _ c.self.inside.offset) (rw c.in-Some.is at c.in_ok-token.ensures.outcome) in
     record {
       token = read;
-      end = (λ e. cc, λ blank. absurd (front_not_blank read.2.front blank));
+      end = (λ e. absurd (some_not_none _ e), λ blank. absurd (front_not_blank read.2.front blank));
       malformed = (λ e. absurd (false≢true e), λ malformed. absurd (malformed.1 _ _ _ _ read.2.front));
-      end_stays = search rules;
-      err_stays = search rules;
+      end_stays = λ e. absurd (some_not_none _ e);
+      err_stays = tt;
       left = left_after _ _ _ read;
     }
