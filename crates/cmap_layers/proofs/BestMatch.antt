@@ -39,7 +39,7 @@ layers_have (first ∷ rest) space found =
     ]
 
 -- ---- codes have one to four bytes
-length_fits : (len : CodeLength) → IsCodeLength (length_of len)
+pub length_fits : (len : CodeLength) → IsCodeLength (length_of len)
 length_fits One = (omega arith, omega arith)
 length_fits Two = (omega arith, omega arith)
 length_fits Three = (omega arith, omega arith)

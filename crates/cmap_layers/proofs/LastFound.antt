@@ -41,3 +41,11 @@ decided_cid-decided_in code (Some e) notdef character below = refl
 decided_cid-decided_in code None (Some e) character below = refl
 decided_cid-decided_in code None None (Some c) below = refl
 decided_cid-decided_in code None None None below = refl
+
+-- a notdef declaration decides, where no CID declaration does
+pub decided_notdef : (code : ℕ) (cid notdef : Option CidEntry) (character : Option ℕ) (e : CidEntry) → None ≡ cid → Some e ≡ notdef → Some (Some e.cid) ≡ decided_in code cid notdef character
+decided_notdef code cid notdef character e none found = ap (λ o. decided_in code None o character) found ∙ ap (λ o. decided_in code o notdef character) none
+
+-- where neither does, a character
+pub decided_character : (code : ℕ) (cid notdef : Option CidEntry) (character : Option ℕ) → None ≡ cid → None ≡ notdef → decided_in code None None character ≡ decided_in code cid notdef character
+decided_character code cid notdef character none none_too = ap (λ o. decided_in code None o character) none_too ∙ ap (λ o. decided_in code o notdef character) none

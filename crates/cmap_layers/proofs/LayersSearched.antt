@@ -1,22 +1,27 @@
 -- The layers of a map, searched for the CID of a code from the top one on.
-use Rattle.std.proofs.Common.{◌≡◌, ℕ, ◌+◌, ◌*◌, ◌≤◌, ◌<◌, suc, get_or, drop, drop-cons, Bool, true, false, List, [], ◌∷◌, length, Option, Some, None, refl, sym, ap, ◌∙◌, arith}
+use Rattle.std.proofs.Common.{◌≡◌, ℕ, ◌+◌, ◌*◌, ◌≤◌, ◌<◌, suc, get_or, drop, drop-cons, Bool, true, false, List, [], ◌∷◌, length, map, Option, Some, None, refl, sym, ap, ◌∙◌, arith}
 use Rattle.std.specs.Prelude.{unwrap_or, sum_by, ◌&&◌, nat_le, option_and_then, is_some, if◌then◌else◌}
 use Rattle.cmap_runs.specs.SearchLooks.{LooksAtMost}
 use Rattle.cmap_runs.specs.declared.runs.looks.Looks.{Looks}
 use Rattle.std.specs.Option.{option_or}
+use Rattle.std.proofs.lemmas.List.{drop_all}
 use Rattle.std.proofs.lemmas.List.Sums.{sum_by-cons}
 use Rattle.std.proofs.lemmas.Bool.{and_from, and_parts, cond-true, false_from_ne_true, le-leb, leb-true}
 use Rattle.cmap_values.specs.CodeLengths.{IsCodeLength}
 use Rattle.cmap_files.specs.Files.{BfEntry}
 use Rattle.cmap_layers.specs.Layers.{Layer}
-use Rattle.cmap_layers.specs.Lookups.{cid_in, cid_of, bf_at, last_bf, bf_of, decided_text}
+use Rattle.cmap_layers.specs.Lookups.{cid_in, cid_of, bf_at, bf_span, last_bf, bf_of, decided_text}
 use Rattle.cmap_layers.specs.LayersDecide.{layer_cid, deciding_bf}
-use Rattle.cmap_layers.specs.Searches.{layer_looks, cid_looks, bf_looks}
+use Rattle.cmap_layers.specs.Searches.{layer_looks, cid_looks, bf_looks, search_looks}
 use Rattle.cmap_layers.proofs.LastFound.{decided_cid-decided_in}
 
 -- the element that stands next
 pub drop_next : {A : Type 0} (xs : List A) (i : ℕ) (x : A) → i < length xs → x ≡ get_or xs i x → drop i xs ≡ x ∷ drop (i + 1) xs
 drop_next xs i x within is = let next : i + 1 ≡ suc i = omega arith in drop-cons xs i x within ∙ ap (λ y. y ∷ drop (suc i) xs) (sym is) ∙ ap (λ k. x ∷ drop k xs) (sym next)
+
+-- a list of one element
+pub only_one : {A : Type 0} (xs : List A) (x : A) → 1 ≤ length xs → length xs < 2 → x ≡ get_or xs 0 x → xs ≡ x ∷ []
+only_one xs x some few is = drop_next xs 0 x some is ∙ ap (λ rest. x ∷ rest) (drop_all 1 xs (omega (arith, few)))
 
 -- what is looked at in the layers that are left, and in those above them, is within what may be looked at in all
 pub record IsLooked (before now : Looks) (all_runs runs_left all_declarations declarations_left : ℕ) : Type 0 where
@@ -133,3 +138,83 @@ bf_of-deciding_bf (layer ∷ layers) code = decided_text-option_or code (last_bf
 pub record IsBfSearched (layers rest : List Layer) (code : ℕ) (before now : Looks) : Type 0 where
   pub value : deciding_bf layers code ≡ deciding_bf rest code
   pub looked : IsLooked before now (bf_looks layers) (bf_looks rest) (length layers) (length rest)
+
+option_or-none : (o : Option BfEntry) → option_or o None ≡ o
+option_or-none None = refl
+option_or-none (Some e) = refl
+
+pub IsBfSearched-none : (layers : List Layer) (code : ℕ) (before : Looks) → IsBfSearched layers layers code before before
+IsBfSearched-none layers code before = record {
+  value = refl;
+  looked = record { runs = omega arith; runs_grow = omega arith; declarations = omega arith; declarations_grow = omega arith };
+}
+
+next_bf_looked : (layers : List Layer) (layer : Layer) (below : List Layer) (code : ℕ) (before now : Looks) → IsBfSearched layers (layer ∷ below) code before now
+    → IsLooked before now (bf_looks layers) (search_looks (map bf_span layer.lists.bfs) + bf_looks below) (length layers) (1 + length below)
+next_bf_looked layers layer below code before now searched = record {
+  runs = omega (arith, searched.looked.runs, sum_by-cons (λ l. search_looks (map bf_span l.lists.bfs)) layer below);
+  runs_grow = searched.looked.runs_grow;
+  declarations = omega (arith, searched.looked.declarations);
+  declarations_grow = searched.looked.declarations_grow;
+}
+
+pub IsBfSearched-more : (layers : List Layer) (layer : Layer) (below : List Layer) (code : ℕ) (before now after : Looks) (found : Bool) → IsBfSearched layers (layer ∷ below) code before now → None ≡ last_bf layer.lists.bfs code
+    → LooksAtMost now after (search_looks (map bf_span layer.lists.bfs)) 1 found → IsBfSearched layers below code before after
+IsBfSearched-more layers layer below code before now after found searched none looks = record {
+  value = searched.value ∙ ap (λ o. option_or o (deciding_bf below code)) (sym none);
+  looked = looked_more before now after _ _ _ _ _ _ found (next_bf_looked layers layer below code before now searched) looks;
+}
+
+-- the layer that decides
+pub bf_decided : (layers : List Layer) (layer : Layer) (below : List Layer) (code : ℕ) (entry : BfEntry) (before now : Looks) → IsBfSearched layers (layer ∷ below) code before now → Some entry ≡ last_bf layer.lists.bfs code → Some entry ≡ deciding_bf layers code
+bf_decided layers layer below code entry before now searched is = ap (λ o. option_or o (deciding_bf below code)) is ∙ sym searched.value
+
+pub bf_looked : (layers : List Layer) (layer : Layer) (below : List Layer) (code : ℕ) (before now after : Looks) → IsBfSearched layers (layer ∷ below) code before now → LooksAtMost now after (search_looks (map bf_span layer.lists.bfs)) 1 true
+    → LooksAtMost before after (bf_looks layers) (length layers) true
+bf_looked layers layer below code before now after searched looks = looked_last before now after _ _ _ _ _ _ true (next_bf_looked layers layer below code before now searched) looks
+
+-- none does
+pub bf_looked_all : (layers : List Layer) (code : ℕ) (before after : Looks) → IsBfSearched layers [] code before after → LooksAtMost before after (bf_looks layers) (length layers) false
+bf_looked_all layers code before after searched = record {
+  most_runs = omega (arith, searched.looked.runs);
+  some_run = omega (arith, searched.looked.runs_grow);
+  most_declarations = omega (arith, searched.looked.declarations);
+  some_declaration = omega (arith, searched.looked.declarations_grow);
+}
+
+-- of one layer alone
+pub bf_only : (layer : Layer) (code : ℕ) → last_bf layer.lists.bfs code ≡ deciding_bf (layer ∷ []) code
+bf_only layer code = sym (option_or-none (last_bf layer.lists.bfs code))
+
+pub bf_looks_only : (layer : Layer) (before after : Looks) (found : Bool) → LooksAtMost before after (search_looks (map bf_span layer.lists.bfs)) 1 found → LooksAtMost before after (bf_looks (layer ∷ [])) 1 found
+bf_looks_only layer before after found looks = record {
+  most_runs = omega (arith, looks.most_runs, sum_by-cons (λ l. search_looks (map bf_span l.lists.bfs)) layer []);
+  some_run = looks.some_run;
+  most_declarations = looks.most_declarations;
+  some_declaration = looks.some_declaration;
+}
+
+-- ---- the three lists of a layer, one after another
+pub looks_first : (before after : Looks) (cids notdefs texts : ℕ) (found : Bool) → LooksAtMost before after cids 1 found → LooksAtMost before after (cids + notdefs + texts) 3 found
+looks_first before after cids notdefs texts found first = record {
+  most_runs = omega (arith, first.most_runs);
+  some_run = first.some_run;
+  most_declarations = omega (arith, first.most_declarations);
+  some_declaration = first.some_declaration;
+}
+
+pub looks_second : (before now after : Looks) (cids notdefs texts : ℕ) (found : Bool) → LooksAtMost before now cids 1 false → LooksAtMost now after notdefs 1 found → LooksAtMost before after (cids + notdefs + texts) 3 found
+looks_second before now after cids notdefs texts found first second = record {
+  most_runs = omega (arith, first.most_runs, second.most_runs);
+  some_run = omega (arith, first.some_run, second.some_run);
+  most_declarations = omega (arith, first.most_declarations, second.most_declarations);
+  some_declaration = omega (arith, first.some_declaration, second.some_declaration);
+}
+
+pub looks_third : (before one two after : Looks) (cids notdefs texts : ℕ) (found : Bool) → LooksAtMost before one cids 1 false → LooksAtMost one two notdefs 1 false → LooksAtMost two after texts 1 found → LooksAtMost before after (cids + notdefs + texts) 3 found
+looks_third before one two after cids notdefs texts found first second third = record {
+  most_runs = omega (arith, first.most_runs, second.most_runs, third.most_runs);
+  some_run = omega (arith, first.some_run, second.some_run, third.some_run);
+  most_declarations = omega (arith, first.most_declarations, second.most_declarations, third.most_declarations);
+  some_declaration = omega (arith, first.some_declaration, second.some_declaration, third.some_declaration);
+}

@@ -1,10 +1,10 @@
 -- Bits of codespace ranges: which are set by a range, and which rows the range is in.
-use Rattle.std.proofs.Common.{◌≡◌, ◌≢◌, ℕ, suc, ◌+◌, ◌-◌, ◌*◌, ◌/◌, ◌%◌, ◌^◌, ◌<◌, ◌≤◌, ◌⊎◌, ◌++◌, not, List, length, take, drop, set, get_or, true≢false, eq-eqb, ne_eqb, min, Some, replicate, sym, ap, ◌∙◌, subst, inl, inr, w64, get_or-set_same, get_or-set_other, slice_get, bit_and, bit_or, arith}
+use Rattle.std.proofs.Common.{◌≡◌, ◌≢◌, ℕ, suc, ◌+◌, ◌-◌, ◌*◌, ◌/◌, ◌%◌, ◌^◌, ◌<◌, ◌≤◌, ◌⊎◌, ◌++◌, not, List, [], ◌∷◌, length, take, drop, set, get_or, true≢false, eq-eqb, ne_eqb, min, Some, replicate, sym, ap, ◌∙◌, subst, inl, inr, w64, get_or-set_same, get_or-set_other, slice_get, bit_and, bit_or, arith}
 use Rattle.std.specs.Prelude.{◌↔◌, IsSomeAnd, IsTrue, nat_eq}
 use Rattle.std.specs.Int.{bit_at, trailing_zeros}
 use Rattle.std.proofs.lemmas.Bool.{cases_eq, cases_lt}
 use Rattle.std.proofs.lemmas.Nat.Bits.{bit_at-lt, bit_at-trailing_zeros, bit_at_and, bit_at_set_same, bit_at_set_other, bit_at-zero}
-use Rattle.std.proofs.lemmas.List.{get_or-replicate, length-replicate}
+use Rattle.std.proofs.lemmas.List.{get_or-append-add, get_or-replicate, get_or_append_left, length-append, length-replicate, replicate-append-replicate, take_all}
 use Rattle.std.proofs.lemmas.Option.{slice_get_cases}
 use Rattle.std.proofs.Math.Seq.{take-append_seam}
 use Rattle.cmap_files.specs.Files.{Codespace}
@@ -105,9 +105,9 @@ all_touched space row some few = (
 )
 
 -- and those of one place more, from low to high
-pub touched_more : (space : Codespace) (place low high row : ℕ) → place < space.len → low < 256 → high < 256 → low ≡ byte_at space.low (space.len - suc place) → high ≡ byte_at space.high (space.len - suc place)
-    → (IsTouched space place row ⊎ ((row_of_value place low ≤ row) × (row ≤ row_of_value place high))) ↔ IsTouched space (place + 1) row
-touched_more space place low high row within low_fits high_fits low_is high_is = (
+pub touched_more : (space : Codespace) (place low high first last row : ℕ) → place < space.len → low ≡ byte_at space.low (space.len - suc place) → high ≡ byte_at space.high (space.len - suc place) → first ≡ row_of_value place low → last ≡ row_of_value place high
+    → (IsTouched space place row ⊎ ((first ≤ row) × (row ≤ last))) ↔ IsTouched space (place + 1) row
+touched_more space place low high first last row within low_is high_is first_is last_is = (
   λ either. elim either [
     | inl old ↦ elim old [ inl its ↦ inl its | inr value ↦ let below = value.0 in inr (omega arith, value.1) ]
     | inr (from, to) ↦
@@ -128,6 +128,39 @@ touched_more space place low high row within low_fits high_fits low_is high_is =
     ]
   ],
 )
+
+-- in each row that has it, a bit is set, and no other bit changes
+abbrev pub IsSetIn : List ℕ → List ℕ → ℕ → (ℕ → Type 0) → Type 0
+IsSetIn old new bit HasIt = (row i : ℕ) → row < row_count → (bit_at (get_or new row 0) i ≡ 1) ↔ ((bit_at (get_or old row 0) i ≡ 1) ⊎ ((i ≡ bit) × HasIt row))
+
+pub set_in_same : (old new : List ℕ) (bit : ℕ) (One Other : ℕ → Type 0) → ((row : ℕ) → One row ↔ Other row) → IsSetIn old new bit One → IsSetIn old new bit Other
+set_in_same old new bit One Other same set row i within = (
+  λ is. elim ((set row i within).0 is) [ inl was ↦ inl was | inr its ↦ inr (its.0, (same row).0 its.1) ],
+  λ either. (set row i within).1 (elim either [ inl was ↦ inl was | inr its ↦ inr (its.0, (same row).1 its.1) ]),
+)
+
+pub set_in_more : (old now new : List ℕ) (bit : ℕ) (One Other : ℕ → Type 0) → IsSetIn old now bit One → IsSetIn now new bit Other → IsSetIn old new bit (λ row. One row ⊎ Other row)
+set_in_more old now new bit One Other first second row i within = (
+  λ is. elim ((second row i within).0 is) [
+    | inl was ↦ elim ((first row i within).0 was) [ inl before ↦ inl before | inr its ↦ inr (its.0, inl its.1) ]
+    | inr its ↦ inr (its.0, inr its.1)
+  ],
+  λ either. (second row i within).1 (elim either [
+    | inl before ↦ inl ((first row i within).1 (inl before))
+    | inr its ↦ elim its.1 [ inl one ↦ inl ((first row i within).1 (inr (its.0, one))) | inr other ↦ inr (its.0, other) ]
+  ]),
+)
+
+-- the rows from low to high
+pub set_in_span : (old new : List ℕ) (bit low high : ℕ) → length old ≡ row_count → ((row i : ℕ) → row < length old → (bit_at (get_or new row 0) i ≡ 1) ↔ ((bit_at (get_or old row 0) i ≡ 1) ⊎ ((i ≡ bit) × (low ≤ row) × (row ≤ high)))) → IsSetIn old new bit (λ row. (low ≤ row) × (row ≤ high))
+set_in_span old new bit low high size set row i within = let step = set row i (omega arith) in (
+  λ is. elim (step.0 is) [ inl was ↦ inl was | inr its ↦ inr (its.0, (its.1, its.2)) ],
+  λ either. step.1 (elim either [ inl was ↦ inl was | inr its ↦ inr (its.0, its.1.0, its.1.1) ]),
+)
+
+-- the first row, that of the length
+pub touched_first : (space : Codespace) (at row : ℕ) → at ≡ row_of_length space.len → ((at ≤ row) × (row ≤ at)) ↔ IsTouched space 0 row
+touched_first space at row is = (λ both. let (from, to) = both in inl (omega arith), λ touched. let its = (none_touched space row).0 touched in (omega arith, omega arith))
 
 -- ---- the bits of items in a row
 pub item_within : {A : Type 0} (Holds : A → Type 0) (items : List A) (index : ℕ) → IsSomeAnd (slice_get items index) Holds → index < length items
@@ -171,3 +204,25 @@ all_bits HasRow items first count rows within is have = record {
 
 pub row_marked : (old new : List ℕ) (at bit : ℕ) → at < length old → bit < 64 → new ≡ set old at (bit_or (get_or old at 0) (1 * 2 ^ bit % 2 ^ 64)) → (row i : ℕ) → (bit_at (get_or new row 0) i ≡ 1) ↔ ((bit_at (get_or old row 0) i ≡ 1) ⊎ ((i ≡ bit) × (row ≡ at)))
 row_marked old new at bit within small is row i = subst (λ rows. (bit_at (get_or rows row 0) i ≡ 1) ↔ ((bit_at (get_or old row 0) i ≡ 1) ⊎ ((i ≡ bit) × (row ≡ at)))) (sym is) (row_set old at bit row i within small)
+
+-- ---- blocks, one after another
+pub length_more : {A : Type 0} (old new : List A) (item : A) → new ≡ old ++ (item ∷ []) → length new ≡ length old + 1
+length_more old new item is = ap (λ l. length l) is ∙ length-append old (item ∷ [])
+
+-- what holds of each item by its index
+pub each_more : {A : Type 0} (Holds : ℕ → A → Type 0) (old new : List A) (item : A) → new ≡ old ++ (item ∷ []) → ((k : ℕ) (d : A) → k < length old → Holds k (get_or old k d)) → Holds (length old) item → (k : ℕ) (d : A) → k < length new → Holds k (get_or new k d)
+each_more Holds old new item is each last k d within =
+    elim (cases_lt k (length old)) [
+      | inl below ↦ subst (Holds k) (sym (ap (λ l. get_or l k d) is ∙ get_or_append_left old (item ∷ []) d k below)) (each k d below)
+      | inr from ↦
+          let at : k ≡ length old = omega (arith, length_more old new item is) in
+          let end : k ≡ length old + 0 = omega arith in
+          subst (Holds k) (sym (ap (λ l. get_or l k d) is ∙ ap (λ i. get_or (old ++ (item ∷ [])) i d) end ∙ get_or-append-add old (item ∷ []) 0 d)) (subst (λ i. Holds i item) (sym at) last)
+    ]
+
+-- rows that are cleared, and more of them
+pub cleared_more : (old new : List ℕ) (m n : ℕ) → old ≡ replicate m 0 → m ≤ n → new ≡ take n old ++ replicate (n - m) 0 → new ≡ replicate n 0
+cleared_more old new m n cleared more is =
+    let whole : length old ≤ n = omega (arith, ap (λ (l : List ℕ). length l) cleared, length-replicate {A = ℕ} m 0) in
+    let sum : m + (n - m) ≡ n = omega arith in
+    is ∙ ap (λ l. l ++ replicate (n - m) 0) (take_all n old whole ∙ cleared) ∙ replicate-append-replicate m (n - m) 0 ∙ ap (λ k. replicate k 0) sum

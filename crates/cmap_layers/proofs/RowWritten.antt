@@ -1,12 +1,13 @@
 -- The CIDs of codes in a row, written part by part and table by table.
-use Rattle.std.proofs.Common.{◌≡◌, ℕ, Bool, ◌+◌, ◌-◌, ◌<◌, ◌≤◌, ◌^◌, List, ◌∷◌, length, Option, Some, None, refl, sym, ap, ◌∙◌, subst, inl, inr, true, false, arith, rules}
-use Rattle.std.specs.Prelude.{◌&&◌, map, nat_le, nat_lt, option_and_then, option_map, slice_index, unwrap_or, if◌then◌else◌}
-use Rattle.std.proofs.lemmas.Bool.{and_from, cases_lt, le-leb, lt-ltb, le-ltb}
+use Rattle.std.proofs.Common.{◌≡◌, ℕ, Bool, ◌+◌, ◌-◌, ◌<◌, ◌≤◌, ◌^◌, List, ◌∷◌, length, set, get_or-set_same, get_or-set_other, Option, Some, None, refl, sym, ap, ◌∙◌, subst, inl, inr, true, false, arith, rules}
+use Rattle.std.specs.Prelude.{◌&&◌, map, nat_le, nat_lt, option_and_then, option_map, slice_index, unwrap_or, IsTrue, if◌then◌else◌}
+use Rattle.std.proofs.lemmas.Bool.{and_from, and_parts, cases_eq, cases_lt, le-leb, leb-true, lt-ltb, le-ltb}
 use Rattle.std.proofs.lemmas.Bool.Decides.{nat_tests}
 use Rattle.std.proofs.lemmas.List.{places}
 use borrow.Rule.Slice.PartMut.{mid_of, put_mid}
 use Rattle.cmap_tokens.specs.Texts.{only_character}
 use Rattle.cmap_values.specs.CodeLengths.{IsCodeLength}
+use Rattle.cmap_runs.specs.Ranges.{Span, contains}
 use Rattle.cmap_runs.specs.Stretches.{IsStretch}
 use Rattle.cmap_files.specs.DeclarationsSeen.{bf_entry_seen, bf_range_span, cid_entry_seen, cid_range_span, entries_seen}
 use Rattle.cmap_files.specs.Files.{CidEntry, of_length}
@@ -24,6 +25,17 @@ use Rattle.cmap_layers.proofs.LastFound.{last_of-map}
 pub record IsWrittenTo (said : ℕ → Option ℕ) (first : ℕ) (old new : List ℕ) (end : ℕ) : Type 0 where
   pub codes : (k : ℕ) → k < end → slice_index new k ≡ unwrap_or (said (first + k)) (slice_index old k)
   pub rest : (k : ℕ) → end ≤ k → slice_index new k ≡ slice_index old k
+
+-- of no code so far
+pub written_none : (said : ℕ → Option ℕ) (first : ℕ) (old : List ℕ) → IsWrittenTo said first old old 0
+written_none said first old = record { codes = λ k lt. absurd (omega arith); rest = λ k le. refl }
+
+-- of all that 32 bits write
+pub written_all : (said : ℕ → Option ℕ) (first : ℕ) (old new : List ℕ) (end : ℕ) → IsWrittenTo said first old new end → first + end ≤ 2 ^ 32 → ((k : ℕ) → k < length new → first + k < 2 ^ 32 → k < end) → IsWritten said first old new
+written_all said first old new end written fits all = record {
+  codes = λ k lt below. written.codes k (all k lt below);
+  others = λ k past. written.rest k (omega arith);
+}
 
 -- nothing is said of the next codes
 pub gap_written : (said : ℕ → Option ℕ) (first : ℕ) (old new : List ℕ) (from end : ℕ) → IsWrittenTo said first old new from
@@ -57,6 +69,21 @@ part_written said first old new part from end written len le within is =
           ];
       rest = λ k past. back k past ∙ written.rest k (omega arith);
     }
+
+-- what is said of the next code, if something is
+pub one_written : (said : ℕ → Option ℕ) (first : ℕ) (old now : List ℕ) (at value : ℕ) → IsWrittenTo said first old now at → at < length now → value ≡ unwrap_or (said (first + at)) (slice_index old at) → IsWrittenTo said first old (set now at value) (at + 1)
+one_written said first old now at value written within is = record {
+  codes = λ k lt.
+      elim (cases_eq k at) [
+        | inl same ↦ subst (λ i. slice_index (set now at value) i ≡ unwrap_or (said (first + i)) (slice_index old i)) (sym same) (get_or-set_same now at value 0 within ∙ is)
+        | inr other ↦ get_or-set_other now at k value 0 other ∙ written.codes k (omega arith)
+      ];
+  rest = λ k past. get_or-set_other now at k value 0 (λ same. omega arith) ∙ written.rest k (omega arith);
+}
+
+-- a declaration that contains a code starts no later
+pub starts_before : (span : Span) (code : ℕ) → IsTrue (contains span code) → span.start ≤ code
+starts_before span code within = leb-true span.start code (and_parts _ _ within).0
 
 -- ---- what a table says of the codes of a stretch
 said_of : (kind : Kind) (code : ℕ) (d : Option CidRange) → option_map (λ e. given kind e code) (option_map cid_entry_seen d) ≡ option_map (λ x. given kind (cid_entry_seen x) code) d

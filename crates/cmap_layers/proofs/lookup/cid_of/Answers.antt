@@ -1,13 +1,9 @@
-use Rattle.std.proofs.Common.{◌≡◌, ◌≤◌, ◌<◌, List, [], ◌∷◌, None, refl, ap, ◌∙◌, arith, get_or, length}
-use Rattle.std.proofs.lemmas.List.{drop_all, length-map}
+use Rattle.std.proofs.Common.{[], ◌∷◌, None, refl, ◌∙◌}
+use Rattle.std.proofs.lemmas.List.{length-map}
 use Rattle.cmap_layers.specs.LayersSeen.{layer_seen, layers_seen}
-use Rattle.cmap_layers.proofs.LayersSearched.{drop_next, within_lengths, Answers, Answers-outside, IsSearched-decided, IsSearched-end, IsSearched-more, IsSearched-none}
+use Rattle.cmap_layers.proofs.LayersSearched.{only_one, within_lengths, Answers, Answers-outside, IsSearched-decided, IsSearched-end, IsSearched-more, IsSearched-none}
 use Rattle.cmap_layers.proofs.lookup.cid_of.Goals as goal
 use Rattle.cmap_layers.proofs.lookup.cid_of.Goals.{After-from_residual-in_err-decided_by-in-len1, In_ok-decided_by-in-len1}
-
--- a list of one element
-only_one : {A : Type 0} (xs : List A) (x : A) → 1 ≤ length xs → length xs < 2 → x ≡ get_or xs 0 x → xs ≡ x ∷ []
-only_one xs x some few is = drop_next xs 0 x some is ∙ ap (λ rest. x ∷ rest) (drop_all 1 xs (omega (arith, few)))
 
 pub returns-in_err-of-in-len1 : goal.returns-in_err-of-in-len1
 returns-in_err-of-in-len1 c =

@@ -1,14 +1,14 @@
-use Rattle.std.proofs.Common.{◌≡◌, map, ◌+◌, ◌-◌, Some, None, sym, ap, ◌∙◌, subst, rules, arith}
+use Rattle.std.proofs.Common.{◌≡◌, drop, map, ◌+◌, ◌-◌, Some, None, sym, ap, ◌∙◌, subst, rules, arith}
 use borrow.Rule.Slice.PartMut.{mid_of}
 use Rattle.std.specs.Prelude.{slice_index, unwrap_or}
 use Rattle.std.specs.Option.{option_copied}
-use Rattle.std.proofs.lemmas.List.{places}
+use Rattle.std.proofs.lemmas.List.{length-take, places}
 use Rattle.cmap_runs.specs.Stretches.{IsStretch}
 use Rattle.cmap_files.specs.DeclarationsSeen.{bf_entry_seen, bf_range_span}
 use Rattle.cmap_tokens.specs.Texts.{only_character}
 use Rattle.cmap_layers.specs.Lookups.{bf_at}
 use Rattle.cmap_layers.specs.RowsWritten.{character_said}
-use Rattle.cmap_layers.proofs.RowWritten.{character_said_in, gap_written, part_written}
+use Rattle.cmap_layers.proofs.RowWritten.{character_said_in, gap_written, part_written, starts_before, written_all, written_none}
 use Rattle.cmap_layers.proofs.row.write_characters.Goals as goal
 
 pub loop-from-preserved-in-Some-declaration : goal.loop-from-preserved-in-Some-declaration
@@ -48,3 +48,20 @@ loop-from-preserved c =
       written = gap_written said first c.args.cids.now c.loop-from.cids from end old.written
           (λ k le lt. character_said_in c.args.table.now stretches.next last (first + k) None here (omega arith) (omega arith)) (omega arith);
     }
+
+pub loop-from-init : goal.loop-from-init
+loop-from-init c = record { declarations = c.stretches-stretches.ensures.declarations; next = λ some. omega (arith, c.stretches-stretches.ensures.next); within = omega arith; fits = omega arith; written = written_none _ c.args.first c.args.cids.now }
+
+pub write_text-requires-clause-start : goal.write_text-requires-clause-start
+write_text-requires-clause-start c =
+    let begins = c.loop-from.invariant.next c.loop-from-test.true in
+    omega (arith, begins, starts_before (bf_range_span c.in-Some-declaration.declaration.now) c.loop-from.stretches.next (rw c.in-Some-declaration.is at c.in-Some.ensures.contains))
+
+pub write_text-requires-clause-fits : goal.write_text-requires-clause-fits
+write_text-requires-clause-fits c = omega (arith, c.in-Some.ensures.within, c.end_in_row-end.ensures, length-take (c.end_in_row-end.result - c.loop-from.from) (drop c.loop-from.from c.loop-from.cids))
+
+pub returns-after-loop-from : goal.returns-after-loop-from
+returns-after-loop-from c = written_all _ c.args.first c.args.cids.now c.loop-from.cids c.loop-from.from c.loop-from.invariant.written c.loop-from.invariant.fits (λ k lt fits. omega arith)
+
+pub returns-in_default : goal.returns-in_default
+returns-in_default c = written_all _ c.args.first c.args.cids.now c.loop-from.cids c.loop-from.from c.loop-from.invariant.written c.loop-from.invariant.fits (λ k lt fits. omega (arith, c.in_default.ensures))

@@ -6,7 +6,7 @@ use Rattle.std.proofs.lemmas.List.{places}
 use Rattle.cmap_runs.specs.Stretches.{IsStretch}
 use Rattle.cmap_files.specs.DeclarationsSeen.{cid_entry_seen, cid_range_span, entries_seen}
 use Rattle.cmap_layers.specs.RowsWritten.{cid_said, given}
-use Rattle.cmap_layers.proofs.RowWritten.{cid_said_in, gap_written, part_written}
+use Rattle.cmap_layers.proofs.RowWritten.{cid_said_in, gap_written, part_written, starts_before, written_all, written_none}
 use Rattle.cmap_layers.proofs.row.write_cids.Goals as goal
 
 pub loop-from-preserved-in-Some-declaration : goal.loop-from-preserved-in-Some-declaration
@@ -45,3 +45,17 @@ loop-from-preserved c =
       written = gap_written said first c.args.cids.now c.loop-from.cids from end old.written
           (λ k le lt. cid_said_in c.args.kind c.args.table.now stretches.next last (first + k) None here (omega arith) (omega arith)) (omega arith);
     }
+
+pub loop-from-init : goal.loop-from-init
+loop-from-init c = record { declarations = c.stretches-stretches.ensures.declarations; next = λ some. omega (arith, c.stretches-stretches.ensures.next); within = omega arith; fits = omega arith; written = written_none _ c.args.first c.args.cids.now }
+
+pub write_declared-requires : goal.write_declared-requires
+write_declared-requires c =
+    let begins = c.loop-from.invariant.next c.loop-from-test.true in
+    omega (arith, begins, starts_before (cid_range_span c.in-Some-declaration.declaration.now) c.loop-from.stretches.next (rw c.in-Some-declaration.is at c.in-Some.ensures.contains))
+
+pub returns-after-loop-from : goal.returns-after-loop-from
+returns-after-loop-from c = written_all _ c.args.first c.args.cids.now c.loop-from.cids c.loop-from.from c.loop-from.invariant.written c.loop-from.invariant.fits (λ k lt fits. omega arith)
+
+pub returns-in_default : goal.returns-in_default
+returns-in_default c = written_all _ c.args.first c.args.cids.now c.loop-from.cids c.loop-from.from c.loop-from.invariant.written c.loop-from.invariant.fits (λ k lt fits. omega (arith, c.in_default.ensures))
