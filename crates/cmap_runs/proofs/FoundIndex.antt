@@ -1,5 +1,5 @@
 -- What a search of the runs tells of the declarations.
-use Rattle.std.proofs.Common.{◌≡◌, ℕ, ◌+◌, ◌-◌, ◌*◌, ◌/◌, ◌%◌, ◌<◌, ◌≤◌, ◌^◌, List, length, get_or, Option, refl, sym, ap, ◌∙◌, subst, inl, inr, arith, true}
+use Rattle.std.proofs.Common.{◌≡◌, ℕ, ◌+◌, ◌-◌, ◌*◌, ◌/◌, ◌%◌, ◌<◌, ◌≤◌, ◌^◌, List, length, get_or, Option, refl, sym, ap, ◌∙◌, subst, inl, inr, arith, true, false}
 use Rattle.std.specs.Prelude.{Some, None, IsSome, All, Any, map, option_map, slice_get}
 use Rattle.std.proofs.lemmas.Bool.{cases_lt}
 use Rattle.std.proofs.lemmas.List.{length-map}
@@ -7,8 +7,10 @@ use Rattle.std.proofs.lemmas.Option.{get_or_from_slice_get, same_Some, slice_get
 use Rattle.cmap_runs.specs.Blocks.{AreBlocks, MayHold, begun_by}
 use Rattle.cmap_runs.specs.declared.runs.blocks.Block.{Block}
 use Rattle.cmap_runs.specs.declared.runs.blocks.Blocks.{Blocks}
+use Rattle.cmap_runs.specs.declared.runs.looks.Looks.{Looks}
 use Rattle.cmap_runs.specs.Order.{IsInOrder}
 use Rattle.cmap_runs.specs.Ranges.{Span, Run, Holds, IsRun, AreRuns, contains, digits, last_of, last_index, runs_of}
+use Rattle.cmap_runs.specs.SearchLooks.{LooksAtMost}
 use Rattle.cmap_runs.proofs.BinaryDigits.{digits_half}
 use Rattle.cmap_runs.proofs.LastIndex.{ContainsAt, IsLast, is_last}
 use Rattle.cmap_runs.proofs.MaximalRuns.{AreRuns-runs_of, in_order}
@@ -95,3 +97,7 @@ found_in_block runs blocks code begun block run last are lies begins some is sam
 -- one look is fewer than the number of runs has digits
 pub one_look : (runs most begun : ℕ) → runs ≡ most → 0 < begun → begun ≤ runs → 1 ≤ digits most
 one_look runs most begun same some within = omega (arith, digits_half runs 0 (omega arith) (omega arith), ap digits same)
+
+-- nothing is looked at, and nothing is found
+pub none_looked : (looks : Looks) (runs : ℕ) → LooksAtMost looks looks runs 1 false
+none_looked looks runs = record { most_runs = omega arith; some_run = omega arith; most_declarations = omega arith; some_declaration = omega arith }

@@ -15,7 +15,7 @@ pub Any-old : {X : Type 0} (P : X → Type 0) (xs : List X) (y : X) → Any P xs
 Any-old P xs y found =
     let in_both = Contains-append_left xs (y ∷ []) found.1 (found.0, found.2, found.3) in (in_both.0, found.1, in_both.1, in_both.2, found.4)
 
-AreRunsBelow-none : (decides : ℕ → Option ℕ) → AreRunsBelow decides 0 []
+pub AreRunsBelow-none : (decides : ℕ → Option ℕ) → AreRunsBelow decides 0 []
 AreRunsBelow-none decides = record { each = All-nil (IsRun decides 0); ordered = λ i j d lt within. absurd (omega arith); complete = λ code below. absurd (omega arith) }
 
 -- codes that no declaration decides add nothing

@@ -158,3 +158,7 @@ Opens-push before after range moved =
       kept = λ index last at. Contains-permutation (first ∷ before) after (index, last) moved (Contains-append_right (first ∷ []) before (index, last) at);
       no_more = λ index last at. first_or_later first (index, last) before (Contains-permutation after (first ∷ before) (index, last) (IsPermutation-sym (first ∷ before) after moved) at);
     }
+
+-- nothing is open before the first range
+pub AreOpen-none : (spans : List Span) (code : ℕ) → AreOpen spans [] [] code
+AreOpen-none spans code = record { kept = λ k d lt. absurd (omega arith); no_more = λ index last has. absurd (omega (arith, has.1)) }

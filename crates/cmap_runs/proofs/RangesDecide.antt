@@ -140,6 +140,9 @@ pub record RangesAt (spans : List Span) (indices : List ℕ) (count : ℕ) (rang
   pub order : IsNonDecreasingBy (λ range. range.low) ranges
   pub below : All (λ range. (k d : ℕ) → count ≤ k → k < length indices → range.low ≤ (range_at spans (get_or indices k d)).low) ranges
 
+pub RangesAt-none : (spans : List Span) (indices : List ℕ) → RangesAt spans indices 0 []
+RangesAt-none spans indices = record { each = λ k d lt. absurd (omega arith); every = λ k d lt. absurd (omega arith); few = omega arith; order = λ i j d le lt. absurd (omega arith); below = λ k d lt. absurd (omega arith) }
+
 pub RangesAt-push : (spans : List Span) (indices : List ℕ) (i d : ℕ) (ranges : List Run)
     → IsNonDecreasingBy (λ index. (range_at spans index).low) indices → i < length indices → RangesAt spans indices i ranges → IsRange spans (range_at spans (get_or indices i d))
     → RangesAt spans indices (i + 1) (ranges ++ range_at spans (get_or indices i d) ∷ [])

@@ -1,7 +1,11 @@
-use Rattle.std.proofs.Common.{map, refl, arith}
+use Rattle.std.proofs.Common.{map, refl, sym, subst, arith}
 use Rattle.std.proofs.lemmas.List.{length-map}
+use Rattle.std.proofs.lemmas.Result.{IfOk-from_err}
+use Rattle.cmap_runs.specs.DeclaredRanges.{LieApartBefore}
+use Rattle.cmap_runs.specs.Parts.{nothing_left}
 use Rattle.cmap_runs.specs.declared.runs.indices.Part.{Part}
 use Rattle.cmap_runs.proofs.EachPlace.{ArePlacesApart-from_count}
+use Rattle.cmap_runs.proofs.LieApart.{LieApartBefore-none}
 use Rattle.cmap_runs.proofs.PartsLeft.{GoesOn, first_left, goes_on}
 use Rattle.cmap_runs.proofs.runs.indices.indices_of_parts.Goals as goal
 use Rattle.cmap_runs.proofs.runs.indices.indices_of_parts.Given.{Over}
@@ -35,3 +39,38 @@ pub add_part-next-requires-clause-room : goal.add_part-next-requires-clause-room
 add_part-next-requires-clause-room g c =
     let found = rw c.as_slice.ensures.value at c.in-Some-first_part.ensures in
     omega (arith, c.loop-first.invariant.room, first_left c.loop-first.parts.items found.0, found.1, found.2)
+
+pub returns-in_err-parts : goal.returns-in_err-parts
+returns-in_err-parts g c = IfOk-from_err _ _ c.from_residual.ensures.0
+
+pub returns-in_err-indices : goal.returns-in_err-indices
+returns-in_err-indices g c = IfOk-from_err _ _ c.from_residual-in_err-indices.ensures.0
+
+pub loop-first-init : goal.loop-first-init
+loop-first-init g c =
+    let left = rw c.in-Some.is at c.in_ok-parts.ensures in let spans = map g.T.HasRange.span c.args.declarations.now in
+    record {
+      left = left;
+      apart = subst (λ items. LieApartBefore spans items 0) (sym c.in_ok-indices.ensures.items) (LieApartBefore-none spans);
+      room = omega (arith, left.few, c.in_ok-indices.ensures.len, c.in_ok-indices.ensures.capacity);
+    }
+
+pub add_part-next-requires-clause-first : goal.add_part-next-requires-clause-first
+add_part-next-requires-clause-first g c =
+    let found = rw c.as_slice.ensures.value at c.in-Some-first_part.ensures in
+    omega (arith, found.1, found.2, (c.loop-first.invariant.left.each 0 nothing_left found.0).0)
+
+pub add_part-next-requires-clause-end : goal.add_part-next-requires-clause-end
+add_part-next-requires-clause-end g c =
+    let found = rw c.as_slice.ensures.value at c.in-Some-first_part.ensures in
+    omega (arith, found.2, (c.loop-first.invariant.left.each 0 nothing_left found.0).1, c.requires)
+
+pub start_before-start-requires : goal.start_before-start-requires
+start_before-start-requires g c =
+    let found = rw c.as_slice.ensures.value at c.in-Some-first_part.ensures in
+    omega (arith, found.2, (c.loop-first.invariant.left.each 0 nothing_left found.0).1, c.requires)
+
+pub index_mut-requires : goal.index_mut-requires
+index_mut-requires g c =
+    let found = rw c.as_slice.ensures.value at c.in-Some-first_part.ensures in
+    omega (arith, found.0, c.loop-first.parts.ok.0)

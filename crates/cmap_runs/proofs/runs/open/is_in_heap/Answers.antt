@@ -1,8 +1,9 @@
-use Rattle.std.proofs.Common.{◌<◌, ◌≤◌, ℕ, nat_cmp, refl, ap, sym, arith}
+use Rattle.std.proofs.Common.{◌<◌, ◌≤◌, ◌-◌, ℕ, length, nat_cmp, refl, ap, sym, arith}
 use Rattle.std.specs.Prelude.{All}
 use Rattle.std.specs.BinaryHeap.{heap_items}
 use Rattle.std.proofs.lemmas.Bool.Decides.{nat_tests}
 use Rattle.std.proofs.lemmas.List.Sorted.{first_le_from_greatest}
+use Rattle.std.proofs.lemmas.Option.{slice_get_within}
 use Rattle.cmap_runs.proofs.OpenEnds.{Ascend-top}
 use Rattle.cmap_runs.proofs.runs.open.is_in_heap.Goals as goal
 
@@ -25,3 +26,9 @@ returns-in-Some-last-clause-stack c = λ no_less range top k d within.
     let over : on_stack.0 ≤ range.0 = omega (arith, top.greatest at.0 on_stack at.1, ap (λ (r : ℕ × ℕ). r.0) at.2) in
     let under : in_heap.0 ≤ on_stack.0 = grind (arith, nat_tests, no_less) in
     omega (arith, above k d within, over, under)
+
+pub returns-in-Some-last-clause-some : goal.returns-in-Some-last-clause-some
+returns-in-Some-last-clause-some c = λ less. omega (arith, c.args.heap.now.data.ok.0, c.in-Some.ensures.variant.0 refl)
+
+pub returns-in-Some-last-clause-none : goal.returns-in-Some-last-clause-none
+returns-in-Some-last-clause-none c = λ no_less none. absurd (omega (arith, slice_get_within c.args.stack.now (length c.args.stack.now - 1) c.in-Some-last.field-0.now (sym c.in-Some-last.ensures.value)))

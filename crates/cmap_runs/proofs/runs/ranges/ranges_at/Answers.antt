@@ -2,9 +2,10 @@ use Rattle.std.proofs.Common.{◌≡◌, ◌+◌, ◌<◌, [], ◌∷◌, ◌++�
 use Rattle.std.specs.List.{range_with_len}
 use Rattle.std.specs.List.Sorted.{IsNonDecreasingBy, IsPermutation}
 use Rattle.std.proofs.lemmas.List.{length-map}
+use Rattle.std.proofs.lemmas.Result.{IfOk-from_err}
 use Rattle.cmap_runs.specs.DeclaredRanges.{range_at}
 use Rattle.cmap_runs.specs.Ranges.{Run}
-use Rattle.cmap_runs.proofs.RangesDecide.{AreRanges-from_indices, IsRange-at, RangesAt, RangesAt-push, RangesAt-skip, is_index}
+use Rattle.cmap_runs.proofs.RangesDecide.{AreRanges-from_indices, IsRange-at, RangesAt, RangesAt-none, RangesAt-push, RangesAt-skip, is_index}
 use Rattle.cmap_runs.proofs.runs.ranges.ranges_at.Goals as goal
 use Rattle.cmap_runs.proofs.runs.ranges.ranges_at.Goals.{then-range+in_ok-push, else-range}
 
@@ -40,3 +41,17 @@ returns-clause-ranges g c =
     AreRanges-from_indices (map g.T.HasRange.span c.args.declarations.now) (length c.args.declarations.now) c.deref-index-items.result.now c.loop-index.ranges.items
     (subst (IsPermutation (range_with_len 0 (length c.args.declarations.now))) (sym c.deref-index-items.ensures.value) c.requires.indices)
     c.loop-index.invariant.each (λ k d lt. c.loop-index.invariant.every k d (omega arith)) (omega (arith, c.loop-index.invariant.few))
+
+pub returns-in_err-ranges : goal.returns-in_err-ranges
+returns-in_err-ranges g c = record { ranges = IfOk-from_err _ _ c.from_residual.ensures.0; order = IfOk-from_err _ _ c.from_residual.ensures.0 }
+
+pub returns-in_err-push : goal.returns-in_err-push
+returns-in_err-push g c = record { ranges = IfOk-from_err _ _ c.from_residual-in_err-push.ensures.0; order = IfOk-from_err _ _ c.from_residual-in_err-push.ensures.0 }
+
+pub loop-index-init : goal.loop-index-init
+loop-index-init g c =
+    let spans = map g.T.HasRange.span c.args.declarations.now in let indices = c.deref-index-items.result.now in
+    subst (RangesAt spans indices 0) (sym c.in_ok-ranges.ensures.items) (RangesAt-none spans indices)
+
+pub returns-clause-order : goal.returns-clause-order
+returns-clause-order g c = c.loop-index.invariant.order

@@ -1,4 +1,5 @@
 use Rattle.std.proofs.Common.{◌≡◌, ◌+◌, [], ◌∷◌, ◌++◌, length, map, sym, ap, ◌∙◌, subst, arith}
+use Rattle.std.proofs.lemmas.Result.{IfOk-from_err}
 use Rattle.cmap_runs.specs.DeclaredRanges.{AreRanges}
 use Rattle.cmap_runs.specs.Ranges.{Run}
 use Rattle.cmap_runs.proofs.RangesDecide.{AreRanges-push, AreRanges-skip, span_at}
@@ -22,3 +23,9 @@ loop-index-preserved g c =
 pub returns : goal.returns
 returns g c =
     subst (λ count. AreRanges (map g.T.HasRange.span c.args.declarations.now) count c.loop-index.ranges.items) (let e : c.loop-index.index ≡ length c.args.declarations.now = omega arith in e) c.loop-index.invariant
+
+pub returns-in_err-ranges : goal.returns-in_err-ranges
+returns-in_err-ranges g c = IfOk-from_err _ _ c.from_residual.ensures.0
+
+pub returns-in_err-push : goal.returns-in_err-push
+returns-in_err-push g c = IfOk-from_err _ _ c.from_residual-in_err-push.ensures.0

@@ -1,8 +1,9 @@
-use Rattle.std.proofs.Common.{◌≡◌, ◌+◌, ◌-◌, subst, sym, arith}
+use Rattle.std.proofs.Common.{◌≡◌, ℕ, ◌+◌, ◌-◌, List, length, ap, subst, sym, arith}
 use Rattle.std.proofs.lemmas.List.Sorted.{length_permutation}
+use Rattle.std.proofs.lemmas.Result.{IfOk-from_err}
 use Rattle.cmap_runs.specs.OpenRanges.{StayOpen}
 use Rattle.cmap_runs.specs.Ranges.{AreRunsBelow}
-use Rattle.cmap_runs.proofs.OpenDecide.{AreRunsBelow-greatest, AreRunsBelow-none_open, StayOpen-close, StayOpen-later}
+use Rattle.cmap_runs.proofs.OpenDecide.{AreRunsBelow-greatest, AreRunsBelow-none_open, StayOpen-close, StayOpen-later, StayOpen-same}
 use Rattle.cmap_runs.proofs.runs.sweep.add_runs.Goals as goal
 
 pub returns-clause-runs : goal.returns-clause-runs
@@ -63,3 +64,35 @@ loop-index-preserved c =
       fewer = omega (arith, fewer);
       few = omega (arith, fewer);
     }
+
+pub returns-in_err-add : goal.returns-in_err-add
+returns-in_err-add c = record { runs = IfOk-from_err _ _ c.from_residual.ensures.0; stay = IfOk-from_err _ _ c.from_residual.ensures.0; fewer = IfOk-from_err _ _ c.from_residual.ensures.0; few = IfOk-from_err _ _ c.from_residual.ensures.0 }
+
+pub returns-in_err-add-2 : goal.returns-in_err-add-2
+returns-in_err-add-2 c = record { runs = IfOk-from_err _ _ c.from_residual-in_err-add-2.ensures.0; stay = IfOk-from_err _ _ c.from_residual-in_err-add-2.ensures.0; fewer = IfOk-from_err _ _ c.from_residual-in_err-add-2.ensures.0; few = IfOk-from_err _ _ c.from_residual-in_err-add-2.ensures.0 }
+
+pub loop-index-init : goal.loop-index-init
+loop-index-init c = record { order = omega arith; limit = c.requires.order; runs = λ decides greatest are. are; stay = StayOpen-same c.args.ends.now c.args.from; fewer = omega arith; few = omega arith }
+
+pub returns-in_ok-add-clause-fewer : goal.returns-in_ok-add-clause-fewer
+returns-in_ok-add-clause-fewer c = omega (arith, c.loop-index.invariant.fewer, ap (λ (l : List (ℕ × ℕ)). length l) (c.in-Some.ensures.stays (omega arith)))
+
+pub returns-in_ok-add-clause-few : goal.returns-in_ok-add-clause-few
+returns-in_ok-add-clause-few c = omega (arith, c.loop-index.invariant.few, ap (λ (l : List (ℕ × ℕ)). length l) (c.in-Some.ensures.stays (omega arith)), c.in_ok-add.ensures.few, c.in-Some.ensures.top.is.1)
+
+pub returns-else-from-to : goal.returns-else-from-to
+returns-else-from-to c =
+    let old = c.loop-index.invariant in let stays = c.in-Some.ensures.stays (omega arith) in
+    let end : c.loop-index.from ≡ c.args.to = omega (arith, old.limit) in let same = ap (λ (l : List (ℕ × ℕ)). length l) stays in
+    record {
+      runs = λ decides greatest are. subst (λ n. AreRunsBelow decides n c.loop-index.runs) end (old.runs decides greatest are);
+      stay = subst (λ ends. StayOpen c.args.ends.now ends c.args.to) (sym stays) (StayOpen-later old.stay old.limit);
+      fewer = omega (arith, old.fewer, same);
+      few = omega (arith, old.few, same);
+    }
+
+pub returns-clause-fewer : goal.returns-clause-fewer
+returns-clause-fewer c = omega (arith, c.loop-index.invariant.fewer, ap (λ (l : List (ℕ × ℕ)). length l) c.in_default.ensures.1)
+
+pub returns-clause-few : goal.returns-clause-few
+returns-clause-few c = omega (arith, c.loop-index.invariant.few, ap (λ (l : List (ℕ × ℕ)). length l) c.in_default.ensures.1)

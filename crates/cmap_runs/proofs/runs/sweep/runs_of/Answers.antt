@@ -4,6 +4,7 @@ use Rattle.std.proofs.lemmas.List.{length-map}
 use Rattle.std.specs.List.{range_with_len}
 use Rattle.std.specs.List.Sorted.{IsNonDecreasingBy, IsPermutation}
 use Rattle.std.specs.Vec.{vec_items}
+use Rattle.std.proofs.lemmas.Result.{IfOk-from_err}
 use Rattle.cmap_runs.specs.DeclaredRanges.{AreRanges, ArePlacesApart, LieApart, range_at}
 use Rattle.cmap_runs.specs.Ranges.{Run}
 use Rattle.cmap_runs.proofs.RangesDecide.{few_indices, is_index, indices_within_list, runs_at_indices}
@@ -63,3 +64,30 @@ returns-in_default-clause-runs g c =
 
 pub returns-in_default-clause-few : goal.returns-in_default-clause-few
 returns-in_default-clause-few g c = omega (arith, c.in_ok-sorted_and_swept.ensures.few, c.in_ok-ranges.ensures.few)
+
+pub returns-in_err-ranges : goal.returns-in_err-ranges
+returns-in_err-ranges g c = record { runs = IfOk-from_err _ _ c.from_residual.ensures.0; within = IfOk-from_err _ _ c.from_residual.ensures.0; few = IfOk-from_err _ _ c.from_residual.ensures.0 }
+
+pub returns-in_err-sorted_and_swept : goal.returns-in_err-sorted_and_swept
+returns-in_err-sorted_and_swept g c = record { runs = IfOk-from_err _ _ c.from_residual-in_err-sorted_and_swept.ensures.0; within = IfOk-from_err _ _ c.from_residual-in_err-sorted_and_swept.ensures.0; few = IfOk-from_err _ _ c.from_residual-in_err-sorted_and_swept.ensures.0 }
+
+pub returns-in_err-indices : goal.returns-in_err-indices
+returns-in_err-indices g c = record { runs = IfOk-from_err _ _ c.from_residual-in_err-indices.ensures.0; within = IfOk-from_err _ _ c.from_residual-in_err-indices.ensures.0; few = IfOk-from_err _ _ c.from_residual-in_err-indices.ensures.0 }
+
+pub returns-in_err-ordered : goal.returns-in_err-ordered
+returns-in_err-ordered g c = record { runs = IfOk-from_err _ _ c.from_residual-in_err-ordered.ensures.0; within = IfOk-from_err _ _ c.from_residual-in_err-ordered.ensures.0; few = IfOk-from_err _ _ c.from_residual-in_err-ordered.ensures.0 }
+
+pub returns-in_err-ranges-2 : goal.returns-in_err-ranges-2
+returns-in_err-ranges-2 g c = record { runs = IfOk-from_err _ _ c.from_residual-in_err-ranges-2.ensures.0; within = IfOk-from_err _ _ c.from_residual-in_err-ranges-2.ensures.0; few = IfOk-from_err _ _ c.from_residual-in_err-ranges-2.ensures.0 }
+
+pub returns-in_err-sweep : goal.returns-in_err-sweep
+returns-in_err-sweep g c = record { runs = IfOk-from_err _ _ c.from_residual-in_err-sweep.ensures.0; within = IfOk-from_err _ _ c.from_residual-in_err-sweep.ensures.0; few = IfOk-from_err _ _ c.from_residual-in_err-sweep.ensures.0 }
+
+pub indices_of_parts-requires : goal.indices_of_parts-requires
+indices_of_parts-requires g c = c.in-Ok.ensures.1
+
+pub indices_in_order-requires : goal.indices_in_order-requires
+indices_in_order-requires g c = c.in-Ok.ensures.1
+
+pub ranges_at-requires : goal.ranges_at-requires
+ranges_at-requires g c = record { indices = c.in_ok-ordered.ensures.indices; order = c.in_ok-ordered.ensures.order }

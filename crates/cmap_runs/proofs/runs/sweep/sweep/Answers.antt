@@ -1,10 +1,11 @@
 use Rattle.std.proofs.Common.{◌≡◌, ℕ, ◌+◌, ◌-◌, ◌≤◌, ◌<◌, ◌^◌, [], ◌∷◌, ◌++◌, Option, get_or, length, take, sym, ap, ◌∙◌, subst, arith}
 use Rattle.std.proofs.lemmas.List.{get_or_read, take_more}
+use Rattle.std.proofs.lemmas.Result.{IfOk-from_err}
 use Rattle.cmap_runs.specs.DeclaredRanges.{IsRange}
 use Rattle.cmap_runs.specs.OpenRanges.{AreOpen, IsGreatest, Opens, StayOpen}
 use Rattle.cmap_runs.specs.Ranges.{AreRunsBelow, Run, last_index}
-use Rattle.cmap_runs.proofs.MaximalRuns.{runs_of-unique}
-use Rattle.cmap_runs.proofs.OpenDecide.{AreOpen-push, StayOpen-same, decides_open}
+use Rattle.cmap_runs.proofs.MaximalRuns.{runs_of-unique, AreRunsBelow-none}
+use Rattle.cmap_runs.proofs.OpenDecide.{AreOpen-none, AreOpen-push, StayOpen-same, decides_open}
 use Rattle.cmap_runs.proofs.runs.sweep.sweep.Goals as goal
 use Rattle.cmap_runs.proofs.runs.sweep.sweep.Goals.{then-from-next+in_ok-add_runs, else-from-next}
 
@@ -58,3 +59,26 @@ returns-clause-runs c = λ spans are.
 
 pub returns-clause-few : goal.returns-clause-few
 returns-clause-few c = omega (arith, c.in_ok-add_runs-2.ensures.few, ap length c.shrink_to_fit.ensures)
+
+pub returns-in_err-runs : goal.returns-in_err-runs
+returns-in_err-runs c = record { runs = IfOk-from_err _ _ c.from_residual.ensures.0; few = IfOk-from_err _ _ c.from_residual.ensures.0 }
+
+pub returns-in_err-add_runs : goal.returns-in_err-add_runs
+returns-in_err-add_runs c = record { runs = IfOk-from_err _ _ c.from_residual-in_err-add_runs.ensures.0; few = IfOk-from_err _ _ c.from_residual-in_err-add_runs.ensures.0 }
+
+pub returns-in_err-open : goal.returns-in_err-open
+returns-in_err-open c = record { runs = IfOk-from_err _ _ c.from_residual-in_err-open.ensures.0; few = IfOk-from_err _ _ c.from_residual-in_err-open.ensures.0 }
+
+pub returns-in_err-add_runs-2 : goal.returns-in_err-add_runs-2
+returns-in_err-add_runs-2 c = record { runs = IfOk-from_err _ _ c.from_residual-in_err-add_runs-2.ensures.0; few = IfOk-from_err _ _ c.from_residual-in_err-add_runs-2.ensures.0 }
+
+pub loop-range-init : goal.loop-range-init
+loop-range-init c = record {
+      later = λ k d from_here within. omega arith;
+      limit = omega arith;
+      are = λ spans are. rw (c.new-ends.ensures, c.in_ok-runs.ensures) (AreOpen-none spans 0, AreRunsBelow-none (last_index spans));
+      few = rw (c.new-ends.ensures, c.in_ok-runs.ensures) (omega arith);
+    }
+
+pub add_runs-requires-2 : goal.add_runs-requires-2
+add_runs-requires-2 c = record { order = c.loop-range.invariant.limit; codes = omega arith }

@@ -1,4 +1,5 @@
-use Rattle.std.proofs.Common.{◌-◌, arith}
+use Rattle.std.proofs.Common.{◌-◌, inl, inr, arith}
+use Rattle.std.proofs.lemmas.Bool.{cases_lt}
 use Rattle.cmap_runs.proofs.BlocksMade.{few_begun}
 use Rattle.cmap_runs.proofs.runs.held.Held.next_block.Goals as goal
 
@@ -7,3 +8,22 @@ overflow_cast-block g c = omega (arith, few_begun c.args.self.now.runs (c.args.c
 
 pub overflow_add-block : goal.overflow_add-block
 overflow_add-block g c = omega (arith, few_begun c.args.self.now.runs (c.args.code - 32) c.args.begun c.requires.order c.requires.within.1 c.requires.begun, c.ranges.code.fits)
+
+pub starts_before-starts-requires : goal.starts_before-starts-requires
+starts_before-starts-requires g c = record { order = c.requires.order; code = c.requires.code; within = c.requires.within.1; begun = c.requires.begun; later = c.requires.later }
+
+pub returns-then-count-ended : goal.returns-then-count-ended
+returns-then-count-ended g c =
+    let count = c.starts_before-starts.result.1 in let same = c.if-count-ended.true in record {
+      block = λ place few. record {
+        within = omega arith;
+        before = λ k d from lt. absurd (omega arith);
+        after = λ k d from lt holds. elim (cases_lt k count) [
+          | inl before ↦ omega (arith, c.requires.ended k d from (omega arith), holds.1)
+          | inr later ↦ omega (arith, c.starts_before-starts.ensures.after k d later lt, holds.0)
+        ];
+      };
+      within = c.starts_before-starts.ensures.within;
+      before = c.starts_before-starts.ensures.before;
+      after = c.starts_before-starts.ensures.after;
+    }

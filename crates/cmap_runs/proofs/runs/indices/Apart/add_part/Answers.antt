@@ -23,3 +23,15 @@ loop-index-preserved g c =
 pub loop-index-init : goal.loop-index-init
 loop-index-init g c =
     record { len = omega arith; capacity = omega arith; apart = λ are. are }
+
+pub range_at-range-requires : goal.range_at-range-requires
+range_at-range-requires g c = omega (arith, c.requires.end)
+
+pub returns-then-from-self : goal.returns-then-from-self
+returns-then-from-self g c = record { begin = omega arith; within = omega arith; len = c.loop-index.invariant.len; capacity = c.loop-index.invariant.capacity; apart = c.loop-index.invariant.apart }
+
+pub returns : goal.returns
+returns g c = record { begin = c.requires.first; within = omega arith; len = omega (arith, c.loop-index.invariant.len, c.requires.first); capacity = c.loop-index.invariant.capacity; apart = c.loop-index.invariant.apart }
+
+pub push_reserved-requires : goal.push_reserved-requires
+push_reserved-requires g c = omega (arith, c.loop-index.invariant.len, c.loop-index.invariant.capacity, c.requires.room)

@@ -1,6 +1,7 @@
-use Rattle.std.proofs.Common.{ℕ, ◌+◌, ◌-◌, ◌<◌, ◌≤◌, List, get_or, length, ◌++◌, sym, ap, subst, arith, length-append}
+use Rattle.std.proofs.Common.{ℕ, ◌+◌, ◌-◌, ◌<◌, ◌≤◌, List, get_or, length, ◌++◌, inr, refl, sym, ap, subst, arith, length-append}
 use Rattle.std.specs.BinaryHeap.{heap_items}
-use Rattle.cmap_runs.specs.OpenRanges.{Ascend, Opens}
+use Rattle.std.proofs.lemmas.Result.{IfOk-from_err}
+use Rattle.cmap_runs.specs.OpenRanges.{Ascend, HasGreatestOnTop, Opens}
 use Rattle.cmap_runs.specs.Ranges.{Run}
 use Rattle.cmap_runs.proofs.OpenDecide.{Opens-push}
 use Rattle.cmap_runs.proofs.OpenEnds.{Ascend-push, one_more_in_heap, one_more_on_stack}
@@ -40,3 +41,18 @@ returns-in_ok-push-2-clause-few c =
     let before = c.self.inside.heap in let after = c.push-else-comes_last.new.self in
     let few : length (c.self.inside.stack.items ++ heap_items after) ≤ length c.args.self.now + 1 = omega (arith, c.in_ok-push-2.ensures.len, before.data.ok.0, after.data.ok.0, ap length c.self.view_is, length-append {A = ℕ × ℕ}) in
     few
+
+pub returns-in_err-push : goal.returns-in_err-push
+returns-in_err-push c = record { opens = IfOk-from_err _ _ c.from_residual.ensures.0; few = IfOk-from_err _ _ c.from_residual.ensures.0 }
+
+pub returns-in_err-push-2 : goal.returns-in_err-push-2
+returns-in_err-push-2 c = record { opens = IfOk-from_err _ _ c.from_residual-in_err-push-2.ensures.0; few = IfOk-from_err _ _ c.from_residual-in_err-push-2.ensures.0 }
+
+pub returns-then-is_seen_to_cover : goal.returns-then-is_seen_to_cover
+returns-then-is_seen_to_cover c = record { opens = record { covered = c.if-is_seen_to_cover.ensures refl; kept = λ index last has. has; no_more = λ index last has. inr has }; few = omega arith }
+
+pub invariant_of-self-in_err-push : goal.invariant_of-self-in_err-push
+invariant_of-self-in_err-push c = (subst Ascend (sym c.in_err-push.ensures.items) c.self.invariant.0, c.self.invariant.1)
+
+pub invariant_of-self-in_err-push-2 : goal.invariant_of-self-in_err-push-2
+invariant_of-self-in_err-push-2 c = (c.self.invariant.0, subst HasGreatestOnTop (sym c.in_err-push-2.ensures.unchanged.0) c.self.invariant.1)

@@ -1,6 +1,7 @@
-use Rattle.std.proofs.Common.{length, map, ap, ◌∙◌, arith}
-use Rattle.cmap_runs.specs.Ranges.{Run, runs_of}
-use Rattle.cmap_runs.proofs.FoundIndex.{found_contains, found_in_block, found_index, found_last, found_within, may_hold_in, no_index, none_at_last, none_begun, none_last, none_past, one_look, runs_in_order}
+use Rattle.std.proofs.Common.{length, map, ap, refl, ◌∙◌, arith}
+use Rattle.std.proofs.lemmas.Option.{MatchOption-from_none}
+use Rattle.cmap_runs.specs.Ranges.{Run, digits, runs_of}
+use Rattle.cmap_runs.proofs.FoundIndex.{found_contains, found_in_block, found_index, found_last, found_within, may_hold_in, no_index, none_at_last, none_begun, none_last, none_looked, none_past, one_look, runs_in_order}
 use Rattle.cmap_runs.proofs.runs.table.Table.find.Goals as goal
 
 -- ---- no run holds the code
@@ -95,3 +96,59 @@ returns-clause-looks g c =
       most_declarations = omega (arith, c.run-last.ensures.declarations, c.declaration-2.ensures.declarations);
       some_declaration = omega (arith, c.run-last.ensures.declarations, c.declaration-2.ensures.declarations);
     }
+
+pub find_among_last-requires-clause-within : goal.find_among_last-requires-clause-within
+find_among_last-requires-clause-within g c = c.self.invariant.1.within
+
+pub find_among_last-requires-clause-before : goal.find_among_last-requires-clause-before
+find_among_last-requires-clause-before g c = λ k d from lt. omega (arith, c.self.invariant.1.before k d from lt, c.in_default.ensures)
+
+pub returns-then-from-self-clause-looks : goal.returns-then-from-self-clause-looks
+returns-then-from-self-clause-looks g c = none_looked c.args.looks.now _
+
+pub returns-then-from-self-clause-no_declaration : goal.returns-then-from-self-clause-no_declaration
+returns-then-from-self-clause-no_declaration g c = refl
+
+pub returns-in_err-index-clause-contains : goal.returns-in_err-index-clause-contains
+returns-in_err-index-clause-contains g c = MatchOption-from_none _ _ c.from_residual.ensures
+
+pub returns-in_err-index-clause-looks : goal.returns-in_err-index-clause-looks
+returns-in_err-index-clause-looks g c =
+    let span = g.T.HasRange.span in
+    let same = ap length c.self.invariant.0 ∙ ap (λ list. length (runs_of (map span list))) c.self.view_is in
+    let looks = c.find_among_last.ensures in
+    rw c.from_residual.ensures (record {
+      most_runs = omega (arith, looks.bound, ap digits same);
+      some_run = omega (arith, looks.grows);
+      most_declarations = omega (arith, looks.declarations);
+      some_declaration = omega (arith, looks.declarations);
+    })
+
+pub returns-in_err-index-clause-no_declaration : goal.returns-in_err-index-clause-no_declaration
+returns-in_err-index-clause-no_declaration g c = rw c.from_residual.ensures c.find_among_last.ensures.declarations
+
+pub returns-in_default-clause-looks : goal.returns-in_default-clause-looks
+returns-in_default-clause-looks g c =
+    let span = g.T.HasRange.span in
+    let same = ap length c.self.invariant.0 ∙ ap (λ list. length (runs_of (map span list))) c.self.view_is in
+    let looks = c.find_among_last.ensures in
+    record {
+      most_runs = omega (arith, looks.bound, ap digits same, c.declaration.ensures.runs);
+      some_run = omega (arith, c.in_ok-index.ensures.looked, c.declaration.ensures.runs);
+      most_declarations = omega (arith, looks.declarations, c.declaration.ensures.declarations);
+      some_declaration = omega (arith, looks.declarations, c.declaration.ensures.declarations);
+    }
+
+pub returns-then-begun-eq0-clause-looks : goal.returns-then-begun-eq0-clause-looks
+returns-then-begun-eq0-clause-looks g c = none_looked c.args.looks.now _
+
+pub returns-then-begun-eq0-clause-no_declaration : goal.returns-then-begun-eq0-clause-no_declaration
+returns-then-begun-eq0-clause-no_declaration g c = refl
+
+pub returns-then-last-code-clause-no_declaration : goal.returns-then-last-code-clause-no_declaration
+returns-then-last-code-clause-no_declaration g c = c.run-last.ensures.declarations
+
+pub run-last-requires : goal.run-last-requires
+run-last-requires g c =
+    let may = may_hold_in c.self.inside.held.runs _ c.args.code c.begun_by-begun.result c.in-Some.block.now c.self.invariant.1 c.in-Some.ensures c.begun_by-begun.ensures in
+    omega (arith, c.if-begun-eq0.false, may.within)
