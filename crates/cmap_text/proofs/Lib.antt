@@ -2,6 +2,7 @@ pub mod Refusals
 pub mod TokenParsers
 pub mod TokensRead
 pub mod EntriesRead
+mod EntrySteps
 pub mod ItemsRead
 pub mod ItemsSaid
 pub mod TextRead

@@ -8,7 +8,7 @@ use Rattle.cmap_values.specs.declared.fault.Fault.{Fault}
 use Rattle.cmap_values.specs.declared.fault.Fault.TheVariants as fault
 use Rattle.cmap_values.specs.declared.fault.Reason.{Reason}
 use Rattle.cmap_values.proofs.Outcomes as outcomes
-use Rattle.cmap_text.specs.EntriesSeen.{RefusesAt, refused_seen}
+use Rattle.cmap_text.specs.EntriesSeen.{RefusesAt, WhereRefused, refused_seen}
 use Rattle.cmap_text.specs.TokenParsers.{Refused, or_wrong}
 use Rattle.cmap_text.specs.declared.wrong_token.WrongToken.{WrongToken}
 use Rattle.cmap_tokens.specs.TokenSeen.{token_seen}
@@ -23,6 +23,15 @@ refused_as here part all same wrong (refused, none) = (same (refused_seen wrong 
 pub passed_on : {T A B : Type 0} (r : Result T (Fault WrongToken)) (fault : Fault WrongToken) (P : T → Type 0) (here : Left) (part : Result A Refused) (all : Result B Refused) → IsErrAnd r (λ e. e ≡ fault) → RefusesWith (RefusesAt here part) fault → ((e : Refused) → part ≡ Err e → all ≡ Err e)
     → Outcome P (RefusesAt here all) r
 passed_on r fault P here part all is refused same = outcomes.passed_on P r fault is refused (refused_as here part all same)
+
+-- a want of memory refuses nothing
+pub no_memory : {T A : Type 0} (r : Result T (Fault WrongToken)) (P : T → Type 0) (here : Left) (all : Result A Refused) → IsErrAnd r (λ e. e ≡ fault.Memory) → Outcome P (RefusesAt here all) r
+no_memory (Ok x) P here all is = absurd is
+no_memory (Err e) P here all is = (tt, rw is tt)
+
+pub none_refused : {T : Type 0} (r : Result T (Fault WrongToken)) (holds : Type 0) → IsErrAnd r (λ e. e ≡ fault.Memory) → WhereRefused holds r
+none_refused (Ok x) holds is wrong same = absurd is
+none_refused (Err e) holds is wrong same = absurd (cc)
 
 -- what is found in an option, or a refusal of the token in its place
 pub given : {A B : Type 0} (seen : A → B) (o : Option A) (found : Option B) (old new : Left) (reason : Reason) (token : Token) → option_map seen o ≡ found → old ≡ new
