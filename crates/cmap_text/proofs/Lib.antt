@@ -4,6 +4,7 @@ pub mod TokensRead
 pub mod EntriesRead
 mod EntrySteps
 pub mod ItemsRead
+mod ItemSteps
 pub mod ItemsSaid
 pub mod TextRead
 pub mod UnitsRead

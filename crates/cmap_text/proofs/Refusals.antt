@@ -1,5 +1,5 @@
 -- What calls that read tokens answer.
-use Rattle.std.proofs.Common.{◌≡◌, refl, sym, false}
+use Rattle.std.proofs.Common.{◌≡◌, refl, sym, ◌∙◌, false}
 use Rattle.std.specs.Prelude.{Option, Some, None, Result, Ok, Err, IsErrAnd, option_map}
 use Rattle.std.specs.Option.{ok_or}
 use Rattle.cmap_tokens.specs.TokensLeft.{Left}
@@ -9,7 +9,7 @@ use Rattle.cmap_values.specs.declared.fault.Fault.TheVariants as fault
 use Rattle.cmap_values.specs.declared.fault.Reason.{Reason}
 use Rattle.cmap_values.proofs.Outcomes as outcomes
 use Rattle.cmap_text.specs.EntriesSeen.{RefusesAt, WhereRefused, refused_seen}
-use Rattle.cmap_text.specs.TokenParsers.{Refused, or_wrong}
+use Rattle.cmap_text.specs.TokenParsers.{Found, Refused, followed_by, or_wrong}
 use Rattle.cmap_text.specs.declared.wrong_token.WrongToken.{WrongToken}
 use Rattle.cmap_tokens.specs.TokenSeen.{token_seen}
 use Rattle.cmap_tokens.specs.declared.token.Token.{Token}
@@ -23,6 +23,12 @@ refused_as here part all same wrong (refused, none) = (same (refused_seen wrong 
 pub passed_on : {T A B : Type 0} (r : Result T (Fault WrongToken)) (fault : Fault WrongToken) (P : T → Type 0) (here : Left) (part : Result A Refused) (all : Result B Refused) → IsErrAnd r (λ e. e ≡ fault) → RefusesWith (RefusesAt here part) fault → ((e : Refused) → part ≡ Err e → all ≡ Err e)
     → Outcome P (RefusesAt here all) r
 passed_on r fault P here part all is refused same = outcomes.passed_on P r fault is refused (refused_as here part all same)
+
+-- what is made of a part that is read
+pub read_on_as : {R A B : Type 0} (made : A → B) (here : Left) (part : Found A) (all : Found B) (x : A) (y : B) (r : Result R (Fault WrongToken)) → all ≡ followed_by (λ x next. Ok (made x, next)) part → made x ≡ y → Outcome (λ done. part ≡ Ok (x, here)) (RefusesAt here part) r → Outcome (λ done. all ≡ Ok (y, here)) (RefusesAt here all) r
+read_on_as made here part all x y (Ok done) is gives (found, refused) = (is ∙ rw (found, gives) refl, tt)
+read_on_as made here part all x y (Err (fault.Refused wrong)) is gives (found, (refused, none)) = (tt, (is ∙ rw refused refl, none))
+read_on_as made here part all x y (Err fault.Memory) is gives (found, refused) = (tt, tt)
 
 -- a want of memory refuses nothing
 pub no_memory : {T A : Type 0} (r : Result T (Fault WrongToken)) (P : T → Type 0) (here : Left) (all : Result A Refused) → IsErrAnd r (λ e. e ≡ fault.Memory) → Outcome P (RefusesAt here all) r
