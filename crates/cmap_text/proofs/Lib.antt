@@ -14,6 +14,7 @@ mod TextsAdded
 mod Moves
 mod PartsRead
 mod Faulted
+mod PartSteps
 mod PartsDeclare
 mod WholeRead
 mod Stops

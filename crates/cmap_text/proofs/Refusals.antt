@@ -44,3 +44,8 @@ pub given : {A B : Type 0} (seen : A → B) (o : Option A) (found : Option B) (o
     → Outcome (λ x. or_wrong reason found (token_seen token) old ≡ Ok (seen x, new)) (RefusesAt new (or_wrong reason found (token_seen token) old)) (ok_or o (fault.Refused (record { token = Some token; reason = reason; in_list = false })))
 given seen None found old new reason token is same = (tt, (rw (← is, same) refl, λ none. absurd (none-some token (sym none))))
 given seen (Some x) found old new reason token is same = (rw (← is, same) refl, tt)
+
+-- what holds where a call refuses, of the one that is refused
+pub where_refused : {R : Type 0} (P : WrongToken → Type 0) (holds : Type 0) (e : Fault WrongToken) → RefusesWith P e → WhereRefused {A = R} holds (Err e) → RefusesWith (λ wrong. P wrong × holds) e
+where_refused P holds (fault.Refused wrong) refused stays = (refused, stays wrong refl)
+where_refused P holds fault.Memory refused stays = tt
