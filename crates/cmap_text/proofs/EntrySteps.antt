@@ -4,15 +4,15 @@ use Rattle.std.specs.Prelude.{Bool, List, codes, not, Option, Some, None, Result
 use denote.Enum.Bare.{sameb}
 use Rattle.cmap_tokens.specs.Tokens.{Token}
 use Rattle.cmap_tokens.specs.TokensLeft.{Left}
-use Rattle.cmap_files.specs.Files.{Declaration, Lists}
+use Rattle.cmap_files.specs.Files.{CidEntry, Declaration, Lists}
 use Rattle.cmap_values.specs.CodeLengths.{length_of}
 use Rattle.cmap_values.specs.contracts.code_length.CodeLength.{the_type}
 use Rattle.cmap_values.specs.declared.code_length.CodeLength.{CodeLength}
 use Rattle.cmap_values.specs.declared.code_length.CodeLength.TheVariants.{One, Two, Three, Four}
 use Rattle.cmap_values.specs.declared.fault.Reason.{Reason}
 use Rattle.cmap_values.specs.declared.fault.Reason.TheVariants.{TextExpected, UnequalLengths}
-use Rattle.cmap_text.specs.TextFiles.{Section, bf_range, closer, codespace_range}
-use Rattle.cmap_text.specs.TextReading.{adding, Code, code_fault, code_in, code_or_closer, codespace, destination_in, entry_after, is_executable, list_in, next_code, text_of}
+use Rattle.cmap_text.specs.TextFiles.{CidKind, Extent, Section, bf_char, bf_range, cids, closer, codespace_range, declares_cid}
+use Rattle.cmap_text.specs.TextReading.{adding, cids_after, Code, code_fault, code_in, code_or_closer, codespace, destination_in, entry_after, is_executable, list_in, next_code, next_destination, text_of}
 use Rattle.cmap_text.specs.TokenParsers.{followed_by, head_in, listed, or_wrong, Refused, run, token_in, wrong}
 use Rattle.cmap_text.proofs.TokenParsers.{err-ok, same_Ok}
 
@@ -83,6 +83,21 @@ lengths_differ a b is = sym (same_lengths a b) ∙ not_so _ is
 
 pub lengths_agree : (a b : CodeLength) → false ≡ not (sameb the_type a b) → (length_of a == length_of b) ≡ true
 lengths_agree a b is = sym (same_lengths a b) ∙ so _ is
+
+-- ---- what follows the first code of an entry of CIDs, or of one with a destination
+module _ (kind : CidKind) (extent : Extent) (start : Code) (lists : Lists) (old : Left) where
+  pub cids_wrong : (e : Refused) → run (cids_after extent start) old ≡ Err e → run (entry_after (cids kind extent) start lists) old ≡ Err e
+  cids_wrong e is = rw is refl
+
+  pub cids_added : (filed : ℕ × CidEntry) (here : Left) → run (cids_after extent start) old ≡ Ok (filed, here) → (new : Lists) → new ≡ adding lists (declares_cid kind filed.0 filed.1 ∷ []) → run (entry_after (cids kind extent) start lists) old ≡ Ok (new, here)
+  cids_added filed here is new adds = rw (is, adds) refl
+
+module _ (start : Code) (lists : Lists) (old : Left) where
+  pub char_wrong : (e : Refused) → run next_destination old ≡ Err e → run (entry_after bf_char start lists) old ≡ Err e
+  char_wrong e is = rw is refl
+
+  pub char_text : (units : List ℕ) (here : Left) → run next_destination old ≡ Ok (units, here) → (new : Lists) → new ≡ adding lists (text_of start.number start.number units) → run (entry_after bf_char start lists) old ≡ Ok (new, here)
+  char_text units here is new adds = rw (is, adds) refl
 
 -- ---- the first code of an entry, or the closer
 module _ (section : Section) (here next : Left) where

@@ -1,6 +1,6 @@
 -- What calls that read tokens answer.
 use Rattle.std.proofs.Common.{◌≡◌, refl, sym, ◌∙◌, false}
-use Rattle.std.specs.Prelude.{Option, Some, None, Result, Ok, Err, IsErrAnd, option_map}
+use Rattle.std.specs.Prelude.{Option, Some, None, Result, Ok, Err, IfErr, IsErrAnd, option_map}
 use Rattle.std.specs.Option.{ok_or}
 use Rattle.cmap_tokens.specs.TokensLeft.{Left}
 use Rattle.cmap_values.specs.Outcomes.{Outcome, RefusesWith}
@@ -34,6 +34,10 @@ read_on_as made here part all x y (Err fault.Memory) is gives (found, refused) =
 pub no_memory : {T A : Type 0} (r : Result T (Fault WrongToken)) (P : T → Type 0) (here : Left) (all : Result A Refused) → IsErrAnd r (λ e. e ≡ fault.Memory) → Outcome P (RefusesAt here all) r
 no_memory (Ok x) P here all is = absurd is
 no_memory (Err e) P here all is = (tt, rw is tt)
+
+pub memory_only : {T : Type 0} (r : Result T (Fault WrongToken)) (P : WrongToken → Type 0) → IsErrAnd r (λ e. e ≡ fault.Memory) → IfErr r (RefusesWith P)
+memory_only (Ok x) P is = absurd is
+memory_only (Err e) P is = rw is tt
 
 pub none_refused : {T : Type 0} (r : Result T (Fault WrongToken)) (holds : Type 0) → IsErrAnd r (λ e. e ≡ fault.Memory) → WhereRefused holds r
 none_refused (Ok x) holds is wrong same = absurd is
