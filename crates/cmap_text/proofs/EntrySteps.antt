@@ -1,5 +1,5 @@
 -- What entries come to, by what their tokens are found to be.
-use Rattle.std.proofs.Common.{◌≡◌, ℕ, ◌+◌, ◌-◌, true, false, refl, sym, ap, ◌∙◌, ◌∷◌, []}
+use Rattle.std.proofs.Common.{◌≡◌, ℕ, suc, ◌+◌, ◌-◌, true, false, refl, sym, ap, ◌∙◌, ◌∷◌, []}
 use Rattle.std.specs.Prelude.{Bool, List, codes, not, Option, Some, None, Result, Ok, Err, option_and_then, option_map, is_some, ◌==◌, if◌then◌else◌}
 use denote.Enum.Bare.{sameb}
 use Rattle.cmap_tokens.specs.Tokens.{Token}
@@ -10,7 +10,7 @@ use Rattle.cmap_values.specs.contracts.code_length.CodeLength.{the_type}
 use Rattle.cmap_values.specs.declared.code_length.CodeLength.{CodeLength}
 use Rattle.cmap_values.specs.declared.code_length.CodeLength.TheVariants.{One, Two, Three, Four}
 use Rattle.cmap_values.specs.declared.fault.Reason.{Reason}
-use Rattle.cmap_values.specs.declared.fault.Reason.TheVariants.{TextExpected, UnequalLengths}
+use Rattle.cmap_values.specs.declared.fault.Reason.TheVariants.{BracketExpected, TextExpected, UnequalLengths}
 use Rattle.cmap_text.specs.TextFiles.{CidKind, Extent, Section, bf_char, bf_range, cids, closer, codespace_range, declares_cid}
 use Rattle.cmap_text.specs.TextReading.{adding, cids_after, Code, code_fault, code_in, code_or_closer, codespace, destination_in, entry_after, is_executable, list_in, next_code, next_destination, text_of}
 use Rattle.cmap_text.specs.TokenParsers.{followed_by, head_in, listed, or_wrong, Refused, run, token_in, wrong}
@@ -83,6 +83,29 @@ lengths_differ a b is = sym (same_lengths a b) ∙ not_so _ is
 
 pub lengths_agree : (a b : CodeLength) → false ≡ not (sameb the_type a b) → (length_of a == length_of b) ≡ true
 lengths_agree a b is = sym (same_lengths a b) ∙ so _ is
+
+-- ---- a list of destinations
+module _ (start : ℕ) (lists : Lists) (here : Left) where
+  pub list_wrong : (count : ℕ) (e : Refused) → run next_destination here ≡ Err e → run (list_in (suc count) start lists) here ≡ Err e
+  unfolding list_in
+  list_wrong count e is = rw is refl
+
+  pub list_more : (count : ℕ) (units : List ℕ) (next : Left) → run next_destination here ≡ Ok (units, next) → (new : Lists) → new ≡ adding lists (text_of start start units) → run (list_in (suc count) start lists) here ≡ run (list_in count (start + 1) new) next
+  unfolding list_in
+  list_more count units next is new adds = rw (is, adds) refl
+
+  pub list_ends : (e : Refused) → token_in here ≡ Err e → run (list_in 0 start lists) here ≡ Err e
+  unfolding list_in
+  list_ends e is = rw is refl
+
+  module _ (t : Token) (next : Left) (reads : token_in here ≡ Ok (t, next)) where
+    pub list_open : false ≡ is_executable (codes "]") t → run (list_in 0 start lists) here ≡ Err (wrong BracketExpected t next)
+    unfolding list_in
+    list_open other = rw (reads, ← other) refl
+
+    pub list_closed : true ≡ is_executable (codes "]") t → run (list_in 0 start lists) here ≡ Ok (lists, next)
+    unfolding list_in
+    list_closed closes = rw (reads, ← closes) refl
 
 -- ---- what follows the first code of an entry of CIDs, or of one with a destination
 module _ (kind : CidKind) (extent : Extent) (start : Code) (lists : Lists) (old : Left) where
