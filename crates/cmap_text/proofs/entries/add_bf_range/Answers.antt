@@ -6,6 +6,7 @@ use Rattle.cmap_text.specs.TextSeen.{code_seen}
 use Rattle.cmap_text.specs.TokenParsers.{token_in}
 use Rattle.cmap_text.proofs.EntrySteps.{range_ends, range_list, range_text, range_wrong}
 use Rattle.cmap_text.proofs.Refusals.{no_memory, none_refused, passed_on}
+use Rattle.cmap_text.proofs.TokenParsers.{err-ok}
 use Rattle.cmap_text.proofs.entries.add_bf_range.Goals as goal
 
 pub returns-in_err-end : goal.returns-in_err-end
@@ -25,7 +26,7 @@ returns-in-Some c =
     let (piece, reads, is) = c.in-Some.ensures in
     record {
       adds = (range_text (code_seen c.args.start) (code_seen c.in_ok-end.end) (lists_seen c.args.lists.now) c.args.reader.now c.next_code.new.self c.in_ok-end.ensures.0 (String piece) c.plain_destination.new.self reads refl _ c.plain_destination.new.self (rw is refl) (lists_seen c.add_text.new.lists) c.in_ok-add_text.ensures, tt);
-      stays = λ wrong is. absurd (cc);
+      stays = λ wrong is. absurd (err-ok _ _ (sym is));
     }
 
 pub returns-in_err-token : goal.returns-in_err-token
@@ -61,5 +62,5 @@ returns c =
     let reads = ap token_in (sym c.in_default.ensures) ∙ c.in_ok-token.ensures.0 in
     record {
       adds = (range_text (code_seen c.args.start) (code_seen c.in_ok-end.end) (lists_seen c.args.lists.now) c.args.reader.now c.next_code.new.self c.in_ok-end.ensures.0 (token_seen c.in_ok-token.token) c.required_token.new.self reads c.if-is_executable.ensures _ c.destination.new.self c.in_ok-units.ensures.0 (lists_seen c.add_text-2.new.lists) c.in_ok-add_text-2.ensures, tt);
-      stays = λ wrong is. absurd (cc);
+      stays = λ wrong is. absurd (err-ok _ _ (sym is));
     }

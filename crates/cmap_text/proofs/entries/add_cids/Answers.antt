@@ -7,6 +7,7 @@ use Rattle.cmap_text.specs.TextSeen.{code_seen, extent_seen, kind_seen}
 use Rattle.cmap_text.specs.declared.entries.CidKind.{CidKind}
 use Rattle.cmap_text.proofs.EntrySteps.{cids_added, cids_wrong}
 use Rattle.cmap_text.proofs.Refusals.{no_memory, none_refused, passed_on}
+use Rattle.cmap_text.proofs.TokenParsers.{err-ok}
 use Rattle.cmap_text.proofs.entries.add_cids.Goals as goal
 use Rattle.cmap_text.proofs.entries.add_cids.Goals.{in-Cid+in_ok-add_cid-in-Cid, in-Notdef+in_ok-add_notdef-in-Notdef}
 
@@ -39,5 +40,5 @@ returns c =
         | in-Cid+in_ok-add_cid-in-Cid w ↦ (added (ap lists_seen w.lists-is ∙ w.in_ok-add_cid-in-Cid.ensures.added ∙ ap declares (sym w.in-Cid.is)), tt)
         | in-Notdef+in_ok-add_notdef-in-Notdef w ↦ (added (ap lists_seen w.lists-is ∙ w.in_ok-add_notdef-in-Notdef.ensures.added ∙ ap declares (sym w.in-Notdef.is)), tt)
       ];
-      stays = λ wrong is. absurd (cc);
+      stays = λ wrong is. absurd (err-ok _ _ (sym is));
     }

@@ -5,6 +5,7 @@ use Rattle.cmap_files.specs.DeclarationsSeen.{lists_seen}
 use Rattle.cmap_text.specs.TextSeen.{code_seen}
 use Rattle.cmap_text.proofs.EntrySteps.{lengths_agree, lengths_differ, space_added, space_ends, space_unequal, space_wrong}
 use Rattle.cmap_text.proofs.Refusals.{no_memory, none_refused, passed_on}
+use Rattle.cmap_text.proofs.TokenParsers.{err-ok}
 use Rattle.cmap_text.proofs.entries.add_codespace_range.Goals as goal
 
 pub returns-in_err-token : goal.returns-in_err-token
@@ -36,5 +37,5 @@ returns-in_err-add_codespace c = record {
 pub returns : goal.returns
 returns c = record {
   adds = (space_added (code_seen c.args.low) (lists_seen c.args.lists.now) c.args.reader.now (token_seen c.in_ok-token.token) c.required_token.new.self c.in_ok-token.ensures.0 (code_seen c.in_ok-high.high) c.code.new.self c.in_ok-high.ensures.0 (lengths_agree c.args.low.len c.in_ok-high.high.len c.if-ne.ensures) (lists_seen c.add_codespace.new.self) c.in_ok-add_codespace.ensures.added, tt);
-  stays = λ wrong is. absurd (cc);
+  stays = λ wrong is. absurd (err-ok _ _ (sym is));
 }

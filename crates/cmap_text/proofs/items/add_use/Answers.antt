@@ -1,7 +1,8 @@
-use Rattle.std.proofs.Common.{ap, refl}
+use Rattle.std.proofs.Common.{ap, refl, sym}
 use Rattle.std.proofs.lemmas.Result.{IfOk-from_err}
 use Rattle.std.specs.Option.{option_copied}
 use Rattle.cmap_text.proofs.Refusals.{memory_only}
+use Rattle.cmap_text.proofs.TokenParsers.{err-ok}
 use Rattle.cmap_text.proofs.items.add_use.Goals as goal
 
 pub returns-in_default : goal.returns-in_default
@@ -22,5 +23,5 @@ pub returns : goal.returns
 returns c = record {
   added = (c.in-Some.name, c.in-Some.is, c.in_ok-push.ensures.items);
   refused = tt;
-  stays = λ wrong is. absurd (cc);
+  stays = λ wrong is. absurd (err-ok _ _ (sym is));
 }

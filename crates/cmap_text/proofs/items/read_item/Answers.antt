@@ -6,6 +6,7 @@ use Rattle.cmap_tokens.specs.TokenSeen.{token_seen}
 use Rattle.cmap_text.specs.TextSeen.{key_name, said_seen, section_seen, values_seen}
 use Rattle.cmap_text.proofs.ItemSteps.{key_said, key_wrong, other_said, section_said, use_ends}
 use Rattle.cmap_text.proofs.Refusals.{passed_on}
+use Rattle.cmap_text.proofs.TokenParsers.{err-ok}
 use Rattle.cmap_text.proofs.items.read_item.Goals as goal
 use Rattle.cmap_text.proofs.items.read_item.Goals.{in-Some-of+in_ok-next_token, in_default-of}
 
@@ -33,5 +34,5 @@ returns c = record {
     | in-Some-of+in_ok-next_token w ↦ (rw (w.said-is, w.reader-is) (key_said (said_seen c.args.said.now) (token_seen c.args.first.now) c.args.reader.now (option_copied c.literal_name-said.result) c.literal_name-said.ensures c.in_default.ensures c.if-is_executable.ensures (key_name w.in-Some-of.key) _ (values_seen w.set.new.self) w.next_token.new.self w.in-Some-of.ensures w.in_ok-next_token.ensures.0 w.set.ensures), tt)
     | in_default-of w ↦ (rw (w.said-is, w.reader-is) (other_said (said_seen c.args.said.now) (token_seen c.args.first.now) c.args.reader.now (option_copied c.literal_name-said.result) c.literal_name-said.ensures c.in_default.ensures c.if-is_executable.ensures w.in_default-of.ensures), tt)
   ];
-  fault = λ wrong is. absurd (cc);
+  fault = λ wrong is. absurd (err-ok _ _ (sym is));
 }
