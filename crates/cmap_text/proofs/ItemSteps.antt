@@ -16,11 +16,11 @@ use Rattle.cmap_values.specs.declared.fault.Fault.{Fault}
 use Rattle.cmap_values.specs.declared.fault.Fault.TheVariants as fault
 use Rattle.cmap_values.specs.declared.fault.Reason.TheVariants.{UseWithoutName}
 use Rattle.cmap_text.specs.EntriesSeen.{RefusesAt}
-use Rattle.cmap_text.specs.TextFiles.{Section, Values, literal_head, other, use_word}
-use Rattle.cmap_text.specs.TextReading.{Said, body_in, is_executable, item_after, item_said, key_in, opened_by, with_key, with_lists, with_other, with_use, with_value}
-use Rattle.cmap_text.specs.TokenParsers.{done, giving, next_in, reads, Refused, run, run_item, takes_value, wanted}
+use Rattle.cmap_text.specs.TextFiles.{Section, literal_head, other, use_word}
+use Rattle.cmap_text.specs.TextReading.{Said, body_in, is_executable, item_after, item_said, opened_by, with_lists, with_use}
+use Rattle.cmap_text.specs.TokenParsers.{giving, reads, run, run_item, wanted}
 use Rattle.cmap_text.specs.declared.wrong_token.WrongToken.{WrongToken}
-use Rattle.cmap_text.proofs.ItemsRead.{key_in-found, opened_by-found}
+use Rattle.cmap_text.proofs.ItemsRead.{opened_by-found}
 use Rattle.cmap_text.proofs.Refusals.{read_on_as}
 use Rattle.cmap_text.proofs.TokensRead.{is_executable-found}
 
@@ -43,23 +43,6 @@ module _ (old : Said) (t : Token) (left : Left) (head : Option (List ℕ)) (head
 
     pub use_wrong : true ≡ is_executable use_word t → old.operand ≡ None → item_said old t left ≡ Err (record { token = Some t; reason = UseWithoutName; in_list = false; left = left })
     use_wrong is operand = ap (λ i. run_item t i left) (used is) ∙ rw operand refl
-
-    module _ (no_use : false ≡ is_executable use_word t) where
-      keyed : (k : List ℕ) → Some k ≡ key_in t → item_after old t ≡ takes_value (with_key old k)
-      keyed k is = rw (← no_section, ← no_use, ← is, item_after) refl
-
-      pub key_said : (k : List ℕ) (value : Option Token) (values : Values) (here : Left) → Some k ≡ key_in t → next_in left ≡ Ok (value, here) → values ≡ with_value old.values k value → item_said old t left ≡ Ok (record { values = values; lists = old.lists; uses = old.uses; operand = head }, here)
-      key_said k value values here is next set =
-          let named : head ≡ Some k = head_is ∙ ap (λ u. literal_head (other u)) (key_in-found t k (sym is)).1 in
-          ap (λ i. run_item t i left) (keyed k is) ∙ rw (next, named, set) refl
-
-      pub key_wrong : (k : List ℕ) → Some k ≡ key_in t → (e : Refused) → next_in left ≡ Err e → item_said old t left ≡ Err e
-      key_wrong k is e next = ap (λ i. run_item t i left) (keyed k is) ∙ rw next refl
-
-      pub other_said : None ≡ key_in t → item_said old t left ≡ Ok (record { values = old.values; lists = old.lists; uses = old.uses; operand = head }, left)
-      other_said no_key =
-          let is : item_after old t ≡ reads (done (with_other old t)) = rw (← no_section, ← no_use, ← no_key, item_after) refl in
-          ap (λ i. run_item t i left) is ∙ rw (← head_is) refl
 
 -- what a use adds, or why it is refused
 pub use_ends : (old : Said) (first : declared.Token) (left : Left) (head : Option (List ℕ)) (operand : Option (Bor (List ℕ))) (before after : List (Bor (List ℕ))) (r : Result (Unit {0}) (Fault WrongToken)) → head ≡ literal_head (other (token_seen first)) → None ≡ opened_by (token_seen first) → true ≡ is_executable use_word (token_seen first)

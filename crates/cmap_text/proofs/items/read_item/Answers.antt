@@ -3,12 +3,10 @@ use Rattle.std.proofs.lemmas.Option.{none-some}
 use Rattle.std.specs.Option.{option_copied}
 use Rattle.cmap_files.specs.DeclarationsSeen.{lists_seen}
 use Rattle.cmap_tokens.specs.TokenSeen.{token_seen}
-use Rattle.cmap_text.specs.TextSeen.{key_name, said_seen, section_seen, values_seen}
-use Rattle.cmap_text.proofs.ItemSteps.{key_said, key_wrong, other_said, section_said, use_ends}
-use Rattle.cmap_text.proofs.Refusals.{passed_on}
+use Rattle.cmap_text.specs.TextSeen.{said_seen, section_seen}
+use Rattle.cmap_text.proofs.ItemSteps.{section_said, use_ends}
 use Rattle.cmap_text.proofs.TokenParsers.{err-ok}
 use Rattle.cmap_text.proofs.items.read_item.Goals as goal
-use Rattle.cmap_text.proofs.items.read_item.Goals.{in-Some-of+in_ok-next_token, in_default-of}
 
 pub returns-in-Some : goal.returns-in-Some
 returns-in-Some c = record {
@@ -22,17 +20,5 @@ returns-then-is_executable c = record {
   fault = λ wrong is opens. rw (c.add_use.ensures.stays wrong is, c.literal_name-said.ensures) refl;
 }
 
-pub returns-in_err-next_token : goal.returns-in_err-next_token
-returns-in_err-next_token c = record {
-  reads = passed_on c.from_residual.result _ _ c.next_token.new.self _ _ c.from_residual.ensures.1 c.in_err-next_token.ensures.1 (key_wrong (said_seen c.args.said.now) (token_seen c.args.first.now) c.args.reader.now (option_copied c.literal_name-said.result) c.literal_name-said.ensures c.in_default.ensures c.if-is_executable.ensures (key_name c.in-Some-of.key) c.in-Some-of.ensures);
-  fault = λ wrong is opens. rw c.literal_name-said.ensures refl;
-}
-
-pub returns : goal.returns
-returns c = record {
-  reads = elim c.match-of.branch [
-    | in-Some-of+in_ok-next_token w ↦ (rw (w.said-is, w.reader-is) (key_said (said_seen c.args.said.now) (token_seen c.args.first.now) c.args.reader.now (option_copied c.literal_name-said.result) c.literal_name-said.ensures c.in_default.ensures c.if-is_executable.ensures (key_name w.in-Some-of.key) _ (values_seen w.set.new.self) w.next_token.new.self w.in-Some-of.ensures w.in_ok-next_token.ensures.0 w.set.ensures), tt)
-    | in_default-of w ↦ (rw (w.said-is, w.reader-is) (other_said (said_seen c.args.said.now) (token_seen c.args.first.now) c.args.reader.now (option_copied c.literal_name-said.result) c.literal_name-said.ensures c.in_default.ensures c.if-is_executable.ensures w.in_default-of.ensures), tt)
-  ];
-  fault = λ wrong is. absurd (err-ok _ _ (sym is));
-}
+pub returns-clause-fault : goal.returns-clause-fault
+returns-clause-fault c = λ wrong is. absurd (err-ok _ _ (sym is))
