@@ -3,7 +3,7 @@ use Rattle.std.proofs.Common.{◌≡◌, ℕ, zero, suc, false, ◌+◌, refl, s
 use Rattle.std.proofs.lemmas.Bool.{cases_Bool, eqb-true, eq-eqb}
 use Rattle.std.proofs.lemmas.Option.{none-some, same_Some}
 use Rattle.std.specs.List.{AllZip, enumerate_from}
-use Rattle.std.specs.Prelude.{codes, map, flat_map, Ok, Some, None, ◌==◌}
+use Rattle.std.specs.Prelude.{codes, map, flat_map, Ok, Err, Some, None, ◌==◌}
 use Rattle.cmap_values.specs.BigEndian.{big_endian}
 use Rattle.cmap_tokens.specs.Tokens.{Token}
 use Rattle.cmap_tokens.specs.TokensLeft.{Left}
@@ -11,7 +11,7 @@ use Rattle.cmap_files.specs.Files.{Declaration, Lists}
 use Rattle.cmap_files.proofs.ListsMade.{added_more, append_lists-none}
 use Rattle.cmap_text.specs.TextFiles.{Section, codespace_range, cids, range, single, bf_range, bf_char, closer, declares_bf, declares_cid, IsCode, IsDestination, IsEntry, AreEntries}
 use Rattle.cmap_text.specs.TextReading.{adding, body_in, Code, code_fault, code_in, code_or_closer, codespace, destination_in, entry_after, is_executable, list_in, text_of, texts_from}
-use Rattle.cmap_text.specs.TokenParsers.{followed_by, head_in, round, run, token_in}
+use Rattle.cmap_text.specs.TokenParsers.{followed_by, head_in, Refused, round, run, token_in}
 use Rattle.cmap_text.proofs.TokensRead.{some_bound, some_mapped, tested, written, code_is, code_found, cid_is, cid_found, destination_is, destination_found, is_executable-found, is_executable-own}
 use Rattle.cmap_text.proofs.TokenParsers.{Implies, Means, Relation, Rounds, repeat_next}
 
@@ -151,3 +151,18 @@ body_next section = repeat_next code_fault (code_or_closer section) (λ now code
 -- a string that is a code begins an entry
 pub code_starts : (section : Section) (here next : Left) (piece : List ℕ) (code : Code) → token_in here ≡ Ok (Token.String piece, next) → code_in (Token.String piece) ≡ Some code → head_in code_fault (code_or_closer section) here ≡ Ok (Some code, next)
 code_starts section here next piece code is reads = rw (is, reads) refl
+
+-- what a section comes to, by what begins an entry and what follows
+module _ (section : Section) (lists : Lists) (here next : Left) where
+  pub body_wrong : (e : Refused) → head_in code_fault (code_or_closer section) here ≡ Err e → run (body_in section lists) here ≡ Err e
+  body_wrong e is = body_next section lists here ∙ rw is refl
+
+  pub body_closes : head_in code_fault (code_or_closer section) here ≡ Ok (None, next) → run (body_in section lists) here ≡ Ok (lists, next)
+  body_closes is = body_next section lists here ∙ rw is refl
+
+  module _ (start : Code) (starts_is : head_in code_fault (code_or_closer section) here ≡ Ok (Some start, next)) where
+    pub entry_wrong : (e : Refused) → run (entry_after section start lists) next ≡ Err e → run (body_in section lists) here ≡ Err e
+    entry_wrong e is = body_next section lists here ∙ rw (starts_is, is) refl
+
+    pub entry_read : (new : Lists) (later : Left) → run (entry_after section start lists) next ≡ Ok (new, later) → run (body_in section lists) here ≡ run (body_in section new) later
+    entry_read new later is = body_next section lists here ∙ rw (starts_is, is) refl

@@ -31,7 +31,7 @@ opened_by-own (cids mapped range) = refl
 opened_by-own (cids notdef range) = refl
 opened_by-own _ = refl
 
-opened_by-found : (t : Token) (section : Section) → opened_by t ≡ Some section → t ≡ opening section
+pub opened_by-found : (t : Token) (section : Section) → opened_by t ≡ Some section → t ≡ opening section
 opened_by-found t section is = is_executable-found (opener section) t (found_in (λ s. is_executable (opener s) t) sections section is).1
 
 key_in-own : (k : List ℕ) → Contains keys k → key_in (Token.Name true k) ≡ Some k

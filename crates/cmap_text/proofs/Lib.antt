@@ -2,7 +2,9 @@ pub mod Refusals
 pub mod TokenParsers
 pub mod TokensRead
 pub mod EntriesRead
+mod EntrySteps
 pub mod ItemsRead
+mod ItemSteps
 pub mod ItemsSaid
 pub mod TextRead
 pub mod UnitsRead
@@ -12,6 +14,7 @@ mod TextsAdded
 mod Moves
 mod PartsRead
 mod Faulted
+mod PartSteps
 mod PartsDeclare
 mod WholeRead
 mod Stops

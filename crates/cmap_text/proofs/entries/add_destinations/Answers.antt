@@ -1,43 +1,66 @@
-use Rattle.std.proofs.Common.{◌≡◌, suc, [], ◌+◌, ◌-◌, refl, sym, arith}
+use Rattle.std.proofs.Common.{◌≡◌, ℕ, suc, [], ◌+◌, ◌-◌, refl, sym, ap, ◌∙◌, arith}
 use Rattle.std.proofs.lemmas.Option.{none-some}
+use Rattle.cmap_tokens.specs.TokenSeen.{token_seen}
 use Rattle.cmap_files.specs.DeclarationsSeen.{lists_seen}
+use Rattle.cmap_values.specs.UnitsSeen.{units_seen}
 use Rattle.cmap_text.specs.TextReading.{list_in}
-use Rattle.cmap_text.proofs.Refusals.{passed_on}
+use Rattle.cmap_text.specs.TokenParsers.{run}
+use Rattle.cmap_text.proofs.EntrySteps.{list_closed, list_ends, list_more, list_open, list_wrong}
+use Rattle.cmap_text.proofs.Refusals.{no_memory, none_refused, passed_on}
 use Rattle.cmap_text.proofs.TextsAdded.{more_texts, no_texts}
 use Rattle.cmap_text.proofs.entries.add_destinations.Goals as goal
 
 pub loop-code-init : goal.loop-code-init
 loop-code-init c = record { adds = rw c.from-code.ensures refl; texts = ([], no_texts (lists_seen c.args.lists.now)) }
 
-pub returns-in_err-units-clause-adds : goal.returns-in_err-units-clause-adds
-unfolding list_in
-returns-in_err-units-clause-adds c =
-    let more : c.args.end + 1 - c.loop-code.code ≡ suc (c.args.end + 1 - (c.loop-code.code + 1)) = omega arith in
-    passed_on c.from_residual.result _ _ c.next_destination.new.self _ _ c.from_residual.ensures.1 c.in_err-units.ensures.1 (λ e is. rw (c.loop-code.invariant.adds, more, is) refl)
-
-pub loop-code-preserved : goal.loop-code-preserved
-unfolding list_in
-loop-code-preserved c =
+pub returns-in_err-units : goal.returns-in_err-units
+returns-in_err-units c =
+    let left = λ (count : ℕ). run (list_in count c.loop-code.code (lists_seen c.loop-code.lists)) c.loop-code.reader in
     let more : c.args.end + 1 - c.loop-code.code ≡ suc (c.args.end + 1 - (c.loop-code.code + 1)) = omega arith in
     record {
-      adds = rw (c.loop-code.invariant.adds, more, c.in_ok-units.ensures.0, c.in_ok-add_text.ensures) refl;
+      adds = passed_on c.from_residual.result _ _ c.next_destination.new.self _ _ c.from_residual.ensures.1 c.in_err-units.ensures.1 (λ e is. c.loop-code.invariant.adds ∙ ap left more ∙ list_wrong c.loop-code.code (lists_seen c.loop-code.lists) c.loop-code.reader _ e is);
+      texts = λ wrong is. c.loop-code.invariant.texts;
+    }
+
+pub returns-in_err-add_text : goal.returns-in_err-add_text
+returns-in_err-add_text c = record {
+  adds = no_memory c.from_residual-in_err-add_text.result _ _ _ c.from_residual-in_err-add_text.ensures.1;
+  texts = none_refused c.from_residual-in_err-add_text.result _ c.from_residual-in_err-add_text.ensures.1;
+}
+
+pub loop-code-preserved : goal.loop-code-preserved
+loop-code-preserved c =
+    let left = λ (count : ℕ). run (list_in count c.loop-code.code (lists_seen c.loop-code.lists)) c.loop-code.reader in
+    let more : c.args.end + 1 - c.loop-code.code ≡ suc (c.args.end + 1 - (c.loop-code.code + 1)) = omega arith in
+    record {
+      adds = c.loop-code.invariant.adds ∙ ap left more ∙ list_more c.loop-code.code (lists_seen c.loop-code.lists) c.loop-code.reader _ (units_seen c.in_ok-units.units) c.next_destination.new.self c.in_ok-units.ensures.0 (lists_seen c.add_text.new.lists) c.in_ok-add_text.ensures;
       texts = more_texts _ _ _ _ _ _ c.loop-code.invariant.texts c.in_ok-add_text.ensures;
     }
 
-pub returns-in_err-token-clause-adds : goal.returns-in_err-token-clause-adds
-unfolding list_in
-returns-in_err-token-clause-adds c =
+pub returns-in_err-token : goal.returns-in_err-token
+returns-in_err-token c =
+    let left = λ (count : ℕ). run (list_in count c.loop-code.code (lists_seen c.loop-code.lists)) c.loop-code.reader in
     let done : c.args.end + 1 - c.loop-code.code ≡ 0 = omega arith in
-    passed_on c.from_residual-in_err-token.result _ _ c.required_token.new.self _ _ c.from_residual-in_err-token.ensures.1 c.in_err-token.ensures.1 (λ e is. rw (c.loop-code.invariant.adds, done, is) refl)
+    record {
+      adds = passed_on c.from_residual-in_err-token.result _ _ c.required_token.new.self _ _ c.from_residual-in_err-token.ensures.1 c.in_err-token.ensures.1 (λ e is. c.loop-code.invariant.adds ∙ ap left done ∙ list_ends c.loop-code.code (lists_seen c.loop-code.lists) c.loop-code.reader e is);
+      texts = λ wrong is. c.loop-code.invariant.texts;
+    }
 
-pub returns-then-not-is_executable-clause-adds : goal.returns-then-not-is_executable-clause-adds
-unfolding list_in
-returns-then-not-is_executable-clause-adds c =
+pub returns-then-not-is_executable : goal.returns-then-not-is_executable
+returns-then-not-is_executable c =
+    let left = λ (count : ℕ). run (list_in count c.loop-code.code (lists_seen c.loop-code.lists)) c.loop-code.reader in
     let done : c.args.end + 1 - c.loop-code.code ≡ 0 = omega arith in
-    (tt, rw (c.wrong.ensures, c.loop-code.invariant.adds, done, c.in_ok-token.ensures.0, ← c.if-not-is_executable.ensures) (refl, λ none. absurd (none-some _ (sym none))))
+    let open_still = c.loop-code.invariant.adds ∙ ap left done ∙ list_open c.loop-code.code (lists_seen c.loop-code.lists) c.loop-code.reader (token_seen c.in_ok-token.token) c.required_token.new.self c.in_ok-token.ensures.0 c.if-not-is_executable.ensures in
+    record {
+      adds = (tt, rw c.wrong.ensures (open_still, λ none. absurd (none-some _ (sym none))));
+      texts = λ wrong is. c.loop-code.invariant.texts;
+    }
 
-pub returns-clause-adds : goal.returns-clause-adds
-unfolding list_in
-returns-clause-adds c =
+pub returns : goal.returns
+returns c =
+    let left = λ (count : ℕ). run (list_in count c.loop-code.code (lists_seen c.loop-code.lists)) c.loop-code.reader in
     let done : c.args.end + 1 - c.loop-code.code ≡ 0 = omega arith in
-    (rw (c.loop-code.invariant.adds, done, c.in_ok-token.ensures.0, ← c.if-not-is_executable.ensures) refl, tt)
+    record {
+      adds = (c.loop-code.invariant.adds ∙ ap left done ∙ list_closed c.loop-code.code (lists_seen c.loop-code.lists) c.loop-code.reader (token_seen c.in_ok-token.token) c.required_token.new.self c.in_ok-token.ensures.0 c.if-not-is_executable.ensures, tt);
+      texts = λ wrong is. c.loop-code.invariant.texts;
+    }

@@ -1,10 +1,11 @@
-use Rattle.std.proofs.Common.{◌≡◌, Ok, Some, refl, arith}
+use Rattle.std.proofs.Common.{◌≡◌, Ok, Some, ◌∙◌, arith}
+use Rattle.std.proofs.lemmas.Result.{IfOk-from_err}
 use Rattle.cmap_files.specs.DeclarationsSeen.{lists_seen}
 use Rattle.cmap_text.specs.TextReading.{code_fault, code_or_closer, entry_after}
 use Rattle.cmap_text.specs.TextSeen.{code_seen, section_seen}
 use Rattle.cmap_text.specs.TokenParsers.{head_in}
-use Rattle.cmap_text.proofs.EntriesRead.{body_next, code_starts}
-use Rattle.cmap_text.proofs.Refusals.{passed_on}
+use Rattle.cmap_text.proofs.EntriesRead.{code_starts, entry_read, entry_wrong}
+use Rattle.cmap_text.proofs.Refusals.{no_memory, passed_on}
 use Rattle.cmap_text.proofs.TokenParsers.{head-shorter, is_there}
 use Rattle.cmap_text.proofs.sections.read_two_byte_entries.Goals as goal
 use Rattle.cmap_text.proofs.sections.read_two_byte_entries.Goals.{In-Some}
@@ -23,7 +24,7 @@ pub loop-start-preserved : goal.loop-start-preserved
 loop-start-preserved c =
     let added = rw c.if-not-branch.false at c.in_ok-add_plain.ensures in
     record {
-      same = rw (c.loop-start.invariant.same, body_next, starts (goal.at.loop-start-preserved c).In-Some, added) refl;
+      same = c.loop-start.invariant.same ∙ entry_read (section_seen c.args.section) (lists_seen c.loop-start.lists) c.loop-start.reader c.two_byte_code.new.self (code_seen c.in-Some.start) (starts (goal.at.loop-start-preserved c).In-Some) (lists_seen c.add_plain.new.lists) c.add_plain.new.reader added;
       fewer = omega (arith, loop-start-smaller c, c.loop-start.invariant.fewer);
     }
 
@@ -40,11 +41,20 @@ loop-start-preserved-in_ok-read_entry c =
     let stays = rw c.if-not-branch.true at c.in_ok-add_plain.ensures in
     let adds = rw (stays.0, stays.1) at c.in_ok-read_entry.ensures.adds.0 in
     record {
-      same = rw (c.loop-start.invariant.same, body_next, starts (goal.at.loop-start-preserved-in_ok-read_entry c).In-Some, adds) refl;
+      same = c.loop-start.invariant.same ∙ entry_read (section_seen c.args.section) (lists_seen c.loop-start.lists) c.loop-start.reader c.two_byte_code.new.self (code_seen c.in-Some.start) (starts (goal.at.loop-start-preserved-in_ok-read_entry c).In-Some) (lists_seen c.read_entry.new.lists) c.read_entry.new.reader adds;
       fewer = omega (arith, loop-start-smaller-in_ok-read_entry c, c.loop-start.invariant.fewer);
     }
 
-pub returns-in_err-read_entry-clause-reads : goal.returns-in_err-read_entry-clause-reads
-returns-in_err-read_entry-clause-reads c =
+pub returns-in_err-read_entry : goal.returns-in_err-read_entry
+returns-in_err-read_entry c =
     let stays = rw c.if-not-branch.true at c.in_ok-add_plain.ensures in
-    passed_on c.from_residual-in_err-read_entry.result _ _ c.read_entry.new.reader _ _ c.from_residual-in_err-read_entry.ensures.1 c.in_err-read_entry.ensures.adds.1 (λ e is. let refused = rw (stays.0, stays.1) at is in rw (c.loop-start.invariant.same, body_next, starts (goal.at.returns-in_err-read_entry-clause-reads c).In-Some, refused) refl)
+    record {
+      reads = passed_on c.from_residual-in_err-read_entry.result _ _ c.read_entry.new.reader _ _ c.from_residual-in_err-read_entry.ensures.1 c.in_err-read_entry.ensures.adds.1 (λ e is. let refused = rw (stays.0, stays.1) at is in c.loop-start.invariant.same ∙ entry_wrong (section_seen c.args.section) (lists_seen c.loop-start.lists) c.loop-start.reader c.two_byte_code.new.self (code_seen c.in-Some.start) (starts (goal.at.returns-in_err-read_entry c).In-Some) e refused);
+      fewer = IfOk-from_err c.from_residual-in_err-read_entry.result _ c.from_residual-in_err-read_entry.ensures.0;
+    }
+
+pub returns-in_err-add_plain : goal.returns-in_err-add_plain
+returns-in_err-add_plain c = record {
+  reads = no_memory c.from_residual.result _ _ _ c.from_residual.ensures.1;
+  fewer = IfOk-from_err c.from_residual.result _ c.from_residual.ensures.0;
+}

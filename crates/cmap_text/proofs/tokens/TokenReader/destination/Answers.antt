@@ -1,8 +1,9 @@
-use Rattle.std.proofs.Common.{◌<◌, length, ap, ◌∙◌, refl, sym, arith, rules}
+use Rattle.std.proofs.Common.{◌<◌, Ok, length, ap, ◌∙◌, refl, sym, arith}
 use Rattle.std.proofs.lemmas.Option.{none-some}
 use Rattle.std.proofs.lemmas.Bool.{eqb-true, eqb-false}
 use Rattle.cmap_tokens.specs.TokenSeen.{token_seen}
 use Rattle.cmap_text.specs.TextReading.{destination_of}
+use Rattle.cmap_text.proofs.Refusals.{no_memory}
 use Rattle.cmap_text.proofs.TokensRead.{read_value, destination_of-is, destination_of-none}
 use Rattle.cmap_text.proofs.tokens.TokenReader.destination.Goals as goal
 
@@ -22,4 +23,13 @@ pub returns : goal.returns
 returns c =
     let read = read_value destination_of _ _ _ (ap token_seen c.in-String.is) c.in_ok-decode_into.ensures.value in
     let filled : 0 < length c.decode_into.new.out.items = omega (arith, eqb-false _ 0 (sym c.if-is_empty.ensures)) in
-    (rw (read ∙ destination_of-is c.decode_into.new.out.items filled, c.self.view_is, ← c.deref.ensures.value) (search rules), tt)
+    (rw (read ∙ destination_of-is c.decode_into.new.out.items filled, c.self.view_is, ← c.deref.ensures.value) (ap Ok (ap (λ units. (units, c.args.self.now)) (sym (c.in_ok-from_slice.ensures.units ∙ c.deref-2.ensures.value ∙ c.in_ok-units.ensures)))), tt)
+
+pub returns-in_err-decode_into : goal.returns-in_err-decode_into
+returns-in_err-decode_into c = no_memory c.from_residual.result _ _ _ c.from_residual.ensures.1
+
+pub returns-in_err-units : goal.returns-in_err-units
+returns-in_err-units c = no_memory c.from_residual-in_err-units.result _ _ _ c.from_residual-in_err-units.ensures.1
+
+pub returns-in_err-from_slice : goal.returns-in_err-from_slice
+returns-in_err-from_slice c = no_memory c.from_residual-in_err-from_slice.result _ _ _ c.from_residual-in_err-from_slice.ensures.1

@@ -1,0 +1,138 @@
+-- What entries come to, by what their tokens are found to be.
+use Rattle.std.proofs.Common.{◌≡◌, ℕ, suc, ◌+◌, ◌-◌, true, false, refl, sym, ap, ◌∙◌, ◌∷◌, []}
+use Rattle.std.specs.Prelude.{Bool, List, codes, not, Option, Some, None, Result, Ok, Err, option_and_then, option_map, is_some, ◌==◌, if◌then◌else◌}
+use denote.Enum.Bare.{sameb}
+use Rattle.cmap_tokens.specs.Tokens.{Token}
+use Rattle.cmap_tokens.specs.TokensLeft.{Left}
+use Rattle.cmap_files.specs.Files.{CidEntry, Declaration, Lists}
+use Rattle.cmap_values.specs.CodeLengths.{length_of}
+use Rattle.cmap_values.specs.contracts.code_length.CodeLength.{the_type}
+use Rattle.cmap_values.specs.declared.code_length.CodeLength.{CodeLength}
+use Rattle.cmap_values.specs.declared.code_length.CodeLength.TheVariants.{One, Two, Three, Four}
+use Rattle.cmap_values.specs.declared.fault.Reason.{Reason}
+use Rattle.cmap_values.specs.declared.fault.Reason.TheVariants.{BracketExpected, TextExpected, UnequalLengths}
+use Rattle.cmap_text.specs.TextFiles.{CidKind, Extent, Section, bf_char, bf_range, cids, closer, codespace_range, declares_cid}
+use Rattle.cmap_text.specs.TextReading.{adding, cids_after, Code, code_fault, code_in, code_or_closer, codespace, destination_in, entry_after, is_executable, list_in, next_code, next_destination, text_of}
+use Rattle.cmap_text.specs.TokenParsers.{followed_by, head_in, listed, or_wrong, Refused, run, token_in, wrong}
+use Rattle.cmap_text.proofs.TokenParsers.{err-ok, same_Ok}
+
+same_Err : {A E : Type 0} (d e : E) → ◌≡◌ {A = Result A E} (Err d) (Err e) → d ≡ e
+same_Err d e is = cc
+
+-- a token that is wrong is so whatever is made of a right one, and a right one is what it is read as
+wrong_as : {A B : Type 0} (f : A → B) (o : Option A) (reason : Reason) (t : Token) (next : Left) (e : Refused) → or_wrong reason o t next ≡ Err e → or_wrong reason (option_map f o) t next ≡ Err e
+wrong_as f None reason t next e is = ap Err (same_Err (wrong reason t next) e is)
+wrong_as f (Some x) reason t next e is = absurd (err-ok e (x, next) (sym is))
+
+read_as : {A : Type 0} (o : Option A) (reason : Reason) (t : Token) (next : Left) (x : A) (here : Left) → or_wrong reason o t next ≡ Ok (x, here) → (o ≡ Some x) × (next ≡ here)
+read_as None reason t next x here is = absurd (err-ok (wrong reason t next) (x, here) is)
+read_as (Some y) reason t next x here is = let same = same_Ok (y, next) (x, here) is in (ap (λ p. Some p.0) same, ap (λ p. p.1) same)
+
+-- ---- a destination or a list, after the two codes of a range
+module _ (start end : Code) (lists : Lists) (old mid : Left) (codes_are : run next_code old ≡ Ok (end, mid)) where
+  pub range_ends : (e : Refused) → token_in mid ≡ Err e → run (entry_after bf_range start lists) old ≡ Err e
+  range_ends e is = rw (codes_are, is) refl
+
+  module _ (t : Token) (next : Left) (reads : token_in mid ≡ Ok (t, next)) where
+    pub range_list : true ≡ is_executable (codes "[") t → run (entry_after bf_range start lists) old ≡ run (listed (list_in (end.number + 1 - start.number) start.number lists)) next
+    range_list opens = rw (codes_are, reads, ← opens) refl
+
+    pub range_wrong : false ≡ is_executable (codes "[") t → (e : Refused) → or_wrong TextExpected (destination_in t) t next ≡ Err e → run (entry_after bf_range start lists) old ≡ Err e
+    range_wrong other e is = rw (codes_are, reads, ← other, wrong_as Some (destination_in t) TextExpected t next e is) refl
+
+    pub range_text : false ≡ is_executable (codes "[") t → (units : List ℕ) (here : Left) → or_wrong TextExpected (destination_in t) t next ≡ Ok (units, here) → (new : Lists) → new ≡ adding lists (text_of start.number end.number units) → run (entry_after bf_range start lists) old ≡ Ok (new, here)
+    range_text other units here is new adds = let (text, same) = read_as (destination_in t) TextExpected t next units here is in rw (codes_are, reads, ← other, text, ← same, adds) refl
+
+-- ---- the second code of a codespace range
+module _ (low : Code) (lists : Lists) (old : Left) where
+  pub space_ends : (e : Refused) → token_in old ≡ Err e → run (entry_after codespace_range low lists) old ≡ Err e
+  space_ends e is = rw is refl
+
+  module _ (t : Token) (next : Left) (reads : token_in old ≡ Ok (t, next)) where
+    pub space_wrong : (e : Refused) → or_wrong (code_fault t) (code_in t) t next ≡ Err e → run (entry_after codespace_range low lists) old ≡ Err e
+    space_wrong e is = rw reads (at (code_in t) is)
+      where
+        at : (o : Option Code) → or_wrong (code_fault t) o t next ≡ Err e → followed_by (λ declared here. Ok (adding lists declared, here)) (or_wrong (if is_some o then UnequalLengths else code_fault t) (option_and_then (codespace low) o) t next) ≡ Err e
+        at None wrong_is = ap Err (same_Err (wrong (code_fault t) t next) e wrong_is)
+        at (Some x) right = absurd (err-ok e (x, next) (sym right))
+
+    module _ (high : Code) (here : Left) (is : or_wrong (code_fault t) (code_in t) t next ≡ Ok (high, here)) where
+      pub space_unequal : (low.len == high.len) ≡ false → run (entry_after codespace_range low lists) old ≡ Err (wrong UnequalLengths t here)
+      space_unequal differ = let (code, same) = read_as (code_in t) (code_fault t) t next high here is in rw (reads, code, differ, same) refl
+
+      pub space_added : (low.len == high.len) ≡ true → (new : Lists) → new ≡ adding lists (Declaration.codespace (record { len = low.len; low = low.number; high = high.number }) ∷ []) → run (entry_after codespace_range low lists) old ≡ Ok (new, here)
+      space_added equal new adds = let (code, same) = read_as (code_in t) (code_fault t) t next high here is in rw (reads, code, equal, ← same, adds) refl
+
+same_lengths : (a b : CodeLength) → sameb the_type a b ≡ (length_of a == length_of b)
+same_lengths One One = refl
+same_lengths Two Two = refl
+same_lengths Three Three = refl
+same_lengths Four Four = refl
+same_lengths _ _ = refl
+
+not_so : (b : Bool) → true ≡ not b → b ≡ false
+not_so true is = is
+not_so false is = refl
+
+so : (b : Bool) → false ≡ not b → b ≡ true
+so true is = refl
+so false is = is
+
+pub lengths_differ : (a b : CodeLength) → true ≡ not (sameb the_type a b) → (length_of a == length_of b) ≡ false
+lengths_differ a b is = sym (same_lengths a b) ∙ not_so _ is
+
+pub lengths_agree : (a b : CodeLength) → false ≡ not (sameb the_type a b) → (length_of a == length_of b) ≡ true
+lengths_agree a b is = sym (same_lengths a b) ∙ so _ is
+
+-- ---- a list of destinations
+module _ (start : ℕ) (lists : Lists) (here : Left) where
+  pub list_wrong : (count : ℕ) (e : Refused) → run next_destination here ≡ Err e → run (list_in (suc count) start lists) here ≡ Err e
+  unfolding list_in
+  list_wrong count e is = rw is refl
+
+  pub list_more : (count : ℕ) (units : List ℕ) (next : Left) → run next_destination here ≡ Ok (units, next) → (new : Lists) → new ≡ adding lists (text_of start start units) → run (list_in (suc count) start lists) here ≡ run (list_in count (start + 1) new) next
+  unfolding list_in
+  list_more count units next is new adds = rw (is, adds) refl
+
+  pub list_ends : (e : Refused) → token_in here ≡ Err e → run (list_in 0 start lists) here ≡ Err e
+  unfolding list_in
+  list_ends e is = rw is refl
+
+  module _ (t : Token) (next : Left) (reads : token_in here ≡ Ok (t, next)) where
+    pub list_open : false ≡ is_executable (codes "]") t → run (list_in 0 start lists) here ≡ Err (wrong BracketExpected t next)
+    unfolding list_in
+    list_open other = rw (reads, ← other) refl
+
+    pub list_closed : true ≡ is_executable (codes "]") t → run (list_in 0 start lists) here ≡ Ok (lists, next)
+    unfolding list_in
+    list_closed closes = rw (reads, ← closes) refl
+
+-- ---- what follows the first code of an entry of CIDs, or of one with a destination
+module _ (kind : CidKind) (extent : Extent) (start : Code) (lists : Lists) (old : Left) where
+  pub cids_wrong : (e : Refused) → run (cids_after extent start) old ≡ Err e → run (entry_after (cids kind extent) start lists) old ≡ Err e
+  cids_wrong e is = rw is refl
+
+  pub cids_added : (filed : ℕ × CidEntry) (here : Left) → run (cids_after extent start) old ≡ Ok (filed, here) → (new : Lists) → new ≡ adding lists (declares_cid kind filed.0 filed.1 ∷ []) → run (entry_after (cids kind extent) start lists) old ≡ Ok (new, here)
+  cids_added filed here is new adds = rw (is, adds) refl
+
+module _ (start : Code) (lists : Lists) (old : Left) where
+  pub char_wrong : (e : Refused) → run next_destination old ≡ Err e → run (entry_after bf_char start lists) old ≡ Err e
+  char_wrong e is = rw is refl
+
+  pub char_text : (units : List ℕ) (here : Left) → run next_destination old ≡ Ok (units, here) → (new : Lists) → new ≡ adding lists (text_of start.number start.number units) → run (entry_after bf_char start lists) old ≡ Ok (new, here)
+  char_text units here is new adds = rw (is, adds) refl
+
+-- ---- the first code of an entry, or the closer
+module _ (section : Section) (here next : Left) where
+  pub start_ends : (e : Refused) → token_in here ≡ Err e → head_in code_fault (code_or_closer section) here ≡ Err e
+  start_ends e is = rw is refl
+
+  module _ (t : Token) (reads : token_in here ≡ Ok (t, next)) where
+    pub start_closes : true ≡ is_executable (closer section) t → head_in code_fault (code_or_closer section) here ≡ Ok (None, next)
+    start_closes closes = rw (reads, ← closes) refl
+
+    pub start_wrong : false ≡ is_executable (closer section) t → (e : Refused) → or_wrong (code_fault t) (code_in t) t next ≡ Err e → head_in code_fault (code_or_closer section) here ≡ Err e
+    start_wrong other e is = rw (reads, ← other, wrong_as Some (code_in t) (code_fault t) t next e is) refl
+
+    pub start_code : false ≡ is_executable (closer section) t → (code : Code) (later : Left) → or_wrong (code_fault t) (code_in t) t next ≡ Ok (code, later) → head_in code_fault (code_or_closer section) here ≡ Ok (Some code, later)
+    start_code other code later is = let (code_is, same) = read_as (code_in t) (code_fault t) t next code later is in rw (reads, ← other, code_is, same) refl
