@@ -18,7 +18,7 @@ returns-clause-wanted c =
     inr (no_ranges (ranges_of (layers_seen c.args.layers.now)) c.args.text.now c.min-most.result (subst (λ fewer. MatchAtMost (ranges_of (layers_seen c.args.layers.now)) c.args.text.now fewer c.min-most.result) end c.loop-fewer.invariant), refl)
 
 pub loop-fewer-preserved : goal.loop-fewer-preserved
-loop-fewer-preserved c = 
+loop-fewer-preserved c =
     let most = c.min-most.result in let fewer = c.loop-fewer.fewer in
     fewer_match (ranges_of (layers_seen c.args.layers.now)) c.args.text.now fewer most (most - fewer) (omega arith) (omega (arith, c.min-most.ensures)) c.loop-fewer.invariant c.in_default.ensures
 

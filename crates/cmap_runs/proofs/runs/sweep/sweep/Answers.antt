@@ -74,11 +74,11 @@ returns-in_err-add_runs-2 c = record { runs = IfOk-from_err _ _ c.from_residual-
 
 pub loop-range-init : goal.loop-range-init
 loop-range-init c = record {
-      later = λ k d from_here within. omega arith;
-      limit = omega arith;
-      are = λ spans are. rw (c.new-ends.ensures, c.in_ok-runs.ensures) (AreOpen-none spans 0, AreRunsBelow-none (last_index spans));
-      few = rw (c.new-ends.ensures, c.in_ok-runs.ensures) (omega arith);
-    }
+  later = λ k d from_here within. omega arith;
+  limit = omega arith;
+  are = λ spans are. rw (c.new-ends.ensures, c.in_ok-runs.ensures) (AreOpen-none spans 0, AreRunsBelow-none (last_index spans));
+  few = rw (c.new-ends.ensures, c.in_ok-runs.ensures) (omega arith);
+}
 
 pub add_runs-requires-2 : goal.add_runs-requires-2
 add_runs-requires-2 c = record { order = c.loop-range.invariant.limit; codes = omega arith }

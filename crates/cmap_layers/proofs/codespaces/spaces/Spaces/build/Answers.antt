@@ -34,9 +34,9 @@ groups_of-requires c = subst HaveRows (sym c.deref-else-len-lt-FEWEST_BLOCKS.ens
 
 pub groups_of-requires-2 : goal.groups_of-requires-2
 groups_of-requires-2 c = elim c.if-len-lt-FEWEST_BLOCKS.branch [
-      | then-len-lt-FEWEST_BLOCKS w ↦ subst HaveRows (sym (c.deref-2.ensures.value ∙ ap (λ (v : Vec (Vec ℕ)). v.items) w.groups-is ∙ w.new-groups.ensures.items)) (λ b d within. absurd (omega arith))
-      | else-len-lt-FEWEST_BLOCKS+in_ok-groups w ↦ subst HaveRows (sym (c.deref-2.ensures.value ∙ ap (λ (v : Vec (Vec ℕ)). v.items) w.groups-is)) (λ b d within. (w.in_ok-groups.ensures.each b d within).size)
-    ]
+  | then-len-lt-FEWEST_BLOCKS w ↦ subst HaveRows (sym (c.deref-2.ensures.value ∙ ap (λ (v : Vec (Vec ℕ)). v.items) w.groups-is ∙ w.new-groups.ensures.items)) (λ b d within. absurd (omega arith))
+  | else-len-lt-FEWEST_BLOCKS+in_ok-groups w ↦ subst HaveRows (sym (c.deref-2.ensures.value ∙ ap (λ (v : Vec (Vec ℕ)). v.items) w.groups-is)) (λ b d within. (w.in_ok-groups.ensures.each b d within).size)
+]
 
 pub returns : goal.returns
 returns c = refl

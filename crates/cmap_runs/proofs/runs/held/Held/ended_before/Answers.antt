@@ -16,24 +16,24 @@ run_at-requires g c = omega (arith, c.requires.within)
 
 pub returns-then-run_at-code : goal.returns-then-run_at-code
 returns-then-run_at-code g c = record {
-      within = omega arith;
-      before = λ k d from lt. ends_earlier c.args.self.now.runs c.args.begun c.args.code k d c.requires.order c.requires.within c.requires.begun lt;
-    }
+  within = omega arith;
+  before = λ k d from lt. ends_earlier c.args.self.now.runs c.args.begun c.args.code k d c.requires.order c.requires.within c.requires.begun lt;
+}
 
 pub returns-else-ended-begun : goal.returns-else-ended-begun
 returns-else-ended-begun g c = record {
-      within = omega arith;
-      before = elim c.else-ended-begun.branch [
-        | else-ended-begun-via-then-ended-begun+else-run_at-code w ↦ λ k d from lt.
-            let runs = c.args.self.now.runs in let last = c.args.begun - 1 in
-            elim (cases_lt k last) [
-              | inl earlier ↦ ends_earlier runs c.args.begun c.args.code k d c.requires.order c.requires.within c.requires.begun earlier
-              | inr from ↦
-                  let at : k ≡ last = omega arith in
-                  let is = ap (λ (run : Run). run.high) (get_or_from_slice_get runs last w.run_at.result d w.run_at.ensures) in
-                  let seen = ap (λ (run : Run). run.high) w.run_at-then-ended-begun.view_is in
-                  subst (λ i. (get_or runs i d).high < c.args.code) (sym at) (omega (arith, is, seen, w.if-run_at-code.false))
-            ]
-        | else-ended-begun-via-else-ended-begun w ↦ λ k d from lt. c.requires.ended k d from (omega (arith, w.if-ended-begun.false))
-      ];
-    }
+  within = omega arith;
+  before = elim c.else-ended-begun.branch [
+    | else-ended-begun-via-then-ended-begun+else-run_at-code w ↦ λ k d from lt.
+        let runs = c.args.self.now.runs in let last = c.args.begun - 1 in
+        elim (cases_lt k last) [
+          | inl earlier ↦ ends_earlier runs c.args.begun c.args.code k d c.requires.order c.requires.within c.requires.begun earlier
+          | inr from ↦
+              let at : k ≡ last = omega arith in
+              let is = ap (λ (run : Run). run.high) (get_or_from_slice_get runs last w.run_at.result d w.run_at.ensures) in
+              let seen = ap (λ (run : Run). run.high) w.run_at-then-ended-begun.view_is in
+              subst (λ i. (get_or runs i d).high < c.args.code) (sym at) (omega (arith, is, seen, w.if-run_at-code.false))
+        ]
+    | else-ended-begun-via-else-ended-begun w ↦ λ k d from lt. c.requires.ended k d from (omega (arith, w.if-ended-begun.false))
+  ];
+}
