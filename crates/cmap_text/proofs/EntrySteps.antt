@@ -14,10 +14,7 @@ use Rattle.cmap_values.specs.declared.fault.Reason.TheVariants.{BracketExpected,
 use Rattle.cmap_text.specs.TextFiles.{CidKind, Extent, Section, bf_char, bf_range, cids, closer, codespace_range, declares_cid}
 use Rattle.cmap_text.specs.TextReading.{adding, cids_after, Code, code_fault, code_in, code_or_closer, codespace, destination_in, entry_after, is_executable, list_in, next_code, next_destination, text_of}
 use Rattle.cmap_text.specs.TokenParsers.{followed_by, head_in, listed, or_wrong, Refused, run, token_in, wrong}
-use Rattle.cmap_text.proofs.TokenParsers.{err-ok, same_Ok}
-
-same_Err : {A E : Type 0} (d e : E) → ◌≡◌ {A = Result A E} (Err d) (Err e) → d ≡ e
-same_Err d e is = cc
+use Rattle.cmap_text.proofs.TokenParsers.{err-ok, same_Err, same_Ok}
 
 -- a token that is wrong is so whatever is made of a right one, and a right one is what it is read as
 wrong_as : {A B : Type 0} (f : A → B) (o : Option A) (reason : Reason) (t : Token) (next : Left) (e : Refused) → or_wrong reason o t next ≡ Err e → or_wrong reason (option_map f o) t next ≡ Err e

@@ -6,9 +6,7 @@ use Rattle.cmap_values.specs.declared.fault.Stop.{Stop}
 use Rattle.cmap_text.specs.Salvage.{stop_of}
 use Rattle.cmap_text.specs.TextReading.{Said, StopsAt}
 use Rattle.cmap_text.specs.TokenParsers.{Refused}
-
-same_Err : {A E : Type 0} (d e : E) → ◌≡◌ {A = Result A E} (Err d) (Err e) → d ≡ e
-same_Err d e is = cc
+use Rattle.cmap_text.proofs.TokenParsers.{same_Err}
 
 pub stop_is : (len : ℕ) (e : Refused) (stop : Stop) → StopsAt {A = Said × Left} len (Err e) stop → stop ≡ stop_of len e
 stop_is len e stop (d, same, offset, reason) = subst (λ x. stop ≡ stop_of len x) (sym (same_Err e d same)) (rw (← offset, ← reason) refl)

@@ -13,6 +13,9 @@ err-ok e x is = cc
 pub same_Ok : {A E : Type 0} (x y : A) → ◌≡◌ {A = Result A E} (Ok x) (Ok y) → x ≡ y
 same_Ok x y is = cc
 
+pub same_Err : {A E : Type 0} (d e : E) → ◌≡◌ {A = Result A E} (Err d) (Err e) → d ≡ e
+same_Err d e is = cc
+
 pub bound : {A B : Type 0} (more : A → Left → Found B) (found : Found A) (y : B × Left) → followed_by more found ≡ Ok y → (p : A × Left) × (found ≡ Ok p) × (more p.0 p.1 ≡ Ok y)
 bound more (Err e) y is = absurd (err-ok e y is)
 bound more (Ok p) y is = (p, refl, is)
