@@ -3,20 +3,21 @@ use Rattle.std.proofs.Common.{◌≡◌, ℕ, zero, suc, ◌+◌, ◌<◌, ◌�
 use Rattle.std.proofs.lemmas.Bool.{cases_lt}
 use Rattle.std.proofs.lemmas.List.{length-take-le}
 use Rattle.std.proofs.lemmas.List.Elements.{All-contains, All-contains_itself, All-weaker, Contains-append_cases, Contains-append_left, Contains-append_right}
-use Rattle.cmap_values.specs.CodeLengths.{IsCodeLength, length_of}
+use Rattle.cmap_values.specs.CodeLengths.{IsCodeLength}
 use Rattle.cmap_files.specs.DeclarationsSeen.{codespace_seen}
 use Rattle.cmap_files.specs.Files.{Codespace}
-use Rattle.cmap_values.specs.declared.code_length.CodeLength.{CodeLength}
-use Rattle.cmap_values.specs.declared.code_length.CodeLength.TheVariants.{One, Two, Three, Four}
 use Rattle.cmap_files.specs.declared.declarations.Codespace as declared
 use Rattle.cmap_values.specs.Only.{HoldsOfNone}
+use Rattle.cmap_codespaces.specs.CodesWithin.{HasFront, IsLeast}
+use Rattle.cmap_codespaces.proofs.SpacesFound.{AreBytes}
 use Rattle.cmap_layers.specs.Layers.{Layer}
 use Rattle.cmap_layers.specs.LayersSeen.{layer_seen, layers_seen}
-use Rattle.cmap_layers.specs.SpaceBits.{HasFront, IsLeast, IsShortestMatch}
+use Rattle.cmap_layers.specs.SpaceBits.{IsShortestMatch}
 use Rattle.cmap_layers.specs.StringCodes.{BeginsInside, Matches, IsBestMatch, Wants, ranges_of}
 use Rattle.cmap_layers.specs.declared.layers.Layer as made
 use Rattle.cmap_layers.proofs.CodesInside.{front_inside}
-use Rattle.cmap_layers.proofs.SpacesFound.{AreBytes, any_of_one}
+pub use Rattle.cmap_codespaces.proofs.BytesWithin.{length_fits}
+use Rattle.cmap_layers.proofs.SpacesFound.{any_of_one}
 
 -- ---- the ranges of all layers
 in_first : (P : Codespace → Type 0) (xs ys : List Codespace) → Any P xs → Any P (xs ++ ys)
@@ -39,12 +40,6 @@ layers_have (first ∷ rest) space found =
     ]
 
 -- ---- codes have one to four bytes
-pub length_fits : (len : CodeLength) → IsCodeLength (length_of len)
-length_fits One = (omega arith, omega arith)
-length_fits Two = (omega arith, omega arith)
-length_fits Three = (omega arith, omega arith)
-length_fits Four = (omega arith, omega arith)
-
 seen_length : (spaces : List declared.Codespace) (space : Codespace) → Contains (map codespace_seen spaces) space → IsCodeLength space.len
 seen_length [] space (k, within, is) = absurd (omega arith)
 seen_length (x ∷ xs) space (zero, within, is) = subst (λ s. IsCodeLength s.len) is (length_fits x.len)

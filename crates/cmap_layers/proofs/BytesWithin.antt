@@ -1,22 +1,11 @@
--- The bytes of a code, and what a search through bytes or through lists as clauses see them tells.
-use Rattle.std.proofs.Common.{◌≡◌, ℕ, ◌+◌, ◌*◌, ◌/◌, ◌%◌, ◌^◌, ◌<◌, Bool, true, false, zero, suc, List, [], ◌∷◌, length, map, refl, sym, ap, ◌∙◌, subst, bit_and, zero-add, arith}
+-- What a search through bytes or through lists as clauses see them tells.
+use Rattle.std.proofs.Common.{ℕ, ◌<◌, Bool, true, false, zero, suc, List, [], ◌∷◌, length, map, refl, sym, ◌∙◌, subst, zero-add, arith}
 use Rattle.std.specs.Prelude.{◌↔◌, Any, IsTrue, MatchBool}
 use Rattle.std.specs.List.{AllWithin, HoldsAt, range_with_len}
-use Rattle.std.proofs.Math.Nat.{pow-suc}
 use Rattle.std.proofs.lemmas.Bool.{false≢true}
 use Rattle.std.proofs.lemmas.List.FromFn.{length-range_with_len, get_or-range_with_len}
-use Rattle.std.proofs.lemmas.Nat.{and_mask, pow-add}
-use Rattle.cmap_layers.specs.Lookups.{byte_at}
-
-eight_bits : (after : ℕ) → 2 ^ (8 * after) ≡ 256 ^ after
-eight_bits zero = refl
-eight_bits (suc after) =
-    let more : 8 * suc after ≡ 8 * after + 8 = omega arith in
-    ap (λ bits. 2 ^ bits) more ∙ pow-add 2 (8 * after) 8 ∙ ap (λ power. power * 256) (eight_bits after) ∙ sym (pow-suc 256 after)
-
--- a shift and a mask take one byte
-pub byte_at-shifted : (n after : ℕ) → bit_and (n / 2 ^ (8 * after)) 255 ≡ byte_at n after
-byte_at-shifted n after = and_mask (n / 2 ^ (8 * after)) 8 ∙ ap (λ power. n / power % 256) (eight_bits after)
+-- the bytes of a code
+pub use Rattle.cmap_codespaces.proofs.BytesWithin.{byte_at-shifted}
 
 -- ---- an element of a list that clauses see by f
 some_seen : {A B : Type 0} (f : A → B) (P : B → Type 0) (xs : List A) (k : ℕ) → k < length xs → HoldsAt (λ x. P (f x)) xs k → Any P (map f xs)

@@ -6,13 +6,13 @@ use Rattle.std.proofs.lemmas.List.{length-take-le}
 use Rattle.cmap_values.specs.BigEndian.{big_endian}
 use Rattle.cmap_files.specs.DeclarationsSeen.{codespace_seen}
 use Rattle.cmap_files.specs.Files.{Codespace}
+use Rattle.cmap_codespaces.specs.CodesWithin.{Begins, HasFront, IsInsideRanges, IsLeast, IsWithin, byte_at, lesser}
+use Rattle.cmap_codespaces.proofs.SpacesFound.{AreBytes, any_at, at_any, least_of_both, least_same, taken_bytes}
 use Rattle.cmap_layers.specs.Layers as layers
 use Rattle.cmap_layers.specs.LayersSeen.{layer_seen, layers_seen}
-use Rattle.cmap_layers.specs.Lookups.{IsWithin, byte_at}
-use Rattle.cmap_layers.specs.SpaceBits.{Begins, HasFront, IsInsideRanges, IsLeast, lesser}
 use Rattle.cmap_layers.specs.StringCodes.{BeginsInside, front}
 use Rattle.cmap_layers.specs.declared.layers.Layer.{Layer}
-use Rattle.cmap_layers.proofs.SpacesFound.{AreBytes, any_at, at_any, any_weaker, least_of_both, least_same, taken_bytes}
+use Rattle.cmap_layers.proofs.SpacesFound.{any_weaker}
 
 -- ---- the bytes of the number that bytes write
 number_byte : (bytes : List ℕ) (k : ℕ) → AreBytes bytes → length bytes ≤ 4 → k < length bytes → byte_at (big_endian bytes) k ≡ slice_index bytes (length bytes - suc k)

@@ -1,8 +1,10 @@
 -- What a code stands for: the declarations scanned backward, layer by layer.
-use Rattle.std.specs.Prelude.{◌≡◌, ℕ, ◌+◌, ◌-◌, ◌/◌, ◌%◌, ◌^◌, ◌<◌, ◌≤◌, ◌&&◌, nat_le, nat_lt, List, [], ◌∷◌, Any, Option, Some, None, option_and_then, if◌then◌else◌}
+use Rattle.std.specs.Prelude.{◌≡◌, ℕ, ◌+◌, ◌-◌, ◌^◌, ◌<◌, ◌≤◌, ◌&&◌, nat_le, nat_lt, List, [], ◌∷◌, Any, Option, Some, None, option_and_then, if◌then◌else◌}
 use Rattle.cmap_tokens.specs.Texts.{text_at, only_character}
 use Rattle.cmap_runs.specs.Ranges.{Span, last_of}
-use Rattle.cmap_files.specs.Files.{CidEntry, BfEntry, Codespace, of_length}
+use Rattle.cmap_files.specs.Files.{CidEntry, BfEntry, of_length}
+-- a code in a range, byte by byte
+pub use Rattle.cmap_codespaces.specs.CodesWithin.{IsWithin, byte_at}
 use Rattle.cmap_layers.specs.Layers.{Layer}
 
 abbrev pub cid_span : CidEntry → Span
@@ -50,14 +52,6 @@ decided_text code None below = below
 abbrev pub bf_of : List Layer → ℕ → Option (List ℕ)
 bf_of [] code = None
 bf_of (layer ∷ layers) code = decided_text code (last_bf layer.lists.bfs code) (bf_of layers code)
-
--- the byte of a number that stands k bytes before its last
-abbrev pub byte_at : ℕ → ℕ → ℕ
-byte_at n k = n / 256 ^ k % 256
-
--- each of the code's bytes lies between those of low and high
-abbrev pub IsWithin : Codespace → ℕ → ℕ → Type 0
-IsWithin space code len = (space.len ≡ len) × ((k : ℕ) → k < len → (byte_at space.low k ≤ byte_at code k) × (byte_at code k ≤ byte_at space.high k))
 
 -- a codespace range of some layer contains the code of len bytes
 abbrev pub InCodespace : List Layer → ℕ → ℕ → Type 0

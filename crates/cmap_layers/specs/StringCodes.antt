@@ -5,8 +5,9 @@ use Rattle.std.specs.List.{flat_map}
 use Rattle.cmap_values.specs.BigEndian.{big_endian}
 use Rattle.cmap_files.specs.Files.{Codespace}
 use Rattle.cmap_values.specs.Only.{HoldsOfNone}
+use Rattle.cmap_codespaces.specs.CodesWithin.{byte_at}
 use Rattle.cmap_layers.specs.Layers.{Layer}
-use Rattle.cmap_layers.specs.Lookups.{InCodespace, byte_at}
+use Rattle.cmap_layers.specs.Lookups.{InCodespace}
 use Rattle.cmap_layers.specs.declared.string_codes.StringCode.{StringCode}
 
 -- the number that the first n bytes of a string write, the high one first

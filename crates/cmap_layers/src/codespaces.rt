@@ -1,25 +1,17 @@
 //! Whether a code lies in a codespace range: byte by byte, and not as a number.
 //! ISO 32000-1, 9.7.6.2.
 
-ghost use Rattle.std.specs.Prelude.{◌≡◌, ◌↔◌, ◌<◌, ◌≤◌, ◌^◌, Any, IsTrue, length};
+ghost use Rattle.std.specs.Prelude.{◌↔◌, ◌<◌, ◌≤◌, ◌^◌, Any, IsTrue, length};
 ghost use Rattle.cmap_values.specs.CodeLengths.{IsCodeLength, length_of};
+ghost use Rattle.cmap_codespaces.specs.CodesWithin.{HasFront, IsLeast};
+ghost use Rattle.cmap_codespaces.specs.SpaceBits.{AreRows, InRows};
 ghost use Rattle.cmap_layers.specs.LayersSeen.{layers_seen};
-ghost use Rattle.cmap_layers.specs.Lookups.{InCodespace, byte_at};
-ghost use Rattle.cmap_layers.specs.SpaceBits.{AreRows, HasFront, InRows, IsLeast};
+ghost use Rattle.cmap_layers.specs.Lookups.{InCodespace};
 ghost use Rattle.cmap_layers.specs.StringCodes.{BeginsInside};
 
-mod block;
-mod front;
-mod group;
-mod query;
-mod search;
-mod spaces;
-
 use crate::layers::Layer;
+use cmap_codespaces::{Query, lesser};
 use cmap_values::code_length::CodeLength;
-use front::lesser;
-use query::Query;
-pub(crate) use spaces::Spaces;
 
 /// Whether a codespace range of some layer contains a code of `byte_len` bytes. None does where the
 /// code doesn't fit in these, or `byte_len` is outside 1 to 4.
@@ -82,12 +74,4 @@ fn fits_in(code: u32, len: CodeLength) -> bool
     ensures { IsTrue result ↔ code < 256 ^ length_of len }
 {
     u64::from(code) >> (8 * len.count()) == 0
-}
-
-/// The byte of a number that stands `after` bytes before its last.
-pub(crate) fn byte_at(number: u32, after: u8) -> u32
-    requires { after < 4 }
-    ensures { result ≡ byte_at number after }
-{
-    (number >> (8 * after)) & 0xFF
 }

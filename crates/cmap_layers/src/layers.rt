@@ -7,7 +7,7 @@ ghost use Rattle.cmap_files.specs.Files.{of_length};
 ghost use Rattle.cmap_layers.specs.Counts.{counts_of, lengths_of};
 ghost use Rattle.cmap_layers.specs.LayersSeen.{by_length_seen, layer_seen, lists_held, metadata_seen};
 
-use crate::codespaces::Spaces;
+use cmap_codespaces::Spaces;
 use cmap_files::declarations::{BfRange, ByLength, CidRange, Codespace, Lists};
 use cmap_runs::runs::{Looks, Table};
 use cmap_values::code_length::CodeLength;

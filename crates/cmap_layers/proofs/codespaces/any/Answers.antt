@@ -2,12 +2,13 @@ use Rattle.std.proofs.Common.{refl, rules, arith}
 use borrow.Author.Tests.{tests}
 use Rattle.std.specs.Prelude.{Any}
 use Rattle.std.proofs.lemmas.Iterator.{YieldsList-from_slice, cases_from_any}
+use Rattle.cmap_codespaces.specs.SpaceBits.{InRows}
+use Rattle.cmap_codespaces.proofs.SpacesFound.{only_item}
 use Rattle.cmap_layers.specs.Layers as layers
 use Rattle.cmap_layers.specs.LayersSeen.{layer_seen}
-use Rattle.cmap_layers.specs.SpaceBits.{InRows}
 use Rattle.cmap_layers.specs.declared.layers.Layer.{Layer}
 use Rattle.cmap_layers.proofs.BytesWithin.{any_seen}
-use Rattle.cmap_layers.proofs.SpacesFound.{any_of_one, only_item}
+use Rattle.cmap_layers.proofs.SpacesFound.{any_of_one}
 use Rattle.cmap_layers.proofs.codespaces.any.Goals as goal
 
 pub returns-in-len1 : goal.returns-in-len1

@@ -1,5 +1,6 @@
+use Rattle.cmap_codespaces.specs.CodesWithin.{HasFront}
+use Rattle.cmap_codespaces.specs.SpaceBits.{InRows}
 use Rattle.cmap_layers.specs.LayersSeen.{layers_seen}
-use Rattle.cmap_layers.specs.SpaceBits.{HasFront, InRows}
 use Rattle.cmap_layers.proofs.SpacesFound.{any_weaker}
 use Rattle.cmap_layers.proofs.codespaces.any_has_front.Goals as goal
 

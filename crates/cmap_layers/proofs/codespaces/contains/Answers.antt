@@ -1,8 +1,8 @@
 use Rattle.cmap_values.specs.CodeLengths.{length_of}
 use Rattle.cmap_files.specs.Files.{Codespace}
+use Rattle.cmap_codespaces.specs.CodesWithin.{IsWithin}
+use Rattle.cmap_codespaces.specs.SpaceBits.{InRows}
 use Rattle.cmap_layers.specs.LayersSeen.{layers_seen}
-use Rattle.cmap_layers.specs.Lookups.{IsWithin}
-use Rattle.cmap_layers.specs.SpaceBits.{InRows}
 use Rattle.cmap_layers.proofs.SpacesFound.{any_weaker}
 use Rattle.cmap_layers.proofs.codespaces.contains.Goals as goal
 

@@ -1,6 +1,6 @@
 use Rattle.std.proofs.Common.{◌≡◌, ◌+◌, length, sym, subst, refl, arith}
 use Rattle.std.proofs.lemmas.Option.{slice_get_read}
-use Rattle.cmap_layers.specs.SpaceBits.{IsLeast}
+use Rattle.cmap_codespaces.specs.CodesWithin.{IsLeast}
 use Rattle.cmap_layers.proofs.CodesInside.{IsInsideFirst, least_inside, least_layer}
 use Rattle.cmap_layers.proofs.codespaces.shortest_of_all.Goals as goal
 

@@ -1,4 +1,4 @@
-use Rattle.cmap_layers.specs.SpaceBits.{IsLeast}
+use Rattle.cmap_codespaces.specs.CodesWithin.{IsLeast}
 use Rattle.cmap_layers.proofs.CodesInside.{IsInsideFirst}
 use Rattle.cmap_layers.proofs.codespaces.shortest_of_all.Given as goal
 

@@ -1,8 +1,8 @@
 use Rattle.std.proofs.Common.{sym, ◌∙◌, subst, inl, inr, arith}
 use Rattle.std.proofs.lemmas.Bool.{cases_lt, false≢true}
+use Rattle.cmap_codespaces.proofs.SpacesFound.{only_item}
 use Rattle.cmap_layers.specs.LayersSeen.{layers_seen}
 use Rattle.cmap_layers.proofs.BestMatch.{HaveFront, none_found, shortest_found, shortest_of_layer, too_short}
-use Rattle.cmap_layers.proofs.SpacesFound.{only_item}
 use Rattle.cmap_layers.proofs.string_codes.shortest_with_front.Goals as goal
 
 pub loop-byte_len-init : goal.loop-byte_len-init

@@ -1,0 +1,3 @@
+pub mod BytesWithin
+pub mod RowBits
+pub mod SpacesFound

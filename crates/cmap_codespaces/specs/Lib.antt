@@ -1,0 +1,2 @@
+pub mod CodesWithin
+pub mod SpaceBits

@@ -1,0 +1,174 @@
+//! The codespace ranges of a layer, with blocks of bits by which they are found.
+
+ghost use Rattle.std.specs.Prelude.{◌≡◌, ◌↔◌, ◌≤◌, All, Any, IfOk, IsTrue, length, map};
+ghost use Rattle.cmap_values.specs.CodeLengths.{IsCodeLength, length_of};
+ghost use Rattle.cmap_files.specs.DeclarationsSeen.{codespace_seen};
+ghost use Rattle.cmap_codespaces.specs.CodesWithin.{HasFront, IsInsideRanges, IsLeast};
+ghost use Rattle.cmap_codespaces.specs.SpaceBits.{AreBlocks, AreRows, InRows};
+
+use crate::block::{BLOCK_LEN, rows_of};
+use crate::front::{
+    fewest_with_front, shortest_among_blocks, shortest_among_groups, shortest_in_block,
+};
+use crate::group::groups_of;
+use crate::query::Query;
+use crate::search::{any_of_blocks, any_of_tops};
+use cmap_files::declarations::Codespace;
+use std::alloc::{AllocError, Global};
+use std::fmt;
+use std::marker::Model;
+
+/// With fewer blocks, each is looked at, and there are no groups.
+const FEWEST_BLOCKS: usize = 2;
+
+/// Codespace ranges in the order of their file, with the rows of bits of each block of 64. Where there are many
+/// blocks, with those of each group of 64 blocks, and of each top group of 64 groups.
+#[derive(Drop)]
+pub struct Spaces {
+    list: Vec<Codespace>,
+    /// No range has codes of fewer bytes.
+    fewest: u8,
+    blocks: Vec<Vec<u64>>,
+    groups: Vec<Vec<u64>>,
+    tops: Vec<Vec<u64>>,
+}
+
+impl Model for Spaces {
+    ghost use Rattle.std.specs.Prelude.{List};
+    ghost use Rattle.cmap_files.specs.declared.declarations.Codespace.{Codespace};
+    ghost use Rattle.cmap_codespaces.specs.SpaceBits.{AreFoundBy};
+
+    ghost Value = { List Codespace };
+
+    ghost view = { λ spaces. spaces.list.items };
+
+    ghost invariant = { λ spaces.
+        AreFoundBy spaces.list.items spaces.fewest spaces.blocks.items spaces.groups.items spaces.tops.items };
+}
+
+impl fmt::Debug for Spaces {
+    fn fmt<W: fmt::Write>(&self, f: &mut fmt::Formatter<W>) -> fmt::Result {
+        fmt::Debug::fmt(&self.list, f)
+    }
+}
+
+impl Spaces {
+    /// The ranges of a list.
+    ///
+    /// It fails only if memory runs out.
+    pub fn build(alloc: Global, list: Vec<Codespace>) -> Result<Spaces, AllocError>
+        ensures { IfOk result (λ spaces. spaces ≡ list.items) }
+    {
+        let blocks = blocks_of(alloc, &list)?;
+        let groups = if blocks.len() < FEWEST_BLOCKS {
+            Vec::new(alloc)
+        } else {
+            groups_of(alloc, &blocks)?
+        };
+        let tops = groups_of(alloc, &groups)?;
+        let fewest = fewest_of(&list);
+        Ok(Spaces {
+            list,
+            fewest,
+            blocks,
+            groups,
+            tops,
+        })
+    }
+
+    /// The ranges, in the order of the file.
+    pub fn as_slice(&self) -> &[Codespace]
+        ensures { result.now ≡ self.now }
+    {
+        &self.list
+    }
+
+    /// How many bytes the codes have at least of the ranges that may begin with these bytes.
+    pub fn fewest_with_front(&self, front: &[u8]) -> Option<u8>
+        requires { length front.now ≤ 4 }
+        ensures { IsLeast (λ n. IsCodeLength n
+            × Any (HasFront n front.now) (map codespace_seen self.now)) result }
+    {
+        if let [only] = self.blocks.as_slice() {
+            return fewest_with_front(only, front);
+        }
+        for byte_len in front.len().max(usize::from(self.fewest)) as u8..5 {
+            if self.any_of_all(&Query::of_front(byte_len, front)) {
+                return Some(byte_len);
+            }
+        }
+        None
+    }
+
+    /// Whether one of the ranges is asked for.
+    pub fn any(&self, query: &Query) -> bool
+        requires { AreRows query.now }
+        ensures { IsTrue result ↔ Any (InRows query.now) (map codespace_seen self.now) }
+    {
+        match self.blocks.as_slice() {
+            [only] => query.finds(only),
+            _ => self.any_of_all(query),
+        }
+    }
+
+    /// The answer of `any`, of any number of blocks.
+    #[inline(never)]
+    fn any_of_all(&self, query: &Query) -> bool
+        requires { AreRows query.now }
+        ensures { IsTrue result ↔ Any (InRows query.now) (map codespace_seen self.now) }
+    {
+        if self.groups.is_empty() {
+            any_of_blocks(&self.blocks, query)
+        } else {
+            any_of_tops(&self.blocks, &self.groups, &self.tops, query)
+        }
+    }
+
+    /// How many bytes the shortest code has that a text begins with, of those that one of the ranges
+    /// contains.
+    #[inline(always)]
+    pub fn shortest(&self, text: &[u8]) -> Option<u8>
+        ensures { IsLeast (IsInsideRanges text.now (map codespace_seen self.now)) result }
+    {
+        match self.blocks.as_slice() {
+            [only] => shortest_in_block(only, text),
+            _ => self.shortest_of_all(text),
+        }
+    }
+
+    /// The answer of `shortest`, of any number of blocks.
+    #[inline(never)]
+    fn shortest_of_all(&self, text: &[u8]) -> Option<u8>
+        ensures { IsLeast (IsInsideRanges text.now (map codespace_seen self.now)) result }
+    {
+        if self.groups.is_empty() {
+            shortest_among_blocks(&self.blocks, text)
+        } else {
+            shortest_among_groups(&self.blocks, &self.groups, &self.tops, self.fewest, text)
+        }
+    }
+}
+
+/// How many bytes the codes of each range have at least.
+fn fewest_of(spaces: &[Codespace]) -> u8
+    ensures within { IsCodeLength result }
+    ensures least { All (λ space. result ≤ length_of space.len) spaces.now }
+{
+    let mut fewest = 4;
+    for space in spaces {
+        fewest = fewest.min(space.len.count());
+    }
+    fewest
+}
+
+/// The rows of each block of 64 ranges.
+fn blocks_of(alloc: Global, spaces: &[Codespace]) -> Result<Vec<Vec<u64>>, AllocError>
+    ensures { IfOk result (λ blocks. AreBlocks spaces.now blocks.items) }
+{
+    let count = spaces.len().div_ceil(BLOCK_LEN);
+    let mut blocks = Vec::with_capacity(alloc, count)?;
+    for index in 0..count {
+        blocks.push(rows_of(alloc, spaces, index * BLOCK_LEN)?)?;
+    }
+    Ok(blocks)
+}

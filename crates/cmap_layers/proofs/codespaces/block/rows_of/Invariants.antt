@@ -1,5 +1,0 @@
-use Rattle.cmap_layers.specs.SpaceBits.{HaveBits}
-use Rattle.cmap_layers.proofs.codespaces.block.rows_of.Given as goal
-
-abbrev pub invariant-loop-index : goal.invariant-loop-index
-invariant-loop-index l = HaveBits l.spaces l.first l.index l.rows.items

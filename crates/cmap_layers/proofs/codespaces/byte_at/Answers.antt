@@ -1,5 +1,0 @@
-use Rattle.cmap_layers.proofs.BytesWithin.{byte_at-shifted}
-use Rattle.cmap_layers.proofs.codespaces.byte_at.Goals as goal
-
-pub returns : goal.returns
-returns c = byte_at-shifted c.args.number c.args.after

@@ -1,6 +1,0 @@
-use Rattle.std.proofs.Common.{ℕ, ◌<◌, ◌≤◌}
-use Rattle.cmap_layers.specs.SpaceBits.{IsFound, query_of}
-use Rattle.cmap_layers.proofs.codespaces.front.fewest_with_front.Given as goal
-
-abbrev pub invariant-loop-byte_len : goal.invariant-loop-byte_len
-invariant-loop-byte_len l = (n : ℕ) → 1 ≤ n → n < l.byte_len → IsFound l.rows (query_of n l.front) → ⊥

@@ -1,5 +1,0 @@
-use Rattle.cmap_layers.specs.SpaceBits.{IsInsideWithin, IsLeast}
-use Rattle.cmap_layers.proofs.codespaces.front.shortest_among_blocks.Given as goal
-
-abbrev pub invariant-loop-rows : goal.invariant-loop-rows
-invariant-loop-rows l = IsLeast (IsInsideWithin l.text l.blocks 0 l.rows-index) l.shortest

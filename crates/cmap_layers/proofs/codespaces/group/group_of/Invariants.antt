@@ -1,5 +1,0 @@
-use Rattle.cmap_layers.specs.SpaceBits.{HasGroup}
-use Rattle.cmap_layers.proofs.codespaces.group.group_of.Given as goal
-
-abbrev pub invariant-loop-index : goal.invariant-loop-index
-invariant-loop-index l = HasGroup l.blocks l.first l.index l.rows.items

@@ -1,5 +1,0 @@
-use Rattle.cmap_layers.proofs.RowBits.{all_set}
-use Rattle.cmap_layers.proofs.codespaces.query.Query.among.Goals as goal
-
-pub returns : goal.returns
-returns c = λ i. all_set _ _ _ _ _ i
