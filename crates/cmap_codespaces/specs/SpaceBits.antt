@@ -1,4 +1,4 @@
--- Private aid: codespace ranges by bits. A block has bits for 64 ranges in a row: in each of its rows a bit for each range that is in the row.
+-- Codespace ranges by bits. A block has bits for 64 ranges in a row: in each of its rows a bit for each range that is in the row.
 use Rattle.std.specs.Prelude.{◌≡◌, ◌≢◌, ◌↔◌, All, ℕ, ◌+◌, ◌*◌, ◌/◌, ◌%◌, ◌<◌, ◌≤◌, List, length, take, get_or, slice_get, slice_index, nat_lt, if◌then◌else◌, IsSomeAnd}
 use Rattle.std.specs.Global.{Vec}
 use Rattle.std.specs.Int.{bit_at}
