@@ -1,6 +1,6 @@
 -- What entries come to, by what their tokens are found to be.
 use Rattle.std.proofs.Common.{◌≡◌, ℕ, suc, ◌+◌, ◌-◌, true, false, refl, sym, ap, ◌∙◌, ◌∷◌, []}
-use Rattle.std.specs.Prelude.{Bool, List, codes, not, Option, Some, None, Result, Ok, Err, option_and_then, option_map, is_some, ◌==◌, if◌then◌else◌}
+use Rattle.std.specs.Prelude.{Bool, List, codes, not, Option, Some, None, Ok, Err, option_and_then, option_map, is_some, ◌==◌, if◌then◌else◌}
 use denote.Enum.Bare.{sameb}
 use Rattle.cmap_tokens.specs.Tokens.{Token}
 use Rattle.cmap_tokens.specs.TokensLeft.{Left}

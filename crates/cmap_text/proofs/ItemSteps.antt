@@ -1,7 +1,6 @@
 -- What items come to, by what their tokens are found to be.
 use Rattle.std.proofs.Common.{◌≡◌, ℕ, true, false, refl, sym, ap, ◌∙◌, List, [], ◌∷◌, ◌++◌}
 use Rattle.std.proofs.lemmas.List.{map-append}
-use Rattle.std.proofs.lemmas.Option.{none-some}
 use Rattle.std.specs.Borrow.{Bor}
 use Rattle.std.specs.Option.{option_copied}
 use Rattle.std.specs.Prelude.{Option, Some, None, Result, Ok, Err, IfErr, OnOk, option_map}
@@ -47,10 +46,10 @@ module _ (old : Said) (t : Token) (left : Left) (head : Option (List ℕ)) (head
 -- what a use adds, or why it is refused
 pub use_ends : (old : Said) (first : declared.Token) (left : Left) (head : Option (List ℕ)) (operand : Option (Bor (List ℕ))) (before after : List (Bor (List ℕ))) (r : Result (Unit {0}) (Fault WrongToken)) → head ≡ literal_head (other (token_seen first)) → None ≡ opened_by (token_seen first) → true ≡ is_executable use_word (token_seen first)
     → old.operand ≡ option_copied operand → old.uses ≡ names_seen before
-    → OnOk r ((name : Bor (List ℕ)) × (operand ≡ Some name) × (after ≡ before ++ name ∷ [])) → IfErr r (RefusesWith (λ (wrong : WrongToken). (option_copied operand ≡ None) × (wrong ≡ record { token = Some first; reason = UseWithoutName; in_list = false })))
+    → OnOk r ((name : Bor (List ℕ)) × (operand ≡ Some name) × (after ≡ before ++ name ∷ [])) → IfErr r (RefusesWith (λ (wrong : WrongToken). (option_copied operand ≡ None) × (wrong ≡ record { is_token = true; reason = UseWithoutName; in_list = false })))
     → Outcome (λ done. item_said old (token_seen first) left ≡ Ok (record { values = old.values; lists = old.lists; uses = names_seen after; operand = head }, left)) (RefusesAt left (item_said old (token_seen first) left)) r
 use_ends old first left head operand before after (Ok added_one) head_is no_section is operand_is uses_are (name, same, adds) refused =
     (use_said old (token_seen first) left head head_is no_section name.now (names_seen after) is (operand_is ∙ ap option_copied same) (ap names_seen adds ∙ map-append (λ (n : Bor (List ℕ)). n.now) before (name ∷ []) ∙ ap (λ u. u ++ name.now ∷ []) (sym uses_are)), tt)
 use_ends old first left head operand before after (Err (fault.Refused wrong)) head_is no_section is operand_is uses_are added (none, wrong_is) =
-    (tt, (rw wrong_is (use_wrong old (token_seen first) left head head_is no_section is (operand_is ∙ none)), λ no_token. absurd (none-some first (sym no_token ∙ ap (λ w. w.token) wrong_is))))
+    (tt, rw wrong_is (Some (token_seen first), use_wrong old (token_seen first) left head head_is no_section is (operand_is ∙ none), refl))
 use_ends old first left head operand before after (Err fault.Memory) head_is no_section is operand_is uses_are added refused = (tt, tt)

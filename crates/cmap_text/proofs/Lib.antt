@@ -12,6 +12,7 @@ pub mod ValuesRead
 pub mod Local
 mod TextsAdded
 mod Moves
+mod LastRead
 mod PartsRead
 mod Faulted
 mod PartSteps

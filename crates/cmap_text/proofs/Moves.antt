@@ -1,4 +1,4 @@
--- How far readers of tokens come in a text.
+-- What holds wherever readers of tokens come, and how far they come in a text.
 use Rattle.std.proofs.Common.{◌≡◌, ℕ, zero, suc, ◌+◌, ◌<◌, ◌≤◌, Bool, true, false, refl, sym, ap, ◌∙◌, List, [], ◌∷◌, length, arith}
 use Rattle.std.proofs.lemmas.Option.{none-some}
 use Rattle.std.specs.Prelude.{Option, Some, None, Ok, Err}
@@ -6,12 +6,64 @@ use Rattle.cmap_values.specs.declared.fault.Reason.{Reason}
 use Rattle.cmap_tokens.specs.Tokens.{Token}
 use Rattle.cmap_tokens.specs.TokensLeft.{EndedToken, Left, tokens_of}
 use Rattle.cmap_tokens.proofs.Within.{after_token, at}
+use Rattle.cmap_text.specs.TokenPlaces.{Lies}
 use Rattle.cmap_text.specs.TokenParsers.{Found, Refused, after, done, followed_by, giving, chain, head, head_in, ItemParser, listed, listed_so, next_in, or_wrong, Parser, reads, repeat, round, run, run_item, takes_value, token_in, wanted}
 use Rattle.cmap_text.proofs.TokenParsers.{having, repeat_next, head-shorter, is_there}
 
--- it is what is left of the text from an offset on
-abbrev pub Lies : List ℕ → Left → Type 0
-Lies text left = (left.passed ≤ length text) × (tokens_of (at text left.passed) ≡ left)
+-- what holds wherever readers of tokens come, if it does after each token
+module _ (Here : Left → Type 0) (Stop : Option Token → Left → Type 0) where
+  abbrev pub Keeps : {A : Type 0} → Found A → Type 0
+  Keeps (Ok p) = Here p.1
+  Keeps (Err e) = Stop e.token e.left
+
+  -- a token that is read may be wrong
+  abbrev pub Takes : Found Token → Type 0
+  Takes (Ok (t, next)) = Here next × Stop (Some t) next
+  Takes (Err e) = Stop e.token e.left
+
+  then_keeps : {A B : Type 0} (more : A → Left → Found B) (found : Found A) → Keeps found → ((x : A) (next : Left) → found ≡ Ok (x, next) → Here next → Keeps (more x next)) → Keeps (followed_by more found)
+  then_keeps more (Err e) first second = first
+  then_keeps more (Ok p) first second = second p.0 p.1 refl first
+
+  listed_keeps : {A : Type 0} (found : Found A) → Keeps found → Keeps (listed_so found)
+  listed_keeps (Ok p) here = here
+  listed_keeps (Err e) stops = stops
+
+  or_keeps : {A : Type 0} (reason : Reason) (found : Option A) (t : Token) (left : Left) → Here left → Stop (Some t) left → Keeps (or_wrong reason found t left)
+  or_keeps reason None t left here stops = stops
+  or_keeps reason (Some x) t left here stops = here
+
+  module _ (takes : (left : Left) → Here left → Takes (token_in left)) where
+    head_keeps : {A : Type 0} (fault : Token → Reason) (read : Token → Option A) (left : Left) → Here left → Keeps (head_in fault read left)
+    head_keeps fault read left here = from (token_in left) (takes left here)
+      where
+        from : (found : Found Token) → Takes found → Keeps (followed_by (λ t. or_wrong (fault t) (read t) t) found)
+        from (Err e) stops = stops
+        from (Ok (t, next)) (at_next, stops) = or_keeps (fault t) (read t) t next at_next stops
+
+    module _ {S X : Type 0} (fault : Token → Reason) (begins : Token → Option (Option X)) (more : S → X → Parser S) (each : (now : S) (x : X) (left : Left) → Here left → Keeps (run (more now x) left)) where
+      rounds_keep : (n : ℕ) (now : S) (left : Left) → length left.tokens < n → Here left → Keeps (run (repeat fault begins more now) left)
+      rounds_keep zero now left long here = absurd (omega (arith, long))
+      rounds_keep (suc n) now left long here =
+          rw (repeat_next fault begins more now left) (
+          then_keeps (round (λ s. run (repeat fault begins more s)) (λ s x. run (more s x)) now) (head_in fault begins left) (head_keeps fault begins left here) (λ x next is at_next. from x next is at_next (rounds_keep n))
+          )
+        where
+          from : (x : Option X) (next : Left) → head_in fault begins left ≡ Ok (x, next) → Here next → ((new : S) (there : Left) → length there.tokens < n → Here there → Keeps (run (repeat fault begins more new) there))
+              → Keeps (round (λ s. run (repeat fault begins more s)) (λ s y. run (more s y)) now x next)
+          from None next is at_next rounds = at_next
+          from (Some x) next is at_next rounds =
+              then_keeps (λ s. run (repeat fault begins more s)) (run (more now x) next) (each now x next at_next) (
+              λ new there goes_on at_there. rounds new there (omega (arith, long, head-shorter fault begins left (Some x, next) is, (is_there (more now x) next (new, there) goes_on).2)) at_there
+              )
+
+    pub run_keeps : {A : Type 0} (r : Parser A) (left : Left) → Here left → Keeps (run r left)
+    run_keeps (done x) left here = here
+    run_keeps (head fault read) left here = head_keeps fault read left here
+    run_keeps (giving f parser) left here = then_keeps (λ x next. Ok (f x, next)) (run parser left) (run_keeps parser left here) (λ x next is at_next. at_next)
+    run_keeps (chain first more) left here = then_keeps (λ x. run (more x)) (run first left) (run_keeps first left here) (λ x next is at_next. run_keeps (more x) next at_next)
+    run_keeps (listed parser) left here = listed_keeps (run parser left) (run_keeps parser left here)
+    run_keeps (repeat fault begins more start) left here = rounds_keep fault begins more (λ now x. run_keeps (more now x)) (1 + length left.tokens) start left (omega arith) here
 
 module _ (text : List ℕ) where
   -- a wrong token ends after b, and where none comes that is at b or after it
@@ -22,9 +74,14 @@ module _ (text : List ℕ) where
   abbrev pub Stops : ℕ → Refused → Type 0
   Stops b e = Lies text e.left × StopsBy b e.left e.token
 
+  abbrev From : ℕ → Left → Type 0
+  From b left = Lies text left × (b ≤ left.passed)
+
+  abbrev StopsFrom : ℕ → Option Token → Left → Type 0
+  StopsFrom b t left = Lies text left × StopsBy b left t
+
   abbrev pub Moves : {A : Type 0} → ℕ → Found A → Type 0
-  Moves b (Ok p) = Lies text p.1 × (b ≤ p.1.passed)
-  Moves b (Err e) = Stops b e
+  Moves b = Keeps (From b) (StopsFrom b)
 
   -- the same, and what is found begins with a token
   abbrev pub MovesOn : {A : Type 0} → ℕ → Found A → Type 0
@@ -34,21 +91,6 @@ module _ (text : List ℕ) where
   later_by : (b c : ℕ) (left : Left) (t : Option Token) → b ≤ c → StopsBy c left t → StopsBy b left t
   later_by b c left (Some t) less past = omega (arith, past, less)
   later_by b c left None less (past, none) = (omega (arith, past, less), none)
-
-  later_stops : (b c : ℕ) (e : Refused) → b ≤ c → Stops c e → Stops b e
-  later_stops b c e less (lies, place) = (lies, later_by b c e.left e.token less place)
-
-  later_moves : {A : Type 0} (b c : ℕ) (found : Found A) → b ≤ c → Moves c found → Moves b found
-  later_moves b c (Ok p) less (lies, past) = (lies, omega (arith, past, less))
-  later_moves b c (Err e) less stops = later_stops b c e less stops
-
-  pub on_moves : {A : Type 0} (b : ℕ) (found : Found A) → MovesOn b found → Moves b found
-  on_moves b (Ok p) (lies, past) = (lies, omega (arith, past))
-  on_moves b (Err e) stops = stops
-
-  then_moves : {A B : Type 0} (more : A → Left → Found B) (b : ℕ) (found : Found A) → Moves b found → ((x : A) (next : Left) → found ≡ Ok (x, next) → Lies text next → b ≤ next.passed → Moves b (more x next)) → Moves b (followed_by more found)
-  then_moves more b (Err e) first second = first
-  then_moves more b (Ok p) first second = second p.0 p.1 refl first.0 first.1
 
   pub wrong_moves : {A : Type 0} (reason : Reason) (found : Option A) (t : Token) (b : ℕ) (left : Left) → Lies text left → b < left.passed → MovesOn b (or_wrong reason found t left)
   wrong_moves reason None t b left lies past = (lies, past)
@@ -71,34 +113,16 @@ module _ (text : List ℕ) where
       from (Err e) stops = stops
       from (Ok (t, next)) (at_next, past) = wrong_moves (fault t) (read t) t left.passed next at_next past
 
-  module _ {S X : Type 0} (fault : Token → Reason) (begins : Token → Option (Option X)) (more : S → X → Parser S) (each : (now : S) (x : X) (left : Left) (b : ℕ) → Lies text left → b ≤ left.passed → Moves b (run (more now x) left)) where
-    rounds_move : (n : ℕ) (now : S) (left : Left) (b : ℕ) → length left.tokens < n → Lies text left → b ≤ left.passed → Moves b (run (repeat fault begins more now) left)
-    rounds_move zero now left b long lies past = absurd (omega (arith, long))
-    rounds_move (suc n) now left b long lies past =
-        rw (repeat_next fault begins more now left) (
-        then_moves (round (λ s. run (repeat fault begins more s)) (λ s x. run (more s x)) now) b (head_in fault begins left) (later_moves b left.passed (head_in fault begins left) past (on_moves left.passed (head_in fault begins left) (head_moves fault begins left lies))) (λ x next is at_next on. from x next is at_next on (rounds_move n))
-        )
-      where
-        from : (x : Option X) (next : Left) → head_in fault begins left ≡ Ok (x, next) → Lies text next → b ≤ next.passed → ((new : S) (here : Left) (c : ℕ) → length here.tokens < n → Lies text here → c ≤ here.passed → Moves c (run (repeat fault begins more new) here))
-            → Moves b (round (λ s. run (repeat fault begins more s)) (λ s y. run (more s y)) now x next)
-        from None next is at_next on rounds = (at_next, on)
-        from (Some x) next is at_next on rounds =
-            then_moves (λ s. run (repeat fault begins more s)) b (run (more now x) next) (each now x next b at_next on) (
-            λ new here goes_on at_here later. rounds new here b (omega (arith, long, head-shorter fault begins left (Some x, next) is, (is_there (more now x) next (new, here) goes_on).2)) at_here later
-            )
-
-  listed_moves : {A : Type 0} (b : ℕ) (found : Found A) → Moves b found → Moves b (listed_so found)
-  listed_moves b (Ok p) moves = moves
-  listed_moves b (Err e) stops = stops
+  takes_token : (b : ℕ) (left : Left) → From b left → Takes (From b) (StopsFrom b) (token_in left)
+  takes_token b left (lies, past) = from (token_in left) (token_moves left lies)
+    where
+      from : (found : Found Token) → MovesOn left.passed found → Takes (From b) (StopsFrom b) found
+      from (Err e) (at_e, place) = (at_e, later_by b left.passed e.left e.token past place)
+      from (Ok (t, next)) (at_next, further) = ((at_next, omega (arith, past, further)), (at_next, omega (arith, past, further)))
 
   -- each parser reads on from where it begins
   pub run_moves : {A : Type 0} (r : Parser A) (left : Left) (b : ℕ) → Lies text left → b ≤ left.passed → Moves b (run r left)
-  run_moves (done x) left b lies past = (lies, past)
-  run_moves (head fault read) left b lies past = later_moves b left.passed (head_in fault read left) past (on_moves left.passed (head_in fault read left) (head_moves fault read left lies))
-  run_moves (giving f parser) left b lies past = then_moves (λ x next. Ok (f x, next)) b (run parser left) (run_moves parser left b lies past) (λ x next is at_next on. (at_next, on))
-  run_moves (chain first more) left b lies past = then_moves (λ x. run (more x)) b (run first left) (run_moves first left b lies past) (λ x next is at_next on. run_moves (more x) next b at_next on)
-  run_moves (listed parser) left b lies past = listed_moves b (run parser left) (run_moves parser left b lies past)
-  run_moves (repeat fault begins more start) left b lies past = rounds_move fault begins more (λ now x. run_moves (more now x)) (1 + length left.tokens) start left b (omega arith) lies past
+  run_moves r left b lies past = run_keeps (From b) (StopsFrom b) (takes_token b) r left (lies, past)
 
   -- ---- items
   -- it is refused at b or after it

@@ -61,5 +61,5 @@ module _ (text : List ℕ) (part : Part) where
 -- ---- an item
 pub item_read : (said new : Said) (old mid here : Left) (t : Token) (r : Result Next (Fault WrongToken)) → next_in old ≡ Ok (Some t, mid) → ReadsPart (rest_of t) said new mid here r → ReadsPart item said new old here r
 item_read said new old mid here t (Ok then) is (steps, refused) = (λ text faults. ap (after_item text (part_of item said old faults)) is ∙ steps text faults, tt)
-item_read said new old mid here t (Err (fault.Refused wrong)) is (found, (steps, none)) = (tt, (λ text faults. ap (after_item text (part_of item said old faults)) is ∙ steps text faults, none))
+item_read said new old mid here t (Err (fault.Refused wrong)) is (found, (token, steps, told, last)) = (tt, (token, λ text faults. ap (after_item text (part_of item said old faults)) is ∙ steps text faults, told, tt))
 item_read said new old mid here t (Err fault.Memory) is read = (tt, tt)

@@ -13,7 +13,7 @@ use Rattle.cmap_text.specs.TextReading.{adding, Code, code_fault, code_or_closer
 use Rattle.cmap_text.specs.TokenParsers.{Found, ItemParser, followed_by, head, head_in, next_in, or_wrong, reads, run, run_item, takes_value, token_in, wanted}
 use Rattle.cmap_text.specs.Salvage.{AreDeclared, IsDeclaredIn, Next, item, rest_of, entry, list_of, nothing, Part, after_entry, after_item, after_list, after_rest, is_word, read_so, step_from}
 use Rattle.cmap_text.proofs.EntriesRead.{entry_there, starts}
-use Rattle.cmap_text.proofs.Moves.{Lies}
+use Rattle.cmap_text.specs.TokenPlaces.{Lies}
 use Rattle.cmap_text.proofs.TokenParsers.{is_there, same_Ok, words, bound, wrong_there}
 use Rattle.cmap_text.proofs.TokensRead.{code_found, some_mapped}
 

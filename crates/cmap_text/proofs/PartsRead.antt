@@ -16,7 +16,8 @@ use Rattle.cmap_text.specs.TextFiles.{Section}
 use Rattle.cmap_text.specs.TextReading.{Code, Said, code_fault, code_or_closer, entry_after, is_executable, item_after, item_said, opened_by, with_other}
 use Rattle.cmap_text.specs.TokenParsers.{Found, Refused, head_in, next_in, or_wrong, run, token_in}
 use Rattle.cmap_text.specs.Salvage.{Next, item, rest_of, entry, list_of, nothing, Part, after_entry, after_item, after_list, after_missing, after_rest, after_wrong, faulted, is_word, next_after, step, within_section}
-use Rattle.cmap_text.proofs.Moves.{Lies, Moves, MovesItem, MovesNext, MovesOn, Stops, StopsLater, head_moves, item_moves, next_moves, run_moves, token_moves, wrong_moves}
+use Rattle.cmap_text.specs.TokenPlaces.{Lies}
+use Rattle.cmap_text.proofs.Moves.{Moves, MovesItem, MovesNext, MovesOn, Stops, StopsLater, head_moves, item_moves, next_moves, run_moves, token_moves, wrong_moves}
 
 abbrev pub weight : Next → ℕ
 weight item = 1

@@ -1,7 +1,8 @@
 -- What calls that read tokens answer.
-use Rattle.std.proofs.Common.{◌≡◌, refl, sym, ◌∙◌, false}
+use Rattle.std.proofs.Common.{◌≡◌, refl, ◌∙◌, true, false}
 use Rattle.std.specs.Prelude.{Option, Some, None, Result, Ok, Err, IfErr, IsErrAnd, option_map}
 use Rattle.std.specs.Option.{ok_or}
+use Rattle.std.proofs.lemmas.Iterator.Adapters.{option_map_id}
 use Rattle.cmap_tokens.specs.TokensLeft.{Left}
 use Rattle.cmap_values.specs.Outcomes.{Outcome, RefusesWith}
 use Rattle.cmap_values.specs.declared.fault.Fault.{Fault}
@@ -11,13 +12,17 @@ use Rattle.cmap_values.proofs.Outcomes as outcomes
 use Rattle.cmap_text.specs.EntriesSeen.{RefusesAt, WhereRefused, refused_seen}
 use Rattle.cmap_text.specs.TokenParsers.{Found, Refused, followed_by, or_wrong}
 use Rattle.cmap_text.specs.declared.wrong_token.WrongToken.{WrongToken}
+use Rattle.cmap_tokens.specs.Tokens.{Token}
 use Rattle.cmap_tokens.specs.TokenSeen.{token_seen}
-use Rattle.cmap_tokens.specs.declared.token.Token.{Token}
-use Rattle.std.proofs.lemmas.Option.{none-some}
+use Rattle.cmap_tokens.specs.declared.token.StringToken.{StringToken}
+use Rattle.cmap_tokens.specs.declared.token.Token.TheVariants as declared
+use Rattle.cmap_tokens.specs.declared.token.Token as the_token
+use Rattle.cmap_values.specs.declared.fault.Reason.TheVariants.{CodeExpected}
+use Rattle.cmap_text.specs.TextReading.{code_fault, value_in}
 
 -- what is refused in a part is refused in all, in the same way
 pub refused_as : {A B : Type 0} (here : Left) (part : Result A Refused) (all : Result B Refused) → ((e : Refused) → part ≡ Err e → all ≡ Err e) → (wrong : WrongToken) → RefusesAt here part wrong → RefusesAt here all wrong
-refused_as here part all same wrong (refused, none) = (same (refused_seen wrong here) refused, none)
+refused_as here part all same wrong (token, refused, told) = (token, same (refused_seen token wrong here) refused, told)
 
 -- what another call ended with, passed on by `?`
 pub passed_on : {T A B : Type 0} (r : Result T (Fault WrongToken)) (fault : Fault WrongToken) (P : T → Type 0) (here : Left) (part : Result A Refused) (all : Result B Refused) → IsErrAnd r (λ e. e ≡ fault) → RefusesWith (RefusesAt here part) fault → ((e : Refused) → part ≡ Err e → all ≡ Err e)
@@ -27,7 +32,7 @@ passed_on r fault P here part all is refused same = outcomes.passed_on P r fault
 -- what is made of a part that is read
 pub read_on_as : {R A B : Type 0} (made : A → B) (here : Left) (part : Found A) (all : Found B) (x : A) (y : B) (r : Result R (Fault WrongToken)) → all ≡ followed_by (λ x next. Ok (made x, next)) part → made x ≡ y → Outcome (λ done. part ≡ Ok (x, here)) (RefusesAt here part) r → Outcome (λ done. all ≡ Ok (y, here)) (RefusesAt here all) r
 read_on_as made here part all x y (Ok done) is gives (found, refused) = (is ∙ rw (found, gives) refl, tt)
-read_on_as made here part all x y (Err (fault.Refused wrong)) is gives (found, (refused, none)) = (tt, (is ∙ rw refused refl, none))
+read_on_as made here part all x y (Err (fault.Refused wrong)) is gives (found, (token, refused, told)) = (tt, (token, is ∙ rw refused refl, told))
 read_on_as made here part all x y (Err fault.Memory) is gives (found, refused) = (tt, tt)
 
 -- a want of memory refuses nothing
@@ -45,9 +50,20 @@ none_refused (Err e) holds is wrong same = absurd (cc)
 
 -- what is found in an option, or a refusal of the token in its place
 pub given : {A B : Type 0} (seen : A → B) (o : Option A) (found : Option B) (old new : Left) (reason : Reason) (token : Token) → option_map seen o ≡ found → old ≡ new
-    → Outcome (λ x. or_wrong reason found (token_seen token) old ≡ Ok (seen x, new)) (RefusesAt new (or_wrong reason found (token_seen token) old)) (ok_or o (fault.Refused (record { token = Some token; reason = reason; in_list = false })))
-given seen None found old new reason token is same = (tt, (rw (← is, same) refl, λ none. absurd (none-some token (sym none))))
+    → Outcome (λ x. or_wrong reason found token old ≡ Ok (seen x, new)) (RefusesAt new (or_wrong reason found token old)) (ok_or o (fault.Refused (record { is_token = true; reason = reason; in_list = false })))
+given seen None found old new reason token is same = (tt, (Some token, rw (← is, same) refl, refl))
 given seen (Some x) found old new reason token is same = (rw (← is, same) refl, tt)
+
+-- the same, where what is found is seen as it is
+pub given_so : {A : Type 0} (o found : Option A) (here : Left) (reason : Reason) (token : Token) → o ≡ found
+    → Outcome (λ x. or_wrong reason found token here ≡ Ok (x, here)) (RefusesAt here (or_wrong reason found token here)) (ok_or o (fault.Refused (record { is_token = true; reason = reason; in_list = false })))
+given_so o found here reason token is = given (λ x. x) o found here here reason token (option_map_id o ∙ is) refl
+
+-- a token that is no string is no code and no destination
+pub no_string : (token : the_token.Token) → ((string : StringToken) → token ≡ declared.String string → ⊥) → (value_in (token_seen token) ≡ None) × (code_fault (token_seen token) ≡ CodeExpected)
+no_string (declared.String string) other = absurd (other string refl)
+no_string (declared.Name name) other = (refl, refl)
+no_string (declared.Number number) other = (refl, refl)
 
 -- what holds where a call refuses, of the one that is refused
 pub where_refused : {R : Type 0} (P : WrongToken → Type 0) (holds : Type 0) (e : Fault WrongToken) → RefusesWith P e → WhereRefused {A = R} holds (Err e) → RefusesWith (λ wrong. P wrong × holds) e

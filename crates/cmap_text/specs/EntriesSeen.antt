@@ -1,7 +1,7 @@
 -- Private aid: what the clauses of calls that read tokens say.
-use Rattle.std.specs.Prelude.{Bool, true, false, ◌≡◌, [], ◌++◌, List, None, Result, Ok, Err, option_map}
+use Rattle.std.specs.Prelude.{Bool, true, false, ◌≡◌, [], ◌++◌, List, Option, Some, None, Result, Ok, Err}
 use Rattle.cmap_tokens.specs.TokensLeft.{Left}
-use Rattle.cmap_tokens.specs.TokenSeen.{token_seen}
+use Rattle.cmap_tokens.specs.Tokens.{Token}
 use Rattle.cmap_files.specs.Files as files
 use Rattle.cmap_files.specs.DeclarationsSeen.{lists_seen}
 use Rattle.cmap_values.specs.Outcomes.{Outcome}
@@ -12,13 +12,18 @@ use Rattle.cmap_text.specs.TokenParsers.{Parser, run}
 use Rattle.cmap_text.specs.TokenParsers as parsers
 use Rattle.cmap_text.specs.declared.wrong_token.WrongToken.{WrongToken}
 
--- a wrong token, where that is left after it
-abbrev pub refused_seen : WrongToken → Left → parsers.Refused
-refused_seen wrong here = record { token = option_map token_seen wrong.token; reason = wrong.reason; in_list = wrong.in_list; left = here }
+-- why reading goes no further, where that is left and this token is wrong
+abbrev pub refused_seen : Option Token → WrongToken → Left → parsers.Refused
+refused_seen token wrong here = record { token = token; reason = wrong.reason; in_list = wrong.in_list; left = here }
 
--- it is refused so, where the reader has come to by now; where no token is wrong, none comes there
+-- this tells whether a token is wrong; where none is, none comes where the reader has come to
+abbrev pub IsTold : Bool → Left → Option Token → Type 0
+IsTold told here (Some t) = told ≡ true
+IsTold told here None = (told ≡ false) × (here.tokens ≡ [])
+
+-- it is refused so, where the reader has come to by now
 abbrev pub RefusesAt : {A : Type 0} → Left → Result A parsers.Refused → WrongToken → Type 0
-RefusesAt here found wrong = (found ≡ Err (refused_seen wrong here)) × (wrong.token ≡ None → here.tokens ≡ [])
+RefusesAt here found wrong = (token : Option Token) × (found ≡ Err (refused_seen token wrong here)) × IsTold wrong.is_token here token
 
 -- the lists with these texts at their end
 abbrev pub with_texts : files.Lists → List files.BfEntry → files.Lists

@@ -37,11 +37,11 @@ pub(crate) enum Extent {
 }
 
 /// code, code of the same length
-pub(crate) fn add_codespace_range<'d>(
-    reader: &mut TokenReader<'d>,
+pub(crate) fn add_codespace_range(
+    reader: &mut TokenReader<'_>,
     low: Code,
     lists: &mut Lists,
-) -> Result<(), Fault<WrongToken<'d>>>
+) -> Result<(), Fault<WrongToken>>
     ensures adds { AddsDeclarations (entry_after files.codespace_range (code_seen low)) reader.old
         lists.old lists.new reader.new result }
     ensures stays { WhereRefused (lists_seen lists.new ≡ lists_seen lists.old) result }
@@ -49,7 +49,7 @@ pub(crate) fn add_codespace_range<'d>(
     let token = reader.required_token()?;
     let high = reader.code(&token)?;
     if low.len != high.len {
-        return Err(wrong(Reason::UnequalLengths, &token));
+        return Err(wrong(Reason::UnequalLengths));
     }
     lists.add_codespace(Codespace {
         len: low.len,
@@ -61,13 +61,13 @@ pub(crate) fn add_codespace_range<'d>(
 
 /// One entry of CIDs or of notdef CIDs.
 #[inline(always)]
-pub(crate) fn add_cids<'d>(
-    reader: &mut TokenReader<'d>,
+pub(crate) fn add_cids(
+    reader: &mut TokenReader<'_>,
     start: Code,
     kind: CidKind,
     extent: Extent,
     lists: &mut Lists,
-) -> Result<(), Fault<WrongToken<'d>>>
+) -> Result<(), Fault<WrongToken>>
     ensures adds { AddsDeclarations
         (entry_after (files.cids (kind_seen kind) (extent_seen extent)) (code_seen start))
         reader.old lists.old lists.new reader.new result }
@@ -84,8 +84,8 @@ pub(crate) fn add_cids<'d>(
 /// A destination of two bytes after the code of an entry, where it stands as most do. `false` of any
 /// other token, and then nothing moves.
 #[inline(always)]
-pub(crate) fn add_plain_unit<'d>(
-    reader: &mut TokenReader<'d>,
+pub(crate) fn add_plain_unit(
+    reader: &mut TokenReader<'_>,
     code: Code,
     lists: &mut Lists,
 ) -> Result<bool, AllocError>
@@ -101,11 +101,11 @@ pub(crate) fn add_plain_unit<'d>(
 
 /// code, destination
 #[inline(always)]
-pub(crate) fn add_bf_char<'d>(
-    reader: &mut TokenReader<'d>,
+pub(crate) fn add_bf_char(
+    reader: &mut TokenReader<'_>,
     code: Code,
     lists: &mut Lists,
-) -> Result<(), Fault<WrongToken<'d>>>
+) -> Result<(), Fault<WrongToken>>
     ensures adds { AddsDeclarations (entry_after files.bf_char (code_seen code)) reader.old
         lists.old lists.new reader.new result }
     ensures stays { WhereRefused (lists_seen lists.new ≡ lists_seen lists.old) result }
@@ -116,11 +116,11 @@ pub(crate) fn add_bf_char<'d>(
 }
 
 /// code, code, and one destination or a list of them
-pub(crate) fn add_bf_range<'d>(
-    reader: &mut TokenReader<'d>,
+pub(crate) fn add_bf_range(
+    reader: &mut TokenReader<'_>,
     start: Code,
     lists: &mut Lists,
-) -> Result<(), Fault<WrongToken<'d>>>
+) -> Result<(), Fault<WrongToken>>
     ensures adds { AddsDeclarations (entry_after files.bf_range (code_seen start)) reader.old
         lists.old lists.new reader.new result }
     ensures stays { WhereRefused (lists_seen lists.new ≡ lists_seen lists.old) result }
@@ -141,12 +141,12 @@ pub(crate) fn add_bf_range<'d>(
 
 /// One destination for each code from `start` to `end`, and the closing bracket. A list that is refused
 /// adds nothing.
-fn add_list<'d>(
-    reader: &mut TokenReader<'d>,
+fn add_list(
+    reader: &mut TokenReader<'_>,
     start: u32,
     end: u32,
     lists: &mut Lists,
-) -> Result<(), Fault<WrongToken<'d>>>
+) -> Result<(), Fault<WrongToken>>
     ensures adds { AddsDeclarations (λ old. listed (list_in (end + 1 - start) start old)) reader.old
         lists.old lists.new reader.new result }
     ensures stays { WhereRefused (lists_seen lists.new ≡ lists_seen lists.old) result }
@@ -163,12 +163,12 @@ fn add_list<'d>(
 }
 
 /// Adds the destinations of a list, also those before a token that is wrong.
-fn add_destinations<'d>(
-    reader: &mut TokenReader<'d>,
+fn add_destinations(
+    reader: &mut TokenReader<'_>,
     start: u32,
     end: u32,
     lists: &mut Lists,
-) -> Result<(), Fault<WrongToken<'d>>>
+) -> Result<(), Fault<WrongToken>>
     ensures adds { AddsDeclarations (list_in (end + 1 - start) start) reader.old
         lists.old lists.new reader.new result }
     ensures texts { WhereRefused (AddsTexts lists.old lists.new) result }
@@ -179,7 +179,7 @@ fn add_destinations<'d>(
     }
     let token = reader.required_token()?;
     if !is_executable(&token, b"]") {
-        return Err(wrong(Reason::BracketExpected, &token));
+        return Err(wrong(Reason::BracketExpected));
     }
     Ok(())
 }
@@ -204,11 +204,11 @@ struct Filed {
 /// What an entry of CIDs declares: code, code, CID for a range and code, CID for a single code,
 /// filed by the length of the first code.
 #[inline(always)]
-fn read_cids<'d>(
-    reader: &mut TokenReader<'d>,
+fn read_cids(
+    reader: &mut TokenReader<'_>,
     start: Code,
     extent: Extent,
-) -> Result<Filed, Fault<WrongToken<'d>>>
+) -> Result<Filed, Fault<WrongToken>>
     ensures { ReadsAs (run (cids_after (extent_seen extent) (code_seen start)) reader.old)
         (λ filed. ((length_of filed.len, cid_entry_seen filed.range), reader.new)) reader.new result }
 {

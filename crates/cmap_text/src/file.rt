@@ -64,13 +64,14 @@ fn read_said<'d>(
 }
 
 /// Where a text of `len` bytes is refused, and why.
-pub(crate) fn stop_of(reader: &TokenReader<'_>, wrong: WrongToken<'_>, len: usize) -> Stop
+pub(crate) fn stop_of(reader: &TokenReader<'_>, wrong: WrongToken, len: usize) -> Stop
     ensures { (found : Result (reading.Said × Left) Refused)
-        → RefusesAt reader.now found wrong.entry → StopsAt len found result }
+        → RefusesAt reader.now found wrong → StopsAt len found result }
 {
-    let offset = match wrong.token {
-        Some(_) => reader.offset(),
-        None => reader.stop(),
+    let offset = if wrong.is_token {
+        reader.offset()
+    } else {
+        reader.stop()
     };
     Stop {
         offset: offset.min(len),

@@ -1,6 +1,6 @@
 //! The items of a text: keys with their values, sections, uses of other files, and tokens by themselves.
 
-ghost use Rattle.std.specs.Prelude.{◌≡◌, ◌++◌, ℕ, List, [], ◌∷◌, None, Some, false, IfErr, OnOk};
+ghost use Rattle.std.specs.Prelude.{◌≡◌, ◌++◌, ℕ, List, [], ◌∷◌, None, Some, false, true, IfErr, OnOk};
 ghost use Rattle.std.specs.Borrow.{Bor};
 ghost use Rattle.std.specs.Option.{option_copied};
 ghost use Rattle.cmap_values.specs.Outcomes.{RefusesWith};
@@ -43,20 +43,16 @@ impl<'d> Said<'d> {
     }
 }
 
-/// Adds a use of the file that the last item names; `token` is the use.
-fn add_use<'d>(
-    uses: &mut Vec<&'d [u8]>,
-    operand: Option<&'d [u8]>,
-    token: &Token<'d>,
-) -> Result<(), Fault<WrongToken<'d>>>
+/// Adds a use of the file that the last item names.
+fn add_use<'d>(uses: &mut Vec<&'d [u8]>, operand: Option<&'d [u8]>) -> Result<(), Fault<WrongToken>>
     ensures added { OnOk result ((name : Bor (List ℕ)) × (operand.entry ≡ Some name)
         × (uses.new.items ≡ uses.old.items ++ name ∷ [])) }
     ensures refused { IfErr result (RefusesWith (λ wrong. (option_copied operand.entry ≡ None)
-        × (wrong ≡ record { token = Some token.now; reason = UseWithoutName; in_list = false }))) }
+        × (wrong ≡ record { is_token = true; reason = UseWithoutName; in_list = false }))) }
     ensures stays { WhereRefused (uses.new.items ≡ uses.old.items) result }
 {
     let Some(name) = operand else {
-        return Err(wrong(Reason::UseWithoutName, token));
+        return Err(wrong(Reason::UseWithoutName));
     };
     uses.push(name)?;
     Ok(())
@@ -66,7 +62,7 @@ fn add_use<'d>(
 pub(crate) fn read_items<'d>(
     reader: &mut TokenReader<'d>,
     said: &mut Said<'d>,
-) -> Result<(), Fault<WrongToken<'d>>>
+) -> Result<(), Fault<WrongToken>>
     ensures { ReadsAs (all_said (said_seen said.old) reader.old) (λ done. (said_seen said.new, reader.new))
         reader.new result }
 {
@@ -81,7 +77,7 @@ pub(crate) fn read_item<'d>(
     reader: &mut TokenReader<'d>,
     first: &Token<'d>,
     said: &mut Said<'d>,
-) -> Result<(), Fault<WrongToken<'d>>>
+) -> Result<(), Fault<WrongToken>>
     ensures reads { ReadsAs (item_said (said_seen said.old) (token_seen first.now) reader.old)
         (λ done. (said_seen said.new, reader.new)) reader.new result }
 
@@ -95,7 +91,7 @@ pub(crate) fn read_item<'d>(
         return read_section(reader, section, &mut said.lists);
     }
     if is_executable(first, b"usecmap") {
-        return add_use(&mut said.uses, operand, first);
+        return add_use(&mut said.uses, operand);
     }
     if let Some(key) = Key::of(first) {
         said.values.set(key, reader.next_token()?);

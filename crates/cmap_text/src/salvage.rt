@@ -1,6 +1,7 @@
 //! What a text says apart from its faults: reading goes on after each.
 
-ghost use Rattle.std.specs.Prelude.{◌≡◌, ◌↔◌, [], None, false, length, if◌then◌else◌, IfOk, OnOk};
+ghost use Rattle.std.specs.Prelude.{◌≡◌, ◌≤◌, ◌↔◌, [], false, length, Option, option_map, if◌then◌else◌, IfOk, OnOk};
+ghost use Rattle.cmap_tokens.specs.Tokens as tokens;
 ghost use Rattle.cmap_tokens.specs.TokenSeen.{token_seen};
 ghost use Rattle.cmap_tokens.specs.TokensLeft.{start_of, tokens_of};
 ghost use Rattle.cmap_files.specs.DeclarationsSeen.{lists_seen};
@@ -8,14 +9,15 @@ ghost use Rattle.cmap_values.specs.Faults.{Ascend};
 ghost use Rattle.cmap_files.specs.Files as files;
 ghost use Rattle.cmap_files.specs.FilesSeen.{file_seen};
 ghost use Rattle.cmap_values.specs.Only.{HoldsOfNone};
-ghost use Rattle.cmap_text.specs.EntriesSeen.{refused_seen};
+ghost use Rattle.cmap_text.specs.EntriesSeen.{IsTold, refused_seen};
 ghost use Rattle.cmap_text.specs.Salvage.{AreDeclared, BeginsRefused, Salvages, SalvagesFile, entry, faulted, list_of, nothing, rest_of, step};
 ghost use Rattle.cmap_text.specs.Salvage as salvage;
-ghost use Rattle.cmap_text.specs.SalvageSeen.{ReadsPart, next_seen, part_of};
+ghost use Rattle.cmap_text.specs.SalvageSeen.{EndsPart, ReadsPart, next_seen, part_of};
 ghost use Rattle.cmap_text.specs.TextFiles.{IsTextFile};
 ghost use Rattle.cmap_text.specs.TextReading as reading;
 ghost use Rattle.cmap_text.specs.TextReading.{nothing_said};
 ghost use Rattle.cmap_text.specs.TextSeen.{said_seen, section_seen};
+ghost use Rattle.cmap_text.specs.TokenPlaces.{Lies, left_at, token_ending};
 
 use crate::file::stop_of;
 use crate::items::{Said, read_item};
@@ -23,7 +25,7 @@ use crate::sections::{Section, next_start, read_entry};
 use crate::tokens::{TokenReader, is_executable, is_word};
 use crate::wrong_token::{WrongToken, wrong};
 use cmap_files::file::{File, Salvaged};
-use cmap_tokens::token::Token;
+use cmap_tokens::token::{Scanner, Token};
 use cmap_values::fault::{Fault, Reason, Stop};
 use std::alloc::{AllocError, Global};
 
@@ -111,14 +113,15 @@ fn read_on<'d>(
     said: &mut Said<'d>,
     faults: &mut Vec<Stop>,
 ) -> Result<Next<'d>, AllocError>
-    ensures { IfOk result (λ after.
+    ensures { Lies text.now reader.old → IfOk result (λ after.
         step text.now (part_of (next_seen next.entry) (said_seen said.old) reader.old faults.old.items)
         ≡ part_of (next_seen after) (said_seen said.new) reader.new faults.new.items) }
 {
+    let start = reader.offset();
     match read_part(reader, next, said) {
         Ok(then) => Ok(then),
         Err(Fault::Memory) => Err(AllocError),
-        Err(Fault::Refused(wrong)) => go_on(reader, text, next, wrong, faults),
+        Err(Fault::Refused(wrong)) => go_on(reader, text, start, next, wrong, faults),
     }
 }
 
@@ -128,7 +131,7 @@ fn read_part<'d>(
     reader: &mut TokenReader<'d>,
     next: Next<'d>,
     said: &mut Said<'d>,
-) -> Result<Next<'d>, Fault<WrongToken<'d>>>
+) -> Result<Next<'d>, Fault<WrongToken>>
     ensures { ReadsPart (next_seen next.entry) (said_seen said.old) (said_seen said.new)
         reader.old reader.new result }
 {
@@ -149,7 +152,7 @@ fn read_rest<'d>(
     reader: &mut TokenReader<'d>,
     first: Token<'d>,
     said: &mut Said<'d>,
-) -> Result<Next<'d>, Fault<WrongToken<'d>>>
+) -> Result<Next<'d>, Fault<WrongToken>>
     ensures { ReadsPart (rest_of (token_seen first.entry)) (said_seen said.old) (said_seen said.new)
         reader.old reader.new result }
 {
@@ -166,7 +169,7 @@ fn read_one<'d>(
     reader: &mut TokenReader<'d>,
     section: Section,
     said: &mut Said<'d>,
-) -> Result<Next<'d>, Fault<WrongToken<'d>>>
+) -> Result<Next<'d>, Fault<WrongToken>>
     ensures { ReadsPart (entry (section_seen section)) (said_seen said.old) (said_seen said.new)
         reader.old reader.new result }
 {
@@ -181,7 +184,7 @@ fn read_one<'d>(
 fn pass_list<'d>(
     reader: &mut TokenReader<'d>,
     section: Section,
-) -> Result<Next<'d>, Fault<WrongToken<'d>>>
+) -> Result<Next<'d>, Fault<WrongToken>>
     ensures { (said : reading.Said) → ReadsPart (list_of (section_seen section)) said said
         reader.old reader.new result }
 {
@@ -193,31 +196,53 @@ fn pass_list<'d>(
     } else if is_executable(&token, section.closer()) {
         Ok(Next::Item)
     } else {
-        Err(wrong(Reason::CodeExpected, &token))
+        Err(wrong(Reason::CodeExpected))
     }
 }
 
-/// Adds a fault, and says what comes after it.
+/// Adds a fault of the part that begins at the offset `start`, and says what comes after it.
 fn go_on<'d>(
     reader: &mut TokenReader<'d>,
     text: &'d [u8],
+    start: usize,
     next: Next<'d>,
-    wrong: WrongToken<'d>,
+    wrong: WrongToken,
     faults: &mut Vec<Stop>,
 ) -> Result<Next<'d>, AllocError>
-    ensures { IfOk result (λ after. (wrong.entry.token ≡ None → reader.old.tokens ≡ [])
+    ensures { IfOk result (λ after. (token : Option tokens.Token) → IsTold wrong.is_token reader.old token
+        → start ≤ length text.now → EndsPart (next_seen next.entry) (left_at text.now start) token reader.old
         → (said : reading.Said)
         → faulted text.now (part_of (next_seen next.entry) said reader.old faults.old.items) said
-        (refused_seen wrong.entry reader.old)
+        (refused_seen token wrong reader.old)
         ≡ part_of (next_seen after) said reader.new faults.new.items) }
 {
     faults.push(stop_of(reader, wrong, text.len()))?;
-    let Some(token) = wrong.token else {
+    if !wrong.is_token {
         let after = after_missing(next, wrong.in_list, reader.stop() < text.len());
         reader.resume(text);
         return Ok(after);
-    };
-    Ok(after_wrong(next, token, wrong.in_list))
+    }
+    match token_between(text, start, reader.offset()) {
+        Some(token) => Ok(after_wrong(next, token, wrong.in_list)),
+        None => Ok(Next::Item),
+    }
+}
+
+/// The token that ends at the offset `end`, of those from the offset `start` on, which are read again up
+/// to there.
+fn token_between<'d>(text: &'d [u8], start: usize, end: usize) -> Option<Token<'d>>
+    ensures { start ≤ length text.now → start ≤ end
+        → option_map token_seen result ≡ token_ending end (left_at text.now start).tokens }
+{
+    let mut scanner = Scanner::new(&text[start.min(text.len())..]);
+    let len = end.saturating_sub(start);
+    while let Some(token) = scanner.next_token().ok().flatten() {
+        let offset = scanner.offset();
+        if offset >= len {
+            return (offset == len).then_some(token);
+        }
+    }
+    None
 }
 
 /// What comes after a piece that is no token, if reading goes on.

@@ -70,11 +70,11 @@ impl Section {
 
 /// Reads the entries of a section and its closer. The kinds that most entries are of have loops of
 /// their own.
-pub(crate) fn read_section<'d>(
-    reader: &mut TokenReader<'d>,
+pub(crate) fn read_section(
+    reader: &mut TokenReader<'_>,
     section: Section,
     lists: &mut Lists,
-) -> Result<(), Fault<WrongToken<'d>>>
+) -> Result<(), Fault<WrongToken>>
     ensures { AddsDeclarations (body_in (section_seen section)) reader.old
         lists.old lists.new reader.new result }
 {
@@ -86,12 +86,12 @@ pub(crate) fn read_section<'d>(
 }
 
 /// Reads the entries of a section of CIDs and its closer.
-fn read_cid_section<'d>(
-    reader: &mut TokenReader<'d>,
+fn read_cid_section(
+    reader: &mut TokenReader<'_>,
     kind: CidKind,
     extent: Extent,
     lists: &mut Lists,
-) -> Result<(), Fault<WrongToken<'d>>>
+) -> Result<(), Fault<WrongToken>>
     ensures { AddsDeclarations (body_in (files.cids (kind_seen kind) (extent_seen extent))) reader.old
         lists.old lists.new reader.new result }
 {
@@ -110,11 +110,11 @@ fn read_cid_section<'d>(
 
 /// Reads the entries of a section and its closer.
 #[inline(always)]
-fn read_entries<'d>(
-    reader: &mut TokenReader<'d>,
+fn read_entries(
+    reader: &mut TokenReader<'_>,
     section: Section,
     lists: &mut Lists,
-) -> Result<(), Fault<WrongToken<'d>>>
+) -> Result<(), Fault<WrongToken>>
     ensures { AddsDeclarations (body_in (section_seen section)) reader.old
         lists.old lists.new reader.new result }
 {
@@ -128,11 +128,11 @@ fn read_entries<'d>(
 
 /// Reads the entries of a section that begin with a code of two bytes, up to one that doesn't.
 #[inline(always)]
-fn read_two_byte_entries<'d>(
-    reader: &mut TokenReader<'d>,
+fn read_two_byte_entries(
+    reader: &mut TokenReader<'_>,
     section: Section,
     lists: &mut Lists,
-) -> Result<(), Fault<WrongToken<'d>>>
+) -> Result<(), Fault<WrongToken>>
     ensures reads { ReadsOn (body_in (section_seen section)) reader.old lists.old lists.new reader.new result }
     ensures fewer { OnOk result (length reader.new.tokens ≤ length reader.old.tokens) }
 {
@@ -147,8 +147,8 @@ fn read_two_byte_entries<'d>(
 /// Reads what follows the first code of an entry and adds what it declares, where that is a destination
 /// that stands as most do. `false` of any other entry, and then nothing moves.
 #[inline(always)]
-fn add_plain<'d>(
-    reader: &mut TokenReader<'d>,
+fn add_plain(
+    reader: &mut TokenReader<'_>,
     section: Section,
     start: Code,
     lists: &mut Lists,
@@ -164,10 +164,10 @@ fn add_plain<'d>(
 
 /// The code that the next entry of a section begins with; `None` at the closer.
 #[inline(always)]
-pub(crate) fn next_start<'d>(
-    reader: &mut TokenReader<'d>,
+pub(crate) fn next_start(
+    reader: &mut TokenReader<'_>,
     section: Section,
-) -> Result<Option<Code>, Fault<WrongToken<'d>>>
+) -> Result<Option<Code>, Fault<WrongToken>>
     ensures { ReadsAs (head_in code_fault (code_or_closer (section_seen section)) reader.old)
         (λ start. (option_map code_seen start, reader.new)) reader.new result }
 {
@@ -183,12 +183,12 @@ pub(crate) fn next_start<'d>(
 
 /// Reads what follows the first code of an entry, and adds what the entry declares.
 #[inline(always)]
-pub(crate) fn read_entry<'d>(
-    reader: &mut TokenReader<'d>,
+pub(crate) fn read_entry(
+    reader: &mut TokenReader<'_>,
     section: Section,
     start: Code,
     lists: &mut Lists,
-) -> Result<(), Fault<WrongToken<'d>>>
+) -> Result<(), Fault<WrongToken>>
     ensures adds { AddsDeclarations (entry_after (section_seen section) (code_seen start)) reader.old
         lists.old lists.new reader.new result }
     ensures stays { WhereRefused (lists_seen lists.new ≡ lists_seen lists.old) result }

@@ -65,7 +65,7 @@ impl<'d> TokenReader<'d> {
     }
 
     /// The next token, `None` at the end of the text.
-    pub(crate) fn next_token(&mut self) -> Result<Option<Token<'d>>, Fault<WrongToken<'d>>>
+    pub(crate) fn next_token(&mut self) -> Result<Option<Token<'d>>, Fault<WrongToken>>
         ensures { ReadsAs (next_in self.old) (λ found. (option_map token_seen found, self.new)) self.new result }
     {
         let Ok(found) = self.scanner.next_token() else {
@@ -75,7 +75,7 @@ impl<'d> TokenReader<'d> {
     }
 
     /// The next token, which a section needs.
-    pub(crate) fn required_token(&mut self) -> Result<Token<'d>, Fault<WrongToken<'d>>>
+    pub(crate) fn required_token(&mut self) -> Result<Token<'d>, Fault<WrongToken>>
         ensures { ReadsAs (token_in self.old) (λ token. (token_seen token, self.new)) self.new result }
     {
         match self.scanner.next_token() {
@@ -86,21 +86,21 @@ impl<'d> TokenReader<'d> {
     }
 
     /// The code that a token is: a string of one to four bytes.
-    pub(crate) fn code(&mut self, token: &Token<'d>) -> Result<Code, Fault<WrongToken<'d>>>
+    pub(crate) fn code(&mut self, token: &Token<'_>) -> Result<Code, Fault<WrongToken>>
         ensures { ReadsAs (or_wrong (code_fault (token_seen token.now)) (code_in (token_seen token.now)) (token_seen token.now) self.old)
             (λ code. (code_seen code, self.new)) self.new result }
     {
         let Token::String(string) = token else {
-            return Err(wrong(Reason::CodeExpected, token));
+            return Err(wrong(Reason::CodeExpected));
         };
         if let Some((count, number)) = string.plain_number() {
             let Some(len) = CodeLength::of(count) else {
-                return Err(wrong(Reason::CodeLength, token));
+                return Err(wrong(Reason::CodeLength));
             };
             return Ok(Code { len, number });
         }
         string.decode_into(&mut self.string)?;
-        code_of(&self.string).ok_or(wrong(Reason::CodeLength, token))
+        code_of(&self.string).ok_or(wrong(Reason::CodeLength))
     }
 
     /// The code of two bytes that comes next, where it stands as most do; `None` of any other token.
@@ -143,7 +143,7 @@ impl<'d> TokenReader<'d> {
 
     /// The code that comes next.
     #[inline(always)]
-    pub(crate) fn next_code(&mut self) -> Result<Code, Fault<WrongToken<'d>>>
+    pub(crate) fn next_code(&mut self) -> Result<Code, Fault<WrongToken>>
         ensures { ReadsAs (run next_code self.old) (λ code. (code_seen code, self.new)) self.new result }
     {
         if let Some(code) = self.plain_code() {
@@ -154,19 +154,19 @@ impl<'d> TokenReader<'d> {
     }
 
     /// The units of the destination that a token is: a string that isn't empty.
-    pub(crate) fn destination(&mut self, token: &Token<'d>) -> Result<Units, Fault<WrongToken<'d>>>
+    pub(crate) fn destination(&mut self, token: &Token<'_>) -> Result<Units, Fault<WrongToken>>
         ensures { ReadsAs (or_wrong TextExpected (destination_in (token_seen token.now)) (token_seen token.now) self.old)
             (λ units. (units_seen units, self.new)) self.new result }
     {
         let Token::String(string) = token else {
-            return Err(wrong(Reason::TextExpected, token));
+            return Err(wrong(Reason::TextExpected));
         };
         if let Some((len, number)) = string.plain_number() {
             return Ok(units_of_number(len, number));
         }
         string.decode_into(&mut self.string)?;
         if self.string.is_empty() {
-            return Err(wrong(Reason::TextExpected, token));
+            return Err(wrong(Reason::TextExpected));
         }
         let units = units(self.alloc, &self.string)?;
         Ok(Units::from_slice(self.alloc, &units)?)
@@ -204,7 +204,7 @@ impl<'d> TokenReader<'d> {
 
     /// The units of the destination that comes next.
     #[inline(always)]
-    pub(crate) fn next_destination(&mut self) -> Result<Units, Fault<WrongToken<'d>>>
+    pub(crate) fn next_destination(&mut self) -> Result<Units, Fault<WrongToken>>
         ensures { ReadsAs (run next_destination self.old)
             (λ units. (units_seen units, self.new)) self.new result }
     {
@@ -217,14 +217,14 @@ impl<'d> TokenReader<'d> {
 
     /// The CID that comes next: an integer of 32 bits without sign.
     #[inline(always)]
-    pub(crate) fn next_cid(&mut self) -> Result<Cid, Fault<WrongToken<'d>>>
+    pub(crate) fn next_cid(&mut self) -> Result<Cid, Fault<WrongToken>>
         ensures { ReadsAs (run next_cid self.old) (λ cid. (cid, self.new)) self.new result }
     {
         if let Some(number) = self.scanner.next_decimal() {
             return cid_of_number(number);
         }
         let token = self.required_token()?;
-        cid_of(&token).ok_or(wrong(Reason::CidExpected, &token))
+        cid_of(&token).ok_or(wrong(Reason::CidExpected))
     }
 
     /// Goes on after the piece that is no token, where none comes; `text` is the text that is read.
@@ -289,17 +289,14 @@ fn units_of_parts(len: u8, high: u32, low: u32) -> Units
 }
 
 /// The CID that a number without sign is, which is below 10^18.
-fn cid_of_number<'d>(number: u64) -> Result<Cid, Fault<WrongToken<'d>>>
+fn cid_of_number(number: u64) -> Result<Cid, Fault<WrongToken>>
     requires { number < 10 ^ 18 }
     ensures { (next : Left) → ReadsAs (or_wrong CidExpected (cid_in (Numeral (Integer (pos number))))
         (Numeral (Integer (pos number))) next) (λ cid. (cid, next)) next result }
 {
     match u32::try_from(number) {
         Ok(cid) => Ok(cid),
-        Err(_) => Err(wrong(
-            Reason::CidExpected,
-            &Token::Number(Number::Integer(number as i64)),
-        )),
+        Err(_) => Err(wrong(Reason::CidExpected)),
     }
 }
 

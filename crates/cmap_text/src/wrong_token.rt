@@ -1,28 +1,27 @@
-//! Which token is wrong, and why.
+//! That a token is wrong or none comes, and why.
 
-ghost use Rattle.std.specs.Prelude.{◌≡◌, None, Some, false, true};
+ghost use Rattle.std.specs.Prelude.{◌≡◌, false, true};
 ghost use Rattle.cmap_values.specs.declared.fault.Fault.TheVariants.{Refused};
 
-use cmap_tokens::token::Token;
 use cmap_values::fault::{Fault, Reason};
 
-/// Why a reader of tokens goes no further.
+/// Why a reader of tokens goes no further. Which token is wrong isn't kept: it is the one read last.
 #[derive(Clone, Copy)]
-pub(crate) struct WrongToken<'d> {
-    /// The token that can't stand where it does, which was read last; `None` where no token comes.
-    pub(crate) token: Option<Token<'d>>,
+pub(crate) struct WrongToken {
+    /// Whether a token can't stand where it does; otherwise no token comes.
+    pub(crate) is_token: bool,
     pub(crate) reason: Reason,
     /// Whether this is within a list of texts.
     pub(crate) in_list: bool,
 }
 
-impl<'d> WrongToken<'d> {
+impl WrongToken {
     /// The same, within a list of texts.
     pub(crate) fn within_list(self) -> Self
-        ensures { result ≡ record { token = self.entry.token; reason = self.entry.reason; in_list = true } }
+        ensures { result ≡ record { is_token = self.is_token; reason = self.reason; in_list = true } }
     {
         WrongToken {
-            token: self.token,
+            is_token: self.is_token,
             reason: self.reason,
             in_list: true,
         }
@@ -30,22 +29,22 @@ impl<'d> WrongToken<'d> {
 }
 
 /// The refusal of the token that was read last.
-pub(crate) fn wrong<'d>(reason: Reason, token: &Token<'d>) -> Fault<WrongToken<'d>>
-    ensures { result ≡ Refused (record { token = Some token.now; reason = reason; in_list = false }) }
+pub(crate) fn wrong(reason: Reason) -> Fault<WrongToken>
+    ensures { result ≡ Refused (record { is_token = true; reason = reason; in_list = false }) }
 {
     Fault::Refused(WrongToken {
-        token: Some(*token),
+        is_token: true,
         reason,
         in_list: false,
     })
 }
 
 /// The refusal of a text where no token comes.
-pub(crate) fn no_token<'d>(reason: Reason) -> Fault<WrongToken<'d>>
-    ensures { result ≡ Refused (record { token = None; reason = reason; in_list = false }) }
+pub(crate) fn no_token(reason: Reason) -> Fault<WrongToken>
+    ensures { result ≡ Refused (record { is_token = false; reason = reason; in_list = false }) }
 {
     Fault::Refused(WrongToken {
-        token: None,
+        is_token: false,
         reason,
         in_list: false,
     })

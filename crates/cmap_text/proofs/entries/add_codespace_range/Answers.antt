@@ -1,5 +1,5 @@
 use Rattle.std.proofs.Common.{refl, sym}
-use Rattle.std.proofs.lemmas.Option.{none-some}
+use Rattle.std.specs.Prelude.{Some}
 use Rattle.cmap_tokens.specs.TokenSeen.{token_seen}
 use Rattle.cmap_files.specs.DeclarationsSeen.{lists_seen}
 use Rattle.cmap_text.specs.TextSeen.{code_seen}
@@ -24,7 +24,7 @@ pub returns-then-ne : goal.returns-then-ne
 returns-then-ne c =
     let unequal = space_unequal (code_seen c.args.low) (lists_seen c.args.lists.now) c.args.reader.now (token_seen c.in_ok-token.token) c.required_token.new.self c.in_ok-token.ensures.0 (code_seen c.in_ok-high.high) c.code.new.self c.in_ok-high.ensures.0 (lengths_differ c.args.low.len c.in_ok-high.high.len c.if-ne.ensures) in
     record {
-      adds = (tt, rw c.wrong.ensures (unequal, λ none. absurd (none-some _ (sym none))));
+      adds = (tt, rw c.wrong.ensures (Some (token_seen c.in_ok-token.token), unequal, refl));
       stays = λ wrong is. refl;
     }
 

@@ -1,5 +1,5 @@
-use Rattle.std.proofs.Common.{◌≡◌, ℕ, suc, [], ◌+◌, ◌-◌, refl, sym, ap, ◌∙◌, arith}
-use Rattle.std.proofs.lemmas.Option.{none-some}
+use Rattle.std.proofs.Common.{◌≡◌, ℕ, suc, [], ◌+◌, ◌-◌, refl, ap, ◌∙◌, arith}
+use Rattle.std.specs.Prelude.{Some}
 use Rattle.cmap_tokens.specs.TokenSeen.{token_seen}
 use Rattle.cmap_files.specs.DeclarationsSeen.{lists_seen}
 use Rattle.cmap_values.specs.UnitsSeen.{units_seen}
@@ -52,7 +52,7 @@ returns-then-not-is_executable c =
     let done : c.args.end + 1 - c.loop-code.code ≡ 0 = omega arith in
     let open_still = c.loop-code.invariant.adds ∙ ap left done ∙ list_open c.loop-code.code (lists_seen c.loop-code.lists) c.loop-code.reader (token_seen c.in_ok-token.token) c.required_token.new.self c.in_ok-token.ensures.0 c.if-not-is_executable.ensures in
     record {
-      adds = (tt, rw c.wrong.ensures (open_still, λ none. absurd (none-some _ (sym none))));
+      adds = (tt, rw c.wrong.ensures (Some (token_seen c.in_ok-token.token), open_still, refl));
       texts = λ wrong is. c.loop-code.invariant.texts;
     }
 

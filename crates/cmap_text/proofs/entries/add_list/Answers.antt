@@ -30,5 +30,5 @@ returns-in-Err-Memory c = record {
 
 pub returns-in-Err-Refused-clause-adds : goal.returns-in-Err-Refused-clause-adds
 returns-in-Err-Refused-clause-adds c =
-    let (found, none) = rw c.in-Err-Refused.field-0-is at c.in-Err-Refused.ensures.adds.1 in
-    (tt, rw c.within_list.ensures (ap listed_so found, none))
+    let (token, found, told) = rw c.in-Err-Refused.field-0-is at c.in-Err-Refused.ensures.adds.1 in
+    (tt, rw c.within_list.ensures (token, ap listed_so found, told))

@@ -5,7 +5,6 @@ use Rattle.cmap_files.specs.DeclarationsSeen.{lists_seen}
 use Rattle.cmap_tokens.specs.TokenSeen.{token_seen}
 use Rattle.cmap_text.specs.TextSeen.{said_seen, section_seen}
 use Rattle.cmap_text.proofs.ItemSteps.{section_said, use_ends}
-use Rattle.cmap_text.proofs.TokenParsers.{err-ok}
 use Rattle.cmap_text.proofs.items.read_item.Goals as goal
 
 pub returns-in-Some : goal.returns-in-Some
@@ -19,6 +18,3 @@ returns-then-is_executable c = record {
   reads = use_ends (said_seen c.args.said.now) c.args.first.now c.args.reader.now (option_copied c.literal_name-said.result) c.args.said.now.operand c.args.said.now.uses.items c.add_use.new.uses.items c.add_use.result c.literal_name-said.ensures c.in_default.ensures c.if-is_executable.ensures refl refl c.add_use.ensures.added c.add_use.ensures.refused;
   fault = λ wrong is opens. rw (c.add_use.ensures.stays wrong is, c.literal_name-said.ensures) refl;
 }
-
-pub returns-clause-fault : goal.returns-clause-fault
-returns-clause-fault c = λ wrong is. absurd (err-ok _ _ (sym is))

@@ -1,18 +1,20 @@
-use Rattle.std.proofs.Common.{ap, sym, ◌∙◌}
-use Rattle.std.proofs.lemmas.Option.{none-some}
+use Rattle.std.proofs.Common.{ap, refl, ◌∙◌}
+use Rattle.std.specs.Prelude.{Some}
 use Rattle.cmap_tokens.specs.TokenSeen.{token_seen}
 use Rattle.cmap_values.proofs.Outcomes.{passed_on}
+use Rattle.cmap_text.specs.EntriesSeen.{refused_seen}
 use Rattle.cmap_text.specs.Salvage.{after_list, list_of}
 use Rattle.cmap_text.specs.SalvageSeen.{part_of}
 use Rattle.cmap_text.specs.TextReading.{is_executable}
 use Rattle.cmap_text.specs.TextSeen.{section_seen}
+use Rattle.cmap_text.proofs.LastRead.{no_token_last, wrong_last}
 use Rattle.cmap_text.proofs.PartSteps.{list_closes, list_ends, list_passes, list_wrong}
 use Rattle.cmap_text.proofs.salvage.pass_list.Goals as goal
 
 pub returns-in_err-token : goal.returns-in_err-token
 returns-in_err-token c = λ said.
     let section = section_seen c.args.section in
-    passed_on _ c.from_residual.result _ c.from_residual.ensures.1 c.in_err-token.ensures.1 (λ wrong is. (λ text faults. ap (after_list text (part_of (list_of section) said c.args.reader.now faults) section) is.0, is.1))
+    passed_on _ c.from_residual.result _ c.from_residual.ensures.1 c.in_err-token.ensures.1 (λ wrong (token, is, told). (token, λ text faults. ap (after_list text (part_of (list_of section) said c.args.reader.now faults) section) is, told, no_token_last c.args.reader.now (refused_seen token wrong c.required_token.new.self) is))
 
 pub returns-then-is_executable : goal.returns-then-is_executable
 returns-then-is_executable c = λ said.
@@ -36,7 +38,9 @@ returns-else-is_executable-2 c = λ said.
     let goes_on = c.if-is_executable-2.ensures ∙ ap (λ name. is_executable name (token_seen c.in_ok-token.token)) c.closer.ensures in (
       tt,
       rw c.wrong.ensures (
+        Some (token_seen c.in_ok-token.token),
         λ text faults. list_wrong text (part_of (list_of section) said c.args.reader.now faults) section _ (token_seen c.in_ok-token.token) c.required_token.new.self c.in_ok-token.ensures.0 c.if-is_executable.ensures c.if-not-is_word.ensures goes_on,
-        λ none. absurd (none-some _ (sym none)),
+        refl,
+        wrong_last c.args.reader.now (token_seen c.in_ok-token.token) c.required_token.new.self c.in_ok-token.ensures.0,
       ),
     )

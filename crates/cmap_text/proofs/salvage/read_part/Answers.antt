@@ -16,7 +16,7 @@ returns-in-InList c =
 pub returns-in_err-first-in-Item : goal.returns-in_err-first-in-Item
 returns-in_err-first-in-Item c =
     let said = said_seen c.args.said.now in
-    subst (λ n. ReadsPart (next_seen n) said said c.args.reader.now c.next_token.new.self c.from_residual.result) (sym c.in-Item.is) (passed_on _ c.from_residual.result _ c.from_residual.ensures.1 c.in_err-first-in-Item.ensures.1 (λ wrong is. (λ text faults. ap (after_item text (part_of item said c.args.reader.now faults)) is.0, is.1)))
+    subst (λ n. ReadsPart (next_seen n) said said c.args.reader.now c.next_token.new.self c.from_residual.result) (sym c.in-Item.is) (passed_on _ c.from_residual.result _ c.from_residual.ensures.1 c.in_err-first-in-Item.ensures.1 (λ wrong (token, is, told). (token, λ text faults. ap (after_item text (part_of item said c.args.reader.now faults)) is, told, tt)))
 
 pub returns-in-Some : goal.returns-in-Some
 returns-in-Some c =

@@ -23,17 +23,17 @@ loop-next-init c =
 pub loop-next-smaller : goal.loop-next-smaller
 loop-next-smaller c =
     let some : next_seen c.loop-next.next ≢ nothing = λ is. false≢true (sym (c.is_something.ensures.1 is) ∙ c.loop-next-test.true) in
-    (part_onward c.args.text.now (next_seen c.loop-next.next) (said_seen c.loop-next.said) c.loop-next.reader c.loop-next.faults.items _ some c.loop-next.invariant.lies c.in_ok-next.ensures).less
+    (part_onward c.args.text.now (next_seen c.loop-next.next) (said_seen c.loop-next.said) c.loop-next.reader c.loop-next.faults.items _ some c.loop-next.invariant.lies (c.in_ok-next.ensures c.loop-next.invariant.lies)).less
 
 pub loop-next-preserved : goal.loop-next-preserved
 loop-next-preserved c =
     let text = c.args.text.now in
     let next = next_seen c.loop-next.next in
     let some : next_seen c.loop-next.next ≢ nothing = λ is. false≢true (sym (c.is_something.ensures.1 is) ∙ c.loop-next-test.true) in
-    let onward = part_onward text next (said_seen c.loop-next.said) c.loop-next.reader c.loop-next.faults.items _ some c.loop-next.invariant.lies c.in_ok-next.ensures in
+    let onward = part_onward text next (said_seen c.loop-next.said) c.loop-next.reader c.loop-next.faults.items _ some c.loop-next.invariant.lies (c.in_ok-next.ensures c.loop-next.invariant.lies) in
     record {
-      reaches = reaches_more text _ _ _ c.loop-next.invariant.reaches c.in_ok-next.ensures;
+      reaches = reaches_more text _ _ _ c.loop-next.invariant.reaches (c.in_ok-next.ensures c.loop-next.invariant.lies);
       lies = onward.lies;
       ascend = λ none. ascend_onward text _ _ onward (subst (Ascend 0 c.loop-next.faults.items) (reach_passed (length text) c.loop-next.reader.passed next some) (c.loop-next.invariant.ascend none));
-      declared = λ none. subst (λ p. AreDeclared text p.said.lists) c.in_ok-next.ensures (step_declares text (part_of next (said_seen c.loop-next.said) c.loop-next.reader c.loop-next.faults.items) next c.loop-next.invariant.lies (c.loop-next.invariant.declared none));
+      declared = λ none. subst (λ p. AreDeclared text p.said.lists) (c.in_ok-next.ensures c.loop-next.invariant.lies) (step_declares text (part_of next (said_seen c.loop-next.said) c.loop-next.reader c.loop-next.faults.items) next c.loop-next.invariant.lies (c.loop-next.invariant.declared none));
     }

@@ -6,7 +6,7 @@ use Rattle.cmap_text.specs.Salvage.{AreDeclared, item}
 use Rattle.cmap_text.specs.SalvageSeen.{next_seen, part_of}
 use Rattle.cmap_text.specs.TextReading.{nothing_said}
 use Rattle.cmap_text.specs.TextSeen.{said_seen}
-use Rattle.cmap_text.proofs.Moves.{Lies}
+use Rattle.cmap_text.specs.TokenPlaces.{Lies}
 use Rattle.cmap_text.proofs.PartsRead.{measure, reach}
 use Rattle.cmap_text.proofs.WholeRead.{Reaches}
 use Rattle.cmap_text.proofs.salvage.read_parts.Given as goal

@@ -17,7 +17,7 @@ returns-in-Some c =
 pub returns-in_err-read_item : goal.returns-in_err-read_item
 returns-in_err-read_item c =
     let part = part_of (rest_of (token_seen c.args.first)) (said_seen c.args.said.now) c.args.reader.now in
-    passed_on _ c.from_residual.result _ c.from_residual.ensures.1 (where_refused _ _ _ c.in_err-read_item.ensures.reads.1 c.in_err-read_item.ensures.fault) (λ wrong is. (λ text faults. rest_wrong text (part faults) (token_seen c.args.first) c.args.reader.now c.in_default.ensures _ is.0.0 ∙ ap (λ said. faulted text (part faults) said (refused_seen wrong c.read_item.new.reader)) (sym (is.1 (sym c.in_default.ensures))), is.0.1))
+    passed_on _ c.from_residual.result _ c.from_residual.ensures.1 (where_refused _ _ _ c.in_err-read_item.ensures.reads.1 c.in_err-read_item.ensures.fault) (λ wrong ((token, is, told), says). (token, λ text faults. rest_wrong text (part faults) (token_seen c.args.first) c.args.reader.now c.in_default.ensures _ is ∙ ap (λ said. faulted text (part faults) said (refused_seen token wrong c.read_item.new.reader)) (sym (says (sym c.in_default.ensures))), told, tt))
 
 pub returns : goal.returns
 returns c =

@@ -1,9 +1,9 @@
 use Rattle.std.proofs.Common.{◌<◌, Ok, length, ap, ◌∙◌, refl, sym, arith}
-use Rattle.std.proofs.lemmas.Option.{none-some}
+use Rattle.std.specs.Prelude.{Some}
 use Rattle.std.proofs.lemmas.Bool.{eqb-true, eqb-false}
 use Rattle.cmap_tokens.specs.TokenSeen.{token_seen}
 use Rattle.cmap_text.specs.TextReading.{destination_of}
-use Rattle.cmap_text.proofs.Refusals.{no_memory}
+use Rattle.cmap_text.proofs.Refusals.{no_memory, no_string}
 use Rattle.cmap_text.proofs.TokensRead.{read_value, destination_of-is, destination_of-none}
 use Rattle.cmap_text.proofs.tokens.TokenReader.destination.Goals as goal
 
@@ -17,7 +17,7 @@ returns-in-Some c =
 pub returns-then-is_empty : goal.returns-then-is_empty
 returns-then-is_empty c =
     let read = read_value destination_of _ _ _ (ap token_seen c.in-String.is) c.in_ok-decode_into.ensures.value in
-    (tt, rw (c.wrong-then-is_empty.ensures, read ∙ destination_of-none _ (omega (arith, eqb-true _ 0 (sym c.if-is_empty.ensures))), c.self.view_is) (refl, λ none. absurd (none-some _ (sym none))))
+    (tt, rw (c.wrong-then-is_empty.ensures, read ∙ destination_of-none _ (omega (arith, eqb-true _ 0 (sym c.if-is_empty.ensures))), c.self.view_is) (Some (token_seen c.args.token.now), refl, refl))
 
 pub returns : goal.returns
 returns c =
@@ -33,3 +33,6 @@ returns-in_err-units c = no_memory c.from_residual-in_err-units.result _ _ _ c.f
 
 pub returns-in_err-from_slice : goal.returns-in_err-from_slice
 returns-in_err-from_slice c = no_memory c.from_residual-in_err-from_slice.result _ _ _ c.from_residual-in_err-from_slice.ensures.1
+
+pub returns-in_default : goal.returns-in_default
+returns-in_default c = (tt, rw c.wrong.ensures (Some (token_seen c.args.token.now), rw (no_string c.args.token.now c.in_default.not-String).0 refl, refl))

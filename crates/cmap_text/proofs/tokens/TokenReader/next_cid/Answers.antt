@@ -1,6 +1,10 @@
 use Rattle.std.proofs.Common.{sym, ap, ◌∙◌}
 use Rattle.cmap_text.specs.TextReading.{next_cid}
-use Rattle.cmap_text.specs.TokenParsers.{run}
+use Rattle.cmap_text.specs.TokenParsers.{run, token_in}
+use Rattle.cmap_text.proofs.Refusals.{given_so}
+use Rattle.cmap_tokens.specs.TokenSeen.{token_seen}
+use Rattle.cmap_tokens.specs.TokensLeft.{tokens_of}
+use Rattle.cmap_values.specs.declared.fault.Reason.TheVariants.{CidExpected}
 use Rattle.cmap_text.proofs.tokens.TokenReader.next_cid.Goals as goal
 
 pub returns-in-Some : goal.returns-in-Some
@@ -8,3 +12,9 @@ returns-in-Some c =
     let (reads, left) = c.in-Some.ensures.token in
     let found = ap (run next_cid) (sym c.self.view_is ∙ left) in
     rw found (c.cid_of_number.ensures _)
+
+pub returns : goal.returns
+returns c =
+    let stays = ap tokens_of (sym (c.next_decimal.ensures.stays c.in_default.is)) in
+    let reads = ap token_in (sym c.self.view_is ∙ stays) ∙ c.in_ok-token.ensures.0 in
+    rw (reads, c.ok_or.ensures.value, c.wrong.ensures) (given_so c.cid_of.result _ c.required_token.new.self CidExpected (token_seen c.in_ok-token.token) c.cid_of.ensures)
