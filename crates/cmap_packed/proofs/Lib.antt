@@ -2,6 +2,7 @@ pub mod BitsOfBytes
 pub mod BitsPeeked
 pub mod BitsTaken
 pub mod BytesTaken
+pub mod FilesAt
 pub mod Fronts
 pub mod Lengths
 pub mod RankedWords

@@ -1,5 +1,6 @@
+use Rattle.cmap_values.specs.NamesSeen.{names_seen}
 use Rattle.std.proofs.Common.{ap, sym, ◌∙◌, [], ◌∷◌, ◌++◌}
-use Rattle.std.proofs.lemmas.List.{map-append, map_more}
+use Rattle.std.proofs.lemmas.List.{map-append, map_more, take_all}
 use Rattle.std.proofs.lemmas.Result.{IfOk-from_err}
 use Rattle.cmap_packed.specs.Copies.{copies_seen}
 use Rattle.cmap_packed.proofs.owned_bundle.copied.Goals as goal
@@ -18,3 +19,6 @@ returns-in_err-from_slice c = IfOk-from_err _ _ c.from_residual-in_err-from_slic
 
 pub returns-in_err-push : goal.returns-in_err-push
 returns-in_err-push c = IfOk-from_err _ _ c.from_residual-in_err-push.ensures.0
+
+pub returns : goal.returns
+returns c = c.loop-file.invariant ∙ ap names_seen (take_all c.loop-file.file-index c.args.files.now c.loop-file-test.false)
