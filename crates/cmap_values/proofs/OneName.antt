@@ -5,6 +5,7 @@ use Rattle.std.specs.List.{range_with_len}
 use Rattle.std.proofs.lemmas.List.{get_or-map}
 use Rattle.std.proofs.lemmas.List.FromFn.{get_or-map-range_with_len}
 use Rattle.std.proofs.lemmas.Bool.{false≢true}
+use Rattle.std.proofs.lemmas.Option.{none-some, same_Some}
 use Rattle.std.specs.Borrow.{Bor}
 use Rattle.cmap_values.specs.declared.names.CMapName.{CMapName}
 use Rattle.cmap_values.specs.declared.names.CMapName.TheVariants.{N83pvRksjH, N90msRksjH, N90msRksjV, N90mspRksjH, N90mspRksjV, N90pvRksjH, AddRksjH, AddRksjV, AdobeCns1Ucs2, AdobeGb1Ucs2, AdobeJapan1Ucs2, AdobeKorea1Ucs2, B5pcH, B5pcV, CnsEucH, CnsEucV, ETenB5H, ETenB5V, ETenmsB5H, ETenmsB5V, EucH, EucV, ExtRksjH, ExtRksjV, GbEucH, GbEucV, GbkEucH, GbkEucV, Gbk2kH, Gbk2kV, GbkpEucH, GbkpEucV, GbpcEucH, GbpcEucV, H, HKscsB5H, HKscsB5V, IdentityH, IdentityV, KscEucH, KscEucV, KscmsUhcH, KscmsUhcHwH, KscmsUhcHwV, KscmsUhcV, KscpcEucH, UniCnsUcs2H, UniCnsUcs2V, UniCnsUtf16H, UniCnsUtf16V, UniGbUcs2H, UniGbUcs2V, UniGbUtf16H, UniGbUtf16V, UniJisUcs2H, UniJisUcs2HwH, UniJisUcs2HwV, UniJisUcs2V, UniJisUtf16H, UniJisUtf16V, UniKsUcs2H, UniKsUcs2V, UniKsUtf16H, UniKsUtf16V, V, Custom}
@@ -35,8 +36,8 @@ sorted name = inl (unwrap_or (index_of_name name) 0, refl, refl, refl, refl)
 -- the text of a name that has an index
 known_text-of : (name : CMapName) (at : ℕ) → Sorted name → index_of_name name ≡ Some at → name_bytes name ≡ get_or known_names at []
 unfolding Sorted
-known_text-of name at (inl (k, here, named, text, text_at)) is = let same : k ≡ at = cc in text ∙ ap (λ k. get_or known_names k []) same
-known_text-of name at (inr (text, named)) is = let none : index_of_name name ≡ None = ap index_of_name named in absurd (cc)
+known_text-of name at (inl (k, here, named, text, text_at)) is = let same = same_Some k at (sym here ∙ is) in text ∙ ap (λ k. get_or known_names k []) same
+known_text-of name at (inr (text, named)) is = absurd (none-some at (sym (ap index_of_name named) ∙ is))
 
 pub known_text : (name : CMapName) (at : ℕ) → index_of_name name ≡ Some at → name_bytes name ≡ get_or known_names at []
 known_text name at is = known_text-of name at (sorted name) is
@@ -61,12 +62,10 @@ IsNameOf-own_text text name same some = named_of text name (sorted name) same so
 
 by_kinds : (name other : CMapName) → Sorted name → Sorted other → index_of_name name ≡ index_of_name other → name_bytes name ≡ name_bytes other → IsSameName name other
 unfolding Sorted
-by_kinds name other (inl x) (inl y) e t = let k : x.0 ≡ y.0 = cc in inl (x.2 ∙ ap named k ∙ sym y.2)
-by_kinds name other (inl x) (inr y) e t = let f : index_of_name other ≡ None = ap index_of_name y.1 in let g : Some x.0 ≡ None = cc in absurd (cc)
-by_kinds name other (inr x) (inl y) e t = let f : index_of_name name ≡ None = ap index_of_name x.1 in let g : Some y.0 ≡ None = cc in absurd (cc)
-by_kinds name other (inr x) (inr y) e t =
-    let f : name_bytes name ≡ x.0.now = ap name_bytes x.1 in let g : name_bytes other ≡ y.0.now = ap name_bytes y.1 in
-    inr (x.0, y.0, x.1, y.1, cc)
+by_kinds name other (inl x) (inl y) e t = let k = same_Some x.0 y.0 (sym x.1 ∙ e ∙ y.1) in inl (x.2 ∙ ap named k ∙ sym y.2)
+by_kinds name other (inl x) (inr y) e t = absurd (none-some x.0 (sym (ap index_of_name y.1) ∙ sym e ∙ x.1))
+by_kinds name other (inr x) (inl y) e t = absurd (none-some y.0 (sym (ap index_of_name x.1) ∙ e ∙ y.1))
+by_kinds name other (inr x) (inr y) e t = inr (x.0, y.0, x.1, y.1, sym (ap name_bytes x.1) ∙ t ∙ ap name_bytes y.1)
 
 pub IsSameName-from_text : (text : List ℕ) (name other : CMapName) → IsNameOf text name → IsNameOf text other → IsSameName name other
 IsSameName-from_text text name other n o = by_kinds name other (sorted name) (sorted other) (n.1 ∙ sym o.1) (n.0 ∙ sym o.0)
