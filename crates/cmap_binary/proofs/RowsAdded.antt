@@ -3,7 +3,8 @@ use Rattle.std.proofs.Common.{Ok, Err, Result, ◌≡◌, ℕ, ◌+◌, ◌<◌,
 use Rattle.std.proofs.lemmas.List.{map-append}
 use Rattle.cmap_files.specs.Files.{Declaration, File, Lists, lists_of}
 use Rattle.cmap_files.specs.ListsAppended.{append_lists}
-use Rattle.cmap_values.specs.Outcomes.{Succeeds}
+use Rattle.std.specs.Prelude.{IsErrAnd}
+use Rattle.cmap_values.specs.Outcomes.{Outcome, Succeeds}
 use Rattle.cmap_values.specs.declared.fault.Fault.{Fault}
 use Rattle.cmap_values.specs.declared.fault.Fault.TheVariants.{Refused, Memory}
 use Rattle.cmap_values.specs.declared.fault.Reason.{Reason}
@@ -51,3 +52,8 @@ pub in_words : {P Q P' Q' : Type 0} (result : Result Unit (Fault Reason)) → Su
 in_words (Ok done) holds succeeds refuses = (succeeds holds.0, tt)
 in_words (Err (Refused reason)) holds succeeds refuses = (tt, refuses holds.1)
 in_words (Err Memory) holds succeeds refuses = (tt, tt)
+
+-- a want of memory, passed on by `?`
+pub out_of_memory : {A R : Type 0} (S : A → Type 0) (Q : R → Type 0) (result : Result A (Fault R)) → IsErrAnd result (λ e. e ≡ Memory) → Outcome S Q result
+out_of_memory S Q (Ok x) is = absurd is
+out_of_memory S Q (Err e) is = (tt, rw is tt)

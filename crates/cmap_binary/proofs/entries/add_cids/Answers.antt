@@ -30,12 +30,13 @@ returns-in_default-take_columns c = (tt, made_none (then_next _ c.in-Some.ensure
 pub returns : goal.returns
 returns c =
     let tables = tables_seen c.args.tables.now in let shape = shape_seen c.args.shape in let len = length_of c.args.len in
+    let here = some_cids tables shape c.in-Some.count c.take_u16.new.text.now (omega arith) in
     in_words c.add_cid_entries.result c.add_cid_entries.ensures
     (λ row.
     let only = then_only _ c.in-Some-take_columns.ensures (then_only _ row.only gives) in
     record {
       content = _;
-      only = made_only (then_only _ c.in-Some.ensures (rw (some_cids tables shape c.in-Some.count c.take_u16.new.text.now (omega arith)) only));
+      only = made_only (then_only _ c.in-Some.ensures (rw here only));
       says = row.says ∙ ap (λ lists. with_content (with_lists (file_seen c.args.file.now) lists) (declares (map (cid len) row.entries))) c.reserve_cids.ensures.same;
     })
-    (λ none. made_none (then_next _ c.in-Some.ensures (rw (some_cids tables shape c.in-Some.count _ (omega arith)) (then_next _ c.in-Some-take_columns.ensures (then_none _ _ none)))))
+    (λ none. made_none (then_next _ c.in-Some.ensures (rw here (then_next _ c.in-Some-take_columns.ensures (then_none _ _ none)))))

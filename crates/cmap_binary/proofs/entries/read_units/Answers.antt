@@ -1,3 +1,4 @@
+use Rattle.cmap_binary.proofs.RowsAdded.{out_of_memory}
 use Rattle.std.proofs.Common.{arith}
 use Rattle.cmap_packed.specs.Fronts.{FieldAt}
 use Rattle.cmap_packed.proofs.Fronts.{row_start, row_more, row_wrong, row_end}
@@ -20,3 +21,9 @@ returns-in_default-take_u16 c = (tt, row_wrong _ _ _ _ _ _ c.loop.invariant (ome
 
 pub returns-in_default-take_two : goal.returns-in_default-take_two
 returns-in_default-take_two c = (tt, rw c.if-count-eq2.true c.in_default-take_two.ensures)
+
+pub returns-in_err-push : goal.returns-in_err-push
+returns-in_err-push c = out_of_memory _ _ c.from_residual.result c.from_residual.ensures.1
+
+pub returns-in_err-from_slice : goal.returns-in_err-from_slice
+returns-in_err-from_slice c = out_of_memory _ _ c.from_residual-in_err-from_slice.result c.from_residual-in_err-from_slice.ensures.1

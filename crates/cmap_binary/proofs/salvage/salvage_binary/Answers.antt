@@ -1,3 +1,4 @@
+use Rattle.std.proofs.lemmas.Result.{IfOk-from_err}
 use Rattle.std.proofs.Common.{subst}
 use Rattle.cmap_files.specs.FilesSeen.{file_seen}
 use Rattle.cmap_binary.specs.BinarySalvage.{SalvagesBinary}
@@ -17,3 +18,9 @@ returns-clause-first c = fault_without_file (returns-clause-says c)
 
 pub returns-clause-ascend : goal.returns-clause-ascend
 returns-clause-ascend c = salvage_ascends (returns-clause-says c)
+
+pub returns-in_err-body : goal.returns-in_err-body
+returns-in_err-body c = record { says = IfOk-from_err _ _ c.from_residual.ensures.0; file = IfOk-from_err _ _ c.from_residual.ensures.0; first = IfOk-from_err _ _ c.from_residual.ensures.0; ascend = IfOk-from_err _ _ c.from_residual.ensures.0 }
+
+pub returns-in_err-salvage_segments : goal.returns-in_err-salvage_segments
+returns-in_err-salvage_segments c = record { says = IfOk-from_err _ _ c.from_residual-in_err-salvage_segments.ensures.0; file = IfOk-from_err _ _ c.from_residual-in_err-salvage_segments.ensures.0; first = IfOk-from_err _ _ c.from_residual-in_err-salvage_segments.ensures.0; ascend = IfOk-from_err _ _ c.from_residual-in_err-salvage_segments.ensures.0 }

@@ -17,3 +17,9 @@ returns-in-Codespaces c = rw c.in-Codespaces.is c.add_codespaces.ensures
 
 pub returns-in-Collection : goal.returns-in-Collection
 returns-in-Collection c = rw c.in-Collection.is c.set_collection.ensures
+
+pub returns-in-Base : goal.returns-in-Base
+returns-in-Base c = rw c.in-Base.is c.add_use.ensures
+
+pub returns-in-Name : goal.returns-in-Name
+returns-in-Name c = rw c.in-Name.is c.set_name.ensures
