@@ -1,9 +1,13 @@
 -- A reader some bytes on.
-use Rattle.std.proofs.Common.{◌≡◌, ℕ, ◌+◌, ◌*◌, ◌/◌, ◌%◌, ◌<◌, ◌≤◌, List, length, get_or, drop, Some, None, ap, ◌∙◌, sym, arith}
-use Rattle.std.specs.List.{slice_get}
+use Rattle.std.proofs.Common.{◌≡◌, ℕ, ◌+◌, ◌*◌, ◌/◌, ◌%◌, ◌<◌, ◌≤◌, List, length, get_or, take, drop, Bool, true, false, Option, Some, None, refl, ap, ◌∙◌, sym, subst, arith, ◌-◌}
+use Rattle.std.specs.Prelude.{nat_le, ◌&&◌, if◌then◌else◌}
+use Rattle.std.specs.List.{slice_get, slice_range}
+use Rattle.std.proofs.lemmas.Bool.{le-leb, lt-leb}
 use Rattle.std.proofs.lemmas.List.{drop-drop, get_or-drop, length-drop}
-use Rattle.std.proofs.lemmas.Option.{slice_get-get_or, slice_get_past}
-use Rattle.cmap_packed.specs.Reader.{Reading, bytes_left, IsAtByte, after_bytes}
+use Rattle.std.proofs.lemmas.Option.{cond_some, none-some, slice_get-get_or, slice_get_past}
+use Rattle.cmap_values.specs.BigEndian.{big_endian}
+use Rattle.cmap_values.specs.CodeLengths.{code_written}
+use Rattle.cmap_packed.specs.Reader.{Reading, bytes_left, IsAtByte, after_bytes, number_at}
 
 pub bytes_left-moved : (old : Reading) (count : ℕ) → IsAtByte old → bytes_left (after_bytes old count) ≡ drop count (bytes_left old)
 bytes_left-moved old count h =
@@ -26,3 +30,34 @@ module _ (bytes : List ℕ) (byte bit : ℕ) (small : bit < 8) where
 
   pub moved_within : (n : ℕ) → (8 * byte + bit) % 8 ≡ 0 → 8 * byte + bit ≤ 8 * length bytes → n ≤ length (drop ((8 * byte + bit) / 8) bytes) → 8 * (byte + n) + bit ≤ 8 * length bytes
   moved_within n at_byte within fits = omega (arith, length-drop ((8 * byte + bit) / 8) bytes)
+
+-- ---- the number that the next bytes write
+module _ (left : List ℕ) (n : ℕ) where
+  abbrev number : Option ℕ
+  number = if nat_le 1 n && nat_le n 4 then number_at n left else None
+
+  none_of : (test : Bool) (o : Option ℕ) → o ≡ None → None ≡ (if test then o else None)
+  none_of true o is = sym is
+  none_of false o is = refl
+
+  none_unless : (test : Bool) (x : ℕ × ℕ) → None ≡ (if test then Some x else None) → test ≡ false
+  none_unless true x none = absurd (none-some x none)
+  none_unless false x none = refl
+
+  pub none_filled : length left < n → None ≡ number
+  none_filled short = none_of (nat_le 1 n && nat_le n 4) (number_at n left) (rw (lt-leb n (length left) short) refl)
+
+  module _ (bytes : List ℕ) (size : length bytes + 0 ≡ n) where
+    sized : length bytes ≡ n
+    sized = omega (arith, size)
+
+    pub none_read : None ≡ code_written bytes → None ≡ number
+    none_read written =
+        let wrong = none_unless (nat_le 1 (length bytes) && nat_le (length bytes) 4) (length bytes, big_endian bytes) written in
+        rw (subst (λ k. (nat_le 1 k && nat_le k 4) ≡ false) sized wrong) refl
+
+    pub number_read : (len value : ℕ) → bytes ≡ slice_range left 0 n → n ≤ length left → Some (len, value) ≡ code_written bytes → Some value ≡ number
+    number_read len value is within written =
+        let (few, same) = cond_some {A = ℕ × ℕ} (nat_le 1 (length bytes) && nat_le (length bytes) 4) (length bytes, big_endian bytes) (len, value) (sym written) in
+        let whole : n - 0 ≡ n = omega arith in
+        rw (subst (λ k. (nat_le 1 k && nat_le k 4) ≡ true) sized few, le-leb n (length left) within) (ap Some (sym (ap (λ p. p.1) same) ∙ ap big_endian (is ∙ ap (λ k. take k left) whole)))

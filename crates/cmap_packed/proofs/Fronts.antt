@@ -82,6 +82,9 @@ continues_only {f = f} row only = record { holds = row.made _ only.holds; alone 
 pub continues_none : {A B : Type 0} {P : A → Type 0} {f : B → A} {Q : B → Type 0} → Continues P f Q → HoldsOfNone Q → HoldsOfNone P
 continues_none row none other is = let (y, at, same) = row.parts other is in none y at
 
+pub all_start : {A : Type 0} (P : List A → Type 0) → Continues P (λ more. [] ++ more) P
+all_start P = record { made = λ y is. is; parts = λ x is. (x, is, refl) }
+
 -- n things in a row: those before index i are these, and the others come from here
 pub record HasRow {A S : Type 0} (item : S → A × S → Type 0) (n : ℕ) (start : S) (i : ℕ) (here : S) (xs : List A) : Type 0 where
   pub left : ℕ

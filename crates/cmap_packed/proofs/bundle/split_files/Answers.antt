@@ -2,9 +2,12 @@ use Rattle.std.proofs.Common.{ap, ◌∙◌, append-nil}
 use Rattle.std.proofs.lemmas.List.{map-append}
 use Rattle.std.proofs.lemmas.Result.{IfOk-from_err}
 use Rattle.cmap_values.specs.NamesSeen.{names_seen}
-use Rattle.cmap_packed.specs.Fronts.{FramedAt}
-use Rattle.cmap_packed.proofs.Fronts.{all_end, all_more, all_wrong, continues_none, continues_only, emptied, filled, no_frame}
+use Rattle.cmap_packed.specs.Fronts.{AllOf, FramedAt}
+use Rattle.cmap_packed.proofs.Fronts.{all_end, all_more, all_start, all_wrong, continues_none, continues_only, emptied, filled, no_frame}
 use Rattle.cmap_packed.proofs.bundle.split_files.Goals as goal
+
+pub loop-bytes-init : goal.loop-bytes-init
+loop-bytes-init c = rw c.new-files.ensures.items (all_start (AllOf (FramedAt 6) c.args.bytes.now))
 
 pub returns-in_default : goal.returns-in_default
 returns-in_default c = continues_none c.loop-bytes.invariant (all_wrong (FramedAt 6) _ (filled c.loop-bytes-test.ensures) c.in_default.ensures)

@@ -1,4 +1,4 @@
-use Rattle.std.proofs.Common.{◌≡◌, ℕ, ◌<◌, ◌++◌, List, [], ◌∷◌, inl, inr, length, get_or, sym, subst, arith}
+use Rattle.std.proofs.Common.{◌≡◌, ℕ, ◌<◌, ◌++◌, List, [], ◌∷◌, inl, inr, length, get_or, ap, sym, subst, arith}
 use Rattle.std.proofs.lemmas.Bool.{cases_lt}
 use Rattle.std.proofs.lemmas.List.{get_or_append_left, get_or_push, length_push}
 use Rattle.std.proofs.lemmas.Result.{IfOk-from_err}
@@ -13,6 +13,12 @@ one_more P xs next before here k d within =
       | inl below ↦ rw (get_or_append_left xs (next ∷ []) d k below) (before k d below)
       | inr past ↦ let last : length xs ≡ k = omega (arith, length_push xs next) in rw (get_or_push xs next d k last) (subst (λ n. P n next) last here)
     ]
+
+none_within : {n : ℕ} (k : ℕ) → n ≡ 0 → k < n → ⊥
+none_within k none within = omega (arith, none, within)
+
+pub loop-byte-init : goal.loop-byte-init
+loop-byte-init c = let none = ap length c.in_ok-known.ensures.items in (none, λ byte other within. absurd (none_within byte none within))
 
 pub find-requires-clause-start : goal.find-requires-clause-start
 find-requires-clause-start c = IsSearched-start _ _
