@@ -1,9 +1,10 @@
 -- How numbers are spelled: what the definitions give where the parts of a text are known.
-use Rattle.std.proofs.Common.{◌≡◌, ℕ, ◌+◌, ◌-◌, ◌==◌, ◌||◌, ◌&&◌, Bool, true, List, [], ◌∷◌, length, get_or, take, drop, Option, option_map, refl, ap, ◌∙◌, arith}
-use Rattle.std.specs.Prelude.{nat_lt, neg_ℤ, pos}
-use Rattle.std.proofs.lemmas.Bool.{eq-eqb}
+use Rattle.std.proofs.Common.{◌≡◌, ℕ, ◌+◌, ◌-◌, ◌<◌, ◌≤◌, ◌^◌, ◌==◌, ◌||◌, ◌&&◌, Bool, true, false, List, [], ◌∷◌, length, get_or, take, drop, Option, Some, None, option_map, refl, sym, ap, ◌∙◌, inl, inr, ◌⊎◌, arith}
+use Rattle.std.specs.Prelude.{min, nat_le, nat_lt, neg_ℤ, option_and_then, pos, if◌then◌else◌}
+use Rattle.std.proofs.lemmas.Bool.{eq-eqb, le-leb, lt-leb, ne_eqb}
 use Rattle.std.proofs.lemmas.List.{take_rest}
-use Rattle.cmap_tokens.specs.Numbers.{digits_len, digits_value, ends_real, integer, is_exponent, is_real, number_of, without_sign, Number}
+use Rattle.std.proofs.lemmas.Option.{none-some, same_Some}
+use Rattle.cmap_tokens.specs.Numbers.{digits_len, digits_value, ends_real, integer, integer_in_base, is_exponent, is_real, number_of, without_sign, Number}
 
 abbrev pub positive : Option ℕ → Option Number
 positive magnitude = option_map (λ n. number_of (pos n)) magnitude
@@ -20,6 +21,47 @@ pub plus_integer : (text : List ℕ) → get_or text 0 0 ≡ 43 → positive (di
 unfolding integer
 plus_integer [] plus = absurd (omega (arith, plus))
 plus_integer (b ∷ text) plus = ap (λ t. positive (digits_value 10 t)) (take_rest (b ∷ text) 1) ∙ rw plus refl
+
+pub plain_integer : (text : List ℕ) → (get_or text 0 0 ≡ 45 → ⊥) → (get_or text 0 0 ≡ 43 → ⊥) → positive (digits_value 10 text) ≡ integer text
+unfolding integer
+plain_integer [] minus plus = refl
+plain_integer (b ∷ text) minus plus = rw (ne_eqb b 45 minus, ne_eqb b 43 plus) refl
+
+-- ---- digits in a base, by the number that is read of the base
+abbrev read_as : Option ℕ → Option ℕ
+read_as base = option_map (λ n. min n (2 ^ 64 - 1)) base
+
+abbrev of_base : List ℕ → ℕ → Option Number
+of_base digits b = if nat_le 2 b && nat_le b 36 then positive (digits_value b digits) else None
+
+none_of_base : (digits : List ℕ) (base : Option ℕ) → None ≡ read_as base → None ≡ option_and_then (of_base digits) base
+none_of_base digits None none = refl
+none_of_base digits (Some n) none = absurd (none-some (min n (2 ^ 64 - 1)) none)
+
+wrong_of_base : (digits : List ℕ) (b : ℕ) (base : Option ℕ) → Some b ≡ read_as base → (b < 2) ⊎ ((2 ≤ b) × (36 < b)) → None ≡ option_and_then (of_base digits) base
+wrong_of_base digits b None is wrong = absurd (none-some b (sym is))
+wrong_of_base digits b (Some n) is (inl low) = let same = same_Some b (min n (2 ^ 64 - 1)) is in rw (lt-leb 2 n (omega (arith, same, low))) refl
+wrong_of_base digits b (Some n) is (inr (least, high)) =
+    let same = same_Some b (min n (2 ^ 64 - 1)) is in
+    rw (le-leb 2 n (omega (arith, same, least)), lt-leb n 36 (omega (arith, same, high))) refl
+
+good_of_base : (digits : List ℕ) (b : ℕ) (base : Option ℕ) → Some b ≡ read_as base → 2 ≤ b → b ≤ 36 → positive (digits_value b digits) ≡ option_and_then (of_base digits) base
+good_of_base digits b None is least most = absurd (none-some b (sym is))
+good_of_base digits b (Some n) is least most =
+    let same : b ≡ n = omega (arith, same_Some b (min n (2 ^ 64 - 1)) is, most) in
+    rw (← same, le-leb 2 b least, le-leb b 36 most) refl
+
+pub none_in_base : (base digits : List ℕ) → None ≡ read_as (digits_value 10 base) → None ≡ integer_in_base base digits
+unfolding integer_in_base
+none_in_base base digits none = none_of_base digits (digits_value 10 base) none
+
+pub wrong_base : (base digits : List ℕ) (b : ℕ) → Some b ≡ read_as (digits_value 10 base) → (b < 2) ⊎ ((2 ≤ b) × (36 < b)) → None ≡ integer_in_base base digits
+unfolding integer_in_base
+wrong_base base digits b is wrong = wrong_of_base digits b (digits_value 10 base) is wrong
+
+pub good_base : (base digits : List ℕ) (b : ℕ) → Some b ≡ read_as (digits_value 10 base) → 2 ≤ b → b ≤ 36 → positive (digits_value b digits) ≡ integer_in_base base digits
+unfolding integer_in_base
+good_base base digits b is least most = good_of_base digits b (digits_value 10 base) is least most
 
 -- a real whose dot comes next, by what stands after the dot
 pub dot_real : (len n : ℕ) (text fraction exponent : List ℕ) (some none ends : Bool) → get_or text 0 0 ≡ 46 → fraction ≡ drop 1 text → n ≡ digits_len 10 fraction → exponent ≡ drop n fraction → nat_lt 0 (len + n) ≡ some → (length exponent == 0) ≡ none → is_exponent exponent ≡ ends → (some && (none || ends)) ≡ ends_real len text
