@@ -1,5 +1,6 @@
 -- The characters of a string and their texts in two rooms, one after another.
 use Rattle.std.proofs.Common.{◌≡◌, ℕ, ◌+◌, ◌-◌, ◌<◌, ◌≤◌, List, [], ◌∷◌, ◌++◌, suc, zero-add, length, drop, take, refl, sym, ap, ◌∙◌, subst, inl, inr, arith}
+use Rattle.std.specs.Prelude.{Option}
 use Rattle.std.proofs.Math.ListN.{set}
 use Rattle.std.proofs.Math.Seq.{take-append_seam}
 use Rattle.std.proofs.lemmas.Grind.{flat_map-append}
@@ -7,7 +8,8 @@ use Rattle.std.proofs.lemmas.List.{append-nil, append_assoc, length-append, leng
 use Rattle.std.proofs.lemmas.Slice.{drop-append-drop}
 use Rattle.cmap_extract.specs.TextsOfCodes.{Font}
 use Rattle.cmap_extract.specs.declared.font.Character.{Character}
-use Rattle.cmap_c.specs.Extracted.{BeginsWithCharacters, IsEnd, IsExtracted, PassesRoom, bytes_of, character_seen, characters_seen, texts_of}
+use Rattle.cmap_layers.specs.Layers.{Layer}
+use Rattle.cmap_c.specs.Extracted.{BeginsWithCharacters, IsEnd, IsExtracted, PassesRoom, bytes_of, character_seen, characters_seen, font_given, texts_of}
 use Rattle.cmap_c.specs.ExtractedParts.{IsMade, IsStop}
 use Rattle.cmap_c.specs.Statuses.{number}
 use Rattle.cmap_c.specs.declared.extract.Extracted.{Extracted}
@@ -121,3 +123,7 @@ ends font string old old_text room extracted Refused within same stop = absurd s
 ends font string old old_text room extracted OverBudget within same stop = absurd stop
 ends font string old old_text room extracted NotABundle within same stop = absurd stop
 ends font string old old_text room extracted Absent within same stop = absurd stop
+
+-- what holds of a font holds of that of the same maps
+pub of_font : (P : Font → Type 0) (encoding : List Layer) (texts to_unicode texts_of_cids collection : Option (List Layer)) → texts ≡ to_unicode → texts_of_cids ≡ collection → P (font_given encoding texts texts_of_cids) → P (font_given encoding to_unicode collection)
+of_font P encoding texts to_unicode texts_of_cids collection same also holds = subst (λ given. P (font_given encoding to_unicode given)) also (subst (λ given. P (font_given encoding given texts_of_cids)) same holds)

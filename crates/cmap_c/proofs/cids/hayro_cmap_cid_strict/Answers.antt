@@ -1,18 +1,22 @@
-use Rattle.std.proofs.Common.{◌≡◌, ◌∙◌, refl}
+use Rattle.std.proofs.Common.{◌∙◌, refl}
+use Rattle.std.proofs.lemmas.Option.{MatchOption-at_none}
+use Rattle.cmap_c.proofs.HandlesRead.{answered_in, in_handle, in_lent, none_found}
 use Rattle.cmap_c.proofs.cids.hayro_cmap_cid_strict.Goals as goal
 
-pub returns-in_default-clause-within : goal.returns-in_default-clause-within
-returns-in_default-clause-within c = rw (← c.in_default.ensures.map) (λ h. absurd h)
+pub returns-in_default : goal.returns-in_default
+returns-in_default c = record {
+  same = c.in_default.ensures.empty ∙ c.in_default.ensures.map;
+  within = λ _. none_found _ _ _ _ c.in_default.ensures.map (refl, refl);
+  outside = λ _. (refl, refl);
+}
 
-pub returns-in_default-clause-outside : goal.returns-in_default-clause-outside
-returns-in_default-clause-outside c _ = (refl, refl)
-
-pub returns-clause-within : goal.returns-clause-within
-returns-clause-within c =
-    let lent : c.value.result.now ≡ c.in-Some.found.value = c.value.ensures ∙ c.deref.ensures in
-    rw (← c.in-Some.ensures.map, ← lent) (λ h. rw (c.lookup_cid_code_strict-answer.ensures.within h) at c.put_cid.ensures)
-
-pub returns-clause-outside : goal.returns-clause-outside
-returns-clause-outside c =
-    let lent : c.value.result.now ≡ c.in-Some.found.value = c.value.ensures ∙ c.deref.ensures in
-    rw (← c.in-Some.ensures.map, ← lent) (λ h. rw (c.lookup_cid_code_strict-answer.ensures.outside h) at c.put_cid.ensures)
+pub returns : goal.returns
+returns c =
+    let map = c.in-Some.ensures.map in
+    let lent = c.value.ensures ∙ c.deref.ensures in
+    let answer = c.lookup_cid_code_strict-answer in
+    record {
+      same = c.put.ensures ∙ map;
+      within = λ within. answered_in _ _ c.in-Some.found.value c.value.result.now answer.result _ _ map lent (answer.ensures.within (in_lent _ _ _ _ _ map lent within)) c.put_cid.ensures;
+      outside = λ outside. MatchOption-at_none _ _ (answer.ensures.outside (λ within. outside (in_handle _ _ _ _ _ map lent within))) c.put_cid.ensures;
+    }

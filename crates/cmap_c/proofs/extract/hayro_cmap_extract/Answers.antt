@@ -1,11 +1,24 @@
-use Rattle.std.proofs.Common.{◌≡◌, ◌∙◌}
-use Rattle.cmap_extract.specs.FontSeen.{layers_given}
+use Rattle.std.proofs.Common.{◌∙◌, refl}
 use Rattle.cmap_layers.specs.LayersSeen.{layers_seen}
+use Rattle.cmap_c.specs.Extracted.{IsExtracted}
+use Rattle.cmap_c.proofs.CharactersExtracted.{of_font}
+use Rattle.cmap_c.proofs.HandlesRead.{no_map, of_map}
 use Rattle.cmap_c.proofs.extract.hayro_cmap_extract.Goals as goal
 
-pub returns-clause-characters : goal.returns-clause-characters
-returns-clause-characters c =
-    let encoding : layers_seen c.layers.result.now ≡ c.in-Some.found.value = c.layers.ensures.layers ∙ c.value.ensures ∙ c.deref.ensures in
-    let to_unicode : layers_given c.layers_lent-texts_layers.result ≡ c.args.to_unicode.now.slot.map = c.layers_lent-texts_layers.ensures ∙ c.take-texts.ensures.map in
-    let collection : layers_given c.layers_lent-collection_layers.result ≡ c.args.collection.now.slot.map = c.layers_lent-collection_layers.ensures ∙ c.take-texts_of_cids.ensures.map in
-    rw (← c.in-Some.ensures.map, ← encoding, ← to_unicode, ← collection) c.extract-status.ensures
+pub returns-in_default : goal.returns-in_default
+returns-in_default c = record {
+  encoding = c.in_default.ensures.empty ∙ c.in_default.ensures.map;
+  to_unicode = refl;
+  collection = refl;
+  characters = no_map _ _ _ c.in_default.ensures.map (c.number.ensures, refl, refl, c.none.ensures);
+}
+
+pub returns : goal.returns
+returns c = record {
+  encoding = c.put.ensures ∙ c.in-Some.ensures.map;
+  to_unicode = c.put_back.ensures ∙ c.take-texts.ensures.map;
+  collection = c.put_back-2.ensures ∙ c.take-texts_of_cids.ensures.map;
+  characters = of_map _ c.in-Some.found.value (layers_seen c.layers.result.now) _ _ c.in-Some.ensures.map (c.layers.ensures.layers ∙ c.value.ensures ∙ c.deref.ensures)
+      (of_font (λ font. IsExtracted font c.args.string.now c.args.characters.now c.extract-status.new.characters c.args.text.now c.extract-status.new.text c.extract-status.new.extracted c.extract-status.result) _ _ _ _ _
+      (c.layers_lent-texts_layers.ensures ∙ c.take-texts.ensures.map) (c.layers_lent-collection_layers.ensures ∙ c.take-texts_of_cids.ensures.map) c.extract-status.ensures);
+}

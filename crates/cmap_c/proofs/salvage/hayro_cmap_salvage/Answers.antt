@@ -1,26 +1,41 @@
-use Rattle.std.proofs.Common.{◌≡◌, ◌++◌, ◌∙◌, ℕ, List, drop, length, take}
+use Rattle.std.proofs.Common.{◌≡◌, ◌++◌, ◌∙◌, ℕ, List, drop, inl, inr, length, refl, take}
 use Rattle.std.proofs.Math.ListN.{length-map}
 use Rattle.std.specs.Option.{option_copied}
 use Rattle.cmap_c.specs.Faults.{fault_numbers}
 use Rattle.cmap_c.specs.Salvaged.{numbers_of_all}
+use Rattle.cmap_c.specs.declared.status.Status.TheVariants.{Done, NoMemory}
+use Rattle.cmap_c.proofs.StatusNumbers.{not_both}
 use Rattle.cmap_c.proofs.salvage.hayro_cmap_salvage.Goals as goal
 
 heads : {A : Type 0} (old new items shown : List A) (many : ℕ) → items ≡ shown → length shown ≡ many → new ≡ take (length old) items ++ drop (length items) old → new ≡ take (length old) shown ++ drop many old
 heads old new items shown many same count put = rw (same, count) at put
 
-pub returns-clause-says : goal.returns-clause-says
-returns-clause-says c _ =
+pub returns-in_default : goal.returns-in_default
+returns-in_default c = record {
+  same = c.put_back.ensures ∙ c.take-read.ensures.bundle;
+  says = λ done. absurd (not_both NoMemory Done refl c.number.ensures done);
+  unwritten = λ _. (refl, refl, refl, refl);
+  failed = inr (c.number.ensures, c.hayro_cmap_free.ensures);
+}
+
+pub returns : goal.returns
+returns c =
     let given : option_copied c.lent.result ≡ c.args.bundle.now.slot.bundle = c.lent.ensures ∙ c.take-read.ensures.bundle in
     let said = rw (given, c.limit.ensures) at c.in-Ok.ensures in
     let faults = said.0 in
     let many : length (numbers_of_all faults) ≡ length faults = length-map faults (λ fault. fault_numbers fault.names fault.cause) in
     record {
-      layers = c.in-Ok.salvaged.map.value;
-      faults = faults;
-      said = said.1;
-      is_map = c.put.ensures;
-      are_counted = rw (c.in-Ok.salvaged.shown.faults.ok.0, said.2.0, many) at c.len.ensures;
-      are_there = heads c.args.faults.now c.put_head.new.room c.deref.result.now (numbers_of_all faults) (length faults) (c.deref.ensures.value ∙ said.2.0) many c.put_head.ensures;
-      put = c.put_bytes.result;
-      are_put = rw (c.deref-2.ensures.value, said.2.1) at c.put_bytes.ensures;
+      same = c.put_back.ensures ∙ c.take-read.ensures.bundle;
+      says = λ _. record {
+        layers = c.in-Ok.salvaged.map.value;
+        faults = faults;
+        said = said.1;
+        is_map = c.put.ensures;
+        are_counted = rw (c.in-Ok.salvaged.shown.faults.ok.0, said.2.0, many) at c.len.ensures;
+        are_there = heads c.args.faults.now c.put_head.new.room c.deref.result.now (numbers_of_all faults) (length faults) (c.deref.ensures.value ∙ said.2.0) many c.put_head.ensures;
+        put = c.put_bytes.result;
+        are_put = rw (c.deref-2.ensures.value, said.2.1) at c.put_bytes.ensures;
+      };
+      unwritten = λ memory. absurd (not_both Done NoMemory refl c.number-2.ensures memory);
+      failed = inl c.number-2.ensures;
     }
