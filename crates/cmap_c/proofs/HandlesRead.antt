@@ -1,5 +1,5 @@
 -- What a call says of the map of a handle, which it takes and puts back.
-use Rattle.std.proofs.Common.{◌≡◌, ◌∙◌, ◌⊎◌, ℕ, List, Option, Some, None, Result, Ok, Err, ap, inl, inr, subst, sym}
+use Rattle.std.proofs.Common.{◌≡◌, ◌∙◌, ◌⊎◌, ℕ, List, Option, Some, None, Result, Ok, Err, ap, inl, inr, refl, subst, sym}
 use Rattle.std.specs.Prelude.{IfOk, IsSomeAnd, MatchOption, MatchResult, option_and_then}
 use Rattle.std.specs.declared.alloc.AllocError.{AllocError}
 use Rattle.std.proofs.lemmas.Option.{none-some, same_Some}
@@ -8,6 +8,7 @@ use Rattle.cmap_layers.specs.Lookups.{InCodespace}
 use Rattle.cmap_c.specs.Handles.{InHandle}
 use Rattle.cmap_c.specs.Statuses.{number}
 use Rattle.cmap_c.specs.declared.status.Status.TheVariants.{Done, NoMemory}
+use Rattle.cmap_c.proofs.StatusNumbers.{not_both}
 
 -- the handle has none
 pub no_map : {M : Type 0} (map : Option M) (A : Type 0) (P : M → Type 0) → None ≡ map → A → MatchOption map A P
@@ -45,9 +46,30 @@ pub in_handle : (map : Option (List Layer)) (m lent : List Layer) (code len : �
 in_handle None m lent code len same is within = absurd (none-some m (sym same))
 in_handle (Some given) m lent code len same is within = subst (λ l. InCodespace l code len) (is ∙ same_Some m given same) within
 
--- the map that was shared is kept, or none where memory ran out
+-- what is answered of a map that is lent
+pub given_in : {M X : Type 0} (find : Option M → Option X) (map lent : Option M) (answer : Option X) (A : Type 0) (P : X → Type 0) → answer ≡ find lent → lent ≡ map → MatchOption answer A P → MatchOption (find map) A P
+given_in find map lent answer A P found same holds = subst (λ o. MatchOption o A P) (found ∙ ap find same) holds
+
+-- what was made is kept, or nothing where memory ran out
+abbrev pub AreKept : {M : Type 0} → M → ℕ → Option M → Type 0
+AreKept given status now = ((status ≡ number Done) × (now ≡ Some given)) ⊎ ((status ≡ number NoMemory) × (now ≡ None))
+
+pub kept : {M B : Type 0} (value : B → M) (made : Result B AllocError) (given : M) (status : ℕ) (now : Option M) → IfOk made (λ b. value b ≡ given)
+    → MatchResult made (λ b. (status ≡ number Done) × (now ≡ Some (value b))) (λ _. (status ≡ number NoMemory) × (now ≡ None)) → AreKept given status now
+kept value (Ok b) given status now made keeps = inl (keeps.0, keeps.1 ∙ ap Some made)
+kept value (Err e) given status now made keeps = inr keeps
+
+pub kept_done : {M : Type 0} (given : M) (status : ℕ) (now : Option M) → AreKept given status now → status ≡ number Done → now ≡ Some given
+kept_done given status now (inl done) is = done.1
+kept_done given status now (inr memory) is = absurd (not_both NoMemory Done refl memory.0 is)
+
+pub kept_or_none : {M : Type 0} (given : M) (status : ℕ) (now : Option M) → AreKept given status now → (status ≡ number Done) ⊎ ((status ≡ number NoMemory) × (now ≡ None))
+kept_or_none given status now (inl done) = inl done.0
+kept_or_none given status now (inr memory) = inr memory
+
+-- the map that was shared is kept
 pub shared : {M B : Type 0} (value : B → M) (map : Option M) (made : Result B AllocError) (m lent : M) (status : ℕ) (now : Option M) → Some m ≡ map → lent ≡ m → IfOk made (λ b. value b ≡ lent)
     → MatchResult made (λ b. (status ≡ number Done) × (now ≡ Some (value b))) (λ _. (status ≡ number NoMemory) × (now ≡ None))
     → ((status ≡ number Done) × (now ≡ map)) ⊎ ((status ≡ number NoMemory) × (now ≡ None))
-shared value map (Ok b) m lent status now same is made kept = inl (kept.0, kept.1 ∙ ap Some (made ∙ is) ∙ same)
-shared value map (Err e) m lent status now same is made kept = inr kept
+shared value map made m lent status now same is made_is keeps =
+    elim (kept value made lent status now made_is keeps) [ inl done ↦ inl (done.0, done.1 ∙ ap Some is ∙ same) | inr memory ↦ inr memory ]

@@ -1,5 +1,5 @@
 -- The number by which a call ends says which status it is.
-use Rattle.std.proofs.Common.{◌≡◌, ◌∙◌, ℕ, List, [], ◌∷◌, ap, arith, get_or, inl, inr, nat_eq, refl, sym, true, false, true≢false}
+use Rattle.std.proofs.Common.{◌≡◌, ◌∙◌, ◌⊎◌, ℕ, List, [], ◌∷◌, ap, arith, get_or, inl, inr, nat_eq, refl, sym, true, false, true≢false}
 use Rattle.std.proofs.lemmas.Bool.Decides.{nat_tests}
 use Rattle.cmap_c.specs.Rooms.{IsPut}
 use Rattle.cmap_c.specs.Statuses.{number}
@@ -28,5 +28,17 @@ number-injective s t same = sym (numbered_number s) ∙ ap numbered same ∙ num
 pub not_both : {n : ℕ} (s t : Status) → nat_eq (number s) (number t) ≡ false → n ≡ number s → n ≡ number t → ⊥
 not_both s t differ is other = true≢false (sym (nat_eq-self (number s)) ∙ ap (nat_eq (number s)) (sym is ∙ other) ∙ differ)
 
-pub put_no_memory : {A : Type 0} (items old new : List A) (needed status : ℕ) → IsPut items old new needed status → status ≡ number NoMemory → ⊥
-put_no_memory items old new needed status put memory = elim put.1 [ inl all ↦ not_both Done NoMemory refl all.1 memory | inr none ↦ not_both NoRoom NoMemory refl none.1 memory ]
+pub neither : {n : ℕ} (s t u : Status) → nat_eq (number s) (number t) ≡ false → nat_eq (number s) (number u) ≡ false → n ≡ number s → (n ≡ number t) ⊎ (n ≡ number u) → ⊥
+neither s t u differ also is (inl other) = not_both s t differ is other
+neither s t u differ also is (inr other) = not_both s u also is other
+
+-- a call that puts ends so
+module _ {A : Type 0} (items old new : List A) (needed status : ℕ) (put : IsPut items old new needed status) where
+  pub put_ends : (status ≡ number Done) ⊎ (status ≡ number NoRoom)
+  put_ends = elim put.1 [ inl all ↦ inl all.1 | inr none ↦ inr none.1 ]
+
+  pub put_no_memory : status ≡ number NoMemory → ⊥
+  put_no_memory memory = neither NoMemory Done NoRoom refl refl memory put_ends
+
+  pub put_not_absent : status ≡ number Absent → ⊥
+  put_not_absent absent = neither Absent Done NoRoom refl refl absent put_ends
