@@ -1,14 +1,28 @@
+use Rattle.std.proofs.Common.{◌≡◌, ◌≢◌, subst}
 use Rattle.std.specs.Option.{option_copied}
-use Rattle.cmap_c.specs.NamedFiles.{ExceedsBudgetOver, FitsBudgetOver, HasNoMapOver, IsMapOver, LeadsToFaultOver}
+use Rattle.cmap_values.specs.NamesSeen.{names_seen}
+use Rattle.cmap_values.specs.Outcomes.{RefusesWith}
+use Rattle.hayro_cmap.specs.Maps as maps
+use Rattle.hayro_cmap.specs.declared.refusal.Cause.TheVariants as cause
+use Rattle.hayro_cmap.specs.declared.refusal.Refusal.{Refusal}
+use Rattle.cmap_c.specs.NamedFiles.{ExceedsBudgetOver, FitsBudgetOver, HasNoMapOver, IsMapOver, LeadsToFaultOver, answers}
 use Rattle.cmap_c.proofs.MapsExplained.{told}
 use Rattle.cmap_c.proofs.explain.explain_owned.Goals as goal
 
 pub returns-in-Ok : goal.returns-in-Ok
 unfolding IsMapOver FitsBudgetOver
-returns-in-Ok c = ((rw c.tables_of.ensures at c.in-Ok.ensures.accepts, rw c.tables_of.ensures at c.in-Ok.ensures.within), tt)
+returns-in-Ok c =
+    let names = answers (option_copied c.args.bundle) c.args.files.now in
+    let bytes = c.args.data.now in
+    ((subst (λ tables. maps.IsMapOf tables names bytes c.in-Ok.map) c.tables_of.ensures c.in-Ok.ensures.accepts, subst (λ tables. maps.FitsBudget tables names bytes c.args.budget) c.tables_of.ensures c.in-Ok.ensures.within), tt)
 
 pub returns-in-Err : goal.returns-in-Err
 unfolding ExceedsBudgetOver FitsBudgetOver HasNoMapOver LeadsToFaultOver
 returns-in-Err c =
-    told (option_copied c.args.bundle) c.args.files.now c.args.data.now c.args.budget _ c.of.result
-    (rw c.tables_of.ensures at c.in-Err.ensures.refuses) (rw c.tables_of.ensures at c.in-Err.ensures.over) (rw c.tables_of.ensures at c.in-Err.ensures.blames) c.of.ensures
+    let names = answers (option_copied c.args.bundle) c.args.files.now in
+    let bytes = c.args.data.now in
+    let budget = c.args.budget in
+    told (option_copied c.args.bundle) c.args.files.now bytes budget c.in-Err.fault c.of.result
+    (subst (λ tables. RefusesWith (λ (r : Refusal). r.cause ≢ cause.OverBudget → maps.HasNoMap tables names bytes × maps.FitsBudget tables names bytes budget) c.in-Err.fault) c.tables_of.ensures c.in-Err.ensures.refuses)
+    (subst (λ tables. RefusesWith (λ (r : Refusal). r.cause ≡ cause.OverBudget → maps.ExceedsBudget tables names bytes budget) c.in-Err.fault) c.tables_of.ensures c.in-Err.ensures.over)
+    (subst (λ tables. RefusesWith (λ (r : Refusal). maps.LeadsToFault tables names bytes budget (names_seen r.names.items) r.cause) c.in-Err.fault) c.tables_of.ensures c.in-Err.ensures.blames) c.of.ensures

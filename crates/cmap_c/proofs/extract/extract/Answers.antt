@@ -1,9 +1,13 @@
-use Rattle.std.proofs.Common.{◌≡◌, ◌+◌, ◌-◌, ◌<◌, length, refl, ap, subst, inl, inr, arith}
+use Rattle.std.proofs.Common.{◌≡◌, ◌+◌, ◌-◌, ◌<◌, ◌≤◌, length, refl, ap, subst, sym, inl, inr, arith}
 use Rattle.std.proofs.lemmas.List.{take_rest}
 use Rattle.cmap_extract.specs.FontSeen.{font_seen}
 use Rattle.cmap_c.specs.ExtractedParts.{IsMade, IsStop}
-use Rattle.cmap_c.proofs.CharactersExtracted.{IsExtracting, ends, extracts_all, extracts_more}
+use Rattle.cmap_c.proofs.CharactersExtracted.{IsExtracting, ends, extracts_all, extracts_more, extracts_none}
 use Rattle.cmap_c.proofs.extract.extract.Goals as goal
+
+pub loop-extracted-init : goal.loop-extracted-init
+loop-extracted-init c = subst (IsExtracting (font_seen c.args.font.now) c.args.string.now c.args.characters.now c.args.characters.now c.args.text.now c.args.text.now) (sym c.requires)
+    (extracts_none (font_seen c.args.font.now) c.args.string.now c.args.characters.now c.args.text.now)
 
 pub loop-extracted-preserved : goal.loop-extracted-preserved
 loop-extracted-preserved c =
@@ -33,3 +37,9 @@ returns-else-extracted-string c =
     let full : c.loop-extracted.extracted.made ≡ length c.args.characters.now = omega (arith, c.loop-extracted-test.false, c.loop-extracted.invariant.fits, c.loop-extracted.auto.characters) in
     extracts_all (font_seen c.args.font.now) c.args.string.now c.args.characters.now c.loop-extracted.characters c.args.text.now c.loop-extracted.text c.loop-extracted.extracted _ c.loop-extracted.invariant
     (inr (inl (c.number-else-extracted-string.ensures, omega (arith, c.if-extracted-string.false, c.loop-extracted.invariant.within), inl full)))
+
+pub next_code-requires : goal.next_code-requires
+next_code-requires c = subst (λ n. c.loop-extracted.extracted.used ≤ n) (sym c.loop-extracted.auto.text) c.loop-extracted.invariant.texts_fit
+
+pub slice_bounds-next_code-count : goal.slice_bounds-next_code-count
+slice_bounds-next_code-count c = c.loop-extracted.invariant.within

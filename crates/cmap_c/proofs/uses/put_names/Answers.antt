@@ -8,6 +8,9 @@ use Rattle.cmap_c.proofs.uses.put_names.Goals as goal
 not_below : {a b : ℕ} → a ≤ b → b < a → ⊥
 not_below few many = omega arith
 
+pub returns-in_default : goal.returns-in_default
+returns-in_default c = inl (c.number.ensures, refl, refl, refl, refl)
+
 pub returns-then-used-name_lens : goal.returns-then-used-name_lens
 returns-then-used-name_lens c =
     let count : length c.args.used.now ≡ length (names_seen c.args.used.now) = sym (length-map c.args.used.now (λ name. name.now)) in

@@ -1,12 +1,14 @@
-use Rattle.std.proofs.Common.{◌≡◌, ◌++◌, ◌+◌, ◌<◌, ℕ, List, [], ◌∷◌, add-one, append_assoc, drop, drop-cons, get_or, length, refl}
+use Rattle.std.proofs.Common.{◌≡◌, ◌++◌, ◌+◌, ◌<◌, ℕ, List, [], ◌∷◌, add-one, ap, append_assoc, drop, drop-cons, get_or, length, refl}
 use Rattle.std.specs.Borrow.{Bor}
 use Rattle.std.specs.List.{concat}
+use Rattle.std.proofs.lemmas.Result.{IfOk-from_err}
 use Rattle.cmap_values.specs.NamesSeen.{names_seen}
 use Rattle.hayro_cmap.specs.SalvageSeen.{fault_seen, faults_seen}
 use Rattle.hayro_cmap.specs.declared.refusal.Refusal.{Refusal}
 use Rattle.cmap_c.specs.Faults.{fault_numbers}
 use Rattle.cmap_c.specs.Salvaged.{names_joined, numbers_of_all}
 use Rattle.cmap_c.specs.declared.fault.FaultNumbers.{FaultNumbers}
+use Rattle.cmap_c.proofs.FilledRows.{all_left}
 use Rattle.cmap_c.proofs.salvage.ShownFaults.of.Goals as goal
 
 module _ (faults : List Refusal) (i : ℕ) (fault : Refusal) (within : i < length faults) (is : fault ≡ get_or faults i fault) where
@@ -26,3 +28,24 @@ loop-fault-preserved c =
     let numbers = next_numbers c.args.faults.now c.loop-fault.fault-index c.fault-item.result c.loop-fault-test.true c.fault-item.is _ _ _ _ _ c.in_ok-push.ensures.items c.of.ensures.whole c.deref.ensures.value c.loop-fault.invariant.0 in
     let names = next_names c.args.faults.now c.loop-fault.fault-index c.fault-item.result c.loop-fault-test.true c.fault-item.is _ _ _ _ c.in_ok-push_names.ensures c.deref-in-loop-fault.ensures.value c.loop-fault.invariant.1 in
     (numbers, names)
+
+pub returns-in_err-shown : goal.returns-in_err-shown
+returns-in_err-shown c = IfOk-from_err _ _ c.from_residual.ensures.0
+
+pub returns-in_err-push : goal.returns-in_err-push
+returns-in_err-push c = IfOk-from_err _ _ c.from_residual-in_err-push.ensures.0
+
+pub returns-in_err-push_names : goal.returns-in_err-push_names
+returns-in_err-push_names c = IfOk-from_err _ _ c.from_residual-in_err-push_names.ensures.0
+
+pub loop-fault-init : goal.loop-fault-init
+loop-fault-init c =
+    let faults = faults_seen c.args.faults.now in
+    (ap (λ made. made ++ numbers_of_all faults) c.in_ok-shown.ensures.items, ap (λ made. made ++ names_joined faults) c.new-names.ensures.items)
+
+pub returns : goal.returns
+returns c =
+    let faults = c.args.faults.now in (
+      all_left (λ left. numbers_of_all (faults_seen left)) faults c.loop-fault.fault-index _ _ c.loop-fault-test.false refl c.loop-fault.invariant.0,
+      all_left (λ left. names_joined (faults_seen left)) faults c.loop-fault.fault-index _ _ c.loop-fault-test.false refl c.loop-fault.invariant.1,
+    )
