@@ -1,6 +1,6 @@
 -- What a call says of the map of a handle, which it takes and puts back.
-use Rattle.std.proofs.Common.{◌≡◌, ◌∙◌, ◌⊎◌, ℕ, List, Option, Some, None, Result, Ok, Err, ap, inl, inr, refl, subst, sym}
-use Rattle.std.specs.Prelude.{IfOk, IsSomeAnd, MatchOption, MatchResult, option_and_then}
+use Rattle.std.proofs.Common.{◌≡◌, ◌∙◌, ◌⊎◌, ℕ, Bool, List, Option, Some, None, Result, Ok, Err, ap, inl, inr, refl, subst, sym, false, true≢false}
+use Rattle.std.specs.Prelude.{IfOk, IsSomeAnd, is_some, MatchOption, MatchResult, option_and_then}
 use Rattle.std.specs.declared.alloc.AllocError.{AllocError}
 use Rattle.std.proofs.lemmas.Option.{none-some, same_Some}
 use Rattle.cmap_layers.specs.Layers.{Layer}
@@ -11,6 +11,10 @@ use Rattle.cmap_c.specs.declared.status.Status.TheVariants.{Done, NoMemory}
 use Rattle.cmap_c.proofs.StatusNumbers.{not_both}
 
 -- the handle has none
+pub has_none : {M : Type 0} (map : Option M) (full : Bool) → full ≡ is_some map → full ≡ false → None ≡ map
+has_none None full agrees empty = refl
+has_none (Some m) full agrees empty = absurd (true≢false (sym agrees ∙ empty))
+
 pub no_map : {M : Type 0} (map : Option M) (A : Type 0) (P : M → Type 0) → None ≡ map → A → MatchOption map A P
 no_map None A P same absent = absent
 no_map (Some m) A P same absent = absurd (none-some m same)

@@ -43,3 +43,6 @@ next_code-requires c = subst (λ n. c.loop-extracted.extracted.used ≤ n) (sym 
 
 pub slice_bounds-next_code-count : goal.slice_bounds-next_code-count
 slice_bounds-next_code-count c = c.loop-extracted.invariant.within
+
+pub loop-extracted-smaller : goal.loop-extracted-smaller
+loop-extracted-smaller c = omega (arith, c.loop-extracted-test.true, c.loop-extracted.auto.characters)

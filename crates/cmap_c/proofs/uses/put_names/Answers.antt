@@ -1,4 +1,4 @@
-use Rattle.std.proofs.Common.{◌≡◌, ◌≤◌, ◌<◌, ◌⊎◌, ℕ, arith, inl, inr, length, refl, sym}
+use Rattle.std.proofs.Common.{◌≡◌, ◌∙◌, ◌≤◌, ◌<◌, ◌⊎◌, ℕ, arith, inl, inr, length, refl, subst, sym}
 use Rattle.std.proofs.Math.ListN.{length-map}
 use Rattle.std.specs.List.{concat}
 use Rattle.cmap_values.specs.NamesSeen.{names_seen}
@@ -35,3 +35,6 @@ returns c =
       | inl all ↦ inr (count, put.0, inl (few, fits, all.1, lengths, all.2))
       | inr none ↦ absurd (not_below fits none.0)
     ]
+
+pub fill-requires : goal.fill-requires
+fill-requires c = subst (λ n. n ≤ length c.args.name_lens.now) (sym (length-map (names_seen c.args.used.now) length ∙ length-map c.args.used.now (λ name. name.now))) c.if-used-name_lens.false
