@@ -1,4 +1,4 @@
-use Rattle.std.proofs.Common.{◌≡◌, ◌≢◌, subst}
+use Rattle.std.proofs.Common.{◌≡◌, ◌≢◌, ◌∙◌, subst, sym}
 use Rattle.std.specs.Option.{option_copied}
 use Rattle.cmap_values.specs.NamesSeen.{names_seen}
 use Rattle.cmap_values.specs.Outcomes.{RefusesWith}
@@ -26,3 +26,6 @@ returns-in-Err c =
     (subst (λ tables. RefusesWith (λ (r : Refusal). r.cause ≢ cause.OverBudget → maps.HasNoMap tables names bytes × maps.FitsBudget tables names bytes budget) c.in-Err.fault) c.tables_of.ensures c.in-Err.ensures.refuses)
     (subst (λ tables. RefusesWith (λ (r : Refusal). r.cause ≡ cause.OverBudget → maps.ExceedsBudget tables names bytes budget) c.in-Err.fault) c.tables_of.ensures c.in-Err.ensures.over)
     (subst (λ tables. RefusesWith (λ (r : Refusal). maps.LeadsToFault tables names bytes budget (names_seen r.names.items) r.cause) c.in-Err.fault) c.tables_of.ensures c.in-Err.ensures.blames) c.of.ensures
+
+pub parse_from-requires-clause-by_name : goal.parse_from-requires-clause-by_name
+parse_from-requires-clause-by_name c _ _ _ one other = one ∙ sym other

@@ -18,23 +18,15 @@ absent_or_few (inr (inl below, rest)) = inr (inl below, rest)
 absent_or_few (inr (inr (inl four), rest)) = absurd four.1
 absent_or_few (inr (inr (inr five), rest)) = inr (inr five.0, rest)
 
-pub returns-clause-same : goal.returns-clause-same
-returns-clause-same c = c.put_back.ensures ∙ c.take-found.ensures.bundle
-
-pub returns-clause-accepts : goal.returns-clause-accepts
-returns-clause-accepts c = (says c).accepts
-
-pub returns-clause-absent : goal.returns-clause-absent
-returns-clause-absent c = (says c).unknown
-
-pub returns-clause-refuses : goal.returns-clause-refuses
-returns-clause-refuses c = (says c).refuses
-
-pub returns-clause-over : goal.returns-clause-over
-returns-clause-over c = (says c).passes
-
-pub returns-clause-within : goal.returns-clause-within
-returns-clause-within c = (says c).within
-
-pub returns-clause-failed : goal.returns-clause-failed
-returns-clause-failed c = absent_or_few (says c).failed
+pub returns : goal.returns
+returns c =
+    let ends = says c in
+    record {
+      same = c.put_back.ensures ∙ c.take-found.ensures.bundle;
+      accepts = ends.accepts;
+      absent = ends.unknown;
+      refuses = ends.refuses;
+      over = ends.passes;
+      within = ends.within;
+      failed = absent_or_few ends.failed;
+    }

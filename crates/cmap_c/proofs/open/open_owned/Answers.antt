@@ -1,4 +1,4 @@
-use Rattle.std.proofs.Common.{◌≡◌, ◌≢◌, subst}
+use Rattle.std.proofs.Common.{◌≡◌, ◌≢◌, ◌∙◌, subst, sym}
 use Rattle.std.specs.Prelude.{IfNone, IfSome}
 use Rattle.std.specs.Option.{option_copied}
 use Rattle.cmap_packed.specs.BundleSeen.{tables_given}
@@ -38,3 +38,6 @@ returns-in-Err c =
     c.in-Err.fault _ c.ending_of.ensures
     (subst (λ tables. RefusesWith (λ (r : Refusal). r.cause ≢ cause.OverBudget → opened.HasNoMapNamed tables names name × opened.FitsBudgetNamed tables names name budget) c.in-Err.fault) c.tables_of.ensures c.in-Err.ensures.refuses)
     (subst (λ tables. RefusesWith (λ (r : Refusal). r.cause ≡ cause.OverBudget → opened.ExceedsBudgetNamed tables names name budget) c.in-Err.fault) c.tables_of.ensures c.in-Err.ensures.over)
+
+pub open-requires-clause-by_name : goal.open-requires-clause-by_name
+open-requires-clause-by_name c _ _ _ one other = one ∙ sym other

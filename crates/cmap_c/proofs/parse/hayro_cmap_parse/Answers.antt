@@ -17,20 +17,14 @@ at_most_four (inr (inl below, rest)) = inr (omega arith, rest)
 at_most_four (inr (inr (inl four), rest)) = let is = four.0 in inr (omega arith, rest)
 at_most_four (inr (inr (inr five), rest)) = absurd five.1
 
-pub returns-clause-accepts : goal.returns-clause-accepts
-returns-clause-accepts c = (says c).accepts
-
-pub returns-clause-refuses : goal.returns-clause-refuses
-returns-clause-refuses c = (says c).refuses
-
-pub returns-clause-over : goal.returns-clause-over
-returns-clause-over c = (says c).passes
-
-pub returns-clause-within : goal.returns-clause-within
-returns-clause-within c = (says c).within
-
-pub returns-clause-not_a_bundle : goal.returns-clause-not_a_bundle
-returns-clause-not_a_bundle c = (says c).not_a_bundle
-
-pub returns-clause-failed : goal.returns-clause-failed
-returns-clause-failed c = at_most_four (says c).failed
+pub returns : goal.returns
+returns c =
+    let ends = says c in
+    record {
+      accepts = ends.accepts;
+      refuses = ends.refuses;
+      over = ends.passes;
+      within = ends.within;
+      not_a_bundle = ends.not_a_bundle;
+      failed = at_most_four ends.failed;
+    }

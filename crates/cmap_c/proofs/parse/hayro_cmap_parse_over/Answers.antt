@@ -11,20 +11,14 @@ says c =
     let given : option_copied c.lent.result ≡ c.args.bundle.now.slot.bundle = c.lent.ensures ∙ c.take-found.ensures.bundle in
     ended _ _ _ _ _ _ c.parse_owned-parsed.result _ _ (rw (given, c.limit.ensures) at c.parse_owned-parsed.ensures) c.keep_read.ensures
 
-pub returns-clause-same : goal.returns-clause-same
-returns-clause-same c = c.put_back.ensures ∙ c.take-found.ensures.bundle
-
-pub returns-clause-accepts : goal.returns-clause-accepts
-returns-clause-accepts c = (says c).accepts
-
-pub returns-clause-refuses : goal.returns-clause-refuses
-returns-clause-refuses c = (says c).refuses
-
-pub returns-clause-over : goal.returns-clause-over
-returns-clause-over c = (says c).passes
-
-pub returns-clause-within : goal.returns-clause-within
-returns-clause-within c = (says c).within
-
-pub returns-clause-failed : goal.returns-clause-failed
-returns-clause-failed c = few (says c).failed
+pub returns : goal.returns
+returns c =
+    let ends = says c in
+    record {
+      same = c.put_back.ensures ∙ c.take-found.ensures.bundle;
+      accepts = ends.accepts;
+      refuses = ends.refuses;
+      over = ends.passes;
+      within = ends.within;
+      failed = few ends.failed;
+    }

@@ -1,3 +1,4 @@
+use Rattle.std.proofs.Common.{◌∙◌, sym}
 use Rattle.cmap_packed.specs.BundleSeen.{tables_given}
 use Rattle.hayro_cmap.specs.Maps.{ExceedsBudget, FitsBudget, HasNoMap, IsMapOf}
 use Rattle.cmap_c.specs.NamedFiles.{answers, bundle_in}
@@ -15,3 +16,6 @@ returns-in-Err g c =
     let budget = c.args.budget in
     refused (IsMapOf tables names bytes) (HasNoMap tables names bytes) (FitsBudget tables names bytes budget) (ExceedsBudget tables names bytes budget) ⊥ ⊥
     _ _ c.ending_of.ensures c.in-Err.ensures.refuses c.in-Err.ensures.over
+
+pub parse_from-requires-clause-by_name : goal.parse_from-requires-clause-by_name
+parse_from-requires-clause-by_name g c _ _ _ one other = one ∙ sym other

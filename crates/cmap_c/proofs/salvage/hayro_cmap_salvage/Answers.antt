@@ -1,8 +1,9 @@
-use Rattle.std.proofs.Common.{◌≡◌, ◌++◌, ◌∙◌, ℕ, List, drop, inl, inr, length, refl, take}
+use Rattle.std.proofs.Common.{◌≡◌, ◌++◌, ◌∙◌, ℕ, List, ap, drop, inl, inr, length, refl, subst, take}
 use Rattle.std.proofs.Math.ListN.{length-map}
 use Rattle.std.specs.Option.{option_copied}
 use Rattle.cmap_c.specs.Faults.{fault_numbers}
-use Rattle.cmap_c.specs.Salvaged.{numbers_of_all}
+use Rattle.cmap_c.specs.Rooms.{IsPut}
+use Rattle.cmap_c.specs.Salvaged.{IsSalvageOver, IsSalvagedWith, numbers_of_all}
 use Rattle.cmap_c.specs.declared.status.Status.TheVariants.{Done, NoMemory}
 use Rattle.cmap_c.proofs.StatusNumbers.{not_both}
 use Rattle.cmap_c.proofs.salvage.hayro_cmap_salvage.Goals as goal
@@ -21,7 +22,9 @@ returns-in_default c = record {
 pub returns : goal.returns
 returns c =
     let given : option_copied c.lent.result ≡ c.args.bundle.now.slot.bundle = c.lent.ensures ∙ c.take-read.ensures.bundle in
-    let said = rw (given, c.limit.ensures) at c.in-Ok.ensures in
+    let files = c.args.files.now in
+    let said = subst (λ budget. IsSalvagedWith (IsSalvageOver c.args.bundle.now.slot.bundle files c.args.data.now budget) c.in-Ok.salvaged) c.limit.ensures
+    (subst (λ bundle. IsSalvagedWith (IsSalvageOver bundle files c.args.data.now c.limit.result) c.in-Ok.salvaged) given c.in-Ok.ensures) in
     let faults = said.0 in
     let many : length (numbers_of_all faults) ≡ length faults = length-map faults (λ fault. fault_numbers fault.names fault.cause) in
     record {
@@ -31,10 +34,10 @@ returns c =
         faults = faults;
         said = said.1;
         is_map = c.put.ensures;
-        are_counted = rw (c.in-Ok.salvaged.shown.faults.ok.0, said.2.0, many) at c.len.ensures;
+        are_counted = c.len.ensures ∙ c.in-Ok.salvaged.shown.faults.ok.0 ∙ ap length said.2.0 ∙ many;
         are_there = heads c.args.faults.now c.put_head.new.room c.deref.result.now (numbers_of_all faults) (length faults) (c.deref.ensures.value ∙ said.2.0) many c.put_head.ensures;
         put = c.put_bytes.result;
-        are_put = rw (c.deref-2.ensures.value, said.2.1) at c.put_bytes.ensures;
+        are_put = subst (λ bytes. IsPut bytes c.args.room.now c.put_bytes.new.room c.put_bytes.new.needed c.put_bytes.result) (c.deref-2.ensures.value ∙ said.2.1) c.put_bytes.ensures;
       };
       unwritten = λ memory. absurd (not_both Done NoMemory refl c.number-2.ensures memory);
       failed = inl c.number-2.ensures;

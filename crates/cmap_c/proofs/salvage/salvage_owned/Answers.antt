@@ -1,10 +1,12 @@
-use Rattle.std.proofs.Common.{◌≡◌, List, Option, subst}
+use Rattle.std.proofs.Common.{◌≡◌, ◌≤◌, ◌∙◌, List, Option, length, subst, sym}
 use Rattle.std.proofs.lemmas.Result.{IfOk-weaker}
+use Rattle.std.specs.List.{All}
 use Rattle.std.specs.Option.{option_copied}
 use Rattle.cmap_packed.specs.BundleSeen.{tables_given}
 use Rattle.cmap_packed.specs.Bundles.{PrefixTables}
 use Rattle.cmap_layers.specs.Layers.{Layer}
 use Rattle.hayro_cmap.specs.SalvageSeen.{faults_seen}
+use Rattle.hayro_cmap.specs.declared.refusal.Refusal.{Refusal}
 use Rattle.cmap_c.specs.NamedFiles.{answers}
 use Rattle.cmap_c.specs.Salvaged.{AreFaultsShown, IsSalvage, IsSalvageOver, IsSalvagedWith}
 use Rattle.cmap_c.specs.declared.salvage.Salvaged.{Salvaged}
@@ -23,3 +25,9 @@ returns-in-Ok c =
     λ map is. rw (is, same) (subst (λ (tables : Option PrefixTables). IsSalvage tables names c.args.data.now c.args.budget found.map (faults_seen found.faults.items)) c.tables_of.ensures said) in
     IfOk-weaker c.of.result (λ (made : Salvaged). (made.map.value ≡ found.map) × AreFaultsShown faults made.shown) (IsSalvagedWith (IsSalvageOver (option_copied c.args.bundle) c.args.files.now c.args.data.now c.args.budget))
     (λ made is. (faults, says made.map.value is.0, is.1)) c.of.ensures
+
+pub salvage-requires-clause-by_name : goal.salvage-requires-clause-by_name
+salvage-requires-clause-by_name c _ _ _ one other = one ∙ sym other
+
+pub of-requires : goal.of-requires
+of-requires c = subst (All (λ (fault : Refusal). length fault.names.items ≤ 16)) (sym c.deref.ensures.value) c.in-Ok.ensures.few
