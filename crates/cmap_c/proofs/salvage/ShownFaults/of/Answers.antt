@@ -1,4 +1,4 @@
-use Rattle.std.proofs.Common.{◌≡◌, ◌++◌, ◌+◌, ◌<◌, ℕ, List, [], ◌∷◌, add-one, ap, append_assoc, drop, drop-cons, get_or, length, refl}
+use Rattle.std.proofs.Common.{◌≡◌, ◌∙◌, ◌++◌, ◌+◌, ◌<◌, ℕ, List, [], ◌∷◌, add-one, ap, append_assoc, drop, drop-cons, get_or, length, refl, sym}
 use Rattle.std.specs.Borrow.{Bor}
 use Rattle.std.specs.List.{concat}
 use Rattle.std.proofs.lemmas.Result.{IfOk-from_err}
@@ -17,17 +17,25 @@ module _ (faults : List Refusal) (i : ℕ) (fault : Refusal) (within : i < lengt
 
   next_numbers : (old new all : List FaultNumbers) (numbers : FaultNumbers) (names : List (Bor (List ℕ))) → new ≡ old ++ (numbers ∷ []) → numbers ≡ fault_numbers (names_seen names) fault.cause → names ≡ fault.names.items
       → old ++ numbers_of_all (faults_seen (drop i faults)) ≡ all → new ++ numbers_of_all (faults_seen (drop (i + 1) faults)) ≡ all
-  next_numbers old new all numbers names pushed whole same before = rw (pushed, append_assoc, whole, same) (rw left at before)
+  next_numbers old new all numbers names pushed whole same before =
+      let rest : List FaultNumbers = numbers_of_all (faults_seen (drop (i + 1) faults)) in
+      ap (λ made. made ++ rest) pushed ∙ append_assoc old (numbers ∷ []) rest ∙ ap (λ n. old ++ (n ∷ rest)) (whole ∙ ap (λ given. fault_numbers (names_seen given) fault.cause) same)
+      ∙ ap (λ given. old ++ numbers_of_all given) (sym left) ∙ before
 
   next_names : (old new all : List ℕ) (names : List (Bor (List ℕ))) → new ≡ old ++ concat (names_seen names) → names ≡ fault.names.items
       → old ++ names_joined (faults_seen (drop i faults)) ≡ all → new ++ names_joined (faults_seen (drop (i + 1) faults)) ≡ all
-  next_names old new all names pushed same before = rw (pushed, append_assoc, same) (rw left at before)
+  next_names old new all names pushed same before =
+      let rest : List ℕ = names_joined (faults_seen (drop (i + 1) faults)) in
+      ap (λ made. made ++ rest) pushed ∙ append_assoc old (concat (names_seen names)) rest ∙ ap (λ given. old ++ (concat (names_seen given) ++ rest)) same
+      ∙ ap (λ given. old ++ names_joined given) (sym left) ∙ before
 
 pub loop-fault-preserved : goal.loop-fault-preserved
 loop-fault-preserved c =
-    let numbers = next_numbers c.args.faults.now c.loop-fault.fault-index c.fault-item.result c.loop-fault-test.true c.fault-item.is _ _ _ _ _ c.in_ok-push.ensures.items c.of.ensures.whole c.deref.ensures.value c.loop-fault.invariant.0 in
-    let names = next_names c.args.faults.now c.loop-fault.fault-index c.fault-item.result c.loop-fault-test.true c.fault-item.is _ _ _ _ c.in_ok-push_names.ensures c.deref-in-loop-fault.ensures.value c.loop-fault.invariant.1 in
-    (numbers, names)
+    let faults = c.args.faults.now in
+    let i = c.loop-fault.fault-index in
+    let fault = c.fault-item.result in
+    (next_numbers faults i fault c.loop-fault-test.true c.fault-item.is c.loop-fault.shown.items _ (numbers_of_all (faults_seen faults)) c.of.result c.deref.result.now c.in_ok-push.ensures.items c.of.ensures.whole c.deref.ensures.value c.loop-fault.invariant.0,
+    next_names faults i fault c.loop-fault-test.true c.fault-item.is c.loop-fault.names.items _ (names_joined (faults_seen faults)) c.deref-in-loop-fault.result.now c.in_ok-push_names.ensures c.deref-in-loop-fault.ensures.value c.loop-fault.invariant.1)
 
 pub returns-in_err-shown : goal.returns-in_err-shown
 returns-in_err-shown c = IfOk-from_err _ _ c.from_residual.ensures.0
