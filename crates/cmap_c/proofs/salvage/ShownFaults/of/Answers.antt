@@ -33,9 +33,10 @@ pub loop-fault-preserved : goal.loop-fault-preserved
 loop-fault-preserved c =
     let faults = c.args.faults.now in
     let i = c.loop-fault.fault-index in
-    let fault = c.fault-item.result in
-    (next_numbers faults i fault c.loop-fault-test.true c.fault-item.is c.loop-fault.shown.items _ (numbers_of_all (faults_seen faults)) c.of.result c.deref.result.now c.in_ok-push.ensures.items c.of.ensures.whole c.deref.ensures.value c.loop-fault.invariant.0,
-    next_names faults i fault c.loop-fault-test.true c.fault-item.is c.loop-fault.names.items _ (names_joined (faults_seen faults)) c.deref-in-loop-fault.result.now c.in_ok-push_names.ensures c.deref-in-loop-fault.ensures.value c.loop-fault.invariant.1)
+    let fault = c.fault-item.result in (
+      next_numbers faults i fault c.loop-fault-test.true c.fault-item.is c.loop-fault.shown.items _ (numbers_of_all (faults_seen faults)) c.of.result c.deref.result.now c.in_ok-push.ensures.items c.of.ensures.whole c.deref.ensures.value c.loop-fault.invariant.0,
+      next_names faults i fault c.loop-fault-test.true c.fault-item.is c.loop-fault.names.items _ (names_joined (faults_seen faults)) c.deref-in-loop-fault.result.now c.in_ok-push_names.ensures c.deref-in-loop-fault.ensures.value c.loop-fault.invariant.1,
+    )
 
 pub returns-in_err-shown : goal.returns-in_err-shown
 returns-in_err-shown c = IfOk-from_err _ _ c.from_residual.ensures.0
