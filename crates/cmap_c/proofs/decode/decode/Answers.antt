@@ -33,8 +33,5 @@ returns-else-is_empty c =
 pub loop-count-init : goal.loop-count-init
 loop-count-init c = begins (layers_seen c.args.layers.now) c.args.text.now c.args.codes.now
 
-pub slice_bounds-left-count : goal.slice_bounds-left-count
-slice_bounds-left-count c = subst (λ n. n ≤ length c.loop-count.left.now) (sym c.from.ensures) c.in-Some.ensures.length.1
-
 pub overflow_sub-taken : goal.overflow_sub-taken
 overflow_sub-taken c = c.loop-count.invariant.fewer
