@@ -46,3 +46,6 @@ slice_bounds-next_code-count c = c.loop-extracted.invariant.within
 
 pub loop-extracted-smaller : goal.loop-extracted-smaller
 loop-extracted-smaller c = omega (arith, c.loop-extracted-test.true, c.loop-extracted.auto.characters)
+
+pub bounds-characters-extracted : goal.bounds-characters-extracted
+bounds-characters-extracted c = c.loop-extracted-test.true

@@ -22,3 +22,15 @@ returns c = record {
       (of_font (λ font. IsExtracted font c.args.string.now c.args.characters.now c.extract-status.new.characters c.args.text.now c.extract-status.new.text c.extract-status.new.extracted c.extract-status.result) _ _ _ _ _
       (c.layers_lent-texts_layers.ensures ∙ c.take-texts.ensures.map) (c.layers_lent-collection_layers.ensures ∙ c.take-texts_of_cids.ensures.map) c.extract-status.ensures);
 }
+
+pub extract-status-requires : goal.extract-status-requires
+extract-status-requires c = c.none.ensures
+
+pub put-requires : goal.put-requires
+put-requires c = c.in-Some.ensures.empty
+
+pub put_back-requires : goal.put_back-requires
+put_back-requires c = c.take-texts.ensures.empty
+
+pub put_back-requires-2 : goal.put_back-requires-2
+put_back-requires-2 c = c.take-texts_of_cids.ensures.empty

@@ -1,4 +1,4 @@
-use Rattle.std.proofs.Common.{◌-◌, ◌<◌, length, refl, subst}
+use Rattle.std.proofs.Common.{◌-◌, ◌<◌, ap, length, refl, subst}
 use Rattle.cmap_extract.specs.FontSeen.{font_seen}
 use Rattle.cmap_extract.specs.Characters.{IsNextCharacter}
 use Rattle.cmap_c.specs.ExtractedParts.{IsPutAt}
@@ -35,3 +35,9 @@ returns-in-Ok-None c = (refl, rw c.in-Ok-None.field-0-is at c.in-Ok-None.ensures
 
 pub returns : goal.returns
 returns c = (refl, c.in-Err.ensures.err)
+
+pub put_at-requires : goal.put_at-requires
+put_at-requires c = c.requires
+
+pub code_of-requires : goal.code_of-requires
+code_of-requires c = ap length c.utf8_of-bytes.ensures

@@ -1,4 +1,4 @@
-use Rattle.std.proofs.Common.{◌≡◌, ◌≤◌, ◌++◌, ◌-◌, ℕ, List, drop, length, refl, sym}
+use Rattle.std.proofs.Common.{◌≡◌, ◌∙◌, ◌≤◌, ◌++◌, ◌-◌, ℕ, List, drop, length, refl, subst, sym}
 use Rattle.std.specs.Prelude.{map}
 use Rattle.std.proofs.Math.ListN.{length-map, replicate}
 use Rattle.std.proofs.lemmas.List.{drop-replicate}
@@ -18,3 +18,9 @@ pub returns-clause-whole : goal.returns-clause-whole
 returns-clause-whole c =
     let count : length c.args.names.now ≡ length (names_seen c.args.names.now) = sym (length-map c.args.names.now (λ name. name.now)) in
     rw (c.numbers_of-cause.ensures, count, lengths (names_seen c.args.names.now) c.fill.new.room c.fill.ensures) refl
+
+pub fill-requires : goal.fill-requires
+fill-requires c = subst (λ n. n ≤ 16) (sym (length-map (names_seen c.args.names.now) length ∙ length-map c.args.names.now (λ name. name.now))) c.requires
+
+pub returns-clause-numbers : goal.returns-clause-numbers
+returns-clause-numbers c = c.numbers_of-cause.ensures

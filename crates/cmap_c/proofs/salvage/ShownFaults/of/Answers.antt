@@ -1,4 +1,4 @@
-use Rattle.std.proofs.Common.{◌≡◌, ◌∙◌, ◌++◌, ◌+◌, ◌<◌, ℕ, List, [], ◌∷◌, add-one, ap, append_assoc, drop, drop-cons, get_or, length, refl, sym}
+use Rattle.std.proofs.Common.{◌≡◌, ◌∙◌, ◌++◌, ◌+◌, ◌<◌, ◌≤◌, ℕ, List, [], ◌∷◌, add-one, ap, append_assoc, drop, drop-cons, get_or, length, refl, subst, sym}
 use Rattle.std.specs.Borrow.{Bor}
 use Rattle.std.specs.List.{concat}
 use Rattle.std.proofs.lemmas.Result.{IfOk-from_err}
@@ -58,3 +58,8 @@ returns c =
       all_left (λ left. numbers_of_all (faults_seen left)) faults c.loop-fault.fault-index _ _ c.loop-fault-test.false refl c.loop-fault.invariant.0,
       all_left (λ left. names_joined (faults_seen left)) faults c.loop-fault.fault-index _ _ c.loop-fault-test.false refl c.loop-fault.invariant.1,
     )
+
+pub of-requires : goal.of-requires
+of-requires c =
+    let few = subst (λ (fault : Refusal). length fault.names.items ≤ 16) (sym c.fault-item.is) (c.requires c.loop-fault.fault-index c.fault-item.result c.loop-fault-test.true) in
+    subst (λ names. length names ≤ 16) (sym c.deref.ensures.value) few
