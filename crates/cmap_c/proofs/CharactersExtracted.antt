@@ -4,13 +4,13 @@ use Rattle.std.specs.Prelude.{Option}
 use Rattle.std.proofs.Math.ListN.{set}
 use Rattle.std.proofs.Math.Seq.{take-append_seam}
 use Rattle.std.proofs.lemmas.Grind.{flat_map-append}
-use Rattle.std.proofs.lemmas.List.{append-nil, append_assoc, length-append, length-drop, drop-drop}
+use Rattle.std.proofs.lemmas.List.{append-nil, append_assoc, length-append, length-drop, length-take-le, drop-drop}
 use Rattle.std.proofs.lemmas.Slice.{drop-append-drop}
 use Rattle.cmap_extract.specs.TextsOfCodes.{Font}
 use Rattle.cmap_extract.specs.declared.font.Character.{Character}
 use Rattle.cmap_layers.specs.Layers.{Layer}
 use Rattle.cmap_c.specs.Extracted.{BeginsWithCharacters, IsEnd, IsExtracted, PassesRoom, bytes_of, character_seen, characters_seen, font_given, texts_of}
-use Rattle.cmap_c.specs.ExtractedParts.{IsMade, IsStop}
+use Rattle.cmap_c.specs.ExtractedParts.{IsMade, IsPutAt, IsStop}
 use Rattle.cmap_c.specs.Statuses.{number}
 use Rattle.cmap_c.specs.declared.extract.Extracted.{Extracted}
 use Rattle.cmap_c.specs.declared.extract.ExtractedCharacter.{ExtractedCharacter}
@@ -65,6 +65,20 @@ put_more texts bytes old n same =
     let first : take n (texts ++ drop n old) ≡ texts = ap (λ (k : ℕ). take k (texts ++ drop n old)) same ∙ take-append_seam texts (drop n old) in
     let last : drop (n + length bytes) (texts ++ drop n old) ≡ drop (n + length bytes) old = drop-append-drop n old texts (n + length bytes) (omega arith) (sym same) in
     λ i. first i ++ bytes ++ last i
+
+-- bytes that are copied to a part of a room
+module _ (bytes room : List ℕ) (start : ℕ) (inside : start ≤ length room) (few : length bytes ≤ length room - start) where
+  pub part_length : length (take (start + length bytes - start) (drop start room)) ≡ length bytes
+  part_length = omega (arith, length-take-le (start + length bytes - start) (drop start room) (omega (arith, length-drop start room)))
+
+  pub is_put : (copied : List ℕ) → copied ≡ bytes → IsPutAt bytes start room (take start room ++ (copied ++ drop (start + length bytes - start) (drop start room)))
+  is_put copied is =
+      let count : start + length bytes - start ≡ length bytes = omega arith in
+      let rest : drop (start + length bytes - start) (drop start room) ≡ drop (start + length bytes) room = ap (λ n. drop n (drop start room)) count ∙ drop-drop (length bytes) start room in
+      record {
+        within = omega arith;
+        put = (λ i. take start room ++ (is i ++ rest i)) ∙ sym (append_assoc (take start room) bytes (drop (start + length bytes) room));
+      }
 
 pub extracts_more : (font : Font) (string : List ℕ) (old new : List ExtractedCharacter) (old_text text new_text : List ℕ) (extracted next : Extracted) (one : ExtractedCharacter) → IsExtracting font string old new old_text text extracted
     → IsMade font (drop extracted.taken string) extracted.used text new_text one → extracted.made < length old → length text ≡ length old_text
