@@ -3,13 +3,15 @@ use Rattle.std.proofs.Common.{◌≡◌, ℕ, suc, ◌+◌, ◌<◌, ◌≤◌, 
 use Rattle.std.specs.Prelude.{IfOk, Option, Some, None, Result, Ok, Err}
 use Rattle.std.specs.Borrow.{Bor}
 use Rattle.std.proofs.Math.ListN.{length-map}
-use Rattle.std.proofs.lemmas.List.{drop_more, drop_all, get_or-map}
+use Rattle.std.proofs.lemmas.List.{drop_more, drop_all, get_or-map, map-append}
 use Rattle.cmap_files.specs.Files.{File}
 use Rattle.cmap_values.specs.NamesSeen.{names_seen}
 use Rattle.cmap_packed.specs.Bundles.{PrefixTables}
 use Rattle.cmap_layers.specs.Layers.{Layer, layer_of}
 use Rattle.hayro_cmap.specs.Salvage.{Found, NamedFault, Opening, Salvages, SalvagesEach, SalvagesMap, SalvagesNamed, SalvagesUse, faults_of, no_layers}
-use Rattle.hayro_cmap.specs.SalvageSeen.{GoesOn, ReadsOn, Walks, faults_seen, opening_seen}
+use Rattle.hayro_cmap.specs.SalvageSeen.{GoesOn, ReadsOn, Walks, fault_seen, faults_seen, opening_seen}
+use Rattle.hayro_cmap.specs.declared.refusal.Cause.{Cause}
+use Rattle.hayro_cmap.specs.declared.refusal.Refusal.{Refusal}
 use Rattle.hayro_cmap.specs.declared.refusal.Cause.TheVariants.{ChainLength, NoFile}
 use Rattle.hayro_cmap.specs.declared.salvage.Walk.{Walk}
 
@@ -26,6 +28,19 @@ GoesOn-more {a} {b} {c} {first} {second} on later = record {
   names = later.names ∙ on.names;
   added = later.added ∙ ap (λ f. f ++ second) on.added ∙ append_assoc (faults_seen a.faults.items) first second;
 }
+
+-- a fault is added to those that there are
+pub fault_added : (old new : List Refusal) (refusal : Refusal) (names : List (List ℕ)) → new ≡ old ++ refusal ∷ [] → names_seen refusal.names.items ≡ names → faults_seen new ≡ faults_seen old ++ record { names = names; cause = refusal.cause } ∷ []
+fault_added old new refusal names is same =
+    ap faults_seen is ∙ map-append fault_seen old (refusal ∷ []) ∙ ap (λ n. faults_seen old ++ record { names = n; cause = refusal.cause } ∷ []) same
+
+-- one more fault of the file that the names lead to
+pub GoesOn-fault : {a b c : Walk} (names : List (List ℕ)) (causes more : List Cause) (cause : Cause) → names_seen a.names.items ≡ names → more ≡ causes ++ cause ∷ []
+    → GoesOn a b (faults_of names causes) → GoesOn b c (faults_of (names_seen b.names.items) (cause ∷ [])) → GoesOn a c (faults_of names more)
+GoesOn-fault {a} {b} {c} names causes more cause leading is on later =
+    let all = map-append (λ cause. record { names = names; cause = cause }) causes (cause ∷ []) in
+    let here = subst (λ n. GoesOn b c (faults_of n (cause ∷ []))) (on.names ∙ leading) later in
+    subst (λ f. GoesOn a c f) (sym (ap (faults_of names) is ∙ all)) (GoesOn-more on here)
 
 -- ---- uses
 module _ (use_from : List (List ℕ) → List ℕ → List Layer → Opening → Found → Type 0) where

@@ -1,4 +1,5 @@
 use Rattle.std.proofs.Common.{◌≡◌, refl, ap, ◌∙◌, ◌-◌, arith, [], ◌∷◌, ◌++◌, inl, inr}
+use Rattle.std.proofs.lemmas.Result.{IfOk-from_err}
 use Rattle.std.specs.Global.{Vec}
 use Rattle.cmap_packed.specs.BundleSeen.{tables_given}
 use Rattle.cmap_files.specs.FilesSeen.{file_seen}
@@ -60,3 +61,24 @@ pub salvage_named-returns : goal.salvage_named-returns
 salvage_named-returns g t c =
     let said = rw c.in-Some.is at c.file.ensures in
     ok_as _ c.salvage_layers.ensures (λ (layers : Vec Layer) walks. walks_named (tables_given c.args.bundle) (g.S.Source.answers c.args.source.now) (c.args.below - 1) c.args.below (omega arith) (names_seen c.args.walk.now.names.items) c.args.name.now c.in-Some.bytes.now said c.args.walk.now c.salvage_layers.new.walk (layers_seen layers.items) walks)
+
+pub salvage_layers-returns-in_err-file : goal.salvage_layers-returns-in_err-file
+salvage_layers-returns-in_err-file g t c = IfOk-from_err _ _ c.from_residual.ensures.0
+
+pub salvage_layers-returns-in_err-base : goal.salvage_layers-returns-in_err-base
+salvage_layers-returns-in_err-base g t c = IfOk-from_err _ _ c.from_residual-in_err-base.ensures.0
+
+pub salvage_base-returns-in_err-base : goal.salvage_base-returns-in_err-base
+salvage_base-returns-in_err-base g t c = IfOk-from_err _ _ c.from_residual.ensures.0
+
+pub salvage_used-returns-in_err-push : goal.salvage_used-returns-in_err-push
+salvage_used-returns-in_err-push g t c = IfOk-from_err _ _ c.from_residual.ensures.0
+
+pub salvage_used-returns-in_err-layers : goal.salvage_used-returns-in_err-layers
+salvage_used-returns-in_err-layers g t c = IfOk-from_err _ _ c.from_residual-in_err-layers.ensures.0
+
+pub salvage_named-returns-in_err-add_fault : goal.salvage_named-returns-in_err-add_fault
+salvage_named-returns-in_err-add_fault g t c = IfOk-from_err _ _ c.from_residual.ensures.0
+
+pub salvage_named-returns-in_err-add_fault-2 : goal.salvage_named-returns-in_err-add_fault-2
+salvage_named-returns-in_err-add_fault-2 g t c = IfOk-from_err _ _ c.from_residual-in_err-add_fault-2.ensures.0

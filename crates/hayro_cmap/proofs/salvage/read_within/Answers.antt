@@ -1,5 +1,6 @@
-use Rattle.std.proofs.Common.{refl, ap, ◌∙◌, [], ◌∷◌, inl}
-use Rattle.hayro_cmap.specs.declared.refusal.Cause.TheVariants.{OverBudget}
+use Rattle.std.proofs.Common.{refl, ap, ◌∙◌, [], ◌∷◌, inl, inr}
+use Rattle.std.specs.Prelude.{map}
+use Rattle.hayro_cmap.specs.declared.refusal.Cause.TheVariants.{Malformed, OverBudget}
 use Rattle.hayro_cmap.proofs.salvage.read_within.Goals as goal
 
 pub returns-in_default : goal.returns-in_default
@@ -9,3 +10,11 @@ returns-in_default c =
     let on = c.in_ok-add_fault.ensures.added in
     let after = c.add_fault.ensures.same in
     (OverBudget ∷ [], inl (over, c.new.ensures, refl, ap (λ o. o.left) after ∙ left), record { names = on.names; added = on.added }, ap (λ o. o.closed) after)
+
+pub returns : goal.returns
+returns c =
+    let on = c.in_ok-add_stops.ensures.added in
+    let same = c.in_ok-add_stops.ensures.same in
+    let stops = c.in_ok-read.read.faults.items in
+    let read = rw c.deref.ensures.value at on in
+    (map Malformed stops, inr (stops, rw (ap (λ o. o.left) same) c.in-Ok.ensures.spent, c.in_ok-read.ensures, refl), record { names = read.names; added = read.added }, ap (λ o. o.closed) same)
