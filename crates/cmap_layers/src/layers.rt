@@ -11,6 +11,7 @@ use cmap_codespaces::Spaces;
 use cmap_files::declarations::{BfRange, ByLength, CidRange, Codespace, Lists};
 use cmap_runs::runs::{Looks, Table};
 use cmap_values::code_length::CodeLength;
+use cmap_values::memory::both;
 use cmap_values::metadata::Metadata;
 use std::alloc::{AllocError, Global};
 
@@ -44,7 +45,7 @@ impl Layer {
         ensures { IfOk result (λ layer. layer_seen layer
             ≡ record { metadata = metadata_seen metadata; lists = lists_seen lists }) }
     {
-        let (cids, notdefs, bfs, spaces) = tables_of(alloc, lists)?;
+        let ((cids, notdefs), (bfs, spaces)) = tables_of(alloc, lists)?;
         Ok(Layer {
             metadata,
             cids,
@@ -108,8 +109,7 @@ impl Layer {
     pub fn clone(&self, alloc: Global) -> Result<Layer, AllocError>
         ensures { IfOk result (λ copy. layer_seen copy ≡ layer_seen self.now) }
     {
-        let metadata = self.metadata.clone(alloc)?;
-        let lists = self.lists(alloc)?;
+        let (metadata, lists) = both(self.metadata.clone(alloc), self.lists(alloc))?;
         Layer::build(alloc, metadata, lists)
     }
 
@@ -117,10 +117,11 @@ impl Layer {
     fn lists(&self, alloc: Global) -> Result<Lists, AllocError>
         ensures { IfOk result (λ lists. lists_seen lists ≡ (layer_seen self.now).lists) }
     {
-        let copied = |tables| copied_lists(alloc, tables);
-        let [cids, notdefs] = [&self.cids, &self.notdefs].try_map(copied)?;
-        let bfs = copied_bfs(alloc, &self.bfs)?;
-        let spaces = Vec::from_slice(alloc, self.spaces.as_slice())?;
+        let cids = copied_lists(alloc, &self.cids);
+        let notdefs = copied_lists(alloc, &self.notdefs);
+        let bfs = copied_bfs(alloc, &self.bfs);
+        let spaces = Vec::from_slice(alloc, self.spaces.as_slice());
+        let ((cids, notdefs), (bfs, spaces)) = both(both(cids, notdefs), both(bfs, spaces))?;
         Ok(Lists {
             cids,
             notdefs,
@@ -144,16 +145,14 @@ fn lengths_of(tables: &ByLength<Table<CidRange>>) -> ByLength<usize>
 
 /// The tables of the CIDs, of the notdefs and of the texts, and the codespace ranges.
 type Tables = (
-    ByLength<Table<CidRange>>,
-    ByLength<Table<CidRange>>,
-    Table<BfRange>,
-    Spaces,
+    (ByLength<Table<CidRange>>, ByLength<Table<CidRange>>),
+    (Table<BfRange>, Spaces),
 );
 
 /// The tables of all declarations of a file.
 fn tables_of(alloc: Global, lists: Lists) -> Result<Tables, AllocError>
     ensures { IfOk result (λ tables. tables
-        ≡ (lists_held lists.cids, lists_held lists.notdefs, lists.bfs.items, lists.spaces.items)) }
+        ≡ ((lists_held lists.cids, lists_held lists.notdefs), (lists.bfs.items, lists.spaces.items))) }
 {
     let Lists {
         cids,
@@ -161,58 +160,27 @@ fn tables_of(alloc: Global, lists: Lists) -> Result<Tables, AllocError>
         bfs,
         spaces,
     } = lists;
-    let (bfs, spaces) = build_texts_and_spaces(alloc, bfs, spaces)?;
-    let (cids, notdefs) = build_tables(alloc, cids, notdefs)?;
-    Ok((cids, notdefs, bfs, spaces))
+    let numbers = both(build_tables(alloc, cids), build_tables(alloc, notdefs));
+    let others = both(Table::build(alloc, bfs), Spaces::build(alloc, spaces));
+    both(numbers, others)
 }
 
-/// The table of the texts, and the codespace ranges.
-fn build_texts_and_spaces(
-    alloc: Global,
-    bfs: Vec<BfRange>,
-    spaces: Vec<Codespace>,
-) -> Result<(Table<BfRange>, Spaces), AllocError>
-    ensures { IfOk result (λ built. built ≡ (bfs.items, spaces.items)) }
-{
-    let bfs = Table::build(alloc, bfs)?;
-    let spaces = Spaces::build(alloc, spaces)?;
-    Ok((bfs, spaces))
-}
-
-/// The tables of the CIDs and of the notdefs.
+/// The table of each list.
 fn build_tables(
     alloc: Global,
-    cids: ByLength<Vec<CidRange>>,
-    notdefs: ByLength<Vec<CidRange>>,
-) -> Result<(ByLength<Table<CidRange>>, ByLength<Table<CidRange>>), AllocError>
-    ensures { IfOk result
-        (λ tables. (tables.0 ≡ lists_held cids) × (tables.1 ≡ lists_held notdefs)) }
+    lists: ByLength<Vec<CidRange>>,
+) -> Result<ByLength<Table<CidRange>>, AllocError>
+    ensures { IfOk result (λ tables. tables ≡ lists_held lists) }
 {
-    let lists = [
-        cids.one,
-        cids.two,
-        cids.three,
-        cids.four,
-        notdefs.one,
-        notdefs.two,
-        notdefs.three,
-        notdefs.four,
-    ];
+    let lists = [lists.one, lists.two, lists.three, lists.four];
     let table = |list| Table::build(alloc, list);
-    let [one, two, three, four, first, second, third, fourth] = lists.try_map(table)?;
-    let cids = ByLength {
+    let [one, two, three, four] = lists.try_map(table)?;
+    Ok(ByLength {
         one,
         two,
         three,
         four,
-    };
-    let notdefs = ByLength {
-        one: first,
-        two: second,
-        three: third,
-        four: fourth,
-    };
-    Ok((cids, notdefs))
+    })
 }
 
 /// A copy of the declarations of each table.

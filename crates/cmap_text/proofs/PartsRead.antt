@@ -229,12 +229,12 @@ ascend_onward text old new onward up =
     ]
 
 -- where something is to come
-pub reach_passed : (len passed : ℕ) (next : Next) → next ≢ nothing → reach len next passed ≡ passed
-reach_passed len passed item some = refl
-reach_passed len passed (rest_of t) some = refl
-reach_passed len passed (entry section) some = refl
-reach_passed len passed (list_of section) some = refl
-reach_passed len passed nothing some = absurd (some refl)
+pub reach_passed : (text_len passed : ℕ) (next : Next) → next ≢ nothing → reach text_len next passed ≡ passed
+reach_passed text_len passed item some = refl
+reach_passed text_len passed (rest_of t) some = refl
+reach_passed text_len passed (entry section) some = refl
+reach_passed text_len passed (list_of section) some = refl
+reach_passed text_len passed nothing some = absurd (some refl)
 
 pub part_onward : (text : List ℕ) (next : Next) (old : Said) (left : Left) (faults : List Stop) (new : Part) → next ≢ nothing → Lies text left → step text (at_next next old left faults) ≡ new → IsOnward text (at_next next old left faults) new
 part_onward text next old left faults new some lies is = subst (IsOnward text (at_next next old left faults)) is (step_onward text next old left faults some lies)

@@ -5,6 +5,7 @@
 pub mod character_collection;
 pub mod code_length;
 pub mod fault;
+pub mod memory;
 pub mod metadata;
 pub mod names;
 pub mod units;

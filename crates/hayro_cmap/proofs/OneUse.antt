@@ -1,5 +1,5 @@
 -- What one use finds and opens is what the file does that answers its name.
-use Rattle.std.proofs.Common.{◌≡◌, refl, subst, ℕ, suc, Bool, true, false, List, [], ◌∷◌, Option, Some, None, inl, inr}
+use Rattle.std.proofs.Common.{◌≡◌, ◌-◌, ◌<◌, arith, refl, subst, ℕ, suc, Bool, true, false, List, [], ◌∷◌, Option, Some, None, inl, inr}
 use Rattle.cmap_files.specs.Files.{File}
 use Rattle.hayro_cmap.specs.Answers.{IsByName}
 use Rattle.hayro_cmap.specs.Budgets.{Trail, Opens, OpensUse}
@@ -7,6 +7,13 @@ use Rattle.hayro_cmap.specs.BytesSpent.{Spends, Resolves, Refuses, GoesOver, Goe
 use Rattle.cmap_layers.specs.Layers.{Layer}
 use Rattle.hayro_cmap.specs.Layers.{AreLayers, OfAnswer}
 use Rattle.hayro_cmap.proofs.BudgetLeft.{Leaves-none}
+
+-- room for one file more
+pub room_left : (below : ℕ) → (below ≡ 0 → ⊥) → suc (below - 1) ≡ below
+room_left below some = omega (arith, some)
+
+pub is_room : (below : ℕ) → (below ≡ 0 → ⊥) → 0 < below
+is_room below some = omega (arith, some)
 
 module _ (means : List ℕ → File → Type 0) (answer : List ℕ → Option (List ℕ) → Type 0) (by_name : IsByName answer) (name : List ℕ) (budget : Option ℕ) (most n : ℕ) (is : suc n ≡ most) where
   module _ (bytes : List ℕ) (said : answer name (Some bytes)) where

@@ -1,6 +1,6 @@
 //! Files over the files that they use.
 
-ghost use Rattle.std.specs.Prelude.{◌≡◌, ◌∷◌, length, suc, Err, IfErr, IfOk, MatchResult};
+ghost use Rattle.std.specs.Prelude.{◌≡◌, ◌∷◌, length, suc, Err, IfErr, IfOk, MatchResult, Ok};
 ghost use Rattle.cmap_values.specs.Only.{IsOnly};
 ghost use Rattle.cmap_packed.specs.BundleSeen.{tables_given};
 ghost use Rattle.cmap_files.specs.DeclarationsSeen.{lists_seen};
@@ -170,15 +170,26 @@ pub(crate) fn layer_over(
     alloc: Global,
     metadata: Metadata,
     lists: Lists,
-    mut base: Vec<Layer>,
+    base: Vec<Layer>,
 ) -> Result<Vec<Layer>, AllocError>
     ensures { IfOk result
         (λ layers. layers_seen layers.items
         ≡ record { metadata = metadata_seen metadata; lists = lists_seen lists }
         ∷ layers_seen base.items) }
 {
-    base.insert(0, Layer::build(alloc, metadata, lists)?)?;
-    Ok(base)
+    put_first(Layer::build(alloc, metadata, lists), base)
+}
+
+/// An item before those of a list.
+fn put_first<T: Drop>(
+    item: Result<T, AllocError>,
+    mut list: Vec<T>,
+) -> Result<Vec<T>, AllocError>
+    ensures { IfOk result
+        (λ made. (first : T) × (item ≡ Ok first) × (made.items ≡ first ∷ list.items)) }
+{
+    list.insert(0, item?)?;
+    Ok(list)
 }
 
 /// What one file says. With a bundle, bytes that are marked so are a binary file; all others are a

@@ -1,6 +1,6 @@
 //! Maps: what the codes of a CMap file stand for.
 
-ghost use Rattle.std.specs.Prelude.{◌⊎◌, ◌≡◌, ◌≢◌, ◌*◌, ◌^◌, [], ◌∷◌, ◌≤◌, ◌<◌, IfErr, IfOk, IfSome, IfNone, IsErrOf, IsSome, IsSomeAnd, OnErr, OnOk, MatchOption, Some, codes, is_some, length, option_map};
+ghost use Rattle.std.specs.Prelude.{◌⊎◌, ◌≡◌, ◌≢◌, ◌*◌, ◌^◌, [], ◌∷◌, ◌++◌, ◌≤◌, ◌<◌, IfErr, IfOk, IfSome, IfNone, IsErrOf, IsSome, IsSomeAnd, OnErr, OnOk, MatchOption, Some, codes, is_some, length, option_map};
 ghost use Rattle.std.specs.List.{All};
 ghost use Rattle.std.specs.Option.{option_copied};
 ghost use Rattle.cmap_values.specs.CodeLengths.{IsCodeLength, length_of};
@@ -28,7 +28,8 @@ ghost use Rattle.cmap_values.specs.Only.{IsOnly};
 ghost use Rattle.cmap_values.specs.Outcomes.{Finds, RefusesWith};
 ghost use Rattle.cmap_layers.specs.StringCodes.{IsNextCode};
 ghost use Rattle.cmap_layers.specs.Searches.{bf_looks, cid_looks, finds_text};
-ghost use Rattle.hayro_cmap.specs.declared.budget.ParseError.TheVariants.{OverBudget};
+ghost use Rattle.cmap_values.specs.declared.fault.Fault.TheVariants as fault;
+ghost use Rattle.hayro_cmap.specs.declared.budget.ParseError.TheVariants as parse_error;
 ghost use Rattle.hayro_cmap.specs.declared.refusal.Cause.TheVariants as Cause;
 
 use crate::budget::ParseError;
@@ -47,6 +48,7 @@ use cmap_tokens::utf16::BfString;
 use cmap_values::character_collection::{CharacterCollection, CidFamily};
 use cmap_values::code_length::CodeLength;
 use cmap_values::fault::Fault;
+use cmap_values::memory::{after, both, keep};
 use cmap_values::metadata::Metadata;
 use cmap_values::names::{CMapName, Cid};
 use cmap_values::writing_mode::WritingMode;
@@ -137,22 +139,15 @@ impl CMap {
             (FitsBudget (tables_given bundle.entry) (Answers F.Fn get_cmap.now) «data».now budget) }
 
         // There is a budget, and all that would be opened passes it.
-        ensures some { IsErrOf result OverBudget → IsSome budget }
-        ensures over { IsErrOf result OverBudget
+        ensures some { IsErrOf result parse_error.OverBudget → IsSome budget }
+        ensures over { IsErrOf result parse_error.OverBudget
             → ExceedsBudget (tables_given bundle.entry) (Answers F.Fn get_cmap.now) «data».now budget }
     {
         let source = FilesByName {
             get_cmap,
             of: PhantomData,
         };
-        match CMap::parse_from(alloc, budget, data, bundle, &source) {
-            Ok(map) => Ok(Some(map)),
-            Err(Fault::Refused(refusal)) => match refusal.cause {
-                Cause::OverBudget => Err(ParseError::OverBudget),
-                _ => Ok(None),
-            },
-            Err(Fault::Memory) => Err(ParseError::Memory),
-        }
+        without_refusal(CMap::parse_from(alloc, budget, data, bundle, &source))
     }
 
     /// The map that `parse_within` gives, where the files that others use come from a `Source`; or why
@@ -280,10 +275,11 @@ impl CMap {
             (λ found. All (λ fault. length fault.names.items ≤ 16) found.faults.items) }
     {
         let mut walk = Walk::new(alloc, budget);
-        let layers = salvage_layers(alloc, data, bundle, source, MOST_FILES - 1, &mut walk)?;
+        let layers = salvage_layers(alloc, data, bundle, source, MOST_FILES - 1, &mut walk);
+        let (faults, layers) = keep(walk.faults, layers)?;
         Ok(SalvagedMap {
             map: CMap { layers },
-            faults: walk.faults,
+            faults,
         })
     }
 
@@ -485,10 +481,9 @@ impl CMap {
     pub fn clone(&self, alloc: Global) -> Result<CMap, AllocError>
         ensures { IfOk result (λ copy. copy ≡ self.now) }
     {
-        let mut layers = Vec::with_capacity(alloc, self.layers.len())?;
-        for layer in &self.layers {
-            layers.push(layer.clone(alloc)?)?;
-        }
+        let mut layers = Vec::new(alloc);
+        let copied = copy_layers(alloc, &self.layers, &mut layers);
+        let layers = after(layers, copied)?;
         Ok(CMap { layers })
     }
 
@@ -497,21 +492,20 @@ impl CMap {
         ensures { IfOk result
             (λ found. MatchOption found (IsNoIdentity name.now) (IsIdentity name.now)) }
     {
-        if name == HORIZONTAL {
-            return Ok(Some(CMap::identity_h(alloc)?));
-        }
-        if name == VERTICAL {
-            return Ok(Some(CMap::identity_v(alloc)?));
-        }
-        Ok(None)
+        let identity = if name == HORIZONTAL {
+            CMap::identity_h(alloc)
+        } else if name == VERTICAL {
+            CMap::identity_v(alloc)
+        } else {
+            return Ok(None);
+        };
+        Ok(Some(identity?))
     }
 
     fn identity(alloc: Global, name: &[u8], mode: WritingMode) -> Result<CMap, AllocError>
         ensures { IfOk result (λ map. map ≡ identity_layer name.now (mode_seen mode) ∷ []) }
     {
-        let name = Vec::from_slice(alloc, name)?;
-        let mut lists = Lists::new(alloc);
-        add_two_bytes(&mut lists)?;
+        let (name, lists) = both(Vec::from_slice(alloc, name), two_byte_lists(alloc))?;
         let metadata = Metadata {
             character_collection: Some(CharacterCollection {
                 family: CidFamily::AdobeIdentity,
@@ -531,6 +525,51 @@ impl CMap {
         let layers = layer_over(alloc, metadata, lists, Vec::new(alloc))?;
         Ok(CMap { layers })
     }
+}
+
+/// Adds copies of layers.
+fn copy_layers(
+    alloc: Global,
+    layers: &[Layer],
+    copies: &mut Vec<Layer>,
+) -> Result<(), AllocError>
+    ensures { OnOk result (layers_seen copies.new.items
+        ≡ layers_seen copies.old.items ++ layers_seen layers.now) }
+{
+    for layer in layers {
+        copies.push(layer.clone(alloc)?)?;
+    }
+    Ok(())
+}
+
+/// The map that is found; none where the file is refused, unless for the budget.
+fn without_refusal(
+    found: Result<CMap, Fault<Refusal<'_>>>,
+) -> Result<Option<CMap>, ParseError>
+    ensures found { IfOk found.entry (λ map. result ≡ Ok (Some map)) }
+    ensures over { IfErr found.entry (RefusesWith (λ refusal. refusal.cause ≡ Cause.OverBudget
+        → result ≡ Err parse_error.OverBudget)) }
+    ensures none { IfErr found.entry (RefusesWith (λ refusal. refusal.cause ≢ Cause.OverBudget
+        → result ≡ Ok None)) }
+    ensures memory { found.entry ≡ Err fault.Memory → result ≡ Err parse_error.Memory }
+{
+    match found {
+        Ok(map) => Ok(Some(map)),
+        Err(Fault::Refused(refusal)) => match refusal.cause {
+            Cause::OverBudget => Err(ParseError::OverBudget),
+            _ => Ok(None),
+        },
+        Err(Fault::Memory) => Err(ParseError::Memory),
+    }
+}
+
+/// The declarations that say that codes of two bytes are CIDs.
+fn two_byte_lists(alloc: Global) -> Result<Lists, AllocError>
+    ensures { IfOk result (λ lists. lists_seen lists ≡ (identity_layer [] files.horizontal).lists) }
+{
+    let mut lists = Lists::new(alloc);
+    let added = add_two_bytes(&mut lists);
+    after(lists, added)
 }
 
 /// Adds what says that codes of two bytes are CIDs.

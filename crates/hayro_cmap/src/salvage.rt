@@ -21,6 +21,7 @@ use cmap_layers::layers::Layer;
 use cmap_packed::Bundle;
 use cmap_text::salvage_text;
 use cmap_values::fault::{Fault, Stop};
+use cmap_values::memory::{after, keep};
 use std::alloc::{AllocError, Global};
 
 /// What a file says over the files that it uses, apart from their faults, and the faults.
@@ -102,7 +103,8 @@ pub(crate) fn salvage_layers<'a, S: Source>(
         walk.old walk.new (layers_seen layers.items)) }
 {
     let file = read_within(alloc, bytes, bundle, walk)?;
-    let base = salvage_base(alloc, &file.uses, bundle, source, below, walk)?;
+    let base = salvage_base(alloc, &file.uses, bundle, source, below, walk);
+    let (file, base) = keep(file, base)?;
     put_over(alloc, file, base)
 }
 
@@ -208,8 +210,7 @@ fn read_within<'a>(
         return Ok(File::new(alloc));
     };
     let read = read_past(alloc, bytes, bundle)?;
-    walk.add_stops(alloc, &read.faults)?;
-    Ok(read.file)
+    after(read.file, walk.add_stops(alloc, &read.faults))
 }
 
 /// What bytes say apart from their faults, and the faults. Of a file it is just that file.

@@ -11,7 +11,7 @@ use Rattle.hayro_cmap.specs.Layers.{Means}
 use Rattle.cmap_values.proofs.Outcomes.{passed_on, refused_as}
 use Rattle.hayro_cmap.proofs.Blamed.{blames_file, blames_missing, blames_open, blames_use, blames_uses, fails_as, fails_to_open, used_at}
 use Rattle.hayro_cmap.proofs.OneNameMore.{names_back}
-use Rattle.hayro_cmap.proofs.OneUse.{Resolves-answered, Refuses-answered, Refuses-no_room, Refuses-unanswered, GoesOver-answered, GoesOverAt-answered}
+use Rattle.hayro_cmap.proofs.OneUse.{is_room, room_left, Resolves-answered, Refuses-answered, Refuses-no_room, Refuses-unanswered, GoesOver-answered, GoesOverAt-answered}
 use Rattle.hayro_cmap.proofs.UsesInOrder.{AreUsed-none, AreUsed-at, AreUsed-end, AreUsed-more, Resolves-used, Refuses-used, GoesOver-used, GoesOverAt-used}
 use Rattle.hayro_cmap.proofs.WholeFile.{Resolves-file, Refuses-file, GoesOver-file, GoesOverAt-file}
 use Rattle.hayro_cmap.specs.declared.refusal.Cause.TheVariants.{NoFile, ChainLength}
@@ -76,8 +76,8 @@ find_used-returns-in_default g t c =
     let said = rw c.in_default.is at c.file.ensures in (
       tt,
       (
-        Refuses-unanswered _ _ c.requires.by_name c.args.name.now c.args.left.now c.args.below (c.args.below - 1) (omega arith) said,
-        blames_missing (tables_given c.args.bundle) (g.S.Source.answers c.args.source.now) c.args.left.now c.args.below _ _ c.args.name NoFile c.in_ok-push.ensures.items (omega arith, said),
+        Refuses-unanswered _ _ c.requires.by_name c.args.name.now c.args.left.now c.args.below (c.args.below - 1) (room_left c.args.below c.if-below-eq0.false) said,
+        blames_missing (tables_given c.args.bundle) (g.S.Source.answers c.args.source.now) c.args.left.now c.args.below _ _ c.args.name NoFile c.in_ok-push.ensures.items (is_room c.args.below c.if-below-eq0.false, said),
       ),
     )
 
@@ -86,11 +86,11 @@ find_used-returns-in_err-layers g t c =
     let said = rw c.in-Some.is at c.file.ensures in
     let name = c.args.name.now in let bytes = c.in-Some.bytes.now in
     passed_on _ _ _ c.from_residual-in_err-layers.ensures.1 c.in_err-layers.ensures.1 (λ cause fails. (
-      fails_as (Refuses-answered (Means (tables_given c.args.bundle)) (g.S.Source.answers c.args.source.now) c.requires.by_name name c.args.left.now c.args.below (c.args.below - 1) (omega arith) bytes said _) (GoesOver-answered (Means (tables_given c.args.bundle)) (g.S.Source.answers c.args.source.now) c.requires.by_name name c.args.left.now c.args.below (c.args.below - 1) (omega arith) bytes said) cause fails.0,
-      blames_use (tables_given c.args.bundle) (g.S.Source.answers c.args.source.now) _ c.args.below (c.args.below - 1) _ _ _ c.args.name bytes (omega arith) c.in_ok-push.ensures.items said (GoesOverAt-answered (Means (tables_given c.args.bundle)) (g.S.Source.answers c.args.source.now) c.requires.by_name name c.args.left.now c.args.below (c.args.below - 1) (omega arith) bytes said) cause fails.1,
+      fails_as (Refuses-answered (Means (tables_given c.args.bundle)) (g.S.Source.answers c.args.source.now) c.requires.by_name name c.args.left.now c.args.below (c.args.below - 1) (room_left c.args.below c.if-below-eq0.false) bytes said _) (GoesOver-answered (Means (tables_given c.args.bundle)) (g.S.Source.answers c.args.source.now) c.requires.by_name name c.args.left.now c.args.below (c.args.below - 1) (room_left c.args.below c.if-below-eq0.false) bytes said) cause fails.0,
+      blames_use (tables_given c.args.bundle) (g.S.Source.answers c.args.source.now) _ c.args.below (c.args.below - 1) _ _ _ c.args.name bytes (room_left c.args.below c.if-below-eq0.false) c.in_ok-push.ensures.items said (GoesOverAt-answered (Means (tables_given c.args.bundle)) (g.S.Source.answers c.args.source.now) c.requires.by_name name c.args.left.now c.args.below (c.args.below - 1) (room_left c.args.below c.if-below-eq0.false) bytes said) cause fails.1,
     ))
 
 pub find_used-returns : goal.find_used-returns
 find_used-returns g t c =
     let said = rw c.in-Some.is at c.file.ensures in
-    ((Resolves-answered _ _ c.requires.by_name c.args.name.now c.args.left.now c.args.below (c.args.below - 1) (omega arith) c.in-Some.bytes.now said _ _ c.in_ok-layers.ensures.0.0, names_back _ _ _ _ c.args.name c.in_ok-push.ensures.items c.in_ok-layers.ensures.0.1 (rw c.find_layers.new.names.ok.0 at c.pop.ensures.rest)), tt)
+    ((Resolves-answered _ _ c.requires.by_name c.args.name.now c.args.left.now c.args.below (c.args.below - 1) (room_left c.args.below c.if-below-eq0.false) c.in-Some.bytes.now said _ _ c.in_ok-layers.ensures.0.0, names_back _ _ _ _ c.args.name c.in_ok-push.ensures.items c.in_ok-layers.ensures.0.1 (rw c.find_layers.new.names.ok.0 at c.pop.ensures.rest)), tt)

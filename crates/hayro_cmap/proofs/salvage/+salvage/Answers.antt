@@ -11,12 +11,16 @@ use Rattle.hayro_cmap.specs.Salvage.{Salvages, faults_of}
 use Rattle.hayro_cmap.specs.SalvageSeen.{opening_seen}
 use Rattle.hayro_cmap.specs.declared.refusal.Cause.TheVariants.{ChainLength}
 use Rattle.hayro_cmap.proofs.OneNameMore.{names_back, one_more}
+use Rattle.hayro_cmap.proofs.OneUse.{room_left}
 use Rattle.hayro_cmap.proofs.Walked.{GoesOn-none, no_room, ok_as, use_under, walked_at, walked_end, walked_more, walked_none, walks_each, walks_file, walks_missing, walks_named}
 use Rattle.hayro_cmap.proofs.salvage.+salvage.Goals as goal
 
 pub salvage_layers-returns : goal.salvage_layers-returns
 salvage_layers-returns g t c =
-    ok_as {P = λ (layers : Vec Layer). layers_seen layers.items ≡ layer_of (file_seen c.in_ok-file.file) ∷ layers_seen c.in_ok-base.base.items} _ c.put_over.ensures (λ layers is. rw is (walks_file (tables_given c.args.bundle) (g.S.Source.answers c.args.source.now) c.args.below c.args.bytes.now (file_seen c.in_ok-file.file) (layers_seen c.in_ok-base.base.items) c.args.walk.now c.read_within.new.walk c.salvage_base.new.walk c.in_ok-file.ensures (rw c.deref.ensures.value at c.in_ok-base.ensures)))
+    let kept = c.in_ok-file-2.ensures in
+    let base = c.in_ok-file-2.base in
+    let walks = rw kept.1 at c.salvage_base-base.ensures in
+    ok_as {P = λ (layers : Vec Layer). layers_seen layers.items ≡ layer_of (file_seen c.in_ok-file.file) ∷ layers_seen base.items} _ (rw kept.0 at c.put_over.ensures) (λ layers is. rw is (walks_file (tables_given c.args.bundle) (g.S.Source.answers c.args.source.now) c.args.below c.args.bytes.now (file_seen c.in_ok-file.file) (layers_seen base.items) c.args.walk.now c.read_within.new.walk c.salvage_base-base.new.walk c.in_ok-file.ensures (rw c.deref.ensures.value at walks)))
 
 pub salvage_base-loop-name-init : goal.salvage_base-loop-name-init
 salvage_base-loop-name-init g t c =
@@ -55,18 +59,18 @@ salvage_named-returns-then-below-eq0 g t c =
 pub salvage_named-returns-in_default : goal.salvage_named-returns-in_default
 salvage_named-returns-in_default g t c =
     let said = rw c.in_default.is at c.file.ensures in
-    rw c.new-in_default.ensures.items (walks_missing (tables_given c.args.bundle) (g.S.Source.answers c.args.source.now) (c.args.below - 1) c.args.below (omega arith) (names_seen c.args.walk.now.names.items) c.args.name.now said c.args.walk.now c.add_fault-in_default.new.self c.in_ok-add_fault-2.ensures.added c.add_fault-in_default.ensures.same)
+    rw c.new-in_default.ensures.items (walks_missing (tables_given c.args.bundle) (g.S.Source.answers c.args.source.now) (c.args.below - 1) c.args.below (room_left c.args.below c.if-below-eq0.false) (names_seen c.args.walk.now.names.items) c.args.name.now said c.args.walk.now c.add_fault-in_default.new.self c.in_ok-add_fault-2.ensures.added c.add_fault-in_default.ensures.same)
 
 pub salvage_named-returns : goal.salvage_named-returns
 salvage_named-returns g t c =
     let said = rw c.in-Some.is at c.file.ensures in
-    ok_as _ c.salvage_layers.ensures (λ (layers : Vec Layer) walks. walks_named (tables_given c.args.bundle) (g.S.Source.answers c.args.source.now) (c.args.below - 1) c.args.below (omega arith) (names_seen c.args.walk.now.names.items) c.args.name.now c.in-Some.bytes.now said c.args.walk.now c.salvage_layers.new.walk (layers_seen layers.items) walks)
+    ok_as _ c.salvage_layers.ensures (λ (layers : Vec Layer) walks. walks_named (tables_given c.args.bundle) (g.S.Source.answers c.args.source.now) (c.args.below - 1) c.args.below (room_left c.args.below c.if-below-eq0.false) (names_seen c.args.walk.now.names.items) c.args.name.now c.in-Some.bytes.now said c.args.walk.now c.salvage_layers.new.walk (layers_seen layers.items) walks)
 
 pub salvage_layers-returns-in_err-file : goal.salvage_layers-returns-in_err-file
 salvage_layers-returns-in_err-file g t c = IfOk-from_err _ _ c.from_residual.ensures.0
 
-pub salvage_layers-returns-in_err-base : goal.salvage_layers-returns-in_err-base
-salvage_layers-returns-in_err-base g t c = IfOk-from_err _ _ c.from_residual-in_err-base.ensures.0
+pub salvage_layers-returns-in_err-file-2 : goal.salvage_layers-returns-in_err-file-2
+salvage_layers-returns-in_err-file-2 g t c = IfOk-from_err _ _ c.from_residual-in_err-file-2.ensures.0
 
 pub salvage_base-returns-in_err-base : goal.salvage_base-returns-in_err-base
 salvage_base-returns-in_err-base g t c = IfOk-from_err _ _ c.from_residual.ensures.0
