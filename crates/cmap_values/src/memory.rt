@@ -1,15 +1,16 @@
 //! Steps that fail only if memory runs out.
 
-ghost use Rattle.std.specs.Prelude.{◌≡◌, IfOk, IsOk, Ok};
+ghost use Rattle.std.specs.Prelude.{◌⊎◌, ◌≡◌, IsErr, IsOk, MatchResult, Ok};
 
 use std::alloc::AllocError;
 
-/// What two steps make.
+/// What two steps make, if neither fails.
 pub fn both<T: Drop, U: Drop>(
     one: Result<T, AllocError>,
     other: Result<U, AllocError>,
 ) -> Result<(T, U), AllocError>
-    ensures { IfOk result (λ made. (one ≡ Ok made.0) × (other ≡ Ok made.1)) }
+    ensures { MatchResult result (λ made. (one ≡ Ok made.0) × (other ≡ Ok made.1))
+        (λ _. IsErr one ⊎ IsErr other) }
 {
     match (one, other) {
         (Ok(one), Ok(other)) => Ok((one, other)),
@@ -17,12 +18,12 @@ pub fn both<T: Drop, U: Drop>(
     }
 }
 
-/// A value beside what a step makes.
+/// A value beside what a step makes, if that doesn't fail.
 pub fn keep<T: Drop, U: Drop>(
     value: T,
     made: Result<U, AllocError>,
 ) -> Result<(T, U), AllocError>
-    ensures { IfOk result (λ kept. (kept.0 ≡ value) × (made ≡ Ok kept.1)) }
+    ensures { MatchResult result (λ kept. (kept.0 ≡ value) × (made ≡ Ok kept.1)) (λ _. IsErr made) }
 {
     match made {
         Ok(made) => Ok((value, made)),
@@ -30,9 +31,9 @@ pub fn keep<T: Drop, U: Drop>(
     }
 }
 
-/// A value after a step.
+/// A value after a step, if that doesn't fail.
 pub fn after<T: Drop>(value: T, step: Result<(), AllocError>) -> Result<T, AllocError>
-    ensures { IfOk result (λ kept. (kept ≡ value) × IsOk step) }
+    ensures { MatchResult result (λ kept. (kept ≡ value) × IsOk step) (λ _. IsErr step) }
 {
     match step {
         Ok(()) => Ok(value),

@@ -1,6 +1,6 @@
 -- A walk through files over files that are read past their faults: what is found, and which faults are added.
 use Rattle.std.proofs.Common.{◌≡◌, ℕ, suc, ◌+◌, ◌<◌, ◌≤◌, refl, sym, ap, ◌∙◌, subst, false, true, List, [], ◌∷◌, ◌++◌, drop, get_or, length, inl, inr, append-nil, append_assoc}
-use Rattle.std.specs.Prelude.{IfOk, IsOk, OnOk, Option, Some, None, Result, Ok, Err}
+use Rattle.std.specs.Prelude.{IfOk, IsOk, MatchResult, OnOk, Option, Some, None, Result, Ok, Err}
 use Rattle.std.specs.Borrow.{Bor}
 use Rattle.std.proofs.Math.ListN.{length-map}
 use Rattle.std.proofs.lemmas.List.{drop_more, drop_all, get_or-map, map-append}
@@ -19,6 +19,10 @@ use Rattle.hayro_cmap.specs.declared.salvage.Walk.{Walk}
 pub ok_as : {A E : Type 0} {P Q : A → Type 0} (result : Result A E) → IfOk result P → ((x : A) → P x → Q x) → IfOk result Q
 ok_as (Ok x) holds gives = gives x holds
 ok_as (Err error) holds gives = tt
+
+pub ok_of : {A E : Type 0} {P Q : A → Type 0} (F : E → Type 0) (result : Result A E) → MatchResult result P F → ((x : A) → P x → Q x) → IfOk result Q
+ok_of F (Ok x) holds gives = gives x holds
+ok_of F (Err error) holds gives = tt
 
 pub on_ok : {A E P : Type 0} (result : Result A E) → OnOk result P → IsOk result → P
 on_ok (Ok x) holds is = holds

@@ -1,7 +1,7 @@
 use Rattle.std.proofs.Common.{◌≡◌, refl, ap, ◌∙◌, [], ◌∷◌, inl, inr}
-use Rattle.std.specs.Prelude.{IsOk, map}
+use Rattle.std.specs.Prelude.{IsErr, IsOk, map}
 use Rattle.hayro_cmap.specs.declared.refusal.Cause.TheVariants.{Malformed, OverBudget}
-use Rattle.hayro_cmap.proofs.Walked.{ok_as, on_ok}
+use Rattle.hayro_cmap.proofs.Walked.{ok_of, on_ok}
 use Rattle.hayro_cmap.proofs.salvage.read_within.Goals as goal
 
 pub returns-in_default : goal.returns-in_default
@@ -13,7 +13,7 @@ returns-in_default c =
     (OverBudget ∷ [], inl (over, c.new.ensures, refl, ap (λ o. o.left) after ∙ left), record { names = on.names; added = on.added }, ap (λ o. o.closed) after)
 
 pub returns : goal.returns
-returns c = ok_as {P = λ file. (file ≡ c.in_ok-read.read.file) × IsOk c.add_stops.result} _ c.after.ensures (λ file kept.
+returns c = ok_of {P = λ file. (file ≡ c.in_ok-read.read.file) × IsOk c.add_stops.result} (λ _. IsErr c.add_stops.result) _ c.after.ensures (λ file kept.
     let on = rw c.deref.ensures.value at (on_ok _ c.add_stops.ensures.added kept.1) in
     let same = on_ok _ c.add_stops.ensures.same kept.1 in
     let stops = c.in_ok-read.read.faults.items in
