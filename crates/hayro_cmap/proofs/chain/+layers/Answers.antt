@@ -1,4 +1,4 @@
-use Rattle.std.proofs.Common.{◌≡◌, ◌∷◌, refl, ◌∙◌, ◌-◌, arith, Ok, Err}
+use Rattle.std.proofs.Common.{◌≡◌, ◌∷◌, refl, ◌∙◌, ◌-◌, Ok, Err}
 use Rattle.std.specs.Prelude.{MatchResult, Result}
 use Rattle.cmap_packed.specs.BundleSeen.{tables_given}
 use Rattle.cmap_files.specs.FilesSeen.{file_seen}
