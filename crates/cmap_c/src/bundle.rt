@@ -1,6 +1,7 @@
 //! Bundles that C holds.
 
 ghost use Rattle.std.specs.Prelude.{◌≡◌, ◌⊎◌, None, Some, IsSomeAnd, MatchOption, MatchResult, is_some, option_map};
+ghost use Rattle.std.specs.Option.{option_copied};
 ghost use Rattle.cmap_packed.specs.Bundles.{IsBundle};
 ghost use Rattle.cmap_values.specs.Only.{IsOnly, HoldsOfNone};
 ghost use Rattle.hayro_cmap.specs.Answers.{embedded};
@@ -17,6 +18,19 @@ use hayro_cmap::BundleFiles;
 use hayro_cmap::bcmap::OwnedBundle;
 use std::alloc::{AllocError, Global};
 use std::mem;
+
+/// A bundle that was taken from a handle, if it had one.
+pub(crate) type TakenBundle = Option<Box<Shared<OwnedBundle>>>;
+
+/// The bundle that was taken, to read it.
+pub(crate) fn lent(found: &TakenBundle) -> Option<&OwnedBundle>
+    ensures { option_copied result ≡ option_map (λ b. b.value) found.now }
+{
+    match found {
+        Some(shared) => Some(shared.value()),
+        None => None,
+    }
+}
 
 /// A bundle that C holds, or none. One that is empty is all zero bytes.
 #[repr(C)]
@@ -38,7 +52,7 @@ impl BundleHandle {
     }
 
     /// The bundle, which the handle then no longer has.
-    pub(crate) fn take(&mut self, alloc: Global) -> Option<Box<Shared<OwnedBundle>>>
+    pub(crate) fn take(&mut self, alloc: Global) -> TakenBundle
         ensures bundle { option_map (λ b. b.value) result ≡ self.old.slot.bundle }
         ensures empty { self.new.slot.bundle ≡ None }
     {
@@ -62,7 +76,7 @@ impl BundleHandle {
     }
 
     /// Gives an empty handle the bundle that was taken from it, if it had one.
-    pub(crate) fn put_back(&mut self, found: Option<Box<Shared<OwnedBundle>>>)
+    pub(crate) fn put_back(&mut self, found: TakenBundle)
         requires { self.old.slot.bundle ≡ None }
         ensures { self.new.slot.bundle ≡ option_map (λ b. b.value) found }
     {

@@ -10,13 +10,12 @@ ghost use Rattle.cmap_c.specs.Rooms.{IsPut};
 ghost use Rattle.cmap_c.specs.Statuses.{number};
 ghost use Rattle.cmap_c.specs.declared.status.Status.TheVariants.{Absent};
 
-use crate::handle::MapHandle;
+use crate::handle::{MapHandle, TakenMap};
 use crate::layers::layer_at;
-use crate::room::{Items, put, put_items};
-use crate::shared::lent;
+use crate::room::{Items, put, put_found, put_items};
 use crate::status::Status;
 use cmap_runs::runs::{Looks, Table};
-use hayro_cmap::{BfRange, CMap, CidRange, CodeLength, Layer};
+use hayro_cmap::{BfRange, CidRange, CodeLength, Layer};
 use std::alloc::Global;
 
 /// A declaration of CIDs: the codes from `first` to `last`, and the CID of the first of them.
@@ -102,7 +101,7 @@ pub extern "C" fn hayro_cmap_cid_ranges(
         (λ given. IsPut (cids_declared given byte_len) ranges.old ranges.new needed.new result) }
 {
     let found = map.take(alloc);
-    let status = put_cids(layer_at(lent(&found), layer), byte_len, ranges, needed);
+    let status = put_cids(layer_at(&found, layer), byte_len, ranges, needed);
     map.put_back(found);
     status
 }
@@ -123,7 +122,7 @@ pub extern "C" fn hayro_cmap_notdef_ranges(
         (λ given. IsPut (notdefs_declared given byte_len) ranges.old ranges.new needed.new result) }
 {
     let found = map.take(alloc);
-    let status = put_notdefs(layer_at(lent(&found), layer), byte_len, ranges, needed);
+    let status = put_notdefs(layer_at(&found, layer), byte_len, ranges, needed);
     map.put_back(found);
     status
 }
@@ -143,7 +142,7 @@ pub extern "C" fn hayro_cmap_text_ranges(
         (λ given. IsPut (texts_declared given) ranges.old ranges.new needed.new result) }
 {
     let found = map.take(alloc);
-    let status = put_texts(layer_at(lent(&found), layer), ranges, needed);
+    let status = put_texts(layer_at(&found, layer), ranges, needed);
     map.put_back(found);
     status
 }
@@ -164,10 +163,7 @@ pub extern "C" fn hayro_cmap_text_units(
         (λ declared. IsPut declared.units units.old units.new needed.new result) }
 {
     let found = map.take(alloc);
-    let status = match text_at(lent(&found), layer, index) {
-        Some(declared) => put(declared.units.as_slice(), units, needed),
-        None => Status::Absent.number(),
-    };
+    let status = put_found(units_at(&found, layer, index), units, needed);
     map.put_back(found);
     status
 }
@@ -224,14 +220,17 @@ fn put_texts(layer: Option<&Layer>, ranges: &mut [DeclaredTexts], needed: &mut u
     }
 }
 
-/// The declaration of texts at an index of a layer.
-fn text_at(map: Option<&CMap>, layer: usize, index: usize) -> Option<&BfRange>
-    ensures { option_map bf_entry_seen (option_copied result)
-        ≡ text_in (option_copied map.entry) layer index }
+/// The units of the declaration of texts at an index of a layer.
+fn units_at(found: &TakenMap, layer: usize, index: usize) -> Option<&[u16]>
+    ensures { option_copied result ≡ option_map (λ declared. declared.units)
+        (text_in (option_map (λ b. b.value) found.now) layer index) }
 {
-    let texts = layer_at(map, layer)?.texts();
+    let Some(layer) = layer_at(found, layer) else {
+        return None;
+    };
+    let texts = layer.texts();
     if index < texts.decl_count() {
-        Some(texts.decl(index, &mut Looks::new()))
+        Some(texts.decl(index, &mut Looks::new()).units.as_slice())
     } else {
         None
     }

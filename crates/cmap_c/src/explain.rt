@@ -8,13 +8,12 @@ ghost use Rattle.cmap_c.specs.NamedFiles.{ExceedsBudgetOver, FitsBudgetOver, Has
 ghost use Rattle.cmap_c.specs.Statuses.{number};
 ghost use Rattle.cmap_c.specs.declared.status.Status.TheVariants.{Done, Refused, NoMemory, OverBudget};
 
-use crate::bundle::BundleHandle;
+use crate::bundle::{BundleHandle, lent};
 use crate::fault::{FaultNumbers, Told, status_of};
 use crate::files::BaseFile;
 use crate::handle::{MapHandle, hayro_cmap_free};
 use crate::parse::{limit, tables_of};
 use crate::room::put_bytes;
-use crate::shared::lent;
 use crate::status::Status;
 use hayro_cmap::bcmap::OwnedBundle;
 use hayro_cmap::{CMap, Fault, NamedFiles};

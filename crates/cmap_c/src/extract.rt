@@ -1,8 +1,8 @@
 //! The codes of a string with their CIDs and their texts, for C.
 
-ghost use Rattle.std.specs.Prelude.{◌≡◌, ◌-◌, ◌<◌, ◌≤◌, None, MatchOption, MatchResult, length, option_map};
+ghost use Rattle.std.specs.Prelude.{◌≡◌, ◌-◌, ◌<◌, ◌≤◌, None, MatchOption, MatchResult, length};
 ghost use Rattle.std.specs.Bool.{MatchBool};
-ghost use Rattle.cmap_extract.specs.FontSeen.{font_seen, layers_given};
+ghost use Rattle.cmap_extract.specs.FontSeen.{font_seen};
 ghost use Rattle.cmap_c.specs.Extracted.{IsExtracted, bytes_of, character_seen, font_given};
 ghost use Rattle.cmap_c.specs.ExtractedParts.{IsMade, IsPutAt, IsStop};
 ghost use Rattle.cmap_c.specs.Statuses.{number};
@@ -10,10 +10,10 @@ ghost use Rattle.cmap_c.specs.declared.status.Status.TheVariants.{Absent};
 
 use crate::decode::Code;
 use crate::handle::MapHandle;
-use crate::shared::Shared;
+use crate::layers::layers_lent;
 use crate::status::Status;
 use cmap_extract::{Character, Font};
-use hayro_cmap::{BfString, CMap, Layer};
+use hayro_cmap::BfString;
 use std::alloc::Global;
 
 /// A code of a string with its CID, and with its text in a room for texts. It has no padding, and each
@@ -71,7 +71,8 @@ pub extern "C" fn hayro_cmap_extract(
     };
     let texts = to_unicode.take(alloc);
     let texts_of_cids = collection.take(alloc);
-    let (texts_layers, collection_layers) = (layers_lent(&texts), layers_lent(&texts_of_cids));
+    let texts_layers = layers_lent(&texts);
+    let collection_layers = layers_lent(&texts_of_cids);
     let font = Font {
         encoding: found.value().layers(),
         to_unicode: texts_layers,
@@ -82,16 +83,6 @@ pub extern "C" fn hayro_cmap_extract(
     to_unicode.put_back(texts);
     collection.put_back(texts_of_cids);
     status
-}
-
-/// The layers of the map that was taken from a handle, if it had one.
-fn layers_lent(found: &Option<Box<Shared<CMap>>>) -> Option<&[Layer]>
-    ensures { layers_given result ≡ option_map (λ shared. shared.value) found.now }
-{
-    match found {
-        Some(shared) => Some(shared.value().layers()),
-        None => None,
-    }
 }
 
 impl Extracted {

@@ -13,6 +13,9 @@ use hayro_cmap::CMap;
 use std::alloc::{AllocError, Global};
 use std::mem;
 
+/// A map that was taken from a handle, if it had one.
+pub(crate) type TakenMap = Option<Box<Shared<CMap>>>;
+
 /// A map that C holds, or none. One that is empty is all zero bytes.
 #[repr(C)]
 #[derive(Drop)]
@@ -33,7 +36,7 @@ impl MapHandle {
     }
 
     /// The map, which the handle then no longer has.
-    pub(crate) fn take(&mut self, alloc: Global) -> Option<Box<Shared<CMap>>>
+    pub(crate) fn take(&mut self, alloc: Global) -> TakenMap
         ensures map { option_map (λ b. b.value) result ≡ self.old.slot.map }
         ensures empty { self.new.slot.map ≡ None }
     {
@@ -57,7 +60,7 @@ impl MapHandle {
     }
 
     /// Gives an empty handle the map that was taken from it, if it had one.
-    pub(crate) fn put_back(&mut self, found: Option<Box<Shared<CMap>>>)
+    pub(crate) fn put_back(&mut self, found: TakenMap)
         requires { self.old.slot.map ≡ None }
         ensures { self.new.slot.map ≡ option_map (λ b. b.value) found }
     {

@@ -2,17 +2,17 @@
 
 ghost use Rattle.std.specs.Prelude.{◌≡◌, ◌≤◌, MatchOption, length, option_map};
 ghost use Rattle.std.specs.Option.{option_copied};
+ghost use Rattle.cmap_extract.specs.FontSeen.{layers_given};
 ghost use Rattle.cmap_layers.specs.LayersSeen.{layer_seen};
 ghost use Rattle.cmap_c.specs.Handles.{layer_in, ranges_seen};
 ghost use Rattle.cmap_c.specs.Rooms.{IsPut};
 ghost use Rattle.cmap_c.specs.Statuses.{number};
 ghost use Rattle.cmap_c.specs.declared.status.Status.TheVariants.{Absent};
 
-use crate::handle::MapHandle;
+use crate::handle::{MapHandle, TakenMap};
 use crate::room::{Items, put_items};
-use crate::shared::lent;
 use crate::status::Status;
-use hayro_cmap::{CMap, Codespace, Layer};
+use hayro_cmap::{Codespace, Layer};
 use std::alloc::Global;
 
 /// A codespace range: codes of `byte_len` bytes, each byte between those of `low` and `high`.
@@ -75,7 +75,7 @@ pub extern "C" fn hayro_cmap_codespaces(
         (λ given. IsPut (ranges_seen given.lists.spaces) ranges.old ranges.new needed.new result) }
 {
     let found = map.take(alloc);
-    let status = match layer_at(lent(&found), layer) {
+    let status = match layer_at(&found, layer) {
         Some(given) => put_items(&given.codespaces(), ranges, needed),
         None => Status::Absent.number(),
     };
@@ -83,10 +83,23 @@ pub extern "C" fn hayro_cmap_codespaces(
     status
 }
 
-/// The layer at an index of a map, where there is a map that has one.
-pub(crate) fn layer_at(map: Option<&CMap>, layer: usize) -> Option<&Layer>
-    ensures { option_map layer_seen (option_copied result)
-        ≡ layer_in (option_copied map.entry) layer }
+/// The layers of a map that was taken.
+pub(crate) fn layers_lent(found: &TakenMap) -> Option<&[Layer]>
+    ensures { layers_given result ≡ option_map (λ b. b.value) found.now }
 {
-    map?.layers().get(layer)
+    match found {
+        Some(shared) => Some(shared.value().layers()),
+        None => None,
+    }
+}
+
+/// The layer at an index of a map that was taken, where it has one.
+pub(crate) fn layer_at(found: &TakenMap, layer: usize) -> Option<&Layer>
+    ensures { option_map layer_seen (option_copied result)
+        ≡ layer_in (option_map (λ b. b.value) found.now) layer }
+{
+    match layers_lent(found) {
+        Some(layers) if layer < layers.len() => Some(&layers[layer]),
+        _ => None,
+    }
 }

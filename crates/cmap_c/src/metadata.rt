@@ -9,12 +9,11 @@ ghost use Rattle.cmap_c.specs.Rooms.{IsPut};
 ghost use Rattle.cmap_c.specs.Statuses.{number};
 ghost use Rattle.cmap_c.specs.declared.status.Status.TheVariants.{Absent};
 
-use crate::handle::MapHandle;
+use crate::handle::{MapHandle, TakenMap};
 use crate::layers::layer_at;
 use crate::room::{put_bytes, put_found};
-use crate::shared::lent;
 use crate::status::Status;
-use hayro_cmap::{CMap, CharacterCollection, WritingMode};
+use hayro_cmap::{CharacterCollection, WritingMode};
 use std::alloc::Global;
 
 /// The name that the file gives.
@@ -49,7 +48,7 @@ pub extern "C" fn hayro_cmap_layer_name(
         (λ name. IsPut name room.old room.new needed.new result) }
 {
     let found = map.take(alloc);
-    let status = put_found(name_at(lent(&found), layer), room, needed);
+    let status = put_found(name_at(&found, layer), room, needed);
     map.put_back(found);
     status
 }
@@ -86,7 +85,7 @@ pub extern "C" fn hayro_cmap_layer_registry(
         (λ given. IsPut (registry_of given.family) room.old room.new needed.new result) }
 {
     let found = map.take(alloc);
-    let status = match collection_at(lent(&found), layer) {
+    let status = match collection_at(&found, layer) {
         Some(given) => put_bytes(given.family.registry(), room, needed),
         None => Status::Absent.number(),
     };
@@ -126,7 +125,7 @@ pub extern "C" fn hayro_cmap_layer_ordering(
         (λ given. IsPut (ordering_of given.family) room.old room.new needed.new result) }
 {
     let found = map.take(alloc);
-    let status = match collection_at(lent(&found), layer) {
+    let status = match collection_at(&found, layer) {
         Some(given) => put_bytes(given.family.ordering(), room, needed),
         None => Status::Absent.number(),
     };
@@ -165,7 +164,7 @@ pub extern "C" fn hayro_cmap_layer_supplement(
         (λ given. (result ≡ true) × (supplement.new ≡ given.supplement)) }
 {
     let found = map.take(alloc);
-    let has = match collection_at(lent(&found), layer) {
+    let has = match collection_at(&found, layer) {
         Some(given) => {
             *supplement = given.supplement;
             true
@@ -197,7 +196,7 @@ pub extern "C" fn hayro_cmap_layer_writing_mode(
     ensures mode { result ≡ mode_number (layer_mode map.old.slot.map layer) }
 {
     let found = map.take(alloc);
-    let mode = mode_at(lent(&found), layer);
+    let mode = mode_at(&found, layer);
     map.put_back(found);
     match mode {
         Some(WritingMode::Horizontal) => 0,
@@ -207,26 +206,32 @@ pub extern "C" fn hayro_cmap_layer_writing_mode(
 }
 
 /// The name that the file of a layer gives.
-fn name_at(map: Option<&CMap>, layer: usize) -> Option<&[u8]>
-    ensures { option_copied result ≡ layer_name (option_copied map.entry) layer }
+fn name_at(found: &TakenMap, layer: usize) -> Option<&[u8]>
+    ensures { option_copied result ≡ layer_name (option_map (λ b. b.value) found.now) layer }
 {
-    layer_at(map, layer)?.metadata().name.as_deref()
+    match layer_at(found, layer) {
+        Some(layer) => layer.metadata().name.as_deref(),
+        None => None,
+    }
 }
 
 /// The character collection that the file of a layer gives.
-fn collection_at(map: Option<&CMap>, layer: usize) -> Option<&CharacterCollection>
+fn collection_at(found: &TakenMap, layer: usize) -> Option<&CharacterCollection>
     ensures { option_map collection_seen (option_copied result)
-        ≡ layer_collection (option_copied map.entry) layer }
+        ≡ layer_collection (option_map (λ b. b.value) found.now) layer }
 {
-    layer_at(map, layer)?
-        .metadata()
-        .character_collection
-        .as_ref()
+    match layer_at(found, layer) {
+        Some(layer) => layer.metadata().character_collection.as_ref(),
+        None => None,
+    }
 }
 
 /// The writing mode that the file of a layer gives.
-fn mode_at(map: Option<&CMap>, layer: usize) -> Option<WritingMode>
-    ensures { option_map mode_seen result ≡ layer_mode (option_copied map.entry) layer }
+fn mode_at(found: &TakenMap, layer: usize) -> Option<WritingMode>
+    ensures { option_map mode_seen result ≡ layer_mode (option_map (λ b. b.value) found.now) layer }
 {
-    layer_at(map, layer)?.metadata().writing_mode
+    match layer_at(found, layer) {
+        Some(layer) => layer.metadata().writing_mode,
+        None => None,
+    }
 }

@@ -8,12 +8,11 @@ ghost use Rattle.cmap_c.specs.Opened.{ExceedsBudgetNamed, FitsBudgetNamed, HasNo
 ghost use Rattle.cmap_c.specs.Statuses.{number};
 ghost use Rattle.cmap_c.specs.declared.status.Status.TheVariants.{Done, Refused, OverBudget, Absent};
 
-use crate::bundle::BundleHandle;
+use crate::bundle::{BundleHandle, lent};
 use crate::fault::ending_of;
 use crate::files::BaseFile;
 use crate::handle::{MapHandle, hayro_cmap_free};
 use crate::parse::{limit, tables_of};
-use crate::shared::lent;
 use crate::status::Status;
 use hayro_cmap::bcmap::OwnedBundle;
 use hayro_cmap::{CMap, NamedFiles};

@@ -10,11 +10,10 @@ ghost use Rattle.cmap_c.specs.NamedFiles.{ExceedsBudgetOver, FitsBudgetOver, Has
 ghost use Rattle.cmap_c.specs.Statuses.{number};
 ghost use Rattle.cmap_c.specs.declared.status.Status.TheVariants.{Done, Refused, OverBudget, NotABundle};
 
-use crate::bundle::BundleHandle;
+use crate::bundle::{BundleHandle, lent};
 use crate::fault::ending_of;
 use crate::files::BaseFile;
 use crate::handle::{MapHandle, hayro_cmap_free};
-use crate::shared::lent;
 use crate::status::Status;
 use hayro_cmap::bcmap::{Bundle, OwnedBundle};
 use hayro_cmap::{BundleFiles, CMap, NamedFiles};

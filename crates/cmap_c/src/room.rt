@@ -76,14 +76,14 @@ pub(crate) fn put_bytes(bytes: &[u8], room: &mut [u8], needed: &mut usize) -> u3
     put(bytes, room, needed)
 }
 
-/// The same of bytes that are found, if they are.
-pub(crate) fn put_found(bytes: Option<&[u8]>, room: &mut [u8], needed: &mut usize) -> u32
-    ensures { MatchOption (option_copied bytes.entry)
+/// Writes the items that are found, if there are any, where all of them have room, and how many they are.
+pub(crate) fn put_found<T: Copy>(items: Option<&[T]>, room: &mut [T], needed: &mut usize) -> u32
+    ensures { MatchOption (option_copied items.entry)
         ((result ≡ number Absent) × (room.new ≡ room.old) × (needed.new ≡ needed.old))
         (λ found. IsPut found room.old room.new needed.new result) }
 {
-    match bytes {
-        Some(bytes) => put_bytes(bytes, room, needed),
+    match items {
+        Some(items) => put(items, room, needed),
         None => Status::Absent.number(),
     }
 }

@@ -1,6 +1,6 @@
 //! Maps of files that are read past their faults, for C.
 
-ghost use Rattle.std.specs.Prelude.{◌≡◌, ◌⊎◌, ◌≤◌, None, IfOk, length};
+ghost use Rattle.std.specs.Prelude.{◌≡◌, ◌⊎◌, ◌≤◌, None, Ok, IfOk, length};
 ghost use Rattle.std.specs.List.{All};
 ghost use Rattle.std.specs.Option.{option_copied};
 ghost use Rattle.hayro_cmap.specs.SalvageSeen.{faults_seen};
@@ -9,14 +9,14 @@ ghost use Rattle.cmap_c.specs.Salvaged.{AreFaultsShown, IsSalvageOver, IsSalvage
 ghost use Rattle.cmap_c.specs.Statuses.{number};
 ghost use Rattle.cmap_c.specs.declared.status.Status.TheVariants.{Done, NoMemory};
 
-use crate::bundle::BundleHandle;
+use crate::bundle::{BundleHandle, lent};
 use crate::fault::FaultNumbers;
 use crate::files::BaseFile;
 use crate::handle::{MapHandle, hayro_cmap_free};
 use crate::names::push_names;
 use crate::parse::{limit, tables_of};
 use crate::room::{put_bytes, put_head};
-use crate::shared::{Shared, lent};
+use crate::shared::Shared;
 use crate::status::Status;
 use hayro_cmap::bcmap::OwnedBundle;
 use hayro_cmap::{CMap, NamedFiles, Refusal, SalvagedMap};
@@ -76,8 +76,7 @@ impl Salvaged {
         ensures { IfOk result (λ made. (made.map.value ≡ map)
             × AreFaultsShown (faults_seen faults.now) made.shown) }
     {
-        let shown = ShownFaults::of(alloc, faults)?;
-        let map = Shared::new(alloc, map)?;
+        let (map, shown) = both(Shared::new(alloc, map), ShownFaults::of(alloc, faults))?;
         Ok(Salvaged { map, shown })
     }
 }
@@ -105,6 +104,19 @@ impl ShownFaults {
             faults: shown,
             names,
         })
+    }
+}
+
+/// What two steps make that fail only if memory runs out.
+fn both<T: Drop, U: Drop>(
+    one: Result<T, AllocError>,
+    other: Result<U, AllocError>,
+) -> Result<(T, U), AllocError>
+    ensures { IfOk result (λ made. (one ≡ Ok made.0) × (other ≡ Ok made.1)) }
+{
+    match (one, other) {
+        (Ok(one), Ok(other)) => Ok((one, other)),
+        _ => Err(AllocError),
     }
 }
 

@@ -1,7 +1,6 @@
 //! A value that several handles have.
 
-ghost use Rattle.std.specs.Prelude.{◌≡◌, IfOk, option_map};
-ghost use Rattle.std.specs.Option.{option_copied};
+ghost use Rattle.std.specs.Prelude.{◌≡◌, IfOk};
 
 use std::alloc::{AllocError, Global};
 use std::marker::Model;
@@ -41,15 +40,5 @@ impl<T: Drop> Shared<T> {
     {
         let value = Arc::try_clone(&self.value)?;
         Ok(Box::new(alloc, Shared { value })?)
-    }
-}
-
-/// The value that was taken from a handle, if it had one.
-pub(crate) fn lent<T: Drop>(found: &Option<Box<Shared<T>>>) -> Option<&T>
-    ensures { option_copied result ≡ option_map (λ b. b.value) found.now }
-{
-    match found {
-        Some(shared) => Some(shared.value()),
-        None => None,
     }
 }

@@ -8,11 +8,10 @@ ghost use Rattle.cmap_c.specs.Rooms.{AreBothPut};
 ghost use Rattle.cmap_c.specs.Statuses.{number};
 ghost use Rattle.cmap_c.specs.declared.status.Status.TheVariants.{Refused, NoMemory, Done, NoRoom};
 
-use crate::bundle::BundleHandle;
+use crate::bundle::{BundleHandle, lent};
 use crate::names::joined;
 use crate::parse::tables_of;
 use crate::room::{fill, put_bytes};
-use crate::shared::lent;
 use crate::status::Status;
 use hayro_cmap::CMap;
 use std::alloc::Global;

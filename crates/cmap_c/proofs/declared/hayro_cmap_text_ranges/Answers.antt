@@ -6,5 +6,5 @@ use Rattle.cmap_c.proofs.declared.hayro_cmap_text_ranges.Goals as goal
 pub returns : goal.returns
 returns c = record {
   same = c.put_back.ensures ∙ c.take-found.ensures.map;
-  ranges = given_in (λ map. layer_in map c.args.layer) _ _ _ _ _ c.layer_at.ensures (c.lent.ensures ∙ c.take-found.ensures.map) c.put_texts-status.ensures;
+  ranges = given_in (λ map. layer_in map c.args.layer) _ _ _ _ _ c.layer_at.ensures c.take-found.ensures.map c.put_texts-status.ensures;
 }

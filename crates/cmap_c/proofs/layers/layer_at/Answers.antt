@@ -1,22 +1,30 @@
-use Rattle.std.proofs.Common.{◌≡◌, ◌∙◌, ℕ, List, Option, Some, None, ap, length, map, refl, sym}
+use Rattle.std.proofs.Common.{◌≡◌, ◌∙◌, ◌<◌, ◌≤◌, ℕ, List, Option, None, Some, ap, get_or, length, refl, sym}
 use Rattle.std.specs.Prelude.{option_map, slice_get}
 use Rattle.std.specs.Borrow.{Bor}
-use Rattle.std.specs.Option.{option_copied}
-use Rattle.std.specs.Slice.{IsItemAt}
 use Rattle.std.proofs.lemmas.Option.{slice_get-map, slice_get_past, slice_get_read}
+use Rattle.cmap_extract.specs.FontSeen.{layers_given}
+use Rattle.cmap_layers.specs.Layers as specs
 use Rattle.cmap_layers.specs.LayersSeen.{layer_seen}
+use Rattle.cmap_layers.specs.declared.layers.Layer.{Layer}
 use Rattle.cmap_c.specs.Handles.{layer_in}
+use Rattle.cmap_c.proofs.layers.layer_at.Goals.{in_default-via-in-Some+else-layer-layers, in_default-via-in_default}
 use Rattle.cmap_c.proofs.layers.layer_at.Goals as goal
 
--- the item that is lent, as a list shows it
-lent : {X Y : Type 0} (seen : X → Y) (xs : List X) (i : ℕ) (r : Option (Bor X)) → IsItemAt xs i r → option_map seen (option_copied r) ≡ slice_get (map seen xs) i
-lent seen xs i None at = sym (slice_get-map seen xs i ∙ ap (option_map seen) (slice_get_past xs i at.3))
-lent seen xs i (Some x) at = sym (slice_get-map seen xs i ∙ ap (option_map seen) (slice_get_read xs (length xs) i x.now refl at.3.0 at.1))
+-- the item of the layers that are lent, as a map shows it
+of_lent : (given : Option (Bor (List Layer))) (layers : Bor (List Layer)) (seen : Option (List specs.Layer)) (i : ℕ) (item : Layer) → given ≡ Some layers → layers_given given ≡ seen → i < length layers.now → item ≡ get_or layers.now i item
+    → Some (layer_seen item) ≡ layer_in seen i
+of_lent given layers seen i item is same within read =
+    ap (option_map layer_seen) (sym (slice_get_read layers.now (length layers.now) i item refl within read)) ∙ sym (slice_get-map layer_seen layers.now i) ∙ ap (λ map. layer_in map i) (ap layers_given (sym is) ∙ same)
 
-pub returns-in_err-map : goal.returns-in_err-map
-returns-in_err-map c = ap (λ found. option_map layer_seen (option_copied found)) c.from_residual.ensures ∙ sym (ap (λ map. layer_in (option_copied map) c.args.layer) c.in_err-map.was)
+past_lent : (given : Option (Bor (List Layer))) (layers : Bor (List Layer)) (seen : Option (List specs.Layer)) (i : ℕ) → given ≡ Some layers → layers_given given ≡ seen → length layers.now ≤ i → None ≡ layer_in seen i
+past_lent given layers seen i is same past =
+    ap (option_map layer_seen) (sym (slice_get_past layers.now i past)) ∙ sym (slice_get-map layer_seen layers.now i) ∙ ap (λ map. layer_in map i) (ap layers_given (sym is) ∙ same)
 
-pub returns : goal.returns
-returns c =
-    lent layer_seen c.layers.result.now c.args.layer c.get.result c.get.ensures.lookup ∙ ap (λ layers. slice_get layers c.args.layer) c.layers.ensures.layers
-    ∙ sym (ap (λ map. layer_in (option_copied map) c.args.layer) c.in_ok-map.was)
+pub returns-in-Some : goal.returns-in-Some
+returns-in-Some c = of_lent c.layers_lent.result c.in-Some.layers _ c.args.layer c.index-layers-layer.result c.in-Some.is c.layers_lent.ensures c.if-layer-layers.true c.index-layers-layer.is
+
+pub returns-in_default : goal.returns-in_default
+returns-in_default c = elim c.in_default.branch [
+  | in_default-via-in-Some+else-layer-layers w ↦ past_lent c.layers_lent.result w.in-Some.layers _ c.args.layer w.in-Some.is c.layers_lent.ensures w.if-layer-layers.false
+  | in_default-via-in_default w ↦ ap (λ map. layer_in map c.args.layer) w.in_default.ensures
+]

@@ -6,5 +6,5 @@ use Rattle.cmap_c.proofs.metadata.hayro_cmap_layer_name.Goals as goal
 pub returns : goal.returns
 returns c = record {
   same = c.put_back.ensures ∙ c.take-found.ensures.map;
-  name = given_in (λ map. layer_name map c.args.layer) _ _ _ _ _ c.name_at.ensures (c.lent.ensures ∙ c.take-found.ensures.map) c.put_found-status.ensures;
+  name = given_in (λ map. layer_name map c.args.layer) _ _ _ _ _ c.name_at.ensures c.take-found.ensures.map c.put_found-status.ensures;
 }

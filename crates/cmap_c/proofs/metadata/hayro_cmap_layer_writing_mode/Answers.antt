@@ -13,17 +13,17 @@ said mode found field given is same seen = ap mode_number (ap (λ m. Some (mode_
 pub returns-in-Some-Horizontal : goal.returns-in-Some-Horizontal
 returns-in-Some-Horizontal c = record {
   same = c.put_back.ensures ∙ c.take-found.ensures.map;
-  mode = said Horizontal c.mode_at-mode.result c.in-Some-Horizontal.field-0 _ c.in-Some-Horizontal.is (rw c.in-Some-Horizontal.is at c.in-Some-Horizontal.field-0-is) (c.mode_at-mode.ensures ∙ ap (λ map. layer_mode map c.args.layer) (c.lent.ensures ∙ c.take-found.ensures.map));
+  mode = said Horizontal c.mode_at-mode.result c.in-Some-Horizontal.field-0 _ c.in-Some-Horizontal.is (rw c.in-Some-Horizontal.is at c.in-Some-Horizontal.field-0-is) (c.mode_at-mode.ensures ∙ ap (λ map. layer_mode map c.args.layer) c.take-found.ensures.map);
 }
 
 pub returns-in-Some-Vertical : goal.returns-in-Some-Vertical
 returns-in-Some-Vertical c = record {
   same = c.put_back.ensures ∙ c.take-found.ensures.map;
-  mode = said Vertical c.mode_at-mode.result c.in-Some-Vertical.field-0 _ c.in-Some-Vertical.is (rw c.in-Some-Vertical.is at c.in-Some-Vertical.field-0-is) (c.mode_at-mode.ensures ∙ ap (λ map. layer_mode map c.args.layer) (c.lent.ensures ∙ c.take-found.ensures.map));
+  mode = said Vertical c.mode_at-mode.result c.in-Some-Vertical.field-0 _ c.in-Some-Vertical.is (rw c.in-Some-Vertical.is at c.in-Some-Vertical.field-0-is) (c.mode_at-mode.ensures ∙ ap (λ map. layer_mode map c.args.layer) c.take-found.ensures.map);
 }
 
 pub returns-in-None : goal.returns-in-None
 returns-in-None c = record {
   same = c.put_back.ensures ∙ c.take-found.ensures.map;
-  mode = ap mode_number (c.in-None.ensures ∙ ap (λ map. layer_mode map c.args.layer) (c.lent.ensures ∙ c.take-found.ensures.map));
+  mode = ap mode_number (c.in-None.ensures ∙ ap (λ map. layer_mode map c.args.layer) c.take-found.ensures.map);
 }
