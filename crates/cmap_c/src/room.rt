@@ -76,7 +76,7 @@ pub(crate) fn put_bytes(bytes: &[u8], room: &mut [u8], needed: &mut usize) -> u3
     put(bytes, room, needed)
 }
 
-/// Writes the items that are found, if there are any, where all of them have room, and how many they are.
+/// The same of items that are found, if they are.
 pub(crate) fn put_found<T: Copy>(items: Option<&[T]>, room: &mut [T], needed: &mut usize) -> u32
     ensures { MatchOption (option_copied items.entry)
         ((result ≡ number Absent) × (room.new ≡ room.old) × (needed.new ≡ needed.old))
