@@ -70,14 +70,14 @@ impl FaultNumbers {
     fn possible_cause(&self) -> Option<Cause>
         ensures { result ≡ possible_cause self.now }
     {
-        match self.cause {
-            1 => Some(Cause::Malformed(Stop {
+        match (self.cause, possible_reason(self.reason, self.segment)) {
+            (1, Some(reason)) => Some(Cause::Malformed(Stop {
                 offset: self.offset,
-                reason: possible_reason(self.reason, self.segment)?,
+                reason,
             })),
-            2 => Some(Cause::NoFile),
-            3 => Some(Cause::ChainLength),
-            4 => Some(Cause::OverBudget),
+            (2, _) => Some(Cause::NoFile),
+            (3, _) => Some(Cause::ChainLength),
+            (4, _) => Some(Cause::OverBudget),
             _ => None,
         }
     }
@@ -201,23 +201,23 @@ fn segment_number(segment: Segment) -> u16
 fn possible_reason(reason: u16, segment: u16) -> Option<Reason>
     ensures { result ≡ possible_reason reason segment }
 {
-    match reason {
-        1 => Some(Reason::MalformedToken),
-        2 => Some(Reason::EndWithinSection),
-        3 => Some(Reason::CodeExpected),
-        4 => Some(Reason::CodeLength),
-        5 => Some(Reason::UnequalLengths),
-        6 => Some(Reason::CidExpected),
-        7 => Some(Reason::TextExpected),
-        8 => Some(Reason::BracketExpected),
-        9 => Some(Reason::UseWithoutName),
-        10 => Some(Reason::Header),
-        11 => Some(Reason::SegmentLength),
-        12 => Some(Reason::SegmentType),
-        13 => Some(Reason::Field(segment_numbered(segment)?)),
-        14 => Some(Reason::Entry(segment_numbered(segment)?)),
-        15 => Some(Reason::CodeTooLarge(segment_numbered(segment)?)),
-        16 => Some(Reason::CidTooLarge),
+    match (reason, segment_numbered(segment)) {
+        (1, _) => Some(Reason::MalformedToken),
+        (2, _) => Some(Reason::EndWithinSection),
+        (3, _) => Some(Reason::CodeExpected),
+        (4, _) => Some(Reason::CodeLength),
+        (5, _) => Some(Reason::UnequalLengths),
+        (6, _) => Some(Reason::CidExpected),
+        (7, _) => Some(Reason::TextExpected),
+        (8, _) => Some(Reason::BracketExpected),
+        (9, _) => Some(Reason::UseWithoutName),
+        (10, _) => Some(Reason::Header),
+        (11, _) => Some(Reason::SegmentLength),
+        (12, _) => Some(Reason::SegmentType),
+        (13, Some(segment)) => Some(Reason::Field(segment)),
+        (14, Some(segment)) => Some(Reason::Entry(segment)),
+        (15, Some(segment)) => Some(Reason::CodeTooLarge(segment)),
+        (16, _) => Some(Reason::CidTooLarge),
         _ => None,
     }
 }
