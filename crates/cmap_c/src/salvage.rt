@@ -1,6 +1,6 @@
 //! Maps of files that are read past their faults, for C.
 
-ghost use Rattle.std.specs.Prelude.{◌≡◌, ◌⊎◌, ◌≤◌, None, Ok, IfOk, length};
+ghost use Rattle.std.specs.Prelude.{◌≡◌, ◌⊎◌, ◌≤◌, None, IfOk, length};
 ghost use Rattle.std.specs.List.{All};
 ghost use Rattle.std.specs.Option.{option_copied};
 ghost use Rattle.hayro_cmap.specs.SalvageSeen.{faults_seen};
@@ -18,6 +18,7 @@ use crate::parse::{limit, tables_of};
 use crate::room::{put_bytes, put_head};
 use crate::shared::Shared;
 use crate::status::Status;
+use cmap_values::memory::both;
 use hayro_cmap::bcmap::OwnedBundle;
 use hayro_cmap::{CMap, NamedFiles, Refusal, SalvagedMap};
 use std::alloc::{AllocError, Global};
@@ -104,19 +105,6 @@ impl ShownFaults {
             faults: shown,
             names,
         })
-    }
-}
-
-/// What two steps make that fail only if memory runs out.
-fn both<T: Drop, U: Drop>(
-    one: Result<T, AllocError>,
-    other: Result<U, AllocError>,
-) -> Result<(T, U), AllocError>
-    ensures { IfOk result (λ made. (one ≡ Ok made.0) × (other ≡ Ok made.1)) }
-{
-    match (one, other) {
-        (Ok(one), Ok(other)) => Ok((one, other)),
-        _ => Err(AllocError),
     }
 }
 
