@@ -213,10 +213,6 @@ runs_at_indices spans indices are =
     runs_of-unique spans (map (range_at spans) indices)
     (runs_are_ranges spans (map (range_at spans) indices) (ranges_of_indices spans indices are.every are.apart) (LieApart-ascend (map (range_at spans) indices) are.apart) are.apart.apart)
 
-pub indices_within_list : {T : Type 0} (span_of : T → Span) (list : List T) (indices : List ℕ) → ArePlacesApart (map span_of list) indices → All (λ index. index < length list) indices
-indices_within_list span_of list indices are = subst (λ n. All (λ index. index < n) indices) (length-map list span_of) (is_index (length (map span_of list)) indices are.every)
-
-pub few_indices : {T : Type 0} (span_of : T → Span) (list : List T) (indices : List ℕ) → ArePlacesApart (map span_of list) indices → length (map (range_at (map span_of list)) indices) ≤ 2 * length list - 1
-few_indices span_of list indices are =
-    let spans = map span_of list in
-    omega (arith, length-map list span_of, length-map indices (range_at spans), length_permutation (range_with_len 0 (length spans)) indices are.every, length-range_with_len 0 (length spans))
+pub few_indices : (spans : List Span) (indices : List ℕ) → ArePlacesApart spans indices → length (map (range_at spans) indices) ≤ 2 * length spans - 1
+few_indices spans indices are =
+    omega (arith, length-map indices (range_at spans), length_permutation (range_with_len 0 (length spans)) indices are.every, length-range_with_len 0 (length spans))

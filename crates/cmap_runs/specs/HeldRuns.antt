@@ -1,7 +1,7 @@
 -- Private aid: the runs that a table holds.
-use Rattle.std.specs.Prelude.{ℕ, ◌<◌, List, All, map}
+use Rattle.std.specs.Prelude.{◌≡◌, ℕ, ◌-◌, ◌*◌, ◌<◌, ◌≤◌, List, All, length, map}
 use Rattle.cmap_runs.specs.DeclaredRanges.{range_at}
-use Rattle.cmap_runs.specs.Ranges.{Run, Span}
+use Rattle.cmap_runs.specs.Ranges.{Run, Span, runs_of}
 use Rattle.cmap_runs.specs.declared.runs.held.RunList.{RunList}
 use Rattle.cmap_runs.specs.declared.runs.held.RunList.TheVariants.{Ranges, Swept}
 
@@ -14,3 +14,9 @@ runs_held spans (Swept runs) = runs
 abbrev pub indices_within : ℕ → RunList → Type 0
 indices_within count (Ranges indices) = All (λ index. index < count) indices.items
 indices_within count (Swept runs) = Unit {0}
+
+-- they are the runs of the declarations, fewer than two for each
+pub record AreHeld (spans : List Span) (held : RunList) : Type 0 where
+  pub runs : runs_held spans held ≡ runs_of spans
+  pub within : indices_within (length spans) held
+  pub few : length (runs_held spans held) ≤ 2 * length spans - 1

@@ -1,10 +1,11 @@
 -- Private aid: open ranges, those that have begun. Each is the index of its declaration with its last code.
-use Rattle.std.specs.Prelude.{◌≡◌, ℕ, ◌<◌, ◌≤◌, ◌⊎◌, List, ◌∷◌, All, Option, Some, None, length, slice_get}
+use Rattle.std.specs.Prelude.{◌≡◌, ℕ, ◌+◌, ◌-◌, ◌*◌, ◌<◌, ◌≤◌, ◌^◌, ◌⊎◌, List, ◌∷◌, All, Option, Some, None, get_or, length, slice_get, take}
 use Rattle.std.specs.BinaryHeap.{IsHeap}
 use Rattle.std.specs.List.{Contains}
 use Rattle.std.specs.List.Sorted.{IsNonDecreasingBy, IsPermutation}
 use Rattle.std.specs.Ordering.{nat_cmp, ordering_then}
-use Rattle.cmap_runs.specs.Ranges.{Run, Span}
+use Rattle.cmap_runs.specs.DeclaredRanges.{AreRanges}
+use Rattle.cmap_runs.specs.Ranges.{AreRunsBelow, Run, Span, last_index}
 
 -- the greatest index of an open range that doesn't end before the code, or none
 abbrev pub IsGreatest : List (ℕ × ℕ) → ℕ → Option ℕ → Type 0
@@ -34,6 +35,13 @@ pub record Opens (before after : List (ℕ × ℕ)) (range : Run) : Type 0 where
 pub record AreOpen (spans : List Span) (begun : List Run) (ends : List (ℕ × ℕ)) (code : ℕ) : Type 0 where
   pub kept : All (λ range. (range.high < code) ⊎ IsCovered ends range) begun
   pub no_more : (index last : ℕ) → Contains ends (index, last) → (start : ℕ) × (start ≤ code) × (slice_get spans index ≡ Some (record { start = start; end = last }))
+
+-- up to the code, at or after which the other ranges begin, the first ones were opened, and the runs below it made
+pub record IsSwept (ranges : List Run) (begun code : ℕ) (ends : List (ℕ × ℕ)) (runs : List Run) : Type 0 where
+  pub later : (k : ℕ) (d : Run) → begun ≤ k → k < length ranges → code ≤ (get_or ranges k d).low
+  pub limit : code ≤ 2 ^ 32
+  pub are : (spans : List Span) → AreRanges spans (length spans) ranges → AreOpen spans (take begun ranges) ends code × AreRunsBelow (last_index spans) code runs
+  pub few : length runs + length ends ≤ 2 * begun - 1
 
 -- a heap with the greatest index on top
 abbrev pub HasGreatestOnTop : List (ℕ × ℕ) → Type 0

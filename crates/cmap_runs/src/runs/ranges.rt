@@ -15,13 +15,13 @@ pub(super) fn ranges_of<T: HasRange>(
     declarations: &[T],
 ) -> Result<Vec<Run>, AllocError>
     ensures { IfOk result
-        (λ ranges. AreRanges (map T.span declarations.now) (length declarations.now) ranges.items) }
+        (λ ranges. AreRanges (map T.span declarations.now) (length (map T.span declarations.now)) ranges.items) }
 {
     let mut ranges = Vec::with_capacity(alloc, declarations.len())?;
     for (index, declaration) in declarations.iter().enumerate() {
         let range = declaration.range();
         if range.start <= range.end {
-            ranges.push(Run::new(range.start, range.end, index))?;
+            ranges.push_reserved(Run::new(range.start, range.end, index));
         }
     }
     Ok(ranges)
@@ -37,14 +37,14 @@ pub(super) fn ranges_at<T: HasRange>(
     requires order { IsNonDecreasingBy
         (λ index. (range_at (map T.span declarations.now) index).low) indices.items }
     ensures ranges { IfOk result
-        (λ ranges. AreRanges (map T.span declarations.now) (length declarations.now) ranges.items) }
+        (λ ranges. AreRanges (map T.span declarations.now) (length (map T.span declarations.now)) ranges.items) }
     ensures order { IfOk result (λ ranges. IsNonDecreasingBy (λ range. range.low) ranges.items) }
 {
     let mut ranges = Vec::with_capacity(alloc, indices.len())?;
     for index in &indices {
         let range = range_at(declarations, *index);
         if range.low <= range.high {
-            ranges.push(range)?;
+            ranges.push_reserved(range);
         }
     }
     Ok(ranges)

@@ -1,10 +1,11 @@
 //! The runs of declarations, by one sweep over the codes.
 
-ghost use Rattle.std.specs.Prelude.{◌≡◌, ℕ, ◌+◌, ◌-◌, ◌*◌, ◌<◌, ◌≤◌, ◌^◌, List, Option, IfOk, OnOk, length, map};
-ghost use Rattle.std.specs.List.Sorted.{IsNonDecreasingBy};
-ghost use Rattle.cmap_runs.specs.DeclaredRanges.{AreRanges};
-ghost use Rattle.cmap_runs.specs.HeldRuns.{indices_within, runs_held};
-ghost use Rattle.cmap_runs.specs.OpenRanges.{IsGreatest, StayOpen};
+ghost use Rattle.std.specs.Prelude.{◌≡◌, ℕ, ◌+◌, ◌-◌, ◌*◌, ◌<◌, ◌≤◌, ◌^◌, [], List, Option, IfOk, OnOk, length, map};
+ghost use Rattle.std.specs.List.{range_with_len};
+ghost use Rattle.std.specs.List.Sorted.{IsNonDecreasingBy, IsPermutation};
+ghost use Rattle.cmap_runs.specs.DeclaredRanges.{AreRanges, range_at};
+ghost use Rattle.cmap_runs.specs.HeldRuns.{AreHeld};
+ghost use Rattle.cmap_runs.specs.OpenRanges.{IsGreatest, IsSwept, StayOpen};
 ghost use Rattle.cmap_runs.specs.Ranges.{AreRunsBelow, Span, runs_of};
 
 use super::HasRange;
@@ -19,32 +20,55 @@ const CODE_COUNT: u64 = 1 << 32;
 
 /// The runs of the declarations.
 pub(super) fn runs_of<T: HasRange>(alloc: Global, declarations: &[T]) -> Result<RunList, AllocError>
-    ensures runs { IfOk result (λ runs. runs_held (map T.span declarations.now) runs
-        ≡ runs_of (map T.span declarations.now)) }
-    ensures within { IfOk result (λ runs. indices_within (length declarations.now) runs) }
-    ensures few { IfOk result (λ runs. length (runs_held (map T.span declarations.now) runs)
-        ≤ 2 * length declarations.now - 1) }
+    ensures { IfOk result (AreHeld (map T.span declarations.now)) }
 {
-    let Ok(count) = u32::try_from(declarations.len()) else {
-        let ranges = ranges_of(alloc, declarations)?;
-        return Ok(RunList::Swept(sorted_and_swept(alloc, ranges)?));
-    };
-    if let Some(indices) = indices_of_parts(alloc, declarations, count)? {
+    match u32::try_from(declarations.len()) {
+        Ok(count) => runs_by_index(alloc, declarations, count),
+        Err(_) => sorted_and_swept(alloc, ranges_of(alloc, declarations)?),
+    }
+}
+
+/// The runs of the declarations, which are put in order by their indices.
+fn runs_by_index<T: HasRange>(
+    alloc: Global,
+    declarations: &[T],
+    count: u32,
+) -> Result<RunList, AllocError>
+    requires { count ≡ length declarations.now }
+    ensures { IfOk result (AreHeld (map T.span declarations.now)) }
+{
+    match indices_of_parts(alloc, declarations, count)? {
+        Some(indices) => Ok(RunList::Ranges(indices)),
+        None => runs_in_order(
+            alloc,
+            declarations,
+            indices_in_order(alloc, declarations, count)?,
+        ),
+    }
+}
+
+/// The runs of the declarations, whose indices come in the order of their first codes.
+fn runs_in_order<T: HasRange>(
+    alloc: Global,
+    declarations: &[T],
+    indices: Vec<u32>,
+) -> Result<RunList, AllocError>
+    requires indices { IsPermutation (range_with_len 0 (length declarations.now)) indices.items }
+    requires order { IsNonDecreasingBy
+        (λ index. (range_at (map T.span declarations.now) index).low) indices.items }
+    ensures { IfOk result (AreHeld (map T.span declarations.now)) }
+{
+    if are_apart(declarations, indices.as_slice()) {
         return Ok(RunList::Ranges(indices));
     }
-    let ordered = indices_in_order(alloc, declarations, count)?;
-    if are_apart(declarations, &ordered) {
-        return Ok(RunList::Ranges(ordered));
-    }
-    let ranges = ranges_at(alloc, declarations, ordered)?;
-    Ok(RunList::Swept(sweep(alloc, ranges.as_slice())?))
+    let ranges = ranges_at(alloc, declarations, indices)?;
+    sweep(alloc, ranges.as_slice())
 }
 
 /// The runs of the declarations that the ranges belong to.
-fn sorted_and_swept(alloc: Global, ranges: Vec<Run>) -> Result<Runs, AllocError>
-    ensures runs { IfOk result (λ runs. (spans : List Span)
-        → AreRanges spans (length spans) ranges.items → runs ≡ runs_of spans) }
-    ensures few { IfOk result (λ runs. length runs ≤ 2 * length ranges.items - 1) }
+fn sorted_and_swept(alloc: Global, ranges: Vec<Run>) -> Result<RunList, AllocError>
+    ensures { IfOk result (λ runs. (spans : List Span)
+        → AreRanges spans (length spans) ranges.items → AreHeld spans runs) }
 {
     let mut ranges = ranges;
     ranges.sort_by_key(|range| range.low)?;
@@ -52,26 +76,49 @@ fn sorted_and_swept(alloc: Global, ranges: Vec<Run>) -> Result<Runs, AllocError>
 }
 
 /// The runs, where the ranges come in order.
-fn sweep(alloc: Global, ranges: &[Run]) -> Result<Runs, AllocError>
+fn sweep(alloc: Global, ranges: &[Run]) -> Result<RunList, AllocError>
     requires { IsNonDecreasingBy (λ range. range.low) ranges.now }
-    ensures runs { IfOk result
-        (λ runs. (spans : List Span) → AreRanges spans (length spans) ranges.now → runs ≡ runs_of spans) }
-    ensures few { IfOk result (λ runs. length runs ≤ 2 * length ranges.now - 1) }
+    ensures { IfOk result (λ runs. (spans : List Span)
+        → AreRanges spans (length spans) ranges.now → AreHeld spans runs) }
 {
     let mut runs = Runs::with_capacity(alloc, ranges.len())?;
+    add_all_runs(&mut runs, alloc, ranges)?;
+    runs.shrink_to_fit();
+    Ok(RunList::Swept(runs))
+}
+
+/// Adds the runs of all codes.
+fn add_all_runs(runs: &mut Runs, alloc: Global, ranges: &[Run]) -> Result<(), AllocError>
+    requires none { runs.old ≡ [] }
+    requires order { IsNonDecreasingBy (λ range. range.low) ranges.now }
+    ensures runs { OnOk result ((spans : List Span) → AreRanges spans (length spans) ranges.now
+        → runs.new ≡ runs_of spans) }
+    ensures few { OnOk result (length runs.new ≤ 2 * length ranges.now - 1) }
+{
     let mut ends = OpenRanges::new(alloc);
+    let from = open_ranges(runs, &mut ends, ranges)?;
+    add_runs(runs, &mut ends, from, CODE_COUNT)
+}
+
+/// Adds the runs of the codes before the last first code of a range, and opens all ranges up to that
+/// code, which is the result; 0 where there is no range.
+fn open_ranges(runs: &mut Runs, ends: &mut OpenRanges, ranges: &[Run]) -> Result<u64, AllocError>
+    requires runs { runs.old ≡ [] }
+    requires ends { ends.old ≡ [] }
+    requires order { IsNonDecreasingBy (λ range. range.low) ranges.now }
+    ensures { IfOk result
+        (λ from. IsSwept ranges.now (length ranges.now) from ends.new runs.new) }
+{
     let mut from = 0;
     for range in ranges {
         let next = u64::from(range.low);
         if from < next {
-            add_runs(&mut runs, &mut ends, from, next)?;
+            add_runs(runs, ends, from, next)?;
         }
         ends.open(range)?;
         from = next;
     }
-    add_runs(&mut runs, &mut ends, from, CODE_COUNT)?;
-    runs.shrink_to_fit();
-    Ok(runs)
+    Ok(from)
 }
 
 /// Adds the runs of the codes from `from` on and before `to`. The greatest index of an open range

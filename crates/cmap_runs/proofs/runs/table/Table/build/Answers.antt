@@ -1,14 +1,21 @@
-use Rattle.std.proofs.Common.{map, sym, ap, ◌∙◌}
+use Rattle.std.proofs.Common.{map, ap, length, ◌∙◌, subst, arith}
+use Rattle.std.proofs.lemmas.List.{length-map}
 use Rattle.cmap_runs.specs.DeclaredRanges.{DecidedRuns}
-use Rattle.cmap_runs.specs.HeldRuns.{runs_held}
+use Rattle.cmap_runs.specs.HeldRuns.{AreHeld, indices_within}
 use Rattle.cmap_runs.proofs.FoundIndex.{runs_in_order}
 use Rattle.cmap_runs.proofs.runs.table.Table.build.Goals as goal
 
+pub new-held-requires : goal.new-held-requires
+new-held-requires g c =
+    let span = g.T.HasRange.span in let list = c.shrink_to_fit.new.self.items in
+    let are = subst (λ items. AreHeld (map span items) c.in_ok-runs.runs) c.as_slice.ensures.value c.in_ok-runs.ensures in
+    subst (λ n. indices_within n c.in_ok-runs.runs) (length-map list span) are.within
+
 pub blocks-requires : goal.blocks-requires
 blocks-requires g c =
-    let span = g.T.HasRange.span in
-    runs_in_order (map span c.as_slice.result.now)
-    (c.new-held.ensures.runs ∙ ap (λ items. runs_held (map span items) c.in_ok-runs.runs) (sym c.as_slice.ensures.value) ∙ c.in_ok-runs.ensures.runs)
+    let span = g.T.HasRange.span in let list = c.shrink_to_fit.new.self.items in
+    let are = subst (λ items. AreHeld (map span items) c.in_ok-runs.runs) c.as_slice.ensures.value c.in_ok-runs.ensures in
+    runs_in_order (map span list) (c.new-held.ensures.runs ∙ are.runs)
 
 pub returns : goal.returns
 returns g c = ap (λ (held : DecidedRuns g.row.T.Denot). held.declarations) c.in_ok-blocks.ensures.same ∙ c.new-held.ensures.declarations ∙ c.shrink_to_fit.ensures.items

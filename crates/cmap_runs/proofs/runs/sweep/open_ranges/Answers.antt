@@ -4,10 +4,10 @@ use Rattle.std.proofs.lemmas.Result.{IfOk-from_err}
 use Rattle.cmap_runs.specs.DeclaredRanges.{IsRange}
 use Rattle.cmap_runs.specs.OpenRanges.{AreOpen, IsGreatest, Opens, StayOpen}
 use Rattle.cmap_runs.specs.Ranges.{AreRunsBelow, Run, last_index}
-use Rattle.cmap_runs.proofs.MaximalRuns.{runs_of-unique, AreRunsBelow-none}
+use Rattle.cmap_runs.proofs.MaximalRuns.{AreRunsBelow-none}
 use Rattle.cmap_runs.proofs.OpenDecide.{AreOpen-none, AreOpen-push, StayOpen-same, decides_open}
-use Rattle.cmap_runs.proofs.runs.sweep.sweep.Goals as goal
-use Rattle.cmap_runs.proofs.runs.sweep.sweep.Goals.{then-from-next+in_ok-add_runs, else-from-next}
+use Rattle.cmap_runs.proofs.runs.sweep.open_ranges.Goals as goal
+use Rattle.cmap_runs.proofs.runs.sweep.open_ranges.Goals.{then-from-next+in_ok-add_runs, else-from-next}
 
 pub loop-range-preserved : goal.loop-range-preserved
 loop-range-preserved c =
@@ -17,7 +17,7 @@ loop-range-preserved c =
     let is : (d : Run) → range ≡ get_or ranges i d = λ d. c.range.view_is ∙ get_or_read ranges i c.range-item.result lt c.range-item.is d in
     let low : (d : Run) → next ≡ (get_or ranges i d).low = λ d. c.from-next.ensures ∙ ap (λ (r : Run). r.low) (is d) in
     let le : from ≤ next = omega (arith, c.loop-range.invariant.later i range (omega arith) lt, low range) in
-    let later : (k : ℕ) (d : Run) → i ≤ k → k < length ranges → next ≤ (get_or ranges k d).low = λ k d from_here within. omega (arith, low d, c.requires i k d from_here within) in
+    let later : (k : ℕ) (d : Run) → i ≤ k → k < length ranges → next ≤ (get_or ranges k d).low = λ k d from_here within. omega (arith, low d, c.requires.order i k d from_here within) in
     let before = c.loop-range.ends in let now = c.if-from-next.ends in
     let stay : StayOpen before now next =
     elim c.if-from-next.branch [
@@ -50,35 +50,10 @@ loop-range-preserved c =
       few = omega (arith, c.in_ok-open.ensures.few, few);
     }
 
-pub returns-clause-runs : goal.returns-clause-runs
-returns-clause-runs c = λ spans are.
-    let ranges = c.args.ranges.now in let i = c.loop-range.range-index in let old = c.loop-range.invariant.are spans are in
-    c.shrink_to_fit.ensures
-    ∙ runs_of-unique spans c.add_runs-2.new.runs
-    (c.in_ok-add_runs-2.ensures.runs (last_index spans) (decides_open i (2 ^ 32) are old.0 (λ k d from_here within. absurd (omega arith))) old.1)
-
-pub returns-clause-few : goal.returns-clause-few
-returns-clause-few c = omega (arith, c.in_ok-add_runs-2.ensures.few, ap length c.shrink_to_fit.ensures)
-
-pub returns-in_err-runs : goal.returns-in_err-runs
-returns-in_err-runs c = record { runs = IfOk-from_err _ _ c.from_residual.ensures.0; few = IfOk-from_err _ _ c.from_residual.ensures.0 }
-
-pub returns-in_err-add_runs : goal.returns-in_err-add_runs
-returns-in_err-add_runs c = record { runs = IfOk-from_err _ _ c.from_residual-in_err-add_runs.ensures.0; few = IfOk-from_err _ _ c.from_residual-in_err-add_runs.ensures.0 }
-
-pub returns-in_err-open : goal.returns-in_err-open
-returns-in_err-open c = record { runs = IfOk-from_err _ _ c.from_residual-in_err-open.ensures.0; few = IfOk-from_err _ _ c.from_residual-in_err-open.ensures.0 }
-
-pub returns-in_err-add_runs-2 : goal.returns-in_err-add_runs-2
-returns-in_err-add_runs-2 c = record { runs = IfOk-from_err _ _ c.from_residual-in_err-add_runs-2.ensures.0; few = IfOk-from_err _ _ c.from_residual-in_err-add_runs-2.ensures.0 }
-
 pub loop-range-init : goal.loop-range-init
 loop-range-init c = record {
   later = λ k d from_here within. omega arith;
   limit = omega arith;
-  are = λ spans are. rw (c.new-ends.ensures, c.in_ok-runs.ensures) (AreOpen-none spans 0, AreRunsBelow-none (last_index spans));
-  few = rw (c.new-ends.ensures, c.in_ok-runs.ensures) (omega arith);
+  are = λ spans are. rw (c.requires.ends, c.requires.runs) (AreOpen-none spans 0, AreRunsBelow-none (last_index spans));
+  few = rw (c.requires.ends, c.requires.runs) (omega arith);
 }
-
-pub add_runs-requires-2 : goal.add_runs-requires-2
-add_runs-requires-2 c = record { order = c.loop-range.invariant.limit; codes = omega arith }

@@ -1,0 +1,16 @@
+use Rattle.std.proofs.Common.{◌^◌, length, arith}
+use Rattle.std.proofs.lemmas.Result.{on_ok_weaker}
+use Rattle.cmap_runs.specs.Ranges.{last_index}
+use Rattle.cmap_runs.proofs.MaximalRuns.{runs_of-unique}
+use Rattle.cmap_runs.proofs.OpenDecide.{decides_open}
+use Rattle.cmap_runs.proofs.runs.sweep.add_all_runs.Goals as goal
+
+pub returns-clause-runs : goal.returns-clause-runs
+returns-clause-runs c =
+    on_ok_weaker c.add_runs.result (λ added spans are.
+    let old = c.in_ok-from.ensures.are spans are in
+    runs_of-unique spans c.add_runs.new.runs
+    (added (last_index spans) (decides_open (length c.args.ranges.now) (2 ^ 32) are old.0 (λ k d from_here within. absurd (omega arith))) old.1)) c.add_runs.ensures.runs
+
+pub returns-clause-few : goal.returns-clause-few
+returns-clause-few c = on_ok_weaker c.add_runs.result (λ added. omega (arith, added, c.in_ok-from.ensures.few)) c.add_runs.ensures.few
