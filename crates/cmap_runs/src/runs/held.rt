@@ -77,25 +77,23 @@ impl Runs {
         ensures few { OnOk result (length self.new ≤ length self.old + 1) }
         ensures err { OnErr result (self.new ≡ self.old) }
     {
-        let run = Run { low, high, index };
-        if self.is_continued_by(&run) {
+        if self.is_continued_by(low, index) {
             let end = self.list.len() - 1;
             self.list[end].high = high;
             return Ok(());
         }
-        self.list.push(run)?;
+        self.list.push(Run::new(low, high, index))?;
         Ok(())
     }
 
-    /// Whether the run begins just after the last one, with its index.
-    fn is_continued_by(&self, run: &Run) -> bool
-        ensures answer { result ≡ goes_on (slice_get self.now (length self.now - 1)) run.now }
+    /// Whether a run that begins at `low`, with the index, begins just after the last one, with its index.
+    fn is_continued_by(&self, low: u32, index: usize) -> bool
+        ensures answer { (high : ℕ) → result ≡ goes_on (slice_get self.now (length self.now - 1))
+            (record { low = low; high = high; index = index }) }
         ensures some { result ≡ true → 0 < length self.now }
     {
         match self.list.last() {
-            Some(last) => {
-                last.index == run.index && u64::from(last.high) + 1 == u64::from(run.low)
-            }
+            Some(last) => last.index == index && u64::from(last.high) + 1 == u64::from(low),
             None => false,
         }
     }
