@@ -33,16 +33,25 @@ loop-index-preserved g c =
           (λ d. omega (arith, low d, from, c.requires.code, c.if-low-code.false)) (omega arith) old.starts;
     }
 
-pub returns-then-low-code-clause-starts : goal.returns-then-low-code-clause-starts
-returns-then-low-code-clause-starts g c =
-    let runs = c.args.self.now.runs in let index = c.loop-index.index in let code = c.args.code in
+pub returns-after-loop-index : goal.returns-after-loop-index
+returns-after-loop-index g c =
+    let runs = c.args.self.now.runs in let index = c.loop-index.index in let at = c.loop-index.invariant in
+    let none : length runs ≤ index = omega (arith, c.loop-index-test.false, c.run_count-run_count.ensures) in
+    record {
+      starts = last_start runs (c.args.code - 32) c.args.begun index c.loop-index.starts at.within (λ k d le below. absurd (omega (arith, le, below, none))) at.starts;
+      within = (at.more, at.within);
+      before = at.before;
+      after = λ k d le below. absurd (omega (arith, le, below, none));
+    }
+
+pub returns-then-low-code : goal.returns-then-low-code
+returns-then-low-code g c =
+    let runs = c.args.self.now.runs in let index = c.loop-index.index in let code = c.args.code in let at = c.loop-index.invariant in
     let later = none_begun runs code index c.requires.order (omega arith)
     (λ d. omega (arith, ap (λ (run : Run). run.low) (c.low.view_is ∙ sym (get_or_from_slice_get runs index _ d c.run_at.ensures)))) in
-    last_start runs (code - 32) c.args.begun index c.loop-index.starts c.loop-index.invariant.within
-    (λ k d le below. omega (arith, later k d le below, c.requires.code)) c.loop-index.invariant.starts
-
-pub returns-then-low-code-clause-after : goal.returns-then-low-code-clause-after
-returns-then-low-code-clause-after g c =
-    let runs = c.args.self.now.runs in let index = c.loop-index.index in
-    none_begun runs c.args.code index c.requires.order (omega arith)
-    (λ d. omega (arith, ap (λ (run : Run). run.low) (c.low.view_is ∙ sym (get_or_from_slice_get runs index _ d c.run_at.ensures))))
+    record {
+      starts = last_start runs (code - 32) c.args.begun index c.loop-index.starts at.within (λ k d le below. omega (arith, later k d le below, c.requires.code)) at.starts;
+      within = (at.more, at.within);
+      before = at.before;
+      after = later;
+    }
