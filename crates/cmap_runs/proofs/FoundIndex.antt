@@ -98,6 +98,26 @@ found_in_block runs blocks code begun block run last are lies begins some is sam
 pub one_look : (runs most begun : ℕ) → runs ≡ most → 0 < begun → begun ≤ runs → 1 ≤ digits most
 one_look runs most begun same some within = omega (arith, digits_half runs 0 (omega arith) (omega arith), ap digits same)
 
+-- no more runs are looked at than may be, and none is found
+pub none_looked_up : (old new : Looks) (most runs : ℕ) → new.runs ≤ old.runs + most → most ≡ runs → old.runs ≤ new.runs → new.declarations ≡ old.declarations
+    → LooksAtMost old new runs 1 false
+none_looked_up old new most runs bound same grows declarations = record {
+  most_runs = omega (arith, bound, same);
+  some_run = omega (arith, grows);
+  most_declarations = omega (arith, declarations);
+  some_declaration = omega (arith, declarations);
+}
+
+-- or one is, and its declaration is looked at
+pub one_found : (old now new : Looks) (most runs : ℕ) → now.runs ≤ old.runs + most → most ≡ runs → old.runs + 1 ≤ now.runs → now.declarations ≡ old.declarations
+    → new.runs ≡ now.runs → new.declarations ≡ now.declarations + 1 → LooksAtMost old new runs 1 true
+one_found old now new most runs bound same grows declarations runs_now declarations_now = record {
+  most_runs = omega (arith, bound, same, runs_now);
+  some_run = omega (arith, grows, runs_now);
+  most_declarations = omega (arith, declarations, declarations_now);
+  some_declaration = omega (arith, declarations, declarations_now);
+}
+
 -- nothing is looked at, and nothing is found
 pub none_looked : (looks : Looks) (runs : ℕ) → LooksAtMost looks looks runs 1 false
 none_looked looks runs = record { most_runs = omega arith; some_run = omega arith; most_declarations = omega arith; some_declaration = omega arith }

@@ -99,3 +99,12 @@ code_fits n code (Err e) fits is = absurd (cc)
 pub past_codes : {E : Type 0} (n : ℕ) (r : Result ℕ E) → OkIff r (n < 2 ^ 32) n → None ≡ result_ok r → 2 ^ 32 ≤ n
 past_codes n (Ok x) fits none = absurd (cc)
 past_codes n (Err e) fits none = elim (cases_lt n (2 ^ 32)) [ inl below ↦ absurd (fits below) | inr past ↦ past ]
+
+-- and none is left up to the end of all codes
+pub left_at_end : (runs : List Run) (code ended : ℕ) → IsFirstLeft runs code ended → length runs ≤ ended → IsFirstLeft runs (2 ^ 32 - 1 + 1) ended
+left_at_end runs code ended left all = record {
+  fits = omega arith;
+  within = left.within;
+  before = λ k d from lt. omega (arith, left.before k d from lt, left.fits);
+  after = λ k d from lt. absurd (omega arith);
+}

@@ -1,4 +1,5 @@
-use Rattle.std.proofs.Common.{rules, ◌≡◌, ◌+◌, ◌-◌, ◌/◌, ◌≤◌, length, sym, ap, ◌∙◌, refl, arith}
+use Rattle.std.proofs.Common.{rules, ◌≡◌, ◌+◌, ◌-◌, ◌/◌, ◌≤◌, length, sym, ap, ◌∙◌, refl, inl, inr, arith}
+use Rattle.std.proofs.lemmas.Bool.{cases_lt}
 use Rattle.std.proofs.lemmas.Option.{get_or_from_slice_get}
 use Rattle.cmap_runs.specs.Ranges.{Run, digits}
 use Rattle.cmap_runs.proofs.BinaryDigits.{digits_least, digits_room, looks_half}
@@ -49,13 +50,32 @@ loop-low-preserved g c =
       declarations = search rules;
     }
 
-pub returns-else-candidate-code-clause-found : goal.returns-else-candidate-code-clause-found
-returns-else-candidate-code-clause-found g c =
-    let middle = c.loop-low.low + (c.loop-low.high - c.loop-low.low) / 2 in
-    let run : Run = c.run-candidate.result in
+pub returns-else-candidate-code : goal.returns-else-candidate-code
+returns-else-candidate-code g c =
+    let middle = c.loop-low.low + (c.loop-low.high - c.loop-low.low) / 2 in let old = c.loop-low.invariant in
+    let run : Run = c.run-candidate.result in let looked = c.run-candidate.ensures in
     let low = ap (λ (run : Run). run.low) c.candidate.view_is in let high = ap (λ (run : Run). run.high) c.candidate.view_is in
-    (middle, run, omega (arith, c.loop-low.invariant.within), get_or_from_slice_get c.args.held.now.runs middle run run c.run-candidate.ensures.run, (((omega arith, omega arith), ap (λ (run : Run). run.index) (sym c.candidate.view_is))))
+    record {
+      none = tt;
+      found = (middle, run, omega (arith, old.within), get_or_from_slice_get c.args.held.now.runs middle run run looked.run, ((omega arith, omega arith), ap (λ (run : Run). run.index) (sym c.candidate.view_is)));
+      bound = omega (arith, looked.runs, (looks_half c.loop-low.low c.loop-low.high _ _ c.loop-low-test.true old.most).0);
+      grows = omega (arith, looked.runs, old.grows);
+      looked = omega (arith, looked.runs, old.grows);
+      declarations = looked.declarations ∙ old.declarations;
+    }
 
-pub returns-else-candidate-code-clause-bound : goal.returns-else-candidate-code-clause-bound
-returns-else-candidate-code-clause-bound g c =
-    omega (arith, c.run-candidate.ensures.runs, (looks_half c.loop-low.low c.loop-low.high _ _ c.loop-low-test.true c.loop-low.invariant.most).0)
+pub returns : goal.returns
+returns g c =
+    let old = c.loop-low.invariant in
+    record {
+      none = λ k d lt holds.
+          elim (cases_lt k c.loop-low.low) [
+            | inl before ↦ omega (arith, old.below k d (omega arith) before, holds.1)
+            | inr after ↦ omega (arith, old.above k d (omega (arith, after, c.loop-low-test.false)) lt, holds.0)
+          ];
+      found = tt;
+      bound = omega (arith, old.most);
+      grows = old.grows;
+      looked = tt;
+      declarations = old.declarations;
+    }
