@@ -1,6 +1,5 @@
-use Rattle.std.proofs.Common.{◌≡◌, ℕ, ◌+◌, ◌-◌, ◌≤◌, ◌<◌, ◌^◌, [], ◌∷◌, ◌++◌, Option, get_or, length, take, sym, ap, ◌∙◌, subst, arith}
+use Rattle.std.proofs.Common.{◌≡◌, ℕ, ◌+◌, ◌-◌, ◌≤◌, ◌<◌, [], ◌∷◌, ◌++◌, Option, get_or, length, take, sym, ap, ◌∙◌, subst, arith}
 use Rattle.std.proofs.lemmas.List.{get_or_read, take_more}
-use Rattle.std.proofs.lemmas.Result.{IfOk-from_err}
 use Rattle.cmap_runs.specs.DeclaredRanges.{IsRange}
 use Rattle.cmap_runs.specs.OpenRanges.{AreOpen, IsGreatest, Opens, StayOpen}
 use Rattle.cmap_runs.specs.Ranges.{AreRunsBelow, Run, last_index}

@@ -1,4 +1,4 @@
-use Rattle.std.proofs.Common.{map, ap, length, ◌∙◌, subst, arith}
+use Rattle.std.proofs.Common.{map, ap, ◌∙◌, subst}
 use Rattle.std.proofs.lemmas.List.{length-map}
 use Rattle.cmap_runs.specs.DeclaredRanges.{DecidedRuns}
 use Rattle.cmap_runs.specs.HeldRuns.{AreHeld, indices_within}
