@@ -16,11 +16,12 @@ use self::numerals::{blank_decimal, short_decimal};
 use self::pieces::{TWO_BYTES_LEN, first_token, spaced_pairs, spaced_parts, two_bytes};
 use self::values::{decode_hex, decode_text, pairs_number};
 use std::alloc::AllocError;
+use std::fmt;
 use std::marker::Model;
 
 /// A token, as the PostScript Language Reference, third edition, 3.2.2, spells it, without base-85
 /// strings. Its slices are those of the text that it stands in.
-#[derive(Clone, Copy, Debug)]
+#[derive(Clone, Copy)]
 pub enum Token<'a> {
     /// `/WMode`, `def`, `[`, `<<`
     Name(Name<'a>),
@@ -28,6 +29,17 @@ pub enum Token<'a> {
     String(StringToken<'a>),
     /// `17`, `-4.5`, `16#1F`
     Number(Number),
+}
+
+/// The name, the string or the number.
+impl<'a> fmt::Debug for Token<'a> {
+    fn fmt<W: fmt::Write>(&self, f: &mut fmt::Formatter<W>) -> fmt::Result {
+        match self {
+            Token::Name(name) => fmt::Debug::fmt(name, f),
+            Token::String(string) => fmt::Debug::fmt(string, f),
+            Token::Number(number) => fmt::Debug::fmt(number, f),
+        }
+    }
 }
 
 /// A name: literal after a slash, else executable. The brackets `[`, `]`, `{`, `}`, `<<` and `>>`
@@ -138,12 +150,22 @@ impl<'a> StringToken<'a> {
 }
 
 /// The value of a number.
-#[derive(Clone, Copy, Debug, PartialEq, Eq)]
+#[derive(Clone, Copy, PartialEq, Eq)]
 pub enum Number {
     /// `-17`, `08`, `16#1F`: an integer, in the base that it names or in base 10.
     Integer(i64),
     /// `4.5`, `1E9`: a real, whose value isn't given, or an integer that `i64` doesn't hold.
     Real,
+}
+
+/// The integer, or that it is a real.
+impl fmt::Debug for Number {
+    fn fmt<W: fmt::Write>(&self, f: &mut fmt::Formatter<W>) -> fmt::Result {
+        match self {
+            Number::Integer(value) => fmt::Debug::fmt(value, f),
+            Number::Real => f.write_str("Real"),
+        }
+    }
 }
 
 /// What comes next in a text isn't a token: a string without an end, another byte than a digit in a
@@ -347,11 +369,13 @@ impl<'a> Scanner<'a> {
         ensures left { MatchResult result (λ found. MatchOption found (LeavesNone true self.old)
             (λ token. LeavesAfter (token_seen token) self.old self.new)) (λ _. LeavesNone false self.old) }
     {
-        let rest = &self.source[self.offset..];
-        let Some((token, len)) = first_token(rest)? else {
-            return Ok(None);
-        };
-        self.offset += len;
-        Ok(Some(token))
+        match first_token(&self.source[self.offset..]) {
+            Ok(Some((token, len))) => {
+                self.offset += len;
+                Ok(Some(token))
+            }
+            Ok(None) => Ok(None),
+            Err(Malformed) => Err(Malformed),
+        }
     }
 }

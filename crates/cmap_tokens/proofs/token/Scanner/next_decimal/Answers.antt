@@ -6,50 +6,6 @@ use Rattle.cmap_tokens.proofs.AfterBlank.{decimal_first}
 use Rattle.cmap_tokens.proofs.Fronts.{read_token, left_after}
 use Rattle.cmap_tokens.proofs.token.Scanner.next_decimal.Goals as goal
 
-pub returns-in-Some-clause-token : goal.returns-in-Some-clause-token
-returns-in-Some-clause-token c =
-    let (first, small) = decimal_first _ c.in-Some.number 4 c.in-Some.ensures.front in
-    let read = read_token _ _ _ 5 _ c.self.view_is (take_rest _ c.self.inside.offset) first in
-    (read, left_after _ _ _ read)
-
-pub returns-in-Some-clause-front : goal.returns-in-Some-clause-front
-returns-in-Some-clause-front c = (
-  4,
-  ap spaced_decimal (sym (take_rest _ c.self.inside.offset ∙ ap rest_of c.self.view_is)) ∙ c.in-Some.ensures.front,
-  ap (past 5) c.self.view_is,
-)
-
-pub returns-in-Some-clause-few : goal.returns-in-Some-clause-few
-returns-in-Some-clause-few c =
-    let (first, small) = decimal_first _ c.in-Some.number 4 c.in-Some.ensures.front in
-    let read = read_token _ _ _ 5 _ c.self.view_is (take_rest _ c.self.inside.offset) first in
-    small
-
-pub returns-in-Some-short_decimal-clause-token : goal.returns-in-Some-short_decimal-clause-token
-returns-in-Some-short_decimal-clause-token c =
-    let (first, small) = decimal_first _ c.in-Some-short_decimal.number 5 c.in-Some-short_decimal.ensures.front in
-    let read = read_token _ _ _ 6 _ c.self.view_is (take_rest _ c.self.inside.offset) first in
-    (read, left_after _ _ _ read)
-
-pub returns-in-Some-short_decimal-clause-front : goal.returns-in-Some-short_decimal-clause-front
-returns-in-Some-short_decimal-clause-front c = (
-  5,
-  ap spaced_decimal (sym (take_rest _ c.self.inside.offset ∙ ap rest_of c.self.view_is)) ∙ c.in-Some-short_decimal.ensures.front,
-  ap (past 6) c.self.view_is,
-)
-
-pub returns-in-Some-short_decimal-clause-few : goal.returns-in-Some-short_decimal-clause-few
-returns-in-Some-short_decimal-clause-few c =
-    let (first, small) = decimal_first _ c.in-Some-short_decimal.number 5 c.in-Some-short_decimal.ensures.front in
-    let read = read_token _ _ _ 6 _ c.self.view_is (take_rest _ c.self.inside.offset) first in
-    small
-
-pub returns-in-Some-clause-stays : goal.returns-in-Some-clause-stays
-returns-in-Some-clause-stays c = λ e. absurd (none-some _ (sym e))
-
-pub returns-in-Some-short_decimal-clause-stays : goal.returns-in-Some-short_decimal-clause-stays
-returns-in-Some-short_decimal-clause-stays c = λ e. absurd (none-some _ (sym e))
-
 pub returns : goal.returns
 returns c = record {
   token = c.next_other_decimal.ensures.token;
@@ -57,3 +13,25 @@ returns c = record {
   few = c.next_other_decimal.ensures.few;
   stays = c.next_other_decimal.ensures.stays;
 }
+
+pub returns-in-Some : goal.returns-in-Some
+returns-in-Some c =
+    let (first, small) = decimal_first _ c.in-Some.number 4 c.in-Some.ensures.front in
+    let read = read_token _ _ _ 5 _ c.self.view_is (take_rest _ c.self.inside.offset) first in
+    record {
+      token = (read, left_after _ _ _ read);
+      front = (4, ap spaced_decimal (sym (take_rest _ c.self.inside.offset ∙ ap rest_of c.self.view_is)) ∙ c.in-Some.ensures.front, ap (past 5) c.self.view_is);
+      few = small;
+      stays = λ e. absurd (none-some _ (sym e));
+    }
+
+pub returns-in-Some-short_decimal : goal.returns-in-Some-short_decimal
+returns-in-Some-short_decimal c =
+    let (first, small) = decimal_first _ c.in-Some-short_decimal.number 5 c.in-Some-short_decimal.ensures.front in
+    let read = read_token _ _ _ 6 _ c.self.view_is (take_rest _ c.self.inside.offset) first in
+    record {
+      token = (read, left_after _ _ _ read);
+      front = (5, ap spaced_decimal (sym (take_rest _ c.self.inside.offset ∙ ap rest_of c.self.view_is)) ∙ c.in-Some-short_decimal.ensures.front, ap (past 6) c.self.view_is);
+      few = small;
+      stays = λ e. absurd (none-some _ (sym e));
+    }

@@ -6,25 +6,6 @@ use Rattle.cmap_tokens.proofs.AfterBlank.{decimal_first}
 use Rattle.cmap_tokens.proofs.Fronts.{left_after, left_is, read_token}
 use Rattle.cmap_tokens.proofs.token.Scanner.next_other_decimal.Goals as goal
 
-pub returns-clause-token : goal.returns-clause-token
-returns-clause-token c =
-    let (first, small) = decimal_first _ c.in_ok-number.number c.in_ok-number.len (sym c.in_ok-number.ensures.front) in
-    let read = read_token _ _ _ (1 + c.in_ok-number.len) _ c.self.view_is (take_rest _ c.self.inside.offset) first in
-    (read, left_after _ _ _ read)
-
-pub returns-clause-front : goal.returns-clause-front
-returns-clause-front c = (
-  c.in_ok-number.len,
-  sym (c.in_ok-number.ensures.front ∙ ap spaced_decimal (left_is _ _ _ c.self.view_is)),
-  ap (past (1 + c.in_ok-number.len)) c.self.view_is,
-)
-
-pub returns-clause-few : goal.returns-clause-few
-returns-clause-few c =
-    let (first, small) = decimal_first _ c.in_ok-number.number c.in_ok-number.len (sym c.in_ok-number.ensures.front) in
-    let read = read_token _ _ _ (1 + c.in_ok-number.len) _ c.self.view_is (take_rest _ c.self.inside.offset) first in
-    small
-
 pub returns-in_err-number : goal.returns-in_err-number
 returns-in_err-number c = record {
   token = MatchOption-from_none _ _ c.from_residual.ensures;
@@ -33,5 +14,13 @@ returns-in_err-number c = record {
   stays = λ _. refl;
 }
 
-pub returns-clause-stays : goal.returns-clause-stays
-returns-clause-stays c = λ e. absurd (none-some _ (sym e))
+pub returns : goal.returns
+returns c =
+    let (first, small) = decimal_first _ c.in_ok-number.number c.in_ok-number.len (sym c.in_ok-number.ensures.front) in
+    let read = read_token _ _ _ (1 + c.in_ok-number.len) _ c.self.view_is (take_rest _ c.self.inside.offset) first in
+    record {
+      token = (read, left_after _ _ _ read);
+      front = (c.in_ok-number.len, sym (c.in_ok-number.ensures.front ∙ ap spaced_decimal (left_is _ _ _ c.self.view_is)), ap (past (1 + c.in_ok-number.len)) c.self.view_is);
+      few = small;
+      stays = λ e. absurd (none-some _ (sym e));
+    }

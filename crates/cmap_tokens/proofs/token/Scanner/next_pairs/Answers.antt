@@ -7,15 +7,6 @@ use Rattle.cmap_tokens.proofs.AfterBlank.{pairs_first}
 use Rattle.cmap_tokens.proofs.Fronts.{left_after, left_is, read_token}
 use Rattle.cmap_tokens.proofs.token.Scanner.next_pairs.Goals as goal
 
-pub returns-clause-token : goal.returns-clause-token
-returns-clause-token c =
-    let (piece, first, writes) = pairs_first _ c.in_ok-count.count c.in_ok-count.number c.from.result c.from.ensures (sym c.in_ok-count.ensures.front) in
-    let read = read_token _ _ _ (3 + 2 * c.from.result) (String piece) c.self.view_is (take_rest _ c.self.inside.offset) first in
-    (piece, read, writes, left_after _ _ _ read)
-
-pub returns-clause-front : goal.returns-clause-front
-returns-clause-front c = c.in_ok-count.ensures.front ∙ ap spaced_pairs (left_is _ _ _ c.self.view_is)
-
 pub returns-in_err-count : goal.returns-in_err-count
 returns-in_err-count c = record {
   token = MatchOption-from_none _ _ c.from_residual.ensures;
@@ -25,11 +16,14 @@ returns-in_err-count c = record {
   stays = λ _. refl;
 }
 
-pub returns-clause-few : goal.returns-clause-few
-returns-clause-few c = c.in_ok-count.ensures.few
-
-pub returns-clause-moves : goal.returns-clause-moves
-returns-clause-moves c = ap (past (3 + 2 * c.from.result)) c.self.view_is ∙ ap (λ n. past (3 + 2 * n) c.args.self.now) c.from.ensures
-
-pub returns-clause-stays : goal.returns-clause-stays
-returns-clause-stays c = λ e. absurd (none-some _ (sym e))
+pub returns : goal.returns
+returns c =
+    let (piece, first, writes) = pairs_first _ c.in_ok-count.count c.in_ok-count.number c.from.result c.from.ensures (sym c.in_ok-count.ensures.front) in
+    let read = read_token _ _ _ (3 + 2 * c.from.result) (String piece) c.self.view_is (take_rest _ c.self.inside.offset) first in
+    record {
+      token = (piece, read, writes, left_after _ _ _ read);
+      front = c.in_ok-count.ensures.front ∙ ap spaced_pairs (left_is _ _ _ c.self.view_is);
+      few = c.in_ok-count.ensures.few;
+      moves = ap (past (3 + 2 * c.from.result)) c.self.view_is ∙ ap (λ n. past (3 + 2 * n) c.args.self.now) c.from.ensures;
+      stays = λ e. absurd (none-some _ (sym e));
+    }

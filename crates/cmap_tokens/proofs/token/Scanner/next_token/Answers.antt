@@ -1,8 +1,6 @@
-use Rattle.std.proofs.Common.{◌≡◌, Option, Some, None, Result, Ok, sym, ap, ◌∙◌, refl, subst}
-use Rattle.std.specs.Prelude.{is_err}
+use Rattle.std.proofs.Common.{◌≡◌, Option, Some, None, Result, Ok, Err, ap, ◌∙◌, refl, subst}
 use Rattle.std.proofs.lemmas.Bool.{false≢true}
 use Rattle.std.proofs.lemmas.List.{take_rest}
-use Rattle.std.proofs.lemmas.Result.{IfOk-from_err, MatchResult-from_err}
 use Rattle.cmap_tokens.specs.Gaps.{IsBlank}
 use Rattle.cmap_tokens.specs.Tokens.{IsMalformed}
 use Rattle.cmap_tokens.specs.Scanner.{rest_of}
@@ -12,22 +10,24 @@ use Rattle.cmap_tokens.proofs.token.Scanner.next_token.Goals as goal
 some_not_none : {A E : Type 0} (x : A) → ◌≡◌ {A = Result (Option A) E} (Ok (Some x)) (Ok None) → ⊥
 some_not_none x e = cc
 
-pub returns-in_err-token : goal.returns-in_err-token
-returns-in_err-token c =
-    let malformed = subst IsMalformed (take_rest _ c.self.inside.offset ∙ ap rest_of c.self.view_is) c.in_err-token.ensures.outcome in
-    let left = leaves_malformed _ malformed in
+err_not_none : {A E : Type 0} (x : E) → ◌≡◌ {A = Result (Option A) E} (Err x) (Ok None) → ⊥
+err_not_none x e = cc
+
+pub returns-in-Err : goal.returns-in-Err
+returns-in-Err c =
+    let malformed = subst IsMalformed (take_rest _ c.self.inside.offset ∙ ap rest_of c.self.view_is) c.in-Err.ensures.outcome in
     record {
-      token = IfOk-from_err _ _ c.from_residual.ensures.0;
-      end = (λ e. absurd (false≢true (sym (ap is_err e) ∙ c.from_residual.ensures.0)), λ blank. absurd (malformed.0 blank));
-      malformed = (λ e. malformed, λ h. c.from_residual.ensures.0);
+      token = tt;
+      end = (λ e. absurd (err_not_none _ e), λ blank. absurd (malformed.0 blank));
+      malformed = (λ e. malformed, λ h. refl);
       end_stays = λ _. refl;
-      err_stays = MatchResult-from_err c.from_residual.result _ _ c.from_residual.ensures.0 (λ _. refl);
-      left = MatchResult-from_err c.from_residual.result _ _ c.from_residual.ensures.0 (λ _. left);
+      err_stays = refl;
+      left = leaves_malformed _ malformed;
     }
 
-pub returns-in_default : goal.returns-in_default
-returns-in_default c =
-    let blank = subst IsBlank (take_rest _ c.self.inside.offset ∙ ap rest_of c.self.view_is) (rw c.in_default.is at c.in_ok-token.ensures.outcome) in
+pub returns-in-Ok-None : goal.returns-in-Ok-None
+returns-in-Ok-None c =
+    let blank = subst IsBlank (take_rest _ c.self.inside.offset ∙ ap rest_of c.self.view_is) (rw c.in-Ok-None.field-0-is at c.in-Ok-None.ensures.outcome) in
     record {
       token = tt;
       end = (λ e. blank, λ h. refl);
@@ -37,9 +37,9 @@ returns-in_default c =
       left = leaves_blank _ blank;
     }
 
-pub returns : goal.returns
-returns c =
-    let read = read_token _ _ _ c.in-Some.len _ c.self.view_is (take_rest _ c.self.inside.offset) (rw c.in-Some.is at c.in_ok-token.ensures.outcome) in
+pub returns-in-Ok-Some : goal.returns-in-Ok-Some
+returns-in-Ok-Some c =
+    let read = read_token _ _ _ c.in-Ok-Some.len _ c.self.view_is (take_rest _ c.self.inside.offset) (rw c.in-Ok-Some.field-0-is at c.in-Ok-Some.ensures.outcome) in
     record {
       token = read;
       end = (λ e. absurd (some_not_none _ e), λ blank. absurd (front_not_blank read.2.front blank));
