@@ -1,5 +1,6 @@
 use Rattle.std.proofs.Common.{◌≡◌, option_map, sym, ap, ◌∙◌, arith}
 use Rattle.std.specs.Result.{result_ok}
+use Rattle.std.proofs.lemmas.List.{nil_from_length}
 use Rattle.cmap_tokens.specs.Texts.{shifted}
 use Rattle.cmap_tokens.proofs.TextsOfUnits.{shifted_by, with_last}
 use Rattle.cmap_tokens.proofs.utf16.shifted.Goals as goal
@@ -13,3 +14,6 @@ returns-in_err-last c = rw c.from_residual.ensures (is (goal.at.returns-in_err-l
 
 pub returns : goal.returns
 returns c = is (goal.at.returns c).After-try_from ∙ ap (option_map (with_last c.args.units.now)) (sym c.in_ok-last.ensures.value)
+
+pub returns-in_default : goal.returns-in_default
+returns-in_default c = ap (λ units. shifted units c.args.offset) (nil_from_length c.args.units.now (omega (arith, c.in_default.len_below)))
