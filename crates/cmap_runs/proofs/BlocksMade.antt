@@ -1,8 +1,8 @@
 -- The runs that begin in a block of codes.
-use Rattle.std.proofs.Common.{◌≡◌, ℕ, zero, suc, ◌+◌, ◌-◌, ◌*◌, ◌/◌, ◌%◌, ◌^◌, ◌<◌, ◌≤◌, List, [], ◌∷◌, ◌++◌, length, get_or, sym, ap, ◌∙◌, subst, inl, inr, bit_or, arith}
+use Rattle.std.proofs.Common.{◌≡◌, ◌==◌, ℕ, zero, suc, false, ◌+◌, ◌-◌, ◌*◌, ◌/◌, ◌%◌, ◌^◌, ◌<◌, ◌≤◌, List, [], ◌∷◌, ◌++◌, length, get_or, sym, ap, ◌∙◌, subst, inl, inr, bit_or, arith}
 use Rattle.std.specs.Prelude.{count_ones}
 use Rattle.std.specs.List.{AllWithin}
-use Rattle.std.proofs.lemmas.Bool.{cases_lt}
+use Rattle.std.proofs.lemmas.Bool.{cases_lt, ne_eqb}
 use Rattle.std.proofs.lemmas.List.{get_or_append_left, get_or_push, length-append}
 use Rattle.std.proofs.lemmas.Nat.{one_shl}
 use Rattle.cmap_runs.specs.Blocks.{HaveBegun, MayHold, begun_by}
@@ -122,6 +122,14 @@ may_hold runs code begun have = record {
   before = have.before;
   after = λ k d le below held. omega (arith, have.after k d le below, held.0);
 }
+
+-- the block of the runs that begin before it, and of those that begin in it
+pub block_made : (runs : List Run) (code begun starts place : ℕ) → HaveBegun runs (length runs) code (begun + count_ones (starts / 2 ^ (31 - place)))
+    → MayHold runs code (begun_by (record { begun = begun + 1; starts = starts }) place)
+block_made runs code begun starts place have =
+    let some : (begun + 1 == 0) ≡ false = ne_eqb (begun + 1) 0 (λ none. omega (arith, none)) in
+    let parts : begun + count_ones (starts / 2 ^ (31 - place)) ≡ begun + 1 - 1 + count_ones (starts / 2 ^ (31 - place)) = omega arith in
+    rw some (subst (MayHold runs code) parts (may_hold runs code _ have))
 
 -- one more block, whose codes come after those of the others
 pub more_blocks : (runs : List Run) (list new : List Block) (block : Block) (code : ℕ) → new ≡ list ++ block ∷ [] → code ≡ 32 * length list

@@ -6,30 +6,6 @@ use Rattle.cmap_runs.specs.Ranges.{AreRunsBelow}
 use Rattle.cmap_runs.proofs.OpenDecide.{AreRunsBelow-greatest, AreRunsBelow-none_open, StayOpen-close, StayOpen-later, StayOpen-same}
 use Rattle.cmap_runs.proofs.runs.sweep.add_runs.Goals as goal
 
-pub returns-clause-runs : goal.returns-clause-runs
-returns-clause-runs c = λ decides greatest are.
-    let old = c.loop-index.invariant in
-    AreRunsBelow-none_open c.args.from c.args.to greatest old.stay old.order old.limit c.in_default.ensures.0 (old.runs decides greatest are)
-
-pub returns-clause-stay : goal.returns-clause-stay
-returns-clause-stay c =
-    let old = c.loop-index.invariant in
-    subst (λ ends. StayOpen c.args.ends.now ends c.args.to) (sym c.in_default.ensures.1) (StayOpen-later old.stay old.limit)
-
-pub returns-in_ok-add-clause-stay : goal.returns-in_ok-add-clause-stay
-returns-in_ok-add-clause-stay c =
-    let old = c.loop-index.invariant in
-    subst (λ ends. StayOpen c.args.ends.now ends c.args.to) (sym (c.in-Some.ensures.stays (omega arith))) (StayOpen-later old.stay old.limit)
-
-pub returns-in_ok-add-clause-runs : goal.returns-in_ok-add-clause-runs
-returns-in_ok-add-clause-runs c = λ decides greatest are.
-    let old = c.loop-index.invariant in let top = c.in-Some.ensures.top in
-    let more =
-    AreRunsBelow-greatest c.args.from c.args.to (c.args.to - 1) c.in-Some.index c.in-Some.last
-    greatest old.stay old.order top.is top.greatest (omega arith) (omega arith) (omega arith) (old.runs decides greatest are)
-    in
-    subst (λ n. AreRunsBelow decides n c.add.new.self) (let e : c.args.to - 1 + 1 ≡ c.args.to = omega arith in e) (rw c.in_ok-add.ensures.added more)
-
 pub loop-index-smaller-then-from-last : goal.loop-index-smaller-then-from-last
 loop-index-smaller-then-from-last c = omega (arith, length_permutation _ _ (c.in-Some.ensures.closed (omega arith)))
 
@@ -74,12 +50,6 @@ returns-in_err-add-2 c = record { runs = IfOk-from_err _ _ c.from_residual-in_er
 pub loop-index-init : goal.loop-index-init
 loop-index-init c = record { order = omega arith; limit = c.requires.order; runs = λ decides greatest are. are; stay = StayOpen-same c.args.ends.now c.args.from; fewer = omega arith; few = omega arith }
 
-pub returns-in_ok-add-clause-fewer : goal.returns-in_ok-add-clause-fewer
-returns-in_ok-add-clause-fewer c = omega (arith, c.loop-index.invariant.fewer, ap (λ (l : List (ℕ × ℕ)). length l) (c.in-Some.ensures.stays (omega arith)))
-
-pub returns-in_ok-add-clause-few : goal.returns-in_ok-add-clause-few
-returns-in_ok-add-clause-few c = omega (arith, c.loop-index.invariant.few, ap (λ (l : List (ℕ × ℕ)). length l) (c.in-Some.ensures.stays (omega arith)), c.in_ok-add.ensures.few, c.in-Some.ensures.top.is.1)
-
 pub returns-else-from-to : goal.returns-else-from-to
 returns-else-from-to c =
     let old = c.loop-index.invariant in let stays = c.in-Some.ensures.stays (omega arith) in
@@ -91,8 +61,27 @@ returns-else-from-to c =
       few = omega (arith, old.few, same);
     }
 
-pub returns-clause-fewer : goal.returns-clause-fewer
-returns-clause-fewer c = omega (arith, c.loop-index.invariant.fewer, ap (λ (l : List (ℕ × ℕ)). length l) c.in_default.ensures.1)
+pub returns : goal.returns
+returns c =
+    let old = c.loop-index.invariant in let none = c.in_default.ensures in let same = ap (λ (l : List (ℕ × ℕ)). length l) none.1 in
+    record {
+      runs = λ decides greatest are. AreRunsBelow-none_open c.args.from c.args.to greatest old.stay old.order old.limit none.0 (old.runs decides greatest are);
+      stay = subst (λ ends. StayOpen c.args.ends.now ends c.args.to) (sym none.1) (StayOpen-later old.stay old.limit);
+      fewer = omega (arith, old.fewer, same);
+      few = omega (arith, old.few, same);
+    }
 
-pub returns-clause-few : goal.returns-clause-few
-returns-clause-few c = omega (arith, c.loop-index.invariant.few, ap (λ (l : List (ℕ × ℕ)). length l) c.in_default.ensures.1)
+pub returns-in_ok-add : goal.returns-in_ok-add
+returns-in_ok-add c =
+    let old = c.loop-index.invariant in let top = c.in-Some.ensures.top in let stays = c.in-Some.ensures.stays (omega arith) in
+    let same = ap (λ (l : List (ℕ × ℕ)). length l) stays in
+    let end : c.args.to - 1 + 1 ≡ c.args.to = omega arith in
+    record {
+      runs = λ decides greatest are.
+          subst (λ n. AreRunsBelow decides n c.add.new.self) end
+          (rw c.in_ok-add.ensures.added (AreRunsBelow-greatest c.args.from c.args.to (c.args.to - 1) c.in-Some.index c.in-Some.last
+          greatest old.stay old.order top.is top.greatest (omega arith) (omega arith) (omega arith) (old.runs decides greatest are)));
+      stay = subst (λ ends. StayOpen c.args.ends.now ends c.args.to) (sym stays) (StayOpen-later old.stay old.limit);
+      fewer = omega (arith, old.fewer, same);
+      few = omega (arith, old.few, same, c.in_ok-add.ensures.few, top.is.1);
+    }

@@ -1,4 +1,5 @@
-use Rattle.std.proofs.Common.{length, ap, arith}
+use Rattle.std.proofs.Common.{length, ap, refl, arith}
+use Rattle.std.proofs.lemmas.Result.{IfOk-from_err}
 use Rattle.cmap_runs.proofs.BlocksMade.{more_blocks}
 use Rattle.cmap_runs.proofs.runs.held.Held.blocks.Goals as goal
 
@@ -60,3 +61,24 @@ ended_before-ended-requires g c =
       fewer = omega (arith, at.fewer, c.next_block-count.ensures.within.0);
       begun = c.next_block-count.ensures.before;
     }
+
+pub returns-in_err-list : goal.returns-in_err-list
+returns-in_err-list g c = record { blocks = IfOk-from_err _ _ c.from_residual.ensures.0; same = refl }
+
+pub returns-clause-same : goal.returns-clause-same
+returns-clause-same g c = refl
+
+pub overflow_add-code : goal.overflow_add-code
+overflow_add-code g c = omega (arith, c.loop-ended.invariant.code, c.loop-ended.invariant.number, c.most_blocks-most.ensures)
+
+pub push_reserved-requires : goal.push_reserved-requires
+push_reserved-requires g c = omega (arith, c.if-len-most.true, c.len.ensures, c.loop-ended.invariant.room)
+
+pub loop-ended-smaller : goal.loop-ended-smaller
+loop-ended-smaller g c = omega (arith, c.push_reserved.ensures.len, c.if-len-most.true, c.len.ensures)
+
+pub overflow_sub-left : goal.overflow_sub-left
+overflow_sub-left g c = omega (arith, c.loop-ended.invariant.fewer, c.loop-ended.invariant.within, c.run_count-run_count.ensures)
+
+pub end-end-requires : goal.end-end-requires
+end-end-requires g c = c.requires

@@ -1,6 +1,6 @@
-use Rattle.std.proofs.Common.{◌-◌, inl, inr, arith}
+use Rattle.std.proofs.Common.{◌+◌, ◌-◌, inl, inr, arith}
 use Rattle.std.proofs.lemmas.Bool.{cases_lt}
-use Rattle.cmap_runs.proofs.BlocksMade.{few_begun}
+use Rattle.cmap_runs.proofs.BlocksMade.{block_made, few_begun}
 use Rattle.cmap_runs.proofs.runs.held.Held.next_block.Goals as goal
 
 pub overflow_cast-block : goal.overflow_cast-block
@@ -26,4 +26,14 @@ returns-then-count-ended g c =
       within = c.starts_before-starts.ensures.within;
       before = c.starts_before-starts.ensures.before;
       after = c.starts_before-starts.ensures.after;
+    }
+
+pub returns-else-count-ended : goal.returns-else-count-ended
+returns-else-count-ended g c =
+    let made = c.starts_before-starts.ensures in
+    record {
+      block = λ place few. block_made c.args.self.now.runs (c.args.code - 32 + place) c.args.begun c.starts_before-starts.result.0 place (made.starts place few);
+      within = made.within;
+      before = made.before;
+      after = made.after;
     }
