@@ -78,7 +78,9 @@ impl<'t, T: HasRange> Stretches<'t, T> {
         ensures looks { (looks.new.runs ≤ looks.old.runs + 1)
             × (looks.new.declarations ≤ looks.old.declarations + 1) }
     {
-        let code = u32::try_from(self.next).ok()?;
+        let Ok(code) = u32::try_from(self.next) else {
+            return None;
+        };
         let stretch = stretch_at(self.held, &mut self.ended, code, looks);
         self.next = u64::from(stretch.last) + 1;
         Some(stretch)
