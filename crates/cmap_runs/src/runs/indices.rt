@@ -1,6 +1,6 @@
 //! The indices of declarations, and whether their ranges lie apart.
 
-ghost use Rattle.std.specs.Prelude.{◌≡◌, ◌+◌, ◌-◌, ◌<◌, ◌≤◌, ◌^◌, true, ◌++◌, All, IfOk, IfSome, get_or, length, map};
+ghost use Rattle.std.specs.Prelude.{◌≡◌, ◌+◌, ◌-◌, ◌<◌, ◌≤◌, ◌^◌, true, ◌++◌, All, IfOk, IfSome, get_or, length, map, nat_le};
 ghost use Rattle.std.specs.List.{range_with_len};
 ghost use Rattle.std.specs.List.Sorted.{IsNonDecreasingBy, IsPermutation};
 ghost use Rattle.std.specs.Vec.{vec_capacity, vec_len};
@@ -188,13 +188,18 @@ fn four_ascend<T: HasRange>(declarations: &[T], index: usize) -> bool
 {
     match &declarations[index..] {
         [a, b, c, d, e, ..] => {
-            a.range().start <= b.range().start
-                && b.range().start <= c.range().start
-                && c.range().start <= d.range().start
-                && d.range().start <= e.range().start
+            begins_by(a, b) && begins_by(b, c) && begins_by(c, d) && begins_by(d, e)
         }
         _ => false,
     }
+}
+
+/// Whether the range of `declaration` begins no later than that of `next`.
+#[inline(always)]
+fn begins_by<T: HasRange>(declaration: &T, next: &T) -> bool
+    ensures { result ≡ nat_le (T.span declaration.now).start (T.span next.now).start }
+{
+    declaration.range().start <= next.range().start
 }
 
 /// Whether the range at `index` begins no earlier than the one before.
