@@ -1,5 +1,5 @@
 use Rattle.std.proofs.Common.{◌^◌, length, arith}
-use Rattle.std.proofs.lemmas.Result.{on_ok_weaker}
+use Rattle.std.proofs.lemmas.Result.{IfOk-from_err, on_ok_weaker}
 use Rattle.cmap_runs.specs.Ranges.{last_index}
 use Rattle.cmap_runs.proofs.MaximalRuns.{runs_of-unique}
 use Rattle.cmap_runs.proofs.OpenDecide.{decides_open}
@@ -14,3 +14,12 @@ returns-clause-runs c =
 
 pub returns-clause-few : goal.returns-clause-few
 returns-clause-few c = on_ok_weaker c.add_runs.result (λ added. omega (arith, added, c.in_ok-from.ensures.few)) c.add_runs.ensures.few
+
+pub open_ranges-requires : goal.open_ranges-requires
+open_ranges-requires c = record { runs = c.requires.none; ends = c.new-ends.ensures; order = c.requires.order }
+
+pub add_runs-requires : goal.add_runs-requires
+add_runs-requires c = record { order = c.in_ok-from.ensures.limit; codes = omega arith }
+
+pub returns-in_err-from : goal.returns-in_err-from
+returns-in_err-from c = record { runs = IfOk-from_err _ _ c.from_residual.ensures.0; few = IfOk-from_err _ _ c.from_residual.ensures.0 }
