@@ -10,26 +10,15 @@ ghost use Rattle.cmap_tokens.specs.Texts.{characters, units_of, text_at, text_of
 ghost use Rattle.cmap_tokens.specs.TextSeen.{text_seen};
 
 use std::alloc::{AllocError, Global};
-use std::fmt;
 
 /// The text that a code stands for, as a bf destination of a CMap gives it (ISO 32000, ToUnicode
 /// CMaps).
-#[derive(Drop, PartialEq, Eq)]
+#[derive(Debug, Drop, PartialEq, Eq)]
 pub enum BfString {
     /// A text of one character.
     Char(char),
     /// A text of more characters.
     String(String),
-}
-
-/// The text.
-impl fmt::Debug for BfString {
-    fn fmt<W: fmt::Write>(&self, f: &mut fmt::Formatter<W>) -> fmt::Result {
-        match self {
-            BfString::Char(c) => fmt::Debug::fmt(c, f),
-            BfString::String(text) => fmt::Debug::fmt(text, f),
-        }
-    }
 }
 
 impl BfString {
