@@ -1,4 +1,4 @@
-use Rattle.std.proofs.Common.{◌≡◌, ◌∙◌, drop, None, arith}
+use Rattle.std.proofs.Common.{◌≡◌, ◌∙◌, drop, arith}
 use Rattle.std.specs.Prelude.{Some}
 use Rattle.std.proofs.lemmas.List.{take_rest}
 use Rattle.cmap_packed.specs.Reader.{number_at}

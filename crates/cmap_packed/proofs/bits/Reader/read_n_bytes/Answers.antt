@@ -1,7 +1,7 @@
-use Rattle.std.proofs.Common.{◌≡◌, ◌+◌, ◌<◌, ◌≤◌, length, subst, sym, ◌∙◌}
+use Rattle.std.proofs.Common.{◌≡◌, ◌≤◌, length, subst, ◌∙◌}
 use Rattle.std.specs.List.{slice_range}
 use Rattle.cmap_packed.specs.Reader.{bytes_left}
-use Rattle.cmap_packed.proofs.BytesTaken.{none_filled, none_read, number_read}
+use Rattle.cmap_packed.proofs.BytesTaken.{none_read, number_read}
 use Rattle.cmap_packed.proofs.bits.Reader.read_n_bytes.Goals as goal
 
 pub returns-in_err-number-clause-value : goal.returns-in_err-number-clause-value

@@ -1,4 +1,4 @@
-use Rattle.std.proofs.Common.{◌≡◌, ◌≤◌, ◌%◌, length, subst, sym, arith}
+use Rattle.std.proofs.Common.{◌≤◌, length, subst, sym, arith}
 use Rattle.cmap_packed.specs.Reader.{IsAtByte, bytes_left}
 use Rattle.cmap_packed.proofs.BytesTaken.{moved_within}
 use Rattle.cmap_packed.proofs.bits.Reader.skip_bytes.Goals as goal

@@ -1,7 +1,5 @@
-use Rattle.cmap_packed.specs.Copies.{copies_seen}
 use Rattle.cmap_packed.proofs.FilesAt.{seen_at, none_seen}
-use Rattle.std.specs.Prelude.{option_and_then, slice_get}
-use Rattle.std.proofs.Common.{refl, ap, sym, ◌∙◌, ◌≡◌, ◌<◌, ◌≤◌, length, get_or, Some, None, subst}
+use Rattle.std.proofs.Common.{refl, sym}
 use Rattle.cmap_packed.proofs.owned_bundle.OwnedBundle.file.Goals as goal
 
 pub returns-in_err-index : goal.returns-in_err-index
