@@ -99,5 +99,8 @@ pub fn load_embedded<'b>(bundle: Option<&Bundle<'b>>, name: CMapName<'_>) -> Opt
         (λ b. option_and_then (λ at. slice_get (bundle_seen b).files at) (index_of_name name.entry))
         (option_copied bundle.entry) }
 {
-    bundle?.files.get(name.index()?).copied()
+    match (bundle, name.index()) {
+        (Some(bundle), Some(index)) => bundle.files.get(index).copied(),
+        _ => None,
+    }
 }
