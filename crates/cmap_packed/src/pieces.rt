@@ -10,7 +10,7 @@ use crate::bits::Reader;
 use cmap_values::code_length::CodeLength;
 
 /// How many bytes the length of a piece has.
-const SIZE: usize = 4;
+const SIZE: u8 = 4;
 
 /// The byte that the text begins with.
 pub fn take_byte(text: &mut &[u8]) -> Option<u8>
@@ -50,8 +50,7 @@ pub fn take_code(text: &mut &[u8], width: u8) -> Option<u32>
 pub fn take_sized<'b>(text: &mut &'b [u8]) -> Option<&'b [u8]>
     ensures { Finds (SizedAt text.old.now) (λ piece. (piece.now, text.new.now)) result }
 {
-    let size = Reader::new(text).read_u32()?;
-    *text = &text[SIZE..];
+    let size = take_field(text, SIZE)?;
     text.split_off(..size as usize)
 }
 
@@ -60,8 +59,9 @@ pub fn take_framed<'b>(text: &mut &'b [u8], before: usize) -> Option<&'b [u8]>
     requires { before < 2 ^ 32 }
     ensures { Finds (FramedAt before text.old.now) (λ piece. (piece.now, text.new.now)) result }
 {
-    let size = Reader::new(text.get(before..)?).read_u32()? as usize;
-    if size < before + SIZE {
+    let mut head = text.get(before..)?;
+    let size = take_field(&mut head, SIZE)? as usize;
+    if size < before + usize::from(SIZE) {
         return None;
     }
     text.split_off(..size)
