@@ -12,12 +12,13 @@ use self::reading::parse;
 use self::words::{Search, Word, next_word};
 use crate::bits::Reader;
 use std::alloc::{AllocError, Global};
+use std::fmt;
 use std::marker::Model;
 
 /// Symbols, each spelled by a word of 1 to 32 bits, so that bits can be read word by word. A row
 /// of bits need not begin with a word. A clause sees the symbols in the order of their words,
 /// each with the length of its word in bits.
-#[derive(Debug, Drop)]
+#[derive(Drop)]
 pub struct PrefixTable {
     /// How many words there are of each length, from 1 on.
     counts: Vec<u32>,
@@ -42,6 +43,13 @@ impl Model for PrefixTable {
       bytes : length t.known.items ≡ 256;
       knows : KnowBytes t.counts.items t.symbols.items t.known.items;
     } };
+}
+
+/// The counts and the symbols; what is known by bytes follows from these.
+impl fmt::Debug for PrefixTable {
+    fn fmt<W: fmt::Write>(&self, f: &mut fmt::Formatter<W>) -> fmt::Result {
+        fmt::Debug::fmt(&(&self.counts, &self.symbols), f)
+    }
 }
 
 impl PrefixTable {

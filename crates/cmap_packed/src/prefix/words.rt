@@ -16,7 +16,7 @@ pub(super) const LONGEST: usize = 32;
 const BYTES: usize = 256;
 
 /// A symbol whose word begins bits, and how many bits that word has.
-#[derive(Clone, Copy, Debug)]
+#[derive(Clone, Copy)]
 pub(super) struct Word {
     pub(super) symbol: u32,
     pub(super) len: u8,
@@ -24,7 +24,7 @@ pub(super) struct Word {
 
 /// How far the word that begins bits has been looked for: it has more than `len` bits. `rank` words
 /// have no more, and `past` is how far the first `len` bits, as a number, are past these words.
-#[derive(Clone, Copy, Debug)]
+#[derive(Clone, Copy)]
 pub(super) struct Search {
     len: u8,
     rank: usize,
