@@ -16,10 +16,10 @@ use Rattle.cmap_values.specs.declared.fault.Fault.TheVariants as fault
 use Rattle.cmap_values.specs.declared.fault.Reason.TheVariants.{UseWithoutName}
 use Rattle.cmap_text.specs.EntriesSeen.{RefusesAt}
 use Rattle.cmap_text.specs.TextFiles.{Section, literal_head, other, use_word}
-use Rattle.cmap_text.specs.TextReading.{Said, body_in, is_executable, item_after, item_said, opened_by, with_lists, with_use}
-use Rattle.cmap_text.specs.TokenParsers.{giving, reads, run, run_item, wanted}
+use Rattle.cmap_text.specs.TextReading.{Said, body_in, is_executable, item_after, item_said, key_in, opened_by, with_key, with_lists, with_use, with_value}
+use Rattle.cmap_text.specs.TokenParsers.{followed_by, giving, next_in, reads, run, run_item, takes_value, wanted}
 use Rattle.cmap_text.specs.declared.wrong_token.WrongToken.{WrongToken}
-use Rattle.cmap_text.proofs.ItemsRead.{opened_by-found}
+use Rattle.cmap_text.proofs.ItemsRead.{key_in-found, opened_by-found}
 use Rattle.cmap_text.proofs.Refusals.{read_on_as}
 use Rattle.cmap_text.proofs.TokensRead.{is_executable-found}
 
@@ -42,6 +42,17 @@ module _ (old : Said) (t : Token) (left : Left) (head : Option (List ℕ)) (head
 
     pub use_wrong : true ≡ is_executable use_word t → old.operand ≡ None → item_said old t left ≡ Err (record { token = Some t; reason = UseWithoutName; in_list = false; left = left })
     use_wrong is operand = ap (λ i. run_item t i left) (used is) ∙ rw operand refl
+
+    -- ---- what is no use
+    module _ (no_use : false ≡ is_executable use_word t) where
+      pub other_said : None ≡ key_in t → item_said old t left ≡ Ok (record { values = old.values; lists = old.lists; uses = old.uses; operand = head }, left)
+      other_said no_key = rw (← no_section, ← no_use, ← no_key, item_after, head_is) refl
+
+      pub key_said : (k : List ℕ) → Some k ≡ key_in t → item_said old t left ≡ followed_by (λ value next. Ok (record { values = with_value old.values k value; lists = old.lists; uses = old.uses; operand = head }, next)) (next_in left)
+      key_said k is =
+          let takes : item_after old t ≡ takes_value (with_key old k) = rw (← no_section, ← no_use, ← is, item_after) refl in
+          let named : Some k ≡ head = sym (head_is ∙ ap (λ u. literal_head (other u)) (key_in-found t k (sym is)).1) in
+          ap (λ i. run_item t i left) takes ∙ ap (λ o. followed_by (λ value next. Ok (record { values = with_value old.values k value; lists = old.lists; uses = old.uses; operand = o }, next)) (next_in left)) named
 
 -- what a use adds, or why it is refused
 pub use_ends : (old : Said) (first : declared.Token) (left : Left) (head : Option (List ℕ)) (operand : Option (Bor (List ℕ))) (before after : List (Bor (List ℕ))) (r : Result (Unit {0}) (Fault WrongToken)) → head ≡ literal_head (other (token_seen first)) → None ≡ opened_by (token_seen first) → true ≡ is_executable use_word (token_seen first)

@@ -1,14 +1,15 @@
 //! The items of a text: keys with their values, sections, uses of other files, and tokens by themselves.
 
-ghost use Rattle.std.specs.Prelude.{◌≡◌, ◌++◌, ℕ, List, [], ◌∷◌, None, Some, false, true, IfErr, OnOk};
+ghost use Rattle.std.specs.Prelude.{◌≡◌, ◌++◌, ℕ, List, [], ◌∷◌, None, Ok, Some, false, true, IfErr, OnOk};
 ghost use Rattle.std.specs.Borrow.{Bor};
 ghost use Rattle.std.specs.Option.{option_copied};
 ghost use Rattle.cmap_values.specs.Outcomes.{RefusesWith};
 ghost use Rattle.cmap_values.specs.declared.fault.Reason.TheVariants.{UseWithoutName};
 ghost use Rattle.cmap_tokens.specs.TokenSeen.{token_seen};
 ghost use Rattle.cmap_text.specs.EntriesSeen.{ReadsAs, WhereRefused};
-ghost use Rattle.cmap_text.specs.TextReading.{all_said, item_said, nothing_said, opened_by, with_other};
-ghost use Rattle.cmap_text.specs.TextSeen.{said_seen};
+ghost use Rattle.cmap_text.specs.TextReading.{all_said, item_said, nothing_said, opened_by, with_other, with_value};
+ghost use Rattle.cmap_text.specs.TextSeen.{key_name, said_seen, values_seen};
+ghost use Rattle.cmap_text.specs.TokenParsers.{followed_by, next_in};
 
 use crate::keys::{Key, Values};
 use crate::sections::{Section, read_section};
@@ -94,7 +95,30 @@ pub(crate) fn read_item<'d>(
         return add_use(&mut said.uses, operand);
     }
     if let Some(key) = Key::of(first) {
-        said.values.set(key, reader.next_token()?);
+        return read_value(reader, key, said);
     }
+    Ok(())
+}
+
+/// Reads the value of a key.
+fn read_value<'d>(
+    reader: &mut TokenReader<'d>,
+    key: Key,
+    said: &mut Said<'d>,
+) -> Result<(), Fault<WrongToken>>
+    ensures reads { ReadsAs (followed_by (λ value next. Ok (
+      record {
+        values = with_value (values_seen said.old.values) (key_name key) value;
+        lists = (said_seen said.old).lists;
+        uses = (said_seen said.old).uses;
+        operand = (said_seen said.old).operand;
+      },
+      next,
+    )) (next_in reader.old))
+        (λ done. (said_seen said.new, reader.new)) reader.new result }
+    ensures stays { WhereRefused (said_seen said.new ≡ said_seen said.old) result }
+{
+    let value = reader.next_token()?;
+    said.values.set(key, value);
     Ok(())
 }
