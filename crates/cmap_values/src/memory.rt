@@ -19,10 +19,7 @@ pub fn both<T: Drop, U: Drop>(
 }
 
 /// A value beside what a step makes, if that doesn't fail.
-pub fn keep<T: Drop, U: Drop>(
-    value: T,
-    made: Result<U, AllocError>,
-) -> Result<(T, U), AllocError>
+pub fn keep<T: Drop, U: Drop>(value: T, made: Result<U, AllocError>) -> Result<(T, U), AllocError>
     ensures { MatchResult result (λ kept. (kept.0 ≡ value) × (made ≡ Ok kept.1)) (λ _. IsErr made) }
 {
     match made {

@@ -181,10 +181,7 @@ pub(crate) fn layer_over(
 }
 
 /// An item before those of a list.
-fn put_first<T: Drop>(
-    item: Result<T, AllocError>,
-    mut list: Vec<T>,
-) -> Result<Vec<T>, AllocError>
+fn put_first<T: Drop>(item: Result<T, AllocError>, mut list: Vec<T>) -> Result<Vec<T>, AllocError>
     ensures { IfOk result
         (λ made. (first : T) × (item ≡ Ok first) × (made.items ≡ first ∷ list.items)) }
 {

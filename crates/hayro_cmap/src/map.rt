@@ -528,11 +528,7 @@ impl CMap {
 }
 
 /// Adds copies of layers.
-fn copy_layers(
-    alloc: Global,
-    layers: &[Layer],
-    copies: &mut Vec<Layer>,
-) -> Result<(), AllocError>
+fn copy_layers(alloc: Global, layers: &[Layer], copies: &mut Vec<Layer>) -> Result<(), AllocError>
     ensures { OnOk result (layers_seen copies.new.items
         ≡ layers_seen copies.old.items ++ layers_seen layers.now) }
 {
@@ -543,9 +539,7 @@ fn copy_layers(
 }
 
 /// The map that is found; none where the file is refused, unless for the budget.
-fn without_refusal(
-    found: Result<CMap, Fault<Refusal<'_>>>,
-) -> Result<Option<CMap>, ParseError>
+fn without_refusal(found: Result<CMap, Fault<Refusal<'_>>>) -> Result<Option<CMap>, ParseError>
     ensures found { IfOk found.entry (λ map. result ≡ Ok (Some map)) }
     ensures over { IfErr found.entry (RefusesWith (λ refusal. refusal.cause ≡ Cause.OverBudget
         → result ≡ Err parse_error.OverBudget)) }
