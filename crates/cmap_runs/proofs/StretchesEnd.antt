@@ -1,8 +1,9 @@
 -- Where a stretch of codes ends, and which runs are left after it.
 use Rattle.std.proofs.Common.{◌≡◌, ℕ, ◌+◌, ◌-◌, ◌<◌, ◌≤◌, ◌^◌, List, length, get_or, refl, sym, ap, ◌∙◌, subst, inl, inr, arith}
-use Rattle.std.specs.Prelude.{Some, None, All, map, slice_get}
+use Rattle.std.specs.Prelude.{Some, None, Result, Ok, Err, All, map, slice_get}
+use Rattle.std.specs.Result.{OkIff, result_ok}
 use Rattle.std.proofs.lemmas.Bool.{cases_lt}
-use Rattle.std.proofs.lemmas.Option.{get_or_from_slice_get, slice_get_within}
+use Rattle.std.proofs.lemmas.Option.{get_or_from_slice_get, same_Some, slice_get_within}
 use Rattle.cmap_runs.specs.Order.{IsFirstLeft, IsInOrder}
 use Rattle.cmap_runs.specs.Ranges.{Span, Run, AreRuns, Holds, IsRun, last_index, last_of, runs_of}
 use Rattle.cmap_runs.proofs.FoundIndex.{found_index, no_index, none_last, runs_in_order}
@@ -82,17 +83,6 @@ left_after_run runs first ended run order left at le fits = record {
       let filled = order.filled k d within in omega arith;
 }
 
-pub all_left_over : (runs : List Run) (first ended : ℕ) → IsFirstLeft runs first ended → length runs ≤ ended → first < 2 ^ 32 → IsFirstLeft runs (2 ^ 32) ended
-all_left_over runs first ended left over fits = record {
-  fits = omega arith;
-  within = left.within;
-  before = λ k d le within. let is_over = left.before k d le within in omega arith;
-  after = λ k d le within. absurd (omega arith);
-}
-
-pub past_codes : (n : ℕ) → (n < 2 ^ 32 → ⊥) → 2 ^ 32 ≤ n
-past_codes n none = elim (cases_lt n (2 ^ 32)) [ inl below ↦ absurd (none below) | inr past ↦ past ]
-
 -- and none is left up to the end of all codes
 pub left_at_end : (runs : List Run) (code ended : ℕ) → IsFirstLeft runs code ended → length runs ≤ ended → IsFirstLeft runs (2 ^ 32 - 1 + 1) ended
 left_at_end runs code ended left all = record {
@@ -101,3 +91,12 @@ left_at_end runs code ended left all = record {
   before = λ k d from lt. omega (arith, left.before k d from lt, left.fits);
   after = λ k d from lt. absurd (omega arith);
 }
+
+-- ---- the next code, as a number of 32 bits
+pub code_fits : {E : Type 0} (n code : ℕ) (r : Result ℕ E) → OkIff r (n < 2 ^ 32) n → Some code ≡ result_ok r → code ≡ n
+code_fits n code (Ok x) fits is = same_Some code x is ∙ fits.1
+code_fits n code (Err e) fits is = absurd (cc)
+
+pub past_codes : {E : Type 0} (n : ℕ) (r : Result ℕ E) → OkIff r (n < 2 ^ 32) n → None ≡ result_ok r → 2 ^ 32 ≤ n
+past_codes n (Ok x) fits none = absurd (cc)
+past_codes n (Err e) fits none = elim (cases_lt n (2 ^ 32)) [ inl below ↦ absurd (fits below) | inr past ↦ past ]

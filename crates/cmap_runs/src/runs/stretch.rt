@@ -78,9 +78,7 @@ impl<'t, T: HasRange> Stretches<'t, T> {
         ensures looks { (looks.new.runs ≤ looks.old.runs + 1)
             × (looks.new.declarations ≤ looks.old.declarations + 1) }
     {
-        let Ok(code) = u32::try_from(self.next) else {
-            return None;
-        };
+        let code = u32::try_from(self.next).ok()?;
         let stretch = stretch_at(self.held, &mut self.ended, code, looks);
         self.next = u64::from(stretch.last) + 1;
         Some(stretch)
