@@ -54,7 +54,7 @@ STRUCTS = [
 ]
 # the same of handles, which the crate writes with the slot that they hold
 HANDLES = [("hayro_cmap", "handle.rt", "Map"), ("hayro_cmap_bundle", "bundle.rt", "Bundle")]
-NUMBERED = r"(?P<number>\d+) => Some\({}::(?P<name>\w+)"
+NUMBERED = r"(?P<number>\d+)(?:, [\w()]+\))? => Some\({}::(?P<name>\w+)"
 # enums of the header: what the crate has no variant for, how and where it writes a variant and its number, and what the
 # header calls otherwise, since another enum has the name
 ENUMS = [
