@@ -160,9 +160,9 @@ fn tables_of(alloc: Global, lists: Lists) -> Result<Tables, AllocError>
         bfs,
         spaces,
     } = lists;
-    let numbers = both(build_tables(alloc, cids), build_tables(alloc, notdefs));
-    let others = both(Table::build(alloc, bfs), Spaces::build(alloc, spaces));
-    both(numbers, others)
+    let cids_and_notdefs = both(build_tables(alloc, cids), build_tables(alloc, notdefs));
+    let texts_and_spaces = both(Table::build(alloc, bfs), Spaces::build(alloc, spaces));
+    both(cids_and_notdefs, texts_and_spaces)
 }
 
 /// The table of each list.
