@@ -45,14 +45,16 @@ impl Layer {
         ensures { IfOk result (λ layer. layer_seen layer
             ≡ record { metadata = metadata_seen metadata; lists = lists_seen lists }) }
     {
-        let ((cids, notdefs), (bfs, spaces)) = tables_of(alloc, lists)?;
-        Ok(Layer {
-            metadata,
-            cids,
-            notdefs,
-            bfs,
-            spaces,
-        })
+        match tables_of(alloc, lists) {
+            Ok(((cids, notdefs), (bfs, spaces))) => Ok(Layer {
+                metadata,
+                cids,
+                notdefs,
+                bfs,
+                spaces,
+            }),
+            Err(error) => Err(error),
+        }
     }
 
     /// What the file states about itself.
@@ -109,8 +111,10 @@ impl Layer {
     pub fn clone(&self, alloc: Global) -> Result<Layer, AllocError>
         ensures { IfOk result (λ copy. layer_seen copy ≡ layer_seen self.now) }
     {
-        let (metadata, lists) = both(self.metadata.clone(alloc), self.lists(alloc))?;
-        Layer::build(alloc, metadata, lists)
+        match both(self.metadata.clone(alloc), self.lists(alloc)) {
+            Ok((metadata, lists)) => Layer::build(alloc, metadata, lists),
+            Err(error) => Err(error),
+        }
     }
 
     /// A copy of the declarations.
@@ -121,13 +125,15 @@ impl Layer {
         let notdefs = copied_lists(alloc, &self.notdefs);
         let bfs = copied_bfs(alloc, &self.bfs);
         let spaces = Vec::from_slice(alloc, self.spaces.as_slice());
-        let ((cids, notdefs), (bfs, spaces)) = both(both(cids, notdefs), both(bfs, spaces))?;
-        Ok(Lists {
-            cids,
-            notdefs,
-            bfs,
-            spaces,
-        })
+        match both(both(cids, notdefs), both(bfs, spaces)) {
+            Ok(((cids, notdefs), (bfs, spaces))) => Ok(Lists {
+                cids,
+                notdefs,
+                bfs,
+                spaces,
+            }),
+            Err(error) => Err(error),
+        }
     }
 }
 
@@ -174,13 +180,15 @@ fn build_tables(
 {
     let lists = [lists.one, lists.two, lists.three, lists.four];
     let table = |list| Table::build(alloc, list);
-    let [one, two, three, four] = lists.try_map(table)?;
-    Ok(ByLength {
-        one,
-        two,
-        three,
-        four,
-    })
+    match lists.try_map(table) {
+        Ok([one, two, three, four]) => Ok(ByLength {
+            one,
+            two,
+            three,
+            four,
+        }),
+        Err(error) => Err(error),
+    }
 }
 
 /// A copy of the declarations of each table.
@@ -192,13 +200,15 @@ fn copied_lists(
 {
     let each = [&tables.one, &tables.two, &tables.three, &tables.four];
     let copied = |table| copied_cids(alloc, table);
-    let [one, two, three, four] = each.try_map(copied)?;
-    Ok(ByLength {
-        one,
-        two,
-        three,
-        four,
-    })
+    match each.try_map(copied) {
+        Ok([one, two, three, four]) => Ok(ByLength {
+            one,
+            two,
+            three,
+            four,
+        }),
+        Err(error) => Err(error),
+    }
 }
 
 /// A copy of the declarations of a table.
