@@ -12,8 +12,8 @@ use Rattle.cmap_values.specs.declared.code_length.CodeLength.TheVariants.{One, T
 use Rattle.cmap_values.specs.declared.fault.Reason.{Reason}
 use Rattle.cmap_values.specs.declared.fault.Reason.TheVariants.{BracketExpected, TextExpected, UnequalLengths}
 use Rattle.cmap_text.specs.TextFiles.{CidKind, Extent, Section, bf_char, bf_range, cids, closer, codespace_range, declares_cid}
-use Rattle.cmap_text.specs.TextReading.{adding, cids_after, Code, code_fault, code_in, code_or_closer, codespace, destination_in, entry_after, is_executable, list_in, next_code, next_destination, text_of}
-use Rattle.cmap_text.specs.TokenParsers.{followed_by, head_in, listed, or_wrong, Refused, run, token_in, wrong}
+use Rattle.cmap_text.specs.TextReading.{adding, cids_after, Code, code_fault, code_in, code_or_closer, codespace, codespace_fault, codespace_to, destination_in, entry_after, is_executable, list_in, list_or_destination, next_code, next_destination, text_of, texts_from}
+use Rattle.cmap_text.specs.TokenParsers.{Found, followed_by, listed, or_wrong, Refused, run, token_in, wrong}
 use Rattle.cmap_text.proofs.TokenParsers.{err-ok, same_Err, same_Ok}
 
 -- a token that is wrong is so whatever is made of a right one, and a right one is what it is read as
@@ -26,39 +26,64 @@ read_as None reason t next x here is = absurd (err-ok (wrong reason t next) (x, 
 read_as (Some y) reason t next x here is = let same = same_Ok (y, next) (x, here) is in (ap (λ p. Some p.0) same, ap (λ p. p.1) same)
 
 -- ---- a destination or a list, after the two codes of a range
+module _ (start end : ℕ) (lists : Lists) (t : Token) (next : Left) where
+  abbrev pub texts : Found Lists
+  texts = followed_by (λ found. run (texts_from start end lists found)) (or_wrong TextExpected (list_or_destination t) t next)
+
+  pub texts_list : true ≡ is_executable (codes "[") t → texts ≡ run (listed (list_in (end + 1 - start) start lists)) next
+  texts_list opens = rw (← opens) refl
+
+  module _ (other : false ≡ is_executable (codes "[") t) where
+    pub texts_none : destination_in t ≡ None → texts ≡ Err (wrong TextExpected t next)
+    texts_none none = rw (← other, none) refl
+
+    pub texts_wrong : (e : Refused) → or_wrong TextExpected (destination_in t) t next ≡ Err e → texts ≡ Err e
+    texts_wrong e is = rw (← other, wrong_as Some (destination_in t) TextExpected t next e is) refl
+
+    pub texts_made : (units : List ℕ) (here : Left) → or_wrong TextExpected (destination_in t) t next ≡ Ok (units, here) → (new : Lists) → new ≡ adding lists (text_of start end units) → texts ≡ Ok (new, here)
+    texts_made units here is new adds = let (text, same) = read_as (destination_in t) TextExpected t next units here is in rw (← other, text, ← same, adds) refl
+
 module _ (start end : Code) (lists : Lists) (old mid : Left) (codes_are : run next_code old ≡ Ok (end, mid)) where
   pub range_ends : (e : Refused) → token_in mid ≡ Err e → run (entry_after bf_range start lists) old ≡ Err e
   range_ends e is = rw (codes_are, is) refl
 
-  module _ (t : Token) (next : Left) (reads : token_in mid ≡ Ok (t, next)) where
-    pub range_list : true ≡ is_executable (codes "[") t → run (entry_after bf_range start lists) old ≡ run (listed (list_in (end.number + 1 - start.number) start.number lists)) next
-    range_list opens = rw (codes_are, reads, ← opens) refl
-
-    pub range_wrong : false ≡ is_executable (codes "[") t → (e : Refused) → or_wrong TextExpected (destination_in t) t next ≡ Err e → run (entry_after bf_range start lists) old ≡ Err e
-    range_wrong other e is = rw (codes_are, reads, ← other, wrong_as Some (destination_in t) TextExpected t next e is) refl
-
-    pub range_text : false ≡ is_executable (codes "[") t → (units : List ℕ) (here : Left) → or_wrong TextExpected (destination_in t) t next ≡ Ok (units, here) → (new : Lists) → new ≡ adding lists (text_of start.number end.number units) → run (entry_after bf_range start lists) old ≡ Ok (new, here)
-    range_text other units here is new adds = let (text, same) = read_as (destination_in t) TextExpected t next units here is in rw (codes_are, reads, ← other, text, ← same, adds) refl
+  pub range_texts : (t : Token) (next : Left) → token_in mid ≡ Ok (t, next) → run (entry_after bf_range start lists) old ≡ texts start.number end.number lists t next
+  range_texts t next reads = rw (codes_are, reads) refl
 
 -- ---- the second code of a codespace range
 module _ (low : Code) (lists : Lists) (old : Left) where
-  pub space_ends : (e : Refused) → token_in old ≡ Err e → run (entry_after codespace_range low lists) old ≡ Err e
-  space_ends e is = rw is refl
+  -- by what the next token is found to be
+  abbrev space_in : Found Token → Found Lists
+  space_in found = followed_by (λ declared here. Ok (adding lists declared, here)) (followed_by (λ t. or_wrong (codespace_fault t) (codespace_to low t) t) found)
 
-  module _ (t : Token) (next : Left) (reads : token_in old ≡ Ok (t, next)) where
-    pub space_wrong : (e : Refused) → or_wrong (code_fault t) (code_in t) t next ≡ Err e → run (entry_after codespace_range low lists) old ≡ Err e
-    space_wrong e is = rw reads (at (code_in t) is)
+  abbrev code_of_found : Found Token → Found Code
+  code_of_found found = followed_by (λ t. or_wrong (code_fault t) (code_in t) t) found
+
+  pub space_wrong : (e : Refused) → run next_code old ≡ Err e → run (entry_after codespace_range low lists) old ≡ Err e
+  space_wrong e is = at (token_in old) is
+    where
+      within : (t : Token) (next : Left) (o : Option Code) → or_wrong (code_fault t) o t next ≡ Err e → followed_by (λ declared here. Ok (adding lists declared, here)) (or_wrong (if is_some o then UnequalLengths else code_fault t) (option_and_then (codespace low) o) t next) ≡ Err e
+      within t next None wrong_is = ap Err (same_Err (wrong (code_fault t) t next) e wrong_is)
+      within t next (Some x) right = absurd (err-ok e (x, next) (sym right))
+
+      at : (found : Found Token) → code_of_found found ≡ Err e → space_in found ≡ Err e
+      at (Err d) wrong_is = ap Err (same_Err d e wrong_is)
+      at (Ok (t, next)) wrong_is = within t next (code_in t) wrong_is
+
+  module _ (high : Code) (here : Left) (is : run next_code old ≡ Ok (high, here)) where
+    pub space_unequal : (low.len == high.len) ≡ false → (t : Token) × (run (entry_after codespace_range low lists) old ≡ Err (wrong UnequalLengths t here))
+    space_unequal differ = at (token_in old) is
       where
-        at : (o : Option Code) → or_wrong (code_fault t) o t next ≡ Err e → followed_by (λ declared here. Ok (adding lists declared, here)) (or_wrong (if is_some o then UnequalLengths else code_fault t) (option_and_then (codespace low) o) t next) ≡ Err e
-        at None wrong_is = ap Err (same_Err (wrong (code_fault t) t next) e wrong_is)
-        at (Some x) right = absurd (err-ok e (x, next) (sym right))
+        at : (found : Found Token) → code_of_found found ≡ Ok (high, here) → (t : Token) × (space_in found ≡ Err (wrong UnequalLengths t here))
+        at (Err d) wrong_is = absurd (err-ok d (high, here) wrong_is)
+        at (Ok (t, next)) right = let (code, same) = read_as (code_in t) (code_fault t) t next high here right in (t, rw (code, differ, same) refl)
 
-    module _ (high : Code) (here : Left) (is : or_wrong (code_fault t) (code_in t) t next ≡ Ok (high, here)) where
-      pub space_unequal : (low.len == high.len) ≡ false → run (entry_after codespace_range low lists) old ≡ Err (wrong UnequalLengths t here)
-      space_unequal differ = let (code, same) = read_as (code_in t) (code_fault t) t next high here is in rw (reads, code, differ, same) refl
-
-      pub space_added : (low.len == high.len) ≡ true → (new : Lists) → new ≡ adding lists (Declaration.codespace (record { len = low.len; low = low.number; high = high.number }) ∷ []) → run (entry_after codespace_range low lists) old ≡ Ok (new, here)
-      space_added equal new adds = let (code, same) = read_as (code_in t) (code_fault t) t next high here is in rw (reads, code, equal, ← same, adds) refl
+    pub space_added : (low.len == high.len) ≡ true → (new : Lists) → new ≡ adding lists (Declaration.codespace (record { len = low.len; low = low.number; high = high.number }) ∷ []) → run (entry_after codespace_range low lists) old ≡ Ok (new, here)
+    space_added equal new adds = at (token_in old) is
+      where
+        at : (found : Found Token) → code_of_found found ≡ Ok (high, here) → space_in found ≡ Ok (new, here)
+        at (Err d) wrong_is = absurd (err-ok d (high, here) wrong_is)
+        at (Ok (t, next)) right = let (code, same) = read_as (code_in t) (code_fault t) t next high here right in rw (code, equal, ← same, adds) refl
 
 same_lengths : (a b : CodeLength) → sameb the_type a b ≡ (length_of a == length_of b)
 same_lengths One One = refl
@@ -120,16 +145,20 @@ module _ (start : Code) (lists : Lists) (old : Left) where
   char_text units here is new adds = rw (is, adds) refl
 
 -- ---- the first code of an entry, or the closer
-module _ (section : Section) (here next : Left) where
-  pub start_ends : (e : Refused) → token_in here ≡ Err e → head_in code_fault (code_or_closer section) here ≡ Err e
-  start_ends e is = rw is refl
+module _ (section : Section) (t : Token) (next : Left) where
+  abbrev pub started : Found (Option Code)
+  started = or_wrong (code_fault t) (code_or_closer section t) t next
 
-  module _ (t : Token) (reads : token_in here ≡ Ok (t, next)) where
-    pub start_closes : true ≡ is_executable (closer section) t → head_in code_fault (code_or_closer section) here ≡ Ok (None, next)
-    start_closes closes = rw (reads, ← closes) refl
+  pub start_closes : true ≡ is_executable (closer section) t → started ≡ Ok (None, next)
+  start_closes closes = rw (← closes) refl
 
-    pub start_wrong : false ≡ is_executable (closer section) t → (e : Refused) → or_wrong (code_fault t) (code_in t) t next ≡ Err e → head_in code_fault (code_or_closer section) here ≡ Err e
-    start_wrong other e is = rw (reads, ← other, wrong_as Some (code_in t) (code_fault t) t next e is) refl
+  module _ (other : false ≡ is_executable (closer section) t) where
+    pub start_none : code_in t ≡ None → started ≡ Err (wrong (code_fault t) t next)
+    start_none none = rw (← other, none) refl
 
-    pub start_code : false ≡ is_executable (closer section) t → (code : Code) (later : Left) → or_wrong (code_fault t) (code_in t) t next ≡ Ok (code, later) → head_in code_fault (code_or_closer section) here ≡ Ok (Some code, later)
-    start_code other code later is = let (code_is, same) = read_as (code_in t) (code_fault t) t next code later is in rw (reads, ← other, code_is, same) refl
+    pub start_is : started ≡ followed_by (λ code here. Ok (Some code, here)) (or_wrong (code_fault t) (code_in t) t next)
+    start_is = rw (← other) (at (code_in t))
+      where
+        at : (o : Option Code) → or_wrong (code_fault t) (option_map Some o) t next ≡ followed_by (λ code here. Ok (Some code, here)) (or_wrong (code_fault t) o t next)
+        at None = refl
+        at (Some x) = refl

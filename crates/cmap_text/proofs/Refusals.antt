@@ -1,6 +1,6 @@
 -- What calls that read tokens answer.
 use Rattle.std.proofs.Common.{◌≡◌, refl, ◌∙◌, true, false}
-use Rattle.std.specs.Prelude.{Option, Some, None, Result, Ok, Err, IfErr, IsErrAnd, option_map}
+use Rattle.std.specs.Prelude.{Option, Some, None, Result, Ok, Err, IfErr, IsErrAnd, IsOkAnd, MatchResult, OnOk, option_map}
 use Rattle.std.specs.Option.{ok_or}
 use Rattle.std.proofs.lemmas.Iterator.Adapters.{option_map_id}
 use Rattle.cmap_tokens.specs.TokensLeft.{Left}
@@ -9,7 +9,7 @@ use Rattle.cmap_values.specs.declared.fault.Fault.{Fault}
 use Rattle.cmap_values.specs.declared.fault.Fault.TheVariants as fault
 use Rattle.cmap_values.specs.declared.fault.Reason.{Reason}
 use Rattle.cmap_values.proofs.Outcomes as outcomes
-use Rattle.cmap_text.specs.EntriesSeen.{RefusesAt, WhereRefused, refused_seen}
+use Rattle.cmap_text.specs.EntriesSeen.{ReadsAs, RefusesAt, WhereRefused, refused_seen}
 use Rattle.cmap_text.specs.TokenParsers.{Found, Refused, followed_by, or_wrong}
 use Rattle.cmap_text.specs.declared.wrong_token.WrongToken.{WrongToken}
 use Rattle.cmap_tokens.specs.Tokens.{Token}
@@ -35,10 +35,34 @@ read_on_as made here part all x y (Ok done) is gives (found, refused) = (is ∙ 
 read_on_as made here part all x y (Err (fault.Refused wrong)) is gives (found, (token, refused, told)) = (tt, (token, is ∙ rw refused refl, told))
 read_on_as made here part all x y (Err fault.Memory) is gives (found, refused) = (tt, tt)
 
+-- what is read, in an option
+pub some_read : {A B : Type 0} (seen : A → B) (here : Left) (part : Found B) (all : Found (Option B)) (r : Result A (Fault WrongToken)) (made : Result (Option A) (Fault WrongToken)) → MatchResult r (λ x. IsOkAnd made (λ o. o ≡ Some x)) (λ e. made ≡ Err e) → all ≡ followed_by (λ x next. Ok (Some x, next)) part → ReadsAs part (λ x. (seen x, here)) here r → ReadsAs all (λ o. (option_map seen o, here)) here made
+some_read seen here part all (Ok x) (Ok o) is gives (found, refused) = (gives ∙ rw (is, found) refl, tt)
+some_read seen here part all (Ok x) (Err e) is gives read = absurd is
+some_read seen here part all (Err (fault.Refused wrong)) made is gives (found, (token, refused, told)) = rw is (tt, (token, gives ∙ rw refused refl, told))
+some_read seen here part all (Err fault.Memory) made is gives read = rw is (tt, tt)
+
 -- a want of memory refuses nothing
 pub no_memory : {T A : Type 0} (r : Result T (Fault WrongToken)) (P : T → Type 0) (here : Left) (all : Result A Refused) → IsErrAnd r (λ e. e ≡ fault.Memory) → Outcome P (RefusesAt here all) r
 no_memory (Ok x) P here all is = absurd is
 no_memory (Err e) P here all is = (tt, rw is tt)
+
+-- the fault of another call, handed on as it is
+pub handed_on : {A B : Type 0} (fault : Fault WrongToken) (here : Left) (part : Result A Refused) (all : Result B Refused) → RefusesWith (RefusesAt here part) fault → ((e : Refused) → part ≡ Err e → all ≡ Err e) → RefusesWith (RefusesAt here all) fault
+handed_on fault here part all refused same = outcomes.refused_as fault refused (refused_as here part all same)
+
+-- what a call makes that fails only where memory is wanted
+pub made_so : {T A : Type 0} (r : Result T (Fault WrongToken)) (made gives : Type 0) (here : Left) (all : Result A Refused) → OnOk r made → IfErr r (λ e. e ≡ fault.Memory) → (made → gives) → Outcome (λ done. gives) (RefusesAt here all) r
+made_so (Ok x) made gives here all holds fails so = (so holds, tt)
+made_so (Err e) made gives here all holds fails so = (tt, rw fails tt)
+
+pub never_refused : {T : Type 0} (r : Result T (Fault WrongToken)) (holds : Type 0) → IfErr r (λ e. e ≡ fault.Memory) → WhereRefused holds r
+never_refused (Ok x) holds fails wrong same = absurd (cc)
+never_refused (Err e) holds fails wrong same = absurd (cc)
+
+pub only_memory : {T : Type 0} (r : Result T (Fault WrongToken)) → IsErrAnd r (λ e. e ≡ fault.Memory) → IfErr r (λ e. e ≡ fault.Memory)
+only_memory (Ok x) is = absurd is
+only_memory (Err e) is = is
 
 pub memory_only : {T : Type 0} (r : Result T (Fault WrongToken)) (P : WrongToken → Type 0) → IsErrAnd r (λ e. e ≡ fault.Memory) → IfErr r (RefusesWith P)
 memory_only (Ok x) P is = absurd is

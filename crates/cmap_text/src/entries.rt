@@ -1,26 +1,30 @@
 //! The entries of sections. Each call here has the first code of an entry, reads what follows it, and
 //! adds what the entry declares.
 
-ghost use Rattle.std.specs.Prelude.{◌≡◌, ◌+◌, ◌-◌, IfOk, OnOk};
+ghost use Rattle.std.specs.Prelude.{◌≡◌, ℕ, ◌+◌, ◌-◌, IfErr, IfOk, OnOk};
 ghost use Rattle.cmap_values.specs.CodeLengths.{length_of};
 ghost use Rattle.cmap_files.specs.DeclarationsSeen.{cid_entry_seen, lists_seen};
 ghost use Rattle.cmap_text.specs.EntriesSeen.{AddsDeclarations, AddsIf, AddsTexts, ReadsAs, WhereRefused};
 ghost use Rattle.cmap_files.specs.Files.{lists_of};
+ghost use Rattle.cmap_files.specs.Files as declared;
 ghost use Rattle.cmap_files.specs.ListsAppended.{append_lists};
+ghost use Rattle.cmap_tokens.specs.TokenSeen.{token_seen};
+ghost use Rattle.cmap_values.specs.declared.fault.Fault.TheVariants.{Memory};
+ghost use Rattle.cmap_values.specs.declared.fault.Reason.TheVariants.{TextExpected};
 ghost use Rattle.cmap_values.specs.UnitsSeen.{units_seen};
 ghost use Rattle.cmap_text.specs.TextFiles as files;
 ghost use Rattle.cmap_text.specs.TextSeen.{code_seen, extent_seen, kind_seen};
-ghost use Rattle.cmap_text.specs.TextReading.{cids_after, entry_after, list_in, text_of};
-ghost use Rattle.cmap_text.specs.TokenParsers.{listed, run};
+ghost use Rattle.cmap_text.specs.TextReading.{cids_after, entry_after, list_in, list_or_destination, text_of, texts_from};
+ghost use Rattle.cmap_text.specs.TokenParsers.{followed_by, listed, or_wrong, run};
 
 use crate::tokens::{Code, TokenReader, is_executable};
 use crate::wrong_token::{WrongToken, wrong};
 use cmap_files::declarations::{BfRange, CidRange, Codespace, Lists};
 use cmap_runs::runs::Range;
+use cmap_tokens::token::Token;
 use cmap_values::code_length::CodeLength;
 use cmap_values::fault::{Fault, Reason};
 use cmap_values::units::Units;
-use std::alloc::AllocError;
 
 /// Which CIDs an entry declares: those of its codes, or the one of all codes that have no other.
 #[derive(Clone, Copy)]
@@ -46,8 +50,7 @@ pub(crate) fn add_codespace_range(
         lists.old lists.new reader.new result }
     ensures stays { WhereRefused (lists_seen lists.new ≡ lists_seen lists.old) result }
 {
-    let token = reader.required_token()?;
-    let high = reader.code(&token)?;
+    let high = reader.next_code()?;
     if low.len != high.len {
         return Err(wrong(Reason::UnequalLengths));
     }
@@ -88,9 +91,10 @@ pub(crate) fn add_plain_unit(
     reader: &mut TokenReader<'_>,
     code: Code,
     lists: &mut Lists,
-) -> Result<bool, AllocError>
-    ensures { IfOk result (AddsIf (entry_after files.bf_char (code_seen code))
+) -> Result<bool, Fault<WrongToken>>
+    ensures adds { IfOk result (AddsIf (entry_after files.bf_char (code_seen code))
         reader.old lists.old lists.new reader.new) }
+    ensures fails { IfErr result (λ fault. fault ≡ Memory) }
 {
     let Some(unit) = reader.plain_unit() else {
         return Ok(false);
@@ -111,8 +115,7 @@ pub(crate) fn add_bf_char(
     ensures stays { WhereRefused (lists_seen lists.new ≡ lists_seen lists.old) result }
 {
     let units = reader.next_destination()?;
-    add_text(lists, code.number, code.number, units)?;
-    Ok(())
+    add_text(lists, code.number, code.number, units)
 }
 
 /// code, code, and one destination or a list of them
@@ -126,17 +129,37 @@ pub(crate) fn add_bf_range(
     ensures stays { WhereRefused (lists_seen lists.new ≡ lists_seen lists.old) result }
 {
     let end = reader.next_code()?;
-    if let Some(units) = reader.plain_destination() {
-        add_text(lists, start.number, end.number, units)?;
-        return Ok(());
+    match reader.plain_destination() {
+        Some(units) => add_text(lists, start.number, end.number, units),
+        None => match reader.required_token() {
+            Ok(token) => add_texts(reader, &token, start.number, end.number, lists),
+            Err(fault) => Err(fault),
+        },
     }
-    let token = reader.required_token()?;
-    if is_executable(&token, b"[") {
-        return add_list(reader, start.number, end.number, lists);
+}
+
+/// Adds the destination that a token is, or those of the list that it opens, of the codes from `start`
+/// to `end`.
+fn add_texts(
+    reader: &mut TokenReader<'_>,
+    token: &Token<'_>,
+    start: u32,
+    end: u32,
+    lists: &mut Lists,
+) -> Result<(), Fault<WrongToken>>
+    ensures adds { ReadsAs (followed_by (λ found. run (texts_from start end (lists_seen lists.old) found))
+        (or_wrong TextExpected (list_or_destination (token_seen token.now)) (token_seen token.now) reader.old))
+        (λ done. (lists_seen lists.new, reader.new)) reader.new result }
+    ensures stays { WhereRefused (lists_seen lists.new ≡ lists_seen lists.old) result }
+{
+    match token {
+        Token::String(string) => {
+            let units = reader.destination(string)?;
+            add_text(lists, start, end, units)
+        }
+        _ if is_executable(token, b"[") => add_list(reader, start, end, lists),
+        _ => Err(wrong(Reason::TextExpected)),
     }
-    let units = reader.destination(&token)?;
-    add_text(lists, start.number, end.number, units)?;
-    Ok(())
 }
 
 /// One destination for each code from `start` to `end`, and the closing bracket. A list that is refused
@@ -177,21 +200,35 @@ fn add_destinations(
         let units = reader.next_destination()?;
         add_text(lists, code as u32, code as u32, units)?;
     }
-    let token = reader.required_token()?;
-    if !is_executable(&token, b"]") {
-        return Err(wrong(Reason::BracketExpected));
+    pass_closing_bracket(reader)
+}
+
+/// Passes over the bracket that closes a list.
+fn pass_closing_bracket(reader: &mut TokenReader<'_>) -> Result<(), Fault<WrongToken>>
+    ensures { (start : ℕ) (lists : declared.Lists) → ReadsAs (run (list_in 0 start lists) reader.old) (λ done. (lists, reader.new)) reader.new result }
+{
+    match reader.required_token() {
+        Ok(token) => {
+            if is_executable(&token, b"]") {
+                Ok(())
+            } else {
+                Err(wrong(Reason::BracketExpected))
+            }
+        }
+        Err(fault) => Err(fault),
     }
-    Ok(())
 }
 
 /// Adds the units of the text of the code `start`, of a range that ends with the code `end`.
 #[inline(always)]
-fn add_text(lists: &mut Lists, start: u32, end: u32, units: Units) -> Result<(), AllocError>
-    ensures { OnOk result (lists_seen lists.new ≡ append_lists (lists_seen lists.old)
+fn add_text(lists: &mut Lists, start: u32, end: u32, units: Units) -> Result<(), Fault<WrongToken>>
+    ensures adds { OnOk result (lists_seen lists.new ≡ append_lists (lists_seen lists.old)
         (lists_of (text_of start end (units_seen units)))) }
+    ensures fails { IfErr result (λ fault. fault ≡ Memory) }
 {
     let range = Range { start, end };
-    lists.add_bf(BfRange { range, units })
+    lists.add_bf(BfRange { range, units })?;
+    Ok(())
 }
 
 /// A declaration of CIDs, and the length of the codes that it is filed by.

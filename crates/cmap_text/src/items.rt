@@ -67,10 +67,13 @@ pub(crate) fn read_items<'d>(
     ensures { ReadsAs (all_said (said_seen said.old) reader.old) (λ done. (said_seen said.new, reader.new))
         reader.new result }
 {
-    while let Some(token) = reader.next_token()? {
-        read_item(reader, &token, said)?;
+    loop {
+        match reader.next_token() {
+            Ok(Some(token)) => read_item(reader, &token, said)?,
+            Ok(None) => return Ok(()),
+            Err(fault) => return Err(fault),
+        }
     }
-    Ok(())
 }
 
 /// Reads what follows the first token of an item.

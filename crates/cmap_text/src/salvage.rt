@@ -1,22 +1,24 @@
 //! What a text says apart from its faults: reading goes on after each.
 
-ghost use Rattle.std.specs.Prelude.{◌≡◌, ◌≤◌, ◌↔◌, [], false, length, Option, option_map, if◌then◌else◌, IfOk, OnOk};
+ghost use Rattle.std.specs.Prelude.{◌≡◌, ◌≤◌, ◌↔◌, [], false, length, Ok, Option, option_map, if◌then◌else◌, IfOk, OnOk};
 ghost use Rattle.cmap_tokens.specs.Tokens as tokens;
 ghost use Rattle.cmap_tokens.specs.TokenSeen.{token_seen};
-ghost use Rattle.cmap_tokens.specs.TokensLeft.{start_of, tokens_of};
+ghost use Rattle.cmap_tokens.specs.TokensLeft.{Left, start_of, tokens_of};
 ghost use Rattle.cmap_files.specs.DeclarationsSeen.{lists_seen};
 ghost use Rattle.cmap_values.specs.Faults.{Ascend};
 ghost use Rattle.cmap_files.specs.Files as files;
 ghost use Rattle.cmap_files.specs.FilesSeen.{file_seen};
-ghost use Rattle.cmap_values.specs.Only.{HoldsOfNone};
+ghost use Rattle.cmap_values.specs.Only.{HoldsOfNone, IsOnly};
+ghost use Rattle.cmap_values.specs.MetadataSeen.{metadata_seen};
 ghost use Rattle.cmap_text.specs.EntriesSeen.{IsTold, refused_seen};
 ghost use Rattle.cmap_text.specs.Salvage.{AreDeclared, BeginsRefused, Salvages, SalvagesFile, entry, faulted, list_of, nothing, rest_of, step};
 ghost use Rattle.cmap_text.specs.Salvage as salvage;
 ghost use Rattle.cmap_text.specs.SalvageSeen.{EndsPart, ReadsPart, next_seen, part_of};
-ghost use Rattle.cmap_text.specs.TextFiles.{IsTextFile};
+ghost use Rattle.cmap_text.specs.TextFiles.{IsMetadata, IsTextFile};
 ghost use Rattle.cmap_text.specs.TextReading as reading;
 ghost use Rattle.cmap_text.specs.TextReading.{nothing_said};
-ghost use Rattle.cmap_text.specs.TextSeen.{said_seen, section_seen};
+ghost use Rattle.cmap_text.specs.TextSeen.{said_seen, section_seen, values_seen};
+ghost use Rattle.cmap_text.specs.TokenParsers.{token_in};
 ghost use Rattle.cmap_text.specs.TokenPlaces.{Lies, left_at, token_ending};
 
 use crate::file::stop_of;
@@ -27,6 +29,7 @@ use crate::wrong_token::{WrongToken, wrong};
 use cmap_files::file::{File, Salvaged};
 use cmap_tokens::token::{Scanner, Token};
 use cmap_values::fault::{Fault, Reason, Stop};
+use cmap_values::metadata::Metadata;
 use std::alloc::{AllocError, Global};
 
 /// What comes next.
@@ -68,15 +71,32 @@ pub fn salvage_text<'d>(alloc: Global, text: &'d [u8]) -> Result<Salvaged<'d>, A
 {
     let mut said = Said::new(alloc);
     let mut faults = Vec::new(alloc);
-    read_parts(alloc, text, &mut said, &mut faults)?;
+    let metadata = read_said(alloc, text, &mut said, &mut faults)?;
     Ok(Salvaged {
         file: File {
-            metadata: said.values.metadata(alloc)?,
+            metadata,
             lists: said.lists,
             uses: said.uses,
         },
         faults,
     })
+}
+
+/// Reads all that a text says, and gives what its keys say of the file.
+fn read_said<'d>(
+    alloc: Global,
+    text: &'d [u8],
+    said: &mut Said<'d>,
+    faults: &mut Vec<Stop>,
+) -> Result<Metadata, AllocError>
+    ensures { IfOk result (λ metadata. said_seen said.old ≡ nothing_said → faults.old.items ≡ []
+        → Salvages text.now (said_seen said.new) faults.new.items
+        × Ascend 0 faults.new.items (length text.now)
+        × AreDeclared text.now (lists_seen said.new.lists)
+        × IsOnly (IsMetadata (values_seen said.new.values)) (metadata_seen metadata)) }
+{
+    read_parts(alloc, text, said, faults)?;
+    said.values.metadata(alloc)
 }
 
 /// Reads all the parts of a text.
@@ -136,9 +156,10 @@ fn read_part<'d>(
         reader.old reader.new result }
 {
     match next {
-        Next::Item => match reader.next_token()? {
-            Some(first) => read_rest(reader, first, said),
-            None => Ok(Next::Nothing),
+        Next::Item => match reader.next_token() {
+            Ok(Some(first)) => read_rest(reader, first, said),
+            Ok(None) => Ok(Next::Nothing),
+            Err(fault) => Err(fault),
         },
         Next::After(first) => read_rest(reader, first, said),
         Next::Entry(section) => read_one(reader, section, said),
@@ -188,12 +209,22 @@ fn pass_list<'d>(
     ensures { (said : reading.Said) → ReadsPart (list_of (section_seen section)) said said
         reader.old reader.new result }
 {
-    let token = reader.required_token()?;
-    if is_executable(&token, b"]") {
+    match reader.required_token() {
+        Ok(token) => after_listed(&token, section),
+        Err(fault) => Err(fault),
+    }
+}
+
+/// What comes after a token of a list of which an entry is lost.
+fn after_listed<'d>(token: &Token<'_>, section: Section) -> Result<Next<'d>, Fault<WrongToken>>
+    ensures { (said : reading.Said) (before here : Left) → token_in before ≡ Ok (token_seen token.now, here)
+        → ReadsPart (list_of (section_seen section)) said said before here result }
+{
+    if is_executable(token, b"]") {
         Ok(Next::Entry(section))
-    } else if !is_word(&token) {
+    } else if !is_word(token) {
         Ok(Next::InList(section))
-    } else if is_executable(&token, section.closer()) {
+    } else if is_executable(token, section.closer()) {
         Ok(Next::Item)
     } else {
         Err(wrong(Reason::CodeExpected))

@@ -1,23 +1,23 @@
 //! Sections: an opener, entries, a closer.
 
-ghost use Rattle.std.specs.Prelude.{◌≡◌, ◌≤◌, IfOk, OnOk, length, option_map};
+ghost use Rattle.std.specs.Prelude.{◌≡◌, ◌≤◌, IfErr, IfOk, OnOk, length, option_map};
 ghost use Rattle.cmap_tokens.specs.TokenSeen.{token_seen};
 ghost use Rattle.cmap_files.specs.DeclarationsSeen.{lists_seen};
+ghost use Rattle.cmap_values.specs.declared.fault.Fault.TheVariants.{Memory};
 ghost use Rattle.cmap_text.specs.EntriesSeen.{AddsDeclarations, AddsIf, ReadsAs, ReadsOn, WhereRefused};
 ghost use Rattle.cmap_text.specs.TextFiles as files;
 ghost use Rattle.cmap_text.specs.TextReading.{body_in, code_fault, code_or_closer, entry_after, opened_by};
 ghost use Rattle.cmap_text.specs.TextSeen.{code_seen, extent_seen, kind_seen, section_seen};
-ghost use Rattle.cmap_text.specs.TokenParsers.{head_in};
+ghost use Rattle.cmap_text.specs.TokenParsers.{head_in, or_wrong};
 
 use crate::entries::{
     CidKind, Extent, add_bf_char, add_bf_range, add_cids, add_codespace_range, add_plain_unit,
 };
 use crate::tokens::{Code, TokenReader, is_executable};
-use crate::wrong_token::WrongToken;
+use crate::wrong_token::{WrongToken, wrong};
 use cmap_files::declarations::Lists;
 use cmap_tokens::token::Token;
-use cmap_values::fault::Fault;
-use std::alloc::AllocError;
+use cmap_values::fault::{Fault, Reason};
 
 /// The kinds of sections.
 #[derive(Clone, Copy)]
@@ -152,9 +152,10 @@ fn add_plain(
     section: Section,
     start: Code,
     lists: &mut Lists,
-) -> Result<bool, AllocError>
-    ensures { IfOk result (AddsIf (entry_after (section_seen section) (code_seen start))
+) -> Result<bool, Fault<WrongToken>>
+    ensures adds { IfOk result (AddsIf (entry_after (section_seen section) (code_seen start))
         reader.old lists.old lists.new reader.new) }
+    ensures fails { IfErr result (λ fault. fault ≡ Memory) }
 {
     match section {
         Section::BfChar => add_plain_unit(reader, start, lists),
@@ -174,11 +175,26 @@ pub(crate) fn next_start(
     if let Some(code) = reader.short_code() {
         return Ok(Some(code));
     }
-    let token = reader.required_token()?;
-    if is_executable(&token, section.closer()) {
-        return Ok(None);
+    match reader.required_token() {
+        Ok(token) => code_or_closer(reader, &token, section),
+        Err(fault) => Err(fault),
     }
-    Ok(Some(reader.code(&token)?))
+}
+
+/// The code that a token is, of those that an entry of a section begins with; `None` of the closer.
+fn code_or_closer(
+    reader: &mut TokenReader<'_>,
+    token: &Token<'_>,
+    section: Section,
+) -> Result<Option<Code>, Fault<WrongToken>>
+    ensures { ReadsAs (or_wrong (code_fault (token_seen token.now)) (code_or_closer (section_seen section) (token_seen token.now)) (token_seen token.now) reader.old)
+        (λ start. (option_map code_seen start, reader.new)) reader.new result }
+{
+    match token {
+        Token::String(string) => reader.code(string).map(Some),
+        _ if is_executable(token, section.closer()) => Ok(None),
+        _ => Err(wrong(Reason::CodeExpected)),
+    }
 }
 
 /// Reads what follows the first code of an entry, and adds what the entry declares.

@@ -1,16 +1,17 @@
 //! The tokens of a text in order, and what single tokens stand for.
 
-ghost use Rattle.std.specs.Prelude.{◌≡◌, ◌+◌, ◌%◌, ◌++◌, ◌<◌, ◌≤◌, ◌^◌, ℕ, List, [], ◌∷◌, bytes_eq, length, min, pos, Ok, Some, MatchOption, option_map};
+ghost use Rattle.std.specs.Prelude.{◌≡◌, ◌+◌, ◌%◌, ◌++◌, ◌<◌, ◌≤◌, ◌^◌, ℕ, List, [], ◌∷◌, bytes_eq, length, min, pos, Ok, Some, IfOk, MatchOption, option_map};
 ghost use Rattle.std.specs.Int.Digits.{number_from_digits};
 ghost use Rattle.std.specs.List.{AllByRecursion, list_any};
 ghost use Rattle.std.specs.Option.{option_copied};
 ghost use Rattle.cmap_values.specs.UnitsSeen.{units_seen};
 ghost use Rattle.cmap_values.specs.declared.fault.Reason.TheVariants.{CidExpected, TextExpected};
+ghost use Rattle.cmap_values.specs.declared.fault.Reason.TheVariants as reason;
 ghost use Rattle.cmap_tokens.specs.Texts.{units_of};
 ghost use Rattle.cmap_tokens.specs.Numbers.{Integer};
 ghost use Rattle.cmap_tokens.specs.Resumption.{resumed};
 ghost use Rattle.cmap_tokens.specs.Tokens.{Numeral, String};
-ghost use Rattle.cmap_tokens.specs.TokenSeen.{token_seen};
+ghost use Rattle.cmap_tokens.specs.TokenSeen.{string_raw, token_seen};
 ghost use Rattle.cmap_tokens.specs.TokensLeft.{Left, start_of, tokens_of};
 ghost use Rattle.cmap_text.specs.EntriesSeen.{ReadsAs};
 ghost use Rattle.cmap_text.specs.Salvage.{brackets, is_word};
@@ -20,13 +21,13 @@ ghost use Rattle.cmap_text.specs.TextSeen.{code_seen};
 ghost use Rattle.cmap_text.specs.TokenParsers.{next_in, or_wrong, run, token_in};
 
 use crate::wrong_token::{WrongToken, no_token, wrong};
-use cmap_tokens::token::{Number, Scanner, Token};
+use cmap_tokens::token::{Number, Scanner, StringToken, Token};
 use cmap_tokens::utf16::units;
 use cmap_values::code_length::{CodeLength, read_code};
 use cmap_values::fault::{Fault, Reason};
 use cmap_values::names::Cid;
 use cmap_values::units::Units;
-use std::alloc::Global;
+use std::alloc::{AllocError, Global};
 use std::marker::Model;
 
 /// A code, and how many bytes it has.
@@ -85,14 +86,11 @@ impl<'d> TokenReader<'d> {
         }
     }
 
-    /// The code that a token is: a string of one to four bytes.
-    pub(crate) fn code(&mut self, token: &Token<'_>) -> Result<Code, Fault<WrongToken>>
-        ensures { ReadsAs (or_wrong (code_fault (token_seen token.now)) (code_in (token_seen token.now)) (token_seen token.now) self.old)
+    /// The code that a string is: one of one to four bytes.
+    pub(crate) fn code(&mut self, string: &StringToken<'_>) -> Result<Code, Fault<WrongToken>>
+        ensures { ReadsAs (or_wrong reason.CodeLength (code_in (String (string_raw string.now))) (String (string_raw string.now)) self.old)
             (λ code. (code_seen code, self.new)) self.new result }
     {
-        let Token::String(string) = token else {
-            return Err(wrong(Reason::CodeExpected));
-        };
         if let Some((count, number)) = string.plain_number() {
             let Some(len) = CodeLength::of(count) else {
                 return Err(wrong(Reason::CodeLength));
@@ -149,18 +147,21 @@ impl<'d> TokenReader<'d> {
         if let Some(code) = self.plain_code() {
             return Ok(code);
         }
-        let token = self.required_token()?;
-        self.code(&token)
+        match self.required_token() {
+            Ok(Token::String(string)) => self.code(&string),
+            Ok(_) => Err(wrong(Reason::CodeExpected)),
+            Err(fault) => Err(fault),
+        }
     }
 
-    /// The units of the destination that a token is: a string that isn't empty.
-    pub(crate) fn destination(&mut self, token: &Token<'_>) -> Result<Units, Fault<WrongToken>>
-        ensures { ReadsAs (or_wrong TextExpected (destination_in (token_seen token.now)) (token_seen token.now) self.old)
+    /// The units of the destination that a string is: one that isn't empty.
+    pub(crate) fn destination(
+        &mut self,
+        string: &StringToken<'_>,
+    ) -> Result<Units, Fault<WrongToken>>
+        ensures { ReadsAs (or_wrong TextExpected (destination_in (String (string_raw string.now))) (String (string_raw string.now)) self.old)
             (λ units. (units_seen units, self.new)) self.new result }
     {
-        let Token::String(string) = token else {
-            return Err(wrong(Reason::TextExpected));
-        };
         if let Some((len, number)) = string.plain_number() {
             return Ok(units_of_number(len, number));
         }
@@ -168,8 +169,7 @@ impl<'d> TokenReader<'d> {
         if self.string.is_empty() {
             return Err(wrong(Reason::TextExpected));
         }
-        let units = units(self.alloc, &self.string)?;
-        Ok(Units::from_slice(self.alloc, &units)?)
+        Ok(units_of_bytes(self.alloc, &self.string)?)
     }
 
     /// The unit of the destination of two bytes that comes next, where it stands as most do; `None` of
@@ -211,8 +211,11 @@ impl<'d> TokenReader<'d> {
         if let Some(units) = self.plain_destination() {
             return Ok(units);
         }
-        let token = self.required_token()?;
-        self.destination(&token)
+        match self.required_token() {
+            Ok(Token::String(string)) => self.destination(&string),
+            Ok(_) => Err(wrong(Reason::TextExpected)),
+            Err(fault) => Err(fault),
+        }
     }
 
     /// The CID that comes next: an integer of 32 bits without sign.
@@ -223,8 +226,10 @@ impl<'d> TokenReader<'d> {
         if let Some(number) = self.scanner.next_decimal() {
             return cid_of_number(number);
         }
-        let token = self.required_token()?;
-        cid_of(&token).ok_or(wrong(Reason::CidExpected))
+        match self.required_token() {
+            Ok(token) => cid_of(&token).ok_or(wrong(Reason::CidExpected)),
+            Err(fault) => Err(fault),
+        }
     }
 
     /// Goes on after the piece that is no token, where none comes; `text` is the text that is read.
@@ -257,6 +262,14 @@ fn code_of(bytes: &[u8]) -> Option<Code>
 {
     let (len, number) = read_code(bytes)?;
     Some(Code { len, number })
+}
+
+/// The units of a destination of these bytes.
+fn units_of_bytes(alloc: Global, bytes: &[u8]) -> Result<Units, AllocError>
+    ensures { IfOk result (λ found. units_seen found ≡ units_of bytes.now) }
+{
+    let units = units(alloc, bytes)?;
+    Units::from_slice(alloc, &units)
 }
 
 /// The units of a destination of `len` bytes, one to four, where `number` is what these write.

@@ -3,15 +3,22 @@ use Rattle.std.proofs.lemmas.Result.{IfOk-from_err}
 use Rattle.cmap_files.specs.DeclarationsSeen.{lists_seen}
 use Rattle.cmap_text.specs.TextSeen.{code_seen}
 use Rattle.cmap_text.proofs.EntrySteps.{char_text}
+use Rattle.cmap_text.proofs.Refusals.{only_memory}
 use Rattle.cmap_text.proofs.entries.add_plain_unit.Goals as goal
 
 pub returns-in_default : goal.returns-in_default
-returns-in_default c = (c.in_default.ensures, refl)
+returns-in_default c = record { adds = (c.in_default.ensures, refl); fails = tt }
 
 pub returns-in_err-add_text : goal.returns-in_err-add_text
-returns-in_err-add_text c = IfOk-from_err c.from_residual.result _ c.from_residual.ensures.0
+returns-in_err-add_text c = record {
+  adds = IfOk-from_err c.from_residual.result _ c.from_residual.ensures.0;
+  fails = only_memory c.from_residual.result (rw c.in_err-add_text.ensures.fails at c.from_residual.ensures.1);
+}
 
 pub returns : goal.returns
 returns c =
     let (piece, reads, is) = c.in-Some.ensures in
-    char_text (code_seen c.args.code) (lists_seen c.args.lists.now) c.args.reader.now (c.in-Some.unit ∷ []) c.plain_unit.new.self (rw (reads, is) refl) (lists_seen c.add_text.new.lists) c.in_ok-add_text.ensures
+    record {
+      adds = char_text (code_seen c.args.code) (lists_seen c.args.lists.now) c.args.reader.now (c.in-Some.unit ∷ []) c.plain_unit.new.self (rw (reads, is) refl) (lists_seen c.add_text.new.lists) c.in_ok-add_text.ensures.adds;
+      fails = tt;
+    }

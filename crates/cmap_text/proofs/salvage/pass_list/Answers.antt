@@ -1,46 +1,16 @@
-use Rattle.std.proofs.Common.{ap, refl, ◌∙◌}
-use Rattle.std.specs.Prelude.{Some}
-use Rattle.cmap_tokens.specs.TokenSeen.{token_seen}
-use Rattle.cmap_values.proofs.Outcomes.{passed_on}
+use Rattle.std.proofs.Common.{ap}
+use Rattle.cmap_values.proofs.Outcomes.{refused_as}
 use Rattle.cmap_text.specs.EntriesSeen.{refused_seen}
 use Rattle.cmap_text.specs.Salvage.{after_list, list_of}
 use Rattle.cmap_text.specs.SalvageSeen.{part_of}
-use Rattle.cmap_text.specs.TextReading.{is_executable}
 use Rattle.cmap_text.specs.TextSeen.{section_seen}
-use Rattle.cmap_text.proofs.LastRead.{no_token_last, wrong_last}
-use Rattle.cmap_text.proofs.PartSteps.{list_closes, list_ends, list_passes, list_wrong}
+use Rattle.cmap_text.proofs.LastRead.{no_token_last}
 use Rattle.cmap_text.proofs.salvage.pass_list.Goals as goal
 
-pub returns-in_err-token : goal.returns-in_err-token
-returns-in_err-token c = λ said.
-    let section = section_seen c.args.section in
-    passed_on _ c.from_residual.result _ c.from_residual.ensures.1 c.in_err-token.ensures.1 (λ wrong (token, is, told). (token, λ text faults. ap (after_list text (part_of (list_of section) said c.args.reader.now faults) section) is, told, no_token_last c.args.reader.now (refused_seen token wrong c.required_token.new.self) is))
+pub returns-in-Ok : goal.returns-in-Ok
+returns-in-Ok c = λ said. c.after_listed.ensures said c.args.reader.now c.required_token.new.self c.in-Ok.ensures.0
 
-pub returns-then-is_executable : goal.returns-then-is_executable
-returns-then-is_executable c = λ said.
+pub returns-in-Err : goal.returns-in-Err
+returns-in-Err c = λ said.
     let section = section_seen c.args.section in
-    (λ text faults. list_closes text (part_of (list_of section) said c.args.reader.now faults) section _ (token_seen c.in_ok-token.token) c.required_token.new.self c.in_ok-token.ensures.0 c.if-is_executable.ensures, tt)
-
-pub returns-then-not-is_word : goal.returns-then-not-is_word
-returns-then-not-is_word c = λ said.
-    let section = section_seen c.args.section in
-    (λ text faults. list_passes text (part_of (list_of section) said c.args.reader.now faults) section _ (token_seen c.in_ok-token.token) c.required_token.new.self c.in_ok-token.ensures.0 c.if-is_executable.ensures c.if-not-is_word.ensures, tt)
-
-pub returns-then-is_executable-2 : goal.returns-then-is_executable-2
-returns-then-is_executable-2 c = λ said.
-    let section = section_seen c.args.section in
-    let ends = c.if-is_executable-2.ensures ∙ ap (λ name. is_executable name (token_seen c.in_ok-token.token)) c.closer.ensures in
-    (λ text faults. list_ends text (part_of (list_of section) said c.args.reader.now faults) section _ (token_seen c.in_ok-token.token) c.required_token.new.self c.in_ok-token.ensures.0 c.if-is_executable.ensures c.if-not-is_word.ensures ends, tt)
-
-pub returns-else-is_executable-2 : goal.returns-else-is_executable-2
-returns-else-is_executable-2 c = λ said.
-    let section = section_seen c.args.section in
-    let goes_on = c.if-is_executable-2.ensures ∙ ap (λ name. is_executable name (token_seen c.in_ok-token.token)) c.closer.ensures in (
-      tt,
-      rw c.wrong.ensures (
-        Some (token_seen c.in_ok-token.token),
-        λ text faults. list_wrong text (part_of (list_of section) said c.args.reader.now faults) section _ (token_seen c.in_ok-token.token) c.required_token.new.self c.in_ok-token.ensures.0 c.if-is_executable.ensures c.if-not-is_word.ensures goes_on,
-        refl,
-        wrong_last c.args.reader.now (token_seen c.in_ok-token.token) c.required_token.new.self c.in_ok-token.ensures.0,
-      ),
-    )
+    (tt, refused_as c.in-Err.fault c.in-Err.ensures.1 (λ wrong (token, is, told). (token, λ text faults. ap (after_list text (part_of (list_of section) said c.args.reader.now faults) section) is, told, no_token_last c.args.reader.now (refused_seen token wrong c.required_token.new.self) is)))

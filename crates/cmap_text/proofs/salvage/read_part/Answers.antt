@@ -1,6 +1,6 @@
-use Rattle.std.proofs.Common.{ap, sym, subst, Ok}
+use Rattle.std.proofs.Common.{ap, sym, subst, Err, Ok}
 use Rattle.cmap_tokens.specs.TokenSeen.{token_seen}
-use Rattle.cmap_values.proofs.Outcomes.{passed_on}
+use Rattle.cmap_values.proofs.Outcomes.{refused_as}
 use Rattle.cmap_text.specs.Salvage.{after_item, item}
 use Rattle.cmap_text.specs.SalvageSeen.{ReadsPart, next_seen, part_of}
 use Rattle.cmap_text.specs.TextSeen.{said_seen}
@@ -13,22 +13,22 @@ returns-in-InList c =
     let said = said_seen c.args.said.now in
     subst (λ n. ReadsPart (next_seen n) said said c.args.reader.now c.pass_list.new.reader c.pass_list.result) (sym c.in-InList.is) (c.pass_list.ensures said)
 
-pub returns-in_err-first-in-Item : goal.returns-in_err-first-in-Item
-returns-in_err-first-in-Item c =
+pub returns-in-Err : goal.returns-in-Err
+returns-in-Err c =
     let said = said_seen c.args.said.now in
-    subst (λ n. ReadsPart (next_seen n) said said c.args.reader.now c.next_token.new.self c.from_residual.result) (sym c.in-Item.is) (passed_on _ c.from_residual.result _ c.from_residual.ensures.1 c.in_err-first-in-Item.ensures.1 (λ wrong (token, is, told). (token, λ text faults. ap (after_item text (part_of item said c.args.reader.now faults)) is, told, tt)))
+    subst (λ n. ReadsPart (next_seen n) said said c.args.reader.now c.next_token.new.self (Err c.in-Err.fault)) (sym c.in-Item.is) (tt, refused_as c.in-Err.fault c.in-Err.ensures.1 (λ wrong (token, is, told). (token, λ text faults. ap (after_item text (part_of item said c.args.reader.now faults)) is, told, tt)))
 
-pub returns-in-Some : goal.returns-in-Some
-returns-in-Some c =
+pub returns-in-Ok-Some : goal.returns-in-Ok-Some
+returns-in-Ok-Some c =
     let said = said_seen c.args.said.now in
     let new = said_seen c.read_rest.new.said in
-    let token = rw c.in-Some.is at c.in_ok-first-in-Item.ensures.0 in
-    subst (λ n. ReadsPart (next_seen n) said new c.args.reader.now c.read_rest.new.reader c.read_rest.result) (sym c.in-Item.is) (item_read said new c.args.reader.now c.next_token.new.self c.read_rest.new.reader (token_seen c.in-Some.first) c.read_rest.result token c.read_rest.ensures)
+    let token = rw c.in-Ok-Some.field-0-is at c.in-Ok-Some.ensures.0 in
+    subst (λ n. ReadsPart (next_seen n) said new c.args.reader.now c.read_rest.new.reader c.read_rest.result) (sym c.in-Item.is) (item_read said new c.args.reader.now c.next_token.new.self c.read_rest.new.reader (token_seen c.in-Ok-Some.first) c.read_rest.result token c.read_rest.ensures)
 
-pub returns-in-None : goal.returns-in-None
-returns-in-None c =
+pub returns-in-Ok-None : goal.returns-in-Ok-None
+returns-in-Ok-None c =
     let said = said_seen c.args.said.now in
-    let end = rw c.in-None.is at c.in_ok-first-in-Item.ensures.0 in
+    let end = rw c.in-Ok-None.field-0-is at c.in-Ok-None.ensures.0 in
     subst (λ n. ReadsPart (next_seen n) said said c.args.reader.now c.next_token.new.self (Ok Nothing)) (sym c.in-Item.is) (λ text faults. ap (after_item text (part_of item said c.args.reader.now faults)) end, tt)
 
 pub returns-in-After : goal.returns-in-After
