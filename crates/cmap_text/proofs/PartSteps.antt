@@ -8,9 +8,10 @@ use Rattle.cmap_files.specs.Files.{Lists}
 use Rattle.cmap_values.specs.declared.fault.Fault.{Fault}
 use Rattle.cmap_values.specs.declared.fault.Fault.TheVariants as fault
 use Rattle.cmap_values.specs.declared.fault.Reason.TheVariants.{CodeExpected}
-use Rattle.cmap_text.specs.Salvage.{Part, after_entry, after_item, after_list, after_rest, entry, faulted, having_lists, is_word, item, list_of, read_so, rest_of}
-use Rattle.cmap_text.specs.SalvageSeen.{ReadsPart, part_of}
+use Rattle.cmap_text.specs.Salvage.{Part, after_entry, after_item, after_list, after_rest, entry, faulted, having_lists, is_word, item, list_of, nothing, read_so, rest_of}
+use Rattle.cmap_text.specs.SalvageSeen.{ReadsPart, next_seen, part_of}
 use Rattle.cmap_text.specs.declared.salvage.Next.{Next}
+use Rattle.cmap_text.specs.declared.salvage.Next.TheVariants.{Item, After, Entry, InList, Nothing}
 use Rattle.cmap_text.specs.declared.wrong_token.WrongToken.{WrongToken}
 use Rattle.cmap_text.specs.TextFiles.{Section, closer}
 use Rattle.cmap_text.specs.TextReading.{Code, Said, code_fault, code_in, entry_after, is_executable, item_said, opened_by, with_lists, with_other}
@@ -57,6 +58,14 @@ module _ (text : List ℕ) (part : Part) where
 
       pub rest_wrong : (e : Refused) → item_said part.said t left ≡ Err e → after_rest text part t left ≡ faulted text part (with_other part.said t) e
       rest_wrong e is = rw (← no_section, is, after_rest) refl
+
+-- ---- what comes next
+pub nothing_next : (next : Next) → next_seen next ≡ nothing → next ≡ Nothing
+nothing_next Nothing is = refl
+nothing_next Item is = absurd (cc)
+nothing_next (After t) is = absurd (cc)
+nothing_next (Entry section) is = absurd (cc)
+nothing_next (InList section) is = absurd (cc)
 
 -- ---- an item
 pub item_read : (said new : Said) (old mid here : Left) (t : Token) (r : Result Next (Fault WrongToken)) → next_in old ≡ Ok (Some t, mid) → ReadsPart (rest_of t) said new mid here r → ReadsPart item said new old here r

@@ -1,6 +1,6 @@
 //! What a text says apart from its faults: reading goes on after each.
 
-ghost use Rattle.std.specs.Prelude.{◌≡◌, ◌≤◌, ◌↔◌, [], false, length, Ok, Option, option_map, if◌then◌else◌, IfOk, OnOk};
+ghost use Rattle.std.specs.Prelude.{◌≡◌, ◌≤◌, [], length, Ok, Option, option_map, if◌then◌else◌, IfOk, OnOk};
 ghost use Rattle.cmap_tokens.specs.Tokens as tokens;
 ghost use Rattle.cmap_tokens.specs.TokenSeen.{token_seen};
 ghost use Rattle.cmap_tokens.specs.TokensLeft.{Left, start_of, tokens_of};
@@ -113,16 +113,13 @@ fn read_parts<'d>(
 {
     let mut reader = TokenReader::new(alloc, text);
     let mut next = Next::Item;
-    while is_something(next) {
-        next = read_on(&mut reader, text, next, said, faults)?;
+    loop {
+        match read_on(&mut reader, text, next, said, faults) {
+            Ok(Next::Nothing) => return Ok(()),
+            Ok(then) => next = then,
+            Err(error) => return Err(error),
+        }
     }
-    Ok(())
-}
-
-fn is_something(next: Next<'_>) -> bool
-    ensures { (result ≡ false) ↔ (next_seen next.entry ≡ nothing) }
-{
-    !matches!(next, Next::Nothing)
 }
 
 /// Reads a part, or adds a fault.
@@ -157,11 +154,11 @@ fn read_part<'d>(
 {
     match next {
         Next::Item => match reader.next_token() {
-            Ok(Some(first)) => read_rest(reader, first, said),
+            Ok(Some(first)) => read_rest(reader, &first, said),
             Ok(None) => Ok(Next::Nothing),
             Err(fault) => Err(fault),
         },
-        Next::After(first) => read_rest(reader, first, said),
+        Next::After(first) => read_rest(reader, &first, said),
         Next::Entry(section) => read_one(reader, section, said),
         Next::InList(section) => pass_list(reader, section),
         Next::Nothing => Ok(Next::Nothing),
@@ -171,17 +168,17 @@ fn read_part<'d>(
 /// Reads what follows the first token of an item, but no section.
 fn read_rest<'d>(
     reader: &mut TokenReader<'d>,
-    first: Token<'d>,
+    first: &Token<'d>,
     said: &mut Said<'d>,
 ) -> Result<Next<'d>, Fault<WrongToken>>
-    ensures { ReadsPart (rest_of (token_seen first.entry)) (said_seen said.old) (said_seen said.new)
+    ensures { ReadsPart (rest_of (token_seen first.now)) (said_seen said.old) (said_seen said.new)
         reader.old reader.new result }
 {
-    if let Some(section) = Section::opened_by(&first) {
+    if let Some(section) = Section::opened_by(first) {
         said.operand = None;
         return Ok(Next::Entry(section));
     }
-    read_item(reader, &first, said)?;
+    read_item(reader, first, said)?;
     Ok(Next::Item)
 }
 
@@ -248,14 +245,30 @@ fn go_on<'d>(
         ≡ part_of (next_seen after) said reader.new faults.new.items) }
 {
     faults.push(stop_of(reader, wrong, text.len()))?;
+    Ok(next_after(reader, text, start, next, wrong))
+}
+
+/// What comes after a fault of the part that begins at the offset `start`. The reader goes on after it.
+fn next_after<'d>(
+    reader: &mut TokenReader<'d>,
+    text: &'d [u8],
+    start: usize,
+    next: Next<'d>,
+    wrong: WrongToken,
+) -> Next<'d>
+    ensures { (token : Option tokens.Token) → IsTold wrong.is_token reader.old token
+        → start ≤ length text.now → EndsPart (next_seen next.entry) (left_at text.now start) token reader.old
+        → (salvage.next_after text.now (next_seen next.entry) (refused_seen token wrong reader.old) ≡ next_seen result)
+        × (salvage.left_after text.now (refused_seen token wrong reader.old) ≡ reader.new) }
+{
     if !wrong.is_token {
         let after = after_missing(next, wrong.in_list, reader.stop() < text.len());
         reader.resume(text);
-        return Ok(after);
+        return after;
     }
     match token_between(text, start, reader.offset()) {
-        Some(token) => Ok(after_wrong(next, token, wrong.in_list)),
-        None => Ok(Next::Item),
+        Some(token) => after_wrong(next, &token, wrong.in_list),
+        None => Next::Item,
     }
 }
 
@@ -291,18 +304,18 @@ fn after_missing<'d>(next: Next<'d>, in_list: bool, goes_on: bool) -> Next<'d>
 }
 
 /// What comes after a wrong token.
-fn after_wrong<'d>(next: Next<'d>, token: Token<'d>, in_list: bool) -> Next<'d>
+fn after_wrong<'d>(next: Next<'d>, token: &Token<'d>, in_list: bool) -> Next<'d>
     ensures { next_seen result
-        ≡ salvage.wrong_after (next_seen next.entry) in_list (token_seen token.entry) }
+        ≡ salvage.wrong_after (next_seen next.entry) in_list (token_seen token.now) }
 {
     let (section, in_list) = match next {
         Next::Entry(section) => (section, in_list),
         Next::InList(section) => (section, false),
         _ => return Next::Item,
     };
-    if is_word(&token) {
-        Next::After(token)
-    } else if in_list && !is_executable(&token, b"]") {
+    if is_word(token) {
+        Next::After(*token)
+    } else if in_list && !is_executable(token, b"]") {
         Next::InList(section)
     } else {
         Next::Entry(section)

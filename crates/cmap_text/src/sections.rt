@@ -118,12 +118,14 @@ fn read_entries(
     ensures { AddsDeclarations (body_in (section_seen section)) reader.old
         lists.old lists.new reader.new result }
 {
-    read_two_byte_entries(reader, section, lists)?;
-    while let Some(start) = next_start(reader, section)? {
-        read_entry(reader, section, start, lists)?;
+    loop {
         read_two_byte_entries(reader, section, lists)?;
+        match next_start(reader, section) {
+            Ok(Some(start)) => read_entry(reader, section, start, lists)?,
+            Ok(None) => return Ok(()),
+            Err(fault) => return Err(fault),
+        }
     }
-    Ok(())
 }
 
 /// Reads the entries of a section that begin with a code of two bytes, up to one that doesn't.

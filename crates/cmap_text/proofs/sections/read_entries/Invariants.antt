@@ -5,8 +5,8 @@ use Rattle.cmap_text.specs.TextSeen.{section_seen}
 use Rattle.cmap_text.specs.TokenParsers.{run}
 use Rattle.cmap_text.proofs.sections.read_entries.Given as goal
 
-abbrev pub invariant-loop-start : goal.invariant-loop-start
-invariant-loop-start l = run (body_in (section_seen l.section) (lists_seen l.fn.lists)) l.fn.reader ≡ run (body_in (section_seen l.section) (lists_seen l.lists)) l.reader
+abbrev pub invariant-loop-reader : goal.invariant-loop-reader
+invariant-loop-reader l = run (body_in (section_seen l.section) (lists_seen l.initial.lists)) l.initial.reader ≡ run (body_in (section_seen l.section) (lists_seen l.lists)) l.reader
 
-abbrev pub decreases-loop-start : goal.decreases-loop-start
-decreases-loop-start l = length l.reader.tokens
+abbrev pub decreases-loop-reader : goal.decreases-loop-reader
+decreases-loop-reader l = length l.reader.tokens
