@@ -34,9 +34,6 @@ module _ (start end : ℕ) (lists : Lists) (t : Token) (next : Left) where
   texts_list opens = rw (← opens) refl
 
   module _ (other : false ≡ is_executable (codes "[") t) where
-    pub texts_none : destination_in t ≡ None → texts ≡ Err (wrong TextExpected t next)
-    texts_none none = rw (← other, none) refl
-
     pub texts_wrong : (e : Refused) → or_wrong TextExpected (destination_in t) t next ≡ Err e → texts ≡ Err e
     texts_wrong e is = rw (← other, wrong_as Some (destination_in t) TextExpected t next e is) refl
 
@@ -152,13 +149,9 @@ module _ (section : Section) (t : Token) (next : Left) where
   pub start_closes : true ≡ is_executable (closer section) t → started ≡ Ok (None, next)
   start_closes closes = rw (← closes) refl
 
-  module _ (other : false ≡ is_executable (closer section) t) where
-    pub start_none : code_in t ≡ None → started ≡ Err (wrong (code_fault t) t next)
-    start_none none = rw (← other, none) refl
-
-    pub start_is : started ≡ followed_by (λ code here. Ok (Some code, here)) (or_wrong (code_fault t) (code_in t) t next)
-    start_is = rw (← other) (at (code_in t))
-      where
-        at : (o : Option Code) → or_wrong (code_fault t) (option_map Some o) t next ≡ followed_by (λ code here. Ok (Some code, here)) (or_wrong (code_fault t) o t next)
-        at None = refl
-        at (Some x) = refl
+  pub start_is : false ≡ is_executable (closer section) t → started ≡ followed_by (λ code here. Ok (Some code, here)) (or_wrong (code_fault t) (code_in t) t next)
+  start_is other = rw (← other) (at (code_in t))
+    where
+      at : (o : Option Code) → or_wrong (code_fault t) (option_map Some o) t next ≡ followed_by (λ code here. Ok (Some code, here)) (or_wrong (code_fault t) o t next)
+      at None = refl
+      at (Some x) = refl

@@ -152,14 +152,11 @@ fn add_texts(
         (λ done. (lists_seen lists.new, reader.new)) reader.new result }
     ensures stays { WhereRefused (lists_seen lists.new ≡ lists_seen lists.old) result }
 {
-    match token {
-        Token::String(string) => {
-            let units = reader.destination(string)?;
-            add_text(lists, start, end, units)
-        }
-        _ if is_executable(token, b"[") => add_list(reader, start, end, lists),
-        _ => Err(wrong(Reason::TextExpected)),
+    if is_executable(token, b"[") {
+        return add_list(reader, start, end, lists);
     }
+    let units = reader.destination(token)?;
+    add_text(lists, start, end, units)
 }
 
 /// One destination for each code from `start` to `end`, and the closing bracket. A list that is refused

@@ -14,10 +14,10 @@ use crate::entries::{
     CidKind, Extent, add_bf_char, add_bf_range, add_cids, add_codespace_range, add_plain_unit,
 };
 use crate::tokens::{Code, TokenReader, is_executable};
-use crate::wrong_token::{WrongToken, wrong};
+use crate::wrong_token::WrongToken;
 use cmap_files::declarations::Lists;
 use cmap_tokens::token::Token;
-use cmap_values::fault::{Fault, Reason};
+use cmap_values::fault::Fault;
 
 /// The kinds of sections.
 #[derive(Clone, Copy)]
@@ -192,11 +192,10 @@ fn code_or_closer(
     ensures { ReadsAs (or_wrong (code_fault (token_seen token.now)) (code_or_closer (section_seen section) (token_seen token.now)) (token_seen token.now) reader.old)
         (λ start. (option_map code_seen start, reader.new)) reader.new result }
 {
-    match token {
-        Token::String(string) => reader.code(string).map(Some),
-        _ if is_executable(token, section.closer()) => Ok(None),
-        _ => Err(wrong(Reason::CodeExpected)),
+    if is_executable(token, section.closer()) {
+        return Ok(None);
     }
+    reader.code(token).map(Some)
 }
 
 /// Reads what follows the first code of an entry, and adds what the entry declares.

@@ -86,8 +86,19 @@ impl<'d> TokenReader<'d> {
         }
     }
 
+    /// The code that a token is: a string of one to four bytes.
+    pub(crate) fn code(&mut self, token: &Token<'_>) -> Result<Code, Fault<WrongToken>>
+        ensures { ReadsAs (or_wrong (code_fault (token_seen token.now)) (code_in (token_seen token.now)) (token_seen token.now) self.old)
+            (λ code. (code_seen code, self.new)) self.new result }
+    {
+        match token {
+            Token::String(string) => self.string_code(string),
+            _ => Err(wrong(Reason::CodeExpected)),
+        }
+    }
+
     /// The code that a string is: one of one to four bytes.
-    pub(crate) fn code(&mut self, string: &StringToken<'_>) -> Result<Code, Fault<WrongToken>>
+    fn string_code(&mut self, string: &StringToken<'_>) -> Result<Code, Fault<WrongToken>>
         ensures { ReadsAs (or_wrong reason.CodeLength (code_in (String (string_raw string.now))) (String (string_raw string.now)) self.old)
             (λ code. (code_seen code, self.new)) self.new result }
     {
@@ -148,17 +159,24 @@ impl<'d> TokenReader<'d> {
             return Ok(code);
         }
         match self.required_token() {
-            Ok(Token::String(string)) => self.code(&string),
-            Ok(_) => Err(wrong(Reason::CodeExpected)),
+            Ok(token) => self.code(&token),
             Err(fault) => Err(fault),
         }
     }
 
+    /// The units of the destination that a token is: a string that isn't empty.
+    pub(crate) fn destination(&mut self, token: &Token<'_>) -> Result<Units, Fault<WrongToken>>
+        ensures { ReadsAs (or_wrong TextExpected (destination_in (token_seen token.now)) (token_seen token.now) self.old)
+            (λ units. (units_seen units, self.new)) self.new result }
+    {
+        match token {
+            Token::String(string) => self.string_units(string),
+            _ => Err(wrong(Reason::TextExpected)),
+        }
+    }
+
     /// The units of the destination that a string is: one that isn't empty.
-    pub(crate) fn destination(
-        &mut self,
-        string: &StringToken<'_>,
-    ) -> Result<Units, Fault<WrongToken>>
+    fn string_units(&mut self, string: &StringToken<'_>) -> Result<Units, Fault<WrongToken>>
         ensures { ReadsAs (or_wrong TextExpected (destination_in (String (string_raw string.now))) (String (string_raw string.now)) self.old)
             (λ units. (units_seen units, self.new)) self.new result }
     {
@@ -212,8 +230,7 @@ impl<'d> TokenReader<'d> {
             return Ok(units);
         }
         match self.required_token() {
-            Ok(Token::String(string)) => self.destination(&string),
-            Ok(_) => Err(wrong(Reason::TextExpected)),
+            Ok(token) => self.destination(&token),
             Err(fault) => Err(fault),
         }
     }
