@@ -1,6 +1,6 @@
 //! Files over the files that they use.
 
-ghost use Rattle.std.specs.Prelude.{◌≡◌, ◌∷◌, length, suc, Err, IfErr, IfOk, MatchResult, Ok};
+ghost use Rattle.std.specs.Prelude.{◌≡◌, ◌∷◌, ℕ, length, suc, Err, IfErr, IfOk, MatchResult, Option};
 ghost use Rattle.cmap_values.specs.Only.{IsOnly};
 ghost use Rattle.cmap_packed.specs.BundleSeen.{tables_given};
 ghost use Rattle.cmap_files.specs.DeclarationsSeen.{lists_seen};
@@ -15,6 +15,7 @@ ghost use Rattle.cmap_layers.specs.LayersSeen.{layers_seen, metadata_seen};
 ghost use Rattle.hayro_cmap.specs.Refusals.{FailsToOpen, IsDecidedAsText, IsFaultOfUses, IsFaultWithin, IsUseFaultWithin, Searches};
 
 use crate::budget::spend;
+use crate::lists::put_first;
 use crate::refusal::Cause;
 use crate::source::Source;
 use cmap_binary::{is_marked_binary, read_binary};
@@ -69,7 +70,22 @@ fn open_file<'a>(
         × Leaves left.old (length bytes.now) left.new)
         (FailsToOpen (tables_given bundle.entry) bytes.now left.old left.new) result }
 {
-    spend(left, bytes.len())?;
+    match spend(left, bytes.len()) {
+        Ok(()) => read_within(alloc, bytes, bundle),
+        Err(fault) => Err(fault),
+    }
+}
+
+/// The same, where the budget has room for the file.
+fn read_within<'a>(
+    alloc: Global,
+    bytes: &'a [u8],
+    bundle: Option<&Bundle<'_>>,
+) -> Result<File<'a>, Fault<Cause>>
+    ensures { Outcome (λ file. IsOnly (Means (tables_given bundle.entry) bytes.now) (file_seen file))
+        (λ cause. (budget left : Option ℕ) → Leaves budget (length bytes.now) left
+        → FailsToOpen (tables_given bundle.entry) bytes.now budget left cause) result }
+{
     match read_file(alloc, bytes, bundle) {
         Ok(file) => Ok(file),
         Err(Fault::Refused(stop)) => Err(Fault::Refused(Cause::Malformed(stop))),
@@ -127,25 +143,16 @@ fn find_used<'a, S: Source>(
     let Some(bytes) = source.file(name) else {
         return Err(Fault::Refused(Cause::NoFile));
     };
-    let layers = find_layers(alloc, bytes, bundle, source, below - 1, left, names)?;
-    names.pop();
-    Ok(layers)
+    match find_layers(alloc, bytes, bundle, source, below - 1, left, names) {
+        Ok(layers) => {
+            names.pop();
+            Ok(layers)
+        }
+        Err(fault) => Err(fault),
+    }
 }
 
-/// The layer of a file over the layers that it is based on.
-pub(crate) fn put_over(
-    alloc: Global,
-    file: File<'_>,
-    base: Vec<Layer>,
-) -> Result<Vec<Layer>, AllocError>
-    ensures { IfOk result
-        (λ layers. layers_seen layers.items
-        ≡ layer_of (file_seen file.entry) ∷ layers_seen base.items) }
-{
-    layer_over(alloc, file.metadata, file.lists, base)
-}
-
-/// The same, where the layers that it is based on are found.
+/// The layer of a file over the layers that it is based on, where these are found.
 fn put_over_found(
     alloc: Global,
     file: File<'_>,
@@ -157,7 +164,7 @@ fn put_over_found(
         (λ fault. result ≡ Err fault) }
 {
     match base {
-        Ok(base) => match put_over(alloc, file, base) {
+        Ok(base) => match layer_over(alloc, file.metadata, file.lists, base) {
             Ok(layers) => Ok(layers),
             Err(AllocError) => Err(Fault::Memory),
         },
@@ -178,15 +185,6 @@ pub(crate) fn layer_over(
         ∷ layers_seen base.items) }
 {
     put_first(Layer::build(alloc, metadata, lists), base)
-}
-
-/// An item before those of a list.
-fn put_first<T: Drop>(item: Result<T, AllocError>, mut list: Vec<T>) -> Result<Vec<T>, AllocError>
-    ensures { IfOk result
-        (λ made. (first : T) × (item ≡ Ok first) × (made.items ≡ first ∷ list.items)) }
-{
-    list.insert(0, item?)?;
-    Ok(list)
 }
 
 /// What one file says. With a bundle, bytes that are marked so are a binary file; all others are a

@@ -4,6 +4,7 @@
 
 mod budget;
 mod chain;
+mod lists;
 mod map;
 mod named_files;
 mod refusal;

@@ -34,6 +34,7 @@ ghost use Rattle.hayro_cmap.specs.declared.refusal.Cause.TheVariants as Cause;
 
 use crate::budget::ParseError;
 use crate::chain::{MOST_FILES, find_layers, layer_over, read_file};
+use crate::lists::put_last;
 use crate::refusal::{Cause, Refusal};
 use crate::salvage::{SalvagedMap, Walk, salvage_layers};
 use crate::source::{FilesByName, Source};
@@ -48,7 +49,7 @@ use cmap_tokens::utf16::BfString;
 use cmap_values::character_collection::{CharacterCollection, CidFamily};
 use cmap_values::code_length::CodeLength;
 use cmap_values::fault::Fault;
-use cmap_values::memory::{after, both, keep};
+use cmap_values::memory::{after, both};
 use cmap_values::metadata::Metadata;
 use cmap_values::names::{CMapName, Cid};
 use cmap_values::writing_mode::WritingMode;
@@ -275,12 +276,13 @@ impl CMap {
             (λ found. All (λ fault. length fault.names.items ≤ 16) found.faults.items) }
     {
         let mut walk = Walk::new(alloc, budget);
-        let layers = salvage_layers(alloc, data, bundle, source, MOST_FILES - 1, &mut walk);
-        let (faults, layers) = keep(walk.faults, layers)?;
-        Ok(SalvagedMap {
-            map: CMap { layers },
-            faults,
-        })
+        match salvage_layers(alloc, data, bundle, source, MOST_FILES - 1, &mut walk) {
+            Ok(layers) => Ok(SalvagedMap {
+                map: CMap { layers },
+                faults: walk.faults,
+            }),
+            Err(AllocError) => Err(AllocError),
+        }
     }
 
     /// The names of the files that the CMap file `data` uses, in order; `None` where it is outside the
@@ -481,9 +483,7 @@ impl CMap {
     pub fn clone(&self, alloc: Global) -> Result<CMap, AllocError>
         ensures { IfOk result (λ copy. copy ≡ self.now) }
     {
-        let mut layers = Vec::new(alloc);
-        let copied = copy_layers(alloc, &self.layers, &mut layers);
-        let layers = after(layers, copied)?;
+        let layers = copied_layers(alloc, &self.layers)?;
         Ok(CMap { layers })
     }
 
@@ -492,14 +492,17 @@ impl CMap {
         ensures { IfOk result
             (λ found. MatchOption found (IsNoIdentity name.now) (IsIdentity name.now)) }
     {
-        let identity = if name == HORIZONTAL {
-            CMap::identity_h(alloc)
+        let mode = if name == HORIZONTAL {
+            WritingMode::Horizontal
         } else if name == VERTICAL {
-            CMap::identity_v(alloc)
+            WritingMode::Vertical
         } else {
             return Ok(None);
         };
-        Ok(Some(identity?))
+        match CMap::identity(alloc, name, mode) {
+            Ok(identity) => Ok(Some(identity)),
+            Err(AllocError) => Err(AllocError),
+        }
     }
 
     fn identity(alloc: Global, name: &[u8], mode: WritingMode) -> Result<CMap, AllocError>
@@ -527,15 +530,15 @@ impl CMap {
     }
 }
 
-/// Adds copies of layers.
-fn copy_layers(alloc: Global, layers: &[Layer], copies: &mut Vec<Layer>) -> Result<(), AllocError>
-    ensures { OnOk result (layers_seen copies.new.items
-        ≡ layers_seen copies.old.items ++ layers_seen layers.now) }
+/// Copies of layers.
+fn copied_layers(alloc: Global, layers: &[Layer]) -> Result<Vec<Layer>, AllocError>
+    ensures { IfOk result (λ copies. layers_seen copies.items ≡ layers_seen layers.now) }
 {
+    let mut copies = Vec::new(alloc);
     for layer in layers {
-        copies.push(layer.clone(alloc)?)?;
+        put_last(layer.clone(alloc), &mut copies)?;
     }
-    Ok(())
+    Ok(copies)
 }
 
 /// The map that is found; none where the file is refused, unless for the budget.

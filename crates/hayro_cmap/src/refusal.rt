@@ -1,8 +1,9 @@
 //! Why a file gives no map.
 
-ghost use Rattle.std.specs.Prelude.{◌≡◌};
+ghost use Rattle.std.specs.Prelude.{◌≡◌, IfOk};
 
 use cmap_values::fault::Stop;
+use std::alloc::{AllocError, Global};
 use std::fmt::{self, Display, Formatter, Write};
 
 /// Why a file gives no map.
@@ -20,12 +21,15 @@ pub enum Cause {
 
 impl Display for Cause {
     fn fmt<W: Write>(&self, f: &mut Formatter<W>) -> fmt::Result {
-        match self {
-            Cause::Malformed(stop) => write!(f, "byte {}: {}", stop.offset, stop.reason),
-            Cause::NoFile => f.write_str("no file has this name"),
-            Cause::ChainLength => f.write_str("more than 16 files in a chain"),
-            Cause::OverBudget => f.write_str("the files have more bytes than the budget"),
-        }
+        let text = match self {
+            Cause::Malformed(stop) => {
+                return write!(f, "byte {}: {}", stop.offset, stop.reason);
+            }
+            Cause::NoFile => "no file has this name",
+            Cause::ChainLength => "more than 16 files in a chain",
+            Cause::OverBudget => "the files have more bytes than the budget",
+        };
+        f.write_str(text)
     }
 }
 
@@ -36,4 +40,15 @@ pub struct Refusal<'a> {
     /// used by the file before it. The top file itself has no name.
     pub names: Vec<&'a [u8]>,
     pub cause: Cause,
+}
+
+impl<'a> Refusal<'a> {
+    /// The file that the names lead to, and why it is at fault.
+    pub(crate) fn new(alloc: Global, names: &[&'a [u8]], cause: Cause) -> Result<Self, AllocError>
+        ensures { IfOk result
+            (λ refusal. (refusal.names.items ≡ names.now) × (refusal.cause ≡ cause)) }
+    {
+        let names = Vec::from_slice(alloc, names)?;
+        Ok(Refusal { names, cause })
+    }
 }

@@ -1,17 +1,21 @@
 //! Files over the files that they use, read past their faults.
 
-ghost use Rattle.std.specs.Prelude.{◌≡◌, ◌∷◌, [], false, map, suc, IfOk, OnOk};
+ghost use Rattle.std.specs.Prelude.{◌≡◌, ◌∷◌, [], false, map, suc, IfOk, Ok, OnOk};
+ghost use Rattle.std.specs.Global.{Vec};
 ghost use Rattle.cmap_packed.specs.BundleSeen.{tables_given};
 ghost use Rattle.cmap_files.specs.FilesSeen.{file_seen};
 ghost use Rattle.cmap_values.specs.NamesSeen.{names_seen};
+ghost use Rattle.cmap_layers.specs.Layers.{layer_of};
 ghost use Rattle.cmap_layers.specs.LayersSeen.{layers_seen};
+ghost use Rattle.cmap_layers.specs.declared.layers.Layer.{Layer};
 ghost use Rattle.hayro_cmap.specs.Answers.{IsByName};
 ghost use Rattle.hayro_cmap.specs.Salvage.{IsReadPast, Salvages, SalvagesBytes, SalvagesEach, SalvagesNamed, SalvagesUse, faults_of};
 ghost use Rattle.hayro_cmap.specs.SalvageSeen.{GoesOn, ReadsOn, Walks, opening_seen};
 ghost use Rattle.hayro_cmap.specs.declared.refusal.Cause.TheVariants.{Malformed};
 
 use crate::budget::spend;
-use crate::chain::{put_over, read_file};
+use crate::chain::{layer_over, read_file};
+use crate::lists::put_last;
 use crate::map::CMap;
 use crate::refusal::{Cause, Refusal};
 use crate::source::Source;
@@ -21,7 +25,7 @@ use cmap_layers::layers::Layer;
 use cmap_packed::Bundle;
 use cmap_text::salvage_text;
 use cmap_values::fault::{Fault, Stop};
-use cmap_values::memory::{after, keep};
+use cmap_values::memory::after;
 use std::alloc::{AllocError, Global};
 
 /// What a file says over the files that it uses, apart from their faults, and the faults.
@@ -66,9 +70,7 @@ impl<'a> Walk<'a> {
             (GoesOn self.old self.new (faults_of (names_seen self.old.names.items) (cause ∷ []))) }
         ensures same { opening_seen self.new ≡ opening_seen self.old }
     {
-        let names = Vec::from_slice(alloc, &self.names)?;
-        self.faults.push(Refusal { names, cause })?;
-        Ok(())
+        put_last(Refusal::new(alloc, &self.names, cause), &mut self.faults)
     }
 
     /// Adds what is wrong with that file.
@@ -104,7 +106,6 @@ pub(crate) fn salvage_layers<'a, S: Source>(
 {
     let file = read_within(alloc, bytes, bundle, walk)?;
     let base = salvage_base(alloc, &file.uses, bundle, source, below, walk);
-    let (file, base) = keep(file, base)?;
     put_over(alloc, file, base)
 }
 
@@ -158,9 +159,9 @@ fn salvage_used<'a, S: Source>(
         return Ok(base);
     }
     walk.names.push(name)?;
-    let layers = salvage_named(alloc, name, bundle, source, below, walk)?;
+    let layers = salvage_named(alloc, name, bundle, source, below, walk);
     walk.names.pop();
-    Ok(layers)
+    layers
 }
 
 /// The same, where the last of the names leads to the file. None where the chain has no room for it, or
@@ -184,14 +185,41 @@ fn salvage_named<'a, S: Source>(
 {
     if below == 0 {
         walk.is_closed = true;
-        walk.add_fault(alloc, Cause::ChainLength)?;
-        return Ok(Vec::new(alloc));
+        return without_layers(alloc, Cause::ChainLength, walk);
     }
-    let Some(bytes) = source.file(name) else {
-        walk.add_fault(alloc, Cause::NoFile)?;
-        return Ok(Vec::new(alloc));
-    };
-    salvage_layers(alloc, bytes, bundle, source, below - 1, walk)
+    match source.file(name) {
+        Some(bytes) => salvage_layers(alloc, bytes, bundle, source, below - 1, walk),
+        None => without_layers(alloc, Cause::NoFile, walk),
+    }
+}
+
+/// No layers, for a fault of the file that the names lead to, which is added.
+fn without_layers(
+    alloc: Global,
+    cause: Cause,
+    walk: &mut Walk<'_>,
+) -> Result<Vec<Layer>, AllocError>
+    ensures none { IfOk result (λ layers. (layers.items ≡ [])
+        × GoesOn walk.old walk.new (faults_of (names_seen walk.old.names.items) (cause ∷ []))) }
+    ensures same { opening_seen walk.new ≡ opening_seen walk.old }
+{
+    walk.add_fault(alloc, cause)?;
+    Ok(Vec::new(alloc))
+}
+
+/// The layer of a file over the layers that it is based on, if those can be read.
+fn put_over(
+    alloc: Global,
+    file: File<'_>,
+    base: Result<Vec<Layer>, AllocError>,
+) -> Result<Vec<Layer>, AllocError>
+    ensures { IfOk result (λ layers. (under : Vec Layer) × (base ≡ Ok under)
+        × (layers_seen layers.items ≡ layer_of (file_seen file.entry) ∷ layers_seen under.items)) }
+{
+    match base {
+        Ok(base) => layer_over(alloc, file.metadata, file.lists, base),
+        Err(AllocError) => Err(AllocError),
+    }
 }
 
 /// What a file says apart from its faults, which are added. One that would pass the budget isn't

@@ -81,16 +81,18 @@ find_used-returns-in_default g t c =
       ),
     )
 
-pub find_used-returns-in_err-layers : goal.find_used-returns-in_err-layers
-find_used-returns-in_err-layers g t c =
+pub find_used-returns-in-Err : goal.find_used-returns-in-Err
+find_used-returns-in-Err g t c =
     let said = rw c.in-Some.is at c.file.ensures in
-    let name = c.args.name.now in let bytes = c.in-Some.bytes.now in
-    passed_on _ _ _ c.from_residual-in_err-layers.ensures.1 c.in_err-layers.ensures.1 (λ cause fails. (
-      fails_as (Refuses-answered (Means (tables_given c.args.bundle)) (g.S.Source.answers c.args.source.now) c.requires.by_name name c.args.left.now c.args.below (c.args.below - 1) (room_left c.args.below c.if-below-eq0.false) bytes said _) (GoesOver-answered (Means (tables_given c.args.bundle)) (g.S.Source.answers c.args.source.now) c.requires.by_name name c.args.left.now c.args.below (c.args.below - 1) (room_left c.args.below c.if-below-eq0.false) bytes said) cause fails.0,
-      blames_use (tables_given c.args.bundle) (g.S.Source.answers c.args.source.now) _ c.args.below (c.args.below - 1) _ _ _ c.args.name bytes (room_left c.args.below c.if-below-eq0.false) c.in_ok-push.ensures.items said (GoesOverAt-answered (Means (tables_given c.args.bundle)) (g.S.Source.answers c.args.source.now) c.requires.by_name name c.args.left.now c.args.below (c.args.below - 1) (room_left c.args.below c.if-below-eq0.false) bytes said) cause fails.1,
-    ))
+    let name = c.args.name.now in let bytes = c.in-Some.bytes.now in (
+      tt,
+      refused_as c.in-Err.fault c.in-Err.ensures.1 (λ cause fails. (
+        fails_as (Refuses-answered (Means (tables_given c.args.bundle)) (g.S.Source.answers c.args.source.now) c.requires.by_name name c.args.left.now c.args.below (c.args.below - 1) (room_left c.args.below c.if-below-eq0.false) bytes said _) (GoesOver-answered (Means (tables_given c.args.bundle)) (g.S.Source.answers c.args.source.now) c.requires.by_name name c.args.left.now c.args.below (c.args.below - 1) (room_left c.args.below c.if-below-eq0.false) bytes said) cause fails.0,
+        blames_use (tables_given c.args.bundle) (g.S.Source.answers c.args.source.now) _ c.args.below (c.args.below - 1) _ _ _ c.args.name bytes (room_left c.args.below c.if-below-eq0.false) c.in_ok-push.ensures.items said (GoesOverAt-answered (Means (tables_given c.args.bundle)) (g.S.Source.answers c.args.source.now) c.requires.by_name name c.args.left.now c.args.below (c.args.below - 1) (room_left c.args.below c.if-below-eq0.false) bytes said) cause fails.1,
+      )),
+    )
 
-pub find_used-returns : goal.find_used-returns
-find_used-returns g t c =
+pub find_used-returns-in-Ok : goal.find_used-returns-in-Ok
+find_used-returns-in-Ok g t c =
     let said = rw c.in-Some.is at c.file.ensures in
-    ((Resolves-answered _ _ c.requires.by_name c.args.name.now c.args.left.now c.args.below (c.args.below - 1) (room_left c.args.below c.if-below-eq0.false) c.in-Some.bytes.now said _ _ c.in_ok-layers.ensures.0.0, names_back _ _ _ _ c.args.name c.in_ok-push.ensures.items c.in_ok-layers.ensures.0.1 (rw c.find_layers.new.names.ok.0 at c.pop.ensures.rest)), tt)
+    ((Resolves-answered _ _ c.requires.by_name c.args.name.now c.args.left.now c.args.below (c.args.below - 1) (room_left c.args.below c.if-below-eq0.false) c.in-Some.bytes.now said _ _ c.in-Ok.ensures.0.0, names_back _ _ _ _ c.args.name c.in_ok-push.ensures.items c.in-Ok.ensures.0.1 (rw c.find_layers.new.names.ok.0 at c.pop.ensures.rest)), tt)
