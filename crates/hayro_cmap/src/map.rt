@@ -324,11 +324,12 @@ impl CMap {
         ensures top { top_metadata self.now ≡ Some (metadata_seen result.now) }
         ensures few { length self.now ≤ 16 }
     {
-        self.layers[0].metadata()
+        self.layers()[0].metadata()
     }
 
     /// The layers of the map: the file's own first, then those of the file that it is based on, and so
     /// on. There are at least one and at most 16.
+    #[inline(always)]
     pub fn layers(&self) -> &[Layer]
         ensures layers { layers_seen result.now ≡ self.now }
         ensures few { (0 < length result.now) × (length result.now ≤ 16) }
@@ -344,7 +345,7 @@ impl CMap {
     pub fn lookup_cid_code(&self, code: u32, byte_len: u8) -> Option<Cid>
         ensures { result ≡ cid_of self.now code byte_len }
     {
-        lookup::cid_of(&self.layers, code, byte_len, &mut Looks::new())
+        lookup::cid_of(self.layers(), code, byte_len, &mut Looks::new())
     }
 
     /// Fills `cids` with the CIDs of the codes of `byte_len` bytes from `first` on, one after another, as
@@ -355,7 +356,7 @@ impl CMap {
     pub fn fill_cids(&self, first: u32, byte_len: u8, absent: Cid, cids: &mut [Cid])
         ensures { AreCidsOf self.now byte_len absent first cids.new }
     {
-        row::fill_cids(&self.layers, first, byte_len, absent, cids)
+        row::fill_cids(self.layers(), first, byte_len, absent, cids)
     }
 
     /// The CIDs of the codes of this length from `first` on, as `lookup_cid_code` gives them, as far as one
@@ -365,7 +366,7 @@ impl CMap {
         ensures within { first ≤ result.last }
         ensures cids { IsCidStretch self.now (length_of len) first result }
     {
-        stretches::cid_stretch(&self.layers, first, len)
+        stretches::cid_stretch(self.layers(), first, len)
     }
 
     /// The declaration that decides the texts of the codes from `first` on, as `lookup_bf_string` gives
@@ -377,7 +378,7 @@ impl CMap {
         ensures texts { IsTextStretch self.now first result.last
             (option_map bf_entry_seen (option_copied result.declaration)) }
     {
-        stretches::text_stretch(&self.layers, first)
+        stretches::text_stretch(self.layers(), first)
     }
 
     /// The codes of this length that have the CID, as `lookup_cid_code` gives it: ranges in order, of
@@ -393,7 +394,7 @@ impl CMap {
         ensures { IfOk result (λ ranges.
             AreCodesBelow self.now (length_of len) cid (256 ^ length_of len) ranges.items) }
     {
-        stretches::codes_of_cid(alloc, &self.layers, cid, len)
+        stretches::codes_of_cid(alloc, self.layers(), cid, len)
     }
 
     /// The answer of `lookup_cid_code`, and what is looked at is counted.
@@ -409,7 +410,7 @@ impl CMap {
         // Nothing is looked at for a length that no code has.
         ensures outside { (IsCodeLength byte_len → ⊥) → looks.new ≡ looks.old }
     {
-        lookup::cid_of(&self.layers, code, byte_len, looks)
+        lookup::cid_of(self.layers(), code, byte_len, looks)
     }
 
     /// The answer of `lookup_cid_code`, where the code lies in a codespace range of
@@ -423,7 +424,7 @@ impl CMap {
         ensures outside { (InCodespace self.now code byte_len → ⊥) → result ≡ None }
     {
         let cid = self.lookup_cid_code(code, byte_len)?;
-        if codespaces::contains(&self.layers, code, byte_len) {
+        if codespaces::contains(self.layers(), code, byte_len) {
             Some(cid)
         } else {
             None
@@ -442,7 +443,7 @@ impl CMap {
         ensures length { IfSome result
             (λ found. IsCodeLength found.byte_len × (found.byte_len ≤ length text.now)) }
     {
-        string_codes::next_code(&self.layers, text)
+        string_codes::next_code(self.layers(), text)
     }
 
     /// The Unicode text of `code`: one character, or more of them.
@@ -456,7 +457,7 @@ impl CMap {
         ensures err { OnErr result
             (IsSomeAnd (bf_of self.now code) (λ characters. 1 < length characters)) }
     {
-        lookup::bf_of(alloc, &self.layers, code, &mut Looks::new())
+        lookup::bf_of(alloc, self.layers(), code, &mut Looks::new())
     }
 
     /// The answer of `lookup_bf_string`, and what is looked at is counted.
@@ -476,14 +477,14 @@ impl CMap {
         ensures looks { LooksAtMost looks.old looks.new (bf_looks self.now) (length self.now)
             (finds_text result) }
     {
-        lookup::bf_of(alloc, &self.layers, code, looks)
+        lookup::bf_of(alloc, self.layers(), code, looks)
     }
 
     /// A copy of the map.
     pub fn clone(&self, alloc: Global) -> Result<CMap, AllocError>
         ensures { IfOk result (λ copy. copy ≡ self.now) }
     {
-        let layers = copied_layers(alloc, &self.layers)?;
+        let layers = copied_layers(alloc, self.layers())?;
         Ok(CMap { layers })
     }
 

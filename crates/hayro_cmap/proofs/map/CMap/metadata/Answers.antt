@@ -12,4 +12,4 @@ of_first (layer ∷ more) first some is = ap (λ l. Some (layer_seen l).metadata
 
 pub returns-clause-top : goal.returns-clause-top
 returns-clause-top c =
-    ap top_metadata (sym c.self.view_is) ∙ of_first c.self.inside.layers.items c.index.result.now c.self.invariant.0 c.index.ensures ∙ ap Some (sym c.metadata.ensures)
+    ap top_metadata (sym c.layers.ensures.layers) ∙ of_first c.layers.result.now c.index-layers-0.result c.layers.ensures.few.0 c.index-layers-0.is ∙ ap Some (sym c.metadata.ensures)
