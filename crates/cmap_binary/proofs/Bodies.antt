@@ -1,15 +1,17 @@
 -- What follows the header of a binary file.
-use Rattle.std.proofs.Common.{◌≡◌, ℕ, ◌+◌, ◌<◌, ◌≤◌, refl, sym, ap, ◌∙◌, Bool, true, false, List, [], ◌∷◌, ◌++◌, length, take, drop, arith}
-use Rattle.std.specs.Prelude.{nat_eq}
-use Rattle.std.specs.List.{IsSplitAt, starts_with}
+use Rattle.std.proofs.Common.{◌≡◌, ℕ, ◌+◌, ◌<◌, ◌≤◌, refl, sym, ap, ◌∙◌, Bool, true, false, List, [], ◌∷◌, ◌++◌, length, take, drop, arith, Some, None, inl, inr}
+use Rattle.std.specs.Borrow.{Bor}
+use Rattle.std.specs.Prelude.{nat_eq, Option}
+use Rattle.std.specs.List.{IsSplitAt, PartBy, starts_with}
 use Rattle.std.proofs.lemmas.Bool.{false≢true}
-use Rattle.std.proofs.lemmas.List.{length-drop, length-take-le, take-take}
+use Rattle.std.proofs.lemmas.List.{length-drop, length-take-le, take-take, take_rest}
 use Rattle.std.proofs.lemmas.Slice.Eq.{bytes_eq-Decides}
 use Rattle.cmap_values.specs.Only.{IsOnly, HoldsOfNone}
+use Rattle.cmap_values.specs.Outcomes.{Finds}
 use Rattle.cmap_binary.specs.BinaryFiles.{BodyOf, magic}
 use Rattle.cmap_binary.specs.BinarySalvage.{AfterHeader}
 use Rattle.cmap_packed.specs.Fronts.{BytesAt}
-use Rattle.cmap_packed.proofs.Fronts.{framed_alone, pair_is}
+use Rattle.cmap_packed.proofs.Fronts.{framed_alone, gives_if, pair_is, then_none, then_only}
 
 module _ (bytes : List ℕ) where
   -- the body stands after a header of ten bytes
@@ -43,5 +45,16 @@ begins_otherwise file test is says begun = false≢true (sym says ∙ is ∙ (by
 pub split_only : (size : ℕ) (bytes piece rest : List ℕ) → IsSplitAt bytes size piece rest → IsOnly (BytesAt size bytes) (piece, rest)
 split_only size bytes piece rest split = record { holds = split; alone = λ other is. pair_is other (piece, rest) (is.1 ∙ sym split.1) (is.2 ∙ sym split.2) }
 
+pub no_after : (bytes : List ℕ) → (take 6 bytes ≡ magic ++ 1 ∷ [] → ⊥) → HoldsOfNone (AfterHeader bytes)
+no_after bytes other rest (header, after, split, (head, is)) = other (sym (ap (take 6) split.1 ∙ take-take 6 10 bytes (omega arith)) ∙ head)
+
 pub too_short : (size : ℕ) (bytes : List ℕ) → length bytes < size → HoldsOfNone (BytesAt size bytes)
 too_short size bytes short other split = omega (arith, short, split.0)
+
+-- what is left of the bytes after those of a header
+pub after_found : (bytes : List ℕ) → take 6 bytes ≡ magic ++ 1 ∷ [] → (rest : Option (Bor (List ℕ))) → PartBy (λ (r : Bor (List ℕ)). r.now) bytes 10 (length bytes) rest → Finds (AfterHeader bytes) (λ r. r.now) rest
+after_found bytes head None part = then_none _ _ (too_short 10 bytes (elim part.0 [ inl short ↦ short | inr below ↦ absurd (omega (arith, below)) ]))
+after_found bytes head (Some rest) part =
+    let (from, to, is, size) = part.0 in
+    let split = split_only 10 bytes (take 10 bytes) rest.now (from, refl, is ∙ take_rest bytes 10, length-take-le 10 bytes from, size) in
+    then_only _ split (gives_if (take-take 6 10 bytes (omega arith) ∙ head))

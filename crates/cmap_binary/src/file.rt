@@ -51,24 +51,39 @@ pub fn read_binary<'d>(
         let (offset, reason) = (0, Reason::Header);
         return Err(Fault::Refused(Stop { offset, reason }));
     };
-    let mut file = File::new(alloc);
-    read_segments(alloc, bundle.tables(), body, &mut file)?;
-    Ok(file)
+    read_segments(alloc, bundle.tables(), body)
 }
 
 /// The segments of a file, which stand after its header; bytes after its length are ignored.
 pub(crate) fn split_body(mut bytes: &[u8]) -> Option<&[u8]>
     ensures { Finds (BodyOf bytes.now) (λ body. body.now) result }
 {
-    let file = take_framed(&mut bytes, HEAD.len())?;
-    if !file.starts_with(HEAD) {
-        return None;
+    match take_framed(&mut bytes, HEAD.len()) {
+        Some(file) if file.starts_with(HEAD) => Some(&file[HEADER_LEN..]),
+        _ => None,
     }
-    Some(&file[HEADER_LEN..])
+}
+
+/// What the segments after the header say.
+fn read_segments<'d>(
+    alloc: Global,
+    tables: &Tables,
+    body: &'d [u8],
+) -> Result<File<'d>, Fault<Stop>>
+    ensures says { IfOk result
+        (λ file. IsOnly (SegmentsSay (tables_seen tables.now) body.now) (file_seen file)) }
+    ensures stops { IfErr result (StopsWithin (HEADER_LEN + length body.now)
+        (HoldsOfNone (SegmentsSay (tables_seen tables.now) body.now))) }
+{
+    let mut file = File::new(alloc);
+    match add_segments(alloc, tables, body, &mut file) {
+        Ok(()) => Ok(file),
+        Err(fault) => Err(fault),
+    }
 }
 
 /// Reads all the segments after the header, and adds what they say to a file that says nothing.
-fn read_segments<'d>(
+fn add_segments<'d>(
     alloc: Global,
     tables: &Tables,
     body: &'d [u8],

@@ -1,6 +1,6 @@
 //! What a binary file says apart from its faults: reading goes on after each.
 
-ghost use Rattle.std.specs.Prelude.{◌≡◌, [], IfOk, OnOk, length};
+ghost use Rattle.std.specs.Prelude.{◌≡◌, [], ◌∷◌, ◌++◌, IfOk, OnOk, length};
 ghost use Rattle.cmap_values.specs.Faults.{Ascend};
 ghost use Rattle.cmap_files.specs.Files as files;
 ghost use Rattle.cmap_files.specs.FilesSeen.{file_seen};
@@ -47,10 +47,26 @@ pub fn salvage_binary<'d>(
     ensures ascend { IfOk result (λ found. Ascend 0 found.faults.items (length bytes.now)) }
 {
     let mut faults = Vec::new(alloc);
-    let body = salvage_body(bytes, &mut faults)?;
-    let mut file = File::new(alloc);
-    salvage_segments(alloc, bundle.tables(), body, &mut file, &mut faults)?;
-    Ok(Salvaged { file, faults })
+    match salvage_file(alloc, bundle.tables(), bytes, &mut faults) {
+        Ok(file) => Ok(Salvaged { file, faults }),
+        Err(fault) => Err(fault),
+    }
+}
+
+/// What the bytes say apart from their faults, which are added.
+fn salvage_file<'d>(
+    alloc: Global,
+    tables: &Tables,
+    bytes: &'d [u8],
+    faults: &mut Vec<Stop>,
+) -> Result<File<'d>, AllocError>
+    ensures { IfOk result (λ file. faults.old.items ≡ []
+        → SalvagesBinary (tables_seen tables.now) bytes.now (file_seen file) faults.new.items) }
+{
+    match salvage_body(bytes, faults) {
+        Ok(body) => salvage_segments(alloc, tables, body, faults),
+        Err(fault) => Err(fault),
+    }
 }
 
 /// The bytes that are read as segments. A fault of the header is added.
@@ -58,27 +74,45 @@ fn salvage_body<'d>(bytes: &'d [u8], faults: &mut Vec<Stop>) -> Result<&'d [u8],
     ensures { IfOk result (λ body. faults.old.items ≡ []
         → BodyRead bytes.now body.now faults.new.items) }
 {
-    if let Some(body) = split_body(bytes) {
-        return Ok(body);
+    match split_body(bytes) {
+        Some(body) => Ok(body),
+        None => {
+            add_fault(faults, 0, Reason::Header)?;
+            Ok(after_header(bytes).unwrap_or(&[]))
+        }
     }
-    let (offset, reason) = (0, Reason::Header);
-    faults.push(Stop { offset, reason })?;
-    Ok(after_header(bytes).unwrap_or(&[]))
 }
 
 /// What follows a header of version 1, whatever length it gives.
 fn after_header(bytes: &[u8]) -> Option<&[u8]>
     ensures { Finds (AfterHeader bytes.now) (λ rest. rest.now) result }
 {
-    let (header, rest) = bytes.split_at_checked(HEADER_LEN)?;
-    if !header.starts_with(HEAD) {
-        return None;
+    if bytes.starts_with(HEAD) {
+        bytes.get(HEADER_LEN..)
+    } else {
+        None
     }
-    Some(rest)
+}
+
+/// What the segments after the header say apart from their faults, which are added.
+fn salvage_segments<'d>(
+    alloc: Global,
+    tables: &Tables,
+    body: &'d [u8],
+    faults: &mut Vec<Stop>,
+) -> Result<File<'d>, AllocError>
+    ensures { IfOk result (λ file. SegmentsSalvaged (tables_seen tables.now) body.now (file_seen file)
+        faults.old.items faults.new.items) }
+{
+    let mut file = File::new(alloc);
+    match add_segments(alloc, tables, body, &mut file, faults) {
+        Ok(()) => Ok(file),
+        Err(fault) => Err(fault),
+    }
 }
 
 /// Reads all the segments after the header, and adds what they say to a file that says nothing.
-fn salvage_segments<'d>(
+fn add_segments<'d>(
     alloc: Global,
     tables: &Tables,
     body: &'d [u8],
@@ -93,16 +127,22 @@ fn salvage_segments<'d>(
     while !segments.is_empty() {
         let offset = HEADER_LEN + (body.len() - segments.len());
         let Some(segment) = take_framed(&mut segments, TYPE_LEN) else {
-            let reason = Reason::SegmentLength;
-            faults.push(Stop { offset, reason })?;
-            return Ok(());
+            return add_fault(faults, offset, Reason::SegmentLength);
         };
         match try_segment(alloc, tables, segment[0], &segment[SEGMENT_HEAD..], file) {
             Ok(()) => {}
-            Err(Fault::Refused(reason)) => faults.push(Stop { offset, reason })?,
+            Err(Fault::Refused(reason)) => add_fault(faults, offset, reason)?,
             Err(Fault::Memory) => return Err(AllocError),
         }
     }
+    Ok(())
+}
+
+/// Adds a fault at this offset.
+fn add_fault(faults: &mut Vec<Stop>, offset: usize, reason: Reason) -> Result<(), AllocError>
+    ensures { OnOk result (faults.new.items ≡ faults.old.items ++ record { offset = offset; reason = reason } ∷ []) }
+{
+    faults.push(Stop { offset, reason })?;
     Ok(())
 }
 

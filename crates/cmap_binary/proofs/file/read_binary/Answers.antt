@@ -1,14 +1,18 @@
-use Rattle.std.proofs.Common.{ℕ, List, refl, subst, arith}
+use Rattle.std.proofs.Common.{ℕ, ◌+◌, List, length, Result, Ok, Err, refl, subst, arith}
+use Rattle.std.specs.Prelude.{IfOk, IfErr}
 use Rattle.cmap_values.specs.Only.{IsOnly, HoldsOfNone}
+use Rattle.cmap_values.specs.Outcomes.{ReadsFile, StopsWithin}
+use Rattle.cmap_values.specs.declared.fault.Fault.{Fault}
+use Rattle.cmap_values.specs.declared.fault.Fault.TheVariants.{Refused, Memory}
+use Rattle.cmap_values.specs.declared.fault.Stop.{Stop}
+use Rattle.cmap_files.specs.declared.file.File.{File}
 use Rattle.cmap_files.specs.FilesSeen.{file_seen}
 use Rattle.cmap_packed.specs.Bundles.{PrefixTables}
-use Rattle.cmap_packed.specs.BundleSeen.{tables_seen}
 use Rattle.cmap_binary.specs.BinaryFiles.{BodyOf, IsBinaryFile, SegmentAt}
 use Rattle.cmap_binary.specs.BinarySeen.{SegmentsSay}
 use Rattle.cmap_packed.specs.Fronts.{AllOf}
 use Rattle.cmap_binary.proofs.Bodies.{body_within}
 use Rattle.cmap_packed.proofs.Fronts.{Continues, continues_only, continues_none}
-use Rattle.cmap_values.proofs.Outcomes.{passed_on}
 use Rattle.cmap_binary.proofs.file.read_binary.Goals as goal
 
 no_body : (tables : PrefixTables) (bytes : List ℕ) → HoldsOfNone (BodyOf bytes) → HoldsOfNone (IsBinaryFile tables bytes)
@@ -25,15 +29,14 @@ body_says tables bytes body only = record {
 pub returns-in_default : goal.returns-in_default
 returns-in_default c = (tt, (no_body _ _ c.in_default.ensures, omega arith))
 
-pub returns-in_err-read_segments : goal.returns-in_err-read_segments
-returns-in_err-read_segments c =
-    passed_on _ _ _ c.from_residual.ensures.1 c.in_err-read_segments.ensures.stops (λ stop stops. (
-      continues_none (body_says (tables_seen c.args.bundle.now.tables) _ _ c.in-Some.ensures) (subst (λ tables. HoldsOfNone (SegmentsSay tables c.in-Some.body.now)) c.tables.ensures stops.0),
-      omega (arith, stops.1, body_within _ _ c.in-Some.ensures.holds),
-    ))
+-- what the segments say is what the file says
+file_says : (tables : PrefixTables) (bytes body : List ℕ) → IsOnly (BodyOf bytes) body → (result : Result File (Fault Stop)) → IfOk result (λ file. IsOnly (SegmentsSay tables body) (file_seen file))
+    → IfErr result (StopsWithin (10 + length body) (HoldsOfNone (SegmentsSay tables body))) → ReadsFile (IsBinaryFile tables) file_seen bytes result
+file_says tables bytes body only (Ok file) says stops = (continues_only (body_says tables bytes body only) says, tt)
+file_says tables bytes body only (Err (Refused stop)) says stops = (tt, (continues_none (body_says tables bytes body only) stops.0, omega (arith, stops.1, body_within bytes body only.holds)))
+file_says tables bytes body only (Err Memory) says stops = (tt, tt)
 
 pub returns : goal.returns
 returns c =
-    let says : IsOnly (SegmentsSay (tables_seen c.args.bundle.now.tables) c.in-Some.body.now) (file_seen c.read_segments.new.file) =
-    subst (λ tables. IsOnly (SegmentsSay tables c.in-Some.body.now) (file_seen c.read_segments.new.file)) c.tables.ensures c.in_ok-read_segments.ensures.says in
-    (continues_only (body_says (tables_seen c.args.bundle.now.tables) _ _ c.in-Some.ensures) says, tt)
+    let says = file_says _ c.args.bytes.now c.in-Some.body.now c.in-Some.ensures c.read_segments.result c.read_segments.ensures.says c.read_segments.ensures.stops in
+    subst (λ tables. ReadsFile (IsBinaryFile tables) file_seen c.args.bytes.now c.read_segments.result) c.tables.ensures says

@@ -15,8 +15,8 @@ no_body bytes wrong (Some rest) nothing only empty = wrong_length wrong only.hol
 pub returns-in-Some : goal.returns-in-Some
 returns-in-Some c none = subst (BodyRead c.args.bytes.now c.in-Some.body.now) (sym none) (whole c.in-Some.ensures.holds)
 
-pub returns : goal.returns
-returns c none =
-    let faults : c.push.new.self.items ≡ header_fault ∷ [] = c.in_ok-push.ensures.items ∙ ap (λ f. f ++ header_fault ∷ []) none in
-    let read = no_body c.args.bytes.now c.in_default.ensures c.after_header.result _ c.after_header.ensures refl in
+pub returns-in_ok-add_fault-in-None : goal.returns-in_ok-add_fault-in-None
+returns-in_ok-add_fault-in-None c none =
+    let faults : c.add_fault.new.faults.items ≡ header_fault ∷ [] = c.in_ok-add_fault-in-None.ensures ∙ ap (λ f. f ++ header_fault ∷ []) none in
+    let read = no_body c.args.bytes.now c.in-None.ensures c.after_header.result _ c.after_header.ensures refl in
     subst (BodyRead c.args.bytes.now c.unwrap_or.result.now) (sym faults) (rw c.unwrap_or.ensures read)

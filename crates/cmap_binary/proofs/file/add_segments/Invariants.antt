@@ -2,7 +2,7 @@ use Rattle.std.proofs.Common.{◌≤◌, length}
 use Rattle.cmap_files.specs.FilesSeen.{file_seen}
 use Rattle.cmap_packed.specs.BundleSeen.{tables_seen}
 use Rattle.cmap_binary.proofs.SegmentsSaid.{SaidSoFar}
-use Rattle.cmap_binary.proofs.file.read_segments.Given as goal
+use Rattle.cmap_binary.proofs.file.add_segments.Given as goal
 
 abbrev pub invariant-loop-segments : goal.invariant-loop-segments
 invariant-loop-segments l = SaidSoFar (tables_seen l.tables) l.body l.segments (file_seen l.file) × (length l.segments ≤ length l.body)

@@ -9,7 +9,7 @@ use Rattle.cmap_binary.specs.BinarySeen.{SegmentsSay, with_content}
 use Rattle.cmap_packed.specs.Fronts.{FramedAt}
 use Rattle.cmap_packed.proofs.Fronts.{all_end, all_more, all_wrong, framed_within, continues_none, continues_only, emptied, filled, no_frame, pair_is, then_next, then_none, then_only}
 use Rattle.cmap_binary.proofs.SegmentsSaid.{SaidSoFar, file_more}
-use Rattle.cmap_binary.proofs.file.read_segments.Goals as goal
+use Rattle.cmap_binary.proofs.file.add_segments.Goals as goal
 
 -- one segment more
 segment_only : (tables : PrefixTables) (here segment rest : List ℕ) (content : Content) → IsOnly (FramedAt 1 here) (segment, rest) → IsOnly (IsSegment tables (slice_index segment 0) (drop 5 segment)) content → IsOnly (SegmentAt tables here) (content, rest)
