@@ -10,32 +10,29 @@ use Rattle.cmap_values.specs.declared.fault.Fault.TheVariants.{Refused, Memory}
 use Rattle.cmap_values.specs.declared.fault.Reason.{Reason}
 use Rattle.cmap_values.specs.Only.{IsOnly, HoldsOfNone}
 use Rattle.cmap_files.proofs.ListsMade.{added_more, append_lists-none}
-use Rattle.cmap_binary.specs.BinaryFiles.{declares}
-use Rattle.cmap_binary.specs.BinarySeen.{with_content}
+use Rattle.cmap_binary.specs.BinaryFiles.{Content, declares}
+use Rattle.cmap_binary.specs.BinarySeen.{Adds, Declares}
 use Rattle.cmap_packed.specs.Fronts.{RowOf}
 use Rattle.cmap_packed.proofs.Fronts.{HasRow, row_start, row_more, row_wrong, row_end}
 
-abbrev pub with_lists : File → Lists → File
-with_lists file lists = record { metadata = file.metadata; lists = lists; uses = file.uses }
-
--- n things in a row: those before index i are added to the file, as declarations of this kind
-pub record HasAdded {A S : Type 0} (item : S → A × S → Type 0) (kind : A → Declaration) (n : ℕ) (start : S) (old : File) (i : ℕ) (here : S) (now : File) : Type 0 where
+-- n things in a row: those before index i are added to the lists, as declarations of this kind
+pub record HasAdded {A S : Type 0} (item : S → A × S → Type 0) (kind : A → Declaration) (n : ℕ) (start : S) (old : Lists) (i : ℕ) (here : S) (now : Lists) : Type 0 where
   pub entries : List A
   pub row : HasRow item n start i here entries
-  pub says : now ≡ with_content old (declares (map kind entries))
+  pub says : now ≡ append_lists old (lists_of (map kind entries))
 
-pub adds_none : (file : File) → file ≡ with_content file (declares [])
-adds_none file = ap (with_lists file) (sym (append_lists-none file.lists))
+pub adds_none : (lists : Lists) → lists ≡ append_lists lists (lists_of [])
+adds_none lists = sym (append_lists-none lists)
 
-module _ {A S : Type 0} {item : S → A × S → Type 0} {kind : A → Declaration} {n : ℕ} {start : S} {old : File} {i : ℕ} {here : S} {now : File} (has : HasAdded item kind n start old i here now) where
-  pub adds_more : {next : S} {x : A} (new : File) → i < n → IsOnly (item here) (x, next) → new ≡ with_content now (declares (kind x ∷ [])) → HasAdded item kind n start old (i + 1) next new
+module _ {A S : Type 0} {item : S → A × S → Type 0} {kind : A → Declaration} {n : ℕ} {start : S} {old : Lists} {i : ℕ} {here : S} {now : Lists} (has : HasAdded item kind n start old i here now) where
+  pub adds_more : {next : S} {x : A} (new : Lists) → i < n → IsOnly (item here) (x, next) → new ≡ append_lists now (lists_of (kind x ∷ [])) → HasAdded item kind n start old (i + 1) next new
   adds_more {next} {x} new below only says = record {
     entries = has.entries ++ x ∷ [];
     row = row_more item n start i here next has.entries x has.row below only;
     says =
-        says ∙ ap (λ file. with_content file (declares (kind x ∷ []))) has.says
-        ∙ ap (with_lists old) (added_more old.lists (append_lists old.lists (lists_of (map kind has.entries))) _ (map kind has.entries) (kind x ∷ []) refl refl)
-        ∙ ap (λ ds. with_content old (declares ds)) (sym (map-append kind has.entries (x ∷ [])));
+        says ∙ ap (λ lists. append_lists lists (lists_of (kind x ∷ []))) has.says
+        ∙ added_more old (append_lists old (lists_of (map kind has.entries))) _ (map kind has.entries) (kind x ∷ []) refl refl
+        ∙ ap (λ ds. append_lists old (lists_of ds)) (sym (map-append kind has.entries (x ∷ [])));
   }
 
   pub adds_wrong : i < n → HoldsOfNone (item here) → HoldsOfNone (RowOf item n start)
@@ -44,7 +41,7 @@ module _ {A S : Type 0} {item : S → A × S → Type 0} {kind : A → Declarati
   pub adds_end : n ≤ i → IsOnly (RowOf item n start) (has.entries, here)
   adds_end = row_end item n start i here has.entries has.row
 
-pub adds_start : {A S : Type 0} (item : S → A × S → Type 0) (kind : A → Declaration) (n : ℕ) (start : S) (old : File) → HasAdded item kind n start old 0 start old
+pub adds_start : {A S : Type 0} (item : S → A × S → Type 0) (kind : A → Declaration) (n : ℕ) (start : S) (old : Lists) → HasAdded item kind n start old 0 start old
 adds_start item kind n start old = record { entries = []; row = row_start item n start; says = adds_none old }
 
 -- what a call answers in other words
@@ -52,6 +49,17 @@ pub in_words : {P Q P' Q' : Type 0} (result : Result Unit (Fault Reason)) → Su
 in_words (Ok done) holds succeeds refuses = (succeeds holds.0, tt)
 in_words (Err (Refused reason)) holds succeeds refuses = (tt, refuses holds.1)
 in_words (Err Memory) holds succeeds refuses = (tt, tt)
+
+-- what declares to the lists of a file says it to the file
+pub declares_to_file : (reads : Content → Type 0) (file : File) (new : Lists) (result : Result Unit (Fault Reason)) → Declares reads file.lists new result → Adds reads file (record { metadata = file.metadata; lists = new; uses = file.uses }) result
+declares_to_file reads file new result declaring =
+    in_words result declaring
+    (λ says. record {
+      content = declares says.declared;
+      only = says.only;
+      says = ap (λ lists. record { metadata = file.metadata; lists = lists; uses = file.uses }) says.says;
+    })
+    (λ none. none)
 
 -- a want of memory, passed on by `?`
 pub out_of_memory : {A R : Type 0} (S : A → Type 0) (Q : R → Type 0) (result : Result A (Fault R)) → IsErrAnd result (λ e. e ≡ Memory) → Outcome S Q result

@@ -1,7 +1,7 @@
 -- Private aid: what contracts see of the types of segments, and of a file to which one is added.
 use Rattle.std.specs.Prelude.{◌≡◌, ℕ, List, [], ◌∷◌, ◌++◌, map, Some, Result}
 use Rattle.cmap_values.specs.CodeLengths.{length_of}
-use Rattle.cmap_files.specs.Files.{Declaration, File, lists_of}
+use Rattle.cmap_files.specs.Files.{Declaration, File, Lists, lists_of}
 use Rattle.cmap_files.specs.ListsAppended.{append_lists}
 use Rattle.cmap_values.specs.Only.{IsOnly, HoldsOfNone}
 use Rattle.cmap_values.specs.Outcomes.{Succeeds}
@@ -47,15 +47,25 @@ Adds reads old new = Succeeds (SaysContent reads old new) (HoldsOfNone reads)
 abbrev pub AddsWhole : (Content → Type 0) → File → File → Result Unit (Fault Reason) → Type 0
 AddsWhole reads old new = Succeeds (SaysContent reads old new) (HoldsOfNone reads × (new ≡ old))
 
--- n things in a row are read and no others, and the file says them, as declarations of this kind
-pub record SaysRow {A S : Type 0} (item : S → A × S → Type 0) (kind : A → Declaration) (n : ℕ) (start : S) (old new : File) : Type 0 where
+-- declarations are read and nothing else, and the lists have them
+pub record SaysDeclared (reads : Content → Type 0) (old new : Lists) : Type 0 where
+  pub declared : List Declaration
+  pub only : IsOnly reads (declares declared)
+  pub says : new ≡ append_lists old (lists_of declared)
+
+-- a call that adds the declarations that it reads to lists
+abbrev pub Declares : (Content → Type 0) → Lists → Lists → Result Unit (Fault Reason) → Type 0
+Declares reads old new = Succeeds (SaysDeclared reads old new) (HoldsOfNone reads)
+
+-- n things in a row are read and no others, and the lists have them, as declarations of this kind
+pub record SaysRow {A S : Type 0} (item : S → A × S → Type 0) (kind : A → Declaration) (n : ℕ) (start : S) (old new : Lists) : Type 0 where
   pub entries : List A
   pub end : S
   pub only : IsOnly (RowOf item n start) (entries, end)
-  pub says : new ≡ with_content old (declares (map kind entries))
+  pub says : new ≡ append_lists old (lists_of (map kind entries))
 
--- a call that adds things in a row to a file
-abbrev pub AddsRow : {A S : Type 0} → (S → A × S → Type 0) → (A → Declaration) → ℕ → S → File → File → Result Unit (Fault Reason) → Type 0
+-- a call that adds things in a row to lists
+abbrev pub AddsRow : {A S : Type 0} → (S → A × S → Type 0) → (A → Declaration) → ℕ → S → Lists → Lists → Result Unit (Fault Reason) → Type 0
 AddsRow item kind n start old new = Succeeds (SaysRow item kind n start old new) (HoldsOfNone (RowOf item n start))
 
 -- the bytes are segments in a row, which say together what the file says

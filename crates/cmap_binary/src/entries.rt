@@ -3,20 +3,18 @@
 ghost use Rattle.cmap_binary.specs.BinaryEntries.{BfEntryAt, CidEntryAt, DestinationAt};
 ghost use Rattle.cmap_binary.specs.BinaryFiles as files;
 ghost use Rattle.cmap_binary.specs.BinaryFiles.{SaysAs};
-ghost use Rattle.cmap_binary.specs.BinarySeen.{Adds, AddsRow};
+ghost use Rattle.cmap_binary.specs.BinarySeen.{AddsRow, Declares};
 ghost use Rattle.cmap_packed.specs.BundleSeen.{tables_seen};
 ghost use Rattle.cmap_binary.specs.ColumnsSeen.{cid_columns_seen, columns_seen, shape_seen};
 ghost use Rattle.cmap_packed.specs.Fronts.{FieldAt, RowOf};
 ghost use Rattle.cmap_values.specs.Outcomes.{Finds, Reads};
 ghost use Rattle.cmap_values.specs.CodeLengths.{length_of};
-ghost use Rattle.cmap_files.specs.DeclarationsSeen.{cid_entry_seen};
 ghost use Rattle.cmap_files.specs.Files.{bf, cid};
-ghost use Rattle.cmap_files.specs.FilesSeen.{file_seen};
+ghost use Rattle.cmap_files.specs.DeclarationsSeen.{cid_entry_seen, lists_seen};
 ghost use Rattle.cmap_values.specs.UnitsSeen.{units_seen};
 
 use crate::columns::{Columns, Shape, take_columns};
-use cmap_files::declarations::{BfRange, CidRange};
-use cmap_files::file::File;
+use cmap_files::declarations::{BfRange, CidRange, Lists};
 use cmap_packed::Tables;
 use cmap_packed::pieces::{take_byte, take_u16};
 use cmap_values::code_length::CodeLength;
@@ -61,10 +59,10 @@ pub(crate) fn add_cids(
     shape: Shape,
     len: CodeLength,
     mut payload: &[u8],
-    file: &mut File<'_>,
+    lists: &mut Lists,
 ) -> Result<(), Fault<Reason>>
-    ensures { Adds (SaysAs (tables_seen tables.now) (files.cids (shape_seen shape) (length_of len)) payload.now)
-        (file_seen file.old) (file_seen file.new) result }
+    ensures { Declares (SaysAs (tables_seen tables.now) (files.cids (shape_seen shape) (length_of len)) payload.now)
+        (lists_seen lists.old) (lists_seen lists.new) result }
 {
     let Some(count) = take_u16(&mut payload) else {
         return Err(Fault::Refused(Reason::Field(Segment::Cids)));
@@ -76,14 +74,13 @@ pub(crate) fn add_cids(
         return Err(Fault::Refused(Reason::Field(Segment::Cids)));
     };
     // A count that is too great gets no more room than there are bytes.
-    file.lists
-        .reserve_cids(len, usize::from(count).min(payload.len()))?;
+    lists.reserve_cids(len, usize::from(count).min(payload.len()))?;
     let left = CidColumns {
         columns,
         raws: payload,
         next: 0,
     };
-    add_cid_entries(tables, left, count, len, file)
+    add_cid_entries(tables, left, count, len, lists)
 }
 
 /// Adds the next `count` entries, for codes of this length. Each length has a loop of its own, which
@@ -93,18 +90,18 @@ fn add_cid_entries(
     left: CidColumns<'_>,
     count: u16,
     len: CodeLength,
-    file: &mut File<'_>,
+    lists: &mut Lists,
 ) -> Result<(), Fault<Reason>>
     ensures { AddsRow (CidEntryAt (tables_seen tables.now)) (cid (length_of len)) count
-        (cid_columns_seen left.entry) (file_seen file.old) (file_seen file.new) result }
+        (cid_columns_seen left.entry) (lists_seen lists.old) (lists_seen lists.new) result }
 {
     let singles = left.columns.counts.is_none();
     match len {
-        CodeLength::Two if singles => add_each_cid(tables, left, count, CodeLength::Two, file),
-        CodeLength::One => add_each_cid(tables, left, count, CodeLength::One, file),
-        CodeLength::Two => add_each_cid(tables, left, count, CodeLength::Two, file),
-        CodeLength::Three => add_each_cid(tables, left, count, CodeLength::Three, file),
-        CodeLength::Four => add_each_cid(tables, left, count, CodeLength::Four, file),
+        CodeLength::Two if singles => add_each_cid(tables, left, count, CodeLength::Two, lists),
+        CodeLength::One => add_each_cid(tables, left, count, CodeLength::One, lists),
+        CodeLength::Two => add_each_cid(tables, left, count, CodeLength::Two, lists),
+        CodeLength::Three => add_each_cid(tables, left, count, CodeLength::Three, lists),
+        CodeLength::Four => add_each_cid(tables, left, count, CodeLength::Four, lists),
     }
 }
 
@@ -115,14 +112,14 @@ fn add_each_cid(
     mut left: CidColumns<'_>,
     count: u16,
     len: CodeLength,
-    file: &mut File<'_>,
+    lists: &mut Lists,
 ) -> Result<(), Fault<Reason>>
     ensures { AddsRow (CidEntryAt (tables_seen tables.now)) (cid (length_of len)) count
-        (cid_columns_seen left.entry) (file_seen file.old) (file_seen file.new) result }
+        (cid_columns_seen left.entry) (lists_seen lists.old) (lists_seen lists.new) result }
 {
     for _ in 0..count {
         let range = left.next_entry(tables)?;
-        file.lists.add_cid(len, range)?;
+        lists.add_cid(len, range)?;
     }
     Ok(())
 }
@@ -136,10 +133,10 @@ pub(crate) fn add_texts(
     shape: Shape,
     fixed: Option<u8>,
     mut payload: &[u8],
-    file: &mut File<'_>,
+    lists: &mut Lists,
 ) -> Result<(), Fault<Reason>>
-    ensures { Adds (SaysAs (tables_seen tables.now) (files.texts (shape_seen shape) fixed) payload.now)
-        (file_seen file.old) (file_seen file.new) result }
+    ensures { Declares (SaysAs (tables_seen tables.now) (files.texts (shape_seen shape) fixed) payload.now)
+        (lists_seen lists.old) (lists_seen lists.new) result }
 {
     let Some(count) = take_u16(&mut payload) else {
         return Err(Fault::Refused(Reason::Field(Segment::Texts)));
@@ -147,10 +144,8 @@ pub(crate) fn add_texts(
     let Some(columns) = take_columns(&mut payload, Segment::Texts, shape) else {
         return Err(Fault::Refused(Reason::Field(Segment::Texts)));
     };
-    file.lists
-        .bfs
-        .reserve(usize::from(count).min(payload.len()))?;
-    add_text_entries(alloc, tables, (columns, payload), count, fixed, file)
+    lists.bfs.reserve(usize::from(count).min(payload.len()))?;
+    add_text_entries(alloc, tables, (columns, payload), count, fixed, lists)
 }
 
 /// Adds the next `count` entries. One unit each, as nearly all have, is read in a loop of its own, and
@@ -161,16 +156,16 @@ fn add_text_entries(
     left: (Columns<'_>, &[u8]),
     count: u16,
     fixed: Option<u8>,
-    file: &mut File<'_>,
+    lists: &mut Lists,
 ) -> Result<(), Fault<Reason>>
     ensures { AddsRow (BfEntryAt (tables_seen tables.now) fixed) bf count
-        (columns_seen left.entry.0, left.entry.1.now) (file_seen file.old) (file_seen file.new) result }
+        (columns_seen left.entry.0, left.entry.1.now) (lists_seen lists.old) (lists_seen lists.new) result }
 {
     let singles = left.0.counts.is_none();
     match fixed {
-        Some(1) if singles => add_each_text(alloc, tables, left, count, Some(1), file),
-        Some(1) => add_each_text(alloc, tables, left, count, Some(1), file),
-        _ => add_each_text(alloc, tables, left, count, fixed, file),
+        Some(1) if singles => add_each_text(alloc, tables, left, count, Some(1), lists),
+        Some(1) => add_each_text(alloc, tables, left, count, Some(1), lists),
+        _ => add_each_text(alloc, tables, left, count, fixed, lists),
     }
 }
 
@@ -182,17 +177,17 @@ fn add_each_text(
     left: (Columns<'_>, &[u8]),
     count: u16,
     fixed: Option<u8>,
-    file: &mut File<'_>,
+    lists: &mut Lists,
 ) -> Result<(), Fault<Reason>>
     ensures { AddsRow (BfEntryAt (tables_seen tables.now) fixed) bf count
-        (columns_seen left.entry.0, left.entry.1.now) (file_seen file.old) (file_seen file.new) result }
+        (columns_seen left.entry.0, left.entry.1.now) (lists_seen lists.old) (lists_seen lists.new) result }
 {
     let (mut columns, mut text) = left;
     let mut buffer = Vec::new(alloc);
     for _ in 0..count {
         let range = columns.next_range(tables)?;
         let units = read_destination(alloc, &mut text, fixed, &mut buffer)?;
-        file.lists.add_bf(BfRange { range, units })?;
+        lists.add_bf(BfRange { range, units })?;
     }
     Ok(())
 }

@@ -2,12 +2,12 @@
 
 ghost use Rattle.cmap_binary.specs.BinaryFiles as files;
 ghost use Rattle.cmap_binary.specs.BinaryFiles.{CodespaceAt, NotdefAt, SaysAs};
-ghost use Rattle.cmap_binary.specs.BinarySeen.{Adds, no_tables};
+ghost use Rattle.cmap_binary.specs.BinarySeen.{Adds, Declares, no_tables};
 ghost use Rattle.cmap_values.specs.Outcomes.{Finds};
-ghost use Rattle.cmap_files.specs.DeclarationsSeen.{cid_entry_seen, codespace_seen};
+ghost use Rattle.cmap_files.specs.DeclarationsSeen.{cid_entry_seen, codespace_seen, lists_seen};
 ghost use Rattle.cmap_files.specs.FilesSeen.{file_seen};
 
-use cmap_files::declarations::{CidRange, Codespace};
+use cmap_files::declarations::{CidRange, Codespace, Lists};
 use cmap_files::file::File;
 use cmap_packed::pieces::{take_byte, take_code, take_terminated, take_u16};
 use cmap_runs::runs::Range;
@@ -19,9 +19,9 @@ use std::alloc::Global;
 /// Adds the notdef declarations of a segment with this payload: the width of their codes, their
 /// number, and the entries. Only where there is none may the width be that of no code. Payload after
 /// them is ignored.
-pub(crate) fn add_notdefs(mut payload: &[u8], file: &mut File<'_>) -> Result<(), Fault<Reason>>
-    ensures { Adds (SaysAs no_tables files.notdefs payload.now)
-        (file_seen file.old) (file_seen file.new) result }
+pub(crate) fn add_notdefs(mut payload: &[u8], lists: &mut Lists) -> Result<(), Fault<Reason>>
+    ensures { Declares (SaysAs no_tables files.notdefs payload.now)
+        (lists_seen lists.old) (lists_seen lists.new) result }
 {
     let Some(width) = take_byte(&mut payload) else {
         return Err(Fault::Refused(Reason::Field(Segment::Notdefs)));
@@ -39,7 +39,7 @@ pub(crate) fn add_notdefs(mut payload: &[u8], file: &mut File<'_>) -> Result<(),
         let Some(range) = take_notdef(&mut payload, width) else {
             return Err(Fault::Refused(Reason::Entry(Segment::Notdefs)));
         };
-        file.lists.add_notdef(len, range)?;
+        lists.add_notdef(len, range)?;
     }
     Ok(())
 }
@@ -59,9 +59,9 @@ fn take_notdef(text: &mut &[u8], width: u8) -> Option<CidRange>
 }
 
 /// Adds the codespace ranges of a segment with this payload. Payload after them is ignored.
-pub(crate) fn add_codespaces(mut payload: &[u8], file: &mut File<'_>) -> Result<(), Fault<Reason>>
-    ensures { Adds (SaysAs no_tables files.codespaces payload.now)
-        (file_seen file.old) (file_seen file.new) result }
+pub(crate) fn add_codespaces(mut payload: &[u8], lists: &mut Lists) -> Result<(), Fault<Reason>>
+    ensures { Declares (SaysAs no_tables files.codespaces payload.now)
+        (lists_seen lists.old) (lists_seen lists.new) result }
 {
     let Some(count) = take_byte(&mut payload) else {
         return Err(Fault::Refused(Reason::Field(Segment::Codespaces)));
@@ -71,7 +71,7 @@ pub(crate) fn add_codespaces(mut payload: &[u8], file: &mut File<'_>) -> Result<
         let Some(space) = take_codespace(&mut payload) else {
             return Err(Fault::Refused(codespace_lack(width)));
         };
-        file.lists.add_codespace(space)?;
+        lists.add_codespace(space)?;
     }
     Ok(())
 }

@@ -45,12 +45,19 @@ fn add_content<'d>(
         (file_seen file.old) (file_seen file.new) result }
 {
     match kind {
-        Kind::Cids(shape, len) => add_cids(tables, shape, len, payload, file),
-        Kind::Texts(shape, units) => add_texts(alloc, tables, shape, units, payload, file),
+        Kind::Cids(shape, len) => add_cids(tables, shape, len, payload, &mut file.lists),
+        Kind::Texts(shape, units) => add_texts(
+            alloc,
+            tables,
+            shape,
+            units,
+            payload,
+            &mut file.lists,
+        ),
         Kind::Base => add_use(payload, file),
-        Kind::Notdefs => add_notdefs(payload, file),
+        Kind::Notdefs => add_notdefs(payload, &mut file.lists),
         Kind::Mode => set_mode(payload, file),
-        Kind::Codespaces => add_codespaces(payload, file),
+        Kind::Codespaces => add_codespaces(payload, &mut file.lists),
         Kind::Name => set_name(alloc, payload, file),
         Kind::Collection => set_collection(alloc, payload, file),
     }

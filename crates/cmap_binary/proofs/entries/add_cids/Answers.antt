@@ -1,16 +1,14 @@
 use Rattle.std.proofs.Common.{◌≡◌, ℕ, zero, suc, ◌<◌, List, map, arith, refl, ap, ◌∙◌}
 use Rattle.cmap_values.specs.CodeLengths.{length_of}
-use Rattle.cmap_files.specs.Files.{cid}
-use Rattle.cmap_files.specs.FilesSeen.{file_seen}
-use Rattle.cmap_binary.specs.BinaryFiles.{declares}
-use Rattle.cmap_binary.specs.BinarySeen.{with_content}
+use Rattle.cmap_files.specs.Files.{cid, lists_of}
+use Rattle.cmap_files.specs.ListsAppended.{append_lists}
 use Rattle.cmap_packed.specs.Bundles.{PrefixTables}
 use Rattle.cmap_binary.specs.BinaryEntries.{Shape, CidsOf, CidEntriesOf}
 use Rattle.cmap_packed.specs.BundleSeen.{tables_seen}
 use Rattle.cmap_binary.specs.ColumnsSeen.{shape_seen}
 use Rattle.cmap_packed.proofs.Fronts.{gives, then_none, then_next, then_only}
 use Rattle.cmap_binary.proofs.Reading.{made_none, made_only}
-use Rattle.cmap_binary.proofs.RowsAdded.{with_lists, adds_none, in_words}
+use Rattle.cmap_binary.proofs.RowsAdded.{adds_none, in_words}
 use Rattle.cmap_binary.proofs.entries.add_cids.Goals as goal
 
 -- of some entries the columns are read
@@ -22,7 +20,7 @@ pub returns-in_default : goal.returns-in_default
 returns-in_default c = (tt, made_none (then_none _ _ c.in_default.ensures))
 
 pub returns-then-count-eq0 : goal.returns-then-count-eq0
-returns-then-count-eq0 c = (record { content = _; only = made_only (then_only _ (rw c.if-count-eq0.true at c.in-Some.ensures) gives); says = adds_none _ }, tt)
+returns-then-count-eq0 c = (record { declared = _; only = made_only (then_only _ (rw c.if-count-eq0.true at c.in-Some.ensures) gives); says = adds_none _ }, tt)
 
 pub returns-in_default-take_columns : goal.returns-in_default-take_columns
 returns-in_default-take_columns c = (tt, made_none (then_next _ c.in-Some.ensures (rw (some_cids _ _ c.in-Some.count _ (omega arith)) (then_none _ _ c.in_default-take_columns.ensures))))
@@ -35,8 +33,8 @@ returns c =
     (λ row.
     let only = then_only _ c.in-Some-take_columns.ensures (then_only _ row.only gives) in
     record {
-      content = _;
+      declared = _;
       only = made_only (then_only _ c.in-Some.ensures (rw here only));
-      says = row.says ∙ ap (λ lists. with_content (with_lists (file_seen c.args.file.now) lists) (declares (map (cid len) row.entries))) c.reserve_cids.ensures.same;
+      says = row.says ∙ ap (λ lists. append_lists lists (lists_of (map (cid len) row.entries))) c.reserve_cids.ensures.same;
     })
     (λ none. made_none (then_next _ c.in-Some.ensures (rw here (then_next _ c.in-Some-take_columns.ensures (then_none _ _ none)))))

@@ -1,6 +1,6 @@
 use Rattle.cmap_values.specs.CodeLengths.{length_of}
 use Rattle.cmap_files.specs.Files.{cid}
-use Rattle.cmap_files.specs.FilesSeen.{file_seen}
+use Rattle.cmap_files.specs.DeclarationsSeen.{lists_seen}
 use Rattle.cmap_binary.specs.BinaryEntries.{CidEntryAt}
 use Rattle.cmap_packed.specs.BundleSeen.{tables_seen}
 use Rattle.cmap_binary.specs.ColumnsSeen.{cid_columns_seen}
@@ -8,4 +8,4 @@ use Rattle.cmap_binary.proofs.RowsAdded.{HasAdded}
 use Rattle.cmap_binary.proofs.entries.add_each_cid.Given as goal
 
 abbrev pub invariant-loop : goal.invariant-loop
-invariant-loop l = HasAdded (CidEntryAt (tables_seen l.tables)) (cid (length_of l.len)) l.count (cid_columns_seen l.initial.left) (file_seen l.initial.file) l.counter (cid_columns_seen l.left) (file_seen l.file)
+invariant-loop l = HasAdded (CidEntryAt (tables_seen l.tables)) (cid (length_of l.len)) l.count (cid_columns_seen l.initial.left) (lists_seen l.initial.lists) l.counter (cid_columns_seen l.left) (lists_seen l.lists)

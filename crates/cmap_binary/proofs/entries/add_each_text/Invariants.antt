@@ -1,5 +1,5 @@
 use Rattle.cmap_files.specs.Files.{bf}
-use Rattle.cmap_files.specs.FilesSeen.{file_seen}
+use Rattle.cmap_files.specs.DeclarationsSeen.{lists_seen}
 use Rattle.cmap_binary.specs.BinaryEntries.{BfEntryAt}
 use Rattle.cmap_packed.specs.BundleSeen.{tables_seen}
 use Rattle.cmap_binary.specs.ColumnsSeen.{columns_seen}
@@ -7,4 +7,4 @@ use Rattle.cmap_binary.proofs.RowsAdded.{HasAdded}
 use Rattle.cmap_binary.proofs.entries.add_each_text.Given as goal
 
 abbrev pub invariant-loop : goal.invariant-loop
-invariant-loop l = HasAdded (BfEntryAt (tables_seen l.tables) l.fixed) bf l.count (columns_seen l.initial.columns, l.initial.text) (file_seen l.initial.file) l.counter (columns_seen l.columns, l.text) (file_seen l.file)
+invariant-loop l = HasAdded (BfEntryAt (tables_seen l.tables) l.fixed) bf l.count (columns_seen l.initial.columns, l.initial.text) (lists_seen l.initial.lists) l.counter (columns_seen l.columns, l.text) (lists_seen l.lists)

@@ -13,7 +13,7 @@ pub returns : goal.returns
 returns c =
     in_words c.add_text_entries.result c.add_text_entries.ensures
     (λ row. record {
-      content = _;
+      declared = _;
       only = made_only (then_only _ c.in-Some.ensures (then_only _ c.in-Some-take_columns.ensures (then_only _ row.only gives)));
       says = rw c.reserve.ensures.items at row.says;
     })

@@ -21,4 +21,4 @@ loop-preserved c = adds_more c.loop.invariant _ (omega arith) c.in-Some-take_cod
 pub returns : goal.returns
 returns c =
     let has = c.loop.invariant in
-    (record { content = _; only = made_only (then_only _ c.in-Some.ensures (then_only _ (adds_end has (omega arith)) gives)); says = has.says }, tt)
+    (record { declared = _; only = made_only (then_only _ c.in-Some.ensures (then_only _ (adds_end has (omega arith)) gives)); says = has.says }, tt)

@@ -14,7 +14,7 @@ returns-in_default-take_u16 c = (tt, made_none (then_next _ c.in-Some.ensures (t
 pub returns-then-count-eq0 : goal.returns-then-count-eq0
 returns-then-count-eq0 c =
     let count = rw c.if-count-eq0.true at c.in-Some-take_u16.ensures in
-    (record { content = _; only = made_only (then_only _ c.in-Some.ensures (then_only _ count (then_only _ gives gives))); says = adds_none _ }, tt)
+    (record { declared = _; only = made_only (then_only _ c.in-Some.ensures (then_only _ count (then_only _ gives gives))); says = adds_none _ }, tt)
 
 pub returns-in_default-of : goal.returns-in_default-of
 returns-in_default-of c =
@@ -35,4 +35,4 @@ loop-preserved c = adds_more c.loop.invariant _ (omega arith) c.in-Some-take_not
 pub returns : goal.returns
 returns c =
     let has = c.loop.invariant in
-    (record { content = _; only = made_only (then_only _ c.in-Some.ensures (then_only _ c.in-Some-take_u16.ensures (then_only _ (adds_end has (omega arith)) gives))); says = has.says }, tt)
+    (record { declared = _; only = made_only (then_only _ c.in-Some.ensures (then_only _ c.in-Some-take_u16.ensures (then_only _ (adds_end has (omega arith)) gives))); says = has.says }, tt)
