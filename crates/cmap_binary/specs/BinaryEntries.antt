@@ -22,9 +22,13 @@ abbrev pub CountsAt : Shape → List ℕ → Option (List ℕ) × List ℕ → T
 CountsAt ranges text = Then (SizedAt text) (λ counts rest. Gives (Some (bits counts), rest))
 CountsAt singles text = Gives (None, text)
 
+-- the columns of a segment with these deltas
+abbrev pub ColumnsAfter : Shape → List ℕ → List ℕ → Columns × List ℕ → Type 0
+ColumnsAfter shape deltas text = Then (CountsAt shape text) (λ counts rest. Gives (record { deltas = bits deltas; counts = counts; base = 0 }, rest))
+
 -- the columns of a segment, each in a sized piece
 abbrev pub ColumnsAt : Shape → List ℕ → Columns × List ℕ → Type 0
-ColumnsAt shape text = Then (SizedAt text) (λ deltas mid. Then (CountsAt shape mid) (λ counts rest. Gives (record { deltas = bits deltas; counts = counts; base = 0 }, rest)))
+ColumnsAt shape text = Then (SizedAt text) (ColumnsAfter shape)
 
 -- the symbol of the code word that the bits begin with
 abbrev pub SymbolAt : List CodeWord → List ℕ → ℕ × List ℕ → Type 0

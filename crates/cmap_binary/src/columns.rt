@@ -2,7 +2,7 @@
 
 ghost use Rattle.std.specs.Prelude.{◌≡◌, ◌+◌, ◌<◌, ◌≤◌, ◌^◌, IfOk, MatchOption, option_map};
 ghost use Rattle.cmap_packed.specs.Reader.{bits_left};
-ghost use Rattle.cmap_binary.specs.BinaryEntries.{ColumnsAt, CountsAt, SpanAt, SymbolAt, WidthAt};
+ghost use Rattle.cmap_binary.specs.BinaryEntries.{ColumnsAfter, ColumnsAt, CountsAt, SpanAt, SymbolAt, WidthAt};
 ghost use Rattle.cmap_packed.specs.BundleSeen.{tables_seen};
 ghost use Rattle.cmap_binary.specs.ColumnsSeen.{columns_seen, shape_seen, span_seen};
 ghost use Rattle.cmap_values.specs.Outcomes.{Finds, Reads};
@@ -42,14 +42,31 @@ pub(crate) fn take_columns<'b>(
     ensures { Finds (ColumnsAt (shape_seen shape) text.old.now)
         (λ columns. (columns_seen columns, text.new.now)) result }
 {
-    let deltas = Reader::new(take_sized(text)?);
-    let counts = take_counts(text, shape)?;
-    Some(Columns {
-        deltas,
-        counts,
-        base: 0,
-        segment,
-    })
+    match take_sized(text) {
+        Some(deltas) => take_others(text, deltas, segment, shape),
+        None => None,
+    }
+}
+
+/// The columns that the text begins with after that of these deltas.
+fn take_others<'b>(
+    text: &mut &'b [u8],
+    deltas: &'b [u8],
+    segment: Segment,
+    shape: Shape,
+) -> Option<Columns<'b>>
+    ensures { Finds (ColumnsAfter (shape_seen shape) deltas.now text.old.now)
+        (λ columns. (columns_seen columns, text.new.now)) result }
+{
+    match take_counts(text, shape) {
+        Some(counts) => Some(Columns {
+            deltas: Reader::new(deltas),
+            counts,
+            base: 0,
+            segment,
+        }),
+        None => None,
+    }
 }
 
 /// The column of counts that the text begins with, where there is one.
@@ -58,7 +75,10 @@ fn take_counts<'b>(text: &mut &'b [u8], shape: Shape) -> Option<Option<Reader<'b
         (λ counts. (option_map bits_left counts, text.new.now)) result }
 {
     match shape {
-        Shape::Ranges => Some(Some(Reader::new(take_sized(text)?))),
+        Shape::Ranges => match take_sized(text) {
+            Some(counts) => Some(Some(Reader::new(counts))),
+            None => None,
+        },
         Shape::Singles => Some(None),
     }
 }
