@@ -1,7 +1,9 @@
 -- A reader some bytes on.
 use Rattle.std.proofs.Common.{◌≡◌, ℕ, ◌+◌, ◌*◌, ◌/◌, ◌%◌, ◌<◌, ◌≤◌, List, length, get_or, take, drop, Bool, true, false, Option, Some, None, refl, ap, ◌∙◌, sym, subst, arith, ◌-◌}
-use Rattle.std.specs.Prelude.{nat_le, ◌&&◌, if◌then◌else◌}
-use Rattle.std.specs.List.{slice_get, slice_range}
+use Rattle.std.specs.Borrow.{Bor}
+use Rattle.std.specs.Prelude.{MatchOption, nat_le, ◌&&◌, if◌then◌else◌}
+use Rattle.std.specs.List.{HoldsAt, slice_get, slice_range}
+use Rattle.std.specs.Option.{option_copied}
 use Rattle.std.proofs.lemmas.Bool.{le-leb, lt-leb}
 use Rattle.std.proofs.lemmas.List.{drop-drop, get_or-drop, length-drop}
 use Rattle.std.proofs.lemmas.Option.{cond_some, none-some, slice_get-get_or, slice_get_past}
@@ -61,3 +63,9 @@ module _ (left : List ℕ) (n : ℕ) where
         let (few, same) = cond_some {A = ℕ × ℕ} (nat_le 1 (length bytes) && nat_le (length bytes) 4) (length bytes, big_endian bytes) (len, value) (sym written) in
         let whole : n - 0 ≡ n = omega arith in
         rw (subst (λ k. (nat_le 1 k && nat_le k 4) ≡ true) sized few, le-leb n (length left) within) (ap Some (sym (ap (λ p. p.1) same) ∙ ap big_endian (is ∙ ap (λ k. take k left) whole)))
+
+-- a byte that is looked up, as its copy
+pub byte_at : (bytes : List ℕ) (i : ℕ) (found : Option (Bor ℕ)) → MatchOption found (length bytes ≤ i) (λ byte. (i < length bytes) × HoldsAt (λ y. byte.now ≡ y) bytes i) → (copied : Option ℕ) → copied ≡ option_copied found
+    → MatchOption copied (length bytes ≤ i) (λ byte. (i < length bytes) × (byte ≡ get_or bytes i 0))
+byte_at bytes i None past copied is = rw is past
+byte_at bytes i (Some byte) at copied is = rw is (at.0, at.1 0)

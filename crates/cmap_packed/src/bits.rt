@@ -48,7 +48,7 @@ impl<'a> Reader<'a> {
         ensures value { result ≡ slice_get (bits self.old.source) self.old.taken }
         ensures moves { self.new ≡ (if is_some result then after_bits self.old 1 else self.old) }
     {
-        let byte = *self.bytes.get(self.byte)?;
+        let byte = self.bytes.get(self.byte).copied()?;
         let bit = byte >> (7 - self.bit) & 1;
         let next = self.bit + 1;
         self.byte += (next / 8) as usize;
@@ -62,7 +62,7 @@ impl<'a> Reader<'a> {
         ensures value { result ≡ slice_get (bytes_left self.old) 0 }
         ensures moves { self.new ≡ (if is_some result then after_bytes self.old 1 else self.old) }
     {
-        let byte = *self.bytes.get(self.byte)?;
+        let byte = self.bytes.get(self.byte).copied()?;
         self.byte += 1;
         Some(byte)
     }
@@ -177,7 +177,7 @@ impl<'a> Reader<'a> {
         ensures { IfSome result
             (λ byte. (later : List ℕ) × (bits_left self.now ≡ bits (byte ∷ []) ++ later)) }
     {
-        let low = *self.bytes.get(self.byte + 1)?;
+        let low = self.bytes.get(self.byte + 1).copied()?;
         let pair = u16::from_be_bytes([self.bytes[self.byte], low]);
         Some((pair >> (8 - self.bit) & 0xFF) as u8)
     }

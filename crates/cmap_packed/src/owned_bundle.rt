@@ -70,8 +70,7 @@ impl OwnedBundle {
         ensures { option_copied result
             ≡ option_and_then (λ at. slice_get self.now.files at) (index_of_name name.entry) }
     {
-        let file = self.files.get(name.index()?)?;
-        Some(file)
+        self.files.get(name.index()?).map(Vec::as_slice)
     }
 }
 
