@@ -242,7 +242,8 @@ fn read_units(
         };
         buffer.push(unit)?;
     }
-    Ok(Units::from_slice(alloc, buffer)?)
+    let units = Units::from_slice(alloc, buffer)?;
+    Ok(units)
 }
 
 /// The two units that the text begins with.

@@ -89,6 +89,7 @@ fn set_name(alloc: Global, payload: &[u8], file: &mut File<'_>) -> Result<(), Fa
     ensures { Adds (SaysAs no_tables files.name payload.now)
         (file_seen file.old) (file_seen file.new) result }
 {
-    file.metadata.name = Some(Vec::from_slice(alloc, payload)?);
+    let name = Vec::from_slice(alloc, payload)?;
+    file.metadata.name = Some(name);
     Ok(())
 }

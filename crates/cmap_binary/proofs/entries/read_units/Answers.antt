@@ -11,7 +11,7 @@ pub loop-preserved : goal.loop-preserved
 loop-preserved c = rw c.in_ok-push.ensures.items (row_more _ _ _ _ _ _ _ _ c.loop.invariant (omega arith) c.in-Some-take_u16.ensures)
 
 pub returns : goal.returns
-returns c = (rw (c.in_ok-from_slice.ensures.units, c.deref.ensures.value) (row_end _ _ _ _ _ _ c.loop.invariant (omega arith)), tt)
+returns c = (rw (c.in_ok-units.ensures.units, c.deref.ensures.value) (row_end _ _ _ _ _ _ c.loop.invariant (omega arith)), tt)
 
 pub returns-in_default : goal.returns-in_default
 returns-in_default c = (tt, row_wrong (FieldAt 2) c.args.count c.args.text.now.now 0 _ _ (row_start _ _ _) (omega arith) c.in_default.ensures)
@@ -25,5 +25,5 @@ returns-in_default-take_two c = (tt, rw c.if-count-eq2.true c.in_default-take_tw
 pub returns-in_err-push : goal.returns-in_err-push
 returns-in_err-push c = out_of_memory _ _ c.from_residual.result c.from_residual.ensures.1
 
-pub returns-in_err-from_slice : goal.returns-in_err-from_slice
-returns-in_err-from_slice c = out_of_memory _ _ c.from_residual-in_err-from_slice.result c.from_residual-in_err-from_slice.ensures.1
+pub returns-in_err-units : goal.returns-in_err-units
+returns-in_err-units c = out_of_memory _ _ c.from_residual-in_err-units.result c.from_residual-in_err-units.ensures.1
