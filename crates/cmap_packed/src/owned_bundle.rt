@@ -80,7 +80,8 @@ fn copied(alloc: Global, files: &[&[u8]]) -> Result<Vec<Vec<u8>>, AllocError>
 {
     let mut copies = Vec::with_capacity(alloc, files.len())?;
     for file in files {
-        copies.push(Vec::from_slice(alloc, file)?)?;
+        let copy = Vec::from_slice(alloc, file)?;
+        copies.push(copy)?;
     }
     Ok(copies)
 }

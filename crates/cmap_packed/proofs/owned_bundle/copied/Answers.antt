@@ -8,14 +8,14 @@ use Rattle.cmap_packed.proofs.owned_bundle.copied.Goals as goal
 pub loop-file-preserved : goal.loop-file-preserved
 loop-file-preserved c =
     ap copies_seen c.in_ok-push.ensures.items ∙ map-append (λ copy. copy.items) _ _
-    ∙ (λ k. c.loop-file.invariant k ++ c.in_ok-from_slice.ensures.items k ∷ [])
+    ∙ (λ k. c.loop-file.invariant k ++ c.in_ok-copy.ensures.items k ∷ [])
     ∙ sym (map_more (λ file. file.now) _ c.loop-file.file-index _ c.loop-file-test.true)
 
 pub returns-in_err-copies : goal.returns-in_err-copies
 returns-in_err-copies c = IfOk-from_err _ _ c.from_residual.ensures.0
 
-pub returns-in_err-from_slice : goal.returns-in_err-from_slice
-returns-in_err-from_slice c = IfOk-from_err _ _ c.from_residual-in_err-from_slice.ensures.0
+pub returns-in_err-copy : goal.returns-in_err-copy
+returns-in_err-copy c = IfOk-from_err _ _ c.from_residual-in_err-copy.ensures.0
 
 pub returns-in_err-push : goal.returns-in_err-push
 returns-in_err-push c = IfOk-from_err _ _ c.from_residual-in_err-push.ensures.0
