@@ -112,7 +112,10 @@ fn next_width(table: &PrefixTable, counts: &mut Option<Reader<'_>>) -> Option<u6
         (λ width. (width, option_map bits_left counts.new)) result }
 {
     match counts {
-        Some(counts) => Some(u64::from(next_symbol(table, counts)?) + 1),
+        Some(counts) => {
+            let count = next_symbol(table, counts)?;
+            Some(u64::from(count) + 1)
+        }
         None => Some(0),
     }
 }

@@ -95,7 +95,8 @@ impl<'a> Reader<'a> {
         ensures moves { self.new ≡ (if is_some result then after_bytes self.old n else self.old) }
     {
         let n = usize::from(n);
-        let (_, number) = read_code(self.left().get(..n)?)?;
+        let bytes = self.left().get(..n)?;
+        let (_, number) = read_code(bytes)?;
         self.skip_bytes(n);
         Some(number)
     }
