@@ -1,4 +1,4 @@
-use Rattle.std.proofs.Common.{◌-◌, ◌+◌, ◌≤◌, ◌^◌}
+use Rattle.std.proofs.Common.{◌-◌, ◌≤◌, ◌^◌}
 use Rattle.cmap_listing.proofs.effective.add_texts.Given as goal
 
 abbrev pub invariant-loop-next : goal.invariant-loop-next
