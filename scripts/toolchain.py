@@ -6,6 +6,9 @@ from pathlib import Path
 
 from programs import TOP
 
+# the crates whose exports the C library has
+EXPORTS = ["cmap_c", "cmap_c_maps"]
+
 
 class Toolchain:
     """The toolchain, and the crates of the project by their names."""

@@ -1,4 +1,4 @@
-"""The header against crate cmap_c: calls, structs, enums, version; and against the libraries."""
+"""The header against the crates of the C library: calls, structs, enums, version; and against the libraries."""
 
 import ctypes
 import re
@@ -7,10 +7,12 @@ from .checks import needs, run
 from .library import C_TESTS, COMPILERS, TOP, WARNINGS
 
 HEADER = re.sub(r"/\*.*?\*/", "", (TOP / "include" / "hayro_cmap.h").read_text(), flags=re.S)
-CRATE = TOP / "crates" / "cmap_c" / "src"
+CRATES = TOP / "crates"
+# the crates with calls of the header
+WITH_CALLS = ["cmap_c", "cmap_c_maps"]
 VERSION = (TOP / "VERSION").read_text().strip()
 
-# how a type of the crate is written in the header
+# how a type of the crates is written in the header
 VALUES = {
     "u8": "uint8_t",
     "u16": "uint16_t",
@@ -40,29 +42,34 @@ RESULTS = {
     "bool": {"bool"},
     "": {"void"},
 }
-# structs of the header, and the files and the names of the crate that they have there
+# structs of the header, and the files and the names that they have in the crates
 STRUCTS = [
-    ("hayro_cmap_file", "files.rt", "BaseFile"),
-    ("hayro_cmap_code", "decode.rt", "Code"),
-    ("hayro_cmap_character", "extract.rt", "ExtractedCharacter"),
-    ("hayro_cmap_extracted", "extract.rt", "Extracted"),
-    ("hayro_cmap_codespace", "layers.rt", "CodespaceRange"),
-    ("hayro_cmap_cid_range", "declared.rt", "DeclaredCids"),
-    ("hayro_cmap_text_range", "declared.rt", "DeclaredTexts"),
-    ("hayro_cmap_code_range", "codes_of_cid.rt", "CodeRange"),
-    ("hayro_cmap_fault", "fault.rt", "FaultNumbers"),
+    ("hayro_cmap_file", "cmap_c/src/files.rt", "BaseFile"),
+    ("hayro_cmap_code", "cmap_c_maps/src/decode.rt", "Code"),
+    ("hayro_cmap_character", "cmap_c_maps/src/extract.rt", "ExtractedCharacter"),
+    ("hayro_cmap_extracted", "cmap_c_maps/src/extract.rt", "Extracted"),
+    ("hayro_cmap_codespace", "cmap_handles/src/ranges.rt", "CodespaceRange"),
+    ("hayro_cmap_cid_range", "cmap_handles/src/ranges.rt", "DeclaredCids"),
+    ("hayro_cmap_text_range", "cmap_handles/src/ranges.rt", "DeclaredTexts"),
+    ("hayro_cmap_code_range", "cmap_handles/src/ranges.rt", "CodeRange"),
+    ("hayro_cmap_fault", "cmap_c/src/fault.rt", "FaultNumbers"),
 ]
-# the same of handles, which the crate writes with the slot that they hold
-HANDLES = [("hayro_cmap", "handle.rt", "Map"), ("hayro_cmap_bundle", "bundle.rt", "Bundle")]
+# the same of handles, which crate cmap_handles writes with the slot that they hold
+SLOTS = "cmap_handles/src/slot.rt"
+HANDLES = [
+    ("hayro_cmap", "cmap_handles/src/handle.rt", "Map"),
+    ("hayro_cmap_bundle", "cmap_handles/src/bundle.rt", "Bundle"),
+]
 NUMBERED = r"(?P<number>\d+)(?:, [\w()]+\))? => Some\({}::(?P<name>\w+)"
-# enums of the header: what the crate has no variant for, how and where it writes a variant and its number, and what the
-# header calls otherwise, since another enum has the name
+# enums of the header: what the crates have no variant for, how and where they write a variant and its number, and what
+# the header calls otherwise, since another enum has the name
+STATUSES, MODES, FAULTS = "cmap_handles/src/status.rt", "cmap_c_maps/src/metadata.rt", "cmap_c/src/fault.rt"
 ENUMS = [
-    ("hayro_cmap_status", {}, r"Status::(?P<name>\w+) => (?P<number>\d+),", "status.rt", {"DONE": "OK"}),
-    ("hayro_cmap_mode", {"NO_MODE": "2"}, r"WritingMode::(?P<name>\w+)\) => (?P<number>\d+),", "metadata.rt", {}),
-    ("hayro_cmap_cause", {}, NUMBERED.format("Cause"), "fault.rt", {"OVER_BUDGET": "PAST_BUDGET"}),
-    ("hayro_cmap_reason", {"NO_REASON": "0"}, NUMBERED.format("Reason"), "fault.rt", {}),
-    ("hayro_cmap_segment", {"NO_SEGMENT": "0"}, NUMBERED.format("Segment"), "fault.rt", {"WRITING_MODE": "MODE"}),
+    ("hayro_cmap_status", {}, r"Status::(?P<name>\w+) => (?P<number>\d+),", STATUSES, {"DONE": "OK"}),
+    ("hayro_cmap_mode", {"NO_MODE": "2"}, r"WritingMode::(?P<name>\w+)\) => (?P<number>\d+),", MODES, {}),
+    ("hayro_cmap_cause", {}, NUMBERED.format("Cause"), FAULTS, {"OVER_BUDGET": "PAST_BUDGET"}),
+    ("hayro_cmap_reason", {"NO_REASON": "0"}, NUMBERED.format("Reason"), FAULTS, {}),
+    ("hayro_cmap_segment", {"NO_SEGMENT": "0"}, NUMBERED.format("Segment"), FAULTS, {"WRITING_MODE": "MODE"}),
 ]
 EXPORT = re.compile(
     r"#\[unsafe\(no_mangle\)\]\s(?:#\[.*\]\s)?pub extern \"C\" fn (\w+)(?:<'a>)?"
@@ -75,12 +82,12 @@ ADDED = {"_ITM_deregisterTMCloneTable", "_ITM_registerTMCloneTable", "__cxa_fina
 
 
 def source(name):
-    """A file of the crate."""
-    return (CRATE / name).read_text()
+    """A file of the crates."""
+    return (CRATES / name).read_text()
 
 
 def as_in_c(name, kind):
-    """What the header declares for a parameter or a field of the crate."""
+    """What the header declares for a parameter or a field of the crates."""
     if kind == "Global":
         return []
     if pointed := re.fullmatch(r"&(mut )?(\w+)", kind):
@@ -94,9 +101,9 @@ def as_in_c(name, kind):
 
 
 def exports():
-    """The exports of the crate: what the header may give as the result of each, and its parameters."""
+    """The exports of the crates: what the header may give as the result of each, and its parameters."""
     found = {}
-    for path in CRATE.glob("*.rt"):
+    for path in [path for crate in WITH_CALLS for path in (CRATES / crate / "src").glob("*.rt")]:
         for name, parameters, result in EXPORT.findall(path.read_text()):
             parts = [part.strip().split(": ", 1) for part in parameters.split(",") if part.strip()]
             found[name] = RESULTS[result], [c for part in parts for c in as_in_c(*part)]
@@ -111,8 +118,8 @@ def declarations():
     }
 
 
-def fields_of_crate(file, struct):
-    """The fields of a struct of the crate, each with its type."""
+def fields_of_crates(file, struct):
+    """The fields of a struct of the crates, each with its type."""
     body = re.search(rf"struct {struct}\b.*?\{{(.*?)\n\}}", source(file), re.S)[1]
     return re.findall(r"^ +(?:pub(?:\(crate\))? )?(\w+): (.*),$", body, re.M)
 
@@ -129,8 +136,8 @@ def numbers_of_header(enum):
     return dict(re.findall(r"HAYRO_CMAP_(\w+) = (\d+)", body))
 
 
-def numbers_of_crate(absent, variant, file, others):
-    """The same as the crate has them."""
+def numbers_of_crates(absent, variant, file, others):
+    """The same as the crates have them."""
     numbers = dict(absent)
     for found in re.finditer(variant, source(file)):
         snake = re.sub(r"(?<!^)([A-Z])", r"_\1", found["name"]).upper()
@@ -143,7 +150,7 @@ def public_names(library, *flags):
     return set(re.findall(r" T (\w+)", run("nm", "--defined-only", *flags, library).out))
 
 
-def test_calls_are_those_of_the_crate(checks, _setting):
+def test_calls_are_those_of_the_crates(checks, _setting):
     """The names, the results and the parameters."""
     declared, exported = declarations(), exports()
     checks.same("the calls of the header", sorted(declared), sorted(exported))
@@ -159,34 +166,34 @@ def test_calls_are_tested_from_c(checks, _setting):
     checks.same("the calls without a test in C", [name for name in sorted(declarations()) if f"{name}(" not in tests], [])
 
 
-def test_structs_are_those_of_the_crate(checks, _setting):
+def test_structs_are_those_of_the_crates(checks, _setting):
     """Their fields, in order."""
     for name, file, struct in STRUCTS:
-        fields = [c for field, kind in fields_of_crate(file, struct) for c in as_in_c(field, kind)]
+        fields = [c for field, kind in fields_of_crates(file, struct) for c in as_in_c(field, kind)]
         checks.same(f"the fields of {name}", fields_of_header(name), fields)
-    most = re.search(r"MOST_NAMES: usize = (\d+);", source("fault.rt"))[1]
+    most = re.search(r"MOST_NAMES: usize = (\d+);", source(FAULTS))[1]
     checks.same("HAYRO_CMAP_MOST_NAMES", re.search(r"#define HAYRO_CMAP_MOST_NAMES (.*)", HEADER)[1], most)
 
 
-def test_handles_are_those_of_the_crate(checks, _setting):
+def test_handles_are_those_of_the_crates(checks, _setting):
     """A flag and a pointer."""
     for name, file, kind in HANDLES:
-        crate = fields_of_crate(file, f"{kind}Handle") + fields_of_crate("slot.rt", f"{kind}Slot")
+        crate = fields_of_crates(file, f"{kind}Handle") + fields_of_crates(SLOTS, f"{kind}Slot")
         expected = [("full", "bool"), ("slot", f"{kind}Slot"), ("at", "*mut u8"), ("alloc", "Global")]
         checks.same(f"the fields of {kind}Handle", crate, expected)
         checks.same(f"the fields of {name}", fields_of_header(name), ["bool full", f"void *{kind.lower()}"])
 
 
-def test_numbers_are_those_of_the_crate(checks, _setting):
+def test_numbers_are_those_of_the_crates(checks, _setting):
     """Statuses, modes, causes, reasons and segments."""
     for enum, *of_crate in ENUMS:
-        checks.same(f"the numbers of {enum}", numbers_of_header(enum), numbers_of_crate(*of_crate))
+        checks.same(f"the numbers of {enum}", numbers_of_header(enum), numbers_of_crates(*of_crate))
 
 
 def test_versions_are_one(checks, setting):
-    """That of the header, of the crate and of the library."""
+    """That of the header, of crate cmap_c and of the library."""
     checks.same("HAYRO_CMAP_VERSION", re.search(r'HAYRO_CMAP_VERSION "(.*)"', HEADER)[1], VERSION)
-    checks.same("the version of the crate", re.search(r'put_bytes\(b"(.*?)"', source("version.rt"))[1], VERSION)
+    checks.same("the version of the crate", re.search(r'put_bytes\(b"(.*?)"', source("cmap_c/src/version.rt"))[1], VERSION)
     room, needed = ctypes.create_string_buffer(64), ctypes.c_size_t()
     version = ctypes.CDLL(str(setting.library.shared)).hayro_cmap_version
     status = version(room, ctypes.c_size_t(len(room)), ctypes.byref(needed))

@@ -11,12 +11,12 @@ use Rattle.hayro_cmap.specs.declared.refusal.Refusal.{Refusal}
 use Rattle.cmap_c.specs.Endings.{EndsOver, IsExplainedOver, IsKept, IsTold}
 use Rattle.cmap_c.specs.Faults.{IsExplained, IsToldFrom, status_of}
 use Rattle.cmap_c.specs.NamedFiles.{ExceedsBudgetOver, FitsBudgetOver, HasNoMapOver, IsMapOver, LeadsToFaultOver}
-use Rattle.cmap_c.specs.Statuses.{number}
+use Rattle.cmap_handles.specs.Statuses.{number}
 use Rattle.cmap_c.specs.declared.fault.FaultNumbers.{FaultNumbers}
 use Rattle.cmap_c.specs.declared.fault.Told.{Told}
 use Rattle.cmap_c.specs.declared.files.BaseFile.{BaseFile}
-use Rattle.cmap_c.specs.declared.status.Status.{Status}
-use Rattle.cmap_c.specs.declared.status.Status.TheVariants.{NoMemory}
+use Rattle.cmap_handles.specs.declared.status.Status.{Status}
+use Rattle.cmap_handles.specs.declared.status.Status.TheVariants.{NoMemory}
 use Rattle.cmap_c.proofs.StatusOfCauses.{ends_of, number_of_cause}
 
 neither : {n : ℕ} → (n ≡ 1) ⊎ (n ≡ 3) → (n ≡ 0) ⊎ (n ≡ 2) → ⊥

@@ -2,9 +2,9 @@
 use Rattle.std.proofs.Common.{◌≡◌, ◌<◌, ◌≤◌, ◌⊎◌, ℕ, List, IsSomeAnd, None, Option, Ok, Err, Result, arith, inl, inr}
 use Rattle.cmap_layers.specs.Layers.{Layer}
 use Rattle.cmap_c.specs.Endings.{Ends, IsKept}
-use Rattle.cmap_c.specs.Statuses.{number}
-use Rattle.cmap_c.specs.declared.status.Status.{Status}
-use Rattle.cmap_c.specs.declared.status.Status.TheVariants.{Done, Refused, NoMemory, OverBudget, NotABundle, Absent, NoRoom}
+use Rattle.cmap_handles.specs.Statuses.{number}
+use Rattle.cmap_handles.specs.declared.status.Status.{Status}
+use Rattle.cmap_handles.specs.declared.status.Status.TheVariants.{Done, Refused, NoMemory, OverBudget, NotABundle, Absent, NoRoom}
 
 below_two : {n : ℕ} → 1 < n → (n ≡ 0) ⊎ (n ≡ 1) → ⊥
 below_two many (inl is) = omega arith

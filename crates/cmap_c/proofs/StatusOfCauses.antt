@@ -9,8 +9,8 @@ use Rattle.hayro_cmap.specs.declared.refusal.Cause.TheVariants as cause
 use Rattle.hayro_cmap.specs.declared.refusal.Refusal.{Refusal}
 use Rattle.cmap_c.specs.Endings.{Ends}
 use Rattle.cmap_c.specs.Faults.{ending_of, status_of}
-use Rattle.cmap_c.specs.Statuses.{number}
-use Rattle.cmap_c.specs.declared.status.Status.{Status}
+use Rattle.cmap_handles.specs.Statuses.{number}
+use Rattle.cmap_handles.specs.declared.status.Status.{Status}
 
 module _ (IsMap : List Layer → Type 0) (none fits over invalid absent : Type 0) where
   pub ends_of : (c : Cause) → (c ≢ cause.OverBudget → none × fits) → (c ≡ cause.OverBudget → over) → Ends IsMap none fits over invalid absent (Err (status_of c))

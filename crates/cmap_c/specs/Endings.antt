@@ -10,13 +10,13 @@ use Rattle.hayro_cmap.specs.declared.refusal.Cause.TheVariants as cause
 use Rattle.cmap_c.specs.Faults.{IsToldWith, status_of}
 use Rattle.cmap_c.specs.NamedFiles.{ExceedsBudgetOver, FitsBudgetOver, HasNoMapOver, IsMapOver, LeadsToFaultOver}
 use Rattle.cmap_c.specs.Opened.{ExceedsBudgetNamed, FitsBudgetNamed, HasNoMapNamed, IsMapNamed, IsUnknownOver}
-use Rattle.cmap_c.specs.Rooms.{IsPut}
-use Rattle.cmap_c.specs.Statuses.{number}
+use Rattle.cmap_handles.specs.Rooms.{IsPut}
+use Rattle.cmap_handles.specs.Statuses.{number}
 use Rattle.cmap_c.specs.declared.fault.FaultNumbers.{FaultNumbers}
 use Rattle.cmap_c.specs.declared.fault.Told.{Told}
 use Rattle.cmap_c.specs.declared.files.BaseFile.{BaseFile}
-use Rattle.cmap_c.specs.declared.status.Status.{Status}
-use Rattle.cmap_c.specs.declared.status.Status.TheVariants.{Done, Refused, NoMemory, OverBudget, NotABundle, Absent, NoRoom}
+use Rattle.cmap_handles.specs.declared.status.Status.{Status}
+use Rattle.cmap_handles.specs.declared.status.Status.TheVariants.{Done, Refused, NoMemory, OverBudget, NotABundle, Absent, NoRoom}
 
 -- the map is such a one and the budget suffices, or the status says why there is none; of a want of memory nothing is said
 abbrev pub Ends : (List Layer → Type 0) → (none fits over invalid absent : Type 0) → Result (List Layer) Status → Type 0

@@ -13,12 +13,12 @@ use Rattle.cmap_values.specs.declared.fault.Segment.TheVariants as segment
 use Rattle.hayro_cmap.specs.declared.refusal.Cause.{Cause}
 use Rattle.hayro_cmap.specs.declared.refusal.Cause.TheVariants as cause
 use Rattle.hayro_cmap.specs.declared.refusal.Refusal.{Refusal}
-use Rattle.cmap_c.specs.Rooms.{IsPut}
-use Rattle.cmap_c.specs.Statuses.{number}
+use Rattle.cmap_handles.specs.Rooms.{IsPut}
+use Rattle.cmap_handles.specs.Statuses.{number}
 use Rattle.cmap_c.specs.declared.fault.FaultNumbers.{FaultNumbers}
 use Rattle.cmap_c.specs.declared.fault.Told.{Told}
-use Rattle.cmap_c.specs.declared.status.Status.{Status}
-use Rattle.cmap_c.specs.declared.status.Status.TheVariants.{Refused, NoMemory, OverBudget}
+use Rattle.cmap_handles.specs.declared.status.Status.{Status}
+use Rattle.cmap_handles.specs.declared.status.Status.TheVariants.{Refused, NoMemory, OverBudget}
 
 -- the number of a segment
 abbrev pub segment_number : Segment → ℕ

@@ -7,7 +7,7 @@ use Rattle.hayro_cmap.specs.Maps.{ExceedsBudget, HasNoMap}
 use Rattle.hayro_cmap.specs.Salvage.{BeginsWithFault, GivesMap, NamedFault, SalvagesMap}
 use Rattle.cmap_c.specs.Faults.{fault_numbers}
 use Rattle.cmap_c.specs.NamedFiles.{answers}
-use Rattle.cmap_c.specs.Rooms.{IsPut}
+use Rattle.cmap_handles.specs.Rooms.{IsPut}
 use Rattle.cmap_c.specs.declared.fault.FaultNumbers.{FaultNumbers}
 use Rattle.cmap_c.specs.declared.files.BaseFile.{BaseFile}
 use Rattle.cmap_c.specs.declared.salvage.Salvaged.{Salvaged}

@@ -5,16 +5,17 @@ ghost use Rattle.std.specs.Option.{option_copied};
 ghost use Rattle.cmap_c.specs.Endings.{IsExplainedOver, IsTold};
 ghost use Rattle.cmap_c.specs.Faults.{IsExplained};
 ghost use Rattle.cmap_c.specs.NamedFiles.{ExceedsBudgetOver, FitsBudgetOver, HasNoMapOver, IsMapOver, LeadsToFaultOver, budget_of};
-ghost use Rattle.cmap_c.specs.Statuses.{number};
-ghost use Rattle.cmap_c.specs.declared.status.Status.TheVariants.{Done, Refused, NoMemory, OverBudget};
+ghost use Rattle.cmap_handles.specs.Statuses.{number};
+ghost use Rattle.cmap_handles.specs.declared.status.Status.TheVariants.{Done, Refused, NoMemory, OverBudget};
 
-use crate::bundle::{BundleHandle, lent};
 use crate::fault::{FaultNumbers, Told, status_of};
 use crate::files::BaseFile;
-use crate::handle::{MapHandle, hayro_cmap_free};
+use crate::keep::keep_read;
 use crate::parse::{limit, tables_of};
-use crate::room::put_bytes;
-use crate::status::Status;
+use cmap_handles::bundle::{BundleHandle, lent};
+use cmap_handles::handle::MapHandle;
+use cmap_handles::room::put_bytes;
+use cmap_handles::status::Status;
 use hayro_cmap::bcmap::OwnedBundle;
 use hayro_cmap::{CMap, Fault, NamedFiles};
 use std::alloc::Global;
@@ -50,11 +51,11 @@ pub extern "C" fn hayro_cmap_explain(
     ensures failed { (result ≡ number Done)
         ⊎ ((result ≤ number OverBudget) × (map.new.slot.map ≡ None)) }
 {
-    hayro_cmap_free(map, alloc);
+    map.clear(alloc);
     let found = bundle.take(alloc);
     let explained = explain_owned(alloc, limit(budget), data, lent(&found), files);
     bundle.put_back(found);
-    map.keep_read(alloc, tell(explained, fault, room, needed))
+    keep_read(map, alloc, tell(explained, fault, room, needed))
 }
 
 /// The map, or how the call ends without one; C is told why there is none.

@@ -3,12 +3,13 @@
 ghost use Rattle.std.specs.Prelude.{◌≡◌, ◌⊎◌, None, Some, [], ◌∷◌, codes, true, false};
 ghost use Rattle.cmap_files.specs.Files as files;
 ghost use Rattle.hayro_cmap.specs.Identity.{identity_layer};
-ghost use Rattle.cmap_c.specs.Statuses.{number};
-ghost use Rattle.cmap_c.specs.declared.status.Status.TheVariants.{Done, NoMemory};
+ghost use Rattle.cmap_handles.specs.Statuses.{number};
+ghost use Rattle.cmap_handles.specs.declared.status.Status.TheVariants.{Done, NoMemory};
 
-use crate::handle::{MapHandle, hayro_cmap_free};
-use crate::shared::Shared;
-use crate::status::Status;
+use crate::keep::held;
+use cmap_handles::handle::MapHandle;
+use cmap_handles::shared::Shared;
+use cmap_handles::status::Status;
 use hayro_cmap::CMap;
 use std::alloc::Global;
 
@@ -23,14 +24,14 @@ pub extern "C" fn hayro_cmap_identity(map: &mut MapHandle, alloc: Global, vertic
     ensures failed { (result ≡ number Done)
         ⊎ ((result ≡ number NoMemory) × (map.new.slot.map ≡ None)) }
 {
-    hayro_cmap_free(map, alloc);
+    map.clear(alloc);
     let made = if vertical {
         CMap::identity_v(alloc)
     } else {
         CMap::identity_h(alloc)
     };
     match made {
-        Ok(made) => map.keep(Shared::new(alloc, made)),
+        Ok(made) => map.keep(Shared::new(alloc, held(made))),
         Err(_) => Status::NoMemory.number(),
     }
 }

@@ -4,13 +4,13 @@ ghost use Rattle.std.specs.Prelude.{◌≡◌, ◌⊎◌, ℕ, List};
 ghost use Rattle.cmap_values.specs.Only.{IsOnly, HoldsOfNone};
 ghost use Rattle.hayro_cmap.specs.declared.refusal.Cause.{Cause};
 ghost use Rattle.cmap_c.specs.Faults.{HasNumbers};
-ghost use Rattle.cmap_c.specs.Rooms.{IsPut};
-ghost use Rattle.cmap_c.specs.Statuses.{number};
-ghost use Rattle.cmap_c.specs.declared.status.Status.TheVariants.{Done, NoMemory, Absent, NoRoom};
+ghost use Rattle.cmap_handles.specs.Rooms.{IsPut};
+ghost use Rattle.cmap_handles.specs.Statuses.{number};
+ghost use Rattle.cmap_handles.specs.declared.status.Status.TheVariants.{Done, NoMemory, Absent, NoRoom};
 
 use crate::fault::FaultNumbers;
-use crate::room::put_bytes;
-use crate::status::Status;
+use cmap_handles::room::put_bytes;
+use cmap_handles::status::Status;
 use std::alloc::Global;
 
 /// What is wrong, in English: the text of the cause that has these numbers.

@@ -5,15 +5,16 @@ ghost use Rattle.std.specs.Option.{option_copied};
 ghost use Rattle.cmap_c.specs.Endings.{EndsNamed};
 ghost use Rattle.cmap_c.specs.NamedFiles.{budget_of};
 ghost use Rattle.cmap_c.specs.Opened.{ExceedsBudgetNamed, FitsBudgetNamed, HasNoMapNamed, IsMapNamed, IsUnknownOver};
-ghost use Rattle.cmap_c.specs.Statuses.{number};
-ghost use Rattle.cmap_c.specs.declared.status.Status.TheVariants.{Done, Refused, OverBudget, Absent};
+ghost use Rattle.cmap_handles.specs.Statuses.{number};
+ghost use Rattle.cmap_handles.specs.declared.status.Status.TheVariants.{Done, Refused, OverBudget, Absent};
 
-use crate::bundle::{BundleHandle, lent};
 use crate::fault::ending_of;
 use crate::files::BaseFile;
-use crate::handle::{MapHandle, hayro_cmap_free};
+use crate::keep::keep_read;
 use crate::parse::{limit, tables_of};
-use crate::status::Status;
+use cmap_handles::bundle::{BundleHandle, lent};
+use cmap_handles::handle::MapHandle;
+use cmap_handles::status::Status;
 use hayro_cmap::bcmap::OwnedBundle;
 use hayro_cmap::{CMap, NamedFiles};
 use std::alloc::Global;
@@ -44,11 +45,11 @@ pub extern "C" fn hayro_cmap_open(
     ensures failed { (result ≡ number Done)
         ⊎ (((result ≤ number OverBudget) ⊎ (result ≡ number Absent)) × (map.new.slot.map ≡ None)) }
 {
-    hayro_cmap_free(map, alloc);
+    map.clear(alloc);
     let found = bundle.take(alloc);
     let opened = open_owned(alloc, limit(budget), name, lent(&found), files);
     bundle.put_back(found);
-    map.keep_read(alloc, opened)
+    keep_read(map, alloc, opened)
 }
 
 /// The map of the file of this name, over these files and those of a bundle, if there is one.

@@ -7,14 +7,15 @@ ghost use Rattle.cmap_packed.specs.Bundles.{IsBundle};
 ghost use Rattle.cmap_values.specs.Only.{HoldsOfNone};
 ghost use Rattle.cmap_c.specs.Endings.{Ends, EndsBy, EndsOver};
 ghost use Rattle.cmap_c.specs.NamedFiles.{ExceedsBudgetOver, FitsBudgetOver, HasNoMapOver, IsMapOver, OfGiven, answers, budget_of, bundle_in};
-ghost use Rattle.cmap_c.specs.Statuses.{number};
-ghost use Rattle.cmap_c.specs.declared.status.Status.TheVariants.{Done, Refused, OverBudget, NotABundle};
+ghost use Rattle.cmap_handles.specs.Statuses.{number};
+ghost use Rattle.cmap_handles.specs.declared.status.Status.TheVariants.{Done, Refused, OverBudget, NotABundle};
 
-use crate::bundle::{BundleHandle, lent};
 use crate::fault::ending_of;
 use crate::files::BaseFile;
-use crate::handle::{MapHandle, hayro_cmap_free};
-use crate::status::Status;
+use crate::keep::keep_read;
+use cmap_handles::bundle::{BundleHandle, lent};
+use cmap_handles::handle::MapHandle;
+use cmap_handles::status::Status;
 use hayro_cmap::bcmap::{Bundle, OwnedBundle};
 use hayro_cmap::{BundleFiles, CMap, NamedFiles};
 use std::alloc::Global;
@@ -44,8 +45,8 @@ pub extern "C" fn hayro_cmap_parse<'a>(
     ensures failed { (result ≡ number Done)
         ⊎ ((result ≤ number NotABundle) × (map.new.slot.map ≡ None)) }
 {
-    hayro_cmap_free(map, alloc);
-    map.keep_read(alloc, parse(alloc, limit(budget), data, bundle, files))
+    map.clear(alloc);
+    keep_read(map, alloc, parse(alloc, limit(budget), data, bundle, files))
 }
 
 /// The map of the file `data`, as `hayro_cmap_parse` gives it, over a bundle that is open already, or
@@ -71,11 +72,11 @@ pub extern "C" fn hayro_cmap_parse_over(
     ensures failed { (result ≡ number Done)
         ⊎ ((result ≤ number OverBudget) × (map.new.slot.map ≡ None)) }
 {
-    hayro_cmap_free(map, alloc);
+    map.clear(alloc);
     let found = bundle.take(alloc);
     let parsed = parse_owned(alloc, limit(budget), data, lent(&found), files);
     bundle.put_back(found);
-    map.keep_read(alloc, parsed)
+    keep_read(map, alloc, parsed)
 }
 
 /// The budget that a number stands for.

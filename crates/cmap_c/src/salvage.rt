@@ -6,18 +6,20 @@ ghost use Rattle.std.specs.Option.{option_copied};
 ghost use Rattle.hayro_cmap.specs.SalvageSeen.{faults_seen};
 ghost use Rattle.cmap_c.specs.NamedFiles.{budget_of};
 ghost use Rattle.cmap_c.specs.Salvaged.{AreFaultsShown, IsSalvageOver, IsSalvaged, IsSalvagedWith};
-ghost use Rattle.cmap_c.specs.Statuses.{number};
-ghost use Rattle.cmap_c.specs.declared.status.Status.TheVariants.{Done, NoMemory};
+ghost use Rattle.cmap_handles.specs.Statuses.{number};
+ghost use Rattle.cmap_handles.specs.declared.status.Status.TheVariants.{Done, NoMemory};
 
-use crate::bundle::{BundleHandle, lent};
 use crate::fault::FaultNumbers;
 use crate::files::BaseFile;
-use crate::handle::{MapHandle, hayro_cmap_free};
-use crate::names::push_names;
+use crate::keep::held;
 use crate::parse::{limit, tables_of};
-use crate::room::{put_bytes, put_head};
-use crate::shared::Shared;
-use crate::status::Status;
+use cmap_handles::bundle::{BundleHandle, lent};
+use cmap_handles::handle::MapHandle;
+use cmap_handles::held_map::HeldMap;
+use cmap_handles::names::push_names;
+use cmap_handles::room::{put_bytes, put_head};
+use cmap_handles::shared::Shared;
+use cmap_handles::status::Status;
 use cmap_values::memory::both;
 use hayro_cmap::bcmap::OwnedBundle;
 use hayro_cmap::{CMap, NamedFiles, Refusal, SalvagedMap};
@@ -50,7 +52,7 @@ pub extern "C" fn hayro_cmap_salvage(
     ensures failed { (result ≡ number Done)
         ⊎ ((result ≡ number NoMemory) × (map.new.slot.map ≡ None)) }
 {
-    hayro_cmap_free(map, alloc);
+    map.clear(alloc);
     let read = bundle.take(alloc);
     let salvaged = salvage_owned(alloc, limit(budget), data, lent(&read), files);
     bundle.put_back(read);
@@ -67,7 +69,7 @@ pub extern "C" fn hayro_cmap_salvage(
 /// What C gets of a file that is read past its faults.
 #[derive(Drop)]
 pub(crate) struct Salvaged {
-    pub(crate) map: Box<Shared<CMap>>,
+    pub(crate) map: Box<Shared<HeldMap>>,
     pub(crate) shown: ShownFaults,
 }
 
@@ -77,7 +79,10 @@ impl Salvaged {
         ensures { IfOk result (λ made. (made.map.value ≡ map)
             × AreFaultsShown (faults_seen faults.now) made.shown) }
     {
-        let (map, shown) = both(Shared::new(alloc, map), ShownFaults::of(alloc, faults))?;
+        let (map, shown) = both(
+            Shared::new(alloc, held(map)),
+            ShownFaults::of(alloc, faults),
+        )?;
         Ok(Salvaged { map, shown })
     }
 }

@@ -4,15 +4,15 @@ ghost use Rattle.std.specs.Prelude.{◌≡◌, ◌⊎◌, ℕ, List, length};
 ghost use Rattle.cmap_values.specs.NamesSeen.{names_seen};
 ghost use Rattle.cmap_values.specs.Only.{IsOnly, HoldsOfNone};
 ghost use Rattle.cmap_c.specs.NamedFiles.{AreUsesOver};
-ghost use Rattle.cmap_c.specs.Rooms.{AreBothPut};
-ghost use Rattle.cmap_c.specs.Statuses.{number};
-ghost use Rattle.cmap_c.specs.declared.status.Status.TheVariants.{Refused, NoMemory, Done, NoRoom};
+ghost use Rattle.cmap_handles.specs.Rooms.{AreBothPut};
+ghost use Rattle.cmap_handles.specs.Statuses.{number};
+ghost use Rattle.cmap_handles.specs.declared.status.Status.TheVariants.{Refused, NoMemory, Done, NoRoom};
 
-use crate::bundle::{BundleHandle, lent};
-use crate::names::joined;
 use crate::parse::tables_of;
-use crate::room::{fill, put_bytes};
-use crate::status::Status;
+use cmap_handles::bundle::{BundleHandle, lent};
+use cmap_handles::names::joined;
+use cmap_handles::room::{fill, put_bytes};
+use cmap_handles::status::Status;
 use hayro_cmap::CMap;
 use std::alloc::Global;
 

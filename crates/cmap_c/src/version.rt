@@ -1,9 +1,9 @@
 //! The version of the library, for C.
 
 ghost use Rattle.std.specs.Prelude.{codes};
-ghost use Rattle.cmap_c.specs.Rooms.{IsPut};
+ghost use Rattle.cmap_handles.specs.Rooms.{IsPut};
 
-use crate::room::put_bytes;
+use cmap_handles::room::put_bytes;
 
 /// The version of the library, in ASCII.
 #[unsafe(no_mangle)]

@@ -10,10 +10,11 @@ ghost use Rattle.cmap_files.specs.DeclarationsSeen.{bf_entry_seen, cid_entry_see
 ghost use Rattle.cmap_files.specs.Files.{of_length};
 ghost use Rattle.cmap_values.specs.UnitsSeen.{units_seen};
 ghost use Rattle.cmap_layers.specs.LayersSeen.{by_length_seen, layer_seen, layers_seen};
-ghost use Rattle.cmap_layers.specs.Lookups.{bf_at, bf_of, bf_span, cid_of, cid_span, last_bf, last_cid};
+ghost use Rattle.cmap_layers.specs.Lookups.{InCodespace, bf_at, bf_of, bf_span, cid_of, cid_span, last_bf, last_cid};
 ghost use Rattle.cmap_layers.specs.LayersDecide.{deciding_bf, layer_cid};
 ghost use Rattle.cmap_layers.specs.Searches.{bf_looks, cid_looks, finds_text, layer_looks, search_looks};
 
+use crate::codespaces;
 use crate::layers::Layer;
 use cmap_files::declarations::{BfRange, ByLength, CidRange};
 use cmap_runs::runs::{Looks, Table};
@@ -56,6 +57,23 @@ fn cid_in_turn(layers: &[Layer], code: u32, byte_len: u8, looks: &mut Looks) -> 
         }
     }
     None
+}
+
+/// The answer of `cid_of`, where the code lies in a codespace range of some layer; else `None`.
+///
+/// A code lies in a range of its own length where each of its bytes lies between those of the
+/// range's two ends. One that doesn't fit in its length lies in none. ISO 32000-1, 9.7.6.2.
+pub fn cid_within(layers: &[Layer], code: u32, byte_len: u8, looks: &mut Looks) -> Option<Cid>
+    ensures within { InCodespace (layers_seen layers.now) code byte_len
+        → result ≡ cid_of (layers_seen layers.now) code byte_len }
+    ensures outside { (InCodespace (layers_seen layers.now) code byte_len → ⊥) → result ≡ None }
+{
+    let cid = cid_of(layers, code, byte_len, looks)?;
+    if codespaces::contains(layers, code, byte_len) {
+        Some(cid)
+    } else {
+        None
+    }
 }
 
 /// The text of a code; what is looked at is counted.

@@ -42,7 +42,7 @@ use cmap_files::declarations::{CidRange, Codespace, Lists};
 use cmap_layers::layers::Layer;
 use cmap_layers::stretches::{CidStretch, TextStretch};
 use cmap_layers::string_codes::StringCode;
-use cmap_layers::{codespaces, lookup, row, stretches, string_codes};
+use cmap_layers::{lookup, row, stretches, string_codes};
 use cmap_packed::Bundle;
 use cmap_runs::runs::{Looks, Range};
 use cmap_tokens::utf16::BfString;
@@ -337,6 +337,14 @@ impl CMap {
         self.layers.as_slice()
     }
 
+    /// The layers of the map, which are the caller's then. There are at least one and at most 16.
+    pub fn into_layers(self) -> Vec<Layer>
+        ensures layers { layers_seen result.items ≡ self }
+        ensures few { (0 < length result.items) × (length result.items ≤ 16) }
+    {
+        self.layers
+    }
+
     /// The CID of `code`, a code of `byte_len` bytes, big-endian.
     ///
     /// It is `None` where no layer decides, for a `byte_len` outside 1 to 4, and where the CID that is
@@ -423,12 +431,7 @@ impl CMap {
             → result ≡ cid_of self.now code byte_len }
         ensures outside { (InCodespace self.now code byte_len → ⊥) → result ≡ None }
     {
-        let cid = self.lookup_cid_code(code, byte_len)?;
-        if codespaces::contains(self.layers(), code, byte_len) {
-            Some(cid)
-        } else {
-            None
-        }
+        lookup::cid_within(self.layers(), code, byte_len, &mut Looks::new())
     }
 
     /// The code that a string begins with, and how many bytes it has; `None` where the string is

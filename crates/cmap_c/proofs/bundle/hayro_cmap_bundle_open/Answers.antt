@@ -2,9 +2,9 @@ use Rattle.std.proofs.Common.{inl, inr, refl, subst, sym}
 use Rattle.std.specs.Prelude.{IsSomeAnd}
 use Rattle.cmap_packed.specs.Bundles.{IsBundle}
 use Rattle.cmap_values.specs.Only.{IsOnly, HoldsOfNone}
-use Rattle.cmap_c.specs.declared.status.Status.TheVariants.{Done, NoMemory, NotABundle}
-use Rattle.cmap_c.proofs.HandlesRead.{kept, kept_done}
-use Rattle.cmap_c.proofs.StatusNumbers.{not_both}
+use Rattle.cmap_handles.specs.declared.status.Status.TheVariants.{Done, NoMemory, NotABundle}
+use Rattle.cmap_handles.proofs.HandlesRead.{kept, kept_done}
+use Rattle.cmap_handles.proofs.StatusNumbers.{not_both}
 use Rattle.cmap_c.proofs.bundle.hayro_cmap_bundle_open.Goals as goal
 
 pub returns-in-Ok-Some : goal.returns-in-Ok-Some

@@ -14,7 +14,7 @@ explained c =
 
 -- what the number says that is returned
 says : (c : goal.After-keep_read) → let bundle = c.args.bundle.now.slot.bundle in let files = c.args.files.now in let bytes = c.args.data.now in let budget = budget_of c.args.budget in
-    Ended (IsMapOver bundle files bytes) (HasNoMapOver bundle files bytes) (FitsBudgetOver bundle files bytes budget) (ExceedsBudgetOver bundle files bytes budget) ⊥ ⊥ c.keep_read.result c.keep_read.new.self.slot.map
+    Ended (IsMapOver bundle files bytes) (HasNoMapOver bundle files bytes) (FitsBudgetOver bundle files bytes budget) (ExceedsBudgetOver bundle files bytes budget) ⊥ ⊥ c.keep_read.result c.keep_read.new.handle.slot.map
 says c = ended _ _ _ _ _ _ c.tell.result _ _ (told_ends _ _ _ _ c.explain_owned-explained.result _ _ _ _ _ _ _ (explained c) c.tell.ensures) c.keep_read.ensures
 
 pub returns : goal.returns

@@ -1,6 +1,6 @@
 use Rattle.std.proofs.Common.{inl, inr, refl}
-use Rattle.cmap_c.specs.declared.status.Status.TheVariants.{Absent, Done, NoMemory, NoRoom}
-use Rattle.cmap_c.proofs.StatusNumbers.{neither, not_both, put_ends, put_no_memory, put_not_absent}
+use Rattle.cmap_handles.specs.declared.status.Status.TheVariants.{Absent, Done, NoMemory, NoRoom}
+use Rattle.cmap_handles.proofs.StatusNumbers.{neither, not_both, put_ends, put_no_memory, put_not_absent}
 use Rattle.cmap_c.proofs.message.hayro_cmap_message.Goals as goal
 
 pub returns-in_default : goal.returns-in_default

@@ -7,7 +7,7 @@ use Rattle.cmap_c.proofs.open.hayro_cmap_open.Goals as goal
 
 -- what the number says that is returned
 says : (c : goal.After-keep_read) → let bundle = c.args.bundle.now.slot.bundle in let files = c.args.files.now in let name = c.args.name.now in let budget = budget_of c.args.budget in
-    Ended (IsMapNamed bundle files name) (HasNoMapNamed bundle files name) (FitsBudgetNamed bundle files name budget) (ExceedsBudgetNamed bundle files name budget) ⊥ (IsUnknownOver bundle files name) c.keep_read.result c.keep_read.new.self.slot.map
+    Ended (IsMapNamed bundle files name) (HasNoMapNamed bundle files name) (FitsBudgetNamed bundle files name budget) (ExceedsBudgetNamed bundle files name budget) ⊥ (IsUnknownOver bundle files name) c.keep_read.result c.keep_read.new.handle.slot.map
 says c =
     let given : option_copied c.lent.result ≡ c.args.bundle.now.slot.bundle = c.lent.ensures ∙ c.take-found.ensures.bundle in
     ended _ _ _ _ _ _ c.open_owned-opened.result _ _ (rw (given, c.limit.ensures) at c.open_owned-opened.ensures) c.keep_read.ensures

@@ -8,7 +8,7 @@ use Rattle.cmap_c.proofs.parse.hayro_cmap_parse.Goals as goal
 -- what the number says that is returned
 says : (c : goal.After-keep_read) → let bytes = c.args.bundle.now in let files = c.args.files.now in let file = c.args.data.now in let budget = budget_of c.args.budget in
     Ended (λ map. OfGiven bytes (λ given. IsMapOver given files file map)) (OfGiven bytes (λ given. HasNoMapOver given files file)) (OfGiven bytes (λ given. FitsBudgetOver given files file budget))
-    (OfGiven bytes (λ given. ExceedsBudgetOver given files file budget)) ((bytes ≢ []) × HoldsOfNone (IsBundle bytes)) ⊥ c.keep_read.result c.keep_read.new.self.slot.map
+    (OfGiven bytes (λ given. ExceedsBudgetOver given files file budget)) ((bytes ≢ []) × HoldsOfNone (IsBundle bytes)) ⊥ c.keep_read.result c.keep_read.new.handle.slot.map
 says c = ended _ _ _ _ _ _ c.parse.result _ _ (rw c.limit.ensures at c.parse.ensures) c.keep_read.ensures
 
 at_most_four : {n : ℕ} {A B : Type 0} → (n ≡ 0) ⊎ (((n ≤ 3) ⊎ (((n ≡ 4) × B) ⊎ ((n ≡ 5) × ⊥))) × A) → (n ≡ 0) ⊎ ((n ≤ 4) × A)

@@ -6,7 +6,7 @@ use Rattle.cmap_c.proofs.parse.hayro_cmap_parse_over.Goals as goal
 
 -- what the number says that is returned
 says : (c : goal.After-keep_read) → let bundle = c.args.bundle.now.slot.bundle in let files = c.args.files.now in let bytes = c.args.data.now in let budget = budget_of c.args.budget in
-    Ended (IsMapOver bundle files bytes) (HasNoMapOver bundle files bytes) (FitsBudgetOver bundle files bytes budget) (ExceedsBudgetOver bundle files bytes budget) ⊥ ⊥ c.keep_read.result c.keep_read.new.self.slot.map
+    Ended (IsMapOver bundle files bytes) (HasNoMapOver bundle files bytes) (FitsBudgetOver bundle files bytes budget) (ExceedsBudgetOver bundle files bytes budget) ⊥ ⊥ c.keep_read.result c.keep_read.new.handle.slot.map
 says c =
     let given : option_copied c.lent.result ≡ c.args.bundle.now.slot.bundle = c.lent.ensures ∙ c.take-found.ensures.bundle in
     ended _ _ _ _ _ _ c.parse_owned-parsed.result _ _ (rw (given, c.limit.ensures) at c.parse_owned-parsed.ensures) c.keep_read.ensures

@@ -2,10 +2,10 @@ use Rattle.std.proofs.Common.{◌≡◌, ◌++◌, ◌∙◌, ℕ, List, ap, dro
 use Rattle.std.proofs.Math.ListN.{length-map}
 use Rattle.std.specs.Option.{option_copied}
 use Rattle.cmap_c.specs.Faults.{fault_numbers}
-use Rattle.cmap_c.specs.Rooms.{IsPut}
+use Rattle.cmap_handles.specs.Rooms.{IsPut}
 use Rattle.cmap_c.specs.Salvaged.{IsSalvageOver, IsSalvagedWith, numbers_of_all}
-use Rattle.cmap_c.specs.declared.status.Status.TheVariants.{Done, NoMemory}
-use Rattle.cmap_c.proofs.StatusNumbers.{not_both}
+use Rattle.cmap_handles.specs.declared.status.Status.TheVariants.{Done, NoMemory}
+use Rattle.cmap_handles.proofs.StatusNumbers.{not_both}
 use Rattle.cmap_c.proofs.salvage.hayro_cmap_salvage.Goals as goal
 
 heads : {A : Type 0} (old new items shown : List A) (many : ℕ) → items ≡ shown → length shown ≡ many → new ≡ take (length old) items ++ drop (length items) old → new ≡ take (length old) shown ++ drop many old
@@ -16,7 +16,7 @@ returns-in_default c = record {
   same = c.put_back.ensures ∙ c.take-read.ensures.bundle;
   says = λ done. absurd (not_both NoMemory Done refl c.number.ensures done);
   unwritten = λ _. (refl, refl, refl, refl);
-  failed = inr (c.number.ensures, c.hayro_cmap_free.ensures);
+  failed = inr (c.number.ensures, c.clear.ensures);
 }
 
 pub returns : goal.returns

@@ -6,10 +6,10 @@ use Rattle.cmap_values.specs.NamesSeen.{names_seen}
 use Rattle.cmap_values.specs.Only.{IsOnly, HoldsOfNone}
 use Rattle.hayro_cmap.specs.Layers.{AreUses, Means}
 use Rattle.cmap_c.specs.NamedFiles.{AreUsesOver}
-use Rattle.cmap_c.specs.Rooms.{AreBothPut}
-use Rattle.cmap_c.specs.Statuses.{number}
-use Rattle.cmap_c.specs.declared.status.Status.TheVariants.{Done, NoMemory, NoRoom, Refused}
-use Rattle.cmap_c.proofs.StatusNumbers.{neither, not_both}
+use Rattle.cmap_handles.specs.Rooms.{AreBothPut}
+use Rattle.cmap_handles.specs.Statuses.{number}
+use Rattle.cmap_handles.specs.declared.status.Status.TheVariants.{Done, NoMemory, NoRoom, Refused}
+use Rattle.cmap_handles.proofs.StatusNumbers.{neither, not_both}
 use Rattle.cmap_c.proofs.uses.hayro_cmap_uses.Goals as goal
 
 -- the tables of a bundle that is lent are those of the handle's

@@ -8,7 +8,7 @@ use Rattle.hayro_cmap.specs.declared.refusal.Refusal.{Refusal}
 use Rattle.cmap_c.specs.Faults.{fault_numbers}
 use Rattle.cmap_c.specs.Salvaged.{names_joined, numbers_of_all}
 use Rattle.cmap_c.specs.declared.fault.FaultNumbers.{FaultNumbers}
-use Rattle.cmap_c.proofs.FilledRows.{all_left}
+use Rattle.cmap_handles.proofs.FilledRows.{all_left}
 use Rattle.cmap_c.proofs.salvage.ShownFaults.of.Goals as goal
 
 module _ (faults : List Refusal) (i : ℕ) (fault : Refusal) (within : i < length faults) (is : fault ≡ get_or faults i fault) where

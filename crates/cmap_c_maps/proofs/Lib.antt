@@ -1,0 +1,4 @@
+mod CharactersExtracted
+mod StringsCut
+mod TextsOfBytes
+mod TopLayer

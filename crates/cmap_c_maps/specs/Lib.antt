@@ -1,0 +1,3 @@
+pub mod Extracted
+pub mod ExtractedParts
+pub mod Strings

@@ -1,0 +1,71 @@
+//! The CIDs of codes, for C.
+
+ghost use Rattle.std.specs.Prelude.{◌≡◌, MatchOption, true, false};
+ghost use Rattle.cmap_handles.specs.Handles.{InHandle, handle_cid};
+
+use cmap_handles::handle::MapHandle;
+use cmap_layers::lookup::{cid_of, cid_within};
+use cmap_runs::runs::Looks;
+use std::alloc::Global;
+
+/// The CID of a code of `byte_len` bytes, big-endian: whether there is one, and which.
+#[unsafe(no_mangle)]
+pub extern "C" fn hayro_cmap_cid(
+    map: &mut MapHandle,
+    alloc: Global,
+    code: u32,
+    byte_len: u8,
+    cid: &mut u32,
+) -> bool
+    ensures same { map.new.slot.map ≡ map.old.slot.map }
+    ensures value { MatchOption (handle_cid map.old.slot.map code byte_len)
+        ((result ≡ false) × (cid.new ≡ cid.old))
+        (λ c. (result ≡ true) × (cid.new ≡ c)) }
+{
+    let Some(found) = map.take(alloc) else {
+        return false;
+    };
+    let answer = cid_of(found.value().layers(), code, byte_len, &mut Looks::new());
+    map.put(found);
+    put_cid(answer, cid)
+}
+
+/// The same, where the code lies in a codespace range of some layer.
+#[unsafe(no_mangle)]
+pub extern "C" fn hayro_cmap_cid_strict(
+    map: &mut MapHandle,
+    alloc: Global,
+    code: u32,
+    byte_len: u8,
+    cid: &mut u32,
+) -> bool
+    ensures same { map.new.slot.map ≡ map.old.slot.map }
+    ensures within { InHandle map.old.slot.map code byte_len
+        → MatchOption (handle_cid map.old.slot.map code byte_len)
+        ((result ≡ false) × (cid.new ≡ cid.old))
+        (λ c. (result ≡ true) × (cid.new ≡ c)) }
+    ensures outside { (InHandle map.old.slot.map code byte_len → ⊥)
+        → (result ≡ false) × (cid.new ≡ cid.old) }
+{
+    let Some(found) = map.take(alloc) else {
+        return false;
+    };
+    let answer = cid_within(found.value().layers(), code, byte_len, &mut Looks::new());
+    map.put(found);
+    put_cid(answer, cid)
+}
+
+/// Writes a CID, if there is one: whether there is.
+fn put_cid(answer: Option<u32>, cid: &mut u32) -> bool
+    ensures { MatchOption answer
+        ((result ≡ false) × (cid.new ≡ cid.old))
+        (λ c. (result ≡ true) × (cid.new ≡ c)) }
+{
+    match answer {
+        Some(found) => {
+            *cid = found;
+            true
+        }
+        None => false,
+    }
+}

@@ -1,0 +1,62 @@
+//! The codes of a CID, for C.
+
+ghost use Rattle.std.specs.Prelude.{◌≡◌, ◌^◌, IfOk, MatchOption};
+ghost use Rattle.cmap_layers.specs.CodeStretches.{AreCodesBelow};
+ghost use Rattle.cmap_layers.specs.LayersSeen.{layers_seen};
+ghost use Rattle.cmap_handles.specs.Ranges.{ArePutCodes};
+ghost use Rattle.cmap_handles.specs.Statuses.{number};
+ghost use Rattle.cmap_handles.specs.declared.status.Status.TheVariants.{Absent, NoMemory};
+
+use cmap_handles::handle::MapHandle;
+use cmap_handles::ranges::CodeRange;
+use cmap_handles::room::put_items;
+use cmap_handles::status::Status;
+use cmap_layers::layers::Layer;
+use cmap_layers::stretches::codes_of_cid;
+use cmap_runs::runs::Range;
+use cmap_values::code_length::CodeLength;
+use std::alloc::{AllocError, Global};
+
+/// The codes of `byte_len` bytes that have a CID over all layers, as ranges in order.
+#[unsafe(no_mangle)]
+pub extern "C" fn hayro_cmap_codes_of_cid(
+    map: &mut MapHandle,
+    alloc: Global,
+    cid: u32,
+    byte_len: u8,
+    ranges: &mut [CodeRange],
+    needed: &mut usize,
+) -> u32
+    ensures same { map.new.slot.map ≡ map.old.slot.map }
+    ensures codes { (result ≡ number NoMemory → ⊥) → MatchOption map.old.slot.map
+        ((result ≡ number Absent) × (ranges.new ≡ ranges.old) × (needed.new ≡ needed.old))
+        (λ layers. ArePutCodes layers byte_len cid ranges.old ranges.new needed.new result) }
+    ensures unwritten { result ≡ number NoMemory
+        → (ranges.new ≡ ranges.old) × (needed.new ≡ needed.old) }
+{
+    let Some(found) = map.take(alloc) else {
+        return Status::Absent.number();
+    };
+    let codes = codes_of(alloc, found.value().layers(), cid, byte_len);
+    map.put(found);
+    match codes {
+        Ok(codes) => put_items(&codes, ranges, needed),
+        Err(_) => Status::NoMemory.number(),
+    }
+}
+
+/// The codes of `byte_len` bytes that have a CID; none of a length that no code has.
+fn codes_of(
+    alloc: Global,
+    layers: &[Layer],
+    cid: u32,
+    byte_len: u8,
+) -> Result<Vec<Range>, AllocError>
+    ensures { IfOk result
+        (λ ranges. AreCodesBelow (layers_seen layers.now) byte_len cid (256 ^ byte_len) ranges.items) }
+{
+    match CodeLength::of(byte_len) {
+        Some(len) => codes_of_cid(alloc, layers, cid, len),
+        None => Ok(Vec::new(alloc)),
+    }
+}

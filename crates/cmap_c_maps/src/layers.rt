@@ -1,0 +1,76 @@
+//! The layers of a map and their codespace ranges, for C.
+
+ghost use Rattle.std.specs.Prelude.{◌≡◌, ◌≤◌, MatchOption, length, option_map};
+ghost use Rattle.std.specs.Option.{option_copied};
+ghost use Rattle.cmap_extract.specs.FontSeen.{layers_given};
+ghost use Rattle.cmap_layers.specs.LayersSeen.{layer_seen};
+ghost use Rattle.cmap_handles.specs.Handles.{layer_in, ranges_seen};
+ghost use Rattle.cmap_handles.specs.Rooms.{IsPut};
+ghost use Rattle.cmap_handles.specs.Statuses.{number};
+ghost use Rattle.cmap_handles.specs.declared.status.Status.TheVariants.{Absent};
+
+use cmap_handles::handle::{MapHandle, TakenMap};
+use cmap_handles::ranges::CodespaceRange;
+use cmap_handles::room::put_items;
+use cmap_handles::status::Status;
+use cmap_layers::layers::Layer;
+use std::alloc::Global;
+
+/// How many layers the map has.
+#[unsafe(no_mangle)]
+pub extern "C" fn hayro_cmap_layers(map: &mut MapHandle, alloc: Global) -> usize
+    ensures same { map.new.slot.map ≡ map.old.slot.map }
+    ensures count { MatchOption map.old.slot.map (result ≡ 0)
+        (λ layers. (result ≡ length layers) × (1 ≤ result) × (result ≤ 16)) }
+{
+    let Some(found) = map.take(alloc) else {
+        return 0;
+    };
+    let count = found.value().layers().len();
+    map.put(found);
+    count
+}
+
+/// The codespace ranges of a layer, in the order of its file. ISO 32000-1, 9.7.6.2.
+#[unsafe(no_mangle)]
+pub extern "C" fn hayro_cmap_codespaces(
+    map: &mut MapHandle,
+    alloc: Global,
+    layer: usize,
+    ranges: &mut [CodespaceRange],
+    needed: &mut usize,
+) -> u32
+    ensures same { map.new.slot.map ≡ map.old.slot.map }
+    ensures ranges { MatchOption (layer_in map.old.slot.map layer)
+        ((result ≡ number Absent) × (ranges.new ≡ ranges.old) × (needed.new ≡ needed.old))
+        (λ given. IsPut (ranges_seen given.lists.spaces) ranges.old ranges.new needed.new result) }
+{
+    let found = map.take(alloc);
+    let status = match layer_at(&found, layer) {
+        Some(given) => put_items(&given.codespaces(), ranges, needed),
+        None => Status::Absent.number(),
+    };
+    map.put_back(found);
+    status
+}
+
+/// The layers of a map that was taken.
+pub(crate) fn layers_lent(found: &TakenMap) -> Option<&[Layer]>
+    ensures { layers_given result ≡ option_map (λ b. b.value) found.now }
+{
+    match found {
+        Some(shared) => Some(shared.value().layers()),
+        None => None,
+    }
+}
+
+/// The layer at an index of a map that was taken, where it has one.
+pub(crate) fn layer_at(found: &TakenMap, layer: usize) -> Option<&Layer>
+    ensures { option_map layer_seen (option_copied result)
+        ≡ layer_in (option_map (λ b. b.value) found.now) layer }
+{
+    match layers_lent(found) {
+        Some(layers) if layer < layers.len() => Some(&layers[layer]),
+        _ => None,
+    }
+}

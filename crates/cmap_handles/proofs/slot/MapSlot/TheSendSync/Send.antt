@@ -1,0 +1,33 @@
+-- What a slot owns, a shared map and its block, says the same to every thread.
+use mir.Raw.{raw}
+use base.Shift.{Keyless}
+use denote.Memory.{lone}
+use denote.RawPtr.{Ptr}
+use denote.Builtin.{RawPtr}
+use denote.Struct.Struct.{exits_of}
+use denote.Struct.Owning.{shape, fields, to}
+use denote.Param.Send.{IsSend, AllSend, owning_send, struct_send, sendable}
+use Rattle.std_alloc.proofs.SendSync.{quiet, lies}
+use Rattle.std.proofs.Crossing.{crosses, frees}
+use Rattle.std.proofs.alloc.Global.TheSendSync as heap
+use Rattle.std.specs.Prelude.{Option, None, Some}
+use Rattle.std.specs.declared.alloc.Global.{Global}
+use Rattle.cmap_handles.proofs.held_map.HeldMap.TheSendSync as whole
+use Rattle.cmap_handles.specs.Held.{held, shared_map}
+use Rattle.cmap_handles.specs.contracts.slot.MapSlot.{the_row, the_type}
+
+map_send : IsSend shared_map
+map_send = search (sendable, crosses, whole.the_send, whole.the_sync) depth 20
+
+held_keyless : (alloc : Global) (at : Ptr) (m : Option shared_map.Denot) → Keyless (held shared_map alloc at m)
+held_keyless alloc at None = tt
+held_keyless alloc at (Some value) = (lies shared_map map_send at value, frees.frees alloc (raw (lone shared_map.mir)) at)
+
+pointer_send : IsSend RawPtr
+pointer_send = search sendable
+
+all_send : AllSend (fields the_type)
+all_send = (pointer_send, (heap.the_field_send, tt))
+
+pub send : IsSend the_row
+send = owning_send the_type all_send (λ slot. held_keyless slot.alloc slot.at slot.map) (λ k. quiet (to the_type) (exits_of k (fields the_type)) ((struct_send (shape the_type) all_send).leaving k))

@@ -1,0 +1,5 @@
+pub mod Handles
+pub mod Held
+pub mod Ranges
+pub mod Rooms
+pub mod Statuses

@@ -1,0 +1,99 @@
+//! Bundles that C holds.
+
+ghost use Rattle.std.specs.Prelude.{◌≡◌, None, Some, MatchResult, is_some, option_map};
+ghost use Rattle.std.specs.Option.{option_copied};
+ghost use Rattle.cmap_handles.specs.Statuses.{number};
+ghost use Rattle.cmap_handles.specs.declared.status.Status.TheVariants.{Done, NoMemory};
+
+use crate::loose::Loose;
+use crate::shared::Shared;
+use crate::slot::BundleSlot;
+use crate::status::Status;
+use cmap_packed::OwnedBundle;
+use std::alloc::{AllocError, Global};
+use std::mem;
+
+/// A bundle that was taken from a handle, if it had one.
+pub type TakenBundle = Option<Box<Shared<OwnedBundle>>>;
+
+/// The bundle that was taken, to read it.
+pub fn lent(found: &TakenBundle) -> Option<&OwnedBundle>
+    ensures { option_copied result ≡ option_map (λ b. b.value) found.now }
+{
+    match found {
+        Some(shared) => Some(shared.value()),
+        None => None,
+    }
+}
+
+/// A bundle that C holds, or none. One that is empty is all zero bytes.
+#[repr(C)]
+#[derive(Drop)]
+pub struct BundleHandle {
+    full: bool,
+    /// The bundle, behind a pointer.
+    pub slot: BundleSlot,
+    ghost agrees: { full ≡ is_some slot.bundle },
+}
+
+impl BundleHandle {
+    /// A handle without a bundle.
+    pub fn empty(alloc: Global) -> BundleHandle
+        ensures { result.slot.bundle ≡ None }
+    {
+        BundleHandle {
+            full: false,
+            slot: BundleSlot::empty(alloc),
+        }
+    }
+
+    /// The bundle, which the handle then no longer has.
+    pub fn take(&mut self, alloc: Global) -> TakenBundle
+        ensures bundle { option_map (λ b. b.value) result ≡ self.old.slot.bundle }
+        ensures empty { self.new.slot.bundle ≡ None }
+    {
+        let BundleHandle { full, slot } = mem::replace(self, BundleHandle::empty(alloc));
+        if full {
+            Some(slot.into_loose().into_box())
+        } else {
+            None
+        }
+    }
+
+    /// Gives an empty handle a bundle.
+    pub fn put(&mut self, bundle: Box<Shared<OwnedBundle>>)
+        requires { self.old.slot.bundle ≡ None }
+        ensures { self.new.slot.bundle ≡ Some bundle.value }
+    {
+        *self = BundleHandle {
+            full: true,
+            slot: BundleSlot::of_loose(Loose::of(bundle)),
+        };
+    }
+
+    /// Gives an empty handle the bundle that was taken from it, if it had one.
+    pub fn put_back(&mut self, found: TakenBundle)
+        requires { self.old.slot.bundle ≡ None }
+        ensures { self.new.slot.bundle ≡ option_map (λ b. b.value) found }
+    {
+        if let Some(bundle) = found {
+            self.put(bundle);
+        }
+    }
+
+    /// Gives an empty handle the bundle that was made, or none where memory ran out.
+    pub fn keep(&mut self, made: Result<Box<Shared<OwnedBundle>>, AllocError>) -> u32
+        requires { self.old.slot.bundle ≡ None }
+        ensures { MatchResult made
+            (λ bundle. (result ≡ number Done) × (self.new.slot.bundle ≡ Some bundle.value))
+            (λ _. (result ≡ number NoMemory) × (self.new.slot.bundle ≡ None)) }
+    {
+        match made {
+            Ok(bundle) => {
+                self.put(bundle);
+                Status::Done.number()
+            }
+            Err(_) => Status::NoMemory.number(),
+        }
+    }
+}

@@ -1,0 +1,95 @@
+//! Maps that C holds.
+
+ghost use Rattle.std.specs.Prelude.{◌≡◌, None, Some, MatchResult, is_some, option_map};
+ghost use Rattle.cmap_handles.specs.Statuses.{number};
+ghost use Rattle.cmap_handles.specs.declared.status.Status.TheVariants.{Done, NoMemory};
+
+use crate::held_map::HeldMap;
+use crate::loose::Loose;
+use crate::shared::Shared;
+use crate::slot::MapSlot;
+use crate::status::Status;
+use std::alloc::{AllocError, Global};
+use std::mem;
+
+/// A map that was taken from a handle, if it had one.
+pub type TakenMap = Option<Box<Shared<HeldMap>>>;
+
+/// A map that C holds, or none. One that is empty is all zero bytes.
+#[repr(C)]
+#[derive(Drop)]
+pub struct MapHandle {
+    full: bool,
+    /// The map, behind a pointer.
+    pub slot: MapSlot,
+    ghost agrees: { full ≡ is_some slot.map },
+}
+
+impl MapHandle {
+    /// A handle without a map.
+    pub fn empty(alloc: Global) -> MapHandle
+        ensures { result.slot.map ≡ None }
+    {
+        MapHandle {
+            full: false,
+            slot: MapSlot::empty(alloc),
+        }
+    }
+
+    /// The map, which the handle then no longer has.
+    pub fn take(&mut self, alloc: Global) -> TakenMap
+        ensures map { option_map (λ b. b.value) result ≡ self.old.slot.map }
+        ensures empty { self.new.slot.map ≡ None }
+    {
+        let MapHandle { full, slot } = mem::replace(self, MapHandle::empty(alloc));
+        if full {
+            Some(slot.into_loose().into_box())
+        } else {
+            None
+        }
+    }
+
+    /// Gives an empty handle a map.
+    pub fn put(&mut self, map: Box<Shared<HeldMap>>)
+        requires { self.old.slot.map ≡ None }
+        ensures { self.new.slot.map ≡ Some map.value }
+    {
+        *self = MapHandle {
+            full: true,
+            slot: MapSlot::of_loose(Loose::of(map)),
+        };
+    }
+
+    /// Gives an empty handle the map that was taken from it, if it had one.
+    pub fn put_back(&mut self, found: TakenMap)
+        requires { self.old.slot.map ≡ None }
+        ensures { self.new.slot.map ≡ option_map (λ b. b.value) found }
+    {
+        if let Some(map) = found {
+            self.put(map);
+        }
+    }
+
+    /// Gives an empty handle the map that was made, or none where memory ran out.
+    pub fn keep(&mut self, made: Result<Box<Shared<HeldMap>>, AllocError>) -> u32
+        requires { self.old.slot.map ≡ None }
+        ensures { MatchResult made
+            (λ map. (result ≡ number Done) × (self.new.slot.map ≡ Some map.value))
+            (λ _. (result ≡ number NoMemory) × (self.new.slot.map ≡ None)) }
+    {
+        match made {
+            Ok(map) => {
+                self.put(map);
+                Status::Done.number()
+            }
+            Err(_) => Status::NoMemory.number(),
+        }
+    }
+
+    /// Frees the map, if there is one.
+    pub fn clear(&mut self, alloc: Global)
+        ensures { self.new.slot.map ≡ None }
+    {
+        let _map = self.take(alloc);
+    }
+}

@@ -1,0 +1,46 @@
+//! Names of files that go to C: their bytes one after another, and their lengths.
+
+ghost use Rattle.std.specs.Prelude.{◌≡◌, ◌++◌, IfOk, OnOk};
+ghost use Rattle.std.specs.List.{concat};
+ghost use Rattle.cmap_values.specs.NamesSeen.{names_seen};
+
+use crate::room::Items;
+use std::alloc::{AllocError, Global};
+
+/// The names, one after another.
+pub fn joined(alloc: Global, names: &[&[u8]]) -> Result<Vec<u8>, AllocError>
+    ensures { IfOk result (λ bytes. bytes.items ≡ concat (names_seen names.now)) }
+{
+    let mut bytes = Vec::new(alloc);
+    push_names(&mut bytes, names)?;
+    Ok(bytes)
+}
+
+/// Adds the names, one after another.
+pub fn push_names(bytes: &mut Vec<u8>, names: &[&[u8]]) -> Result<(), AllocError>
+    ensures { OnOk result
+        (bytes.new.items ≡ bytes.old.items ++ concat (names_seen names.now)) }
+{
+    for name in names {
+        bytes.extend_from_slice(name)?;
+    }
+    Ok(())
+}
+
+/// The lengths of the names.
+impl<'n> Items for &'n [&'n [u8]] {
+    type Item = usize;
+
+    ghost use Rattle.std.specs.Prelude.{length, map};
+    ghost use Rattle.cmap_values.specs.NamesSeen.{names_seen};
+
+    ghost items = { λ names. map length (names_seen names.now) };
+
+    fn count(&self) -> usize {
+        self.len()
+    }
+
+    fn item(&self, index: usize) -> usize {
+        self[index].len()
+    }
+}

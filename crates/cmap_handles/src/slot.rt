@@ -1,0 +1,116 @@
+//! What C holds behind a pointer.
+//!
+//! An export takes no type with a parameter, so a map and a bundle have a slot each.
+
+ghost use Rattle.std.specs.Prelude.{◌≡◌, List, Option, None, Some, IsSome};
+ghost use Rattle.cmap_packed.specs.Bundles.{Bundle};
+ghost use Rattle.cmap_layers.specs.Layers.{Layer};
+
+use crate::held_map::HeldMap;
+use crate::loose::Loose;
+use crate::shared::Shared;
+use cmap_packed::OwnedBundle;
+use std::alloc::Global;
+use std::marker::Model;
+
+/// A pointer to a map, or to none.
+#[repr(C)]
+#[derive(Drop)]
+pub struct MapSlot {
+    at: *mut u8,
+    alloc: Global,
+    pub ghost map: { Option (List Layer) },
+}
+
+impl Model for MapSlot {
+    ghost use Rattle.cmap_handles.specs.Held.{held, shared_map};
+
+    ghost also_owns = { λ slot. held shared_map slot.alloc slot.at slot.map };
+}
+
+/// It may go to another thread, since a map may be read in several.
+unsafe impl Send for MapSlot {}
+
+impl MapSlot {
+    /// No map.
+    pub fn empty(alloc: Global) -> MapSlot
+        ensures { result.map ≡ None }
+    {
+        MapSlot {
+            at: std::ptr::null_mut(),
+            alloc,
+        }
+    }
+
+    pub fn of_loose(loose: Loose<Shared<HeldMap>, Global>) -> MapSlot
+        ensures { result.map ≡ Some loose.value }
+    {
+        let Loose { at, alloc } = loose;
+        MapSlot {
+            at: at as *mut u8,
+            alloc,
+        }
+    }
+
+    pub fn into_loose(self) -> Loose<Shared<HeldMap>, Global>
+        requires { IsSome self.map }
+        ensures { Some result.value ≡ self.map }
+    {
+        let MapSlot { at, alloc } = self;
+        Loose {
+            at: at as *mut Shared<HeldMap>,
+            alloc,
+        }
+    }
+}
+
+/// A pointer to a bundle, or to none.
+#[repr(C)]
+#[derive(Drop)]
+pub struct BundleSlot {
+    at: *mut u8,
+    alloc: Global,
+    pub ghost bundle: { Option Bundle },
+}
+
+impl Model for BundleSlot {
+    ghost use Rattle.cmap_handles.specs.Held.{held, shared_bundle};
+
+    ghost also_owns = { λ slot. held shared_bundle slot.alloc slot.at slot.bundle };
+}
+
+/// It may go to another thread, since a bundle may be read in several.
+unsafe impl Send for BundleSlot {}
+
+impl BundleSlot {
+    /// No bundle.
+    pub fn empty(alloc: Global) -> BundleSlot
+        ensures { result.bundle ≡ None }
+    {
+        BundleSlot {
+            at: std::ptr::null_mut(),
+            alloc,
+        }
+    }
+
+    pub fn of_loose(loose: Loose<Shared<OwnedBundle>, Global>) -> BundleSlot
+        ensures { result.bundle ≡ Some loose.value }
+    {
+        let Loose { at, alloc } = loose;
+        BundleSlot {
+            at: at as *mut u8,
+            alloc,
+        }
+    }
+
+    pub fn into_loose(self) -> Loose<Shared<OwnedBundle>, Global>
+        requires { IsSome self.bundle }
+        ensures { Some result.value ≡ self.bundle }
+    {
+        let BundleSlot { at, alloc } = self;
+        Loose {
+            at: at as *mut Shared<OwnedBundle>,
+            alloc,
+        }
+    }
+}
