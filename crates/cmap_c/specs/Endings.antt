@@ -5,8 +5,8 @@ use Rattle.cmap_values.specs.Outcomes.{Outcome}
 use Rattle.cmap_values.specs.declared.fault.Fault.{Fault}
 use Rattle.cmap_values.specs.declared.fault.Fault.TheVariants as fault
 use Rattle.cmap_layers.specs.Layers.{Layer}
-use Rattle.hayro_cmap.specs.Maps as maps
-use Rattle.hayro_cmap.specs.declared.refusal.Cause.TheVariants as cause
+use Rattle.cmap_chains.specs.Maps as maps
+use Rattle.cmap_chains.specs.declared.refusal.Cause.TheVariants as cause
 use Rattle.cmap_c.specs.Faults.{IsToldWith, status_of}
 use Rattle.cmap_c.specs.NamedFiles.{ExceedsBudgetOver, FitsBudgetOver, HasNoMapOver, IsMapOver, LeadsToFaultOver}
 use Rattle.cmap_c.specs.Opened.{ExceedsBudgetNamed, FitsBudgetNamed, HasNoMapNamed, IsMapNamed, IsUnknownOver}

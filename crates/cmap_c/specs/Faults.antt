@@ -10,9 +10,9 @@ use Rattle.cmap_values.specs.declared.fault.Reason.{Reason}
 use Rattle.cmap_values.specs.declared.fault.Reason.TheVariants as reason
 use Rattle.cmap_values.specs.declared.fault.Segment.{Segment}
 use Rattle.cmap_values.specs.declared.fault.Segment.TheVariants as segment
-use Rattle.hayro_cmap.specs.declared.refusal.Cause.{Cause}
-use Rattle.hayro_cmap.specs.declared.refusal.Cause.TheVariants as cause
-use Rattle.hayro_cmap.specs.declared.refusal.Refusal.{Refusal}
+use Rattle.cmap_chains.specs.declared.refusal.Cause.{Cause}
+use Rattle.cmap_chains.specs.declared.refusal.Cause.TheVariants as cause
+use Rattle.cmap_chains.specs.declared.refusal.Refusal.{Refusal}
 use Rattle.cmap_handles.specs.Rooms.{IsPut}
 use Rattle.cmap_handles.specs.Statuses.{number}
 use Rattle.cmap_c.specs.declared.fault.FaultNumbers.{FaultNumbers}

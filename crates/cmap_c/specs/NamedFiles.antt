@@ -5,11 +5,11 @@ use Rattle.std.specs.Option.{option_or}
 use Rattle.cmap_packed.specs.Bundles.{Bundle, IsBundle}
 use Rattle.cmap_values.specs.Only.{IsOnly}
 use Rattle.cmap_layers.specs.Layers.{Layer}
-use Rattle.hayro_cmap.specs.Answers.{embedded}
-use Rattle.hayro_cmap.specs.Layers.{AreUses, Means}
-use Rattle.hayro_cmap.specs.Maps as maps
-use Rattle.hayro_cmap.specs.NamedFiles.{first_named}
-use Rattle.hayro_cmap.specs.declared.refusal.Cause.{Cause}
+use Rattle.cmap_chains.specs.Answers.{embedded}
+use Rattle.cmap_chains.specs.Layers.{AreUses, Means}
+use Rattle.cmap_chains.specs.Maps as maps
+use Rattle.cmap_chains.specs.NamedFiles.{first_named}
+use Rattle.cmap_chains.specs.declared.refusal.Cause.{Cause}
 use Rattle.cmap_c.specs.declared.files.BaseFile.{BaseFile}
 
 abbrev pub name_of : BaseFile → List ℕ

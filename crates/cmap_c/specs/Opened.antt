@@ -2,7 +2,7 @@
 use Rattle.std.specs.Prelude.{ℕ, List, Option, option_map}
 use Rattle.cmap_packed.specs.Bundles.{Bundle}
 use Rattle.cmap_layers.specs.Layers.{Layer}
-use Rattle.hayro_cmap.specs.Opened as opened
+use Rattle.cmap_chains.specs.Opened as opened
 use Rattle.cmap_c.specs.NamedFiles.{answers}
 use Rattle.cmap_c.specs.declared.files.BaseFile.{BaseFile}
 

@@ -3,8 +3,8 @@ use Rattle.std.specs.Prelude.{◌≡◌, ℕ, ◌⊎◌, List, ◌++◌, Option,
 use Rattle.std.specs.List.{concat}
 use Rattle.cmap_packed.specs.Bundles.{Bundle, PrefixTables}
 use Rattle.cmap_layers.specs.Layers.{Layer}
-use Rattle.hayro_cmap.specs.Maps.{ExceedsBudget, HasNoMap}
-use Rattle.hayro_cmap.specs.Salvage.{BeginsWithFault, GivesMap, NamedFault, SalvagesMap}
+use Rattle.cmap_chains.specs.Maps.{ExceedsBudget, HasNoMap}
+use Rattle.cmap_chains.specs.Salvage.{BeginsWithFault, GivesMap, NamedFault, SalvagesMap}
 use Rattle.cmap_c.specs.Faults.{fault_numbers}
 use Rattle.cmap_c.specs.NamedFiles.{answers}
 use Rattle.cmap_handles.specs.Rooms.{IsPut}

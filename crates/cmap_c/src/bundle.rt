@@ -3,17 +3,17 @@
 ghost use Rattle.std.specs.Prelude.{◌≡◌, ◌⊎◌, None, IsSomeAnd, MatchOption};
 ghost use Rattle.cmap_packed.specs.Bundles.{IsBundle};
 ghost use Rattle.cmap_values.specs.Only.{IsOnly, HoldsOfNone};
-ghost use Rattle.hayro_cmap.specs.Answers.{embedded};
+ghost use Rattle.cmap_chains.specs.Answers.{embedded};
 ghost use Rattle.cmap_handles.specs.Rooms.{IsPut};
 ghost use Rattle.cmap_handles.specs.Statuses.{number};
 ghost use Rattle.cmap_handles.specs.declared.status.Status.TheVariants.{Absent, Done, NoMemory, NotABundle};
 
+use cmap_chains::named_files::BundleFiles;
 use cmap_handles::bundle::BundleHandle;
 use cmap_handles::room::put_found;
 use cmap_handles::shared::Shared;
 use cmap_handles::status::Status;
-use hayro_cmap::BundleFiles;
-use hayro_cmap::bcmap::OwnedBundle;
+use cmap_packed::OwnedBundle;
 use std::alloc::Global;
 
 /// The bundle that the bytes are. A bundle that the handle has is freed.

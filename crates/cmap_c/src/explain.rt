@@ -12,12 +12,15 @@ use crate::fault::{FaultNumbers, Told, status_of};
 use crate::files::BaseFile;
 use crate::keep::keep_read;
 use crate::parse::{limit, tables_of};
+use cmap_chains::named_files::NamedFiles;
+use cmap_chains::read_layers;
 use cmap_handles::bundle::{BundleHandle, lent};
 use cmap_handles::handle::MapHandle;
+use cmap_handles::held_map::HeldMap;
 use cmap_handles::room::put_bytes;
 use cmap_handles::status::Status;
-use hayro_cmap::bcmap::OwnedBundle;
-use hayro_cmap::{CMap, Fault, NamedFiles};
+use cmap_packed::OwnedBundle;
+use cmap_values::fault::Fault;
 use std::alloc::Global;
 
 /// The map of the file `data`, as `hayro_cmap_parse_over` gives it, or why there is none: what is
@@ -60,11 +63,11 @@ pub extern "C" fn hayro_cmap_explain(
 
 /// The map, or how the call ends without one; C is told why there is none.
 fn tell(
-    explained: Result<CMap, Fault<Told>>,
+    explained: Result<HeldMap, Fault<Told>>,
     fault: &mut FaultNumbers,
     room: &mut [u8],
     needed: &mut usize,
-) -> Result<CMap, Status>
+) -> Result<HeldMap, Status>
     ensures { IsTold explained fault.old fault.new room.old room.new needed.old needed.new result }
 {
     match explained {
@@ -85,12 +88,12 @@ fn explain_owned(
     data: &[u8],
     bundle: Option<&OwnedBundle>,
     files: &[BaseFile<'_>],
-) -> Result<CMap, Fault<Told>>
+) -> Result<HeldMap, Fault<Told>>
     ensures { IsExplainedOver (option_copied bundle.entry) files.now «data».now budget result }
 {
     let source = NamedFiles { files, bundle };
-    match CMap::parse_from(alloc, budget, data, tables_of(bundle), &source) {
-        Ok(map) => Ok(map),
+    match read_layers(alloc, budget, data, tables_of(bundle), &source) {
+        Ok(layers) => Ok(HeldMap::of(layers)),
         Err(fault) => Err(Told::of(alloc, fault)),
     }
 }

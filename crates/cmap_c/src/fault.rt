@@ -5,10 +5,11 @@ ghost use Rattle.cmap_values.specs.NamesSeen.{names_seen};
 ghost use Rattle.cmap_values.specs.Outcomes.{Finds, RefusesWith};
 ghost use Rattle.cmap_c.specs.Faults.{HasNames, HasNumbers, IsToldFrom, ending_of, fault_numbers, numbers_of, possible_cause, possible_reason, reason_number, segment_number, segment_numbered, segment_of, status_of};
 
+use cmap_chains::{Cause, Refusal};
 use cmap_handles::names::joined;
 use cmap_handles::room::fill;
 use cmap_handles::status::Status;
-use hayro_cmap::{Cause, Fault, Reason, Refusal, Segment, Stop};
+use cmap_values::fault::{Fault, Reason, Segment, Stop};
 use std::alloc::Global;
 
 /// The most names that lead to a file at fault.

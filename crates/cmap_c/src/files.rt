@@ -1,6 +1,6 @@
 //! Files that C hands in, by their names.
 
-use hayro_cmap::NamedFile;
+use cmap_chains::named_files::NamedFile;
 
 /// A file that others use, and its name.
 #[repr(C)]

@@ -2,15 +2,15 @@
 
 ghost use Rattle.std.specs.Prelude.{◌≡◌, ◌⊎◌, None, Some, [], ◌∷◌, codes, true, false};
 ghost use Rattle.cmap_files.specs.Files as files;
-ghost use Rattle.hayro_cmap.specs.Identity.{identity_layer};
+ghost use Rattle.cmap_chains.specs.Identity.{identity_layer};
 ghost use Rattle.cmap_handles.specs.Statuses.{number};
 ghost use Rattle.cmap_handles.specs.declared.status.Status.TheVariants.{Done, NoMemory};
 
-use crate::keep::held;
+use cmap_chains::{identity_h, identity_v};
 use cmap_handles::handle::MapHandle;
+use cmap_handles::held_map::HeldMap;
 use cmap_handles::shared::Shared;
 use cmap_handles::status::Status;
-use hayro_cmap::CMap;
 use std::alloc::Global;
 
 /// The predefined CMap Identity-H, or Identity-V where it is `vertical`. A map that the handle has is
@@ -26,12 +26,12 @@ pub extern "C" fn hayro_cmap_identity(map: &mut MapHandle, alloc: Global, vertic
 {
     map.clear(alloc);
     let made = if vertical {
-        CMap::identity_v(alloc)
+        identity_v(alloc)
     } else {
-        CMap::identity_h(alloc)
+        identity_h(alloc)
     };
     match made {
-        Ok(made) => map.keep(Shared::new(alloc, held(made))),
+        Ok(layers) => map.keep(Shared::new(alloc, HeldMap::of(layers))),
         Err(_) => Status::NoMemory.number(),
     }
 }

@@ -7,23 +7,15 @@ use cmap_handles::handle::MapHandle;
 use cmap_handles::held_map::HeldMap;
 use cmap_handles::shared::Shared;
 use cmap_handles::status::Status;
-use hayro_cmap::CMap;
 use std::alloc::Global;
 
-/// The map as a handle holds it.
-pub(crate) fn held(map: CMap) -> HeldMap
-    ensures { result ≡ map }
-{
-    HeldMap::of(map.into_layers())
-}
-
 /// Gives an empty handle the map that was read, if there is one, and says how the call ends.
-pub(crate) fn keep_read(handle: &mut MapHandle, alloc: Global, read: Result<CMap, Status>) -> u32
+pub(crate) fn keep_read(handle: &mut MapHandle, alloc: Global, read: Result<HeldMap, Status>) -> u32
     requires { handle.old.slot.map ≡ None }
     ensures { IsKept read result handle.new.slot.map }
 {
     match read {
-        Ok(map) => handle.keep(Shared::new(alloc, held(map))),
+        Ok(map) => handle.keep(Shared::new(alloc, map)),
         Err(status) => status.number(),
     }
 }

@@ -2,7 +2,7 @@
 
 ghost use Rattle.std.specs.Prelude.{◌≡◌, ◌⊎◌, ℕ, List};
 ghost use Rattle.cmap_values.specs.Only.{IsOnly, HoldsOfNone};
-ghost use Rattle.hayro_cmap.specs.declared.refusal.Cause.{Cause};
+ghost use Rattle.cmap_chains.specs.declared.refusal.Cause.{Cause};
 ghost use Rattle.cmap_c.specs.Faults.{HasNumbers};
 ghost use Rattle.cmap_handles.specs.Rooms.{IsPut};
 ghost use Rattle.cmap_handles.specs.Statuses.{number};

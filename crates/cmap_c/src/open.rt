@@ -12,11 +12,13 @@ use crate::fault::ending_of;
 use crate::files::BaseFile;
 use crate::keep::keep_read;
 use crate::parse::{limit, tables_of};
+use cmap_chains::named_files::NamedFiles;
+use cmap_chains::open_layers;
 use cmap_handles::bundle::{BundleHandle, lent};
 use cmap_handles::handle::MapHandle;
+use cmap_handles::held_map::HeldMap;
 use cmap_handles::status::Status;
-use hayro_cmap::bcmap::OwnedBundle;
-use hayro_cmap::{CMap, NamedFiles};
+use cmap_packed::OwnedBundle;
 use std::alloc::Global;
 
 /// The map of the file of this name: the first of `files` with the name, else that of the bundle. Where
@@ -59,12 +61,12 @@ fn open_owned(
     name: &[u8],
     bundle: Option<&OwnedBundle>,
     files: &[BaseFile<'_>],
-) -> Result<CMap, Status>
+) -> Result<HeldMap, Status>
     ensures { EndsNamed (option_copied bundle.entry) files.now name.now budget result }
 {
     let source = NamedFiles { files, bundle };
-    match CMap::open(alloc, budget, name, tables_of(bundle), &source) {
-        Ok(Some(map)) => Ok(map),
+    match open_layers(alloc, budget, name, tables_of(bundle), &source) {
+        Ok(Some(layers)) => Ok(HeldMap::of(layers)),
         Ok(None) => Err(Status::Absent),
         Err(fault) => Err(ending_of(fault)),
     }

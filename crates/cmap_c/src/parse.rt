@@ -13,11 +13,13 @@ ghost use Rattle.cmap_handles.specs.declared.status.Status.TheVariants.{Done, Re
 use crate::fault::ending_of;
 use crate::files::BaseFile;
 use crate::keep::keep_read;
+use cmap_chains::named_files::{BundleFiles, NamedFiles};
+use cmap_chains::read_layers;
 use cmap_handles::bundle::{BundleHandle, lent};
 use cmap_handles::handle::MapHandle;
+use cmap_handles::held_map::HeldMap;
 use cmap_handles::status::Status;
-use hayro_cmap::bcmap::{Bundle, OwnedBundle};
-use hayro_cmap::{BundleFiles, CMap, NamedFiles};
+use cmap_packed::{Bundle, OwnedBundle};
 use std::alloc::Global;
 
 /// The map of the file `data`, over files by their names: the first of `files` with the name, else
@@ -97,7 +99,7 @@ fn parse<'a>(
     data: &[u8],
     bundle: &'a [u8],
     files: &[BaseFile<'a>],
-) -> Result<CMap, Status>
+) -> Result<HeldMap, Status>
     ensures { Ends
         (λ layers. OfGiven bundle.now (λ given. IsMapOver given files.now «data».now layers))
         (OfGiven bundle.now (λ given. HasNoMapOver given files.now «data».now))
@@ -123,7 +125,7 @@ fn parse_owned(
     data: &[u8],
     bundle: Option<&OwnedBundle>,
     files: &[BaseFile<'_>],
-) -> Result<CMap, Status>
+) -> Result<HeldMap, Status>
     ensures { EndsOver (option_copied bundle.entry) files.now «data».now budget result }
 {
     parse_from(alloc, budget, data, tables_of(bundle), files, bundle)
@@ -149,13 +151,13 @@ fn parse_from<B: BundleFiles>(
     tables: Option<&Bundle<'_>>,
     files: &[BaseFile<'_>],
     bundle: Option<&B>,
-) -> Result<CMap, Status>
+) -> Result<HeldMap, Status>
     ensures { EndsBy (tables_given tables.entry)
         (answers (bundle_in B.bundle_of bundle.entry) files.now) «data».now budget result }
 {
     let source = NamedFiles { files, bundle };
-    match CMap::parse_from(alloc, budget, data, tables, &source) {
-        Ok(map) => Ok(map),
+    match read_layers(alloc, budget, data, tables, &source) {
+        Ok(layers) => Ok(HeldMap::of(layers)),
         Err(fault) => Err(ending_of(fault)),
     }
 }

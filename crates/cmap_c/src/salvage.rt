@@ -3,7 +3,7 @@
 ghost use Rattle.std.specs.Prelude.{◌≡◌, ◌⊎◌, ◌≤◌, None, IfOk, length};
 ghost use Rattle.std.specs.List.{All};
 ghost use Rattle.std.specs.Option.{option_copied};
-ghost use Rattle.hayro_cmap.specs.SalvageSeen.{faults_seen};
+ghost use Rattle.cmap_chains.specs.SalvageSeen.{faults_seen};
 ghost use Rattle.cmap_c.specs.NamedFiles.{budget_of};
 ghost use Rattle.cmap_c.specs.Salvaged.{AreFaultsShown, IsSalvageOver, IsSalvaged, IsSalvagedWith};
 ghost use Rattle.cmap_handles.specs.Statuses.{number};
@@ -11,8 +11,9 @@ ghost use Rattle.cmap_handles.specs.declared.status.Status.TheVariants.{Done, No
 
 use crate::fault::FaultNumbers;
 use crate::files::BaseFile;
-use crate::keep::held;
 use crate::parse::{limit, tables_of};
+use cmap_chains::named_files::NamedFiles;
+use cmap_chains::{Refusal, SalvagedLayers, salvaged_layers};
 use cmap_handles::bundle::{BundleHandle, lent};
 use cmap_handles::handle::MapHandle;
 use cmap_handles::held_map::HeldMap;
@@ -20,9 +21,8 @@ use cmap_handles::names::push_names;
 use cmap_handles::room::{put_bytes, put_head};
 use cmap_handles::shared::Shared;
 use cmap_handles::status::Status;
+use cmap_packed::OwnedBundle;
 use cmap_values::memory::both;
-use hayro_cmap::bcmap::OwnedBundle;
-use hayro_cmap::{CMap, NamedFiles, Refusal, SalvagedMap};
 use std::alloc::{AllocError, Global};
 
 /// The map of the file `data` over files as `hayro_cmap_parse_over` takes them, where each is read past
@@ -74,15 +74,12 @@ pub(crate) struct Salvaged {
 }
 
 impl Salvaged {
-    fn of(alloc: Global, map: CMap, faults: &[Refusal<'_>]) -> Result<Salvaged, AllocError>
+    fn of(alloc: Global, map: HeldMap, faults: &[Refusal<'_>]) -> Result<Salvaged, AllocError>
         requires { All (λ fault. length fault.names.items ≤ 16) faults.now }
         ensures { IfOk result (λ made. (made.map.value ≡ map)
             × AreFaultsShown (faults_seen faults.now) made.shown) }
     {
-        let (map, shown) = both(
-            Shared::new(alloc, held(map)),
-            ShownFaults::of(alloc, faults),
-        )?;
+        let (map, shown) = both(Shared::new(alloc, map), ShownFaults::of(alloc, faults))?;
         Ok(Salvaged { map, shown })
     }
 }
@@ -125,8 +122,10 @@ fn salvage_owned(
         (IsSalvageOver (option_copied bundle.entry) files.now «data».now budget)) }
 {
     let source = NamedFiles { files, bundle };
-    match CMap::salvage(alloc, budget, data, tables_of(bundle), &source) {
-        Ok(SalvagedMap { map, faults }) => Salvaged::of(alloc, map, &faults),
+    match salvaged_layers(alloc, budget, data, tables_of(bundle), &source) {
+        Ok(SalvagedLayers { layers, faults }) => {
+            Salvaged::of(alloc, HeldMap::of(layers), &faults)
+        }
         Err(error) => Err(error),
     }
 }

@@ -9,11 +9,11 @@ ghost use Rattle.cmap_handles.specs.Statuses.{number};
 ghost use Rattle.cmap_handles.specs.declared.status.Status.TheVariants.{Refused, NoMemory, Done, NoRoom};
 
 use crate::parse::tables_of;
+use cmap_chains::uses;
 use cmap_handles::bundle::{BundleHandle, lent};
 use cmap_handles::names::joined;
 use cmap_handles::room::{fill, put_bytes};
 use cmap_handles::status::Status;
-use hayro_cmap::CMap;
 use std::alloc::Global;
 
 /// The names of the files that the file `data` uses, in the order of the uses: their lengths, and their
@@ -41,7 +41,7 @@ pub extern "C" fn hayro_cmap_uses(
         ⊎ ((result ≡ number Refused) ⊎ (result ≡ number NoMemory)) }
 {
     let found = bundle.take(alloc);
-    let uses = CMap::uses(alloc, data, tables_of(lent(&found)));
+    let uses = uses(alloc, data, tables_of(lent(&found)));
     bundle.put_back(found);
     match uses {
         Ok(Some(used)) => put_names(alloc, &used, name_lens, names, room, needed),

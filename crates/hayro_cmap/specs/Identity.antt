@@ -1,11 +1,2 @@
 -- The predefined CMaps Identity-H and Identity-V: codes of two bytes are CIDs. ISO 32000-1, 9.7.5.2.
-use Rattle.std.specs.Prelude.{ℕ, pos, List, [], ◌∷◌, Some}
-use Rattle.cmap_values.specs.Names.{adobe_identity}
-use Rattle.cmap_files.specs.Files.{Declaration, Mode, lists_of}
-use Rattle.cmap_layers.specs.Layers.{Layer}
-
-abbrev pub identity_layer : List ℕ → Mode → Layer
-identity_layer name mode = record {
-  metadata = record { collection = Some (record { family = adobe_identity; supplement = pos 0 }); name = Some name; mode = Some mode };
-  lists = lists_of (Declaration.cid 2 (record { start = 0; end = 0xFFFF; cid = 0 }) ∷ Declaration.codespace (record { len = 2; low = 0; high = 0xFFFF }) ∷ []);
-}
+pub use Rattle.cmap_chains.specs.Identity.{identity_layer}

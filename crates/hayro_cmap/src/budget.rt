@@ -1,13 +1,5 @@
-//! A budget for the bytes of the files that are opened.
+//! How reading within a budget ends without an answer.
 
-ghost use Rattle.std.specs.Prelude.{◌≡◌, OnErr, OnOk, IfErr};
-ghost use Rattle.hayro_cmap.specs.Budgets.{IsOver};
-ghost use Rattle.hayro_cmap.specs.BytesSpent.{Leaves};
-ghost use Rattle.hayro_cmap.specs.declared.refusal.Cause.TheVariants.{OverBudget};
-ghost use Rattle.cmap_values.specs.declared.fault.Fault.TheVariants.{Refused};
-
-use crate::refusal::Cause;
-use cmap_values::fault::Fault;
 use std::alloc::AllocError;
 
 /// Why a map couldn't be read within a budget.
@@ -28,21 +20,4 @@ impl From<AllocError> for ParseError {
     fn from(_fault: AllocError) -> ParseError {
         ParseError::Memory
     }
-}
-
-/// Takes `count` bytes from what is left of a budget, if there is one.
-pub(crate) fn spend(left: &mut Option<u64>, count: usize) -> Result<(), Fault<Cause>>
-    ensures spent { OnOk result (Leaves left.old count left.new) }
-    ensures over { IfErr result
-        (λ error. (error ≡ Refused OverBudget) × IsOver left.old count) }
-    ensures same { OnErr result (left.new ≡ left.old) }
-{
-    if let Some(budget) = *left {
-        let count = count as u64;
-        if budget < count {
-            return Err(Fault::Refused(Cause::OverBudget));
-        }
-        *left = Some(budget - count);
-    }
-    Ok(())
 }

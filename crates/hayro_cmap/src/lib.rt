@@ -3,15 +3,12 @@
 #![tactic(auto)]
 
 mod budget;
-mod chain;
-mod lists;
+mod files_by_name;
 mod map;
-mod named_files;
-mod refusal;
-mod salvage;
-mod source;
 
 pub use budget::ParseError;
+pub use cmap_chains::named_files::{BundleFiles, NamedFile, NamedFiles};
+pub use cmap_chains::{Cause, Refusal, Source};
 pub use cmap_files::declarations::{BfRange, ByLength, CidRange, Codespace};
 pub use cmap_layers::layers::{DeclarationCounts, Layer};
 pub use cmap_layers::stretches::{CidStretch, Cids, TextStretch};
@@ -27,11 +24,7 @@ pub use cmap_values::metadata::Metadata;
 pub use cmap_values::names::{CMapName, Cid};
 pub use cmap_values::units::Units;
 pub use cmap_values::writing_mode::WritingMode;
-pub use map::CMap;
-pub use named_files::{BundleFiles, NamedFile, NamedFiles};
-pub use refusal::{Cause, Refusal};
-pub use salvage::SalvagedMap;
-pub use source::Source;
+pub use map::{CMap, SalvagedMap};
 
 /// The parts of the binary form of CMap files: bits and numbers, prefix tables, bundles.
 pub mod bcmap {

@@ -7,20 +7,19 @@ ghost use Rattle.cmap_values.specs.CodeLengths.{IsCodeLength, length_of};
 ghost use Rattle.cmap_runs.specs.SearchLooks.{LooksAtMost};
 ghost use Rattle.cmap_tokens.specs.TextSeen.{text_seen};
 ghost use Rattle.cmap_tokens.specs.Texts.{text_of_characters};
-ghost use Rattle.hayro_cmap.specs.Answers.{Answers, AnswersByName, IsByName};
-ghost use Rattle.cmap_files.specs.DeclarationsSeen.{bf_entry_seen, lists_seen};
+ghost use Rattle.cmap_chains.specs.Answers.{Answers, AnswersByName, IsByName};
+ghost use Rattle.cmap_files.specs.DeclarationsSeen.{bf_entry_seen};
 ghost use Rattle.cmap_files.specs.Files as files;
-ghost use Rattle.cmap_files.specs.ListsAppended.{no_lists};
 ghost use Rattle.cmap_values.specs.NamesSeen.{names_seen};
-ghost use Rattle.hayro_cmap.specs.Identity.{identity_layer};
+ghost use Rattle.cmap_chains.specs.Identity.{identity_layer};
 ghost use Rattle.cmap_packed.specs.BundleSeen.{tables_given};
-ghost use Rattle.hayro_cmap.specs.Layers.{AreUses, Means};
-ghost use Rattle.hayro_cmap.specs.Maps.{ExceedsBudget, FitsBudget, HasNoMap, IsMapOf, LeadsToFault};
-ghost use Rattle.hayro_cmap.specs.Opened.{ExceedsBudgetNamed, FitsBudgetNamed, HasNoMapNamed, IsIdentity, IsMapNamed, IsNoIdentity, IsUnknown, LeadsToFaultNamed};
-ghost use Rattle.cmap_layers.specs.LayersSeen.{layers_seen, metadata_seen, mode_seen};
+ghost use Rattle.cmap_chains.specs.Layers.{AreUses, Means};
+ghost use Rattle.cmap_chains.specs.Maps.{ExceedsBudget, FitsBudget, HasNoMap, IsMapOf, LeadsToFault};
+ghost use Rattle.cmap_chains.specs.Opened.{ExceedsBudgetNamed, FitsBudgetNamed, HasNoMapNamed, IsMapNamed, IsUnknown, LeadsToFaultNamed};
+ghost use Rattle.cmap_layers.specs.LayersSeen.{layers_seen, metadata_seen};
 ghost use Rattle.cmap_layers.specs.Layers.{top_metadata};
-ghost use Rattle.hayro_cmap.specs.Salvage.{BeginsWithFault, GivesMap, SalvagesMap};
-ghost use Rattle.hayro_cmap.specs.SalvageSeen.{faults_seen};
+ghost use Rattle.cmap_chains.specs.Salvage.{BeginsWithFault, GivesMap, SalvagesMap};
+ghost use Rattle.cmap_chains.specs.SalvageSeen.{faults_seen};
 ghost use Rattle.cmap_layers.specs.Lookups.{InCodespace, bf_of, cid_of};
 ghost use Rattle.cmap_layers.specs.CodeStretches.{AreCodesBelow, IsCidStretch, IsTextStretch};
 ghost use Rattle.cmap_layers.specs.Rows.{AreCidsOf};
@@ -30,15 +29,15 @@ ghost use Rattle.cmap_layers.specs.StringCodes.{IsNextCode};
 ghost use Rattle.cmap_layers.specs.Searches.{bf_looks, cid_looks, finds_text};
 ghost use Rattle.cmap_values.specs.declared.fault.Fault.TheVariants as fault;
 ghost use Rattle.hayro_cmap.specs.declared.budget.ParseError.TheVariants as parse_error;
-ghost use Rattle.hayro_cmap.specs.declared.refusal.Cause.TheVariants as Cause;
+ghost use Rattle.cmap_chains.specs.declared.refusal.Cause.TheVariants as Cause;
 
 use crate::budget::ParseError;
-use crate::chain::{MOST_FILES, find_layers, layer_over, read_file};
-use crate::lists::put_last;
-use crate::refusal::{Cause, Refusal};
-use crate::salvage::{SalvagedMap, Walk, salvage_layers};
-use crate::source::{FilesByName, Source};
-use cmap_files::declarations::{CidRange, Codespace, Lists};
+use crate::files_by_name::FilesByName;
+use cmap_chains::lists::put_last;
+use cmap_chains::{
+    Cause, Refusal, SalvagedLayers, Source, identity_h, identity_v, open_layers, read_layers,
+    salvaged_layers, uses,
+};
 use cmap_layers::layers::Layer;
 use cmap_layers::stretches::{CidStretch, TextStretch};
 use cmap_layers::string_codes::StringCode;
@@ -46,13 +45,10 @@ use cmap_layers::{lookup, row, stretches, string_codes};
 use cmap_packed::Bundle;
 use cmap_runs::runs::{Looks, Range};
 use cmap_tokens::utf16::BfString;
-use cmap_values::character_collection::{CharacterCollection, CidFamily};
 use cmap_values::code_length::CodeLength;
 use cmap_values::fault::Fault;
-use cmap_values::memory::{after, both};
 use cmap_values::metadata::Metadata;
 use cmap_values::names::{CMapName, Cid};
-use cmap_values::writing_mode::WritingMode;
 use std::alloc::{AllocError, Global};
 use std::marker::{Model, PhantomData};
 
@@ -76,10 +72,14 @@ impl Model for CMap {
     ghost invariant = { λ map. (0 < length map.layers.items) × (length map.layers.items ≤ 16) };
 }
 
-/// The names of the predefined identities.
-const HORIZONTAL: &[u8] = b"Identity-H";
-
-const VERTICAL: &[u8] = b"Identity-V";
+/// What a file says over the files that it uses, apart from their faults, and the faults.
+#[derive(Debug, Drop)]
+pub struct SalvagedMap<'a> {
+    pub map: CMap,
+    /// In the order in which the files are read. Those of one file come in the order of their
+    /// offsets, before those of the files that it uses.
+    pub faults: Vec<Refusal<'a>>,
+}
 
 impl CMap {
     /// The map of the CMap file `data`; `None` where it is refused: it or a file that it uses is
@@ -182,13 +182,9 @@ impl CMap {
             (names_seen refusal.names.items) refusal.cause)) }
         ensures few { IfErr result (RefusesWith (λ refusal. length refusal.names.items ≤ 16)) }
     {
-        let mut left = budget;
-        let mut names = Vec::new(alloc);
-        let below = MOST_FILES - 1;
-        match find_layers(alloc, data, bundle, source, below, &mut left, &mut names) {
+        match read_layers(alloc, budget, data, bundle, source) {
             Ok(layers) => Ok(CMap { layers }),
-            Err(Fault::Refused(cause)) => Err(Fault::Refused(Refusal { names, cause })),
-            Err(Fault::Memory) => Err(Fault::Memory),
+            Err(fault) => Err(fault),
         }
     }
 
@@ -224,17 +220,10 @@ impl CMap {
             (names_seen refusal.names.items) refusal.cause)) }
         ensures few { IfErr result (RefusesWith (λ refusal. length refusal.names.items ≤ 16)) }
     {
-        match source.file(name) {
-            Some(data) => {
-                match CMap::parse_from(alloc, budget, data, bundle, source) {
-                    Ok(map) => Ok(Some(map)),
-                    Err(fault) => Err(fault),
-                }
-            }
-            None => match CMap::identity_named(alloc, name) {
-                Ok(identity) => Ok(identity),
-                Err(AllocError) => Err(Fault::Memory),
-            },
+        match open_layers(alloc, budget, name, bundle, source) {
+            Ok(Some(layers)) => Ok(Some(CMap { layers })),
+            Ok(None) => Ok(None),
+            Err(fault) => Err(fault),
         }
     }
 
@@ -275,13 +264,12 @@ impl CMap {
         ensures few { IfOk result
             (λ found. All (λ fault. length fault.names.items ≤ 16) found.faults.items) }
     {
-        let mut walk = Walk::new(alloc, budget);
-        match salvage_layers(alloc, data, bundle, source, MOST_FILES - 1, &mut walk) {
-            Ok(layers) => Ok(SalvagedMap {
+        match salvaged_layers(alloc, budget, data, bundle, source) {
+            Ok(SalvagedLayers { layers, faults }) => Ok(SalvagedMap {
                 map: CMap { layers },
-                faults: walk.faults,
+                faults,
             }),
-            Err(AllocError) => Err(AllocError),
+            Err(error) => Err(error),
         }
     }
 
@@ -296,11 +284,7 @@ impl CMap {
         ensures { IfOk result (Finds (AreUses (Means (tables_given bundle.entry)) «data».now)
             (λ names. names_seen names.items)) }
     {
-        match read_file(alloc, data, bundle) {
-            Ok(file) => Ok(Some(file.uses)),
-            Err(Fault::Refused(_)) => Ok(None),
-            Err(Fault::Memory) => Err(AllocError),
-        }
+        uses(alloc, data, bundle)
     }
 
     /// The predefined CMap Identity-H: codes of two bytes are CIDs. ISO 32000-1, 9.7.5.2.
@@ -308,7 +292,8 @@ impl CMap {
         ensures { IfOk result
             (λ map. map ≡ identity_layer (codes "Identity-H") files.horizontal ∷ []) }
     {
-        CMap::identity(alloc, HORIZONTAL, WritingMode::Horizontal)
+        let layers = identity_h(alloc)?;
+        Ok(CMap { layers })
     }
 
     /// The predefined CMap Identity-V: codes of two bytes are CIDs, of vertical text. ISO 32000-1, 9.7.5.2.
@@ -316,7 +301,8 @@ impl CMap {
         ensures { IfOk result
             (λ map. map ≡ identity_layer (codes "Identity-V") files.vertical ∷ []) }
     {
-        CMap::identity(alloc, VERTICAL, WritingMode::Vertical)
+        let layers = identity_v(alloc)?;
+        Ok(CMap { layers })
     }
 
     /// What the file states about itself, without those that it is based on.
@@ -490,48 +476,6 @@ impl CMap {
         let layers = copied_layers(alloc, self.layers())?;
         Ok(CMap { layers })
     }
-
-    /// The predefined identity of this name, if it is the name of one.
-    fn identity_named(alloc: Global, name: &[u8]) -> Result<Option<CMap>, AllocError>
-        ensures { IfOk result
-            (λ found. MatchOption found (IsNoIdentity name.now) (IsIdentity name.now)) }
-    {
-        let mode = if name == HORIZONTAL {
-            WritingMode::Horizontal
-        } else if name == VERTICAL {
-            WritingMode::Vertical
-        } else {
-            return Ok(None);
-        };
-        match CMap::identity(alloc, name, mode) {
-            Ok(identity) => Ok(Some(identity)),
-            Err(AllocError) => Err(AllocError),
-        }
-    }
-
-    fn identity(alloc: Global, name: &[u8], mode: WritingMode) -> Result<CMap, AllocError>
-        ensures { IfOk result (λ map. map ≡ identity_layer name.now (mode_seen mode) ∷ []) }
-    {
-        let (name, lists) = both(Vec::from_slice(alloc, name), two_byte_lists(alloc))?;
-        let metadata = Metadata {
-            character_collection: Some(CharacterCollection {
-                family: CidFamily::AdobeIdentity,
-                supplement: 0,
-            }),
-            name: Some(name),
-            writing_mode: Some(mode),
-        };
-        CMap::of_lists(alloc, metadata, lists)
-    }
-
-    /// The map of one file.
-    fn of_lists(alloc: Global, metadata: Metadata, lists: Lists) -> Result<CMap, AllocError>
-        ensures { IfOk result (λ map. map
-            ≡ record { metadata = metadata_seen metadata; lists = lists_seen lists } ∷ []) }
-    {
-        let layers = layer_over(alloc, metadata, lists, Vec::new(alloc))?;
-        Ok(CMap { layers })
-    }
 }
 
 /// Copies of layers.
@@ -562,30 +506,4 @@ fn without_refusal(found: Result<CMap, Fault<Refusal<'_>>>) -> Result<Option<CMa
         },
         Err(Fault::Memory) => Err(ParseError::Memory),
     }
-}
-
-/// The declarations that say that codes of two bytes are CIDs.
-fn two_byte_lists(alloc: Global) -> Result<Lists, AllocError>
-    ensures { IfOk result (λ lists. lists_seen lists ≡ (identity_layer [] files.horizontal).lists) }
-{
-    let mut lists = Lists::new(alloc);
-    let added = add_two_bytes(&mut lists);
-    after(lists, added)
-}
-
-/// Adds what says that codes of two bytes are CIDs.
-fn add_two_bytes(lists: &mut Lists) -> Result<(), AllocError>
-    requires { lists_seen lists.old ≡ no_lists }
-    ensures { OnOk result
-        (lists_seen lists.new ≡ (identity_layer [] files.horizontal).lists) }
-{
-    let (start, end) = (0, 0xFFFF);
-    let len = CodeLength::Two;
-    let range = Range { start, end };
-    lists.add_cid(len, CidRange { range, cid: 0 })?;
-    lists.add_codespace(Codespace {
-        len,
-        low: start,
-        high: end,
-    })
 }

@@ -1,10 +1,11 @@
 use Rattle.std.proofs.Common.{◌≡◌, ◌≢◌, ◌∙◌, subst, sym}
 use Rattle.std.specs.Option.{option_copied}
+use Rattle.cmap_layers.specs.LayersSeen.{layers_seen}
 use Rattle.cmap_values.specs.NamesSeen.{names_seen}
 use Rattle.cmap_values.specs.Outcomes.{RefusesWith}
-use Rattle.hayro_cmap.specs.Maps as maps
-use Rattle.hayro_cmap.specs.declared.refusal.Cause.TheVariants as cause
-use Rattle.hayro_cmap.specs.declared.refusal.Refusal.{Refusal}
+use Rattle.cmap_chains.specs.Maps as maps
+use Rattle.cmap_chains.specs.declared.refusal.Cause.TheVariants as cause
+use Rattle.cmap_chains.specs.declared.refusal.Refusal.{Refusal}
 use Rattle.cmap_c.specs.NamedFiles.{ExceedsBudgetOver, FitsBudgetOver, HasNoMapOver, IsMapOver, LeadsToFaultOver, answers}
 use Rattle.cmap_c.proofs.MapsExplained.{told}
 use Rattle.cmap_c.proofs.explain.explain_owned.Goals as goal
@@ -14,7 +15,7 @@ unfolding IsMapOver FitsBudgetOver
 returns-in-Ok c =
     let names = answers (option_copied c.args.bundle) c.args.files.now in
     let bytes = c.args.data.now in
-    ((subst (λ tables. maps.IsMapOf tables names bytes c.in-Ok.map) c.tables_of.ensures c.in-Ok.ensures.accepts, subst (λ tables. maps.FitsBudget tables names bytes c.args.budget) c.tables_of.ensures c.in-Ok.ensures.within), tt)
+    ((rw c.of.ensures (subst (λ tables. maps.IsMapOf tables names bytes (layers_seen c.in-Ok.layers.items)) c.tables_of.ensures c.in-Ok.ensures.accepts), subst (λ tables. maps.FitsBudget tables names bytes c.args.budget) c.tables_of.ensures c.in-Ok.ensures.within), tt)
 
 pub returns-in-Err : goal.returns-in-Err
 unfolding ExceedsBudgetOver FitsBudgetOver HasNoMapOver LeadsToFaultOver
@@ -22,10 +23,10 @@ returns-in-Err c =
     let names = answers (option_copied c.args.bundle) c.args.files.now in
     let bytes = c.args.data.now in
     let budget = c.args.budget in
-    told (option_copied c.args.bundle) c.args.files.now bytes budget c.in-Err.fault c.of.result
+    told (option_copied c.args.bundle) c.args.files.now bytes budget c.in-Err.fault c.of-in-Err.result
     (subst (λ tables. RefusesWith (λ (r : Refusal). r.cause ≢ cause.OverBudget → maps.HasNoMap tables names bytes × maps.FitsBudget tables names bytes budget) c.in-Err.fault) c.tables_of.ensures c.in-Err.ensures.refuses)
     (subst (λ tables. RefusesWith (λ (r : Refusal). r.cause ≡ cause.OverBudget → maps.ExceedsBudget tables names bytes budget) c.in-Err.fault) c.tables_of.ensures c.in-Err.ensures.over)
-    (subst (λ tables. RefusesWith (λ (r : Refusal). maps.LeadsToFault tables names bytes budget (names_seen r.names.items) r.cause) c.in-Err.fault) c.tables_of.ensures c.in-Err.ensures.blames) c.of.ensures
+    (subst (λ tables. RefusesWith (λ (r : Refusal). maps.LeadsToFault tables names bytes budget (names_seen r.names.items) r.cause) c.in-Err.fault) c.tables_of.ensures c.in-Err.ensures.blames) c.of-in-Err.ensures
 
-pub parse_from-requires-clause-by_name : goal.parse_from-requires-clause-by_name
-parse_from-requires-clause-by_name c _ _ _ one other = one ∙ sym other
+pub read_layers-requires-clause-by_name : goal.read_layers-requires-clause-by_name
+read_layers-requires-clause-by_name c _ _ _ one other = one ∙ sym other

@@ -1,11 +1,12 @@
 use Rattle.std.proofs.Common.{◌≡◌, ◌≢◌, ◌∙◌, subst, sym}
-use Rattle.std.specs.Prelude.{IfNone, IfSome}
+use Rattle.std.specs.Prelude.{IfNone}
 use Rattle.std.specs.Option.{option_copied}
+use Rattle.cmap_layers.specs.LayersSeen.{layers_seen}
 use Rattle.cmap_packed.specs.BundleSeen.{tables_given}
 use Rattle.cmap_values.specs.Outcomes.{RefusesWith}
-use Rattle.hayro_cmap.specs.Opened as opened
-use Rattle.hayro_cmap.specs.declared.refusal.Cause.TheVariants as cause
-use Rattle.hayro_cmap.specs.declared.refusal.Refusal.{Refusal}
+use Rattle.cmap_chains.specs.Opened as opened
+use Rattle.cmap_chains.specs.declared.refusal.Cause.TheVariants as cause
+use Rattle.cmap_chains.specs.declared.refusal.Refusal.{Refusal}
 use Rattle.cmap_c.specs.NamedFiles.{answers}
 use Rattle.cmap_c.specs.Opened.{ExceedsBudgetNamed, FitsBudgetNamed, HasNoMapNamed, IsMapNamed, IsUnknownOver}
 use Rattle.cmap_c.proofs.StatusOfCauses.{refused}
@@ -16,9 +17,8 @@ unfolding IsMapNamed FitsBudgetNamed
 returns-in-Ok-Some c =
     let names = answers (option_copied c.args.bundle) c.args.files.now in
     let name = c.args.name.now in
-    let is : IfSome c.in-Ok-Some.field-0 (opened.IsMapNamed (tables_given c.tables_of.result) names name) = c.in-Ok-Some.ensures.accepts in
-    let map = subst (λ found. IfSome found (opened.IsMapNamed (tables_given c.tables_of.result) names name)) c.in-Ok-Some.field-0-is is in
-    (subst (λ tables. opened.IsMapNamed tables names name c.in-Ok-Some.map) c.tables_of.ensures map, subst (λ tables. opened.FitsBudgetNamed tables names name c.args.budget) c.tables_of.ensures c.in-Ok-Some.ensures.within)
+    let map : opened.IsMapNamed (tables_given c.tables_of.result) names name (layers_seen c.in-Ok-Some.layers.items) = rw c.in-Ok-Some.field-0-is at c.in-Ok-Some.ensures.accepts in
+    (rw c.of.ensures (subst (λ tables. opened.IsMapNamed tables names name (layers_seen c.in-Ok-Some.layers.items)) c.tables_of.ensures map), subst (λ tables. opened.FitsBudgetNamed tables names name c.args.budget) c.tables_of.ensures c.in-Ok-Some.ensures.within)
 
 pub returns-in-Ok-None : goal.returns-in-Ok-None
 unfolding IsUnknownOver
@@ -39,5 +39,5 @@ returns-in-Err c =
     (subst (λ tables. RefusesWith (λ (r : Refusal). r.cause ≢ cause.OverBudget → opened.HasNoMapNamed tables names name × opened.FitsBudgetNamed tables names name budget) c.in-Err.fault) c.tables_of.ensures c.in-Err.ensures.refuses)
     (subst (λ tables. RefusesWith (λ (r : Refusal). r.cause ≡ cause.OverBudget → opened.ExceedsBudgetNamed tables names name budget) c.in-Err.fault) c.tables_of.ensures c.in-Err.ensures.over)
 
-pub open-requires-clause-by_name : goal.open-requires-clause-by_name
-open-requires-clause-by_name c _ _ _ one other = one ∙ sym other
+pub open_layers-requires-clause-by_name : goal.open_layers-requires-clause-by_name
+open_layers-requires-clause-by_name c _ _ _ one other = one ∙ sym other

@@ -1,12 +1,12 @@
 use Rattle.std.proofs.Common.{◌∙◌, sym}
 use Rattle.cmap_packed.specs.BundleSeen.{tables_given}
-use Rattle.hayro_cmap.specs.Maps.{ExceedsBudget, FitsBudget, HasNoMap, IsMapOf}
+use Rattle.cmap_chains.specs.Maps.{ExceedsBudget, FitsBudget, HasNoMap, IsMapOf}
 use Rattle.cmap_c.specs.NamedFiles.{answers, bundle_in}
 use Rattle.cmap_c.proofs.StatusOfCauses.{refused}
 use Rattle.cmap_c.proofs.parse.parse_from.Goals as goal
 
 pub returns-in-Ok : goal.returns-in-Ok
-returns-in-Ok g c = (c.in-Ok.ensures.accepts, c.in-Ok.ensures.within)
+returns-in-Ok g c = (rw c.of.ensures c.in-Ok.ensures.accepts, c.in-Ok.ensures.within)
 
 pub returns-in-Err : goal.returns-in-Err
 returns-in-Err g c =
@@ -17,5 +17,5 @@ returns-in-Err g c =
     refused (IsMapOf tables names bytes) (HasNoMap tables names bytes) (FitsBudget tables names bytes budget) (ExceedsBudget tables names bytes budget) ⊥ ⊥
     _ _ c.ending_of.ensures c.in-Err.ensures.refuses c.in-Err.ensures.over
 
-pub parse_from-requires-clause-by_name : goal.parse_from-requires-clause-by_name
-parse_from-requires-clause-by_name g c _ _ _ one other = one ∙ sym other
+pub read_layers-requires-clause-by_name : goal.read_layers-requires-clause-by_name
+read_layers-requires-clause-by_name g c _ _ _ one other = one ∙ sym other

@@ -1,0 +1,16 @@
+pub mod Blamed
+pub mod BudgetLeft
+pub mod FewNames
+pub mod NamesPastFaults
+pub mod FilesMeant
+pub mod FirstFiles
+pub mod LayersFit
+pub mod OneName
+pub mod OneNameMore
+pub mod OneUse
+pub mod UsesInOrder
+pub mod WholeFile
+pub mod BytesPastFaults
+pub mod PastFaults
+pub mod SalvagedMaps
+pub mod Walked

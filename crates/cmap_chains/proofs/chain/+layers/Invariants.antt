@@ -1,0 +1,22 @@
+use Rattle.std.proofs.Common.{◌≡◌, drop, ◌+◌}
+use Rattle.cmap_packed.specs.BundleSeen.{tables_given}
+use Rattle.cmap_values.specs.NamesSeen.{names_seen}
+use Rattle.cmap_chains.specs.BytesSpent.{of_use}
+use Rattle.cmap_chains.specs.Layers.{Means}
+use Rattle.cmap_layers.specs.LayersSeen.{layers_seen}
+use Rattle.cmap_chains.proofs.UsesInOrder.{AreUsed}
+use Rattle.cmap_chains.proofs.chain.+layers.Given as goal
+
+abbrev pub decreases-find_layers : goal.decreases-find_layers
+decreases-find_layers g l = l.below + (l.below + (l.below + 2))
+
+abbrev pub decreases-find_base : goal.decreases-find_base
+decreases-find_base g l = l.below + (l.below + (l.below + 1))
+
+abbrev pub decreases-find_used : goal.decreases-find_used
+decreases-find_used g l = l.below + (l.below + l.below)
+
+abbrev pub invariant-find_base-loop-name : goal.invariant-find_base-loop-name
+invariant-find_base-loop-name g l =
+    let uses = names_seen l.uses in
+    AreUsed (of_use (Means (tables_given l.bundle)) (g.S.Source.answers l.source) l.below) uses (drop l.name-index uses) (layers_seen l.base.items) l.initial.left l.left × (names_seen l.names.items ≡ names_seen l.initial.names.items)

@@ -1,0 +1,35 @@
+use Rattle.std.proofs.Common.{◌≤◌, ap, arith, length}
+use Rattle.std.proofs.Math.ListN.{length-map}
+use Rattle.std.specs.Prelude.{false}
+use Rattle.cmap_packed.specs.BundleSeen.{tables_given}
+use Rattle.cmap_chains.specs.Layers.{Means}
+use Rattle.cmap_chains.proofs.Blamed.{no_layers}
+use Rattle.cmap_chains.proofs.FewNames.{IsFaultWithin-few}
+use Rattle.cmap_chains.proofs.LayersFit.{layers-fit}
+use Rattle.cmap_chains.proofs.WholeFile.{StaysWithin-from_spent}
+use Rattle.cmap_chains.proofs.files.read_layers.Goals as goal
+
+pub returns-in-Ok : goal.returns-in-Ok
+returns-in-Ok g c =
+    let found = c.in-Ok.ensures.0.0 in
+    let within = StaysWithin-from_spent (Means (tables_given c.args.bundle)) (g.S.Source.answers c.args.source.now) 16 c.args.«data».now c.args.budget false c.find_layers.new.left found.spent in
+    let count = layers-fit (Means (tables_given c.args.bundle)) (g.S.Source.answers c.args.source.now) c.args.«data».now c.in-Ok.layers.items found.only.holds in
+    record { accepts = found.only; count = count; within = within; refuses = tt; over = tt; blames = tt; few = tt }
+
+pub returns-in-Err-Refused : goal.returns-in-Err-Refused
+returns-in-Err-Refused g c =
+    let tables = tables_given c.args.bundle in let answers = g.S.Source.answers c.args.source.now in
+    let bytes = c.args.«data».now in let budget = c.args.budget in
+    let cause = c.in-Err-Refused.cause in
+    let fails = (rw c.in-Err-Refused.field-0-is at c.in-Err-Refused.ensures.1).0 in
+    let (names, same, fault) = (rw (c.in-Err-Refused.field-0-is, c.new-names.ensures.items) at c.in-Err-Refused.ensures.1).1 in
+    let few : length names ≤ 16 = IsFaultWithin-few tables answers budget 16 bytes names cause fault in
+    record {
+      accepts = tt;
+      count = tt;
+      within = tt;
+      refuses = no_layers (Means tables) answers 16 bytes budget c.find_layers.new.left cause fails;
+      over = λ over. record { first = (names, rw over at fault); all = rw over at fails };
+      blames = rw same fault;
+      few = omega (arith, few, simp length-map at (ap length same));
+    }

@@ -1,0 +1,29 @@
+-- What is said of a file over those that it uses: by the tables of a bundle, where there is one, and with these answers to names.
+use Rattle.std.specs.Prelude.{ℕ, List, Option}
+use Rattle.cmap_packed.specs.Bundles.{PrefixTables}
+use Rattle.cmap_values.specs.Only.{IsOnly, HoldsOfNone}
+use Rattle.cmap_layers.specs.Layers.{Layer}
+use Rattle.cmap_chains.specs.Budgets.{PassesBudget, StaysWithin}
+use Rattle.cmap_chains.specs.Layers.{AreLayers, Means}
+use Rattle.cmap_chains.specs.Refusals.{IsFaultWithin}
+use Rattle.cmap_chains.specs.declared.chain.TheConstants.{MOST_FILES}
+use Rattle.cmap_chains.specs.declared.refusal.Cause.{Cause}
+
+module _ (tables : Option PrefixTables) (answers : List ℕ → Option (List ℕ) → Type 0) (bytes : List ℕ) where
+  -- the map is that of the file, and no other is
+  abbrev pub IsMapOf : List Layer → Type 0
+  IsMapOf = IsOnly (AreLayers (Means tables) answers MOST_FILES bytes)
+
+  abbrev pub HasNoMap : Type 0
+  HasNoMap = HoldsOfNone (AreLayers (Means tables) answers MOST_FILES bytes)
+
+  -- all that is opened is within the budget, or passes it
+  abbrev pub FitsBudget : Option ℕ → Type 0
+  FitsBudget budget = StaysWithin (Means tables) answers MOST_FILES bytes budget
+
+  abbrev pub ExceedsBudget : Option ℕ → Type 0
+  ExceedsBudget budget = PassesBudget (Means tables) answers MOST_FILES bytes budget
+
+  -- the names lead from the file to the one at fault; where the budget is passed, to the first file that passes it
+  abbrev pub LeadsToFault : Option ℕ → List (List ℕ) → Cause → Type 0
+  LeadsToFault budget names cause = IsFaultWithin tables answers budget MOST_FILES bytes names cause

@@ -1,0 +1,17 @@
+-- Files by their names.
+use Rattle.std.specs.Prelude.{ℕ, List, [], ◌∷◌, bytes_eq, Option, Some, None, option_map, if◌then◌else◌}
+use Rattle.std.specs.Borrow.{Bor}
+use Rattle.std.specs.Option.{option_or}
+use Rattle.cmap_packed.specs.Bundles.{Bundle}
+use Rattle.cmap_chains.specs.Answers.{embedded}
+
+module _ {N : Type 0} (name_of bytes_of : N → List ℕ) where
+  -- the bytes of the first file of this name
+  abbrev pub first_named : List N → List ℕ → Option (List ℕ)
+  first_named [] name = None
+  first_named (file ∷ files) name = if bytes_eq (name_of file) name then Some (bytes_of file) else first_named files name
+
+module _ {N B : Type 0} (name_of bytes_of : N → List ℕ) (bundle_of : B → Bundle) where
+  -- where none has it, those of the bundle's file
+  abbrev pub file_named : List N → Option (Bor B) → List ℕ → Option (List ℕ)
+  file_named files bundle name = option_or (first_named name_of bytes_of files name) (embedded (option_map (λ b. bundle_of b.now) bundle) name)

@@ -1,0 +1,95 @@
+-- Why files have no layers: the file at fault, and what is wrong with it.
+use Rattle.std.specs.Prelude.{◌≡◌, ℕ, zero, suc, ◌<◌, ◌≤◌, List, [], ◌∷◌, ◌++◌, ◌⊎◌, length, Contains, Option, Some, None, Result}
+use Rattle.std.specs.Borrow.{Bor}
+use Rattle.std.specs.Global.{Vec}
+use Rattle.cmap_files.specs.Files.{File}
+use Rattle.cmap_values.specs.NamesSeen.{names_seen}
+use Rattle.cmap_binary.specs.BinaryFiles.{IsMarkedBinary}
+use Rattle.cmap_packed.specs.Bundles.{PrefixTables}
+use Rattle.cmap_values.specs.Only.{HoldsOfNone}
+use Rattle.cmap_values.specs.Outcomes.{DecidedBy, Outcome}
+use Rattle.cmap_values.specs.declared.fault.Fault.{Fault}
+use Rattle.cmap_values.specs.declared.fault.Stop.{Stop}
+use Rattle.cmap_text.specs.TextFiles.{IsTextFile}
+use Rattle.cmap_layers.specs.LayersSeen.{layers_seen}
+use Rattle.cmap_layers.specs.declared.layers.Layer.{Layer}
+use Rattle.cmap_chains.specs.Budgets.{IsOver, OpensFirst, OpensUseFirst, PassesAt}
+use Rattle.cmap_chains.specs.BytesSpent.{About, Leaves, Refuses, Resolves, GoesOver, of_use, of_uses}
+use Rattle.cmap_chains.specs.Layers.{Means}
+use Rattle.cmap_chains.specs.declared.refusal.Cause.{Cause}
+use Rattle.cmap_chains.specs.declared.refusal.Cause.TheVariants.{Malformed, NoFile, ChainLength, OverBudget}
+
+-- bytes are read as a text: all where there is no bundle, else those that aren't marked as a binary file
+abbrev pub IsReadAsText : Option PrefixTables → List ℕ → Type 0
+IsReadAsText None bytes = Unit {0}
+IsReadAsText (Some tables) bytes = IsMarkedBinary bytes → ⊥
+
+-- of bytes that are read as a text, those up to and including the one at which reading stopped decide: no text that begins with them is a file
+abbrev pub IsDecidedAsText : Option PrefixTables → List ℕ → Stop → Type 0
+IsDecidedAsText tables bytes stop = IsReadAsText tables bytes → DecidedBy IsTextFile bytes stop
+
+module _ (tables : Option PrefixTables) (answer : List ℕ → Option (List ℕ) → Type 0) where
+  -- what is wrong with a file by itself
+  abbrev pub IsOwnFault : List ℕ → Cause → Type 0
+  IsOwnFault bytes (Malformed stop) = HoldsOfNone (Means tables bytes) × (stop.offset ≤ length bytes) × IsDecidedAsText tables bytes stop
+  IsOwnFault bytes OverBudget = ⊥
+  IsOwnFault bytes NoFile = ⊥
+  IsOwnFault bytes ChainLength = ⊥
+
+  -- why a name gives no file, where at most this many files may still stand in the chain; without room for one it isn't asked for
+  abbrev pub IsMissing : ℕ → List ℕ → Cause → Type 0
+  IsMissing room name (Malformed stop) = ⊥
+  IsMissing room name OverBudget = ⊥
+  IsMissing room name NoFile = (0 < room) × answer name None
+  IsMissing room name ChainLength = room ≡ 0
+
+  -- the names lead from the file of these bytes to the one at fault, each used by the file before it
+  abbrev pub IsFault : ℕ → List ℕ → List (List ℕ) → Cause → Type 0
+  IsFault zero bytes names cause = ⊥
+  IsFault (suc most) bytes [] cause = IsOwnFault bytes cause
+  IsFault (suc most) bytes (name ∷ names) cause = (file : File) × Means tables bytes file × Contains file.uses name × ((IsMissing most name cause × (names ≡ []))
+      ⊎ ((base : List ℕ) × answer name (Some base) × IsFault most base names cause))
+
+  -- the same from a use of this name
+  abbrev pub IsUseFault : ℕ → List ℕ → List (List ℕ) → Cause → Type 0
+  IsUseFault most name [] cause = ⊥
+  IsUseFault most name (first ∷ names) cause = (first ≡ name) × ((IsMissing most name cause × (names ≡ [])) ⊎ ((base : List ℕ) × answer name (Some base) × IsFault most base names cause))
+
+  -- the same of a file and of a use within a budget: where this is passed, the names lead to the first file that passes it
+  abbrev pub IsFaultWithin : Option ℕ → ℕ → List ℕ → List (List ℕ) → Cause → Type 0
+  IsFaultWithin budget most bytes names OverBudget = PassesAt (OpensFirst (Means tables) answer most bytes) budget names
+  IsFaultWithin budget most bytes names cause = IsFault most bytes names cause
+
+  abbrev pub IsUseFaultWithin : Option ℕ → ℕ → List ℕ → List (List ℕ) → Cause → Type 0
+  IsUseFaultWithin budget most name names OverBudget = PassesAt (OpensUseFirst answer (OpensFirst (Means tables) answer most) most name) budget names
+  IsUseFaultWithin budget most name names cause = IsUseFault most name names cause
+
+-- ---- private aid
+-- the names lead to a fault from one of several uses, within a budget
+abbrev pub IsFaultOfUses : Option PrefixTables → (List ℕ → Option (List ℕ) → Type 0) → Option ℕ → ℕ → List (List ℕ) → List (List ℕ) → Cause → Type 0
+IsFaultOfUses tables answer budget most uses names OverBudget = PassesAt ((of_uses (of_use (Means tables) answer most)).opens_first uses) budget names
+IsFaultOfUses tables answer budget most uses names cause = (name : List ℕ) × Contains uses name × IsUseFault tables answer most name names cause
+
+-- how a file fails to open, by itself
+abbrev pub FailsToOpen : Option PrefixTables → List ℕ → Option ℕ → Option ℕ → Cause → Type 0
+FailsToOpen tables bytes budget left (Malformed stop) = HoldsOfNone (Means tables bytes) × (stop.offset ≤ length bytes) × IsDecidedAsText tables bytes stop × Leaves budget (length bytes) left
+FailsToOpen tables bytes budget left OverBudget = IsOver budget (length bytes)
+FailsToOpen tables bytes budget left NoFile = ⊥
+FailsToOpen tables bytes budget left ChainLength = ⊥
+
+-- how a search for the layers of a file or of a use fails
+abbrev pub Fails : {Key : Type 0} → About Key → Key → Option ℕ → Option ℕ → Cause → Type 0
+Fails about key budget left (Malformed stop) = Refuses about key budget left
+Fails about key budget left NoFile = Refuses about key budget left
+Fails about key budget left ChainLength = Refuses about key budget left
+Fails about key budget left OverBudget = GoesOver about key budget
+
+-- the names that are added lead to a fault
+abbrev pub Blames : (List (List ℕ) → Cause → Type 0) → List (Bor (List ℕ)) → List (Bor (List ℕ)) → Cause → Type 0
+Blames leads old new cause = (names : List (List ℕ)) × (names_seen new ≡ names_seen old ++ names) × leads names cause
+
+-- what a search for the layers of a file or of uses answers: they are found, and no name is added, or the names that are added lead to a fault
+abbrev pub Searches : {Key : Type 0} → About Key → (List (List ℕ) → Cause → Type 0) → Key → Option ℕ → Option ℕ → List (Bor (List ℕ)) → List (Bor (List ℕ)) → Result (Vec Layer) (Fault Cause) → Type 0
+Searches about leads key budget left old new = Outcome
+    (λ layers. Resolves about key (layers_seen layers.items) budget left × (names_seen new ≡ names_seen old))
+    (λ cause. Fails about key budget left cause × Blames leads old new cause)

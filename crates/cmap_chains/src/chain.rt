@@ -1,0 +1,204 @@
+//! Files over the files that they use.
+
+ghost use Rattle.std.specs.Prelude.{◌≡◌, ◌∷◌, ℕ, length, suc, Err, IfErr, IfOk, MatchResult, Option};
+ghost use Rattle.cmap_values.specs.Only.{IsOnly};
+ghost use Rattle.cmap_packed.specs.BundleSeen.{tables_given};
+ghost use Rattle.cmap_files.specs.DeclarationsSeen.{lists_seen};
+ghost use Rattle.cmap_files.specs.FilesSeen.{file_seen};
+ghost use Rattle.cmap_values.specs.NamesSeen.{names_seen};
+ghost use Rattle.cmap_values.specs.Outcomes.{Outcome, ReadsFile, RefusesWith};
+ghost use Rattle.cmap_chains.specs.Answers.{IsByName};
+ghost use Rattle.cmap_chains.specs.BytesSpent.{Leaves, of_file, of_use, of_uses};
+ghost use Rattle.cmap_layers.specs.Layers.{layer_of};
+ghost use Rattle.cmap_chains.specs.Layers.{Means};
+ghost use Rattle.cmap_layers.specs.LayersSeen.{layers_seen, metadata_seen};
+ghost use Rattle.cmap_chains.specs.Refusals.{FailsToOpen, IsDecidedAsText, IsFaultOfUses, IsFaultWithin, IsUseFaultWithin, Searches};
+
+use crate::budget::spend;
+use crate::lists::put_first;
+use crate::refusal::Cause;
+use crate::source::Source;
+use cmap_binary::{is_marked_binary, read_binary};
+use cmap_files::declarations::Lists;
+use cmap_files::file::File;
+use cmap_layers::layers::Layer;
+use cmap_packed::Bundle;
+use cmap_text::read_text;
+use cmap_values::fault::{Fault, Stop};
+use cmap_values::metadata::Metadata;
+use std::alloc::{AllocError, Global};
+
+/// How many files may stand in a chain, the top one counted.
+pub(crate) const MOST_FILES: u8 = 16;
+
+/// The layers of a file, its own first. It is refused where it or a file that it uses is outside the
+/// grammar, a use has no answer, or more than `below` files stand under it in a chain.
+///
+/// The length of each file that is opened, this one too, is first taken from what is `left` of the
+/// budget. A file is read whole before those that it uses are asked for. Where one is refused, the
+/// names that lead from this file to it are added to `names`.
+#[cycle(layers)]
+pub(crate) fn find_layers<'a, S: Source>(
+    alloc: Global,
+    bytes: &'a [u8],
+    bundle: Option<&Bundle<'_>>,
+    source: &'a S,
+    below: u8,
+    left: &mut Option<u64>,
+    names: &mut Vec<&'a [u8]>,
+) -> Result<Vec<Layer>, Fault<Cause>>
+    requires can_ask { S.can_ask source.now }
+    requires by_name { IsByName (S.answers source.now) }
+    ensures { Searches (of_file (Means (tables_given bundle.entry)) (S.answers source.now) (suc below))
+        (IsFaultWithin (tables_given bundle.entry) (S.answers source.now) left.old (suc below) bytes.now)
+        bytes.now left.old left.new names.old.items names.new.items result }
+{
+    let file = open_file(alloc, bytes, bundle, left)?;
+    let base = find_base(alloc, &file.uses, bundle, source, below, left, names);
+    put_over_found(alloc, file, base)
+}
+
+/// What a file says, of which the length is first taken from what is `left` of the budget.
+fn open_file<'a>(
+    alloc: Global,
+    bytes: &'a [u8],
+    bundle: Option<&Bundle<'_>>,
+    left: &mut Option<u64>,
+) -> Result<File<'a>, Fault<Cause>>
+    ensures { Outcome
+        (λ file. IsOnly (Means (tables_given bundle.entry) bytes.now) (file_seen file)
+        × Leaves left.old (length bytes.now) left.new)
+        (FailsToOpen (tables_given bundle.entry) bytes.now left.old left.new) result }
+{
+    match spend(left, bytes.len()) {
+        Ok(()) => read_within(alloc, bytes, bundle),
+        Err(fault) => Err(fault),
+    }
+}
+
+/// The same, where the budget has room for the file.
+fn read_within<'a>(
+    alloc: Global,
+    bytes: &'a [u8],
+    bundle: Option<&Bundle<'_>>,
+) -> Result<File<'a>, Fault<Cause>>
+    ensures { Outcome (λ file. IsOnly (Means (tables_given bundle.entry) bytes.now) (file_seen file))
+        (λ cause. (budget left : Option ℕ) → Leaves budget (length bytes.now) left
+        → FailsToOpen (tables_given bundle.entry) bytes.now budget left cause) result }
+{
+    match read_file(alloc, bytes, bundle) {
+        Ok(file) => Ok(file),
+        Err(Fault::Refused(stop)) => Err(Fault::Refused(Cause::Malformed(stop))),
+        Err(Fault::Memory) => Err(Fault::Memory),
+    }
+}
+
+/// The layers of the last one of the files that uses name; none where there is no use. Each use is
+/// resolved.
+#[cycle(layers)]
+fn find_base<'a, S: Source>(
+    alloc: Global,
+    uses: &[&'a [u8]],
+    bundle: Option<&Bundle<'_>>,
+    source: &'a S,
+    below: u8,
+    left: &mut Option<u64>,
+    names: &mut Vec<&'a [u8]>,
+) -> Result<Vec<Layer>, Fault<Cause>>
+    requires can_ask { S.can_ask source.now }
+    requires by_name { IsByName (S.answers source.now) }
+    ensures { Searches (of_uses (of_use (Means (tables_given bundle.entry)) (S.answers source.now) below))
+        (IsFaultOfUses (tables_given bundle.entry) (S.answers source.now) left.old below (names_seen uses.now))
+        (names_seen uses.now) left.old left.new names.old.items names.new.items result }
+{
+    let mut base = Vec::new(alloc);
+    for name in uses {
+        base = find_used(alloc, *name, bundle, source, below, left, names)?;
+    }
+    Ok(base)
+}
+
+/// The layers of the file that a use names. It is refused where `below` is 0, since no file may stand
+/// under the one that uses it, where the name has no answer, and where the file is refused.
+#[cycle(layers)]
+fn find_used<'a, S: Source>(
+    alloc: Global,
+    name: &'a [u8],
+    bundle: Option<&Bundle<'_>>,
+    source: &'a S,
+    below: u8,
+    left: &mut Option<u64>,
+    names: &mut Vec<&'a [u8]>,
+) -> Result<Vec<Layer>, Fault<Cause>>
+    requires can_ask { S.can_ask source.now }
+    requires by_name { IsByName (S.answers source.now) }
+    ensures { Searches (of_use (Means (tables_given bundle.entry)) (S.answers source.now) below)
+        (IsUseFaultWithin (tables_given bundle.entry) (S.answers source.now) left.old below name.now)
+        name.now left.old left.new names.old.items names.new.items result }
+{
+    names.push(name)?;
+    if below == 0 {
+        return Err(Fault::Refused(Cause::ChainLength));
+    }
+    let Some(bytes) = source.file(name) else {
+        return Err(Fault::Refused(Cause::NoFile));
+    };
+    match find_layers(alloc, bytes, bundle, source, below - 1, left, names) {
+        Ok(layers) => {
+            names.pop();
+            Ok(layers)
+        }
+        Err(fault) => Err(fault),
+    }
+}
+
+/// The layer of a file over the layers that it is based on, where these are found.
+fn put_over_found(
+    alloc: Global,
+    file: File<'_>,
+    base: Result<Vec<Layer>, Fault<Cause>>,
+) -> Result<Vec<Layer>, Fault<Cause>>
+    ensures { MatchResult base
+        (λ base. Outcome (λ layers. layers_seen layers.items
+        ≡ layer_of (file_seen file.entry) ∷ layers_seen base.items) (λ cause. ⊥) result)
+        (λ fault. result ≡ Err fault) }
+{
+    match base {
+        Ok(base) => match layer_over(alloc, file.metadata, file.lists, base) {
+            Ok(layers) => Ok(layers),
+            Err(AllocError) => Err(Fault::Memory),
+        },
+        Err(fault) => Err(fault),
+    }
+}
+
+/// A layer over those that it is based on.
+pub(crate) fn layer_over(
+    alloc: Global,
+    metadata: Metadata,
+    lists: Lists,
+    base: Vec<Layer>,
+) -> Result<Vec<Layer>, AllocError>
+    ensures { IfOk result
+        (λ layers. layers_seen layers.items
+        ≡ record { metadata = metadata_seen metadata; lists = lists_seen lists }
+        ∷ layers_seen base.items) }
+{
+    put_first(Layer::build(alloc, metadata, lists), base)
+}
+
+/// What one file says. With a bundle, bytes that are marked so are a binary file; all others are a
+/// text.
+pub(crate) fn read_file<'d>(
+    alloc: Global,
+    bytes: &'d [u8],
+    bundle: Option<&Bundle<'_>>,
+) -> Result<File<'d>, Fault<Stop>>
+    ensures reads { ReadsFile (Means (tables_given bundle.entry)) file_seen bytes.now result }
+    ensures decided { IfErr result (RefusesWith (IsDecidedAsText (tables_given bundle.entry) bytes.now)) }
+{
+    match bundle {
+        Some(bundle) if is_marked_binary(bytes) => read_binary(alloc, bundle, bytes),
+        _ => read_text(alloc, bytes),
+    }
+}

@@ -1,0 +1,107 @@
+//! The predefined CMaps Identity-H and Identity-V. ISO 32000-1, 9.7.5.2.
+
+ghost use Rattle.std.specs.Prelude.{◌≡◌, [], ◌∷◌, IfOk, IfSome, MatchOption, OnOk, codes, length};
+ghost use Rattle.cmap_files.specs.DeclarationsSeen.{lists_seen};
+ghost use Rattle.cmap_files.specs.Files as files;
+ghost use Rattle.cmap_files.specs.ListsAppended.{no_lists};
+ghost use Rattle.cmap_layers.specs.LayersSeen.{layers_seen, mode_seen};
+ghost use Rattle.cmap_chains.specs.Identity.{identity_layer};
+ghost use Rattle.cmap_chains.specs.Opened.{IsIdentity, IsNoIdentity};
+
+use crate::chain::layer_over;
+use cmap_files::declarations::{CidRange, Codespace, Lists};
+use cmap_layers::layers::Layer;
+use cmap_runs::runs::Range;
+use cmap_values::character_collection::{CharacterCollection, CidFamily};
+use cmap_values::code_length::CodeLength;
+use cmap_values::memory::{after, both};
+use cmap_values::metadata::Metadata;
+use cmap_values::writing_mode::WritingMode;
+use std::alloc::{AllocError, Global};
+
+/// The names of the predefined identities.
+const HORIZONTAL: &[u8] = b"Identity-H";
+
+const VERTICAL: &[u8] = b"Identity-V";
+
+/// The one layer of the predefined CMap Identity-H: codes of two bytes are CIDs.
+pub fn identity_h(alloc: Global) -> Result<Vec<Layer>, AllocError>
+    ensures { IfOk result (λ layers. layers_seen layers.items
+        ≡ identity_layer (codes "Identity-H") files.horizontal ∷ []) }
+{
+    identity(alloc, HORIZONTAL, WritingMode::Horizontal)
+}
+
+/// The one layer of the predefined CMap Identity-V: codes of two bytes are CIDs, of vertical text.
+pub fn identity_v(alloc: Global) -> Result<Vec<Layer>, AllocError>
+    ensures { IfOk result (λ layers. layers_seen layers.items
+        ≡ identity_layer (codes "Identity-V") files.vertical ∷ []) }
+{
+    identity(alloc, VERTICAL, WritingMode::Vertical)
+}
+
+/// The predefined identity of this name, if it is the name of one.
+pub(crate) fn identity_named(alloc: Global, name: &[u8]) -> Result<Option<Vec<Layer>>, AllocError>
+    ensures identity { IfOk result (λ found. MatchOption found (IsNoIdentity name.now)
+        (λ layers. IsIdentity name.now (layers_seen layers.items))) }
+    ensures one { IfOk result (λ found. IfSome found (λ layers. length layers.items ≡ 1)) }
+{
+    let mode = if name == HORIZONTAL {
+        WritingMode::Horizontal
+    } else if name == VERTICAL {
+        WritingMode::Vertical
+    } else {
+        return Ok(None);
+    };
+    match identity(alloc, name, mode) {
+        Ok(identity) => Ok(Some(identity)),
+        Err(AllocError) => Err(AllocError),
+    }
+}
+
+/// The one layer of an identity with this name and this writing mode.
+pub(crate) fn identity(
+    alloc: Global,
+    name: &[u8],
+    mode: WritingMode,
+) -> Result<Vec<Layer>, AllocError>
+    ensures { IfOk result (λ layers. layers_seen layers.items
+        ≡ identity_layer name.now (mode_seen mode) ∷ []) }
+{
+    let (name, lists) = both(Vec::from_slice(alloc, name), two_byte_lists(alloc))?;
+    let metadata = Metadata {
+        character_collection: Some(CharacterCollection {
+            family: CidFamily::AdobeIdentity,
+            supplement: 0,
+        }),
+        name: Some(name),
+        writing_mode: Some(mode),
+    };
+    layer_over(alloc, metadata, lists, Vec::new(alloc))
+}
+
+/// The declarations that say that codes of two bytes are CIDs.
+fn two_byte_lists(alloc: Global) -> Result<Lists, AllocError>
+    ensures { IfOk result (λ lists. lists_seen lists ≡ (identity_layer [] files.horizontal).lists) }
+{
+    let mut lists = Lists::new(alloc);
+    let added = add_two_bytes(&mut lists);
+    after(lists, added)
+}
+
+/// Adds what says that codes of two bytes are CIDs.
+fn add_two_bytes(lists: &mut Lists) -> Result<(), AllocError>
+    requires { lists_seen lists.old ≡ no_lists }
+    ensures { OnOk result
+        (lists_seen lists.new ≡ (identity_layer [] files.horizontal).lists) }
+{
+    let (start, end) = (0, 0xFFFF);
+    let len = CodeLength::Two;
+    let range = Range { start, end };
+    lists.add_cid(len, CidRange { range, cid: 0 })?;
+    lists.add_codespace(Codespace {
+        len,
+        low: start,
+        high: end,
+    })
+}

@@ -1,0 +1,18 @@
+//! Files over the files that they use: the layers of a file, why it has none, and where files come from.
+#![tactic(auto)]
+
+mod budget;
+mod chain;
+mod files;
+mod identity;
+pub mod lists;
+pub mod named_files;
+pub mod refusal;
+pub mod salvage;
+pub mod source;
+
+pub use files::{open_layers, read_layers, uses};
+pub use identity::{identity_h, identity_v};
+pub use refusal::{Cause, Refusal};
+pub use salvage::{SalvagedLayers, salvaged_layers};
+pub use source::Source;
