@@ -20,8 +20,9 @@ use cmap_packed::Bundle;
 use cmap_values::fault::Fault;
 use std::alloc::{AllocError, Global};
 
-/// The layers of the CMap file `data`, its own first, then those of the file that it is based on, and so on; or why
-/// there are none: the file at fault, by the names that lead to it, and what is wrong with it.
+/// The layers of the CMap file `data`, its own first, then those of the file that it is based on, and
+/// so on; or why there are none: the file at fault, by the names that lead to it, and what is wrong
+/// with it. No more bytes are opened than `budget`; `None` is no budget.
 ///
 /// A caller whose `Source` says what it answers to each name meets both premises.
 pub fn read_layers<'a, S: Source>(
@@ -63,9 +64,9 @@ pub fn read_layers<'a, S: Source>(
     }
 }
 
-/// The layers of the file of this name, which `source` answers: it is read as `read_layers` reads it, so
-/// that the metadata of the first is what that file says. Where no file has the name, Identity-H and Identity-V
-/// are made without one, and any other name has no layers: `None`. ISO 32000-1, 9.7.5.2.
+/// The layers of the file of this name, which `source` answers: it is read as `read_layers` reads it,
+/// so that the metadata of the first is what that file says. Where no file has the name, Identity-H
+/// and Identity-V are made without one, and any other name has no layers: `None`. ISO 32000-1, 9.7.5.2.
 pub fn open_layers<'a, S: Source>(
     alloc: Global,
     budget: Option<u64>,

@@ -60,11 +60,7 @@ pub(crate) fn identity_named(alloc: Global, name: &[u8]) -> Result<Option<Vec<La
 }
 
 /// The one layer of an identity with this name and this writing mode.
-pub(crate) fn identity(
-    alloc: Global,
-    name: &[u8],
-    mode: WritingMode,
-) -> Result<Vec<Layer>, AllocError>
+fn identity(alloc: Global, name: &[u8], mode: WritingMode) -> Result<Vec<Layer>, AllocError>
     ensures { IfOk result (λ layers. layers_seen layers.items
         ≡ identity_layer name.now (mode_seen mode) ∷ []) }
 {

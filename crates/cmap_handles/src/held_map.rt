@@ -6,8 +6,8 @@ ghost use Rattle.cmap_layers.specs.LayersSeen.{layers_seen};
 use cmap_layers::layers::Layer;
 use std::marker::Model;
 
-/// A map as a handle holds it: its layers, at least one and at most 16. A clause sees the list of them, as it
-/// does of a `CMap`.
+/// A map as a handle holds it: its layers, at least one and at most 16. A clause sees the list of them,
+/// the top one first.
 #[derive(Drop)]
 pub struct HeldMap {
     layers: Vec<Layer>,

@@ -4,7 +4,7 @@
 pub mod bundle;
 pub mod handle;
 pub mod held_map;
-pub mod loose;
+mod loose;
 pub mod names;
 pub mod ranges;
 pub mod room;

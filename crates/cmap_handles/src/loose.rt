@@ -7,10 +7,10 @@ use std::alloc::Allocator;
 use std::marker::Model;
 
 /// A pointer that owns what a box owns.
-pub struct Loose<T, A: Allocator> {
-    pub at: *mut T,
-    pub alloc: A,
-    pub ghost value: { T },
+pub(crate) struct Loose<T, A: Allocator> {
+    pub(crate) at: *mut T,
+    pub(crate) alloc: A,
+    pub(crate) ghost value: { T },
 }
 
 impl<T, A: Allocator> Model for Loose<T, A> {
@@ -18,14 +18,16 @@ impl<T, A: Allocator> Model for Loose<T, A> {
 }
 
 impl<T: Drop, A: Allocator> Loose<T, A> {
-    pub fn of(value: Box<T, A>) -> Loose<T, A>
+    /// A pointer that owns what this box owns.
+    pub(crate) fn of(value: Box<T, A>) -> Loose<T, A>
         ensures { result.value ≡ value.value }
     {
         let (at, alloc) = Box::into_raw_with_allocator(value);
         Loose { at, alloc }
     }
 
-    pub fn into_box(self) -> Box<T, A>
+    /// A box that owns what the pointer owns.
+    pub(crate) fn into_box(self) -> Box<T, A>
         ensures { result.value ≡ self.value }
     {
         let Loose { at, alloc } = self;

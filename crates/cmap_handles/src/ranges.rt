@@ -8,8 +8,11 @@ use cmap_runs::runs::{Looks, Range, Table};
 #[repr(C)]
 #[derive(Clone, Copy)]
 pub struct CodespaceRange {
+    /// The code with the lowest bytes.
     pub low: u32,
+    /// The code with the highest bytes.
     pub high: u32,
+    /// How many bytes its codes have, 1 to 4.
     pub byte_len: u32,
 }
 
@@ -38,8 +41,11 @@ impl<'s> Items for &'s [Codespace] {
 #[repr(C)]
 #[derive(Clone, Copy)]
 pub struct DeclaredCids {
+    /// The first code.
     pub first: u32,
+    /// The last code.
     pub last: u32,
+    /// The CID of the first code.
     pub cid: u32,
 }
 
@@ -48,8 +54,11 @@ pub struct DeclaredCids {
 #[repr(C)]
 #[derive(Clone, Copy)]
 pub struct DeclaredTexts {
+    /// The first code.
     pub first: u32,
+    /// The last code.
     pub last: u32,
+    /// How many units of UTF-16 the text of the first code has.
     pub units: usize,
 }
 
@@ -105,7 +114,9 @@ impl Items for Table<BfRange> {
 #[repr(C)]
 #[derive(Clone, Copy)]
 pub struct CodeRange {
+    /// The first code.
     pub first: u32,
+    /// The last code.
     pub last: u32,
 }
 

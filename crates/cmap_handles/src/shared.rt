@@ -21,6 +21,7 @@ impl<T> Model for Shared<T> {
 }
 
 impl<T: Drop> Shared<T> {
+    /// A value that one handle has. It fails only if memory runs out.
     pub fn new(alloc: Global, value: T) -> Result<Box<Shared<T>>, AllocError>
         ensures { IfOk result (λ shared. shared.value ≡ value) }
     {
@@ -28,13 +29,14 @@ impl<T: Drop> Shared<T> {
         Ok(Box::new(alloc, Shared { value })?)
     }
 
+    /// The value.
     pub fn value(&self) -> &T
         ensures { result.now ≡ self.now }
     {
         &self.value
     }
 
-    /// The same value once more.
+    /// The same value once more, for another handle. It fails only if memory runs out.
     pub fn share(&self, alloc: Global) -> Result<Box<Shared<T>>, AllocError>
         ensures { IfOk result (λ shared. shared.value ≡ self.now) }
     {

@@ -19,6 +19,7 @@ use std::marker::Model;
 pub struct MapSlot {
     at: *mut u8,
     alloc: Global,
+    /// The layers of the map.
     pub ghost map: { Option (List Layer) },
 }
 
@@ -33,7 +34,7 @@ unsafe impl Send for MapSlot {}
 
 impl MapSlot {
     /// No map.
-    pub fn empty(alloc: Global) -> MapSlot
+    pub(crate) fn empty(alloc: Global) -> MapSlot
         ensures { result.map ≡ None }
     {
         MapSlot {
@@ -42,7 +43,8 @@ impl MapSlot {
         }
     }
 
-    pub fn of_loose(loose: Loose<Shared<HeldMap>, Global>) -> MapSlot
+    /// A pointer that owns this map.
+    pub(crate) fn of_loose(loose: Loose<Shared<HeldMap>, Global>) -> MapSlot
         ensures { result.map ≡ Some loose.value }
     {
         let Loose { at, alloc } = loose;
@@ -52,7 +54,8 @@ impl MapSlot {
         }
     }
 
-    pub fn into_loose(self) -> Loose<Shared<HeldMap>, Global>
+    /// The map, which the pointer then no longer owns.
+    pub(crate) fn into_loose(self) -> Loose<Shared<HeldMap>, Global>
         requires { IsSome self.map }
         ensures { Some result.value ≡ self.map }
     {
@@ -70,6 +73,7 @@ impl MapSlot {
 pub struct BundleSlot {
     at: *mut u8,
     alloc: Global,
+    /// The bundle.
     pub ghost bundle: { Option Bundle },
 }
 
@@ -84,7 +88,7 @@ unsafe impl Send for BundleSlot {}
 
 impl BundleSlot {
     /// No bundle.
-    pub fn empty(alloc: Global) -> BundleSlot
+    pub(crate) fn empty(alloc: Global) -> BundleSlot
         ensures { result.bundle ≡ None }
     {
         BundleSlot {
@@ -93,7 +97,8 @@ impl BundleSlot {
         }
     }
 
-    pub fn of_loose(loose: Loose<Shared<OwnedBundle>, Global>) -> BundleSlot
+    /// A pointer that owns this bundle.
+    pub(crate) fn of_loose(loose: Loose<Shared<OwnedBundle>, Global>) -> BundleSlot
         ensures { result.bundle ≡ Some loose.value }
     {
         let Loose { at, alloc } = loose;
@@ -103,7 +108,8 @@ impl BundleSlot {
         }
     }
 
-    pub fn into_loose(self) -> Loose<Shared<OwnedBundle>, Global>
+    /// The bundle, which the pointer then no longer owns.
+    pub(crate) fn into_loose(self) -> Loose<Shared<OwnedBundle>, Global>
         requires { IsSome self.bundle }
         ensures { Some result.value ≡ self.bundle }
     {

@@ -323,14 +323,6 @@ impl CMap {
         self.layers.as_slice()
     }
 
-    /// The layers of the map, which are the caller's then. There are at least one and at most 16.
-    pub fn into_layers(self) -> Vec<Layer>
-        ensures layers { layers_seen result.items ≡ self }
-        ensures few { (0 < length result.items) × (length result.items ≤ 16) }
-    {
-        self.layers
-    }
-
     /// The CID of `code`, a code of `byte_len` bytes, big-endian.
     ///
     /// It is `None` where no layer decides, for a `byte_len` outside 1 to 4, and where the CID that is
