@@ -27,27 +27,36 @@ static uint8_t *read_all(const char *path, size_t *len) {
     return bytes;
 }
 
+/* What a call that fails has found. */
+static const char *why(hayro_cmap_status status) {
+    switch (status) {
+    case HAYRO_CMAP_NO_MEMORY: return "out of memory";
+    case HAYRO_CMAP_NOT_A_BUNDLE: return "invalid bundle";
+    case HAYRO_CMAP_ABSENT: return "the bundle has no file of this name";
+    default: return "the file is refused";
+    }
+}
+
 static void open_bundle(hayro_cmap_bundle *bundle, const char *path) {
     size_t len;
     uint8_t *bytes = read_all(path, &len);
     hayro_cmap_status status = hayro_cmap_bundle_open(bundle, bytes, len);
     free(bytes);
-    if (status != HAYRO_CMAP_OK) fail(status == HAYRO_CMAP_NO_MEMORY ? "out of memory" : "invalid bundle");
+    if (status != HAYRO_CMAP_OK) fail(why(status));
 }
 
-/* Prints the CID that a word asks for, by a map that is read for it. */
+/* Prints the CID that a word asks for, by the file of its name. */
 static void print_cid(hayro_cmap_bundle *bundle, const char *word) {
     const char *asked = strchr(word, ':');
-    char data[64], *code;
-    if (!asked || asked - word > 40) fail("a word is NAME:L:HEX");
-    int data_len = snprintf(data, sizeof data, "/%.*s usecmap", (int)(asked - word), word);
+    if (!asked) fail("a word is NAME:L:HEX");
+    char *code;
     uint8_t byte_len = (uint8_t)strtoul(asked + 1, &code, 10);
     if (*code != ':') fail("a word is NAME:L:HEX");
     hayro_cmap map = HAYRO_CMAP_EMPTY;
     hayro_cmap_status status =
-        hayro_cmap_parse_over(&map, hayro_cmap_bytes(data), (size_t)data_len, bundle,
-                              hayro_cmap_files(NULL), 0, HAYRO_CMAP_NO_BUDGET);
-    if (status != HAYRO_CMAP_OK) fail(status == HAYRO_CMAP_NO_MEMORY ? "out of memory" : "refused");
+        hayro_cmap_open(&map, hayro_cmap_bytes(word), (size_t)(asked - word), bundle,
+                        hayro_cmap_files(NULL), 0, HAYRO_CMAP_NO_BUDGET);
+    if (status != HAYRO_CMAP_OK) fail(why(status));
     uint32_t cid;
     if (hayro_cmap_cid(&map, (uint32_t)strtoul(code + 1, NULL, 16), byte_len, &cid))
         printf("%s %" PRIu32 "\n", word, cid);

@@ -99,6 +99,14 @@ def check_bundle(checks, setting, command):
         checks.ended(f"{command_line(command)}: the bundle {files.bundle.name}", ran, lines)
 
 
+def check_absent_file(checks, setting, command):
+    """A command says that a bundle has no file of a name."""
+    for files in setting.files:
+        ran = run(*command, files.bundle, "Nothing:2:0041")
+        checks.ended(f"{command_line(command)}: a name without a file in {files.bundle.name}", ran, "", status=1)
+        checks.same("what is said of it", ran.err, "the bundle has no file of this name\n")
+
+
 def check_threads(checks, setting, command):
     """Each of four threads counts the codes with a CID."""
     for files in setting.files:
@@ -116,6 +124,7 @@ def test_c_reads_a_bundle_once(checks, setting):
     """The example of a bundle, plain and with the sanitizers."""
     for program in [setting.programs.path(BUNDLE), setting.programs.sanitized(BUNDLE)]:
         check_bundle(checks, setting, [program])
+        check_absent_file(checks, setting, [program])
 
 
 @needs("gcc", "valgrind")
