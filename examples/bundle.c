@@ -27,7 +27,7 @@ static uint8_t *read_all(const char *path, size_t *len) {
     return bytes;
 }
 
-/* What a call that fails has found. */
+/* Why a call has no answer. */
 static const char *why(hayro_cmap_status status) {
     switch (status) {
     case HAYRO_CMAP_NO_MEMORY: return "out of memory";
