@@ -129,7 +129,7 @@ fn decoded_sum(map: &CMap, text: &[u8]) -> u64 {
     let mut sum: u64 = 0;
     let mut left = text;
     for _ in 0..text.len() {
-        let Some(next) = map.next_code(left) else {
+        let Some(next) = map.layers().next_code(left) else {
             break;
         };
         let cid = map.lookup_cid_code(next.code, next.byte_len).unwrap_or(0);

@@ -2,7 +2,7 @@
 
 use cmap_escape::digits::push_code;
 use cmap_maker::Obstacle;
-use cmap_queries::code_lengths::text_code_len;
+use cmap_queries::code_lengths::fewest_bytes;
 use hayro_cmap::runs::Range;
 use std::alloc::AllocError;
 
@@ -25,7 +25,7 @@ pub fn push_obstacle(out: &mut String, obstacle: Obstacle) -> Result<(), AllocEr
 
 /// Adds what is wrong with the codes of a range. They have as many bytes as they need.
 fn push_about(out: &mut String, what: &str, range: Range) -> Result<(), AllocError> {
-    let byte_len = text_code_len(&[], range);
+    let byte_len = fewest_bytes(range);
     write!(out, "{what} for the codes <")?;
     push_code(out, byte_len, range.start)?;
     out.push_str("> to <")?;

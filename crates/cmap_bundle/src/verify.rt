@@ -138,8 +138,8 @@ impl Pair<'_> {
                 )
             }
             CodeLength::Three | CodeLength::Four => self
-                .of_layers(self.of_file.layers(), len)
-                .or(self.of_layers(self.of_bundle.layers(), len)),
+                .of_layers(self.of_file.layers().as_slice(), len)
+                .or(self.of_layers(self.of_bundle.layers().as_slice(), len)),
         }
     }
 
@@ -196,10 +196,10 @@ impl Pair<'_> {
         if let Some(difference) = self.of_texts_in(alloc, first)? {
             return Ok(Some(difference));
         }
-        if let Some(difference) = self.of_text_layers(alloc, self.of_file.layers())? {
+        if let Some(difference) = self.of_text_layers(alloc, self.of_file.layers().as_slice())? {
             return Ok(Some(difference));
         }
-        self.of_text_layers(alloc, self.of_bundle.layers())
+        self.of_text_layers(alloc, self.of_bundle.layers().as_slice())
     }
 
     /// The first text of these codes that differs.
@@ -254,7 +254,7 @@ fn around(code: u32) -> Range {
 
 /// The codespace ranges of the file of a map.
 fn codespaces_of(map: &CMap) -> &[Codespace] {
-    match map.layers() {
+    match map.layers().as_slice() {
         [top, ..] => top.codespaces(),
         [] => &[],
     }

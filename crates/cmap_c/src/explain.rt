@@ -16,9 +16,9 @@ use cmap_chains::named_files::NamedFiles;
 use cmap_chains::read_layers;
 use cmap_handles::bundle::{BundleHandle, lent};
 use cmap_handles::handle::MapHandle;
-use cmap_handles::held_map::HeldMap;
 use cmap_handles::room::put_bytes;
 use cmap_handles::status::Status;
+use cmap_layers::layers::Layers;
 use cmap_packed::OwnedBundle;
 use cmap_values::fault::Fault;
 use std::alloc::Global;
@@ -63,11 +63,11 @@ pub extern "C" fn hayro_cmap_explain(
 
 /// The map, or how the call ends without one; C is told why there is none.
 fn tell(
-    explained: Result<HeldMap, Fault<Told>>,
+    explained: Result<Layers, Fault<Told>>,
     fault: &mut FaultNumbers,
     room: &mut [u8],
     needed: &mut usize,
-) -> Result<HeldMap, Status>
+) -> Result<Layers, Status>
     ensures { IsTold explained fault.old fault.new room.old room.new needed.old needed.new result }
 {
     match explained {
@@ -88,12 +88,12 @@ fn explain_owned(
     data: &[u8],
     bundle: Option<&OwnedBundle>,
     files: &[BaseFile<'_>],
-) -> Result<HeldMap, Fault<Told>>
+) -> Result<Layers, Fault<Told>>
     ensures { IsExplainedOver (option_copied bundle.entry) files.now «data».now budget result }
 {
     let source = NamedFiles { files, bundle };
     match read_layers(alloc, budget, data, tables_of(bundle), &source) {
-        Ok(layers) => Ok(HeldMap::of(layers)),
+        Ok(layers) => Ok(layers),
         Err(fault) => Err(Told::of(alloc, fault)),
     }
 }

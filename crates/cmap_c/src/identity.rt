@@ -8,7 +8,6 @@ ghost use Rattle.cmap_handles.specs.declared.status.Status.TheVariants.{Done, No
 
 use cmap_chains::{identity_h, identity_v};
 use cmap_handles::handle::MapHandle;
-use cmap_handles::held_map::HeldMap;
 use cmap_handles::shared::Shared;
 use cmap_handles::status::Status;
 use std::alloc::Global;
@@ -31,7 +30,7 @@ pub extern "C" fn hayro_cmap_identity(map: &mut MapHandle, alloc: Global, vertic
         identity_h(alloc)
     };
     match made {
-        Ok(layers) => map.keep(Shared::new(alloc, HeldMap::of(layers))),
+        Ok(layers) => map.keep(Shared::new(alloc, layers)),
         Err(_) => Status::NoMemory.number(),
     }
 }

@@ -16,8 +16,8 @@ use cmap_chains::named_files::NamedFiles;
 use cmap_chains::open_layers;
 use cmap_handles::bundle::{BundleHandle, lent};
 use cmap_handles::handle::MapHandle;
-use cmap_handles::held_map::HeldMap;
 use cmap_handles::status::Status;
+use cmap_layers::layers::Layers;
 use cmap_packed::OwnedBundle;
 use std::alloc::Global;
 
@@ -61,12 +61,12 @@ fn open_owned(
     name: &[u8],
     bundle: Option<&OwnedBundle>,
     files: &[BaseFile<'_>],
-) -> Result<HeldMap, Status>
+) -> Result<Layers, Status>
     ensures { EndsNamed (option_copied bundle.entry) files.now name.now budget result }
 {
     let source = NamedFiles { files, bundle };
     match open_layers(alloc, budget, name, tables_of(bundle), &source) {
-        Ok(Some(layers)) => Ok(HeldMap::of(layers)),
+        Ok(Some(layers)) => Ok(layers),
         Ok(None) => Err(Status::Absent),
         Err(fault) => Err(ending_of(fault)),
     }

@@ -17,8 +17,8 @@ use cmap_chains::named_files::{BundleFiles, NamedFiles};
 use cmap_chains::read_layers;
 use cmap_handles::bundle::{BundleHandle, lent};
 use cmap_handles::handle::MapHandle;
-use cmap_handles::held_map::HeldMap;
 use cmap_handles::status::Status;
+use cmap_layers::layers::Layers;
 use cmap_packed::{Bundle, OwnedBundle};
 use std::alloc::Global;
 
@@ -99,7 +99,7 @@ fn parse<'a>(
     data: &[u8],
     bundle: &'a [u8],
     files: &[BaseFile<'a>],
-) -> Result<HeldMap, Status>
+) -> Result<Layers, Status>
     ensures { Ends
         (λ layers. OfGiven bundle.now (λ given. IsMapOver given files.now «data».now layers))
         (OfGiven bundle.now (λ given. HasNoMapOver given files.now «data».now))
@@ -125,7 +125,7 @@ fn parse_owned(
     data: &[u8],
     bundle: Option<&OwnedBundle>,
     files: &[BaseFile<'_>],
-) -> Result<HeldMap, Status>
+) -> Result<Layers, Status>
     ensures { EndsOver (option_copied bundle.entry) files.now «data».now budget result }
 {
     parse_from(alloc, budget, data, tables_of(bundle), files, bundle)
@@ -151,13 +151,13 @@ fn parse_from<B: BundleFiles>(
     tables: Option<&Bundle<'_>>,
     files: &[BaseFile<'_>],
     bundle: Option<&B>,
-) -> Result<HeldMap, Status>
+) -> Result<Layers, Status>
     ensures { EndsBy (tables_given tables.entry)
         (answers (bundle_in B.bundle_of bundle.entry) files.now) «data».now budget result }
 {
     let source = NamedFiles { files, bundle };
     match read_layers(alloc, budget, data, tables, &source) {
-        Ok(layers) => Ok(HeldMap::of(layers)),
+        Ok(layers) => Ok(layers),
         Err(fault) => Err(ending_of(fault)),
     }
 }

@@ -16,11 +16,11 @@ use cmap_chains::named_files::NamedFiles;
 use cmap_chains::{Refusal, SalvagedLayers, salvaged_layers};
 use cmap_handles::bundle::{BundleHandle, lent};
 use cmap_handles::handle::MapHandle;
-use cmap_handles::held_map::HeldMap;
 use cmap_handles::names::push_names;
 use cmap_handles::room::{put_bytes, put_head};
 use cmap_handles::shared::Shared;
 use cmap_handles::status::Status;
+use cmap_layers::layers::Layers;
 use cmap_packed::OwnedBundle;
 use cmap_values::memory::both;
 use std::alloc::{AllocError, Global};
@@ -69,12 +69,12 @@ pub extern "C" fn hayro_cmap_salvage(
 /// What C gets of a file that is read past its faults.
 #[derive(Drop)]
 pub(crate) struct Salvaged {
-    pub(crate) map: Box<Shared<HeldMap>>,
+    pub(crate) map: Box<Shared<Layers>>,
     pub(crate) shown: ShownFaults,
 }
 
 impl Salvaged {
-    fn of(alloc: Global, map: HeldMap, faults: &[Refusal<'_>]) -> Result<Salvaged, AllocError>
+    fn of(alloc: Global, map: Layers, faults: &[Refusal<'_>]) -> Result<Salvaged, AllocError>
         requires { All (λ fault. length fault.names.items ≤ 16) faults.now }
         ensures { IfOk result (λ made. (made.map.value ≡ map)
             × AreFaultsShown (faults_seen faults.now) made.shown) }
@@ -123,9 +123,7 @@ fn salvage_owned(
 {
     let source = NamedFiles { files, bundle };
     match salvaged_layers(alloc, budget, data, tables_of(bundle), &source) {
-        Ok(SalvagedLayers { layers, faults }) => {
-            Salvaged::of(alloc, HeldMap::of(layers), &faults)
-        }
+        Ok(SalvagedLayers { layers, faults }) => Salvaged::of(alloc, layers, &faults),
         Err(error) => Err(error),
     }
 }

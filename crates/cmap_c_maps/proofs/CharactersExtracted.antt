@@ -6,8 +6,8 @@ use Rattle.std.proofs.Math.Seq.{take-append_seam}
 use Rattle.std.proofs.lemmas.Grind.{flat_map-append}
 use Rattle.std.proofs.lemmas.List.{append-nil, append_assoc, length-append, length-drop, length-take-le, drop-drop}
 use Rattle.std.proofs.lemmas.Slice.{drop-append-drop}
-use Rattle.cmap_extract.specs.TextsOfCodes.{Font}
-use Rattle.cmap_extract.specs.declared.font.Character.{Character}
+use Rattle.cmap_unicode.specs.TextsOfCodes.{Font}
+use Rattle.cmap_unicode.specs.declared.extractor.Character.{Character}
 use Rattle.cmap_layers.specs.Layers.{Layer}
 use Rattle.cmap_c_maps.specs.Extracted.{BeginsWithCharacters, IsEnd, IsExtracted, PassesRoom, bytes_of, character_seen, characters_seen, font_given, texts_of}
 use Rattle.cmap_c_maps.specs.ExtractedParts.{IsMade, IsPutAt, IsStop}

@@ -4,9 +4,9 @@ use Rattle.std.specs.Int.{from_bool}
 use Rattle.std.specs.List.{flat_map}
 use Rattle.cmap_tokens.specs.declared.utf16.BfString.{BfString}
 use Rattle.cmap_layers.specs.Layers.{Layer}
-use Rattle.cmap_extract.specs.Characters.{BeginsWithLongText, IsNextCharacter}
-use Rattle.cmap_extract.specs.TextsOfCodes.{Font}
-use Rattle.cmap_extract.specs.declared.font.Character.{Character}
+use Rattle.cmap_unicode.specs.Characters.{BeginsWithLongText, IsNextCharacter}
+use Rattle.cmap_unicode.specs.TextsOfCodes.{Font}
+use Rattle.cmap_unicode.specs.declared.extractor.Character.{Character}
 use Rattle.cmap_handles.specs.Handles.{utf8_of}
 use Rattle.cmap_handles.specs.Statuses.{number}
 use Rattle.cmap_c_maps.specs.declared.extract.Extracted.{Extracted}

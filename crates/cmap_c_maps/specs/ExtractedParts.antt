@@ -1,8 +1,8 @@
 -- Private aid: how the characters of a string are made one by one.
 use Rattle.std.specs.Prelude.{◌≡◌, ℕ, ◌+◌, ◌<◌, ◌≤◌, List, [], ◌++◌, drop, length, take}
-use Rattle.cmap_extract.specs.Characters.{BeginsWithLongText, IsNextCharacter}
-use Rattle.cmap_extract.specs.TextsOfCodes.{Font}
-use Rattle.cmap_extract.specs.declared.font.Character.{Character}
+use Rattle.cmap_unicode.specs.Characters.{BeginsWithLongText, IsNextCharacter}
+use Rattle.cmap_unicode.specs.TextsOfCodes.{Font}
+use Rattle.cmap_unicode.specs.declared.extractor.Character.{Character}
 use Rattle.cmap_c_maps.specs.Extracted.{PassesRoom, bytes_of, character_seen}
 use Rattle.cmap_c_maps.specs.declared.extract.ExtractedCharacter.{ExtractedCharacter}
 use Rattle.cmap_handles.specs.declared.status.Status.{Status}

@@ -4,7 +4,6 @@ ghost use Rattle.std.specs.Prelude.{◌≡◌, MatchOption, true, false};
 ghost use Rattle.cmap_handles.specs.Handles.{InHandle, handle_cid};
 
 use cmap_handles::handle::MapHandle;
-use cmap_layers::lookup::{cid_of, cid_within};
 use cmap_runs::runs::Looks;
 use std::alloc::Global;
 
@@ -25,7 +24,7 @@ pub extern "C" fn hayro_cmap_cid(
     let Some(found) = map.take(alloc) else {
         return false;
     };
-    let answer = cid_of(found.value().layers(), code, byte_len, &mut Looks::new());
+    let answer = found.value().cid(code, byte_len, &mut Looks::new());
     map.put(found);
     put_cid(answer, cid)
 }
@@ -50,7 +49,7 @@ pub extern "C" fn hayro_cmap_cid_strict(
     let Some(found) = map.take(alloc) else {
         return false;
     };
-    let answer = cid_within(found.value().layers(), code, byte_len, &mut Looks::new());
+    let answer = found.value().strict_cid(code, byte_len, &mut Looks::new());
     map.put(found);
     put_cid(answer, cid)
 }

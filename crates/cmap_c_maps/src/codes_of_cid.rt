@@ -2,7 +2,6 @@
 
 ghost use Rattle.std.specs.Prelude.{◌≡◌, ◌^◌, IfOk, MatchOption};
 ghost use Rattle.cmap_layers.specs.CodeStretches.{AreCodesBelow};
-ghost use Rattle.cmap_layers.specs.LayersSeen.{layers_seen};
 ghost use Rattle.cmap_handles.specs.Ranges.{ArePutCodes};
 ghost use Rattle.cmap_handles.specs.Statuses.{number};
 ghost use Rattle.cmap_handles.specs.declared.status.Status.TheVariants.{Absent, NoMemory};
@@ -11,8 +10,7 @@ use cmap_handles::handle::MapHandle;
 use cmap_handles::ranges::CodeRange;
 use cmap_handles::room::put_items;
 use cmap_handles::status::Status;
-use cmap_layers::layers::Layer;
-use cmap_layers::stretches::codes_of_cid;
+use cmap_layers::layers::Layers;
 use cmap_runs::runs::Range;
 use cmap_values::code_length::CodeLength;
 use std::alloc::{AllocError, Global};
@@ -37,7 +35,7 @@ pub extern "C" fn hayro_cmap_codes_of_cid(
     let Some(found) = map.take(alloc) else {
         return Status::Absent.number();
     };
-    let codes = codes_of(alloc, found.value().layers(), cid, byte_len);
+    let codes = codes_of(alloc, found.value(), cid, byte_len);
     map.put(found);
     match codes {
         Ok(codes) => put_items(&codes, ranges, needed),
@@ -48,15 +46,15 @@ pub extern "C" fn hayro_cmap_codes_of_cid(
 /// The codes of `byte_len` bytes that have a CID; none of a length that no code has.
 fn codes_of(
     alloc: Global,
-    layers: &[Layer],
+    layers: &Layers,
     cid: u32,
     byte_len: u8,
 ) -> Result<Vec<Range>, AllocError>
     ensures { IfOk result
-        (λ ranges. AreCodesBelow (layers_seen layers.now) byte_len cid (256 ^ byte_len) ranges.items) }
+        (λ ranges. AreCodesBelow layers.now byte_len cid (256 ^ byte_len) ranges.items) }
 {
     match CodeLength::of(byte_len) {
-        Some(len) => codes_of_cid(alloc, layers, cid, len),
+        Some(len) => layers.codes_of_cid(alloc, cid, len),
         None => Ok(Vec::new(alloc)),
     }
 }

@@ -14,7 +14,7 @@ use cmap_handles::handle::{MapHandle, TakenMap};
 use cmap_handles::ranges::{DeclaredCids, DeclaredTexts};
 use cmap_handles::room::{put, put_found, put_items};
 use cmap_handles::status::Status;
-use cmap_layers::layers::Layer;
+use cmap_layers::layer::Layer;
 use cmap_runs::runs::Looks;
 use cmap_values::code_length::CodeLength;
 use std::alloc::Global;

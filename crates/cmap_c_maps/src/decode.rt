@@ -1,16 +1,14 @@
 //! The codes of a string, for C.
 
 ghost use Rattle.std.specs.Prelude.{◌≡◌, MatchOption};
-ghost use Rattle.cmap_layers.specs.LayersSeen.{layers_seen};
 ghost use Rattle.cmap_handles.specs.Statuses.{number};
 ghost use Rattle.cmap_c_maps.specs.Strings.{IsDecoded, code_seen};
 ghost use Rattle.cmap_handles.specs.declared.status.Status.TheVariants.{Absent};
 
 use cmap_handles::handle::MapHandle;
 use cmap_handles::status::Status;
-use cmap_layers::layers::Layer;
-use cmap_layers::lookup::cid_of;
-use cmap_layers::string_codes::{StringCode, next_code};
+use cmap_layers::layers::Layers;
+use cmap_layers::string_codes::StringCode;
 use cmap_runs::runs::Looks;
 use std::alloc::Global;
 
@@ -54,25 +52,25 @@ pub extern "C" fn hayro_cmap_decode(
         *taken = 0;
         return Status::Absent.number();
     };
-    let status = decode(found.value().layers(), text, codes, made, taken);
+    let status = decode(found.value(), text, codes, made, taken);
     map.put(found);
     status
 }
 
 /// Cuts a string into codes, as many as there is room for.
 fn decode(
-    layers: &[Layer],
+    layers: &Layers,
     text: &[u8],
     codes: &mut [Code],
     made: &mut usize,
     taken: &mut usize,
 ) -> u32
-    ensures { IsDecoded (layers_seen layers.now) text.now codes.old codes.new made.new taken.new result }
+    ensures { IsDecoded layers.now text.now codes.old codes.new made.new taken.new result }
 {
     let mut left = text;
     let mut count = 0;
     while count < codes.len() {
-        let Some(next) = next_code(layers, left) else {
+        let Some(next) = layers.next_code(left) else {
             break;
         };
         codes[count] = with_cid(layers, next);
@@ -89,10 +87,10 @@ fn decode(
 }
 
 /// A code with its CID.
-fn with_cid(layers: &[Layer], found: StringCode) -> Code
-    ensures { result ≡ code_seen (layers_seen layers.now) found }
+fn with_cid(layers: &Layers, found: StringCode) -> Code
+    ensures { result ≡ code_seen layers.now found }
 {
-    let cid = cid_of(layers, found.code, found.byte_len, &mut Looks::new());
+    let cid = layers.cid(found.code, found.byte_len, &mut Looks::new());
     Code {
         code: found.code,
         cid: cid.unwrap_or(0),

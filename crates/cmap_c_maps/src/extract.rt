@@ -2,7 +2,7 @@
 
 ghost use Rattle.std.specs.Prelude.{◌≡◌, ◌-◌, ◌<◌, ◌≤◌, None, MatchOption, MatchResult, length};
 ghost use Rattle.std.specs.Bool.{MatchBool};
-ghost use Rattle.cmap_extract.specs.FontSeen.{font_seen};
+ghost use Rattle.cmap_unicode.specs.Characters.{font_of};
 ghost use Rattle.cmap_c_maps.specs.Extracted.{IsExtracted, bytes_of, character_seen, font_given};
 ghost use Rattle.cmap_c_maps.specs.ExtractedParts.{IsMade, IsPutAt, IsStop};
 ghost use Rattle.cmap_handles.specs.Statuses.{number};
@@ -10,10 +10,10 @@ ghost use Rattle.cmap_handles.specs.declared.status.Status.TheVariants.{Absent};
 
 use crate::decode::Code;
 use crate::layers::layers_lent;
-use cmap_extract::{Character, Font};
 use cmap_handles::handle::MapHandle;
 use cmap_handles::status::Status;
 use cmap_tokens::utf16::BfString;
+use cmap_unicode::{Character, Extractor};
 use std::alloc::Global;
 
 /// A code of a string with its CID, and with its text in a room for texts. It has no padding, and each
@@ -73,8 +73,8 @@ pub extern "C" fn hayro_cmap_extract(
     let texts_of_cids = collection.take(alloc);
     let texts_layers = layers_lent(&texts);
     let collection_layers = layers_lent(&texts_of_cids);
-    let font = Font {
-        encoding: found.value().layers(),
+    let font = Extractor {
+        encoding: found.value(),
         to_unicode: texts_layers,
         collection: collection_layers,
     };
@@ -101,14 +101,14 @@ impl Extracted {
 /// Cuts a string into codes, as many as there is room for; nothing is extracted before.
 fn extract(
     alloc: Global,
-    font: &Font<'_>,
+    font: &Extractor<'_>,
     string: &[u8],
     characters: &mut [ExtractedCharacter],
     text: &mut [u8],
     extracted: &mut Extracted,
 ) -> u32
     requires { extracted.old ≡ record { made = 0; taken = 0; used = 0 } }
-    ensures { IsExtracted (font_seen font.now) string.now characters.old characters.new text.old text.new
+    ensures { IsExtracted (font_of font.now) string.now characters.old characters.new text.old text.new
         extracted.new result }
 {
     while extracted.made < characters.len() {
@@ -138,16 +138,16 @@ fn extract(
 /// The next code of a string, with its text at an offset of the room for texts.
 fn next_code(
     alloc: Global,
-    font: &Font<'_>,
+    font: &Extractor<'_>,
     string: &[u8],
     start: usize,
     text: &mut [u8],
 ) -> Result<ExtractedCharacter, Status>
     requires { start ≤ length text.old }
     ensures { MatchResult result
-        (IsMade (font_seen font.now) string.now start text.old text.new)
+        (IsMade (font_of font.now) string.now start text.old text.new)
         (λ end. (text.new ≡ text.old)
-        × IsStop (font_seen font.now) string.now (length text.old - start) end) }
+        × IsStop (font_of font.now) string.now (length text.old - start) end) }
 {
     match font.next(alloc, string) {
         Ok(Some(found)) => {

@@ -2,7 +2,6 @@
 
 ghost use Rattle.std.specs.Prelude.{◌≡◌, ◌≤◌, MatchOption, length, option_map};
 ghost use Rattle.std.specs.Option.{option_copied};
-ghost use Rattle.cmap_extract.specs.FontSeen.{layers_given};
 ghost use Rattle.cmap_layers.specs.LayersSeen.{layer_seen};
 ghost use Rattle.cmap_handles.specs.Handles.{layer_in, ranges_seen};
 ghost use Rattle.cmap_handles.specs.Rooms.{IsPut};
@@ -13,7 +12,8 @@ use cmap_handles::handle::{MapHandle, TakenMap};
 use cmap_handles::ranges::CodespaceRange;
 use cmap_handles::room::put_items;
 use cmap_handles::status::Status;
-use cmap_layers::layers::Layer;
+use cmap_layers::layer::Layer;
+use cmap_layers::layers::Layers;
 use std::alloc::Global;
 
 /// How many layers the map has.
@@ -26,7 +26,7 @@ pub extern "C" fn hayro_cmap_layers(map: &mut MapHandle, alloc: Global) -> usize
     let Some(found) = map.take(alloc) else {
         return 0;
     };
-    let count = found.value().layers().len();
+    let count = found.value().as_slice().len();
     map.put(found);
     count
 }
@@ -55,11 +55,11 @@ pub extern "C" fn hayro_cmap_codespaces(
 }
 
 /// The layers of a map that was taken.
-pub(crate) fn layers_lent(found: &TakenMap) -> Option<&[Layer]>
-    ensures { layers_given result ≡ option_map (λ b. b.value) found.now }
+pub(crate) fn layers_lent(found: &TakenMap) -> Option<&Layers>
+    ensures { option_copied result ≡ option_map (λ b. b.value) found.now }
 {
     match found {
-        Some(shared) => Some(shared.value().layers()),
+        Some(shared) => Some(shared.value()),
         None => None,
     }
 }
@@ -69,8 +69,10 @@ pub(crate) fn layer_at(found: &TakenMap, layer: usize) -> Option<&Layer>
     ensures { option_map layer_seen (option_copied result)
         ≡ layer_in (option_map (λ b. b.value) found.now) layer }
 {
-    match layers_lent(found) {
-        Some(layers) if layer < layers.len() => Some(&layers[layer]),
-        _ => None,
+    let layers = layers_lent(found)?.as_slice();
+    if layer < layers.len() {
+        Some(&layers[layer])
+    } else {
+        None
     }
 }

@@ -4,7 +4,6 @@ ghost use Rattle.std.specs.Prelude.{◌≡◌, MatchOption, true, false};
 ghost use Rattle.cmap_layers.specs.Rows.{AreCidsOf};
 
 use cmap_handles::handle::MapHandle;
-use cmap_layers::row::fill_cids;
 use std::alloc::Global;
 
 /// The CIDs of the codes of `byte_len` bytes from `first` on, one after another, as many as there is
@@ -26,7 +25,7 @@ pub extern "C" fn hayro_cmap_cids(
     let Some(found) = map.take(alloc) else {
         return false;
     };
-    fill_cids(found.value().layers(), first, byte_len, absent, cids);
+    found.value().fill_cids(first, byte_len, absent, cids);
     map.put(found);
     true
 }

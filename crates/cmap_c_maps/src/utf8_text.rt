@@ -9,7 +9,6 @@ ghost use Rattle.cmap_handles.specs.declared.status.Status.TheVariants.{Absent, 
 use cmap_handles::handle::MapHandle;
 use cmap_handles::room::put_bytes;
 use cmap_handles::status::Status;
-use cmap_layers::lookup::bf_of;
 use cmap_runs::runs::Looks;
 use cmap_tokens::utf16::BfString;
 use std::alloc::Global;
@@ -36,7 +35,7 @@ pub extern "C" fn hayro_cmap_text(
     let Some(found) = map.take(alloc) else {
         return Status::Absent.number();
     };
-    let answer = bf_of(alloc, found.value().layers(), code, &mut Looks::new());
+    let answer = found.value().text(alloc, code, &mut Looks::new());
     map.put(found);
     match answer {
         Ok(Some(text)) => put_text(&text, room, needed),

@@ -7,7 +7,7 @@ use Rattle.cmap_files.specs.Files.{File}
 use Rattle.cmap_layers.specs.Layers.{Layer, layer_of}
 use Rattle.cmap_chains.specs.Layers.{AreLayers, OfAnswer}
 use Rattle.cmap_layers.specs.LayersSeen.{layers_seen}
-use Rattle.cmap_layers.specs.declared.layers.Layer as declared
+use Rattle.cmap_layers.specs.declared.layer.Layer as declared
 
 last-short : (R : List ℕ → List Layer → Type 0) (most : ℕ) → ((name : List ℕ) (base : List Layer) → R name base → length base ≤ most)
     → (names : List (List ℕ)) (each : List (List Layer)) (first : Option (List Layer)) → length (unwrap_or first []) ≤ most → AllZip R names each → length (unwrap_or (last_or first each) []) ≤ most

@@ -5,7 +5,7 @@ use Rattle.std.proofs.Math.ListN.{length-map}
 use Rattle.cmap_packed.specs.Bundles.{PrefixTables}
 use Rattle.cmap_layers.specs.Layers.{Layer}
 use Rattle.cmap_layers.specs.LayersSeen.{layers_seen}
-use Rattle.cmap_layers.specs.declared.layers.Layer as declared
+use Rattle.cmap_layers.specs.declared.layer.Layer as declared
 use Rattle.cmap_chains.specs.Answers.{IsByName}
 use Rattle.cmap_chains.specs.BytesSpent.{of_file}
 use Rattle.cmap_chains.specs.Layers.{Means}

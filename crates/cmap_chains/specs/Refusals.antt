@@ -12,7 +12,7 @@ use Rattle.cmap_values.specs.declared.fault.Fault.{Fault}
 use Rattle.cmap_values.specs.declared.fault.Stop.{Stop}
 use Rattle.cmap_text.specs.TextFiles.{IsTextFile}
 use Rattle.cmap_layers.specs.LayersSeen.{layers_seen}
-use Rattle.cmap_layers.specs.declared.layers.Layer.{Layer}
+use Rattle.cmap_layers.specs.declared.layer.Layer.{Layer}
 use Rattle.cmap_chains.specs.Budgets.{IsOver, OpensFirst, OpensUseFirst, PassesAt}
 use Rattle.cmap_chains.specs.BytesSpent.{About, Leaves, Refuses, Resolves, GoesOver, of_use, of_uses}
 use Rattle.cmap_chains.specs.Layers.{Means}

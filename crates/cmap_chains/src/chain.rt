@@ -15,13 +15,13 @@ ghost use Rattle.cmap_layers.specs.LayersSeen.{layers_seen, metadata_seen};
 ghost use Rattle.cmap_chains.specs.Refusals.{FailsToOpen, IsDecidedAsText, IsFaultOfUses, IsFaultWithin, IsUseFaultWithin, Searches};
 
 use crate::budget::spend;
-use crate::lists::put_first;
 use crate::refusal::Cause;
 use crate::source::Source;
 use cmap_binary::{is_marked_binary, read_binary};
 use cmap_files::declarations::Lists;
 use cmap_files::file::File;
-use cmap_layers::layers::Layer;
+use cmap_layers::layer::Layer;
+use cmap_layers::lists::put_first;
 use cmap_packed::Bundle;
 use cmap_text::read_text;
 use cmap_values::fault::{Fault, Stop};

@@ -1,10 +1,9 @@
 //! What a file gives over the files that it uses.
 
-ghost use Rattle.std.specs.Prelude.{◌≡◌, ◌≢◌, ◌<◌, ◌≤◌, IfErr, IfNone, IfOk, IfSome, OnOk, length};
+ghost use Rattle.std.specs.Prelude.{◌≡◌, ◌≢◌, ◌≤◌, IfErr, IfNone, IfOk, IfSome, OnOk, length};
 ghost use Rattle.cmap_packed.specs.BundleSeen.{tables_given};
 ghost use Rattle.cmap_values.specs.NamesSeen.{names_seen};
 ghost use Rattle.cmap_values.specs.Outcomes.{Finds, RefusesWith};
-ghost use Rattle.cmap_layers.specs.LayersSeen.{layers_seen};
 ghost use Rattle.cmap_chains.specs.Answers.{IsByName};
 ghost use Rattle.cmap_chains.specs.Layers.{AreUses, Means};
 ghost use Rattle.cmap_chains.specs.Maps.{ExceedsBudget, FitsBudget, HasNoMap, IsMapOf, LeadsToFault};
@@ -15,7 +14,7 @@ use crate::chain::{MOST_FILES, find_layers, read_file};
 use crate::identity::identity_named;
 use crate::refusal::Refusal;
 use crate::source::Source;
-use cmap_layers::layers::Layer;
+use cmap_layers::layers::Layers;
 use cmap_packed::Bundle;
 use cmap_values::fault::Fault;
 use std::alloc::{AllocError, Global};
@@ -31,13 +30,11 @@ pub fn read_layers<'a, S: Source>(
     data: &'a [u8],
     bundle: Option<&Bundle<'_>>,
     source: &'a S,
-) -> Result<Vec<Layer>, Fault<Refusal<'a>>>
+) -> Result<Layers, Fault<Refusal<'a>>>
     requires can_ask { S.can_ask source.now }
     requires by_name { IsByName (S.answers source.now) }
-    ensures accepts { IfOk result (λ layers. IsMapOf (tables_given bundle.entry)
-        (S.answers source.now) «data».now (layers_seen layers.items)) }
-    ensures count { IfOk result
-        (λ layers. (0 < length layers.items) × (length layers.items ≤ 16)) }
+    ensures accepts { IfOk result
+        (IsMapOf (tables_given bundle.entry) (S.answers source.now) «data».now) }
     ensures within { OnOk result
         (FitsBudget (tables_given bundle.entry) (S.answers source.now) «data».now budget) }
 
@@ -58,7 +55,7 @@ pub fn read_layers<'a, S: Source>(
     let mut names = Vec::new(alloc);
     let below = MOST_FILES - 1;
     match find_layers(alloc, data, bundle, source, below, &mut left, &mut names) {
-        Ok(layers) => Ok(layers),
+        Ok(layers) => Ok(Layers::of(layers)),
         Err(Fault::Refused(cause)) => Err(Fault::Refused(Refusal { names, cause })),
         Err(Fault::Memory) => Err(Fault::Memory),
     }
@@ -73,13 +70,11 @@ pub fn open_layers<'a, S: Source>(
     name: &[u8],
     bundle: Option<&Bundle<'_>>,
     source: &'a S,
-) -> Result<Option<Vec<Layer>>, Fault<Refusal<'a>>>
+) -> Result<Option<Layers>, Fault<Refusal<'a>>>
     requires can_ask { S.can_ask source.now }
     requires by_name { IsByName (S.answers source.now) }
-    ensures accepts { IfOk result (λ found. IfSome found (λ layers. IsMapNamed
-        (tables_given bundle.entry) (S.answers source.now) name.now (layers_seen layers.items))) }
-    ensures count { IfOk result (λ found. IfSome found
-        (λ layers. (0 < length layers.items) × (length layers.items ≤ 16))) }
+    ensures accepts { IfOk result (λ found. IfSome found
+        (IsMapNamed (tables_given bundle.entry) (S.answers source.now) name.now)) }
     ensures absent { IfOk result
         (λ found. IfNone found (IsUnknown (S.answers source.now) name.now)) }
     ensures within { OnOk result

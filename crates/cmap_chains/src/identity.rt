@@ -1,6 +1,6 @@
 //! The predefined CMaps Identity-H and Identity-V. ISO 32000-1, 9.7.5.2.
 
-ghost use Rattle.std.specs.Prelude.{◌≡◌, [], ◌∷◌, IfOk, IfSome, MatchOption, OnOk, codes, length};
+ghost use Rattle.std.specs.Prelude.{◌≡◌, [], ◌∷◌, IfOk, MatchOption, OnOk, codes};
 ghost use Rattle.cmap_files.specs.DeclarationsSeen.{lists_seen};
 ghost use Rattle.cmap_files.specs.Files as files;
 ghost use Rattle.cmap_files.specs.ListsAppended.{no_lists};
@@ -10,7 +10,8 @@ ghost use Rattle.cmap_chains.specs.Opened.{IsIdentity, IsNoIdentity};
 
 use crate::chain::layer_over;
 use cmap_files::declarations::{CidRange, Codespace, Lists};
-use cmap_layers::layers::Layer;
+use cmap_layers::layer::Layer;
+use cmap_layers::layers::Layers;
 use cmap_runs::runs::Range;
 use cmap_values::character_collection::{CharacterCollection, CidFamily};
 use cmap_values::code_length::CodeLength;
@@ -25,26 +26,25 @@ const HORIZONTAL: &[u8] = b"Identity-H";
 const VERTICAL: &[u8] = b"Identity-V";
 
 /// The one layer of the predefined CMap Identity-H: codes of two bytes are CIDs.
-pub fn identity_h(alloc: Global) -> Result<Vec<Layer>, AllocError>
-    ensures { IfOk result (λ layers. layers_seen layers.items
-        ≡ identity_layer (codes "Identity-H") files.horizontal ∷ []) }
+pub fn identity_h(alloc: Global) -> Result<Layers, AllocError>
+    ensures { IfOk result
+        (λ layers. layers ≡ identity_layer (codes "Identity-H") files.horizontal ∷ []) }
 {
     identity(alloc, HORIZONTAL, WritingMode::Horizontal)
 }
 
 /// The one layer of the predefined CMap Identity-V: codes of two bytes are CIDs, of vertical text.
-pub fn identity_v(alloc: Global) -> Result<Vec<Layer>, AllocError>
-    ensures { IfOk result (λ layers. layers_seen layers.items
-        ≡ identity_layer (codes "Identity-V") files.vertical ∷ []) }
+pub fn identity_v(alloc: Global) -> Result<Layers, AllocError>
+    ensures { IfOk result
+        (λ layers. layers ≡ identity_layer (codes "Identity-V") files.vertical ∷ []) }
 {
     identity(alloc, VERTICAL, WritingMode::Vertical)
 }
 
 /// The predefined identity of this name, if it is the name of one.
-pub(crate) fn identity_named(alloc: Global, name: &[u8]) -> Result<Option<Vec<Layer>>, AllocError>
-    ensures identity { IfOk result (λ found. MatchOption found (IsNoIdentity name.now)
-        (λ layers. IsIdentity name.now (layers_seen layers.items))) }
-    ensures one { IfOk result (λ found. IfSome found (λ layers. length layers.items ≡ 1)) }
+pub(crate) fn identity_named(alloc: Global, name: &[u8]) -> Result<Option<Layers>, AllocError>
+    ensures { IfOk result
+        (λ found. MatchOption found (IsNoIdentity name.now) (IsIdentity name.now)) }
 {
     let mode = if name == HORIZONTAL {
         WritingMode::Horizontal
@@ -60,7 +60,18 @@ pub(crate) fn identity_named(alloc: Global, name: &[u8]) -> Result<Option<Vec<La
 }
 
 /// The one layer of an identity with this name and this writing mode.
-fn identity(alloc: Global, name: &[u8], mode: WritingMode) -> Result<Vec<Layer>, AllocError>
+fn identity(alloc: Global, name: &[u8], mode: WritingMode) -> Result<Layers, AllocError>
+    ensures { IfOk result
+        (λ layers. layers ≡ identity_layer name.now (mode_seen mode) ∷ []) }
+{
+    match identity_list(alloc, name, mode) {
+        Ok(layers) => Ok(Layers::of(layers)),
+        Err(error) => Err(error),
+    }
+}
+
+/// The same, as a list.
+fn identity_list(alloc: Global, name: &[u8], mode: WritingMode) -> Result<Vec<Layer>, AllocError>
     ensures { IfOk result (λ layers. layers_seen layers.items
         ≡ identity_layer name.now (mode_seen mode) ∷ []) }
 {

@@ -5,7 +5,6 @@ mod budget;
 mod chain;
 mod files;
 mod identity;
-pub mod lists;
 pub mod named_files;
 pub mod refusal;
 pub mod salvage;

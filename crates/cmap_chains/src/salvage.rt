@@ -8,7 +8,7 @@ ghost use Rattle.cmap_files.specs.FilesSeen.{file_seen};
 ghost use Rattle.cmap_values.specs.NamesSeen.{names_seen};
 ghost use Rattle.cmap_layers.specs.Layers.{layer_of};
 ghost use Rattle.cmap_layers.specs.LayersSeen.{layers_seen};
-ghost use Rattle.cmap_layers.specs.declared.layers.Layer.{Layer};
+ghost use Rattle.cmap_layers.specs.declared.layer.Layer.{Layer};
 ghost use Rattle.cmap_chains.specs.Answers.{IsByName};
 ghost use Rattle.cmap_chains.specs.Maps.{ExceedsBudget, HasNoMap};
 ghost use Rattle.cmap_chains.specs.Salvage.{BeginsWithFault, GivesMap, IsReadPast, Salvages, SalvagesBytes, SalvagesEach, SalvagesMap, SalvagesNamed, SalvagesUse, faults_of};
@@ -17,12 +17,13 @@ ghost use Rattle.cmap_chains.specs.declared.refusal.Cause.TheVariants.{Malformed
 
 use crate::budget::spend;
 use crate::chain::{MOST_FILES, layer_over, read_file};
-use crate::lists::put_last;
 use crate::refusal::{Cause, Refusal};
 use crate::source::Source;
 use cmap_binary::{is_marked_binary, salvage_binary};
 use cmap_files::file::{File, Salvaged};
-use cmap_layers::layers::Layer;
+use cmap_layers::layer::Layer;
+use cmap_layers::layers::Layers;
+use cmap_layers::lists::put_last;
 use cmap_packed::Bundle;
 use cmap_text::salvage_text;
 use cmap_values::fault::{Fault, Stop};
@@ -32,8 +33,8 @@ use std::alloc::{AllocError, Global};
 /// What a file says over the files that it uses, apart from their faults, and the faults.
 #[derive(Drop)]
 pub struct SalvagedLayers<'a> {
-    /// Those of the file first, at least one and at most 16.
-    pub layers: Vec<Layer>,
+    /// Those of the file first.
+    pub layers: Layers,
     /// In the order in which the files are read. Those of one file come in the order of their
     /// offsets, before those of the files that it uses.
     pub faults: Vec<Refusal<'a>>,
@@ -60,12 +61,12 @@ pub fn salvaged_layers<'a, S: Source>(
     requires by_name { IsByName (S.answers source.now) }
     ensures says { IfOk result (λ found.
         SalvagesMap (tables_given bundle.entry) (S.answers source.now) «data».now budget
-        (layers_seen found.layers.items) (faults_seen found.faults.items)) }
+        found.layers (faults_seen found.faults.items)) }
 
     // Of a file that has a map, for which the budget suffices, it gives that map and no fault.
     ensures right { IfOk result (λ found.
         GivesMap (tables_given bundle.entry) (S.answers source.now) «data».now budget
-        (layers_seen found.layers.items) (faults_seen found.faults.items)) }
+        found.layers (faults_seen found.faults.items)) }
 
     // Of another one, the first fault is one for which it is refused.
     ensures wrong { IfOk result (λ found.
@@ -73,15 +74,13 @@ pub fn salvaged_layers<'a, S: Source>(
         ⊎ ExceedsBudget (tables_given bundle.entry) (S.answers source.now) «data».now budget
         → BeginsWithFault (tables_given bundle.entry) (S.answers source.now) «data».now budget
         (faults_seen found.faults.items)) }
-    ensures count { IfOk result
-        (λ found. (0 < length found.layers.items) × (length found.layers.items ≤ 16)) }
     ensures few { IfOk result
         (λ found. All (λ fault. length fault.names.items ≤ 16) found.faults.items) }
 {
     let mut walk = Walk::new(alloc, budget);
     match salvage_layers(alloc, data, bundle, source, MOST_FILES - 1, &mut walk) {
         Ok(layers) => Ok(SalvagedLayers {
-            layers,
+            layers: Layers::of(layers),
             faults: walk.faults,
         }),
         Err(AllocError) => Err(AllocError),

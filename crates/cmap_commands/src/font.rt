@@ -23,10 +23,14 @@ impl Font {
             Some(map) => map,
             None => &self.encoding,
         };
+        let collection = match &self.collection {
+            Some(map) => Some(map.layers()),
+            None => None,
+        };
         Extractor {
-            encoding: &self.encoding,
-            to_unicode: Some(to_unicode),
-            collection: self.collection.as_ref(),
+            encoding: self.encoding.layers(),
+            to_unicode: Some(to_unicode.layers()),
+            collection,
         }
     }
 }
@@ -80,7 +84,7 @@ fn collection_of(
 
 /// The character collection of the first layer that has one.
 fn family_of(map: &CMap) -> Option<&CidFamily> {
-    for layer in map.layers() {
+    for layer in map.layers().as_slice() {
         if let Some(collection) = &layer.metadata().character_collection {
             return Some(&collection.family);
         }

@@ -69,7 +69,7 @@ fn lines_of(
     json: bool,
     files: &Files<'_>,
 ) -> Result<String, AllocError> {
-    let uses = uses_by_layer(alloc, input.bytes, files, map.layers().len())?;
+    let uses = uses_by_layer(alloc, input.bytes, files, map.layers().as_slice().len())?;
     let mut lines = String::new(alloc);
     if json {
         push_json(alloc, &mut lines, input.path, map, &uses)?;

@@ -6,7 +6,7 @@ use denote.RawPtr.{Ptr}
 use Rattle.std.specs.Box.Ownership.{box_owns}
 use Rattle.std.specs.declared.alloc.Global.{Global}
 use Rattle.std.specs.contracts.impls.GlobalAllocator.TheImpl.{ghosts}
-use Rattle.cmap_handles.specs.contracts.held_map.HeldMap as map
+use Rattle.cmap_layers.specs.contracts.layers.Layers as map
 use Rattle.cmap_packed.specs.contracts.owned_bundle.OwnedBundle as bundle
 use Rattle.cmap_handles.specs.contracts.shared.Shared as shared
 

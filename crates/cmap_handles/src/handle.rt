@@ -4,16 +4,16 @@ ghost use Rattle.std.specs.Prelude.{◌≡◌, None, Some, MatchResult, is_some,
 ghost use Rattle.cmap_handles.specs.Statuses.{number};
 ghost use Rattle.cmap_handles.specs.declared.status.Status.TheVariants.{Done, NoMemory};
 
-use crate::held_map::HeldMap;
 use crate::loose::Loose;
 use crate::shared::Shared;
 use crate::slot::MapSlot;
 use crate::status::Status;
+use cmap_layers::layers::Layers;
 use std::alloc::{AllocError, Global};
 use std::mem;
 
 /// A map that was taken from a handle, if it had one.
-pub type TakenMap = Option<Box<Shared<HeldMap>>>;
+pub type TakenMap = Option<Box<Shared<Layers>>>;
 
 /// A map that C holds, or none. One that is empty is all zero bytes.
 #[repr(C)]
@@ -50,7 +50,7 @@ impl MapHandle {
     }
 
     /// Gives an empty handle a map.
-    pub fn put(&mut self, map: Box<Shared<HeldMap>>)
+    pub fn put(&mut self, map: Box<Shared<Layers>>)
         requires { self.old.slot.map ≡ None }
         ensures { self.new.slot.map ≡ Some map.value }
     {
@@ -71,7 +71,7 @@ impl MapHandle {
     }
 
     /// Gives an empty handle the map that was made, or none where memory ran out.
-    pub fn keep(&mut self, made: Result<Box<Shared<HeldMap>>, AllocError>) -> u32
+    pub fn keep(&mut self, made: Result<Box<Shared<Layers>>, AllocError>) -> u32
         requires { self.old.slot.map ≡ None }
         ensures { MatchResult made
             (λ map. (result ≡ number Done) × (self.new.slot.map ≡ Some map.value))

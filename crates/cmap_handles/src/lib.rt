@@ -3,7 +3,6 @@
 
 pub mod bundle;
 pub mod handle;
-pub mod held_map;
 mod loose;
 pub mod names;
 pub mod ranges;

@@ -6,9 +6,9 @@ ghost use Rattle.std.specs.Prelude.{◌≡◌, List, Option, None, Some, IsSome}
 ghost use Rattle.cmap_packed.specs.Bundles.{Bundle};
 ghost use Rattle.cmap_layers.specs.Layers.{Layer};
 
-use crate::held_map::HeldMap;
 use crate::loose::Loose;
 use crate::shared::Shared;
+use cmap_layers::layers::Layers;
 use cmap_packed::OwnedBundle;
 use std::alloc::Global;
 use std::marker::Model;
@@ -44,7 +44,7 @@ impl MapSlot {
     }
 
     /// A pointer that owns this map.
-    pub(crate) fn of_loose(loose: Loose<Shared<HeldMap>, Global>) -> MapSlot
+    pub(crate) fn of_loose(loose: Loose<Shared<Layers>, Global>) -> MapSlot
         ensures { result.map ≡ Some loose.value }
     {
         let Loose { at, alloc } = loose;
@@ -55,13 +55,13 @@ impl MapSlot {
     }
 
     /// The map, which the pointer then no longer owns.
-    pub(crate) fn into_loose(self) -> Loose<Shared<HeldMap>, Global>
+    pub(crate) fn into_loose(self) -> Loose<Shared<Layers>, Global>
         requires { IsSome self.map }
         ensures { Some result.value ≡ self.map }
     {
         let MapSlot { at, alloc } = self;
         Loose {
-            at: at as *mut Shared<HeldMap>,
+            at: at as *mut Shared<Layers>,
             alloc,
         }
     }

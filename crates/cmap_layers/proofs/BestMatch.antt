@@ -14,7 +14,7 @@ use Rattle.cmap_layers.specs.Layers.{Layer}
 use Rattle.cmap_layers.specs.LayersSeen.{layer_seen, layers_seen}
 use Rattle.cmap_layers.specs.SpaceBits.{IsShortestMatch}
 use Rattle.cmap_layers.specs.StringCodes.{BeginsInside, Matches, IsBestMatch, Wants, ranges_of}
-use Rattle.cmap_layers.specs.declared.layers.Layer as made
+use Rattle.cmap_layers.specs.declared.layer.Layer as made
 use Rattle.cmap_layers.proofs.CodesInside.{front_inside}
 pub use Rattle.cmap_codespaces.proofs.BytesWithin.{length_fits}
 use Rattle.cmap_layers.proofs.SpacesFound.{any_of_one}

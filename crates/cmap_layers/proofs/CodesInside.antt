@@ -11,7 +11,7 @@ use Rattle.cmap_codespaces.proofs.SpacesFound.{AreBytes, any_at, at_any, least_o
 use Rattle.cmap_layers.specs.Layers as layers
 use Rattle.cmap_layers.specs.LayersSeen.{layer_seen, layers_seen}
 use Rattle.cmap_layers.specs.StringCodes.{BeginsInside, front}
-use Rattle.cmap_layers.specs.declared.layers.Layer.{Layer}
+use Rattle.cmap_layers.specs.declared.layer.Layer.{Layer}
 use Rattle.cmap_layers.proofs.SpacesFound.{any_weaker}
 
 -- ---- the bytes of the number that bytes write

@@ -43,6 +43,14 @@ at_least_one : (b : Bool) (n k : ℕ) → n + 1 ≤ k → n + (if b then 1 else 
 at_least_one true n k one = one
 at_least_one false n k one = omega (arith, one)
 
+pub looked_some : (before after : Looks) (runs declarations : ℕ) (found : Bool) → LooksAtMost before after runs declarations true → LooksAtMost before after runs declarations found
+looked_some before after runs declarations found looks = record {
+  most_runs = looks.most_runs;
+  some_run = at_least_one found _ _ looks.some_run;
+  most_declarations = looks.most_declarations;
+  some_declaration = at_least_one found _ _ looks.some_declaration;
+}
+
 -- the last layer that is searched
 looked_last : (before now after : Looks) (runs here runs_left declarations more declarations_left : ℕ) (found : Bool) → IsLooked before now runs (here + runs_left) declarations (more + declarations_left) → LooksAtMost now after here more true
     → LooksAtMost before after runs declarations found

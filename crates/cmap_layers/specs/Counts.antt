@@ -2,7 +2,7 @@
 use Rattle.std.specs.Prelude.{ℕ, length}
 use Rattle.cmap_files.specs.Files as files
 use Rattle.cmap_files.specs.declared.declarations.ByLength.{ByLength}
-use Rattle.cmap_layers.specs.declared.layers.DeclarationCounts.{DeclarationCounts}
+use Rattle.cmap_layers.specs.declared.layer.DeclarationCounts.{DeclarationCounts}
 
 -- in the list for codes of each length
 abbrev pub lengths_of : files.ByLength → ByLength ℕ

@@ -7,7 +7,7 @@ use Rattle.cmap_layers.specs.Layers as layers
 use Rattle.cmap_files.specs.DeclarationsSeen.{entries_seen, bf_entry_seen, codespace_seen}
 use Rattle.cmap_files.specs.declared.declarations.ByLength.{ByLength}
 use Rattle.cmap_files.specs.declared.declarations.CidRange.{CidRange}
-use Rattle.cmap_layers.specs.declared.layers.Layer.{Layer}
+use Rattle.cmap_layers.specs.declared.layer.Layer.{Layer}
 
 -- a table is seen as its list
 abbrev pub by_length_seen : ByLength (List CidRange) → files.ByLength

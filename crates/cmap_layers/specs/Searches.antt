@@ -1,9 +1,16 @@
--- How many runs the search of a list of declarations may look at, and a lookup over layers.
-use Rattle.std.specs.Prelude.{ℕ, ◌+◌, ◌&&◌, nat_le, List, map, length, sum_by, if◌then◌else◌, Bool, true, false, Option, Some, None, Result, Ok, Err}
+-- What lookups over layers answer, and what they look at: how many runs the search of a list of declarations may look at, and a lookup.
+use Rattle.std.specs.Prelude.{◌≡◌, ℕ, ◌+◌, ◌*◌, ◌<◌, ◌&&◌, nat_le, List, map, length, sum_by, if◌then◌else◌, Bool, true, false, Option, Some, None, Result, Ok, Err, IfOk, IsSomeAnd, OnErr, is_some, option_map}
+use Rattle.std.specs.declared.alloc.AllocError.{AllocError}
 use Rattle.cmap_runs.specs.Ranges.{Span, digits, runs_of}
+use Rattle.cmap_runs.specs.SearchLooks.{LooksAtMost}
+use Rattle.cmap_runs.specs.declared.runs.looks.Looks.{Looks}
+use Rattle.cmap_tokens.specs.Texts.{text_of_characters}
+use Rattle.cmap_tokens.specs.TextSeen.{text_seen}
+use Rattle.cmap_tokens.specs.declared.utf16.BfString.{BfString}
+use Rattle.cmap_values.specs.CodeLengths.{IsCodeLength}
 use Rattle.cmap_files.specs.Files.{of_length}
 use Rattle.cmap_layers.specs.Layers.{Layer}
-use Rattle.cmap_layers.specs.Lookups.{cid_span, bf_span}
+use Rattle.cmap_layers.specs.Lookups.{InCodespace, bf_of, bf_span, cid_of, cid_span}
 
 -- the binary digits of the number of its maximal runs
 abbrev pub search_looks : List Span → ℕ
@@ -26,3 +33,27 @@ abbrev pub finds_text : {A E : Type 0} → Result (Option A) E → Bool
 finds_text (Ok (Some text)) = true
 finds_text (Ok None) = false
 finds_text (Err e) = false
+
+-- the CID of a code of len bytes is looked up
+pub record FindsCid (layers : List Layer) (code len : ℕ) (before after : Looks) (cid : Option ℕ) : Type 0 where
+  -- it is what scanning the declarations backward, layer by layer, gives
+  pub value : cid ≡ cid_of layers code len
+  -- for each list that may be searched, no more runs than their number has binary digits, and one declaration for each of a layer's three lists: CIDs, notdef CIDs, texts; an answer comes from a run and from a declaration
+  pub looks : LooksAtMost before after (cid_looks layers len) (3 * length layers) (is_some cid)
+  -- nothing is looked at for a length that no code has
+  pub outside : (IsCodeLength len → ⊥) → after ≡ before
+
+-- the same where the code lies in a codespace range, and none elsewhere
+pub record IsStrictCid (layers : List Layer) (code len : ℕ) (cid : Option ℕ) : Type 0 where
+  pub within : InCodespace layers code len → cid ≡ cid_of layers code len
+  pub outside : (InCodespace layers code len → ⊥) → cid ≡ None
+
+-- the text of a code, or that memory ran out for a text of more than one character
+pub record GivesText (layers : List Layer) (code : ℕ) (result : Result (Option BfString) AllocError) : Type 0 where
+  pub value : IfOk result (λ text. option_map text_seen text ≡ option_map text_of_characters (bf_of layers code))
+  pub err : OnErr result (IsSomeAnd (bf_of layers code) (λ characters. 1 < length characters))
+
+-- for each layer, no more runs are looked at than their number has binary digits, and one declaration; an answer comes from a run and from a declaration
+pub record FindsText (layers : List Layer) (code : ℕ) (before after : Looks) (result : Result (Option BfString) AllocError) : Type 0 where
+  pub text : GivesText layers code result
+  pub looks : LooksAtMost before after (bf_looks layers) (length layers) (finds_text result)

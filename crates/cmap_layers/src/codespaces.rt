@@ -9,19 +9,22 @@ ghost use Rattle.cmap_layers.specs.LayersSeen.{layers_seen};
 ghost use Rattle.cmap_layers.specs.Lookups.{InCodespace};
 ghost use Rattle.cmap_layers.specs.StringCodes.{BeginsInside};
 
-use crate::layers::Layer;
+use crate::layer::Layer;
+use crate::layers::Layers;
 use cmap_codespaces::{Query, lesser};
 use cmap_values::code_length::CodeLength;
 
-/// Whether a codespace range of some layer contains a code of `byte_len` bytes. None does where the
-/// code doesn't fit in these, or `byte_len` is outside 1 to 4.
-pub fn contains(layers: &[Layer], code: u32, byte_len: u8) -> bool
-    ensures { IsTrue result ↔ InCodespace (layers_seen layers.now) code byte_len }
-{
-    let Some(len) = CodeLength::of(byte_len) else {
-        return false;
-    };
-    fits_in(code, len) && any(layers, &Query::of_code(code, len))
+impl Layers {
+    /// Whether a codespace range of some layer contains a code of `byte_len` bytes. None does where
+    /// the code doesn't fit in these, or `byte_len` is outside 1 to 4.
+    pub fn in_codespace(&self, code: u32, byte_len: u8) -> bool
+        ensures { IsTrue result ↔ InCodespace self.now code byte_len }
+    {
+        let Some(len) = CodeLength::of(byte_len) else {
+            return false;
+        };
+        fits_in(code, len) && any(self.as_slice(), &Query::of_code(code, len))
+    }
 }
 
 /// Whether a codespace range of some layer has codes of `byte_len` bytes that may begin with these.

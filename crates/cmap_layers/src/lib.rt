@@ -2,9 +2,11 @@
 //! layers of the files that it is based on come after it.
 #![tactic(auto)]
 
-pub mod codespaces;
+mod codespaces;
+pub mod layer;
 pub mod layers;
-pub mod lookup;
-pub mod row;
+pub mod lists;
+mod lookup;
+mod row;
 pub mod stretches;
 pub mod string_codes;

@@ -1,21 +1,21 @@
 //! What a code stands for: the first layer that decides, from the top one on.
 
-ghost use Rattle.std.specs.Prelude.{◌≡◌, ◌*◌, ◌<◌, ◌≤◌, length, map, option_and_then, option_map, is_some, IfOk, IfSome, IsSomeAnd, OnErr};
+ghost use Rattle.std.specs.Prelude.{◌≡◌, ◌<◌, ◌≤◌, length, map, option_and_then, option_map, is_some, IfOk, IfSome, IsSomeAnd, OnErr};
 ghost use Rattle.std.specs.Option.{option_copied};
 ghost use Rattle.cmap_runs.specs.SearchLooks.{LooksAtMost};
 ghost use Rattle.cmap_tokens.specs.Texts.{only_character, text_at, text_of_characters};
 ghost use Rattle.cmap_tokens.specs.TextSeen.{text_seen};
-ghost use Rattle.cmap_values.specs.CodeLengths.{IsCodeLength, length_of};
+ghost use Rattle.cmap_values.specs.CodeLengths.{length_of};
 ghost use Rattle.cmap_files.specs.DeclarationsSeen.{bf_entry_seen, cid_entry_seen};
 ghost use Rattle.cmap_files.specs.Files.{of_length};
 ghost use Rattle.cmap_values.specs.UnitsSeen.{units_seen};
 ghost use Rattle.cmap_layers.specs.LayersSeen.{by_length_seen, layer_seen, layers_seen};
-ghost use Rattle.cmap_layers.specs.Lookups.{InCodespace, bf_at, bf_of, bf_span, cid_of, cid_span, last_bf, last_cid};
+ghost use Rattle.cmap_layers.specs.Lookups.{bf_at, bf_span, cid_span, last_bf, last_cid};
 ghost use Rattle.cmap_layers.specs.LayersDecide.{deciding_bf, layer_cid};
-ghost use Rattle.cmap_layers.specs.Searches.{bf_looks, cid_looks, finds_text, layer_looks, search_looks};
+ghost use Rattle.cmap_layers.specs.Searches.{FindsCid, FindsText, IsStrictCid, bf_looks, layer_looks, search_looks};
 
-use crate::codespaces;
-use crate::layers::Layer;
+use crate::layer::Layer;
+use crate::layers::Layers;
 use cmap_files::declarations::{BfRange, ByLength, CidRange};
 use cmap_runs::runs::{Looks, Table};
 use cmap_tokens::utf16::{BfString, one_char, text};
@@ -24,31 +24,62 @@ use cmap_values::names::Cid;
 use cmap_values::units::Units;
 use std::alloc::{AllocError, Global};
 
-/// The CID of a code of `byte_len` bytes, big-endian; what is looked at is counted.
-///
-/// It is `None` where no layer decides, for a `byte_len` outside 1 to 4, and where the CID that is
-/// declared passes 32 bits. Codespace ranges aren't looked at. Adobe Technical Note 5014.
-#[inline(always)]
-pub fn cid_of(layers: &[Layer], code: u32, byte_len: u8, looks: &mut Looks) -> Option<Cid>
-    ensures value { result ≡ cid_of (layers_seen layers.now) code byte_len }
-    ensures looks { LooksAtMost looks.old looks.new (cid_looks (layers_seen layers.now) byte_len)
-        (3 * length layers.now) (is_some result) }
-    ensures outside { (IsCodeLength byte_len → ⊥) → looks.new ≡ looks.old }
-{
-    match layers {
-        // Most maps have one layer, which is asked without a loop.
-        [only] => decided_by(only, code, CodeLength::of(byte_len)?, looks)?,
-        _ => cid_in_turn(layers, code, byte_len, looks),
+impl Layers {
+    /// The CID of a code of `byte_len` bytes, big-endian; what is looked at is counted.
+    ///
+    /// It is `None` where no layer decides, for a `byte_len` outside 1 to 4, and where the CID that is
+    /// declared passes 32 bits. Codespace ranges aren't looked at. Adobe Technical Note 5014.
+    #[inline(always)]
+    pub fn cid(&self, code: u32, byte_len: u8, looks: &mut Looks) -> Option<Cid>
+        ensures { FindsCid self.now code byte_len looks.old looks.new result }
+    {
+        let layers = self.as_slice();
+        match layers {
+            // Most maps have one layer, which is asked without a loop.
+            [only] => decided_by(only, code, CodeLength::of(byte_len)?, looks)?,
+            _ => cid_in_turn(layers, code, byte_len, looks),
+        }
+    }
+
+    /// The answer of `cid`, where the code lies in a codespace range of some layer; else `None`.
+    ///
+    /// A code lies in a range of its own length where each of its bytes lies between those of the
+    /// range's two ends. One that doesn't fit in its length lies in none. ISO 32000-1, 9.7.6.2.
+    pub fn strict_cid(&self, code: u32, byte_len: u8, looks: &mut Looks) -> Option<Cid>
+        ensures { IsStrictCid self.now code byte_len result }
+    {
+        let cid = self.cid(code, byte_len, looks)?;
+        if self.in_codespace(code, byte_len) {
+            Some(cid)
+        } else {
+            None
+        }
+    }
+
+    /// The Unicode text of a code: one character, or more of them; what is looked at is counted.
+    ///
+    /// It is `None` where no declaration contains the code, and where the one that decides gives no
+    /// text: a layer's declaration decides also then. It fails only if memory runs out, and only for a
+    /// text of more than one character. ISO 32000-1, 9.10.3.
+    pub fn text(
+        &self,
+        alloc: Global,
+        code: u32,
+        looks: &mut Looks,
+    ) -> Result<Option<BfString>, AllocError>
+        ensures { FindsText self.now code looks.old looks.new result }
+    {
+        let Some(found) = find_bf(self.as_slice(), code, looks) else {
+            return Ok(None);
+        };
+        text_of(alloc, found, code - found.range.start)
     }
 }
 
-/// The same, by asking each layer in turn.
+/// The CID of a code of `byte_len` bytes, by asking each layer in turn.
 #[inline(always)]
 fn cid_in_turn(layers: &[Layer], code: u32, byte_len: u8, looks: &mut Looks) -> Option<Cid>
-    ensures value { result ≡ cid_of (layers_seen layers.now) code byte_len }
-    ensures looks { LooksAtMost looks.old looks.new (cid_looks (layers_seen layers.now) byte_len)
-        (3 * length layers.now) (is_some result) }
-    ensures outside { (IsCodeLength byte_len → ⊥) → looks.new ≡ looks.old }
+    ensures { FindsCid (layers_seen layers.now) code byte_len looks.old looks.new result }
 {
     let len = CodeLength::of(byte_len)?;
     for layer in layers {
@@ -57,47 +88,6 @@ fn cid_in_turn(layers: &[Layer], code: u32, byte_len: u8, looks: &mut Looks) -> 
         }
     }
     None
-}
-
-/// The answer of `cid_of`, where the code lies in a codespace range of some layer; else `None`.
-///
-/// A code lies in a range of its own length where each of its bytes lies between those of the
-/// range's two ends. One that doesn't fit in its length lies in none. ISO 32000-1, 9.7.6.2.
-pub fn cid_within(layers: &[Layer], code: u32, byte_len: u8, looks: &mut Looks) -> Option<Cid>
-    ensures within { InCodespace (layers_seen layers.now) code byte_len
-        → result ≡ cid_of (layers_seen layers.now) code byte_len }
-    ensures outside { (InCodespace (layers_seen layers.now) code byte_len → ⊥) → result ≡ None }
-{
-    let cid = cid_of(layers, code, byte_len, looks)?;
-    if codespaces::contains(layers, code, byte_len) {
-        Some(cid)
-    } else {
-        None
-    }
-}
-
-/// The text of a code; what is looked at is counted.
-///
-/// It is `None` where no declaration contains the code, and where the one that decides gives no
-/// text. It fails only if memory runs out, and only for a text of more than one character. ISO 32000-1,
-/// 9.10.3.
-pub fn bf_of(
-    alloc: Global,
-    layers: &[Layer],
-    code: u32,
-    looks: &mut Looks,
-) -> Result<Option<BfString>, AllocError>
-    ensures value { IfOk result (λ text. option_map text_seen text
-        ≡ option_map text_of_characters (bf_of (layers_seen layers.now) code)) }
-    ensures err { OnErr result (IsSomeAnd (bf_of (layers_seen layers.now) code)
-        (λ characters. 1 < length characters)) }
-    ensures looks { LooksAtMost looks.old looks.new (bf_looks (layers_seen layers.now))
-        (length layers.now) (finds_text result) }
-{
-    let Some(found) = find_bf(layers, code, looks) else {
-        return Ok(None);
-    };
-    text_of(alloc, found, code - found.range.start)
 }
 
 /// The text of the code at this offset from the start of the declaration. Nearly each text is one
@@ -123,7 +113,7 @@ fn find_bf<'l>(layers: &'l [Layer], code: u32, looks: &mut Looks) -> Option<&'l 
         ≡ deciding_bf (layers_seen layers.now) code }
     ensures start { IfSome result (λ found. found.now.range.start ≤ code) }
     ensures looks { LooksAtMost looks.old looks.new (bf_looks (layers_seen layers.now))
-        (length layers.now) (is_some result) }
+        (length (layers_seen layers.now)) (is_some result) }
 {
     match layers {
         // Most maps have one layer, which is asked without a loop.
@@ -138,7 +128,7 @@ fn find_bf_in_turn<'l>(layers: &'l [Layer], code: u32, looks: &mut Looks) -> Opt
         ≡ deciding_bf (layers_seen layers.now) code }
     ensures start { IfSome result (λ found. found.now.range.start ≤ code) }
     ensures looks { LooksAtMost looks.old looks.new (bf_looks (layers_seen layers.now))
-        (length layers.now) (is_some result) }
+        (length (layers_seen layers.now)) (is_some result) }
 {
     for layer in layers {
         if let Some(found) = last_bf(&layer.bfs, code, looks) {

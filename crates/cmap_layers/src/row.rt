@@ -9,7 +9,7 @@ ghost use Rattle.cmap_layers.specs.Lookups.{bf_at};
 ghost use Rattle.cmap_layers.specs.Rows.{AreCidsOf};
 ghost use Rattle.cmap_layers.specs.RowsWritten.{IsWritten, character_said, cid_said, given};
 
-use crate::layers::Layer;
+use crate::layers::Layers;
 use cmap_files::declarations::{BfRange, CidRange};
 use cmap_runs::runs::{Looks, Table};
 use cmap_tokens::utf16::one_char;
@@ -25,26 +25,30 @@ enum Kind {
     Notdefs,
 }
 
-/// Fills `cids` with the CIDs of the codes of `byte_len` bytes from `first` on, one after another, as
-/// `cid_of` gives them. `absent` stands for a code without a CID, and for each number past 32 bits.
-///
-/// Each table writes over what the tables before it wrote: those of the lowest layer come first, and
-/// in a layer its texts, then its notdefs, then its CIDs.
-pub fn fill_cids(layers: &[Layer], first: u32, byte_len: u8, absent: Cid, cids: &mut [Cid])
-    ensures { AreCidsOf (layers_seen layers.now) byte_len absent first cids.new }
-{
-    cids.fill(absent);
-    let Some(len) = CodeLength::of(byte_len) else {
-        return;
-    };
-    let mut looks = Looks::new();
-    for index in (0..layers.len()).rev() {
-        let layer = &layers[index];
-        write_characters(&layer.bfs, first, cids, &mut looks);
-        let notdefs = layer.notdefs.get(len);
-        write_cids(notdefs, Kind::Notdefs, first, cids, &mut looks);
-        let declared = layer.cids.get(len);
-        write_cids(declared, Kind::Cids { absent }, first, cids, &mut looks);
+impl Layers {
+    /// Fills `cids` with the CIDs of the codes of `byte_len` bytes from `first` on, one after another,
+    /// as `cid` gives them. `absent` stands for a code without a CID, and for each number past 32 bits.
+    ///
+    /// The first code is searched for in each list of declarations, and no other one. Each table writes
+    /// over what the tables before it wrote: those of the lowest layer come first, and in a layer its
+    /// texts, then its notdefs, then its CIDs.
+    pub fn fill_cids(&self, first: u32, byte_len: u8, absent: Cid, cids: &mut [Cid])
+        ensures { AreCidsOf self.now byte_len absent first cids.new }
+    {
+        cids.fill(absent);
+        let Some(len) = CodeLength::of(byte_len) else {
+            return;
+        };
+        let layers = self.as_slice();
+        let mut looks = Looks::new();
+        for index in (0..layers.len()).rev() {
+            let layer = &layers[index];
+            write_characters(&layer.bfs, first, cids, &mut looks);
+            let notdefs = layer.notdefs.get(len);
+            write_cids(notdefs, Kind::Notdefs, first, cids, &mut looks);
+            let declared = layer.cids.get(len);
+            write_cids(declared, Kind::Cids { absent }, first, cids, &mut looks);
+        }
     }
 }
 

@@ -9,11 +9,12 @@ ghost use Rattle.cmap_values.specs.CodeLengths.{length_of};
 ghost use Rattle.cmap_files.specs.DeclarationsSeen.{bf_entry_seen, cid_entry_seen};
 ghost use Rattle.cmap_layers.specs.CodeStretches.{AreCodesAmong, AreCodesBelow, Decides, IsCidStretch, IsTextStretch};
 ghost use Rattle.cmap_layers.specs.LayersDecide.{layer_cid};
-ghost use Rattle.cmap_layers.specs.LayersSeen.{layer_seen, layers_seen};
+ghost use Rattle.cmap_layers.specs.LayersSeen.{layer_seen};
 ghost use Rattle.cmap_layers.specs.Lookups.{bf_at, cid_at};
 ghost use Rattle.cmap_layers.specs.RowsWritten.{character_said};
 
-use crate::layers::Layer;
+use crate::layer::Layer;
+use crate::layers::Layers;
 use cmap_files::declarations::{BfRange, CidRange};
 use cmap_runs::runs::{HasRange, Looks, Range, Stretch, Table};
 use cmap_tokens::utf16::one_char;
@@ -57,49 +58,82 @@ struct LayerStretch {
     last: u32,
 }
 
-/// The CIDs of the codes of this length from `first` on, as `cid_of` gives them, as far as one
-/// declaration of each list decides.
-pub fn cid_stretch(layers: &[Layer], first: u32, len: CodeLength) -> CidStretch
-    ensures within { first ≤ result.last }
-    ensures cids { IsCidStretch (layers_seen layers.now) (length_of len) first result }
-{
-    let mut last = u32::MAX;
-    for layer in layers {
-        let stretch = stretch_in(layer, first, len);
-        last = last.min(stretch.last);
-        if let Some(cids) = stretch.cids {
-            return CidStretch { cids, last };
+impl Layers {
+    /// The CIDs of the codes of this length from `first` on, as `cid` gives them, as far as one
+    /// declaration of each list decides. A caller who goes on with the code after the last one has
+    /// those of all codes.
+    pub fn cid_stretch(&self, first: u32, len: CodeLength) -> CidStretch
+        ensures within { first ≤ result.last }
+        ensures cids { IsCidStretch self.now (length_of len) first result }
+    {
+        let layers = self.as_slice();
+        let mut last = u32::MAX;
+        for layer in layers {
+            let stretch = stretch_in(layer, first, len);
+            last = last.min(stretch.last);
+            if let Some(cids) = stretch.cids {
+                return CidStretch { cids, last };
+            }
+        }
+        CidStretch {
+            cids: Cids::Absent,
+            last,
         }
     }
-    CidStretch {
-        cids: Cids::Absent,
-        last,
-    }
-}
 
-/// The declaration that decides the texts of the codes from `first` on, as `bf_of` gives them, as far
-/// as it does or none does.
-pub fn text_stretch(layers: &[Layer], first: u32) -> TextStretch<'_>
-    ensures within { first ≤ result.last }
-    ensures start { IfSome result.declaration
-        (λ declaration. declaration.now.range.start ≤ first) }
-    ensures texts { IsTextStretch (layers_seen layers.now) first result.last
-        (option_map bf_entry_seen (option_copied result.declaration)) }
-{
-    let mut last = u32::MAX;
-    for layer in layers {
-        let stretch = stretch_of(layer.texts(), first);
-        last = last.min(stretch.last);
-        if let Some(declaration) = stretch.declaration {
-            return TextStretch {
-                declaration: Some(declaration),
-                last,
-            };
+    /// The declaration that decides the texts of the codes from `first` on, as `text` gives them, as
+    /// far as it does or none does.
+    pub fn text_stretch(&self, first: u32) -> TextStretch<'_>
+        ensures within { first ≤ result.last }
+        ensures start { IfSome result.declaration
+            (λ declaration. declaration.now.range.start ≤ first) }
+        ensures texts { IsTextStretch self.now first result.last
+            (option_map bf_entry_seen (option_copied result.declaration)) }
+    {
+        let layers = self.as_slice();
+        let mut last = u32::MAX;
+        for layer in layers {
+            let stretch = stretch_of(layer.texts(), first);
+            last = last.min(stretch.last);
+            if let Some(declaration) = stretch.declaration {
+                return TextStretch {
+                    declaration: Some(declaration),
+                    last,
+                };
+            }
+        }
+        TextStretch {
+            declaration: None,
+            last,
         }
     }
-    TextStretch {
-        declaration: None,
-        last,
+
+    /// The codes of this length that have the CID, as `cid` gives it: ranges in order, of which no two
+    /// have a code together.
+    ///
+    /// It fails only if memory runs out.
+    pub fn codes_of_cid(
+        &self,
+        alloc: Global,
+        cid: Cid,
+        len: CodeLength,
+    ) -> Result<Vec<Range>, AllocError>
+        ensures { IfOk result (λ ranges. AreCodesBelow self.now (length_of len) cid
+            (256 ^ length_of len) ranges.items) }
+    {
+        let end = code_count(len);
+        let mut ranges = Vec::new(alloc);
+        let mut next = 0;
+        while next < end {
+            let first = next as u32;
+            let stretch = self.cid_stretch(first, len);
+            let last = u64::from(stretch.last).min(end - 1) as u32;
+            if let Some(range) = codes_among(stretch.cids, cid, first, last) {
+                ranges.push(range)?;
+            }
+            next = u64::from(last) + 1;
+        }
+        Ok(ranges)
     }
 }
 
@@ -216,33 +250,6 @@ fn further_characters(units: &[u16], offset: u32) -> u32
     } else {
         u32::MAX
     }
-}
-
-/// The codes of this length that have the CID, as ranges in order.
-///
-/// It fails only if memory runs out.
-pub fn codes_of_cid(
-    alloc: Global,
-    layers: &[Layer],
-    cid: Cid,
-    len: CodeLength,
-) -> Result<Vec<Range>, AllocError>
-    ensures { IfOk result (λ ranges. AreCodesBelow (layers_seen layers.now) (length_of len) cid
-        (256 ^ length_of len) ranges.items) }
-{
-    let end = code_count(len);
-    let mut ranges = Vec::new(alloc);
-    let mut next = 0;
-    while next < end {
-        let first = next as u32;
-        let stretch = cid_stretch(layers, first, len);
-        let last = u64::from(stretch.last).min(end - 1) as u32;
-        if let Some(range) = codes_among(stretch.cids, cid, first, last) {
-            ranges.push(range)?;
-        }
-        next = u64::from(last) + 1;
-    }
-    Ok(ranges)
 }
 
 /// How many codes have this length.

@@ -10,7 +10,8 @@ ghost use Rattle.cmap_layers.specs.SpaceBits.{IsShortestMatch};
 ghost use Rattle.cmap_layers.specs.StringCodes.{BeginsInside, IsNextCode, IsShortestInside, Wants, front, ranges_of};
 
 use crate::codespaces::{any_has_front, shortest};
-use crate::layers::Layer;
+use crate::layer::Layer;
+use crate::layers::Layers;
 use cmap_values::code_length::read_code;
 
 /// The code that a string begins with. ISO 32000-1, 9.7.6.2.
@@ -27,56 +28,61 @@ pub struct StringCode {
     pub cut_short: bool,
 }
 
-/// The code that a string begins with; `None` where it is empty.
-///
-/// It is the shortest front of the string that lies in a codespace range of some layer. Where none
-/// does, the range decides that matches the longest front, each byte between its own; of several,
-/// the one with the shortest codes. As many bytes are taken as its codes have, or all where there
-/// are fewer; one where no layer has a range. ISO 32000-1, 9.7.6.2 and 9.7.6.3.
-#[inline(always)]
-pub fn next_code(layers: &[Layer], text: &[u8]) -> Option<StringCode>
-    ensures code { MatchOption result (text.now ≡ [])
-        (IsOnly (IsNextCode (layers_seen layers.now) text.now)) }
-    ensures length { IfSome result
-        (λ found. IsCodeLength found.byte_len × (found.byte_len ≤ length text.now)) }
-{
-    let inside = shortest_inside(layers, text);
-    let (byte_len, code, wanted) = match inside {
-        Some((byte_len, code)) => (byte_len, code, byte_len),
-        None => {
-            let wanted = bytes_wanted(layers, text);
-            let byte_len = text.len().min(usize::from(wanted)) as u8;
-            let (_, code) = read_code(&text[..usize::from(byte_len)])?;
-            (byte_len, code, wanted)
+impl Layers {
+    /// The code that a string begins with, and how many bytes it has; `None` where the string is empty.
+    ///
+    /// It is the shortest front of the string that lies in a codespace range of some layer. Where none
+    /// does, the range decides that matches the longest front, each byte between its own; of several,
+    /// the one with the shortest codes. As many bytes are taken as its codes have, or all where there
+    /// are fewer; one where no layer has a range. ISO 32000-1, 9.7.6.2 and 9.7.6.3.
+    #[inline(always)]
+    pub fn next_code(&self, text: &[u8]) -> Option<StringCode>
+        ensures code { MatchOption result (text.now ≡ []) (IsOnly (IsNextCode self.now text.now)) }
+        ensures length { IfSome result
+            (λ found. IsCodeLength found.byte_len × (found.byte_len ≤ length text.now)) }
+    {
+        let layers = self.as_slice();
+        let inside = shortest_inside(layers, text);
+        let (byte_len, code, wanted) = match inside {
+            Some((byte_len, code)) => (byte_len, code, byte_len),
+            None => {
+                let wanted = bytes_wanted(layers, text);
+                let byte_len = text.len().min(usize::from(wanted)) as u8;
+                let (_, code) = read_code(&text[..usize::from(byte_len)])?;
+                (byte_len, code, wanted)
+            }
+        };
+        Some(StringCode {
+            code,
+            byte_len,
+            in_codespace: inside.is_some(),
+            cut_short: byte_len < wanted,
+        })
+    }
+
+    /// How many bytes the codes in codespace ranges have at least; 2 also where none has so few.
+    pub fn fewest_bytes(&self) -> u8
+        ensures { HaveNoShorter self.now result }
+    {
+        if any_has_front(self.as_slice(), 1, &[]) {
+            1
+        } else {
+            2
         }
-    };
-    Some(StringCode {
-        code,
-        byte_len,
-        in_codespace: inside.is_some(),
-        cut_short: byte_len < wanted,
-    })
-}
+    }
 
-/// How many bytes the codes in codespace ranges have at least; 2 also where none has so few.
-pub fn fewest_bytes(layers: &[Layer]) -> u8
-    ensures { HaveNoShorter (layers_seen layers.now) result }
-{
-    if any_has_front(layers, 1, &[]) { 1 } else { 2 }
-}
-
-/// The answer of `next_code`, where no code in a codespace range has fewer bytes than `fewest`.
-/// The layers know that number themselves: `fewest` stands in the contract alone, and it takes as
-/// long as `next_code` does.
-#[inline(always)]
-pub fn next_code_from(layers: &[Layer], text: &[u8], fewest: u8) -> Option<StringCode>
-    requires { HaveNoShorter (layers_seen layers.now) fewest }
-    ensures code { MatchOption result (text.now ≡ [])
-        (IsOnly (IsNextCode (layers_seen layers.now) text.now)) }
-    ensures length { IfSome result
-        (λ found. IsCodeLength found.byte_len × (found.byte_len ≤ length text.now)) }
-{
-    next_code(layers, text)
+    /// The answer of `next_code`, where no code in a codespace range has fewer bytes than `fewest`.
+    /// The layers know that number themselves: `fewest` stands in the contract alone, and it takes as
+    /// long as `next_code` does.
+    #[inline(always)]
+    pub fn next_code_from(&self, text: &[u8], fewest: u8) -> Option<StringCode>
+        requires { HaveNoShorter self.now fewest }
+        ensures code { MatchOption result (text.now ≡ []) (IsOnly (IsNextCode self.now text.now)) }
+        ensures length { IfSome result
+            (λ found. IsCodeLength found.byte_len × (found.byte_len ≤ length text.now)) }
+    {
+        self.next_code(text)
+    }
 }
 
 /// The shortest front of a string that is a code in a codespace range: how many bytes it has, and its

@@ -25,7 +25,7 @@ pub(crate) fn no_codespace<'m>(map: &CMap) -> Finding<'m> {
 
 /// Whether some layer has a codespace range.
 pub(crate) fn has_codespace(map: &CMap) -> bool {
-    for layer in map.layers() {
+    for layer in map.layers().as_slice() {
         if !layer.codespaces().is_empty() {
             return true;
         }
@@ -90,7 +90,7 @@ fn boxes_of(
 /// The codespace ranges of a length, those of all layers.
 fn spaces_of(alloc: Global, map: &CMap, len: CodeLength) -> Result<Vec<Codespace>, AllocError> {
     let mut spaces = Vec::new(alloc);
-    for layer in map.layers() {
+    for layer in map.layers().as_slice() {
         add_spaces(&mut spaces, layer.codespaces(), len)?;
     }
     Ok(spaces)
@@ -176,7 +176,7 @@ fn add_unmapped_in(
     let mut next = u64::from(range.start);
     while next <= end {
         let start = next as u32;
-        let stretch = map.text_stretch(start);
+        let stretch = map.layers().text_stretch(start);
         let codes = Range {
             start,
             end: stretch.last.min(range.end),

@@ -32,7 +32,7 @@ pub(crate) fn mode_differs<'m>(map: &'m CMap) -> Finding<'m> {
 
 /// The writing mode of the first layer that has one.
 fn mode_of(map: &CMap) -> Option<WritingMode> {
-    for layer in map.layers() {
+    for layer in map.layers().as_slice() {
         if let Some(mode) = layer.metadata().writing_mode {
             return Some(mode);
         }

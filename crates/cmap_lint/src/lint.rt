@@ -34,7 +34,7 @@ pub fn findings_of<'m>(
     let mut findings = Findings::new(alloc);
     findings.add(nothing_declared(subject.map));
     findings.add(no_codespace(subject.map));
-    if let Some(layer) = subject.map.layers().first() {
+    if let Some(layer) = subject.map.layers().as_slice().first() {
         findings.add_of_layer(alloc, subject.map, layer);
         if subject.to_unicode {
             findings.add_to_unicode(alloc, subject.map, layer);
@@ -51,7 +51,7 @@ pub fn findings_of<'m>(
 /// That a file has no codespace range, no declaration and no use of another file.
 pub fn nothing_declared<'m>(map: &CMap) -> Finding<'m> {
     let mut finding = Finding::new(Warning::NothingDeclared);
-    if let [layer] = map.layers() {
+    if let [layer] = map.layers().as_slice() {
         if layer.texts().decl_count() == 0 && !has_codes_of_any_length(map) {
             finding.add(1, Place::File);
         }

@@ -24,7 +24,7 @@ fn add_cids(lines: &mut Vec<Line>, map: &CMap, len: CodeLength) -> Result<(), Al
     let mut next: u64 = 0;
     while next <= end {
         let first = next as u32;
-        let stretch = map.cid_stretch(first, len);
+        let stretch = map.layers().cid_stretch(first, len);
         add_stretch(lines, stretch, first, len)?;
         next = u64::from(stretch.last) + 1;
     }
@@ -72,7 +72,7 @@ fn add_texts(alloc: Global, lines: &mut Vec<Line>, map: &CMap) -> Result<(), All
     let mut next: u64 = 0;
     while next <= end {
         let first = next as u32;
-        let stretch = map.text_stretch(first);
+        let stretch = map.layers().text_stretch(first);
         add_text(alloc, lines, map, stretch, first)?;
         next = u64::from(stretch.last) + 1;
     }

@@ -142,7 +142,7 @@ fn codes_of_cid(alloc: Global, map: &CMap, cid: u32) -> Result<Vec<Codes>, Alloc
     let mut found = Vec::new(alloc);
     for len in LENGTHS {
         if has_codes(map, *len) {
-            let ranges = map.codes_of_cid(alloc, cid, *len)?;
+            let ranges = map.layers().codes_of_cid(alloc, cid, *len)?;
             add_ranges(&mut found, &ranges, len.count())?;
         }
     }
@@ -166,7 +166,7 @@ fn codes_of_text(alloc: Global, map: &CMap, text: &str) -> Result<Vec<Codes>, Al
     let mut found = Vec::new(alloc);
     let mut next: u64 = 0;
     while next <= end {
-        let stretch = map.text_stretch(next as u32);
+        let stretch = map.layers().text_stretch(next as u32);
         if let Some(code) = code_among(alloc, map, stretch, &units, text)? {
             found.push(code)?;
         }

@@ -10,7 +10,7 @@ use std::alloc::{AllocError, Global};
 /// notdefs and its texts, each in the order of the file.
 pub fn lines_by_layer(alloc: Global, map: &CMap) -> Result<Vec<Vec<Line>>, AllocError> {
     let mut layers = Vec::new(alloc);
-    for layer in map.layers() {
+    for layer in map.layers().as_slice() {
         layers.push(lines_of(alloc, map, layer)?)?;
     }
     Ok(layers)

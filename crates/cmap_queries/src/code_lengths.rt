@@ -1,8 +1,7 @@
 //! The lengths that codes have, and the one that codes of a text are printed with.
 
-use cmap_layers::codespaces;
 use hayro_cmap::runs::Range;
-use hayro_cmap::{CMap, CodeLength, Layer};
+use hayro_cmap::{CMap, CodeLength, Layer, Layers};
 
 /// The lengths that codes have.
 pub const LENGTHS: &[CodeLength] = &[
@@ -15,7 +14,10 @@ pub const LENGTHS: &[CodeLength] = &[
 /// Whether a codespace range, or a declaration of CIDs or notdefs, of some layer has codes of this
 /// length.
 pub fn has_codes(map: &CMap, len: CodeLength) -> bool {
-    map.layers().iter().any(|layer| declares_codes(layer, len))
+    map.layers()
+        .as_slice()
+        .iter()
+        .any(|layer| declares_codes(layer, len))
 }
 
 fn declares_codes(layer: &Layer, len: CodeLength) -> bool {
@@ -34,19 +36,23 @@ pub fn last_code(len: CodeLength) -> u32 {
     }
 }
 
-/// How many bytes the codes of a text are printed with, for which a file's declaration has no length:
-/// the fewest in which they fit, with which the first of them lies in a codespace range, if it does
-/// with any.
-pub fn text_code_len(layers: &[Layer], range: Range) -> u8 {
-    let highest = range.start.max(range.end);
-    let fewest = match highest {
+/// How many bytes the codes of a range need.
+pub fn fewest_bytes(range: Range) -> u8 {
+    match range.start.max(range.end) {
         0..0x100 => 1,
         0x100..0x1_0000 => 2,
         0x1_0000..0x100_0000 => 3,
         _ => 4,
-    };
+    }
+}
+
+/// How many bytes the codes of a text are printed with, for which a file's declaration has no length:
+/// the fewest in which they fit, with which the first of them lies in a codespace range, if it does
+/// with any.
+pub fn text_code_len(layers: &Layers, range: Range) -> u8 {
+    let fewest = fewest_bytes(range);
     for byte_len in fewest..=4 {
-        if codespaces::contains(layers, range.start, byte_len) {
+        if layers.in_codespace(range.start, byte_len) {
             return byte_len;
         }
     }

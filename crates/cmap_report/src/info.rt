@@ -21,7 +21,7 @@ pub fn push_info(
     map: &CMap,
     uses: &[Vec<&[u8]>],
 ) -> Result<(), AllocError> {
-    for (index, layer) in map.layers().iter().enumerate() {
+    for (index, layer) in map.layers().as_slice().iter().enumerate() {
         push_heading(out, file, index)?;
         push_layer(out, layer, names_at(uses, index))?;
     }
@@ -203,7 +203,7 @@ fn file_object(
 
 fn layer_objects(alloc: Global, map: &CMap, uses: &[Vec<&[u8]>]) -> Result<Vec<Value>, AllocError> {
     let mut layers = Vec::new(alloc);
-    for (index, layer) in map.layers().iter().enumerate() {
+    for (index, layer) in map.layers().as_slice().iter().enumerate() {
         layers.push(layer_object(alloc, layer, names_at(uses, index))?)?;
     }
     Ok(layers)

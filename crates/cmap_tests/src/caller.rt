@@ -45,7 +45,7 @@ pub fn cid_over_files(
 pub fn cids_of_string(alloc: Global, map: &CMap, text: &[u8]) -> Result<Vec<Cid>, AllocError> {
     let mut cids = Vec::new(alloc);
     let mut left = text;
-    while let Some(next) = map.next_code(left) {
+    while let Some(next) = map.layers().next_code(left) {
         let cid = map.lookup_cid_code_strict(next.code, next.byte_len);
         cids.push(cid.unwrap_or(0))?;
         left = &left[usize::from(next.byte_len)..];

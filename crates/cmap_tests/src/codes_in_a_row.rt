@@ -51,7 +51,7 @@ fn codes_in_a_row_have_the_cids_of_lookups(rt: HostRuntime) {
     let mut cids = [0; 300];
     for byte_len in 0..6 {
         for first in [0, 0x22, 0x29, 0xFFF0, 0xFFFF_FF00, u32::MAX] {
-            map.fill_cids(first, byte_len, ABSENT, &mut cids);
+            map.layers().fill_cids(first, byte_len, ABSENT, &mut cids);
             assert!(rt; are_those_of_lookups(&map, first, byte_len, &cids));
         }
     }
@@ -82,7 +82,7 @@ fn has_at(all: &[u32], start: usize, cids: &[u32]) -> bool {
 fn a_row_crosses_runs_layers_gaps_notdefs_and_texts(rt: HostRuntime) {
     let map = map_of_two_layers(rt.alloc()).expect(&rt, "refused");
     let mut cids = [0; 0x112];
-    map.fill_cids(0, 2, ABSENT, &mut cids);
+    map.layers().fill_cids(0, 2, ABSENT, &mut cids);
     for (start, expected) in CROSSED {
         assert!(rt; has_at(&cids, *start, expected));
     }
@@ -114,6 +114,6 @@ const LAST: &[u32] = &[
 fn a_row_ends_with_the_codes_and_the_cids_of_32_bits(rt: HostRuntime) {
     let map = map_of_two_layers(rt.alloc()).expect(&rt, "refused");
     let mut cids = [0; 18];
-    map.fill_cids(0xFFFF_FFEF, 4, ABSENT, &mut cids);
+    map.layers().fill_cids(0xFFFF_FFEF, 4, ABSENT, &mut cids);
     assert!(rt; cids.as_slice() == LAST);
 }

@@ -63,7 +63,7 @@ pub fn bundle_of(alloc: Global, file: &File<'_>) -> Result<Option<Vec<u8>>, Allo
 
 /// How many declarations of texts the top file of a map has.
 pub fn count_of_texts(map: &CMap) -> usize {
-    match map.layers() {
+    match map.layers().as_slice() {
         [top, ..] => top.counts().bfs,
         [] => 0,
     }

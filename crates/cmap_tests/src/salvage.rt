@@ -24,7 +24,11 @@ fn told(alloc: Global, found: &SalvagedMap<'_>) -> Result<String, AllocError> {
     }
     let first = found.map.lookup_cid_code(0x41, 1);
     let second = found.map.lookup_cid_code(0x42, 1);
-    write!(text, "{} {first:?} {second:?}", found.map.layers().len())?;
+    write!(
+        text,
+        "{} {first:?} {second:?}",
+        found.map.layers().as_slice().len()
+    )?;
     Ok(text)
 }
 

@@ -53,9 +53,9 @@ fn a_text_is_that_of_the_code_or_else_of_the_cid(rt: HostRuntime) {
     let encoding = map_over(alloc, ENCODING, &[]).expect(&rt, "refused");
     let to_unicode = map_over(alloc, TO_UNICODE, &[]).expect(&rt, "refused");
     let collection = map_over(alloc, COLLECTION, &[]).expect(&rt, "refused");
-    let (to_unicode, collection) = (Some(&to_unicode), Some(&collection));
+    let (to_unicode, collection) = (Some(to_unicode.layers()), Some(collection.layers()));
     let font = Extractor {
-        encoding: &encoding,
+        encoding: encoding.layers(),
         to_unicode,
         collection,
     };
@@ -69,7 +69,7 @@ fn a_cid_is_no_character_and_a_character_is_no_cid(rt: HostRuntime) {
     let alloc = rt.alloc();
     let encoding = map_over(alloc, ENCODING, &[]).expect(&rt, "refused");
     let font = Extractor {
-        encoding: &encoding,
+        encoding: encoding.layers(),
         to_unicode: None,
         collection: None,
     };

@@ -2,8 +2,8 @@
 use Rattle.std.proofs.Common.{◌≡◌, ℕ, List, [], ◌++◌, subst}
 use Rattle.std.proofs.lemmas.List.{append-nil}
 use Rattle.cmap_unicode.specs.Characters.{AreCharactersOf}
-use Rattle.cmap_extract.specs.TextsOfCodes.{Font}
-use Rattle.cmap_extract.specs.declared.font.Character.{Character}
+use Rattle.cmap_unicode.specs.TextsOfCodes.{Font}
+use Rattle.cmap_unicode.specs.declared.extractor.Character.{Character}
 
 -- these are those of the front of a string of which this is left
 pub record AreFirst (font : Font) (string : List ℕ) (characters : List Character) (left : List ℕ) : Type 0 where

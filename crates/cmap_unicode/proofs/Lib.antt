@@ -1,1 +1,2 @@
 pub mod CharactersInRow
+pub mod OneText

@@ -1,13 +1,34 @@
 -- The codes of a string with their CIDs and their texts, by the CMaps of a font.
-use Rattle.std.specs.Prelude.{◌≡◌, ℕ, List, [], ◌∷◌, drop}
+use Rattle.std.specs.Prelude.{◌≡◌, ℕ, List, [], ◌∷◌, drop, option_map}
 use Rattle.std.specs.Option.{option_copied}
-pub use Rattle.cmap_extract.specs.Characters.{BeginsWithLongText, IsCharacterOf, IsNextCharacter}
-use Rattle.cmap_extract.specs.TextsOfCodes.{Font}
-use Rattle.cmap_extract.specs.declared.font.Character.{Character}
+use Rattle.cmap_tokens.specs.TextSeen.{text_seen}
+use Rattle.cmap_values.specs.Only.{IsOnly}
+use Rattle.cmap_layers.specs.StringCodes.{IsNextCode}
+use Rattle.cmap_layers.specs.declared.string_codes.StringCode.{StringCode}
+use Rattle.cmap_unicode.specs.Cids.{declared_cid}
+use Rattle.cmap_unicode.specs.TextsOfCodes.{Font, HasLongText, IsTextOf}
+use Rattle.cmap_unicode.specs.declared.extractor.Character.{Character}
 use Rattle.cmap_unicode.specs.declared.extractor.Extractor.{Extractor}
 
 abbrev pub font_of : Extractor → Font
 font_of maps = record { encoding = maps.encoding.now; to_unicode = option_copied maps.to_unicode; collection = option_copied maps.collection }
+
+-- a code with its CID and its text, which is the only one that it has
+pub record IsCharacterOf (font : Font) (code : StringCode) (character : Character) : Type 0 where
+  pub of_code : character.code ≡ code
+  pub cid : character.cid ≡ declared_cid font.encoding code.code code.byte_len
+  pub text : IsOnly (IsTextOf font code.code code.byte_len) (option_map text_seen character.text)
+
+-- it is that of the code that the string begins with
+pub record IsNextCharacter (font : Font) (string : List ℕ) (character : Character) : Type 0 where
+  pub code : IsOnly (IsNextCode font.encoding string) character.code
+  pub lookups : IsCharacterOf font character.code character
+
+-- the code that the string begins with has a text of more than one character
+pub record BeginsWithLongText (font : Font) (string : List ℕ) : Type 0 where
+  pub code : StringCode
+  pub is_next : IsOnly (IsNextCode font.encoding string) code
+  pub is_long : HasLongText font code.code code.byte_len
 
 -- they are those of all codes of the string, one after another
 abbrev pub AreCharactersOf : Font → List ℕ → List Character → Type 0

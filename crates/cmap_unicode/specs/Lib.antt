@@ -2,3 +2,4 @@ pub mod Cids
 pub mod TextsOfCodes
 pub mod Characters
 pub mod Collections
+pub mod LayersTried

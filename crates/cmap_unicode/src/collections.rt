@@ -5,7 +5,7 @@ ghost use Rattle.cmap_values.specs.MetadataSeen.{family_seen};
 ghost use Rattle.cmap_values.specs.Names.{ucs2_cmap_of};
 ghost use Rattle.cmap_unicode.specs.Collections.{ucs2_name_of};
 
-use hayro_cmap::CidFamily;
+use cmap_values::character_collection::CidFamily;
 use std::alloc::{AllocError, Global};
 
 /// The name of the CMap from the CIDs of a family of character collections to Unicode, in UCS-2:

@@ -1,33 +1,48 @@
 //! The codes of a string, each with its CID and its text.
 
-ghost use Rattle.std.specs.Prelude.{◌≡◌, ◌≤◌, [], IfOk, IfSome, MatchOption, OnErr, length};
+ghost use Rattle.std.specs.Prelude.{◌≡◌, ◌≤◌, ℕ, List, [], Some, IfOk, IfSome, MatchOption, OnErr, length, option_map};
 ghost use Rattle.std.specs.Option.{option_copied};
+ghost use Rattle.cmap_tokens.specs.Texts.{more};
+ghost use Rattle.cmap_tokens.specs.TextSeen.{text_seen};
 ghost use Rattle.cmap_values.specs.CodeLengths.{IsCodeLength};
-ghost use Rattle.cmap_extract.specs.Characters.{BeginsWithLongText, IsCharacterOf, IsNextCharacter};
-ghost use Rattle.cmap_extract.specs.FontSeen.{font_seen, layers_given};
-ghost use Rattle.cmap_extract.specs.TextsOfCodes.{HasLongText};
-ghost use Rattle.cmap_unicode.specs.Characters.{AreCharactersOf, font_of};
+ghost use Rattle.cmap_unicode.specs.Characters.{AreCharactersOf, BeginsWithLongText, IsCharacterOf, IsNextCharacter, font_of};
+ghost use Rattle.cmap_unicode.specs.TextsOfCodes.{HasLongText, text_in, text_of};
 
-use cmap_extract::{Character, Font};
-use hayro_cmap::{CMap, Layer, StringCode};
+use crate::cids::declared_cid;
+use cmap_layers::layers::Layers;
+use cmap_layers::string_codes::StringCode;
+use cmap_runs::runs::Looks;
+use cmap_tokens::utf16::BfString;
+use cmap_values::names::Cid;
 use std::alloc::{AllocError, Global};
 
 /// The CMaps of a font, by which its strings are read. ISO 32000-1, 9.7.5 and 9.10.2.
 #[derive(Clone, Copy)]
 pub struct Extractor<'m> {
     /// The font's CMap: it cuts strings into codes, and gives codes their CIDs.
-    pub encoding: &'m CMap,
+    pub encoding: &'m Layers,
     /// The font's ToUnicode CMap, if it has one: it gives codes their texts.
-    pub to_unicode: Option<&'m CMap>,
+    pub to_unicode: Option<&'m Layers>,
     /// The map of the font's character collection, if there is one, as `Adobe-Japan1-UCS2`. Its codes
     /// are CIDs, to which it gives texts; `ucs2_name` has its name.
-    pub collection: Option<&'m CMap>,
+    pub collection: Option<&'m Layers>,
 }
 
-impl<'m> Extractor<'m> {
+/// A code of a string, with its CID and its text.
+#[derive(Debug, Drop)]
+pub struct Character {
+    /// The code.
+    pub code: StringCode,
+    /// The CID that the font's CMap declares for it.
+    pub cid: Option<Cid>,
+    /// Its text.
+    pub text: Option<BfString>,
+}
+
+impl Extractor<'_> {
     /// The code that a string begins with, with its CID and its text; `None` where the string is empty.
     ///
-    /// It is the code that `CMap::next_code` of the font's CMap gives; `character_of` has the rest.
+    /// It is the code that `next_code` of the font's CMap gives; `character_of` has the rest.
     pub fn next(&self, alloc: Global, string: &[u8]) -> Result<Option<Character>, AllocError>
         ensures character { IfOk result
             (λ found. MatchOption found (string.now ≡ []) (IsNextCharacter (font_of self.now) string.now)) }
@@ -35,7 +50,10 @@ impl<'m> Extractor<'m> {
             IsCodeLength character.code.byte_len × (character.code.byte_len ≤ length string.now))) }
         ensures err { OnErr result (BeginsWithLongText (font_of self.now) string.now) }
     {
-        self.font().next(alloc, string)
+        match self.encoding.next_code(string) {
+            Some(code) => Ok(Some(self.character_of(alloc, code)?)),
+            None => Ok(None),
+        }
     }
 
     /// All codes of a string, one after another, each as `next` gives it.
@@ -65,27 +83,42 @@ impl<'m> Extractor<'m> {
         ensures character { IfOk result (IsCharacterOf (font_of self.now) code) }
         ensures err { OnErr result (HasLongText (font_of self.now) code.code code.byte_len) }
     {
-        self.font().character_of(alloc, code)
+        let cid = declared_cid(self.encoding, code.code, code.byte_len);
+        let text = self.text_of(alloc, code.code, cid)?;
+        Ok(Character { code, cid, text })
     }
 
-    /// The layers of the CMaps.
-    fn font(&self) -> Font<'m>
-        ensures { font_seen result ≡ font_of self.now }
+    /// The text of a code with this CID.
+    fn text_of(
+        &self,
+        alloc: Global,
+        code: u32,
+        cid: Option<Cid>,
+    ) -> Result<Option<BfString>, AllocError>
+        ensures value { IfOk result
+            (λ text. option_map text_seen text ≡ text_of (font_of self.now) code cid) }
+        ensures err { OnErr result ((characters : List ℕ)
+            × (text_of (font_of self.now) code cid ≡ Some (more characters))) }
     {
-        Font {
-            encoding: self.encoding.layers(),
-            to_unicode: layers_of(self.to_unicode),
-            collection: layers_of(self.collection),
+        if let Some(text) = text_in(alloc, self.to_unicode, code)? {
+            return Ok(Some(text));
+        }
+        match cid {
+            Some(cid) => text_in(alloc, self.collection, cid),
+            None => Ok(None),
         }
     }
 }
 
-/// The layers of a map, if there is one.
-fn layers_of(map: Option<&CMap>) -> Option<&[Layer]>
-    ensures { layers_given result ≡ option_copied map.entry }
+/// The text of a code in a map, if there is one.
+fn text_in(alloc: Global, map: Option<&Layers>, code: u32) -> Result<Option<BfString>, AllocError>
+    ensures value { IfOk result
+        (λ text. option_map text_seen text ≡ text_in (option_copied map.entry) code) }
+    ensures err { OnErr result ((characters : List ℕ)
+        × (text_in (option_copied map.entry) code ≡ Some (more characters))) }
 {
     match map {
-        Some(map) => Some(map.layers()),
-        None => None,
+        Some(map) => map.text(alloc, code, &mut Looks::new()),
+        None => Ok(None),
     }
 }

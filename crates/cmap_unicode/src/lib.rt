@@ -7,6 +7,5 @@ mod collections;
 mod extractor;
 
 pub use cids::declared_cid;
-pub use cmap_extract::Character;
 pub use collections::ucs2_name;
-pub use extractor::Extractor;
+pub use extractor::{Character, Extractor};

@@ -12,7 +12,7 @@ pub fn push_layer(map: &CMap, rest: &str, line: &mut Line) -> Result<(), RowErro
     let digits = asked(rest, ' ', "declared LAYER ..")?;
     let index = number(digits)? as usize;
     write!(line, " {digits}");
-    match map.layers().get(index) {
+    match map.layers().as_slice().get(index) {
         Some(layer) => push_declared(layer, line),
         None => line.push(" none"),
     }

@@ -66,7 +66,7 @@ fn push_answer_alone(
         "name" => push_name(map.metadata(), line),
         "mode" => line.push(mode_of(map)),
         "unicode" | "ucs2" => push_predefined(predefined(map, word), line),
-        "layers" => write!(line, " {}", map.layers().len()),
+        "layers" => write!(line, " {}", map.layers().as_slice().len()),
         _ => return Err(RowError::Wrong("an unknown word")),
     }
     Ok(())
@@ -139,7 +139,7 @@ fn push_codes(alloc: Global, map: &CMap, rest: &str, line: &mut Line) -> Result<
 
 fn push_codes_of(map: &CMap, string: &[u8], line: &mut Line) {
     let mut left = string;
-    while let Some(next) = map.next_code(left) {
+    while let Some(next) = map.layers().next_code(left) {
         if !next.in_codespace {
             line.push(" outside");
         }

@@ -1,14 +1,8 @@
 //! Maps: what the codes of a CMap file stand for.
 
-ghost use Rattle.std.specs.Prelude.{◌⊎◌, ◌≡◌, ◌≢◌, ◌*◌, ◌^◌, [], ◌∷◌, ◌++◌, ◌≤◌, ◌<◌, IfErr, IfOk, IfSome, IfNone, IsErrOf, IsSome, IsSomeAnd, OnErr, OnOk, MatchOption, Some, codes, is_some, length, option_map};
+ghost use Rattle.std.specs.Prelude.{◌⊎◌, ◌≡◌, ◌≢◌, [], ◌∷◌, ◌≤◌, IfErr, IfOk, IfSome, IfNone, IsErrOf, IsSome, OnOk, Some, codes, length};
 ghost use Rattle.std.specs.List.{All};
-ghost use Rattle.std.specs.Option.{option_copied};
-ghost use Rattle.cmap_values.specs.CodeLengths.{IsCodeLength, length_of};
-ghost use Rattle.cmap_runs.specs.SearchLooks.{LooksAtMost};
-ghost use Rattle.cmap_tokens.specs.TextSeen.{text_seen};
-ghost use Rattle.cmap_tokens.specs.Texts.{text_of_characters};
 ghost use Rattle.cmap_chains.specs.Answers.{Answers, AnswersByName, IsByName};
-ghost use Rattle.cmap_files.specs.DeclarationsSeen.{bf_entry_seen};
 ghost use Rattle.cmap_files.specs.Files as files;
 ghost use Rattle.cmap_values.specs.NamesSeen.{names_seen};
 ghost use Rattle.cmap_chains.specs.Identity.{identity_layer};
@@ -16,60 +10,47 @@ ghost use Rattle.cmap_packed.specs.BundleSeen.{tables_given};
 ghost use Rattle.cmap_chains.specs.Layers.{AreUses, Means};
 ghost use Rattle.cmap_chains.specs.Maps.{ExceedsBudget, FitsBudget, HasNoMap, IsMapOf, LeadsToFault};
 ghost use Rattle.cmap_chains.specs.Opened.{ExceedsBudgetNamed, FitsBudgetNamed, HasNoMapNamed, IsMapNamed, IsUnknown, LeadsToFaultNamed};
-ghost use Rattle.cmap_layers.specs.LayersSeen.{layers_seen, metadata_seen};
+ghost use Rattle.cmap_layers.specs.LayersSeen.{metadata_seen};
 ghost use Rattle.cmap_layers.specs.Layers.{top_metadata};
 ghost use Rattle.cmap_chains.specs.Salvage.{BeginsWithFault, GivesMap, SalvagesMap};
 ghost use Rattle.cmap_chains.specs.SalvageSeen.{faults_seen};
-ghost use Rattle.cmap_layers.specs.Lookups.{InCodespace, bf_of, cid_of};
-ghost use Rattle.cmap_layers.specs.CodeStretches.{AreCodesBelow, IsCidStretch, IsTextStretch};
-ghost use Rattle.cmap_layers.specs.Rows.{AreCidsOf};
-ghost use Rattle.cmap_values.specs.Only.{IsOnly};
+ghost use Rattle.cmap_layers.specs.Lookups.{cid_of};
+ghost use Rattle.cmap_layers.specs.Searches.{FindsCid, FindsText, GivesText, IsStrictCid};
 ghost use Rattle.cmap_values.specs.Outcomes.{Finds, RefusesWith};
-ghost use Rattle.cmap_layers.specs.StringCodes.{IsNextCode};
-ghost use Rattle.cmap_layers.specs.Searches.{bf_looks, cid_looks, finds_text};
 ghost use Rattle.cmap_values.specs.declared.fault.Fault.TheVariants as fault;
 ghost use Rattle.hayro_cmap.specs.declared.budget.ParseError.TheVariants as parse_error;
 ghost use Rattle.cmap_chains.specs.declared.refusal.Cause.TheVariants as Cause;
 
 use crate::budget::ParseError;
 use crate::files_by_name::FilesByName;
-use cmap_chains::lists::put_last;
 use cmap_chains::{
     Cause, Refusal, SalvagedLayers, Source, identity_h, identity_v, open_layers, read_layers,
     salvaged_layers, uses,
 };
-use cmap_layers::layers::Layer;
-use cmap_layers::stretches::{CidStretch, TextStretch};
-use cmap_layers::string_codes::StringCode;
-use cmap_layers::{lookup, row, stretches, string_codes};
+use cmap_layers::layers::Layers;
 use cmap_packed::Bundle;
-use cmap_runs::runs::{Looks, Range};
+use cmap_runs::runs::Looks;
 use cmap_tokens::utf16::BfString;
-use cmap_values::code_length::CodeLength;
 use cmap_values::fault::Fault;
 use cmap_values::metadata::Metadata;
 use cmap_values::names::{CMapName, Cid};
 use std::alloc::{AllocError, Global};
 use std::marker::{Model, PhantomData};
 
-/// What the codes of a CMap file stand for: the layers of the file and of those that it is based on, at
-/// most 16. A clause sees the list of layers, the top one first.
+/// What the codes of a CMap file stand for: the layers of the file and of those that it is based on.
+/// A clause sees the list of them, the top one first.
 #[derive(Debug, Drop)]
 pub struct CMap {
-    layers: Vec<Layer>,
+    layers: Layers,
 }
 
 impl Model for CMap {
-    ghost use Rattle.std.specs.Prelude.{List, ◌<◌, ◌≤◌, length};
+    ghost use Rattle.std.specs.Prelude.{List};
     ghost use Rattle.cmap_layers.specs.Layers.{Layer};
 
     ghost Value = { List Layer };
 
-    ghost use Rattle.cmap_layers.specs.LayersSeen.{layers_seen};
-
-    ghost view = { λ map. layers_seen map.layers.items };
-
-    ghost invariant = { λ map. (0 < length map.layers.items) × (length map.layers.items ≤ 16) };
+    ghost view = { λ map. map.layers };
 }
 
 /// What a file says over the files that it uses, apart from their faults, and the faults.
@@ -305,140 +286,50 @@ impl CMap {
         Ok(CMap { layers })
     }
 
+    /// The layers of the map, which answer more than the lookups below.
+    #[inline(always)]
+    pub fn layers(&self) -> &Layers
+        ensures { result.now ≡ self.now }
+    {
+        &self.layers
+    }
+
     /// What the file states about itself, without those that it is based on.
     pub fn metadata(&self) -> &Metadata
         ensures top { top_metadata self.now ≡ Some (metadata_seen result.now) }
         ensures few { length self.now ≤ 16 }
     {
-        self.layers()[0].metadata()
+        self.layers().metadata()
     }
 
-    /// The layers of the map: the file's own first, then those of the file that it is based on, and so
-    /// on. There are at least one and at most 16.
-    #[inline(always)]
-    pub fn layers(&self) -> &[Layer]
-        ensures layers { layers_seen result.now ≡ self.now }
-        ensures few { (0 < length result.now) × (length result.now ≤ 16) }
-    {
-        self.layers.as_slice()
-    }
-
-    /// The CID of `code`, a code of `byte_len` bytes, big-endian.
-    ///
-    /// It is `None` where no layer decides, for a `byte_len` outside 1 to 4, and where the CID that is
-    /// declared passes 32 bits. Codespace ranges aren't looked at.
+    /// The CID of `code`, a code of `byte_len` bytes, big-endian, as `Layers::cid` gives it.
     #[inline(always)]
     pub fn lookup_cid_code(&self, code: u32, byte_len: u8) -> Option<Cid>
         ensures { result ≡ cid_of self.now code byte_len }
     {
-        lookup::cid_of(self.layers(), code, byte_len, &mut Looks::new())
-    }
-
-    /// Fills `cids` with the CIDs of the codes of `byte_len` bytes from `first` on, one after another, as
-    /// `lookup_cid_code` gives them. `absent` stands for a code without a CID, and for each number past
-    /// 32 bits.
-    ///
-    /// The first code is searched for in each list of declarations, and no other one.
-    pub fn fill_cids(&self, first: u32, byte_len: u8, absent: Cid, cids: &mut [Cid])
-        ensures { AreCidsOf self.now byte_len absent first cids.new }
-    {
-        row::fill_cids(self.layers(), first, byte_len, absent, cids)
-    }
-
-    /// The CIDs of the codes of this length from `first` on, as `lookup_cid_code` gives them, as far as one
-    /// declaration of each list decides. A caller who goes on with the code after the last one has
-    /// those of all codes.
-    pub fn cid_stretch(&self, first: u32, len: CodeLength) -> CidStretch
-        ensures within { first ≤ result.last }
-        ensures cids { IsCidStretch self.now (length_of len) first result }
-    {
-        stretches::cid_stretch(self.layers(), first, len)
-    }
-
-    /// The declaration that decides the texts of the codes from `first` on, as `lookup_bf_string` gives
-    /// them, as far as it does or none does.
-    pub fn text_stretch(&self, first: u32) -> TextStretch<'_>
-        ensures within { first ≤ result.last }
-        ensures start { IfSome result.declaration
-            (λ declaration. declaration.now.range.start ≤ first) }
-        ensures texts { IsTextStretch self.now first result.last
-            (option_map bf_entry_seen (option_copied result.declaration)) }
-    {
-        stretches::text_stretch(self.layers(), first)
-    }
-
-    /// The codes of this length that have the CID, as `lookup_cid_code` gives it: ranges in order, of
-    /// which no two have a code together.
-    ///
-    /// It fails only if memory runs out.
-    pub fn codes_of_cid(
-        &self,
-        alloc: Global,
-        cid: Cid,
-        len: CodeLength,
-    ) -> Result<Vec<Range>, AllocError>
-        ensures { IfOk result (λ ranges.
-            AreCodesBelow self.now (length_of len) cid (256 ^ length_of len) ranges.items) }
-    {
-        stretches::codes_of_cid(alloc, self.layers(), cid, len)
+        self.layers().cid(code, byte_len, &mut Looks::new())
     }
 
     /// The answer of `lookup_cid_code`, and what is looked at is counted.
     pub fn lookup_cid_counted(&self, code: u32, byte_len: u8, looks: &mut Looks) -> Option<Cid>
-        ensures value { result ≡ cid_of self.now code byte_len }
-
-        // For each list that may be searched, no more runs than their number has binary digits, and
-        // one declaration for each of a layer's three lists: CIDs, notdef CIDs, texts. An answer
-        // comes from a run and from a declaration.
-        ensures looks { LooksAtMost looks.old looks.new (cid_looks self.now byte_len)
-            (3 * length self.now) (is_some result) }
-
-        // Nothing is looked at for a length that no code has.
-        ensures outside { (IsCodeLength byte_len → ⊥) → looks.new ≡ looks.old }
+        ensures { FindsCid self.now code byte_len looks.old looks.new result }
     {
-        lookup::cid_of(self.layers(), code, byte_len, looks)
+        self.layers().cid(code, byte_len, looks)
     }
 
-    /// The answer of `lookup_cid_code`, where the code lies in a codespace range of
-    /// some layer; else `None`.
-    ///
-    /// A code lies in a range of its own length where each of its bytes lies between those of the
-    /// range's two ends. One that doesn't fit in its length lies in none. ISO 32000-1, 9.7.6.2.
+    /// The answer of `lookup_cid_code`, where the code lies in a codespace range of some layer; else
+    /// `None`, as `Layers::strict_cid` has it.
     pub fn lookup_cid_code_strict(&self, code: u32, byte_len: u8) -> Option<Cid>
-        ensures within { InCodespace self.now code byte_len
-            → result ≡ cid_of self.now code byte_len }
-        ensures outside { (InCodespace self.now code byte_len → ⊥) → result ≡ None }
+        ensures { IsStrictCid self.now code byte_len result }
     {
-        lookup::cid_within(self.layers(), code, byte_len, &mut Looks::new())
+        self.layers().strict_cid(code, byte_len, &mut Looks::new())
     }
 
-    /// The code that a string begins with, and how many bytes it has; `None` where the string is
-    /// empty.
-    ///
-    /// It is the shortest front of the string that lies in a codespace range of some layer. Where none
-    /// does, the range decides that matches the longest front, each byte between its own; of several,
-    /// the one with the shortest codes. As many bytes are taken as its codes have, or all where there
-    /// are fewer; one where no layer has a range. ISO 32000-1, 9.7.6.2 and 9.7.6.3.
-    pub fn next_code(&self, text: &[u8]) -> Option<StringCode>
-        ensures code { MatchOption result (text.now ≡ []) (IsOnly (IsNextCode self.now text.now)) }
-        ensures length { IfSome result
-            (λ found. IsCodeLength found.byte_len × (found.byte_len ≤ length text.now)) }
-    {
-        string_codes::next_code(self.layers(), text)
-    }
-
-    /// The Unicode text of `code`: one character, or more of them.
-    ///
-    /// It is `None` where no declaration contains the code, and where the one that decides gives no
-    /// text: a layer's declaration decides also then. It fails only if memory runs out, and only for a
-    /// text of more than one character. ISO 32000-1, 9.10.3.
+    /// The Unicode text of `code`, as `Layers::text` gives it.
     pub fn lookup_bf_string(&self, alloc: Global, code: u32) -> Result<Option<BfString>, AllocError>
-        ensures value { IfOk result
-            (λ text. option_map text_seen text ≡ option_map text_of_characters (bf_of self.now code)) }
-        ensures err { OnErr result
-            (IsSomeAnd (bf_of self.now code) (λ characters. 1 < length characters)) }
+        ensures { GivesText self.now code result }
     {
-        lookup::bf_of(alloc, self.layers(), code, &mut Looks::new())
+        self.layers().text(alloc, code, &mut Looks::new())
     }
 
     /// The answer of `lookup_bf_string`, and what is looked at is counted.
@@ -448,37 +339,20 @@ impl CMap {
         code: u32,
         looks: &mut Looks,
     ) -> Result<Option<BfString>, AllocError>
-        ensures value { IfOk result
-            (λ text. option_map text_seen text ≡ option_map text_of_characters (bf_of self.now code)) }
-        ensures err { OnErr result
-            (IsSomeAnd (bf_of self.now code) (λ characters. 1 < length characters)) }
-
-        // For each layer, no more runs than their number has binary digits, and one declaration. An
-        // answer comes from a run and from a declaration.
-        ensures looks { LooksAtMost looks.old looks.new (bf_looks self.now) (length self.now)
-            (finds_text result) }
+        ensures { FindsText self.now code looks.old looks.new result }
     {
-        lookup::bf_of(alloc, self.layers(), code, looks)
+        self.layers().text(alloc, code, looks)
     }
 
     /// A copy of the map.
     pub fn clone(&self, alloc: Global) -> Result<CMap, AllocError>
         ensures { IfOk result (λ copy. copy ≡ self.now) }
     {
-        let layers = copied_layers(alloc, self.layers())?;
-        Ok(CMap { layers })
+        match self.layers().clone(alloc) {
+            Ok(layers) => Ok(CMap { layers }),
+            Err(error) => Err(error),
+        }
     }
-}
-
-/// Copies of layers.
-fn copied_layers(alloc: Global, layers: &[Layer]) -> Result<Vec<Layer>, AllocError>
-    ensures { IfOk result (λ copies. layers_seen copies.items ≡ layers_seen layers.now) }
-{
-    let mut copies = Vec::new(alloc);
-    for layer in layers {
-        put_last(layer.clone(alloc), &mut copies)?;
-    }
-    Ok(copies)
 }
 
 /// The map that is found; none where the file is refused, unless for the budget.

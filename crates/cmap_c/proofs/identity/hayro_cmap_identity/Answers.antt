@@ -11,14 +11,14 @@ made_as r x P is holds = subst (λ r. IfOk r P) is holds
 
 pub returns-in-Ok : goal.returns-in-Ok
 returns-in-Ok c =
-    let keeps = kept _ c.new.result c.of.result c.keep.result c.keep.new.self.slot.map c.new.ensures c.keep.ensures in
+    let keeps = kept _ c.new.result c.in-Ok.layers c.keep.result c.keep.new.self.slot.map c.new.ensures c.keep.ensures in
     record {
       horizontal = λ done is. elim c.if-vertical.branch [
         | then-vertical w ↦ absurd (true≢false (sym w.if-vertical.true ∙ is))
-        | else-vertical w ↦ kept_done _ _ _ keeps done ∙ ap Some (c.of.ensures ∙ made_as _ c.in-Ok.layers _ (sym w.made-is ∙ c.in-Ok.is) w.identity_h-made.ensures)
+        | else-vertical w ↦ kept_done _ _ _ keeps done ∙ ap Some (made_as _ c.in-Ok.layers _ (sym w.made-is ∙ c.in-Ok.is) w.identity_h-made.ensures)
       ];
       vertical = λ done is. elim c.if-vertical.branch [
-        | then-vertical w ↦ kept_done _ _ _ keeps done ∙ ap Some (c.of.ensures ∙ made_as _ c.in-Ok.layers _ (sym w.made-is ∙ c.in-Ok.is) w.identity_v-made.ensures)
+        | then-vertical w ↦ kept_done _ _ _ keeps done ∙ ap Some (made_as _ c.in-Ok.layers _ (sym w.made-is ∙ c.in-Ok.is) w.identity_v-made.ensures)
         | else-vertical w ↦ absurd (true≢false (sym is ∙ w.if-vertical.false))
       ];
       failed = kept_or_none _ _ _ keeps;

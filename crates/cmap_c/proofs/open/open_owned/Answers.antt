@@ -1,7 +1,6 @@
 use Rattle.std.proofs.Common.{◌≡◌, ◌≢◌, ◌∙◌, subst, sym}
 use Rattle.std.specs.Prelude.{IfNone}
 use Rattle.std.specs.Option.{option_copied}
-use Rattle.cmap_layers.specs.LayersSeen.{layers_seen}
 use Rattle.cmap_packed.specs.BundleSeen.{tables_given}
 use Rattle.cmap_values.specs.Outcomes.{RefusesWith}
 use Rattle.cmap_chains.specs.Opened as opened
@@ -17,8 +16,8 @@ unfolding IsMapNamed FitsBudgetNamed
 returns-in-Ok-Some c =
     let names = answers (option_copied c.args.bundle) c.args.files.now in
     let name = c.args.name.now in
-    let map : opened.IsMapNamed (tables_given c.tables_of.result) names name (layers_seen c.in-Ok-Some.layers.items) = rw c.in-Ok-Some.field-0-is at c.in-Ok-Some.ensures.accepts in
-    (rw c.of.ensures (subst (λ tables. opened.IsMapNamed tables names name (layers_seen c.in-Ok-Some.layers.items)) c.tables_of.ensures map), subst (λ tables. opened.FitsBudgetNamed tables names name c.args.budget) c.tables_of.ensures c.in-Ok-Some.ensures.within)
+    let map : opened.IsMapNamed (tables_given c.tables_of.result) names name c.in-Ok-Some.layers = rw c.in-Ok-Some.field-0-is at c.in-Ok-Some.ensures.accepts in
+    (subst (λ tables. opened.IsMapNamed tables names name c.in-Ok-Some.layers) c.tables_of.ensures map, subst (λ tables. opened.FitsBudgetNamed tables names name c.args.budget) c.tables_of.ensures c.in-Ok-Some.ensures.within)
 
 pub returns-in-Ok-None : goal.returns-in-Ok-None
 unfolding IsUnknownOver

@@ -6,7 +6,7 @@ use Rattle.cmap_c.proofs.StatusOfCauses.{refused}
 use Rattle.cmap_c.proofs.parse.parse_from.Goals as goal
 
 pub returns-in-Ok : goal.returns-in-Ok
-returns-in-Ok g c = (rw c.of.ensures c.in-Ok.ensures.accepts, c.in-Ok.ensures.within)
+returns-in-Ok g c = (c.in-Ok.ensures.accepts, c.in-Ok.ensures.within)
 
 pub returns-in-Err : goal.returns-in-Err
 returns-in-Err g c =

@@ -5,7 +5,6 @@ use Rattle.std.specs.Option.{option_copied}
 use Rattle.cmap_packed.specs.BundleSeen.{tables_given}
 use Rattle.cmap_packed.specs.Bundles.{PrefixTables}
 use Rattle.cmap_layers.specs.Layers.{Layer}
-use Rattle.cmap_layers.specs.LayersSeen.{layers_seen}
 use Rattle.cmap_chains.specs.SalvageSeen.{faults_seen}
 use Rattle.cmap_chains.specs.declared.refusal.Refusal.{Refusal}
 use Rattle.cmap_c.specs.NamedFiles.{answers}
@@ -20,15 +19,15 @@ returns-in-Ok c =
     let faults = faults_seen c.deref.result.now in
     let same : c.deref.result.now ≡ found.faults.items = c.deref.ensures.value in
     let names = answers (option_copied c.args.bundle) c.args.files.now in
-    let said : IsSalvage (tables_given c.tables_of.result) names c.args.data.now c.args.budget (layers_seen found.layers.items) (faults_seen found.faults.items) =
+    let said : IsSalvage (tables_given c.tables_of.result) names c.args.data.now c.args.budget found.layers (faults_seen found.faults.items) =
     record { says = c.in-Ok.ensures.says; right = c.in-Ok.ensures.right; wrong = c.in-Ok.ensures.wrong } in
-    let says : (map : List Layer) → map ≡ (layers_seen found.layers.items) → IsSalvageOver (option_copied c.args.bundle) c.args.files.now c.args.data.now c.args.budget map faults =
-    λ map is. rw (is, same) (subst (λ (tables : Option PrefixTables). IsSalvage tables names c.args.data.now c.args.budget (layers_seen found.layers.items) (faults_seen found.faults.items)) c.tables_of.ensures said) in
-    IfOk-weaker c.of-in-Ok.result (λ (made : Salvaged). (made.map.value ≡ c.of.result) × AreFaultsShown faults made.shown) (IsSalvagedWith (IsSalvageOver (option_copied c.args.bundle) c.args.files.now c.args.data.now c.args.budget))
-    (λ made is. (faults, says made.map.value (is.0 ∙ c.of.ensures), is.1)) c.of-in-Ok.ensures
+    let says : (map : List Layer) → map ≡ found.layers → IsSalvageOver (option_copied c.args.bundle) c.args.files.now c.args.data.now c.args.budget map faults =
+    λ map is. rw (is, same) (subst (λ (tables : Option PrefixTables). IsSalvage tables names c.args.data.now c.args.budget found.layers (faults_seen found.faults.items)) c.tables_of.ensures said) in
+    IfOk-weaker c.of.result (λ (made : Salvaged). (made.map.value ≡ found.layers) × AreFaultsShown faults made.shown) (IsSalvagedWith (IsSalvageOver (option_copied c.args.bundle) c.args.files.now c.args.data.now c.args.budget))
+    (λ made is. (faults, says made.map.value is.0, is.1)) c.of.ensures
 
 pub salvaged_layers-requires-clause-by_name : goal.salvaged_layers-requires-clause-by_name
 salvaged_layers-requires-clause-by_name c _ _ _ one other = one ∙ sym other
 
-pub of-requires-in-Ok : goal.of-requires-in-Ok
-of-requires-in-Ok c = subst (All (λ (fault : Refusal). length fault.names.items ≤ 16)) (sym c.deref.ensures.value) c.in-Ok.ensures.few
+pub of-requires : goal.of-requires
+of-requires c = subst (All (λ (fault : Refusal). length fault.names.items ≤ 16)) (sym c.deref.ensures.value) c.in-Ok.ensures.few

@@ -1,5 +1,4 @@
 use Rattle.std.proofs.Common.{◌∙◌, refl}
-use Rattle.cmap_layers.specs.LayersSeen.{layers_seen}
 use Rattle.cmap_handles.proofs.HandlesRead.{answered_in, none_found}
 use Rattle.cmap_c_maps.proofs.cids.hayro_cmap_cid.Goals as goal
 
@@ -12,5 +11,5 @@ returns-in_default c = record {
 pub returns : goal.returns
 returns c = record {
   same = c.put.ensures ∙ c.in-Some.ensures.map;
-  value = answered_in _ _ c.in-Some.found.value (layers_seen c.layers.result.now) c.cid_of-answer.result _ _ c.in-Some.ensures.map (c.layers.ensures.layers ∙ c.value.ensures ∙ c.deref.ensures) c.cid_of-answer.ensures.value c.put_cid.ensures;
+  value = answered_in _ _ c.in-Some.found.value c.value.result.now c.cid-answer.result _ _ c.in-Some.ensures.map (c.value.ensures ∙ c.deref.ensures) c.cid-answer.ensures.value c.put_cid.ensures;
 }

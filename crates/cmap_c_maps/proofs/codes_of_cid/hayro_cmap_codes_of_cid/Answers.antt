@@ -1,5 +1,4 @@
 use Rattle.std.proofs.Common.{◌∙◌, refl}
-use Rattle.cmap_layers.specs.LayersSeen.{layers_seen}
 use Rattle.cmap_handles.specs.declared.status.Status.TheVariants.{Absent, NoMemory}
 use Rattle.cmap_handles.proofs.HandlesRead.{no_map, of_map}
 use Rattle.cmap_handles.proofs.StatusNumbers.{not_both, put_no_memory}
@@ -15,7 +14,7 @@ returns-in_default c = record {
 pub returns-in-Ok : goal.returns-in-Ok
 returns-in-Ok c = record {
   same = c.put.ensures ∙ c.in-Some.ensures.map;
-  codes = λ _. of_map _ c.in-Some.found.value (layers_seen c.layers.result.now) _ _ c.in-Some.ensures.map (c.layers.ensures.layers ∙ c.value.ensures ∙ c.deref.ensures) (c.in-Ok.codes.items, c.in-Ok.ensures, c.put_items.ensures);
+  codes = λ _. of_map _ c.in-Some.found.value c.value.result.now _ _ c.in-Some.ensures.map (c.value.ensures ∙ c.deref.ensures) (c.in-Ok.codes.items, c.in-Ok.ensures, c.put_items.ensures);
   unwritten = λ memory. absurd (put_no_memory _ _ _ _ _ c.put_items.ensures memory);
 }
 

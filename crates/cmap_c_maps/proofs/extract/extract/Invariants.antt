@@ -1,5 +1,5 @@
 use Rattle.std.proofs.Common.{length, ◌-◌}
-use Rattle.cmap_extract.specs.FontSeen.{font_seen}
+use Rattle.cmap_unicode.specs.Characters.{font_of}
 use Rattle.cmap_c_maps.proofs.CharactersExtracted.{IsExtracting}
 use Rattle.cmap_c_maps.proofs.extract.extract.Given as goal
 
@@ -7,4 +7,4 @@ abbrev pub decreases-loop-extracted : goal.decreases-loop-extracted
 decreases-loop-extracted l = length l.initial.characters - l.extracted.made
 
 abbrev pub invariant-loop-extracted : goal.invariant-loop-extracted
-invariant-loop-extracted l = IsExtracting (font_seen l.font) l.string l.fn.characters l.characters l.fn.text l.text l.extracted
+invariant-loop-extracted l = IsExtracting (font_of l.font) l.string l.fn.characters l.characters l.fn.text l.text l.extracted

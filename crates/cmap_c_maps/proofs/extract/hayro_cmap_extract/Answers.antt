@@ -1,5 +1,4 @@
 use Rattle.std.proofs.Common.{◌∙◌, refl}
-use Rattle.cmap_layers.specs.LayersSeen.{layers_seen}
 use Rattle.cmap_c_maps.specs.Extracted.{IsExtracted}
 use Rattle.cmap_c_maps.proofs.CharactersExtracted.{of_font}
 use Rattle.cmap_handles.proofs.HandlesRead.{no_map, of_map}
@@ -18,7 +17,7 @@ returns c = record {
   encoding = c.put.ensures ∙ c.in-Some.ensures.map;
   to_unicode = c.put_back.ensures ∙ c.take-texts.ensures.map;
   collection = c.put_back-2.ensures ∙ c.take-texts_of_cids.ensures.map;
-  characters = of_map _ c.in-Some.found.value (layers_seen c.layers.result.now) _ _ c.in-Some.ensures.map (c.layers.ensures.layers ∙ c.value.ensures ∙ c.deref.ensures)
+  characters = of_map _ c.in-Some.found.value c.value.result.now _ _ c.in-Some.ensures.map (c.value.ensures ∙ c.deref.ensures)
       (of_font (λ font. IsExtracted font c.args.string.now c.args.characters.now c.extract-status.new.characters c.args.text.now c.extract-status.new.text c.extract-status.new.extracted c.extract-status.result) _ _ _ _ _
       (c.layers_lent-texts_layers.ensures ∙ c.take-texts.ensures.map) (c.layers_lent-collection_layers.ensures ∙ c.take-texts_of_cids.ensures.map) c.extract-status.ensures);
 }

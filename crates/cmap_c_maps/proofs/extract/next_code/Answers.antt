@@ -1,13 +1,12 @@
 use Rattle.std.proofs.Common.{◌-◌, ◌<◌, ap, length, refl, subst}
-use Rattle.cmap_extract.specs.FontSeen.{font_seen}
-use Rattle.cmap_extract.specs.Characters.{IsNextCharacter}
+use Rattle.cmap_unicode.specs.Characters.{IsNextCharacter, font_of}
 use Rattle.cmap_c_maps.specs.ExtractedParts.{IsPutAt}
 use Rattle.cmap_c_maps.proofs.extract.next_code.Goals as goal
 
 pub returns-then-put_at : goal.returns-then-put_at
 returns-then-put_at c =
     let found = c.in-Ok-Some.found in
-    let is_next : IsNextCharacter (font_seen c.args.font.now) c.args.string.now found = rw c.in-Ok-Some.field-0-is at c.in-Ok-Some.ensures.character in
+    let is_next : IsNextCharacter (font_of c.args.font.now) c.args.string.now found = rw c.in-Ok-Some.field-0-is at c.in-Ok-Some.ensures.character in
     let len = rw c.in-Ok-Some.field-0-is at c.in-Ok-Some.ensures.length in
     record {
       character = found;
@@ -21,7 +20,7 @@ returns-then-put_at c =
 pub returns-in-Ok-Some : goal.returns-in-Ok-Some
 returns-in-Ok-Some c =
     let found = c.in-Ok-Some.found in
-    let is_next : IsNextCharacter (font_seen c.args.font.now) c.args.string.now found = rw c.in-Ok-Some.field-0-is at c.in-Ok-Some.ensures.character in (
+    let is_next : IsNextCharacter (font_of c.args.font.now) c.args.string.now found = rw c.in-Ok-Some.field-0-is at c.in-Ok-Some.ensures.character in (
       c.if-put_at.ensures.0,
       record {
         character = found;

@@ -12,7 +12,7 @@ returns-in_default c = record {
 
 pub returns : goal.returns
 returns c =
-    let layers = c.layers-count in
+    let layers = c.as_slice-count in
     record {
       same = c.put.ensures ∙ c.in-Some.ensures.map;
       count = of_map _ c.in-Some.found.value (layers_seen layers.result.now) _ (λ given. (length layers.result.now ≡ length given) × (1 ≤ length layers.result.now) × (length layers.result.now ≤ 16))

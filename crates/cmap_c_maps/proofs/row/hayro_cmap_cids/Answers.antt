@@ -1,5 +1,4 @@
 use Rattle.std.proofs.Common.{◌∙◌, refl}
-use Rattle.cmap_layers.specs.LayersSeen.{layers_seen}
 use Rattle.cmap_handles.proofs.HandlesRead.{no_map, of_map}
 use Rattle.cmap_c_maps.proofs.row.hayro_cmap_cids.Goals as goal
 
@@ -12,5 +11,5 @@ returns-in_default c = record {
 pub returns : goal.returns
 returns c = record {
   same = c.put.ensures ∙ c.in-Some.ensures.map;
-  cids = of_map _ c.in-Some.found.value (layers_seen c.layers.result.now) _ _ c.in-Some.ensures.map (c.layers.ensures.layers ∙ c.value.ensures ∙ c.deref.ensures) (refl, c.fill_cids.ensures);
+  cids = of_map _ c.in-Some.found.value c.value.result.now _ _ c.in-Some.ensures.map (c.value.ensures ∙ c.deref.ensures) (refl, c.fill_cids.ensures);
 }

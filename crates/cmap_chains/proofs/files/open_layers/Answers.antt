@@ -1,33 +1,27 @@
-use Rattle.std.proofs.Common.{◌≡◌, ◌<◌, ◌≤◌, ℕ, List, arith, inl, inr, length}
+use Rattle.std.proofs.Common.{ℕ, List, inl, inr}
 use Rattle.std.specs.Prelude.{IfNone, IfSome, MatchOption, Option, Some, None}
 use Rattle.cmap_packed.specs.BundleSeen.{tables_given}
 use Rattle.cmap_packed.specs.Bundles.{PrefixTables}
 use Rattle.cmap_layers.specs.Layers.{Layer}
-use Rattle.cmap_layers.specs.LayersSeen.{layers_seen}
 use Rattle.cmap_chains.specs.Opened.{IsIdentity, IsMapNamed, IsNoIdentity, IsUnknown}
 use Rattle.cmap_values.proofs.Outcomes.{refused_as}
 use Rattle.cmap_chains.proofs.files.open_layers.Goals as goal
 
 -- no file has the name: what it names is an identity, or nothing
-module _ {A : Type 0} (seen : A → List Layer) (answers : List ℕ → Option (List ℕ) → Type 0) (name : List ℕ) (missing : answers name None) where
-  names_identity : (tables : Option PrefixTables) (found : Option A) → MatchOption found (IsNoIdentity name) (λ layers. IsIdentity name (seen layers)) → IfSome found (λ layers. IsMapNamed tables answers name (seen layers))
+module _ (answers : List ℕ → Option (List ℕ) → Type 0) (name : List ℕ) (missing : answers name None) where
+  names_identity : (tables : Option PrefixTables) (found : Option (List Layer)) → MatchOption found (IsNoIdentity name) (IsIdentity name) → IfSome found (IsMapNamed tables answers name)
   names_identity tables (Some layers) is = inr (missing, is)
   names_identity tables None is = tt
 
-  names_nothing : (found : Option A) → MatchOption found (IsNoIdentity name) (λ layers. IsIdentity name (seen layers)) → IfNone found (IsUnknown answers name)
+  names_nothing : (found : Option (List Layer)) → MatchOption found (IsNoIdentity name) (IsIdentity name) → IfNone found (IsUnknown answers name)
   names_nothing (Some layers) is = tt
   names_nothing None is = (missing, is)
-
-one_fits : {A : Type 0} (count : A → ℕ) (found : Option A) → IfSome found (λ layers. count layers ≡ 1) → IfSome found (λ layers. (0 < count layers) × (count layers ≤ 16))
-one_fits count (Some layers) one = (omega (arith, one), omega (arith, one))
-one_fits count None one = tt
 
 pub returns-in-Ok : goal.returns-in-Ok
 returns-in-Ok g c =
     let bytes = c.in-Some.«data».now in
     record {
       accepts = inl (bytes, c.in-Some.ensures, c.in-Ok.ensures.accepts);
-      count = c.in-Ok.ensures.count;
       absent = tt;
       within = inl (bytes, c.in-Some.ensures, c.in-Ok.ensures.within);
       refuses = tt;
@@ -42,7 +36,6 @@ returns-in-Err g c =
     let said = c.in-Some.ensures in
     record {
       accepts = tt;
-      count = tt;
       absent = tt;
       within = tt;
       refuses = refused_as c.in-Err.fault c.in-Err.ensures.refuses (λ refusal refuses other. let (none, fits) = refuses other in ((bytes, said, none), inl (bytes, said, fits)));
@@ -57,9 +50,8 @@ returns-in-Ok-identity_named g c =
     let missing = rw c.in-None.is at c.file.ensures in
     let identity = c.in-Ok-identity_named.identity in
     record {
-      accepts = names_identity (λ layers. layers_seen layers.items) answers c.args.name.now missing (tables_given c.args.bundle) identity c.in-Ok-identity_named.ensures.identity;
-      count = one_fits (λ layers. length layers.items) identity c.in-Ok-identity_named.ensures.one;
-      absent = names_nothing (λ layers. layers_seen layers.items) answers c.args.name.now missing identity c.in-Ok-identity_named.ensures.identity;
+      accepts = names_identity answers c.args.name.now missing (tables_given c.args.bundle) identity c.in-Ok-identity_named.ensures;
+      absent = names_nothing answers c.args.name.now missing identity c.in-Ok-identity_named.ensures;
       within = inr missing;
       refuses = tt;
       over = tt;

@@ -9,12 +9,14 @@ use Rattle.cmap_chains.proofs.LayersFit.{layers-fit}
 use Rattle.cmap_chains.proofs.WholeFile.{StaysWithin-from_spent}
 use Rattle.cmap_chains.proofs.files.read_layers.Goals as goal
 
+pub of-requires : goal.of-requires
+of-requires g c = layers-fit (Means (tables_given c.args.bundle)) (g.S.Source.answers c.args.source.now) c.args.«data».now c.in-Ok.layers.items c.in-Ok.ensures.0.0.only.holds
+
 pub returns-in-Ok : goal.returns-in-Ok
 returns-in-Ok g c =
     let found = c.in-Ok.ensures.0.0 in
     let within = StaysWithin-from_spent (Means (tables_given c.args.bundle)) (g.S.Source.answers c.args.source.now) 16 c.args.«data».now c.args.budget false c.find_layers.new.left found.spent in
-    let count = layers-fit (Means (tables_given c.args.bundle)) (g.S.Source.answers c.args.source.now) c.args.«data».now c.in-Ok.layers.items found.only.holds in
-    record { accepts = found.only; count = count; within = within; refuses = tt; over = tt; blames = tt; few = tt }
+    record { accepts = rw c.of.ensures found.only; within = within; refuses = tt; over = tt; blames = tt; few = tt }
 
 pub returns-in-Err-Refused : goal.returns-in-Err-Refused
 returns-in-Err-Refused g c =
@@ -26,7 +28,6 @@ returns-in-Err-Refused g c =
     let few : length names ≤ 16 = IsFaultWithin-few tables answers budget 16 bytes names cause fault in
     record {
       accepts = tt;
-      count = tt;
       within = tt;
       refuses = no_layers (Means tables) answers 16 bytes budget c.find_layers.new.left cause fails;
       over = λ over. record { first = (names, rw over at fault); all = rw over at fails };

@@ -5,7 +5,7 @@ use Rattle.cmap_packed.specs.BundleSeen.{tables_given}
 use Rattle.cmap_files.specs.FilesSeen.{file_seen}
 use Rattle.cmap_values.specs.NamesSeen.{names_seen}
 use Rattle.cmap_layers.specs.LayersSeen.{layers_seen}
-use Rattle.cmap_layers.specs.declared.layers.Layer.{Layer}
+use Rattle.cmap_layers.specs.declared.layer.Layer.{Layer}
 use Rattle.cmap_layers.specs.Layers.{layer_of}
 use Rattle.cmap_chains.specs.Salvage.{Salvages, SalvagesNamed, faults_of}
 use Rattle.cmap_chains.specs.SalvageSeen.{GoesOn, Walks, opening_seen}

@@ -3,7 +3,7 @@ use Rattle.std.specs.Global.{Vec}
 use Rattle.cmap_files.specs.FilesSeen.{file_seen}
 use Rattle.cmap_layers.specs.Layers.{layer_of}
 use Rattle.cmap_layers.specs.LayersSeen.{layers_seen}
-use Rattle.cmap_layers.specs.declared.layers.Layer.{Layer}
+use Rattle.cmap_layers.specs.declared.layer.Layer.{Layer}
 use Rattle.cmap_chains.proofs.Walked.{ok_as}
 use Rattle.cmap_chains.proofs.salvage.put_over.Goals as goal
 

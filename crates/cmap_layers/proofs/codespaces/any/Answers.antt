@@ -6,7 +6,7 @@ use Rattle.cmap_codespaces.specs.SpaceBits.{InRows}
 use Rattle.cmap_codespaces.proofs.SpacesFound.{only_item}
 use Rattle.cmap_layers.specs.Layers as layers
 use Rattle.cmap_layers.specs.LayersSeen.{layer_seen}
-use Rattle.cmap_layers.specs.declared.layers.Layer.{Layer}
+use Rattle.cmap_layers.specs.declared.layer.Layer.{Layer}
 use Rattle.cmap_layers.proofs.BytesWithin.{any_seen}
 use Rattle.cmap_layers.proofs.SpacesFound.{any_of_one}
 use Rattle.cmap_layers.proofs.codespaces.any.Goals as goal

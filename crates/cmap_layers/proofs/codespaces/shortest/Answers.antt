@@ -3,7 +3,7 @@ use Rattle.cmap_codespaces.specs.CodesWithin.{IsLeast}
 use Rattle.cmap_codespaces.proofs.SpacesFound.{only_item}
 use Rattle.cmap_layers.specs.LayersSeen.{layers_seen}
 use Rattle.cmap_layers.specs.StringCodes.{BeginsInside}
-use Rattle.cmap_layers.specs.declared.layers.Layer.{Layer}
+use Rattle.cmap_layers.specs.declared.layer.Layer.{Layer}
 use Rattle.cmap_layers.proofs.CodesInside.{least_only}
 use Rattle.cmap_layers.proofs.codespaces.shortest.Goals as goal
 

@@ -1,5 +1,5 @@
 use Rattle.std.proofs.Common.{ap, subst, refl, ◌∙◌}
-use Rattle.std.proofs.lemmas.List.{drop_all, length-map}
+use Rattle.std.proofs.lemmas.List.{drop_all}
 use Rattle.cmap_layers.specs.LayersSeen.{layers_seen}
 use Rattle.cmap_layers.proofs.LayersSearched.{drop_next, within_lengths, Answers, Answers-outside, IsSearched, IsSearched-none, IsSearched-more, IsSearched-decided, IsSearched-end}
 use Rattle.cmap_layers.proofs.lookup.cid_in_turn.Goals as goal
@@ -15,7 +15,7 @@ decided c =
 pub returns-in-Some : goal.returns-in-Some
 returns-in-Some c =
     let few = c.in_ok-len.ensures.0 in
-    record { value = (decided c).value; looks = simp length-map at (decided c).looks; outside = λ outside. absurd (outside few) }
+    record { value = (decided c).value; looks = (decided c).looks; outside = λ outside. absurd (outside few) }
 
 pub loop-layer-init : goal.loop-layer-init
 loop-layer-init c = IsSearched-none (layers_seen c.args.layers.now) c.args.code c.args.byte_len c.args.looks.now
@@ -31,7 +31,7 @@ pub returns-in_err-len : goal.returns-in_err-len
 returns-in_err-len c =
     let none = Answers-outside (layers_seen c.args.layers.now) c.args.code c.args.byte_len c.args.looks.now c.in_err-len.ensures in
     let is = c.from_residual.ensures in
-    record { value = is ∙ none.value; looks = rw is (simp length-map at none.looks); outside = λ _. refl }
+    record { value = is ∙ none.value; looks = rw is none.looks; outside = λ _. refl }
 
 pub returns : goal.returns
 returns c =
@@ -39,4 +39,4 @@ returns c =
     let past = ap layers_seen (drop_all c.loop-layer.layer-index c.args.layers.now c.loop-layer-test.false) in
     let searched = subst (λ rest. IsSearched (layers_seen c.args.layers.now) rest c.args.code c.args.byte_len c.args.looks.now c.loop-layer.looks) past c.loop-layer.invariant in
     let none = IsSearched-end (layers_seen c.args.layers.now) c.args.code c.args.byte_len c.args.looks.now c.loop-layer.looks (within_lengths _ few) searched in
-    record { value = none.value; looks = simp length-map at none.looks; outside = λ outside. absurd (outside few) }
+    record { value = none.value; looks = none.looks; outside = λ outside. absurd (outside few) }

@@ -1,5 +1,5 @@
 use Rattle.std.proofs.Common.{[], subst, ap, sym}
-use Rattle.std.proofs.lemmas.List.{drop_all, length-map}
+use Rattle.std.proofs.lemmas.List.{drop_all}
 use Rattle.cmap_layers.specs.LayersSeen.{layers_seen}
 use Rattle.cmap_layers.proofs.LayersSearched.{bf_decided, bf_looked, bf_looked_all, drop_next, IsBfSearched, IsBfSearched-more, IsBfSearched-none}
 use Rattle.cmap_layers.proofs.lookup.find_bf_in_turn.Goals as goal
@@ -29,7 +29,7 @@ pub returns-in-Some-clause-looks : goal.returns-in-Some-clause-looks
 returns-in-Some-clause-looks c =
     let next = ap layers_seen (drop_next c.args.layers.now c.loop-layer.layer-index c.layer-item.result c.loop-layer-test.true c.layer-item.is) in
     let searched = subst (λ rest. IsBfSearched (layers_seen c.args.layers.now) rest c.args.code c.args.looks.now c.loop-layer.looks) next c.loop-layer.invariant in
-    simp length-map at (bf_looked _ _ _ _ _ _ _ searched c.in-Some.ensures.looks)
+    bf_looked _ _ _ _ _ _ _ searched c.in-Some.ensures.looks
 
 pub returns-in-Some-clause-start : goal.returns-in-Some-clause-start
 returns-in-Some-clause-start c = c.in-Some.ensures.start
@@ -38,4 +38,4 @@ pub returns-clause-found : goal.returns-clause-found
 returns-clause-found c = sym (searched_all c).value
 
 pub returns-clause-looks : goal.returns-clause-looks
-returns-clause-looks c = simp length-map at (bf_looked_all _ _ _ _ (searched_all c))
+returns-clause-looks c = bf_looked_all _ _ _ _ (searched_all c)

@@ -1,5 +1,0 @@
-pub mod Cids
-pub mod TextsOfCodes
-pub mod FontSeen
-pub mod Characters
-pub mod LayersTried

@@ -1,6 +1,0 @@
-use Rattle.std.proofs.Common.{◌≡◌, take}
-use Rattle.cmap_layers.specs.LayersSeen.{layers_seen}
-use Rattle.hayro_cmap.proofs.map.copied_layers.Given as goal
-
-abbrev pub invariant-loop-layer : goal.invariant-loop-layer
-invariant-loop-layer l = layers_seen l.copies.items ≡ layers_seen (take l.layer-index l.layers)
