@@ -6,24 +6,27 @@ use Rattle.cmap_layers.specs.Layers.{Layer}
 use Rattle.cmap_chains.specs.Budgets.{PassesBudget, StaysWithin}
 use Rattle.cmap_chains.specs.Layers.{AreLayers, Means}
 use Rattle.cmap_chains.specs.Refusals.{IsFaultWithin}
-use Rattle.cmap_chains.specs.declared.chain.TheConstants.{MOST_FILES}
 use Rattle.cmap_chains.specs.declared.refusal.Cause.{Cause}
+
+-- at most this many files stand in a chain, the top one counted
+abbrev pub most_files : ℕ
+most_files = 16
 
 module _ (tables : Option PrefixTables) (answers : List ℕ → Option (List ℕ) → Type 0) (bytes : List ℕ) where
   -- the map is that of the file, and no other is
   abbrev pub IsMapOf : List Layer → Type 0
-  IsMapOf = IsOnly (AreLayers (Means tables) answers MOST_FILES bytes)
+  IsMapOf = IsOnly (AreLayers (Means tables) answers most_files bytes)
 
   abbrev pub HasNoMap : Type 0
-  HasNoMap = HoldsOfNone (AreLayers (Means tables) answers MOST_FILES bytes)
+  HasNoMap = HoldsOfNone (AreLayers (Means tables) answers most_files bytes)
 
   -- all that is opened is within the budget, or passes it
   abbrev pub FitsBudget : Option ℕ → Type 0
-  FitsBudget budget = StaysWithin (Means tables) answers MOST_FILES bytes budget
+  FitsBudget budget = StaysWithin (Means tables) answers most_files bytes budget
 
   abbrev pub ExceedsBudget : Option ℕ → Type 0
-  ExceedsBudget budget = PassesBudget (Means tables) answers MOST_FILES bytes budget
+  ExceedsBudget budget = PassesBudget (Means tables) answers most_files bytes budget
 
   -- the names lead from the file to the one at fault; where the budget is passed, to the first file that passes it
   abbrev pub LeadsToFault : Option ℕ → List (List ℕ) → Cause → Type 0
-  LeadsToFault budget names cause = IsFaultWithin tables answers budget MOST_FILES bytes names cause
+  LeadsToFault budget names cause = IsFaultWithin tables answers budget most_files bytes names cause

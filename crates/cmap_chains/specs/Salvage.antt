@@ -12,8 +12,7 @@ use Rattle.cmap_text.specs.Salvage.{SalvagesFile}
 use Rattle.cmap_chains.specs.Budgets.{IsOver}
 use Rattle.cmap_chains.specs.BytesSpent.{Leaves}
 use Rattle.cmap_chains.specs.Layers.{Means}
-use Rattle.cmap_chains.specs.Maps.{FitsBudget, IsMapOf, LeadsToFault}
-use Rattle.cmap_chains.specs.declared.chain.TheConstants.{MOST_FILES}
+use Rattle.cmap_chains.specs.Maps.{FitsBudget, IsMapOf, LeadsToFault, most_files}
 use Rattle.cmap_chains.specs.declared.refusal.Cause.{Cause}
 use Rattle.cmap_chains.specs.declared.refusal.Cause.TheVariants.{Malformed, NoFile, ChainLength, OverBudget}
 
@@ -88,7 +87,7 @@ module _ (tables : Option PrefixTables) (answer : List ℕ → Option (List ℕ)
 module _ (tables : Option PrefixTables) (answers : List ℕ → Option (List ℕ) → Type 0) (bytes : List ℕ) (budget : Option ℕ) where
   -- what is read of a file over those that it uses
   abbrev pub SalvagesMap : List Layer → List NamedFault → Type 0
-  SalvagesMap layers faults = (after : Opening) × Salvages tables answers MOST_FILES [] bytes (record { left = budget; closed = false }) (record { layers = layers; faults = faults; after = after })
+  SalvagesMap layers faults = (after : Opening) × Salvages tables answers most_files [] bytes (record { left = budget; closed = false }) (record { layers = layers; faults = faults; after = after })
 
   -- the first fault is one for which the file is refused
   abbrev pub BeginsWithFault : List NamedFault → Type 0
