@@ -1,5 +1,5 @@
 -- A binary file that is read past its faults: of a file just what it says, of other bytes a fault, and one answer.
-use Rattle.std.proofs.Common.{◌≡◌, ◌≢◌, ℕ, ◌+◌, ◌≤◌, refl, sym, ap, ◌∙◌, subst, List, [], ◌∷◌, ◌++◌, length, map, arith}
+use Rattle.std.proofs.Common.{◌≡◌, ◌≢◌, ℕ, ◌+◌, ◌≤◌, refl, sym, ap, ◌∙◌, subst, List, [], ◌∷◌, ◌++◌, length, map, arith, inl, inr}
 use Rattle.std.proofs.lemmas.List.{map-append}
 use Rattle.cmap_values.specs.Faults.{Ascend}
 use Rattle.cmap_files.specs.Files.{File}
@@ -8,6 +8,7 @@ use Rattle.cmap_values.specs.declared.fault.Stop.{Stop}
 use Rattle.cmap_packed.specs.Bundles.{PrefixTables}
 use Rattle.cmap_binary.specs.BinaryFiles.{BodyOf, Content, IsBinaryFile, SegmentAt, file_of}
 use Rattle.cmap_binary.specs.BinarySalvage.{BeginsWithin, BodyRead, SalvagesBinary, SegmentSays, SegmentsFrom, at_fault, cut_short, ended, no_header, said, whole, wrong_length}
+use Rattle.cmap_binary.specs.BinaryFaults.{IsBinaryFault, SegmentFault, after_segment, no_segment, says_nothing}
 use Rattle.cmap_packed.specs.Fronts.{AllOf, FramedAt}
 use Rattle.cmap_binary.proofs.Bodies.{after_alone, after_within, body_alone, body_follows, body_within}
 use Rattle.cmap_packed.proofs.Fronts.{framed_alone, no_frame}
@@ -49,14 +50,14 @@ module _ (tables : PrefixTables) where
       let (first, more, are, says, later) = rest_says all framed is in
       let (same, none) = alone_say more from later in
       (are ∙ ap (λ x. x ∷ more) (only.alone first says) ∙ ap (λ xs. content ∷ xs) same, none)
-  alone_say all (at_fault reason framed wrong from) is = let (first, more, are, says, later) = rest_says all framed is in absurd (wrong first says)
+  alone_say all (at_fault reason framed wrong told from) is = let (first, more, are, says, later) = rest_says all framed is in absurd (wrong first says)
 
   -- nothing stands in no bytes
   nothing_said : {offset : ℕ} {contents : List Content} {faults : List Stop} → SegmentsFrom tables offset [] contents faults → (contents ≡ []) × (faults ≡ [])
   nothing_said ended = (refl, refl)
   nothing_said (cut_short some wrong) = absurd (some refl)
   nothing_said (said framed only from) = absurd (no_frame 1 _ framed)
-  nothing_said (at_fault reason framed wrong from) = absurd (no_frame 1 _ framed)
+  nothing_said (at_fault reason framed wrong told from) = absurd (no_frame 1 _ framed)
 
   -- what follows a segment is read on from there
   from_alone : (offset : ℕ) {bytes segment rest other after : List ℕ} {contents : List Content} {faults : List Stop} → FramedAt 1 bytes (segment, rest) → FramedAt 1 bytes (other, after)
@@ -68,7 +69,7 @@ module _ (tables : PrefixTables) where
   cut_alone some wrong ended = absurd (some refl)
   cut_alone some wrong (cut_short also none) = (refl, refl)
   cut_alone some wrong (said framed only from) = absurd (wrong _ framed)
-  cut_alone some wrong (at_fault reason framed none from) = absurd (wrong _ framed)
+  cut_alone some wrong (at_fault reason framed none told from) = absurd (wrong _ framed)
 
   -- a segment says what it says
   said_alone : {offset : ℕ} {bytes segment rest : List ℕ} {content : Content} {contents : List Content} {faults : List Stop} → FramedAt 1 bytes (segment, rest) → IsOnly (SegmentSays tables segment) content → SegmentsFrom tables offset bytes contents faults
@@ -78,7 +79,7 @@ module _ (tables : PrefixTables) where
   said_alone {segment = segment} framed only (said {segment = other} {content = content} {contents = later} also says from) =
       let same = framed_alone 1 _ _ also framed in
       (later, ap (λ x. x ∷ later) (only.alone content (subst (λ p. SegmentSays tables p.0 content) same says.holds)), from_alone _ framed also from)
-  said_alone {content = content} framed only (at_fault reason also wrong from) = let same = framed_alone 1 _ _ framed also in absurd (wrong content (subst (λ p. SegmentSays tables p.0 content) same only.holds))
+  said_alone {content = content} framed only (at_fault reason also wrong told from) = let same = framed_alone 1 _ _ framed also in absurd (wrong content (subst (λ p. SegmentSays tables p.0 content) same only.holds))
 
   -- a segment at fault is a fault
   fault_alone : {offset : ℕ} {bytes segment rest : List ℕ} {contents : List Content} {faults : List Stop} → FramedAt 1 bytes (segment, rest) → HoldsOfNone (SegmentSays tables segment) → SegmentsFrom tables offset bytes contents faults
@@ -86,7 +87,7 @@ module _ (tables : PrefixTables) where
   fault_alone framed wrong ended = absurd (no_frame 1 _ framed)
   fault_alone framed wrong (cut_short some none) = absurd (none _ framed)
   fault_alone framed wrong (said {content = content} also only from) = let same = framed_alone 1 _ _ also framed in absurd (wrong content (subst (λ p. SegmentSays tables p.0 content) same only.holds))
-  fault_alone framed wrong (at_fault {faults = stops} reason also none from) = (stops, refl, from_alone _ framed also from)
+  fault_alone framed wrong (at_fault {faults = stops} reason also none told from) = (stops, refl, from_alone _ framed also from)
 
   -- the same bytes have one answer, but for the reasons of faults
   alike : {offset : ℕ} {bytes : List ℕ} {contents others : List Content} {faults stops : List Stop} → SegmentsFrom tables offset bytes contents faults → SegmentsFrom tables offset bytes others stops → (contents ≡ others) × (offsets faults ≡ offsets stops)
@@ -96,7 +97,7 @@ module _ (tables : PrefixTables) where
       let (later, says, rest) = said_alone framed only other in
       let (same, at) = alike from rest in
       (ap (λ xs. content ∷ xs) same ∙ sym says, at)
-  alike {offset} (at_fault reason framed wrong from) other =
+  alike {offset} (at_fault reason framed wrong told from) other =
       let (stops, faults, rest) = fault_alone framed wrong other in
       let (same, at) = alike from rest in
       (same, ap (λ xs. offset ∷ xs) at ∙ sym faults)
@@ -106,7 +107,16 @@ module _ (tables : PrefixTables) where
   segments_ascend ended = omega arith
   segments_ascend (cut_short some wrong) = (omega arith, omega arith)
   segments_ascend (said {faults = faults} (size, after, field, (filled, split)) only from) = ascend_within _ _ faults (omega arith) (omega (arith, split.3, split.4)) (segments_ascend from)
-  segments_ascend (at_fault {faults = faults} reason (size, after, field, (filled, split)) wrong from) = (omega arith, ascend_within _ _ faults (omega arith) (omega (arith, split.3, split.4)) (segments_ascend from))
+  segments_ascend (at_fault {faults = faults} reason (size, after, field, (filled, split)) wrong told from) = (omega arith, ascend_within _ _ faults (omega arith) (omega (arith, split.3, split.4)) (segments_ascend from))
+
+  -- the first fault comes first
+  first_fault_from : {offset : ℕ} {bytes : List ℕ} {contents : List Content} (stop : Stop) (more : List Stop) → SegmentsFrom tables offset bytes contents (stop ∷ more) → SegmentFault tables offset bytes stop
+  first_fault_from stop more (cut_short some wrong) = no_segment some wrong
+  first_fault_from stop more (said framed only from) = after_segment framed only (first_fault_from stop more from)
+  first_fault_from stop more (at_fault reason framed wrong told from) = says_nothing reason framed wrong told
+
+first_same : {A : Type 0} {x y : A} {xs ys : List A} → x ∷ xs ≡ y ∷ ys → x ≡ y
+first_same same = cc
 
 -- ---- the whole file
 module _ {tables : PrefixTables} {bytes : List ℕ} {found : File} {faults : List Stop} (salvages : SalvagesBinary tables bytes found faults) where
@@ -161,6 +171,15 @@ module _ {tables : PrefixTables} {bytes : List ℕ} where
   -- with a fault they are none, and the first one lies within them
   pub no_file_where_fault : {file : File} {stop : Stop} {more : List Stop} → SalvagesBinary tables bytes file (stop ∷ more) → HoldsOfNone (IsBinaryFile tables bytes) × (stop.offset ≤ length bytes)
   no_file_where_fault {more = more} salvages = (λ file is. let none = (whole_salvaged salvages file is).1 in absurd (cc), ascend_least more (salvage_ascends salvages).1)
+
+  -- and it is the one for which they are refused
+  pub first_binary_fault : {file : File} {stop : Stop} {more : List Stop} → SalvagesBinary tables bytes file (stop ∷ more) → IsBinaryFault tables bytes stop
+  first_binary_fault {stop = stop} {more = more} (body, first, read, (contents, later, from, says, are)) = by read later from are
+    where
+      by : {body : List ℕ} {first : List Stop} → BodyRead bytes body first → (later : List Stop) → SegmentsFrom tables 10 body contents later → stop ∷ more ≡ first ++ later → IsBinaryFault tables bytes stop
+      by {body} (whole at) later from is = inr (body, at, first_fault_from tables stop more (subst (SegmentsFrom tables 10 body contents) (sym is) from))
+      by (wrong_length wrong after) later from is = inl (wrong, first_same is)
+      by (no_header wrong) later from is = inl (λ body at. body_follows bytes body at wrong, first_same is)
 
   -- there is one answer, but for the reasons of faults
   pub one_salvage : {f g : File} {faults stops : List Stop} → SalvagesBinary tables bytes f faults → SalvagesBinary tables bytes g stops → (f ≡ g) × (offsets faults ≡ offsets stops)

@@ -1,15 +1,16 @@
 -- Private aid: what contracts see of the types of segments, and of a file to which one is added.
-use Rattle.std.specs.Prelude.{◌≡◌, ℕ, List, [], ◌∷◌, ◌++◌, map, Some, Result}
+use Rattle.std.specs.Prelude.{◌≡◌, ℕ, List, [], ◌∷◌, ◌++◌, map, Some, None, IfErr, Result}
 use Rattle.cmap_values.specs.CodeLengths.{length_of}
 use Rattle.cmap_files.specs.Files.{Declaration, File, Lists, lists_of}
 use Rattle.cmap_files.specs.ListsAppended.{append_lists}
 use Rattle.cmap_values.specs.Only.{IsOnly, HoldsOfNone}
-use Rattle.cmap_values.specs.Outcomes.{Succeeds}
+use Rattle.cmap_values.specs.Outcomes.{RefusesWith, Succeeds}
 use Rattle.cmap_values.specs.declared.fault.Fault.{Fault}
 use Rattle.cmap_values.specs.declared.fault.Reason.{Reason}
+use Rattle.cmap_values.specs.declared.fault.Reason.TheVariants.{SegmentType}
 use Rattle.cmap_packed.specs.Bundles.{PrefixTables}
 use Rattle.cmap_binary.specs.BinaryFiles as files
-use Rattle.cmap_binary.specs.BinaryFiles.{Content, declares, uses, sets_mode, sets_name, sets_collection, SegmentAt, file_of}
+use Rattle.cmap_binary.specs.BinaryFiles.{Content, declares, uses, sets_mode, sets_name, sets_collection, SegmentAt, file_of, kind_of}
 use Rattle.cmap_packed.specs.Fronts.{AllOf, RowOf}
 use Rattle.cmap_binary.specs.declared.kinds.Kind.{Kind}
 use Rattle.cmap_binary.specs.declared.kinds.Kind.TheVariants.{Cids, Texts, Base, Notdefs, Mode, Codespaces, Name, Collection}
@@ -42,6 +43,10 @@ pub record SaysContent (reads : Content → Type 0) (old new : File) : Type 0 wh
 -- a call that adds what it reads to a file
 abbrev pub Adds : (Content → Type 0) → File → File → Result Unit (Fault Reason) → Type 0
 Adds reads old new = Succeeds (SaysContent reads old new) (HoldsOfNone reads)
+
+-- a segment of an unknown type is refused for that
+abbrev pub TellsType : ℕ → Result Unit (Fault Reason) → Type 0
+TellsType number result = kind_of number ≡ None → IfErr result (RefusesWith (λ reason. reason ≡ SegmentType))
 
 -- the same, and where it adds nothing the file stays as it is
 abbrev pub AddsWhole : (Content → Type 0) → File → File → Result Unit (Fault Reason) → Type 0

@@ -1,4 +1,5 @@
 pub mod BinaryEntries
+pub mod BinaryFaults
 pub mod BinaryFiles
 pub mod BinarySalvage
 pub mod BinarySeen

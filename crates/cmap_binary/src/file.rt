@@ -1,11 +1,12 @@
 //! CMap files in the binary form bcmap: a header, and segments up to the end that it gives.
 
 ghost use Rattle.std.specs.Prelude.{◌≡◌, ◌↔◌, ◌+◌, IfErr, IfOk, IsTrue, length};
+ghost use Rattle.cmap_binary.specs.BinaryFaults.{IsBinaryFault, SegmentFault};
 ghost use Rattle.cmap_binary.specs.BinaryFiles.{BodyOf, IsBinaryFile, IsMarkedBinary};
 ghost use Rattle.cmap_binary.specs.BinarySeen.{SegmentsSay};
 ghost use Rattle.cmap_packed.specs.BundleSeen.{bundle_seen, tables_seen};
 ghost use Rattle.cmap_values.specs.Only.{IsOnly, HoldsOfNone};
-ghost use Rattle.cmap_values.specs.Outcomes.{Finds, ReadsFile, StopsWithin};
+ghost use Rattle.cmap_values.specs.Outcomes.{Finds, ReadsFile, RefusesWith, StopsWithin};
 ghost use Rattle.cmap_files.specs.FilesSeen.{file_seen};
 ghost use Rattle.cmap_files.specs.ListsAppended.{no_file};
 
@@ -45,7 +46,10 @@ pub fn read_binary<'d>(
     bundle: &Bundle<'_>,
     bytes: &'d [u8],
 ) -> Result<File<'d>, Fault<Stop>>
-    ensures { ReadsFile (IsBinaryFile (bundle_seen bundle.now).tables) file_seen bytes.now result }
+    ensures file { ReadsFile (IsBinaryFile (bundle_seen bundle.now).tables) file_seen bytes.now result }
+
+    // The offset is that of the header, or else of the first segment at fault.
+    ensures place { IfErr result (RefusesWith (IsBinaryFault (bundle_seen bundle.now).tables bytes.now)) }
 {
     let Some(body) = split_body(bytes) else {
         let (offset, reason) = (0, Reason::Header);
@@ -74,6 +78,7 @@ fn read_segments<'d>(
         (λ file. IsOnly (SegmentsSay (tables_seen tables.now) body.now) (file_seen file)) }
     ensures stops { IfErr result (StopsWithin (HEADER_LEN + length body.now)
         (HoldsOfNone (SegmentsSay (tables_seen tables.now) body.now))) }
+    ensures first { IfErr result (RefusesWith (SegmentFault (tables_seen tables.now) 10 body.now)) }
 {
     let mut file = File::new(alloc);
     match add_segments(alloc, tables, body, &mut file) {
@@ -94,6 +99,7 @@ fn add_segments<'d>(
         (λ _. IsOnly (SegmentsSay (tables_seen tables.now) body.now) (file_seen file.new)) }
     ensures stops { IfErr result (StopsWithin (HEADER_LEN + length body.now)
         (HoldsOfNone (SegmentsSay (tables_seen tables.now) body.now))) }
+    ensures first { IfErr result (RefusesWith (SegmentFault (tables_seen tables.now) 10 body.now)) }
 {
     let mut segments = body;
     while !segments.is_empty() {

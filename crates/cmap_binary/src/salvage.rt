@@ -9,7 +9,7 @@ ghost use Rattle.cmap_values.specs.Only.{IsOnly, HoldsOfNone};
 ghost use Rattle.cmap_values.specs.Outcomes.{Finds, Succeeds};
 ghost use Rattle.cmap_binary.specs.BinaryFiles.{Content, IsBinaryFile, IsSegment};
 ghost use Rattle.cmap_binary.specs.BinarySalvage.{AfterHeader, BeginsWithin, BodyRead, SalvagesBinary, SegmentsSalvaged};
-ghost use Rattle.cmap_binary.specs.BinarySeen.{AddsWhole};
+ghost use Rattle.cmap_binary.specs.BinarySeen.{AddsWhole, TellsType};
 ghost use Rattle.cmap_packed.specs.BundleSeen.{bundle_seen, tables_seen};
 
 use crate::file::{HEAD, HEADER_LEN, SEGMENT_HEAD, TYPE_LEN, split_body};
@@ -155,8 +155,9 @@ fn try_segment<'d>(
     payload: &'d [u8],
     file: &mut File<'d>,
 ) -> Result<(), Fault<Reason>>
-    ensures { AddsWhole (IsSegment (tables_seen tables.now) number payload.now)
+    ensures adds { AddsWhole (IsSegment (tables_seen tables.now) number payload.now)
         (file_seen file.old) (file_seen file.new) result }
+    ensures unknown { TellsType number result }
 {
     match check_segment(alloc, tables, number, payload) {
         Ok(()) => read_segment(alloc, tables, number, payload, file),
@@ -171,8 +172,9 @@ fn check_segment(
     number: u8,
     payload: &[u8],
 ) -> Result<(), Fault<Reason>>
-    ensures { Succeeds ((content : Content) × IsOnly (IsSegment (tables_seen tables.now) number payload.now) content)
+    ensures says { Succeeds ((content : Content) × IsOnly (IsSegment (tables_seen tables.now) number payload.now) content)
         (HoldsOfNone (IsSegment (tables_seen tables.now) number payload.now)) result }
+    ensures unknown { TellsType number result }
 {
     let mut file = File::new(alloc);
     read_segment(alloc, tables, number, payload, &mut file)

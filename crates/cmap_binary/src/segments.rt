@@ -2,7 +2,7 @@
 
 ghost use Rattle.cmap_binary.specs.BinaryFiles as files;
 ghost use Rattle.cmap_binary.specs.BinaryFiles.{IsSegment, SaysAs};
-ghost use Rattle.cmap_binary.specs.BinarySeen.{Adds, kind_seen, no_tables};
+ghost use Rattle.cmap_binary.specs.BinarySeen.{Adds, TellsType, kind_seen, no_tables};
 ghost use Rattle.cmap_packed.specs.BundleSeen.{tables_seen};
 ghost use Rattle.cmap_files.specs.FilesSeen.{file_seen};
 
@@ -24,8 +24,9 @@ pub(crate) fn read_segment<'d>(
     payload: &'d [u8],
     file: &mut File<'d>,
 ) -> Result<(), Fault<Reason>>
-    ensures { Adds (IsSegment (tables_seen tables.now) number payload.now)
+    ensures adds { Adds (IsSegment (tables_seen tables.now) number payload.now)
         (file_seen file.old) (file_seen file.new) result }
+    ensures unknown { TellsType number result }
 {
     match Kind::of(number) {
         Some(kind) => add_content(alloc, tables, kind, payload, file),

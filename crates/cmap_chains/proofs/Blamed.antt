@@ -1,18 +1,15 @@
 -- What it says of a file, and of a use, that the search for layers below it fails.
-use Rattle.std.proofs.Common.{◌≡◌, ℕ, suc, ◌<◌, refl, sym, ap, ◌∙◌, subst, List, [], ◌∷◌, ◌++◌, length, get_or, true, inl, inr, append-nil, append_assoc}
-use Rattle.std.specs.Prelude.{◌⊎◌, Contains, Option, Some}
+use Rattle.std.proofs.Common.{◌≡◌, ℕ, suc, refl, sym, ap, ◌∙◌, subst, List, [], ◌∷◌, ◌++◌, true, inl, inr, append-nil, append_assoc}
+use Rattle.std.specs.Prelude.{◌⊎◌, Option, Some}
 use Rattle.std.specs.Borrow.{Bor}
-use Rattle.std.proofs.Math.ListN.{length-map}
-use Rattle.std.proofs.lemmas.List.{get_or-map}
-use Rattle.std.proofs.lemmas.List.Elements.{Contains-get_or}
 use Rattle.cmap_files.specs.Files.{File}
 use Rattle.cmap_values.specs.NamesSeen.{names_seen}
-use Rattle.cmap_values.specs.Only.{HoldsOfNone}
+use Rattle.cmap_values.specs.Only.{IsOnly, HoldsOfNone}
 use Rattle.cmap_chains.specs.BytesSpent.{About, Refuses, GoesOver, GoesOverAt, of_file, of_use, of_uses}
 use Rattle.cmap_chains.specs.Budgets.{StaysWithin}
 use Rattle.cmap_packed.specs.Bundles.{PrefixTables}
 use Rattle.cmap_chains.specs.Layers.{AreLayers, Means}
-use Rattle.cmap_chains.specs.Refusals.{Blames, Fails, FailsToOpen, IsFault, IsFaultOfUses, IsFaultWithin, IsMissing, IsUseFault, IsUseFaultWithin}
+use Rattle.cmap_chains.specs.Refusals.{Blames, Fails, FailsToOpen, HasLayers, IsFault, IsFaultOfUses, IsFaultWithin, IsMissing, IsUseFault, IsUseFaultWithin, IsUsedAfter}
 use Rattle.cmap_chains.specs.declared.refusal.Cause.{Cause}
 use Rattle.cmap_chains.specs.declared.refusal.Cause.TheVariants.{Malformed, NoFile, ChainLength, OverBudget}
 use Rattle.cmap_chains.proofs.OneNameMore.{one_more}
@@ -53,7 +50,7 @@ module _ (tables : Option PrefixTables) (answer : List ℕ → Option (List ℕ)
   )
 
   -- what leads from a use leads from the uses
-  module _ (budget left : Option ℕ) (below : ℕ) (uses : List (List ℕ)) (name : List ℕ) (used : Contains uses name) where
+  module _ (budget left : Option ℕ) (below : ℕ) (uses : List (List ℕ)) (name : List ℕ) (used : IsUsedAfter (HasLayers tables answer below) uses name) where
     leads_uses : ((names : List (List ℕ)) → GoesOverAt (of_use (Means tables) answer below) name left names → GoesOverAt (of_uses (of_use (Means tables) answer below)) uses budget names)
         → (cause : Cause) (names : List (List ℕ)) → IsUseFaultWithin tables answer left below name names cause → IsFaultOfUses tables answer budget below uses names cause
     leads_uses over (Malformed stop) names fault = (name, used, fault)
@@ -67,13 +64,13 @@ module _ (tables : Option PrefixTables) (answer : List ℕ → Option (List ℕ)
     blames_uses old mid new same over cause (names, is, fault) = (names, is ∙ ap (λ l. l ++ names) same, leads_uses over cause names fault)
 
   -- what leads from a use leads from the file that has it
-  module _ (budget left : Option ℕ) (below : ℕ) (bytes : List ℕ) (file : File) (name : List ℕ) (meant : Means tables bytes file) (uses : Contains file.uses name) where
+  module _ (budget left : Option ℕ) (below : ℕ) (bytes : List ℕ) (file : File) (name : List ℕ) (meant : IsOnly (Means tables bytes) file) (uses : IsUsedAfter (HasLayers tables answer below) file.uses name) where
     of_use_here : (cause : Cause) (names : List (List ℕ)) → IsUseFault tables answer below name names cause → IsFault tables answer (suc below) bytes names cause
     of_use_here cause [] fault = absurd fault
     of_use_here cause (first ∷ names) (first_is, fault) = (
       file,
       meant,
-      subst (Contains file.uses) (sym first_is) uses,
+      subst (IsUsedAfter (HasLayers tables answer below) file.uses) (sym first_is) uses,
       subst (λ n. (IsMissing tables answer below n cause × (names ≡ [])) ⊎ ((base : List ℕ) × answer n (Some base) × IsFault tables answer below base names cause)) (sym first_is) fault,
     )
 
@@ -85,7 +82,7 @@ module _ (tables : Option PrefixTables) (answer : List ℕ → Option (List ℕ)
     leads_file over OverBudget names fault = over names fault
 
   -- what leads from the uses leads from the file that has them
-  module _ (budget left : Option ℕ) (below : ℕ) (bytes : List ℕ) (file : File) (meant : Means tables bytes file) where
+  module _ (budget left : Option ℕ) (below : ℕ) (bytes : List ℕ) (file : File) (meant : IsOnly (Means tables bytes) file) where
     leads_on : ((names : List (List ℕ)) → GoesOverAt (of_uses (of_use (Means tables) answer below)) file.uses left names → GoesOverAt (of_file (Means tables) answer (suc below)) bytes budget names)
         → (cause : Cause) (names : List (List ℕ)) → IsFaultOfUses tables answer left below file.uses names cause → IsFaultWithin tables answer budget (suc below) bytes names cause
     leads_on over (Malformed stop) names (name, uses, fault) = of_use_here budget left below bytes file name meant uses (Malformed stop) names fault
@@ -101,13 +98,13 @@ module _ (tables : Option PrefixTables) (answer : List ℕ → Option (List ℕ)
   -- the file can't be opened
   module _ (below : ℕ) (bytes : List ℕ) (budget left : Option ℕ) where
     pub fails_to_open : (cause : Cause) → FailsToOpen tables bytes budget left cause → Fails (of_file (Means tables) answer (suc below)) bytes budget left cause
-    fails_to_open (Malformed stop) (none, within, decided, leaves) = Refuses-no_file (Means tables) answer below bytes budget left none leaves
+    fails_to_open (Malformed stop) (none, within, decided, first, leaves) = Refuses-no_file (Means tables) answer below bytes budget left none leaves
     fails_to_open NoFile fails = absurd fails
     fails_to_open ChainLength fails = absurd fails
     fails_to_open OverBudget over = GoesOver-here (Means tables) answer below bytes budget over
 
     pub blames_open : (names : List (Bor (List ℕ))) (cause : Cause) → FailsToOpen tables bytes budget left cause → Blames (IsFaultWithin tables answer budget (suc below) bytes) names names cause
-    blames_open names (Malformed stop) (none, within, decided, leaves) = ([], sym (append-nil (names_seen names)), (none, within, decided))
+    blames_open names (Malformed stop) (none, within, decided, first, leaves) = ([], sym (append-nil (names_seen names)), (none, within, decided, first))
     blames_open names NoFile fails = absurd fails
     blames_open names ChainLength fails = absurd fails
     blames_open names OverBudget over = ([], sym (append-nil (names_seen names)), GoesOverAt-here (Means tables) answer below bytes budget over)
@@ -119,9 +116,3 @@ no_layers means answer most bytes budget left (Malformed stop) fails other = (fa
 no_layers means answer most bytes budget left NoFile fails other = (fails.none, StaysWithin-from_spent means answer most bytes budget true left fails.spent)
 no_layers means answer most bytes budget left ChainLength fails other = (fails.none, StaysWithin-from_spent means answer most bytes budget true left fails.spent)
 no_layers means answer most bytes budget left OverBudget fails other = absurd (other refl)
-
--- the name at an index of the names of a slice
-pub used_at : (items uses : List (Bor (List ℕ))) (i : ℕ) → items ≡ uses → i < length items → Contains (names_seen uses) (get_or items i (record { ref_ptr = (0, 0); now = [] })).now
-used_at items uses i same within =
-    subst (λ u. Contains (names_seen u) (get_or items i (record { ref_ptr = (0, 0); now = [] })).now) same
-    (subst (Contains (names_seen items)) (get_or-map (λ x. x.now) items i (record { ref_ptr = (0, 0); now = [] }) [] within) (Contains-get_or (names_seen items) i [] (simp length-map within)))

@@ -11,10 +11,12 @@ use Rattle.cmap_values.specs.declared.fault.Stop.{Stop}
 use Rattle.cmap_files.specs.declared.file.File as declared
 use Rattle.cmap_files.specs.Files.{File}
 use Rattle.cmap_text.specs.TextFiles.{IsTextFile}
+use Rattle.cmap_text.specs.TextReading.{StopsText}
 use Rattle.cmap_packed.specs.Bundles.{PrefixTables}
+use Rattle.cmap_binary.specs.BinaryFaults.{IsBinaryFault}
 use Rattle.cmap_binary.specs.BinaryFiles.{IsMarkedBinary, IsBinaryFile}
 use Rattle.cmap_chains.specs.Layers.{Means}
-use Rattle.cmap_chains.specs.Refusals.{IsDecidedAsText}
+use Rattle.cmap_chains.specs.Refusals.{IsDecidedAsText, IsFirstFault}
 
 -- with a bundle, bytes that are marked so are a binary file
 means_binary : (tables : PrefixTables) (bytes : List ℕ) (file : File) → IsMarkedBinary bytes → IsOnly (IsBinaryFile tables bytes) file → IsOnly (Means (Some tables) bytes) file
@@ -53,3 +55,12 @@ binary_decided tables bytes (Err Memory) marked = tt
 pub text_decided : (tables : Option PrefixTables) (bytes : List ℕ) (r : Result declared.File (Fault Stop)) → IfErr r (RefusesWith (DecidedBy IsTextFile bytes)) → IfErr r (RefusesWith (IsDecidedAsText tables bytes))
 text_decided tables bytes (Ok file) decided = tt
 text_decided tables bytes (Err fault) decided = refused_as fault decided (λ stop decides text. decides)
+
+-- which fault is the first
+pub binary_first : (tables : PrefixTables) (bytes : List ℕ) (r : Result declared.File (Fault Stop)) → IsMarkedBinary bytes → IfErr r (RefusesWith (IsBinaryFault tables bytes)) → IfErr r (RefusesWith (IsFirstFault (Some tables) bytes))
+binary_first tables bytes (Ok file) marked first = tt
+binary_first tables bytes (Err fault) marked first = refused_as fault first (λ stop is. inl (marked, is))
+
+pub text_first : (tables : PrefixTables) (bytes : List ℕ) (r : Result declared.File (Fault Stop)) → (IsMarkedBinary bytes → ⊥) → IfErr r (RefusesWith (StopsText bytes)) → IfErr r (RefusesWith (IsFirstFault (Some tables) bytes))
+text_first tables bytes (Ok file) unmarked first = tt
+text_first tables bytes (Err fault) unmarked first = refused_as fault first (λ stop is. inr (unmarked, is))

@@ -5,6 +5,7 @@ pub mod NamesPastFaults
 pub mod FilesMeant
 pub mod FirstFiles
 pub mod LayersFit
+pub mod OneFault
 pub mod OneName
 pub mod OneNameMore
 pub mod OneUse

@@ -1,6 +1,6 @@
 -- What the faults say of a file and of those that it uses: without one it has the layers that are found; else the first is why it has none.
 use Rattle.std.proofs.Common.{◌≡◌, ℕ, zero, suc, refl, sym, ap, ◌∙◌, subst, false, List, [], ◌∷◌, ◌++◌, length, inl, inr, arith, append-nil, append_assoc}
-use Rattle.std.specs.Prelude.{Contains, map, Option, Some}
+use Rattle.std.specs.Prelude.{map, Option, Some}
 use Rattle.cmap_files.specs.Files.{File}
 use Rattle.cmap_values.specs.Only.{IsOnly, HoldsOfNone}
 use Rattle.cmap_values.specs.declared.fault.Stop.{Stop}
@@ -9,7 +9,7 @@ use Rattle.cmap_layers.specs.Layers.{Layer, layer_of}
 use Rattle.cmap_chains.specs.Answers.{IsByName}
 use Rattle.cmap_chains.specs.BytesSpent.{About, Leaves, Resolves, GoesOverAt, of_file, of_use, of_uses}
 use Rattle.cmap_chains.specs.Layers.{Means}
-use Rattle.cmap_chains.specs.Refusals.{Fails, IsFaultWithin, IsUseFaultWithin}
+use Rattle.cmap_chains.specs.Refusals.{Fails, HasLayers, IsFaultWithin, IsUseFaultWithin, IsUsedAfter}
 use Rattle.cmap_chains.specs.Salvage.{Found, IsReadWithin, NamedFault, Opening, Salvages, SalvagesEach, SalvagesBytes, SalvagesNamed, SalvagesUse, faults_of}
 use Rattle.cmap_chains.specs.declared.refusal.Cause.{Cause}
 use Rattle.cmap_chains.specs.declared.refusal.Cause.TheVariants.{Malformed, NoFile, ChainLength, OverBudget}
@@ -17,7 +17,7 @@ use Rattle.cmap_chains.proofs.Blamed.{fails_as, leads_file, leads_use}
 use Rattle.cmap_chains.proofs.BudgetLeft.{Leaves-none}
 use Rattle.cmap_chains.proofs.BytesPastFaults as bytes_past
 use Rattle.cmap_chains.proofs.OneUse.{Resolves-answered, Refuses-answered, Refuses-unanswered, GoesOver-answered, GoesOverAt-answered}
-use Rattle.cmap_chains.proofs.UsesInOrder.{AreUsed, AreUsed-none, AreUsed-more, Resolves-used, Refuses-used, GoesOver-used, GoesOverAt-used}
+use Rattle.cmap_chains.proofs.UsesInOrder.{AreUsed, AreUsed-none, AreUsed-more, IsUsedAfter-used, Resolves-used, Refuses-used, GoesOver-used, GoesOverAt-used}
 use Rattle.cmap_chains.proofs.WholeFile.{GoesOver-here, GoesOverAt-here, Refuses-no_file, Resolves-file, Refuses-file, GoesOver-file, GoesOverAt-file}
 
 -- the first fault refuses the key, and its names lead there after these
@@ -59,7 +59,7 @@ module _ (tables : Option PrefixTables) (answer : List ℕ → Option (List ℕ)
     fails = Refuses-no_file (Means tables) answer most bytes budget rest none leaves;
     below = [];
     named = sym (append-nil names);
-    leads_on = (let first = bytes_past.first_fault bytes file tables stop more none salvages in (none, first.0, first.1));
+    leads_on = (let first = bytes_past.first_fault bytes file tables stop more none salvages in (none, first.0, first.1, first.2));
   })
 
   read_ends : (most : ℕ) (bytes : List ℕ) (names : List (List ℕ)) (budget : Option ℕ) (file : File) (causes : List Cause) (rest : Option ℕ) → IsReadWithin tables budget bytes file causes rest → ReadEnds most bytes names budget file causes rest
@@ -82,7 +82,7 @@ module _ (tables : Option PrefixTables) (answer : List ℕ → Option (List ℕ)
     -- a use among them is refuted, and what it passes they pass
     pub record UseRefuted (uses : List (List ℕ)) (budget : Option ℕ) (fault : NamedFault) : Type 0 where
       pub name : List ℕ
-      pub used : Contains uses name
+      pub used : IsUsedAfter (HasLayers tables answer room) uses name
       pub before : Option ℕ
       pub left : Option ℕ
       pub fails : Fails (of_uses (use_about room)) uses budget left fault.cause
@@ -99,12 +99,12 @@ module _ (tables : Option PrefixTables) (answer : List ℕ → Option (List ℕ)
     EachEnds salvages = (name : List ℕ) (base : List Layer) (opening : Opening) (found : Found) → opening.closed ≡ false → salvages name base opening found → Ends (use_about room) name (leads_from room name opening.left) names opening.left found
 
     module _ (salvages : List ℕ → List Layer → Opening → Found → Type 0) (each : EachEnds salvages) (uses : List (List ℕ)) (budget : Option ℕ) where
-      uses_end : (rest : List (List ℕ)) (base : List Layer) (opening : Opening) (found : Found) → ((name : List ℕ) → Contains rest name → Contains uses name) → opening.closed ≡ false → AreUsed (use_about room) uses rest base budget opening.left
+      uses_end : (rest : List (List ℕ)) (base : List Layer) (opening : Opening) (found : Found) → opening.closed ≡ false → AreUsed (use_about room) uses rest base budget opening.left
           → SalvagesEach salvages rest base opening found → UsesEnd uses budget found
-      uses_end [] base opening found within is_open used is =
+      uses_end [] base opening found is_open used is =
           all_right (ap (λ f. f.faults) is) (subst (λ f. Resolves (of_uses (use_about room)) uses f.layers budget f.after.left) (sym is) (Resolves-used used)) (ap (λ f. f.after.closed) is ∙ is_open)
-      uses_end (name ∷ rest) base opening found within is_open used (first, last, finds, others, is) =
-          by (λ still_open resolves. uses_end rest first.layers first.after last (λ other h. within other (suc h.0, omega (arith, h.1), h.2)) still_open (AreUsed-more used resolves) others) (each name base opening first is_open finds)
+      uses_end (name ∷ rest) base opening found is_open used (first, last, finds, others, is) =
+          by (λ still_open resolves. uses_end rest first.layers first.after last still_open (AreUsed-more used resolves) others) (each name base opening first is_open finds)
         where
           after : first.faults ≡ [] → UsesEnd uses budget last → UsesEnd uses budget found
           after none (all_right no_more resolved at_end) =
@@ -116,7 +116,7 @@ module _ (tables : Option PrefixTables) (answer : List ℕ → Option (List ℕ)
           by later (right none resolves still_open) = after none (later still_open resolves)
           by later (wrong fault more begins refuted) = one_wrong fault (more ++ last.faults) (ap (λ f. f.faults) is ∙ rw begins refl) (record {
             name = name;
-            used = within name (0, omega arith, refl);
+            used = IsUsedAfter-used used;
             before = opening.left;
             left = refuted.left;
             fails = fails_as (Refuses-used used) (GoesOver-used used) fault.cause refuted.fails;
@@ -139,7 +139,7 @@ module _ (tables : Option PrefixTables) (answer : List ℕ → Option (List ℕ)
         fails = fails_as (Refuses-file (Means tables) answer most bytes opening.left file rest only leaves refuted.left) (GoesOver-file (Means tables) answer most bytes opening.left file rest only leaves) fault.cause refuted.fails;
         below = refuted.below;
         named = refuted.named;
-        leads_on = leads_file tables answer opening.left refuted.before most bytes file refuted.name only.holds refuted.used
+        leads_on = leads_file tables answer opening.left refuted.before most bytes file refuted.name only refuted.used
             (λ leading over. GoesOverAt-file (Means tables) answer most bytes opening.left file rest only leaves leading (refuted.passes leading over)) fault.cause refuted.below refuted.leads_on;
       })
 
@@ -147,7 +147,7 @@ module _ (tables : Option PrefixTables) (answer : List ℕ → Option (List ℕ)
           → SalvagesEach salvages file.uses [] (record { left = rest; closed = opening.closed }) below
           → found ≡ record { layers = layer_of file ∷ below.layers; faults = faults_of names causes ++ below.faults; after = below.after } → Ends (file_about (suc most)) bytes (leads_in (suc most) bytes opening.left) names opening.left found
       file_ends file causes rest below found (whole none only leaves) uses is =
-          let ends = uses_end most names salvages each file.uses rest file.uses [] (record { left = rest; closed = opening.closed }) below (λ name h. h) is_open (AreUsed-none file.uses rest) uses in
+          let ends = uses_end most names salvages each file.uses rest file.uses [] (record { left = rest; closed = opening.closed }) below is_open (AreUsed-none file.uses rest) uses in
           over_uses file rest below found only leaves ends (is ∙ rw none refl)
       file_ends file causes rest below found (faulty cause more begins refuted) uses is =
           wrong (record { names = names; cause = cause }) (faults_of names more ++ below.faults) (ap (λ f. f.faults) is ∙ rw begins refl) refuted

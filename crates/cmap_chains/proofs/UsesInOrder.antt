@@ -1,20 +1,26 @@
 -- What uses find and open, one after another.
 use Rattle.std.proofs.Common.{◌≡◌, refl, sym, ap, subst, ◌∙◌, ℕ, ◌+◌, ◌<◌, ◌≤◌, Bool, true, false, List, [], ◌∷◌, ◌++◌, drop, get_or, length, Option, Some, None, arith, inl, inr, append_assoc, sum}
 use Rattle.std.specs.Prelude.{unwrap_or}
-use Rattle.std.specs.List.{AllZip, last_or}
+use Rattle.std.specs.List.{All, AllZip, last_or}
 use Rattle.std.specs.Borrow.{Bor}
 use Rattle.std.proofs.Math.ListN.{length-map}
 use Rattle.std.proofs.lemmas.List.{drop_more, drop_all, get_or-map}
+use Rattle.std.proofs.lemmas.List.Elements.{All-nil, All-push}
 use Rattle.cmap_values.specs.NamesSeen.{names_seen}
 use Rattle.cmap_values.specs.Only.{IsOnly, HoldsOfNone}
 use Rattle.cmap_chains.specs.Budgets.{IsOver, Trail}
 use Rattle.cmap_chains.specs.BytesSpent.{About, Leaves, Spends, Resolves, Refuses, GoesOver, GoesOverAt, of_uses}
+use Rattle.cmap_chains.specs.Refusals.{IsUsedAfter}
 use Rattle.cmap_layers.specs.Layers.{Layer}
 use Rattle.cmap_chains.proofs.BudgetLeft.{sum-append, IsOver-more, Leaves-none, Leaves-append, Leaves-over_append, PassesAt-after}
 
 -- a trail after files of these lengths
 abbrev trail_after : List ℕ → Trail → Trail
 trail_after lengths trail = (lengths ++ trail.0, trail.1)
+
+-- a use of this name has layers
+abbrev pub Has : About (List ℕ) → List ℕ → Type 0
+Has use_of name = (layers : List Layer) × use_of.layers name layers
 
 module _ (use_of : About (List ℕ)) where
   -- the base, where these layers came before the names
@@ -42,6 +48,9 @@ module _ (use_of : About (List ℕ)) where
 
   -- between two uses: of all names but the rest each has layers alone, the last of them the base, and what they open is spent
   pub record AreUsed (names rest : List (List ℕ)) (base : List Layer) (budget left : Option ℕ) : Type 0 where
+    pub before : List (List ℕ)
+    pub split : names ≡ before ++ rest
+    pub found : All (Has use_of) before
     pub last : Option (List Layer)
     pub is_base : base ≡ unwrap_or last []
     pub base_of_names : (whole : List Layer) → IsBaseAfter last rest whole → IsBaseAfter None names whole
@@ -55,6 +64,9 @@ module _ (use_of : About (List ℕ)) where
 module _ {use_of : About (List ℕ)} where
   pub AreUsed-none : (names : List (List ℕ)) (budget : Option ℕ) → AreUsed use_of names names [] budget budget
   AreUsed-none names budget = record {
+    before = [];
+    split = refl;
+    found = All-nil (Has use_of);
     last = None;
     is_base = refl;
     base_of_names = λ whole h. h;
@@ -91,6 +103,9 @@ module _ {use_of : About (List ℕ)} where
     -- one more name
     pub AreUsed-more : {next : List Layer} {after : Option ℕ} → Resolves use_of name next left after → AreUsed use_of names rest next budget after
     AreUsed-more {next} {after} found = let first = found.spent.lengths in record {
+      before = used.before ++ name ∷ [];
+      split = used.split ∙ sym (append_assoc used.before (name ∷ []) rest);
+      found = All-push (Has use_of) used.before name used.found (next, found.only.holds);
       last = Some next;
       is_base = refl;
       base_of_names = λ whole h. used.base_of_names whole (next ∷ h.0, (found.only.holds, h.1), h.2);
@@ -104,6 +119,10 @@ module _ {use_of : About (List ℕ)} where
           (used.names_open_first leading (first ++ more) (inr (first, more, found.spent.opened.holds, o, refl)));
       leaves = Leaves-append budget left after used.lengths first used.leaves found.spent.leaves;
     }
+
+    -- a name after those that have layers
+    pub IsUsedAfter-used : IsUsedAfter (Has use_of) names name
+    IsUsedAfter-used = (used.before, rest, used.split, used.found)
 
     -- a name without layers
     pub Refuses-used : {after : Option ℕ} → Refuses use_of name left after → Refuses (of_uses use_of) names budget after

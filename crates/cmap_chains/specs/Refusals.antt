@@ -1,21 +1,24 @@
 -- Why files have no layers: the file at fault, and what is wrong with it.
-use Rattle.std.specs.Prelude.{◌≡◌, ℕ, zero, suc, ◌<◌, ◌≤◌, List, [], ◌∷◌, ◌++◌, ◌⊎◌, length, Contains, Option, Some, None, Result}
+use Rattle.std.specs.Prelude.{◌≡◌, ℕ, zero, suc, ◌<◌, ◌≤◌, List, [], ◌∷◌, ◌++◌, ◌⊎◌, length, All, Option, Some, None, Result}
 use Rattle.std.specs.Borrow.{Bor}
 use Rattle.std.specs.Global.{Vec}
 use Rattle.cmap_files.specs.Files.{File}
 use Rattle.cmap_values.specs.NamesSeen.{names_seen}
+use Rattle.cmap_binary.specs.BinaryFaults.{IsBinaryFault}
 use Rattle.cmap_binary.specs.BinaryFiles.{IsMarkedBinary}
 use Rattle.cmap_packed.specs.Bundles.{PrefixTables}
-use Rattle.cmap_values.specs.Only.{HoldsOfNone}
+use Rattle.cmap_values.specs.Only.{IsOnly, HoldsOfNone}
 use Rattle.cmap_values.specs.Outcomes.{DecidedBy, Outcome}
 use Rattle.cmap_values.specs.declared.fault.Fault.{Fault}
 use Rattle.cmap_values.specs.declared.fault.Stop.{Stop}
 use Rattle.cmap_text.specs.TextFiles.{IsTextFile}
+use Rattle.cmap_text.specs.TextReading.{StopsText}
+use Rattle.cmap_layers.specs.Layers as said
 use Rattle.cmap_layers.specs.LayersSeen.{layers_seen}
 use Rattle.cmap_layers.specs.declared.layer.Layer.{Layer}
 use Rattle.cmap_chains.specs.Budgets.{IsOver, OpensFirst, OpensUseFirst, PassesAt}
 use Rattle.cmap_chains.specs.BytesSpent.{About, Leaves, Refuses, Resolves, GoesOver, of_use, of_uses}
-use Rattle.cmap_chains.specs.Layers.{Means}
+use Rattle.cmap_chains.specs.Layers.{AreLayers, Means, OfAnswer}
 use Rattle.cmap_chains.specs.declared.refusal.Cause.{Cause}
 use Rattle.cmap_chains.specs.declared.refusal.Cause.TheVariants.{Malformed, NoFile, ChainLength, OverBudget}
 
@@ -28,10 +31,19 @@ IsReadAsText (Some tables) bytes = IsMarkedBinary bytes → ⊥
 abbrev pub IsDecidedAsText : Option PrefixTables → List ℕ → Stop → Type 0
 IsDecidedAsText tables bytes stop = IsReadAsText tables bytes → DecidedBy IsTextFile bytes stop
 
+-- the first fault of bytes that mean no file: of a text the first token that is wrong and why, of a binary file that of its header or else the first segment that says nothing
+abbrev pub IsFirstFault : Option PrefixTables → List ℕ → Stop → Type 0
+IsFirstFault None bytes stop = StopsText bytes stop
+IsFirstFault (Some tables) bytes stop = (IsMarkedBinary bytes × IsBinaryFault tables bytes stop) ⊎ ((IsMarkedBinary bytes → ⊥) × StopsText bytes stop)
+
+-- one of these names, before which each has the property
+abbrev pub IsUsedAfter : (List ℕ → Type 0) → List (List ℕ) → List ℕ → Type 0
+IsUsedAfter P uses name = (before : List (List ℕ)) × (after : List (List ℕ)) × (uses ≡ before ++ name ∷ after) × All P before
+
 module _ (tables : Option PrefixTables) (answer : List ℕ → Option (List ℕ) → Type 0) where
   -- what is wrong with a file by itself
   abbrev pub IsOwnFault : List ℕ → Cause → Type 0
-  IsOwnFault bytes (Malformed stop) = HoldsOfNone (Means tables bytes) × (stop.offset ≤ length bytes) × IsDecidedAsText tables bytes stop
+  IsOwnFault bytes (Malformed stop) = HoldsOfNone (Means tables bytes) × (stop.offset ≤ length bytes) × IsDecidedAsText tables bytes stop × IsFirstFault tables bytes stop
   IsOwnFault bytes OverBudget = ⊥
   IsOwnFault bytes NoFile = ⊥
   IsOwnFault bytes ChainLength = ⊥
@@ -43,11 +55,15 @@ module _ (tables : Option PrefixTables) (answer : List ℕ → Option (List ℕ)
   IsMissing room name NoFile = (0 < room) × answer name None
   IsMissing room name ChainLength = room ≡ 0
 
-  -- the names lead from the file of these bytes to the one at fault, each used by the file before it
+  -- a file of this name has layers, where at most this many files may still stand in the chain
+  abbrev pub HasLayers : ℕ → List ℕ → Type 0
+  HasLayers room name = (layers : List said.Layer) × OfAnswer answer (AreLayers (Means tables) answer room) name layers
+
+  -- the names lead from the file of these bytes to the first one at fault, each used by the file before it
   abbrev pub IsFault : ℕ → List ℕ → List (List ℕ) → Cause → Type 0
   IsFault zero bytes names cause = ⊥
   IsFault (suc most) bytes [] cause = IsOwnFault bytes cause
-  IsFault (suc most) bytes (name ∷ names) cause = (file : File) × Means tables bytes file × Contains file.uses name × ((IsMissing most name cause × (names ≡ []))
+  IsFault (suc most) bytes (name ∷ names) cause = (file : File) × IsOnly (Means tables bytes) file × IsUsedAfter (HasLayers most) file.uses name × ((IsMissing most name cause × (names ≡ []))
       ⊎ ((base : List ℕ) × answer name (Some base) × IsFault most base names cause))
 
   -- the same from a use of this name
@@ -68,11 +84,11 @@ module _ (tables : Option PrefixTables) (answer : List ℕ → Option (List ℕ)
 -- the names lead to a fault from one of several uses, within a budget
 abbrev pub IsFaultOfUses : Option PrefixTables → (List ℕ → Option (List ℕ) → Type 0) → Option ℕ → ℕ → List (List ℕ) → List (List ℕ) → Cause → Type 0
 IsFaultOfUses tables answer budget most uses names OverBudget = PassesAt ((of_uses (of_use (Means tables) answer most)).opens_first uses) budget names
-IsFaultOfUses tables answer budget most uses names cause = (name : List ℕ) × Contains uses name × IsUseFault tables answer most name names cause
+IsFaultOfUses tables answer budget most uses names cause = (name : List ℕ) × IsUsedAfter (HasLayers tables answer most) uses name × IsUseFault tables answer most name names cause
 
 -- how a file fails to open, by itself
 abbrev pub FailsToOpen : Option PrefixTables → List ℕ → Option ℕ → Option ℕ → Cause → Type 0
-FailsToOpen tables bytes budget left (Malformed stop) = HoldsOfNone (Means tables bytes) × (stop.offset ≤ length bytes) × IsDecidedAsText tables bytes stop × Leaves budget (length bytes) left
+FailsToOpen tables bytes budget left (Malformed stop) = HoldsOfNone (Means tables bytes) × (stop.offset ≤ length bytes) × IsDecidedAsText tables bytes stop × IsFirstFault tables bytes stop × Leaves budget (length bytes) left
 FailsToOpen tables bytes budget left OverBudget = IsOver budget (length bytes)
 FailsToOpen tables bytes budget left NoFile = ⊥
 FailsToOpen tables bytes budget left ChainLength = ⊥

@@ -12,7 +12,7 @@ ghost use Rattle.cmap_chains.specs.BytesSpent.{Leaves, of_file, of_use, of_uses}
 ghost use Rattle.cmap_layers.specs.Layers.{layer_of};
 ghost use Rattle.cmap_chains.specs.Layers.{Means};
 ghost use Rattle.cmap_layers.specs.LayersSeen.{layers_seen, metadata_seen};
-ghost use Rattle.cmap_chains.specs.Refusals.{FailsToOpen, IsDecidedAsText, IsFaultOfUses, IsFaultWithin, IsUseFaultWithin, Searches};
+ghost use Rattle.cmap_chains.specs.Refusals.{FailsToOpen, IsDecidedAsText, IsFaultOfUses, IsFirstFault, IsFaultWithin, IsUseFaultWithin, Searches};
 
 use crate::budget::spend;
 use crate::refusal::Cause;
@@ -196,6 +196,7 @@ pub(crate) fn read_file<'d>(
 ) -> Result<File<'d>, Fault<Stop>>
     ensures reads { ReadsFile (Means (tables_given bundle.entry)) file_seen bytes.now result }
     ensures decided { IfErr result (RefusesWith (IsDecidedAsText (tables_given bundle.entry) bytes.now)) }
+    ensures place { IfErr result (RefusesWith (IsFirstFault (tables_given bundle.entry) bytes.now)) }
 {
     match bundle {
         Some(bundle) if is_marked_binary(bytes) => read_binary(alloc, bundle, bytes),

@@ -9,9 +9,9 @@ use Rattle.cmap_tokens.proofs.Fronts.{has_tokens}
 use Rattle.cmap_tokens.specs.TokensLeft.{start_of, tokens_of}
 use Rattle.cmap_text.specs.Salvage.{SalvagesFile, stop_of}
 use Rattle.cmap_text.specs.TextFiles.{IsMetadata, IsTextFile}
-use Rattle.cmap_text.specs.TextReading.{Said, all_said, nothing_said}
+use Rattle.cmap_text.specs.TextReading.{Said, StopsText, all_said, nothing_said}
 use Rattle.cmap_text.specs.TokenParsers.{Found}
-use Rattle.cmap_text.proofs.Stops.{StopsText, decided_text, refused_text}
+use Rattle.cmap_text.proofs.Stops.{decided_text, refused_text}
 use Rattle.cmap_text.proofs.TextRead.{said_file}
 use Rattle.cmap_text.proofs.WholeRead.{salvage_err, salvage_ok}
 
@@ -33,14 +33,14 @@ module _ (text : List ℕ) (file : File) where
       by (Err e) is = let (more, begins) = salvage_err text said [] salvages e is in absurd (cc)
 
   -- the first fault stands where the text is refused
-  pub first_fault : (stop : Stop) (more : List Stop) → SalvagesFile text file (stop ∷ more) → HoldsOfNone (IsTextFile text) × (stop.offset ≤ length text) × DecidedBy IsTextFile text stop
+  pub first_fault : (stop : Stop) (more : List Stop) → SalvagesFile text file (stop ∷ more) → HoldsOfNone (IsTextFile text) × (stop.offset ≤ length text) × DecidedBy IsTextFile text stop × StopsText text stop
   first_fault stop more (said, salvages, metadata_is, lists, uses) = by (all_said nothing_said (tokens_of (start_of text))) refl
     where
-      by : (r : Found Said) → all_said nothing_said (tokens_of (start_of text)) ≡ r → HoldsOfNone (IsTextFile text) × (stop.offset ≤ length text) × DecidedBy IsTextFile text stop
+      by : (r : Found Said) → all_said nothing_said (tokens_of (start_of text)) ≡ r → HoldsOfNone (IsTextFile text) × (stop.offset ≤ length text) × DecidedBy IsTextFile text stop × StopsText text stop
       by (Ok p) is = let (same, none) = salvage_ok text said (stop ∷ more) salvages p is in absurd (cc)
       by (Err e) is =
           let (rest, begins) = salvage_err text said (stop ∷ more) salvages e is in
           let same : stop ≡ stop_of (length text) e = first_same begins in
           let stops : StopsText text stop = (e, is, ap (λ s. s.offset) same, ap (λ s. s.reason) same) in
           let (none, within) = refused_text text stop stops in
-          (none, within, decided_text text stop stops)
+          (none, within, decided_text text stop stops, stops)

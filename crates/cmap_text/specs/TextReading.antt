@@ -5,7 +5,7 @@ use Rattle.cmap_tokens.specs.Numbers.{Number}
 use Rattle.cmap_tokens.specs.Texts.{units_of}
 use Rattle.cmap_tokens.specs.TokenReading.{string_value}
 use Rattle.cmap_tokens.specs.Tokens.{Token}
-use Rattle.cmap_tokens.specs.TokensLeft.{Left}
+use Rattle.cmap_tokens.specs.TokensLeft.{Left, start_of, tokens_of}
 use Rattle.cmap_files.specs.Files.{CidEntry, Declaration, Lists, lists_of}
 use Rattle.cmap_files.specs.ListsAppended.{no_lists, append_lists}
 use Rattle.cmap_values.specs.declared.fault.Reason.{Reason}
@@ -189,3 +189,7 @@ all_said old left = repeated next_in item_said old left
 -- a text of this length is refused where nothing is found, for that reason
 abbrev pub StopsAt : {A : Type 0} → ℕ → Result A Refused → Stop → Type 0
 StopsAt len found stop = (e : Refused) × (found ≡ Err e) × (stop.offset ≡ min (offset_of e) len) × (stop.reason ≡ e.reason)
+
+-- the text is refused here: at its first token that can't stand where it does, or where no token comes, and for that reason
+abbrev pub StopsText : List ℕ → Stop → Type 0
+StopsText text stop = StopsAt (length text) (all_said nothing_said (tokens_of (start_of text))) stop

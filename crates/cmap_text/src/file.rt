@@ -8,7 +8,7 @@ ghost use Rattle.cmap_values.specs.MetadataSeen.{metadata_seen};
 ghost use Rattle.cmap_tokens.specs.TokensLeft.{Left, start_of, tokens_of};
 ghost use Rattle.cmap_text.specs.EntriesSeen.{RefusesAt};
 ghost use Rattle.cmap_text.specs.TextFiles.{IsMetadata, IsTextFile};
-ghost use Rattle.cmap_text.specs.TextReading.{StopsAt, all_said, nothing_said};
+ghost use Rattle.cmap_text.specs.TextReading.{StopsAt, StopsText, all_said};
 ghost use Rattle.cmap_text.specs.TextReading as reading;
 ghost use Rattle.cmap_text.specs.TokenParsers.{Refused};
 ghost use Rattle.cmap_text.specs.TextSeen.{said_seen, values_seen};
@@ -26,8 +26,7 @@ pub fn read_text<'d>(alloc: Global, text: &'d [u8]) -> Result<File<'d>, Fault<St
     ensures file { ReadsFile IsTextFile file_seen text.now result }
 
     // The offset and the reason are those of the token that is wrong.
-    ensures place { IfErr result (RefusesWith (StopsAt (length text.now)
-        (all_said nothing_said (tokens_of (start_of text.now))))) }
+    ensures place { IfErr result (RefusesWith (StopsText text.now)) }
 
     // Where it is refused before its end, no text is a file that begins with the same bytes, up to and
     // including the one at this offset.

@@ -1,7 +1,7 @@
-use Rattle.std.proofs.Common.{ℕ, ◌+◌, List, length, Result, Ok, Err, refl, subst, arith}
+use Rattle.std.proofs.Common.{ℕ, ◌+◌, List, length, Result, Ok, Err, inl, refl, subst, arith}
 use Rattle.std.specs.Prelude.{IfOk, IfErr}
 use Rattle.cmap_values.specs.Only.{IsOnly, HoldsOfNone}
-use Rattle.cmap_values.specs.Outcomes.{ReadsFile, StopsWithin}
+use Rattle.cmap_values.specs.Outcomes.{ReadsFile, RefusesWith, StopsWithin}
 use Rattle.cmap_values.specs.declared.fault.Fault.{Fault}
 use Rattle.cmap_values.specs.declared.fault.Fault.TheVariants.{Refused, Memory}
 use Rattle.cmap_values.specs.declared.fault.Stop.{Stop}
@@ -9,9 +9,11 @@ use Rattle.cmap_files.specs.declared.file.File.{File}
 use Rattle.cmap_files.specs.FilesSeen.{file_seen}
 use Rattle.cmap_packed.specs.Bundles.{PrefixTables}
 use Rattle.cmap_binary.specs.BinaryFiles.{BodyOf, IsBinaryFile, SegmentAt}
+use Rattle.cmap_binary.specs.BinaryFaults.{IsBinaryFault}
 use Rattle.cmap_binary.specs.BinarySeen.{SegmentsSay}
 use Rattle.cmap_packed.specs.Fronts.{AllOf}
 use Rattle.cmap_binary.proofs.Bodies.{body_within}
+use Rattle.cmap_binary.proofs.FaultsFirst.{fault_of_segments}
 use Rattle.cmap_packed.proofs.Fronts.{Continues, continues_only, continues_none}
 use Rattle.cmap_binary.proofs.file.read_binary.Goals as goal
 
@@ -27,7 +29,7 @@ body_says tables bytes body only = record {
 }
 
 pub returns-in_default : goal.returns-in_default
-returns-in_default c = (tt, (no_body _ _ c.in_default.ensures, omega arith))
+returns-in_default c = record { file = (tt, (no_body _ _ c.in_default.ensures, omega arith)); place = inl (c.in_default.ensures, refl) }
 
 -- what the segments say is what the file says
 file_says : (tables : PrefixTables) (bytes body : List ℕ) → IsOnly (BodyOf bytes) body → (result : Result File (Fault Stop)) → IfOk result (λ file. IsOnly (SegmentsSay tables body) (file_seen file))
@@ -39,4 +41,7 @@ file_says tables bytes body only (Err Memory) says stops = (tt, tt)
 pub returns : goal.returns
 returns c =
     let says = file_says _ c.args.bytes.now c.in-Some.body.now c.in-Some.ensures c.read_segments.result c.read_segments.ensures.says c.read_segments.ensures.stops in
-    subst (λ tables. ReadsFile (IsBinaryFile tables) file_seen c.args.bytes.now c.read_segments.result) c.tables.ensures says
+    let first = fault_of_segments _ c.args.bytes.now c.in-Some.body.now c.in-Some.ensures.holds c.read_segments.result c.read_segments.ensures.first in record {
+      file = subst (λ tables. ReadsFile (IsBinaryFile tables) file_seen c.args.bytes.now c.read_segments.result) c.tables.ensures says;
+      place = subst (λ tables. IfErr c.read_segments.result (RefusesWith (IsBinaryFault tables c.args.bytes.now))) c.tables.ensures first;
+    }

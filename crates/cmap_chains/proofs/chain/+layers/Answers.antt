@@ -9,10 +9,10 @@ use Rattle.cmap_values.specs.Outcomes.{Outcome}
 use Rattle.cmap_values.specs.declared.fault.Fault.{Fault}
 use Rattle.cmap_chains.specs.Layers.{Means}
 use Rattle.cmap_values.proofs.Outcomes.{passed_on, refused_as}
-use Rattle.cmap_chains.proofs.Blamed.{blames_file, blames_missing, blames_open, blames_use, blames_uses, fails_as, fails_to_open, used_at}
+use Rattle.cmap_chains.proofs.Blamed.{blames_file, blames_missing, blames_open, blames_use, blames_uses, fails_as, fails_to_open}
 use Rattle.cmap_chains.proofs.OneNameMore.{names_back}
 use Rattle.cmap_chains.proofs.OneUse.{is_room, room_left, Resolves-answered, Refuses-answered, Refuses-no_room, Refuses-unanswered, GoesOver-answered, GoesOverAt-answered}
-use Rattle.cmap_chains.proofs.UsesInOrder.{AreUsed-none, AreUsed-at, AreUsed-end, AreUsed-more, Resolves-used, Refuses-used, GoesOver-used, GoesOverAt-used}
+use Rattle.cmap_chains.proofs.UsesInOrder.{AreUsed-none, AreUsed-at, AreUsed-end, AreUsed-more, IsUsedAfter-used, Resolves-used, Refuses-used, GoesOver-used, GoesOverAt-used}
 use Rattle.cmap_chains.proofs.WholeFile.{Resolves-file, Refuses-file, GoesOver-file, GoesOverAt-file}
 use Rattle.cmap_chains.specs.declared.refusal.Cause.TheVariants.{NoFile, ChainLength}
 use Rattle.cmap_chains.proofs.chain.+layers.Goals as goal
@@ -40,7 +40,7 @@ find_layers-returns g t c =
     (λ base layers found is. (rw is (Resolves-file (Means (tables_given c.args.bundle)) (g.S.Source.answers c.args.source.now) c.args.below c.args.bytes.now c.args.left.now file rest opens.0 opens.1 (layers_seen base.items) _ found.0), found.1))
     (λ cause fails. (
       fails_as (Refuses-file (Means (tables_given c.args.bundle)) (g.S.Source.answers c.args.source.now) c.args.below c.args.bytes.now c.args.left.now file rest opens.0 opens.1 _) (GoesOver-file (Means (tables_given c.args.bundle)) (g.S.Source.answers c.args.source.now) c.args.below c.args.bytes.now c.args.left.now file rest opens.0 opens.1) cause fails.0,
-      blames_file (tables_given c.args.bundle) (g.S.Source.answers c.args.source.now) c.args.left.now rest c.args.below c.args.bytes.now file opens.0.holds _ _ (GoesOverAt-file (Means (tables_given c.args.bundle)) (g.S.Source.answers c.args.source.now) c.args.below c.args.bytes.now c.args.left.now file rest opens.0 opens.1) cause fails.1,
+      blames_file (tables_given c.args.bundle) (g.S.Source.answers c.args.source.now) c.args.left.now rest c.args.below c.args.bytes.now file opens.0 _ _ (GoesOverAt-file (Means (tables_given c.args.bundle)) (g.S.Source.answers c.args.source.now) c.args.below c.args.bytes.now c.args.left.now file rest opens.0 opens.1) cause fails.1,
     ))
     (rw c.deref.ensures.value at c.find_base-base.ensures)
 
@@ -53,10 +53,9 @@ find_base-loop-name-preserved g t c = (AreUsed-more (AreUsed-at c.loop-name.name
 pub find_base-returns-in_err-base : goal.find_base-returns-in_err-base
 find_base-returns-in_err-base g t c =
     let used = AreUsed-at c.loop-name.name-index refl c.loop-name.invariant.0 c.loop-name-test.true in
-    let here = used_at _ _ c.loop-name.name-index refl c.loop-name-test.true in
     passed_on _ _ _ c.from_residual.ensures.1 c.in_err-base.ensures.1 (λ cause fails. (
       fails_as (Refuses-used used) (GoesOver-used used) cause fails.0,
-      blames_uses (tables_given c.args.bundle) (g.S.Source.answers c.args.source.now) c.args.left.now _ c.args.below (names_seen c.args.uses.now) _ here _ _ _ c.loop-name.invariant.1 (GoesOverAt-used used) cause fails.1,
+      blames_uses (tables_given c.args.bundle) (g.S.Source.answers c.args.source.now) c.args.left.now _ c.args.below (names_seen c.args.uses.now) _ (IsUsedAfter-used used) _ _ _ c.loop-name.invariant.1 (GoesOverAt-used used) cause fails.1,
     ))
 
 pub find_base-returns : goal.find_base-returns

@@ -1,0 +1,25 @@
+-- Where a binary file is refused: at its header, or else at the first segment at fault.
+use Rattle.std.specs.Prelude.{◌≡◌, ◌≢◌, ◌⊎◌, ℕ, ◌+◌, List, [], length}
+use Rattle.cmap_values.specs.Only.{IsOnly, HoldsOfNone}
+use Rattle.cmap_values.specs.declared.fault.Reason.{Reason}
+use Rattle.cmap_values.specs.declared.fault.Reason.TheVariants.{SegmentLength}
+use Rattle.cmap_values.specs.declared.fault.Stop.{Stop}
+use Rattle.cmap_packed.specs.Bundles.{PrefixTables}
+use Rattle.cmap_packed.specs.Fronts.{FramedAt}
+use Rattle.cmap_binary.specs.BinaryFiles.{BodyOf, Content}
+use Rattle.cmap_binary.specs.BinarySalvage.{IsTypeTold, SegmentSays, header_fault}
+
+-- the first fault of segments that stand at this offset of a file
+pub data SegmentFault (tables : PrefixTables) : ℕ → List ℕ → Stop → Type 0 where
+  -- what is no whole segment
+  no_segment : {offset : ℕ} {bytes : List ℕ} → bytes ≢ [] → HoldsOfNone (FramedAt 1 bytes) → SegmentFault tables offset bytes (record { offset = offset; reason = SegmentLength })
+  -- a segment that says nothing
+  says_nothing : {offset : ℕ} {bytes segment rest : List ℕ} → (reason : Reason) → FramedAt 1 bytes (segment, rest) → HoldsOfNone (SegmentSays tables segment) → IsTypeTold segment reason
+      → SegmentFault tables offset bytes (record { offset = offset; reason = reason })
+  -- the first one after a segment that says something
+  after_segment : {offset : ℕ} {bytes segment rest : List ℕ} {content : Content} {stop : Stop} → FramedAt 1 bytes (segment, rest) → IsOnly (SegmentSays tables segment) content
+      → SegmentFault tables (offset + length segment) rest stop → SegmentFault tables offset bytes stop
+
+-- the first fault of bytes that are no binary file
+abbrev pub IsBinaryFault : PrefixTables → List ℕ → Stop → Type 0
+IsBinaryFault tables bytes stop = (HoldsOfNone (BodyOf bytes) × (stop ≡ header_fault)) ⊎ ((body : List ℕ) × BodyOf bytes body × SegmentFault tables 10 body stop)
