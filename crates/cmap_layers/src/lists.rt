@@ -1,6 +1,6 @@
 //! Items that are put into lists, if making them doesn't fail.
 
-ghost use Rattle.std.specs.Prelude.{◌≡◌, ◌∷◌, ◌++◌, [], IfOk, Ok, OnOk};
+ghost use Rattle.std.specs.Prelude.{◌≡◌, ◌∷◌, ◌++◌, [], IfOk, Ok, OnErr, OnOk};
 
 use std::alloc::AllocError;
 
@@ -18,8 +18,9 @@ pub fn put_first<T: Drop>(
 
 /// Adds an item after those of a list.
 pub fn put_last<T: Drop>(item: Result<T, AllocError>, list: &mut Vec<T>) -> Result<(), AllocError>
-    ensures { OnOk result
+    ensures added { OnOk result
         ((last : T) × (item ≡ Ok last) × (list.new.items ≡ list.old.items ++ last ∷ [])) }
+    ensures same { OnErr result (list.new.items ≡ list.old.items) }
 {
     list.push(item?)?;
     Ok(())

@@ -8,7 +8,7 @@ loop-layer-init c = ap layers_seen c.new-copies.ensures.items
 
 pub loop-layer-preserved : goal.loop-layer-preserved
 loop-layer-preserved c =
-    let (last, made, items) = c.in_ok-put_last.ensures in
+    let (last, made, items) = c.in_ok-put_last.ensures.added in
     ap layers_seen items ∙ map-append layer_seen _ _
     ∙ (λ k. c.loop-layer.invariant k ++ (rw made at c.clone.ensures ∙ ap layer_seen c.layer-item.is) k ∷ [])
     ∙ sym (map_more layer_seen c.args.layers.now c.loop-layer.layer-index c.layer-item.result c.loop-layer-test.true)

@@ -10,6 +10,6 @@ returns c = record {
       let (refusal, made, items) = put in
       let (names, cause) = rw made at c.new.ensures in
       record { names = refl; added = rw cause at (fault_added _ _ refusal _ items (ap names_seen (names ∙ c.deref.ensures.value))) })
-      c.put_last.ensures;
+      c.put_last.ensures.added;
   same = refl;
 }
