@@ -9,9 +9,10 @@ use Rattle.std.proofs.lemmas.Option.{none-some, same_Some}
 use Rattle.cmap_files.specs.Files.{BfEntry, ByLength, CidEntry, Declaration, File, FileMetadata, Lists, lists_of, of_length}
 use Rattle.cmap_binary.specs.BinaryFiles.{BodyOf, Content, IsBinaryFile, SegmentAt, collection_set, declared_in, declares, file_of, magic, mode_set, name_set, name_used}
 use Rattle.cmap_binary.specs.BinaryFiles as files
+use Rattle.cmap_unicode.specs.Cids.{without_texts}
 use Rattle.cmap_layers.specs.Layers.{Layer}
 use Rattle.cmap_tokens.specs.Texts.{only_character}
-use Rattle.cmap_layers.specs.Lookups.{bf_at, bf_of, cid_at, cid_in, decided_cid, decided_text, last_bf, last_cid}
+use Rattle.cmap_layers.specs.Lookups.{bf_at, bf_of, cid_at, cid_in, cid_of, decided_cid, decided_text, last_bf, last_cid}
 use Rattle.cmap_writer.specs.Keeps.{AnswerAlike, KeepLists, Keeps}
 use Rattle.cmap_writer.specs.MetadataWritten.{metadata_contents}
 use Rattle.cmap_writer.specs.Pieces.{cid_told}
@@ -119,23 +120,34 @@ module _ (lists made : Lists) (keep : KeepLists lists made) where
   same_decided_text code (Some e) None below is = absurd (none-some _ (sym is))
   same_decided_text code (Some e) (Some f) below is = same_Some _ _ is
 
-  same_answers : (m : FileMetadata) (below others : List Layer) → AnswerAlike below others → AnswerAlike (record { metadata = m; lists = lists } ∷ below) (record { metadata = m; lists = made } ∷ others)
-  same_answers m below others alike = record {
-    cids = λ code len.
-        let old = last_cid (of_length lists.cids len) code in
-        let new = last_cid (of_length made.cids len) code in
-        gate (nat_le 1 len && nat_le len 4) (cid_in others code len) (cid_in below code len) _ _ (alike.cids code len) (λ same.
-        same_decided code new old (last_cid (of_length made.notdefs len) code) (only_character (option_and_then (λ e. bf_at e code) (last_bf made.bfs code))) (cid_in others code len) (same_lengths len code)
-        ∙ ap (λ o. decided_cid code old (last_cid (of_length made.notdefs len) code) (only_character o) (cid_in others code len)) (text_decided code (last_bf made.bfs code) (last_bf lists.bfs code) (keep.bfs code))
-        ∙ ap (λ (n : ByLength). decided_cid code old (last_cid (of_length n len) code) (only_character (option_and_then (λ e. bf_at e code) (last_bf lists.bfs code))) (cid_in others code len)) keep.notdefs
-        ∙ ap (decided_cid code old (last_cid (of_length lists.notdefs len) code) (only_character (option_and_then (λ e. bf_at e code) (last_bf lists.bfs code)))) same);
-    texts = λ code.
-        same_decided_text code (last_bf made.bfs code) (last_bf lists.bfs code) (bf_of others code) (keep.bfs code)
-        ∙ ap (decided_text code (last_bf lists.bfs code)) (alike.texts code);
-  }
+  same_cids : (m : FileMetadata) (below others : List Layer) → ((code len : ℕ) → cid_of others code len ≡ cid_of below code len) → (code len : ℕ) → cid_of (record { metadata = m; lists = made } ∷ others) code len ≡ cid_of (record { metadata = m; lists = lists } ∷ below) code len
+  same_cids m below others alike code len =
+      let old = last_cid (of_length lists.cids len) code in
+      let new = last_cid (of_length made.cids len) code in
+      gate (nat_le 1 len && nat_le len 4) (cid_in others code len) (cid_in below code len) _ _ (alike code len) (λ same.
+      same_decided code new old (last_cid (of_length made.notdefs len) code) (only_character (option_and_then (λ e. bf_at e code) (last_bf made.bfs code))) (cid_in others code len) (same_lengths len code)
+      ∙ ap (λ o. decided_cid code old (last_cid (of_length made.notdefs len) code) (only_character o) (cid_in others code len)) (text_decided code (last_bf made.bfs code) (last_bf lists.bfs code) (keep.bfs code))
+      ∙ ap (λ (n : ByLength). decided_cid code old (last_cid (of_length n len) code) (only_character (option_and_then (λ e. bf_at e code) (last_bf lists.bfs code))) (cid_in others code len)) keep.notdefs
+      ∙ ap (decided_cid code old (last_cid (of_length lists.notdefs len) code) (only_character (option_and_then (λ e. bf_at e code) (last_bf lists.bfs code)))) same)
+
+abbrev no_texts : Lists → Lists
+no_texts lists = record lists { bfs = [] }
+
+without_texts_kept : (lists made : Lists) → KeepLists lists made → KeepLists (no_texts lists) (no_texts made)
+without_texts_kept lists made keep = record { spaces = keep.spaces; notdefs = keep.notdefs; bfs = λ code. refl; one = keep.one; two = keep.two; three = keep.three; four = keep.four }
+
+same_answers : (lists made : Lists) (keep : KeepLists lists made) (m : FileMetadata) (below others : List Layer) → AnswerAlike below others → AnswerAlike (record { metadata = m; lists = lists } ∷ below) (record { metadata = m; lists = made } ∷ others)
+same_answers lists made keep m below others alike = record {
+  cids = same_cids lists made keep m below others alike.cids;
+  declared = same_cids (no_texts lists) (no_texts made) (without_texts_kept lists made keep) m (map without_texts below) (map without_texts others) alike.declared;
+  texts = λ code.
+      same_decided_text lists made keep code (last_bf made.bfs code) (last_bf lists.bfs code) (bf_of others code) (keep.bfs code)
+      ∙ ap (decided_text code (last_bf lists.bfs code)) (alike.texts code);
+  spaces = rw (keep.spaces, alike.spaces) refl;
+}
 
 pub keeps : (file : File) (made : Lists) → KeepLists file.lists made → Keeps file (record { metadata = file.metadata; lists = made; uses = file.uses })
-keeps file made keep = record { metadata = refl; spaces = keep.spaces; uses = refl; answers = λ below others alike. same_answers file.lists made keep file.metadata below others alike }
+keeps file made keep = record { metadata = refl; lists = keep; uses = refl; answers = λ below others alike. same_answers file.lists made keep file.metadata below others alike }
 
 -- ---- the file
 abbrev pub head : List ℕ

@@ -5,6 +5,7 @@ use Rattle.cmap_files.specs.DeclarationsSeen.{entries_seen}
 use Rattle.cmap_files.specs.Files.{BfEntry, CidEntry, Declaration, File, Lists}
 use Rattle.cmap_files.specs.declared.declarations.ByLength.{ByLength}
 use Rattle.cmap_files.specs.declared.declarations.CidRange.{CidRange}
+use Rattle.cmap_unicode.specs.Cids.{declared_cid}
 use Rattle.cmap_layers.specs.Layers.{Layer, layer_of}
 use Rattle.cmap_layers.specs.Lookups.{bf_of, cid_of}
 use Rattle.cmap_packed.specs.Bundles.{PrefixTables}
@@ -12,15 +13,35 @@ use Rattle.cmap_binary.specs.BinaryFiles.{IsBinaryFile}
 use Rattle.cmap_writer.specs.Written.{IsFramedFile}
 use Rattle.cmap_writer.specs.Pieces.{cid_told, text_told}
 
--- by both each code of each length has the same CID, and each code the same text
+-- each code has the same CID, or none, by the last declaration that contains it
+abbrev pub HaveSameCids : List CidEntry → List CidEntry → Type 0
+HaveSameCids es made = (code : ℕ) → cid_told made code ≡ cid_told es code
+
+-- each code has the same text, or none
+abbrev pub HaveSameTexts : List BfEntry → List BfEntry → Type 0
+HaveSameTexts es made = (code : ℕ) → text_told made code ≡ text_told es code
+
+-- lists that say the same: those of CIDs and texts of each code, the others in the same declarations
+pub record KeepLists (lists made : Lists) : Type 0 where
+  pub spaces : made.spaces ≡ lists.spaces
+  pub notdefs : made.notdefs ≡ lists.notdefs
+  pub bfs : HaveSameTexts lists.bfs made.bfs
+  pub one : HaveSameCids lists.cids.one made.cids.one
+  pub two : HaveSameCids lists.cids.two made.cids.two
+  pub three : HaveSameCids lists.cids.three made.cids.three
+  pub four : HaveSameCids lists.cids.four made.cids.four
+
+-- by both each code of each length has the same CID, the same CID where texts don't count, and each code the same text; and both have the same codespace ranges, layer by layer
 pub record AnswerAlike (layers others : List Layer) : Type 0 where
   pub cids : (code len : ℕ) → cid_of others code len ≡ cid_of layers code len
+  pub declared : (code len : ℕ) → declared_cid others code len ≡ declared_cid layers code len
   pub texts : (code : ℕ) → bf_of others code ≡ bf_of layers code
+  pub spaces : map (λ layer. layer.lists.spaces) others ≡ map (λ layer. layer.lists.spaces) layers
 
--- the same metadata, codespace ranges and names of files that are used; and over layers that answer alike it answers alike, so a chain of files does if each is kept
+-- the same metadata and names of files that are used, and lists that say the same; and over layers that answer alike it answers alike, so a chain of files does if each is kept
 pub record Keeps (file made : File) : Type 0 where
   pub metadata : made.metadata ≡ file.metadata
-  pub spaces : made.lists.spaces ≡ file.lists.spaces
+  pub lists : KeepLists file.lists made.lists
   pub uses : made.uses ≡ file.uses
   pub answers : (below others : List Layer) → AnswerAlike below others → AnswerAlike (layer_of file ∷ below) (layer_of made ∷ others)
 
@@ -32,24 +53,6 @@ pub record IsWritten (tables : PrefixTables) (file : File) (bytes : List ℕ) : 
   pub framed : IsFramedFile bytes
 
 -- ---- private aid
--- each code has the same CID
-abbrev pub HaveSameCids : List CidEntry → List CidEntry → Type 0
-HaveSameCids es made = (code : ℕ) → cid_told made code ≡ cid_told es code
-
--- each code has the same text
-abbrev pub HaveSameTexts : List BfEntry → List BfEntry → Type 0
-HaveSameTexts es made = (code : ℕ) → text_told made code ≡ text_told es code
-
--- lists that say the same
-pub record KeepLists (lists made : Lists) : Type 0 where
-  pub spaces : made.spaces ≡ lists.spaces
-  pub notdefs : made.notdefs ≡ lists.notdefs
-  pub bfs : HaveSameTexts lists.bfs made.bfs
-  pub one : HaveSameCids lists.cids.one made.cids.one
-  pub two : HaveSameCids lists.cids.two made.cids.two
-  pub three : HaveSameCids lists.cids.three made.cids.three
-  pub four : HaveSameCids lists.cids.four made.cids.four
-
 -- declarations for codes of one to four bytes
 abbrev pub by_length : (ℕ → CidEntry → Declaration) → List CidEntry → List CidEntry → List CidEntry → List CidEntry → List Declaration
 by_length declare one two three four = map (declare 1) one ++ (map (declare 2) two ++ (map (declare 3) three ++ map (declare 4) four))
