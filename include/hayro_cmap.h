@@ -302,7 +302,8 @@ hayro_cmap_status hayro_cmap_bundle_share(hayro_cmap_bundle *bundle, hayro_cmap_
 void hayro_cmap_bundle_free(hayro_cmap_bundle *bundle);
 
 /* The bytes of the file of this name in a bundle, written as a text is. HAYRO_CMAP_ABSENT where the
- * bundle has none, and where the handle is empty. */
+ * bundle has none, also where ten bytes stand for it, `bcmap`, four zeros and their number; and where
+ * the handle is empty. */
 hayro_cmap_status hayro_cmap_bundle_file(hayro_cmap_bundle *bundle, const uint8_t *name,
                                          size_t name_len, uint8_t *room, size_t room_len,
                                          size_t *needed);

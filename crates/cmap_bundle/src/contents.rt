@@ -6,9 +6,8 @@ use cmap_escape::escape::{escaped_names, push_name};
 use cmap_escape::json::push_line;
 use cmap_escape::object::Object;
 use cmap_report::uses::uses_by_layer;
-use cmap_sources::bases::file_in;
 use cmap_sources::failure::Failure;
-use hayro_cmap::{Bundle, NamedFiles};
+use hayro_cmap::{Bundle, BundleFiles, NamedFiles};
 use serde_json::Value;
 use std::alloc::{AllocError, Global};
 
@@ -36,7 +35,7 @@ impl<'b> Held<'b> {
 pub fn contents_of<'b>(alloc: Global, bundle: &'b Bundle<'b>) -> Result<Vec<Held<'b>>, AllocError> {
     let mut files = Vec::new(alloc);
     for name in KNOWN_NAMES {
-        if let Some(bytes) = file_in(bundle, name.as_bytes()) {
+        if let Some(bytes) = bundle.file_of(name.as_bytes()) {
             let uses = uses_of(alloc, bundle, bytes)?;
             files.push(Held { name, bytes, uses })?;
         }

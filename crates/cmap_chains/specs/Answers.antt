@@ -1,10 +1,10 @@
 -- What a caller's function and a bundle answer, by name.
-use Rattle.std.specs.Prelude.{◌≡◌, ℕ, List, Option, option_and_then, slice_get}
+use Rattle.std.specs.Prelude.{◌≡◌, ℕ, List, Option, Some, None, bytes_eq, option_and_then, slice_get, if◌then◌else◌}
 use Rattle.std.specs.Borrow.{Bor}
 use Rattle.std.specs.Option.{option_copied}
 use Rattle.std.specs.Fn.{Shared}
 use Rattle.cmap_values.specs.declared.names.CMapName.{CMapName}
-use Rattle.cmap_packed.specs.Bundles.{Bundle}
+use Rattle.cmap_packed.specs.Bundles.{Bundle, no_file_bytes}
 use Rattle.cmap_values.specs.CMapNames.{IsNameOf, IsSameName}
 use Rattle.cmap_values.specs.Names.{index_of_text}
 
@@ -22,6 +22,14 @@ module _ {F : Type 0} (calls : Shared F (CMapName × Unit {0}) (Option (Bor (Lis
 abbrev pub IsByName : (List ℕ → Option (List ℕ) → Type 0) → Type 0
 IsByName answer = (text : List ℕ) (first second : Option (List ℕ)) → answer text first → answer text second → first ≡ second
 
+-- the bytes at the index of this name in a bundle, if it has so many files
+abbrev pub stored : Option Bundle → List ℕ → Option (List ℕ)
+stored bundle name = option_and_then (λ b. option_and_then (λ at. slice_get b.files at) (index_of_text name)) bundle
+
+-- these bytes, unless they stand for a file that isn't there
+abbrev pub unless_absent : List ℕ → Option (List ℕ)
+unless_absent bytes = if bytes_eq bytes no_file_bytes then None else Some bytes
+
 -- the file of this name in a bundle, if there is one
 abbrev pub embedded : Option Bundle → List ℕ → Option (List ℕ)
-embedded bundle name = option_and_then (λ b. option_and_then (λ at. slice_get b.files at) (index_of_text name)) bundle
+embedded bundle name = option_and_then unless_absent (stored bundle name)

@@ -1,8 +1,8 @@
 //! Files by their names.
 
-ghost use Rattle.std.specs.Prelude.{◌≡◌, ℕ, List, None, Some};
+ghost use Rattle.std.specs.Prelude.{◌≡◌, ℕ, List, None, Some, option_and_then};
 ghost use Rattle.std.specs.Option.{option_copied};
-ghost use Rattle.cmap_chains.specs.Answers.{embedded};
+ghost use Rattle.cmap_chains.specs.Answers.{embedded, unless_absent};
 ghost use Rattle.cmap_chains.specs.NamedFiles.{file_named};
 
 use crate::source::Source;
@@ -49,7 +49,8 @@ pub trait BundleFiles {
     /// The tables and the files.
     ghost bundle_of: { Self → Bundle };
 
-    /// The file of this name; `None` where the bundle has none.
+    /// The file of this name; `None` where the bundle has none. It has none also where ten bytes stand
+    /// for one: `bcmap`, four zeros, and their number.
     fn file_of(&self, name: &[u8]) -> Option<&[u8]>
         ensures { option_copied result ≡ embedded (Some (bundle_of self.now)) name.now };
 }
@@ -61,7 +62,7 @@ impl<'b> BundleFiles for Bundle<'b> {
 
     fn file_of(&self, name: &[u8]) -> Option<&[u8]> {
         let file: Option<&'b [u8]> = load_embedded(Some(self), CMapName::from_bytes(name));
-        file
+        unless_absent(file)
     }
 }
 
@@ -69,8 +70,20 @@ impl BundleFiles for OwnedBundle {
     ghost bundle_of = { λ bundle. bundle };
 
     fn file_of(&self, name: &[u8]) -> Option<&[u8]> {
-        self.file(CMapName::from_bytes(name))
+        unless_absent(self.file(CMapName::from_bytes(name)))
     }
+}
+
+/// What stands in a bundle for a file that isn't there: the head of a version that no reader knows, and
+/// the length.
+const NO_FILE: &[u8] = b"bcmap\0\0\0\0\x0A";
+
+/// The bytes that a bundle has for a name, unless they stand for a file that isn't there.
+fn unless_absent(stored: Option<&[u8]>) -> Option<&[u8]>
+    ensures { option_copied result ≡ option_and_then unless_absent (option_copied stored.entry) }
+{
+    let bytes = stored?;
+    if bytes == NO_FILE { None } else { Some(bytes) }
 }
 
 /// The files of a bundle by their names; without a bundle no name has a file.

@@ -12,11 +12,11 @@ use Rattle.cmap_files.specs.Files.{File}
 use Rattle.cmap_files.specs.FilesSeen.{file_seen}
 use Rattle.cmap_files.specs.declared.file.File.{File as HeldFile}
 use Rattle.cmap_packed.specs.TableFronts.{TableAt}
-use Rattle.cmap_packed.specs.Bundles.{HoldsTables, IsBundle, PrefixTables}
+use Rattle.cmap_packed.specs.Bundles.{HoldsTables, IsBundle, PrefixTables, no_file_bytes}
 use Rattle.cmap_packed.specs.Fronts.{FramedAt, SizedAt}
 use Rattle.cmap_maker.specs.Bundled.{HaveSymbols, IsBundleOf, AreWritten, files_seen}
 use Rattle.cmap_writer.specs.PreparedFiles.{IsPrepared}
-use Rattle.cmap_maker.specs.Slots.{AreSlotsFor, AreSlotsOf, AreSlotsWritten, IsBundleOfSlots, IsFileFor, IsNamedBundle, IsSlotFor, IsSlotWritten, is_index, no_file_bytes, places, source_at}
+use Rattle.cmap_maker.specs.Slots.{AreSlotsFor, AreSlotsOf, AreSlotsWritten, IsBundleOfSlots, IsFileFor, IsNamedBundle, IsSlotFor, IsSlotWritten, is_index, places, source_at}
 use Rattle.cmap_writer.specs.Written.{Appends, Writes, WritesAll, IsFramedFile}
 use Rattle.cmap_writer.specs.declared.prepared.Prepared.{Prepared}
 use Rattle.cmap_maker.specs.declared.slots.Slot.{Slot}

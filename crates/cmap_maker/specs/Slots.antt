@@ -5,7 +5,7 @@ use Rattle.cmap_tokens.specs.Gaps.{ends_comment}
 use Rattle.cmap_values.specs.CMapNames.{index_of_name}
 use Rattle.cmap_files.specs.Files.{File}
 use Rattle.cmap_files.specs.FilesSeen.{file_seen}
-use Rattle.cmap_packed.specs.Bundles.{IsBundle, PrefixTables}
+use Rattle.cmap_packed.specs.Bundles.{IsBundle, PrefixTables, no_file_bytes}
 use Rattle.cmap_writer.specs.Written.{IsFramedFile}
 use Rattle.cmap_writer.specs.Keeps.{IsWritten}
 use Rattle.cmap_writer.specs.PreparedFiles.{IsPrepared}
@@ -29,10 +29,6 @@ source_at (source ∷ sources) place = if is_index (index_of_name source.name) p
 -- a comment, the text, and spaces
 abbrev pub IsTextBehind : List ℕ → List ℕ → Type 0
 IsTextBehind text bytes = (size : List ℕ) × (spaces : List ℕ) × (bytes ≡ (codes "% text" ++ size) ++ (10 ∷ (text ++ spaces))) × All (λ b. ends_comment b ≡ false) size × All (λ b. b ≡ 32) spaces × IsFramedFile bytes
-
--- ten bytes that no reader takes for a file: the front of a binary file of version 0, and their number
-abbrev pub no_file_bytes : List ℕ
-no_file_bytes = codes "bcmap" ++ 0 ∷ 0 ∷ 0 ∷ 0 ∷ 10 ∷ []
 
 -- what stands in a bundle for a name: the file of its source, in the binary form or as its text; without a source no file
 abbrev pub IsFileFor : PrefixTables → Option Source → List ℕ → Type 0

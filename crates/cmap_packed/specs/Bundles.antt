@@ -1,5 +1,5 @@
 -- Bundles: prefix tables, and files by their indices.
-use Rattle.std.specs.Prelude.{ℕ, List}
+use Rattle.std.specs.Prelude.{ℕ, List, [], ◌∷◌, ◌++◌, codes}
 use Rattle.cmap_packed.specs.PrefixWords.{CodeWord}
 use Rattle.cmap_packed.specs.TableFronts.{TableAt}
 use Rattle.cmap_packed.specs.Fronts.{Then, Gives, AllOf, FramedAt, SizedAt}
@@ -25,3 +25,7 @@ AreFiles = AllOf (FramedAt 6)
 -- the bytes are a bundle with these tables, in a sized piece, and these files after it
 unfoldable pub IsBundle : List ℕ → Bundle → Type 0
 IsBundle bytes = Then (SizedAt bytes) (λ text rest bundle. HoldsTables text bundle.tables × AreFiles rest bundle.files)
+
+-- ten bytes that stand in a bundle for a file that isn't there, and that no reader takes for one: the front of a binary file of version 0, and their number
+abbrev pub no_file_bytes : List ℕ
+no_file_bytes = codes "bcmap" ++ 0 ∷ 0 ∷ 0 ∷ 0 ∷ 10 ∷ []

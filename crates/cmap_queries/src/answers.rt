@@ -4,6 +4,7 @@
 mod lines;
 
 use self::lines::lines_of;
+use crate::embedded::Embedded;
 use crate::failure::Failure;
 use crate::input::{read_all, split_bundle};
 use crate::options::RunOptions;
@@ -79,14 +80,14 @@ fn map_of(alloc: Global, options: RunOptions, input: &[u8]) -> Result<CMap, Fail
     }
 }
 
-/// The map of a file, which may use the files of the bundle and no others.
+/// The map of a file, which may use the files of the bundle as `load_embedded` gives them, and no others.
 fn map_over(
     alloc: Global,
     budget: Option<u64>,
     file: &[u8],
     bundle: Option<&Bundle<'_>>,
 ) -> Result<CMap, Failure> {
-    match CMap::parse_from(alloc, budget, file, bundle, &bundle) {
+    match CMap::parse_from(alloc, budget, file, bundle, &Embedded { bundle }) {
         Ok(map) => Ok(map),
         Err(Fault::Refused(refusal)) => match refusal.cause {
             Cause::OverBudget => Err(Failure::OverBudget),

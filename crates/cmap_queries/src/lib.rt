@@ -5,6 +5,7 @@
 pub mod answers;
 pub mod arguments;
 pub mod code_lengths;
+mod embedded;
 pub mod failure;
 pub mod input;
 pub mod options;

@@ -31,16 +31,6 @@ impl NamedFile for Base {
     }
 }
 
-/// What stands in a bundle for a file that isn't there: the head of a version that no reader knows, and
-/// the length.
-const ABSENT: &[u8] = b"bcmap\0\0\0\0\x0A";
-
-/// The file of this name in a bundle; `None` also where something stands there for a file that isn't.
-pub fn file_in<'b>(bundle: &'b Bundle<'b>, name: &[u8]) -> Option<&'b [u8]> {
-    let bytes = bundle.file_of(name)?;
-    (bytes != ABSENT).then_some(bytes)
-}
-
 /// The files that are read.
 pub type Files<'f> = NamedFiles<'f, Base, Bundle<'f>>;
 
@@ -134,7 +124,7 @@ impl<'b> Bases<'b> {
     }
 
     fn bundle_file(&self, name: &[u8]) -> Option<&'b [u8]> {
-        file_in(self.bundle?, name)
+        self.bundle?.file_of(name)
     }
 
     /// Reads the files of these names that aren't read yet.
