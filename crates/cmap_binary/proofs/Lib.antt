@@ -2,6 +2,7 @@ pub mod BinarySalvaged
 pub mod Bodies
 pub mod EntrySums
 pub mod FaultsFirst
+pub mod OneFile
 pub mod Reading
 pub mod RowsAdded
 pub mod SegmentsSaid

@@ -4,6 +4,7 @@ pub mod BitsTaken
 pub mod BytesTaken
 pub mod FilesAt
 pub mod Fronts
+pub mod FrontsAlone
 pub mod Lengths
 pub mod RankedWords
 pub mod TablesDecoded
