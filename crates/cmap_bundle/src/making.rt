@@ -35,14 +35,16 @@ fn sources_of<'f, 'c>(
     Ok(sources)
 }
 
-/// The line about a file that a bundle can't hold.
+/// The line about a file that a bundle can't hold, or about a bundle that can't be written.
 fn line_of(
     alloc: Global,
     files: &[Chosen<'_>],
     unwritable: Unwritable,
 ) -> Result<String, AllocError> {
     let mut line = String::new(alloc);
-    if let Some(chosen) = files.get(unwritable.index) {
+    if let Some(index) = unwritable.index
+        && let Some(chosen) = files.get(index)
+    {
         push_text(&mut line, chosen.candidate.path.as_str())?;
         line.push_str(": ")?;
     }

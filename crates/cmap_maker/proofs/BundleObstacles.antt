@@ -1,5 +1,5 @@
 -- Obstacles of bundles.
-use Rattle.std.proofs.Common.{◌≡◌, ◌∙◌, ℕ, ◌<◌, List, Some, None, get_or, length, ap, sym, subst, arith}
+use Rattle.std.proofs.Common.{◌≡◌, ◌∙◌, ℕ, ◌<◌, List, Some, None, get_or, length, ap, sym, subst}
 use Rattle.std.proofs.lemmas.Option.{same_Some, slice_get-get_or}
 use Rattle.cmap_files.specs.Files.{File}
 use Rattle.cmap_files.specs.FilesSeen.{file_seen}
@@ -10,7 +10,7 @@ use Rattle.cmap_files.specs.declared.file.File.{File as HeldFile}
 use Rattle.cmap_packed.specs.Bundles.{PrefixTables}
 use Rattle.cmap_maker.specs.Bundled.{files_seen}
 use Rattle.cmap_writer.specs.Obstacles.{IsObstacle, IsSegmentsObstacle}
-use Rattle.cmap_maker.specs.Unwritables.{IsObstacleAt, IsSourceObstacle, IsUnwritableAs, IsUnwritableOf, IsBundleObstacle, IsSpellingObstacle}
+use Rattle.cmap_maker.specs.Unwritables.{IsObstacleOf, IsSourceObstacle, IsUnwritableAs, IsUnwritableOf, IsBundleObstacle, IsSpellingObstacle}
 use Rattle.cmap_maker.specs.WordsMissing.{IsNoWordIf}
 use Rattle.cmap_writer.proofs.ObstaclesMet.{any_at}
 use Rattle.cmap_writer.specs.declared.obstacle.Obstacle.TheVariants.{NoPlace, NoWord, TooLong}
@@ -41,22 +41,12 @@ spelling_of_bundle said NoWord h = tt
 spelling_of_bundle said TooLong h = tt
 spelling_of_bundle said other h = absurd h
 
-pub spelling_at : (sources : List Source) (index : ℕ) (o : Obstacle) → IsSpellingObstacle o → IsObstacleAt sources index o
-spelling_at sources index NoWord h = tt
-spelling_at sources index TooLong h = tt
-spelling_at sources index other h = absurd h
-
 textless : (source : Source) (o : Obstacle) → source.text ≡ None → IsObstacle (file_seen source.file.now) o → IsSourceObstacle source o
 textless source NoPlace none h = absurd h
 textless source other none h = (none, h)
 
-obstacle_at : (sources : List Source) (index : ℕ) (o : Obstacle) → index < length sources → ((d : Source) → IsSourceObstacle (get_or sources index d) o) → IsObstacleAt sources index o
-obstacle_at sources index NoWord within each = tt
-obstacle_at sources index TooLong within each = tt
-obstacle_at sources index other within each = (within, each)
-
 pub unwritable_at : (sources : List Source) (i : ℕ) (s : Source) → i < length sources → s ≡ get_or sources i s → (u : Unwritable) → IsUnwritableAs s i u → IsUnwritableOf sources u
-unwritable_at sources i s within is u (index_is, none, h) = obstacle_at sources u.index u.obstacle (omega (arith, within, index_is)) (λ d. subst (λ x. IsSourceObstacle x u.obstacle) (sym (at_index d)) (textless s u.obstacle none h))
+unwritable_at sources i s within is u (index_is, none, h) = subst (λ o. IsObstacleOf sources o u.obstacle) (sym index_is) (within, λ d. subst (λ x. IsSourceObstacle x u.obstacle) (sym (at_index d)) (textless s u.obstacle none h))
   where
-    at_index : (d : Source) → get_or sources u.index d ≡ s
-    at_index d = ap (λ k. get_or sources k d) index_is ∙ same_Some (get_or sources i d) s (sym (slice_get-get_or sources i d within) ∙ slice_get-get_or sources i s within ∙ ap Some (sym is))
+    at_index : (d : Source) → get_or sources i d ≡ s
+    at_index d = same_Some (get_or sources i d) s (sym (slice_get-get_or sources i d within) ∙ slice_get-get_or sources i s within ∙ ap Some (sym is))

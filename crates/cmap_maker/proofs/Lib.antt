@@ -1,6 +1,9 @@
 pub mod BundleObstacles
+pub mod BundlesAlike
 pub mod BundlesWritten
+pub mod ChainsFollowed
 pub mod NumbersGathered
 pub mod TablesMade
+pub mod TextsAmid
 pub mod TextsBehind
 pub mod WordsMissing

@@ -58,7 +58,7 @@ fn check_names(sources: &[Source<'_, '_>]) -> Result<(), Fault<Unwritable>>
     for index in 0..sources.len() {
         if sources[index].name.index().is_none() {
             return Err(Fault::Refused(Unwritable {
-                index,
+                index: Some(index),
                 obstacle: Obstacle::NoPlace,
             }));
         }
@@ -97,7 +97,7 @@ fn slot_of<'s>(
         (Err(Fault::Memory), _) => Err(Fault::Memory),
         (Err(Fault::Refused(_)), Some(text)) => Ok(Slot::Text(text)),
         (Err(Fault::Refused(obstacle)), None) => Err(Fault::Refused(Unwritable {
-            index,
+            index: Some(index),
             obstacle,
         })),
     }
