@@ -1,6 +1,6 @@
 -- What it says of a file, and of a use, that the search for layers below it fails.
-use Rattle.std.proofs.Common.{◌≡◌, ℕ, suc, refl, sym, ap, ◌∙◌, subst, List, [], ◌∷◌, ◌++◌, true, inl, inr, append-nil, append_assoc}
-use Rattle.std.specs.Prelude.{◌⊎◌, Option, Some}
+use Rattle.std.proofs.Common.{◌≡◌, ℕ, suc, ◌-◌, arith, refl, sym, ap, ◌∙◌, subst, List, [], ◌∷◌, ◌++◌, true, inl, inr, append-nil, append_assoc}
+use Rattle.std.specs.Prelude.{◌⊎◌, Option, Some, None}
 use Rattle.std.specs.Borrow.{Bor}
 use Rattle.cmap_files.specs.Files.{File}
 use Rattle.cmap_values.specs.NamesSeen.{names_seen}
@@ -12,7 +12,9 @@ use Rattle.cmap_chains.specs.Layers.{AreLayers, Means}
 use Rattle.cmap_chains.specs.Refusals.{Blames, Fails, FailsToOpen, HasLayers, IsFault, IsFaultOfUses, IsFaultWithin, IsMissing, IsUseFault, IsUseFaultWithin, IsUsedAfter}
 use Rattle.cmap_chains.specs.declared.refusal.Cause.{Cause}
 use Rattle.cmap_chains.specs.declared.refusal.Cause.TheVariants.{Malformed, NoFile, ChainLength, OverBudget}
+use Rattle.cmap_chains.specs.Answers.{IsByName}
 use Rattle.cmap_chains.proofs.OneNameMore.{one_more}
+use Rattle.cmap_chains.proofs.OneUse.{Refuses-no_room, Refuses-unanswered}
 use Rattle.cmap_chains.proofs.WholeFile.{GoesOver-here, GoesOverAt-here, Refuses-no_file, StaysWithin-from_spent}
 
 pub fails_as : {K L : Type 0} {a : About K} {b : About L} {k : K} {l : L} {budget left start : Option ℕ} → (Refuses a k budget left → Refuses b l start left) → (GoesOver a k budget → GoesOver b l start) → (cause : Cause) → Fails a k budget left cause → Fails b l start left cause
@@ -22,7 +24,14 @@ fails_as refuses over ChainLength fails = refuses fails
 fails_as refuses over OverBudget fails = over fails
 
 module _ (tables : Option PrefixTables) (answer : List ℕ → Option (List ℕ) → Type 0) where
-  pub blames_missing : (budget : Option ℕ) (below : ℕ) (old new : List (Bor (List ℕ))) (name : Bor (List ℕ)) (cause : Cause) → new ≡ old ++ name ∷ [] → IsMissing tables answer below name.now cause → Blames (IsUseFaultWithin tables answer budget below name.now) old new cause
+  -- no file is found for a use
+  pub fails_missing : IsByName answer → (budget : Option ℕ) (below : ℕ) (name : List ℕ) (cause : Cause) → IsMissing None answer below name cause → Fails (of_use (Means tables) answer below) name budget budget cause
+  fails_missing by_name budget below name (Malformed stop) missing = absurd missing
+  fails_missing by_name budget below name NoFile (room, said) = Refuses-unanswered (Means tables) answer by_name name budget below (below - 1) (omega (arith, room)) said
+  fails_missing by_name budget below name ChainLength none = subst (λ most. Refuses (of_use (Means tables) answer most) name budget budget) (sym none) (Refuses-no_room (Means tables) answer name budget)
+  fails_missing by_name budget below name OverBudget missing = absurd missing
+
+  pub blames_missing : (budget : Option ℕ) (below : ℕ) (old new : List (Bor (List ℕ))) (name : Bor (List ℕ)) (cause : Cause) → new ≡ old ++ name ∷ [] → IsMissing None answer below name.now cause → Blames (IsUseFaultWithin tables answer budget below name.now) old new cause
   blames_missing budget below old new name (Malformed stop) is missing = absurd missing
   blames_missing budget below old new name NoFile is missing = (name.now ∷ [], ap names_seen is ∙ one_more old name, (refl, inl (missing, refl)))
   blames_missing budget below old new name ChainLength is missing = (name.now ∷ [], ap names_seen is ∙ one_more old name, (refl, inl (missing, refl)))

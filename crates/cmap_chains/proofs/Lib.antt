@@ -15,3 +15,7 @@ pub mod BytesPastFaults
 pub mod PastFaults
 pub mod SalvagedMaps
 pub mod Walked
+pub mod UsedAgain
+pub mod Checked
+pub mod Larger
+pub mod Stopped

@@ -9,3 +9,5 @@ pub mod NamedFiles
 pub mod Opened
 pub mod Salvage
 pub mod SalvageSeen
+pub mod KnownFiles
+pub mod Searches

@@ -1,23 +1,19 @@
 -- Why files have no layers: the file at fault, and what is wrong with it.
-use Rattle.std.specs.Prelude.{◌≡◌, ℕ, zero, suc, ◌<◌, ◌≤◌, List, [], ◌∷◌, ◌++◌, ◌⊎◌, length, All, Option, Some, None, Result}
+use Rattle.std.specs.Prelude.{◌≡◌, ℕ, zero, suc, ◌<◌, ◌≤◌, List, [], ◌∷◌, ◌++◌, ◌⊎◌, length, All, Option, Some, None}
 use Rattle.std.specs.Borrow.{Bor}
-use Rattle.std.specs.Global.{Vec}
 use Rattle.cmap_files.specs.Files.{File}
 use Rattle.cmap_values.specs.NamesSeen.{names_seen}
 use Rattle.cmap_binary.specs.BinaryFaults.{IsBinaryFault}
 use Rattle.cmap_binary.specs.BinaryFiles.{IsMarkedBinary}
 use Rattle.cmap_packed.specs.Bundles.{PrefixTables}
 use Rattle.cmap_values.specs.Only.{IsOnly, HoldsOfNone}
-use Rattle.cmap_values.specs.Outcomes.{DecidedBy, Outcome}
-use Rattle.cmap_values.specs.declared.fault.Fault.{Fault}
+use Rattle.cmap_values.specs.Outcomes.{DecidedBy}
 use Rattle.cmap_values.specs.declared.fault.Stop.{Stop}
 use Rattle.cmap_text.specs.TextFiles.{IsTextFile}
 use Rattle.cmap_text.specs.TextReading.{StopsText}
 use Rattle.cmap_layers.specs.Layers as said
-use Rattle.cmap_layers.specs.LayersSeen.{layers_seen}
-use Rattle.cmap_layers.specs.declared.layer.Layer.{Layer}
 use Rattle.cmap_chains.specs.Budgets.{IsOver, OpensFirst, OpensUseFirst, PassesAt}
-use Rattle.cmap_chains.specs.BytesSpent.{About, Leaves, Refuses, Resolves, GoesOver, of_use, of_uses}
+use Rattle.cmap_chains.specs.BytesSpent.{About, Leaves, Refuses, GoesOver, of_use, of_uses}
 use Rattle.cmap_chains.specs.Layers.{AreLayers, Means, OfAnswer}
 use Rattle.cmap_chains.specs.declared.refusal.Cause.{Cause}
 use Rattle.cmap_chains.specs.declared.refusal.Cause.TheVariants.{Malformed, NoFile, ChainLength, OverBudget}
@@ -103,9 +99,3 @@ Fails about key budget left OverBudget = GoesOver about key budget
 -- the names that are added lead to a fault
 abbrev pub Blames : (List (List ℕ) → Cause → Type 0) → List (Bor (List ℕ)) → List (Bor (List ℕ)) → Cause → Type 0
 Blames leads old new cause = (names : List (List ℕ)) × (names_seen new ≡ names_seen old ++ names) × leads names cause
-
--- what a search for the layers of a file or of uses answers: they are found, and no name is added, or the names that are added lead to a fault
-abbrev pub Searches : {Key : Type 0} → About Key → (List (List ℕ) → Cause → Type 0) → Key → Option ℕ → Option ℕ → List (Bor (List ℕ)) → List (Bor (List ℕ)) → Result (Vec Layer) (Fault Cause) → Type 0
-Searches about leads key budget left old new = Outcome
-    (λ layers. Resolves about key (layers_seen layers.items) budget left × (names_seen new ≡ names_seen old))
-    (λ cause. Fails about key budget left cause × Blames leads old new cause)

@@ -2,7 +2,9 @@
 
 ghost use Rattle.std.specs.Prelude.{◌≡◌, OnErr, OnOk, IfErr};
 ghost use Rattle.cmap_chains.specs.Budgets.{IsOver};
+ghost use Rattle.std.specs.Bool.{OnFalse, OnTrue};
 ghost use Rattle.cmap_chains.specs.BytesSpent.{Leaves};
+ghost use Rattle.cmap_chains.specs.KnownFiles.{SpendsAgain};
 ghost use Rattle.cmap_chains.specs.declared.refusal.Cause.TheVariants.{OverBudget};
 ghost use Rattle.cmap_values.specs.declared.fault.Fault.TheVariants.{Refused};
 
@@ -24,4 +26,22 @@ pub(crate) fn spend(left: &mut Option<u64>, count: usize) -> Result<(), Fault<Ca
         *left = Some(budget - count);
     }
     Ok(())
+}
+
+/// Takes from what is left of a budget, if there is one, what was spent before; whether that much is
+/// left.
+pub(crate) fn spend_again(left: &mut Option<u64>, spent: Option<u64>) -> bool
+    ensures spent { OnTrue result (SpendsAgain spent left.old left.new) }
+    ensures same { OnFalse result (left.new ≡ left.old) }
+{
+    let Some(budget) = *left else {
+        return true;
+    };
+    match spent {
+        Some(spent) if spent <= budget => {
+            *left = Some(budget - spent);
+            true
+        }
+        _ => false,
+    }
 }

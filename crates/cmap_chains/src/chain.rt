@@ -1,6 +1,6 @@
 //! Files over the files that they use.
 
-ghost use Rattle.std.specs.Prelude.{◌≡◌, ◌∷◌, ℕ, length, suc, Err, IfErr, IfOk, MatchResult, Option};
+ghost use Rattle.std.specs.Prelude.{◌≡◌, ◌≢◌, ◌∷◌, ℕ, length, Err, IfErr, IfOk, MatchResult, Option, Some};
 ghost use Rattle.cmap_values.specs.Only.{IsOnly};
 ghost use Rattle.cmap_packed.specs.BundleSeen.{tables_given};
 ghost use Rattle.cmap_files.specs.DeclarationsSeen.{lists_seen};
@@ -8,14 +8,17 @@ ghost use Rattle.cmap_files.specs.FilesSeen.{file_seen};
 ghost use Rattle.cmap_values.specs.NamesSeen.{names_seen};
 ghost use Rattle.cmap_values.specs.Outcomes.{Outcome, ReadsFile, RefusesWith};
 ghost use Rattle.cmap_chains.specs.Answers.{IsByName};
-ghost use Rattle.cmap_chains.specs.BytesSpent.{Leaves, of_file, of_use, of_uses};
+ghost use Rattle.cmap_chains.specs.BytesSpent.{Leaves};
 ghost use Rattle.cmap_layers.specs.Layers.{layer_of};
 ghost use Rattle.cmap_chains.specs.Layers.{Means};
 ghost use Rattle.cmap_layers.specs.LayersSeen.{layers_seen, metadata_seen};
-ghost use Rattle.cmap_chains.specs.Refusals.{FailsToOpen, IsDecidedAsText, IsFaultOfUses, IsFirstFault, IsFaultWithin, IsUseFaultWithin, Searches};
+ghost use Rattle.cmap_chains.specs.Refusals.{FailsToOpen, IsDecidedAsText, IsFirstFault, IsMissing};
+ghost use Rattle.cmap_chains.specs.Searches.{KnowsFiles, SearchesFile, SearchesUse, SearchesUses};
 
 use crate::budget::spend;
+use crate::check::check_used;
 use crate::refusal::Cause;
+use crate::search::Search;
 use crate::source::Source;
 use cmap_binary::{is_marked_binary, read_binary};
 use cmap_files::declarations::Lists;
@@ -34,9 +37,9 @@ pub(crate) const MOST_FILES: u8 = 16;
 /// The layers of a file, its own first. It is refused where it or a file that it uses is outside the
 /// grammar, a use has no answer, or more than `below` files stand under it in a chain.
 ///
-/// The length of each file that is opened, this one too, is first taken from what is `left` of the
+/// The length of each file that is opened, this one too, is first taken from what is left of the
 /// budget. A file is read whole before those that it uses are asked for. Where one is refused, the
-/// names that lead from this file to it are added to `names`.
+/// names that lead from this file to it are added to those of the search.
 #[cycle(layers)]
 pub(crate) fn find_layers<'a, S: Source>(
     alloc: Global,
@@ -44,22 +47,21 @@ pub(crate) fn find_layers<'a, S: Source>(
     bundle: Option<&Bundle<'_>>,
     source: &'a S,
     below: u8,
-    left: &mut Option<u64>,
-    names: &mut Vec<&'a [u8]>,
+    search: &mut Search<'a>,
 ) -> Result<Vec<Layer>, Fault<Cause>>
     requires can_ask { S.can_ask source.now }
     requires by_name { IsByName (S.answers source.now) }
-    ensures { Searches (of_file (Means (tables_given bundle.entry)) (S.answers source.now) (suc below))
-        (IsFaultWithin (tables_given bundle.entry) (S.answers source.now) left.old (suc below) bytes.now)
-        bytes.now left.old left.new names.old.items names.new.items result }
+    requires known { KnowsFiles (tables_given bundle) (S.answers source.now) search.old }
+    ensures { SearchesFile (tables_given bundle.entry) (S.answers source.now) below bytes.now
+        search.old search.new result }
 {
-    let file = open_file(alloc, bytes, bundle, left)?;
-    let base = find_base(alloc, &file.uses, bundle, source, below, left, names);
+    let file = open_file(alloc, bytes, bundle, &mut search.left)?;
+    let base = find_base(alloc, &file.uses, bundle, source, below, search);
     put_over_found(alloc, file, base)
 }
 
 /// What a file says, of which the length is first taken from what is `left` of the budget.
-fn open_file<'a>(
+pub(crate) fn open_file<'a>(
     alloc: Global,
     bytes: &'a [u8],
     bundle: Option<&Bundle<'_>>,
@@ -93,8 +95,8 @@ fn read_within<'a>(
     }
 }
 
-/// The layers of the last one of the files that uses name; none where there is no use. Each use is
-/// resolved.
+/// The layers of the last one of the files that uses name; none where there is no use. The others are
+/// checked.
 #[cycle(layers)]
 fn find_base<'a, S: Source>(
     alloc: Global,
@@ -102,24 +104,24 @@ fn find_base<'a, S: Source>(
     bundle: Option<&Bundle<'_>>,
     source: &'a S,
     below: u8,
-    left: &mut Option<u64>,
-    names: &mut Vec<&'a [u8]>,
+    search: &mut Search<'a>,
 ) -> Result<Vec<Layer>, Fault<Cause>>
     requires can_ask { S.can_ask source.now }
     requires by_name { IsByName (S.answers source.now) }
-    ensures { Searches (of_uses (of_use (Means (tables_given bundle.entry)) (S.answers source.now) below))
-        (IsFaultOfUses (tables_given bundle.entry) (S.answers source.now) left.old below (names_seen uses.now))
-        (names_seen uses.now) left.old left.new names.old.items names.new.items result }
+    requires known { KnowsFiles (tables_given bundle) (S.answers source.now) search.old }
+    ensures { SearchesUses (tables_given bundle.entry) (S.answers source.now) below
+        (names_seen uses.now) search.old search.new result }
 {
-    let mut base = Vec::new(alloc);
-    for name in uses {
-        base = find_used(alloc, *name, bundle, source, below, left, names)?;
+    let Some((last, others)) = uses.split_last() else {
+        return Ok(Vec::new(alloc));
+    };
+    for name in others {
+        check_used(alloc, *name, bundle, source, below, search)?;
     }
-    Ok(base)
+    find_used(alloc, *last, bundle, source, below, search)
 }
 
-/// The layers of the file that a use names. It is refused where `below` is 0, since no file may stand
-/// under the one that uses it, where the name has no answer, and where the file is refused.
+/// The layers of the file that a use names.
 #[cycle(layers)]
 fn find_used<'a, S: Source>(
     alloc: Global,
@@ -127,28 +129,42 @@ fn find_used<'a, S: Source>(
     bundle: Option<&Bundle<'_>>,
     source: &'a S,
     below: u8,
-    left: &mut Option<u64>,
-    names: &mut Vec<&'a [u8]>,
+    search: &mut Search<'a>,
 ) -> Result<Vec<Layer>, Fault<Cause>>
     requires can_ask { S.can_ask source.now }
     requires by_name { IsByName (S.answers source.now) }
-    ensures { Searches (of_use (Means (tables_given bundle.entry)) (S.answers source.now) below)
-        (IsUseFaultWithin (tables_given bundle.entry) (S.answers source.now) left.old below name.now)
-        name.now left.old left.new names.old.items names.new.items result }
+    requires known { KnowsFiles (tables_given bundle) (S.answers source.now) search.old }
+    ensures { SearchesUse (tables_given bundle.entry) (S.answers source.now) below name.now
+        search.old search.new result }
 {
-    names.push(name)?;
-    if below == 0 {
-        return Err(Fault::Refused(Cause::ChainLength));
-    }
-    let Some(bytes) = source.file(name) else {
-        return Err(Fault::Refused(Cause::NoFile));
-    };
-    match find_layers(alloc, bytes, bundle, source, below - 1, left, names) {
+    search.names.push(name)?;
+    let bytes = file_used(name, source, below)?;
+    match find_layers(alloc, bytes, bundle, source, below - 1, search) {
         Ok(layers) => {
-            names.pop();
+            search.names.pop();
             Ok(layers)
         }
         Err(fault) => Err(fault),
+    }
+}
+
+/// The file that a use names. It is refused where `below` is 0, since no file may stand under the one
+/// that uses it, and where the name has no answer.
+pub(crate) fn file_used<'a, S: Source>(
+    name: &[u8],
+    source: &'a S,
+    below: u8,
+) -> Result<&'a [u8], Fault<Cause>>
+    requires can_ask { S.can_ask source.now }
+    ensures { Outcome (λ bytes. (below ≢ 0) × S.answers source.now name.now (Some bytes.now))
+        (IsMissing None (S.answers source.now) below name.now) result }
+{
+    if below == 0 {
+        return Err(Fault::Refused(Cause::ChainLength));
+    }
+    match source.file(name) {
+        Some(bytes) => Ok(bytes),
+        None => Err(Fault::Refused(Cause::NoFile)),
     }
 }
 

@@ -13,6 +13,7 @@ ghost use Rattle.cmap_chains.specs.declared.refusal.Cause.TheVariants as Cause;
 use crate::chain::{MOST_FILES, find_layers, read_file};
 use crate::identity::identity_named;
 use crate::refusal::Refusal;
+use crate::search::Search;
 use crate::source::Source;
 use cmap_layers::layers::Layers;
 use cmap_packed::Bundle;
@@ -51,12 +52,13 @@ pub fn read_layers<'a, S: Source>(
         (names_seen refusal.names.items) refusal.cause)) }
     ensures few { IfErr result (RefusesWith (λ refusal. length refusal.names.items ≤ 16)) }
 {
-    let mut left = budget;
-    let mut names = Vec::new(alloc);
-    let below = MOST_FILES - 1;
-    match find_layers(alloc, data, bundle, source, below, &mut left, &mut names) {
+    let mut search = Search::new(alloc, budget);
+    match find_layers(alloc, data, bundle, source, MOST_FILES - 1, &mut search) {
         Ok(layers) => Ok(Layers::of(layers)),
-        Err(Fault::Refused(cause)) => Err(Fault::Refused(Refusal { names, cause })),
+        Err(Fault::Refused(cause)) => Err(Fault::Refused(Refusal {
+            names: search.names,
+            cause,
+        })),
         Err(Fault::Memory) => Err(Fault::Memory),
     }
 }

@@ -3,11 +3,14 @@
 
 mod budget;
 mod chain;
+mod check;
 mod files;
 mod identity;
+mod known;
 pub mod named_files;
 pub mod refusal;
 pub mod salvage;
+mod search;
 pub mod source;
 
 pub use files::{open_layers, read_layers, uses};

@@ -1,9 +1,10 @@
-use Rattle.std.proofs.Common.{◌≡◌, drop, ◌+◌}
+use Rattle.std.proofs.Common.{◌≡◌, ◌+◌, List, [], ◌∷◌, ◌++◌, drop}
 use Rattle.cmap_packed.specs.BundleSeen.{tables_given}
 use Rattle.cmap_values.specs.NamesSeen.{names_seen}
 use Rattle.cmap_chains.specs.BytesSpent.{of_use}
+use Rattle.cmap_chains.specs.KnownFiles.{AreKnown}
 use Rattle.cmap_chains.specs.Layers.{Means}
-use Rattle.cmap_layers.specs.LayersSeen.{layers_seen}
+use Rattle.cmap_layers.specs.Layers.{Layer}
 use Rattle.cmap_chains.proofs.UsesInOrder.{AreUsed}
 use Rattle.cmap_chains.proofs.chain.+layers.Given as goal
 
@@ -18,5 +19,9 @@ decreases-find_used g l = l.below + (l.below + l.below)
 
 abbrev pub invariant-find_base-loop-name : goal.invariant-find_base-loop-name
 invariant-find_base-loop-name g l =
-    let uses = names_seen l.uses in
-    AreUsed (of_use (Means (tables_given l.bundle)) (g.S.Source.answers l.source) l.below) uses (drop l.name-index uses) (layers_seen l.base.items) l.initial.left l.left × (names_seen l.names.items ≡ names_seen l.initial.names.items)
+    let means = Means (tables_given l.bundle) in let answer = g.S.Source.answers l.source in
+    record {
+      used : (base : List Layer) × AreUsed (of_use means answer l.below) (names_seen l.uses) (drop l.name-index (names_seen l.others) ++ l.last.now ∷ []) base l.initial.search.left l.search.left;
+      names : names_seen l.search.names.items ≡ names_seen l.initial.search.names.items;
+      known : AreKnown means answer l.search.known;
+    }

@@ -1,0 +1,49 @@
+-- A file that is known has layers again where it is used again, and what it spends is spent again.
+use Rattle.std.proofs.Common.{◌≡◌, ◌∙◌, refl, sym, subst, arith, ℕ, List, Bool, true, false, cond, sum, Option, Some, None}
+use Rattle.std.specs.Prelude.{IfSome, bytes_eq}
+use Rattle.std.proofs.lemmas.Slice.Eq.{bytes_eq-Decides}
+use Rattle.cmap_files.specs.Files.{File}
+use Rattle.cmap_chains.specs.BytesSpent.{Leaves, of_use}
+use Rattle.cmap_chains.specs.KnownFiles.{AreKnown, IsKnown, IsSpent, ResolvesFrom, SpendsAgain, file_known}
+use Rattle.cmap_chains.specs.declared.known.KnownFile.{KnownFile}
+use Rattle.cmap_chains.specs.declared.known.KnownFiles.{KnownFiles}
+
+leaves_again : (before after : Option ℕ) (count : ℕ) → Leaves before count after → (spent : Option ℕ) → IfSome spent (IsSpent before after) → (budget left : Option ℕ) → SpendsAgain spent budget left → Leaves budget count left
+leaves_again before after count was spent is None left again = again
+leaves_again before after count was None is (Some budget) left again = absurd again
+leaves_again None after count was (Some n) is (Some budget) left again = absurd is
+leaves_again (Some start) None count was (Some n) is (Some budget) left again = absurd is
+leaves_again (Some start) (Some end) count was (Some n) is (Some budget) None again = absurd again
+leaves_again (Some start) (Some end) count was (Some n) is (Some budget) (Some left) again = omega (arith, was, is, again)
+
+module _ (means : List ℕ → File → Type 0) (answer : List ℕ → Option (List ℕ) → Type 0) where
+  pub IsKnown-from_found : (name : List ℕ) (file : KnownFile) (before after : Option ℕ) → ResolvesFrom (of_use means answer) name file.height before after → IfSome file.spent (IsSpent before after) → IsKnown means answer name file
+  IsKnown-from_found name file before after from is = λ budget left again. record {
+    from = λ most le.
+        let found = from.from most le in (
+          found.0,
+          record {
+            only = found.1.only;
+            spent = record {
+              lengths = found.1.spent.lengths;
+              opened = found.1.spent.opened;
+              leaves = leaves_again before after (sum found.1.spent.lengths) found.1.spent.leaves file.spent is budget left again;
+            };
+          },
+        );
+  }
+
+  -- no file is known
+  pub AreKnown-none : (known : KnownFiles) → ((name : List ℕ) → file_known known name ≡ None) → AreKnown means answer known
+  AreKnown-none known none = λ name file is. let same : None ≡ Some file = sym (none name) ∙ is in absurd (cc)
+
+  -- one more is
+  module _ (old new : KnownFiles) (name : List ℕ) (file : KnownFile) (known : AreKnown means answer old) (is_known : IsKnown means answer name file) where
+    known_at : (other : List ℕ) (found : KnownFile) (here : Bool) → bytes_eq name other ≡ here → cond here (Some file) (file_known old other) ≡ Some found → IsKnown means answer other found
+    known_at other found true here is =
+        let same : file ≡ found = cc in
+        subst (λ n. IsKnown means answer n found) ((bytes_eq-Decides name other).0 here) (subst (IsKnown means answer name) same is_known)
+    known_at other found false here is = known other found is
+
+    pub AreKnown-more : ((other : List ℕ) → file_known new other ≡ cond (bytes_eq name other) (Some file) (file_known old other)) → AreKnown means answer new
+    AreKnown-more added = λ other found is. known_at other found (bytes_eq name other) refl (sym (added other) ∙ is)
