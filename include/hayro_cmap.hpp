@@ -18,6 +18,7 @@
 #include "hayro_cmap.h"
 
 #include <algorithm>
+#include <cerrno>
 #include <cstddef>
 #include <cstdint>
 #include <cstdlib>
@@ -31,6 +32,7 @@
 #include <sstream>
 #include <string>
 #include <string_view>
+#include <system_error>
 #include <type_traits>
 #include <utility>
 #include <variant>
@@ -748,18 +750,23 @@ inline std::optional<std::string> bytes_of(const std::filesystem::path &path) {
     std::error_code fault;
     if (!std::filesystem::is_regular_file(path, fault)) return std::nullopt;
     std::ifstream in(path, std::ios::binary);
-    std::string bytes{std::istreambuf_iterator<char>(in), {}};
-    if (!in)
-        throw std::filesystem::filesystem_error("a CMap file can't be read", path, std::error_code());
-    return bytes;
+    std::ostringstream bytes;
+    // A read that fails sets badbit. An iterator over the buffer would throw std::ios_base::failure.
+    if (in) bytes << in.rdbuf();
+    if (!in || bytes.bad())
+        throw std::filesystem::filesystem_error(
+            "a CMap file can't be read", path, std::error_code(errno, std::generic_category()));
+    return bytes.str();
 }
 
 // The folders in a folder, in order; none where it can't be read.
 inline std::vector<std::filesystem::path> subfolders(const std::filesystem::path &folder) {
     std::vector<std::filesystem::path> found;
     std::error_code fault;
-    for (const auto &entry : std::filesystem::directory_iterator(folder, fault))
-        if (std::filesystem::is_directory(entry.symlink_status(fault))) found.push_back(entry.path());
+    std::filesystem::directory_iterator entry(folder, fault), end;
+    for (; !fault && entry != end; entry.increment(fault))
+        if (std::error_code none; std::filesystem::is_directory(entry->symlink_status(none)))
+            found.push_back(entry->path());
     std::sort(found.begin(), found.end());
     return found;
 }
