@@ -33,7 +33,7 @@ module _ (layers : List Layer) (len cid next last : ℕ) (stretch : CidStretch) 
     codes = λ code lt.
         elim (cases_lt code next) [
           | inl before ↦ are.codes code before
-          | inr from ↦ (λ is. absurd (none code from (omega arith) (sym (same code from (omega arith)) ∙ is)), λ found. absurd (not_before code from found))
+          | inr from ↦ (λ is. absurd (none code from (omega arith) (sym (same.cids code from (omega arith)) ∙ is)), λ found. absurd (not_before code from found))
         ];
     within = earlier;
     ordered = are.ordered;
@@ -52,11 +52,11 @@ module _ (layers : List Layer) (len cid next last : ℕ) (stretch : CidStretch) 
                 ],
           )
           | inr from ↦ (
-            λ is. Any-push (IsIn code) ranges range ((among.3 code from (omega arith)).0 (sym (same code from (omega arith)) ∙ is)),
+            λ is. Any-push (IsIn code) ranges range ((among.3 code from (omega arith)).0 (sym (same.cids code from (omega arith)) ∙ is)),
             λ found.
                 elim (Contains-push_cases ranges range found.1 (found.0, found.2, found.3)) [
                   | inl old ↦ absurd (not_before code from (old.0, found.1, old.1, old.2, found.4))
-                  | inr here ↦ same code from (omega arith) ∙ (among.3 code from (omega arith)).1 (rw (← here) at found.4)
+                  | inr here ↦ same.cids code from (omega arith) ∙ (among.3 code from (omega arith)).1 (rw (← here) at found.4)
                 ],
           )
         ];

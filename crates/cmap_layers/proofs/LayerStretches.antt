@@ -1,11 +1,13 @@
 -- What a layer decides for codes in a row, by what its lists say of them.
-use Rattle.std.proofs.Common.{◌≡◌, ℕ, ◌≤◌, List, ◌∷◌, Option, Some, None, map, refl, ap, sym, ◌∙◌, true}
-use Rattle.std.specs.Prelude.{◌&&◌, nat_le, option_map, unwrap_or}
+use Rattle.std.proofs.Common.{◌≡◌, ℕ, ◌+◌, ◌<◌, ◌≤◌, ◌^◌, List, ◌∷◌, Option, Some, None, arith, get_or, inl, inr, length, map, min, refl, ap, subst, sym, ◌∙◌, true}
+use Rattle.std.proofs.lemmas.Bool.{cases_lt}
+use Rattle.std.proofs.lemmas.List.{get_or-map, length-map}
+use Rattle.std.specs.Prelude.{◌&&◌, ◌⊎◌, Any, IsSomeAnd, nat_le, option_map, unwrap_or}
 use Rattle.std.specs.Option.{option_or}
-use Rattle.cmap_runs.specs.Stretches.{IsStretch}
+use Rattle.cmap_runs.specs.Stretches.{IsLongest, IsStretch}
 use Rattle.cmap_values.specs.CodeLengths.{length_of}
 use Rattle.cmap_values.specs.DeclarationsSeen.{bf_entry_seen, bf_range_span, cid_entry_seen, cid_range_span, entries_seen}
-use Rattle.cmap_values.specs.Files.{BfEntry, CidEntry}
+use Rattle.cmap_values.specs.Files.{BfEntry, CidEntry, of_length}
 use Rattle.cmap_values.specs.declared.code_length.CodeLength.{CodeLength}
 use Rattle.cmap_values.specs.declared.code_length.CodeLength.TheVariants.{One, Two, Three, Four}
 use Rattle.cmap_values.specs.declared.declarations.BfRange.{BfRange}
@@ -13,7 +15,11 @@ use Rattle.cmap_values.specs.declared.declarations.CidRange.{CidRange}
 use Rattle.cmap_layers.specs.Layers.{Layer}
 use Rattle.cmap_layers.specs.LayersDecide.{decided_in, deciding_bf, layer_cid}
 use Rattle.cmap_layers.specs.Lookups.{bf_span, cid_in, cid_of, cid_span, last_bf, last_cid}
-use Rattle.cmap_layers.proofs.LastFound.{decided_cid-decided_in, last_of-map}
+use Rattle.cmap_layers.specs.CodeStretches.{ChangesAfter, EndsAfter, EndsRow}
+use Rattle.cmap_layers.specs.LayersSeen.{layer_seen, layers_seen}
+use Rattle.cmap_layers.specs.declared.layer.Layer as declared
+use Rattle.cmap_layers.specs.declared.stretches.Cids.{Cids}
+use Rattle.cmap_layers.proofs.LastFound.{decided_cid-decided_in, last_of-map, spans-map}
 use Rattle.cmap_layers.proofs.LayersSearched.{has_length}
 
 -- the last declaration of a list that contains a code of a stretch
@@ -39,6 +45,50 @@ is_length Four = refl
 
 pub has_code_length : (layers : List Layer) (code : ℕ) (len : CodeLength) → cid_of layers code (length_of len) ≡ cid_in layers code (length_of len)
 has_code_length layers code len = has_length layers code (length_of len) (is_length len)
+
+-- ---- how far stretches go
+-- a stretch of a table is one of the list that it holds
+pub longest_cids : (table : List CidRange) (entries : List CidEntry) (first last : ℕ) → entries_seen table ≡ entries → IsLongest (map cid_range_span table) first last → IsLongest (map cid_span entries) first last
+longest_cids table entries first last seen is = subst (λ spans. IsLongest spans first last) (sym (spans-map cid_span cid_entry_seen table) ∙ ap (map cid_span) seen) is
+
+pub longest_texts : (table : List BfRange) (entries : List BfEntry) (first last : ℕ) → map bf_entry_seen table ≡ entries → IsLongest (map bf_range_span table) first last → IsLongest (map bf_span entries) first last
+longest_texts table entries first last seen is = subst (λ spans. IsLongest spans first last) (sym (spans-map bf_span bf_entry_seen table) ∙ ap (map bf_span) seen) is
+
+-- what holds at either of two ends holds at the one that comes first
+pub at_lesser : (P : ℕ → Type 0) (one other lesser : ℕ) → lesser ≡ min one other → (one + 1 < 2 ^ 32 → P one) → (other + 1 < 2 ^ 32 → P other) → lesser + 1 < 2 ^ 32 → P lesser
+at_lesser P one other lesser is here there small =
+    elim (cases_lt one other) [
+      | inl before ↦ let same : one ≡ lesser = omega arith in subst P same (here (omega arith))
+      | inr after ↦ let same : other ≡ lesser = omega arith in subst P same (there (omega arith))
+    ]
+
+-- texts that end, of a layer
+pub text_ends : (layer : Layer) (len first last : ℕ) → IsLongest (map bf_span layer.lists.bfs) first last ⊎ EndsRow layer.lists.bfs last → EndsAfter len first last layer
+text_ends layer len first last (inl longest) = inl (inr (inr longest))
+text_ends layer len first last (inr row) = inr row
+
+-- the list of CIDs or that of notdefs, whichever ends first
+pub lists_end : (layer : Layer) (len first cids notdefs lesser : ℕ) → lesser ≡ min cids notdefs → IsLongest (map cid_span (of_length layer.lists.cids len)) first cids
+    → IsLongest (map cid_span (of_length layer.lists.notdefs len)) first notdefs → lesser + 1 < 2 ^ 32 → ChangesAfter len first lesser layer
+lists_end layer len first cids notdefs lesser is of_cids of_notdefs = at_lesser (λ last. ChangesAfter len first last layer) cids notdefs lesser is (λ _. inl of_cids) (λ _. inr (inl of_notdefs))
+
+-- where a layer decides nothing, no CIDs end
+pub no_cids : (Ends : Type 0) (P : Cids → Type 0) → Ends ⊎ IsSomeAnd None P → Ends
+no_cids Ends P (inl ends) = ends
+no_cids Ends P (inr none) = absurd none
+
+-- what holds of the layer at an index holds of some layer
+pub at_layer : (P : Layer → Type 0) (layers : List declared.Layer) (k : ℕ) (layer : declared.Layer) → k < length layers → layer ≡ get_or layers k layer → P (layer_seen layer) → Any P (layers_seen layers)
+at_layer P layers k layer within is holds =
+    (k, layer_seen layer, omega (arith, length-map layers layer_seen), get_or-map layer_seen layers k layer (layer_seen layer) within ∙ ap layer_seen (sym is), holds)
+
+-- the texts of a layer, or those of the layers above it, whichever end first
+pub texts_end : (layers : List declared.Layer) (k : ℕ) (layer : declared.Layer) (table : List BfRange) (first above here lesser : ℕ) → k < length layers → layer ≡ get_or layers k layer → map bf_entry_seen table ≡ (layer_seen layer).lists.bfs
+    → lesser ≡ min above here → (above + 1 < 2 ^ 32 → Any (λ layer. IsLongest (map bf_span layer.lists.bfs) first above) (layers_seen layers)) → IsLongest (map bf_range_span table) first here
+    → lesser + 1 < 2 ^ 32 → Any (λ layer. IsLongest (map bf_span layer.lists.bfs) first lesser) (layers_seen layers)
+texts_end layers k layer table first above here lesser within is seen least of_above of_here =
+    at_lesser (λ last. Any (λ layer. IsLongest (map bf_span layer.lists.bfs) first last) (layers_seen layers)) above here lesser least of_above
+    (λ _. at_layer (λ layer. IsLongest (map bf_span layer.lists.bfs) first here) layers k layer within is (longest_texts table (layer_seen layer).lists.bfs first here seen of_here))
 
 -- the declaration of a text, of the first layer that has one
 pub found_text : (table : List BfRange) (entries : List BfEntry) (first last code : ℕ) (d : Option BfRange) → map bf_entry_seen table ≡ entries → IsStretch bf_range_span table first last d

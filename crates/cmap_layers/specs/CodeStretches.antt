@@ -1,9 +1,11 @@
 -- What codes in a row stand for, and the codes of a CID.
-use Rattle.std.specs.Prelude.{◌≡◌, ◌↔◌, ℕ, ◌+◌, ◌-◌, ◌<◌, ◌≤◌, List, All, AllPairs, Any, Option, Some, None, MatchOption, option_and_then, option_map}
+use Rattle.std.specs.Prelude.{◌≡◌, ◌↔◌, ◌⊎◌, ℕ, ◌+◌, ◌-◌, ◌%◌, ◌<◌, ◌≤◌, ◌^◌, List, All, AllPairs, Any, Option, Some, None, IsSomeAnd, MatchOption, length, map, option_and_then, option_map, slice_index_or}
 use Rattle.cmap_runs.specs.declared.runs.Range.{Range}
-use Rattle.cmap_values.specs.Files.{BfEntry}
+use Rattle.cmap_values.specs.Files.{BfEntry, of_length}
 use Rattle.cmap_layers.specs.Layers.{Layer}
-use Rattle.cmap_layers.specs.Lookups.{bf_at, bf_of, cid_of}
+use Rattle.cmap_runs.specs.Stretches.{IsLongest}
+use Rattle.cmap_layers.specs.Lookups.{bf_at, bf_of, bf_span, cid_of, cid_span, last_bf}
+use Rattle.cmap_layers.specs.LayersDecide.{deciding_bf}
 use Rattle.cmap_layers.specs.declared.stretches.Cids.{Cids}
 use Rattle.cmap_layers.specs.declared.stretches.Cids.TheVariants.{Absent, Same, CountOn}
 use Rattle.cmap_layers.specs.declared.stretches.CidStretch.{CidStretch}
@@ -14,13 +16,42 @@ cid_after Absent k = None
 cid_after (Same cid) k = Some cid
 cid_after (CountOn cid) k = Some (cid + k)
 
--- the codes of len bytes from the first to the last one have these CIDs
-abbrev pub IsCidStretch : List Layer → ℕ → ℕ → CidStretch → Type 0
-IsCidStretch layers len first stretch = (code : ℕ) → first ≤ code → code ≤ stretch.last → cid_of layers code len ≡ cid_after stretch.cids (code - first)
+-- in a list of the layer another declaration decides the code after the last one than decides the first: of CIDs, of notdefs, of texts
+abbrev pub ChangesAfter : ℕ → ℕ → ℕ → Layer → Type 0
+ChangesAfter len first last layer = IsLongest (map cid_span (of_length layer.lists.cids len)) first last
+    ⊎ (IsLongest (map cid_span (of_length layer.lists.notdefs len)) first last ⊎ IsLongest (map bf_span layer.lists.bfs) first last)
 
--- the texts of the codes from the first to the last one are those that the declaration gives, or none
-abbrev pub IsTextStretch : List Layer → ℕ → ℕ → Option BfEntry → Type 0
-IsTextStretch layers first last declaration = (code : ℕ) → first ≤ code → code ≤ last → bf_of layers code ≡ option_and_then (λ entry. bf_at entry code) declaration
+-- at this offset the last unit of a text is the last of a row of 1,024 units, by which surrogates lie
+abbrev pub IsRowEnd : List ℕ → ℕ → Type 0
+IsRowEnd units offset = (slice_index_or units (length units - 1) 0 + offset) % 1024 ≡ 1023
+
+-- the text that is declared for the last code is such a one
+abbrev pub EndsRow : List BfEntry → ℕ → Type 0
+EndsRow entries last = (entry : BfEntry) × (last_bf entries last ≡ Some entry) × IsRowEnd entry.units (last - entry.start)
+
+-- what the layer decides for the first code ends with the last one
+abbrev pub EndsAfter : ℕ → ℕ → ℕ → Layer → Type 0
+EndsAfter len first last layer = ChangesAfter len first last layer ⊎ EndsRow layer.lists.bfs last
+
+-- this many codes after the first the CIDs reach the last one of 32 bits
+abbrev pub EndsCids : Cids → ℕ → Type 0
+EndsCids (CountOn cid) more = cid + more ≡ 2 ^ 32 - 1
+EndsCids _ more = ⊥
+
+-- the CIDs of the codes of len bytes from the first to the last one
+pub record IsCidStretch (layers : List Layer) (len first : ℕ) (stretch : CidStretch) : Type 0 where
+  pub cids : (code : ℕ) → first ≤ code → code ≤ stretch.last → cid_of layers code len ≡ cid_after stretch.cids (code - first)
+  -- it ends, unless with the last code of 32 bits, where another declaration decides, where a row of texts ends or with the last CID
+  pub longest : stretch.last + 1 < 2 ^ 32 → Any (EndsAfter len first stretch.last) layers ⊎ EndsCids stretch.cids (stretch.last - first)
+
+-- the texts of the codes from the first to the last one
+pub record IsTextStretch (layers : List Layer) (first last : ℕ) (declaration : Option BfEntry) : Type 0 where
+  -- the declaration decides each of them, or none does
+  pub decides : (code : ℕ) → first ≤ code → code ≤ last → deciding_bf layers code ≡ declaration
+  -- so they are those that it gives
+  pub texts : (code : ℕ) → first ≤ code → code ≤ last → bf_of layers code ≡ option_and_then (λ entry. bf_at entry code) declaration
+  -- in the list of some layer another declaration decides the code after the last one, if there is such a code
+  pub longest : last + 1 < 2 ^ 32 → Any (λ layer. IsLongest (map bf_span layer.lists.bfs) first last) layers
 
 -- the code lies in the range
 abbrev pub IsIn : ℕ → Range → Type 0
@@ -33,6 +64,10 @@ pub record AreCodesBelow (layers : List Layer) (len cid limit : ℕ) (ranges : L
   pub ordered : AllPairs (λ range later. range.end < later.start) ranges
 
 -- ---- private aid
+-- what a layer decides from the first to the last code goes on with the code after it, unless one of these ends it
+abbrev pub IsLayerLongest : Layer → ℕ → ℕ → ℕ → Option Cids → Type 0
+IsLayerLongest layer len first last cids = last + 1 < 2 ^ 32 → EndsAfter len first last layer ⊎ IsSomeAnd cids (λ these. EndsCids these (last - first))
+
 -- for each of the codes from the first to the last one it is decided that it has these CIDs, or for none is it
 abbrev pub Decides : (ℕ → Option (Option ℕ)) → ℕ → ℕ → Option Cids → Type 0
 Decides decision first last cids = (code : ℕ) → first ≤ code → code ≤ last → decision code ≡ option_map (λ these. cid_after these (code - first)) cids

@@ -1,4 +1,4 @@
--- Private aid: what one layer decides by itself, which the layers below can't change.
+-- What one layer decides by itself, which the layers below can't change; and the declaration that decides the text of a code.
 use Rattle.std.specs.Prelude.{ℕ, List, [], ◌∷◌, Option, Some, None, option_and_then}
 use Rattle.std.specs.Option.{option_or}
 use Rattle.cmap_tokens.specs.Texts.{only_character}

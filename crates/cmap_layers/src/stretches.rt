@@ -1,16 +1,17 @@
 //! What codes in a row stand for over all layers, by stretches of codes for which the same declarations
 //! decide; and so the codes of a CID.
 
-ghost use Rattle.std.specs.Prelude.{◌≡◌, ◌+◌, ◌-◌, ◌^◌, ◌<◌, ◌≤◌, ℕ, IfOk, IfSome, Some, map, option_map};
+ghost use Rattle.std.specs.Prelude.{◌≡◌, ◌⊎◌, ◌+◌, ◌-◌, ◌^◌, ◌<◌, ◌≤◌, ℕ, IfOk, IfSome, IsSomeAnd, Some, map, option_map};
 ghost use Rattle.std.specs.Option.{option_copied};
-ghost use Rattle.cmap_runs.specs.Stretches.{IsStretch};
+ghost use Rattle.cmap_runs.specs.Stretches.{IsLongest, IsStretch};
 ghost use Rattle.cmap_tokens.specs.Texts.{only_character, text_at};
 ghost use Rattle.cmap_values.specs.CodeLengths.{length_of};
 ghost use Rattle.cmap_values.specs.DeclarationsSeen.{bf_entry_seen, cid_entry_seen};
-ghost use Rattle.cmap_layers.specs.CodeStretches.{AreCodesAmong, AreCodesBelow, Decides, IsCidStretch, IsTextStretch};
+ghost use Rattle.cmap_layers.specs.CodeStretches.{AreCodesAmong, AreCodesBelow, Decides, EndsCids, EndsRow, IsCidStretch, IsLayerLongest, IsRowEnd, IsTextStretch};
+ghost use Rattle.cmap_values.specs.UnitsSeen.{units_seen};
 ghost use Rattle.cmap_layers.specs.LayersDecide.{layer_cid};
 ghost use Rattle.cmap_layers.specs.LayersSeen.{layer_seen};
-ghost use Rattle.cmap_layers.specs.Lookups.{bf_at, cid_at};
+ghost use Rattle.cmap_layers.specs.Lookups.{bf_at, bf_span, cid_at};
 ghost use Rattle.cmap_layers.specs.RowsWritten.{character_said};
 
 use crate::layer::Layer;
@@ -60,8 +61,9 @@ struct LayerStretch {
 
 impl Layers {
     /// The CIDs of the codes of this length from `first` on, as `cid` gives them, as far as one
-    /// declaration of each list decides. A caller who goes on with the code after the last one has
-    /// those of all codes.
+    /// declaration of each list decides; it may end before that where a text declares a character in place
+    /// of a CID, since these count on in rows, and with the last CID. A caller who goes on with the code
+    /// after the last one has those of all codes.
     pub fn cid_stretch(&self, first: u32, len: CodeLength) -> CidStretch
         ensures within { first ≤ result.last }
         ensures cids { IsCidStretch self.now (length_of len) first result }
@@ -142,6 +144,7 @@ fn stretch_in(layer: &Layer, first: u32, len: CodeLength) -> LayerStretch
     ensures within { first ≤ result.last }
     ensures cids { Decides (λ code. layer_cid (layer_seen layer.now) code (length_of len))
         first result.last result.cids }
+    ensures longest { IsLayerLongest (layer_seen layer.now) (length_of len) first result.last result.cids }
 {
     let cids = stretch_of(layer.cids(len), first);
     if let Some(declaration) = cids.declaration {
@@ -166,6 +169,7 @@ fn stretch_in(layer: &Layer, first: u32, len: CodeLength) -> LayerStretch
 fn stretch_of<T: HasRange>(table: &Table<T>, first: u32) -> Stretch<'_, T>
     ensures within { first ≤ result.last }
     ensures same { IsStretch T.span table.now first result.last (option_copied result.declaration) }
+    ensures longest { IsLongest (map T.span table.now) first result.last }
     ensures start { IfSome result.declaration
         (λ declaration. (T.span declaration.now).start ≤ first) }
 {
@@ -184,6 +188,8 @@ fn declared_cids(declaration: &CidRange, first: u32, last: u32) -> LayerStretch
     ensures within { (first ≤ result.last) × (result.last ≤ last) }
     ensures cids { Decides (λ code. Some (cid_at (cid_entry_seen declaration.now) code))
         first result.last result.cids }
+    ensures ends { (result.last ≡ last)
+        ⊎ IsSomeAnd result.cids (λ these. EndsCids these (result.last - first)) }
 {
     match declaration.cid.checked_add(first - declaration.range.start) {
         Some(cid) => LayerStretch {
@@ -202,6 +208,8 @@ fn characters_in(texts: &Table<BfRange>, first: u32) -> LayerStretch
     ensures within { first ≤ result.last }
     ensures cids { Decides (λ code. option_map Some (character_said (map bf_entry_seen texts.now) code))
         first result.last result.cids }
+    ensures ends { IsLongest (map bf_span (map bf_entry_seen texts.now)) first result.last
+        ⊎ EndsRow (map bf_entry_seen texts.now) result.last }
 {
     let stretch = stretch_of(texts, first);
     match stretch.declaration {
@@ -221,6 +229,8 @@ fn declared_characters(declaration: &BfRange, first: u32, last: u32) -> LayerStr
     ensures within { (first ≤ result.last) × (result.last ≤ last) }
     ensures cids { Decides (λ code. option_map Some
         (only_character (bf_at (bf_entry_seen declaration.now) code))) first result.last result.cids }
+    ensures ends { (result.last ≡ last)
+        ⊎ IsRowEnd (units_seen declaration.now.units) (result.last - declaration.now.range.start) }
 {
     let units = declaration.units.as_slice();
     let offset = first - declaration.range.start;
@@ -235,11 +245,12 @@ fn declared_characters(declaration: &BfRange, first: u32, last: u32) -> LayerStr
     }
 }
 
-/// How many further offsets have characters that count on from that of this one, or none as it has
-/// none.
+/// How many further offsets have characters that count on from that of this one or, if this one gives
+/// none, none.
 fn further_characters(units: &[u16], offset: u32) -> u32
-    ensures { (k : ℕ) → k ≤ result → only_character (text_at units.now (offset + k))
+    ensures count { (k : ℕ) → k ≤ result → only_character (text_at units.now (offset + k))
         ≡ option_map (λ character. character + k) (only_character (text_at units.now offset)) }
+    ensures ends { (result ≡ 2 ^ 32 - 1) ⊎ IsRowEnd units.now (offset + result) }
 {
     let [.., last] = units else {
         return u32::MAX;

@@ -3,9 +3,10 @@ use Rattle.std.proofs.Common.{◌≡◌, ℕ, ◌+◌, ◌-◌, ◌<◌, ◌≤�
 use Rattle.std.specs.Prelude.{Some, None, Result, Ok, Err, All, map, slice_get}
 use Rattle.std.specs.Result.{OkIff, result_ok}
 use Rattle.std.proofs.lemmas.Bool.{cases_lt}
-use Rattle.std.proofs.lemmas.Option.{get_or_from_slice_get, same_Some, slice_get_within}
+use Rattle.std.proofs.lemmas.Option.{get_or_from_slice_get, none-some, same_Some, slice_get_within}
 use Rattle.cmap_runs.specs.Order.{IsFirstLeft, IsInOrder}
 use Rattle.cmap_runs.specs.Ranges.{Span, Run, AreRuns, Holds, IsRun, last_index, last_of, runs_of}
+use Rattle.cmap_runs.specs.Stretches.{IsLongest}
 use Rattle.cmap_runs.proofs.FoundIndex.{found_index, no_index, none_last, runs_in_order}
 use Rattle.cmap_runs.proofs.MaximalRuns.{AreRuns-runs_of}
 
@@ -53,6 +54,22 @@ run_fits spans runs i run is at =
     let are = subst (AreRuns spans) (sym is) (AreRuns-runs_of spans) in
     let here = subst (IsRun (last_index spans) (2 ^ 32)) (get_or_from_slice_get runs i run run at) (are.each i run (slice_get_within runs i run at)) in
     (here.filled, here.below)
+
+-- ---- a stretch is as long as can be
+pub longest_before_run : (spans : List Span) (runs : List Run) (first ended last : ℕ) (run : Run) → runs ≡ runs_of spans
+    → IsFirstLeft runs first ended → slice_get runs ended ≡ Some run → first < run.low → first < 2 ^ 32 → last + 1 ≡ run.low → IsLongest spans first last
+longest_before_run spans runs first ended last run is left at lt fits next small same =
+    let filled = (run_fits spans runs ended run is at).0 in
+    let here = run_index spans runs ended (last + 1) run is at (omega arith) (omega arith) in
+    let none = no_index spans first is fits (none_holds runs first ended first left (omega arith) (from_here runs ended first run (runs_in_order spans is) at lt)) in
+    none-some run.index (sym none ∙ sym same ∙ here)
+
+pub longest_in_run : (spans : List Span) (runs : List Run) (first i : ℕ) (run : Run) → runs ≡ runs_of spans → slice_get runs i ≡ Some run
+    → run.low ≤ first → first ≤ run.high → IsLongest spans first run.high
+longest_in_run spans runs first i run is at low high small same =
+    let are = subst (AreRuns spans) (sym is) (AreRuns-runs_of spans) in
+    let here = subst (IsRun (last_index spans) (2 ^ 32)) (get_or_from_slice_get runs i run run at) (are.each i run (slice_get_within runs i run at)) in
+    here.ends small (same ∙ run_index spans runs i first run is at low high)
 
 -- ---- what is left
 pub left_before_run : (runs : List Run) (first ended : ℕ) (run : Run) → IsInOrder runs → IsFirstLeft runs first ended

@@ -4,7 +4,7 @@ ghost use Rattle.std.specs.Prelude.{◌≡◌, ◌+◌, ◌<◌, ◌≤◌, ◌^
 ghost use Rattle.std.specs.Option.{option_copied};
 ghost use Rattle.cmap_runs.specs.Order.{IsFirstLeft, IsInOrder};
 ghost use Rattle.cmap_runs.specs.Ranges.{contains, digits, runs_of};
-ghost use Rattle.cmap_runs.specs.Stretches.{IsStretch};
+ghost use Rattle.cmap_runs.specs.Stretches.{IsLongest, IsStretch};
 
 use super::HasRange;
 use super::held::Held;
@@ -70,6 +70,8 @@ impl<'t, T: HasRange> Stretches<'t, T> {
             stretch.last (option_copied stretch.declaration)) }
         ensures contains { IfSome result (λ stretch. IfSome stretch.declaration
             (λ declaration. IsTrue (contains (T.span declaration.now) self.old.next))) }
+        ensures longest { IfSome result (λ stretch.
+            IsLongest (map T.span self.old.declarations) self.old.next stretch.last) }
         ensures within { IfSome result
             (λ stretch. (self.old.next ≤ stretch.last) × (stretch.last < 2 ^ 32)) }
         ensures next { IfSome result (λ stretch. self.new.next ≡ stretch.last + 1) }
@@ -99,6 +101,7 @@ fn stretch_at<'t, T: HasRange>(
         (option_copied result.declaration) }
     ensures contains { IfSome result.declaration
         (λ declaration. IsTrue (contains (T.span declaration.now) code)) }
+    ensures longest { IsLongest (map T.span held.now.declarations) code result.last }
     ensures within { (code ≤ result.last) × (result.last < 2 ^ 32) }
     ensures ended { IsFirstLeft held.now.runs (result.last + 1) ended.new }
     ensures looks { (looks.new.runs ≤ looks.old.runs + 1)

@@ -8,7 +8,7 @@ use Rattle.cmap_layers.proofs.stretches.declared_characters.Goals.{in-Some, in-N
 pub returns-clause-cids : goal.returns-clause-cids
 returns-clause-cids c = λ code le lt.
     let start = c.args.declaration.now.range.start in
-    let counted = counted_from c.as_slice-units.result.now start c.args.first code c.further_characters-more.result c.one_char.result c.requires.start le (omega arith) c.one_char.ensures c.further_characters-more.ensures in
+    let counted = counted_from c.as_slice-units.result.now start c.args.first code c.further_characters-more.result c.one_char.result c.requires.start le (omega arith) c.one_char.ensures c.further_characters-more.ensures.count in
     let is = ap (λ units. option_map (λ x. Some x) (only_character (text_at units (code - start)))) (sym c.as_slice-units.ensures) ∙ ap (option_map (λ x. Some x)) counted in
     elim c.match-one_char.branch [
       | in-Some w ↦ is ∙ rw (w.in-Some.is, w.cids-is, w.from.ensures) refl

@@ -1,4 +1,3 @@
-use Rattle.std.proofs.Common.{refl}
 use Rattle.cmap_layers.proofs.LayersSearched.{looked_some}
 use Rattle.cmap_layers.proofs.layers.Layers.strict_cid.Goals as goal
 

@@ -1,10 +1,10 @@
-use Rattle.std.proofs.Common.{◌+◌, ◌<◌, ◌≤◌, ◌^◌, refl, sym, ap, subst, arith}
+use Rattle.std.proofs.Common.{map, ◌+◌, ◌<◌, ◌≤◌, ◌^◌, refl, sym, ap, subst, arith}
 use Rattle.std.specs.Prelude.{IfSome, IsTrue}
 use Rattle.std.specs.Option.{option_copied}
 use Rattle.std.proofs.lemmas.Option.{MatchOption-from_none}
 use Rattle.cmap_runs.specs.Order.{IsFirstLeft}
 use Rattle.cmap_runs.specs.Ranges.{contains}
-use Rattle.cmap_runs.specs.Stretches.{IsStretch}
+use Rattle.cmap_runs.specs.Stretches.{IsLongest, IsStretch}
 use Rattle.cmap_runs.proofs.StretchesEnd.{code_fits, past_codes}
 use Rattle.cmap_runs.proofs.runs.stretch.Stretches.next.Goals as goal
 
@@ -15,6 +15,7 @@ returns-in_err-code g c =
     record {
       same = MatchOption-from_none _ _ none;
       contains = MatchOption-from_none _ _ none;
+      longest = MatchOption-from_none _ _ none;
       within = MatchOption-from_none _ _ none;
       next = MatchOption-from_none _ _ none;
       none = rw (none, ← c.self.view_is) past;
@@ -40,6 +41,7 @@ returns g c =
     record {
       same = rw (← c.self.view_is) (subst (λ n. IsStretch span c.self.inside.held.now.declarations n stretch.last (option_copied stretch.declaration)) is c.stretch_at-stretch.ensures.same);
       contains = rw (← c.self.view_is) (subst (λ n. IfSome stretch.declaration (λ declaration. IsTrue (contains (span declaration.now) n))) is c.stretch_at-stretch.ensures.contains);
+      longest = rw (← c.self.view_is) (subst (λ n. IsLongest (map span c.self.inside.held.now.declarations) n stretch.last) is c.stretch_at-stretch.ensures.longest);
       within = rw (← c.self.view_is) (subst (λ n. (n ≤ stretch.last) × (stretch.last < 2 ^ 32)) is c.stretch_at-stretch.ensures.within);
       next = ap (λ n. n + 1) c.from.ensures;
       none = tt;
