@@ -4,8 +4,8 @@
 //     if (!map) std::cerr << map.refusal().message() << '\n';
 //     else if (auto cid = map->cid(0x3042, 2)) std::cout << *cid << '\n';
 //
-// It is hayro_cmap.h with classes that free what they own. A refused file is a value; the one exception
-// is std::bad_alloc, where memory ran out. What is noexcept takes no memory.
+// It is hayro_cmap.h with classes that free what they own. A refused file is a value; std::bad_alloc is
+// thrown where memory ran out. What is noexcept takes no memory.
 //
 // - A Map or a Bundle is moved and not copied. One that was moved from is empty, and answers nothing.
 // - One thread at a time uses a Map or a Bundle: a lookup isn't const. Other threads take another of
@@ -781,8 +781,8 @@ inline std::vector<std::string> predefined_folders() {
 // The predefined CMap file of a name, as 90ms-RKSJ-H; nothing where the system has none. It is looked up
 // in the folders of the environment variable CMAP_PATH, with colons between them, and without the
 // variable where packages of Linux put these files; in each folder first, and then in its subfolders. A
-// name stands for nothing outside of them, and for no hidden file. std::filesystem::filesystem_error where
-// a file can't be read.
+// name stands for nothing outside of them, and for no hidden file. An exception of the standard library
+// where a file can't be read.
 inline std::optional<std::string> predefined_file(const std::string &name) {
     if (name.empty() || name[0] == '.' || name.find('/') != std::string::npos ||
         name.find('\0') != std::string::npos)

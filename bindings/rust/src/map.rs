@@ -20,8 +20,8 @@ pub type Cid = u32;
 ///
 /// # Threads and clones
 ///
-/// Any number of threads may look up in one map, and up to eight at once don't wait for each other. A
-/// lookup takes a lock of its thread, which nobody else holds then: two atomic operations, some ten
+/// Any number of threads may look up in one map. It has up to eight handles, each with a lock; threads
+/// that share one wait for each other. A lookup takes one lock: two atomic operations, some ten
 /// nanoseconds. [`CMap::decode`] and [`CMap::fill_cids`] take it once for all their codes. A clone
 /// copies nothing, and has locks of its own.
 ///
@@ -79,7 +79,7 @@ impl CMap {
 
     /// Reads a file, and those that it uses, past their faults: the map of what they say, and each
     /// fault. Of a file that [`CMap::parse`] accepts it gives the same map, and no fault; of another
-    /// one the first fault is why that is refused.
+    /// one the first fault is one for which that is refused.
     ///
     /// ```
     /// let file = b"begincidchar <41> 5 <42> /x <43> 7 endcidchar";

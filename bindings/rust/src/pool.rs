@@ -5,13 +5,13 @@ use std::cell::Cell;
 use std::sync::atomic::{AtomicUsize, Ordering};
 use std::sync::{Mutex, MutexGuard, PoisonError};
 
-/// So many threads ask at the same time without waiting for each other.
+/// At most this many threads ask at the same time.
 const SLOTS: usize = 8;
 
 /// Handles of one map or bundle. A call has one of them for itself.
 ///
-/// The threads of the program take turns at the slots: each has one, and more threads than slots share
-/// some. A slot gets its handle at the first call.
+/// Each thread of the program takes the next slot in turn, so two threads may share one. A slot gets its
+/// handle at the first call.
 pub(crate) struct Pool<H> {
     source: Mutex<H>,
     slots: [Slot<H>; SLOTS],

@@ -74,11 +74,11 @@ impl BundleFiles for OwnedBundle {
     }
 }
 
-/// What stands in a bundle for a file that isn't there: the head of a version that no reader knows, and
+/// What stands in a bundle for an absent file: the head of a version that no reader knows, and
 /// the length.
 const NO_FILE: &[u8] = b"bcmap\0\0\0\0\x0A";
 
-/// The bytes that a bundle has for a name, unless they stand for a file that isn't there.
+/// The bytes that a bundle has for a name, unless they stand for an absent file.
 fn unless_absent(stored: Option<&[u8]>) -> Option<&[u8]>
     ensures { option_copied result ≡ option_and_then unless_absent (option_copied stored.entry) }
 {

@@ -59,9 +59,8 @@ struct LayerStretch {
 }
 
 impl Layers {
-    /// The CIDs of the codes of this length from `first` on, as `cid` gives them, as far as one
-    /// declaration of each list decides. A caller who goes on with the code after the last one has
-    /// those of all codes.
+    /// The CIDs of codes of this length from `first` on, as `cid` gives them. A caller who goes on with
+    /// the code after the last one has those of all codes.
     pub fn cid_stretch(&self, first: u32, len: CodeLength) -> CidStretch
         ensures within { first ≤ result.last }
         ensures cids { IsCidStretch self.now (length_of len) first result }
@@ -81,8 +80,8 @@ impl Layers {
         }
     }
 
-    /// The declaration that decides the texts of the codes from `first` on, as `text` gives them, as
-    /// far as it does or none does.
+    /// A declaration that gives the codes from `first` on their texts, as `text` gives them, or that they
+    /// have none.
     pub fn text_stretch(&self, first: u32) -> TextStretch<'_>
         ensures within { first ≤ result.last }
         ensures start { IfSome result.declaration
@@ -176,8 +175,8 @@ fn stretch_of<T: HasRange>(table: &Table<T>, first: u32) -> Stretch<'_, T>
     }
 }
 
-/// The CIDs that a declaration gives to codes from `first` to `last`, which it contains, as far as these
-/// have some or none has.
+/// The CIDs that a declaration gives to codes from `first` to `last`, which it contains, up to where
+/// they pass 32 bits.
 fn declared_cids(declaration: &CidRange, first: u32, last: u32) -> LayerStretch
     requires start { declaration.now.range.start ≤ first }
     requires last { first ≤ last }
@@ -213,8 +212,8 @@ fn characters_in(texts: &Table<BfRange>, first: u32) -> LayerStretch
     }
 }
 
-/// The characters that a declaration gives to codes from `first` to `last`, which it contains, as far
-/// as they count on or none has just one.
+/// The characters that a declaration gives to codes from `first` to `last`, which it contains, while
+/// they count on, or while no text is just one.
 fn declared_characters(declaration: &BfRange, first: u32, last: u32) -> LayerStretch
     requires start { declaration.now.range.start ≤ first }
     requires last { first ≤ last }
@@ -235,8 +234,8 @@ fn declared_characters(declaration: &BfRange, first: u32, last: u32) -> LayerStr
     }
 }
 
-/// How many further offsets have characters that count on from that of this one, or none as it has
-/// none.
+/// How many further offsets have characters that count on from that of this one, or, if this one gives
+/// none, none.
 fn further_characters(units: &[u16], offset: u32) -> u32
     ensures { (k : ℕ) → k ≤ result → only_character (text_at units.now (offset + k))
         ≡ option_map (λ character. character + k) (only_character (text_at units.now offset)) }

@@ -31,7 +31,7 @@ pub(crate) enum Slot<'s> {
 /// How many names have a place in a bundle.
 const PLACES: usize = 65;
 
-/// What begins a file that isn't there: no version has the number 0, so every reader refuses it.
+/// What begins an absent file. No version has the number 0, so it is no binary file.
 const ABSENT_HEAD: &[u8] = b"bcmap\0";
 
 /// The files of a bundle of these sources, by their indices.

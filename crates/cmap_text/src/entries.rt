@@ -26,7 +26,7 @@ use cmap_values::code_length::CodeLength;
 use cmap_values::fault::{Fault, Reason};
 use cmap_values::units::Units;
 
-/// Which CIDs an entry declares: those of its codes, or the one of all codes that have no other.
+/// Which CIDs an entry declares: those of its codes, or the fallback CID.
 #[derive(Clone, Copy)]
 pub(crate) enum CidKind {
     Cid,
@@ -85,7 +85,7 @@ pub(crate) fn add_cids(
 }
 
 /// A destination of two bytes after the code of an entry, where it stands as most do. `false` of any
-/// other token, and then nothing moves.
+/// other token, leaving the reader in place.
 #[inline(always)]
 pub(crate) fn add_plain_unit(
     reader: &mut TokenReader<'_>,
