@@ -5,7 +5,7 @@
 //     else if (auto cid = map->cid(0x3042, 2)) std::cout << *cid << '\n';
 //
 // It is hayro_cmap.h with classes that free what they own. A refused file is a value; std::bad_alloc is
-// thrown where memory ran out. What is noexcept takes no memory.
+// thrown where memory ran out, and predefined_file says what it throws. What is noexcept takes no memory.
 //
 // - A Map or a Bundle is moved and not copied. One that was moved from is empty, and answers nothing.
 // - One thread at a time uses a Map or a Bundle: a lookup isn't const. Other threads take another of
@@ -18,6 +18,7 @@
 #include "hayro_cmap.h"
 
 #include <algorithm>
+#include <cerrno>
 #include <cstddef>
 #include <cstdint>
 #include <cstdlib>
@@ -31,6 +32,7 @@
 #include <sstream>
 #include <string>
 #include <string_view>
+#include <system_error>
 #include <type_traits>
 #include <utility>
 #include <variant>
@@ -748,18 +750,23 @@ inline std::optional<std::string> bytes_of(const std::filesystem::path &path) {
     std::error_code fault;
     if (!std::filesystem::is_regular_file(path, fault)) return std::nullopt;
     std::ifstream in(path, std::ios::binary);
-    std::string bytes{std::istreambuf_iterator<char>(in), {}};
-    if (!in)
-        throw std::filesystem::filesystem_error("a CMap file can't be read", path, std::error_code());
-    return bytes;
+    std::ostringstream bytes;
+    // A read that fails sets badbit. An iterator over the buffer would throw std::ios_base::failure.
+    if (in) bytes << in.rdbuf();
+    if (!in || bytes.bad())
+        throw std::filesystem::filesystem_error(
+            "a CMap file can't be read", path, std::error_code(errno, std::generic_category()));
+    return bytes.str();
 }
 
 // The folders in a folder, in order; none where it can't be read.
 inline std::vector<std::filesystem::path> subfolders(const std::filesystem::path &folder) {
     std::vector<std::filesystem::path> found;
     std::error_code fault;
-    for (const auto &entry : std::filesystem::directory_iterator(folder, fault))
-        if (std::filesystem::is_directory(entry.symlink_status(fault))) found.push_back(entry.path());
+    std::filesystem::directory_iterator entry(folder, fault), end;
+    for (; !fault && entry != end; entry.increment(fault))
+        if (std::error_code none; std::filesystem::is_directory(entry->symlink_status(none)))
+            found.push_back(entry->path());
     std::sort(found.begin(), found.end());
     return found;
 }
@@ -781,8 +788,8 @@ inline std::vector<std::string> predefined_folders() {
 // The predefined CMap file of a name, as 90ms-RKSJ-H; nothing where the system has none. It is looked up
 // in the folders of the environment variable CMAP_PATH, with colons between them, and without the
 // variable where packages of Linux put these files; in each folder first, and then in its subfolders. A
-// name stands for nothing outside of them, and for no hidden file. An exception of the standard library
-// where a file can't be read.
+// name stands for nothing outside of them, and for no hidden file. std::filesystem::filesystem_error where
+// a file can't be read.
 inline std::optional<std::string> predefined_file(const std::string &name) {
     if (name.empty() || name[0] == '.' || name.find('/') != std::string::npos ||
         name.find('\0') != std::string::npos)

@@ -290,6 +290,16 @@ static void uses_are_named() {
     CHECK(asked.size() == 15 && asked.back() == std::string(15, 'N'));
 }
 
+// Whether a predefined file of this name is there and can't be read.
+static bool is_unreadable(const std::string &name) {
+    try {
+        hayro::predefined_file(name);
+        return false;
+    } catch (const std::filesystem::filesystem_error &) {
+        return true;
+    }
+}
+
 static void predefined_files_are_found() {
     namespace fs = std::filesystem;
     fs::path folder = fs::temp_directory_path() / ("cmap-" + std::to_string(getpid()));
@@ -306,6 +316,8 @@ static void predefined_files_are_found() {
     CHECK(hayro::predefined_file("Top") && !hayro::predefined_file("../Outside"));
     setenv("CMAP_PATH", "", 1);
     CHECK(!hayro::predefined_file("Top"));
+    setenv("CMAP_PATH", "/proc/self", 1);
+    CHECK(is_unreadable("mem"));
     unsetenv("CMAP_PATH");
     fs::remove_all(folder);
 }

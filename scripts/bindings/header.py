@@ -193,7 +193,7 @@ def test_numbers_are_those_of_the_crates(checks, _setting):
 def test_versions_are_one(checks, setting):
     """That of the header, of crate cmap_c and of the library."""
     checks.same("HAYRO_CMAP_VERSION", re.search(r'HAYRO_CMAP_VERSION "(.*)"', HEADER)[1], VERSION)
-    checks.same("the version of the crate", re.search(r'put_bytes\(b"(.*?)"', source("cmap_c/src/version.rt"))[1], VERSION)
+    checks.same("the version of the crate", re.search(r'put\(b"(.*?)"', source("cmap_c/src/version.rt"))[1], VERSION)
     room, needed = ctypes.create_string_buffer(64), ctypes.c_size_t()
     version = ctypes.CDLL(str(setting.library.shared)).hayro_cmap_version
     status = version(room, ctypes.c_size_t(len(room)), ctypes.byref(needed))

@@ -1,5 +1,6 @@
 """CMap files over the files that they use."""
 
+import contextlib
 import ctypes
 import functools
 from ctypes import c_size_t
@@ -32,9 +33,27 @@ def table_of(files: Dict[bytes, bytes]):
     return (File * (len(files) + 1))(*entries)
 
 
+@contextlib.contextmanager
+def filled():
+    """A handle that a block fills. Where the block raises, what it holds is freed."""
+    handle = Handle()
+    try:
+        yield handle
+    except BaseException:
+        library.hayro_cmap_free(handle)
+        raise
+
+
 def explained(data: bytes, files: Dict[bytes, bytes], bundle: Optional[Bundle], budget: int, opened=None) -> Handle:
     """The handle of the map of a file. Refused where there is none."""
-    table, handle, fault, needed, room_len = table_of(files), Handle(), Fault(), c_size_t(256), 0
+    with filled() as handle:
+        explain_to(handle, data, files, bundle, budget, opened)
+    return handle
+
+
+def explain_to(handle: Handle, data: bytes, files, bundle: Optional[Bundle], budget: int, opened):
+    """Puts the map of a file into a handle."""
+    table, fault, needed, room_len = table_of(files), Fault(), c_size_t(256), 0
     while needed.value > room_len:
         room_len = needed.value
         room = ctypes.create_string_buffer(room_len)
@@ -43,13 +62,16 @@ def explained(data: bytes, files: Dict[bytes, bytes], bundle: Optional[Bundle], 
                 handle, data, len(data), over, table, len(files), budget, fault, room, room_len, needed
             )
         if checked(status) == OK:
-            return handle
+            return
     raise refusal(fault, room.raw, opened)
 
 
-def salvaged(data: bytes, files: Dict[bytes, bytes], bundle: Optional[Bundle], budget: int) -> Tuple[Handle, List[Refused]]:
-    """The handle of the map of a file that is read past its faults, and the faults."""
-    table, handle, found, needed, faults, room = table_of(files), Handle(), c_size_t(8), c_size_t(256), [], b""
+def salvage_to(
+    handle: Handle, data: bytes, files: Dict[bytes, bytes], bundle: Optional[Bundle], budget: int
+) -> List[Refused]:
+    """Puts the map of a file that is read past its faults into a handle, in the place of the one there, and gives the
+    faults."""
+    table, found, needed, faults, room = table_of(files), c_size_t(8), c_size_t(256), [], b""
     while found.value > len(faults) or needed.value > len(room):
         faults, room = (Fault * (found.value + 1))(), ctypes.create_string_buffer(needed.value + 1)
         with held(bundle) as over:
@@ -59,7 +81,7 @@ def salvaged(data: bytes, files: Dict[bytes, bytes], bundle: Optional[Bundle], b
                     *(faults, len(faults), found, room, len(room), needed),
                 )
             )
-    return handle, refusals(faults[: found.value], room.raw)
+    return refusals(faults[: found.value], room.raw)
 
 
 def refusals(faults: List[Fault], names: bytes) -> List[Refused]:
@@ -73,18 +95,24 @@ def refusals(faults: List[Fault], names: bytes) -> List[Refused]:
 
 
 def salvaged_over(data: bytes, files: Files, bundle: Optional[Bundle], budget: int) -> Tuple[Handle, List[Refused]]:
-    """The same over all files of a mapping, or those that a callable gives. Each name is asked for once."""
+    """The handle of the map of a file that is read past its faults, and the faults, over all files of a mapping, or
+    those that a callable gives. Each name is asked for once."""
+    with filled() as handle:
+        return handle, salvage_over_to(handle, data, files, bundle, budget)
+
+
+def salvage_over_to(handle: Handle, data: bytes, files: Files, bundle: Optional[Bundle], budget: int) -> List[Refused]:
+    """Puts this map into a handle, and gives the faults."""
     if not callable(files):
-        return salvaged(data, gathered(data, files, bundle), bundle, budget)
+        return salvage_to(handle, data, gathered(data, files, bundle), bundle, budget)
     ask = functools.lru_cache(maxsize=None)(files)
     found = gathered(data, ask, bundle)
     while True:
-        handle, faults = salvaged(data, found, bundle, budget)
+        faults = salvage_to(handle, data, found, bundle, budget)
         answers = {name: ask(name) for name in (fault.names[-1] for fault in faults if fault.cause == Cause.NO_FILE)}
         new = {name: bytes_of(file) for name, file in answers.items() if file is not None}
         if not new:
-            return handle, faults
-        library.hayro_cmap_free(handle)
+            return faults
         found.update(new)
 
 

@@ -5,9 +5,11 @@ import gc
 import pickle
 import threading
 import unittest
+import unittest.mock
 from concurrent.futures import ThreadPoolExecutor
 
 from hayro_cmap import Bundle, CMap
+from hayro_cmap._owned import library
 
 from .files import BINARY, BUNDLE, FIRST, SMALL, uses
 
@@ -51,6 +53,16 @@ class Closing(unittest.TestCase):
         with CMap.parse(SMALL) as cmap:
             self.assertEqual(cmap.cid(0x41, 1), 34)
         self.assertRaises(ValueError, cmap.cid, 0x41, 1)
+
+    def test_a_callable_that_raises(self):
+        def files(name):
+            if name == b"B":
+                raise KeyError(name)
+            return b"begincidchar <> /B usecmap"
+
+        with unittest.mock.patch.object(library, "hayro_cmap_free", wraps=library.hayro_cmap_free) as free:
+            self.assertRaises(KeyError, CMap.salvage, uses(b"A"), files)
+        free.assert_called_once()
 
     def test_shared_after_close(self):
         cmap = CMap.parse(SMALL)

@@ -20,8 +20,8 @@ pub type Cid = u32;
 ///
 /// # Threads and clones
 ///
-/// Any number of threads may look up in one map. It has up to eight handles, each with a lock; threads
-/// that share one wait for each other. A lookup takes one lock: two atomic operations, some ten
+/// Any number of threads may look up in one map, and up to eight at once don't wait for each other. A
+/// lookup takes a lock of its thread, which nobody else holds then: two atomic operations, some ten
 /// nanoseconds. [`CMap::decode`] and [`CMap::fill_cids`] take it once for all their codes. A clone
 /// copies nothing, and has locks of its own.
 ///

@@ -1,17 +1,15 @@
 //! One map or bundle for any number of threads.
 
 use crate::ffi::Share;
-use std::cell::Cell;
-use std::sync::atomic::{AtomicUsize, Ordering};
 use std::sync::{Mutex, MutexGuard, PoisonError};
 
-/// At most this many threads ask at the same time.
+/// So many threads ask at the same time without waiting for each other.
 const SLOTS: usize = 8;
 
 /// Handles of one map or bundle. A call has one of them for itself.
 ///
-/// Each thread of the program takes the next slot in turn, so two threads may share one. A slot gets its
-/// handle at the first call.
+/// Each thread of the program has a slot while it lives, and more threads than slots share some. A slot
+/// gets its handle at the first call.
 pub(crate) struct Pool<H> {
     source: Mutex<H>,
     slots: [Slot<H>; SLOTS],
@@ -46,20 +44,64 @@ impl<H: Share> Clone for Pool<H> {
     }
 }
 
+/// The slot of the thread that asks.
 fn slot_of_thread() -> usize {
-    static NEXT: AtomicUsize = AtomicUsize::new(0);
+    static TURNS: Turns = Turns::new();
     thread_local! {
-        static SLOT: Cell<usize> = const { Cell::new(SLOTS) };
+        static TURN: Turn = TURNS.take();
     }
-    SLOT.with(|slot| {
-        if slot.get() == SLOTS {
-            slot.set(NEXT.fetch_add(1, Ordering::Relaxed) % SLOTS);
-        }
-        slot.get()
-    })
+    // A thread that ends has given its slot back, and may still ask.
+    TURN.try_with(|turn| turn.slot).unwrap_or(0)
+}
+
+/// How many threads have each slot. A thread that ends gives its slot back.
+struct Turns(Mutex<[usize; SLOTS]>);
+
+/// The slot of a thread.
+struct Turn {
+    slot: usize,
+    of: &'static Turns,
+}
+
+impl Turns {
+    const fn new() -> Turns {
+        Turns(Mutex::new([0; SLOTS]))
+    }
+
+    /// A slot that no other thread has, if there is one; else one of those that the fewest have.
+    fn take(&'static self) -> Turn {
+        let mut threads = locked(&self.0);
+        let slot = (0..SLOTS).min_by_key(|&slot| threads[slot]).unwrap_or(0);
+        threads[slot] += 1;
+        Turn { slot, of: self }
+    }
+}
+
+impl Drop for Turn {
+    fn drop(&mut self) {
+        locked(&self.of.0)[self.slot] -= 1;
+    }
 }
 
 /// After a panic within a call a handle is as it is between two calls.
 fn locked<T>(mutex: &Mutex<T>) -> MutexGuard<'_, T> {
     mutex.lock().unwrap_or_else(PoisonError::into_inner)
+}
+
+#[cfg(test)]
+mod tests {
+    use super::*;
+
+    static TURNS: Turns = Turns::new();
+
+    #[test]
+    fn threads_that_live_share_no_slot() {
+        for _ in 0..SLOTS - 1 {
+            drop(TURNS.take());
+        }
+        let turns: [Turn; SLOTS] = std::array::from_fn(|_| TURNS.take());
+        let mut slots = turns.each_ref().map(|turn| turn.slot);
+        slots.sort_unstable();
+        assert_eq!(slots, std::array::from_fn(|slot| slot));
+    }
 }

@@ -2,7 +2,7 @@
 use Rattle.std.proofs.Common.{◌≡◌, ◌≢◌, ℕ, zero, suc, ◌+◌, ◌-◌, ◌<◌, ◌≤◌, List, [], ◌∷◌, length, get_or, take, drop, refl, ap, ◌∙◌, subst, arith}
 use Rattle.std.specs.Prelude.{sum_by}
 use Rattle.std.proofs.lemmas.List.Sums.{sum_by-cons}
-use Rattle.cmap_files.specs.Files.{CidEntry}
+use Rattle.cmap_values.specs.Files.{CidEntry}
 use Rattle.cmap_runs.specs.Ranges.{Span}
 use Rattle.cmap_binary.specs.BinaryEntries.{CidColumns, Columns, CidEntryAt, SymbolAt, WidthAt, cid_from}
 use Rattle.cmap_packed.specs.Bundles.{PrefixTables}

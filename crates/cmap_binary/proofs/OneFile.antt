@@ -1,7 +1,7 @@
 -- The bytes of a binary file say one thing, where no code word of its tables begins another one.
 use Rattle.std.proofs.Common.{◌≡◌, ℕ, zero, suc, ◌+◌, ◌-◌, ◌<◌, ◌^◌, refl, sym, ap, ◌∙◌, subst, List, [], ◌∷◌, drop, Some, None}
 use Rattle.std.specs.Prelude.{Option, slice_index}
-use Rattle.cmap_files.specs.Files.{BfEntry, CidEntry, Declaration, File}
+use Rattle.cmap_values.specs.Files.{BfEntry, CidEntry, Declaration, File}
 use Rattle.cmap_packed.specs.Bundles.{PrefixTables}
 use Rattle.cmap_packed.specs.Fronts.{AllOf, ByteAt, CodeAt, FieldAt, FramedAt, RowOf, SizedAt, TerminatedAt, Then}
 use Rattle.cmap_packed.specs.PrefixWords.{CodeWord, IsPrefixFree, bits}

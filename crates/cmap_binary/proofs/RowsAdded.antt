@@ -1,15 +1,15 @@
 -- Declarations in a row, each added to a file.
 use Rattle.std.proofs.Common.{Ok, Err, Result, ◌≡◌, ℕ, ◌+◌, ◌<◌, ◌≤◌, refl, sym, ap, ◌∙◌, List, [], ◌∷◌, ◌++◌, map}
 use Rattle.std.proofs.lemmas.List.{map-append}
-use Rattle.cmap_files.specs.Files.{Declaration, File, Lists, lists_of}
-use Rattle.cmap_files.specs.ListsAppended.{append_lists}
+use Rattle.cmap_values.specs.Files.{Declaration, File, Lists, lists_of}
+use Rattle.cmap_values.specs.ListsAppended.{append_lists}
 use Rattle.std.specs.Prelude.{IsErrAnd}
 use Rattle.cmap_values.specs.Outcomes.{Outcome, Succeeds}
 use Rattle.cmap_values.specs.declared.fault.Fault.{Fault}
 use Rattle.cmap_values.specs.declared.fault.Fault.TheVariants.{Refused, Memory}
 use Rattle.cmap_values.specs.declared.fault.Reason.{Reason}
 use Rattle.cmap_values.specs.Only.{IsOnly, HoldsOfNone}
-use Rattle.cmap_files.proofs.ListsMade.{added_more, append_lists-none}
+use Rattle.cmap_values.proofs.ListsMade.{added_more, append_lists-none}
 use Rattle.cmap_binary.specs.BinaryFiles.{Content, declares}
 use Rattle.cmap_binary.specs.BinarySeen.{Adds, Declares}
 use Rattle.cmap_packed.specs.Fronts.{RowOf}

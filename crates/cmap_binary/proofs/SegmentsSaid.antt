@@ -5,10 +5,10 @@ use Rattle.std.specs.List.{last_or}
 use Rattle.std.specs.Option.{option_or}
 use Rattle.std.proofs.lemmas.List.Concat.{flat_map-append}
 use Rattle.std.proofs.lemmas.List.Elements.{filter_map-append}
-use Rattle.cmap_files.specs.Files.{File, Lists, lists_of}
-use Rattle.cmap_files.specs.ListsAppended.{append_lists}
-use Rattle.cmap_files.proofs.LastOfLists.{last_or-push}
-use Rattle.cmap_files.proofs.ListsMade.{append_lists-none, lists_of-append}
+use Rattle.cmap_values.specs.Files.{File, Lists, lists_of}
+use Rattle.cmap_values.specs.ListsAppended.{append_lists}
+use Rattle.cmap_values.proofs.LastOfLists.{last_or-push}
+use Rattle.cmap_values.proofs.ListsMade.{append_lists-none, lists_of-append}
 use Rattle.cmap_binary.specs.BinaryFiles.{Content, declares, uses, sets_mode, sets_name, sets_collection, declared_in, name_used, mode_set, name_set, collection_set, SegmentAt, file_of}
 use Rattle.cmap_binary.specs.BinarySeen.{with_content}
 use Rattle.cmap_packed.specs.Bundles.{PrefixTables}

@@ -1,7 +1,7 @@
 -- The segments of a file that is read past its faults, one after another.
 use Rattle.std.proofs.Common.{◌≡◌, ◌≢◌, ℕ, ◌+◌, ◌-◌, ◌≤◌, sym, ap, ◌∙◌, subst, List, [], ◌∷◌, ◌++◌, length, arith, append_assoc, append-nil}
-use Rattle.cmap_files.specs.Files.{File}
-use Rattle.cmap_files.specs.ListsAppended.{no_file}
+use Rattle.cmap_values.specs.Files.{File}
+use Rattle.cmap_values.specs.ListsAppended.{no_file}
 use Rattle.cmap_values.specs.Only.{IsOnly, HoldsOfNone}
 use Rattle.cmap_values.specs.declared.fault.Reason.{Reason}
 use Rattle.cmap_values.specs.declared.fault.Reason.TheVariants.{SegmentLength}

@@ -2,7 +2,7 @@
 use Rattle.std.specs.Prelude.{◌≡◌, ℕ, zero, suc, pos, List, [], ◌∷◌, ◌++◌, map, flat_map, filter_map, take, drop, codes, slice_get, slice_index, Option, Some, None, option_and_then}
 use Rattle.std.specs.List.{last_or}
 use Rattle.cmap_values.specs.Names.{family_of}
-use Rattle.cmap_files.specs.Files.{CidEntry, Codespace, Declaration, Mode, Collection, File, lists_of, mode_numbered}
+use Rattle.cmap_values.specs.Files.{CidEntry, Codespace, Declaration, Mode, Collection, File, lists_of, mode_numbered}
 use Rattle.cmap_packed.specs.Bundles.{PrefixTables}
 use Rattle.cmap_binary.specs.BinaryEntries.{Shape, ranges, singles, CidEntriesIn, BfEntriesIn}
 use Rattle.cmap_packed.specs.Fronts.{Then, Gives, GivesIf, ListOf, RowOf, AllOf, ByteAt, FieldAt, CodeAt, FramedAt, TerminatedAt}

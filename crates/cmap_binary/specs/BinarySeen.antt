@@ -1,8 +1,8 @@
 -- Private aid: what contracts see of the types of segments, and of a file to which one is added.
 use Rattle.std.specs.Prelude.{◌≡◌, ℕ, List, [], ◌∷◌, ◌++◌, map, Some, None, IfErr, Result}
 use Rattle.cmap_values.specs.CodeLengths.{length_of}
-use Rattle.cmap_files.specs.Files.{Declaration, File, Lists, lists_of}
-use Rattle.cmap_files.specs.ListsAppended.{append_lists}
+use Rattle.cmap_values.specs.Files.{Declaration, File, Lists, lists_of}
+use Rattle.cmap_values.specs.ListsAppended.{append_lists}
 use Rattle.cmap_values.specs.Only.{IsOnly, HoldsOfNone}
 use Rattle.cmap_values.specs.Outcomes.{RefusesWith, Succeeds}
 use Rattle.cmap_values.specs.declared.fault.Fault.{Fault}

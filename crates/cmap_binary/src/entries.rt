@@ -9,15 +9,15 @@ ghost use Rattle.cmap_binary.specs.ColumnsSeen.{cid_columns_seen, columns_seen, 
 ghost use Rattle.cmap_packed.specs.Fronts.{FieldAt, RowOf};
 ghost use Rattle.cmap_values.specs.Outcomes.{Finds, Reads};
 ghost use Rattle.cmap_values.specs.CodeLengths.{length_of};
-ghost use Rattle.cmap_files.specs.Files.{bf, cid};
-ghost use Rattle.cmap_files.specs.DeclarationsSeen.{cid_entry_seen, lists_seen};
+ghost use Rattle.cmap_values.specs.Files.{bf, cid};
+ghost use Rattle.cmap_values.specs.DeclarationsSeen.{cid_entry_seen, lists_seen};
 ghost use Rattle.cmap_values.specs.UnitsSeen.{units_seen};
 
 use crate::columns::{Columns, Shape, take_columns};
-use cmap_files::declarations::{BfRange, CidRange, Lists};
 use cmap_packed::Tables;
 use cmap_packed::pieces::{take_byte, take_u16};
 use cmap_values::code_length::CodeLength;
+use cmap_values::declarations::{BfRange, CidRange, Lists};
 use cmap_values::fault::{Fault, Reason, Segment};
 use cmap_values::units::Units;
 use std::alloc::Global;

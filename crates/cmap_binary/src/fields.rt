@@ -4,16 +4,16 @@ ghost use Rattle.cmap_binary.specs.BinaryFiles as files;
 ghost use Rattle.cmap_binary.specs.BinaryFiles.{CodespaceAt, NotdefAt, SaysAs};
 ghost use Rattle.cmap_binary.specs.BinarySeen.{Adds, Declares, no_tables};
 ghost use Rattle.cmap_values.specs.Outcomes.{Finds};
-ghost use Rattle.cmap_files.specs.DeclarationsSeen.{cid_entry_seen, codespace_seen, lists_seen};
-ghost use Rattle.cmap_files.specs.FilesSeen.{file_seen};
+ghost use Rattle.cmap_values.specs.DeclarationsSeen.{cid_entry_seen, codespace_seen, lists_seen};
+ghost use Rattle.cmap_values.specs.FilesSeen.{file_seen};
 
-use cmap_files::declarations::{CidRange, Codespace, Lists};
-use cmap_files::file::File;
 use cmap_packed::pieces::{take_byte, take_code, take_terminated, take_u16};
 use cmap_runs::runs::Range;
 use cmap_values::character_collection::{CharacterCollection, CidFamily};
 use cmap_values::code_length::CodeLength;
+use cmap_values::declarations::{CidRange, Codespace, Lists};
 use cmap_values::fault::{Fault, Reason, Segment};
+use cmap_values::file::File;
 use std::alloc::Global;
 
 /// Adds the notdef declarations of a segment with this payload: the width of their codes, their

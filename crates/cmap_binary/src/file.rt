@@ -7,21 +7,21 @@ ghost use Rattle.cmap_binary.specs.BinarySeen.{SegmentsSay};
 ghost use Rattle.cmap_packed.specs.BundleSeen.{bundle_seen, tables_seen};
 ghost use Rattle.cmap_values.specs.Only.{IsOnly, HoldsOfNone};
 ghost use Rattle.cmap_values.specs.Outcomes.{Finds, ReadsFile, RefusesWith, StopsWithin};
-ghost use Rattle.cmap_files.specs.FilesSeen.{file_seen};
-ghost use Rattle.cmap_files.specs.ListsAppended.{no_file};
+ghost use Rattle.cmap_values.specs.FilesSeen.{file_seen};
+ghost use Rattle.cmap_values.specs.ListsAppended.{no_file};
 
 use crate::segments::read_segment;
-use cmap_files::file::File;
 use cmap_packed::pieces::take_framed;
 use cmap_packed::{Bundle, Tables};
 use cmap_values::fault::{Fault, Reason, Stop};
+use cmap_values::file::File;
 use std::alloc::Global;
 
 /// What begins a binary file.
 const MAGIC: &[u8] = b"bcmap";
 
-/// What begins one of version 1.
-pub(crate) const HEAD: &[u8] = b"bcmap\x01";
+/// What begins a binary file of version 1, the one that is read and written.
+pub const HEAD: &[u8] = b"bcmap\x01";
 
 /// How many bytes the header of a file has.
 pub(crate) const HEADER_LEN: usize = 10;
@@ -81,10 +81,8 @@ fn read_segments<'d>(
     ensures first { IfErr result (RefusesWith (SegmentFault (tables_seen tables.now) 10 body.now)) }
 {
     let mut file = File::new(alloc);
-    match add_segments(alloc, tables, body, &mut file) {
-        Ok(()) => Ok(file),
-        Err(fault) => Err(fault),
-    }
+    add_segments(alloc, tables, body, &mut file)?;
+    Ok(file)
 }
 
 /// Reads all the segments after the header, and adds what they say to a file that says nothing.

@@ -10,5 +10,5 @@ mod salvage;
 mod segments;
 
 pub use cmap_packed::{Bundle, OwnedBundle, bits, load_embedded, prefix};
-pub use file::{is_marked_binary, read_binary};
+pub use file::{HEAD, is_marked_binary, read_binary};
 pub use salvage::salvage_binary;

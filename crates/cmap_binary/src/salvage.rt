@@ -2,9 +2,9 @@
 
 ghost use Rattle.std.specs.Prelude.{◌≡◌, [], ◌∷◌, ◌++◌, IfOk, OnOk, length};
 ghost use Rattle.cmap_values.specs.Faults.{Ascend};
-ghost use Rattle.cmap_files.specs.Files as files;
-ghost use Rattle.cmap_files.specs.FilesSeen.{file_seen};
-ghost use Rattle.cmap_files.specs.ListsAppended.{no_file};
+ghost use Rattle.cmap_values.specs.Files as files;
+ghost use Rattle.cmap_values.specs.FilesSeen.{file_seen};
+ghost use Rattle.cmap_values.specs.ListsAppended.{no_file};
 ghost use Rattle.cmap_values.specs.Only.{IsOnly, HoldsOfNone};
 ghost use Rattle.cmap_values.specs.Outcomes.{Finds, Succeeds};
 ghost use Rattle.cmap_binary.specs.BinaryFiles.{Content, IsBinaryFile, IsSegment};
@@ -14,10 +14,10 @@ ghost use Rattle.cmap_packed.specs.BundleSeen.{bundle_seen, tables_seen};
 
 use crate::file::{HEAD, HEADER_LEN, SEGMENT_HEAD, TYPE_LEN, split_body};
 use crate::segments::read_segment;
-use cmap_files::file::{File, Salvaged};
 use cmap_packed::pieces::take_framed;
 use cmap_packed::{Bundle, Tables};
 use cmap_values::fault::{Fault, Reason, Stop};
+use cmap_values::file::{File, Salvaged};
 use std::alloc::{AllocError, Global};
 
 /// What a binary file says apart from its faults, by the tables of a bundle, and the faults. A segment
@@ -47,10 +47,8 @@ pub fn salvage_binary<'d>(
     ensures ascend { IfOk result (λ found. Ascend 0 found.faults.items (length bytes.now)) }
 {
     let mut faults = Vec::new(alloc);
-    match salvage_file(alloc, bundle.tables(), bytes, &mut faults) {
-        Ok(file) => Ok(Salvaged { file, faults }),
-        Err(fault) => Err(fault),
-    }
+    let file = salvage_file(alloc, bundle.tables(), bytes, &mut faults)?;
+    Ok(Salvaged { file, faults })
 }
 
 /// What the bytes say apart from their faults, which are added.
@@ -63,10 +61,8 @@ fn salvage_file<'d>(
     ensures { IfOk result (λ file. faults.old.items ≡ []
         → SalvagesBinary (tables_seen tables.now) bytes.now (file_seen file) faults.new.items) }
 {
-    match salvage_body(bytes, faults) {
-        Ok(body) => salvage_segments(alloc, tables, body, faults),
-        Err(fault) => Err(fault),
-    }
+    let body = salvage_body(bytes, faults)?;
+    salvage_segments(alloc, tables, body, faults)
 }
 
 /// The bytes that are read as segments. A fault of the header is added.
@@ -105,10 +101,8 @@ fn salvage_segments<'d>(
         faults.old.items faults.new.items) }
 {
     let mut file = File::new(alloc);
-    match add_segments(alloc, tables, body, &mut file, faults) {
-        Ok(()) => Ok(file),
-        Err(fault) => Err(fault),
-    }
+    add_segments(alloc, tables, body, &mut file, faults)?;
+    Ok(file)
 }
 
 /// Reads all the segments after the header, and adds what they say to a file that says nothing.
@@ -159,10 +153,8 @@ fn try_segment<'d>(
         (file_seen file.old) (file_seen file.new) result }
     ensures unknown { TellsType number result }
 {
-    match check_segment(alloc, tables, number, payload) {
-        Ok(()) => read_segment(alloc, tables, number, payload, file),
-        Err(fault) => Err(fault),
-    }
+    check_segment(alloc, tables, number, payload)?;
+    read_segment(alloc, tables, number, payload, file)
 }
 
 /// Whether a segment says something.

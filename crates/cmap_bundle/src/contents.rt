@@ -1,12 +1,12 @@
 //! What a bundle holds.
 
-use crate::known_names::KNOWN_NAMES;
 use cmap_binary::is_marked_binary;
-use cmap_escape::escape::{escaped_names, push_name};
+use cmap_escape::escape::{escaped_name, escaped_names, push_name};
 use cmap_escape::json::push_line;
 use cmap_escape::object::Object;
 use cmap_report::uses::uses_by_layer;
 use cmap_sources::failure::Failure;
+use cmap_values::names::{KNOWN_COUNT, KNOWN_NAMES};
 use hayro_cmap::{Bundle, BundleFiles, NamedFiles};
 use serde_json::Value;
 use std::alloc::{AllocError, Global};
@@ -14,7 +14,7 @@ use std::alloc::{AllocError, Global};
 /// A file of a bundle.
 #[derive(Drop)]
 pub struct Held<'b> {
-    pub name: &'static str,
+    pub name: &'static [u8],
     pub bytes: &'b [u8],
     /// The names that it uses, in order.
     pub uses: Vec<&'b [u8]>,
@@ -35,7 +35,8 @@ impl<'b> Held<'b> {
 pub fn contents_of<'b>(alloc: Global, bundle: &'b Bundle<'b>) -> Result<Vec<Held<'b>>, AllocError> {
     let mut files = Vec::new(alloc);
     for name in KNOWN_NAMES {
-        if let Some(bytes) = bundle.file_of(name.as_bytes()) {
+        let name = name.to_bytes();
+        if let Some(bytes) = bundle.file_of(name) {
             let uses = uses_of(alloc, bundle, bytes)?;
             files.push(Held { name, bytes, uses })?;
         }
@@ -60,7 +61,7 @@ fn uses_of<'b>(
 
 /// How many of the known names have no file.
 pub fn absent_of(files: &[Held<'_>]) -> usize {
-    KNOWN_NAMES.len().saturating_sub(files.len())
+    KNOWN_COUNT.saturating_sub(files.len())
 }
 
 /// Prints what a bundle holds, which has this path.
@@ -75,27 +76,28 @@ pub fn print_contents(
     if json {
         push_json(rt.alloc(), &mut lines, path, &files)?;
     } else {
-        push_contents(&mut lines, &files)?;
+        push_contents(rt.alloc(), &mut lines, &files)?;
     }
     Ok(rt.print(lines.as_str())?)
 }
 
 /// Adds a line for each file of a bundle, and how many names have none.
-fn push_contents(out: &mut String, files: &[Held<'_>]) -> Result<(), AllocError> {
+fn push_contents(alloc: Global, out: &mut String, files: &[Held<'_>]) -> Result<(), AllocError> {
     for file in files {
-        push_held(out, file)?;
+        push_held(alloc, out, file)?;
     }
     writeln!(
         out,
         "{} of {} names have no file",
         absent_of(files),
-        KNOWN_NAMES.len()
+        KNOWN_COUNT
     )
 }
 
 /// Adds the line of a file: its name, its bytes, its form and the names that it uses.
-fn push_held(out: &mut String, file: &Held<'_>) -> Result<(), AllocError> {
+fn push_held(alloc: Global, out: &mut String, file: &Held<'_>) -> Result<(), AllocError> {
     let Held { name, bytes, uses } = file;
+    let name = escaped_name(alloc, name)?;
     write!(out, "{name:<18}{:>9}  {:<6} ", bytes.len(), file.form())?;
     push_uses(out, uses)
 }
@@ -137,7 +139,7 @@ fn held_object(alloc: Global, file: &Held<'_>) -> Result<Value, AllocError> {
     let mut object = Object::new(alloc);
     object.set("bytes", Value::from(file.bytes.len()));
     object.set_text("form", file.form());
-    object.set_text("name", file.name);
+    object.set_string("name", escaped_name(alloc, file.name));
     object.set_list("uses", escaped_names(alloc, &file.uses));
     object.finish()
 }

@@ -1,7 +1,7 @@
 //! What a bundle came to be, in a line.
 
 use crate::contents::{Held, absent_of, contents_of};
-use cmap_escape::escape::push_text;
+use cmap_escape::escape::{push_name, push_text};
 use hayro_cmap::Bundle;
 use std::alloc::{AllocError, Global};
 
@@ -61,7 +61,8 @@ fn push_texts(out: &mut String, files: &[Held<'_>]) -> Result<(), AllocError> {
     let mut separator = "; as texts: ";
     for file in files {
         if !file.is_binary() {
-            write!(out, "{separator}{}", file.name)?;
+            out.push_str(separator)?;
+            push_name(out, file.name)?;
             separator = ", ";
         }
     }

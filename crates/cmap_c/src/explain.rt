@@ -16,7 +16,7 @@ use cmap_chains::named_files::NamedFiles;
 use cmap_chains::read_layers;
 use cmap_handles::bundle::{BundleHandle, lent};
 use cmap_handles::handle::MapHandle;
-use cmap_handles::room::put_bytes;
+use cmap_handles::room::put;
 use cmap_handles::status::Status;
 use cmap_layers::layers::Layers;
 use cmap_packed::OwnedBundle;
@@ -74,7 +74,7 @@ fn tell(
         Ok(map) => Ok(map),
         Err(Fault::Refused(told)) => {
             *fault = told.fault;
-            put_bytes(&told.names, room, needed);
+            put(&told.names, room, needed);
             Err(status_of(told.cause))
         }
         Err(Fault::Memory) => Err(Status::NoMemory),

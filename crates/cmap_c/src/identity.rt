@@ -1,7 +1,7 @@
 //! The predefined identity maps, for C.
 
 ghost use Rattle.std.specs.Prelude.{◌≡◌, ◌⊎◌, None, Some, [], ◌∷◌, codes, true, false};
-ghost use Rattle.cmap_files.specs.Files as files;
+ghost use Rattle.cmap_values.specs.Files as files;
 ghost use Rattle.cmap_chains.specs.Identity.{identity_layer};
 ghost use Rattle.cmap_handles.specs.Statuses.{number};
 ghost use Rattle.cmap_handles.specs.declared.status.Status.TheVariants.{Done, NoMemory};

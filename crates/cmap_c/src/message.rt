@@ -9,7 +9,7 @@ ghost use Rattle.cmap_handles.specs.Statuses.{number};
 ghost use Rattle.cmap_handles.specs.declared.status.Status.TheVariants.{Done, NoMemory, Absent, NoRoom};
 
 use crate::fault::FaultNumbers;
-use cmap_handles::room::put_bytes;
+use cmap_handles::room::put;
 use cmap_handles::status::Status;
 use std::alloc::Global;
 
@@ -34,7 +34,7 @@ pub extern "C" fn hayro_cmap_message(
         return Status::Absent.number();
     };
     match cause.to_string(alloc) {
-        Ok(text) => put_bytes(text.as_bytes(), room, needed),
+        Ok(text) => put(text.as_bytes(), room, needed),
         Err(_) => Status::NoMemory.number(),
     }
 }

@@ -17,7 +17,7 @@ use cmap_chains::{Refusal, SalvagedLayers, salvaged_layers};
 use cmap_handles::bundle::{BundleHandle, lent};
 use cmap_handles::handle::MapHandle;
 use cmap_handles::names::push_names;
-use cmap_handles::room::{put_bytes, put_head};
+use cmap_handles::room::{put, put_head};
 use cmap_handles::shared::Shared;
 use cmap_handles::status::Status;
 use cmap_layers::layers::Layers;
@@ -62,7 +62,7 @@ pub extern "C" fn hayro_cmap_salvage(
     map.put(salvaged.map);
     *found = salvaged.shown.faults.len();
     put_head(&salvaged.shown.faults, faults);
-    put_bytes(&salvaged.shown.names, room, needed);
+    put(&salvaged.shown.names, room, needed);
     Status::Done.number()
 }
 
@@ -124,6 +124,7 @@ fn salvage_owned(
     let source = NamedFiles { files, bundle };
     match salvaged_layers(alloc, budget, data, tables_of(bundle), &source) {
         Ok(SalvagedLayers { layers, faults }) => Salvaged::of(alloc, layers, &faults),
+        // By `?` each clause would be shown again of the error.
         Err(error) => Err(error),
     }
 }

@@ -12,7 +12,7 @@ use crate::parse::tables_of;
 use cmap_chains::uses;
 use cmap_handles::bundle::{BundleHandle, lent};
 use cmap_handles::names::joined;
-use cmap_handles::room::{fill, put_bytes};
+use cmap_handles::room::{fill, put};
 use cmap_handles::status::Status;
 use std::alloc::Global;
 
@@ -73,5 +73,5 @@ fn put_names(
         return Status::NoRoom.number();
     }
     fill(&used, name_lens);
-    put_bytes(&bytes, room, needed)
+    put(&bytes, room, needed)
 }

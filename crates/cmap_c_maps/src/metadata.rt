@@ -11,7 +11,7 @@ ghost use Rattle.cmap_handles.specs.declared.status.Status.TheVariants.{Absent};
 
 use crate::layers::layer_at;
 use cmap_handles::handle::{MapHandle, TakenMap};
-use cmap_handles::room::{put_bytes, put_found};
+use cmap_handles::room::{put, put_found};
 use cmap_handles::status::Status;
 use cmap_values::character_collection::CharacterCollection;
 use cmap_values::writing_mode::WritingMode;
@@ -87,7 +87,7 @@ pub extern "C" fn hayro_cmap_layer_registry(
 {
     let found = map.take(alloc);
     let status = match collection_at(&found, layer) {
-        Some(given) => put_bytes(given.family.registry(), room, needed),
+        Some(given) => put(given.family.registry(), room, needed),
         None => Status::Absent.number(),
     };
     map.put_back(found);
@@ -127,7 +127,7 @@ pub extern "C" fn hayro_cmap_layer_ordering(
 {
     let found = map.take(alloc);
     let status = match collection_at(&found, layer) {
-        Some(given) => put_bytes(given.family.ordering(), room, needed),
+        Some(given) => put(given.family.ordering(), room, needed),
         None => Status::Absent.number(),
     };
     map.put_back(found);

@@ -7,7 +7,7 @@ ghost use Rattle.cmap_handles.specs.Statuses.{number};
 ghost use Rattle.cmap_handles.specs.declared.status.Status.TheVariants.{Absent, NoMemory};
 
 use cmap_handles::handle::MapHandle;
-use cmap_handles::room::put_bytes;
+use cmap_handles::room::put;
 use cmap_handles::status::Status;
 use cmap_runs::runs::Looks;
 use cmap_tokens::utf16::BfString;
@@ -50,7 +50,7 @@ fn put_text(text: &BfString, room: &mut [u8], needed: &mut usize) -> u32
     ensures { IsPut (utf8_of text.now) room.old room.new needed.new result }
 {
     match text {
-        BfString::Char(c) => put_bytes(c.encode_utf8(&mut [0; 4]).as_bytes(), room, needed),
-        BfString::String(text) => put_bytes(text.as_bytes(), room, needed),
+        BfString::Char(c) => put(c.encode_utf8(&mut [0; 4]).as_bytes(), room, needed),
+        BfString::String(text) => put(text.as_bytes(), room, needed),
     }
 }

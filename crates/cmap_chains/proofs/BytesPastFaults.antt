@@ -1,7 +1,7 @@
 -- What the faults of bytes say of them: without one they mean a file; else the first is what is wrong with them.
 use Rattle.std.proofs.Common.{◌≤◌, ◌∷◌, [], inl, inr, ℕ, List, length}
 use Rattle.std.specs.Prelude.{Option, Some, None}
-use Rattle.cmap_files.specs.Files.{File}
+use Rattle.cmap_values.specs.Files.{File}
 use Rattle.cmap_values.specs.Only.{HoldsOfNone}
 use Rattle.cmap_values.specs.declared.fault.Stop.{Stop}
 use Rattle.cmap_packed.specs.Bundles.{PrefixTables}

@@ -1,15 +1,15 @@
 -- What the bytes of a file mean.
 use Rattle.std.proofs.Common.{ℕ, List, Ok, Err, inl, inr}
 use Rattle.std.specs.Prelude.{IfErr, Option, Result, Some}
-use Rattle.cmap_files.specs.FilesSeen.{file_seen}
+use Rattle.cmap_values.specs.FilesSeen.{file_seen}
 use Rattle.cmap_values.specs.Only.{IsOnly, HoldsOfNone}
 use Rattle.cmap_values.specs.Outcomes.{DecidedBy, ReadsFile, RefusesWith}
 use Rattle.cmap_values.proofs.Outcomes.{refused_as}
 use Rattle.cmap_values.specs.declared.fault.Fault.{Fault}
 use Rattle.cmap_values.specs.declared.fault.Fault.TheVariants.{Refused, Memory}
 use Rattle.cmap_values.specs.declared.fault.Stop.{Stop}
-use Rattle.cmap_files.specs.declared.file.File as declared
-use Rattle.cmap_files.specs.Files.{File}
+use Rattle.cmap_values.specs.declared.file.File as declared
+use Rattle.cmap_values.specs.Files.{File}
 use Rattle.cmap_text.specs.TextFiles.{IsTextFile}
 use Rattle.cmap_text.specs.TextReading.{StopsText}
 use Rattle.cmap_packed.specs.Bundles.{PrefixTables}

@@ -1,6 +1,6 @@
 -- The files that are opened first, up to the one that names lead to, are a front of all that are opened.
 use Rattle.std.proofs.Common.{◌≡◌, sym, ap, ◌∙◌, subst, ℕ, zero, suc, true, false, true≢false, List, [], ◌∷◌, ◌++◌, length, Option, Some, None, inl, inr, append-nil, append_assoc}
-use Rattle.cmap_files.specs.Files.{File}
+use Rattle.cmap_values.specs.Files.{File}
 use Rattle.cmap_chains.specs.Answers.{IsByName}
 use Rattle.cmap_chains.specs.Budgets.{Trail, Opens, OpensEach, OpensEachFirst, OpensFirst, OpensUse, OpensUseFirst}
 

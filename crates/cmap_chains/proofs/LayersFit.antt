@@ -3,7 +3,7 @@ use Rattle.std.proofs.Common.{◌≡◌, ap, ℕ, zero, suc, ◌<◌, ◌≤◌,
 use Rattle.std.specs.Prelude.{unwrap_or}
 use Rattle.std.specs.List.{AllZip, last_or}
 use Rattle.std.proofs.Math.ListN.{length-map}
-use Rattle.cmap_files.specs.Files.{File}
+use Rattle.cmap_values.specs.Files.{File}
 use Rattle.cmap_layers.specs.Layers.{Layer, layer_of}
 use Rattle.cmap_chains.specs.Layers.{AreLayers, OfAnswer}
 use Rattle.cmap_layers.specs.LayersSeen.{layers_seen}

@@ -1,6 +1,6 @@
 -- What one use finds and opens is what the file does that answers its name.
 use Rattle.std.proofs.Common.{◌≡◌, ◌-◌, ◌<◌, arith, refl, subst, ℕ, suc, Bool, true, false, List, [], ◌∷◌, Option, Some, None, inl, inr}
-use Rattle.cmap_files.specs.Files.{File}
+use Rattle.cmap_values.specs.Files.{File}
 use Rattle.cmap_chains.specs.Answers.{IsByName}
 use Rattle.cmap_chains.specs.Budgets.{Trail, Opens, OpensUse}
 use Rattle.cmap_chains.specs.BytesSpent.{Spends, Resolves, Refuses, GoesOver, GoesOverAt, of_file, of_use}

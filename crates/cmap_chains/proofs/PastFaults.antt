@@ -1,7 +1,7 @@
 -- What the faults say of a file and of those that it uses: without one it has the layers that are found; else the first is why it has none.
 use Rattle.std.proofs.Common.{◌≡◌, ℕ, zero, suc, refl, sym, ap, ◌∙◌, subst, false, List, [], ◌∷◌, ◌++◌, length, inl, inr, arith, append-nil, append_assoc}
 use Rattle.std.specs.Prelude.{map, Option, Some}
-use Rattle.cmap_files.specs.Files.{File}
+use Rattle.cmap_values.specs.Files.{File}
 use Rattle.cmap_values.specs.Only.{IsOnly, HoldsOfNone}
 use Rattle.cmap_values.specs.declared.fault.Stop.{Stop}
 use Rattle.cmap_packed.specs.Bundles.{PrefixTables}

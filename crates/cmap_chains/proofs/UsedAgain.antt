@@ -2,7 +2,7 @@
 use Rattle.std.proofs.Common.{◌≡◌, ◌∙◌, refl, sym, subst, arith, ℕ, List, Bool, true, false, cond, sum, Option, Some, None}
 use Rattle.std.specs.Prelude.{IfSome, bytes_eq}
 use Rattle.std.proofs.lemmas.Slice.Eq.{bytes_eq-Decides}
-use Rattle.cmap_files.specs.Files.{File}
+use Rattle.cmap_values.specs.Files.{File}
 use Rattle.cmap_chains.specs.BytesSpent.{Leaves, of_use}
 use Rattle.cmap_chains.specs.KnownFiles.{AreKnown, IsKnown, IsSpent, ResolvesFrom, SpendsAgain, file_known}
 use Rattle.cmap_chains.specs.declared.known.KnownFile.{KnownFile}

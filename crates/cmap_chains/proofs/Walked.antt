@@ -4,7 +4,7 @@ use Rattle.std.specs.Prelude.{IfOk, IsOk, MatchResult, OnOk, Option, Some, None,
 use Rattle.std.specs.Borrow.{Bor}
 use Rattle.std.proofs.Math.ListN.{length-map}
 use Rattle.std.proofs.lemmas.List.{drop_more, drop_all, get_or-map, map-append}
-use Rattle.cmap_files.specs.Files.{File}
+use Rattle.cmap_values.specs.Files.{File}
 use Rattle.cmap_values.specs.NamesSeen.{names_seen}
 use Rattle.cmap_packed.specs.Bundles.{PrefixTables}
 use Rattle.cmap_layers.specs.Layers.{Layer, layer_of}

@@ -1,6 +1,6 @@
 -- What a file finds and opens: its own layer and length, and what its uses do.
 use Rattle.std.proofs.Common.{◌≡◌, refl, sym, ap, subst, ◌∙◌, ℕ, suc, Bool, true, false, List, [], ◌∷◌, length, Option, arith, inl, inr, sum}
-use Rattle.cmap_files.specs.Files.{File}
+use Rattle.cmap_values.specs.Files.{File}
 use Rattle.cmap_values.specs.Only.{IsOnly, HoldsOfNone}
 use Rattle.cmap_chains.specs.Budgets.{IsOver, Trail, Opens, StaysWithin}
 use Rattle.cmap_chains.specs.BytesSpent.{About, Leaves, Spends, Resolves, Refuses, GoesOver, GoesOverAt, of_file, of_use, of_uses}

@@ -1,6 +1,6 @@
 -- Private aid: what is found of a file and of its uses, and what the files that are opened for it take from a budget.
 use Rattle.std.specs.Prelude.{◌≡◌, ℕ, ◌+◌, List, Bool, true, false, sum, Option, Some, None}
-use Rattle.cmap_files.specs.Files.{File}
+use Rattle.cmap_values.specs.Files.{File}
 use Rattle.cmap_values.specs.Only.{IsOnly, HoldsOfNone}
 use Rattle.cmap_chains.specs.Budgets.{IsOver, Trail, Opens, OpensFirst, OpensUse, OpensUseFirst, OpensEach, OpensEachFirst, PassesAt}
 use Rattle.cmap_layers.specs.Layers.{Layer}

@@ -3,7 +3,7 @@ use Rattle.std.specs.Prelude.{◌≡◌, ℕ, ◌+◌, ◌≤◌, List, Option, 
 use Rattle.std.specs.Ordering.{nat_cmp}
 use Rattle.std.specs.Cmp.Lexicographic.{slice_cmp}
 use Rattle.std.specs.BTreeMap.{get_by}
-use Rattle.cmap_files.specs.Files.{File}
+use Rattle.cmap_values.specs.Files.{File}
 use Rattle.cmap_layers.specs.Layers.{Layer}
 use Rattle.cmap_chains.specs.BytesSpent.{About, Leaves, Resolves, of_use}
 use Rattle.cmap_chains.specs.declared.known.KnownFile.{KnownFile}

@@ -1,7 +1,7 @@
 -- Why files have no layers: the file at fault, and what is wrong with it.
 use Rattle.std.specs.Prelude.{◌≡◌, ℕ, zero, suc, ◌<◌, ◌≤◌, List, [], ◌∷◌, ◌++◌, ◌⊎◌, length, All, Option, Some, None}
 use Rattle.std.specs.Borrow.{Bor}
-use Rattle.cmap_files.specs.Files.{File}
+use Rattle.cmap_values.specs.Files.{File}
 use Rattle.cmap_values.specs.NamesSeen.{names_seen}
 use Rattle.cmap_binary.specs.BinaryFaults.{IsBinaryFault}
 use Rattle.cmap_binary.specs.BinaryFiles.{IsMarkedBinary}

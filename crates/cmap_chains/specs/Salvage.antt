@@ -1,7 +1,7 @@
 -- Files over the files that they use, where some are at fault: each is read past its faults, and reading goes on after a use that gives no file.
 use Rattle.std.specs.Prelude.{◌≡◌, ℕ, zero, suc, Bool, true, false, List, [], ◌∷◌, ◌++◌, ◌⊎◌, length, map, Option, Some, None}
-use Rattle.cmap_files.specs.Files.{File}
-use Rattle.cmap_files.specs.ListsAppended.{no_file}
+use Rattle.cmap_values.specs.Files.{File}
+use Rattle.cmap_values.specs.ListsAppended.{no_file}
 use Rattle.cmap_values.specs.Only.{IsOnly, HoldsOfNone}
 use Rattle.cmap_values.specs.declared.fault.Stop.{Stop}
 use Rattle.cmap_binary.specs.BinaryFiles.{IsMarkedBinary}

@@ -1,7 +1,7 @@
 -- Private aid: what contracts see of files that are read past their faults.
 use Rattle.std.specs.Prelude.{◌≡◌, ℕ, List, ◌++◌, map, Option}
 use Rattle.cmap_values.specs.NamesSeen.{names_seen}
-use Rattle.cmap_files.specs.Files.{File}
+use Rattle.cmap_values.specs.Files.{File}
 use Rattle.cmap_packed.specs.Bundles.{PrefixTables}
 use Rattle.cmap_chains.specs.Salvage.{Found, IsReadWithin, NamedFault, Opening, faults_of}
 use Rattle.cmap_chains.specs.declared.refusal.Cause.{Cause}

@@ -1,7 +1,7 @@
 -- Private aid: what a search for the layers of a file or of uses answers, and a check that they have some.
 use Rattle.std.specs.Prelude.{◌≡◌, ℕ, suc, ◌≤◌, List, Option, Some, Result}
 use Rattle.std.specs.Global.{Vec}
-use Rattle.cmap_files.specs.Files.{File}
+use Rattle.cmap_values.specs.Files.{File}
 use Rattle.cmap_layers.specs.LayersSeen.{layers_seen}
 use Rattle.cmap_layers.specs.declared.layer.Layer.{Layer}
 use Rattle.cmap_packed.specs.Bundles.{PrefixTables}

@@ -3,8 +3,8 @@
 ghost use Rattle.std.specs.Prelude.{◌≡◌, ◌≢◌, ◌∷◌, ℕ, length, Err, IfErr, IfOk, MatchResult, Option, Some};
 ghost use Rattle.cmap_values.specs.Only.{IsOnly};
 ghost use Rattle.cmap_packed.specs.BundleSeen.{tables_given};
-ghost use Rattle.cmap_files.specs.DeclarationsSeen.{lists_seen};
-ghost use Rattle.cmap_files.specs.FilesSeen.{file_seen};
+ghost use Rattle.cmap_values.specs.DeclarationsSeen.{lists_seen};
+ghost use Rattle.cmap_values.specs.FilesSeen.{file_seen};
 ghost use Rattle.cmap_values.specs.NamesSeen.{names_seen};
 ghost use Rattle.cmap_values.specs.Outcomes.{Outcome, ReadsFile, RefusesWith};
 ghost use Rattle.cmap_chains.specs.Answers.{IsByName};
@@ -21,13 +21,13 @@ use crate::refusal::Cause;
 use crate::search::Search;
 use crate::source::Source;
 use cmap_binary::{is_marked_binary, read_binary};
-use cmap_files::declarations::Lists;
-use cmap_files::file::File;
 use cmap_layers::layer::Layer;
 use cmap_layers::lists::put_first;
 use cmap_packed::Bundle;
 use cmap_text::read_text;
+use cmap_values::declarations::Lists;
 use cmap_values::fault::{Fault, Stop};
+use cmap_values::file::File;
 use cmap_values::metadata::Metadata;
 use std::alloc::{AllocError, Global};
 
@@ -74,6 +74,7 @@ pub(crate) fn open_file<'a>(
 {
     match spend(left, bytes.len()) {
         Ok(()) => read_within(alloc, bytes, bundle),
+        // By `?` each clause would be shown again of the error.
         Err(fault) => Err(fault),
     }
 }
@@ -144,6 +145,7 @@ fn find_used<'a, S: Source>(
             search.names.pop();
             Ok(layers)
         }
+        // By `?` each clause would be shown again of the error.
         Err(fault) => Err(fault),
     }
 }
@@ -184,6 +186,7 @@ fn put_over_found(
             Ok(layers) => Ok(layers),
             Err(AllocError) => Err(Fault::Memory),
         },
+        // By `?` each clause would be shown again of the error.
         Err(fault) => Err(fault),
     }
 }

@@ -37,6 +37,7 @@ fn check_file<'a, S: Source>(
             drop(file);
             height
         }
+        // By `?` each clause would be shown again of the error.
         Err(fault) => Err(fault),
     }
 }

@@ -99,6 +99,7 @@ pub fn open_layers<'a, S: Source>(
         Some(data) => {
             match read_layers(alloc, budget, data, bundle, source) {
                 Ok(layers) => Ok(Some(layers)),
+                // By `?` each clause would be shown again of the error.
                 Err(fault) => Err(fault),
             }
         }

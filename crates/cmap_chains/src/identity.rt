@@ -1,20 +1,20 @@
 //! The predefined CMaps Identity-H and Identity-V. ISO 32000-1, 9.7.5.2.
 
 ghost use Rattle.std.specs.Prelude.{◌≡◌, [], ◌∷◌, IfOk, MatchOption, OnOk, codes};
-ghost use Rattle.cmap_files.specs.DeclarationsSeen.{lists_seen};
-ghost use Rattle.cmap_files.specs.Files as files;
-ghost use Rattle.cmap_files.specs.ListsAppended.{no_lists};
+ghost use Rattle.cmap_values.specs.DeclarationsSeen.{lists_seen};
+ghost use Rattle.cmap_values.specs.Files as files;
+ghost use Rattle.cmap_values.specs.ListsAppended.{no_lists};
 ghost use Rattle.cmap_layers.specs.LayersSeen.{layers_seen, mode_seen};
 ghost use Rattle.cmap_chains.specs.Identity.{identity_layer};
 ghost use Rattle.cmap_chains.specs.Opened.{IsIdentity, IsNoIdentity};
 
 use crate::chain::layer_over;
-use cmap_files::declarations::{CidRange, Codespace, Lists};
 use cmap_layers::layer::Layer;
 use cmap_layers::layers::Layers;
 use cmap_runs::runs::Range;
 use cmap_values::character_collection::{CharacterCollection, CidFamily};
 use cmap_values::code_length::CodeLength;
+use cmap_values::declarations::{CidRange, Codespace, Lists};
 use cmap_values::memory::{after, both};
 use cmap_values::metadata::Metadata;
 use cmap_values::writing_mode::WritingMode;
@@ -53,10 +53,7 @@ pub(crate) fn identity_named(alloc: Global, name: &[u8]) -> Result<Option<Layers
     } else {
         return Ok(None);
     };
-    match identity(alloc, name, mode) {
-        Ok(identity) => Ok(Some(identity)),
-        Err(AllocError) => Err(AllocError),
-    }
+    Ok(Some(identity(alloc, name, mode)?))
 }
 
 /// The one layer of an identity with this name and this writing mode.
@@ -64,10 +61,8 @@ fn identity(alloc: Global, name: &[u8], mode: WritingMode) -> Result<Layers, All
     ensures { IfOk result
         (λ layers. layers ≡ identity_layer name.now (mode_seen mode) ∷ []) }
 {
-    match identity_list(alloc, name, mode) {
-        Ok(layers) => Ok(Layers::of(layers)),
-        Err(error) => Err(error),
-    }
+    let layers = identity_list(alloc, name, mode)?;
+    Ok(Layers::of(layers))
 }
 
 /// The same, as a list.

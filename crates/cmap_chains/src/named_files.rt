@@ -6,7 +6,7 @@ ghost use Rattle.cmap_chains.specs.Answers.{embedded, unless_absent};
 ghost use Rattle.cmap_chains.specs.NamedFiles.{file_named};
 
 use crate::source::Source;
-use cmap_packed::{Bundle, OwnedBundle, load_embedded};
+use cmap_packed::{Bundle, NO_FILE, OwnedBundle, load_embedded};
 use cmap_values::names::CMapName;
 
 /// A file and its name.
@@ -73,10 +73,6 @@ impl BundleFiles for OwnedBundle {
         unless_absent(self.file(CMapName::from_bytes(name)))
     }
 }
-
-/// What stands in a bundle for an absent file: the head of a version that no reader knows, and
-/// the length.
-const NO_FILE: &[u8] = b"bcmap\0\0\0\0\x0A";
 
 /// The bytes that a bundle has for a name, unless they stand for an absent file.
 fn unless_absent(stored: Option<&[u8]>) -> Option<&[u8]>

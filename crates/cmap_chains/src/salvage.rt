@@ -4,7 +4,7 @@ ghost use Rattle.std.specs.Prelude.{◌⊎◌, ◌≡◌, ◌<◌, ◌≤◌, �
 ghost use Rattle.std.specs.List.{All};
 ghost use Rattle.std.specs.Global.{Vec};
 ghost use Rattle.cmap_packed.specs.BundleSeen.{tables_given};
-ghost use Rattle.cmap_files.specs.FilesSeen.{file_seen};
+ghost use Rattle.cmap_values.specs.FilesSeen.{file_seen};
 ghost use Rattle.cmap_values.specs.NamesSeen.{names_seen};
 ghost use Rattle.cmap_layers.specs.Layers.{layer_of};
 ghost use Rattle.cmap_layers.specs.LayersSeen.{layers_seen};
@@ -20,13 +20,13 @@ use crate::chain::{MOST_FILES, layer_over, read_file};
 use crate::refusal::{Cause, Refusal};
 use crate::source::Source;
 use cmap_binary::{is_marked_binary, salvage_binary};
-use cmap_files::file::{File, Salvaged};
 use cmap_layers::layer::Layer;
 use cmap_layers::layers::Layers;
 use cmap_layers::lists::put_last;
 use cmap_packed::Bundle;
 use cmap_text::salvage_text;
 use cmap_values::fault::{Fault, Stop};
+use cmap_values::file::{File, Salvaged};
 use cmap_values::memory::after;
 use std::alloc::{AllocError, Global};
 
@@ -83,6 +83,7 @@ pub fn salvaged_layers<'a, S: Source>(
             layers: Layers::of(layers),
             faults: walk.faults,
         }),
+        // By `?` each clause would be shown again of the error.
         Err(AllocError) => Err(AllocError),
     }
 }
@@ -268,6 +269,7 @@ fn put_over(
 {
     match base {
         Ok(base) => layer_over(alloc, file.metadata, file.lists, base),
+        // By `?` each clause would be shown again of the error.
         Err(AllocError) => Err(AllocError),
     }
 }

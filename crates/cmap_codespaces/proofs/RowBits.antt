@@ -7,7 +7,7 @@ use Rattle.std.proofs.lemmas.Nat.Bits.{bit_at-lt, bit_at-trailing_zeros, bit_at_
 use Rattle.std.proofs.lemmas.List.{get_or-append-add, get_or-replicate, get_or_append_left, length-append, length-replicate, replicate-append-replicate, take_all}
 use Rattle.std.proofs.lemmas.Option.{slice_get_cases}
 use Rattle.std.proofs.Math.Seq.{take-append_seam}
-use Rattle.cmap_files.specs.Files.{Codespace}
+use Rattle.cmap_values.specs.Files.{Codespace}
 use Rattle.cmap_codespaces.specs.CodesWithin.{IsAt, byte_at}
 use Rattle.cmap_codespaces.specs.SpaceBits.{HaveBitsOf, InRow, row_count, row_of_length, row_of_value, value_row_count}
 

@@ -10,11 +10,11 @@ use Rattle.std.proofs.lemmas.List.{length-take-le}
 use Rattle.std.proofs.lemmas.Nat.{and_le_l, shr-shr}
 use Rattle.std.proofs.lemmas.Option.{slice_get_cases}
 use Rattle.cmap_values.specs.CodeLengths.{IsCodeLength, length_of}
-use Rattle.cmap_files.specs.DeclarationsSeen.{codespace_seen}
-use Rattle.cmap_files.specs.Files.{Codespace}
+use Rattle.cmap_values.specs.DeclarationsSeen.{codespace_seen}
+use Rattle.cmap_values.specs.Files.{Codespace}
 use Rattle.cmap_values.specs.declared.code_length.CodeLength.{CodeLength}
 use Rattle.cmap_values.specs.declared.code_length.CodeLength.TheVariants.{One, Two, Three, Four}
-use Rattle.cmap_files.specs.declared.declarations.Codespace as declared
+use Rattle.cmap_values.specs.declared.declarations.Codespace as declared
 use Rattle.cmap_codespaces.specs.CodesWithin.{Begins, HasFront, IsInsideRanges, IsLeast, IsWithin, byte_at, lesser}
 use Rattle.cmap_codespaces.specs.SpaceBits.{AreBlocks, AreGroups, AreRows, AreSet, EachRow, HasGroup, HasRange, HaveBits, HaveRows, InRow, InRows, IsFound, IsFoundAmong, IsFoundAt, IsInside, IsInsideWithin, IsSet, front_row, query_of, row_count, row_of_length, row_of_value}
 use Rattle.cmap_codespaces.specs.declared.query.Query.{Query}

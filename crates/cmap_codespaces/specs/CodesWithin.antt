@@ -1,6 +1,6 @@
 -- Whether a codespace range contains a code, byte by byte and not as a number, and whether codes of it begin with given bytes. ISO 32000-1, 9.7.6.2.
 use Rattle.std.specs.Prelude.{◌≡◌, MatchOption, Option, Some, None, Any, min, ℕ, suc, ◌-◌, ◌/◌, ◌%◌, ◌^◌, ◌<◌, ◌≤◌, List, length, take, slice_index}
-use Rattle.cmap_files.specs.Files.{Codespace}
+use Rattle.cmap_values.specs.Files.{Codespace}
 
 -- the byte of a number that stands k bytes before its last
 abbrev pub byte_at : ℕ → ℕ → ℕ

@@ -2,10 +2,10 @@
 use Rattle.std.specs.Prelude.{◌≡◌, ◌≢◌, ◌↔◌, All, ℕ, ◌+◌, ◌*◌, ◌/◌, ◌%◌, ◌<◌, ◌≤◌, List, length, take, get_or, slice_get, slice_index, nat_lt, if◌then◌else◌, IsSomeAnd}
 use Rattle.std.specs.Global.{Vec}
 use Rattle.std.specs.Int.{bit_at}
-use Rattle.cmap_files.specs.DeclarationsSeen.{codespace_seen}
+use Rattle.cmap_values.specs.DeclarationsSeen.{codespace_seen}
 use Rattle.cmap_values.specs.CodeLengths.{length_of}
-use Rattle.cmap_files.specs.Files.{Codespace}
-use Rattle.cmap_files.specs.declared.declarations.Codespace as declared
+use Rattle.cmap_values.specs.Files.{Codespace}
+use Rattle.cmap_values.specs.declared.declarations.Codespace as declared
 use Rattle.cmap_codespaces.specs.CodesWithin.{Begins, IsAt}
 use Rattle.cmap_codespaces.specs.declared.query.Query.{Query}
 

@@ -3,11 +3,11 @@
 
 ghost use Rattle.std.specs.Prelude.{◌≡◌, ◌↔◌, ℕ, ◌+◌, ◌*◌, ◌<◌, ◌≤◌, ◌⊎◌, get_or, length, replicate, IfOk};
 ghost use Rattle.std.specs.Int.{bit_at};
-ghost use Rattle.cmap_files.specs.DeclarationsSeen.{codespace_seen};
+ghost use Rattle.cmap_values.specs.DeclarationsSeen.{codespace_seen};
 ghost use Rattle.cmap_codespaces.specs.CodesWithin.{byte_at};
 ghost use Rattle.cmap_codespaces.specs.SpaceBits.{HaveBits, InRow, row_count, row_of_length, row_of_value};
 
-use cmap_files::declarations::Codespace;
+use cmap_values::declarations::Codespace;
 use std::alloc::{AllocError, Global};
 
 /// How many ranges a block has bits for.

@@ -3,7 +3,7 @@
 ghost use Rattle.std.specs.Prelude.{◌≡◌, ◌↔◌, ℕ, ◌≤◌, length, IsTrue};
 ghost use Rattle.std.specs.Int.{bit_at};
 ghost use Rattle.cmap_values.specs.CodeLengths.{IsCodeLength, length_of};
-ghost use Rattle.cmap_files.specs.Files.{Codespace};
+ghost use Rattle.cmap_values.specs.Files.{Codespace};
 ghost use Rattle.cmap_codespaces.specs.CodesWithin.{HasFront, IsWithin};
 ghost use Rattle.cmap_codespaces.specs.SpaceBits.{AreRows, AreSet, InRows, IsFound, front_row, query_of, row_count};
 

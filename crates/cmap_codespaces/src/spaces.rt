@@ -2,7 +2,7 @@
 
 ghost use Rattle.std.specs.Prelude.{◌≡◌, ◌↔◌, ◌≤◌, All, Any, IfOk, IsTrue, length, map};
 ghost use Rattle.cmap_values.specs.CodeLengths.{IsCodeLength, length_of};
-ghost use Rattle.cmap_files.specs.DeclarationsSeen.{codespace_seen};
+ghost use Rattle.cmap_values.specs.DeclarationsSeen.{codespace_seen};
 ghost use Rattle.cmap_codespaces.specs.CodesWithin.{HasFront, IsInsideRanges, IsLeast};
 ghost use Rattle.cmap_codespaces.specs.SpaceBits.{AreBlocks, AreRows, InRows};
 
@@ -13,7 +13,7 @@ use crate::front::{
 use crate::group::groups_of;
 use crate::query::Query;
 use crate::search::{any_of_blocks, any_of_tops};
-use cmap_files::declarations::Codespace;
+use cmap_values::declarations::Codespace;
 use std::alloc::{AllocError, Global};
 use std::fmt;
 use std::marker::Model;
@@ -35,7 +35,7 @@ pub struct Spaces {
 
 impl Model for Spaces {
     ghost use Rattle.std.specs.Prelude.{List};
-    ghost use Rattle.cmap_files.specs.declared.declarations.Codespace.{Codespace};
+    ghost use Rattle.cmap_values.specs.declared.declarations.Codespace.{Codespace};
     ghost use Rattle.cmap_codespaces.specs.SpaceBits.{AreFoundBy};
 
     ghost Value = { List Codespace };

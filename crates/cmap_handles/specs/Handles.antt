@@ -3,10 +3,10 @@ use Rattle.std.specs.Prelude.{ℕ, List, [], ◌∷◌, Option, Some, None, enco
 use Rattle.std.specs.String.{string_bytes}
 use Rattle.cmap_tokens.specs.declared.utf16.BfString.{BfString}
 use Rattle.cmap_tokens.specs.declared.utf16.BfString.TheVariants.{Char, String}
-use Rattle.cmap_files.specs.DeclarationsSeen.{codespace_seen}
-use Rattle.cmap_files.specs.Files.{Codespace, FileMetadata, Mode, horizontal, vertical}
+use Rattle.cmap_values.specs.DeclarationsSeen.{codespace_seen}
+use Rattle.cmap_values.specs.Files.{Codespace, FileMetadata, Mode, horizontal, vertical}
 use Rattle.cmap_values.specs.Metadata.{Collection}
-use Rattle.cmap_files.specs.declared.declarations.Codespace as declared
+use Rattle.cmap_values.specs.declared.declarations.Codespace as declared
 use Rattle.cmap_layers.specs.Layers.{Layer, top_metadata}
 use Rattle.cmap_layers.specs.Lookups.{InCodespace, cid_of, bf_of}
 use Rattle.cmap_handles.specs.declared.ranges.CodespaceRange.{CodespaceRange}

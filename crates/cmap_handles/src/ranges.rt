@@ -1,8 +1,8 @@
 //! Ranges of codes and declarations, as C has them.
 
 use crate::room::Items;
-use cmap_files::declarations::{BfRange, CidRange, Codespace};
 use cmap_runs::runs::{Looks, Range, Table};
+use cmap_values::declarations::{BfRange, CidRange, Codespace};
 
 /// A codespace range: codes of `byte_len` bytes, each byte between those of `low` and `high`.
 #[repr(C)]
@@ -66,7 +66,7 @@ impl Items for Table<CidRange> {
     type Item = DeclaredCids;
 
     ghost use Rattle.std.specs.Prelude.{map};
-    ghost use Rattle.cmap_files.specs.DeclarationsSeen.{entries_seen};
+    ghost use Rattle.cmap_values.specs.DeclarationsSeen.{entries_seen};
     ghost use Rattle.cmap_handles.specs.Ranges.{cid_range_seen};
 
     ghost items = { λ table. map cid_range_seen (entries_seen table) };
@@ -90,7 +90,7 @@ impl Items for Table<BfRange> {
     type Item = DeclaredTexts;
 
     ghost use Rattle.std.specs.Prelude.{map};
-    ghost use Rattle.cmap_files.specs.DeclarationsSeen.{bf_entry_seen};
+    ghost use Rattle.cmap_values.specs.DeclarationsSeen.{bf_entry_seen};
     ghost use Rattle.cmap_handles.specs.Ranges.{text_range_seen};
 
     ghost items = { λ table. map text_range_seen (map bf_entry_seen table) };

@@ -69,13 +69,6 @@ pub fn put_head<T: Copy>(items: &[T], room: &mut [T])
     room[..count].copy_from_slice(&items[..count]);
 }
 
-/// Writes the bytes at the head of the room, where all of them have room, and how many they are.
-pub fn put_bytes(bytes: &[u8], room: &mut [u8], needed: &mut usize) -> u32
-    ensures { IsPut bytes.now room.old room.new needed.new result }
-{
-    put(bytes, room, needed)
-}
-
 /// The same of items that are found, if they are.
 pub fn put_found<T: Copy>(items: Option<&[T]>, room: &mut [T], needed: &mut usize) -> u32
     ensures { MatchOption (option_copied items.entry)

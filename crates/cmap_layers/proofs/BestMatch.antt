@@ -4,9 +4,9 @@ use Rattle.std.proofs.lemmas.Bool.{cases_lt}
 use Rattle.std.proofs.lemmas.List.{length-take-le}
 use Rattle.std.proofs.lemmas.List.Elements.{All-contains, All-contains_itself, All-weaker, Contains-append_cases, Contains-append_left, Contains-append_right}
 use Rattle.cmap_values.specs.CodeLengths.{IsCodeLength}
-use Rattle.cmap_files.specs.DeclarationsSeen.{codespace_seen}
-use Rattle.cmap_files.specs.Files.{Codespace}
-use Rattle.cmap_files.specs.declared.declarations.Codespace as declared
+use Rattle.cmap_values.specs.DeclarationsSeen.{codespace_seen}
+use Rattle.cmap_values.specs.Files.{Codespace}
+use Rattle.cmap_values.specs.declared.declarations.Codespace as declared
 use Rattle.cmap_values.specs.Only.{HoldsOfNone}
 use Rattle.cmap_codespaces.specs.CodesWithin.{HasFront, IsLeast}
 use Rattle.cmap_codespaces.proofs.SpacesFound.{AreBytes}

@@ -4,8 +4,8 @@ use Rattle.std.specs.Prelude.{◌↔◌, IsSomeAnd, slice_index}
 use Rattle.std.proofs.lemmas.Bool.{cases_lt}
 use Rattle.std.proofs.lemmas.List.{length-take-le}
 use Rattle.cmap_values.specs.BigEndian.{big_endian}
-use Rattle.cmap_files.specs.DeclarationsSeen.{codespace_seen}
-use Rattle.cmap_files.specs.Files.{Codespace}
+use Rattle.cmap_values.specs.DeclarationsSeen.{codespace_seen}
+use Rattle.cmap_values.specs.Files.{Codespace}
 use Rattle.cmap_codespaces.specs.CodesWithin.{Begins, HasFront, IsInsideRanges, IsLeast, IsWithin, byte_at, lesser}
 use Rattle.cmap_codespaces.proofs.SpacesFound.{AreBytes, any_at, at_any, least_of_both, least_same, taken_bytes}
 use Rattle.cmap_layers.specs.Layers as layers

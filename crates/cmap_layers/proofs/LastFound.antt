@@ -4,12 +4,12 @@ use Rattle.std.specs.Prelude.{option_map, option_and_then, slice_get, unwrap_or}
 use Rattle.std.proofs.lemmas.Option.{slice_get-map}
 use Rattle.cmap_runs.specs.Ranges.{Span, last_index, last_of}
 use Rattle.cmap_values.specs.CodeLengths.{length_of}
-use Rattle.cmap_files.specs.DeclarationsSeen.{entries_seen, slot}
-use Rattle.cmap_files.specs.Files.{CidEntry, of_length}
+use Rattle.cmap_values.specs.DeclarationsSeen.{entries_seen, slot}
+use Rattle.cmap_values.specs.Files.{CidEntry, of_length}
 use Rattle.cmap_values.specs.declared.code_length.CodeLength.{CodeLength}
 use Rattle.cmap_values.specs.declared.code_length.CodeLength.TheVariants.{One, Two, Three, Four}
-use Rattle.cmap_files.specs.declared.declarations.ByLength.{ByLength}
-use Rattle.cmap_files.specs.declared.declarations.CidRange.{CidRange}
+use Rattle.cmap_values.specs.declared.declarations.ByLength.{ByLength}
+use Rattle.cmap_values.specs.declared.declarations.CidRange.{CidRange}
 use Rattle.cmap_layers.specs.LayersSeen.{by_length_seen}
 use Rattle.cmap_layers.specs.Lookups.{decided_cid}
 use Rattle.cmap_layers.specs.LayersDecide.{decided_in}

@@ -4,12 +4,12 @@ use Rattle.std.specs.Prelude.{◌&&◌, nat_le, option_map, unwrap_or}
 use Rattle.std.specs.Option.{option_or}
 use Rattle.cmap_runs.specs.Stretches.{IsStretch}
 use Rattle.cmap_values.specs.CodeLengths.{length_of}
-use Rattle.cmap_files.specs.DeclarationsSeen.{bf_entry_seen, bf_range_span, cid_entry_seen, cid_range_span, entries_seen}
-use Rattle.cmap_files.specs.Files.{BfEntry, CidEntry}
+use Rattle.cmap_values.specs.DeclarationsSeen.{bf_entry_seen, bf_range_span, cid_entry_seen, cid_range_span, entries_seen}
+use Rattle.cmap_values.specs.Files.{BfEntry, CidEntry}
 use Rattle.cmap_values.specs.declared.code_length.CodeLength.{CodeLength}
 use Rattle.cmap_values.specs.declared.code_length.CodeLength.TheVariants.{One, Two, Three, Four}
-use Rattle.cmap_files.specs.declared.declarations.BfRange.{BfRange}
-use Rattle.cmap_files.specs.declared.declarations.CidRange.{CidRange}
+use Rattle.cmap_values.specs.declared.declarations.BfRange.{BfRange}
+use Rattle.cmap_values.specs.declared.declarations.CidRange.{CidRange}
 use Rattle.cmap_layers.specs.Layers.{Layer}
 use Rattle.cmap_layers.specs.LayersDecide.{decided_in, deciding_bf, layer_cid}
 use Rattle.cmap_layers.specs.Lookups.{bf_span, cid_in, cid_of, cid_span, last_bf, last_cid}

@@ -8,7 +8,7 @@ use Rattle.std.proofs.lemmas.List.{drop_all}
 use Rattle.std.proofs.lemmas.List.Sums.{sum_by-cons}
 use Rattle.std.proofs.lemmas.Bool.{and_from, and_parts, cond-true, false_from_ne_true, le-leb, leb-true}
 use Rattle.cmap_values.specs.CodeLengths.{IsCodeLength}
-use Rattle.cmap_files.specs.Files.{BfEntry}
+use Rattle.cmap_values.specs.Files.{BfEntry}
 use Rattle.cmap_layers.specs.Layers.{Layer}
 use Rattle.cmap_layers.specs.Lookups.{cid_in, cid_of, bf_at, bf_span, last_bf, bf_of, decided_text}
 use Rattle.cmap_layers.specs.LayersDecide.{layer_cid, deciding_bf}

@@ -9,10 +9,10 @@ use Rattle.cmap_tokens.specs.Texts.{only_character}
 use Rattle.cmap_values.specs.CodeLengths.{IsCodeLength}
 use Rattle.cmap_runs.specs.Ranges.{Span, contains}
 use Rattle.cmap_runs.specs.Stretches.{IsStretch}
-use Rattle.cmap_files.specs.DeclarationsSeen.{bf_entry_seen, bf_range_span, cid_entry_seen, cid_range_span, entries_seen}
-use Rattle.cmap_files.specs.Files.{CidEntry, of_length}
-use Rattle.cmap_files.specs.declared.declarations.BfRange.{BfRange}
-use Rattle.cmap_files.specs.declared.declarations.CidRange.{CidRange}
+use Rattle.cmap_values.specs.DeclarationsSeen.{bf_entry_seen, bf_range_span, cid_entry_seen, cid_range_span, entries_seen}
+use Rattle.cmap_values.specs.Files.{CidEntry, of_length}
+use Rattle.cmap_values.specs.declared.declarations.BfRange.{BfRange}
+use Rattle.cmap_values.specs.declared.declarations.CidRange.{CidRange}
 use Rattle.cmap_layers.specs.Layers.{Layer}
 use Rattle.cmap_layers.specs.Lookups.{bf_at, bf_span, cid_in, cid_span, decided_cid, last_bf, last_cid}
 use Rattle.cmap_layers.specs.Rows.{AreCidsOf, cid_or}

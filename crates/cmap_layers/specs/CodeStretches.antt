@@ -1,7 +1,7 @@
 -- What codes in a row stand for, and the codes of a CID.
 use Rattle.std.specs.Prelude.{◌≡◌, ◌↔◌, ℕ, ◌+◌, ◌-◌, ◌<◌, ◌≤◌, List, All, AllPairs, Any, Option, Some, None, MatchOption, option_and_then, option_map}
 use Rattle.cmap_runs.specs.declared.runs.Range.{Range}
-use Rattle.cmap_files.specs.Files.{BfEntry}
+use Rattle.cmap_values.specs.Files.{BfEntry}
 use Rattle.cmap_layers.specs.Layers.{Layer}
 use Rattle.cmap_layers.specs.Lookups.{bf_at, bf_of, cid_of}
 use Rattle.cmap_layers.specs.declared.stretches.Cids.{Cids}

@@ -1,7 +1,7 @@
 -- How many declarations a layer has of each kind.
 use Rattle.std.specs.Prelude.{ℕ, length}
-use Rattle.cmap_files.specs.Files as files
-use Rattle.cmap_files.specs.declared.declarations.ByLength.{ByLength}
+use Rattle.cmap_values.specs.Files as files
+use Rattle.cmap_values.specs.declared.declarations.ByLength.{ByLength}
 use Rattle.cmap_layers.specs.declared.layer.DeclarationCounts.{DeclarationCounts}
 
 -- in the list for codes of each length

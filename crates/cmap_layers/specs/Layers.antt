@@ -1,6 +1,6 @@
 -- What a layer of a map is.
 use Rattle.std.specs.Prelude.{List, [], ◌∷◌, Option, None, Some}
-use Rattle.cmap_files.specs.Files.{FileMetadata, Lists, File}
+use Rattle.cmap_values.specs.Files.{FileMetadata, Lists, File}
 
 -- what a file says, without the names that it uses
 pub record Layer : Type 0 where

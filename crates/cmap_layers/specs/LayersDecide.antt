@@ -2,7 +2,7 @@
 use Rattle.std.specs.Prelude.{ℕ, List, [], ◌∷◌, Option, Some, None, option_and_then}
 use Rattle.std.specs.Option.{option_or}
 use Rattle.cmap_tokens.specs.Texts.{only_character}
-use Rattle.cmap_files.specs.Files.{BfEntry, CidEntry, of_length}
+use Rattle.cmap_values.specs.Files.{BfEntry, CidEntry, of_length}
 use Rattle.cmap_layers.specs.Layers.{Layer}
 use Rattle.cmap_layers.specs.Lookups.{cid_at, bf_at, last_cid, last_bf}
 

@@ -2,11 +2,11 @@
 use Rattle.std.specs.Prelude.{List, map}
 use Rattle.std.specs.Global.{Vec}
 pub use Rattle.cmap_values.specs.MetadataSeen.{family_seen, collection_seen, mode_seen, metadata_seen, HoldsTexts}
-use Rattle.cmap_files.specs.Files as files
+use Rattle.cmap_values.specs.Files as files
 use Rattle.cmap_layers.specs.Layers as layers
-use Rattle.cmap_files.specs.DeclarationsSeen.{entries_seen, bf_entry_seen, codespace_seen}
-use Rattle.cmap_files.specs.declared.declarations.ByLength.{ByLength}
-use Rattle.cmap_files.specs.declared.declarations.CidRange.{CidRange}
+use Rattle.cmap_values.specs.DeclarationsSeen.{entries_seen, bf_entry_seen, codespace_seen}
+use Rattle.cmap_values.specs.declared.declarations.ByLength.{ByLength}
+use Rattle.cmap_values.specs.declared.declarations.CidRange.{CidRange}
 use Rattle.cmap_layers.specs.declared.layer.Layer.{Layer}
 
 -- a table is seen as its list

@@ -2,7 +2,7 @@
 use Rattle.std.specs.Prelude.{◌≡◌, ℕ, ◌+◌, ◌-◌, ◌^◌, ◌<◌, ◌≤◌, ◌&&◌, nat_le, nat_lt, List, [], ◌∷◌, Any, Option, Some, None, option_and_then, if◌then◌else◌}
 use Rattle.cmap_tokens.specs.Texts.{text_at, only_character}
 use Rattle.cmap_runs.specs.Ranges.{Span, last_of}
-use Rattle.cmap_files.specs.Files.{CidEntry, BfEntry, of_length}
+use Rattle.cmap_values.specs.Files.{CidEntry, BfEntry, of_length}
 -- a code in a range, byte by byte
 pub use Rattle.cmap_codespaces.specs.CodesWithin.{IsWithin, byte_at}
 use Rattle.cmap_layers.specs.Layers.{Layer}
@@ -60,7 +60,3 @@ InCodespace layers code len = (1 ≤ len) × (len ≤ 4) × (code < 256 ^ len) �
 -- a codespace range of some layer has codes of len bytes
 abbrev pub HasLength : List Layer → ℕ → Type 0
 HasLength layers len = Any (λ layer. Any (λ space. space.len ≡ len) layer.lists.spaces) layers
-
--- no code in a codespace range has fewer bytes
-abbrev pub HaveNoShorter : List Layer → ℕ → Type 0
-HaveNoShorter layers fewest = (code len : ℕ) → len < fewest → InCodespace layers code len → ⊥

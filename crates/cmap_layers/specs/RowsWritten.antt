@@ -1,7 +1,7 @@
 -- Private aid: what the tables of a layer write for codes in a row.
 use Rattle.std.specs.Prelude.{◌≡◌, ℕ, ◌+◌, ◌<◌, ◌≤◌, ◌^◌, List, length, slice_index, Option, option_and_then, option_map, unwrap_or}
 use Rattle.cmap_tokens.specs.Texts.{only_character}
-use Rattle.cmap_files.specs.Files.{BfEntry, CidEntry}
+use Rattle.cmap_values.specs.Files.{BfEntry, CidEntry}
 use Rattle.cmap_layers.specs.Lookups.{bf_at, cid_at, last_bf, last_cid}
 use Rattle.cmap_layers.specs.declared.row.Kind.{Kind}
 use Rattle.cmap_layers.specs.declared.row.Kind.TheVariants.{Cids, Notdefs}

@@ -8,7 +8,7 @@ use Rattle.cmap_tokens.specs.Texts.{text_of_characters}
 use Rattle.cmap_tokens.specs.TextSeen.{text_seen}
 use Rattle.cmap_tokens.specs.declared.utf16.BfString.{BfString}
 use Rattle.cmap_values.specs.CodeLengths.{IsCodeLength}
-use Rattle.cmap_files.specs.Files.{of_length}
+use Rattle.cmap_values.specs.Files.{of_length}
 use Rattle.cmap_layers.specs.Layers.{Layer}
 use Rattle.cmap_layers.specs.Lookups.{InCodespace, bf_of, bf_span, cid_of, cid_span}
 

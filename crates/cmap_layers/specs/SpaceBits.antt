@@ -1,7 +1,7 @@
 -- Private aid: codespace ranges that match all bytes of a front.
 use Rattle.std.specs.Prelude.{◌≡◌, ◌≤◌, MatchOption, Option, All, Any, ℕ, List, length}
 use Rattle.cmap_values.specs.CodeLengths.{IsCodeLength}
-use Rattle.cmap_files.specs.Files.{Codespace}
+use Rattle.cmap_values.specs.Files.{Codespace}
 -- ranges by the bytes of their codes, and by bits
 pub use Rattle.cmap_codespaces.specs.CodesWithin.{Begins, HasFront, IsAt, IsInsideRanges, IsLeast, lesser}
 pub use Rattle.cmap_codespaces.specs.SpaceBits.{AreBlocks, AreFoundBy, AreGroups, AreRows, AreSet, EachRow, HasGroup, HasRange, HaveBits, HaveBitsOf, HaveRows, InRow, InRows, IsFound, IsFoundAmong, IsFoundAt, IsFoundWithin, IsInRow, IsInside, IsInsideWithin, IsSet, front_row, query_of, row_count, row_of_length, row_of_value, value_row_count}

@@ -3,7 +3,7 @@ use Rattle.std.specs.Prelude.{◌≡◌, ◌↔◌, IsTrue, ℕ, suc, ◌-◌, �
 use Rattle.std.specs.Bool.{MatchBool}
 use Rattle.std.specs.List.{flat_map}
 use Rattle.cmap_values.specs.BigEndian.{big_endian}
-use Rattle.cmap_files.specs.Files.{Codespace}
+use Rattle.cmap_values.specs.Files.{Codespace}
 use Rattle.cmap_values.specs.Only.{HoldsOfNone}
 use Rattle.cmap_codespaces.specs.CodesWithin.{byte_at}
 use Rattle.cmap_layers.specs.Layers.{Layer}

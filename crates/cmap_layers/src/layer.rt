@@ -2,15 +2,15 @@
 
 ghost use Rattle.std.specs.Prelude.{◌≡◌, IfOk, map};
 ghost use Rattle.cmap_values.specs.CodeLengths.{length_of};
-ghost use Rattle.cmap_files.specs.DeclarationsSeen.{bf_entry_seen, codespace_seen, entries_seen, lists_seen};
-ghost use Rattle.cmap_files.specs.Files.{of_length};
+ghost use Rattle.cmap_values.specs.DeclarationsSeen.{bf_entry_seen, codespace_seen, entries_seen, lists_seen};
+ghost use Rattle.cmap_values.specs.Files.{of_length};
 ghost use Rattle.cmap_layers.specs.Counts.{counts_of, lengths_of};
 ghost use Rattle.cmap_layers.specs.LayersSeen.{by_length_seen, layer_seen, lists_held, metadata_seen};
 
 use cmap_codespaces::Spaces;
-use cmap_files::declarations::{BfRange, ByLength, CidRange, Codespace, Lists};
 use cmap_runs::runs::{Looks, Table};
 use cmap_values::code_length::CodeLength;
+use cmap_values::declarations::{BfRange, ByLength, CidRange, Codespace, Lists};
 use cmap_values::memory::both;
 use cmap_values::metadata::Metadata;
 use std::alloc::{AllocError, Global};
@@ -45,16 +45,14 @@ impl Layer {
         ensures { IfOk result (λ layer. layer_seen layer
             ≡ record { metadata = metadata_seen metadata; lists = lists_seen lists }) }
     {
-        match tables_of(alloc, lists) {
-            Ok(((cids, notdefs), (bfs, spaces))) => Ok(Layer {
-                metadata,
-                cids,
-                notdefs,
-                bfs,
-                spaces,
-            }),
-            Err(error) => Err(error),
-        }
+        let ((cids, notdefs), (bfs, spaces)) = tables_of(alloc, lists)?;
+        Ok(Layer {
+            metadata,
+            cids,
+            notdefs,
+            bfs,
+            spaces,
+        })
     }
 
     /// What the file states about itself.
@@ -111,10 +109,8 @@ impl Layer {
     pub fn clone(&self, alloc: Global) -> Result<Layer, AllocError>
         ensures { IfOk result (λ copy. layer_seen copy ≡ layer_seen self.now) }
     {
-        match both(self.metadata.clone(alloc), self.lists(alloc)) {
-            Ok((metadata, lists)) => Layer::build(alloc, metadata, lists),
-            Err(error) => Err(error),
-        }
+        let (metadata, lists) = both(self.metadata.clone(alloc), self.lists(alloc))?;
+        Layer::build(alloc, metadata, lists)
     }
 
     /// A copy of the declarations.
@@ -125,15 +121,13 @@ impl Layer {
         let notdefs = copied_lists(alloc, &self.notdefs);
         let bfs = copied_bfs(alloc, &self.bfs);
         let spaces = Vec::from_slice(alloc, self.spaces.as_slice());
-        match both(both(cids, notdefs), both(bfs, spaces)) {
-            Ok(((cids, notdefs), (bfs, spaces))) => Ok(Lists {
-                cids,
-                notdefs,
-                bfs,
-                spaces,
-            }),
-            Err(error) => Err(error),
-        }
+        let ((cids, notdefs), (bfs, spaces)) = both(both(cids, notdefs), both(bfs, spaces))?;
+        Ok(Lists {
+            cids,
+            notdefs,
+            bfs,
+            spaces,
+        })
     }
 }
 
@@ -180,15 +174,13 @@ fn build_tables(
 {
     let lists = [lists.one, lists.two, lists.three, lists.four];
     let table = |list| Table::build(alloc, list);
-    match lists.try_map(table) {
-        Ok([one, two, three, four]) => Ok(ByLength {
-            one,
-            two,
-            three,
-            four,
-        }),
-        Err(error) => Err(error),
-    }
+    let [one, two, three, four] = lists.try_map(table)?;
+    Ok(ByLength {
+        one,
+        two,
+        three,
+        four,
+    })
 }
 
 /// A copy of the declarations of each table.
@@ -200,15 +192,13 @@ fn copied_lists(
 {
     let each = [&tables.one, &tables.two, &tables.three, &tables.four];
     let copied = |table| copied_cids(alloc, table);
-    match each.try_map(copied) {
-        Ok([one, two, three, four]) => Ok(ByLength {
-            one,
-            two,
-            three,
-            four,
-        }),
-        Err(error) => Err(error),
-    }
+    let [one, two, three, four] = each.try_map(copied)?;
+    Ok(ByLength {
+        one,
+        two,
+        three,
+        four,
+    })
 }
 
 /// A copy of the declarations of a table.

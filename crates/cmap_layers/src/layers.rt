@@ -62,10 +62,8 @@ impl Layers {
     pub fn clone(&self, alloc: Global) -> Result<Layers, AllocError>
         ensures { IfOk result (λ copy. copy ≡ self.now) }
     {
-        match copied(alloc, self.as_slice()) {
-            Ok(list) => Ok(Layers { list }),
-            Err(error) => Err(error),
-        }
+        let list = copied(alloc, self.as_slice())?;
+        Ok(Layers { list })
     }
 }
 

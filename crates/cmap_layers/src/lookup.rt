@@ -1,25 +1,25 @@
 //! What a code stands for: the first layer that decides, from the top one on.
 
-ghost use Rattle.std.specs.Prelude.{◌≡◌, ◌<◌, ◌≤◌, length, map, option_and_then, option_map, is_some, IfOk, IfSome, IsSomeAnd, OnErr};
+ghost use Rattle.std.specs.Prelude.{◌≡◌, ◌*◌, ◌<◌, ◌≤◌, length, map, option_and_then, option_map, is_some, IfOk, IfSome, IsSomeAnd, OnErr};
 ghost use Rattle.std.specs.Option.{option_copied};
 ghost use Rattle.cmap_runs.specs.SearchLooks.{LooksAtMost};
 ghost use Rattle.cmap_tokens.specs.Texts.{only_character, text_at, text_of_characters};
 ghost use Rattle.cmap_tokens.specs.TextSeen.{text_seen};
 ghost use Rattle.cmap_values.specs.CodeLengths.{length_of};
-ghost use Rattle.cmap_files.specs.DeclarationsSeen.{bf_entry_seen, cid_entry_seen};
-ghost use Rattle.cmap_files.specs.Files.{of_length};
+ghost use Rattle.cmap_values.specs.DeclarationsSeen.{bf_entry_seen, cid_entry_seen};
+ghost use Rattle.cmap_values.specs.Files.{of_length};
 ghost use Rattle.cmap_values.specs.UnitsSeen.{units_seen};
 ghost use Rattle.cmap_layers.specs.LayersSeen.{by_length_seen, layer_seen, layers_seen};
 ghost use Rattle.cmap_layers.specs.Lookups.{bf_at, bf_span, cid_span, last_bf, last_cid};
 ghost use Rattle.cmap_layers.specs.LayersDecide.{deciding_bf, layer_cid};
-ghost use Rattle.cmap_layers.specs.Searches.{FindsCid, FindsText, IsStrictCid, bf_looks, layer_looks, search_looks};
+ghost use Rattle.cmap_layers.specs.Searches.{FindsCid, FindsText, IsStrictCid, bf_looks, cid_looks, layer_looks, search_looks};
 
 use crate::layer::Layer;
 use crate::layers::Layers;
-use cmap_files::declarations::{BfRange, ByLength, CidRange};
 use cmap_runs::runs::{Looks, Table};
 use cmap_tokens::utf16::{BfString, one_char, text};
 use cmap_values::code_length::CodeLength;
+use cmap_values::declarations::{BfRange, ByLength, CidRange};
 use cmap_values::names::Cid;
 use cmap_values::units::Units;
 use std::alloc::{AllocError, Global};
@@ -46,7 +46,11 @@ impl Layers {
     /// A code lies in a range of its own length where each of its bytes lies between those of the
     /// range's two ends. One that doesn't fit in its length lies in none. ISO 32000-1, 9.7.6.2.
     pub fn strict_cid(&self, code: u32, byte_len: u8, looks: &mut Looks) -> Option<Cid>
-        ensures { IsStrictCid self.now code byte_len result }
+        ensures value { IsStrictCid self.now code byte_len result }
+
+        // As many are looked at as by `cid`.
+        ensures looks { LooksAtMost looks.old looks.new (cid_looks self.now byte_len)
+            (3 * length self.now) (is_some result) }
     {
         let cid = self.cid(code, byte_len, looks)?;
         if self.in_codespace(code, byte_len) {

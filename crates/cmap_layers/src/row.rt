@@ -3,17 +3,17 @@
 ghost use Rattle.std.specs.Prelude.{◌≡◌, ℕ, ◌+◌, ◌-◌, ◌<◌, ◌≤◌, ◌^◌, length, map, min, nat_lt, option_and_then, option_map, slice_index, unwrap_or, if◌then◌else◌};
 ghost use Rattle.cmap_tokens.specs.Texts.{only_character};
 ghost use Rattle.cmap_values.specs.CodeLengths.{length_of};
-ghost use Rattle.cmap_files.specs.DeclarationsSeen.{bf_entry_seen, cid_entry_seen, entries_seen};
+ghost use Rattle.cmap_values.specs.DeclarationsSeen.{bf_entry_seen, cid_entry_seen, entries_seen};
 ghost use Rattle.cmap_layers.specs.LayersSeen.{layers_seen};
 ghost use Rattle.cmap_layers.specs.Lookups.{bf_at};
 ghost use Rattle.cmap_layers.specs.Rows.{AreCidsOf};
 ghost use Rattle.cmap_layers.specs.RowsWritten.{IsWritten, character_said, cid_said, given};
 
 use crate::layers::Layers;
-use cmap_files::declarations::{BfRange, CidRange};
 use cmap_runs::runs::{Looks, Table};
 use cmap_tokens::utf16::one_char;
 use cmap_values::code_length::CodeLength;
+use cmap_values::declarations::{BfRange, CidRange};
 use cmap_values::names::Cid;
 
 /// What the declarations of a table give to codes.

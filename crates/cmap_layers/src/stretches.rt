@@ -6,7 +6,7 @@ ghost use Rattle.std.specs.Option.{option_copied};
 ghost use Rattle.cmap_runs.specs.Stretches.{IsStretch};
 ghost use Rattle.cmap_tokens.specs.Texts.{only_character, text_at};
 ghost use Rattle.cmap_values.specs.CodeLengths.{length_of};
-ghost use Rattle.cmap_files.specs.DeclarationsSeen.{bf_entry_seen, cid_entry_seen};
+ghost use Rattle.cmap_values.specs.DeclarationsSeen.{bf_entry_seen, cid_entry_seen};
 ghost use Rattle.cmap_layers.specs.CodeStretches.{AreCodesAmong, AreCodesBelow, Decides, IsCidStretch, IsTextStretch};
 ghost use Rattle.cmap_layers.specs.LayersDecide.{layer_cid};
 ghost use Rattle.cmap_layers.specs.LayersSeen.{layer_seen};
@@ -15,10 +15,10 @@ ghost use Rattle.cmap_layers.specs.RowsWritten.{character_said};
 
 use crate::layer::Layer;
 use crate::layers::Layers;
-use cmap_files::declarations::{BfRange, CidRange};
 use cmap_runs::runs::{HasRange, Looks, Range, Stretch, Table};
 use cmap_tokens::utf16::one_char;
 use cmap_values::code_length::CodeLength;
+use cmap_values::declarations::{BfRange, CidRange};
 use cmap_values::names::Cid;
 use std::alloc::{AllocError, Global};
 

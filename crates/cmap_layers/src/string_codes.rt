@@ -5,7 +5,6 @@ ghost use Rattle.std.specs.Prelude.{◌≡◌, ◌≤◌, [], length, IfSome, Ma
 ghost use Rattle.cmap_values.specs.CodeLengths.{IsCodeLength};
 ghost use Rattle.cmap_values.specs.Only.{HoldsOfNone, IsOnly};
 ghost use Rattle.cmap_layers.specs.LayersSeen.{layers_seen};
-ghost use Rattle.cmap_layers.specs.Lookups.{HaveNoShorter};
 ghost use Rattle.cmap_layers.specs.SpaceBits.{IsShortestMatch};
 ghost use Rattle.cmap_layers.specs.StringCodes.{BeginsInside, IsNextCode, IsShortestInside, Wants, front, ranges_of};
 
@@ -58,30 +57,6 @@ impl Layers {
             in_codespace: inside.is_some(),
             cut_short: byte_len < wanted,
         })
-    }
-
-    /// How many bytes the codes in codespace ranges have at least; 2 also where none has so few.
-    pub fn fewest_bytes(&self) -> u8
-        ensures { HaveNoShorter self.now result }
-    {
-        if any_has_front(self.as_slice(), 1, &[]) {
-            1
-        } else {
-            2
-        }
-    }
-
-    /// The answer of `next_code`, where no code in a codespace range has fewer bytes than `fewest`.
-    /// The layers know that number themselves: `fewest` stands in the contract alone, and it takes as
-    /// long as `next_code` does.
-    #[inline(always)]
-    pub fn next_code_from(&self, text: &[u8], fewest: u8) -> Option<StringCode>
-        requires { HaveNoShorter self.now fewest }
-        ensures code { MatchOption result (text.now ≡ []) (IsOnly (IsNextCode self.now text.now)) }
-        ensures length { IfSome result
-            (λ found. IsCodeLength found.byte_len × (found.byte_len ≤ length text.now)) }
-    {
-        self.next_code(text)
     }
 }
 

@@ -3,63 +3,16 @@
 
 use crate::finding::{Finding, Place};
 use crate::warning::Warning;
+use cmap_text::{Extent, Section, is_key, opened_section};
 use hayro_cmap::token::{Number, Scanner, Token};
 
 /// The most entries that a section may have.
 const MOST_ENTRIES: i64 = 100;
 
-/// The keys that take the next token as their value.
-const KEYS: &[&[u8]] = &[
-    b"Registry",
-    b"Ordering",
-    b"Supplement",
-    b"CMapName",
-    b"WMode",
-];
-
 /// The names around the texts of a list.
 const LIST_START: &[u8] = b"[";
 
 const LIST_END: &[u8] = b"]";
-
-/// A kind of section.
-struct Kind {
-    /// The name that opens it.
-    opener: &'static [u8],
-    /// Whether an entry has three parts, and not two.
-    is_of_three: bool,
-}
-
-const KINDS: &[Kind] = &[
-    Kind {
-        opener: b"begincodespacerange",
-        is_of_three: false,
-    },
-    Kind {
-        opener: b"begincidrange",
-        is_of_three: true,
-    },
-    Kind {
-        opener: b"begincidchar",
-        is_of_three: false,
-    },
-    Kind {
-        opener: b"beginnotdefrange",
-        is_of_three: true,
-    },
-    Kind {
-        opener: b"beginnotdefchar",
-        is_of_three: false,
-    },
-    Kind {
-        opener: b"beginbfrange",
-        is_of_three: true,
-    },
-    Kind {
-        opener: b"beginbfchar",
-        is_of_three: false,
-    },
-];
 
 /// The sections of a text that is accepted. A section without a number before it counts too.
 pub(crate) fn count_differs<'m>(text: &[u8]) -> Finding<'m> {
@@ -72,27 +25,22 @@ pub(crate) fn count_differs<'m>(text: &[u8]) -> Finding<'m> {
         };
         if is_key(&token) {
             let _value = scanner.next_token();
-        } else if let Some(kind) = opened_by(&token) {
-            add_section(&mut finding, &mut scanner, kind, before, text.len());
+        } else if let Some(section) = opened_section(&token) {
+            let offset = offset_of(&token, &scanner);
+            let entries = count_entries(&mut scanner, section, text.len());
+            if before != Some(entries) || entries > MOST_ENTRIES {
+                finding.add(1, Place::Offset(offset));
+            }
         }
         before = integer(&token);
     }
     finding
 }
 
-/// Reads a section up to its end, and adds it where the number before it isn't that of its entries.
-fn add_section(
-    finding: &mut Finding<'_>,
-    scanner: &mut Scanner<'_>,
-    kind: &Kind,
-    before: Option<i64>,
-    most: usize,
-) {
-    let offset = scanner.offset().saturating_sub(kind.opener.len());
-    let entries = count_entries(scanner, kind, most);
-    if before != Some(entries) || entries > MOST_ENTRIES {
-        finding.add(1, Place::Offset(offset));
-    }
+/// The offset of the opener that was read last.
+fn offset_of(opener: &Token<'_>, scanner: &Scanner<'_>) -> usize {
+    let len = executable(opener).map_or(0, |name| name.len());
+    scanner.offset().saturating_sub(len)
 }
 
 /// The value of a token that is an integer.
@@ -100,14 +48,6 @@ fn integer(token: &Token<'_>) -> Option<i64> {
     match token {
         Token::Number(Number::Integer(number)) => Some(*number),
         _ => None,
-    }
-}
-
-/// Whether a token is a key with a value after it.
-fn is_key(token: &Token<'_>) -> bool {
-    match token {
-        Token::Name(name) => name.is_literal() && KEYS.contains(&name.as_bytes()),
-        _ => false,
     }
 }
 
@@ -119,24 +59,16 @@ fn executable<'t>(token: &Token<'t>) -> Option<&'t [u8]> {
     }
 }
 
-/// The kind of the section that a token opens.
-fn opened_by(token: &Token<'_>) -> Option<&'static Kind> {
-    let name = executable(token)?;
-    for kind in KINDS {
-        if kind.opener == name {
-            return Some(kind);
-        }
-    }
-    None
+/// Reads a section up to its end, and counts its entries.
+fn count_entries(scanner: &mut Scanner<'_>, section: Section, most: usize) -> i64 {
+    count_parts(scanner, most) / parts_of(section)
 }
 
-/// Reads a section up to its end, and counts its entries.
-fn count_entries(scanner: &mut Scanner<'_>, kind: &Kind, most: usize) -> i64 {
-    let parts = count_parts(scanner, most);
-    if kind.is_of_three {
-        parts / 3
-    } else {
-        parts / 2
+/// How many parts an entry of a section has: codes, CIDs and texts.
+fn parts_of(section: Section) -> i64 {
+    match section {
+        Section::Cids(_, Extent::Range) | Section::BfRange => 3,
+        Section::Cids(_, Extent::Single) | Section::BfChar | Section::Codespaces => 2,
     }
 }
 

@@ -1,12 +1,12 @@
 -- Obstacles of bundles.
 use Rattle.std.proofs.Common.{◌≡◌, ◌∙◌, ℕ, ◌<◌, List, Some, None, get_or, length, ap, sym, subst}
 use Rattle.std.proofs.lemmas.Option.{same_Some, slice_get-get_or}
-use Rattle.cmap_files.specs.Files.{File}
-use Rattle.cmap_files.specs.FilesSeen.{file_seen}
+use Rattle.cmap_values.specs.Files.{File}
+use Rattle.cmap_values.specs.FilesSeen.{file_seen}
 use Rattle.cmap_values.specs.Outcomes.{RefusesWith}
 use Rattle.cmap_values.specs.declared.fault.Fault.TheVariants.{Memory, Refused}
 use Rattle.cmap_values.specs.declared.fault.Fault.{Fault}
-use Rattle.cmap_files.specs.declared.file.File.{File as HeldFile}
+use Rattle.cmap_values.specs.declared.file.File.{File as HeldFile}
 use Rattle.cmap_packed.specs.Bundles.{PrefixTables}
 use Rattle.cmap_maker.specs.Bundled.{files_seen}
 use Rattle.cmap_writer.specs.Obstacles.{IsObstacle, IsSegmentsObstacle}

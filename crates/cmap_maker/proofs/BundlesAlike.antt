@@ -12,8 +12,8 @@ use Rattle.std.proofs.lemmas.Option.{none-some, same_Some, slice_get-get_or}
 use Rattle.cmap_values.specs.CMapNames.{index_of_name}
 use Rattle.cmap_values.specs.Names.{index_of_text, known_names}
 use Rattle.cmap_values.specs.Only.{IsOnly}
-use Rattle.cmap_files.specs.Files.{File}
-use Rattle.cmap_files.specs.FilesSeen.{file_seen}
+use Rattle.cmap_values.specs.Files.{File}
+use Rattle.cmap_values.specs.FilesSeen.{file_seen}
 use Rattle.cmap_text.specs.TextFiles.{IsTextFile}
 use Rattle.cmap_packed.specs.Bundles.{Bundle, IsBundle, PrefixTables, no_file_bytes}
 use Rattle.cmap_packed.specs.Fronts.{FramedAt}

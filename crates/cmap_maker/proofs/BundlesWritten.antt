@@ -8,9 +8,9 @@ use Rattle.std.specs.List.{All}
 use Rattle.std.proofs.lemmas.List.Elements.{All-weaker}
 use Rattle.std.proofs.lemmas.List.{append-nil, drop_more, map-append, take_more}
 use Rattle.cmap_values.specs.CMapNames.{index_of_name}
-use Rattle.cmap_files.specs.Files.{File}
-use Rattle.cmap_files.specs.FilesSeen.{file_seen}
-use Rattle.cmap_files.specs.declared.file.File.{File as HeldFile}
+use Rattle.cmap_values.specs.Files.{File}
+use Rattle.cmap_values.specs.FilesSeen.{file_seen}
+use Rattle.cmap_values.specs.declared.file.File.{File as HeldFile}
 use Rattle.cmap_packed.specs.TableFronts.{TableAt}
 use Rattle.cmap_packed.specs.Bundles.{HoldsTables, IsBundle, PrefixTables, no_file_bytes}
 use Rattle.cmap_packed.specs.Fronts.{FramedAt, SizedAt}

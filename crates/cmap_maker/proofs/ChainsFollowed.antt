@@ -2,7 +2,7 @@
 use Rattle.std.proofs.Common.{◌≡◌, ℕ, zero, suc, refl, sym, subst, List, [], ◌∷◌, Option, Some, None}
 use Rattle.std.specs.Prelude.{unwrap_or}
 use Rattle.std.specs.List.{AllZip, last_or}
-use Rattle.cmap_files.specs.Files.{File}
+use Rattle.cmap_values.specs.Files.{File}
 use Rattle.cmap_layers.specs.Layers.{Layer, layer_of}
 use Rattle.cmap_chains.specs.Layers.{AreLayers, OfAnswer}
 

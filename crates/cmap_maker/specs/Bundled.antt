@@ -1,8 +1,8 @@
 -- What a bundle is made of.
 use Rattle.std.specs.Prelude.{ℕ, ◌<◌, ◌^◌, List, [], ◌∷◌, All, map}
-use Rattle.cmap_files.specs.Files.{File}
-use Rattle.cmap_files.specs.FilesSeen.{file_seen}
-use Rattle.cmap_files.specs.declared.file.File.{File as HeldFile}
+use Rattle.cmap_values.specs.Files.{File}
+use Rattle.cmap_values.specs.FilesSeen.{file_seen}
+use Rattle.cmap_values.specs.declared.file.File.{File as HeldFile}
 use Rattle.cmap_packed.specs.Bundles.{IsBundle, PrefixTables}
 use Rattle.cmap_writer.specs.Keeps.{IsWritten}
 

@@ -4,8 +4,8 @@ use Rattle.std.specs.Borrow.{Bor}
 use Rattle.std.specs.Option.{option_copied}
 use Rattle.cmap_values.specs.Names.{index_of_text}
 use Rattle.cmap_values.specs.Only.{IsOnly}
-use Rattle.cmap_files.specs.Files.{File}
-use Rattle.cmap_files.specs.FilesSeen.{file_seen}
+use Rattle.cmap_values.specs.Files.{File}
+use Rattle.cmap_values.specs.FilesSeen.{file_seen}
 use Rattle.cmap_text.specs.TextFiles.{IsTextFile}
 use Rattle.cmap_packed.specs.Bundles.{Bundle, IsBundle, PrefixTables}
 use Rattle.cmap_binary.specs.BinaryFiles.{IsMarkedBinary}

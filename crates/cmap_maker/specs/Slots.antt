@@ -3,8 +3,8 @@ use Rattle.std.specs.Prelude.{◌≡◌, ◌==◌, ℕ, ◌<◌, ◌⊎◌, Bool
 use Rattle.std.specs.Borrow.{Bor}
 use Rattle.cmap_tokens.specs.Gaps.{ends_comment}
 use Rattle.cmap_values.specs.CMapNames.{index_of_name}
-use Rattle.cmap_files.specs.Files.{File}
-use Rattle.cmap_files.specs.FilesSeen.{file_seen}
+use Rattle.cmap_values.specs.Files.{File}
+use Rattle.cmap_values.specs.FilesSeen.{file_seen}
 use Rattle.cmap_packed.specs.Bundles.{IsBundle, PrefixTables, no_file_bytes}
 use Rattle.cmap_writer.specs.Written.{IsFramedFile}
 use Rattle.cmap_writer.specs.Keeps.{IsWritten}

@@ -1,8 +1,8 @@
 -- Which source can't be written, and why.
 use Rattle.std.specs.Prelude.{◌≡◌, ℕ, ◌<◌, List, Any, Option, Some, None, get_or, length}
 use Rattle.cmap_values.specs.CMapNames.{index_of_name}
-use Rattle.cmap_files.specs.Files.{File}
-use Rattle.cmap_files.specs.FilesSeen.{file_seen}
+use Rattle.cmap_values.specs.Files.{File}
+use Rattle.cmap_values.specs.FilesSeen.{file_seen}
 use Rattle.cmap_writer.specs.Obstacles.{IsObstacle}
 use Rattle.cmap_writer.specs.declared.obstacle.Obstacle.{Obstacle}
 use Rattle.cmap_writer.specs.declared.obstacle.Obstacle.TheVariants.{NoPlace, NoWord, TooLong}

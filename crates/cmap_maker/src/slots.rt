@@ -11,8 +11,9 @@ ghost use Rattle.cmap_writer.specs.Written.{Appends, WritesAll};
 use crate::behind::push_text;
 use crate::source::Source;
 use crate::unwritable::Unwritable;
+use cmap_packed::NO_FILE;
 use cmap_values::fault::Fault;
-use cmap_writer::pieces::push_framed;
+use cmap_values::names::KNOWN_COUNT;
 use cmap_writer::prepared::{Prepared, prepare};
 use cmap_writer::{Encoders, Obstacle};
 use std::alloc::Global;
@@ -28,12 +29,6 @@ pub(crate) enum Slot<'s> {
     Absent,
 }
 
-/// How many names have a place in a bundle.
-const PLACES: usize = 65;
-
-/// What begins an absent file. No version has the number 0, so it is no binary file.
-const ABSENT_HEAD: &[u8] = b"bcmap\0";
-
 /// The files of a bundle of these sources, by their indices.
 pub(crate) fn slots_of<'s>(
     alloc: Global,
@@ -43,8 +38,8 @@ pub(crate) fn slots_of<'s>(
     ensures err { IfErr result (RefusesWith (IsUnwritableOf sources.now)) }
 {
     check_names(sources)?;
-    let mut slots = Vec::with_capacity(alloc, PLACES)?;
-    for place in 0..PLACES {
+    let mut slots = Vec::with_capacity(alloc, KNOWN_COUNT)?;
+    for place in 0..KNOWN_COUNT {
         let slot = slot_at(alloc, sources, place)?;
         slots.push(slot)?;
     }
@@ -137,7 +132,7 @@ fn push_slot(
         }
         Slot::Text(text) => push_text(alloc, text, out),
         Slot::Absent => {
-            push_framed(out, ABSENT_HEAD, &[])?;
+            out.extend_from_slice(NO_FILE)?;
             Ok(())
         }
     }

@@ -1,6 +1,6 @@
 //! A file that a bundle is to hold.
 
-use cmap_files::file::File;
+use cmap_values::file::File;
 use cmap_values::names::CMapName;
 
 /// A file that a bundle is to hold, by its name.

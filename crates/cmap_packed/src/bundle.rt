@@ -14,6 +14,10 @@ use crate::prefix::PrefixTable;
 use cmap_values::names::CMapName;
 use std::alloc::{AllocError, Global};
 
+/// What stands in a bundle for a file that isn't there: the head of a binary file of version 0, which no
+/// reader knows, and its length.
+pub const NO_FILE: &[u8] = b"bcmap\0\0\0\0\x0A";
+
 /// Prefix tables of binary CMap files, and such files by their indices. The files are slices of the
 /// bytes that were parsed.
 #[derive(Debug, Drop)]

@@ -8,5 +8,5 @@ mod owned_bundle;
 pub mod pieces;
 pub mod prefix;
 
-pub use bundle::{Bundle, Tables, load_embedded};
+pub use bundle::{Bundle, NO_FILE, Tables, load_embedded};
 pub use owned_bundle::OwnedBundle;

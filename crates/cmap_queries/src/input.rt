@@ -9,13 +9,16 @@ use std::io::{ErrorKind, Read};
 /// How many bytes a read asks for.
 const PIECE_LEN: usize = 8192;
 
-/// All bytes of `input`, by at most `u32::MAX` reads. An input that hasn't ended by then is unreadable.
+/// How many reads an input may take: with whole pieces, 32 TiB. So the loop ends on any input.
+const MOST_READS: u32 = u32::MAX;
+
+/// All bytes of `input`. One that hasn't ended after `MOST_READS` reads is unreadable.
 pub fn read_all<R: Read>(alloc: Global, input: &mut R) -> Result<Vec<u8>, Failure>
     ensures { IfOk result (λ all. IfSome (R.remaining input.old) (λ given. all.items ≡ given)) }
 {
     let mut bytes = Vec::new(alloc);
     let mut piece = vec![in alloc; 0; PIECE_LEN]?;
-    for _ in 0..u32::MAX {
+    for _ in 0..MOST_READS {
         match input.read(&mut piece) {
             Ok(0) => return Ok(bytes),
             Ok(count) => bytes.extend_from_slice(&piece[..count])?,

@@ -1,8 +1,8 @@
 //! The names that the files of a chain use.
 
 use cmap_binary::{is_marked_binary, salvage_binary};
-use cmap_files::file::Salvaged;
 use cmap_text::salvage_text;
+use cmap_values::file::Salvaged;
 use hayro_cmap::{Bundle, CMap, NamedFile, NamedFiles};
 use std::alloc::{AllocError, Global};
 

@@ -1,8 +1,8 @@
 //! Callers that the crates' pages show.
 
-use cmap_files::file::File;
 use cmap_maker::{Source, make_named_bundle};
 use cmap_unicode::Extractor;
+use cmap_values::file::File;
 use hayro_cmap::bcmap::Bundle;
 use hayro_cmap::runs::{Looks, Table};
 use hayro_cmap::token::{Scanner, Token};

@@ -7,8 +7,8 @@ use Rattle.std.specs.Prelude.{codes, map, flat_map, Ok, Err, Some, None, â—Œ==â—
 use Rattle.cmap_values.specs.BigEndian.{big_endian}
 use Rattle.cmap_tokens.specs.Tokens.{Token}
 use Rattle.cmap_tokens.specs.TokensLeft.{Left}
-use Rattle.cmap_files.specs.Files.{Declaration, Lists}
-use Rattle.cmap_files.proofs.ListsMade.{added_more, append_lists-none}
+use Rattle.cmap_values.specs.Files.{Declaration, Lists}
+use Rattle.cmap_values.proofs.ListsMade.{added_more, append_lists-none}
 use Rattle.cmap_text.specs.TextFiles.{Section, codespace_range, cids, range, single, bf_range, bf_char, closer, declares_bf, declares_cid, IsCode, IsDestination, IsEntry, AreEntries}
 use Rattle.cmap_text.specs.TextReading.{adding, body_in, Code, code_fault, code_in, code_or_closer, codespace, destination_in, entry_after, is_executable, list_in, text_of, texts_from}
 use Rattle.cmap_text.specs.TokenParsers.{followed_by, head_in, Refused, round, run, token_in}

@@ -4,7 +4,7 @@ use Rattle.std.specs.Prelude.{Bool, List, codes, not, Option, Some, None, Ok, Er
 use denote.Enum.Bare.{sameb}
 use Rattle.cmap_tokens.specs.Tokens.{Token}
 use Rattle.cmap_tokens.specs.TokensLeft.{Left}
-use Rattle.cmap_files.specs.Files.{CidEntry, Declaration, Lists}
+use Rattle.cmap_values.specs.Files.{CidEntry, Declaration, Lists}
 use Rattle.cmap_values.specs.CodeLengths.{length_of}
 use Rattle.cmap_values.specs.contracts.code_length.CodeLength.{the_type}
 use Rattle.cmap_values.specs.declared.code_length.CodeLength.{CodeLength}

@@ -8,7 +8,7 @@ use Rattle.cmap_tokens.specs.Tokens.{Token}
 use Rattle.cmap_tokens.specs.TokensLeft.{Left}
 use Rattle.cmap_tokens.specs.TokenSeen.{token_seen}
 use Rattle.cmap_tokens.specs.declared.token.Token as declared
-use Rattle.cmap_files.specs.Files.{Lists}
+use Rattle.cmap_values.specs.Files.{Lists}
 use Rattle.cmap_values.specs.NamesSeen.{names_seen}
 use Rattle.cmap_values.specs.Outcomes.{Outcome, RefusesWith}
 use Rattle.cmap_values.specs.declared.fault.Fault.{Fault}

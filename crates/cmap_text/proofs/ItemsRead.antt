@@ -2,11 +2,12 @@
 use Rattle.std.proofs.Common.{◌≡◌, ℕ, zero, suc, ◌<◌, ◌≤◌, Bool, true, false, refl, sym, ap, ◌∙◌, subst, List, [], ◌∷◌, length, arith, inl, inr}
 use Rattle.std.proofs.lemmas.Bool.{cases_Bool, false≢true}
 use Rattle.std.proofs.lemmas.Option.{none-some, same_Some}
-use Rattle.std.specs.Prelude.{◌⊎◌, Contains, find, flat_map, Option, Some, None, Ok, option_map}
+use Rattle.std.specs.Prelude.{◌⊎◌, ◌↔◌, Contains, IsTrue, MatchOption, find, flat_map, is_some, Option, Some, None, Ok, option_map}
+use Rattle.cmap_values.specs.Only.{HoldsOfNone, IsOnly}
 use Rattle.cmap_tokens.specs.Tokens.{Token}
 use Rattle.cmap_tokens.specs.TokensLeft.{EndedToken, Left}
 use Rattle.cmap_values.specs.declared.fault.Reason.TheVariants.{UseWithoutName}
-use Rattle.cmap_text.specs.TextFiles.{Section, cids, mapped, notdef, range, keys, opener, use_word, Item, key, entries, use_of_base, other, IsOtherToken, IsItem, AreItems}
+use Rattle.cmap_text.specs.TextFiles.{Section, cids, mapped, notdef, range, keys, opener, use_word, Item, key, entries, use_of_base, other, IsKey, IsOtherToken, Opens, IsItem, AreItems}
 use Rattle.cmap_text.specs.TokenParsers.{after, followed_by, ItemParser, reads, done, giving, wanted, takes_value, next_in, repeated, repeated_within, round, run_item}
 use Rattle.cmap_text.specs.TextReading.{adding, all_said, body_in, is_executable, is_literal, item_after, item_said, key_in, opened_by, Said, sections, with_key, with_lists, with_other, with_use}
 use Rattle.cmap_text.proofs.TokensRead.{some_bound, is_executable-found, is_literal-found}
@@ -44,6 +45,18 @@ key_in-own k (suc (suc (suc (suc (suc i)))), less, is) = absurd (omega arith)
 
 pub key_in-found : (t : Token) (k : List ℕ) → key_in t ≡ Some k → Contains keys k × (t ≡ Token.Name true k)
 key_in-found t k is = let (contained, named) = found_in (λ j. is_literal j t) keys k is in (contained, is_literal-found k t named)
+
+-- a key is what is found as one, and a section what a token opens
+pub is_key_if : (t : Token) (found : Option (List ℕ)) → key_in t ≡ found → IsTrue (is_some found) ↔ IsKey t
+is_key_if t None is = (λ some. absurd (false≢true some), λ (k, contained, named). absurd (none-some k (sym is ∙ ap key_in named ∙ key_in-own k contained)))
+is_key_if t (Some k) is = (λ _. let (contained, named) = key_in-found t k is in (k, contained, named), λ _. refl)
+
+pub finds_section : (t : Token) (found : Option Section) → opened_by t ≡ found → MatchOption found (HoldsOfNone (Opens t)) (IsOnly (Opens t))
+finds_section t None is = λ section opens. none-some section (sym is ∙ ap opened_by opens ∙ opened_by-own section)
+finds_section t (Some section) is = record {
+  holds = opened_by-found t section is;
+  alone = λ other opens. same_Some other section (sym (opened_by-own other) ∙ ap opened_by (sym opens) ∙ is);
+}
 
 -- what the first token of an item is
 data Kind : Token → Type 0 where

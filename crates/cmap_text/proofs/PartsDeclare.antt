@@ -3,9 +3,9 @@ use Rattle.std.proofs.Common.{◌≡◌, ℕ, Bool, true, false, refl, sym, ap, 
 use Rattle.std.proofs.lemmas.Grind.{flat_map-append}
 use Rattle.std.specs.List.{AllByRecursion}
 use Rattle.std.specs.Prelude.{codes, flat_map, Option, Some, None, Ok, Err}
-use Rattle.cmap_files.proofs.ListsMade.{lists_of-append}
-use Rattle.cmap_files.specs.Files.{Declaration, Lists, lists_of}
-use Rattle.cmap_files.specs.ListsAppended.{append_lists}
+use Rattle.cmap_values.proofs.ListsMade.{lists_of-append}
+use Rattle.cmap_values.specs.Files.{Declaration, Lists, lists_of}
+use Rattle.cmap_values.specs.ListsAppended.{append_lists}
 use Rattle.cmap_tokens.specs.Tokens.{Token}
 use Rattle.cmap_tokens.specs.TokensLeft.{Left}
 use Rattle.cmap_text.specs.TextFiles.{IsEntry, Section, use_word}

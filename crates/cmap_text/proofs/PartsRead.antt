@@ -3,7 +3,7 @@ use Rattle.std.proofs.Common.{◌≡◌, ◌≢◌, ℕ, ◌+◌, ◌-◌, ◌*�
 use Rattle.std.proofs.lemmas.Bool.{ltb-true}
 use Rattle.std.proofs.lemmas.Option.{none-some}
 use Rattle.std.specs.Prelude.{◌⊎◌, ◌&&◌, not, min, codes, nat_lt, Option, Some, None, Ok, Err}
-use Rattle.cmap_files.specs.Files.{Lists}
+use Rattle.cmap_values.specs.Files.{Lists}
 use Rattle.cmap_values.specs.Faults.{Ascend}
 use Rattle.cmap_values.specs.declared.fault.Reason.{Reason}
 use Rattle.cmap_values.specs.declared.fault.Stop.{Stop}

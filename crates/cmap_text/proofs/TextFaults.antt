@@ -1,7 +1,7 @@
 -- What the faults of a text say of it: without one it is a file; else the first is one for which it is refused.
 use Rattle.std.proofs.Common.{◌≡◌, ◌≤◌, ◌∙◌, ℕ, refl, sym, ap, subst, List, [], ◌∷◌, length}
 use Rattle.std.specs.Prelude.{Ok, Err}
-use Rattle.cmap_files.specs.Files.{File}
+use Rattle.cmap_values.specs.Files.{File}
 use Rattle.cmap_values.specs.Only.{HoldsOfNone}
 use Rattle.cmap_values.specs.Outcomes.{DecidedBy}
 use Rattle.cmap_values.specs.declared.fault.Stop.{Stop}

@@ -4,7 +4,7 @@ use Rattle.std.specs.Prelude.{Ok, Err, Some, None, option_map}
 use Rattle.cmap_tokens.specs.Tokens.{Token, Tokens}
 use Rattle.cmap_tokens.specs.TokensLeft.{HasTokens, Left}
 use Rattle.cmap_values.specs.Only.{IsOnly, HoldsOfNone}
-use Rattle.cmap_files.specs.Files.{FileMetadata}
+use Rattle.cmap_values.specs.Files.{FileMetadata}
 use Rattle.cmap_text.specs.TextFiles.{Item, names_used, last_values, IsMetadata, IsTextFile, AreItems}
 use Rattle.cmap_text.specs.TextReading.{Said, nothing_said, all_said}
 use Rattle.cmap_text.specs.TokenParsers.{Refused}

@@ -1,8 +1,8 @@
 -- Lists to which texts are added, and taken away again.
 use Rattle.std.proofs.Common.{◌≡◌, ℕ, refl, ap, ◌∙◌, List, [], ◌∷◌, ◌++◌, length, take, append-nil, append_assoc}
 use Rattle.std.proofs.Math.Seq.{take-append_seam}
-use Rattle.cmap_files.specs.Files.{BfEntry, Lists, lists_of}
-use Rattle.cmap_files.specs.ListsAppended.{append_lists}
+use Rattle.cmap_values.specs.Files.{BfEntry, Lists, lists_of}
+use Rattle.cmap_values.specs.ListsAppended.{append_lists}
 use Rattle.cmap_text.specs.EntriesSeen.{with_texts}
 use Rattle.cmap_text.specs.TextReading.{text_of}
 

@@ -4,7 +4,7 @@ use Rattle.std.specs.Prelude.{ℤ, Option, Some}
 use Rattle.cmap_tokens.specs.Strings.{IsValue}
 use Rattle.cmap_tokens.specs.Tokens.{Token}
 use Rattle.cmap_values.specs.Only.{IsOnly}
-use Rattle.cmap_files.specs.Files.{Collection, Mode}
+use Rattle.cmap_values.specs.Files.{Collection, Mode}
 use Rattle.cmap_text.specs.TextFiles.{GivesText, IsCollection, IsMetadata, collection_of, mode_in, name_in, supplement_in, Values}
 
 -- the text of a string

@@ -4,7 +4,7 @@ use Rattle.std.proofs.lemmas.Bool.{cases_lt}
 use Rattle.std.specs.Prelude.{codes, Option, Some, None, Ok, Err}
 use Rattle.cmap_tokens.specs.Tokens.{Token}
 use Rattle.cmap_tokens.specs.TokensLeft.{HasTokens, Left, start_of, tokens_of}
-use Rattle.cmap_files.specs.Files.{File, FileMetadata, Lists}
+use Rattle.cmap_values.specs.Files.{File, FileMetadata, Lists}
 use Rattle.cmap_values.specs.Only.{IsOnly, HoldsOfNone}
 use Rattle.cmap_values.specs.declared.fault.Stop.{Stop}
 use Rattle.cmap_text.specs.TextFiles.{Section, IsMetadata, IsTextFile}

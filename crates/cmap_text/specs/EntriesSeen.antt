@@ -2,10 +2,10 @@
 use Rattle.std.specs.Prelude.{Bool, true, false, ◌≡◌, [], ◌++◌, List, Option, Some, None, Result, Ok, Err}
 use Rattle.cmap_tokens.specs.TokensLeft.{Left}
 use Rattle.cmap_tokens.specs.Tokens.{Token}
-use Rattle.cmap_files.specs.Files as files
-use Rattle.cmap_files.specs.DeclarationsSeen.{lists_seen}
+use Rattle.cmap_values.specs.Files as files
+use Rattle.cmap_values.specs.DeclarationsSeen.{lists_seen}
 use Rattle.cmap_values.specs.Outcomes.{Outcome}
-use Rattle.cmap_files.specs.declared.declarations.Lists.{Lists}
+use Rattle.cmap_values.specs.declared.declarations.Lists.{Lists}
 use Rattle.cmap_values.specs.declared.fault.Fault.{Fault}
 use Rattle.cmap_values.specs.declared.fault.Fault.TheVariants.{Refused}
 use Rattle.cmap_text.specs.TokenParsers.{Parser, run}

@@ -4,7 +4,7 @@ use Rattle.std.specs.List.{AllByRecursion, list_any}
 use Rattle.cmap_tokens.specs.Resumption.{resumed}
 use Rattle.cmap_tokens.specs.Tokens.{Token}
 use Rattle.cmap_tokens.specs.TokensLeft.{Left, tokens_of, start_of}
-use Rattle.cmap_files.specs.Files.{Declaration, File, Lists, lists_of}
+use Rattle.cmap_values.specs.Files.{Declaration, File, Lists, lists_of}
 use Rattle.cmap_values.specs.declared.fault.Stop.{Stop}
 use Rattle.cmap_text.specs.TextFiles.{IsEntry, IsMetadata, Section}
 use Rattle.cmap_text.specs.TokenParsers.{Found, Refused, head_in, next_in, offset_of, or_wrong, run, token_in}

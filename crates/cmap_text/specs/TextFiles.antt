@@ -7,7 +7,7 @@ use Rattle.cmap_tokens.specs.Tokens.{Token, Tokens}
 use Rattle.cmap_tokens.specs.Strings.{IsValue}
 use Rattle.cmap_tokens.specs.Texts.{units_of}
 use Rattle.cmap_values.specs.Names.{family_of}
-use Rattle.cmap_files.specs.Files.{CidEntry, Declaration, Mode, Collection, FileMetadata, File, lists_of, mode_numbered}
+use Rattle.cmap_values.specs.Files.{CidEntry, Declaration, Mode, Collection, FileMetadata, File, lists_of, mode_numbered}
 
 -- the names that take the next token as their value
 abbrev pub keys : List (List ℕ)
@@ -99,6 +99,14 @@ pub data Item : Type 0 where
   entries : List Declaration → Item
   use_of_base : Item
   other : Token → Item
+
+-- a token that is a key
+abbrev pub IsKey : Token → Type 0
+IsKey t = (k : List ℕ) × Contains keys k × (t ≡ Token.Name true k)
+
+-- a token that opens this section
+abbrev pub Opens : Token → Section → Type 0
+Opens t section = t ≡ Token.Name false (opener section)
 
 -- a token that is an item by itself: no key, no opener and no use
 abbrev pub IsOtherToken : Token → Type 0

@@ -6,8 +6,8 @@ use Rattle.cmap_tokens.specs.Texts.{units_of}
 use Rattle.cmap_tokens.specs.TokenReading.{string_value}
 use Rattle.cmap_tokens.specs.Tokens.{Token}
 use Rattle.cmap_tokens.specs.TokensLeft.{Left, start_of, tokens_of}
-use Rattle.cmap_files.specs.Files.{CidEntry, Declaration, Lists, lists_of}
-use Rattle.cmap_files.specs.ListsAppended.{no_lists, append_lists}
+use Rattle.cmap_values.specs.Files.{CidEntry, Declaration, Lists, lists_of}
+use Rattle.cmap_values.specs.ListsAppended.{no_lists, append_lists}
 use Rattle.cmap_values.specs.declared.fault.Reason.{Reason}
 use Rattle.cmap_values.specs.declared.fault.Reason.TheVariants.{BracketExpected, CidExpected, CodeExpected, CodeLength, TextExpected, UnequalLengths, UseWithoutName}
 use Rattle.cmap_values.specs.declared.fault.Stop.{Stop}

@@ -1,9 +1,9 @@
--- Private aid: what contracts see of what the code reads from a text.
+-- What contracts see of what the code reads from a text.
 use Rattle.std.specs.Prelude.{ℕ, List, codes, option_map}
 use Rattle.std.specs.Option.{option_copied}
 use Rattle.cmap_tokens.specs.TokenSeen.{token_seen}
 use Rattle.cmap_values.specs.CodeLengths.{length_of}
-use Rattle.cmap_files.specs.DeclarationsSeen.{lists_seen}
+use Rattle.cmap_values.specs.DeclarationsSeen.{lists_seen}
 use Rattle.cmap_values.specs.NamesSeen.{names_seen}
 use Rattle.cmap_text.specs.TextFiles as files
 use Rattle.cmap_text.specs.TextReading as reading

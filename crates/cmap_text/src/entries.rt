@@ -3,11 +3,11 @@
 
 ghost use Rattle.std.specs.Prelude.{◌≡◌, ℕ, ◌+◌, ◌-◌, IfErr, IfOk, OnOk};
 ghost use Rattle.cmap_values.specs.CodeLengths.{length_of};
-ghost use Rattle.cmap_files.specs.DeclarationsSeen.{cid_entry_seen, lists_seen};
+ghost use Rattle.cmap_values.specs.DeclarationsSeen.{cid_entry_seen, lists_seen};
 ghost use Rattle.cmap_text.specs.EntriesSeen.{AddsDeclarations, AddsIf, AddsTexts, ReadsAs, WhereRefused};
-ghost use Rattle.cmap_files.specs.Files.{lists_of};
-ghost use Rattle.cmap_files.specs.Files as declared;
-ghost use Rattle.cmap_files.specs.ListsAppended.{append_lists};
+ghost use Rattle.cmap_values.specs.Files.{lists_of};
+ghost use Rattle.cmap_values.specs.Files as declared;
+ghost use Rattle.cmap_values.specs.ListsAppended.{append_lists};
 ghost use Rattle.cmap_tokens.specs.TokenSeen.{token_seen};
 ghost use Rattle.cmap_values.specs.declared.fault.Fault.TheVariants.{Memory};
 ghost use Rattle.cmap_values.specs.declared.fault.Reason.TheVariants.{TextExpected};
@@ -19,23 +19,23 @@ ghost use Rattle.cmap_text.specs.TokenParsers.{followed_by, listed, or_wrong, ru
 
 use crate::tokens::{Code, TokenReader, is_executable};
 use crate::wrong_token::{WrongToken, wrong};
-use cmap_files::declarations::{BfRange, CidRange, Codespace, Lists};
 use cmap_runs::runs::Range;
 use cmap_tokens::token::Token;
 use cmap_values::code_length::CodeLength;
+use cmap_values::declarations::{BfRange, CidRange, Codespace, Lists};
 use cmap_values::fault::{Fault, Reason};
 use cmap_values::units::Units;
 
-/// Which CIDs an entry declares: those of its codes, or the fallback CID.
+/// Which CIDs an entry declares: those of its codes, or the fallback CID of codes that have no other.
 #[derive(Clone, Copy)]
-pub(crate) enum CidKind {
+pub enum CidKind {
     Cid,
     Notdef,
 }
 
 /// Whether an entry is for the codes of a range or for a single code.
 #[derive(Clone, Copy)]
-pub(crate) enum Extent {
+pub enum Extent {
     Range,
     Single,
 }
@@ -133,6 +133,7 @@ pub(crate) fn add_bf_range(
         Some(units) => add_text(lists, start.number, end.number, units),
         None => match reader.required_token() {
             Ok(token) => add_texts(reader, &token, start.number, end.number, lists),
+            // By `?` each clause would be shown again of the error.
             Err(fault) => Err(fault),
         },
     }
@@ -212,6 +213,7 @@ fn pass_closing_bracket(reader: &mut TokenReader<'_>) -> Result<(), Fault<WrongT
                 Err(wrong(Reason::BracketExpected))
             }
         }
+        // By `?` each clause would be shown again of the error.
         Err(fault) => Err(fault),
     }
 }

@@ -1,7 +1,7 @@
 //! CMap files as text.
 
 ghost use Rattle.std.specs.Prelude.{◌≡◌, length, Ok, IfErr, IfOk, Result};
-ghost use Rattle.cmap_files.specs.FilesSeen.{file_seen};
+ghost use Rattle.cmap_values.specs.FilesSeen.{file_seen};
 ghost use Rattle.cmap_values.specs.Only.{IsOnly};
 ghost use Rattle.cmap_values.specs.Outcomes.{DecidedBy, ReadsFile, RefusesWith};
 ghost use Rattle.cmap_values.specs.MetadataSeen.{metadata_seen};
@@ -16,8 +16,8 @@ ghost use Rattle.cmap_text.specs.TextSeen.{said_seen, values_seen};
 use crate::items::{Said, read_items};
 use crate::tokens::TokenReader;
 use crate::wrong_token::WrongToken;
-use cmap_files::file::File;
 use cmap_values::fault::{Fault, Stop};
+use cmap_values::file::File;
 use cmap_values::metadata::Metadata;
 use std::alloc::Global;
 

@@ -15,8 +15,8 @@ use crate::keys::{Key, Values};
 use crate::sections::{Section, read_section};
 use crate::tokens::{TokenReader, is_executable, literal_name};
 use crate::wrong_token::{WrongToken, wrong};
-use cmap_files::declarations::Lists;
 use cmap_tokens::token::Token;
+use cmap_values::declarations::Lists;
 use cmap_values::fault::{Fault, Reason};
 use std::alloc::Global;
 

@@ -1,10 +1,10 @@
 //! Keys: literal names that take the next token as their value.
 
-ghost use Rattle.std.specs.Prelude.{◌≡◌, IfOk, option_map};
+ghost use Rattle.std.specs.Prelude.{◌≡◌, ◌↔◌, IfOk, IsTrue, option_map};
 ghost use Rattle.cmap_tokens.specs.TokenSeen.{token_seen};
 ghost use Rattle.cmap_values.specs.MetadataSeen.{collection_seen, metadata_seen, mode_seen};
 ghost use Rattle.cmap_values.specs.Only.{IsOnly};
-ghost use Rattle.cmap_text.specs.TextFiles.{GivesText, IsCollection, IsMetadata, collection_of, mode_in, name_in, supplement_in};
+ghost use Rattle.cmap_text.specs.TextFiles.{GivesText, IsCollection, IsKey, IsMetadata, collection_of, mode_in, name_in, supplement_in};
 ghost use Rattle.cmap_text.specs.TextReading.{key_in, no_values, with_value};
 ghost use Rattle.cmap_text.specs.TextSeen.{key_name, values_seen};
 
@@ -44,6 +44,13 @@ impl Key {
             None
         }
     }
+}
+
+/// Whether a token is a key, whose value is the next token.
+pub fn is_key(token: &Token<'_>) -> bool
+    ensures { IsTrue result ↔ IsKey (token_seen token.now) }
+{
+    Key::of(token).is_some()
 }
 
 /// The last value of each key; it is absent where there is no key, and after a key that ends the file.

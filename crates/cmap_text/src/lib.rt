@@ -10,5 +10,8 @@ mod sections;
 mod tokens;
 mod wrong_token;
 
+pub use entries::{CidKind, Extent};
 pub use file::read_text;
+pub use keys::is_key;
 pub use salvage::salvage_text;
+pub use sections::{Section, opened_section};

@@ -4,10 +4,10 @@ ghost use Rattle.std.specs.Prelude.{◌≡◌, ◌≤◌, [], length, Ok, Option
 ghost use Rattle.cmap_tokens.specs.Tokens as tokens;
 ghost use Rattle.cmap_tokens.specs.TokenSeen.{token_seen};
 ghost use Rattle.cmap_tokens.specs.TokensLeft.{Left, start_of, tokens_of};
-ghost use Rattle.cmap_files.specs.DeclarationsSeen.{lists_seen};
+ghost use Rattle.cmap_values.specs.DeclarationsSeen.{lists_seen};
 ghost use Rattle.cmap_values.specs.Faults.{Ascend};
-ghost use Rattle.cmap_files.specs.Files as files;
-ghost use Rattle.cmap_files.specs.FilesSeen.{file_seen};
+ghost use Rattle.cmap_values.specs.Files as files;
+ghost use Rattle.cmap_values.specs.FilesSeen.{file_seen};
 ghost use Rattle.cmap_values.specs.Only.{HoldsOfNone, IsOnly};
 ghost use Rattle.cmap_values.specs.MetadataSeen.{metadata_seen};
 ghost use Rattle.cmap_text.specs.EntriesSeen.{IsTold, refused_seen};
@@ -26,9 +26,9 @@ use crate::items::{Said, read_item};
 use crate::sections::{Section, next_start, read_entry};
 use crate::tokens::{TokenReader, is_executable, is_word};
 use crate::wrong_token::{WrongToken, wrong};
-use cmap_files::file::{File, Salvaged};
 use cmap_tokens::token::{Scanner, Token};
 use cmap_values::fault::{Fault, Reason, Stop};
+use cmap_values::file::{File, Salvaged};
 use cmap_values::metadata::Metadata;
 use std::alloc::{AllocError, Global};
 
@@ -156,6 +156,7 @@ fn read_part<'d>(
         Next::Item => match reader.next_token() {
             Ok(Some(first)) => read_rest(reader, &first, said),
             Ok(None) => Ok(Next::Nothing),
+            // By `?` each clause would be shown again of the error.
             Err(fault) => Err(fault),
         },
         Next::After(first) => read_rest(reader, &first, said),
@@ -208,6 +209,7 @@ fn pass_list<'d>(
 {
     match reader.required_token() {
         Ok(token) => after_listed(&token, section),
+        // By `?` each clause would be shown again of the error.
         Err(fault) => Err(fault),
     }
 }

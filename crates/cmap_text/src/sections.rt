@@ -2,7 +2,8 @@
 
 ghost use Rattle.std.specs.Prelude.{◌≡◌, ◌≤◌, IfErr, IfOk, OnOk, length, option_map};
 ghost use Rattle.cmap_tokens.specs.TokenSeen.{token_seen};
-ghost use Rattle.cmap_files.specs.DeclarationsSeen.{lists_seen};
+ghost use Rattle.cmap_values.specs.DeclarationsSeen.{lists_seen};
+ghost use Rattle.cmap_values.specs.Outcomes.{Finds};
 ghost use Rattle.cmap_values.specs.declared.fault.Fault.TheVariants.{Memory};
 ghost use Rattle.cmap_text.specs.EntriesSeen.{AddsDeclarations, AddsIf, ReadsAs, ReadsOn, WhereRefused};
 ghost use Rattle.cmap_text.specs.TextFiles as files;
@@ -15,13 +16,13 @@ use crate::entries::{
 };
 use crate::tokens::{Code, TokenReader, is_executable};
 use crate::wrong_token::WrongToken;
-use cmap_files::declarations::Lists;
 use cmap_tokens::token::Token;
+use cmap_values::declarations::Lists;
 use cmap_values::fault::Fault;
 
-/// The kinds of sections.
+/// The kinds of sections. Adobe Technical Notes 5014 and 5411.
 #[derive(Clone, Copy)]
-pub(crate) enum Section {
+pub enum Section {
     Codespaces,
     Cids(CidKind, Extent),
     BfRange,
@@ -66,6 +67,13 @@ impl Section {
             Section::BfChar => b"endbfchar",
         }
     }
+}
+
+/// The section that a token opens.
+pub fn opened_section(opener: &Token<'_>) -> Option<Section>
+    ensures { Finds (files.Opens (token_seen opener.now)) section_seen result }
+{
+    Section::opened_by(opener)
 }
 
 /// Reads the entries of a section and its closer. The kinds that most entries are of have loops of
@@ -179,6 +187,7 @@ pub(crate) fn next_start(
     }
     match reader.required_token() {
         Ok(token) => code_or_closer(reader, &token, section),
+        // By `?` each clause would be shown again of the error.
         Err(fault) => Err(fault),
     }
 }

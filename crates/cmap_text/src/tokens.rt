@@ -160,6 +160,7 @@ impl<'d> TokenReader<'d> {
         }
         match self.required_token() {
             Ok(token) => self.code(&token),
+            // By `?` each clause would be shown again of the error.
             Err(fault) => Err(fault),
         }
     }
@@ -231,6 +232,7 @@ impl<'d> TokenReader<'d> {
         }
         match self.required_token() {
             Ok(token) => self.destination(&token),
+            // By `?` each clause would be shown again of the error.
             Err(fault) => Err(fault),
         }
     }
@@ -245,6 +247,7 @@ impl<'d> TokenReader<'d> {
         }
         match self.required_token() {
             Ok(token) => cid_of(&token).ok_or(wrong(Reason::CidExpected)),
+            // By `?` each clause would be shown again of the error.
             Err(fault) => Err(fault),
         }
     }

@@ -375,6 +375,7 @@ impl<'a> Scanner<'a> {
                 Ok(Some(token))
             }
             Ok(None) => Ok(None),
+            // By `?` each clause would be shown again of the error.
             Err(Malformed) => Err(Malformed),
         }
     }

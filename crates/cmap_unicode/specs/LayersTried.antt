@@ -1,6 +1,6 @@
 -- Private aid: what one layer declares for a code.
 use Rattle.std.specs.Prelude.{ℕ, Option, None, Some}
-use Rattle.cmap_files.specs.Files.{CidEntry, of_length}
+use Rattle.cmap_values.specs.Files.{CidEntry, of_length}
 use Rattle.cmap_layers.specs.Layers.{Layer}
 use Rattle.cmap_layers.specs.Lookups.{cid_at, last_cid}
 

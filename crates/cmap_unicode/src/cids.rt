@@ -3,17 +3,17 @@
 ghost use Rattle.std.specs.Prelude.{◌≡◌, ◌≤◌, map, option_map, IfSome};
 ghost use Rattle.std.specs.Option.{option_copied};
 ghost use Rattle.cmap_values.specs.CodeLengths.{length_of};
-ghost use Rattle.cmap_files.specs.DeclarationsSeen.{cid_entry_seen, entries_seen};
+ghost use Rattle.cmap_values.specs.DeclarationsSeen.{cid_entry_seen, entries_seen};
 ghost use Rattle.cmap_layers.specs.LayersSeen.{layer_seen};
 ghost use Rattle.cmap_layers.specs.Lookups.{last_cid};
 ghost use Rattle.cmap_unicode.specs.Cids.{declared_cid};
 ghost use Rattle.cmap_unicode.specs.LayersTried.{declared_in};
 
-use cmap_files::declarations::CidRange;
 use cmap_layers::layer::Layer;
 use cmap_layers::layers::Layers;
 use cmap_runs::runs::{Looks, Table};
 use cmap_values::code_length::CodeLength;
+use cmap_values::declarations::CidRange;
 use cmap_values::names::Cid;
 
 /// The CID that a map declares for `code`, a code of `byte_len` bytes, big-endian: the one that

@@ -9,3 +9,7 @@ pub mod CMapNames
 pub mod NamesSeen
 pub mod Metadata
 pub mod MetadataSeen
+pub mod Files
+pub mod DeclarationsSeen
+pub mod FilesSeen
+pub mod ListsAppended

@@ -1,10 +1,13 @@
-//! The values that files, layers and callers share: the names of CMaps, families of character
-//! collections, metadata, lengths of codes, units of texts, and why a file is refused.
+//! The values that layers and callers share: what one file says (its metadata, its declarations by kind and
+//! length of code, the names that it uses), the names of CMaps and the families of character collections,
+//! lengths of codes, units of texts, and why a file is refused.
 #![tactic(auto)]
 
 pub mod character_collection;
 pub mod code_length;
+pub mod declarations;
 pub mod fault;
+pub mod file;
 pub mod memory;
 pub mod metadata;
 pub mod names;

@@ -18,22 +18,10 @@ pub fn both<T: Drop, U: Drop>(
     }
 }
 
-/// A value beside what a step makes, if that doesn't fail.
-pub fn keep<T: Drop, U: Drop>(value: T, made: Result<U, AllocError>) -> Result<(T, U), AllocError>
-    ensures { MatchResult result (λ kept. (kept.0 ≡ value) × (made ≡ Ok kept.1)) (λ _. IsErr made) }
-{
-    match made {
-        Ok(made) => Ok((value, made)),
-        Err(AllocError) => Err(AllocError),
-    }
-}
-
 /// A value after a step, if that doesn't fail.
 pub fn after<T: Drop>(value: T, step: Result<(), AllocError>) -> Result<T, AllocError>
     ensures { MatchResult result (λ kept. (kept ≡ value) × IsOk step) (λ _. IsErr step) }
 {
-    match step {
-        Ok(()) => Ok(value),
-        Err(AllocError) => Err(AllocError),
-    }
+    step?;
+    Ok(value)
 }

@@ -152,7 +152,7 @@ pub enum CMapName<'a> {
 }
 
 /// The known names, in the order of their texts.
-const KNOWN_NAMES: &[CMapName<'static>] = &[
+pub const KNOWN_NAMES: &[CMapName<'static>] = &[
     CMapName::N83pvRksjH,
     CMapName::N90msRksjH,
     CMapName::N90msRksjV,
@@ -221,7 +221,7 @@ const KNOWN_NAMES: &[CMapName<'static>] = &[
 ];
 
 /// How many names are known.
-const KNOWN_COUNT: usize = 65;
+pub const KNOWN_COUNT: usize = 65;
 
 /// The text of the name, as a string.
 impl fmt::Debug for CMapName<'_> {

@@ -6,10 +6,10 @@ use Rattle.std.proofs.lemmas.Option.{get_or_from_slice_get, slice_get_within}
 use Rattle.std.proofs.lemmas.Bool.{and_from, and_parts, cases_lt, le-leb, leb-true}
 use Rattle.std.proofs.lemmas.List.{drop_all, get_or-map, length-map, map-append, set_split, take_all, take_more}
 use Rattle.std.proofs.lemmas.List.Elements.{All-head, All-push}
-use Rattle.cmap_files.specs.Files.{CidEntry}
+use Rattle.cmap_values.specs.Files.{CidEntry}
 use Rattle.cmap_layers.specs.Lookups.{cid_at, cid_span}
-use Rattle.cmap_files.specs.DeclarationsSeen.{cid_entry_seen, entries_seen}
-use Rattle.cmap_files.specs.declared.declarations.CidRange.{CidRange}
+use Rattle.cmap_values.specs.DeclarationsSeen.{cid_entry_seen, entries_seen}
+use Rattle.cmap_values.specs.declared.declarations.CidRange.{CidRange}
 use Rattle.cmap_writer.specs.Follows.{GoesOn}
 use Rattle.cmap_writer.specs.Pieces.{ArePieces, CanBeSplit, Cover, Has, IsShort, PushesPieces, SaysAs, Takes}
 use Rattle.cmap_writer.proofs.Told.{All-back, All-front, Any-cases, Any-left, Any-one, Any-right, PiecesTo, pieces_more, to_end, to_more}

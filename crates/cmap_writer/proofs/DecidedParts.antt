@@ -4,8 +4,8 @@ use Rattle.std.specs.Prelude.{Bool, true, false, IsSomeAnd, None, if◌then◌el
 use Rattle.std.specs.List.{slice_get}
 use Rattle.cmap_runs.specs.Ranges.{AreRuns, Run}
 use Rattle.cmap_runs.specs.declared.runs.Range.{Range}
-use Rattle.cmap_files.specs.DeclarationsSeen.{cid_entry_seen, cid_range_span, entries_seen}
-use Rattle.cmap_files.specs.declared.declarations.CidRange.{CidRange}
+use Rattle.cmap_values.specs.DeclarationsSeen.{cid_entry_seen, cid_range_span, entries_seen}
+use Rattle.cmap_values.specs.declared.declarations.CidRange.{CidRange}
 use Rattle.cmap_layers.specs.Lookups.{cid_at, cid_span}
 use Rattle.cmap_writer.specs.Obstacles.{IsLargeCid}
 use Rattle.cmap_writer.specs.Pieces.{CanBeSplit, Has, SaysAs, cid_told}

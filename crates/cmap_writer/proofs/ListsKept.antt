@@ -3,9 +3,9 @@ use Rattle.std.proofs.Common.{◌≡◌, ℕ, List, [], ◌∷◌, ◌++◌, map
 use Rattle.std.specs.List.{flat_map}
 use Rattle.std.proofs.lemmas.List.{append_assoc, append-nil, map-append}
 use Rattle.std.proofs.lemmas.List.Concat.{flat_map-append}
-use Rattle.cmap_files.specs.Files.{BfEntry, ByLength, CidEntry, Codespace, Declaration, Lists, lists_of}
-use Rattle.cmap_files.specs.ListsAppended.{append_lists}
-use Rattle.cmap_files.proofs.ListsMade.{lists_of-append}
+use Rattle.cmap_values.specs.Files.{BfEntry, ByLength, CidEntry, Codespace, Declaration, Lists, lists_of}
+use Rattle.cmap_values.specs.ListsAppended.{append_lists}
+use Rattle.cmap_values.proofs.ListsMade.{lists_of-append}
 use Rattle.cmap_binary.specs.BinaryFiles.{Content, SegmentAt, declares}
 use Rattle.cmap_packed.specs.Bundles.{PrefixTables}
 use Rattle.cmap_writer.specs.Keeps.{by_length}

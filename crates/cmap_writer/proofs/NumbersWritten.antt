@@ -2,9 +2,9 @@
 use Rattle.std.proofs.Common.{◌≡◌, ℕ, suc, ◌+◌, List, [], ◌∷◌, ◌++◌, length, map, refl, ap, ◌∙◌, sym, subst}
 use Rattle.std.proofs.lemmas.List.{append_assoc, length-map}
 use Rattle.cmap_runs.specs.Ranges.{Span}
-use Rattle.cmap_files.specs.Files.{CidEntry}
-use Rattle.cmap_files.specs.DeclarationsSeen.{cid_range_span, entries_seen}
-use Rattle.cmap_files.specs.declared.declarations.CidRange.{CidRange}
+use Rattle.cmap_values.specs.Files.{CidEntry}
+use Rattle.cmap_values.specs.DeclarationsSeen.{cid_range_span, entries_seen}
+use Rattle.cmap_values.specs.declared.declarations.CidRange.{CidRange}
 use Rattle.cmap_packed.specs.Bundles.{PrefixTables}
 use Rattle.cmap_binary.specs.BinaryEntries.{CidEntriesIn, Shape, ranges, singles}
 use Rattle.cmap_writer.specs.ColumnsWritten.{WritesColumns}

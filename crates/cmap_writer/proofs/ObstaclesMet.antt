@@ -2,15 +2,15 @@
 use Rattle.std.proofs.Common.{◌≡◌, ◌∙◌, ℕ, ◌<◌, ◌≤◌, ◌^◌, ◌⊎◌, inl, inr, List, Ok, Err, ◌++◌, Some, None, get_or, length, map, ap, sym, subst, arith}
 use Rattle.std.specs.Prelude.{All, Any, Contains, IfErr, IsErrAnd, IsSomeAnd, Option, Result}
 use Rattle.std.proofs.lemmas.List.{get_or-map, length-map, map-append}
-use Rattle.cmap_files.specs.DeclarationsSeen.{bf_entry_seen, cid_entry_seen, codespace_seen, entries_seen}
-use Rattle.cmap_files.specs.Files as files
-use Rattle.cmap_files.specs.Files.{ByLength, BfEntry, CidEntry, File}
+use Rattle.cmap_values.specs.DeclarationsSeen.{bf_entry_seen, cid_entry_seen, codespace_seen, entries_seen}
+use Rattle.cmap_values.specs.Files as files
+use Rattle.cmap_values.specs.Files.{ByLength, BfEntry, CidEntry, File}
 use Rattle.cmap_values.specs.Outcomes.{RefusesWith}
 use Rattle.cmap_values.proofs.Outcomes.{refused_as}
 use Rattle.cmap_values.specs.UnitsSeen.{units_seen}
-use Rattle.cmap_files.specs.declared.declarations.BfRange.{BfRange}
-use Rattle.cmap_files.specs.declared.declarations.CidRange.{CidRange}
-use Rattle.cmap_files.specs.declared.declarations.Codespace.{Codespace}
+use Rattle.cmap_values.specs.declared.declarations.BfRange.{BfRange}
+use Rattle.cmap_values.specs.declared.declarations.CidRange.{CidRange}
+use Rattle.cmap_values.specs.declared.declarations.Codespace.{Codespace}
 use Rattle.cmap_values.specs.declared.fault.Fault.TheVariants.{Memory, Refused}
 use Rattle.cmap_values.specs.declared.fault.Fault.{Fault}
 use Rattle.cmap_values.specs.Metadata.{Collection}

@@ -3,16 +3,16 @@ use Rattle.std.proofs.Common.{◌≡◌, ℕ, List, [], ◌∷◌, ◌++◌, dro
 use Rattle.std.specs.List.{flat_map}
 use Rattle.std.proofs.lemmas.List.{append_assoc, append-nil, map-append}
 use Rattle.std.proofs.lemmas.List.Concat.{flat_map-append}
-use Rattle.cmap_files.specs.Files.{BfEntry, ByLength, Declaration, File, Lists, lists_of}
+use Rattle.cmap_values.specs.Files.{BfEntry, ByLength, Declaration, File, Lists, lists_of}
 use Rattle.cmap_binary.specs.BinaryFiles.{BodyOf, Content, IsBinaryFile, SegmentAt, declares, file_of, magic}
 use Rattle.cmap_binary.specs.BinaryFiles as files
 use Rattle.cmap_packed.specs.Bundles.{PrefixTables}
 use Rattle.cmap_writer.specs.Keeps.{HaveSameCids, HaveSameTexts, IsWritten, KeepLists, Keeps, by_length}
 use Rattle.cmap_writer.specs.MetadataWritten.{metadata_contents}
 use Rattle.std.specs.Global.{Vec}
-use Rattle.cmap_files.specs.DeclarationsSeen.{entries_seen}
-use Rattle.cmap_files.specs.declared.declarations.ByLength.{ByLength as HeldByLength}
-use Rattle.cmap_files.specs.declared.declarations.CidRange.{CidRange}
+use Rattle.cmap_values.specs.DeclarationsSeen.{entries_seen}
+use Rattle.cmap_values.specs.declared.declarations.ByLength.{ByLength as HeldByLength}
+use Rattle.cmap_values.specs.declared.declarations.CidRange.{CidRange}
 use Rattle.cmap_writer.specs.PreparedFiles.{AddsCidLists, AddsSameCids, IsPrepared}
 use Rattle.cmap_writer.specs.Segments.{AddsSegments, DeclareEach}
 use Rattle.cmap_writer.specs.SegmentsWritten.{DeclareAll, SegmentByAny}

@@ -2,7 +2,7 @@
 use Rattle.std.proofs.Common.{◌≡◌, ℕ, suc, ◌*◌, ◌^◌, ◌<◌, List, [], ◌∷◌, ◌++◌, length, refl, ap, ◌∙◌, sym, subst, arith}
 use Rattle.std.proofs.lemmas.List.{append_assoc, append-nil}
 use Rattle.cmap_values.specs.CodeLengths.{IsCodeLength, length_of}
-use Rattle.cmap_files.specs.Files.{CidEntry, Codespace}
+use Rattle.cmap_values.specs.Files.{CidEntry, Codespace}
 use Rattle.cmap_values.specs.declared.code_length.CodeLength.{CodeLength}
 use Rattle.cmap_values.specs.declared.code_length.CodeLength.TheVariants.{One, Two, Three, Four}
 use Rattle.cmap_binary.specs.BinaryFiles.{CodespaceAt, CodespacesIn, NotdefAt, NotdefsIn}

@@ -3,7 +3,7 @@ use Rattle.std.proofs.Common.{◌≡◌, ℕ, ◌+◌, ◌<◌, List, [], ◌∷
 use Rattle.std.specs.List.{flat_map}
 use Rattle.std.proofs.lemmas.List.{append_assoc, append-nil, map-append, take_more}
 use Rattle.std.proofs.lemmas.List.Concat.{flat_map-append}
-use Rattle.cmap_files.specs.Files.{Declaration}
+use Rattle.cmap_values.specs.Files.{Declaration}
 use Rattle.cmap_binary.specs.BinaryFiles.{Content, IsSegment, SegmentAt, declares}
 use Rattle.cmap_packed.specs.Bundles.{PrefixTables}
 use Rattle.cmap_writer.specs.Segments.{AddsSegments, DeclareEach, DeclareInOrder, DeclaresAll, IsPayloadOf}

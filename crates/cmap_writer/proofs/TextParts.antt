@@ -6,7 +6,7 @@ use Rattle.std.proofs.lemmas.Bool.{and_from, and_parts, cases_lt, le-leb, le-ltb
 use Rattle.std.proofs.lemmas.List.{append_assoc, append-nil}
 use Rattle.std.proofs.lemmas.List.Elements.{All-nil, All-push}
 use Rattle.cmap_tokens.specs.Texts.{characters, text_at}
-use Rattle.cmap_files.specs.Files.{BfEntry}
+use Rattle.cmap_values.specs.Files.{BfEntry}
 use Rattle.cmap_layers.specs.Lookups.{bf_at, bf_span}
 use Rattle.cmap_writer.specs.Pieces.{AllSayAs, CanBeSplitText, Cover, Has, IsShortText, PushesPieces, SaysAs}
 use Rattle.cmap_writer.specs.TextParts.{IsShifted, ShiftsTo}

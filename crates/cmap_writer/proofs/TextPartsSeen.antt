@@ -7,10 +7,10 @@ use Rattle.std.proofs.lemmas.List.{get_or-map, length-map, map-append, take_all,
 use Rattle.std.proofs.lemmas.Option.{slice_get-get_or}
 use Rattle.cmap_runs.specs.Ranges.{AreRuns, Run}
 use Rattle.cmap_runs.specs.declared.runs.Range.{Range}
-use Rattle.cmap_files.specs.DeclarationsSeen.{bf_entry_seen, bf_range_span}
-use Rattle.cmap_files.specs.Files.{BfEntry}
+use Rattle.cmap_values.specs.DeclarationsSeen.{bf_entry_seen, bf_range_span}
+use Rattle.cmap_values.specs.Files.{BfEntry}
 use Rattle.cmap_values.specs.UnitsSeen.{units_seen}
-use Rattle.cmap_files.specs.declared.declarations.BfRange.{BfRange}
+use Rattle.cmap_values.specs.declared.declarations.BfRange.{BfRange}
 use Rattle.cmap_values.specs.declared.units.Units.{Units}
 use Rattle.cmap_layers.specs.Lookups.{bf_at, bf_span, last_bf}
 use Rattle.cmap_writer.specs.Pieces.{ArePieces, CanBeSplitText, Has, IsShortText, PushesPieces, SaysAs}

@@ -4,10 +4,10 @@ use Rattle.std.specs.List.{All}
 use Rattle.std.proofs.lemmas.Bool.{cases_lt}
 use Rattle.std.proofs.lemmas.List.{drop-map, length-take-le, take-map}
 use Rattle.std.proofs.lemmas.List.Elements.{All-cons, All-drop, All-head, All-nil, All-tail, All-take}
-use Rattle.cmap_files.specs.DeclarationsSeen.{bf_entry_seen, bf_range_span}
-use Rattle.cmap_files.specs.Files.{BfEntry}
+use Rattle.cmap_values.specs.DeclarationsSeen.{bf_entry_seen, bf_range_span}
+use Rattle.cmap_values.specs.Files.{BfEntry}
 use Rattle.cmap_values.specs.UnitsSeen.{units_seen}
-use Rattle.cmap_files.specs.declared.declarations.BfRange.{BfRange}
+use Rattle.cmap_values.specs.declared.declarations.BfRange.{BfRange}
 use Rattle.cmap_binary.specs.BinaryEntries.{Shape, ranges, singles}
 use Rattle.cmap_binary.specs.BinaryFiles.{Kind, texts}
 use Rattle.cmap_writer.specs.Held.{AreInOrder, AreShaped}

@@ -4,10 +4,10 @@ use Rattle.std.specs.List.{All}
 use Rattle.std.proofs.lemmas.List.{append_assoc, append-nil, length-map}
 use Rattle.std.proofs.lemmas.List.Elements.{All-head, All-tail}
 use Rattle.cmap_runs.specs.Ranges.{Span}
-use Rattle.cmap_files.specs.DeclarationsSeen.{bf_entry_seen, bf_range_span}
-use Rattle.cmap_files.specs.Files.{Declaration}
+use Rattle.cmap_values.specs.DeclarationsSeen.{bf_entry_seen, bf_range_span}
+use Rattle.cmap_values.specs.Files.{Declaration}
 use Rattle.cmap_values.specs.UnitsSeen.{units_seen}
-use Rattle.cmap_files.specs.declared.declarations.BfRange.{BfRange}
+use Rattle.cmap_values.specs.declared.declarations.BfRange.{BfRange}
 use Rattle.cmap_packed.specs.Bundles.{PrefixTables}
 use Rattle.cmap_binary.specs.BinaryEntries.{BfEntriesIn, BfEntryAt, Columns, DestinationAt, Shape, ranges, singles}
 use Rattle.cmap_binary.specs.BinaryFiles.{SaysIfKind, declares}

@@ -1,6 +1,6 @@
 -- Private aid: entries that follow each other in a segment.
 use Rattle.std.specs.Prelude.{◌≡◌, ℕ, ◌+◌, ◌-◌, ◌<◌, List, length, get_or}
-use Rattle.cmap_files.specs.declared.declarations.CidRange.{CidRange}
+use Rattle.cmap_values.specs.declared.declarations.CidRange.{CidRange}
 use Rattle.cmap_binary.specs.BinaryEntries.{Shape}
 use Rattle.cmap_writer.specs.Held.{HasShape}
 

@@ -2,11 +2,11 @@
 use Rattle.std.specs.Prelude.{◌≡◌, ◌≢◌, ◌⊎◌, ℕ, ℤ, pos, ◌+◌, ◌≤◌, ◌<◌, ◌^◌, List, Any, Contains, Option, Some, None, IsSome, IsSomeAnd, length}
 use Rattle.std.specs.Global.{Vec}
 use Rattle.cmap_runs.specs.declared.runs.Range.{Range}
-use Rattle.cmap_files.specs.DeclarationsSeen.{entries_seen}
-use Rattle.cmap_files.specs.Files.{BfEntry, ByLength, CidEntry, Codespace, File, of_length}
+use Rattle.cmap_values.specs.DeclarationsSeen.{entries_seen}
+use Rattle.cmap_values.specs.Files.{BfEntry, ByLength, CidEntry, Codespace, File, of_length}
 use Rattle.cmap_values.specs.Metadata.{Collection}
-use Rattle.cmap_files.specs.declared.declarations.ByLength.{ByLength as HeldLists}
-use Rattle.cmap_files.specs.declared.declarations.CidRange.{CidRange}
+use Rattle.cmap_values.specs.declared.declarations.ByLength.{ByLength as HeldLists}
+use Rattle.cmap_values.specs.declared.declarations.CidRange.{CidRange}
 use Rattle.cmap_values.specs.Names.{Family, family_of, ordering_of, registry_of}
 use Rattle.cmap_layers.specs.Lookups.{last_bf}
 use Rattle.cmap_packed.specs.Bundles.{PrefixTables}

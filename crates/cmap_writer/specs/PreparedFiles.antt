@@ -1,11 +1,11 @@
 -- What is to be written of a file, before it is known how its numbers are spelled.
 use Rattle.std.specs.Prelude.{ℕ, List, ◌++◌, map}
-use Rattle.cmap_files.specs.Files.{BfEntry, CidEntry, Declaration, File}
+use Rattle.cmap_values.specs.Files.{BfEntry, CidEntry, Declaration, File}
 use Rattle.cmap_binary.specs.BinaryFiles.{Content, declares, file_of}
 use Rattle.std.specs.Global.{Vec}
-use Rattle.cmap_files.specs.DeclarationsSeen.{entries_seen}
-use Rattle.cmap_files.specs.declared.declarations.ByLength.{ByLength}
-use Rattle.cmap_files.specs.declared.declarations.CidRange.{CidRange}
+use Rattle.cmap_values.specs.DeclarationsSeen.{entries_seen}
+use Rattle.cmap_values.specs.declared.declarations.ByLength.{ByLength}
+use Rattle.cmap_values.specs.declared.declarations.CidRange.{CidRange}
 use Rattle.cmap_writer.specs.Keeps.{HaveSameCids, HaveSameTexts, Keeps, by_length}
 use Rattle.cmap_writer.specs.Segments.{AddsSegments, DeclareEach}
 use Rattle.cmap_writer.specs.SegmentsWritten.{SegmentByAny}

@@ -1,6 +1,6 @@
 -- Segments of CIDs and of texts, before it is known how their numbers are spelled.
 use Rattle.std.specs.Prelude.{◌≡◌, ℕ, List, [], ◌∷◌, ◌++◌, flat_map, length}
-use Rattle.cmap_files.specs.Files.{Declaration}
+use Rattle.cmap_values.specs.Files.{Declaration}
 use Rattle.cmap_binary.specs.BinaryEntries as entries
 use Rattle.cmap_binary.specs.BinaryFiles.{IsSegment, declares}
 use Rattle.cmap_packed.specs.Bundles.{PrefixTables}

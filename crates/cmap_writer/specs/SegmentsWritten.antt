@@ -1,6 +1,6 @@
 -- Segments that are written, and what they say together.
 use Rattle.std.specs.Prelude.{◌≡◌, ℕ, List, flat_map, map}
-use Rattle.cmap_files.specs.Files.{Declaration, File}
+use Rattle.cmap_values.specs.Files.{Declaration, File}
 use Rattle.cmap_binary.specs.BinaryFiles.{Content, SegmentAt, declares, file_of}
 use Rattle.cmap_packed.specs.Bundles.{PrefixTables}
 use Rattle.cmap_writer.specs.Written.{WritesAll}

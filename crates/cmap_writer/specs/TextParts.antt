@@ -1,7 +1,7 @@
 -- Parts of declarations of texts.
 use Rattle.std.specs.Prelude.{◌≡◌, ℕ, ◌+◌, ◌-◌, ◌<◌, ◌≤◌, ◌^◌, List, All, IsSomeAnd, length}
 use Rattle.cmap_tokens.specs.Texts.{text_at}
-use Rattle.cmap_files.specs.Files.{BfEntry}
+use Rattle.cmap_values.specs.Files.{BfEntry}
 use Rattle.cmap_layers.specs.Lookups.{last_bf}
 
 -- units whose texts are those of others from an offset on

@@ -2,8 +2,8 @@
 
 ghost use Rattle.std.specs.Prelude.{◌≡◌, ◌≤◌, ◌<◌, ◌++◌, All, IfErr, IfOk, IsTrue, flat_map, length, map, take};
 ghost use Rattle.cmap_values.specs.CodeLengths.{length_of};
-ghost use Rattle.cmap_files.specs.DeclarationsSeen.{entries_seen};
-ghost use Rattle.cmap_files.specs.Files.{Declaration};
+ghost use Rattle.cmap_values.specs.DeclarationsSeen.{entries_seen};
+ghost use Rattle.cmap_values.specs.Files.{Declaration};
 ghost use Rattle.cmap_values.specs.Outcomes.{RefusesWith};
 ghost use Rattle.cmap_writer.specs.EncodersSeen.{shape_seen};
 ghost use Rattle.cmap_writer.specs.Follows.{Follows, HasShapeOf};
@@ -20,8 +20,8 @@ use crate::decided::decided_cids;
 use crate::obstacle::Obstacle;
 use crate::segments::Segment;
 use crate::split::split_cids;
-use cmap_files::declarations::CidRange;
 use cmap_values::code_length::CodeLength;
+use cmap_values::declarations::CidRange;
 use cmap_values::fault::Fault;
 use std::alloc::{AllocError, Global};
 

@@ -1,8 +1,8 @@
 //! Segments of codespace ranges.
 
 ghost use Rattle.std.specs.Prelude.{◌<◌, ◌^◌, IfErr, IfOk, length, map};
-ghost use Rattle.cmap_files.specs.DeclarationsSeen.{codespace_seen};
-ghost use Rattle.cmap_files.specs.Files.{Declaration};
+ghost use Rattle.cmap_values.specs.DeclarationsSeen.{codespace_seen};
+ghost use Rattle.cmap_values.specs.Files.{Declaration};
 ghost use Rattle.cmap_values.specs.Outcomes.{RefusesWith};
 ghost use Rattle.cmap_binary.specs.BinaryFiles.{CodespaceAt, CodespacesIn};
 ghost use Rattle.cmap_writer.specs.Obstacles.{IsSpaceObstacle, IsSpacesObstacle};
@@ -12,7 +12,7 @@ ghost use Rattle.cmap_writer.specs.Written.{Appends, Writes, WritesAll};
 use crate::notdefs::push_code;
 use crate::obstacle::Obstacle;
 use crate::pieces::push_segment;
-use cmap_files::declarations::Codespace;
+use cmap_values::declarations::Codespace;
 use cmap_values::fault::Fault;
 use std::alloc::Global;
 

@@ -2,17 +2,17 @@
 //! matter.
 
 ghost use Rattle.std.specs.Prelude.{◌≡◌, ◌+◌, ◌-◌, ◌<◌, ◌≤◌, ◌^◌, All, IfErr, IfNone, IfOk, IfSome, IsTrue, get_or, length, map};
-ghost use Rattle.cmap_files.specs.DeclarationsSeen.{cid_entry_seen, entries_seen};
+ghost use Rattle.cmap_values.specs.DeclarationsSeen.{cid_entry_seen, entries_seen};
 ghost use Rattle.cmap_values.specs.Outcomes.{RefusesWith};
 ghost use Rattle.cmap_layers.specs.Lookups.{cid_at, cid_span};
-ghost use Rattle.cmap_files.specs.declared.declarations.CidRange.{CidRange};
+ghost use Rattle.cmap_values.specs.declared.declarations.CidRange.{CidRange};
 ghost use Rattle.cmap_writer.specs.Follows.{GoesOn};
 ghost use Rattle.cmap_writer.specs.Obstacles.{IsCidObstacle};
 ghost use Rattle.cmap_writer.specs.Pieces.{CanBeSplit, SayTheSame, Takes};
 
 use crate::obstacle::Obstacle;
-use cmap_files::declarations::CidRange;
 use cmap_runs::runs::{Looks, Range, Table};
+use cmap_values::declarations::CidRange;
 use cmap_values::fault::Fault;
 use std::alloc::{AllocError, Global};
 

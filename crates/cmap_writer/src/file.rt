@@ -1,7 +1,7 @@
 //! A file in the binary form.
 
 ghost use Rattle.std.specs.Prelude.{IfErr, IfOk};
-ghost use Rattle.cmap_files.specs.FilesSeen.{file_seen};
+ghost use Rattle.cmap_values.specs.FilesSeen.{file_seen};
 ghost use Rattle.cmap_values.specs.Outcomes.{RefusesWith};
 ghost use Rattle.cmap_writer.specs.EncodersSeen.{encoders_seen};
 ghost use Rattle.cmap_writer.specs.Keeps.{IsWritten};
@@ -10,8 +10,8 @@ ghost use Rattle.cmap_writer.specs.Obstacles.{IsWriteObstacle};
 use crate::columns::Encoders;
 use crate::obstacle::Obstacle;
 use crate::prepared::prepare;
-use cmap_files::file::File;
 use cmap_values::fault::Fault;
+use cmap_values::file::File;
 use std::alloc::Global;
 
 /// A binary file that keeps what a file says: its metadata, its codespace ranges, the names of the files

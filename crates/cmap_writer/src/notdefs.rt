@@ -2,8 +2,8 @@
 
 ghost use Rattle.std.specs.Prelude.{◌≡◌, ◌+◌, ◌*◌, ◌<◌, ◌^◌, IfErr, IfOk, length, map};
 ghost use Rattle.cmap_values.specs.CodeLengths.{length_of};
-ghost use Rattle.cmap_files.specs.DeclarationsSeen.{cid_entry_seen, entries_seen};
-ghost use Rattle.cmap_files.specs.Files.{Declaration};
+ghost use Rattle.cmap_values.specs.DeclarationsSeen.{cid_entry_seen, entries_seen};
+ghost use Rattle.cmap_values.specs.Files.{Declaration};
 ghost use Rattle.cmap_values.specs.Outcomes.{RefusesWith};
 ghost use Rattle.cmap_binary.specs.BinaryFiles.{NotdefAt, NotdefsIn};
 ghost use Rattle.cmap_packed.specs.Fronts.{CodeAt};
@@ -15,8 +15,8 @@ use crate::bytes::push_number;
 use crate::decided::LARGEST_CID;
 use crate::obstacle::Obstacle;
 use crate::pieces::push_segment;
-use cmap_files::declarations::CidRange;
 use cmap_values::code_length::CodeLength;
+use cmap_values::declarations::CidRange;
 use cmap_values::fault::Fault;
 use std::alloc::Global;
 

@@ -1,8 +1,8 @@
 //! A file before it is known how its numbers are spelled.
 
 ghost use Rattle.std.specs.Prelude.{IfErr, IfOk};
-ghost use Rattle.cmap_files.specs.Files.{File as Said};
-ghost use Rattle.cmap_files.specs.FilesSeen.{file_seen};
+ghost use Rattle.cmap_values.specs.Files.{File as Said};
+ghost use Rattle.cmap_values.specs.FilesSeen.{file_seen};
 ghost use Rattle.cmap_values.specs.Outcomes.{RefusesWith};
 ghost use Rattle.cmap_writer.specs.EncodersSeen.{encoders_seen};
 ghost use Rattle.cmap_writer.specs.Keeps.{IsWritten, notdefs_declared};
@@ -20,14 +20,12 @@ use crate::obstacle::Obstacle;
 use crate::pieces::push_framed;
 use crate::segments::{Segment, push_segments};
 use crate::texts::add_text_list;
-use cmap_files::declarations::{ByLength, CidRange};
-use cmap_files::file::File;
+use cmap_binary::HEAD;
 use cmap_values::code_length::CodeLength;
+use cmap_values::declarations::{ByLength, CidRange};
 use cmap_values::fault::Fault;
+use cmap_values::file::File;
 use std::alloc::Global;
-
-/// What begins a binary file of version 1.
-const HEAD: &[u8] = b"bcmap\x01";
 
 /// A file before it is known how its numbers are spelled.
 #[derive(Drop)]

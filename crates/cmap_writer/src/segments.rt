@@ -1,7 +1,7 @@
 //! Segments of CIDs and of texts, before it is known how their numbers are spelled.
 
 ghost use Rattle.std.specs.Prelude.{IfErr, IfOk, List, map};
-ghost use Rattle.cmap_files.specs.Files.{Declaration};
+ghost use Rattle.cmap_values.specs.Files.{Declaration};
 ghost use Rattle.cmap_values.specs.Outcomes.{RefusesWith};
 ghost use Rattle.cmap_binary.specs.BinaryFiles.{SegmentAt, declares};
 ghost use Rattle.cmap_writer.specs.EncodersSeen.{encoders_seen};

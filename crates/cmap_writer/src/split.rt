@@ -1,12 +1,12 @@
 //! Ranges in pieces that a segment can hold.
 
 ghost use Rattle.std.specs.Prelude.{All, IfOk};
-ghost use Rattle.cmap_files.specs.DeclarationsSeen.{cid_entry_seen, entries_seen};
+ghost use Rattle.cmap_values.specs.DeclarationsSeen.{cid_entry_seen, entries_seen};
 ghost use Rattle.cmap_layers.specs.Lookups.{cid_at, cid_span};
 ghost use Rattle.cmap_writer.specs.Pieces.{ArePieces, CanBeSplit, IsShort, PushesPieces};
 
-use cmap_files::declarations::CidRange;
 use cmap_runs::runs::Range;
+use cmap_values::declarations::CidRange;
 use std::alloc::{AllocError, Global};
 
 /// How many codes the last one of a short range may be after its first.

@@ -2,7 +2,7 @@
 //! segment can hold.
 
 ghost use Rattle.std.specs.Prelude.{◌≡◌, ◌-◌, ◌<◌, ◌≤◌, ◌^◌, [], ◌∷◌, ◌++◌, All, IfErr, IfOk, map};
-ghost use Rattle.cmap_files.specs.DeclarationsSeen.{bf_entry_seen};
+ghost use Rattle.cmap_values.specs.DeclarationsSeen.{bf_entry_seen};
 ghost use Rattle.cmap_values.specs.Outcomes.{RefusesWith};
 ghost use Rattle.cmap_values.specs.UnitsSeen.{units_seen};
 ghost use Rattle.cmap_layers.specs.Lookups.{bf_at, bf_span};
@@ -13,8 +13,8 @@ ghost use Rattle.cmap_writer.specs.TextParts.{IsDecidedText, IsPartOf, IsShifted
 use crate::decided::last_code;
 use crate::obstacle::Obstacle;
 use crate::split::MOST_AFTER;
-use cmap_files::declarations::BfRange;
 use cmap_runs::runs::{Looks, Range, Table};
+use cmap_values::declarations::BfRange;
 use cmap_values::fault::Fault;
 use cmap_values::units::Units;
 use std::alloc::{AllocError, Global};

@@ -1,8 +1,8 @@
 //! Segments of codes with their texts.
 
 ghost use Rattle.std.specs.Prelude.{◌≡◌, ◌≤◌, ◌<◌, ◌^◌, ◌++◌, All, IfErr, IfOk, IsTrue, length, map, take};
-ghost use Rattle.cmap_files.specs.DeclarationsSeen.{bf_entry_seen};
-ghost use Rattle.cmap_files.specs.Files.{Declaration};
+ghost use Rattle.cmap_values.specs.DeclarationsSeen.{bf_entry_seen};
+ghost use Rattle.cmap_values.specs.Files.{Declaration};
 ghost use Rattle.cmap_values.specs.Outcomes.{RefusesWith};
 ghost use Rattle.cmap_writer.specs.EncodersSeen.{shape_seen};
 ghost use Rattle.cmap_writer.specs.Obstacles.{IsTextObstacle};
@@ -16,7 +16,7 @@ use crate::columns::{Shape, counts, deltas};
 use crate::obstacle::Obstacle;
 use crate::segments::Segment;
 use crate::text_parts::{decided_texts, split_texts};
-use cmap_files::declarations::BfRange;
+use cmap_values::declarations::BfRange;
 use cmap_values::fault::Fault;
 use std::alloc::{AllocError, Global};
 

@@ -1,9 +1,9 @@
 //! Maps: what the codes of a CMap file stand for.
 
-ghost use Rattle.std.specs.Prelude.{◌⊎◌, ◌≡◌, ◌≢◌, [], ◌∷◌, ◌≤◌, IfErr, IfOk, IfSome, IfNone, IsErrOf, IsSome, OnOk, Some, codes, length};
+ghost use Rattle.std.specs.Prelude.{◌⊎◌, ◌≡◌, ◌≢◌, [], ◌∷◌, ◌≤◌, ◌^◌, IfErr, IfOk, IfSome, IfNone, IsErrOf, IsSome, MatchOption, OnOk, Some, codes, length};
 ghost use Rattle.std.specs.List.{All};
 ghost use Rattle.cmap_chains.specs.Answers.{Answers, AnswersByName, IsByName};
-ghost use Rattle.cmap_files.specs.Files as files;
+ghost use Rattle.cmap_values.specs.Files as files;
 ghost use Rattle.cmap_values.specs.NamesSeen.{names_seen};
 ghost use Rattle.cmap_chains.specs.Identity.{identity_layer};
 ghost use Rattle.cmap_packed.specs.BundleSeen.{tables_given};
@@ -14,8 +14,12 @@ ghost use Rattle.cmap_layers.specs.LayersSeen.{metadata_seen};
 ghost use Rattle.cmap_layers.specs.Layers.{top_metadata};
 ghost use Rattle.cmap_chains.specs.Salvage.{BeginsWithFault, GivesMap, SalvagesMap};
 ghost use Rattle.cmap_chains.specs.SalvageSeen.{faults_seen};
+ghost use Rattle.cmap_layers.specs.CodeStretches.{AreCodesBelow};
 ghost use Rattle.cmap_layers.specs.Lookups.{cid_of};
 ghost use Rattle.cmap_layers.specs.Searches.{FindsCid, FindsText, GivesText, IsStrictCid};
+ghost use Rattle.cmap_layers.specs.StringCodes.{IsNextCode};
+ghost use Rattle.cmap_values.specs.CodeLengths.{IsCodeLength, length_of};
+ghost use Rattle.cmap_values.specs.Only.{IsOnly};
 ghost use Rattle.cmap_values.specs.Outcomes.{Finds, RefusesWith};
 ghost use Rattle.cmap_values.specs.declared.fault.Fault.TheVariants as fault;
 ghost use Rattle.hayro_cmap.specs.declared.budget.ParseError.TheVariants as parse_error;
@@ -28,9 +32,11 @@ use cmap_chains::{
     salvaged_layers, uses,
 };
 use cmap_layers::layers::Layers;
+use cmap_layers::string_codes::StringCode;
 use cmap_packed::Bundle;
-use cmap_runs::runs::Looks;
+use cmap_runs::runs::{Looks, Range};
 use cmap_tokens::utf16::BfString;
+use cmap_values::code_length::CodeLength;
 use cmap_values::fault::Fault;
 use cmap_values::metadata::Metadata;
 use cmap_values::names::{CMapName, Cid};
@@ -165,6 +171,7 @@ impl CMap {
     {
         match read_layers(alloc, budget, data, bundle, source) {
             Ok(layers) => Ok(CMap { layers }),
+            // By `?` each clause would be shown again of the error.
             Err(fault) => Err(fault),
         }
     }
@@ -204,6 +211,7 @@ impl CMap {
         match open_layers(alloc, budget, name, bundle, source) {
             Ok(Some(layers)) => Ok(Some(CMap { layers })),
             Ok(None) => Ok(None),
+            // By `?` each clause would be shown again of the error.
             Err(fault) => Err(fault),
         }
     }
@@ -250,6 +258,7 @@ impl CMap {
                 map: CMap { layers },
                 faults,
             }),
+            // By `?` each clause would be shown again of the error.
             Err(error) => Err(error),
         }
     }
@@ -344,14 +353,34 @@ impl CMap {
         self.layers().text(alloc, code, looks)
     }
 
+    /// The code that a string begins with, as [`Layers::next_code`] gives it. ISO 32000-1, 9.7.6.2.
+    pub fn next_code(&self, text: &[u8]) -> Option<StringCode>
+        ensures code { MatchOption result (text.now ≡ []) (IsOnly (IsNextCode self.now text.now)) }
+        ensures length { IfSome result
+            (λ found. IsCodeLength found.byte_len × (found.byte_len ≤ length text.now)) }
+    {
+        self.layers().next_code(text)
+    }
+
+    /// The codes of this length that have the CID, as [`Layers::codes_of_cid`] gives them.
+    pub fn codes_of_cid(
+        &self,
+        alloc: Global,
+        cid: Cid,
+        len: CodeLength,
+    ) -> Result<Vec<Range>, AllocError>
+        ensures { IfOk result (λ ranges. AreCodesBelow self.now (length_of len) cid
+            (256 ^ length_of len) ranges.items) }
+    {
+        self.layers().codes_of_cid(alloc, cid, len)
+    }
+
     /// A copy of the map.
     pub fn clone(&self, alloc: Global) -> Result<CMap, AllocError>
         ensures { IfOk result (λ copy. copy ≡ self.now) }
     {
-        match self.layers().clone(alloc) {
-            Ok(layers) => Ok(CMap { layers }),
-            Err(error) => Err(error),
-        }
+        let layers = self.layers().clone(alloc)?;
+        Ok(CMap { layers })
     }
 }
 

@@ -1,7 +1,7 @@
 use Rattle.std.proofs.Common.{◌≡◌, ℕ, zero, suc, ◌<◌, List, map, arith, refl, ap, ◌∙◌}
 use Rattle.cmap_values.specs.CodeLengths.{length_of}
-use Rattle.cmap_files.specs.Files.{cid, lists_of}
-use Rattle.cmap_files.specs.ListsAppended.{append_lists}
+use Rattle.cmap_values.specs.Files.{cid, lists_of}
+use Rattle.cmap_values.specs.ListsAppended.{append_lists}
 use Rattle.cmap_packed.specs.Bundles.{PrefixTables}
 use Rattle.cmap_binary.specs.BinaryEntries.{Shape, CidsOf, CidEntriesOf}
 use Rattle.cmap_packed.specs.BundleSeen.{tables_seen}

@@ -1,6 +1,6 @@
 use Rattle.cmap_values.specs.CodeLengths.{length_of}
-use Rattle.cmap_files.specs.Files.{cid}
-use Rattle.cmap_files.specs.DeclarationsSeen.{lists_seen}
+use Rattle.cmap_values.specs.Files.{cid}
+use Rattle.cmap_values.specs.DeclarationsSeen.{lists_seen}
 use Rattle.cmap_binary.specs.BinaryEntries.{CidEntryAt}
 use Rattle.cmap_packed.specs.BundleSeen.{tables_seen}
 use Rattle.cmap_binary.specs.ColumnsSeen.{cid_columns_seen}

@@ -1,5 +1,5 @@
-use Rattle.cmap_files.specs.Files.{bf}
-use Rattle.cmap_files.specs.DeclarationsSeen.{lists_seen}
+use Rattle.cmap_values.specs.Files.{bf}
+use Rattle.cmap_values.specs.DeclarationsSeen.{lists_seen}
 use Rattle.cmap_binary.specs.BinaryEntries.{BfEntryAt}
 use Rattle.cmap_packed.specs.BundleSeen.{tables_seen}
 use Rattle.cmap_binary.specs.ColumnsSeen.{columns_seen}

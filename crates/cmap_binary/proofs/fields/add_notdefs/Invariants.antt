@@ -1,5 +1,5 @@
-use Rattle.cmap_files.specs.Files.{notdef}
-use Rattle.cmap_files.specs.DeclarationsSeen.{lists_seen}
+use Rattle.cmap_values.specs.Files.{notdef}
+use Rattle.cmap_values.specs.DeclarationsSeen.{lists_seen}
 use Rattle.cmap_binary.specs.BinaryFiles.{NotdefAt}
 use Rattle.cmap_binary.proofs.RowsAdded.{HasAdded}
 use Rattle.cmap_binary.proofs.fields.add_notdefs.Given as goal

@@ -1,7 +1,7 @@
 use Rattle.std.proofs.Common.{◌≡◌, refl, rules}
 use Rattle.std.specs.Prelude.{ℤ}
 use Rattle.cmap_values.specs.Names.{Family}
-use Rattle.cmap_files.specs.Files.{Collection}
+use Rattle.cmap_values.specs.Files.{Collection}
 use Rattle.cmap_values.specs.Only.{IsOnly}
 use Rattle.cmap_packed.proofs.Fronts.{gives, then_none, then_next, then_only}
 use Rattle.cmap_binary.proofs.Reading.{made_none, made_only}

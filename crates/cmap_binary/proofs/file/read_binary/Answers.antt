@@ -5,8 +5,8 @@ use Rattle.cmap_values.specs.Outcomes.{ReadsFile, RefusesWith, StopsWithin}
 use Rattle.cmap_values.specs.declared.fault.Fault.{Fault}
 use Rattle.cmap_values.specs.declared.fault.Fault.TheVariants.{Refused, Memory}
 use Rattle.cmap_values.specs.declared.fault.Stop.{Stop}
-use Rattle.cmap_files.specs.declared.file.File.{File}
-use Rattle.cmap_files.specs.FilesSeen.{file_seen}
+use Rattle.cmap_values.specs.declared.file.File.{File}
+use Rattle.cmap_values.specs.FilesSeen.{file_seen}
 use Rattle.cmap_packed.specs.Bundles.{PrefixTables}
 use Rattle.cmap_binary.specs.BinaryFiles.{BodyOf, IsBinaryFile, SegmentAt}
 use Rattle.cmap_binary.specs.BinaryFaults.{IsBinaryFault}

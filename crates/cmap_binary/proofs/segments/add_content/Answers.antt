@@ -1,4 +1,4 @@
-use Rattle.cmap_files.specs.FilesSeen.{file_seen}
+use Rattle.cmap_values.specs.FilesSeen.{file_seen}
 use Rattle.cmap_binary.proofs.RowsAdded.{declares_to_file}
 use Rattle.cmap_binary.proofs.segments.add_content.Goals as goal
 

@@ -13,10 +13,10 @@ returns-in_default c = record {
 
 pub returns-in-Ok : goal.returns-in-Ok
 returns-in-Ok c = record {
-  message = λ _. (c.in-Some.cause, c.in-Some.ensures, c.as_bytes.result.now, c.put_bytes.ensures);
-  absent = λ absent. absurd (put_not_absent _ _ _ _ _ c.put_bytes.ensures absent);
-  unwritten = λ none. elim none [ inl absent ↦ absurd (put_not_absent _ _ _ _ _ c.put_bytes.ensures absent) | inr memory ↦ absurd (put_no_memory _ _ _ _ _ c.put_bytes.ensures memory) ];
-  ends = inl (put_ends _ _ _ _ _ c.put_bytes.ensures);
+  message = λ _. (c.in-Some.cause, c.in-Some.ensures, c.as_bytes.result.now, c.put.ensures);
+  absent = λ absent. absurd (put_not_absent _ _ _ _ _ c.put.ensures absent);
+  unwritten = λ none. elim none [ inl absent ↦ absurd (put_not_absent _ _ _ _ _ c.put.ensures absent) | inr memory ↦ absurd (put_no_memory _ _ _ _ _ c.put.ensures memory) ];
+  ends = inl (put_ends _ _ _ _ _ c.put.ensures);
 }
 
 pub returns-in-Err : goal.returns-in-Err

@@ -36,8 +36,8 @@ returns c =
         is_map = c.put.ensures;
         are_counted = c.len.ensures ∙ c.in-Ok.salvaged.shown.faults.ok.0 ∙ ap length said.2.0 ∙ many;
         are_there = heads c.args.faults.now c.put_head.new.room c.deref.result.now (numbers_of_all faults) (length faults) (c.deref.ensures.value ∙ said.2.0) many c.put_head.ensures;
-        put = c.put_bytes.result;
-        are_put = subst (λ bytes. IsPut bytes c.args.room.now c.put_bytes.new.room c.put_bytes.new.needed c.put_bytes.result) (c.deref-2.ensures.value ∙ said.2.1) c.put_bytes.ensures;
+        put = c.put-2.result;
+        are_put = subst (λ bytes. IsPut bytes c.args.room.now c.put-2.new.room c.put-2.new.needed c.put-2.result) (c.deref-2.ensures.value ∙ said.2.1) c.put-2.ensures;
       };
       unwritten = λ memory. absurd (not_both Done NoMemory refl c.number-2.ensures memory);
       failed = inl c.number-2.ensures;

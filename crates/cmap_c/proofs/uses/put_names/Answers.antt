@@ -29,7 +29,7 @@ returns c =
     let bytes : c.in-Ok.bytes.items ≡ concat (names_seen c.args.used.now) = c.in-Ok.ensures in
     let few : length (names_seen c.args.used.now) ≤ length c.args.name_lens.now = rw count at c.if-used-name_lens.false in
     let fits : length (concat (names_seen c.args.used.now)) ≤ length c.args.room.now = rw (c.len-else-used-name_lens.ensures, c.in-Ok.bytes.ok.0, bytes) at c.if-len-room.false in
-    let put = rw (c.deref.ensures.value, bytes) at c.put_bytes.ensures in
+    let put = rw (c.deref.ensures.value, bytes) at c.put.ensures in
     let lengths = rw (length-map (names_seen c.args.used.now) length) at c.fill.ensures in
     elim put.1 [
       | inl all ↦ inr (count, put.0, inl (few, fits, all.1, lengths, all.2))

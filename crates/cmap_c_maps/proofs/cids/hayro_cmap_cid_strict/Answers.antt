@@ -17,6 +17,6 @@ returns c =
     let answer = c.strict_cid-answer in
     record {
       same = c.put.ensures ∙ map;
-      within = λ within. answered_in _ _ c.in-Some.found.value c.value.result.now answer.result _ _ map lent (answer.ensures.within (in_lent _ _ _ _ _ map lent within)) c.put_cid.ensures;
-      outside = λ outside. MatchOption-at_none _ _ (answer.ensures.outside (λ within. outside (in_handle _ _ _ _ _ map lent within))) c.put_cid.ensures;
+      within = λ within. answered_in _ _ c.in-Some.found.value c.value.result.now answer.result _ _ map lent (answer.ensures.value.within (in_lent _ _ _ _ _ map lent within)) c.put_cid.ensures;
+      outside = λ outside. MatchOption-at_none _ _ (answer.ensures.value.outside (λ within. outside (in_handle _ _ _ _ _ map lent within))) c.put_cid.ensures;
     }

@@ -1,9 +1,9 @@
 use Rattle.std.proofs.Common.{◌≡◌, ◌∙◌, ◌≤◌, ℕ, List, Option, Some, None, ap, length, subst, sym}
 use Rattle.std.specs.Prelude.{map, option_and_then, option_map, slice_get}
 use Rattle.std.proofs.lemmas.Option.{slice_get-map, slice_get_past}
-use Rattle.cmap_files.specs.DeclarationsSeen.{bf_entry_seen}
-use Rattle.cmap_files.specs.Files.{BfEntry}
-use Rattle.cmap_files.specs.declared.declarations.BfRange.{BfRange}
+use Rattle.cmap_values.specs.DeclarationsSeen.{bf_entry_seen}
+use Rattle.cmap_values.specs.Files.{BfEntry}
+use Rattle.cmap_values.specs.declared.declarations.BfRange.{BfRange}
 use Rattle.cmap_layers.specs.Layers.{Layer}
 use Rattle.cmap_c_maps.proofs.declared.units_at.Goals as goal
 

@@ -1,6 +1,6 @@
 use Rattle.std.proofs.Common.{◌≡◌, ◌∙◌, Option, Some, ap, sym}
 use Rattle.std.specs.Prelude.{option_map}
-use Rattle.cmap_files.specs.Files.{Mode}
+use Rattle.cmap_values.specs.Files.{Mode}
 use Rattle.cmap_layers.specs.LayersSeen.{mode_seen}
 use Rattle.cmap_values.specs.declared.writing_mode.WritingMode.{WritingMode}
 use Rattle.cmap_values.specs.declared.writing_mode.WritingMode.TheVariants.{Horizontal, Vertical}

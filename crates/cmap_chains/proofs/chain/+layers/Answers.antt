@@ -1,7 +1,7 @@
 use Rattle.std.proofs.Common.{◌≡◌, ◌∷◌, [], refl, ap, subst, ◌∙◌, ◌-◌, Ok, Err}
 use Rattle.std.specs.Prelude.{MatchResult, Result}
 use Rattle.cmap_packed.specs.BundleSeen.{tables_given}
-use Rattle.cmap_files.specs.FilesSeen.{file_seen}
+use Rattle.cmap_values.specs.FilesSeen.{file_seen}
 use Rattle.cmap_layers.specs.Layers.{layer_of}
 use Rattle.cmap_layers.specs.LayersSeen.{layers_seen}
 use Rattle.cmap_values.specs.NamesSeen.{names_seen}

@@ -2,7 +2,7 @@ use Rattle.std.proofs.Common.{◌≡◌, refl, ap, ◌∙◌, ◌-◌, [], ◌�
 use Rattle.std.proofs.lemmas.Result.{IfOk-from_err}
 use Rattle.std.specs.Global.{Vec}
 use Rattle.cmap_packed.specs.BundleSeen.{tables_given}
-use Rattle.cmap_files.specs.FilesSeen.{file_seen}
+use Rattle.cmap_values.specs.FilesSeen.{file_seen}
 use Rattle.cmap_values.specs.NamesSeen.{names_seen}
 use Rattle.cmap_layers.specs.LayersSeen.{layers_seen}
 use Rattle.cmap_layers.specs.declared.layer.Layer.{Layer}

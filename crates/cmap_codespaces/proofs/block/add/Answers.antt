@@ -1,6 +1,6 @@
 use Rattle.std.proofs.Common.{◌≡◌, ℕ, suc, ◌+◌, ◌-◌, ◌<◌, ◌≤◌, ◌⊎◌, ap, sym, ◌∙◌, subst, arith}
 use Rattle.std.specs.Prelude.{◌↔◌}
-use Rattle.cmap_files.specs.DeclarationsSeen.{codespace_seen}
+use Rattle.cmap_values.specs.DeclarationsSeen.{codespace_seen}
 use Rattle.cmap_codespaces.specs.CodesWithin.{byte_at}
 use Rattle.cmap_codespaces.specs.SpaceBits.{InRow}
 use Rattle.cmap_codespaces.proofs.BytesWithin.{length_fits}

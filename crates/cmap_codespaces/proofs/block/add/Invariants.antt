@@ -1,7 +1,7 @@
 use Rattle.std.proofs.Common.{◌≡◌, ℕ, ◌<◌, ◌⊎◌, length, get_or}
 use Rattle.std.specs.Prelude.{◌↔◌}
 use Rattle.std.specs.Int.{bit_at}
-use Rattle.cmap_files.specs.DeclarationsSeen.{codespace_seen}
+use Rattle.cmap_values.specs.DeclarationsSeen.{codespace_seen}
 use Rattle.cmap_codespaces.specs.SpaceBits.{row_count}
 use Rattle.cmap_codespaces.proofs.RowBits.{IsTouched}
 use Rattle.cmap_codespaces.proofs.block.add.Given as goal

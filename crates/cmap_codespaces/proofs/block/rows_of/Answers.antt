@@ -2,9 +2,9 @@ use Rattle.std.proofs.Common.{◌≡◌, ℕ, ◌<◌, ◌+◌, ◌⊎◌, List,
 use Rattle.std.proofs.lemmas.Option.{slice_get-get_or}
 use Rattle.std.specs.Prelude.{◌↔◌}
 use Rattle.std.specs.Int.{bit_at}
-use Rattle.cmap_files.specs.DeclarationsSeen.{codespace_seen}
+use Rattle.cmap_values.specs.DeclarationsSeen.{codespace_seen}
 use Rattle.cmap_values.specs.declared.code_length.CodeLength.TheVariants.{One}
-use Rattle.cmap_files.specs.declared.declarations.Codespace.{Codespace}
+use Rattle.cmap_values.specs.declared.declarations.Codespace.{Codespace}
 use Rattle.cmap_codespaces.specs.SpaceBits.{HaveBits, InRow, IsInRow, row_count}
 use Rattle.cmap_codespaces.proofs.RowBits.{all_bits, more_bits, no_bits, written_back}
 use Rattle.cmap_codespaces.proofs.block.rows_of.Goals as goal

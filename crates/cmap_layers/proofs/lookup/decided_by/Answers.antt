@@ -2,7 +2,7 @@ use Rattle.std.proofs.Common.{◌≡◌, true, false, None, Some, map, ap, ◌�
 use Rattle.std.proofs.lemmas.Bool.Decides.{nat_tests}
 use Rattle.std.specs.Prelude.{option_and_then}
 use Rattle.cmap_tokens.specs.Texts.{only_character}
-use Rattle.cmap_files.specs.DeclarationsSeen.{bf_entry_seen, cid_entry_seen}
+use Rattle.cmap_values.specs.DeclarationsSeen.{bf_entry_seen, cid_entry_seen}
 use Rattle.cmap_layers.specs.Lookups.{bf_at, cid_at, last_bf, last_cid}
 use Rattle.cmap_layers.specs.LayersDecide.{decided_in}
 use Rattle.cmap_layers.proofs.LastFound.{decided_character, decided_notdef}

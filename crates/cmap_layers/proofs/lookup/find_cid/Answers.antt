@@ -1,7 +1,7 @@
 use Rattle.std.proofs.Common.{sym, ap, ◌∙◌, subst}
 use Rattle.std.specs.Prelude.{is_some, option_map}
 use Rattle.cmap_runs.specs.SearchLooks.{LooksAtMost}
-use Rattle.cmap_files.specs.DeclarationsSeen.{cid_entry_seen}
+use Rattle.cmap_values.specs.DeclarationsSeen.{cid_entry_seen}
 use Rattle.cmap_layers.specs.Lookups.{cid_span}
 use Rattle.cmap_layers.specs.Searches.{search_looks}
 use Rattle.cmap_layers.proofs.LastFound.{last_of-map, spans-map}

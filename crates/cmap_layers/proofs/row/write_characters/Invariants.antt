@@ -1,5 +1,5 @@
 use Rattle.std.proofs.Common.{◌≡◌, map, ◌+◌, ◌-◌, ◌≤◌, ◌<◌, ◌^◌, length}
-use Rattle.cmap_files.specs.DeclarationsSeen.{bf_entry_seen}
+use Rattle.cmap_values.specs.DeclarationsSeen.{bf_entry_seen}
 use Rattle.cmap_layers.specs.RowsWritten.{character_said}
 use Rattle.cmap_layers.proofs.RowWritten.{IsWrittenTo}
 use Rattle.cmap_layers.proofs.row.write_characters.Given as goal

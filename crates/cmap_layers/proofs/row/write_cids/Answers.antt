@@ -4,7 +4,7 @@ use Rattle.std.specs.Prelude.{slice_index, unwrap_or}
 use Rattle.std.specs.Option.{option_copied}
 use Rattle.std.proofs.lemmas.List.{places}
 use Rattle.cmap_runs.specs.Stretches.{IsStretch}
-use Rattle.cmap_files.specs.DeclarationsSeen.{cid_entry_seen, cid_range_span, entries_seen}
+use Rattle.cmap_values.specs.DeclarationsSeen.{cid_entry_seen, cid_range_span, entries_seen}
 use Rattle.cmap_layers.specs.RowsWritten.{cid_said, given}
 use Rattle.cmap_layers.proofs.RowWritten.{cid_said_in, gap_written, part_written, starts_before, written_all, written_none}
 use Rattle.cmap_layers.proofs.row.write_cids.Goals as goal

@@ -1,5 +1,5 @@
 use Rattle.std.proofs.Common.{◌≡◌, ◌+◌, ◌-◌, ◌≤◌, ◌<◌, ◌^◌, length}
-use Rattle.cmap_files.specs.DeclarationsSeen.{entries_seen}
+use Rattle.cmap_values.specs.DeclarationsSeen.{entries_seen}
 use Rattle.cmap_layers.specs.RowsWritten.{cid_said}
 use Rattle.cmap_layers.proofs.RowWritten.{IsWrittenTo}
 use Rattle.cmap_layers.proofs.row.write_cids.Given as goal

@@ -1,6 +1,6 @@
 use Rattle.std.proofs.Common.{◌≡◌, ℕ, ◌+◌, ◌-◌, List, ap, sym, ◌∙◌, subst, arith}
 use Rattle.std.specs.Prelude.{slice_index, unwrap_or}
-use Rattle.cmap_files.specs.DeclarationsSeen.{bf_entry_seen}
+use Rattle.cmap_values.specs.DeclarationsSeen.{bf_entry_seen}
 use Rattle.cmap_tokens.specs.Texts.{only_character, text_at}
 use Rattle.cmap_layers.specs.Lookups.{bf_at}
 use Rattle.cmap_layers.proofs.RowWritten.{one_written, written_none, IsWrittenTo}

@@ -1,4 +1,4 @@
-use Rattle.cmap_files.specs.DeclarationsSeen.{bf_entry_seen}
+use Rattle.cmap_values.specs.DeclarationsSeen.{bf_entry_seen}
 use Rattle.cmap_tokens.specs.Texts.{only_character}
 use Rattle.cmap_layers.specs.Lookups.{bf_at}
 use Rattle.cmap_layers.proofs.RowWritten.{IsWrittenTo}

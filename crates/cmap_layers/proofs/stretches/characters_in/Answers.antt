@@ -2,7 +2,7 @@ use Rattle.std.proofs.Common.{Some, None, ap, ◌∙◌, subst, arith}
 use Rattle.std.specs.Prelude.{option_map}
 use Rattle.std.specs.Option.{option_copied}
 use Rattle.cmap_runs.specs.Stretches.{IsStretch}
-use Rattle.cmap_files.specs.DeclarationsSeen.{bf_range_span}
+use Rattle.cmap_values.specs.DeclarationsSeen.{bf_range_span}
 use Rattle.cmap_layers.proofs.RowWritten.{character_said_in}
 use Rattle.cmap_layers.proofs.stretches.characters_in.Goals as goal
 

@@ -3,8 +3,8 @@ use Rattle.std.specs.Prelude.{option_map}
 use Rattle.std.specs.Option.{option_copied}
 use Rattle.cmap_runs.specs.Stretches.{IsStretch}
 use Rattle.cmap_values.specs.CodeLengths.{length_of}
-use Rattle.cmap_files.specs.DeclarationsSeen.{cid_range_span}
-use Rattle.cmap_files.specs.Files.{of_length}
+use Rattle.cmap_values.specs.DeclarationsSeen.{cid_range_span}
+use Rattle.cmap_values.specs.Files.{of_length}
 use Rattle.cmap_layers.specs.CodeStretches.{cid_after}
 use Rattle.cmap_layers.specs.LayersDecide.{decided_in}
 use Rattle.cmap_layers.specs.LayersSeen.{layer_seen}

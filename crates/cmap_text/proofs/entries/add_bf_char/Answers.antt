@@ -1,5 +1,5 @@
 use Rattle.std.proofs.Common.{refl}
-use Rattle.cmap_files.specs.DeclarationsSeen.{lists_seen}
+use Rattle.cmap_values.specs.DeclarationsSeen.{lists_seen}
 use Rattle.cmap_values.specs.UnitsSeen.{units_seen}
 use Rattle.cmap_text.specs.TextSeen.{code_seen}
 use Rattle.cmap_text.proofs.EntrySteps.{char_text, char_wrong}

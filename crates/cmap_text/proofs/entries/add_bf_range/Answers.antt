@@ -1,7 +1,7 @@
 use Rattle.std.proofs.Common.{ap, refl, sym, ◌∙◌}
 use Rattle.cmap_tokens.specs.Tokens.{String}
 use Rattle.cmap_tokens.specs.TokenSeen.{token_seen}
-use Rattle.cmap_files.specs.DeclarationsSeen.{lists_seen}
+use Rattle.cmap_values.specs.DeclarationsSeen.{lists_seen}
 use Rattle.cmap_text.specs.TextSeen.{code_seen}
 use Rattle.cmap_text.specs.TokenParsers.{token_in}
 use Rattle.cmap_text.proofs.EntrySteps.{range_ends, range_texts, texts_made}

@@ -1,6 +1,6 @@
 use Rattle.std.proofs.Common.{refl, sym, ◌∷◌, [], ap, ◌∙◌}
 use Rattle.cmap_values.specs.CodeLengths.{length_of}
-use Rattle.cmap_files.specs.DeclarationsSeen.{cid_entry_seen, lists_seen}
+use Rattle.cmap_values.specs.DeclarationsSeen.{cid_entry_seen, lists_seen}
 use Rattle.cmap_text.specs.TextFiles.{declares_cid}
 use Rattle.cmap_text.specs.TextReading.{adding}
 use Rattle.cmap_text.specs.TextSeen.{code_seen, extent_seen, kind_seen}

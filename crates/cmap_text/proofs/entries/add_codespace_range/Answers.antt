@@ -1,6 +1,6 @@
 use Rattle.std.proofs.Common.{refl, sym}
 use Rattle.std.specs.Prelude.{Some}
-use Rattle.cmap_files.specs.DeclarationsSeen.{lists_seen}
+use Rattle.cmap_values.specs.DeclarationsSeen.{lists_seen}
 use Rattle.cmap_text.specs.TextSeen.{code_seen}
 use Rattle.cmap_text.proofs.EntrySteps.{lengths_agree, lengths_differ, space_added, space_unequal, space_wrong}
 use Rattle.cmap_text.proofs.Refusals.{no_memory, none_refused, passed_on}

@@ -1,5 +1,5 @@
 use Rattle.std.proofs.Common.{◌≡◌, ℕ, suc, [], ◌+◌, ◌-◌, refl, ap, ◌∙◌, arith}
-use Rattle.cmap_files.specs.DeclarationsSeen.{lists_seen}
+use Rattle.cmap_values.specs.DeclarationsSeen.{lists_seen}
 use Rattle.cmap_values.specs.UnitsSeen.{units_seen}
 use Rattle.cmap_text.specs.TextReading.{list_in}
 use Rattle.cmap_text.specs.TokenParsers.{run}

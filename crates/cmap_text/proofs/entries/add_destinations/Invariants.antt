@@ -1,5 +1,5 @@
 use Rattle.std.proofs.Common.{◌≡◌, ◌+◌, ◌-◌}
-use Rattle.cmap_files.specs.DeclarationsSeen.{lists_seen}
+use Rattle.cmap_values.specs.DeclarationsSeen.{lists_seen}
 use Rattle.cmap_text.specs.EntriesSeen.{AddsTexts}
 use Rattle.cmap_text.specs.TextReading.{list_in}
 use Rattle.cmap_text.specs.TokenParsers.{run}

@@ -2,7 +2,7 @@ use Rattle.std.proofs.Common.{◌∙◌, refl, sym, ap, Err, take}
 use Rattle.std.specs.Prelude.{map}
 use Rattle.std.proofs.lemmas.List.{length-map}
 use Rattle.std.proofs.lemmas.List.{take-map}
-use Rattle.cmap_files.specs.DeclarationsSeen.{bf_entry_seen, lists_seen}
+use Rattle.cmap_values.specs.DeclarationsSeen.{bf_entry_seen, lists_seen}
 use Rattle.cmap_values.specs.declared.fault.Fault.TheVariants.{Memory}
 use Rattle.cmap_text.specs.TokenParsers.{listed_so}
 use Rattle.cmap_text.proofs.Refusals.{none_refused}

@@ -1,6 +1,6 @@
 use Rattle.std.proofs.Common.{refl, ◌∷◌, []}
 use Rattle.std.proofs.lemmas.Result.{IfOk-from_err}
-use Rattle.cmap_files.specs.DeclarationsSeen.{lists_seen}
+use Rattle.cmap_values.specs.DeclarationsSeen.{lists_seen}
 use Rattle.cmap_text.specs.TextSeen.{code_seen}
 use Rattle.cmap_text.proofs.EntrySteps.{char_text}
 use Rattle.cmap_text.proofs.Refusals.{only_memory}

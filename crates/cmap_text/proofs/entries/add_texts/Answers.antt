@@ -1,5 +1,5 @@
 use Rattle.cmap_tokens.specs.TokenSeen.{token_seen}
-use Rattle.cmap_files.specs.DeclarationsSeen.{lists_seen}
+use Rattle.cmap_values.specs.DeclarationsSeen.{lists_seen}
 use Rattle.cmap_text.proofs.EntrySteps.{texts_list, texts_made, texts_wrong}
 use Rattle.cmap_text.proofs.Refusals.{made_so, never_refused, passed_on}
 use Rattle.std.proofs.Common.{refl}

@@ -1,7 +1,7 @@
 use Rattle.std.proofs.Common.{refl, sym, ◌∙◌}
 use Rattle.std.proofs.lemmas.Option.{none-some}
 use Rattle.std.specs.Option.{option_copied}
-use Rattle.cmap_files.specs.DeclarationsSeen.{lists_seen}
+use Rattle.cmap_values.specs.DeclarationsSeen.{lists_seen}
 use Rattle.cmap_tokens.specs.TokenSeen.{token_seen}
 use Rattle.cmap_text.specs.TextSeen.{key_name, said_seen, section_seen}
 use Rattle.cmap_text.proofs.ItemSteps.{key_said, other_said, section_said, use_ends}

@@ -2,7 +2,7 @@ use Rattle.std.proofs.Common.{ap, sym, ◌∙◌}
 use Rattle.std.specs.Prelude.{Ok, Some, option_map}
 use Rattle.cmap_text.specs.EntriesSeen.{refused_seen}
 use Rattle.cmap_values.proofs.Outcomes.{passed_on}
-use Rattle.cmap_files.specs.DeclarationsSeen.{lists_seen}
+use Rattle.cmap_values.specs.DeclarationsSeen.{lists_seen}
 use Rattle.cmap_text.specs.Salvage.{after_entry, entry, faulted, having_lists}
 use Rattle.cmap_text.specs.SalvageSeen.{part_of}
 use Rattle.cmap_text.specs.TextReading.{code_fault, code_or_closer, entry_after}

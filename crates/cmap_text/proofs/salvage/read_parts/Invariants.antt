@@ -1,5 +1,5 @@
 use Rattle.std.proofs.Common.{◌≡◌, ◌≢◌, length, []}
-use Rattle.cmap_files.specs.DeclarationsSeen.{lists_seen}
+use Rattle.cmap_values.specs.DeclarationsSeen.{lists_seen}
 use Rattle.cmap_values.specs.Faults.{Ascend}
 use Rattle.cmap_tokens.specs.TokensLeft.{start_of, tokens_of}
 use Rattle.cmap_text.specs.Salvage.{AreDeclared, item, nothing}

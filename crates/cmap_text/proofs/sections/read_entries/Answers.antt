@@ -1,6 +1,6 @@
 use Rattle.std.proofs.Common.{◌≤◌, length, ◌∙◌, arith}
 use Rattle.cmap_text.proofs.Refusals.{handed_on, passed_on}
-use Rattle.cmap_files.specs.DeclarationsSeen.{lists_seen}
+use Rattle.cmap_values.specs.DeclarationsSeen.{lists_seen}
 use Rattle.cmap_text.specs.TextReading.{code_fault, code_or_closer, entry_after}
 use Rattle.cmap_text.specs.TextSeen.{code_seen, section_seen}
 use Rattle.cmap_text.proofs.EntriesRead.{body_closes, body_wrong, entry_read, entry_wrong}

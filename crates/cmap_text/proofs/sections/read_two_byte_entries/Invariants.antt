@@ -1,5 +1,5 @@
 use Rattle.std.proofs.Common.{◌≡◌, ◌≤◌, length}
-use Rattle.cmap_files.specs.DeclarationsSeen.{lists_seen}
+use Rattle.cmap_values.specs.DeclarationsSeen.{lists_seen}
 use Rattle.cmap_text.specs.TextReading.{body_in}
 use Rattle.cmap_text.specs.TextSeen.{section_seen}
 use Rattle.cmap_text.specs.TokenParsers.{run}

@@ -1,6 +1,6 @@
 use Rattle.std.proofs.Common.{sym, ap, ◌∙◌}
 use Rattle.std.specs.Prelude.{option_map}
-use Rattle.cmap_files.specs.DeclarationsSeen.{cid_entry_seen}
+use Rattle.cmap_values.specs.DeclarationsSeen.{cid_entry_seen}
 use Rattle.cmap_layers.specs.Lookups.{cid_span}
 use Rattle.cmap_layers.proofs.LastFound.{last_of-map}
 use Rattle.cmap_unicode.proofs.cids.find_cid.Goals as goal

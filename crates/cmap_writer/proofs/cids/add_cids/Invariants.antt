@@ -1,7 +1,7 @@
 use Rattle.std.proofs.Common.{All, length, map}
 use Rattle.cmap_values.specs.CodeLengths.{length_of}
-use Rattle.cmap_files.specs.DeclarationsSeen.{entries_seen}
-use Rattle.cmap_files.specs.Files.{Declaration}
+use Rattle.cmap_values.specs.DeclarationsSeen.{entries_seen}
+use Rattle.cmap_values.specs.Files.{Declaration}
 use Rattle.cmap_writer.specs.Pieces.{IsShort}
 use Rattle.cmap_writer.proofs.SegmentsAdded.{AddedTo}
 use Rattle.cmap_writer.proofs.cids.add_cids.Given as goal

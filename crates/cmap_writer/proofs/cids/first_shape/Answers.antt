@@ -1,4 +1,4 @@
-use Rattle.cmap_files.specs.declared.declarations.CidRange.{CidRange}
+use Rattle.cmap_values.specs.declared.declarations.CidRange.{CidRange}
 use Rattle.cmap_writer.specs.EncodersSeen.{shape_seen}
 use Rattle.cmap_writer.specs.Held.{HasShape}
 use Rattle.cmap_writer.proofs.SegmentsMade.{first_short, get_or_same}

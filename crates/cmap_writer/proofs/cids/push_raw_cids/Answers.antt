@@ -1,7 +1,7 @@
 use Rattle.std.proofs.Common.{sym}
 use Rattle.std.proofs.lemmas.List.{append-nil}
 use Rattle.std.proofs.lemmas.Result.{IfOk-from_err}
-use Rattle.cmap_files.specs.DeclarationsSeen.{cid_entry_seen}
+use Rattle.cmap_values.specs.DeclarationsSeen.{cid_entry_seen}
 use Rattle.cmap_writer.specs.Written.{bytes_of}
 use Rattle.cmap_writer.proofs.RowsAdded.{seen_done, seen_more}
 use Rattle.cmap_writer.proofs.cids.push_raw_cids.Goals as goal

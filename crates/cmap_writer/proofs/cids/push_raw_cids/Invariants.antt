@@ -1,6 +1,6 @@
 use Rattle.std.proofs.Common.{◌≡◌, ◌++◌, take}
 use Rattle.std.specs.List.{flat_map}
-use Rattle.cmap_files.specs.DeclarationsSeen.{entries_seen}
+use Rattle.cmap_values.specs.DeclarationsSeen.{entries_seen}
 use Rattle.cmap_writer.specs.Written.{bytes_of}
 use Rattle.cmap_writer.proofs.cids.push_raw_cids.Given as goal
 

@@ -2,10 +2,10 @@ use Rattle.std.proofs.Common.{◌∙◌, ◌++◌, ◌≡◌, List, [], drop, le
 use Rattle.std.proofs.lemmas.Bool.{eqb-true}
 use Rattle.std.proofs.lemmas.List.{map-append, nil_from_length, take-append-drop}
 use Rattle.std.proofs.lemmas.Result.{IfOk-from_err}
-use Rattle.cmap_files.specs.DeclarationsSeen.{codespace_seen}
-use Rattle.cmap_files.specs.Files.{Declaration}
+use Rattle.cmap_values.specs.DeclarationsSeen.{codespace_seen}
+use Rattle.cmap_values.specs.Files.{Declaration}
 use Rattle.cmap_binary.specs.BinaryFiles.{CodespacesIn, declares}
-use Rattle.cmap_files.specs.declared.declarations.Codespace.{Codespace}
+use Rattle.cmap_values.specs.declared.declarations.Codespace.{Codespace}
 use Rattle.cmap_writer.specs.SegmentsWritten.{SegmentByAny}
 use Rattle.cmap_writer.proofs.MetadataHeld.{by_any}
 use Rattle.cmap_writer.proofs.SegmentsDone.{DoneTo, done_all, done_more, done_none}

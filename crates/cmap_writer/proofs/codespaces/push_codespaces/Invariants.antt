@@ -1,6 +1,6 @@
 use Rattle.std.proofs.Common.{length, map}
-use Rattle.cmap_files.specs.DeclarationsSeen.{codespace_seen}
-use Rattle.cmap_files.specs.Files.{Declaration}
+use Rattle.cmap_values.specs.DeclarationsSeen.{codespace_seen}
+use Rattle.cmap_values.specs.Files.{Declaration}
 use Rattle.cmap_writer.specs.SegmentsWritten.{SegmentByAny}
 use Rattle.cmap_writer.proofs.SegmentsDone.{DoneTo}
 use Rattle.cmap_writer.proofs.codespaces.push_codespaces.Given as goal

@@ -1,7 +1,7 @@
 use Rattle.std.proofs.Common.{arith, map, subst}
 use Rattle.std.proofs.lemmas.List.{take_all}
 use Rattle.std.proofs.lemmas.Result.{IfOk-from_err}
-use Rattle.cmap_files.specs.DeclarationsSeen.{codespace_seen}
+use Rattle.cmap_values.specs.DeclarationsSeen.{codespace_seen}
 use Rattle.cmap_binary.specs.BinaryFiles.{CodespaceAt}
 use Rattle.cmap_writer.specs.Written.{Appends, WritesAll}
 use Rattle.cmap_writer.proofs.FilesWritten.{appended_none, taken_more}

@@ -1,6 +1,6 @@
 use Rattle.std.proofs.Common.{All, map}
 use Rattle.cmap_runs.specs.Ranges.{runs_of}
-use Rattle.cmap_files.specs.DeclarationsSeen.{cid_range_span, entries_seen}
+use Rattle.cmap_values.specs.DeclarationsSeen.{cid_range_span, entries_seen}
 use Rattle.cmap_layers.specs.Lookups.{cid_at, cid_span}
 use Rattle.cmap_writer.specs.Pieces.{AllSayAs, CanBeSplit}
 use Rattle.cmap_writer.proofs.RunParts.{HaveRuns}

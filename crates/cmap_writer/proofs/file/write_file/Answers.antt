@@ -1,6 +1,6 @@
 use Rattle.std.proofs.lemmas.Result.{IfErr-weaker}
 use Rattle.cmap_values.proofs.Outcomes.{refused_as}
-use Rattle.cmap_files.specs.FilesSeen.{file_seen}
+use Rattle.cmap_values.specs.FilesSeen.{file_seen}
 use Rattle.cmap_values.specs.Outcomes.{RefusesWith}
 use Rattle.cmap_writer.specs.EncodersSeen.{encoders_seen}
 use Rattle.cmap_writer.specs.Obstacles.{IsSegmentsObstacle, IsWriteObstacle}

@@ -2,7 +2,7 @@ use Rattle.std.proofs.Common.{◌∙◌, ◌++◌, ◌∷◌, [], length, ap, sy
 use Rattle.std.proofs.lemmas.List.{length-map}
 use Rattle.std.proofs.lemmas.Result.{IfOk-from_err}
 use Rattle.cmap_values.specs.CodeLengths.{length_of}
-use Rattle.cmap_files.specs.DeclarationsSeen.{cid_entry_seen, entries_seen}
+use Rattle.cmap_values.specs.DeclarationsSeen.{cid_entry_seen, entries_seen}
 use Rattle.cmap_values.proofs.Outcomes.{refuses_on}
 use Rattle.cmap_writer.proofs.ObstaclesMet.{memory_on}
 use Rattle.cmap_writer.proofs.RowsWritten.{notdefs_written}

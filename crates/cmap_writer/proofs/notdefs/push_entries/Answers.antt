@@ -2,7 +2,7 @@ use Rattle.std.proofs.Common.{arith, subst}
 use Rattle.std.proofs.lemmas.List.{take_all}
 use Rattle.std.proofs.lemmas.Result.{IfOk-from_err}
 use Rattle.cmap_values.specs.CodeLengths.{length_of}
-use Rattle.cmap_files.specs.DeclarationsSeen.{cid_entry_seen, entries_seen}
+use Rattle.cmap_values.specs.DeclarationsSeen.{cid_entry_seen, entries_seen}
 use Rattle.cmap_binary.specs.BinaryFiles.{NotdefAt}
 use Rattle.cmap_writer.specs.Written.{Appends, WritesAll}
 use Rattle.cmap_writer.proofs.FilesWritten.{appended_none, taken_more}

@@ -1,6 +1,6 @@
 use Rattle.std.proofs.Common.{take}
 use Rattle.cmap_values.specs.CodeLengths.{length_of}
-use Rattle.cmap_files.specs.DeclarationsSeen.{entries_seen}
+use Rattle.cmap_values.specs.DeclarationsSeen.{entries_seen}
 use Rattle.cmap_binary.specs.BinaryFiles.{NotdefAt}
 use Rattle.cmap_writer.specs.Written.{Appends, WritesAll}
 use Rattle.cmap_writer.proofs.notdefs.push_entries.Given as goal

@@ -1,7 +1,7 @@
 use Rattle.std.proofs.Common.{length, map}
 use Rattle.cmap_values.specs.CodeLengths.{length_of}
-use Rattle.cmap_files.specs.DeclarationsSeen.{entries_seen}
-use Rattle.cmap_files.specs.Files.{Declaration}
+use Rattle.cmap_values.specs.DeclarationsSeen.{entries_seen}
+use Rattle.cmap_values.specs.Files.{Declaration}
 use Rattle.cmap_writer.specs.SegmentsWritten.{SegmentByAny}
 use Rattle.cmap_writer.proofs.SegmentsDone.{DoneTo}
 use Rattle.cmap_writer.proofs.notdefs.push_notdefs.Given as goal

@@ -1,6 +1,6 @@
 use Rattle.std.proofs.Common.{ap, subst}
 use Rattle.std.proofs.lemmas.Result.{IfOk-from_err, IfOk-weaker}
-use Rattle.cmap_files.specs.DeclarationsSeen.{entries_seen}
+use Rattle.cmap_values.specs.DeclarationsSeen.{entries_seen}
 use Rattle.cmap_writer.specs.PreparedFiles.{AddsSameCids}
 use Rattle.cmap_writer.proofs.PreparedKept.{cid_lists}
 use Rattle.cmap_values.proofs.Outcomes.{refuses_on}

@@ -1,8 +1,8 @@
 use Rattle.std.proofs.Common.{ap, map, subst}
 use Rattle.std.proofs.lemmas.Result.{IfOk-from_err}
-use Rattle.cmap_files.specs.DeclarationsSeen.{bf_entry_seen, codespace_seen}
-use Rattle.cmap_files.specs.Files.{Declaration}
-use Rattle.cmap_files.specs.FilesSeen.{file_seen}
+use Rattle.cmap_values.specs.DeclarationsSeen.{bf_entry_seen, codespace_seen}
+use Rattle.cmap_values.specs.Files.{Declaration}
+use Rattle.cmap_values.specs.FilesSeen.{file_seen}
 use Rattle.cmap_values.specs.NamesSeen.{names_seen}
 use Rattle.cmap_binary.specs.BinaryFiles as files
 use Rattle.cmap_writer.specs.MetadataWritten.{metadata_contents}

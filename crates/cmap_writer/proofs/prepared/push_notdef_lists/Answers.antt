@@ -1,7 +1,7 @@
 use Rattle.std.proofs.Common.{ap, map, subst}
 use Rattle.std.proofs.lemmas.Result.{IfOk-from_err, IfOk-weaker}
-use Rattle.cmap_files.specs.DeclarationsSeen.{entries_seen}
-use Rattle.cmap_files.specs.Files.{Declaration}
+use Rattle.cmap_values.specs.DeclarationsSeen.{entries_seen}
+use Rattle.cmap_values.specs.Files.{Declaration}
 use Rattle.cmap_writer.specs.SegmentsWritten.{DeclareAll, SegmentByAny}
 use Rattle.cmap_writer.specs.Written.{Appends}
 use Rattle.cmap_writer.proofs.ListsKept.{declared_four}

@@ -1,6 +1,6 @@
 use Rattle.std.proofs.Common.{arith}
 use Rattle.std.proofs.lemmas.Result.{IfOk-from_err}
-use Rattle.cmap_files.specs.DeclarationsSeen.{entries_seen}
+use Rattle.cmap_values.specs.DeclarationsSeen.{entries_seen}
 use Rattle.cmap_writer.proofs.CidParts.{one_can, pieces_of_all, pieces_of_more}
 use Rattle.cmap_writer.proofs.split.split_cids.Goals as goal
 

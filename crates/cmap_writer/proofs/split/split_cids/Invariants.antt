@@ -1,5 +1,5 @@
 use Rattle.std.proofs.Common.{take}
-use Rattle.cmap_files.specs.DeclarationsSeen.{entries_seen}
+use Rattle.cmap_values.specs.DeclarationsSeen.{entries_seen}
 use Rattle.cmap_layers.specs.Lookups.{cid_at, cid_span}
 use Rattle.cmap_writer.specs.Pieces.{ArePieces, IsShort}
 use Rattle.cmap_writer.proofs.split.split_cids.Given as goal

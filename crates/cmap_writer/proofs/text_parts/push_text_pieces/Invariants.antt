@@ -1,5 +1,5 @@
 use Rattle.std.proofs.Common.{◌-◌, ◌≤◌, map}
-use Rattle.cmap_files.specs.DeclarationsSeen.{bf_entry_seen}
+use Rattle.cmap_values.specs.DeclarationsSeen.{bf_entry_seen}
 use Rattle.cmap_writer.proofs.TextParts.{PiecesBefore}
 use Rattle.cmap_writer.proofs.text_parts.push_text_pieces.Given as goal
 

@@ -1,6 +1,6 @@
 use Rattle.std.proofs.Common.{map, arith, subst, sym}
 use Rattle.std.proofs.lemmas.Result.{IfOk-from_err}
-use Rattle.cmap_files.specs.DeclarationsSeen.{bf_entry_seen}
+use Rattle.cmap_values.specs.DeclarationsSeen.{bf_entry_seen}
 use Rattle.cmap_layers.specs.Lookups.{bf_at, bf_span}
 use Rattle.cmap_writer.specs.Pieces.{CanBeSplitText, IsShortText, PushesPieces}
 use Rattle.cmap_writer.proofs.TextPartsSeen.{one_can, texts_all, texts_more}

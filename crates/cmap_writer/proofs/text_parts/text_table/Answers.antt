@@ -2,8 +2,8 @@ use Rattle.std.proofs.Common.{◌≡◌, ◌<◌, ◌^◌, ◌∙◌, [], ◌∷
 use Rattle.std.proofs.lemmas.List.{map_more, map_push, take_all}
 use Rattle.std.proofs.lemmas.List.Elements.{All-push, All-same}
 use Rattle.std.proofs.lemmas.Result.{IfOk-from_err, IfOk-weaker}
-use Rattle.cmap_files.specs.DeclarationsSeen.{bf_entry_seen}
-use Rattle.cmap_files.specs.declared.declarations.BfRange.{BfRange}
+use Rattle.cmap_values.specs.DeclarationsSeen.{bf_entry_seen}
+use Rattle.cmap_values.specs.declared.declarations.BfRange.{BfRange}
 use Rattle.cmap_writer.proofs.text_parts.text_table.Goals as goal
 
 pub loop-entry-preserved : goal.loop-entry-preserved

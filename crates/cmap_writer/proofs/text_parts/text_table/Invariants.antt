@@ -1,5 +1,5 @@
 use Rattle.std.proofs.Common.{◌≡◌, ◌<◌, ◌^◌, All, map, take}
-use Rattle.cmap_files.specs.DeclarationsSeen.{bf_entry_seen}
+use Rattle.cmap_values.specs.DeclarationsSeen.{bf_entry_seen}
 use Rattle.cmap_writer.proofs.text_parts.text_table.Given as goal
 
 abbrev pub invariant-loop-entry : goal.invariant-loop-entry

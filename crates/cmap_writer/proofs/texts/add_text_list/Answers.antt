@@ -1,8 +1,8 @@
 use Rattle.std.proofs.Common.{All, ◌<◌, ◌^◌, length, map, subst, sym}
 use Rattle.std.proofs.lemmas.List.Sorted.{All-permutation, IsPermutation-map}
 use Rattle.std.proofs.lemmas.Result.{IfOk-from_err}
-use Rattle.cmap_files.specs.DeclarationsSeen.{bf_entry_seen}
-use Rattle.cmap_files.specs.Files.{Declaration}
+use Rattle.cmap_values.specs.DeclarationsSeen.{bf_entry_seen}
+use Rattle.cmap_values.specs.Files.{Declaration}
 use Rattle.cmap_layers.specs.Lookups.{bf_at, bf_span}
 use Rattle.cmap_writer.specs.Pieces.{ArePieces, CanBeSplitText, IsShortText}
 use Rattle.cmap_writer.specs.Segments.{AddsSegments}

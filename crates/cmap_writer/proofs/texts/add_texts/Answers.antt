@@ -3,9 +3,9 @@ use Rattle.std.specs.List.{All}
 use Rattle.std.proofs.lemmas.Bool.{eqb-true}
 use Rattle.std.proofs.lemmas.List.{map-append, nil_from_length, take-append-drop}
 use Rattle.std.proofs.lemmas.Result.{IfOk-from_err}
-use Rattle.cmap_files.specs.DeclarationsSeen.{bf_entry_seen}
-use Rattle.cmap_files.specs.Files.{Declaration}
-use Rattle.cmap_files.specs.declared.declarations.BfRange.{BfRange}
+use Rattle.cmap_values.specs.DeclarationsSeen.{bf_entry_seen}
+use Rattle.cmap_values.specs.Files.{Declaration}
+use Rattle.cmap_values.specs.declared.declarations.BfRange.{BfRange}
 use Rattle.cmap_writer.specs.EncodersSeen.{shape_seen}
 use Rattle.cmap_writer.specs.Pieces.{IsShortText}
 use Rattle.cmap_writer.specs.Texts.{AreHeldTexts}

@@ -1,6 +1,6 @@
 use Rattle.std.proofs.Common.{All, length, map}
-use Rattle.cmap_files.specs.DeclarationsSeen.{bf_entry_seen}
-use Rattle.cmap_files.specs.Files.{Declaration}
+use Rattle.cmap_values.specs.DeclarationsSeen.{bf_entry_seen}
+use Rattle.cmap_values.specs.Files.{Declaration}
 use Rattle.cmap_writer.specs.Pieces.{IsShortText}
 use Rattle.cmap_writer.proofs.SegmentsAdded.{AddedTo}
 use Rattle.cmap_writer.proofs.texts.add_texts.Given as goal

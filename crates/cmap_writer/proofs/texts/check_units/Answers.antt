@@ -2,9 +2,9 @@ use Rattle.std.proofs.Common.{◌<◌, ◌≤◌, ◌^◌, length, refl, subst, 
 use Rattle.std.specs.List.{All}
 use Rattle.std.proofs.lemmas.List.{take_all}
 use Rattle.std.proofs.lemmas.List.Elements.{All-map, All-more, All-nil}
-use Rattle.cmap_files.specs.DeclarationsSeen.{bf_entry_seen}
+use Rattle.cmap_values.specs.DeclarationsSeen.{bf_entry_seen}
 use Rattle.cmap_values.specs.UnitsSeen.{units_seen}
-use Rattle.cmap_files.specs.declared.declarations.BfRange.{BfRange}
+use Rattle.cmap_values.specs.declared.declarations.BfRange.{BfRange}
 use Rattle.cmap_writer.proofs.texts.check_units.Goals as goal
 
 pub returns-clause-counted : goal.returns-clause-counted

@@ -1,7 +1,7 @@
 use Rattle.std.proofs.Common.{◌≡◌, ◌<◌, length, map, sym, subst, rules, arith}
 use Rattle.std.proofs.lemmas.Bool.{eqb-false}
 use Rattle.std.specs.Prelude.{◌↔◌, Any}
-use Rattle.cmap_files.specs.DeclarationsSeen.{codespace_seen}
+use Rattle.cmap_values.specs.DeclarationsSeen.{codespace_seen}
 use Rattle.cmap_codespaces.specs.SpaceBits.{HaveRows, InRows, IsFoundAmong}
 use Rattle.cmap_codespaces.proofs.SpacesFound.{blocks_find}
 use Rattle.cmap_codespaces.proofs.spaces.Spaces.any_of_all.Goals as goal

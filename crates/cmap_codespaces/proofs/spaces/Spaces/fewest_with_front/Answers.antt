@@ -1,7 +1,7 @@
 use Rattle.std.proofs.Common.{◌≡◌, ◌∙◌, Any, map, sym, subst, inl, inr, rules, arith}
 use Rattle.std.proofs.lemmas.Bool.{cases_lt, false≢true}
 use Rattle.cmap_values.specs.CodeLengths.{IsCodeLength}
-use Rattle.cmap_files.specs.DeclarationsSeen.{codespace_seen}
+use Rattle.cmap_values.specs.DeclarationsSeen.{codespace_seen}
 use Rattle.cmap_codespaces.specs.CodesWithin.{HasFront, IsLeast}
 use Rattle.cmap_codespaces.specs.SpaceBits.{AreBlocks, InRows, IsFound, query_of}
 use Rattle.cmap_codespaces.proofs.SpacesFound.{any_same, fewest_ranges, only_item, too_few}

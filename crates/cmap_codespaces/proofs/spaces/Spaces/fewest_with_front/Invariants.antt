@@ -1,5 +1,5 @@
 use Rattle.std.proofs.Common.{ℕ, ◌<◌, ◌≤◌, Any, map}
-use Rattle.cmap_files.specs.DeclarationsSeen.{codespace_seen}
+use Rattle.cmap_values.specs.DeclarationsSeen.{codespace_seen}
 use Rattle.cmap_codespaces.specs.CodesWithin.{HasFront}
 use Rattle.cmap_codespaces.proofs.spaces.Spaces.fewest_with_front.Given as goal
 

@@ -1,4 +1,4 @@
-use Rattle.cmap_files.specs.DeclarationsSeen.{codespace_seen}
+use Rattle.cmap_values.specs.DeclarationsSeen.{codespace_seen}
 use Rattle.cmap_values.specs.declared.code_length.CodeLength.TheVariants.{One}
 use Rattle.cmap_handles.specs.Handles.{range_seen}
 use Rattle.cmap_handles.proofs.FilledRows.{mapped_index, mapped_within}

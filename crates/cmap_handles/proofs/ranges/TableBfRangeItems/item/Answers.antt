@@ -1,5 +1,5 @@
 use Rattle.std.proofs.Common.{◌∙◌, ℕ, List, Option, Some, ap, length, sym}
-use Rattle.cmap_files.specs.DeclarationsSeen.{bf_entry_seen}
+use Rattle.cmap_values.specs.DeclarationsSeen.{bf_entry_seen}
 use Rattle.cmap_handles.specs.Ranges.{text_range_seen}
 use Rattle.cmap_handles.specs.declared.ranges.DeclaredTexts.{DeclaredTexts}
 use Rattle.cmap_handles.proofs.FilledRows.{mapped_at, mapped_within}

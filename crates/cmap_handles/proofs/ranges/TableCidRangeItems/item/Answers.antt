@@ -1,4 +1,4 @@
-use Rattle.cmap_files.specs.DeclarationsSeen.{cid_entry_seen}
+use Rattle.cmap_values.specs.DeclarationsSeen.{cid_entry_seen}
 use Rattle.cmap_handles.specs.Ranges.{cid_range_seen}
 use Rattle.cmap_handles.proofs.FilledRows.{mapped_at, mapped_within}
 use Rattle.cmap_handles.proofs.ranges.TableCidRangeItems.item.Goals as goal

@@ -1,5 +1,5 @@
 use Rattle.std.proofs.Common.{sym, ap, ◌∙◌}
-use Rattle.cmap_files.specs.DeclarationsSeen.{entries_seen}
+use Rattle.cmap_values.specs.DeclarationsSeen.{entries_seen}
 use Rattle.cmap_layers.proofs.LastFound.{searched}
 use Rattle.cmap_layers.proofs.layer.Layer.cids.Goals as goal
 

@@ -1,5 +1,5 @@
 use Rattle.cmap_values.specs.CodeLengths.{length_of}
-use Rattle.cmap_files.specs.Files.{Codespace}
+use Rattle.cmap_values.specs.Files.{Codespace}
 use Rattle.cmap_codespaces.specs.CodesWithin.{IsWithin}
 use Rattle.cmap_codespaces.specs.SpaceBits.{InRows}
 use Rattle.cmap_layers.specs.LayersSeen.{layers_seen}

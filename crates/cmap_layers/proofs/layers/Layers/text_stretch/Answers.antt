@@ -3,7 +3,7 @@ use Rattle.std.specs.Prelude.{option_and_then, option_map}
 use Rattle.std.specs.Option.{option_copied}
 use Rattle.std.proofs.lemmas.List.{drop_all}
 use Rattle.cmap_runs.specs.Stretches.{IsStretch}
-use Rattle.cmap_files.specs.DeclarationsSeen.{bf_entry_seen, bf_range_span}
+use Rattle.cmap_values.specs.DeclarationsSeen.{bf_entry_seen, bf_range_span}
 use Rattle.cmap_layers.specs.LayersDecide.{deciding_bf}
 use Rattle.cmap_layers.specs.LayersSeen.{layer_seen, layers_seen}
 use Rattle.cmap_layers.specs.Lookups.{bf_at, bf_of}

@@ -2,14 +2,14 @@
 
 ghost use Rattle.std.specs.Prelude.{◌≡◌, ◌==◌, ◌+◌, ◌<◌, ◌≤◌, [], ◌∷◌, ◌++◌, IfOk, OnErr, OnOk, if◌then◌else◌, vec_capacity, vec_len};
 ghost use Rattle.cmap_values.specs.CodeLengths.{length_of};
-ghost use Rattle.cmap_files.specs.Files.{Declaration, lists_of};
-ghost use Rattle.cmap_files.specs.DeclarationsSeen.{bf_entry_seen, cid_entry_seen, codespace_seen, lists_seen, slot};
-ghost use Rattle.cmap_files.specs.ListsAppended.{no_lists, append_lists};
+ghost use Rattle.cmap_values.specs.Files.{Declaration, lists_of};
+ghost use Rattle.cmap_values.specs.DeclarationsSeen.{bf_entry_seen, cid_entry_seen, codespace_seen, lists_seen, slot};
+ghost use Rattle.cmap_values.specs.ListsAppended.{no_lists, append_lists};
 
+use crate::code_length::CodeLength;
+use crate::names::Cid;
+use crate::units::Units;
 use cmap_runs::runs::{HasRange, Range};
-use cmap_values::code_length::CodeLength;
-use cmap_values::names::Cid;
-use cmap_values::units::Units;
 use std::alloc::{AllocError, Global};
 
 /// Codes from a start to an end, with their CIDs.
@@ -33,7 +33,7 @@ impl CidRange {
 }
 
 impl HasRange for CidRange {
-    ghost use Rattle.cmap_files.specs.DeclarationsSeen.{cid_range_span};
+    ghost use Rattle.cmap_values.specs.DeclarationsSeen.{cid_range_span};
 
     ghost span = { cid_range_span };
 
@@ -63,7 +63,7 @@ impl BfRange {
 }
 
 impl HasRange for BfRange {
-    ghost use Rattle.cmap_files.specs.DeclarationsSeen.{bf_range_span};
+    ghost use Rattle.cmap_values.specs.DeclarationsSeen.{bf_range_span};
 
     ghost span = { bf_range_span };
 

@@ -2,14 +2,14 @@
 use Rattle.std.specs.Prelude.{List, map}
 use Rattle.cmap_runs.specs.Ranges.{Span}
 use Rattle.cmap_values.specs.CodeLengths.{length_of}
-use Rattle.cmap_files.specs.Files as files
+use Rattle.cmap_values.specs.Files as files
 use Rattle.cmap_values.specs.declared.code_length.CodeLength.{CodeLength}
 use Rattle.cmap_values.specs.declared.code_length.CodeLength.TheVariants.{One, Two, Three, Four}
-use Rattle.cmap_files.specs.declared.declarations.ByLength.{ByLength}
-use Rattle.cmap_files.specs.declared.declarations.CidRange.{CidRange}
-use Rattle.cmap_files.specs.declared.declarations.BfRange.{BfRange}
-use Rattle.cmap_files.specs.declared.declarations.Codespace.{Codespace}
-use Rattle.cmap_files.specs.declared.declarations.Lists.{Lists}
+use Rattle.cmap_values.specs.declared.declarations.ByLength.{ByLength}
+use Rattle.cmap_values.specs.declared.declarations.CidRange.{CidRange}
+use Rattle.cmap_values.specs.declared.declarations.BfRange.{BfRange}
+use Rattle.cmap_values.specs.declared.declarations.Codespace.{Codespace}
+use Rattle.cmap_values.specs.declared.declarations.Lists.{Lists}
 use Rattle.cmap_values.specs.UnitsSeen.{units_seen}
 
 abbrev pub cid_range_span : CidRange → Span

@@ -1,6 +1,6 @@
 -- Private aid: a file that says nothing, and lists of declarations, one part of a file after another.
 use Rattle.std.specs.Prelude.{[], ◌++◌, None}
-use Rattle.cmap_files.specs.Files.{ByLength, File, Lists, lists_of}
+use Rattle.cmap_values.specs.Files.{ByLength, File, Lists, lists_of}
 
 abbrev pub no_lists : Lists
 no_lists = lists_of []

@@ -1,12 +1,12 @@
 //! What one file says.
 
 ghost use Rattle.std.specs.Prelude.{◌≡◌};
-ghost use Rattle.cmap_files.specs.ListsAppended.{no_file};
-ghost use Rattle.cmap_files.specs.FilesSeen.{file_seen};
+ghost use Rattle.cmap_values.specs.ListsAppended.{no_file};
+ghost use Rattle.cmap_values.specs.FilesSeen.{file_seen};
 
 use crate::declarations::Lists;
-use cmap_values::fault::Stop;
-use cmap_values::metadata::Metadata;
+use crate::fault::Stop;
+use crate::metadata::Metadata;
 use std::alloc::Global;
 
 /// What one file says, and the names of the files that it uses, in order.

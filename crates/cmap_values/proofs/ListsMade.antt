@@ -2,8 +2,8 @@
 use Rattle.std.proofs.Common.{◌≡◌, ℕ, ◌++◌, List, [], ◌∷◌, refl, sym, ap, ◌∙◌, append_assoc, append-nil, inl, inr}
 use Rattle.std.specs.Prelude.{◌==◌}
 use Rattle.std.proofs.lemmas.Bool.{cases_Bool}
-use Rattle.cmap_files.specs.Files.{Declaration, ByLength, Lists, cid, notdef, bf, codespace, cids_of, notdefs_of, bfs_of, spaces_of, lists_of}
-use Rattle.cmap_files.specs.ListsAppended.{append_by_length, append_lists}
+use Rattle.cmap_values.specs.Files.{Declaration, ByLength, Lists, cid, notdef, bf, codespace, cids_of, notdefs_of, bfs_of, spaces_of, lists_of}
+use Rattle.cmap_values.specs.ListsAppended.{append_by_length, append_lists}
 
 -- a list of what each declaration gives
 of_both : {A : Type 0} (f : List Declaration → List A) → f [] ≡ [] → ((d : Declaration) (ds : List Declaration) → f (d ∷ ds) ≡ f (d ∷ []) ++ f ds) → (a b : List Declaration) → f (a ++ b) ≡ f a ++ f b

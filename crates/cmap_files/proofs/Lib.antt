@@ -1,2 +1,0 @@
-pub mod ListsMade
-pub mod LastOfLists

@@ -1,4 +1,0 @@
-pub mod Files
-pub mod DeclarationsSeen
-pub mod FilesSeen
-pub mod ListsAppended
