@@ -8,8 +8,8 @@
  *         printf("%u\n", cid);
  *     hayro_cmap_free(&map);
  *
- * Every call returns on any bytes, and what it answers is proved. Nothing checks that the caller keeps
- * these rules:
+ * Every call is proved to return on any bytes, and docs/PROVED.md says what is proved of its answers.
+ * Nothing checks that the caller keeps these rules:
  *
  * - A handle, of a map or of a bundle, begins as HAYRO_CMAP_EMPTY. Only the calls below change it.
  *   It isn't copied: two copies would free one map twice. It may be moved to another place in memory,

@@ -4,8 +4,8 @@
 //     if (!map) std::cerr << map.refusal().message() << '\n';
 //     else if (auto cid = map->cid(0x3042, 2)) std::cout << *cid << '\n';
 //
-// It is hayro_cmap.h with classes that free what they own. A refused file is a value; the one exception
-// is std::bad_alloc, where memory ran out. What is noexcept takes no memory.
+// It is hayro_cmap.h with classes that free what they own. A refused file is a value; std::bad_alloc is
+// thrown where memory ran out, and predefined_file says what it throws. What is noexcept takes no memory.
 //
 // - A Map or a Bundle is moved and not copied. One that was moved from is empty, and answers nothing.
 // - One thread at a time uses a Map or a Bundle: a lookup isn't const. Other threads take another of

@@ -79,7 +79,7 @@ impl CMap {
 
     /// Reads a file, and those that it uses, past their faults: the map of what they say, and each
     /// fault. Of a file that [`CMap::parse`] accepts it gives the same map, and no fault; of another
-    /// one the first fault is why that is refused.
+    /// one the first fault is one for which that is refused.
     ///
     /// ```
     /// let file = b"begincidchar <41> 5 <42> /x <43> 7 endcidchar";

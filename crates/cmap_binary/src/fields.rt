@@ -17,7 +17,7 @@ use cmap_values::file::File;
 use std::alloc::Global;
 
 /// Adds the notdef declarations of a segment with this payload: the width of their codes, their
-/// number, and the entries. Only where there is none may the width be that of no code. Payload after
+/// number, and the entries. Only without entries may the width be that of no code. Payload after
 /// them is ignored.
 pub(crate) fn add_notdefs(mut payload: &[u8], lists: &mut Lists) -> Result<(), Fault<Reason>>
     ensures { Declares (SaysAs no_tables files.notdefs payload.now)

@@ -31,7 +31,7 @@ impl<'b> Held<'b> {
     }
 }
 
-/// The files of a bundle, in the order of their names. One that stands for none isn't among them.
+/// The files of a bundle, in the order of their names. Placeholders for absent files aren't among them.
 pub fn contents_of<'b>(alloc: Global, bundle: &'b Bundle<'b>) -> Result<Vec<Held<'b>>, AllocError> {
     let mut files = Vec::new(alloc);
     for name in KNOWN_NAMES {

@@ -38,7 +38,7 @@ pub extern "C" fn hayro_cmap_bundle_open(
     }
 }
 
-/// Gives an `other` handle the same bundle, or none where there is none. A bundle that it has is freed.
+/// Gives an `other` handle the same bundle; without one, `other` is empty. A bundle that it has is freed.
 #[unsafe(no_mangle)]
 pub extern "C" fn hayro_cmap_bundle_share(
     bundle: &mut BundleHandle,

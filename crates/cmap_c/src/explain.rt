@@ -61,7 +61,7 @@ pub extern "C" fn hayro_cmap_explain(
     keep_read(map, alloc, tell(explained, fault, room, needed))
 }
 
-/// The map, or how the call ends without one; C is told why there is none.
+/// The map, or how the call ends without one, with the fault for C.
 fn tell(
     explained: Result<Layers, Fault<Told>>,
     fault: &mut FaultNumbers,

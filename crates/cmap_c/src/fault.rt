@@ -84,7 +84,7 @@ impl FaultNumbers {
     }
 }
 
-/// What C is told of a refusal.
+/// A refusal, as C gets it.
 #[derive(Drop)]
 pub(crate) struct Told {
     pub(crate) cause: Cause,
@@ -94,7 +94,7 @@ pub(crate) struct Told {
 }
 
 impl Told {
-    /// What C is told of a refusal, or that memory ran out.
+    /// A refusal, as C gets it, or that memory ran out.
     pub(crate) fn of(alloc: Global, fault: Fault<Refusal<'_>>) -> Fault<Told>
         requires { RefusesWith (λ refusal. length refusal.names.items ≤ 16) fault }
         ensures { IsToldFrom fault.entry result }

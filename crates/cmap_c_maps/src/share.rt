@@ -8,7 +8,7 @@ use cmap_handles::handle::MapHandle;
 use cmap_handles::status::Status;
 use std::alloc::Global;
 
-/// Gives an `other` handle the same map, or none where there is none. A map that it has is freed.
+/// Gives an `other` handle the same map; without one, `other` is empty. A map that it has is freed.
 #[unsafe(no_mangle)]
 pub extern "C" fn hayro_cmap_share(map: &mut MapHandle, alloc: Global, other: &mut MapHandle) -> u32
     ensures same { map.new.slot.map ≡ map.old.slot.map }

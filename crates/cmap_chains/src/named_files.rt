@@ -74,7 +74,7 @@ impl BundleFiles for OwnedBundle {
     }
 }
 
-/// The bytes that a bundle has for a name, unless they stand for a file that isn't there.
+/// The bytes that a bundle has for a name, unless they stand for an absent file.
 fn unless_absent(stored: Option<&[u8]>) -> Option<&[u8]>
     ensures { option_copied result ≡ option_and_then unless_absent (option_copied stored.entry) }
 {

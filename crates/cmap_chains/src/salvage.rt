@@ -42,7 +42,7 @@ pub struct SalvagedLayers<'a> {
 
 /// What the CMap file `data` says over the files that it uses, apart from their faults, and the
 /// faults. Of a file that `read_layers` accepts it is those layers, and there is no fault; of another
-/// one, the first fault is the one for which it is refused.
+/// one, the first fault is one for which it is refused.
 ///
 /// A file is read past its faults. A use without a file, or for which the chain has no room, is a
 /// fault too, and gives no layers. After a chain that is too long no further file is opened, and

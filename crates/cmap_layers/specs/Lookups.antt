@@ -43,7 +43,7 @@ cid_in (layer ∷ layers) code len = decided_cid code (last_cid (of_length layer
 abbrev pub cid_of : List Layer → ℕ → ℕ → Option ℕ
 cid_of layers code len = if nat_le 1 len && nat_le len 4 then cid_in layers code len else None
 
--- a bf declaration decides, also where its text is none; else what the layers below say
+-- a bf declaration decides, even if it yields no text; else what the layers below say
 abbrev pub decided_text : ℕ → Option BfEntry → Option (List ℕ) → Option (List ℕ)
 decided_text code (Some e) below = bf_at e code
 decided_text code None below = below

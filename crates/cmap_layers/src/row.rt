@@ -29,7 +29,7 @@ impl Layers {
     /// Fills `cids` with the CIDs of the codes of `byte_len` bytes from `first` on, one after another,
     /// as `cid` gives them. `absent` stands for a code without a CID, and for each number past 32 bits.
     ///
-    /// The first code is searched for in each list of declarations, and no other one. Each table writes
+    /// Each list of declarations is searched for the first code, and then read in order. Each table writes
     /// over what the tables before it wrote: those of the lowest layer come first, and in a layer its
     /// texts, then its notdefs, then its CIDs.
     pub fn fill_cids(&self, first: u32, byte_len: u8, absent: Cid, cids: &mut [Cid])

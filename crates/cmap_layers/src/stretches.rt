@@ -60,10 +60,10 @@ struct LayerStretch {
 }
 
 impl Layers {
-    /// The CIDs of the codes of this length from `first` on, as `cid` gives them, as far as one
-    /// declaration of each list decides; it may end before that where a text declares a character in place
-    /// of a CID, since these count on in rows, and with the last CID. A caller who goes on with the code
-    /// after the last one has those of all codes.
+    /// The CIDs of codes of this length from `first` on, as `cid` gives them. The stretch ends where
+    /// another declaration of some list decides, with the last CID, or within a text that gives CIDs, since
+    /// the characters of a text count on in rows. A caller who goes on with the code after the last one has
+    /// the CIDs of all codes.
     pub fn cid_stretch(&self, first: u32, len: CodeLength) -> CidStretch
         ensures within { first ≤ result.last }
         ensures cids { IsCidStretch self.now (length_of len) first result }
@@ -83,8 +83,8 @@ impl Layers {
         }
     }
 
-    /// The declaration that decides the texts of the codes from `first` on, as `text` gives them, as
-    /// far as it does or none does.
+    /// The declaration that decides the texts of the codes from `first` on, as `text` gives them, or that
+    /// none does. The stretch ends where another declaration of some layer decides.
     pub fn text_stretch(&self, first: u32) -> TextStretch<'_>
         ensures within { first ≤ result.last }
         ensures start { IfSome result.declaration
@@ -180,8 +180,8 @@ fn stretch_of<T: HasRange>(table: &Table<T>, first: u32) -> Stretch<'_, T>
     }
 }
 
-/// The CIDs that a declaration gives to codes from `first` to `last`, which it contains, as far as these
-/// have some or none has.
+/// The CIDs that a declaration gives to codes from `first` to `last`, which it contains, up to where
+/// they pass 32 bits.
 fn declared_cids(declaration: &CidRange, first: u32, last: u32) -> LayerStretch
     requires start { declaration.now.range.start ≤ first }
     requires last { first ≤ last }
@@ -221,8 +221,8 @@ fn characters_in(texts: &Table<BfRange>, first: u32) -> LayerStretch
     }
 }
 
-/// The characters that a declaration gives to codes from `first` to `last`, which it contains, as far
-/// as they count on or none has just one.
+/// The characters that a declaration gives to codes from `first` to `last`, which it contains, while
+/// they count on, or while no text is just one.
 fn declared_characters(declaration: &BfRange, first: u32, last: u32) -> LayerStretch
     requires start { declaration.now.range.start ≤ first }
     requires last { first ≤ last }
@@ -245,7 +245,7 @@ fn declared_characters(declaration: &BfRange, first: u32, last: u32) -> LayerStr
     }
 }
 
-/// How many further offsets have characters that count on from that of this one or, if this one gives
+/// How many further offsets have characters that count on from that of this one, or, if this one gives
 /// none, none.
 fn further_characters(units: &[u16], offset: u32) -> u32
     ensures count { (k : ℕ) → k ≤ result → only_character (text_at units.now (offset + k))

@@ -13,7 +13,7 @@ use Rattle.cmap_values.specs.Files.{CidEntry, Declaration, Mode, Collection, Fil
 abbrev pub keys : List (List ℕ)
 keys = codes "Registry" ∷ codes "Ordering" ∷ codes "Supplement" ∷ codes "CMapName" ∷ codes "WMode" ∷ []
 
--- which CIDs a section declares: those of its codes, or the one of all codes that have no other
+-- which CIDs a section declares: those of its codes, or the fallback CID
 pub data CidKind : Type 0 where
   mapped : CidKind
   notdef : CidKind

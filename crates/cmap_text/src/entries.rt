@@ -85,7 +85,7 @@ pub(crate) fn add_cids(
 }
 
 /// A destination of two bytes after the code of an entry, where it stands as most do. `false` of any
-/// other token, and then nothing moves.
+/// other token, leaving the reader in place.
 #[inline(always)]
 pub(crate) fn add_plain_unit(
     reader: &mut TokenReader<'_>,

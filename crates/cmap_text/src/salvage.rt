@@ -291,7 +291,7 @@ fn token_between<'d>(text: &'d [u8], start: usize, end: usize) -> Option<Token<'
     None
 }
 
-/// What comes after a piece that is no token, if reading goes on.
+/// Next state after malformed input.
 fn after_missing<'d>(next: Next<'d>, in_list: bool, goes_on: bool) -> Next<'d>
     ensures { next_seen result
         ≡ (if goes_on then salvage.here_after (next_seen next.entry) in_list else nothing) }

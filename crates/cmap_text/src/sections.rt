@@ -155,7 +155,7 @@ fn read_two_byte_entries(
 }
 
 /// Reads what follows the first code of an entry and adds what it declares, where that is a destination
-/// that stands as most do. `false` of any other entry, and then nothing moves.
+/// that stands as most do. `false` of any other entry, leaving the reader in place.
 #[inline(always)]
 fn add_plain(
     reader: &mut TokenReader<'_>,

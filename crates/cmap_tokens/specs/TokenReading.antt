@@ -1,4 +1,4 @@
--- Private aid: what the code reads, as functions on lists. Public contracts speak of Tokens, Numbers and Strings alone.
+-- Private aid: what the code reads, as functions on lists. TokensLeft is made of it, and so are the clauses on the tokens that are left.
 use Rattle.std.specs.Prelude.{zero, suc, ◌^◌, nat_lt, ◌%◌, ◌++◌, length, min, get_or, drop, ℕ, ◌+◌, ◌==◌, Bool, true, false, not, List, [], ◌∷◌, take, map, option_map, filter, Option, Some, None, codes, if◌then◌else◌}
 use Rattle.std.specs.List.{prefix_len}
 use Rattle.std.specs.Option.{option_map_or, option_to_list}

@@ -221,7 +221,7 @@ impl<'a> Scanner<'a> {
     }
 
     /// A scanner of a text after a piece that is no token and comes next at this offset, in bytes: after
-    /// a hexadecimal string up to its `>`, or after the byte that shows that another piece is none. So
+    /// a hexadecimal string up to its `>`, or after the byte that shows that another piece is no token. So
     /// reading can go on where `next_token` answers `Malformed`.
     pub fn after_malformed(source: &'a [u8], offset: usize) -> Self
         requires { offset ≤ length source.now }
@@ -264,7 +264,7 @@ impl<'a> Scanner<'a> {
 
     /// The number that the two bytes of the next string write, the high one first, where one white
     /// byte and then `<`, four digits and `>` come next, as in most codes. The scanner is moved past
-    /// the string. `None` of any other text, and then nothing moves.
+    /// the string. `None` of any other text, leaving the scanner in place.
     pub fn next_two_bytes(&mut self) -> Option<u16>
         ensures token { IfSome result (λ number. (piece : List ℕ)
             × ReadsToken self.old (tokens.String piece) self.new × WritesTwoBytes piece number
@@ -280,7 +280,7 @@ impl<'a> Scanner<'a> {
 
     /// How many bytes the next string stands for, and the number that they write, the high one first,
     /// where one white byte and then `<`, one to four pairs of digits and `>` come next. The scanner is
-    /// moved past the string. `None` of any other text, and then nothing moves.
+    /// moved past the string. `None` of any other text, leaving the scanner in place.
     pub fn next_pairs(&mut self) -> Option<(u8, u32)>
         ensures token { IfSome result (λ first. (piece : List ℕ)
             × ReadsToken self.old (tokens.String piece) self.new × WritesBytes piece first.0 first.1
@@ -312,7 +312,7 @@ impl<'a> Scanner<'a> {
     }
 
     /// The next number, where one white byte, one to 18 decimal digits and then a byte that ends them
-    /// come next. The scanner is moved past the digits. `None` of any other text, and then nothing moves.
+    /// come next. The scanner is moved past the digits. `None` of any other text, leaving it in place.
     pub fn next_decimal(&mut self) -> Option<u64>
         ensures token { IfSome result (λ number.
             ReadsToken self.old (tokens.Numeral (Integer (pos number))) self.new

@@ -38,6 +38,6 @@ impl<'d> File<'d> {
 #[derive(Drop)]
 pub struct Salvaged<'d> {
     pub file: File<'d>,
-    /// In the order of the file. Each has the offset and the reason that a refused file has.
+    /// In the order of the file, each with an offset and a reason.
     pub faults: Vec<Stop>,
 }

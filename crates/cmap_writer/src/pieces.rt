@@ -1,4 +1,4 @@
-//! Pieces that tell their length.
+//! Pieces that give their own length.
 
 ghost use Rattle.std.specs.Prelude.{◌≡◌, ◌+◌, ◌<◌, ◌≤◌, ◌^◌, ◌∷◌, [], IfErr, IfOk, length};
 ghost use Rattle.cmap_packed.specs.Bundles.{PrefixTables};

@@ -218,7 +218,7 @@ impl CMap {
 
     /// What the CMap file `data` says over the files that it uses, apart from their faults, and the
     /// faults. Of a file that `parse_from` accepts it is that map, and there is no fault; of another
-    /// one, the first fault is the one for which it is refused.
+    /// one, the first fault is one for which it is refused.
     ///
     /// A file is read past its faults. A use without a file, or for which the chain has no room, is a
     /// fault too, and gives no layers. After a chain that is too long no further file is opened, and
