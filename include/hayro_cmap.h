@@ -12,6 +12,7 @@
  * Nothing checks that the caller keeps these rules:
  *
  * - A handle, of a map or of a bundle, begins as HAYRO_CMAP_EMPTY. Only the calls below change it.
+ *   Other values, as a `full` that is neither 0 nor 1, are undefined behaviour.
  *   It isn't copied: two copies would free one map twice. It may be moved to another place in memory,
  *   between calls, if the old place is never used again, or is set to HAYRO_CMAP_EMPTY.
  * - A handle is used by one call at a time: a lookup in a map, or reading a file over a bundle, counts
@@ -21,10 +22,12 @@
  *   join of a thread, orders the calls.
  * - No pointer is null, not even where its length is 0; nor are those in a hayro_cmap_file. Where one
  *   may be null, hayro_cmap_bytes, hayro_cmap_files and hayro_cmap_room give one to use in its place.
- *   Each points to as many bytes or files as its length says.
- * - A room, and what `cid`, `supplement` and `needed` point to, may hold anything, as an uninitialised
- *   variable or a fresh block of malloc does: no answer depends on it. What a call doesn't write there
- *   stays as it is.
+ *   Each points to as many items as its length says, aligned as their type requires; together they
+ *   have no more than PTRDIFF_MAX bytes.
+ * - A room, and what a pointer points to that a call only writes to (`cid`, `supplement`, `needed`,
+ *   `made`, `taken`, `found`, `names`, `extracted`, and `fault` of hayro_cmap_explain), may hold anything,
+ *   as an uninitialised variable or a fresh block of malloc does: no answer depends on it. What a call
+ *   doesn't write there stays as it is.
  * - What one parameter of a call points to doesn't overlap what another one points to, if the call
  *   writes to one of them. The bytes of a file, of a bundle and of names are read only during the
  *   call, and nobody writes to them meanwhile. They needn't stay after it.
@@ -329,8 +332,9 @@ bool hayro_cmap_cid(hayro_cmap *map, uint32_t code, uint8_t byte_len, uint32_t *
 bool hayro_cmap_cid_strict(hayro_cmap *map, uint32_t code, uint8_t byte_len, uint32_t *cid);
 
 /* The CIDs of the codes of `byte_len` bytes from `first` on, one after another, as many as there is
- * room for, each as hayro_cmap_cid gives it, with `absent` for a code that has none: whether the
- * handle has a map. Without one nothing is written. A table of all codes of two bytes takes 256 KB. */
+ * room for, each as hayro_cmap_cid gives it, with `absent` for a code that has none and for what would
+ * come after the code 2^32 - 1: whether the handle has a map. Without one nothing is written. A table of
+ * all codes of two bytes takes 256 KB. */
 bool hayro_cmap_cids(hayro_cmap *map, uint32_t first, uint8_t byte_len, uint32_t absent,
                      uint32_t *cids, size_t cids_len);
 
@@ -360,7 +364,8 @@ hayro_cmap_status hayro_cmap_decode(hayro_cmap *map, const uint8_t *text, size_t
  * went, and a call with the rest of the string goes on. With HAYRO_CMAP_OK that is all of the string.
  * With HAYRO_CMAP_NO_ROOM one of the rooms is full: where nothing was made though `characters` has
  * room, `text` is too short for the next text. With HAYRO_CMAP_NO_MEMORY memory ran out for the next
- * code, whose text has more than one character. An empty `encoding` has no codes: HAYRO_CMAP_ABSENT. */
+ * code, whose text has more than one character. An empty `encoding` has no codes: HAYRO_CMAP_ABSENT, and
+ * the numbers of `extracted` are 0. */
 hayro_cmap_status hayro_cmap_extract(hayro_cmap *encoding, hayro_cmap *to_unicode,
                                      hayro_cmap *collection, const uint8_t *string, size_t string_len,
                                      hayro_cmap_character *characters, size_t characters_len,
@@ -441,8 +446,8 @@ hayro_cmap_status hayro_cmap_text_units(hayro_cmap *map, size_t layer, size_t in
                                         uint16_t *units, size_t units_len, size_t *needed);
 
 /* All codes of `byte_len` bytes that have this CID, as hayro_cmap_cid gives it: ranges in order, of
- * which no two have a code together. With HAYRO_CMAP_OK they stand at the head of `ranges`, and `needed`
- * is how many they are, 0 where no code has the CID. With HAYRO_CMAP_NO_ROOM `needed` is how many there
+ * which no two have a code together; none for a length outside 1 to 4. With HAYRO_CMAP_OK they stand at
+ * the head of `ranges`, and `needed` is how many they are, 0 where no code has the CID. With HAYRO_CMAP_NO_ROOM `needed` is how many there
  * are, and `ranges` is as it was. An empty handle is HAYRO_CMAP_ABSENT; then, and with
  * HAYRO_CMAP_NO_MEMORY, nothing is written. */
 hayro_cmap_status hayro_cmap_codes_of_cid(hayro_cmap *map, uint32_t cid, uint8_t byte_len,

@@ -28,6 +28,8 @@ class Extractor:
     """
 
     def __init__(self, encoding: CMap, to_unicode: Optional[CMap] = None, collection: Optional[CMap] = None):
+        if encoding is None:
+            raise ValueError("the CMap of the encoding is None")
         maps = [encoding, to_unicode, collection]
         self._maps = [CMap(Handle()) if cmap is None else cmap.share() for cmap in maps]
 

@@ -1,9 +1,9 @@
 """Maps of codes."""
 
 import enum
+import functools
 import struct
 from ctypes import c_int32, c_size_t, c_uint16, c_uint32, string_at
-from functools import cached_property
 from typing import List, NamedTuple, Optional, Tuple
 
 from ._bundle import Bundle, held
@@ -23,12 +23,10 @@ from ._library import (
 from ._owned import Owned, checked, library, put
 from ._predefined import beside
 from ._reading import (
-    MOST_IN_CHAIN,
     NO_FILES,
     Files,
     budget_of,
-    explained,
-    fetched,
+    explained_over,
     gathered,
     no_file,
     salvaged_over,
@@ -128,17 +126,17 @@ class Layer:
     def __repr__(self) -> str:
         return f"Layer(metadata={self.metadata!r}, codespaces={self.codespaces!r})"
 
-    @cached_property
+    @functools.cached_property
     def cids(self) -> Tuple[CidRange, ...]:
         """Its declarations of CIDs: those for codes of one byte first, each list in the order of the file."""
         return self._cid_ranges(library.hayro_cmap_cid_ranges)
 
-    @cached_property
+    @functools.cached_property
     def notdefs(self) -> Tuple[CidRange, ...]:
         """Its declarations of notdefs, in the same order."""
         return self._cid_ranges(library.hayro_cmap_notdef_ranges)
 
-    @cached_property
+    @functools.cached_property
     def texts(self) -> Tuple[TextRange, ...]:
         """Its declarations of texts, in the order of the file."""
         declared = self._cmap._listed(library.hayro_cmap_text_ranges, DeclaredTexts, self._index)
@@ -178,12 +176,13 @@ class CMap(Owned):
 
         A file that it uses is that of `files` with the name, else that of the bundle. `files` is a mapping, or a
         callable that is asked for the file of a name, once for each name, and gives None where there is none. The
-        files that are read may have no more bytes than `budget` together; those of the bundle don't count.
+        files that are read may have no more bytes than `budget` together, and no callable is asked for more than one
+        file past it; the bytes of the bundle don't count.
 
         Refused where the file, or one that it uses, is malformed, missing or past a limit.
         """
         data, most = bytes_of(data), budget_of(budget)
-        return cls(explained(data, gathered(data, files, bundle), bundle, most))
+        return cls(explained_over(data, files, bundle, most))
 
     @classmethod
     def salvage(
@@ -214,17 +213,18 @@ class CMap(Owned):
         """
         name, most = name_of(name), budget_of(budget)
         files = beside(bundle) if files is None else files
-        is_asked = callable(files)
-        found = fetched([name], MOST_IN_CHAIN, files, bundle) if is_asked else gathered(b"", files, bundle)
+        files = functools.lru_cache(maxsize=None)(files) if callable(files) else gathered(files)
+        file = files(name) if callable(files) else files.get(name)
+        if file is None and bundle is not None:
+            file = bundle.file(name)
+        if file is not None:
+            return cls(explained_over(bytes_of(file), files, bundle, most, opened=name))
         handle = Handle()
-        with held(bundle) as over:
-            status = checked(library.hayro_cmap_open(handle, name, len(name), over, table_of(found), len(found), most))
-        if status == OK:
-            return cls(handle)
+        with held(None) as over:
+            status = checked(library.hayro_cmap_open(handle, name, len(name), over, table_of({}), 0, most))
         if status == ABSENT:
             raise no_file(name)
-        data = found[name] if name in found else bundle.file(name)
-        return cls(explained(data, found, bundle, most, opened=name))
+        return cls(handle)
 
     @classmethod
     def identity(cls, vertical: bool = False) -> "CMap":

@@ -34,22 +34,32 @@ class Owned:
 
     def __init__(self, handle):
         self._handle = handle
-        self._lock = threading.Lock()
+        # A handler of signals runs in the thread that it interrupts, which would wait for itself at a plain lock.
+        self._lock = threading.RLock()
+        self._is_held = False
 
     @contextlib.contextmanager
     def _held(self):
-        """The handle, for this thread alone. ValueError where it is freed."""
+        """The handle, for this thread alone. ValueError where it is freed, RuntimeError where this thread holds it."""
         with self._lock:
-            if self._handle is None:
-                raise ValueError(f"{self._what} is closed")
-            yield self._handle
+            handle, self._is_held = self._free_handle(), True
+            try:
+                yield handle
+            finally:
+                self._is_held = False
 
     def _ask(self, call, *arguments):
         """What a call answers whose first parameter is the handle."""
         with self._lock:
-            if self._handle is None:
-                raise ValueError(f"{self._what} is closed")
-            return call(self._handle, *arguments)
+            return call(self._free_handle(), *arguments)
+
+    def _free_handle(self):
+        """The handle, which no call has; the lock is held."""
+        if self._is_held:
+            raise RuntimeError(f"{self._what} is in use by this thread")
+        if self._handle is None:
+            raise ValueError(f"{self._what} is closed")
+        return self._handle
 
     def share(self):
         """Another handle of the same, for lookups in another thread at the same time. Nothing is copied."""
@@ -60,6 +70,8 @@ class Owned:
     def close(self):
         """Frees it, unless others share it. Each later use is a ValueError, but for a second `close`."""
         with self._lock:
+            if self._is_held:
+                raise RuntimeError(f"{self._what} is in use by this thread")
             handle, self._handle = self._handle, None
         if handle is not None:
             type(self)._free(handle)

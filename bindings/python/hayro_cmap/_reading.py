@@ -51,6 +51,23 @@ def explained(data: bytes, files: Dict[bytes, bytes], bundle: Optional[Bundle], 
     return handle
 
 
+def explained_over(data: bytes, files: Files, bundle: Optional[Bundle], budget: int, opened=None) -> Handle:
+    """The same over all files of a mapping, or those that a callable gives. Each name is asked for once."""
+    if not callable(files):
+        return explained(data, gathered(files), bundle, budget, opened)
+    ask = functools.lru_cache(maxsize=None)(files)
+    found = fetched(names_in(data, bundle), MOST_IN_CHAIN - 1, ask, bundle, budget - len(data))
+    while True:
+        try:
+            return explained(data, found, bundle, budget, opened)
+        except Refused as refused:
+            # a file that wasn't asked for, since the others have more bytes than the budget
+            file = ask(refused.names[-1]) if refused.cause == Cause.NO_FILE else None
+            if file is None:
+                raise
+            found[refused.names[-1]] = bytes_of(file)
+
+
 def explain_to(handle: Handle, data: bytes, files, bundle: Optional[Bundle], budget: int, opened):
     """Puts the map of a file into a handle."""
     table, fault, needed, room_len = table_of(files), Fault(), c_size_t(256), 0
@@ -104,9 +121,9 @@ def salvaged_over(data: bytes, files: Files, bundle: Optional[Bundle], budget: i
 def salvage_over_to(handle: Handle, data: bytes, files: Files, bundle: Optional[Bundle], budget: int) -> List[Refused]:
     """Puts this map into a handle, and gives the faults."""
     if not callable(files):
-        return salvage_to(handle, data, gathered(data, files, bundle), bundle, budget)
+        return salvage_to(handle, data, gathered(files), bundle, budget)
     ask = functools.lru_cache(maxsize=None)(files)
-    found = gathered(data, ask, bundle)
+    found = fetched(names_in(data, bundle), MOST_IN_CHAIN - 1, ask, bundle, budget - len(data))
     while True:
         faults = salvage_to(handle, data, found, bundle, budget)
         answers = {name: ask(name) for name in (fault.names[-1] for fault in faults if fault.cause == Cause.NO_FILE)}
@@ -163,18 +180,17 @@ def uses(data: Buffer, bundle: Optional[Bundle] = None) -> List[bytes]:
     return pieces(room.raw, lens[: names.value])
 
 
-def gathered(data: bytes, files: Files, bundle: Optional[Bundle]) -> Dict[bytes, bytes]:
-    """The files that a file may use: all of a mapping, or those that a callable gives."""
-    if callable(files):
-        return fetched(names_in(data, bundle), MOST_IN_CHAIN - 1, files, bundle)
+def gathered(files: Mapping[Name, Buffer]) -> Dict[bytes, bytes]:
+    """All files of a mapping."""
     found: Dict[bytes, bytes] = {}
     for name, file in files.items():
         found.setdefault(name_of(name), bytes_of(file))
     return found
 
 
-def fetched(names: List[bytes], most: int, ask, bundle: Optional[Bundle]) -> Dict[bytes, bytes]:
-    """The files of these names and of those that they use, up to `most` in a chain. Each name is asked for once."""
+def fetched(names: List[bytes], most: int, ask, bundle: Optional[Bundle], left: int) -> Dict[bytes, bytes]:
+    """The files of these names and of those that they use, up to `most` in a chain, and up to the one by which they
+    have more than `left` bytes together. Each name is asked for once."""
     found: Dict[bytes, bytes] = {}
     asked = set()
     for _ in range(most):
@@ -185,6 +201,9 @@ def fetched(names: List[bytes], most: int, ask, bundle: Optional[Bundle]) -> Dic
             file = ask(name)
             if file is not None:
                 file = found[name] = bytes_of(file)
+                left -= len(file)
+                if left < 0:
+                    return found
             elif bundle is not None:
                 file = bundle.file(name)
             if file is not None:

@@ -121,6 +121,10 @@ class Values(unittest.TestCase):
             with self.subTest(first=first, count=count):
                 self.assertRaises(ValueError, self.cmap.cids, first, count, 4)
 
+    def test_extractor_without_an_encoding(self):
+        with CMap.parse(SMALL) as cmap:
+            self.assertRaises(ValueError, Extractor, None, cmap)
+
     def test_budgets_out_of_range(self):
         for budget in [-1, 2**64, 2**64 + 10**6]:
             with self.subTest(budget=budget):

@@ -54,6 +54,14 @@ class Closing(unittest.TestCase):
             self.assertEqual(cmap.cid(0x41, 1), 34)
         self.assertRaises(ValueError, cmap.cid, 0x41, 1)
 
+    def test_use_within_a_use(self):
+        """As a handler of signals may have it: it is no deadlock."""
+        with CMap.parse(SMALL) as cmap:
+            with cmap._held():
+                self.assertRaises(RuntimeError, cmap.cid, 0x41, 1)
+                self.assertRaises(RuntimeError, cmap.close)
+            self.assertEqual(cmap.cid(0x41, 1), 34)
+
     def test_a_callable_that_raises(self):
         def files(name):
             if name == b"B":

@@ -66,6 +66,23 @@ class Refusals(unittest.TestCase):
         many = CMap.salvage(b" begincidchar <> endcidchar" * 500).faults
         self.assertEqual([fault.offset for fault in many], [27 * count + 16 for count in range(500)])
 
+    def test_a_budget_bounds_what_is_asked_for(self):
+        asked = []
+
+        def files(name):
+            asked.append(name)
+            return uses(b"%d" % (int(name) + 1)) + b" " * 1000
+
+        fault = self.refusal(CMap.parse, uses(b"0"), files, budget=5000)
+        self.assertEqual((fault.cause, len(fault.names)), (Cause.PAST_BUDGET, 5))
+        self.assertEqual(asked, [b"0", b"1", b"2", b"3", b"4"])
+
+    def test_what_a_budget_left_out_is_asked_for_when_it_is_read(self):
+        """All files together pass the budget, and the file that is read first uses one that is missing."""
+        data, files = uses(b"A", b"B"), {b"A": uses(b"Nowhere"), b"B": SMALL}
+        fault = self.refusal(CMap.parse, data, files.get, budget=len(data) + len(files[b"A"]) + 1)
+        self.assertEqual((fault.cause, fault.names), (Cause.NO_FILE, (b"A", b"Nowhere")))
+
     def test_budget(self):
         files = {"A": uses(b"B"), "B": SMALL}
         for budget, names in [(9, ()), (19, (b"A",)), (20, (b"A", b"B")), (19 + len(SMALL), (b"A", b"B"))]:
