@@ -1,7 +1,7 @@
 //! The codes of a CID, for C.
 
 ghost use Rattle.std.specs.Prelude.{◌≡◌, ◌^◌, IfOk, MatchOption};
-ghost use Rattle.cmap_layers.specs.CodeStretches.{AreCodesBelow};
+ghost use Rattle.cmap_layers.specs.CodeStretches.{AreCodesOfCid};
 ghost use Rattle.cmap_handles.specs.Ranges.{ArePutCodes};
 ghost use Rattle.cmap_handles.specs.Statuses.{number};
 ghost use Rattle.cmap_handles.specs.declared.status.Status.TheVariants.{Absent, NoMemory};
@@ -51,7 +51,7 @@ fn codes_of(
     byte_len: u8,
 ) -> Result<Vec<Range>, AllocError>
     ensures { IfOk result
-        (λ ranges. AreCodesBelow layers.now byte_len cid (256 ^ byte_len) ranges.items) }
+        (λ ranges. AreCodesOfCid layers.now byte_len cid ranges.items) }
 {
     match CodeLength::of(byte_len) {
         Some(len) => layers.codes_of_cid(alloc, cid, len),

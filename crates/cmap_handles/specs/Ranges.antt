@@ -2,7 +2,7 @@
 use Rattle.std.specs.Prelude.{ℕ, ◌^◌, List, Option, length, map, option_and_then, slice_get}
 use Rattle.cmap_runs.specs.declared.runs.Range.{Range}
 use Rattle.cmap_values.specs.Files.{BfEntry, CidEntry, of_length}
-use Rattle.cmap_layers.specs.CodeStretches.{AreCodesBelow}
+use Rattle.cmap_layers.specs.CodeStretches.{AreCodesOfCid}
 use Rattle.cmap_layers.specs.Layers.{Layer}
 use Rattle.cmap_handles.specs.Handles.{layer_in}
 use Rattle.cmap_handles.specs.Rooms.{IsPut}
@@ -38,4 +38,4 @@ text_in map layer index = option_and_then (λ given. slice_get given.lists.bfs i
 
 -- ranges that have all codes of len bytes with the CID, and no others, go to a room
 abbrev pub ArePutCodes : List Layer → ℕ → ℕ → List CodeRange → List CodeRange → ℕ → ℕ → Type 0
-ArePutCodes layers len cid old new needed status = (ranges : List Range) × AreCodesBelow layers len cid (256 ^ len) ranges × IsPut (map code_range_seen ranges) old new needed status
+ArePutCodes layers len cid old new needed status = (ranges : List Range) × AreCodesOfCid layers len cid ranges × IsPut (map code_range_seen ranges) old new needed status

@@ -1,8 +1,10 @@
 pub mod BestMatch
 pub mod BytesWithin
 pub mod CharactersInRow
+pub mod CodeRanges
 pub mod CodesInside
 pub mod CodesOfCids
+pub mod CodesOfTexts
 pub mod LastFound
 pub mod LayerStretches
 pub mod LayersSearched
@@ -11,3 +13,4 @@ pub mod RowBits
 pub mod RowWritten
 pub mod SpacesFound
 pub mod TablesCopied
+pub mod UnitsOfTexts

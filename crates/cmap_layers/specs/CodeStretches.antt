@@ -1,11 +1,13 @@
 -- What codes in a row stand for, and the codes of a CID.
-use Rattle.std.specs.Prelude.{◌≡◌, ◌↔◌, ◌⊎◌, ℕ, ◌+◌, ◌-◌, ◌%◌, ◌<◌, ◌≤◌, ◌^◌, List, All, AllPairs, Any, Option, Some, None, IsSomeAnd, MatchOption, length, map, option_and_then, option_map, slice_index_or}
+use Rattle.std.specs.Prelude.{◌≡◌, ◌↔◌, ◌⊎◌, ℕ, ◌+◌, ◌-◌, ◌%◌, ◌<◌, ◌≤◌, ◌^◌, IsTrue, List, Any, Option, Some, None, IsSomeAnd, MatchOption, flat_map, length, map, option_and_then, option_map, slice_index_or}
+use Rattle.std.specs.Char.Escape.{encode_utf16}
+use Rattle.std.specs.Str.{all_scalars}
 use Rattle.cmap_runs.specs.declared.runs.Range.{Range}
 use Rattle.cmap_values.specs.Files.{BfEntry, of_length}
+use Rattle.cmap_layers.specs.CodeRanges.{AreRangesOf, IsIn}
 use Rattle.cmap_layers.specs.Layers.{Layer}
 use Rattle.cmap_runs.specs.Stretches.{IsLongest}
-use Rattle.cmap_layers.specs.Lookups.{bf_at, bf_of, bf_span, cid_of, cid_span, last_bf}
-use Rattle.cmap_layers.specs.LayersDecide.{deciding_bf}
+use Rattle.cmap_layers.specs.Lookups.{bf_at, bf_of, bf_span, cid_of, cid_span, deciding_bf, last_bf}
 use Rattle.cmap_layers.specs.declared.stretches.Cids.{Cids}
 use Rattle.cmap_layers.specs.declared.stretches.Cids.TheVariants.{Absent, Same, CountOn}
 use Rattle.cmap_layers.specs.declared.stretches.CidStretch.{CidStretch}
@@ -53,17 +55,19 @@ pub record IsTextStretch (layers : List Layer) (first last : ℕ) (declaration :
   -- in the list of some layer another declaration decides the code after the last one, if there is such a code
   pub longest : last + 1 < 2 ^ 32 → Any (λ layer. IsLongest (map bf_span layer.lists.bfs) first last) layers
 
--- the code lies in the range
-abbrev pub IsIn : ℕ → Range → Type 0
-IsIn code range = (range.start ≤ code) × (code ≤ range.end)
+-- the ranges have just those codes that have the CID, as codes of len bytes
+abbrev pub AreCodesOfCid : List Layer → ℕ → ℕ → List Range → Type 0
+AreCodesOfCid layers len cid ranges = AreRangesOf (λ code. cid_of layers code len ≡ Some cid) (2 ^ 32) ranges
 
--- the ranges, in order, have just those codes of len bytes below a limit that have the CID
-pub record AreCodesBelow (layers : List Layer) (len cid limit : ℕ) (ranges : List Range) : Type 0 where
-  pub codes : (code : ℕ) → code < limit → ((cid_of layers code len ≡ Some cid) ↔ Any (IsIn code) ranges)
-  pub within : All (λ range. (range.start ≤ range.end) × (range.end < limit)) ranges
-  pub ordered : AllPairs (λ range later. range.end < later.start) ranges
+-- the ranges have just those codes that have the text
+abbrev pub AreCodesOfText : List Layer → List ℕ → List Range → Type 0
+AreCodesOfText layers text ranges = AreRangesOf (λ code. bf_of layers code ≡ Some text) (2 ^ 32) ranges
 
 -- ---- private aid
+-- the same of the codes below a limit
+abbrev pub AreCodesBelow : List Layer → ℕ → ℕ → ℕ → List Range → Type 0
+AreCodesBelow layers len cid limit ranges = AreRangesOf (λ code. cid_of layers code len ≡ Some cid) limit ranges
+
 -- what a layer decides from the first to the last code goes on with the code after it, unless one of these ends it
 abbrev pub IsLayerLongest : Layer → ℕ → ℕ → ℕ → Option Cids → Type 0
 IsLayerLongest layer len first last cids = last + 1 < 2 ^ 32 → EndsAfter len first last layer ⊎ IsSomeAnd cids (λ these. EndsCids these (last - first))
@@ -77,3 +81,7 @@ abbrev pub AreCodesAmong : Cids → ℕ → ℕ → ℕ → Option Range → Typ
 AreCodesAmong cids cid first last found = MatchOption found
     ((code : ℕ) → first ≤ code → code ≤ last → cid_after cids (code - first) ≡ Some cid → ⊥)
     (λ range. (first ≤ range.start) × (range.start ≤ range.end) × (range.end ≤ last) × ((code : ℕ) → first ≤ code → code ≤ last → ((cid_after cids (code - first) ≡ Some cid) ↔ IsIn code range)))
+
+-- units of UTF-16 write a text
+abbrev pub AreUnitsOf : List ℕ → List ℕ → Type 0
+AreUnitsOf text units = IsTrue (all_scalars text) × (units ≡ flat_map encode_utf16 text)

@@ -1,10 +1,10 @@
--- What one layer decides by itself, which the layers below can't change; and the declaration that decides the text of a code.
-use Rattle.std.specs.Prelude.{ℕ, List, [], ◌∷◌, Option, Some, None, option_and_then}
-use Rattle.std.specs.Option.{option_or}
+-- Private aid: what one layer decides by itself, which the layers below can't change.
+use Rattle.std.specs.Prelude.{ℕ, Option, Some, None, option_and_then}
 use Rattle.cmap_tokens.specs.Texts.{only_character}
-use Rattle.cmap_values.specs.Files.{BfEntry, CidEntry, of_length}
+use Rattle.cmap_values.specs.Files.{CidEntry, of_length}
 use Rattle.cmap_layers.specs.Layers.{Layer}
 use Rattle.cmap_layers.specs.Lookups.{cid_at, bf_at, last_cid, last_bf}
+pub use Rattle.cmap_layers.specs.Lookups.{deciding_bf}
 
 -- what a layer decides by itself, if it does: its CID, or that it has none
 abbrev pub decided_in : ℕ → Option CidEntry → Option CidEntry → Option ℕ → Option (Option ℕ)
@@ -16,8 +16,3 @@ decided_in code None None None = None
 abbrev pub layer_cid : Layer → ℕ → ℕ → Option (Option ℕ)
 layer_cid layer code len = decided_in code (last_cid (of_length layer.lists.cids len) code) (last_cid (of_length layer.lists.notdefs len) code)
     (only_character (option_and_then (λ e. bf_at e code) (last_bf layer.lists.bfs code)))
-
--- the declaration that decides the text of a code: that of the first layer that has one
-abbrev pub deciding_bf : List Layer → ℕ → Option BfEntry
-deciding_bf [] code = None
-deciding_bf (layer ∷ layers) code = option_or (last_bf layer.lists.bfs code) (deciding_bf layers code)

@@ -8,4 +8,5 @@ pub mod StringCodes
 pub mod SpaceBits
 pub mod Rows
 pub mod RowsWritten
+pub mod CodeRanges
 pub mod CodeStretches

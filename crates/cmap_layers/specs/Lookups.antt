@@ -1,5 +1,6 @@
 -- What a code stands for: the declarations scanned backward, layer by layer.
 use Rattle.std.specs.Prelude.{◌≡◌, ℕ, ◌+◌, ◌-◌, ◌^◌, ◌<◌, ◌≤◌, ◌&&◌, nat_le, nat_lt, List, [], ◌∷◌, Any, Option, Some, None, option_and_then, if◌then◌else◌}
+use Rattle.std.specs.Option.{option_or}
 use Rattle.cmap_tokens.specs.Texts.{text_at, only_character}
 use Rattle.cmap_runs.specs.Ranges.{Span, last_of}
 use Rattle.cmap_values.specs.Files.{CidEntry, BfEntry, of_length}
@@ -52,6 +53,11 @@ decided_text code None below = below
 abbrev pub bf_of : List Layer → ℕ → Option (List ℕ)
 bf_of [] code = None
 bf_of (layer ∷ layers) code = decided_text code (last_bf layer.lists.bfs code) (bf_of layers code)
+
+-- the declaration that decides the text of a code: that of the first layer that has one
+abbrev pub deciding_bf : List Layer → ℕ → Option BfEntry
+deciding_bf [] code = None
+deciding_bf (layer ∷ layers) code = option_or (last_bf layer.lists.bfs code) (deciding_bf layers code)
 
 -- a codespace range of some layer contains the code of len bytes
 abbrev pub InCodespace : List Layer → ℕ → ℕ → Type 0

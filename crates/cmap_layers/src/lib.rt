@@ -2,6 +2,7 @@
 //! layers of the files that it is based on come after it.
 #![tactic(auto)]
 
+mod code_ranges;
 mod codespaces;
 pub mod layer;
 pub mod layers;
@@ -10,3 +11,4 @@ mod lookup;
 mod row;
 pub mod stretches;
 pub mod string_codes;
+mod text_codes;

@@ -7,15 +7,17 @@ ghost use Rattle.cmap_runs.specs.Stretches.{IsLongest, IsStretch};
 ghost use Rattle.cmap_tokens.specs.Texts.{only_character, text_at};
 ghost use Rattle.cmap_values.specs.CodeLengths.{length_of};
 ghost use Rattle.cmap_values.specs.DeclarationsSeen.{bf_entry_seen, cid_entry_seen};
-ghost use Rattle.cmap_layers.specs.CodeStretches.{AreCodesAmong, AreCodesBelow, Decides, EndsCids, EndsRow, IsCidStretch, IsLayerLongest, IsRowEnd, IsTextStretch};
+ghost use Rattle.cmap_layers.specs.CodeStretches.{AreCodesAmong, AreCodesOfCid, Decides, EndsCids, EndsRow, IsCidStretch, IsLayerLongest, IsRowEnd, IsTextStretch};
 ghost use Rattle.cmap_values.specs.UnitsSeen.{units_seen};
 ghost use Rattle.cmap_layers.specs.LayersDecide.{layer_cid};
 ghost use Rattle.cmap_layers.specs.LayersSeen.{layer_seen};
 ghost use Rattle.cmap_layers.specs.Lookups.{bf_at, bf_span, cid_at};
 ghost use Rattle.cmap_layers.specs.RowsWritten.{character_said};
 
+use crate::code_ranges::add_range;
 use crate::layer::Layer;
 use crate::layers::Layers;
+use crate::text_codes::CODE_COUNT;
 use cmap_runs::runs::{HasRange, Looks, Range, Stretch, Table};
 use cmap_tokens::utf16::one_char;
 use cmap_values::code_length::CodeLength;
@@ -110,8 +112,8 @@ impl Layers {
         }
     }
 
-    /// The codes of this length that have the CID, as `cid` gives it: ranges in order, of which no two
-    /// have a code together.
+    /// The codes that have the CID, as `cid` gives it for codes of this length: ranges in order, each as
+    /// long as can be. A file may declare larger codes than this length has; these are among them.
     ///
     /// It fails only if memory runs out.
     pub fn codes_of_cid(
@@ -120,20 +122,17 @@ impl Layers {
         cid: Cid,
         len: CodeLength,
     ) -> Result<Vec<Range>, AllocError>
-        ensures { IfOk result (λ ranges. AreCodesBelow self.now (length_of len) cid
-            (256 ^ length_of len) ranges.items) }
+        ensures { IfOk result (λ ranges. AreCodesOfCid self.now (length_of len) cid ranges.items) }
     {
-        let end = code_count(len);
         let mut ranges = Vec::new(alloc);
         let mut next = 0;
-        while next < end {
+        while next < CODE_COUNT {
             let first = next as u32;
             let stretch = self.cid_stretch(first, len);
-            let last = u64::from(stretch.last).min(end - 1) as u32;
-            if let Some(range) = codes_among(stretch.cids, cid, first, last) {
-                ranges.push(range)?;
+            if let Some(range) = codes_among(stretch.cids, cid, first, stretch.last) {
+                add_range(&mut ranges, range)?;
             }
-            next = u64::from(last) + 1;
+            next = u64::from(stretch.last) + 1;
         }
         Ok(ranges)
     }
@@ -260,19 +259,6 @@ fn further_characters(units: &[u16], offset: u32) -> u32
         0x3FF - (unit % 0x400) as u32
     } else {
         u32::MAX
-    }
-}
-
-/// How many codes have this length.
-fn code_count(len: CodeLength) -> u64
-    ensures count { result ≡ 256 ^ length_of len }
-    ensures fits { result ≤ 2 ^ 32 }
-{
-    match len {
-        CodeLength::One => 0x100,
-        CodeLength::Two => 0x1_0000,
-        CodeLength::Three => 0x100_0000,
-        CodeLength::Four => 0x1_0000_0000,
     }
 }
 

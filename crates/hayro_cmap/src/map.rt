@@ -14,7 +14,7 @@ ghost use Rattle.cmap_layers.specs.LayersSeen.{metadata_seen};
 ghost use Rattle.cmap_layers.specs.Layers.{top_metadata};
 ghost use Rattle.cmap_chains.specs.Salvage.{BeginsWithFault, GivesMap, SalvagesMap};
 ghost use Rattle.cmap_chains.specs.SalvageSeen.{faults_seen};
-ghost use Rattle.cmap_layers.specs.CodeStretches.{AreCodesBelow};
+ghost use Rattle.cmap_layers.specs.CodeStretches.{AreCodesOfCid};
 ghost use Rattle.cmap_layers.specs.Lookups.{cid_of};
 ghost use Rattle.cmap_layers.specs.Searches.{FindsCid, FindsText, GivesText, IsStrictCid};
 ghost use Rattle.cmap_layers.specs.StringCodes.{IsNextCode};
@@ -369,8 +369,7 @@ impl CMap {
         cid: Cid,
         len: CodeLength,
     ) -> Result<Vec<Range>, AllocError>
-        ensures { IfOk result (λ ranges. AreCodesBelow self.now (length_of len) cid
-            (256 ^ length_of len) ranges.items) }
+        ensures { IfOk result (λ ranges. AreCodesOfCid self.now (length_of len) cid ranges.items) }
     {
         self.layers().codes_of_cid(alloc, cid, len)
     }

@@ -1,0 +1,32 @@
+//! Codes as ranges, each as long as can be.
+
+ghost use Rattle.std.specs.Prelude.{◌≡◌, ◌-◌, ◌<◌, ℕ, OnOk, length, slice_get, true};
+ghost use Rattle.cmap_layers.specs.CodeRanges.{goes_on, joined};
+
+use cmap_runs::runs::Range;
+use std::alloc::AllocError;
+
+/// Adds a range at the end. Where it begins just after the last one, the two are one.
+pub(crate) fn add_range(ranges: &mut Vec<Range>, range: Range) -> Result<(), AllocError>
+    ensures { OnOk result (ranges.new.items ≡ joined ranges.old.items range) }
+{
+    if is_continued_by(ranges, range.start) {
+        let last = ranges.len() - 1;
+        ranges[last].end = range.end;
+        return Ok(());
+    }
+    ranges.push(range)?;
+    Ok(())
+}
+
+/// Whether a range that begins at `start` begins just after the last one.
+fn is_continued_by(ranges: &[Range], start: u32) -> bool
+    ensures answer { (end : ℕ) → result ≡ goes_on (slice_get ranges.now (length ranges.now - 1))
+        (record { start = start; end = end }) }
+    ensures some { result ≡ true → 0 < length ranges.now }
+{
+    match ranges.last() {
+        Some(last) => start > 0 && last.end == start - 1,
+        None => false,
+    }
+}
