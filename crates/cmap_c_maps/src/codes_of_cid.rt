@@ -1,6 +1,6 @@
 //! The codes of a CID, for C.
 
-ghost use Rattle.std.specs.Prelude.{◌≡◌, ◌^◌, IfOk, MatchOption};
+ghost use Rattle.std.specs.Prelude.{◌≡◌, IfOk, MatchOption};
 ghost use Rattle.cmap_layers.specs.CodeStretches.{AreCodesOfCid};
 ghost use Rattle.cmap_handles.specs.Ranges.{ArePutCodes};
 ghost use Rattle.cmap_handles.specs.Statuses.{number};

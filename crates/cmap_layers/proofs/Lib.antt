@@ -8,6 +8,7 @@ pub mod CodesOfTexts
 pub mod LastFound
 pub mod LayerStretches
 pub mod LayersSearched
+pub mod OneRangeList
 pub mod OneStringCode
 pub mod RowBits
 pub mod RowWritten

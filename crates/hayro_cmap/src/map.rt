@@ -1,6 +1,6 @@
 //! Maps: what the codes of a CMap file stand for.
 
-ghost use Rattle.std.specs.Prelude.{◌⊎◌, ◌≡◌, ◌≢◌, [], ◌∷◌, ◌≤◌, ◌^◌, IfErr, IfOk, IfSome, IfNone, IsErrOf, IsSome, MatchOption, OnOk, Some, codes, length};
+ghost use Rattle.std.specs.Prelude.{◌⊎◌, ◌≡◌, ◌≢◌, [], ◌∷◌, ◌≤◌, IfErr, IfOk, IfSome, IfNone, IsErrOf, IsSome, MatchOption, OnOk, Some, codes, length};
 ghost use Rattle.std.specs.List.{All};
 ghost use Rattle.cmap_chains.specs.Answers.{Answers, AnswersByName, IsByName};
 ghost use Rattle.cmap_values.specs.Files as files;
