@@ -1,1 +1,2 @@
 pub mod FileNames
+pub mod LineEnds

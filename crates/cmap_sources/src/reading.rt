@@ -2,9 +2,9 @@
 
 use crate::bases::{Bases, Files};
 use crate::failure::Failure;
+use crate::fault_line::LineCounter;
+use crate::refused::{push_refusal, push_refusal_json};
 use cmap_escape::escape::push_text;
-use cmap_refusals::fault_line::LineCounter;
-use cmap_refusals::refused::{push_refusal, push_refusal_json};
 use hayro_cmap::{CMap, Cause, Fault, Refusal, SalvagedMap};
 use std::alloc::{AllocError, Global};
 

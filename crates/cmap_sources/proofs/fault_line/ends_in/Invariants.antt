@@ -1,6 +1,6 @@
 use Rattle.std.proofs.Common.{◌≡◌, ◌+◌, ◌≤◌, drop}
-use Rattle.cmap_refusals.specs.LineEnds.{line_ends}
-use Rattle.cmap_refusals.proofs.fault_line.ends_in.Given as goal
+use Rattle.cmap_sources.specs.LineEnds.{line_ends}
+use Rattle.cmap_sources.proofs.fault_line.ends_in.Given as goal
 
 abbrev pub invariant-loop-i : goal.invariant-loop-i
 invariant-loop-i l = record {

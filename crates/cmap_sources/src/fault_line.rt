@@ -1,7 +1,7 @@
 //! The lines of bytes at fault.
 
 ghost use Rattle.std.specs.Prelude.{◌≡◌};
-ghost use Rattle.cmap_refusals.specs.LineEnds.{line_ends};
+ghost use Rattle.cmap_sources.specs.LineEnds.{line_ends};
 
 /// How many line ends these bytes of a text have, which stand after a carriage return or not. A line
 /// ends with LF, CR, or CR and LF.
