@@ -1,7 +1,7 @@
 //! `cmap find`: the codes that have a CID or a text.
 
 use crate::options::Options;
-use cmap_listing::find::{Wanted, push_codes, push_json};
+use cmap_report::find::{Wanted, push_codes, push_json};
 use cmap_sources::bases::Bases;
 use cmap_sources::failure::{Failure, fault};
 use cmap_sources::inputs::map_needed;

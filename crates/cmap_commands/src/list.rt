@@ -1,9 +1,9 @@
 //! `cmap list`: what a file and those that it is based on declare.
 
 use crate::options::Options;
-use cmap_listing::effective::effective_lines;
-use cmap_listing::line::{Line, push_json, push_line};
-use cmap_listing::list::lines_by_layer;
+use cmap_report::list::effective::effective_lines;
+use cmap_report::list::line::{Line, push_json, push_line};
+use cmap_report::list::lines_by_layer;
 use cmap_sources::bases::Bases;
 use cmap_sources::failure::Failure;
 use cmap_sources::inputs::map_needed;

@@ -1,6 +1,6 @@
 //! What codes have over all layers, run by run.
 
-use crate::line::{Given, Line, add_texts_of};
+use crate::list::line::{Given, Line, add_texts_of};
 use cmap_queries::code_lengths::{LENGTHS, has_codes, last_code};
 use hayro_cmap::runs::Range;
 use hayro_cmap::{CMap, CidStretch, Cids, CodeLength, TextStretch};

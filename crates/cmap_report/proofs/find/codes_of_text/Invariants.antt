@@ -1,5 +1,5 @@
 use Rattle.std.proofs.Common.{◌-◌, ◌≤◌, ◌^◌}
-use Rattle.cmap_listing.proofs.effective.add_texts.Given as goal
+use Rattle.cmap_report.proofs.find.codes_of_text.Given as goal
 
 abbrev pub invariant-loop-next : goal.invariant-loop-next
 invariant-loop-next l = l.next ≤ 2 ^ 32

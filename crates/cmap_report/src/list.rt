@@ -1,6 +1,9 @@
 //! What the layers of a map declare, declaration by declaration.
 
-use crate::line::{Given, Line, add_texts_of};
+pub mod effective;
+pub mod line;
+
+use self::line::{Given, Line, add_texts_of};
 use cmap_queries::code_lengths::LENGTHS;
 use hayro_cmap::runs::{Looks, Range, Table};
 use hayro_cmap::{BfRange, CMap, CidRange, CodeLength, Codespace, Layer};

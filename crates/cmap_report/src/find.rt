@@ -3,7 +3,7 @@
 ghost use Rattle.std.specs.Prelude.{OnOk, string_bytes};
 ghost use Rattle.cmap_escape.specs.Escapes.{AddsLine, AddsOfLine};
 
-use crate::line::push_range;
+use crate::list::line::push_range;
 use cmap_escape::digits::code_digits;
 use cmap_escape::object::Object;
 use cmap_escape::{escape, json};
