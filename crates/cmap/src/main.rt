@@ -1,13 +1,27 @@
 //! The command `cmap`: what is in a CMap file, where it is wrong, and what a string says.
 #![tactic(auto)]
 
+mod check;
+mod command_line;
+mod decode;
+mod find;
+mod font;
+mod info;
+mod lint;
+mod list;
+mod locate;
+mod lookup;
+mod options;
+mod progress;
+mod text;
+mod usage;
+
+use crate::command_line::command;
+use crate::options::Options;
+use crate::usage::print_usage;
 use clap::ArgMatches;
 use cmap_bundle::command::{Asked, bundle};
 use cmap_bundle::contents::print_contents;
-use cmap_command_line::command::command;
-use cmap_commands::options::Options;
-use cmap_commands::usage::print_usage;
-use cmap_commands::{check, decode, find, info, list, locate, lookup, text};
 use cmap_sources::bases::Bases;
 use cmap_sources::failure::{Failure, fault, report};
 use cmap_sources::inputs::needed;

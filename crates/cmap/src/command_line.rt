@@ -1,6 +1,8 @@
-//! The subcommands, with what stands after the name of each.
+//! The command line of `cmap`: the subcommands, with what stands after the name of each.
 
-use crate::flags::{
+pub(crate) mod flags;
+
+use self::flags::{
     BASE, BUDGET, BUNDLE, DENY, EFFECTIVE, FILES_FROM, FIRST, Flag, JSON, LENIENT, LINT,
     LINT_TO_UNICODE, NAME, NO_PREDEFINED, NULL, OUTPUT, QUIET, TO_UNICODE, VERIFY,
 };
@@ -168,7 +170,7 @@ const SUBCOMMANDS: &[Subcommand] = &[
 ];
 
 /// The command line of `cmap`.
-pub fn command<'a>(alloc: Global) -> Result<Command<'a>, AllocError> {
+pub(crate) fn command<'a>(alloc: Global) -> Result<Command<'a>, AllocError> {
     let mut command = program(alloc)?;
     for subcommand in SUBCOMMANDS {
         command = command.subcommand(subcommand.command(alloc)?)?;

@@ -5,8 +5,8 @@ pub mod lint;
 
 use self::bundle::BundleOptions;
 use self::lint::LintOptions;
+use crate::command_line::flags::TO_UNICODE_FILE;
 use clap::ArgMatches;
-use cmap_command_line::flags::TO_UNICODE_FILE;
 use cmap_sources::inputs::STANDARD_INPUT;
 use cmap_sources::paths::PathList;
 use cmap_sources::reading::{Faults, Form, Manner};
