@@ -1,18 +1,75 @@
 //! `cmap check`: for each file that it is ok, or what is wrong with it.
 
-use crate::lint::{push_warnings, subject_of};
-use crate::options::Options;
+use crate::command_line::files_of;
+use crate::command_line::flags::{BUDGET, FILES_FROM, FIRST, JSON, NULL, QUIET};
+use crate::lint::{LintOptions, push_warnings, subject_of};
+use crate::options::Sources;
 use crate::progress::Progress;
+use clap::ArgMatches;
+use cmap_escape::object::Object;
 use cmap_escape::{escape, json};
 use cmap_sources::bases::Bases;
 use cmap_sources::failure::Failure;
 use cmap_sources::inputs::{read, report_unreadable};
-use cmap_sources::paths::{Paths, paths_of};
+use cmap_sources::paths::{PathList, Paths, paths_of};
 use cmap_sources::reading::{Faults, Form, Input, Manner, Reading, read_over};
 use cmap_sources::status::{ACCEPTED, FAILED, REFUSED};
-use serde_json::{Map, Value, put};
+use serde_json::Value;
 use std::alloc::{AllocError, Global};
 use std::io;
+
+/// What the arguments of `check` ask for.
+#[derive(Clone, Copy)]
+pub(crate) struct CheckOptions<'m, 'w> {
+    /// The files and the folders.
+    paths: &'m [&'w str],
+    /// The list of further ones.
+    list: Option<PathList<'w>>,
+    pub(crate) sources: Sources<'m, 'w>,
+    manner: Manner,
+    lint: LintOptions<'m, 'w>,
+    json: bool,
+    /// Whether how many files were checked isn't reported.
+    is_quiet: bool,
+}
+
+impl<'m, 'w> CheckOptions<'m, 'w> {
+    pub(crate) fn of(arguments: &'m ArgMatches<'w>) -> CheckOptions<'m, 'w> {
+        CheckOptions {
+            paths: files_of(arguments),
+            list: list_of(arguments),
+            sources: Sources::of(arguments),
+            manner: manner_of(arguments),
+            lint: LintOptions::of(arguments),
+            json: JSON.is_given(arguments),
+            is_quiet: QUIET.is_given(arguments),
+        }
+    }
+}
+
+/// The list of further files and folders.
+fn list_of<'w>(arguments: &ArgMatches<'w>) -> Option<PathList<'w>> {
+    let path = FILES_FROM.text(arguments)?;
+    let end = if NULL.is_given(arguments) { 0 } else { b'\n' };
+    Some(PathList { path, end })
+}
+
+/// How files are read.
+fn manner_of(arguments: &ArgMatches<'_>) -> Manner {
+    Manner {
+        budget: BUDGET.number(arguments),
+        faults: if FIRST.is_given(arguments) {
+            Faults::First
+        } else {
+            Faults::All
+        },
+        form: if JSON.is_given(arguments) {
+            Form::Json
+        } else {
+            Form::Text
+        },
+    }
+}
 
 /// What a run over many files finds.
 #[derive(Drop)]
@@ -28,25 +85,25 @@ struct Tally {
 /// A run over many files.
 #[derive(Drop)]
 struct Run<'r, 'm, 'w> {
-    options: &'r Options<'m, 'w>,
+    options: &'r CheckOptions<'m, 'w>,
     progress: Progress,
     tally: Tally,
 }
 
 /// Checks the files and the files of the folders, and gives the status.
-pub fn check(
+pub(crate) fn check(
     rt: &HostRuntime,
-    options: &Options<'_, '_>,
+    options: &CheckOptions<'_, '_>,
     bases: &mut Bases<'_>,
 ) -> Result<u8, Failure> {
     options.lint.check_names(rt)?;
-    let paths = paths_of(rt, options.paths, options.list())?;
+    let paths = paths_of(rt, options.paths, options.list)?;
     check_paths(rt, options, &paths, bases)
 }
 
 fn check_paths(
     rt: &HostRuntime,
-    options: &Options<'_, '_>,
+    options: &CheckOptions<'_, '_>,
     paths: &Paths,
     bases: &mut Bases<'_>,
 ) -> Result<u8, Failure> {
@@ -65,7 +122,7 @@ fn check_paths(
         run.progress.advance(rt)?;
     }
     run.progress.clear(rt)?;
-    if !options.quiet {
+    if !options.is_quiet {
         run.tally.report(rt)?;
     }
     Ok(run.tally.status())
@@ -85,7 +142,7 @@ impl Run<'_, '_, '_> {
                     path,
                     bytes: &bytes,
                 };
-                let reading = read_over(rt, input, manner_of(self.options), bases)?;
+                let reading = read_over(rt, input, self.options.manner, bases)?;
                 self.print(rt, input, &reading, bases)
             }
             None => self.report_unreadable(rt, path),
@@ -138,7 +195,7 @@ fn push_lint(
     lines: &mut String,
     input: Input<'_>,
     reading: &Reading,
-    options: &Options<'_, '_>,
+    options: &CheckOptions<'_, '_>,
     bases: &Bases<'_>,
 ) -> Result<bool, AllocError> {
     match &reading.map {
@@ -154,19 +211,6 @@ fn push_lint(
             )
         }
         _ => Ok(false),
-    }
-}
-
-/// How a file is read.
-fn manner_of(options: &Options<'_, '_>) -> Manner {
-    Manner {
-        budget: options.budget,
-        faults: if options.first {
-            Faults::First
-        } else {
-            Faults::All
-        },
-        form: if options.json { Form::Json } else { Form::Text },
     }
 }
 
@@ -238,9 +282,8 @@ fn push_accepted(
 }
 
 fn push_accepted_json(alloc: Global, line: &mut String, path: &str) -> Result<(), AllocError> {
-    let mut object = Map::new(alloc);
-    let file = String::from_str(alloc, path)?;
-    put(&mut object, alloc, "file", Value::from(file))?;
-    put(&mut object, alloc, "ok", Value::from(true))?;
-    json::push_line(alloc, line, &Value::Object(object))
+    let mut object = Object::new(alloc);
+    object.set_text("file", path);
+    object.set("ok", Value::from(true));
+    json::push_line(alloc, line, &object.finish()?)
 }

@@ -4,13 +4,20 @@ pub(crate) mod flags;
 
 use self::flags::{
     BASE, BUDGET, BUNDLE, DENY, EFFECTIVE, FILES_FROM, FIRST, Flag, JSON, LENIENT, LINT,
-    LINT_TO_UNICODE, NAME, NO_PREDEFINED, NULL, OUTPUT, QUIET, TO_UNICODE, VERIFY,
+    LINT_TO_UNICODE, NAME, NO_PREDEFINED, NULL, OUTPUT, QUIET, TO_UNICODE, VERIFY, values_of,
 };
-use clap::{Arg, ArgAction, Command};
+use clap::{Arg, ArgAction, ArgMatches, Command};
+use cmap_sources::inputs::STANDARD_INPUT;
 use std::alloc::{AllocError, Global};
 
-/// A subcommand, and what stands after its name.
-struct Subcommand {
+/// What files are found by.
+const FILE: &str = "FILE";
+
+/// What other arguments after the file are found by.
+const ARGUMENT: &str = "ARGUMENT";
+
+/// The form of a subcommand: its name, and what stands after it.
+struct Form {
     name: &'static str,
     about: &'static str,
     /// Its options, in the order in which the help has them.
@@ -46,26 +53,26 @@ const STRING_FLAGS: &[Flag] = &[
 
 /// Strings, of which there is one at least.
 const STRINGS: Arguments = Arguments {
-    id: "ARGUMENT",
+    id: ARGUMENT,
     value_name: "HEX",
     unless: None,
     help: "Strings, two hexadecimal digits for each byte; - reads them from the standard input",
 };
 
-const SUBCOMMANDS: &[Subcommand] = &[
-    Subcommand {
+const SUBCOMMANDS: &[Form] = &[
+    Form {
         name: "info",
         about: "Prints what files say: their names, codespace ranges, declarations and layers",
         flags: &[BASE, BUNDLE, NO_PREDEFINED, JSON, BUDGET, LENIENT],
         has_file: false,
         arguments: Some(Arguments {
-            id: "FILE",
+            id: FILE,
             value_name: "FILE",
             unless: Some("bundle"),
             help: "CMap files, each by its path or its name; - is the standard input",
         }),
     },
-    Subcommand {
+    Form {
         name: "list",
         about: "Prints each declaration of a file and of those that it is based on",
         flags: &[
@@ -80,19 +87,19 @@ const SUBCOMMANDS: &[Subcommand] = &[
         has_file: true,
         arguments: None,
     },
-    Subcommand {
+    Form {
         name: "find",
         about: "Prints the codes that have a CID or a text",
         flags: &[BASE, BUNDLE, NO_PREDEFINED, JSON, BUDGET, LENIENT],
         has_file: true,
         arguments: Some(Arguments {
-            id: "ARGUMENT",
+            id: ARGUMENT,
             value_name: "WANTED",
             unless: None,
             help: "cid:N for the codes of a CID, text:TEXT for those of a text",
         }),
     },
-    Subcommand {
+    Form {
         name: "check",
         about: "Prints for each file that it is ok, or where it is wrong and why",
         flags: &[
@@ -111,57 +118,57 @@ const SUBCOMMANDS: &[Subcommand] = &[
         ],
         has_file: false,
         arguments: Some(Arguments {
-            id: "FILE",
+            id: FILE,
             value_name: "FILE|FOLDER",
             unless: Some("files-from"),
             help: "CMap files, and folders of them; - is the standard input",
         }),
     },
-    Subcommand {
+    Form {
         name: "decode",
         about: "Prints the codes of strings, with their CIDs and their texts",
         flags: STRING_FLAGS,
         has_file: true,
         arguments: Some(STRINGS),
     },
-    Subcommand {
+    Form {
         name: "text",
         about: "Prints the texts of strings",
         flags: STRING_FLAGS,
         has_file: true,
         arguments: Some(STRINGS),
     },
-    Subcommand {
+    Form {
         name: "where",
         about: "Prints the paths of the files that names stand for",
         flags: &[BASE, BUNDLE, NO_PREDEFINED, JSON],
         has_file: false,
         arguments: Some(Arguments {
-            id: "FILE",
+            id: FILE,
             value_name: "NAME",
             unless: None,
             help: "Names of CMaps",
         }),
     },
-    Subcommand {
+    Form {
         name: "bundle",
         about: "Makes a bundle of the files that have known names",
         flags: &[OUTPUT, NAME, VERIFY],
         has_file: false,
         arguments: Some(Arguments {
-            id: "FILE",
+            id: FILE,
             value_name: "FILE|FOLDER",
             unless: Some("name"),
             help: "CMap files, and folders of them; - is the standard input",
         }),
     },
-    Subcommand {
+    Form {
         name: "lookup",
         about: "Prints the CIDs and the texts of single codes",
         flags: &[BASE, BUNDLE, NO_PREDEFINED, JSON, BUDGET, LENIENT],
         has_file: true,
         arguments: Some(Arguments {
-            id: "ARGUMENT",
+            id: ARGUMENT,
             value_name: "CODE",
             unless: None,
             help: "L:HEX for the CID of a code of L bytes, bf:HEX for the text of a code",
@@ -187,7 +194,7 @@ fn program<'a>(alloc: Global) -> Result<Command<'a>, AllocError> {
         .bin_name("cmap")
 }
 
-impl Subcommand {
+impl Form {
     fn command<'a>(&self, alloc: Global) -> Result<Command<'a>, AllocError> {
         let command = self.add_flags(alloc, Command::new(alloc, self.name).about(self.about))?;
         let command = if self.has_file {
@@ -230,8 +237,26 @@ impl Arguments {
 }
 
 fn file<'a>(alloc: Global) -> Arg<'a> {
-    Arg::new(alloc, "FILE")
+    Arg::new(alloc, FILE)
         .required(true)
         .action(ArgAction::Set)
         .help("A CMap file, by its path or its name; - is the standard input")
+}
+
+/// The files that are given, and with `check` and `bundle` the folders.
+pub(crate) fn files_of<'m, 'w>(arguments: &'m ArgMatches<'w>) -> &'m [&'w str] {
+    values_of(arguments, FILE)
+}
+
+/// The first file. Subcommands that take one alone aren't run without it.
+pub(crate) fn file_of<'w>(arguments: &ArgMatches<'w>) -> &'w str {
+    files_of(arguments)
+        .first()
+        .copied()
+        .unwrap_or(STANDARD_INPUT)
+}
+
+/// What is given after the file: strings, codes, or what is looked for.
+pub(crate) fn arguments_of<'m, 'w>(arguments: &'m ArgMatches<'w>) -> &'m [&'w str] {
+    values_of(arguments, ARGUMENT)
 }

@@ -1,7 +1,6 @@
 //! `cmap decode`: the codes of strings, and what they stand for.
 
-use crate::font::{font_of, strings_of};
-use crate::options::Options;
+use crate::font::{StringOptions, font_of, strings_of};
 use cmap_report::decode::{push_codes, push_json};
 use cmap_sources::bases::Bases;
 use cmap_sources::failure::Failure;
@@ -9,19 +8,19 @@ use cmap_sources::status::ACCEPTED;
 use cmap_unicode::Extractor;
 
 /// Prints the codes of each string, and gives the status.
-pub fn decode(
+pub(crate) fn decode(
     rt: &HostRuntime,
-    options: &Options<'_, '_>,
+    options: &StringOptions<'_, '_>,
     bases: &mut Bases<'_>,
 ) -> Result<u8, Failure> {
-    let strings = strings_of(rt, options.arguments)?;
+    let strings = strings_of(rt, options.strings)?;
     let font = font_of(rt, options, bases)?;
     print_codes(rt, options, &font.extractor(), &strings)
 }
 
 fn print_codes(
     rt: &HostRuntime,
-    options: &Options<'_, '_>,
+    options: &StringOptions<'_, '_>,
     extractor: &Extractor<'_>,
     strings: &[Vec<u8>],
 ) -> Result<u8, Failure> {

@@ -1,11 +1,40 @@
 //! The CMaps of a font, and the strings that are read by them.
 
-use crate::options::Options;
+use crate::command_line::flags::{JSON, TO_UNICODE};
+use crate::command_line::{arguments_of, file_of};
+use crate::options::{Sources, manner_of};
+use clap::ArgMatches;
 use cmap_sources::bases::Bases;
 use cmap_sources::failure::{Failure, fault};
 use cmap_sources::inputs::{STANDARD_INPUT, map_needed, map_of, needed};
+use cmap_sources::reading::Manner;
 use cmap_unicode::{Extractor, ucs2_name};
 use hayro_cmap::{CMap, CidFamily};
+
+/// What the arguments of `decode` and `text` ask for.
+#[derive(Clone, Copy)]
+pub(crate) struct StringOptions<'m, 'w> {
+    file: &'w str,
+    to_unicode: Option<&'w str>,
+    /// Strings in hexadecimal digits.
+    pub(crate) strings: &'m [&'w str],
+    pub(crate) sources: Sources<'m, 'w>,
+    manner: Manner,
+    pub(crate) json: bool,
+}
+
+impl<'m, 'w> StringOptions<'m, 'w> {
+    pub(crate) fn of(arguments: &'m ArgMatches<'w>) -> StringOptions<'m, 'w> {
+        StringOptions {
+            file: file_of(arguments),
+            to_unicode: TO_UNICODE.text(arguments),
+            strings: arguments_of(arguments),
+            sources: Sources::of(arguments),
+            manner: manner_of(arguments),
+            json: JSON.is_given(arguments),
+        }
+    }
+}
 
 /// The CMaps of a font.
 #[derive(Drop)]
@@ -38,10 +67,10 @@ impl Font {
 /// The CMaps that the arguments ask for, and that of the collection where it is found.
 pub(crate) fn font_of(
     rt: &HostRuntime,
-    options: &Options<'_, '_>,
+    options: &StringOptions<'_, '_>,
     bases: &mut Bases<'_>,
 ) -> Result<Font, Failure> {
-    let encoding = map_needed(rt, options.file, options.manner(), bases)?;
+    let encoding = map_needed(rt, options.file, options.manner, bases)?;
     let to_unicode = to_unicode_of(rt, options, bases)?;
     let collection = collection_of(rt, &encoding, options, bases)?;
     Ok(Font {
@@ -53,11 +82,11 @@ pub(crate) fn font_of(
 
 fn to_unicode_of(
     rt: &HostRuntime,
-    options: &Options<'_, '_>,
+    options: &StringOptions<'_, '_>,
     bases: &mut Bases<'_>,
 ) -> Result<Option<CMap>, Failure> {
     match options.to_unicode {
-        Some(path) => Ok(Some(map_needed(rt, path, options.manner(), bases)?)),
+        Some(path) => Ok(Some(map_needed(rt, path, options.manner, bases)?)),
         None => Ok(None),
     }
 }
@@ -66,7 +95,7 @@ fn to_unicode_of(
 fn collection_of(
     rt: &HostRuntime,
     encoding: &CMap,
-    options: &Options<'_, '_>,
+    options: &StringOptions<'_, '_>,
     bases: &mut Bases<'_>,
 ) -> Result<Option<CMap>, Failure> {
     let Some(family) = family_of(encoding) else {
@@ -79,7 +108,7 @@ fn collection_of(
     let Some(bytes) = bases.file(rt, &name)? else {
         return Ok(None);
     };
-    Ok(Some(map_of(rt, path, &bytes, options.manner(), bases)?))
+    Ok(Some(map_of(rt, path, &bytes, options.manner, bases)?))
 }
 
 /// The character collection of the first layer that has one.

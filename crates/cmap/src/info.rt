@@ -1,24 +1,75 @@
 //! `cmap info`: what files say.
 
-use crate::options::Options;
+use crate::command_line::files_of;
+use crate::command_line::flags::JSON;
+use crate::options::{Sources, manner_of};
+use clap::ArgMatches;
+use cmap_bundle::contents::print_contents;
 use cmap_report::info::{push_info, push_json};
 use cmap_report::uses::uses_by_layer;
 use cmap_sources::bases::{Bases, Files};
 use cmap_sources::failure::{Failure, report};
 use cmap_sources::inputs::{Opened, open};
-use cmap_sources::reading::Input;
+use cmap_sources::reading::{Input, Manner};
 use cmap_sources::status::{ACCEPTED, FAILED, REFUSED};
 use hayro_cmap::CMap;
 use std::alloc::{AllocError, Global};
 
-/// Prints what each file says, and gives the status.
-pub fn info(
+/// What the arguments of `info` ask for.
+#[derive(Clone, Copy)]
+pub(crate) struct InfoOptions<'m, 'w> {
+    /// The files. Without any the bundle is meant.
+    files: &'m [&'w str],
+    pub(crate) sources: Sources<'m, 'w>,
+    manner: Manner,
+    json: bool,
+}
+
+impl<'m, 'w> InfoOptions<'m, 'w> {
+    pub(crate) fn of(arguments: &'m ArgMatches<'w>) -> InfoOptions<'m, 'w> {
+        InfoOptions {
+            files: files_of(arguments),
+            sources: Sources::of(arguments),
+            manner: manner_of(arguments),
+            json: JSON.is_given(arguments),
+        }
+    }
+}
+
+/// Prints what each file says, or what the bundle holds, and gives the status.
+pub(crate) fn info(
     rt: &HostRuntime,
-    options: &Options<'_, '_>,
+    options: &InfoOptions<'_, '_>,
+    bases: &mut Bases<'_>,
+) -> Result<u8, Failure> {
+    if options.files.is_empty() {
+        info_of_bundle(rt, options, bases)
+    } else {
+        info_of_files(rt, options, bases)
+    }
+}
+
+/// Prints what the bundle holds. Without files and without a bundle `info` isn't run.
+fn info_of_bundle(
+    rt: &HostRuntime,
+    options: &InfoOptions<'_, '_>,
+    bases: &Bases<'_>,
+) -> Result<u8, Failure> {
+    let (Some(path), Some(bundle)) = (options.sources.bundle, bases.bundle) else {
+        return Ok(FAILED);
+    };
+    print_contents(rt, path, bundle, options.json)?;
+    Ok(ACCEPTED)
+}
+
+/// Prints what each file says.
+fn info_of_files(
+    rt: &HostRuntime,
+    options: &InfoOptions<'_, '_>,
     bases: &mut Bases<'_>,
 ) -> Result<u8, Failure> {
     let mut status = ACCEPTED;
-    for (index, path) in options.paths.iter().enumerate() {
+    for (index, path) in options.files.iter().enumerate() {
         if index > 0 && !options.json {
             rt.println("")?;
         }
@@ -31,10 +82,10 @@ pub fn info(
 fn info_of(
     rt: &HostRuntime,
     path: &str,
-    options: &Options<'_, '_>,
+    options: &InfoOptions<'_, '_>,
     bases: &mut Bases<'_>,
 ) -> Result<u8, Failure> {
-    match open(rt, path, options.manner(), bases) {
+    match open(rt, path, options.manner, bases) {
         Ok(opened) => print_info(rt, path, &opened, options, bases),
         Err(Failure::Refused) => Ok(REFUSED),
         Err(Failure::Message(line)) => {
@@ -49,7 +100,7 @@ fn print_info(
     rt: &HostRuntime,
     path: &str,
     opened: &Opened,
-    options: &Options<'_, '_>,
+    options: &InfoOptions<'_, '_>,
     bases: &Bases<'_>,
 ) -> Result<u8, Failure> {
     let input = Input {

@@ -1,15 +1,64 @@
 //! `cmap check --lint`: what looks wrong in a file that is accepted.
 
-use crate::options::lint::LintOptions;
+use crate::command_line::flags::{DENY, LINT, LINT_TO_UNICODE};
+use clap::ArgMatches;
 use cmap_binary::is_marked_binary;
 use cmap_lint::finding::Finding;
 use cmap_lint::lint::{Subject, findings_of, nothing_declared};
 use cmap_lint::printed::{push_finding, push_json};
+use cmap_lint::warning::Warning;
 use cmap_sources::bases::Bases;
+use cmap_sources::failure::{Failure, fault};
 use cmap_sources::inputs::STANDARD_INPUT;
 use cmap_sources::reading::Input;
 use hayro_cmap::CMap;
 use std::alloc::{AllocError, Global};
+
+/// The argument of `--deny` that stands for all warnings.
+const ALL: &str = "all";
+
+/// Which warnings are asked for.
+#[derive(Clone, Copy)]
+pub(crate) struct LintOptions<'m, 'w> {
+    /// Whether all warnings are, and not only `nothing-declared`.
+    is_asked: bool,
+    /// Whether the files are meant as maps to Unicode.
+    to_unicode: bool,
+    /// The names of warnings for which the status is 1.
+    denied: &'m [&'w str],
+}
+
+impl<'m, 'w> LintOptions<'m, 'w> {
+    pub(crate) fn of(arguments: &'m ArgMatches<'w>) -> LintOptions<'m, 'w> {
+        let to_unicode = LINT_TO_UNICODE.is_given(arguments);
+        let denied = DENY.texts(arguments);
+        LintOptions {
+            is_asked: LINT.is_given(arguments) || to_unicode || !denied.is_empty(),
+            to_unicode,
+            denied,
+        }
+    }
+
+    /// The error of an argument of `--deny` that names no warning.
+    pub(crate) fn check_names(&self, rt: &HostRuntime) -> Result<(), Failure> {
+        for name in self.denied {
+            if *name != ALL && Warning::of(name).is_none() {
+                return Err(fault(rt, name, "neither the name of a warning nor all"));
+            }
+        }
+        Ok(())
+    }
+
+    /// Whether a warning makes the status 1.
+    fn denies(&self, warning: Warning) -> bool {
+        for name in self.denied {
+            if *name == ALL || *name == warning.name() {
+                return true;
+            }
+        }
+        false
+    }
+}
 
 /// Adds a line for each warning about a file of these bytes, whose map this is, and gives whether one of them
 /// is denied.

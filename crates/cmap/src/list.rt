@@ -1,30 +1,61 @@
 //! `cmap list`: what a file and those that it is based on declare.
 
-use crate::options::Options;
+use crate::command_line::file_of;
+use crate::command_line::flags::{EFFECTIVE, JSON};
+use crate::options::{Sources, manner_of};
+use clap::ArgMatches;
 use cmap_report::list::effective::effective_lines;
 use cmap_report::list::line::{Line, push_json, push_line};
 use cmap_report::list::lines_by_layer;
 use cmap_sources::bases::Bases;
 use cmap_sources::failure::Failure;
 use cmap_sources::inputs::map_needed;
+use cmap_sources::reading::Manner;
 use cmap_sources::status::ACCEPTED;
 use hayro_cmap::CMap;
 use std::alloc::{AllocError, Global};
 
+/// What the arguments of `list` ask for.
+#[derive(Clone, Copy)]
+pub(crate) struct ListOptions<'m, 'w> {
+    file: &'w str,
+    pub(crate) sources: Sources<'m, 'w>,
+    manner: Manner,
+    json: bool,
+    /// Whether what codes have over all layers is printed, and not what each layer declares.
+    is_effective: bool,
+}
+
+impl<'m, 'w> ListOptions<'m, 'w> {
+    pub(crate) fn of(arguments: &'m ArgMatches<'w>) -> ListOptions<'m, 'w> {
+        ListOptions {
+            file: file_of(arguments),
+            sources: Sources::of(arguments),
+            manner: manner_of(arguments),
+            json: JSON.is_given(arguments),
+            is_effective: EFFECTIVE.is_given(arguments),
+        }
+    }
+}
+
 /// Prints each declaration, layer by layer, or what codes have over all layers, and gives the status.
-pub fn list(
+pub(crate) fn list(
     rt: &HostRuntime,
-    options: &Options<'_, '_>,
+    options: &ListOptions<'_, '_>,
     bases: &mut Bases<'_>,
 ) -> Result<u8, Failure> {
-    let map = map_needed(rt, options.file, options.manner(), bases)?;
+    let map = map_needed(rt, options.file, options.manner, bases)?;
     let lines = lines_of(rt.alloc(), &map, options)?;
     rt.print(lines.as_str())?;
     Ok(ACCEPTED)
 }
 
-fn lines_of(alloc: Global, map: &CMap, options: &Options<'_, '_>) -> Result<String, AllocError> {
-    if options.effective {
+fn lines_of(
+    alloc: Global,
+    map: &CMap,
+    options: &ListOptions<'_, '_>,
+) -> Result<String, AllocError> {
+    if options.is_effective {
         effective(alloc, map, options.json)
     } else {
         declared(alloc, map, options.json)

@@ -1,24 +1,45 @@
 //! `cmap where`: which files arguments stand for.
 
-use crate::options::Options;
+use crate::command_line::files_of;
+use crate::command_line::flags::JSON;
+use crate::options::Sources;
+use clap::ArgMatches;
 use cmap_escape::escape::push_text;
 use cmap_escape::json;
+use cmap_escape::object::Object;
 use cmap_sources::bases::Bases;
 use cmap_sources::failure::{Failure, report};
 use cmap_sources::folders::is_file;
 use cmap_sources::inputs::unknown_name;
 use cmap_sources::status::{ACCEPTED, REFUSED};
-use serde_json::{Map, Value, put};
 use std::alloc::{AllocError, Global};
 
+/// What the arguments of `where` ask for.
+#[derive(Clone, Copy)]
+pub(crate) struct LocateOptions<'m, 'w> {
+    names: &'m [&'w str],
+    pub(crate) sources: Sources<'m, 'w>,
+    json: bool,
+}
+
+impl<'m, 'w> LocateOptions<'m, 'w> {
+    pub(crate) fn of(arguments: &'m ArgMatches<'w>) -> LocateOptions<'m, 'w> {
+        LocateOptions {
+            names: files_of(arguments),
+            sources: Sources::of(arguments),
+            json: JSON.is_given(arguments),
+        }
+    }
+}
+
 /// Prints the path of the file that each argument stands for, and gives the status.
-pub fn locate(
+pub(crate) fn locate(
     rt: &HostRuntime,
-    options: &Options<'_, '_>,
+    options: &LocateOptions<'_, '_>,
     bases: &mut Bases<'_>,
 ) -> Result<u8, Failure> {
     let mut status = ACCEPTED;
-    for argument in options.paths {
+    for argument in options.names {
         match path_of(rt, argument, options, bases)? {
             Some(path) => print_path(rt, argument, path.as_str(), options.json)?,
             None => {
@@ -34,13 +55,13 @@ pub fn locate(
 fn path_of(
     rt: &HostRuntime,
     argument: &str,
-    options: &Options<'_, '_>,
+    options: &LocateOptions<'_, '_>,
     bases: &mut Bases<'_>,
 ) -> Result<Option<String>, Failure> {
     if is_file(rt, argument) {
         return Ok(Some(String::from_str(rt.alloc(), argument)?));
     }
-    bases.locate(rt, argument.as_bytes(), options.bundle)
+    bases.locate(rt, argument.as_bytes(), options.sources.bundle)
 }
 
 /// Prints the path of the file that an argument stands for.
@@ -61,10 +82,8 @@ fn push_json(
     argument: &str,
     path: &str,
 ) -> Result<(), AllocError> {
-    let mut object = Map::new(alloc);
-    let argument = String::from_str(alloc, argument)?;
-    let path = String::from_str(alloc, path)?;
-    put(&mut object, alloc, "file", Value::from(argument))?;
-    put(&mut object, alloc, "path", Value::from(path))?;
-    json::push_value(alloc, line, &Value::Object(object))
+    let mut object = Object::new(alloc);
+    object.set_text("file", argument);
+    object.set_text("path", path);
+    json::push_value(alloc, line, &object.finish()?)
 }

@@ -1,23 +1,50 @@
 //! `cmap lookup`: the CIDs and the texts of single codes.
 
-use crate::options::Options;
+use crate::command_line::flags::JSON;
+use crate::command_line::{arguments_of, file_of};
+use crate::options::{Sources, manner_of};
+use clap::ArgMatches;
 use cmap_queries::query::Query;
 use cmap_report::lookup::{push_answer, push_json};
 use cmap_sources::bases::Bases;
 use cmap_sources::failure::{Failure, fault};
 use cmap_sources::inputs::map_needed;
+use cmap_sources::reading::Manner;
 use cmap_sources::status::ACCEPTED;
 use hayro_cmap::CMap;
 use std::alloc::{AllocError, Global};
 
+/// What the arguments of `lookup` ask for.
+#[derive(Clone, Copy)]
+pub(crate) struct LookupOptions<'m, 'w> {
+    file: &'w str,
+    /// The arguments `L:HEX` and `bf:HEX`.
+    codes: &'m [&'w str],
+    pub(crate) sources: Sources<'m, 'w>,
+    manner: Manner,
+    json: bool,
+}
+
+impl<'m, 'w> LookupOptions<'m, 'w> {
+    pub(crate) fn of(arguments: &'m ArgMatches<'w>) -> LookupOptions<'m, 'w> {
+        LookupOptions {
+            file: file_of(arguments),
+            codes: arguments_of(arguments),
+            sources: Sources::of(arguments),
+            manner: manner_of(arguments),
+            json: JSON.is_given(arguments),
+        }
+    }
+}
+
 /// Prints the answer to each query, and gives the status.
-pub fn lookup(
+pub(crate) fn lookup(
     rt: &HostRuntime,
-    options: &Options<'_, '_>,
+    options: &LookupOptions<'_, '_>,
     bases: &mut Bases<'_>,
 ) -> Result<u8, Failure> {
-    let queries = queries_of(rt, options.arguments)?;
-    let map = map_needed(rt, options.file, options.manner(), bases)?;
+    let queries = queries_of(rt, options.codes)?;
+    let map = map_needed(rt, options.file, options.manner, bases)?;
     let lines = lines_of(rt.alloc(), &map, &queries, options.json)?;
     rt.print(lines.as_str())?;
     Ok(ACCEPTED)

@@ -1,7 +1,6 @@
 //! `cmap text`: the texts of strings.
 
-use crate::font::{font_of, strings_of};
-use crate::options::Options;
+use crate::font::{StringOptions, font_of, strings_of};
 use cmap_report::decode::{push_text_json, push_text_line};
 use cmap_sources::bases::Bases;
 use cmap_sources::failure::Failure;
@@ -9,19 +8,19 @@ use cmap_sources::status::{ACCEPTED, REFUSED};
 use cmap_unicode::Extractor;
 
 /// Prints the text of each string, and gives the status: whether each code has a text.
-pub fn text(
+pub(crate) fn text(
     rt: &HostRuntime,
-    options: &Options<'_, '_>,
+    options: &StringOptions<'_, '_>,
     bases: &mut Bases<'_>,
 ) -> Result<u8, Failure> {
-    let strings = strings_of(rt, options.arguments)?;
+    let strings = strings_of(rt, options.strings)?;
     let font = font_of(rt, options, bases)?;
     print_texts(rt, options, &font.extractor(), &strings)
 }
 
 fn print_texts(
     rt: &HostRuntime,
-    options: &Options<'_, '_>,
+    options: &StringOptions<'_, '_>,
     extractor: &Extractor<'_>,
     strings: &[Vec<u8>],
 ) -> Result<u8, Failure> {

@@ -6,7 +6,7 @@ use cmap_sources::failure::Failure;
 
 /// Prints the help, the version, or what is wrong with the arguments and the usage, and gives the
 /// status.
-pub fn print_usage(rt: &HostRuntime, error: &Error) -> Result<u8, Failure> {
+pub(crate) fn print_usage(rt: &HostRuntime, error: &Error) -> Result<u8, Failure> {
     let text = format!(in rt.alloc(); "{error}")?;
     for line in text.lines() {
         let mut shown = String::new(rt.alloc());

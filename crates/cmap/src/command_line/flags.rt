@@ -1,10 +1,7 @@
 //! The options of the subcommands.
 
-use clap::{Arg, ArgAction, value_parser};
+use clap::{Arg, ArgAction, ArgMatches, value_parser};
 use std::alloc::Global;
-
-/// What the option that names a ToUnicode CMap is found by; `check` has an option of this name too.
-pub const TO_UNICODE_FILE: &str = "to-unicode-file";
 
 /// An option of subcommands.
 pub(crate) struct Flag {
@@ -37,6 +34,34 @@ impl Flag {
             Some(short) => arg.short(short),
             None => arg,
         })
+    }
+
+    /// Whether the option is given.
+    pub(crate) fn is_given(&self, arguments: &ArgMatches<'_>) -> bool {
+        arguments.get_flag(self.id)
+    }
+
+    /// The text after the option, if it is given.
+    pub(crate) fn text<'w>(&self, arguments: &ArgMatches<'w>) -> Option<&'w str> {
+        arguments.get_str(self.id)
+    }
+
+    /// The texts after the option, one for each time that it is given.
+    pub(crate) fn texts<'m, 'w>(&self, arguments: &'m ArgMatches<'w>) -> &'m [&'w str] {
+        values_of(arguments, self.id)
+    }
+
+    /// The number after the option, if it is given.
+    pub(crate) fn number(&self, arguments: &ArgMatches<'_>) -> Option<u64> {
+        arguments.get_one::<u64>(self.id)
+    }
+}
+
+/// The values of what is found by an id.
+pub(crate) fn values_of<'m, 'w>(arguments: &'m ArgMatches<'w>, id: &str) -> &'m [&'w str] {
+    match arguments.get_strs(id) {
+        Some(values) => values,
+        None => &[],
     }
 }
 
@@ -114,7 +139,7 @@ pub(crate) const EFFECTIVE: Flag = Flag {
 
 /// Of `decode` and `text`; `check` has an option of this name too.
 pub(crate) const TO_UNICODE: Flag = Flag {
-    id: TO_UNICODE_FILE,
+    id: "to-unicode-file",
     short: None,
     long: "to-unicode",
     value: Value::Text("FILE"),
