@@ -108,7 +108,7 @@ fn collection_of(
     let Some(bytes) = bases.file(rt, &name)? else {
         return Ok(None);
     };
-    Ok(Some(map_of(rt, path, &bytes, options.manner, bases)?))
+    Ok(Some(map_of(rt, path, bytes.as_slice(), options.manner, bases)?))
 }
 
 /// The character collection of the first layer that has one.

@@ -99,13 +99,13 @@ fn info_of(
 fn print_info(
     rt: &HostRuntime,
     path: &str,
-    opened: &Opened,
+    opened: &Opened<'_>,
     options: &InfoOptions<'_, '_>,
     bases: &Bases<'_>,
 ) -> Result<u8, Failure> {
     let input = Input {
         path,
-        bytes: &opened.bytes,
+        bytes: opened.bytes.as_slice(),
     };
     let lines = lines_of(rt.alloc(), input, &opened.map, options.json, &bases.files())?;
     rt.print(lines.as_str())?;

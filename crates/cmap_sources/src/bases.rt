@@ -1,38 +1,50 @@
 //! The files that others use, by their names. Each is read when it is used for the first time.
 
+ghost use Rattle.cmap_sources.specs.BytesSeen.{bytes_seen};
+
 use crate::failure::Failure;
+use crate::file_bytes::FileBytes;
 use crate::file_names::file_name;
 use crate::folders::{files_in, is_folder, name_of};
 use crate::inputs::{read, report_unreadable, unreadable};
 use crate::search::Search;
 use crate::status::{ACCEPTED, FAILED};
-use hayro_cmap::{Bundle, BundleFiles, NamedFile, NamedFiles};
+use hayro_cmap::{Bundle, BundleFiles, CMap, NamedFile, NamedFiles};
 use std::alloc::{AllocError, Global};
 use std::collections::BTreeMap;
 
 /// A file that others use.
 #[derive(Drop)]
-pub struct Base {
+pub struct Base<'b> {
     name: Vec<u8>,
-    bytes: Vec<u8>,
+    bytes: FileBytes<'b>,
 }
 
-impl NamedFile for Base {
+impl<'b> NamedFile for Base<'b> {
     ghost name_of = { λ base. base.name.items };
 
-    ghost bytes_of = { λ base. base.bytes.items };
+    ghost bytes_of = { λ base. bytes_seen base.bytes };
 
     fn name(&self) -> &[u8] {
         &self.name
     }
 
     fn bytes(&self) -> &[u8] {
-        &self.bytes
+        self.bytes.as_slice()
     }
 }
 
 /// The files that are read.
-pub type Files<'f> = NamedFiles<'f, Base, Bundle<'f>>;
+pub type Files<'f> = NamedFiles<'f, Base<'f>, Bundle<'f>>;
+
+/// What comes of looking for the file of a name.
+#[derive(Drop)]
+enum Found<'b> {
+    File(FileBytes<'b>),
+    /// The file of this path can't be read.
+    Unreadable(String),
+    Nothing,
+}
 
 /// The files that others may use: those of folders, those of a bundle for the names that none of them has,
 /// and else those that are found in further folders.
@@ -44,7 +56,9 @@ pub struct Bases<'b> {
     /// Where the names are looked up that neither has: at first nowhere.
     pub search: Search,
     /// The files that are read.
-    read: Vec<Base>,
+    read: Vec<Base<'b>>,
+    /// How many of these were asked which files they use.
+    asked: usize,
     /// The paths that can't be read, and aren't reported yet.
     unreadable: Vec<String>,
     /// Whether something can't be read.
@@ -59,6 +73,7 @@ impl<'b> Bases<'b> {
             paths: BTreeMap::new(alloc),
             search: Search::nowhere(alloc),
             read: Vec::new(alloc),
+            asked: 0,
             unreadable: Vec::new(alloc),
             has_failed: false,
         }
@@ -111,7 +126,7 @@ impl<'b> Bases<'b> {
 
     /// Whether a file may have this name that isn't read yet.
     pub fn has_unread(&self, name: &[u8]) -> bool {
-        if self.read_files().find(name).is_some() {
+        if self.base(name).is_some() {
             return false;
         }
         self.path(name).is_some() || self.bundle_file(name).is_some() || self.search.may_have(name)
@@ -135,46 +150,95 @@ impl<'b> Bases<'b> {
         Ok(())
     }
 
-    /// Reads the file of this name, if it isn't read yet.
+    /// Reads the file of this name, if it isn't read yet. Where a path can't be read, which is to be
+    /// reported, the name is looked for once more, in the bundle and in further folders.
     fn read(&mut self, rt: &HostRuntime, name: &[u8]) -> Result<(), Failure> {
         if !self.has_unread(name) {
             return Ok(());
         }
-        match self.unread_bytes(rt, name)? {
-            Some(bytes) => self.add(rt.alloc(), name, bytes)?,
-            None => self.search.set_absent(rt.alloc(), name)?,
+        let mut found = self.look_for(rt, name)?;
+        if let Found::Unreadable(path) = found {
+            self.set_unreadable(rt.alloc(), name, path)?;
+            found = self.look_for(rt, name)?;
+        }
+        match found {
+            Found::File(bytes) => self.add(rt.alloc(), name, bytes)?,
+            Found::Unreadable(path) => self.set_unreadable(rt.alloc(), name, path)?,
+            Found::Nothing => self.search.set_absent(rt.alloc(), name)?,
         }
         Ok(())
     }
 
-    fn add(&mut self, alloc: Global, name: &[u8], bytes: Vec<u8>) -> Result<(), AllocError> {
+    /// Reads the files that this one uses, before they are missing.
+    pub fn read_used_by(&mut self, rt: &HostRuntime, file: &[u8]) -> Result<(), Failure> {
+        if let Some(names) = CMap::uses(rt.alloc(), file, self.bundle)? {
+            for name in &names {
+                self.read_ahead(rt, name)?;
+            }
+        }
+        Ok(())
+    }
+
+    /// Reads the files that those use that are read, before they are missing. Each file is asked once.
+    pub fn read_used(&mut self, rt: &HostRuntime) -> Result<(), Failure> {
+        let count = self.read.len();
+        for index in self.asked..count {
+            let file = self.read[index].bytes.share()?;
+            self.read_used_by(rt, file.as_slice())?;
+        }
+        self.asked = count;
+        Ok(())
+    }
+
+    /// Reads the file of this name before it is missing. One that can't be read is reported only when it
+    /// is missing.
+    fn read_ahead(&mut self, rt: &HostRuntime, name: &[u8]) -> Result<(), Failure> {
+        if !self.has_unread(name) {
+            return Ok(());
+        }
+        match self.look_for(rt, name)? {
+            Found::File(bytes) => self.add(rt.alloc(), name, bytes)?,
+            Found::Unreadable(_path) => {}
+            Found::Nothing => self.search.set_absent(rt.alloc(), name)?,
+        }
+        Ok(())
+    }
+
+    fn add(&mut self, alloc: Global, name: &[u8], bytes: FileBytes<'b>) -> Result<(), AllocError> {
+        let _path = self.take_path(name);
         let name = Vec::from_slice(alloc, name)?;
         Ok(self.read.push(Base { name, bytes })?)
     }
 
-    /// The bytes of the file of this name, which isn't read yet.
-    fn unread_bytes(&mut self, rt: &HostRuntime, name: &[u8]) -> Result<Option<Vec<u8>>, Failure> {
-        if let Some(path) = self.take_path(name)
-            && let Some(bytes) = self.bytes_of(rt, path)?
-        {
-            return Ok(Some(bytes));
+    /// Looks for the file of this name, which isn't read yet, and reads it.
+    fn look_for(&mut self, rt: &HostRuntime, name: &[u8]) -> Result<Found<'b>, Failure> {
+        if let Some(path) = self.path(name) {
+            let path = String::from_str(rt.alloc(), path)?;
+            return found_at(rt, path);
         }
         if let Some(bytes) = self.bundle_file(name) {
-            return Ok(Some(Vec::from_slice(rt.alloc(), bytes)?));
+            return Ok(Found::File(FileBytes::Lent(bytes)));
+        }
+        if !self.search.may_have(name) {
+            return Ok(Found::Nothing);
         }
         match self.search.find(rt, name)? {
-            Some(path) => self.bytes_of(rt, path),
-            None => Ok(None),
+            Some(path) => found_at(rt, path),
+            None => Ok(Found::Nothing),
         }
     }
 
-    /// The bytes of the file of this path; one that can't be read is to be reported.
-    fn bytes_of(&mut self, rt: &HostRuntime, path: String) -> Result<Option<Vec<u8>>, Failure> {
-        let bytes = read(rt, path.as_str())?;
-        if bytes.is_none() {
-            self.unreadable.push(path)?;
+    /// Says that the path of this name can't be read.
+    fn set_unreadable(
+        &mut self,
+        alloc: Global,
+        name: &[u8],
+        path: String,
+    ) -> Result<(), AllocError> {
+        if self.take_path(name).is_none() {
+            self.search.set_absent(alloc, name)?;
         }
-        Ok(bytes)
+        Ok(self.unreadable.push(path)?)
     }
 
     fn take_path(&mut self, name: &[u8]) -> Option<String> {
@@ -185,13 +249,22 @@ impl<'b> Bases<'b> {
     }
 
     /// The bytes of the file of this name.
-    pub fn file(&mut self, rt: &HostRuntime, name: &[u8]) -> Result<Option<Vec<u8>>, Failure> {
+    pub fn file(
+        &mut self,
+        rt: &HostRuntime,
+        name: &[u8],
+    ) -> Result<Option<FileBytes<'b>>, Failure> {
         self.read(rt, name)?;
         self.report(rt)?;
-        match self.read_files().find(name) {
-            Some(bytes) => Ok(Some(Vec::from_slice(rt.alloc(), bytes)?)),
+        match self.base(name) {
+            Some(base) => Ok(Some(base.bytes.share()?)),
             None => Ok(None),
         }
+    }
+
+    /// The file of this name, if it is read.
+    fn base(&self, name: &[u8]) -> Option<&Base<'b>> {
+        self.read.iter().find(|base| base.name.as_slice() == name)
     }
 
     /// The path of the file of this name; of one in the bundle, this path of the bundle.
@@ -239,5 +312,13 @@ impl<'b> Bases<'b> {
     /// The status of what was read here.
     pub fn status(&self) -> u8 {
         if self.has_failed { FAILED } else { ACCEPTED }
+    }
+}
+
+/// The file of a path, which is read.
+fn found_at<'b>(rt: &HostRuntime, path: String) -> Result<Found<'b>, Failure> {
+    match read(rt, path.as_str())? {
+        Some(bytes) => Ok(Found::File(FileBytes::of(bytes)?)),
+        None => Ok(Found::Unreadable(path)),
     }
 }

@@ -2,6 +2,7 @@
 
 use crate::bases::Bases;
 use crate::failure::{Failure, fault, report};
+use crate::file_bytes::FileBytes;
 use crate::folders::is_file;
 use crate::reading::{Input, Manner, read_over};
 use crate::status::FAILED;
@@ -76,34 +77,34 @@ pub fn report_unreadable(rt: &HostRuntime, path: &str) -> Result<u8, Failure> {
 
 /// A file that is read, with its map.
 #[derive(Drop)]
-pub struct Opened {
+pub struct Opened<'b> {
     /// The bytes of the file, none where a predefined CMap has no file.
-    pub bytes: Vec<u8>,
+    pub bytes: FileBytes<'b>,
     pub map: CMap,
 }
 
 /// The file that an argument asks for: by its path, or where no file has the path, by its name. Why a file is
 /// refused goes to the standard error, and that none can be read is a message.
-pub fn open(
+pub fn open<'b>(
     rt: &HostRuntime,
     argument: &str,
     manner: Manner,
-    bases: &mut Bases<'_>,
-) -> Result<Opened, Failure> {
+    bases: &mut Bases<'b>,
+) -> Result<Opened<'b>, Failure> {
     if argument != STANDARD_INPUT && !is_file(rt, argument) {
         return open_by_name(rt, argument, manner, bases);
     }
-    let bytes = needed(rt, argument)?;
+    let bytes = FileBytes::of(needed(rt, argument)?)?;
     open_bytes(rt, argument, bytes, manner, bases)
 }
 
 /// The base or the bundle's file of this name, else a predefined CMap.
-fn open_by_name(
+fn open_by_name<'b>(
     rt: &HostRuntime,
     name: &str,
     manner: Manner,
-    bases: &mut Bases<'_>,
-) -> Result<Opened, Failure> {
+    bases: &mut Bases<'b>,
+) -> Result<Opened<'b>, Failure> {
     match bases.file(rt, name.as_bytes())? {
         Some(bytes) => open_bytes(rt, name, bytes, manner, bases),
         None => open_predefined(rt, name, bases),
@@ -111,10 +112,14 @@ fn open_by_name(
 }
 
 /// A predefined CMap that has no file.
-fn open_predefined(rt: &HostRuntime, name: &str, bases: &Bases<'_>) -> Result<Opened, Failure> {
+fn open_predefined<'b>(
+    rt: &HostRuntime,
+    name: &str,
+    bases: &Bases<'b>,
+) -> Result<Opened<'b>, Failure> {
     match CMap::open(rt.alloc(), None, name.as_bytes(), None, &bases.read_files()) {
         Ok(Some(map)) => Ok(Opened {
-            bytes: Vec::new(rt.alloc()),
+            bytes: FileBytes::Lent(&[]),
             map,
         }),
         Ok(None) | Err(Fault::Refused(_)) => Err(missing(rt, name, bases)),
@@ -122,17 +127,15 @@ fn open_predefined(rt: &HostRuntime, name: &str, bases: &Bases<'_>) -> Result<Op
     }
 }
 
-fn open_bytes(
+fn open_bytes<'b>(
     rt: &HostRuntime,
     path: &str,
-    bytes: Vec<u8>,
+    bytes: FileBytes<'b>,
     manner: Manner,
     bases: &mut Bases<'_>,
-) -> Result<Opened, Failure> {
-    match map_of(rt, path, &bytes, manner, bases) {
-        Ok(map) => Ok(Opened { bytes, map }),
-        Err(failure) => Err(failure),
-    }
+) -> Result<Opened<'b>, Failure> {
+    let map = map_of(rt, path, bytes.as_slice(), manner, bases)?;
+    Ok(Opened { bytes, map })
 }
 
 /// The map of a file that a run needs. Why it is refused goes to the standard error.
@@ -142,10 +145,8 @@ pub fn map_needed(
     manner: Manner,
     bases: &mut Bases<'_>,
 ) -> Result<CMap, Failure> {
-    match open(rt, argument, manner, bases) {
-        Ok(opened) => Ok(opened.map),
-        Err(failure) => Err(failure),
-    }
+    let Opened { map, .. } = open(rt, argument, manner, bases)?;
+    Ok(map)
 }
 
 /// The map of a file of these bytes. Its faults go to the standard error: the first one where they aren't

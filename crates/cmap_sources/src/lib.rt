@@ -5,6 +5,7 @@
 pub mod bases;
 pub mod failure;
 pub mod fault_line;
+pub mod file_bytes;
 pub mod file_names;
 pub mod folders;
 pub mod inputs;

@@ -1,4 +1,4 @@
-//! Files over the files that they use, each of which is read when it is first missing.
+//! Files over the files that they use. These are read when they are missing, and the file is then parsed again.
 
 use crate::bases::{Bases, Files};
 use crate::failure::Failure;
@@ -22,7 +22,7 @@ pub struct Reading {
     pub map: Option<CMap>,
     /// A line for each fault, without an end of the line.
     pub faults: Vec<String>,
-    /// The names of files that are used, but aren't read yet. If there are some, a further try is due.
+    /// The names of files that are used, but aren't read yet. If there are any, parse again.
     missing: Vec<Vec<u8>>,
 }
 
@@ -51,6 +51,10 @@ pub struct Manner {
     pub form: Form,
 }
 
+/// How often a file is parsed at most. Each time but the last, a name is missing whose file wasn't looked for yet,
+/// and then it is: so there is an end, but no clause says that a file names only so many others.
+const MOST_PARSES: u32 = u32::MAX;
+
 /// Reads a file over the files that it uses.
 pub fn read_over(
     rt: &HostRuntime,
@@ -76,18 +80,21 @@ impl Reading {
         manner: Manner,
         bases: &mut Bases<'_>,
     ) -> Result<(), Failure> {
-        for _ in 0..u32::MAX {
-            self.read_over_known(rt.alloc(), input, manner, bases)?;
+        for parses in 0..MOST_PARSES {
+            self.parse(rt.alloc(), input, manner, bases)?;
             if self.missing.is_empty() {
                 break;
             }
             bases.read_all(rt, &self.missing)?;
+            if let Faults::First = manner.faults {
+                read_ahead(rt, parses, input, bases)?;
+            }
         }
         Ok(())
     }
 
-    /// Reads a file over the files that are read.
-    fn read_over_known(
+    /// Parses a file over the files that are read.
+    fn parse(
         &mut self,
         alloc: Global,
         input: Input<'_>,
@@ -152,6 +159,24 @@ impl Reading {
             self.faults = lines_of(alloc, input, form, bases, faults)?;
         }
         Ok(())
+    }
+}
+
+/// Reads the files that will be missing next, since a parse up to the first fault finds one missing name alone. Most
+/// files use one other, so that none is read ahead after the first parse.
+fn read_ahead(
+    rt: &HostRuntime,
+    parses: u32,
+    input: Input<'_>,
+    bases: &mut Bases<'_>,
+) -> Result<(), Failure> {
+    match parses {
+        0 => Ok(()),
+        1 => {
+            bases.read_used_by(rt, input.bytes)?;
+            bases.read_used(rt)
+        }
+        _ => bases.read_used(rt),
     }
 }
 
