@@ -6,6 +6,7 @@ use crate::lint::{LintOptions, push_warnings, subject_of};
 use crate::options::Sources;
 use crate::progress::Progress;
 use clap::ArgMatches;
+use cmap_escape::count::Count;
 use cmap_escape::object::Object;
 use cmap_escape::{escape, json};
 use cmap_sources::bases::Bases;
@@ -74,12 +75,12 @@ fn manner_of(arguments: &ArgMatches<'_>) -> Manner {
 /// What a run over many files finds.
 #[derive(Drop)]
 struct Tally {
-    checked: usize,
-    refused: usize,
+    checked: Count,
+    refused: Count,
     /// How many have a warning that is denied.
-    denied: usize,
+    denied: Count,
     /// How many paths can't be read.
-    unreadable: usize,
+    unreadable: Count,
 }
 
 /// A run over many files.
@@ -111,9 +112,9 @@ fn check_paths(
         options,
         progress: Progress::new(rt, paths.files.len()),
         tally: Tally {
-            checked: 0,
-            refused: 0,
-            denied: 0,
+            checked: Count::of(0),
+            refused: Count::of(0),
+            denied: Count::of(0),
             unreadable: paths.unreadable,
         },
     };
@@ -150,7 +151,7 @@ impl Run<'_, '_, '_> {
     }
 
     fn report_unreadable(&mut self, rt: &HostRuntime, path: &str) -> Result<(), Failure> {
-        self.tally.unreadable = self.tally.unreadable.saturating_add(1);
+        self.tally.unreadable.add_one();
         self.progress.clear(rt)?;
         report_unreadable(rt, path)?;
         Ok(())
@@ -216,19 +217,19 @@ fn push_lint(
 
 impl Tally {
     fn count(&mut self, reading: &Reading, is_denied: bool) {
-        self.checked = self.checked.saturating_add(1);
+        self.checked.add_one();
         if !reading.faults.is_empty() {
-            self.refused = self.refused.saturating_add(1);
+            self.refused.add_one();
         }
         if is_denied {
-            self.denied = self.denied.saturating_add(1);
+            self.denied.add_one();
         }
     }
 
     fn status(&self) -> u8 {
-        if self.unreadable > 0 {
+        if self.unreadable.get() > 0 {
             FAILED
-        } else if self.refused > 0 || self.denied > 0 {
+        } else if self.refused.get() > 0 || self.denied.get() > 0 {
             REFUSED
         } else {
             ACCEPTED
@@ -237,12 +238,16 @@ impl Tally {
 
     /// Reports how many files are checked.
     fn report(&self, rt: &HostRuntime) -> io::Result<()> {
-        let files = if self.checked == 1 { "file" } else { "files" };
+        let files = if self.checked.get() == 1 {
+            "file"
+        } else {
+            "files"
+        };
         eprint!(rt;
             "cmap: {} {files} checked, {} refused",
             self.checked, self.refused
         )?;
-        if self.unreadable > 0 {
+        if self.unreadable.get() > 0 {
             eprint!(rt; ", {} can't be read", self.unreadable)?;
         }
         rt.eprintln("")

@@ -75,7 +75,7 @@ fn declared(alloc: Global, map: &CMap, json: bool) -> Result<String, AllocError>
     let mut printed = String::new(alloc);
     let layers = lines_by_layer(alloc, map)?;
     for (index, lines) in layers.into_iter().enumerate() {
-        let layer = index.saturating_add(1);
+        let layer = index + 1;
         if index > 0 && !json {
             writeln!(printed, "layer {layer}")?;
         }

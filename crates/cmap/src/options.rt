@@ -68,7 +68,7 @@ pub(crate) fn manner_of(arguments: &ArgMatches<'_>) -> Manner {
 
 /// Whether several arguments ask for the standard input, which can be read once.
 pub(crate) fn asks_twice_for_standard_input(arguments: &ArgMatches<'_>) -> bool {
-    let mut count = Count::none();
+    let mut count = Count::of(0);
     add_asking(&mut count, files_of(arguments));
     add_asking(&mut count, arguments_of(arguments));
     for option in &[BUNDLE, TO_UNICODE, FILES_FROM] {

@@ -1,5 +1,6 @@
 //! How far a run over many files has come.
 
+use cmap_escape::count::Count;
 use cmap_sources::failure::Failure;
 use std::io::{self, IsTerminal};
 
@@ -10,7 +11,7 @@ const WIDTH: usize = 30;
 /// terminal these show how far the run has come.
 #[derive(Drop)]
 pub(crate) struct Progress {
-    done: usize,
+    done: Count,
     total: usize,
     is_shown: bool,
 }
@@ -19,7 +20,7 @@ impl Progress {
     /// Of a run over this many files, none of which is done.
     pub(crate) fn new(rt: &HostRuntime, total: usize) -> Progress {
         Progress {
-            done: 0,
+            done: Count::of(0),
             total,
             is_shown: total > 1 && rt.stderr().is_terminal() && !rt.stdout().is_terminal(),
         }
@@ -27,7 +28,7 @@ impl Progress {
 
     /// One more file is done: the bar is drawn anew.
     pub(crate) fn advance(&mut self, rt: &HostRuntime) -> Result<(), Failure> {
-        self.done = self.done.saturating_add(1);
+        self.done.add_one();
         if self.is_shown {
             let bar = self.bar(rt)?;
             eprint!(rt; "\r{bar} {} of {}", self.done, self.total)?;
@@ -40,7 +41,7 @@ impl Progress {
         let mut bar = String::new(rt.alloc());
         bar.push('[')?;
         for cell in 0..WIDTH {
-            let is_done = cell.saturating_mul(self.total) < self.done.saturating_mul(WIDTH);
+            let is_done = cell.saturating_mul(self.total) < self.done.get().saturating_mul(WIDTH);
             bar.push(if is_done { '#' } else { ' ' })?;
         }
         bar.push(']')?;

@@ -3,6 +3,7 @@
 use crate::candidates::Candidate;
 use crate::known_names::is_known;
 use cmap_binary::is_marked_binary;
+use cmap_escape::count::Count;
 use cmap_escape::escape::{push_name, push_text};
 use cmap_files::file::File;
 use cmap_sources::failure::Failure;
@@ -45,7 +46,7 @@ impl<'c> Chosen<'c> {
 pub struct Choice<'c> {
     pub files: Vec<Chosen<'c>>,
     /// How many files are left out, which is reported.
-    pub left_out: usize,
+    pub left_out: Count,
 }
 
 /// Chooses the files that stand in the bundle. Of each that is left out, a line on the standard error says
@@ -53,7 +54,7 @@ pub struct Choice<'c> {
 pub fn choose<'c>(rt: &HostRuntime, candidates: &'c [Candidate]) -> Result<Choice<'c>, Failure> {
     let mut choice = Choice {
         files: Vec::new(rt.alloc()),
-        left_out: 0,
+        left_out: Count::of(0),
     };
     for candidate in candidates {
         choice.add(rt, candidate)?;
@@ -123,7 +124,7 @@ impl<'c> Choice<'c> {
         let mut line = String::new(rt.alloc());
         push_text(&mut line, candidate.path.as_str())?;
         eprintln!(rt; "cmap: {line}: left out: {reason}")?;
-        self.left_out = self.left_out.saturating_add(1);
+        self.left_out.add_one();
         Ok(())
     }
 
@@ -136,7 +137,7 @@ impl<'c> Choice<'c> {
     ) -> Result<(), Failure> {
         let line = fault_line(rt.alloc(), candidate, stop)?;
         eprintln!(rt; "cmap: {line}")?;
-        self.left_out = self.left_out.saturating_add(1);
+        self.left_out.add_one();
         Ok(())
     }
 }

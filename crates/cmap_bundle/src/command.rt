@@ -32,7 +32,7 @@ pub fn bundle(rt: &HostRuntime, options: &BundleOptions<'_, '_>) -> Result<u8, F
     }
     let candidates = candidates_of(rt, options.named, options.paths)?;
     let choice = choose(rt, &candidates.files)?;
-    bundle_of_choice(rt, options, &choice, candidates.passed_over)
+    bundle_of_choice(rt, options, &choice, candidates.passed_over.get())
 }
 
 /// Makes a bundle of the files that were chosen.
@@ -49,7 +49,7 @@ fn bundle_of_choice(
     let bytes = bundle_of(rt.alloc(), &choice.files)?;
     put(rt, output, &bytes, &choice.files, options.is_compared)?;
     print_summary(rt, output, &bytes, passed_over)?;
-    Ok(if choice.left_out > 0 {
+    Ok(if choice.left_out.get() > 0 {
         REFUSED
     } else {
         ACCEPTED

@@ -2,31 +2,32 @@
 
 use std::fmt::{self, Display, Formatter, Write};
 
-/// How many there are of something. What is counted lies in memory or was read, so there are never 2^64 of it. But no
-/// clause says so, and at 2^64 - 1 the count would stay as it is.
+/// How many there are of something. What is counted lies in memory or was read, so its number has 64 bits. But no
+/// clause says so of files, lines or arguments: so a count that can't grow stays as it is, and nobody who counts has to
+/// show that there is room.
 #[derive(Clone, Copy)]
 pub struct Count {
-    number: u64,
+    number: usize,
 }
 
 impl Count {
-    /// Of nothing.
-    pub fn none() -> Count {
-        Count { number: 0 }
+    /// A count that begins at this number.
+    pub fn of(number: usize) -> Count {
+        Count { number }
     }
 
-    /// One more.
+    /// Counts one more.
     pub fn add_one(&mut self) {
         self.add(1);
     }
 
-    /// As many more.
-    pub fn add(&mut self, further: u64) {
+    /// Counts so many more.
+    pub fn add(&mut self, further: usize) {
         self.number = self.number.saturating_add(further);
     }
 
     /// The number.
-    pub fn get(self) -> u64 {
+    pub fn get(self) -> usize {
         self.number
     }
 }

@@ -3,10 +3,11 @@
 
 use crate::finding::{Finding, Place};
 use crate::warning::Warning;
+use cmap_escape::count::Count;
 use hayro_cmap::token::{Number, Scanner, Token};
 
 /// The most entries that a section may have.
-const MOST_ENTRIES: i64 = 100;
+const MOST_ENTRIES: usize = 100;
 
 /// The keys that take the next token as their value.
 const KEYS: &[&[u8]] = &[
@@ -75,7 +76,7 @@ pub(crate) fn count_differs<'m>(text: &[u8]) -> Finding<'m> {
         } else if let Some(kind) = opened_by(&token) {
             add_section(&mut finding, &mut scanner, kind, before, text.len());
         }
-        before = integer(&token);
+        before = number_of(&token);
     }
     finding
 }
@@ -85,7 +86,7 @@ fn add_section(
     finding: &mut Finding<'_>,
     scanner: &mut Scanner<'_>,
     kind: &Kind,
-    before: Option<i64>,
+    before: Option<usize>,
     most: usize,
 ) {
     let offset = scanner.offset().saturating_sub(kind.opener.len());
@@ -95,10 +96,10 @@ fn add_section(
     }
 }
 
-/// The value of a token that is an integer.
-fn integer(token: &Token<'_>) -> Option<i64> {
+/// The value of a token that is a number of entries.
+fn number_of(token: &Token<'_>) -> Option<usize> {
     match token {
-        Token::Number(Number::Integer(number)) => Some(*number),
+        Token::Number(Number::Integer(number)) => usize::try_from(*number).ok(),
         _ => None,
     }
 }
@@ -131,7 +132,7 @@ fn opened_by(token: &Token<'_>) -> Option<&'static Kind> {
 }
 
 /// Reads a section up to its end, and counts its entries.
-fn count_entries(scanner: &mut Scanner<'_>, kind: &Kind, most: usize) -> i64 {
+fn count_entries(scanner: &mut Scanner<'_>, kind: &Kind, most: usize) -> usize {
     let parts = count_parts(scanner, most);
     if kind.is_of_three {
         parts / 3
@@ -141,8 +142,8 @@ fn count_entries(scanner: &mut Scanner<'_>, kind: &Kind, most: usize) -> i64 {
 }
 
 /// Reads a section up to its end, and counts the parts of its entries. A list of texts is one.
-fn count_parts(scanner: &mut Scanner<'_>, most: usize) -> i64 {
-    let mut parts: i64 = 0;
+fn count_parts(scanner: &mut Scanner<'_>, most: usize) -> usize {
+    let mut parts = Count::of(0);
     let mut is_in_list = false;
     for _ in 0..most {
         let Ok(Some(token)) = scanner.next_token() else {
@@ -152,12 +153,12 @@ fn count_parts(scanner: &mut Scanner<'_>, most: usize) -> i64 {
             Some(name) if name == LIST_START => is_in_list = true,
             Some(name) if name == LIST_END => {
                 is_in_list = false;
-                parts = parts.saturating_add(1);
+                parts.add_one();
             }
             Some(_) => break,
-            None if !is_in_list => parts = parts.saturating_add(1),
+            None if !is_in_list => parts.add_one(),
             None => {}
         }
     }
-    parts
+    parts.get()
 }

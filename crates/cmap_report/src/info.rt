@@ -22,7 +22,7 @@ pub fn push_info(
     uses: &[Vec<&[u8]>],
 ) -> Result<(), AllocError> {
     for (index, layer) in map.layers().as_slice().iter().enumerate() {
-        push_heading(out, file, index)?;
+        push_heading(out, file, index + 1)?;
         push_layer(out, layer, names_at(uses, index))?;
     }
     Ok(())
@@ -36,13 +36,13 @@ fn names_at<T>(uses: &[Vec<T>], index: usize) -> &[T] {
     }
 }
 
-/// Adds the file's path over its own layer, and the number of any other over that.
-fn push_heading(out: &mut String, file: &str, index: usize) -> Result<(), AllocError> {
-    if index == 0 {
+/// Adds the file's path over its own layer, which is layer 1, and the number of any other over that.
+fn push_heading(out: &mut String, file: &str, layer: usize) -> Result<(), AllocError> {
+    if layer == 1 {
         escape::push_text(out, file)?;
         out.push('\n')
     } else {
-        writeln!(out, "layer {}", index.saturating_add(1))
+        writeln!(out, "layer {layer}")
     }
 }
 

@@ -93,7 +93,7 @@ impl<'b> Bases<'b> {
             return Err(unreadable(rt, folder));
         }
         let found = files_in(rt, folder)?;
-        self.has_failed |= found.unreadable > 0;
+        self.has_failed |= found.unreadable.get() > 0;
         for path in &found.files {
             self.add_path(rt.alloc(), path.as_str())?;
         }

@@ -3,6 +3,8 @@
 ghost use Rattle.std.specs.Prelude.{◌≡◌};
 ghost use Rattle.cmap_sources.specs.LineEnds.{line_ends};
 
+use cmap_escape::count::Count;
+
 /// How many line ends these bytes of a text have, which stand after a carriage return or not. A line
 /// ends with LF, CR, or CR and LF.
 pub fn ends_in(bytes: &[u8], is_after_return: bool) -> usize
@@ -26,9 +28,10 @@ pub fn ends_in(bytes: &[u8], is_after_return: bool) -> usize
 pub struct LineCounter<'n> {
     /// The name of the file, if it has one.
     name: Option<&'n [u8]>,
-    /// How far the line ends are counted.
+    /// How far the lines are counted.
     offset: usize,
-    ends: usize,
+    /// The line of the byte at this offset.
+    line: Count,
     is_after_return: bool,
 }
 
@@ -38,7 +41,7 @@ impl<'n> LineCounter<'n> {
         LineCounter {
             name: None,
             offset: 0,
-            ends: 0,
+            line: Count::of(1),
             is_after_return: false,
         }
     }
@@ -53,15 +56,13 @@ impl<'n> LineCounter<'n> {
             };
         }
         self.count(file.get(self.offset..offset)?);
-        Some(self.ends.saturating_add(1))
+        self.offset = offset;
+        Some(self.line.get())
     }
 
     /// Counts the line ends of the bytes that follow.
     fn count(&mut self, bytes: &[u8]) {
-        self.ends = self
-            .ends
-            .saturating_add(ends_in(bytes, self.is_after_return));
-        self.offset = self.offset.saturating_add(bytes.len());
+        self.line.add(ends_in(bytes, self.is_after_return));
         if let Some(last) = bytes.last() {
             self.is_after_return = *last == b'\r';
         }

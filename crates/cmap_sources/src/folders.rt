@@ -2,9 +2,14 @@
 
 use crate::failure::Failure;
 use crate::inputs::{readable, report_unreadable};
+use cmap_escape::count::Count;
 use std::alloc::{AllocError, Global};
 use std::fs::{self, DirEntry, read_dir};
 use std::io;
+
+/// How many folders are read at most. Each is read once, and links aren't followed: so there is an end, but no clause says
+/// that a file system has only so many.
+const MOST_FOLDERS: u32 = u32::MAX;
 
 /// What lies in a folder and its subfolders.
 #[derive(Drop)]
@@ -12,7 +17,7 @@ pub struct Found {
     /// The paths of the files, in the order of their bytes.
     pub files: Vec<String>,
     /// How many folders can't be read.
-    pub unreadable: usize,
+    pub unreadable: Count,
     /// The folders that aren't read yet.
     waiting: Vec<String>,
 }
@@ -61,7 +66,7 @@ impl Found {
     fn new(alloc: Global) -> Found {
         Found {
             files: Vec::new(alloc),
-            unreadable: 0,
+            unreadable: Count::of(0),
             waiting: Vec::new(alloc),
         }
     }
@@ -69,7 +74,7 @@ impl Found {
     /// Adds what lies in a folder and its subfolders.
     fn add_all(&mut self, rt: &HostRuntime, folder: &str) -> Result<(), Failure> {
         self.waiting.push(String::from_str(rt.alloc(), folder)?)?;
-        for _ in 0..u32::MAX {
+        for _ in 0..MOST_FOLDERS {
             let Some(next) = self.waiting.pop() else {
                 break;
             };
@@ -82,7 +87,7 @@ impl Found {
     fn add_folder(&mut self, rt: &HostRuntime, folder: &str) -> Result<(), Failure> {
         if readable(self.add_entries(rt, folder))?.is_none() {
             report_unreadable(rt, folder)?;
-            self.unreadable = self.unreadable.saturating_add(1);
+            self.unreadable.add_one();
         }
         Ok(())
     }

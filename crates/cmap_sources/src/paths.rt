@@ -3,6 +3,7 @@
 use crate::failure::Failure;
 use crate::folders::{files_in, is_folder};
 use crate::inputs::{STANDARD_INPUT, needed, report_unreadable};
+use cmap_escape::count::Count;
 use cmap_escape::escape::escaped_name;
 
 /// A file that lists paths.
@@ -18,7 +19,7 @@ pub struct PathList<'l> {
 pub struct Paths {
     pub files: Vec<String>,
     /// How many paths can't be read, which are reported.
-    pub unreadable: usize,
+    pub unreadable: Count,
 }
 
 /// The files that the arguments name, and then those of the list.
@@ -29,7 +30,7 @@ pub fn paths_of(
 ) -> Result<Paths, Failure> {
     let mut paths = Paths {
         files: Vec::new(rt.alloc()),
-        unreadable: 0,
+        unreadable: Count::of(0),
     };
     paths.add_all(rt, arguments, list)?;
     Ok(paths)
@@ -74,7 +75,7 @@ impl Paths {
                 eprintln!(rt; "cmap: {shown}: not UTF-8")?;
             }
         }
-        self.unreadable = self.unreadable.saturating_add(1);
+        self.unreadable.add_one();
         Ok(())
     }
 
@@ -85,7 +86,7 @@ impl Paths {
             return Ok(());
         }
         let mut found = files_in(rt, path)?;
-        self.unreadable = self.unreadable.saturating_add(found.unreadable);
+        self.unreadable.add(found.unreadable.get());
         self.files.append(&mut found.files)?;
         Ok(())
     }
