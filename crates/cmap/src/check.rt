@@ -1,4 +1,4 @@
-//! `cmap check`: for each file that it is ok, or what is wrong with it.
+//! `cmap check`: reports that a file is ok, or what is wrong with it.
 
 use crate::command_line::files_of;
 use crate::command_line::flags::{BUDGET, FILES_FROM, FIRST, JSON, NULL, QUIET};
@@ -24,13 +24,13 @@ use std::io;
 pub(crate) struct CheckOptions<'m, 'w> {
     /// The files and the folders.
     paths: &'m [&'w str],
-    /// The list of further ones.
+    /// A file that lists more of them.
     list: Option<PathList<'w>>,
     pub(crate) sources: Sources<'m, 'w>,
     manner: Manner,
     lint: LintOptions<'m, 'w>,
     json: bool,
-    /// Whether how many files were checked isn't reported.
+    /// Whether the last line, with the number of files, is left out.
     is_quiet: bool,
 }
 
@@ -48,7 +48,7 @@ impl<'m, 'w> CheckOptions<'m, 'w> {
     }
 }
 
-/// The list of further files and folders.
+/// The file that lists more files and folders.
 fn list_of<'w>(arguments: &ArgMatches<'w>) -> Option<PathList<'w>> {
     let path = FILES_FROM.text(arguments)?;
     let end = if NULL.is_given(arguments) { 0 } else { b'\n' };
@@ -77,7 +77,7 @@ fn manner_of(arguments: &ArgMatches<'_>) -> Manner {
 struct Tally {
     checked: Count,
     refused: Count,
-    /// How many have a warning that is denied.
+    /// How many files have a warning that is denied.
     denied: Count,
     /// How many paths can't be read.
     unreadable: Count,
@@ -91,7 +91,7 @@ struct Run<'r, 'm, 'w> {
     tally: Tally,
 }
 
-/// Checks the files and the files of the folders, and gives the status.
+/// Checks the files, and those in the folders, and gives the status.
 pub(crate) fn check(
     rt: &HostRuntime,
     options: &CheckOptions<'_, '_>,
@@ -157,7 +157,7 @@ impl Run<'_, '_, '_> {
         Ok(())
     }
 
-    /// Prints the lines of a file, after those of bases that can't be read.
+    /// Prints the lines of a file. Bases that can't be read are reported first.
     fn print(
         &mut self,
         rt: &HostRuntime,
@@ -254,7 +254,7 @@ impl Tally {
     }
 }
 
-/// Adds a line for a file that is accepted, else one for each fault.
+/// Adds one line if the file is accepted, or else one for each fault.
 fn push_reading(
     alloc: Global,
     lines: &mut String,

@@ -1,4 +1,4 @@
-//! The command line of `cmap`: the subcommands, with what stands after the name of each.
+//! The command line of `cmap`: its subcommands, with their options and arguments.
 
 pub(crate) mod flags;
 
@@ -10,33 +10,33 @@ use clap::{Arg, ArgAction, ArgMatches, Command};
 use cmap_sources::inputs::STANDARD_INPUT;
 use std::alloc::{AllocError, Global};
 
-/// What files are found by.
+/// The id of files and folders.
 const FILE: &str = "FILE";
 
-/// What other arguments after the file are found by.
+/// The id of other arguments, after a file.
 const ARGUMENT: &str = "ARGUMENT";
 
-/// The form of a subcommand: its name, and what stands after it.
+/// What the command line says of a subcommand.
 struct Form {
     name: &'static str,
     about: &'static str,
-    /// Its options, in the order in which the help has them.
+    /// Its options, in the order of the help.
     flags: &'static [Flag],
-    /// Whether one file stands before the other arguments.
+    /// Whether its first argument is a file.
     has_file: bool,
-    /// The other arguments; `list` has an option in their place.
+    /// Its other arguments. `list` has none.
     arguments: Option<Arguments>,
 }
 
-/// Arguments of a subcommand, of which there is one at least.
+/// Arguments of a subcommand, at least one.
 struct Arguments {
-    /// What they are found by.
+    /// Their id.
     id: &'static str,
-    /// What the help calls one of them.
+    /// Their name in the help.
     value_name: &'static str,
-    /// The option that may stand for them.
+    /// The option with which no argument is needed.
     unless: Option<&'static str>,
-    /// What the help says of them.
+    /// Their text in the help.
     help: &'static str,
 }
 
@@ -51,7 +51,7 @@ const STRING_FLAGS: &[Flag] = &[
     LENIENT,
 ];
 
-/// Strings, of which there is one at least.
+/// The strings of `decode` and `text`.
 const STRINGS: Arguments = Arguments {
     id: ARGUMENT,
     value_name: "HEX",
@@ -222,7 +222,7 @@ impl Form {
 }
 
 impl Arguments {
-    /// The arguments, for which an option may stand.
+    /// The arguments as `clap` takes them.
     fn arg<'a>(&self, alloc: Global) -> Result<Arg<'a>, AllocError> {
         let arg = Arg::new(alloc, self.id)
             .value_name(self.value_name)
@@ -243,12 +243,12 @@ fn file<'a>(alloc: Global) -> Arg<'a> {
         .help("A CMap file, by its path or its name; - is the standard input")
 }
 
-/// The files that are given, and with `check` and `bundle` the folders.
+/// The files among the arguments. For `check` and `bundle` also the folders.
 pub(crate) fn files_of<'m, 'w>(arguments: &'m ArgMatches<'w>) -> &'m [&'w str] {
     values_of(arguments, FILE)
 }
 
-/// The first file. Subcommands that take one alone aren't run without it.
+/// The first file. `clap` refuses arguments without the file of a subcommand that has one.
 pub(crate) fn file_of<'w>(arguments: &ArgMatches<'w>) -> &'w str {
     files_of(arguments)
         .first()
@@ -256,7 +256,7 @@ pub(crate) fn file_of<'w>(arguments: &ArgMatches<'w>) -> &'w str {
         .unwrap_or(STANDARD_INPUT)
 }
 
-/// What is given after the file: strings, codes, or what is looked for.
+/// The arguments after the file: strings, codes, or what `find` looks for.
 pub(crate) fn arguments_of<'m, 'w>(arguments: &'m ArgMatches<'w>) -> &'m [&'w str] {
     values_of(arguments, ARGUMENT)
 }

@@ -46,7 +46,7 @@ pub(crate) struct Font {
 }
 
 impl Font {
-    /// What strings are read by. Without a ToUnicode CMap, codes have the texts that the encoding has.
+    /// Reads strings by these CMaps. Without a ToUnicode CMap, the encoding gives the texts.
     pub(crate) fn extractor(&self) -> Extractor<'_> {
         let to_unicode = match &self.to_unicode {
             Some(map) => map,
@@ -64,7 +64,7 @@ impl Font {
     }
 }
 
-/// The CMaps that the arguments ask for, and that of the collection where it is found.
+/// The CMaps that the arguments ask for, with that of the collection if it is found.
 pub(crate) fn font_of(
     rt: &HostRuntime,
     options: &StringOptions<'_, '_>,
@@ -91,7 +91,7 @@ fn to_unicode_of(
     }
 }
 
-/// The CMap from the CIDs of an encoding's collection to Unicode, where it is found by its name.
+/// The CMap from the CIDs of an encoding's collection to Unicode, if a file has its name.
 fn collection_of(
     rt: &HostRuntime,
     encoding: &CMap,
@@ -121,7 +121,7 @@ fn family_of(map: &CMap) -> Option<&CidFamily> {
     None
 }
 
-/// The strings that the arguments spell, and for `-` those of the standard input.
+/// The strings of the arguments; `-` stands for those of the standard input.
 pub(crate) fn strings_of(rt: &HostRuntime, arguments: &[&str]) -> Result<Vec<Vec<u8>>, Failure> {
     let mut strings = Vec::new(rt.alloc());
     for argument in arguments {
@@ -130,7 +130,7 @@ pub(crate) fn strings_of(rt: &HostRuntime, arguments: &[&str]) -> Result<Vec<Vec
     Ok(strings)
 }
 
-/// Adds the string that an argument spells, and for `-` those of the standard input.
+/// Adds the string of an argument; `-` stands for those of the standard input.
 fn add_argument(
     rt: &HostRuntime,
     argument: &str,

@@ -18,7 +18,7 @@ use std::alloc::{AllocError, Global};
 /// What the arguments of `info` ask for.
 #[derive(Clone, Copy)]
 pub(crate) struct InfoOptions<'m, 'w> {
-    /// The files. Without any the bundle is meant.
+    /// The files. If there are none, the bundle is meant.
     files: &'m [&'w str],
     pub(crate) sources: Sources<'m, 'w>,
     manner: Manner,
@@ -49,7 +49,7 @@ pub(crate) fn info(
     }
 }
 
-/// Prints what the bundle holds. Without files and without a bundle `info` isn't run.
+/// Prints what the bundle holds. `clap` refuses `info` without a file and without a bundle.
 fn info_of_bundle(
     rt: &HostRuntime,
     options: &InfoOptions<'_, '_>,

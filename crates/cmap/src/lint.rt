@@ -20,7 +20,7 @@ const ALL: &str = "all";
 /// Which warnings are asked for.
 #[derive(Clone, Copy)]
 pub(crate) struct LintOptions<'m, 'w> {
-    /// Whether all warnings are, and not only `nothing-declared`.
+    /// Whether all warnings are asked for, and not only `nothing-declared`.
     is_asked: bool,
     /// Whether the files are meant as maps to Unicode.
     to_unicode: bool,
@@ -39,7 +39,7 @@ impl<'m, 'w> LintOptions<'m, 'w> {
         }
     }
 
-    /// The error of an argument of `--deny` that names no warning.
+    /// Refuses a name after `--deny` that no warning has.
     pub(crate) fn check_names(&self, rt: &HostRuntime) -> Result<(), Failure> {
         for name in self.denied {
             if *name != ALL && Warning::of(name).is_none() {
@@ -60,8 +60,7 @@ impl<'m, 'w> LintOptions<'m, 'w> {
     }
 }
 
-/// Adds a line for each warning about a file of these bytes, whose map this is, and gives whether one of them
-/// is denied.
+/// Adds a line for each warning about a file, and gives whether one of them is denied.
 pub(crate) fn push_warnings(
     alloc: Global,
     lines: &mut String,
@@ -100,7 +99,7 @@ fn push_line(
     push_finding(lines, path, finding)
 }
 
-/// A file whose map this is.
+/// What is asked for warnings: a file with its map.
 pub(crate) fn subject_of<'m>(
     map: &'m CMap,
     input: Input<'m>,

@@ -22,7 +22,7 @@ pub(crate) struct ListOptions<'m, 'w> {
     pub(crate) sources: Sources<'m, 'w>,
     manner: Manner,
     json: bool,
-    /// Whether what codes have over all layers is printed, and not what each layer declares.
+    /// Whether to print what codes have over all layers, in place of what each layer declares.
     is_effective: bool,
 }
 

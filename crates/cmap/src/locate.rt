@@ -1,4 +1,4 @@
-//! `cmap where`: which files arguments stand for.
+//! `cmap where`: the paths of the files that names stand for.
 
 use crate::command_line::files_of;
 use crate::command_line::flags::JSON;
@@ -51,7 +51,7 @@ pub(crate) fn locate(
     Ok(status)
 }
 
-/// The path of the file that an argument stands for; of a file of the bundle, that of the bundle.
+/// The path of the file that an argument stands for. For a file of the bundle it is the path of the bundle.
 fn path_of(
     rt: &HostRuntime,
     argument: &str,

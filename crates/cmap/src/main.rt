@@ -66,7 +66,7 @@ fn run_arguments(rt: &HostRuntime, matches: &ArgMatches<'_>) -> Result<u8, Failu
     }
 }
 
-/// Runs a subcommand over the files that these sources have, and gives the status.
+/// Reads the bundle, if there is one, and runs the subcommand.
 fn run_subcommand(
     rt: &HostRuntime,
     subcommand: &Subcommand<'_, '_>,
@@ -82,7 +82,7 @@ fn run_subcommand(
     }
 }
 
-/// The same with a bundle, or without one.
+/// Runs the subcommand with a bundle, or without one.
 fn run_with(
     rt: &HostRuntime,
     subcommand: &Subcommand<'_, '_>,
@@ -93,7 +93,7 @@ fn run_with(
     run_over(rt, subcommand, sources, &mut bases)
 }
 
-/// Adds the folders of the sources to the bases, and runs the subcommand over them.
+/// Adds the folders to the bases, and runs the subcommand over them.
 fn run_over(
     rt: &HostRuntime,
     subcommand: &Subcommand<'_, '_>,

@@ -1,4 +1,4 @@
-//! What several subcommands take from their arguments.
+//! Options that several subcommands have.
 
 use crate::command_line::flags::{
     BASE, BUDGET, BUNDLE, FILES_FROM, LENIENT, NAME, NO_PREDEFINED, TO_UNICODE,
@@ -11,7 +11,7 @@ use cmap_sources::failure::Failure;
 use cmap_sources::inputs::STANDARD_INPUT;
 use cmap_sources::reading::{Faults, Form, Manner};
 
-/// Where the files are that others use, by their names.
+/// Where files are looked up by their names.
 #[derive(Clone, Copy)]
 pub(crate) struct Sources<'m, 'w> {
     /// The folders of `--base`.
@@ -31,7 +31,7 @@ impl<'m, 'w> Sources<'m, 'w> {
         }
     }
 
-    /// For a subcommand that reads no such files.
+    /// Nowhere, for a subcommand that looks up no names.
     pub(crate) fn nowhere() -> Sources<'m, 'w> {
         Sources {
             bases: &[],
@@ -40,7 +40,7 @@ impl<'m, 'w> Sources<'m, 'w> {
         }
     }
 
-    /// Adds the folders to those in which files are found.
+    /// Adds the folders to the bases.
     pub(crate) fn add_folders(
         &self,
         rt: &HostRuntime,
@@ -53,7 +53,7 @@ impl<'m, 'w> Sources<'m, 'w> {
     }
 }
 
-/// How all subcommands but `check` read files.
+/// How files are read, by all subcommands but `check`.
 pub(crate) fn manner_of(arguments: &ArgMatches<'_>) -> Manner {
     Manner {
         budget: BUDGET.number(arguments),

@@ -7,8 +7,8 @@ use std::io::{self, IsTerminal};
 /// How many characters the bar has.
 const WIDTH: usize = 30;
 
-/// A bar on a terminal. It is only there where the lines of the files go elsewhere, since on a
-/// terminal these show how far the run has come.
+/// A bar on a terminal. It is shown only if the lines of the files go elsewhere: on a terminal these
+/// show how far the run has come.
 #[derive(Drop)]
 pub(crate) struct Progress {
     done: Count,
@@ -17,7 +17,7 @@ pub(crate) struct Progress {
 }
 
 impl Progress {
-    /// Of a run over this many files, none of which is done.
+    /// At the start of a run over this many files.
     pub(crate) fn new(rt: &HostRuntime, total: usize) -> Progress {
         Progress {
             done: Count::of(0),
@@ -26,7 +26,7 @@ impl Progress {
         }
     }
 
-    /// One more file is done: the bar is drawn anew.
+    /// Counts one more file, and draws the bar anew.
     pub(crate) fn advance(&mut self, rt: &HostRuntime) -> Result<(), Failure> {
         self.done.add_one();
         if self.is_shown {
@@ -36,7 +36,7 @@ impl Progress {
         Ok(())
     }
 
-    /// The bar, filled as far as the files are done.
+    /// The bar, filled by the part of the files that is done.
     fn bar(&self, rt: &HostRuntime) -> Result<String, Failure> {
         let mut bar = String::new(rt.alloc());
         bar.push('[')?;
@@ -48,7 +48,7 @@ impl Progress {
         Ok(bar)
     }
 
-    /// Takes the bar away, as before a message and at the end.
+    /// Removes the bar, before a message and at the end.
     pub(crate) fn clear(&self, rt: &HostRuntime) -> io::Result<()> {
         if self.is_shown {
             rt.eprint("\r\u{1B}[K")?;

@@ -1,4 +1,4 @@
-//! The subcommands: which one the arguments name, and how each is run.
+//! The subcommands: the one that the arguments name, and how it is run.
 
 use crate::bundle::bundle_options;
 use crate::check::{CheckOptions, check};
@@ -31,7 +31,7 @@ pub(crate) enum Subcommand<'m, 'w> {
 }
 
 impl<'m, 'w> Subcommand<'m, 'w> {
-    /// The subcommand of this name; `None` of a name that the command line doesn't take.
+    /// The subcommand of this name. `clap` refuses names other than these.
     pub(crate) fn of(name: &str, arguments: &'m ArgMatches<'w>) -> Option<Subcommand<'m, 'w>> {
         Some(match name {
             "info" => Subcommand::Info(InfoOptions::of(arguments)),
@@ -47,7 +47,7 @@ impl<'m, 'w> Subcommand<'m, 'w> {
         })
     }
 
-    /// Where the files are that others use. `bundle` reads no such files.
+    /// Where files are looked up by their names. `bundle` looks up none.
     pub(crate) fn sources(&self) -> Sources<'m, 'w> {
         match self {
             Subcommand::Info(options) => options.sources,

@@ -7,7 +7,7 @@ use cmap_sources::failure::Failure;
 use cmap_sources::status::{ACCEPTED, REFUSED};
 use cmap_unicode::Extractor;
 
-/// Prints the text of each string, and gives the status: whether each code has a text.
+/// Prints the text of each string. The status says whether each code has a text.
 pub(crate) fn text(
     rt: &HostRuntime,
     options: &StringOptions<'_, '_>,

@@ -1,11 +1,10 @@
-//! The help, and what is wrong with arguments. Arguments are untrusted, so they are escaped.
+//! The help, and errors of arguments. Arguments are untrusted, so they are escaped.
 
 use clap::Error;
 use cmap_escape::escape::push_text;
 use cmap_sources::failure::Failure;
 
-/// Prints the help, the version, or what is wrong with the arguments and the usage, and gives the
-/// status.
+/// Prints the help, the version, or the error of the arguments with the usage, and gives the status.
 pub(crate) fn print_usage(rt: &HostRuntime, error: &Error) -> Result<u8, Failure> {
     let text = format!(in rt.alloc(); "{error}")?;
     for line in text.lines() {

@@ -10,7 +10,7 @@ use cmap_sources::inputs::{STANDARD_INPUT, needed};
 #[derive(Drop)]
 pub struct Candidate {
     pub path: String,
-    /// The name that it is given, else its file name where that is a known name. Without either its
+    /// The name that it is given, or else its file name if that is a known name. Without either, its
     /// `CMapName` counts.
     pub name: Option<String>,
     pub bytes: Vec<u8>,
@@ -76,7 +76,7 @@ impl Candidates {
         Ok(())
     }
 
-    /// Adds the file of a path, by this name.
+    /// Adds the file of a path, with this name.
     fn add_file(
         &mut self,
         rt: &HostRuntime,
@@ -94,7 +94,7 @@ impl Candidates {
     }
 }
 
-/// The last part of a path, where it is a known name.
+/// The last part of a path, if it is a known name.
 fn known_file_name(path: &str) -> Option<&str> {
     let name = name_of(path);
     is_known(name.as_bytes()).then_some(name)

@@ -20,7 +20,7 @@ pub struct BundleOptions<'m, 'w> {
     pub named: &'m [&'w str],
     /// The files and the folders.
     pub paths: &'m [&'w str],
-    /// Whether what the bundle says is compared with the files.
+    /// Whether the bundle is compared with the files.
     pub is_compared: bool,
 }
 
@@ -67,7 +67,7 @@ fn print_summary(
     Ok(rt.println(line.as_str())?)
 }
 
-/// Puts a bundle of these bytes in its place, where it is to be compared only if it says what the files say.
+/// Puts a bundle of these bytes in its place. If it is to be compared, it has to say what the files say.
 fn put(
     rt: &HostRuntime,
     output: &str,

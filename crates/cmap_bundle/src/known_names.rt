@@ -1,8 +1,8 @@
-//! The known names, for which a bundle has places.
+//! The known names: those of the files that a bundle may hold.
 
 use hayro_cmap::CMapName;
 
-/// The known names, in the order of their places.
+/// The known names, in the order of a bundle.
 pub const KNOWN_NAMES: &[&str] = &[
     "83pv-RKSJ-H",
     "90ms-RKSJ-H",

@@ -1,10 +1,9 @@
-//! How many there are of something, as it is printed.
+//! Counts, as they are printed.
 
 use std::fmt::{self, Display, Formatter, Write};
 
-/// How many there are of something. What is counted lies in memory or was read, so its number has 64 bits. But no
-/// clause says so of files, lines or arguments: so a count that can't grow stays as it is, and nobody who counts has to
-/// show that there is room.
+/// How many there are of something. Files, lines and arguments never number 2^64, but no clause says so. So a count
+/// saturates: whoever counts needn't show that there is room for one more.
 #[derive(Clone, Copy)]
 pub struct Count {
     number: usize,

@@ -125,7 +125,7 @@ fn grouped_texts(alloc: Global, table: &Table<BfRange>) -> Result<Vec<Grouped>, 
     Ok(grouped)
 }
 
-/// Adds the declarations of texts, those that agree one after another. A group is known by the index of its first.
+/// Adds the declarations of texts, which are sorted by groups. The number of a group is the index of its first.
 fn push_groups(grouped: &mut Vec<Grouped>, keys: &[TextKey<'_>]) -> Result<(), AllocError> {
     let mut group: i64 = 0;
     let mut before: Option<TextKey<'_>> = None;

@@ -1,5 +1,4 @@
-//! Sections of a text that have another number of entries than the number before them says. Adobe
-//! Technical Note 5014.
+//! Sections whose number of entries isn't the number before them. Adobe Technical Note 5014.
 
 use crate::finding::{Finding, Place};
 use crate::warning::Warning;
@@ -81,7 +80,7 @@ pub(crate) fn count_differs<'m>(text: &[u8]) -> Finding<'m> {
     finding
 }
 
-/// Reads a section up to its end, and adds it where the number before it isn't that of its entries.
+/// Reads a section up to its end, and adds it if the number before it is wrong.
 fn add_section(
     finding: &mut Finding<'_>,
     scanner: &mut Scanner<'_>,
@@ -96,7 +95,7 @@ fn add_section(
     }
 }
 
-/// The value of a token that is a number of entries.
+/// The number of a token, if it may be a number of entries.
 fn number_of(token: &Token<'_>) -> Option<usize> {
     match token {
         Token::Number(Number::Integer(number)) => usize::try_from(*number).ok(),
@@ -141,7 +140,7 @@ fn count_entries(scanner: &mut Scanner<'_>, kind: &Kind, most: usize) -> usize {
     }
 }
 
-/// Reads a section up to its end, and counts the parts of its entries. A list of texts is one.
+/// Reads a section up to its end, and counts the parts of its entries. A list of texts is one part.
 fn count_parts(scanner: &mut Scanner<'_>, most: usize) -> usize {
     let mut parts = Count::of(0);
     let mut is_in_list = false;

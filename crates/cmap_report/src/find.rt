@@ -42,8 +42,8 @@ struct Codes {
     range: Range,
 }
 
-/// Adds a line for each range of codes that an argument asks for, or one with `-` where there are none.
-/// The argument stands in thirteen columns before it.
+/// Adds a line for each range of codes that an argument asks for, or one with `-` if there are none. The
+/// argument comes first, in thirteen columns.
 pub fn push_codes(
     alloc: Global,
     out: &mut String,
@@ -137,7 +137,7 @@ fn codes_of(alloc: Global, map: &CMap, wanted: Wanted<'_>) -> Result<Vec<Codes>,
     }
 }
 
-/// The codes of a CID, of each length that codes of the map have.
+/// The codes of a CID, for each length that codes of the map have.
 fn codes_of_cid(alloc: Global, map: &CMap, cid: u32) -> Result<Vec<Codes>, AllocError> {
     let mut found = Vec::new(alloc);
     for len in LENGTHS {
@@ -184,8 +184,8 @@ fn units_of(alloc: Global, text: &str) -> Result<Vec<u16>, AllocError> {
     Ok(units)
 }
 
-/// The code of a stretch that has the text of these units, if one has: no two codes of a declaration
-/// have the same text.
+/// The code of a stretch that has the text of these units. At most one has it, since no two codes of a
+/// declaration have the same text.
 fn code_among(
     alloc: Global,
     map: &CMap,
@@ -207,7 +207,7 @@ fn code_among(
     }
 }
 
-/// The code at which the last unit of a declaration has counted on to that of these units.
+/// The code at which the last unit of a declaration reaches the last of these units.
 fn candidate(stretch: TextStretch<'_>, units: &[u16]) -> Option<u32> {
     let declaration: &BfRange = stretch.declaration?;
     let begin = declaration.units.as_slice().last()?;

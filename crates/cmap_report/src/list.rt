@@ -9,8 +9,8 @@ use hayro_cmap::runs::{Looks, Range, Table};
 use hayro_cmap::{BfRange, CMap, CidRange, CodeLength, Codespace, Layer};
 use std::alloc::{AllocError, Global};
 
-/// What each layer declares, that of the top layer first: its codespace ranges, then its CIDs, its
-/// notdefs and its texts, each in the order of the file.
+/// What each layer declares, the top layer first: its codespace ranges, then its CIDs, its notdefs and its
+/// texts, each in the order of the file.
 pub fn lines_by_layer(alloc: Global, map: &CMap) -> Result<Vec<Vec<Line>>, AllocError> {
     let mut layers = Vec::new(alloc);
     for layer in map.layers().as_slice() {

@@ -1,4 +1,4 @@
-//! The files that others use, by their names. Each is read when it is used for the first time.
+//! Bases: the files that others use, by their names. A base is read only if a file uses it.
 
 ghost use Rattle.cmap_sources.specs.BytesSeen.{bytes_seen};
 
@@ -13,7 +13,7 @@ use hayro_cmap::{Bundle, BundleFiles, CMap, NamedFile, NamedFiles};
 use std::alloc::{AllocError, Global};
 use std::collections::BTreeMap;
 
-/// A file that others use.
+/// A base that was read.
 #[derive(Drop)]
 pub struct Base<'b> {
     name: Vec<u8>,
@@ -34,39 +34,39 @@ impl<'b> NamedFile for Base<'b> {
     }
 }
 
-/// The files that are read.
+/// The bases that were read.
 pub type Files<'f> = NamedFiles<'f, Base<'f>, Bundle<'f>>;
 
-/// What comes of looking for the file of a name.
+/// What was found of a name.
 #[derive(Drop)]
 enum Found<'b> {
     File(FileBytes<'b>),
-    /// The file of this path can't be read.
+    /// The file has this path, and can't be read.
     Unreadable(String),
     Nothing,
 }
 
-/// The files that others may use: those of folders, those of a bundle for the names that none of them has,
-/// and else those that are found in further folders.
+/// The files that others may use. A name is looked up in the folders of bases, then in the bundle, then by
+/// `search`.
 #[derive(Drop)]
 pub struct Bases<'b> {
     pub bundle: Option<&'b Bundle<'b>>,
-    /// The paths of the files of folders that aren't read yet, by their names.
+    /// The paths of bases that aren't read yet, by their names.
     paths: BTreeMap<String, String>,
-    /// Where the names are looked up that neither has: at first nowhere.
+    /// The last folders in which a name is looked up: none at first.
     pub search: Search,
-    /// The files that are read.
+    /// The bases that were read.
     read: Vec<Base<'b>>,
-    /// How many of these were asked which files they use.
+    /// The files that these use were read ahead, up to this index.
     asked: usize,
-    /// The paths that can't be read, and aren't reported yet.
+    /// Paths that can't be read, and aren't reported yet.
     unreadable: Vec<String>,
     /// Whether something can't be read.
     has_failed: bool,
 }
 
 impl<'b> Bases<'b> {
-    /// The files of this bundle.
+    /// The files of the bundle alone.
     pub fn new(alloc: Global, bundle: Option<&'b Bundle<'b>>) -> Self {
         Bases {
             bundle,
@@ -110,7 +110,7 @@ impl<'b> Bases<'b> {
         Ok(())
     }
 
-    /// The files that are read, over the bundle.
+    /// The bases that were read, and the files of the bundle.
     pub fn files(&self) -> Files<'_> {
         NamedFiles {
             files: self.read.as_slice(),
@@ -118,13 +118,13 @@ impl<'b> Bases<'b> {
         }
     }
 
-    /// The files that are read, without the bundle: one of the bundle's files is among them once it is
-    /// used, so that a file of a folder comes before it.
+    /// The bases that were read, without the bundle. A file of the bundle is added to them when it is used, so
+    /// that the base of its name comes first.
     pub fn read_files(&self) -> Files<'_> {
         NamedFiles::alone(self.read.as_slice())
     }
 
-    /// Whether a file may have this name that isn't read yet.
+    /// Whether a file that isn't read yet may have this name.
     pub fn has_unread(&self, name: &[u8]) -> bool {
         if self.base(name).is_some() {
             return false;
@@ -132,7 +132,7 @@ impl<'b> Bases<'b> {
         self.path(name).is_some() || self.bundle_file(name).is_some() || self.search.may_have(name)
     }
 
-    /// The path of the file of this name in the folders, unless it is read.
+    /// The path of the base of this name that isn't read yet.
     fn path(&self, name: &[u8]) -> Option<&str> {
         let name = str::from_utf8(name).ok()?;
         Some(self.paths.get(name)?.as_str())
@@ -142,7 +142,7 @@ impl<'b> Bases<'b> {
         self.bundle?.file_of(name)
     }
 
-    /// Reads the files of these names that aren't read yet.
+    /// Reads the files of these names, but for those that were read.
     pub fn read_all(&mut self, rt: &HostRuntime, names: &[Vec<u8>]) -> Result<(), Failure> {
         for name in names {
             self.read(rt, name)?;
@@ -150,8 +150,8 @@ impl<'b> Bases<'b> {
         Ok(())
     }
 
-    /// Reads the file of this name, if it isn't read yet. Where a path can't be read, which is to be
-    /// reported, the name is looked for once more, in the bundle and in further folders.
+    /// Reads the file of this name, unless it was read. A base that can't be read is kept for the report, and
+    /// the name is looked up once more: in the bundle and by `search`.
     fn read(&mut self, rt: &HostRuntime, name: &[u8]) -> Result<(), Failure> {
         if !self.has_unread(name) {
             return Ok(());
@@ -169,7 +169,7 @@ impl<'b> Bases<'b> {
         Ok(())
     }
 
-    /// Reads the files that this one uses, before they are missing.
+    /// Reads the files ahead that this one uses.
     pub fn read_used_by(&mut self, rt: &HostRuntime, file: &[u8]) -> Result<(), Failure> {
         if let Some(names) = CMap::uses(rt.alloc(), file, self.bundle)? {
             for name in &names {
@@ -179,7 +179,7 @@ impl<'b> Bases<'b> {
         Ok(())
     }
 
-    /// Reads the files that those use that are read, before they are missing. Each file is asked once.
+    /// Reads the files ahead that the bases use. Each base is asked once.
     pub fn read_used(&mut self, rt: &HostRuntime) -> Result<(), Failure> {
         let count = self.read.len();
         for index in self.asked..count {
@@ -190,8 +190,8 @@ impl<'b> Bases<'b> {
         Ok(())
     }
 
-    /// Reads the file of this name before it is missing. One that can't be read is reported only when it
-    /// is missing.
+    /// Reads the file of this name ahead, unless it was read. If it can't be read, nothing changes: it is
+    /// reported only if a parse misses it.
     fn read_ahead(&mut self, rt: &HostRuntime, name: &[u8]) -> Result<(), Failure> {
         if !self.has_unread(name) {
             return Ok(());
@@ -210,7 +210,7 @@ impl<'b> Bases<'b> {
         Ok(self.read.push(Base { name, bytes })?)
     }
 
-    /// Looks for the file of this name, which isn't read yet, and reads it.
+    /// Looks up a name whose file isn't read yet, and reads the file.
     fn look_for(&mut self, rt: &HostRuntime, name: &[u8]) -> Result<Found<'b>, Failure> {
         if let Some(path) = self.path(name) {
             let path = String::from_str(rt.alloc(), path)?;
@@ -228,7 +228,7 @@ impl<'b> Bases<'b> {
         }
     }
 
-    /// Says that the path of this name can't be read.
+    /// Keeps the path of this name for the report, and takes it out of where the name is looked up.
     fn set_unreadable(
         &mut self,
         alloc: Global,
@@ -267,7 +267,7 @@ impl<'b> Bases<'b> {
         self.read.iter().find(|base| base.name.as_slice() == name)
     }
 
-    /// The path of the file of this name; of one in the bundle, this path of the bundle.
+    /// The path of the file of this name. For a file of the bundle it is this path of the bundle.
     pub fn locate(
         &mut self,
         rt: &HostRuntime,
@@ -280,7 +280,7 @@ impl<'b> Bases<'b> {
         }
     }
 
-    /// The path of the file of this name in the folders, else that of the bundle which has it.
+    /// The path of the base of this name, or else of the bundle if it has the name.
     fn known_path<'p>(&'p self, name: &[u8], bundle: Option<&'p str>) -> Option<&'p str> {
         match self.path(name) {
             Some(path) => Some(path),
@@ -289,17 +289,17 @@ impl<'b> Bases<'b> {
         }
     }
 
-    /// Whether a file of this name would be found if the predefined CMaps of the system were there.
+    /// Whether this may be the name of a predefined CMap that the system lacks.
     pub fn may_be_predefined(&self, name: &[u8]) -> bool {
         self.search.is_of_system() && file_name(name).is_some()
     }
 
-    /// Whether a file can't be read, which isn't reported yet.
+    /// Whether there is something to report.
     pub fn has_unreported(&self) -> bool {
         !self.unreadable.is_empty()
     }
 
-    /// Reports the files that can't be read, each once.
+    /// Reports the paths that can't be read, each once.
     pub fn report(&mut self, rt: &HostRuntime) -> Result<(), Failure> {
         self.has_failed |= self.has_unreported();
         for path in &self.unreadable {
@@ -309,13 +309,13 @@ impl<'b> Bases<'b> {
         Ok(())
     }
 
-    /// The status of what was read here.
+    /// The status of the bases: whether all that were used could be read.
     pub fn status(&self) -> u8 {
         if self.has_failed { FAILED } else { ACCEPTED }
     }
 }
 
-/// The file of a path, which is read.
+/// Reads the file of a path.
 fn found_at<'b>(rt: &HostRuntime, path: String) -> Result<Found<'b>, Failure> {
     match read(rt, path.as_str())? {
         Some(bytes) => Ok(Found::File(FileBytes::of(bytes)?)),

@@ -5,8 +5,8 @@ ghost use Rattle.cmap_sources.specs.LineEnds.{line_ends};
 
 use cmap_escape::count::Count;
 
-/// How many line ends these bytes of a text have, which stand after a carriage return or not. A line
-/// ends with LF, CR, or CR and LF.
+/// How many line ends these bytes have, after a carriage return or not. A line ends with LF, CR, or CR and
+/// LF.
 pub fn ends_in(bytes: &[u8], is_after_return: bool) -> usize
     ensures { result ≡ line_ends is_after_return bytes.now }
 {
@@ -22,15 +22,15 @@ pub fn ends_in(bytes: &[u8], is_after_return: bool) -> usize
     ends
 }
 
-/// Counts the lines of bytes in files. The bytes of one file in a row, each not before the last, cost one
-/// pass over the file together.
+/// Finds the lines of bytes in files. For bytes of one file, in the order of their offsets, it passes over the
+/// file once.
 #[derive(Drop)]
 pub struct LineCounter<'n> {
     /// The name of the file, if it has one.
     name: Option<&'n [u8]>,
-    /// How far the lines are counted.
+    /// The offset of the last byte.
     offset: usize,
-    /// The line of the byte at this offset.
+    /// The line of that byte.
     line: Count,
     is_after_return: bool,
 }
@@ -46,8 +46,8 @@ impl<'n> LineCounter<'n> {
         }
     }
 
-    /// The line of the byte at this offset of a file, the first one 1; `None` where the offset is past the
-    /// end. A name stands for one file.
+    /// The line of the byte at this offset of a file; the first line is 1. `None` if the offset is past the end.
+    /// A name stands for one file.
     pub fn line_of(&mut self, name: Option<&'n [u8]>, file: &[u8], offset: usize) -> Option<usize> {
         if name != self.name || offset < self.offset {
             *self = LineCounter {

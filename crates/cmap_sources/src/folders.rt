@@ -7,8 +7,8 @@ use std::alloc::{AllocError, Global};
 use std::fs::{self, DirEntry, read_dir};
 use std::io;
 
-/// How many folders are read at most. Each is read once, and links aren't followed: so there is an end, but no clause says
-/// that a file system has only so many.
+/// The most folders that are read. The loop over folders ends because each is read once and links aren't followed, but
+/// no clause says how many a file system has: so it has this bound, which no run reaches.
 const MOST_FOLDERS: u32 = u32::MAX;
 
 /// What lies in a folder and its subfolders.
@@ -39,15 +39,15 @@ pub fn is_file(rt: &HostRuntime, path: &str) -> bool {
 }
 
 /// The files in a folder and its subfolders, but for hidden files and folders. A link to a file counts
-/// as a file, and a link to a folder isn't followed. Each folder that can't be read is reported.
+/// as a file, and a link to a folder isn't followed. Folders that can't be read are reported.
 pub fn files_in(rt: &HostRuntime, folder: &str) -> Result<Found, Failure> {
     let mut found = Found::new(rt.alloc());
     found.add_all(rt, folder)?;
     Ok(found)
 }
 
-/// Adds a folder, and after it its subfolders in the order of their paths, but for hidden ones and links. Of a
-/// folder that can't be read there are none.
+/// Adds a folder, and after it its subfolders in the order of their paths, but for hidden ones and links. A
+/// folder that can't be read has no subfolders.
 pub fn add_with_subfolders(
     rt: &HostRuntime,
     folder: &str,

@@ -1,4 +1,4 @@
-//! What is read: files, and the maps of those that arguments ask for.
+//! Files that arguments ask for: their bytes and their maps.
 
 use crate::bases::Bases;
 use crate::failure::{Failure, fault, report};
@@ -10,7 +10,7 @@ use hayro_cmap::{CMap, Fault};
 use std::fs;
 use std::io::{self, ErrorKind, Read};
 
-/// The path that stands for the standard input.
+/// The argument that stands for the standard input.
 pub const STANDARD_INPUT: &str = "-";
 
 /// The bytes of a file that a run needs; `-` is the standard input.
@@ -21,7 +21,7 @@ pub fn needed(rt: &HostRuntime, path: &str) -> Result<Vec<u8>, Failure> {
     }
 }
 
-/// The bytes of a file; `-` is the standard input. `None` where it can't be read.
+/// The bytes of a file; `-` is the standard input. `None` if it can't be read.
 pub fn read(rt: &HostRuntime, path: &str) -> Result<Option<Vec<u8>>, Failure> {
     if path == STANDARD_INPUT {
         let mut bytes = Vec::new(rt.alloc());
@@ -33,7 +33,7 @@ pub fn read(rt: &HostRuntime, path: &str) -> Result<Option<Vec<u8>>, Failure> {
     readable(fs::read(rt, path))
 }
 
-/// What is read; `None` where it can't be. That memory ran out is an error.
+/// What was read; `None` if it can't be read. Out of memory is an error.
 pub fn readable<T: Drop>(read: io::Result<T>) -> Result<Option<T>, Failure> {
     match read {
         Ok(read) => Ok(Some(read)),
@@ -47,7 +47,7 @@ pub fn unreadable(rt: &HostRuntime, path: &str) -> Failure {
     fault(rt, path, "can't be read")
 }
 
-/// The failure of an argument that is neither a path nor a name.
+/// The failure of an argument that is neither the path nor the name of a file.
 fn missing(rt: &HostRuntime, argument: &str, bases: &Bases<'_>) -> Failure {
     if bases.may_be_predefined(argument.as_bytes()) {
         unknown_name(rt, argument, bases)
@@ -78,13 +78,13 @@ pub fn report_unreadable(rt: &HostRuntime, path: &str) -> Result<u8, Failure> {
 /// A file that is read, with its map.
 #[derive(Drop)]
 pub struct Opened<'b> {
-    /// The bytes of the file, none where a predefined CMap has no file.
+    /// The bytes of the file. A predefined CMap without a file has no bytes.
     pub bytes: FileBytes<'b>,
     pub map: CMap,
 }
 
-/// The file that an argument asks for: by its path, or where no file has the path, by its name. Why a file is
-/// refused goes to the standard error, and that none can be read is a message.
+/// The file of this path, or if no file has the path, of this name. Its faults are reported. A file that can't be read
+/// is a failure with a message.
 pub fn open<'b>(
     rt: &HostRuntime,
     argument: &str,
@@ -98,7 +98,7 @@ pub fn open<'b>(
     open_bytes(rt, argument, bytes, manner, bases)
 }
 
-/// The base or the bundle's file of this name, else a predefined CMap.
+/// The file of this name, or else the predefined CMap.
 fn open_by_name<'b>(
     rt: &HostRuntime,
     name: &str,
@@ -138,7 +138,7 @@ fn open_bytes<'b>(
     Ok(Opened { bytes, map })
 }
 
-/// The map of a file that a run needs. Why it is refused goes to the standard error.
+/// The map of a file that a run needs. Its faults are reported.
 pub fn map_needed(
     rt: &HostRuntime,
     argument: &str,
@@ -149,8 +149,7 @@ pub fn map_needed(
     Ok(map)
 }
 
-/// The map of a file of these bytes. Its faults go to the standard error: the first one where they aren't
-/// passed over, and the file is then refused.
+/// The map of a file of these bytes. Its faults are reported. If it isn't read past them, it is refused at the first.
 pub fn map_of(
     rt: &HostRuntime,
     path: &str,

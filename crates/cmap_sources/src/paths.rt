@@ -1,4 +1,4 @@
-//! Which files `check` reads.
+//! The files that `check` reads.
 
 use crate::failure::Failure;
 use crate::folders::{files_in, is_folder};
@@ -10,15 +10,15 @@ use cmap_escape::escape::escaped_name;
 #[derive(Clone, Copy)]
 pub struct PathList<'l> {
     pub path: &'l str,
-    /// The byte that ends each path in it.
+    /// The byte after each path.
     pub end: u8,
 }
 
-/// The files that arguments and a list name, and those in folders that they name.
+/// The files that arguments and a list name, and the files in folders that they name.
 #[derive(Drop)]
 pub struct Paths {
     pub files: Vec<String>,
-    /// How many paths can't be read, which are reported.
+    /// How many paths can't be read. They are reported.
     pub unreadable: Count,
 }
 
@@ -53,7 +53,7 @@ impl Paths {
         }
     }
 
-    /// Adds what the paths of a list name, between which this byte stands. Empty ones are passed over.
+    /// Adds what the paths of a list name. This byte ends each of them, and empty ones are passed over.
     fn add_list(&mut self, rt: &HostRuntime, list: &[u8], end: u8) -> Result<(), Failure> {
         for path in list.split(|byte| *byte == end) {
             if !path.is_empty() {
@@ -63,7 +63,7 @@ impl Paths {
         Ok(())
     }
 
-    /// Adds what a path of a list names, or reports that it can't be one.
+    /// Adds what a path of a list names, or reports that it is invalid.
     fn add_listed(&mut self, rt: &HostRuntime, path: &[u8]) -> Result<(), Failure> {
         match str::from_utf8(path) {
             Ok(STANDARD_INPUT) => {

@@ -1,4 +1,4 @@
-//! Files over the files that they use. These are read when they are missing, and the file is then parsed again.
+//! A file is parsed over the bases that were read. If one is missing, it is read, and the file is parsed again.
 
 use crate::bases::{Bases, Files};
 use crate::failure::Failure;
@@ -8,30 +8,30 @@ use cmap_escape::escape::push_text;
 use hayro_cmap::{CMap, Cause, Fault, Refusal, SalvagedMap};
 use std::alloc::{AllocError, Global};
 
-/// A file that is read.
+/// A file to be parsed.
 #[derive(Clone, Copy)]
 pub struct Input<'i> {
     pub path: &'i str,
     pub bytes: &'i [u8],
 }
 
-/// What comes of a file over the files that it uses.
+/// What a file and the files that it uses say.
 #[derive(Drop)]
 pub struct Reading {
-    /// Also of a file with faults, where all are looked for.
+    /// The map. With `Faults::All` a file with faults has one too.
     pub map: Option<CMap>,
-    /// A line for each fault, without an end of the line.
+    /// A line for each fault, without its line end.
     pub faults: Vec<String>,
-    /// The names of files that are used, but aren't read yet. If there are any, parse again.
+    /// The names of bases that aren't read yet. If there are any, parse again.
     missing: Vec<Vec<u8>>,
 }
 
 /// Which faults of a file are looked for.
 #[derive(Clone, Copy)]
 pub enum Faults {
-    /// The first one, for which the file is refused.
+    /// The first. The file is then refused.
     First,
-    /// All: the file is read past each.
+    /// All. The file is read past each of them.
     All,
 }
 
@@ -51,8 +51,9 @@ pub struct Manner {
     pub form: Form,
 }
 
-/// How often a file is parsed at most. Each time but the last, a name is missing whose file wasn't looked for yet,
-/// and then it is: so there is an end, but no clause says that a file names only so many others.
+/// How often a file is parsed at most. The loop ends because each parse but the last misses a name that wasn't looked
+/// up before, and files have only so many names. But no clause says how many: so it has this bound, which no run
+/// reaches.
 const MOST_PARSES: u32 = u32::MAX;
 
 /// Reads a file over the files that it uses.
@@ -72,7 +73,7 @@ pub fn read_over(
 }
 
 impl Reading {
-    /// Reads a file, and the files that it uses, until none is missing that can be read.
+    /// Parses a file until no base is missing that can be read.
     fn read_over(
         &mut self,
         rt: &HostRuntime,
@@ -93,7 +94,7 @@ impl Reading {
         Ok(())
     }
 
-    /// Parses a file over the files that are read.
+    /// Parses a file over the bases that were read.
     fn parse(
         &mut self,
         alloc: Global,
@@ -108,7 +109,7 @@ impl Reading {
         }
     }
 
-    /// Reads a file over these files, up to its first fault.
+    /// Parses a file over these files, up to the first fault.
     fn read_strictly<'f>(
         &mut self,
         alloc: Global,
@@ -129,7 +130,7 @@ impl Reading {
         }
     }
 
-    /// Reads a file over these files, past its faults.
+    /// Parses a file over these files, past all faults.
     fn read_past<'f>(
         &mut self,
         alloc: Global,
@@ -144,8 +145,7 @@ impl Reading {
         self.set_faults(alloc, input, manner.form, bases, &faults)
     }
 
-    /// Sets the lines of the faults, or the names of files that aren't read yet, where some of the faults are
-    /// that these are missing.
+    /// Sets the names of bases that are missing and can be read, or if there are none, the lines of the faults.
     fn set_faults(
         &mut self,
         alloc: Global,
@@ -162,8 +162,8 @@ impl Reading {
     }
 }
 
-/// Reads the files that will be missing next, since a parse up to the first fault finds one missing name alone. Most
-/// files use one other, so that none is read ahead after the first parse.
+/// Reads bases ahead, since a parse up to the first fault finds one missing base alone. Nothing is read ahead after the
+/// first parse: most files use one base.
 fn read_ahead(
     rt: &HostRuntime,
     parses: u32,
@@ -180,7 +180,7 @@ fn read_ahead(
     }
 }
 
-/// The names of the files that are missing, but can be read.
+/// The names of bases that are missing and aren't read yet.
 fn missing_names(
     alloc: Global,
     bases: &Bases<'_>,
@@ -197,7 +197,7 @@ fn missing_names(
     Ok(names)
 }
 
-/// The name that no file has.
+/// The name of a missing base.
 fn missing_name<'n>(fault: &Refusal<'n>) -> Option<&'n [u8]> {
     match fault.cause {
         Cause::NoFile => fault.names.last().copied(),

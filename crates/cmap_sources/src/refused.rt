@@ -1,4 +1,4 @@
-//! Why a file is refused, as a line that a person reads or as an object of JSON.
+//! Why a file is refused: as a line for people, and as an object of JSON.
 
 use crate::fault_line::LineCounter;
 use cmap_binary::is_marked_binary;
@@ -14,12 +14,12 @@ use std::fmt::Write;
 #[derive(Clone, Copy)]
 struct LocatedStop {
     stop: Stop,
-    /// The line; a binary file has none.
+    /// The line. A binary file has no lines.
     line: Option<usize>,
 }
 
-/// Where reading stopped in the file at fault, which is that of these bytes or one that it uses;
-/// `None` where no file is outside the grammar.
+/// Where reading stopped in the file at fault: the file of these bytes or one that it uses. `None` if no file is
+/// malformed.
 fn stop_of<'n, N: NamedFile>(
     bytes: &[u8],
     files: &NamedFiles<'_, N, Bundle<'_>>,
@@ -38,7 +38,7 @@ fn stop_of<'n, N: NamedFile>(
     Some(LocatedStop { stop, line })
 }
 
-/// The bytes of the file at fault: the last one that is named, or the top file.
+/// The bytes of the file at fault: the one of the last name, or the top file.
 fn file_at_fault<'f, N: NamedFile>(
     bytes: &'f [u8],
     files: &NamedFiles<'f, N, Bundle<'f>>,
@@ -50,9 +50,9 @@ fn file_at_fault<'f, N: NamedFile>(
     }
 }
 
-/// Adds why a file of these bytes is refused, which uses those of `files`: the byte and the line at
-/// which reading stopped and what is wrong there, and the file at fault where it is another one. `lines`
-/// is the same for all faults of one file, and new for another one.
+/// Adds why a file of these bytes is refused over `files`: the byte and the line at which reading stopped, what
+/// is wrong there, and the file at fault if it is another one. `lines` is the same for all faults of one file,
+/// and new for another file.
 pub fn push_refusal<'n, N: NamedFile>(
     out: &mut String,
     bytes: &[u8],
@@ -71,7 +71,7 @@ pub fn push_refusal<'n, N: NamedFile>(
     push_named(out, ", in /", last)
 }
 
-/// Adds a text and a name after it, nothing where there is no name.
+/// Adds a text and a name after it, or nothing if there is no name.
 fn push_named(out: &mut String, text: &str, name: Option<&[u8]>) -> Result<(), AllocError> {
     let Some(name) = name else {
         return Ok(());
@@ -89,7 +89,7 @@ fn push_stop(out: &mut String, located: LocatedStop) -> Result<(), AllocError> {
     }
 }
 
-/// Adds the object of a refused file, without an end of the line. `lines` is as in `push_refusal`.
+/// Adds the object of a refused file, without a line end. `lines` is as in `push_refusal`.
 pub fn push_refusal_json<'n, N: NamedFile>(
     alloc: Global,
     out: &mut String,

@@ -5,29 +5,28 @@ use std::alloc::Global;
 
 /// An option of subcommands.
 pub(crate) struct Flag {
-    /// What it is found by.
     id: &'static str,
     short: Option<char>,
     long: &'static str,
     value: Value,
-    /// What the help says of it.
+    /// Its text in the help.
     help: &'static str,
 }
 
-/// What stands after an option, by the name that the help gives it.
+/// The value of an option, by its name in the help.
 enum Value {
     Nothing,
     /// A text.
     Text(&'static str),
-    /// A text without which the subcommand isn't run.
+    /// A text. The option is required.
     Needed(&'static str),
-    /// A text each time that the option is given.
+    /// A text. The option may be given several times.
     Texts(&'static str),
     Number(&'static str),
 }
 
 impl Flag {
-    /// It as an option of a subcommand.
+    /// The option as `clap` takes it.
     pub(crate) fn arg<'a>(&self, alloc: Global) -> Arg<'a> {
         let arg = Arg::new(alloc, self.id).long(self.long).help(self.help);
         self.value.added(match self.short {
@@ -41,23 +40,23 @@ impl Flag {
         arguments.get_flag(self.id)
     }
 
-    /// The text after the option, if it is given.
+    /// The text of the option, if it is given.
     pub(crate) fn text<'w>(&self, arguments: &ArgMatches<'w>) -> Option<&'w str> {
         arguments.get_str(self.id)
     }
 
-    /// The texts after the option, one for each time that it is given.
+    /// The texts of the option, one for each time that it is given.
     pub(crate) fn texts<'m, 'w>(&self, arguments: &'m ArgMatches<'w>) -> &'m [&'w str] {
         values_of(arguments, self.id)
     }
 
-    /// The number after the option, if it is given.
+    /// The number of the option, if it is given.
     pub(crate) fn number(&self, arguments: &ArgMatches<'_>) -> Option<u64> {
         arguments.get_one::<u64>(self.id)
     }
 }
 
-/// The values of what is found by an id.
+/// The values of an option or an argument with this id.
 pub(crate) fn values_of<'m, 'w>(arguments: &'m ArgMatches<'w>, id: &str) -> &'m [&'w str] {
     match arguments.get_strs(id) {
         Some(values) => values,
@@ -66,7 +65,7 @@ pub(crate) fn values_of<'m, 'w>(arguments: &'m ArgMatches<'w>, id: &str) -> &'m 
 }
 
 impl Value {
-    /// An option with it.
+    /// Adds the value to an option.
     fn added<'a>(&self, arg: Arg<'a>) -> Arg<'a> {
         match self {
             Value::Nothing => arg.action(ArgAction::SetTrue),

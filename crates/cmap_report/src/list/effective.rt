@@ -6,7 +6,7 @@ use hayro_cmap::runs::Range;
 use hayro_cmap::{CMap, CidStretch, Cids, CodeLength, TextStretch};
 use std::alloc::{AllocError, Global};
 
-/// What codes have: their CIDs, for each length that codes of the map have, and then their texts.
+/// What codes have: first their CIDs, for each length that codes of the map have, then their texts.
 pub fn effective_lines(alloc: Global, map: &CMap) -> Result<Vec<Line>, AllocError> {
     let mut lines = Vec::new(alloc);
     for len in LENGTHS {
@@ -18,7 +18,7 @@ pub fn effective_lines(alloc: Global, map: &CMap) -> Result<Vec<Line>, AllocErro
     Ok(lines)
 }
 
-/// Adds the CIDs of the codes of a length, in runs that are as long as can be.
+/// Adds the CIDs of the codes of a length, in runs that are as long as possible.
 fn add_cids(lines: &mut Vec<Line>, map: &CMap, len: CodeLength) -> Result<(), AllocError> {
     let end = u64::from(last_code(len));
     let mut next: u64 = 0;
@@ -31,7 +31,7 @@ fn add_cids(lines: &mut Vec<Line>, map: &CMap, len: CodeLength) -> Result<(), Al
     Ok(())
 }
 
-/// Adds the CIDs of a stretch of codes from `first` on, where they have some.
+/// Adds the CIDs of a stretch of codes from `first` on, if they have any.
 fn add_stretch(
     lines: &mut Vec<Line>,
     stretch: CidStretch,
@@ -54,7 +54,7 @@ fn add_stretch(
     add_line(lines, line)
 }
 
-/// Adds a line, or where the last one goes on with it, makes that longer.
+/// Adds a line, or extends the last line if this one continues it.
 fn add_line(lines: &mut Vec<Line>, line: Line) -> Result<(), AllocError> {
     if let Some(last) = lines.last_mut() {
         if last.is_continued_by(&line) {
@@ -79,7 +79,7 @@ fn add_texts(alloc: Global, lines: &mut Vec<Line>, map: &CMap) -> Result<(), All
     Ok(())
 }
 
-/// Adds the texts of a stretch of codes from `first` on, where they have a declaration.
+/// Adds the texts of a stretch of codes from `first` on, if they have a declaration.
 fn add_text(
     alloc: Global,
     lines: &mut Vec<Line>,

@@ -1,4 +1,4 @@
-//! Declarations as they are printed, and what codes in a row have.
+//! The lines of `cmap list`: declarations, or what codes in a row have.
 
 ghost use Rattle.std.specs.Prelude.{OnOk, string_bytes};
 ghost use Rattle.cmap_escape.specs.Escapes.{AddsLine, AddsOfLine};
@@ -25,7 +25,7 @@ pub struct Line {
 }
 
 impl Line {
-    /// Whether the codes and the CIDs of another line go on from those of this one.
+    /// Whether the codes and the CIDs of another line continue those of this one.
     pub(crate) fn is_continued_by(&self, next: &Line) -> bool {
         if self.byte_len != next.byte_len
             || self.range.end.checked_add(1) != Some(next.range.start)
@@ -68,7 +68,7 @@ impl Given {
     }
 }
 
-/// Adds the texts of the codes in a range, which a declaration gives them.
+/// Adds the texts that a declaration gives the codes in a range.
 pub(crate) fn add_texts_of(
     alloc: Global,
     lines: &mut Vec<Line>,
@@ -118,8 +118,8 @@ fn push_given(out: &mut String, given: &Given) -> Result<(), AllocError> {
     }
 }
 
-/// Adds the object of a declaration, and ends the line. The top layer is layer 1; what codes have over
-/// all layers has no layer.
+/// Adds the object of a declaration, and ends the line. The top layer is layer 1. What codes have over all
+/// layers has no layer.
 pub fn push_json(
     alloc: Global,
     out: &mut String,
