@@ -1,4 +1,4 @@
-//! A file that is written beside the one whose place it takes, so that this one is whole at any time.
+//! A file that is written beside another one and then takes its place, so that a path always has a whole file.
 
 use cmap_sources::failure::{Failure, fault};
 use std::fs::{self, File, OpenOptions};
@@ -43,12 +43,12 @@ impl Beside {
         }
     }
 
-    /// Removes the file. What has its place stays as it was.
+    /// Removes the file. The other one stays as it was.
     pub fn remove(&self, rt: &HostRuntime) {
         let _ = fs::remove_file(rt, self.path.as_str());
     }
 
-    /// Removes the file, and says that the other one can't be written.
+    /// Removes the file, and gives the failure that the other one can't be written.
     fn give_up(&self, rt: &HostRuntime) -> Failure {
         self.remove(rt);
         unwritable(rt, self.target.as_str())
@@ -72,7 +72,7 @@ fn create_beside(rt: &HostRuntime, target: &str) -> Result<(String, File), Failu
     Err(unwritable(rt, target))
 }
 
-/// Writes all bytes, up to the disk.
+/// Writes all bytes to the disk.
 fn write_whole(mut file: File, bytes: &[u8]) -> io::Result<()> {
     file.write_all(bytes)?;
     file.sync_all()

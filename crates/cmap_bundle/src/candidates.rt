@@ -1,6 +1,7 @@
 //! The files that arguments ask to be put in a bundle.
 
 use crate::known_names::is_known;
+use cmap_escape::count::Count;
 use cmap_sources::failure::{Failure, fault};
 use cmap_sources::folders::{files_in, is_folder, name_of};
 use cmap_sources::inputs::{STANDARD_INPUT, needed};
@@ -9,7 +10,7 @@ use cmap_sources::inputs::{STANDARD_INPUT, needed};
 #[derive(Drop)]
 pub struct Candidate {
     pub path: String,
-    /// The name that it is given, else its file name where that is a known name. Without either its
+    /// The name that it is given, or else its file name if that is a known name. Without either, its
     /// `CMapName` counts.
     pub name: Option<String>,
     pub bytes: Vec<u8>,
@@ -20,7 +21,7 @@ pub struct Candidate {
 pub struct Candidates {
     pub files: Vec<Candidate>,
     /// How many files of folders have none of the known names. They aren't read.
-    pub passed_over: usize,
+    pub passed_over: Count,
 }
 
 /// The files of arguments `NAME=FILE`, and then those of paths.
@@ -31,7 +32,7 @@ pub fn candidates_of(
 ) -> Result<Candidates, Failure> {
     let mut candidates = Candidates {
         files: Vec::new(rt.alloc()),
-        passed_over: 0,
+        passed_over: Count::of(0),
     };
     for argument in named {
         candidates.add_named(rt, argument)?;
@@ -63,19 +64,19 @@ impl Candidates {
     /// Adds the files of a folder and its subfolders that have known names.
     fn add_folder(&mut self, rt: &HostRuntime, folder: &str) -> Result<(), Failure> {
         let found = files_in(rt, folder)?;
-        if found.unreadable > 0 {
+        if found.unreadable.get() > 0 {
             return Err(fault(rt, folder, "can't be read as a whole"));
         }
         for path in &found.files {
             match known_file_name(path.as_str()) {
                 Some(name) => self.add_file(rt, Some(name), path.as_str())?,
-                None => self.passed_over = self.passed_over.saturating_add(1),
+                None => self.passed_over.add_one(),
             }
         }
         Ok(())
     }
 
-    /// Adds the file of a path, by this name.
+    /// Adds the file of a path, with this name.
     fn add_file(
         &mut self,
         rt: &HostRuntime,
@@ -93,7 +94,7 @@ impl Candidates {
     }
 }
 
-/// The last part of a path, where it is a known name.
+/// The last part of a path, if it is a known name.
 fn known_file_name(path: &str) -> Option<&str> {
     let name = name_of(path);
     is_known(name.as_bytes()).then_some(name)

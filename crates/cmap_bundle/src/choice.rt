@@ -1,12 +1,13 @@
-//! Which of the files that are asked for stand in the bundle.
+//! The files that are put in the bundle.
 
 use crate::candidates::Candidate;
 use crate::known_names::is_known;
 use cmap_binary::is_marked_binary;
+use cmap_escape::count::Count;
 use cmap_escape::escape::{push_name, push_text};
-use cmap_refusals::fault_line::LineCounter;
-use cmap_refusals::refused::push_refusal;
 use cmap_sources::failure::Failure;
+use cmap_sources::fault_line::LineCounter;
+use cmap_sources::refused::push_refusal;
 use cmap_text::read_text;
 use cmap_values::fault::{Fault, Stop};
 use cmap_values::file::File;
@@ -14,7 +15,7 @@ use cmap_values::names::CMapName;
 use hayro_cmap::{Bundle, Cause, NamedFiles, Refusal};
 use std::alloc::{AllocError, Global};
 
-/// A file that stands in the bundle.
+/// A file that is put in the bundle.
 #[derive(Drop)]
 pub struct Chosen<'c> {
     pub candidate: &'c Candidate,
@@ -23,7 +24,7 @@ pub struct Chosen<'c> {
 }
 
 impl<'c> Chosen<'c> {
-    /// The text of its name: the one that it is given, else its `CMapName`, empty where it has none.
+    /// Its name as text: the one that it is given, or else its `CMapName`. Without either it is empty.
     pub fn name(&self) -> &[u8] {
         match &self.candidate.name {
             Some(name) => name.as_bytes(),
@@ -34,26 +35,25 @@ impl<'c> Chosen<'c> {
         }
     }
 
-    /// The name, by which a bundle has a place for it.
+    /// Its name.
     pub fn cmap_name(&self) -> CMapName<'_> {
         CMapName::from_bytes(self.name())
     }
 }
 
-/// The files that stand in the bundle, in order, no two of one name.
+/// The files that are put in the bundle, in order. No two have one name.
 #[derive(Drop)]
 pub struct Choice<'c> {
     pub files: Vec<Chosen<'c>>,
-    /// How many files are left out, which is reported.
-    pub left_out: usize,
+    /// How many files are left out. Each is reported.
+    pub left_out: Count,
 }
 
-/// Chooses the files that stand in the bundle. Of each that is left out, a line on the standard error says
-/// why.
+/// Chooses the files that are put in the bundle, and reports why each other one is left out.
 pub fn choose<'c>(rt: &HostRuntime, candidates: &'c [Candidate]) -> Result<Choice<'c>, Failure> {
     let mut choice = Choice {
         files: Vec::new(rt.alloc()),
-        left_out: 0,
+        left_out: Count::of(0),
     };
     for candidate in candidates {
         choice.add(rt, candidate)?;
@@ -74,7 +74,7 @@ impl<'c> Choice<'c> {
         }
     }
 
-    /// Adds a file that is read, unless it has none of the known names or the bundle has its name.
+    /// Adds a file that was read, unless its name is unknown or taken.
     fn add_read(&mut self, rt: &HostRuntime, chosen: Chosen<'c>) -> Result<(), Failure> {
         if !is_known(chosen.name()) {
             self.leave_out_unknown(rt, &chosen)
@@ -101,7 +101,7 @@ impl<'c> Choice<'c> {
         self.leave_out(rt, chosen.candidate, reason.as_str())
     }
 
-    /// Leaves a file out whose name another one has, that of this path.
+    /// Leaves out a file, since that of this path has its name.
     fn leave_out_again(
         &mut self,
         rt: &HostRuntime,
@@ -113,7 +113,7 @@ impl<'c> Choice<'c> {
         self.leave_out(rt, chosen.candidate, reason.as_str())
     }
 
-    /// Leaves a file out, and reports why.
+    /// Leaves out a file, and reports why.
     fn leave_out(
         &mut self,
         rt: &HostRuntime,
@@ -123,11 +123,11 @@ impl<'c> Choice<'c> {
         let mut line = String::new(rt.alloc());
         push_text(&mut line, candidate.path.as_str())?;
         eprintln!(rt; "cmap: {line}: left out: {reason}")?;
-        self.left_out = self.left_out.saturating_add(1);
+        self.left_out.add_one();
         Ok(())
     }
 
-    /// Leaves a malformed file out, and reports its first fault.
+    /// Leaves out a malformed file, and reports its first fault.
     fn refuse(
         &mut self,
         rt: &HostRuntime,
@@ -136,12 +136,12 @@ impl<'c> Choice<'c> {
     ) -> Result<(), Failure> {
         let line = fault_line(rt.alloc(), candidate, stop)?;
         eprintln!(rt; "cmap: {line}")?;
-        self.left_out = self.left_out.saturating_add(1);
+        self.left_out.add_one();
         Ok(())
     }
 }
 
-/// Adds why a file of this name is left out, which isn't a known one.
+/// Adds why a file of this unknown name is left out.
 fn push_unknown(reason: &mut String, name: &[u8]) -> Result<(), AllocError> {
     if name.is_empty() {
         return reason.push_str("neither its file name nor a CMapName is one of the known names");
@@ -150,7 +150,7 @@ fn push_unknown(reason: &mut String, name: &[u8]) -> Result<(), AllocError> {
     reason.push_str(" is none of the known names")
 }
 
-/// Adds why a file is left out whose name another one has, that of this path.
+/// Adds why a file of this name is left out: that of this path has the name.
 fn push_already(reason: &mut String, name: &[u8], path: &str) -> Result<(), AllocError> {
     reason.push_str("the bundle has ")?;
     push_name(reason, name)?;

@@ -11,45 +11,45 @@ use cmap_sources::inputs::{STANDARD_INPUT, needed};
 use cmap_sources::status::{ACCEPTED, REFUSED};
 use hayro_cmap::Bundle;
 
-/// Which bundle is asked for.
+/// What the arguments of `bundle` ask for.
 #[derive(Clone, Copy)]
-pub struct Asked<'m, 'w> {
+pub struct BundleOptions<'m, 'w> {
     /// The path of the bundle.
     pub output: &'w str,
     /// The arguments `NAME=FILE`.
     pub named: &'m [&'w str],
     /// The files and the folders.
     pub paths: &'m [&'w str],
-    /// Whether what the bundle says is compared with the files.
+    /// Whether the bundle is compared with the files.
     pub is_compared: bool,
 }
 
 /// Makes a bundle, and gives the status.
-pub fn bundle(rt: &HostRuntime, asked: &Asked<'_, '_>) -> Result<u8, Failure> {
-    let output = asked.output;
+pub fn bundle(rt: &HostRuntime, options: &BundleOptions<'_, '_>) -> Result<u8, Failure> {
+    let output = options.output;
     if output == STANDARD_INPUT {
         return Err(fault(rt, output, "a bundle is written to a file"));
     }
-    let candidates = candidates_of(rt, asked.named, asked.paths)?;
+    let candidates = candidates_of(rt, options.named, options.paths)?;
     let choice = choose(rt, &candidates.files)?;
-    bundle_of_choice(rt, asked, &choice, candidates.passed_over)
+    bundle_of_choice(rt, options, &choice, candidates.passed_over.get())
 }
 
 /// Makes a bundle of the files that were chosen.
 fn bundle_of_choice(
     rt: &HostRuntime,
-    asked: &Asked<'_, '_>,
+    options: &BundleOptions<'_, '_>,
     choice: &Choice<'_>,
     passed_over: usize,
 ) -> Result<u8, Failure> {
-    let output = asked.output;
+    let output = options.output;
     if choice.files.is_empty() {
         return Err(fault(rt, output, "not written, since there is no file for it"));
     }
     let bytes = bundle_of(rt.alloc(), &choice.files)?;
-    put(rt, output, &bytes, &choice.files, asked.is_compared)?;
+    put(rt, output, &bytes, &choice.files, options.is_compared)?;
     print_summary(rt, output, &bytes, passed_over)?;
-    Ok(if choice.left_out > 0 {
+    Ok(if choice.left_out.get() > 0 {
         REFUSED
     } else {
         ACCEPTED
@@ -67,7 +67,7 @@ fn print_summary(
     Ok(rt.println(line.as_str())?)
 }
 
-/// Puts a bundle of these bytes in its place, where it is to be compared only if it says what the files say.
+/// Puts a bundle of these bytes in its place. If it is to be compared, it has to say what the files say.
 fn put(
     rt: &HostRuntime,
     output: &str,

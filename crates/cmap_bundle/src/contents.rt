@@ -21,7 +21,7 @@ pub struct Held<'b> {
 }
 
 impl<'b> Held<'b> {
-    /// Whether it is in the binary form, and else a text.
+    /// Whether it is in the binary form, and not a text.
     pub fn is_binary(&self) -> bool {
         is_marked_binary(self.bytes)
     }
@@ -64,7 +64,7 @@ pub fn absent_of(files: &[Held<'_>]) -> usize {
     KNOWN_COUNT.saturating_sub(files.len())
 }
 
-/// Prints what a bundle holds, which has this path.
+/// Prints what the bundle of this path holds.
 pub fn print_contents(
     rt: &HostRuntime,
     path: &str,
@@ -113,7 +113,7 @@ fn push_uses(out: &mut String, names: &[&[u8]]) -> Result<(), AllocError> {
     out.push('\n')
 }
 
-/// Adds the object of a bundle, which has this path, and ends the line.
+/// Adds the object of the bundle of this path, and ends the line.
 fn push_json(
     alloc: Global,
     out: &mut String,

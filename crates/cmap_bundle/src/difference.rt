@@ -1,15 +1,15 @@
-//! What a bundle says otherwise than a file that it was made of.
+//! Differences between a bundle and a file that it was made of.
 
 use cmap_escape::digits::push_code;
 use hayro_cmap::{Cid, CodeLength};
 use std::alloc::AllocError;
 
-/// The first thing that a bundle says otherwise than the file.
+/// The first difference between a bundle and a file.
 #[derive(Clone, Copy)]
 pub enum Difference {
     /// The bundle has no file of the name.
     Absent,
-    /// As many files can't be read, or aren't there, of those that it uses.
+    /// The faults of the files that it uses.
     Faults,
     Name,
     Collection,

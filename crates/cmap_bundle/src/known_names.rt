@@ -1,4 +1,4 @@
-//! The known names, for which a bundle has places.
+//! The known names: those of the files that a bundle may hold.
 
 use hayro_cmap::CMapName;
 

@@ -1,5 +1,5 @@
-//! Bundles of the files that arguments ask for: which files these are, how a bundle is put in its place,
-//! whether it says what they say, and what a bundle holds.
+//! `cmap bundle`, and what a bundle holds: the files that are put in it, how it is written, and whether it says what
+//! they say.
 #![tactic(auto)]
 
 pub mod beside;

@@ -8,7 +8,7 @@ use cmap_sources::failure::Failure;
 use cmap_values::fault::Fault;
 use std::alloc::{AllocError, Global};
 
-/// The bundle of these files. One that the binary form can't say stands in it as its text.
+/// The bundle of these files. A file that the binary form can't express is put in it as its text.
 pub fn bundle_of(alloc: Global, files: &[Chosen<'_>]) -> Result<Vec<u8>, Failure> {
     let sources = sources_of(alloc, files)?;
     match make_named_bundle(alloc, &sources) {
@@ -35,7 +35,7 @@ fn sources_of<'f, 'c>(
     Ok(sources)
 }
 
-/// The line about a file that a bundle can't hold, or about a bundle that can't be written.
+/// Why a bundle can't hold a file, or can't be written.
 fn line_of(
     alloc: Global,
     files: &[Chosen<'_>],

@@ -1,4 +1,4 @@
-//! What a bundle can't say, in words.
+//! What a bundle can't express, in words.
 
 use cmap_escape::digits::push_code;
 use cmap_maker::Obstacle;
@@ -6,7 +6,7 @@ use cmap_queries::code_lengths::fewest_bytes;
 use hayro_cmap::runs::Range;
 use std::alloc::AllocError;
 
-/// Adds what a bundle can't say, as `CID above 65535 for the codes <8140> to <8150>`.
+/// Adds what a bundle can't express, as `CID above 65535 for the codes <8140> to <8150>`.
 pub fn push_obstacle(out: &mut String, obstacle: Obstacle) -> Result<(), AllocError> {
     match obstacle {
         Obstacle::LargeCid(range) => push_about(out, "CID above 65535", range),
@@ -23,7 +23,7 @@ pub fn push_obstacle(out: &mut String, obstacle: Obstacle) -> Result<(), AllocEr
     }
 }
 
-/// Adds what is wrong with the codes of a range. They have as many bytes as they need.
+/// Adds what is wrong with the codes of a range. They are printed with as few bytes as they need.
 fn push_about(out: &mut String, what: &str, range: Range) -> Result<(), AllocError> {
     let byte_len = fewest_bytes(range);
     write!(out, "{what} for the codes <")?;

@@ -1,4 +1,4 @@
-//! What a bundle came to be, in a line.
+//! The last line of `cmap bundle`.
 
 use crate::contents::{Held, absent_of, contents_of};
 use cmap_escape::escape::{push_name, push_text};
@@ -21,7 +21,7 @@ pub fn push_summary(
     }
 }
 
-/// Adds what is said of a bundle of this many bytes.
+/// Adds the numbers of a bundle of this many bytes.
 fn push_numbers(
     alloc: Global,
     out: &mut String,
@@ -48,7 +48,7 @@ fn push_files(out: &mut String, files: &[Held<'_>], bytes: usize) -> Result<(), 
     push_texts(out, files)
 }
 
-/// Adds how many there are of something, if there is any.
+/// Adds how many there are of something, unless there is nothing.
 fn push_any(out: &mut String, count: usize, one: &str, more: &str) -> Result<(), AllocError> {
     match count {
         0 => Ok(()),
@@ -56,7 +56,7 @@ fn push_any(out: &mut String, count: usize, one: &str, more: &str) -> Result<(),
     }
 }
 
-/// Adds which of the files are texts, if any is.
+/// Adds which of the files are texts, unless none is.
 fn push_texts(out: &mut String, files: &[Held<'_>]) -> Result<(), AllocError> {
     let mut separator = "; as texts: ";
     for file in files {

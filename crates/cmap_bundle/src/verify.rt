@@ -1,4 +1,4 @@
-//! Whether a bundle says what the files say that it was made of: asked code by code.
+//! Whether a bundle says what its files say, code by code.
 
 use crate::choice::Chosen;
 use crate::difference::{Difference, push_difference};
@@ -10,14 +10,14 @@ use hayro_cmap::{
 };
 use std::alloc::{AllocError, Global};
 
-/// The map of a file as it was given, and the map that the bundle has of its name.
+/// The map of a file as it was given, and the map of the bundle's file of its name.
 #[derive(Clone, Copy)]
 struct Pair<'p> {
     of_file: &'p CMap,
     of_bundle: &'p CMap,
 }
 
-/// A line for each file of which the bundle says something else, with the first thing that differs.
+/// A line for each file from which the bundle differs, with the first difference.
 pub fn differences(
     alloc: Global,
     bundle: &Bundle<'_>,
@@ -57,7 +57,7 @@ fn line_of(
     Ok(line)
 }
 
-/// The first thing that the bundle says otherwise than a file, over the files that both use.
+/// The first difference between the bundle and a file.
 fn difference_of(
     alloc: Global,
     bundle: &Bundle<'_>,
@@ -75,7 +75,7 @@ fn difference_of(
     difference_from(alloc, &of_file, bundle, bytes)
 }
 
-/// The first thing that a file of a bundle says otherwise.
+/// The first difference between a file and that of the bundle.
 fn difference_from(
     alloc: Global,
     of_file: &SalvagedMap<'_>,
@@ -95,7 +95,7 @@ fn difference_from(
 }
 
 impl Pair<'_> {
-    /// The first thing that differs.
+    /// The first difference.
     fn difference(&self, alloc: Global) -> Result<Option<Difference>, AllocError> {
         if let Some(difference) = self.of_metadata() {
             return Ok(Some(difference));
@@ -108,7 +108,7 @@ impl Pair<'_> {
         self.of_texts(alloc)
     }
 
-    /// What differs in what the files state about themselves.
+    /// The first difference in metadata and codespace ranges.
     fn of_metadata(&self) -> Option<Difference> {
         let (file, bundle) = (self.of_file.metadata(), self.of_bundle.metadata());
         if file.name != bundle.name {
@@ -244,7 +244,7 @@ impl Pair<'_> {
     }
 }
 
-/// A code with the one before it and the one after it.
+/// A code with the one before it and the one after it. The first and the last code lack one of these.
 fn around(code: u32) -> Range {
     Range {
         start: code.saturating_sub(1),

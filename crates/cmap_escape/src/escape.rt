@@ -62,8 +62,8 @@ fn push_name_byte(out: &mut String, byte: u8) -> Result<(), AllocError>
     }
 }
 
-/// Adds a text. A character is added as it is, but `\` as `\\`, `"` as `\"`, and as `\u{H..}` those
-/// that aren't seen or change how others are.
+/// Adds a text. A character is added as it is, but `\` as `\\`, `"` as `\"`, and as `\u{H..}` those that
+/// are invisible or change how others look.
 pub fn push_text(out: &mut String, text: &str) -> Result<(), AllocError>
     ensures shown { OnOk result (string_bytes out.new
         ≡ string_bytes out.old ++ text_shown text.now) }
@@ -115,8 +115,8 @@ fn push_by_number(out: &mut String, character: char) -> Result<(), AllocError>
     out.push('}')
 }
 
-/// Whether a character is seen and leaves the others as they are: it isn't one of control, of
-/// format, a separator of lines or of paragraphs, for private use or unassigned.
+/// Whether a character is visible and leaves the others as they are: it isn't a control or format character,
+/// a separator of lines or paragraphs, for private use, or unassigned.
 fn is_shown(character: char) -> bool
     ensures { result ≡ not (is_hidden (general_category character)) }
 {

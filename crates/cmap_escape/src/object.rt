@@ -3,7 +3,7 @@
 use serde_json::{Map, Value, put};
 use std::alloc::{AllocError, Global};
 
-/// An object that is being made. Where memory runs out for a member, `finish` says so.
+/// An object that is being made. If memory runs out for a member, `finish` fails.
 #[derive(Drop)]
 pub struct Object {
     alloc: Global,

@@ -91,7 +91,7 @@ fn add_spans(finding: &mut Finding<'_>, map: &CMap, spans: &[TextSpan]) {
     }
 }
 
-/// Adds the codes of a span: all of them where another character than the last is one of the points.
+/// Adds the codes of a span that have one of the points: all codes if a character before the last is one.
 fn add_span(finding: &mut Finding<'_>, map: &CMap, span: &TextSpan) {
     let points = points_of(finding.warning);
     let mut characters = span.text.chars();
@@ -125,7 +125,7 @@ fn is_among(character: char, points: &[Points]) -> bool {
     false
 }
 
-/// Adds the codes whose last character is one of the points; `last` belongs to the first code.
+/// Adds the codes whose last character is one of the points. `last` belongs to the first code.
 fn add_areas(finding: &mut Finding<'_>, map: &CMap, codes: Range, last: char) {
     for (start, end) in points_of(finding.warning) {
         let area = Range {
@@ -138,7 +138,7 @@ fn add_areas(finding: &mut Finding<'_>, map: &CMap, codes: Range, last: char) {
     }
 }
 
-/// The codes whose last character is one of an area; `first` belongs to the first code.
+/// The codes whose last character lies in an area. `first` belongs to the first code.
 fn codes_with(codes: Range, first: u32, area: Range) -> Option<Range> {
     let further = codes.end.saturating_sub(codes.start);
     let found = common(

@@ -14,7 +14,7 @@ use std::alloc::{AllocError, Global};
 /// The lengths of codes among which those without a text are looked for.
 const SHORT_LENGTHS: &[CodeLength] = &[CodeLength::One, CodeLength::Two];
 
-/// That no layer has a codespace range.
+/// A warning if no layer has a codespace range.
 pub(crate) fn no_codespace<'m>(map: &CMap) -> Finding<'m> {
     let mut finding = Finding::new(Warning::NoCodespace);
     if !has_codespace(map) {

@@ -1,4 +1,4 @@
-//! What is found: a warning, how much it concerns, and where first.
+//! A finding: a warning, how much it concerns, and where first.
 
 use crate::warning::Warning;
 use hayro_cmap::runs::Range;
@@ -30,7 +30,7 @@ pub enum Place<'m> {
 }
 
 impl<'m> Finding<'m> {
-    /// Of a warning, with nothing that it concerns.
+    /// A warning that concerns nothing yet.
     pub(crate) fn new(warning: Warning) -> Finding<'m> {
         Finding {
             warning,
@@ -39,7 +39,8 @@ impl<'m> Finding<'m> {
         }
     }
 
-    /// Adds a number of what the warning concerns, the first of which is at this place.
+    /// Adds so much that the warning concerns, the first of it at this place. A sum that doesn't fit stays at the
+    /// largest number.
     pub(crate) fn add(&mut self, count: u64, place: Place<'m>) {
         if count == 0 {
             return;

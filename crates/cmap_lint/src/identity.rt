@@ -1,4 +1,4 @@
-//! What a file says of itself: its name and its writing mode.
+//! The name and the writing mode that a file states.
 
 use crate::finding::{Finding, Place};
 use crate::warning::Warning;
@@ -7,7 +7,7 @@ use hayro_cmap::{CMap, WritingMode};
 /// What the names of files for vertical writing end in.
 const VERTICAL_SUFFIX: &[u8] = b"-V";
 
-/// The name of the file, where it isn't the one that the file has on the disk.
+/// The name that the file states, if the file has another one on the disk.
 pub(crate) fn name_differs<'m>(map: &'m CMap, file_name: Option<&[u8]>) -> Finding<'m> {
     let mut finding = Finding::new(Warning::NameDiffers);
     let name = map.metadata().name.as_deref();
@@ -19,7 +19,7 @@ pub(crate) fn name_differs<'m>(map: &'m CMap, file_name: Option<&[u8]>) -> Findi
     finding
 }
 
-/// The name of the file, where it is one for vertical writing and the map isn't.
+/// The name that the file states, if it is one for vertical writing and the map isn't.
 pub(crate) fn mode_differs<'m>(map: &'m CMap) -> Finding<'m> {
     let mut finding = Finding::new(Warning::ModeDiffers);
     if let Some(name) = map.metadata().name.as_deref() {

@@ -18,9 +18,9 @@ use std::alloc::{AllocError, Global};
 pub struct Subject<'m> {
     /// The map of the file.
     pub map: &'m CMap,
-    /// The bytes of the file, where it is read as text.
+    /// The bytes of the file, if it is a text.
     pub text: Option<&'m [u8]>,
-    /// The last part of its path, where it has one.
+    /// The last part of its path, if it has one.
     pub file_name: Option<&'m [u8]>,
     /// Whether it is meant as a map to Unicode.
     pub to_unicode: bool,
@@ -48,7 +48,7 @@ pub fn findings_of<'m>(
     findings.finish()
 }
 
-/// That a file has no codespace range, no declaration and no use of another file.
+/// A warning if a file has no codespace range, no declaration and no use of another file.
 pub fn nothing_declared<'m>(map: &CMap) -> Finding<'m> {
     let mut finding = Finding::new(Warning::NothingDeclared);
     if let [layer] = map.layers().as_slice() {
@@ -69,7 +69,7 @@ fn has_codes_of_any_length(map: &CMap) -> bool {
     false
 }
 
-/// The warnings that are found so far. Where memory runs out for one, `finish` says so.
+/// The warnings found so far. If memory runs out for one, `finish` fails.
 #[derive(Drop)]
 struct Findings<'m> {
     found: Vec<Finding<'m>>,

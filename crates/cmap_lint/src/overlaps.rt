@@ -125,13 +125,13 @@ fn grouped_texts(alloc: Global, table: &Table<BfRange>) -> Result<Vec<Grouped>, 
     Ok(grouped)
 }
 
-/// Adds the declarations of texts, those that agree one after another.
+/// Adds the declarations of texts, which are sorted by groups. The number of a group is the index of its first.
 fn push_groups(grouped: &mut Vec<Grouped>, keys: &[TextKey<'_>]) -> Result<(), AllocError> {
     let mut group: i64 = 0;
     let mut before: Option<TextKey<'_>> = None;
-    for key in keys {
+    for (index, key) in keys.iter().enumerate() {
         if !is_of_group(before, key) {
-            group = group.saturating_add(1);
+            group = index as i64;
         }
         let range = key.range;
         push_grouped(grouped, Grouped { group, range })?;

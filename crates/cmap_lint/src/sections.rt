@@ -3,11 +3,12 @@
 
 use crate::finding::{Finding, Place};
 use crate::warning::Warning;
+use cmap_escape::count::Count;
 use cmap_text::{Extent, Section, is_key, opened_section};
 use hayro_cmap::token::{Number, Scanner, Token};
 
 /// The most entries that a section may have.
-const MOST_ENTRIES: i64 = 100;
+const MOST_ENTRIES: usize = 100;
 
 /// The names around the texts of a list.
 const LIST_START: &[u8] = b"[";
@@ -32,7 +33,7 @@ pub(crate) fn count_differs<'m>(text: &[u8]) -> Finding<'m> {
                 finding.add(1, Place::Offset(offset));
             }
         }
-        before = integer(&token);
+        before = number_of(&token);
     }
     finding
 }
@@ -43,10 +44,10 @@ fn offset_of(opener: &Token<'_>, scanner: &Scanner<'_>) -> usize {
     scanner.offset().saturating_sub(len)
 }
 
-/// The value of a token that is an integer.
-fn integer(token: &Token<'_>) -> Option<i64> {
+/// The number of a token, if it may be a number of entries.
+fn number_of(token: &Token<'_>) -> Option<usize> {
     match token {
-        Token::Number(Number::Integer(number)) => Some(*number),
+        Token::Number(Number::Integer(number)) => usize::try_from(*number).ok(),
         _ => None,
     }
 }
@@ -60,21 +61,21 @@ fn executable<'t>(token: &Token<'t>) -> Option<&'t [u8]> {
 }
 
 /// Reads a section up to its end, and counts its entries.
-fn count_entries(scanner: &mut Scanner<'_>, section: Section, most: usize) -> i64 {
+fn count_entries(scanner: &mut Scanner<'_>, section: Section, most: usize) -> usize {
     count_parts(scanner, most) / parts_of(section)
 }
 
 /// How many parts an entry of a section has: codes, CIDs and texts.
-fn parts_of(section: Section) -> i64 {
+fn parts_of(section: Section) -> usize {
     match section {
         Section::Cids(_, Extent::Range) | Section::BfRange => 3,
         Section::Cids(_, Extent::Single) | Section::BfChar | Section::Codespaces => 2,
     }
 }
 
-/// Reads a section up to its end, and counts the parts of its entries. A list of texts is one.
-fn count_parts(scanner: &mut Scanner<'_>, most: usize) -> i64 {
-    let mut parts: i64 = 0;
+/// Reads a section up to its end, and counts the parts of its entries. A list of texts is one part.
+fn count_parts(scanner: &mut Scanner<'_>, most: usize) -> usize {
+    let mut parts = Count::of(0);
     let mut is_in_list = false;
     for _ in 0..most {
         let Ok(Some(token)) = scanner.next_token() else {
@@ -84,12 +85,12 @@ fn count_parts(scanner: &mut Scanner<'_>, most: usize) -> i64 {
             Some(name) if name == LIST_START => is_in_list = true,
             Some(name) if name == LIST_END => {
                 is_in_list = false;
-                parts = parts.saturating_add(1);
+                parts.add_one();
             }
             Some(_) => break,
-            None if !is_in_list => parts = parts.saturating_add(1),
+            None if !is_in_list => parts.add_one(),
             None => {}
         }
     }
-    parts
+    parts.get()
 }

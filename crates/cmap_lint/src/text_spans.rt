@@ -1,4 +1,4 @@
-//! The codes of a declaration that have a text, in rows of which the last character counts on.
+//! The codes of a declaration that have a text, in spans of which the last character counts on.
 
 use crate::finding::{Finding, Place};
 use crate::ranges::{code_count, common};
@@ -17,8 +17,7 @@ pub(crate) struct TextSpan {
     pub(crate) text: String,
 }
 
-/// The most units of a text that is looked at. A text is read once for each row of codes that it has
-/// left, so the work is bounded.
+/// The most units of a text that is looked at. A text is read once for each span, so the work is bounded.
 const MOST_UNITS: usize = 256;
 
 /// The units of characters that are one unit: those below the surrogates, and those above. The
@@ -40,8 +39,8 @@ const LOW_SURROGATES: &[Range] = &[Range {
     end: 0xDFFF,
 }];
 
-/// The codes of these that have a text of a declaration, in order. One of more than 256 units counts as
-/// a text of each code.
+/// Those of the codes that have a text of a declaration, in order. A text of more than 256 units counts for
+/// each code.
 pub(crate) fn spans_of(
     alloc: Global,
     declared: &BfRange,
@@ -57,7 +56,7 @@ pub(crate) fn spans_of(
     Ok(spans)
 }
 
-/// Adds the codes of these that have a text of a declaration, in order.
+/// Adds those of the codes that have a text of a declaration, in order.
 fn add_spans(
     alloc: Global,
     spans: &mut Vec<TextSpan>,

@@ -11,32 +11,37 @@ use hayro_cmap::{BfString, StringCode};
 use serde_json::Value;
 use std::alloc::{AllocError, Global};
 
-/// What stands in the row of texts for a code without a text.
+/// What is printed for a code without a text.
 const NO_TEXT: char = '\u{FFFD}';
 
 /// The texts of codes in a row.
 #[derive(Drop)]
 struct Joined {
-    /// The texts, U+FFFD for each code without one.
+    /// The texts, with U+FFFD for each code without one.
     text: String,
     /// Whether each code has a text.
     is_whole: bool,
 }
 
 impl Joined {
-    /// The texts of these codes.
-    fn of(alloc: Global, characters: &[Character]) -> Result<Joined, AllocError> {
-        let mut joined = Joined {
+    /// No texts.
+    fn new(alloc: Global) -> Joined {
+        Joined {
             text: String::new(alloc),
             is_whole: true,
-        };
+        }
+    }
+
+    /// The texts of these codes.
+    fn of(alloc: Global, characters: &[Character]) -> Result<Joined, AllocError> {
+        let mut joined = Joined::new(alloc);
         for character in characters {
             joined.add(&character.text)?;
         }
         Ok(joined)
     }
 
-    /// Adds the text of a code, after those that are there.
+    /// Adds the text of a code.
     fn add(&mut self, text: &Option<BfString>) -> Result<(), AllocError> {
         match text {
             Some(BfString::Char(character)) => self.text.push(*character),
@@ -86,7 +91,7 @@ pub fn push_json(
     json::push_line(alloc, out, &object)
 }
 
-/// Adds a line with the text of a string, U+FFFD for each code without one, and gives whether each code
+/// Adds a line with the text of a string, with U+FFFD for each code without one, and gives whether each code
 /// has one.
 pub fn push_text_line(
     alloc: Global,
@@ -118,9 +123,15 @@ pub fn push_text_json(
     Ok(is_whole)
 }
 
-/// The text of a string by the CMaps of a font.
+/// The text of a string by the CMaps of a font, code by code.
 fn text_of(alloc: Global, font: &Extractor<'_>, string: &[u8]) -> Result<Joined, AllocError> {
-    Joined::of(alloc, &font.characters(alloc, string)?)
+    let mut joined = Joined::new(alloc);
+    let mut left = string;
+    while let Some(character) = font.next(alloc, left)? {
+        left = &left[usize::from(character.code.byte_len)..];
+        joined.add(&character.text)?;
+    }
+    Ok(joined)
 }
 
 fn text_object(alloc: Global, text: String, string: &[u8]) -> Result<Value, AllocError> {
@@ -180,7 +191,7 @@ fn push_cid_column(out: &mut String, cid: Option<u32>) -> Result<(), AllocError>
     }
 }
 
-/// Adds a text between quotation marks, or `-` where there is none.
+/// Adds a text between quotation marks, or `-` if there is none.
 pub(crate) fn push_text_or_dash(
     out: &mut String,
     text: &Option<BfString>,
@@ -194,7 +205,7 @@ pub(crate) fn push_text_or_dash(
     }
 }
 
-/// The value of a text, `null` where there is none.
+/// The value of a text, or `null` if there is none.
 pub(crate) fn text_value(alloc: Global, text: &Option<BfString>) -> Result<Value, AllocError> {
     match text {
         Some(BfString::Char(character)) => {

@@ -1,4 +1,4 @@
-//! What a map's files say of themselves, layer by layer.
+//! What the files of a map state about themselves, layer by layer.
 
 ghost use Rattle.std.specs.Prelude.{OnOk, string_bytes};
 ghost use Rattle.cmap_escape.specs.Escapes.{AddsLine, AddsOfLine};
@@ -13,8 +13,8 @@ use hayro_cmap::{
 use serde_json::Value;
 use std::alloc::{AllocError, Global};
 
-/// Adds the paragraph of a file: what it says, and what those say that it is based on. `uses` has the
-/// names that the file of each layer uses. Each value stands behind a label of seventeen columns.
+/// Adds the paragraph of a file: what it states, and what the files state that it is based on. `uses` has the
+/// names that the file of each layer uses. Each value follows a label of seventeen columns.
 pub fn push_info(
     out: &mut String,
     file: &str,
@@ -22,7 +22,7 @@ pub fn push_info(
     uses: &[Vec<&[u8]>],
 ) -> Result<(), AllocError> {
     for (index, layer) in map.layers().as_slice().iter().enumerate() {
-        push_heading(out, file, index)?;
+        push_heading(out, file, index + 1)?;
         push_layer(out, layer, names_at(uses, index))?;
     }
     Ok(())
@@ -36,17 +36,17 @@ fn names_at<T>(uses: &[Vec<T>], index: usize) -> &[T] {
     }
 }
 
-/// Adds the file's path over its own layer, and the number of any other over that.
-fn push_heading(out: &mut String, file: &str, index: usize) -> Result<(), AllocError> {
-    if index == 0 {
+/// Adds the file's path over its own layer, which is layer 1, and the number of any other over that.
+fn push_heading(out: &mut String, file: &str, layer: usize) -> Result<(), AllocError> {
+    if layer == 1 {
         escape::push_text(out, file)?;
         out.push('\n')
     } else {
-        writeln!(out, "layer {}", index.saturating_add(1))
+        writeln!(out, "layer {layer}")
     }
 }
 
-/// Adds what a layer says.
+/// Adds what a layer states.
 fn push_layer(out: &mut String, layer: &Layer, uses: &[&[u8]]) -> Result<(), AllocError> {
     push_metadata(out, layer.metadata())?;
     push_uses(out, uses)?;

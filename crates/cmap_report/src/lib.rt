@@ -1,8 +1,9 @@
-//! What the program `cmap` prints of a map: as lines for people, and as
-//! objects of JSON.
+//! What the command `cmap` prints of a map: as lines for people, and as objects of JSON.
 #![tactic(auto)]
 
 pub mod decode;
+pub mod find;
 pub mod info;
+pub mod list;
 pub mod lookup;
 pub mod uses;

@@ -6,8 +6,8 @@ use cmap_values::file::Salvaged;
 use hayro_cmap::{Bundle, CMap, NamedFile, NamedFiles};
 use std::alloc::{AllocError, Global};
 
-/// The names that the file of each layer of a map uses, in order, that of the top layer first. The
-/// map is that of a file of these bytes over `files`, and has this number of layers.
+/// The names that the file of each layer uses, the top layer first. The map is that of a file of these
+/// bytes over `files`, and has this number of layers.
 pub fn uses_by_layer<'f, N: NamedFile>(
     alloc: Global,
     bytes: &'f [u8],
@@ -27,7 +27,7 @@ pub fn uses_by_layer<'f, N: NamedFile>(
     Ok(uses)
 }
 
-/// The names that a file uses, also one with faults.
+/// The names that a file uses. The file may have faults.
 fn uses_of<'d>(
     alloc: Global,
     file: &'d [u8],
@@ -54,7 +54,7 @@ fn salvaged<'d>(
     }
 }
 
-/// The file under one that uses these: the last of them.
+/// The file under one that uses these names: the file of the last.
 fn base_of<'f, N: NamedFile>(
     files: &NamedFiles<'f, N, Bundle<'f>>,
     names: &[&[u8]],

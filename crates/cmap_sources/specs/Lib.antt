@@ -1,1 +1,3 @@
+pub mod BytesSeen
 pub mod FileNames
+pub mod LineEnds

@@ -1,64 +1,79 @@
-//! The files that others use, by their names. Each is read when it is used for the first time.
+//! Bases: the files that others use, by their names. A base is read only if a file uses it.
+
+ghost use Rattle.cmap_sources.specs.BytesSeen.{bytes_seen};
 
 use crate::failure::Failure;
+use crate::file_bytes::FileBytes;
 use crate::file_names::file_name;
 use crate::folders::{files_in, is_folder, name_of};
 use crate::inputs::{read, report_unreadable, unreadable};
 use crate::search::Search;
 use crate::status::{ACCEPTED, FAILED};
-use hayro_cmap::{Bundle, BundleFiles, NamedFile, NamedFiles};
+use hayro_cmap::{Bundle, BundleFiles, CMap, NamedFile, NamedFiles};
 use std::alloc::{AllocError, Global};
 use std::collections::BTreeMap;
 
-/// A file that others use.
+/// A base that was read.
 #[derive(Drop)]
-pub struct Base {
+pub struct Base<'b> {
     name: Vec<u8>,
-    bytes: Vec<u8>,
+    bytes: FileBytes<'b>,
 }
 
-impl NamedFile for Base {
+impl<'b> NamedFile for Base<'b> {
     ghost name_of = { λ base. base.name.items };
 
-    ghost bytes_of = { λ base. base.bytes.items };
+    ghost bytes_of = { λ base. bytes_seen base.bytes };
 
     fn name(&self) -> &[u8] {
         &self.name
     }
 
     fn bytes(&self) -> &[u8] {
-        &self.bytes
+        self.bytes.as_slice()
     }
 }
 
-/// The files that are read.
-pub type Files<'f> = NamedFiles<'f, Base, Bundle<'f>>;
+/// The bases that were read.
+pub type Files<'f> = NamedFiles<'f, Base<'f>, Bundle<'f>>;
 
-/// The files that others may use: those of folders, those of a bundle for the names that none of them has,
-/// and else those that are found in further folders.
+/// What was found of a name.
+#[derive(Drop)]
+enum Found<'b> {
+    File(FileBytes<'b>),
+    /// The file has this path, and can't be read.
+    Unreadable(String),
+    Nothing,
+}
+
+/// The files that others may use. A name is looked up in the folders of bases, then in the bundle, then by
+/// `search`.
 #[derive(Drop)]
 pub struct Bases<'b> {
     pub bundle: Option<&'b Bundle<'b>>,
-    /// The paths of the files of folders that aren't read yet, by their names.
+    /// The paths of bases that aren't read yet, by their names.
     paths: BTreeMap<String, String>,
-    /// Where the names are looked up that neither has: at first nowhere.
+    /// The last folders in which a name is looked up: none at first.
     pub search: Search,
-    /// The files that are read.
-    read: Vec<Base>,
-    /// The paths that can't be read, and aren't reported yet.
+    /// The bases that were read.
+    read: Vec<Base<'b>>,
+    /// The files that these use were read ahead, up to this index.
+    asked: usize,
+    /// Paths that can't be read, and aren't reported yet.
     unreadable: Vec<String>,
     /// Whether something can't be read.
     has_failed: bool,
 }
 
 impl<'b> Bases<'b> {
-    /// The files of this bundle.
+    /// The files of the bundle alone.
     pub fn new(alloc: Global, bundle: Option<&'b Bundle<'b>>) -> Self {
         Bases {
             bundle,
             paths: BTreeMap::new(alloc),
             search: Search::nowhere(alloc),
             read: Vec::new(alloc),
+            asked: 0,
             unreadable: Vec::new(alloc),
             has_failed: false,
         }
@@ -78,7 +93,7 @@ impl<'b> Bases<'b> {
             return Err(unreadable(rt, folder));
         }
         let found = files_in(rt, folder)?;
-        self.has_failed |= found.unreadable > 0;
+        self.has_failed |= found.unreadable.get() > 0;
         for path in &found.files {
             self.add_path(rt.alloc(), path.as_str())?;
         }
@@ -95,7 +110,7 @@ impl<'b> Bases<'b> {
         Ok(())
     }
 
-    /// The files that are read, over the bundle.
+    /// The bases that were read, and the files of the bundle.
     pub fn files(&self) -> Files<'_> {
         NamedFiles {
             files: self.read.as_slice(),
@@ -103,21 +118,21 @@ impl<'b> Bases<'b> {
         }
     }
 
-    /// The files that are read, without the bundle: one of the bundle's files is among them once it is
-    /// used, so that a file of a folder comes before it.
+    /// The bases that were read, without the bundle. A file of the bundle is added to them when it is used, so
+    /// that the base of its name comes first.
     pub fn read_files(&self) -> Files<'_> {
         NamedFiles::alone(self.read.as_slice())
     }
 
-    /// Whether a file may have this name that isn't read yet.
+    /// Whether a file that isn't read yet may have this name.
     pub fn has_unread(&self, name: &[u8]) -> bool {
-        if self.read_files().find(name).is_some() {
+        if self.base(name).is_some() {
             return false;
         }
         self.path(name).is_some() || self.bundle_file(name).is_some() || self.search.may_have(name)
     }
 
-    /// The path of the file of this name in the folders, unless it is read.
+    /// The path of the base of this name that isn't read yet.
     fn path(&self, name: &[u8]) -> Option<&str> {
         let name = str::from_utf8(name).ok()?;
         Some(self.paths.get(name)?.as_str())
@@ -127,7 +142,7 @@ impl<'b> Bases<'b> {
         self.bundle?.file_of(name)
     }
 
-    /// Reads the files of these names that aren't read yet.
+    /// Reads the files of these names, but for those that were read.
     pub fn read_all(&mut self, rt: &HostRuntime, names: &[Vec<u8>]) -> Result<(), Failure> {
         for name in names {
             self.read(rt, name)?;
@@ -135,46 +150,95 @@ impl<'b> Bases<'b> {
         Ok(())
     }
 
-    /// Reads the file of this name, if it isn't read yet.
+    /// Reads the file of this name, unless it was read. A base that can't be read is kept for the report, and
+    /// the name is looked up once more: in the bundle and by `search`.
     fn read(&mut self, rt: &HostRuntime, name: &[u8]) -> Result<(), Failure> {
         if !self.has_unread(name) {
             return Ok(());
         }
-        match self.unread_bytes(rt, name)? {
-            Some(bytes) => self.add(rt.alloc(), name, bytes)?,
-            None => self.search.set_absent(rt.alloc(), name)?,
+        let mut found = self.look_for(rt, name)?;
+        if let Found::Unreadable(path) = found {
+            self.set_unreadable(rt.alloc(), name, path)?;
+            found = self.look_for(rt, name)?;
+        }
+        match found {
+            Found::File(bytes) => self.add(rt.alloc(), name, bytes)?,
+            Found::Unreadable(path) => self.set_unreadable(rt.alloc(), name, path)?,
+            Found::Nothing => self.search.set_absent(rt.alloc(), name)?,
         }
         Ok(())
     }
 
-    fn add(&mut self, alloc: Global, name: &[u8], bytes: Vec<u8>) -> Result<(), AllocError> {
+    /// Reads the files ahead that this one uses.
+    pub fn read_used_by(&mut self, rt: &HostRuntime, file: &[u8]) -> Result<(), Failure> {
+        if let Some(names) = CMap::uses(rt.alloc(), file, self.bundle)? {
+            for name in &names {
+                self.read_ahead(rt, name)?;
+            }
+        }
+        Ok(())
+    }
+
+    /// Reads the files ahead that the bases use. Each base is asked once.
+    pub fn read_used(&mut self, rt: &HostRuntime) -> Result<(), Failure> {
+        let count = self.read.len();
+        for index in self.asked..count {
+            let file = self.read[index].bytes.share()?;
+            self.read_used_by(rt, file.as_slice())?;
+        }
+        self.asked = count;
+        Ok(())
+    }
+
+    /// Reads the file of this name ahead, unless it was read. If it can't be read, nothing changes: it is
+    /// reported only if a parse misses it.
+    fn read_ahead(&mut self, rt: &HostRuntime, name: &[u8]) -> Result<(), Failure> {
+        if !self.has_unread(name) {
+            return Ok(());
+        }
+        match self.look_for(rt, name)? {
+            Found::File(bytes) => self.add(rt.alloc(), name, bytes)?,
+            Found::Unreadable(_path) => {}
+            Found::Nothing => self.search.set_absent(rt.alloc(), name)?,
+        }
+        Ok(())
+    }
+
+    fn add(&mut self, alloc: Global, name: &[u8], bytes: FileBytes<'b>) -> Result<(), AllocError> {
+        let _path = self.take_path(name);
         let name = Vec::from_slice(alloc, name)?;
         Ok(self.read.push(Base { name, bytes })?)
     }
 
-    /// The bytes of the file of this name, which isn't read yet.
-    fn unread_bytes(&mut self, rt: &HostRuntime, name: &[u8]) -> Result<Option<Vec<u8>>, Failure> {
-        if let Some(path) = self.take_path(name)
-            && let Some(bytes) = self.bytes_of(rt, path)?
-        {
-            return Ok(Some(bytes));
+    /// Looks up a name whose file isn't read yet, and reads the file.
+    fn look_for(&mut self, rt: &HostRuntime, name: &[u8]) -> Result<Found<'b>, Failure> {
+        if let Some(path) = self.path(name) {
+            let path = String::from_str(rt.alloc(), path)?;
+            return found_at(rt, path);
         }
         if let Some(bytes) = self.bundle_file(name) {
-            return Ok(Some(Vec::from_slice(rt.alloc(), bytes)?));
+            return Ok(Found::File(FileBytes::Lent(bytes)));
+        }
+        if !self.search.may_have(name) {
+            return Ok(Found::Nothing);
         }
         match self.search.find(rt, name)? {
-            Some(path) => self.bytes_of(rt, path),
-            None => Ok(None),
+            Some(path) => found_at(rt, path),
+            None => Ok(Found::Nothing),
         }
     }
 
-    /// The bytes of the file of this path; one that can't be read is to be reported.
-    fn bytes_of(&mut self, rt: &HostRuntime, path: String) -> Result<Option<Vec<u8>>, Failure> {
-        let bytes = read(rt, path.as_str())?;
-        if bytes.is_none() {
-            self.unreadable.push(path)?;
+    /// Keeps the path of this name for the report, and takes it out of where the name is looked up.
+    fn set_unreadable(
+        &mut self,
+        alloc: Global,
+        name: &[u8],
+        path: String,
+    ) -> Result<(), AllocError> {
+        if self.take_path(name).is_none() {
+            self.search.set_absent(alloc, name)?;
         }
-        Ok(bytes)
+        Ok(self.unreadable.push(path)?)
     }
 
     fn take_path(&mut self, name: &[u8]) -> Option<String> {
@@ -185,16 +249,25 @@ impl<'b> Bases<'b> {
     }
 
     /// The bytes of the file of this name.
-    pub fn file(&mut self, rt: &HostRuntime, name: &[u8]) -> Result<Option<Vec<u8>>, Failure> {
+    pub fn file(
+        &mut self,
+        rt: &HostRuntime,
+        name: &[u8],
+    ) -> Result<Option<FileBytes<'b>>, Failure> {
         self.read(rt, name)?;
         self.report(rt)?;
-        match self.read_files().find(name) {
-            Some(bytes) => Ok(Some(Vec::from_slice(rt.alloc(), bytes)?)),
+        match self.base(name) {
+            Some(base) => Ok(Some(base.bytes.share()?)),
             None => Ok(None),
         }
     }
 
-    /// The path of the file of this name; of one in the bundle, this path of the bundle.
+    /// The file of this name, if it is read.
+    fn base(&self, name: &[u8]) -> Option<&Base<'b>> {
+        self.read.iter().find(|base| base.name.as_slice() == name)
+    }
+
+    /// The path of the file of this name. For a file of the bundle it is this path of the bundle.
     pub fn locate(
         &mut self,
         rt: &HostRuntime,
@@ -207,7 +280,7 @@ impl<'b> Bases<'b> {
         }
     }
 
-    /// The path of the file of this name in the folders, else that of the bundle which has it.
+    /// The path of the base of this name, or else of the bundle if it has the name.
     fn known_path<'p>(&'p self, name: &[u8], bundle: Option<&'p str>) -> Option<&'p str> {
         match self.path(name) {
             Some(path) => Some(path),
@@ -216,17 +289,17 @@ impl<'b> Bases<'b> {
         }
     }
 
-    /// Whether a file of this name would be found if the predefined CMaps of the system were there.
+    /// Whether this may be the name of a predefined CMap that the system lacks.
     pub fn may_be_predefined(&self, name: &[u8]) -> bool {
         self.search.is_of_system() && file_name(name).is_some()
     }
 
-    /// Whether a file can't be read, which isn't reported yet.
+    /// Whether there is something to report.
     pub fn has_unreported(&self) -> bool {
         !self.unreadable.is_empty()
     }
 
-    /// Reports the files that can't be read, each once.
+    /// Reports the paths that can't be read, each once.
     pub fn report(&mut self, rt: &HostRuntime) -> Result<(), Failure> {
         self.has_failed |= self.has_unreported();
         for path in &self.unreadable {
@@ -236,8 +309,16 @@ impl<'b> Bases<'b> {
         Ok(())
     }
 
-    /// The status of what was read here.
+    /// The status of the bases: whether all that were used could be read.
     pub fn status(&self) -> u8 {
         if self.has_failed { FAILED } else { ACCEPTED }
+    }
+}
+
+/// Reads the file of a path.
+fn found_at<'b>(rt: &HostRuntime, path: String) -> Result<Found<'b>, Failure> {
+    match read(rt, path.as_str())? {
+        Some(bytes) => Ok(Found::File(FileBytes::of(bytes)?)),
+        None => Ok(Found::Unreadable(path)),
     }
 }

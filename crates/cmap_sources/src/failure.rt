@@ -9,9 +9,9 @@ use std::io::{self, ErrorKind};
 /// Why a run ends before all is done.
 #[derive(Drop)]
 pub enum Failure {
-    /// What reads the output has gone away.
+    /// The reader of the output has gone away.
     ReaderGone,
-    /// The file that the run needs is refused, and why is on the standard error.
+    /// The file that the run needs is refused. The reason is reported already.
     Refused,
     /// Something can't be read or written.
     Io(io::Error),
@@ -53,7 +53,7 @@ impl<T: Drop> From<AllocFailed<T>> for Failure {
     }
 }
 
-/// The failure of an argument or a path in which something is wrong.
+/// The failure of an argument or a path, with what is wrong with it.
 pub fn fault(rt: &HostRuntime, argument: &str, wrong: &str) -> Failure {
     match line_of(rt.alloc(), argument, wrong) {
         Ok(line) => Failure::Message(line),
@@ -68,7 +68,7 @@ fn line_of(alloc: Global, argument: &str, wrong: &str) -> Result<String, AllocEr
     Ok(line)
 }
 
-/// Reports why a run ends. That a reader has gone away is no fault, and a refusal is reported already.
+/// Reports why a run ends. A reader that has gone away is no fault, and a refusal is reported already.
 pub fn report(rt: &HostRuntime, failure: &Failure) -> io::Result<()> {
     match failure {
         Failure::ReaderGone | Failure::Refused => Ok(()),

@@ -1,11 +1,11 @@
-//! The names that may be those of files in a folder.
+//! Names that a file in a folder may have.
 
 ghost use Rattle.std.specs.Prelude.{◌≡◌, ◌↔◌, IsTrue, MatchOption};
 ghost use Rattle.std.specs.Str.{IsUtf8};
 ghost use Rattle.cmap_sources.specs.FileNames.{IsFileName};
 
-/// A name as that of a file in a folder, which isn't hidden. Names come from untrusted files, so one that
-/// leads to another folder is `None`.
+/// The name of a file in a folder that isn't hidden. Names come from untrusted files, so a name that leads to
+/// another folder gives `None`.
 pub fn file_name(name: &[u8]) -> Option<&str>
     ensures { MatchOption result (¬ (IsFileName name.now × IsUtf8 name.now))
         (λ found. IsFileName name.now × (found.now ≡ name.now)) }

@@ -2,9 +2,14 @@
 
 use crate::failure::Failure;
 use crate::inputs::{readable, report_unreadable};
+use cmap_escape::count::Count;
 use std::alloc::{AllocError, Global};
 use std::fs::{self, DirEntry, read_dir};
 use std::io;
+
+/// The most folders that are read. The loop over folders ends because each is read once and links aren't followed, but
+/// no clause says how many a file system has: so it has this bound, which no run reaches.
+const MOST_FOLDERS: u32 = u32::MAX;
 
 /// What lies in a folder and its subfolders.
 #[derive(Drop)]
@@ -12,7 +17,7 @@ pub struct Found {
     /// The paths of the files, in the order of their bytes.
     pub files: Vec<String>,
     /// How many folders can't be read.
-    pub unreadable: usize,
+    pub unreadable: Count,
     /// The folders that aren't read yet.
     waiting: Vec<String>,
 }
@@ -34,15 +39,15 @@ pub fn is_file(rt: &HostRuntime, path: &str) -> bool {
 }
 
 /// The files in a folder and its subfolders, but for hidden files and folders. A link to a file counts
-/// as a file, and a link to a folder isn't followed. Each folder that can't be read is reported.
+/// as a file, and a link to a folder isn't followed. Folders that can't be read are reported.
 pub fn files_in(rt: &HostRuntime, folder: &str) -> Result<Found, Failure> {
     let mut found = Found::new(rt.alloc());
     found.add_all(rt, folder)?;
     Ok(found)
 }
 
-/// Adds a folder, and after it its subfolders in the order of their paths, but for hidden ones and links. Of a
-/// folder that can't be read there are none.
+/// Adds a folder, and after it its subfolders in the order of their paths, but for hidden ones and links. A
+/// folder that can't be read has no subfolders.
 pub fn add_with_subfolders(
     rt: &HostRuntime,
     folder: &str,
@@ -61,7 +66,7 @@ impl Found {
     fn new(alloc: Global) -> Found {
         Found {
             files: Vec::new(alloc),
-            unreadable: 0,
+            unreadable: Count::of(0),
             waiting: Vec::new(alloc),
         }
     }
@@ -69,7 +74,7 @@ impl Found {
     /// Adds what lies in a folder and its subfolders.
     fn add_all(&mut self, rt: &HostRuntime, folder: &str) -> Result<(), Failure> {
         self.waiting.push(String::from_str(rt.alloc(), folder)?)?;
-        for _ in 0..u32::MAX {
+        for _ in 0..MOST_FOLDERS {
             let Some(next) = self.waiting.pop() else {
                 break;
             };
@@ -82,7 +87,7 @@ impl Found {
     fn add_folder(&mut self, rt: &HostRuntime, folder: &str) -> Result<(), Failure> {
         if readable(self.add_entries(rt, folder))?.is_none() {
             report_unreadable(rt, folder)?;
-            self.unreadable = self.unreadable.saturating_add(1);
+            self.unreadable.add_one();
         }
         Ok(())
     }

@@ -1,7 +1,8 @@
-//! What is read: files, and the maps of those that arguments ask for.
+//! Files that arguments ask for: their bytes and their maps.
 
 use crate::bases::Bases;
 use crate::failure::{Failure, fault, report};
+use crate::file_bytes::FileBytes;
 use crate::folders::is_file;
 use crate::reading::{Input, Manner, read_over};
 use crate::status::FAILED;
@@ -9,7 +10,7 @@ use hayro_cmap::{CMap, Fault};
 use std::fs;
 use std::io::{self, ErrorKind, Read};
 
-/// The path that stands for the standard input.
+/// The argument that stands for the standard input.
 pub const STANDARD_INPUT: &str = "-";
 
 /// The bytes of a file that a run needs; `-` is the standard input.
@@ -20,7 +21,7 @@ pub fn needed(rt: &HostRuntime, path: &str) -> Result<Vec<u8>, Failure> {
     }
 }
 
-/// The bytes of a file; `-` is the standard input. `None` where it can't be read.
+/// The bytes of a file; `-` is the standard input. `None` if it can't be read.
 pub fn read(rt: &HostRuntime, path: &str) -> Result<Option<Vec<u8>>, Failure> {
     if path == STANDARD_INPUT {
         let mut bytes = Vec::new(rt.alloc());
@@ -32,7 +33,7 @@ pub fn read(rt: &HostRuntime, path: &str) -> Result<Option<Vec<u8>>, Failure> {
     readable(fs::read(rt, path))
 }
 
-/// What is read; `None` where it can't be. That memory ran out is an error.
+/// What was read; `None` if it can't be read. Out of memory is an error.
 pub fn readable<T: Drop>(read: io::Result<T>) -> Result<Option<T>, Failure> {
     match read {
         Ok(read) => Ok(Some(read)),
@@ -46,7 +47,7 @@ pub fn unreadable(rt: &HostRuntime, path: &str) -> Failure {
     fault(rt, path, "can't be read")
 }
 
-/// The failure of an argument that is neither a path nor a name.
+/// The failure of an argument that is neither the path nor the name of a file.
 fn missing(rt: &HostRuntime, argument: &str, bases: &Bases<'_>) -> Failure {
     if bases.may_be_predefined(argument.as_bytes()) {
         unknown_name(rt, argument, bases)
@@ -76,34 +77,34 @@ pub fn report_unreadable(rt: &HostRuntime, path: &str) -> Result<u8, Failure> {
 
 /// A file that is read, with its map.
 #[derive(Drop)]
-pub struct Opened {
-    /// The bytes of the file, none where a predefined CMap has no file.
-    pub bytes: Vec<u8>,
+pub struct Opened<'b> {
+    /// The bytes of the file. A predefined CMap without a file has no bytes.
+    pub bytes: FileBytes<'b>,
     pub map: CMap,
 }
 
-/// The file that an argument asks for: by its path, or where no file has the path, by its name. Why a file is
-/// refused goes to the standard error, and that none can be read is a message.
-pub fn open(
+/// The file of this path, or if no file has the path, of this name. Its faults are reported. A file that can't be read
+/// is a failure with a message.
+pub fn open<'b>(
     rt: &HostRuntime,
     argument: &str,
     manner: Manner,
-    bases: &mut Bases<'_>,
-) -> Result<Opened, Failure> {
+    bases: &mut Bases<'b>,
+) -> Result<Opened<'b>, Failure> {
     if argument != STANDARD_INPUT && !is_file(rt, argument) {
         return open_by_name(rt, argument, manner, bases);
     }
-    let bytes = needed(rt, argument)?;
+    let bytes = FileBytes::of(needed(rt, argument)?)?;
     open_bytes(rt, argument, bytes, manner, bases)
 }
 
-/// The base or the bundle's file of this name, else a predefined CMap.
-fn open_by_name(
+/// The file of this name, or else the predefined CMap.
+fn open_by_name<'b>(
     rt: &HostRuntime,
     name: &str,
     manner: Manner,
-    bases: &mut Bases<'_>,
-) -> Result<Opened, Failure> {
+    bases: &mut Bases<'b>,
+) -> Result<Opened<'b>, Failure> {
     match bases.file(rt, name.as_bytes())? {
         Some(bytes) => open_bytes(rt, name, bytes, manner, bases),
         None => open_predefined(rt, name, bases),
@@ -111,10 +112,14 @@ fn open_by_name(
 }
 
 /// A predefined CMap that has no file.
-fn open_predefined(rt: &HostRuntime, name: &str, bases: &Bases<'_>) -> Result<Opened, Failure> {
+fn open_predefined<'b>(
+    rt: &HostRuntime,
+    name: &str,
+    bases: &Bases<'b>,
+) -> Result<Opened<'b>, Failure> {
     match CMap::open(rt.alloc(), None, name.as_bytes(), None, &bases.read_files()) {
         Ok(Some(map)) => Ok(Opened {
-            bytes: Vec::new(rt.alloc()),
+            bytes: FileBytes::Lent(&[]),
             map,
         }),
         Ok(None) | Err(Fault::Refused(_)) => Err(missing(rt, name, bases)),
@@ -122,34 +127,29 @@ fn open_predefined(rt: &HostRuntime, name: &str, bases: &Bases<'_>) -> Result<Op
     }
 }
 
-fn open_bytes(
+fn open_bytes<'b>(
     rt: &HostRuntime,
     path: &str,
-    bytes: Vec<u8>,
+    bytes: FileBytes<'b>,
     manner: Manner,
     bases: &mut Bases<'_>,
-) -> Result<Opened, Failure> {
-    match map_of(rt, path, &bytes, manner, bases) {
-        Ok(map) => Ok(Opened { bytes, map }),
-        Err(failure) => Err(failure),
-    }
+) -> Result<Opened<'b>, Failure> {
+    let map = map_of(rt, path, bytes.as_slice(), manner, bases)?;
+    Ok(Opened { bytes, map })
 }
 
-/// The map of a file that a run needs. Why it is refused goes to the standard error.
+/// The map of a file that a run needs. Its faults are reported.
 pub fn map_needed(
     rt: &HostRuntime,
     argument: &str,
     manner: Manner,
     bases: &mut Bases<'_>,
 ) -> Result<CMap, Failure> {
-    match open(rt, argument, manner, bases) {
-        Ok(opened) => Ok(opened.map),
-        Err(failure) => Err(failure),
-    }
+    let Opened { map, .. } = open(rt, argument, manner, bases)?;
+    Ok(map)
 }
 
-/// The map of a file of these bytes. Its faults go to the standard error: the first one where they aren't
-/// passed over, and the file is then refused.
+/// The map of a file of these bytes. Its faults are reported. If it isn't read past them, it is refused at the first.
 pub fn map_of(
     rt: &HostRuntime,
     path: &str,

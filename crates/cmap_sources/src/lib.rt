@@ -1,13 +1,16 @@
-//! Where the command finds files and how it reads them: by their paths, by their names, and over the files that
-//! they use.
+//! Where the command finds files, how it reads them over the files that they use, and how it reports why a file is
+//! refused.
 #![tactic(auto)]
 
 pub mod bases;
 pub mod failure;
+pub mod fault_line;
+pub mod file_bytes;
 pub mod file_names;
 pub mod folders;
 pub mod inputs;
 pub mod paths;
 pub mod reading;
+pub mod refused;
 pub mod search;
 pub mod status;

@@ -1,24 +1,25 @@
-//! Which files `check` reads.
+//! The files that `check` reads.
 
 use crate::failure::Failure;
 use crate::folders::{files_in, is_folder};
 use crate::inputs::{STANDARD_INPUT, needed, report_unreadable};
+use cmap_escape::count::Count;
 use cmap_escape::escape::escaped_name;
 
 /// A file that lists paths.
 #[derive(Clone, Copy)]
 pub struct PathList<'l> {
     pub path: &'l str,
-    /// The byte that ends each path in it.
+    /// The byte after each path.
     pub end: u8,
 }
 
-/// The files that arguments and a list name, and those in folders that they name.
+/// The files that arguments and a list name, and the files in folders that they name.
 #[derive(Drop)]
 pub struct Paths {
     pub files: Vec<String>,
-    /// How many paths can't be read, which are reported.
-    pub unreadable: usize,
+    /// How many paths can't be read. They are reported.
+    pub unreadable: Count,
 }
 
 /// The files that the arguments name, and then those of the list.
@@ -29,7 +30,7 @@ pub fn paths_of(
 ) -> Result<Paths, Failure> {
     let mut paths = Paths {
         files: Vec::new(rt.alloc()),
-        unreadable: 0,
+        unreadable: Count::of(0),
     };
     paths.add_all(rt, arguments, list)?;
     Ok(paths)
@@ -52,7 +53,7 @@ impl Paths {
         }
     }
 
-    /// Adds what the paths of a list name, between which this byte stands. Empty ones are passed over.
+    /// Adds what the paths of a list name. This byte ends each of them, and empty ones are passed over.
     fn add_list(&mut self, rt: &HostRuntime, list: &[u8], end: u8) -> Result<(), Failure> {
         for path in list.split(|byte| *byte == end) {
             if !path.is_empty() {
@@ -62,7 +63,7 @@ impl Paths {
         Ok(())
     }
 
-    /// Adds what a path of a list names, or reports that it can't be one.
+    /// Adds what a path of a list names, or reports that it is invalid.
     fn add_listed(&mut self, rt: &HostRuntime, path: &[u8]) -> Result<(), Failure> {
         match str::from_utf8(path) {
             Ok(STANDARD_INPUT) => {
@@ -74,7 +75,7 @@ impl Paths {
                 eprintln!(rt; "cmap: {shown}: not UTF-8")?;
             }
         }
-        self.unreadable = self.unreadable.saturating_add(1);
+        self.unreadable.add_one();
         Ok(())
     }
 
@@ -85,7 +86,7 @@ impl Paths {
             return Ok(());
         }
         let mut found = files_in(rt, path)?;
-        self.unreadable = self.unreadable.saturating_add(found.unreadable);
+        self.unreadable.add(found.unreadable.get());
         self.files.append(&mut found.files)?;
         Ok(())
     }

@@ -1,37 +1,37 @@
-//! Files over the files that they use, each of which is read when it is first missing.
+//! A file is parsed over the bases that were read. If one is missing, it is read, and the file is parsed again.
 
 use crate::bases::{Bases, Files};
 use crate::failure::Failure;
+use crate::fault_line::LineCounter;
+use crate::refused::{push_refusal, push_refusal_json};
 use cmap_escape::escape::push_text;
-use cmap_refusals::fault_line::LineCounter;
-use cmap_refusals::refused::{push_refusal, push_refusal_json};
 use hayro_cmap::{CMap, Cause, Fault, Refusal, SalvagedMap};
 use std::alloc::{AllocError, Global};
 
-/// A file that is read.
+/// A file to be parsed.
 #[derive(Clone, Copy)]
 pub struct Input<'i> {
     pub path: &'i str,
     pub bytes: &'i [u8],
 }
 
-/// What comes of a file over the files that it uses.
+/// What a file and the files that it uses say.
 #[derive(Drop)]
 pub struct Reading {
-    /// Also of a file with faults, where all are looked for.
+    /// The map. With `Faults::All` a file with faults has one too.
     pub map: Option<CMap>,
-    /// A line for each fault, without an end of the line.
+    /// A line for each fault, without its line end.
     pub faults: Vec<String>,
-    /// The names of files that are used, but aren't read yet. If there are some, a further try is due.
+    /// The names of bases that aren't read yet. If there are any, parse again.
     missing: Vec<Vec<u8>>,
 }
 
 /// Which faults of a file are looked for.
 #[derive(Clone, Copy)]
 pub enum Faults {
-    /// The first one, for which the file is refused.
+    /// The first. The file is then refused.
     First,
-    /// All: the file is read past each.
+    /// All. The file is read past each of them.
     All,
 }
 
@@ -51,6 +51,11 @@ pub struct Manner {
     pub form: Form,
 }
 
+/// How often a file is parsed at most. The loop ends because each parse but the last misses a name that wasn't looked
+/// up before, and files have only so many names. But no clause says how many: so it has this bound, which no run
+/// reaches.
+const MOST_PARSES: u32 = u32::MAX;
+
 /// Reads a file over the files that it uses.
 pub fn read_over(
     rt: &HostRuntime,
@@ -68,7 +73,7 @@ pub fn read_over(
 }
 
 impl Reading {
-    /// Reads a file, and the files that it uses, until none is missing that can be read.
+    /// Parses a file until no base is missing that can be read.
     fn read_over(
         &mut self,
         rt: &HostRuntime,
@@ -76,18 +81,21 @@ impl Reading {
         manner: Manner,
         bases: &mut Bases<'_>,
     ) -> Result<(), Failure> {
-        for _ in 0..u32::MAX {
-            self.read_over_known(rt.alloc(), input, manner, bases)?;
+        for parses in 0..MOST_PARSES {
+            self.parse(rt.alloc(), input, manner, bases)?;
             if self.missing.is_empty() {
                 break;
             }
             bases.read_all(rt, &self.missing)?;
+            if let Faults::First = manner.faults {
+                read_ahead(rt, parses, input, bases)?;
+            }
         }
         Ok(())
     }
 
-    /// Reads a file over the files that are read.
-    fn read_over_known(
+    /// Parses a file over the bases that were read.
+    fn parse(
         &mut self,
         alloc: Global,
         input: Input<'_>,
@@ -101,7 +109,7 @@ impl Reading {
         }
     }
 
-    /// Reads a file over these files, up to its first fault.
+    /// Parses a file over these files, up to the first fault.
     fn read_strictly<'f>(
         &mut self,
         alloc: Global,
@@ -122,7 +130,7 @@ impl Reading {
         }
     }
 
-    /// Reads a file over these files, past its faults.
+    /// Parses a file over these files, past all faults.
     fn read_past<'f>(
         &mut self,
         alloc: Global,
@@ -137,8 +145,7 @@ impl Reading {
         self.set_faults(alloc, input, manner.form, bases, &faults)
     }
 
-    /// Sets the lines of the faults, or the names of files that aren't read yet, where some of the faults are
-    /// that these are missing.
+    /// Sets the names of bases that are missing and can be read, or if there are none, the lines of the faults.
     fn set_faults(
         &mut self,
         alloc: Global,
@@ -155,7 +162,25 @@ impl Reading {
     }
 }
 
-/// The names of the files that are missing, but can be read.
+/// Reads bases ahead, since a parse up to the first fault finds one missing base alone. Nothing is read ahead after the
+/// first parse: most files use one base.
+fn read_ahead(
+    rt: &HostRuntime,
+    parses: u32,
+    input: Input<'_>,
+    bases: &mut Bases<'_>,
+) -> Result<(), Failure> {
+    match parses {
+        0 => Ok(()),
+        1 => {
+            bases.read_used_by(rt, input.bytes)?;
+            bases.read_used(rt)
+        }
+        _ => bases.read_used(rt),
+    }
+}
+
+/// The names of bases that are missing and aren't read yet.
 fn missing_names(
     alloc: Global,
     bases: &Bases<'_>,
@@ -172,7 +197,7 @@ fn missing_names(
     Ok(names)
 }
 
-/// The name that no file has.
+/// The name of a missing base.
 fn missing_name<'n>(fault: &Refusal<'n>) -> Option<&'n [u8]> {
     match fault.cause {
         Cause::NoFile => fault.names.last().copied(),

@@ -1,4 +1,4 @@
-//! The folders in which files are looked up by their names, where neither a base nor the bundle has the name.
+//! Folders in which a name is looked up that neither a base nor a file of the bundle has.
 
 use crate::failure::{Failure, fault};
 use crate::file_names::file_name;
@@ -7,11 +7,11 @@ use std::alloc::{AllocError, Global};
 use std::collections::BTreeSet;
 use std::env::{self, VarError};
 
-/// The environment variable that names the folders, between which colons stand.
+/// The environment variable with the folders, separated by colons.
 pub const VARIABLE: &str = "CMAP_PATH";
 
 /// Where systems keep the predefined CMaps: Debian's package poppler-data, Ghostscript, and the packages
-/// cmap-adobe-*, each as far as it is there.
+/// cmap-adobe-*. Any of them may be absent.
 const SYSTEM_FOLDERS: &[&str] = &[
     "/usr/share/poppler/cMap",
     "/var/lib/ghostscript/CMap",
@@ -21,13 +21,13 @@ const SYSTEM_FOLDERS: &[&str] = &[
 /// Folders in which files are looked up by their names.
 #[derive(Drop)]
 pub struct Search {
-    /// The folders, in the order in which they are looked at.
+    /// The folders, in the order of the search.
     folders: Vec<String>,
     /// Whether their subfolders are among them.
     has_subfolders: bool,
     /// Whether they are those where systems keep the predefined CMaps.
     is_of_system: bool,
-    /// The names that were looked up, and that no file has.
+    /// Names that were looked up in vain.
     absent: BTreeSet<String>,
 }
 
@@ -42,7 +42,8 @@ impl Search {
         }
     }
 
-    /// Adds the folders that the environment names, else those where systems keep the predefined CMaps.
+    /// Adds the folders that the environment names, or if it names none, those where systems keep the predefined
+    /// CMaps.
     pub fn add_environment(&mut self, rt: &HostRuntime) -> Result<(), Failure> {
         match env::var(rt, VARIABLE) {
             Ok(folders) => Ok(self.add_listed(rt.alloc(), folders.as_str())?),
@@ -52,7 +53,7 @@ impl Search {
         }
     }
 
-    /// Adds the folders of a list, between which colons stand. Empty ones are passed over.
+    /// Adds the folders of a list, separated by colons. Empty names are passed over.
     fn add_listed(&mut self, alloc: Global, folders: &str) -> Result<(), AllocError> {
         for folder in env::split_paths(folders) {
             if !folder.as_str().is_empty() {
@@ -72,7 +73,7 @@ impl Search {
         Ok(())
     }
 
-    /// Whether a file may have this name: one that wasn't looked up in vain.
+    /// Whether a file may have this name, which wasn't looked up in vain.
     pub fn may_have(&self, name: &[u8]) -> bool {
         match file_name(name) {
             Some(name) => !self.folders.is_empty() && !self.absent.contains(name),
@@ -80,7 +81,7 @@ impl Search {
         }
     }
 
-    /// Whether the predefined CMaps of the system would be found here.
+    /// Whether these are the folders of the system.
     pub fn is_of_system(&self) -> bool {
         self.is_of_system
     }
@@ -115,7 +116,7 @@ impl Search {
         Ok(())
     }
 
-    /// Says that no file has this name.
+    /// Notes that no file has this name.
     pub fn set_absent(&mut self, alloc: Global, name: &[u8]) -> Result<(), AllocError> {
         if let Some(name) = file_name(name) {
             self.absent.insert(String::from_str(alloc, name)?)?;

@@ -1,14 +1,13 @@
 //! The statuses of a run.
 
-/// The status where all files are accepted.
+/// The status if all files are accepted.
 pub const ACCEPTED: u8 = 0;
 
-/// The status where a file is refused.
+/// The status if a file is refused.
 pub const REFUSED: u8 = 1;
 
-/// The status where an argument is wrong, or something can't be read or written.
+/// The status if an argument is wrong, or something can't be read or written.
 pub const FAILED: u8 = 2;
 
-/// The status where what reads the output has gone away: that which shells give a program that
-/// SIGPIPE ends.
+/// The status if the reader of the output has gone away, as shells have it of a program that SIGPIPE ends.
 pub const READER_GONE: u8 = 141;

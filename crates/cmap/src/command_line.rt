@@ -1,0 +1,262 @@
+//! The command line of `cmap`: its subcommands, with their options and arguments.
+
+pub(crate) mod flags;
+
+use self::flags::{
+    BASE, BUDGET, BUNDLE, DENY, EFFECTIVE, FILES_FROM, FIRST, Flag, JSON, LENIENT, LINT,
+    LINT_TO_UNICODE, NAME, NO_PREDEFINED, NULL, OUTPUT, QUIET, TO_UNICODE, VERIFY, values_of,
+};
+use clap::{Arg, ArgAction, ArgMatches, Command};
+use cmap_sources::inputs::STANDARD_INPUT;
+use std::alloc::{AllocError, Global};
+
+/// The id of files and folders.
+const FILE: &str = "FILE";
+
+/// The id of other arguments, after a file.
+const ARGUMENT: &str = "ARGUMENT";
+
+/// What the command line says of a subcommand.
+struct Form {
+    name: &'static str,
+    about: &'static str,
+    /// Its options, in the order of the help.
+    flags: &'static [Flag],
+    /// Whether its first argument is a file.
+    has_file: bool,
+    /// Its other arguments. `list` has none.
+    arguments: Option<Arguments>,
+}
+
+/// Arguments of a subcommand, at least one.
+struct Arguments {
+    /// Their id.
+    id: &'static str,
+    /// Their name in the help.
+    value_name: &'static str,
+    /// The option with which no argument is needed.
+    unless: Option<&'static str>,
+    /// Their text in the help.
+    help: &'static str,
+}
+
+/// The options of a subcommand that takes strings.
+const STRING_FLAGS: &[Flag] = &[
+    BASE,
+    BUNDLE,
+    NO_PREDEFINED,
+    JSON,
+    TO_UNICODE,
+    BUDGET,
+    LENIENT,
+];
+
+/// The strings of `decode` and `text`.
+const STRINGS: Arguments = Arguments {
+    id: ARGUMENT,
+    value_name: "HEX",
+    unless: None,
+    help: "Strings, two hexadecimal digits for each byte; - reads them from the standard input",
+};
+
+const SUBCOMMANDS: &[Form] = &[
+    Form {
+        name: "info",
+        about: "Prints what files say: their names, codespace ranges, declarations and layers",
+        flags: &[BASE, BUNDLE, NO_PREDEFINED, JSON, BUDGET, LENIENT],
+        has_file: false,
+        arguments: Some(Arguments {
+            id: FILE,
+            value_name: "FILE",
+            unless: Some("bundle"),
+            help: "CMap files, each by its path or its name; - is the standard input",
+        }),
+    },
+    Form {
+        name: "list",
+        about: "Prints each declaration of a file and of those that it is based on",
+        flags: &[
+            BASE,
+            BUNDLE,
+            NO_PREDEFINED,
+            JSON,
+            BUDGET,
+            LENIENT,
+            EFFECTIVE,
+        ],
+        has_file: true,
+        arguments: None,
+    },
+    Form {
+        name: "find",
+        about: "Prints the codes that have a CID or a text",
+        flags: &[BASE, BUNDLE, NO_PREDEFINED, JSON, BUDGET, LENIENT],
+        has_file: true,
+        arguments: Some(Arguments {
+            id: ARGUMENT,
+            value_name: "WANTED",
+            unless: None,
+            help: "cid:N for the codes of a CID, text:TEXT for those of a text",
+        }),
+    },
+    Form {
+        name: "check",
+        about: "Prints for each file that it is ok, or where it is wrong and why",
+        flags: &[
+            BASE,
+            BUNDLE,
+            NO_PREDEFINED,
+            JSON,
+            BUDGET,
+            FILES_FROM,
+            NULL,
+            FIRST,
+            QUIET,
+            LINT,
+            LINT_TO_UNICODE,
+            DENY,
+        ],
+        has_file: false,
+        arguments: Some(Arguments {
+            id: FILE,
+            value_name: "FILE|FOLDER",
+            unless: Some("files-from"),
+            help: "CMap files, and folders of them; - is the standard input",
+        }),
+    },
+    Form {
+        name: "decode",
+        about: "Prints the codes of strings, with their CIDs and their texts",
+        flags: STRING_FLAGS,
+        has_file: true,
+        arguments: Some(STRINGS),
+    },
+    Form {
+        name: "text",
+        about: "Prints the texts of strings",
+        flags: STRING_FLAGS,
+        has_file: true,
+        arguments: Some(STRINGS),
+    },
+    Form {
+        name: "where",
+        about: "Prints the paths of the files that names stand for",
+        flags: &[BASE, BUNDLE, NO_PREDEFINED, JSON],
+        has_file: false,
+        arguments: Some(Arguments {
+            id: FILE,
+            value_name: "NAME",
+            unless: None,
+            help: "Names of CMaps",
+        }),
+    },
+    Form {
+        name: "bundle",
+        about: "Makes a bundle of the files that have known names",
+        flags: &[OUTPUT, NAME, VERIFY],
+        has_file: false,
+        arguments: Some(Arguments {
+            id: FILE,
+            value_name: "FILE|FOLDER",
+            unless: Some("name"),
+            help: "CMap files, and folders of them; - is the standard input",
+        }),
+    },
+    Form {
+        name: "lookup",
+        about: "Prints the CIDs and the texts of single codes",
+        flags: &[BASE, BUNDLE, NO_PREDEFINED, JSON, BUDGET, LENIENT],
+        has_file: true,
+        arguments: Some(Arguments {
+            id: ARGUMENT,
+            value_name: "CODE",
+            unless: None,
+            help: "L:HEX for the CID of a code of L bytes, bf:HEX for the text of a code",
+        }),
+    },
+];
+
+/// The command line of `cmap`.
+pub(crate) fn command<'a>(alloc: Global) -> Result<Command<'a>, AllocError> {
+    let mut command = program(alloc)?;
+    for subcommand in SUBCOMMANDS {
+        command = command.subcommand(subcommand.command(alloc)?)?;
+    }
+    Ok(command)
+}
+
+fn program<'a>(alloc: Global) -> Result<Command<'a>, AllocError> {
+    Command::new(alloc, "cmap")
+        .about("Prints what is in CMap files, where they are wrong, and what strings say")
+        .version("1.0.0 (a port of hayro-cmap 0.1.1)")
+        .subcommand_required(true)
+        .arg_required_else_help(true)
+        .bin_name("cmap")
+}
+
+impl Form {
+    fn command<'a>(&self, alloc: Global) -> Result<Command<'a>, AllocError> {
+        let command = self.add_flags(alloc, Command::new(alloc, self.name).about(self.about))?;
+        let command = if self.has_file {
+            command.arg(file(alloc))?
+        } else {
+            command
+        };
+        match &self.arguments {
+            Some(arguments) => command.arg(arguments.arg(alloc)?),
+            None => Ok(command),
+        }
+    }
+
+    /// The subcommand with its options.
+    fn add_flags<'a>(
+        &self,
+        alloc: Global,
+        mut command: Command<'a>,
+    ) -> Result<Command<'a>, AllocError> {
+        for flag in self.flags {
+            command = command.arg(flag.arg(alloc))?;
+        }
+        Ok(command)
+    }
+}
+
+impl Arguments {
+    /// The arguments as `clap` takes them.
+    fn arg<'a>(&self, alloc: Global) -> Result<Arg<'a>, AllocError> {
+        let arg = Arg::new(alloc, self.id)
+            .value_name(self.value_name)
+            .help(self.help)
+            .action(ArgAction::Append)
+            .num_args(1..);
+        match self.unless {
+            Some(option) => arg.required_unless_present(option),
+            None => Ok(arg.required(true)),
+        }
+    }
+}
+
+fn file<'a>(alloc: Global) -> Arg<'a> {
+    Arg::new(alloc, FILE)
+        .required(true)
+        .action(ArgAction::Set)
+        .help("A CMap file, by its path or its name; - is the standard input")
+}
+
+/// The files among the arguments. For `check` and `bundle` also the folders.
+pub(crate) fn files_of<'m, 'w>(arguments: &'m ArgMatches<'w>) -> &'m [&'w str] {
+    values_of(arguments, FILE)
+}
+
+/// The first file. `clap` refuses arguments without the file of a subcommand that has one.
+pub(crate) fn file_of<'w>(arguments: &ArgMatches<'w>) -> &'w str {
+    files_of(arguments)
+        .first()
+        .copied()
+        .unwrap_or(STANDARD_INPUT)
+}
+
+/// The arguments after the file: strings, codes, or what `find` looks for.
+pub(crate) fn arguments_of<'m, 'w>(arguments: &'m ArgMatches<'w>) -> &'m [&'w str] {
+    values_of(arguments, ARGUMENT)
+}

@@ -1,0 +1,226 @@
+//! The options of the subcommands.
+
+use clap::{Arg, ArgAction, ArgMatches, value_parser};
+use std::alloc::Global;
+
+/// An option of subcommands.
+pub(crate) struct Flag {
+    id: &'static str,
+    short: Option<char>,
+    long: &'static str,
+    value: Value,
+    /// Its text in the help.
+    help: &'static str,
+}
+
+/// The value of an option, by its name in the help.
+enum Value {
+    Nothing,
+    /// A text.
+    Text(&'static str),
+    /// A text. The option is required.
+    Needed(&'static str),
+    /// A text. The option may be given several times.
+    Texts(&'static str),
+    Number(&'static str),
+}
+
+impl Flag {
+    /// The option as `clap` takes it.
+    pub(crate) fn arg<'a>(&self, alloc: Global) -> Arg<'a> {
+        let arg = Arg::new(alloc, self.id).long(self.long).help(self.help);
+        self.value.added(match self.short {
+            Some(short) => arg.short(short),
+            None => arg,
+        })
+    }
+
+    /// Whether the option is given.
+    pub(crate) fn is_given(&self, arguments: &ArgMatches<'_>) -> bool {
+        arguments.get_flag(self.id)
+    }
+
+    /// The text of the option, if it is given.
+    pub(crate) fn text<'w>(&self, arguments: &ArgMatches<'w>) -> Option<&'w str> {
+        arguments.get_str(self.id)
+    }
+
+    /// The texts of the option, one for each time that it is given.
+    pub(crate) fn texts<'m, 'w>(&self, arguments: &'m ArgMatches<'w>) -> &'m [&'w str] {
+        values_of(arguments, self.id)
+    }
+
+    /// The number of the option, if it is given.
+    pub(crate) fn number(&self, arguments: &ArgMatches<'_>) -> Option<u64> {
+        arguments.get_one::<u64>(self.id)
+    }
+}
+
+/// The values of an option or an argument with this id.
+pub(crate) fn values_of<'m, 'w>(arguments: &'m ArgMatches<'w>, id: &str) -> &'m [&'w str] {
+    match arguments.get_strs(id) {
+        Some(values) => values,
+        None => &[],
+    }
+}
+
+impl Value {
+    /// Adds the value to an option.
+    fn added<'a>(&self, arg: Arg<'a>) -> Arg<'a> {
+        match self {
+            Value::Nothing => arg.action(ArgAction::SetTrue),
+            Value::Text(name) => arg.value_name(name).action(ArgAction::Set),
+            Value::Needed(name) => arg.value_name(name).action(ArgAction::Set).required(true),
+            Value::Texts(name) => arg.value_name(name).action(ArgAction::Append),
+            Value::Number(name) => arg
+                .value_name(name)
+                .action(ArgAction::Set)
+                .value_parser(value_parser!(u64)),
+        }
+    }
+}
+
+pub(crate) const BASE: Flag = Flag {
+    id: "base",
+    short: None,
+    long: "base",
+    value: Value::Texts("FOLDER"),
+    help: "A folder with the files that CMap files use by their names, also in its subfolders",
+};
+
+pub(crate) const BUNDLE: Flag = Flag {
+    id: "bundle",
+    short: None,
+    long: "bundle",
+    value: Value::Text("FILE"),
+    help: "A bundle: its tables are for binary files, its files for names that no folder has",
+};
+
+pub(crate) const NO_PREDEFINED: Flag = Flag {
+    id: "no-predefined",
+    short: None,
+    long: "no-predefined",
+    value: Value::Nothing,
+    help: "Looks up names in --base folders and the bundle alone, and not where CMAP_PATH says",
+};
+
+pub(crate) const JSON: Flag = Flag {
+    id: "json",
+    short: None,
+    long: "json",
+    value: Value::Nothing,
+    help: "One JSON object per line",
+};
+
+pub(crate) const BUDGET: Flag = Flag {
+    id: "budget",
+    short: None,
+    long: "budget",
+    value: Value::Number("N"),
+    help: "The most bytes that a file and the files that it uses may have together",
+};
+
+pub(crate) const LENIENT: Flag = Flag {
+    id: "lenient",
+    short: None,
+    long: "lenient",
+    value: Value::Nothing,
+    help: "Reads files past their faults, which are reported",
+};
+
+pub(crate) const EFFECTIVE: Flag = Flag {
+    id: "effective",
+    short: None,
+    long: "effective",
+    value: Value::Nothing,
+    help: "What codes have over all layers, in place of what each layer declares",
+};
+
+/// Of `decode` and `text`; `check` has an option of this name too.
+pub(crate) const TO_UNICODE: Flag = Flag {
+    id: "to-unicode-file",
+    short: None,
+    long: "to-unicode",
+    value: Value::Text("FILE"),
+    help: "The font's ToUnicode CMap, which gives codes their texts",
+};
+
+pub(crate) const FILES_FROM: Flag = Flag {
+    id: "files-from",
+    short: None,
+    long: "files-from",
+    value: Value::Text("LIST"),
+    help: "A list of further files and folders, one per line; - is the standard input",
+};
+
+pub(crate) const NULL: Flag = Flag {
+    id: "null",
+    short: Some('0'),
+    long: "null",
+    value: Value::Nothing,
+    help: "A zero byte ends each path of the list, and not a line feed",
+};
+
+pub(crate) const FIRST: Flag = Flag {
+    id: "first",
+    short: None,
+    long: "first",
+    value: Value::Nothing,
+    help: "Only the first fault of each file",
+};
+
+pub(crate) const QUIET: Flag = Flag {
+    id: "quiet",
+    short: Some('q'),
+    long: "quiet",
+    value: Value::Nothing,
+    help: "Doesn't report how many files were checked",
+};
+
+pub(crate) const LINT: Flag = Flag {
+    id: "lint",
+    short: None,
+    long: "lint",
+    value: Value::Nothing,
+    help: "Also what looks wrong in files that are accepted",
+};
+
+pub(crate) const LINT_TO_UNICODE: Flag = Flag {
+    id: "to-unicode",
+    short: None,
+    long: "to-unicode",
+    value: Value::Nothing,
+    help: "As --lint, and what looks wrong in maps to Unicode",
+};
+
+pub(crate) const DENY: Flag = Flag {
+    id: "deny",
+    short: None,
+    long: "deny",
+    value: Value::Texts("NAME"),
+    help: "As --lint, with status 1 where there is a warning of this name; all is each name",
+};
+
+pub(crate) const OUTPUT: Flag = Flag {
+    id: "output",
+    short: Some('o'),
+    long: "output",
+    value: Value::Needed("BUNDLE"),
+    help: "The bundle, which is written as a whole or not at all",
+};
+
+pub(crate) const NAME: Flag = Flag {
+    id: "name",
+    short: None,
+    long: "name",
+    value: Value::Texts("NAME=FILE"),
+    help: "A file by the name that it is to have; it comes before those of the arguments",
+};
+
+pub(crate) const VERIFY: Flag = Flag {
+    id: "verify",
+    short: None,
+    long: "verify",
+    value: Value::Nothing,
+    help: "Compares what the bundle says with the files, code by code, before it is put in place",
+};

@@ -1,0 +1,40 @@
+//! `cmap decode`: the codes of strings, and what they stand for.
+
+use crate::font::{StringOptions, font_of, strings_of};
+use cmap_report::decode::{push_codes, push_json};
+use cmap_sources::bases::Bases;
+use cmap_sources::failure::Failure;
+use cmap_sources::status::ACCEPTED;
+use cmap_unicode::Extractor;
+
+/// Prints the codes of each string, and gives the status.
+pub(crate) fn decode(
+    rt: &HostRuntime,
+    options: &StringOptions<'_, '_>,
+    bases: &mut Bases<'_>,
+) -> Result<u8, Failure> {
+    let strings = strings_of(rt, options.strings)?;
+    let font = font_of(rt, options, bases)?;
+    print_codes(rt, options, &font.extractor(), &strings)
+}
+
+fn print_codes(
+    rt: &HostRuntime,
+    options: &StringOptions<'_, '_>,
+    extractor: &Extractor<'_>,
+    strings: &[Vec<u8>],
+) -> Result<u8, Failure> {
+    for (index, string) in strings.iter().enumerate() {
+        if index > 0 && !options.json {
+            rt.println("")?;
+        }
+        let mut lines = String::new(rt.alloc());
+        if options.json {
+            push_json(rt.alloc(), &mut lines, extractor, string)?;
+        } else {
+            push_codes(rt.alloc(), &mut lines, extractor, string)?;
+        }
+        rt.print(lines.as_str())?;
+    }
+    Ok(ACCEPTED)
+}

@@ -1,0 +1,131 @@
+//! `cmap info`: what files say.
+
+use crate::command_line::files_of;
+use crate::command_line::flags::JSON;
+use crate::options::{Sources, manner_of};
+use clap::ArgMatches;
+use cmap_bundle::contents::print_contents;
+use cmap_report::info::{push_info, push_json};
+use cmap_report::uses::uses_by_layer;
+use cmap_sources::bases::{Bases, Files};
+use cmap_sources::failure::{Failure, report};
+use cmap_sources::inputs::{Opened, open};
+use cmap_sources::reading::{Input, Manner};
+use cmap_sources::status::{ACCEPTED, FAILED, REFUSED};
+use hayro_cmap::CMap;
+use std::alloc::{AllocError, Global};
+
+/// What the arguments of `info` ask for.
+#[derive(Clone, Copy)]
+pub(crate) struct InfoOptions<'m, 'w> {
+    /// The files. If there are none, the bundle is meant.
+    files: &'m [&'w str],
+    pub(crate) sources: Sources<'m, 'w>,
+    manner: Manner,
+    json: bool,
+}
+
+impl<'m, 'w> InfoOptions<'m, 'w> {
+    pub(crate) fn of(arguments: &'m ArgMatches<'w>) -> InfoOptions<'m, 'w> {
+        InfoOptions {
+            files: files_of(arguments),
+            sources: Sources::of(arguments),
+            manner: manner_of(arguments),
+            json: JSON.is_given(arguments),
+        }
+    }
+}
+
+/// Prints what each file says, or what the bundle holds, and gives the status.
+pub(crate) fn info(
+    rt: &HostRuntime,
+    options: &InfoOptions<'_, '_>,
+    bases: &mut Bases<'_>,
+) -> Result<u8, Failure> {
+    if options.files.is_empty() {
+        info_of_bundle(rt, options, bases)
+    } else {
+        info_of_files(rt, options, bases)
+    }
+}
+
+/// Prints what the bundle holds. `clap` refuses `info` without a file and without a bundle.
+fn info_of_bundle(
+    rt: &HostRuntime,
+    options: &InfoOptions<'_, '_>,
+    bases: &Bases<'_>,
+) -> Result<u8, Failure> {
+    let (Some(path), Some(bundle)) = (options.sources.bundle, bases.bundle) else {
+        return Ok(FAILED);
+    };
+    print_contents(rt, path, bundle, options.json)?;
+    Ok(ACCEPTED)
+}
+
+/// Prints what each file says.
+fn info_of_files(
+    rt: &HostRuntime,
+    options: &InfoOptions<'_, '_>,
+    bases: &mut Bases<'_>,
+) -> Result<u8, Failure> {
+    let mut status = ACCEPTED;
+    for (index, path) in options.files.iter().enumerate() {
+        if index > 0 && !options.json {
+            rt.println("")?;
+        }
+        status = status.max(info_of(rt, path, options, bases)?);
+    }
+    Ok(status)
+}
+
+/// Prints what a file says.
+fn info_of(
+    rt: &HostRuntime,
+    path: &str,
+    options: &InfoOptions<'_, '_>,
+    bases: &mut Bases<'_>,
+) -> Result<u8, Failure> {
+    match open(rt, path, options.manner, bases) {
+        Ok(opened) => print_info(rt, path, &opened, options, bases),
+        Err(Failure::Refused) => Ok(REFUSED),
+        Err(Failure::Message(line)) => {
+            report(rt, &Failure::Message(line))?;
+            Ok(FAILED)
+        }
+        Err(failure) => Err(failure),
+    }
+}
+
+fn print_info(
+    rt: &HostRuntime,
+    path: &str,
+    opened: &Opened<'_>,
+    options: &InfoOptions<'_, '_>,
+    bases: &Bases<'_>,
+) -> Result<u8, Failure> {
+    let input = Input {
+        path,
+        bytes: opened.bytes.as_slice(),
+    };
+    let lines = lines_of(rt.alloc(), input, &opened.map, options.json, &bases.files())?;
+    rt.print(lines.as_str())?;
+    Ok(ACCEPTED)
+}
+
+/// What a file says, whose map this is.
+fn lines_of(
+    alloc: Global,
+    input: Input<'_>,
+    map: &CMap,
+    json: bool,
+    files: &Files<'_>,
+) -> Result<String, AllocError> {
+    let uses = uses_by_layer(alloc, input.bytes, files, map.layers().as_slice().len())?;
+    let mut lines = String::new(alloc);
+    if json {
+        push_json(alloc, &mut lines, input.path, map, &uses)?;
+    } else {
+        push_info(&mut lines, input.path, map, &uses)?;
+    }
+    Ok(lines)
+}

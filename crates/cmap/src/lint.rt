@@ -1,0 +1,127 @@
+//! `cmap check --lint`: what looks wrong in a file that is accepted.
+
+use crate::command_line::flags::{DENY, LINT, LINT_TO_UNICODE};
+use clap::ArgMatches;
+use cmap_binary::is_marked_binary;
+use cmap_lint::finding::Finding;
+use cmap_lint::lint::{Subject, findings_of, nothing_declared};
+use cmap_lint::printed::{push_finding, push_json};
+use cmap_lint::warning::Warning;
+use cmap_sources::bases::Bases;
+use cmap_sources::failure::{Failure, fault};
+use cmap_sources::inputs::STANDARD_INPUT;
+use cmap_sources::reading::Input;
+use hayro_cmap::CMap;
+use std::alloc::{AllocError, Global};
+
+/// The argument of `--deny` that stands for all warnings.
+const ALL: &str = "all";
+
+/// Which warnings are asked for.
+#[derive(Clone, Copy)]
+pub(crate) struct LintOptions<'m, 'w> {
+    /// Whether all warnings are asked for, and not only `nothing-declared`.
+    is_asked: bool,
+    /// Whether the files are meant as maps to Unicode.
+    to_unicode: bool,
+    /// The names of warnings for which the status is 1.
+    denied: &'m [&'w str],
+}
+
+impl<'m, 'w> LintOptions<'m, 'w> {
+    pub(crate) fn of(arguments: &'m ArgMatches<'w>) -> LintOptions<'m, 'w> {
+        let to_unicode = LINT_TO_UNICODE.is_given(arguments);
+        let denied = DENY.texts(arguments);
+        LintOptions {
+            is_asked: LINT.is_given(arguments) || to_unicode || !denied.is_empty(),
+            to_unicode,
+            denied,
+        }
+    }
+
+    /// Refuses a name after `--deny` that no warning has.
+    pub(crate) fn check_names(&self, rt: &HostRuntime) -> Result<(), Failure> {
+        for name in self.denied {
+            if *name != ALL && Warning::of(name).is_none() {
+                return Err(fault(rt, name, "neither the name of a warning nor all"));
+            }
+        }
+        Ok(())
+    }
+
+    /// Whether a warning makes the status 1.
+    fn denies(&self, warning: Warning) -> bool {
+        for name in self.denied {
+            if *name == ALL || *name == warning.name() {
+                return true;
+            }
+        }
+        false
+    }
+}
+
+/// Adds a line for each warning about a file, and gives whether one of them is denied.
+pub(crate) fn push_warnings(
+    alloc: Global,
+    lines: &mut String,
+    subject: &Subject<'_>,
+    options: LintOptions<'_, '_>,
+    path: &str,
+    json: bool,
+) -> Result<bool, AllocError> {
+    if !options.is_asked {
+        let finding = nothing_declared(subject.map);
+        if finding.count > 0 {
+            push_line(alloc, lines, path, &finding, json)?;
+        }
+        return Ok(false);
+    }
+    let mut is_denied = false;
+    for finding in &findings_of(alloc, subject)? {
+        push_line(alloc, lines, path, finding, json)?;
+        if options.denies(finding.warning) {
+            is_denied = true;
+        }
+    }
+    Ok(is_denied)
+}
+
+fn push_line(
+    alloc: Global,
+    lines: &mut String,
+    path: &str,
+    finding: &Finding<'_>,
+    json: bool,
+) -> Result<(), AllocError> {
+    if json {
+        return push_json(alloc, lines, path, finding);
+    }
+    push_finding(lines, path, finding)
+}
+
+/// What is asked for warnings: a file with its map.
+pub(crate) fn subject_of<'m>(
+    map: &'m CMap,
+    input: Input<'m>,
+    options: LintOptions<'_, '_>,
+    bases: &Bases<'_>,
+) -> Subject<'m> {
+    let is_binary = bases.bundle.is_some() && is_marked_binary(input.bytes);
+    Subject {
+        map,
+        text: (!is_binary).then_some(input.bytes),
+        file_name: file_name(input.path),
+        to_unicode: options.to_unicode,
+    }
+}
+
+/// The last part of a path; the standard input has none.
+fn file_name(path: &str) -> Option<&[u8]> {
+    if path == STANDARD_INPUT {
+        return None;
+    }
+    match path.rsplit_once('/') {
+        Some((_, name)) => Some(name.as_bytes()),
+        None => Some(path.as_bytes()),
+    }
+}

@@ -1,0 +1,102 @@
+//! `cmap list`: what a file and those that it is based on declare.
+
+use crate::command_line::file_of;
+use crate::command_line::flags::{EFFECTIVE, JSON};
+use crate::options::{Sources, manner_of};
+use clap::ArgMatches;
+use cmap_report::list::effective::effective_lines;
+use cmap_report::list::line::{Line, push_json, push_line};
+use cmap_report::list::lines_by_layer;
+use cmap_sources::bases::Bases;
+use cmap_sources::failure::Failure;
+use cmap_sources::inputs::map_needed;
+use cmap_sources::reading::Manner;
+use cmap_sources::status::ACCEPTED;
+use hayro_cmap::CMap;
+use std::alloc::{AllocError, Global};
+
+/// What the arguments of `list` ask for.
+#[derive(Clone, Copy)]
+pub(crate) struct ListOptions<'m, 'w> {
+    file: &'w str,
+    pub(crate) sources: Sources<'m, 'w>,
+    manner: Manner,
+    json: bool,
+    /// Whether to print what codes have over all layers, in place of what each layer declares.
+    is_effective: bool,
+}
+
+impl<'m, 'w> ListOptions<'m, 'w> {
+    pub(crate) fn of(arguments: &'m ArgMatches<'w>) -> ListOptions<'m, 'w> {
+        ListOptions {
+            file: file_of(arguments),
+            sources: Sources::of(arguments),
+            manner: manner_of(arguments),
+            json: JSON.is_given(arguments),
+            is_effective: EFFECTIVE.is_given(arguments),
+        }
+    }
+}
+
+/// Prints each declaration, layer by layer, or what codes have over all layers, and gives the status.
+pub(crate) fn list(
+    rt: &HostRuntime,
+    options: &ListOptions<'_, '_>,
+    bases: &mut Bases<'_>,
+) -> Result<u8, Failure> {
+    let map = map_needed(rt, options.file, options.manner, bases)?;
+    let lines = lines_of(rt.alloc(), &map, options)?;
+    rt.print(lines.as_str())?;
+    Ok(ACCEPTED)
+}
+
+fn lines_of(
+    alloc: Global,
+    map: &CMap,
+    options: &ListOptions<'_, '_>,
+) -> Result<String, AllocError> {
+    if options.is_effective {
+        effective(alloc, map, options.json)
+    } else {
+        declared(alloc, map, options.json)
+    }
+}
+
+/// What codes have over all layers.
+fn effective(alloc: Global, map: &CMap, json: bool) -> Result<String, AllocError> {
+    let mut printed = String::new(alloc);
+    let lines = effective_lines(alloc, map)?;
+    push_lines(alloc, &mut printed, lines, None, json)?;
+    Ok(printed)
+}
+
+/// The declarations. Each layer but the top one has its number over them.
+fn declared(alloc: Global, map: &CMap, json: bool) -> Result<String, AllocError> {
+    let mut printed = String::new(alloc);
+    let layers = lines_by_layer(alloc, map)?;
+    for (index, lines) in layers.into_iter().enumerate() {
+        let layer = index + 1;
+        if index > 0 && !json {
+            writeln!(printed, "layer {layer}")?;
+        }
+        push_lines(alloc, &mut printed, lines, Some(layer), json)?;
+    }
+    Ok(printed)
+}
+
+fn push_lines(
+    alloc: Global,
+    printed: &mut String,
+    lines: Vec<Line>,
+    layer: Option<usize>,
+    json: bool,
+) -> Result<(), AllocError> {
+    for line in lines {
+        if json {
+            push_json(alloc, printed, line, layer)?;
+        } else {
+            push_line(printed, &line)?;
+        }
+    }
+    Ok(())
+}

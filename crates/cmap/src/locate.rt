@@ -1,0 +1,89 @@
+//! `cmap where`: the paths of the files that names stand for.
+
+use crate::command_line::files_of;
+use crate::command_line::flags::JSON;
+use crate::options::Sources;
+use clap::ArgMatches;
+use cmap_escape::escape::push_text;
+use cmap_escape::json;
+use cmap_escape::object::Object;
+use cmap_sources::bases::Bases;
+use cmap_sources::failure::{Failure, report};
+use cmap_sources::folders::is_file;
+use cmap_sources::inputs::unknown_name;
+use cmap_sources::status::{ACCEPTED, REFUSED};
+use std::alloc::{AllocError, Global};
+
+/// What the arguments of `where` ask for.
+#[derive(Clone, Copy)]
+pub(crate) struct LocateOptions<'m, 'w> {
+    names: &'m [&'w str],
+    pub(crate) sources: Sources<'m, 'w>,
+    json: bool,
+}
+
+impl<'m, 'w> LocateOptions<'m, 'w> {
+    pub(crate) fn of(arguments: &'m ArgMatches<'w>) -> LocateOptions<'m, 'w> {
+        LocateOptions {
+            names: files_of(arguments),
+            sources: Sources::of(arguments),
+            json: JSON.is_given(arguments),
+        }
+    }
+}
+
+/// Prints the path of the file that each argument stands for, and gives the status.
+pub(crate) fn locate(
+    rt: &HostRuntime,
+    options: &LocateOptions<'_, '_>,
+    bases: &mut Bases<'_>,
+) -> Result<u8, Failure> {
+    let mut status = ACCEPTED;
+    for argument in options.names {
+        match path_of(rt, argument, options, bases)? {
+            Some(path) => print_path(rt, argument, path.as_str(), options.json)?,
+            None => {
+                report(rt, &unknown_name(rt, argument, bases))?;
+                status = REFUSED;
+            }
+        }
+    }
+    Ok(status)
+}
+
+/// The path of the file that an argument stands for. For a file of the bundle it is the path of the bundle.
+fn path_of(
+    rt: &HostRuntime,
+    argument: &str,
+    options: &LocateOptions<'_, '_>,
+    bases: &mut Bases<'_>,
+) -> Result<Option<String>, Failure> {
+    if is_file(rt, argument) {
+        return Ok(Some(String::from_str(rt.alloc(), argument)?));
+    }
+    bases.locate(rt, argument.as_bytes(), options.sources.bundle)
+}
+
+/// Prints the path of the file that an argument stands for.
+fn print_path(rt: &HostRuntime, argument: &str, path: &str, json: bool) -> Result<(), Failure> {
+    let mut line = String::new(rt.alloc());
+    if json {
+        push_json(rt.alloc(), &mut line, argument, path)?;
+    } else {
+        push_text(&mut line, path)?;
+    }
+    rt.println(line.as_str())?;
+    Ok(())
+}
+
+fn push_json(
+    alloc: Global,
+    line: &mut String,
+    argument: &str,
+    path: &str,
+) -> Result<(), AllocError> {
+    let mut object = Object::new(alloc);
+    object.set_text("file", argument);
+    object.set_text("path", path);
+    json::push_value(alloc, line, &object.finish()?)
+}

@@ -1,0 +1,99 @@
+//! Options that several subcommands have.
+
+use crate::command_line::flags::{
+    BASE, BUDGET, BUNDLE, FILES_FROM, LENIENT, NAME, NO_PREDEFINED, TO_UNICODE,
+};
+use crate::command_line::{arguments_of, files_of};
+use clap::ArgMatches;
+use cmap_escape::count::Count;
+use cmap_sources::bases::Bases;
+use cmap_sources::failure::Failure;
+use cmap_sources::inputs::STANDARD_INPUT;
+use cmap_sources::reading::{Faults, Form, Manner};
+
+/// Where files are looked up by their names.
+#[derive(Clone, Copy)]
+pub(crate) struct Sources<'m, 'w> {
+    /// The folders of `--base`.
+    bases: &'m [&'w str],
+    /// The path of the bundle.
+    pub(crate) bundle: Option<&'w str>,
+    /// Whether the predefined CMaps are looked up too.
+    has_predefined: bool,
+}
+
+impl<'m, 'w> Sources<'m, 'w> {
+    pub(crate) fn of(arguments: &'m ArgMatches<'w>) -> Sources<'m, 'w> {
+        Sources {
+            bases: BASE.texts(arguments),
+            bundle: BUNDLE.text(arguments),
+            has_predefined: !NO_PREDEFINED.is_given(arguments),
+        }
+    }
+
+    /// Nowhere, for a subcommand that looks up no names.
+    pub(crate) fn nowhere() -> Sources<'m, 'w> {
+        Sources {
+            bases: &[],
+            bundle: None,
+            has_predefined: false,
+        }
+    }
+
+    /// Adds the folders to the bases.
+    pub(crate) fn add_folders(
+        &self,
+        rt: &HostRuntime,
+        bases: &mut Bases<'_>,
+    ) -> Result<(), Failure> {
+        if self.has_predefined {
+            bases.search.add_environment(rt)?;
+        }
+        bases.add_folders(rt, self.bases)
+    }
+}
+
+/// How files are read, by all subcommands but `check`.
+pub(crate) fn manner_of(arguments: &ArgMatches<'_>) -> Manner {
+    Manner {
+        budget: BUDGET.number(arguments),
+        faults: if LENIENT.is_given(arguments) {
+            Faults::All
+        } else {
+            Faults::First
+        },
+        form: Form::Text,
+    }
+}
+
+/// Whether several arguments ask for the standard input, which can be read once.
+pub(crate) fn asks_twice_for_standard_input(arguments: &ArgMatches<'_>) -> bool {
+    let mut count = Count::of(0);
+    add_asking(&mut count, files_of(arguments));
+    add_asking(&mut count, arguments_of(arguments));
+    for option in &[BUNDLE, TO_UNICODE, FILES_FROM] {
+        if option.text(arguments) == Some(STANDARD_INPUT) {
+            count.add_one();
+        }
+    }
+    add_named(&mut count, NAME.texts(arguments));
+    count.get() > 1
+}
+
+/// Adds how many arguments ask for the standard input.
+fn add_asking(count: &mut Count, arguments: &[&str]) {
+    for argument in arguments {
+        if *argument == STANDARD_INPUT {
+            count.add_one();
+        }
+    }
+}
+
+/// Adds how many arguments `NAME=FILE` ask for the standard input.
+fn add_named(count: &mut Count, arguments: &[&str]) {
+    for argument in arguments {
+        if let Some((_, STANDARD_INPUT)) = argument.split_once('=') {
+            count.add_one();
+        }
+    }
+}

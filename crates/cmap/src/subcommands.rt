@@ -1,0 +1,79 @@
+//! The subcommands: the one that the arguments name, and how it is run.
+
+use crate::bundle::bundle_options;
+use crate::check::{CheckOptions, check};
+use crate::decode::decode;
+use crate::find::{FindOptions, find};
+use crate::font::StringOptions;
+use crate::info::{InfoOptions, info};
+use crate::list::{ListOptions, list};
+use crate::locate::{LocateOptions, locate};
+use crate::lookup::{LookupOptions, lookup};
+use crate::options::Sources;
+use crate::text::text;
+use clap::ArgMatches;
+use cmap_bundle::command::{BundleOptions, bundle};
+use cmap_sources::bases::Bases;
+use cmap_sources::failure::Failure;
+
+/// A subcommand, with what its arguments ask for.
+#[derive(Clone, Copy)]
+pub(crate) enum Subcommand<'m, 'w> {
+    Info(InfoOptions<'m, 'w>),
+    List(ListOptions<'m, 'w>),
+    Find(FindOptions<'m, 'w>),
+    Check(CheckOptions<'m, 'w>),
+    Decode(StringOptions<'m, 'w>),
+    Text(StringOptions<'m, 'w>),
+    Lookup(LookupOptions<'m, 'w>),
+    Where(LocateOptions<'m, 'w>),
+    Bundle(BundleOptions<'m, 'w>),
+}
+
+impl<'m, 'w> Subcommand<'m, 'w> {
+    /// The subcommand of this name. `clap` refuses names other than these.
+    pub(crate) fn of(name: &str, arguments: &'m ArgMatches<'w>) -> Option<Subcommand<'m, 'w>> {
+        Some(match name {
+            "info" => Subcommand::Info(InfoOptions::of(arguments)),
+            "list" => Subcommand::List(ListOptions::of(arguments)),
+            "find" => Subcommand::Find(FindOptions::of(arguments)),
+            "check" => Subcommand::Check(CheckOptions::of(arguments)),
+            "decode" => Subcommand::Decode(StringOptions::of(arguments)),
+            "text" => Subcommand::Text(StringOptions::of(arguments)),
+            "lookup" => Subcommand::Lookup(LookupOptions::of(arguments)),
+            "where" => Subcommand::Where(LocateOptions::of(arguments)),
+            "bundle" => Subcommand::Bundle(bundle_options(arguments)),
+            _ => return None,
+        })
+    }
+
+    /// Where files are looked up by their names. `bundle` looks up none.
+    pub(crate) fn sources(&self) -> Sources<'m, 'w> {
+        match self {
+            Subcommand::Info(options) => options.sources,
+            Subcommand::List(options) => options.sources,
+            Subcommand::Find(options) => options.sources,
+            Subcommand::Check(options) => options.sources,
+            Subcommand::Decode(options) => options.sources,
+            Subcommand::Text(options) => options.sources,
+            Subcommand::Lookup(options) => options.sources,
+            Subcommand::Where(options) => options.sources,
+            Subcommand::Bundle(_) => Sources::nowhere(),
+        }
+    }
+
+    /// Does what the arguments ask for, and gives the status.
+    pub(crate) fn run(&self, rt: &HostRuntime, bases: &mut Bases<'_>) -> Result<u8, Failure> {
+        match self {
+            Subcommand::Info(options) => info(rt, options, bases),
+            Subcommand::List(options) => list(rt, options, bases),
+            Subcommand::Find(options) => find(rt, options, bases),
+            Subcommand::Check(options) => check(rt, options, bases),
+            Subcommand::Decode(options) => decode(rt, options, bases),
+            Subcommand::Text(options) => text(rt, options, bases),
+            Subcommand::Lookup(options) => lookup(rt, options, bases),
+            Subcommand::Where(options) => locate(rt, options, bases),
+            Subcommand::Bundle(options) => bundle(rt, options),
+        }
+    }
+}

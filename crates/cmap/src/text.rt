@@ -1,0 +1,41 @@
+//! `cmap text`: the texts of strings.
+
+use crate::font::{StringOptions, font_of, strings_of};
+use cmap_report::decode::{push_text_json, push_text_line};
+use cmap_sources::bases::Bases;
+use cmap_sources::failure::Failure;
+use cmap_sources::status::{ACCEPTED, REFUSED};
+use cmap_unicode::Extractor;
+
+/// Prints the text of each string. The status says whether each code has a text.
+pub(crate) fn text(
+    rt: &HostRuntime,
+    options: &StringOptions<'_, '_>,
+    bases: &mut Bases<'_>,
+) -> Result<u8, Failure> {
+    let strings = strings_of(rt, options.strings)?;
+    let font = font_of(rt, options, bases)?;
+    print_texts(rt, options, &font.extractor(), &strings)
+}
+
+fn print_texts(
+    rt: &HostRuntime,
+    options: &StringOptions<'_, '_>,
+    extractor: &Extractor<'_>,
+    strings: &[Vec<u8>],
+) -> Result<u8, Failure> {
+    let mut status = ACCEPTED;
+    for string in strings {
+        let mut line = String::new(rt.alloc());
+        let is_whole = if options.json {
+            push_text_json(rt.alloc(), &mut line, extractor, string)?
+        } else {
+            push_text_line(rt.alloc(), &mut line, extractor, string)?
+        };
+        rt.print(line.as_str())?;
+        if !is_whole {
+            status = REFUSED;
+        }
+    }
+    Ok(status)
+}

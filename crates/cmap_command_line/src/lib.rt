@@ -1,5 +1,0 @@
-//! The command line of `cmap`.
-#![tactic(auto)]
-
-pub mod command;
-pub mod flags;

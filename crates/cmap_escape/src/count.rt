@@ -1,0 +1,38 @@
+//! Counts, as they are printed.
+
+use std::fmt::{self, Display, Formatter, Write};
+
+/// How many there are of something. Files, lines and arguments never number 2^64, but no clause says so. So a count
+/// saturates: whoever counts needn't show that there is room for one more.
+#[derive(Clone, Copy)]
+pub struct Count {
+    number: usize,
+}
+
+impl Count {
+    /// A count that begins at this number.
+    pub fn of(number: usize) -> Count {
+        Count { number }
+    }
+
+    /// Counts one more.
+    pub fn add_one(&mut self) {
+        self.add(1);
+    }
+
+    /// Counts so many more.
+    pub fn add(&mut self, further: usize) {
+        self.number = self.number.saturating_add(further);
+    }
+
+    /// The number.
+    pub fn get(self) -> usize {
+        self.number
+    }
+}
+
+impl Display for Count {
+    fn fmt<W: Write>(&self, f: &mut Formatter<W>) -> fmt::Result {
+        write!(f, "{}", self.number)
+    }
+}

@@ -1,0 +1,158 @@
+//! The lines of `cmap list`: declarations, or what codes in a row have.
+
+ghost use Rattle.std.specs.Prelude.{OnOk, string_bytes};
+ghost use Rattle.cmap_escape.specs.Escapes.{AddsLine, AddsOfLine};
+
+use cmap_escape::digits::{code_digits, push_code};
+use cmap_escape::escape::push_quoted;
+use cmap_escape::json;
+use cmap_escape::object::Object;
+use cmap_queries::code_lengths::text_code_len;
+use cmap_queries::texts::text_string;
+use hayro_cmap::runs::Range;
+use hayro_cmap::{BfRange, CMap, utf16};
+use serde_json::Value;
+use std::alloc::{AllocError, Global};
+
+/// A declaration of a layer, or what codes in a row have over all layers.
+#[derive(Drop)]
+pub struct Line {
+    /// How many bytes its codes have.
+    pub(crate) byte_len: u8,
+    /// Its first code and its last one.
+    pub(crate) range: Range,
+    pub(crate) given: Given,
+}
+
+impl Line {
+    /// Whether the codes and the CIDs of another line continue those of this one.
+    pub(crate) fn is_continued_by(&self, next: &Line) -> bool {
+        if self.byte_len != next.byte_len
+            || self.range.end.checked_add(1) != Some(next.range.start)
+        {
+            return false;
+        }
+        match (&self.given, &next.given) {
+            (Given::Cids(first), Given::Cids(further)) => {
+                let offset = next.range.start.saturating_sub(self.range.start);
+                first.checked_add(offset) == Some(*further)
+            }
+            (Given::Notdef(cid), Given::Notdef(same)) => cid == same,
+            _ => false,
+        }
+    }
+}
+
+/// What codes are given.
+#[derive(Drop)]
+pub(crate) enum Given {
+    /// They lie in a codespace range.
+    Codespace,
+    /// CIDs, of which this is the first.
+    Cids(u32),
+    /// This CID, each of them.
+    Notdef(u32),
+    /// Texts, of which this is the first.
+    Texts(Option<String>),
+}
+
+impl Given {
+    /// The word for it.
+    fn kind(&self) -> &'static str {
+        match self {
+            Given::Codespace => "codespace",
+            Given::Cids(_) => "cid",
+            Given::Notdef(_) => "notdef",
+            Given::Texts(_) => "text",
+        }
+    }
+}
+
+/// Adds the texts that a declaration gives the codes in a range.
+pub(crate) fn add_texts_of(
+    alloc: Global,
+    lines: &mut Vec<Line>,
+    map: &CMap,
+    declared: &BfRange,
+    range: Range,
+) -> Result<(), AllocError> {
+    let offset = range.start.saturating_sub(declared.range.start);
+    let text = utf16::text(alloc, declared.units.as_slice(), offset)?;
+    lines.push(Line {
+        byte_len: text_code_len(map.layers(), range),
+        range,
+        given: Given::Texts(text_string(alloc, text)?),
+    })?;
+    Ok(())
+}
+
+/// Adds a declaration, as `cid <8140> <817E> 633`, and ends the line.
+pub fn push_line(out: &mut String, line: &Line) -> Result<(), AllocError> {
+    out.push_str(line.given.kind())?;
+    out.push(' ')?;
+    push_range(out, line.byte_len, line.range)?;
+    push_given(out, &line.given)?;
+    out.push('\n')
+}
+
+/// Adds a range of codes as `<8140> <817E>`.
+pub(crate) fn push_range(out: &mut String, byte_len: u8, range: Range) -> Result<(), AllocError> {
+    out.push('<')?;
+    push_code(out, byte_len, range.start)?;
+    out.push_str("> <")?;
+    push_code(out, byte_len, range.end)?;
+    out.push('>')
+}
+
+/// Adds the first CID or the first text.
+fn push_given(out: &mut String, given: &Given) -> Result<(), AllocError> {
+    match given {
+        Given::Codespace => Ok(()),
+        Given::Cids(cid) => write!(out, " {cid}"),
+        Given::Notdef(cid) => write!(out, " {cid}"),
+        Given::Texts(None) => out.push_str(" -"),
+        Given::Texts(Some(text)) => {
+            out.push(' ')?;
+            push_quoted(out, text.as_str())
+        }
+    }
+}
+
+/// Adds the object of a declaration, and ends the line. The top layer is layer 1. What codes have over all
+/// layers has no layer.
+pub fn push_json(
+    alloc: Global,
+    out: &mut String,
+    line: Line,
+    layer: Option<usize>,
+) -> Result<(), AllocError>
+    ensures line { OnOk result (AddsLine (string_bytes out.old) (string_bytes out.new)) }
+
+    // Also where memory runs out.
+    ensures printable { AddsOfLine (string_bytes out.old) (string_bytes out.new) }
+{
+    let object = line_object(alloc, line, layer)?;
+    json::push_line(alloc, out, &object)
+}
+
+fn line_object(alloc: Global, line: Line, layer: Option<usize>) -> Result<Value, AllocError> {
+    let Range { start, end } = line.range;
+    let mut object = Object::new(alloc);
+    if let Some(layer) = layer {
+        object.set("layer", Value::from(layer));
+    }
+    object.set_text("kind", line.given.kind());
+    object.set_string("first", code_digits(alloc, line.byte_len, start));
+    object.set_string("last", code_digits(alloc, line.byte_len, end));
+    set_given(&mut object, line.given);
+    object.finish()
+}
+
+fn set_given(object: &mut Object, given: Given) {
+    match given {
+        Given::Codespace => {}
+        Given::Cids(cid) => object.set("cid", Value::from(cid)),
+        Given::Notdef(cid) => object.set("cid", Value::from(cid)),
+        Given::Texts(text) => object.set("text", Value::from(text)),
+    }
+}

@@ -1,0 +1,70 @@
+//! The lines of bytes at fault.
+
+ghost use Rattle.std.specs.Prelude.{◌≡◌};
+ghost use Rattle.cmap_sources.specs.LineEnds.{line_ends};
+
+use cmap_escape::count::Count;
+
+/// How many line ends these bytes have, after a carriage return or not. A line ends with LF, CR, or CR and
+/// LF.
+pub fn ends_in(bytes: &[u8], is_after_return: bool) -> usize
+    ensures { result ≡ line_ends is_after_return bytes.now }
+{
+    let mut ends = 0;
+    let mut after_return = is_after_return;
+    for (i, byte) in bytes.iter().enumerate() {
+        let is_return = *byte == b'\r';
+        if is_return || *byte == b'\n' && !after_return {
+            ends += 1;
+        }
+        after_return = is_return;
+    }
+    ends
+}
+
+/// Finds the lines of bytes in files. For bytes of one file, in the order of their offsets, it passes over the
+/// file once.
+#[derive(Drop)]
+pub struct LineCounter<'n> {
+    /// The name of the file, if it has one.
+    name: Option<&'n [u8]>,
+    /// The offset of the last byte.
+    offset: usize,
+    /// The line of that byte.
+    line: Count,
+    is_after_return: bool,
+}
+
+impl<'n> LineCounter<'n> {
+    /// Before any file.
+    pub fn new() -> Self {
+        LineCounter {
+            name: None,
+            offset: 0,
+            line: Count::of(1),
+            is_after_return: false,
+        }
+    }
+
+    /// The line of the byte at this offset of a file; the first line is 1. `None` if the offset is past the end.
+    /// A name stands for one file.
+    pub fn line_of(&mut self, name: Option<&'n [u8]>, file: &[u8], offset: usize) -> Option<usize> {
+        if name != self.name || offset < self.offset {
+            *self = LineCounter {
+                name,
+                ..LineCounter::new()
+            };
+        }
+        self.count(file.get(self.offset..offset)?);
+        self.offset = offset;
+        Some(self.line.get())
+    }
+
+    /// Counts the line ends of the bytes that follow.
+    fn count(&mut self, bytes: &[u8]) {
+        self.line.add(ends_in(bytes, self.is_after_return));
+        if let Some(last) = bytes.last() {
+            self.is_after_return = *last == b'\r';
+        }
+    }
+}

@@ -1,0 +1,133 @@
+//! Why a file is refused: as a line for people, and as an object of JSON.
+
+use crate::fault_line::LineCounter;
+use cmap_binary::is_marked_binary;
+use cmap_escape::escape::{escaped_names, push_name};
+use cmap_escape::json::push_value;
+use cmap_escape::object::Object;
+use hayro_cmap::{Bundle, Cause, NamedFile, NamedFiles, Refusal, Stop};
+use serde_json::Value;
+use std::alloc::{AllocError, Global};
+use std::fmt::Write;
+
+/// Where reading stopped in the file at fault, and why.
+#[derive(Clone, Copy)]
+struct LocatedStop {
+    stop: Stop,
+    /// The line. A binary file has no lines.
+    line: Option<usize>,
+}
+
+/// Where reading stopped in the file at fault: the file of these bytes or one that it uses. `None` if no file is
+/// malformed.
+fn stop_of<'n, N: NamedFile>(
+    bytes: &[u8],
+    files: &NamedFiles<'_, N, Bundle<'_>>,
+    refusal: &Refusal<'n>,
+    lines: &mut LineCounter<'n>,
+) -> Option<LocatedStop> {
+    let Cause::Malformed(stop) = refusal.cause else {
+        return None;
+    };
+    let name = refusal.names.last().copied();
+    let file = file_at_fault(bytes, files, name);
+    if files.bundle.is_some() && is_marked_binary(file) {
+        return Some(LocatedStop { stop, line: None });
+    }
+    let line = lines.line_of(name, file, stop.offset);
+    Some(LocatedStop { stop, line })
+}
+
+/// The bytes of the file at fault: the one of the last name, or the top file.
+fn file_at_fault<'f, N: NamedFile>(
+    bytes: &'f [u8],
+    files: &NamedFiles<'f, N, Bundle<'f>>,
+    last: Option<&[u8]>,
+) -> &'f [u8] {
+    match last {
+        Some(name) => files.find(name).unwrap_or(b""),
+        None => bytes,
+    }
+}
+
+/// Adds why a file of these bytes is refused over `files`: the byte and the line at which reading stopped, what
+/// is wrong there, and the file at fault if it is another one. `lines` is the same for all faults of one file,
+/// and new for another file.
+pub fn push_refusal<'n, N: NamedFile>(
+    out: &mut String,
+    bytes: &[u8],
+    files: &NamedFiles<'_, N, Bundle<'_>>,
+    refusal: &Refusal<'n>,
+    lines: &mut LineCounter<'n>,
+) -> Result<(), AllocError> {
+    let last = refusal.names.last().copied();
+    if let Cause::NoFile = refusal.cause {
+        return push_named(out, "no file has the name /", last);
+    }
+    match stop_of(bytes, files, refusal, lines) {
+        Some(located) => push_stop(out, located)?,
+        None => write!(out, "{}", refusal.cause)?,
+    }
+    push_named(out, ", in /", last)
+}
+
+/// Adds a text and a name after it, or nothing if there is no name.
+fn push_named(out: &mut String, text: &str, name: Option<&[u8]>) -> Result<(), AllocError> {
+    let Some(name) = name else {
+        return Ok(());
+    };
+    out.push_str(text)?;
+    push_name(out, name)
+}
+
+/// Adds where reading stopped and why, as `byte 42 (line 3): a CID was expected`.
+fn push_stop(out: &mut String, located: LocatedStop) -> Result<(), AllocError> {
+    let Stop { offset, reason } = located.stop;
+    match located.line {
+        Some(line) => write!(out, "byte {offset} (line {line}): {reason}"),
+        None => write!(out, "byte {offset}: {reason}"),
+    }
+}
+
+/// Adds the object of a refused file, without a line end. `lines` is as in `push_refusal`.
+pub fn push_refusal_json<'n, N: NamedFile>(
+    alloc: Global,
+    out: &mut String,
+    path: &str,
+    bytes: &[u8],
+    files: &NamedFiles<'_, N, Bundle<'_>>,
+    refusal: &Refusal<'n>,
+    lines: &mut LineCounter<'n>,
+) -> Result<(), AllocError> {
+    let located = stop_of(bytes, files, refusal, lines);
+    let object = refusal_object(alloc, path, located, refusal)?;
+    push_value(alloc, out, &object)
+}
+
+fn refusal_object(
+    alloc: Global,
+    path: &str,
+    located: Option<LocatedStop>,
+    refusal: &Refusal<'_>,
+) -> Result<Value, AllocError> {
+    let (byte, line) = match located {
+        Some(located) => (Some(located.stop.offset), located.line),
+        None => (None, None),
+    };
+    let mut object = Object::new(alloc);
+    object.set_text("file", path);
+    object.set("ok", Value::from(false));
+    object.set_list("in", escaped_names(alloc, &refusal.names));
+    object.set("byte", Value::from(byte));
+    object.set("line", Value::from(line));
+    object.set_string("reason", reason_of(alloc, refusal));
+    object.finish()
+}
+
+/// What is wrong: where reading stopped, or with the file as a whole.
+fn reason_of(alloc: Global, refusal: &Refusal<'_>) -> Result<String, AllocError> {
+    match refusal.cause {
+        Cause::Malformed(stop) => format!(in alloc; "{}", stop.reason),
+        cause => format!(in alloc; "{cause}"),
+    }
+}
