@@ -9,8 +9,8 @@ use cmap_escape::object::Object;
 use cmap_escape::{escape, json};
 use cmap_queries::arguments::decimal;
 use cmap_queries::code_lengths::{LENGTHS, has_codes, text_code_len};
-use hayro_cmap::CMap;
 use hayro_cmap::runs::Range;
+use hayro_cmap::{CMap, CodeLength};
 use serde_json::Value;
 use std::alloc::{AllocError, Global};
 
@@ -141,21 +141,36 @@ fn codes_of_cid(alloc: Global, map: &CMap, cid: u32) -> Result<Vec<Codes>, Alloc
     let mut found = Vec::new(alloc);
     for len in LENGTHS {
         if has_codes(map, *len) {
-            let ranges = map.layers().codes_of_cid(alloc, cid, *len)?;
-            add_ranges(&mut found, &ranges, len.count())?;
+            let ranges = map.codes_of_cid(alloc, cid, *len)?;
+            add_ranges(&mut found, &ranges, *len)?;
         }
     }
     Ok(found)
 }
 
-fn add_ranges(found: &mut Vec<Codes>, ranges: &[Range], byte_len: u8) -> Result<(), AllocError> {
+/// Adds the codes of ranges that have this length.
+fn add_ranges(found: &mut Vec<Codes>, ranges: &[Range], len: CodeLength) -> Result<(), AllocError> {
+    let largest = largest_code(len);
     for range in ranges {
-        found.push(Codes {
-            byte_len,
-            range: *range,
-        })?;
+        if range.start <= largest {
+            let (start, end) = (range.start, range.end.min(largest));
+            found.push(Codes {
+                byte_len: len.count(),
+                range: Range { start, end },
+            })?;
+        }
     }
     Ok(())
+}
+
+/// The largest code of a length.
+fn largest_code(len: CodeLength) -> u32 {
+    match len {
+        CodeLength::One => 0xFF,
+        CodeLength::Two => 0xFFFF,
+        CodeLength::Three => 0xFF_FFFF,
+        CodeLength::Four => u32::MAX,
+    }
 }
 
 /// The codes of a text.
