@@ -529,8 +529,8 @@ public:
         return ranges;
     }
 
-    // All codes of `byte_len` bytes that have this CID, whatever the layer that gives it: ranges in
-    // order, of which no two have a code together.
+    // All codes that have this CID, as cid gives it for codes of `byte_len` bytes: ranges in order, each as
+    // long as can be. A file may declare larger codes than so many bytes write, which are among them.
     std::vector<CodeRange> codes_of_cid(Cid cid, std::uint8_t byte_len) {
         return detail::listed<CodeRange>([&](auto room, auto len, auto needed) {
             return hayro_cmap_codes_of_cid(handle(), cid, byte_len, room, len, needed);

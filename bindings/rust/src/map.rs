@@ -262,8 +262,9 @@ impl CMap {
         self.pool.ask(|map| map.text_ranges(layer))
     }
 
-    /// All codes of `byte_len` bytes that have this CID, as [`CMap::lookup_cid_code`] gives it: ranges in
-    /// order, of which no two have a code together.
+    /// All codes that have this CID, as [`CMap::lookup_cid_code`] gives it for codes of `byte_len` bytes:
+    /// ranges in order, each as long as can be. A file may declare larger codes than so many bytes write,
+    /// which are among them.
     ///
     /// ```
     /// let file = b"begincidrange <20> <7E> 1 endcidrange begincidchar <41> 7 endcidchar";
