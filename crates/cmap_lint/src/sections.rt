@@ -1,6 +1,8 @@
 //! Sections of a text that have another number of entries than the number before them says. Adobe
 //! Technical Note 5014.
 
+ghost use Rattle.std.specs.Prelude.{◌<◌};
+
 use crate::finding::{Finding, Place};
 use crate::warning::Warning;
 use cmap_escape::count::Count;
@@ -66,7 +68,9 @@ fn count_entries(scanner: &mut Scanner<'_>, section: Section, most: usize) -> us
 }
 
 /// How many parts an entry of a section has: codes, CIDs and texts.
-fn parts_of(section: Section) -> usize {
+fn parts_of(section: Section) -> usize
+    ensures some { 0 < result }
+{
     match section {
         Section::Cids(_, Extent::Range) | Section::BfRange => 3,
         Section::Cids(_, Extent::Single) | Section::BfChar | Section::Codespaces => 2,

@@ -183,7 +183,10 @@ impl<'b> Bases<'b> {
     pub fn read_used(&mut self, rt: &HostRuntime) -> Result<(), Failure> {
         let count = self.read.len();
         for index in self.asked..count {
-            let file = self.read[index].bytes.share()?;
+            let Some(base) = self.read.get(index) else {
+                break;
+            };
+            let file = base.bytes.share()?;
             self.read_used_by(rt, file.as_slice())?;
         }
         self.asked = count;
