@@ -24,6 +24,11 @@ pub enum Difference {
         of_file: Option<Cid>,
         of_bundle: Option<Cid>,
     },
+    /// The CID that is declared for a code of this length, where a lookup gives the same.
+    DeclaredCid {
+        code: u32,
+        len: CodeLength,
+    },
     /// The text of a code.
     Text(u32),
 }
@@ -39,6 +44,11 @@ pub fn push_difference(out: &mut String, difference: Difference) -> Result<(), A
         Difference::Codespaces => out.push_str("the codespace ranges differ"),
         Difference::Uses => out.push_str("the names of the files that it uses differ"),
         Difference::Text(code) => write!(out, "the text of the code {code:04X} differs"),
+        Difference::DeclaredCid { code, len } => {
+            out.push_str("the declared CID of <")?;
+            push_code(out, len.count(), code)?;
+            out.push_str("> differs")
+        }
         Difference::Cid {
             code,
             len,

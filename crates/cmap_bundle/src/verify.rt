@@ -4,6 +4,7 @@ use crate::choice::Chosen;
 use crate::difference::{Difference, push_difference};
 use cmap_escape::escape::push_text;
 use cmap_queries::code_lengths::{LENGTHS, last_code};
+use cmap_unicode::declared_cid;
 use hayro_cmap::runs::{HasRange, Looks, Range, Table};
 use hayro_cmap::{
     Bundle, BundleFiles, CMap, CodeLength, Codespace, Layer, NamedFiles, SalvagedMap,
@@ -143,7 +144,7 @@ impl Pair<'_> {
         }
     }
 
-    /// The first CID of these codes that differs.
+    /// The first CID of these codes that differs, as a lookup gives it or as it is declared.
     fn of_codes(&self, len: CodeLength, codes: Range) -> Option<Difference> {
         for code in codes.start..=codes.end {
             let of_file = self.of_file.lookup_cid_code(code, len.count());
@@ -156,8 +157,18 @@ impl Pair<'_> {
                     of_bundle,
                 });
             }
+            if !self.has_one_declared(len, code) {
+                return Some(Difference::DeclaredCid { code, len });
+            }
         }
         None
+    }
+
+    /// Whether the CID that is declared for a code is the same, also where its character is that number.
+    fn has_one_declared(&self, len: CodeLength, code: u32) -> bool {
+        let of_file = declared_cid(self.of_file.layers(), code, len.count());
+        let of_bundle = declared_cid(self.of_bundle.layers(), code, len.count());
+        of_file == of_bundle
     }
 
     fn of_layers(&self, layers: &[Layer], len: CodeLength) -> Option<Difference> {
