@@ -50,14 +50,14 @@ module _ (tables : PrefixTables) where
       let (first, more, are, says, later) = rest_says all framed is in
       let (same, none) = alone_say more from later in
       (are ∙ ap (λ x. x ∷ more) (only.alone first says) ∙ ap (λ xs. content ∷ xs) same, none)
-  alone_say all (at_fault reason framed wrong told from) is = let (first, more, are, says, later) = rest_says all framed is in absurd (wrong first says)
+  alone_say all (at_fault reason framed wrong from) is = let (first, more, are, says, later) = rest_says all framed is in absurd (wrong.0 first says)
 
   -- nothing stands in no bytes
   nothing_said : {offset : ℕ} {contents : List Content} {faults : List Stop} → SegmentsFrom tables offset [] contents faults → (contents ≡ []) × (faults ≡ [])
   nothing_said ended = (refl, refl)
   nothing_said (cut_short some wrong) = absurd (some refl)
   nothing_said (said framed only from) = absurd (no_frame 1 _ framed)
-  nothing_said (at_fault reason framed wrong told from) = absurd (no_frame 1 _ framed)
+  nothing_said (at_fault reason framed wrong from) = absurd (no_frame 1 _ framed)
 
   -- what follows a segment is read on from there
   from_alone : (offset : ℕ) {bytes segment rest other after : List ℕ} {contents : List Content} {faults : List Stop} → FramedAt 1 bytes (segment, rest) → FramedAt 1 bytes (other, after)
@@ -69,7 +69,7 @@ module _ (tables : PrefixTables) where
   cut_alone some wrong ended = absurd (some refl)
   cut_alone some wrong (cut_short also none) = (refl, refl)
   cut_alone some wrong (said framed only from) = absurd (wrong _ framed)
-  cut_alone some wrong (at_fault reason framed none told from) = absurd (wrong _ framed)
+  cut_alone some wrong (at_fault reason framed none from) = absurd (wrong _ framed)
 
   -- a segment says what it says
   said_alone : {offset : ℕ} {bytes segment rest : List ℕ} {content : Content} {contents : List Content} {faults : List Stop} → FramedAt 1 bytes (segment, rest) → IsOnly (SegmentSays tables segment) content → SegmentsFrom tables offset bytes contents faults
@@ -79,7 +79,7 @@ module _ (tables : PrefixTables) where
   said_alone {segment = segment} framed only (said {segment = other} {content = content} {contents = later} also says from) =
       let same = framed_alone 1 _ _ also framed in
       (later, ap (λ x. x ∷ later) (only.alone content (subst (λ p. SegmentSays tables p.0 content) same says.holds)), from_alone _ framed also from)
-  said_alone {content = content} framed only (at_fault reason also wrong told from) = let same = framed_alone 1 _ _ framed also in absurd (wrong content (subst (λ p. SegmentSays tables p.0 content) same only.holds))
+  said_alone {content = content} framed only (at_fault reason also wrong from) = let same = framed_alone 1 _ _ framed also in absurd (wrong.0 content (subst (λ p. SegmentSays tables p.0 content) same only.holds))
 
   -- a segment at fault is a fault
   fault_alone : {offset : ℕ} {bytes segment rest : List ℕ} {contents : List Content} {faults : List Stop} → FramedAt 1 bytes (segment, rest) → HoldsOfNone (SegmentSays tables segment) → SegmentsFrom tables offset bytes contents faults
@@ -87,7 +87,7 @@ module _ (tables : PrefixTables) where
   fault_alone framed wrong ended = absurd (no_frame 1 _ framed)
   fault_alone framed wrong (cut_short some none) = absurd (none _ framed)
   fault_alone framed wrong (said {content = content} also only from) = let same = framed_alone 1 _ _ also framed in absurd (wrong content (subst (λ p. SegmentSays tables p.0 content) same only.holds))
-  fault_alone framed wrong (at_fault {faults = stops} reason also none told from) = (stops, refl, from_alone _ framed also from)
+  fault_alone framed wrong (at_fault {faults = stops} reason also none from) = (stops, refl, from_alone _ framed also from)
 
   -- the same bytes have one answer, but for the reasons of faults
   alike : {offset : ℕ} {bytes : List ℕ} {contents others : List Content} {faults stops : List Stop} → SegmentsFrom tables offset bytes contents faults → SegmentsFrom tables offset bytes others stops → (contents ≡ others) × (offsets faults ≡ offsets stops)
@@ -97,8 +97,8 @@ module _ (tables : PrefixTables) where
       let (later, says, rest) = said_alone framed only other in
       let (same, at) = alike from rest in
       (ap (λ xs. content ∷ xs) same ∙ sym says, at)
-  alike {offset} (at_fault reason framed wrong told from) other =
-      let (stops, faults, rest) = fault_alone framed wrong other in
+  alike {offset} (at_fault reason framed wrong from) other =
+      let (stops, faults, rest) = fault_alone framed wrong.0 other in
       let (same, at) = alike from rest in
       (same, ap (λ xs. offset ∷ xs) at ∙ sym faults)
 
@@ -107,13 +107,13 @@ module _ (tables : PrefixTables) where
   segments_ascend ended = omega arith
   segments_ascend (cut_short some wrong) = (omega arith, omega arith)
   segments_ascend (said {faults = faults} (size, after, field, (filled, split)) only from) = ascend_within _ _ faults (omega arith) (omega (arith, split.3, split.4)) (segments_ascend from)
-  segments_ascend (at_fault {faults = faults} reason (size, after, field, (filled, split)) wrong told from) = (omega arith, ascend_within _ _ faults (omega arith) (omega (arith, split.3, split.4)) (segments_ascend from))
+  segments_ascend (at_fault {faults = faults} reason (size, after, field, (filled, split)) wrong from) = (omega arith, ascend_within _ _ faults (omega arith) (omega (arith, split.3, split.4)) (segments_ascend from))
 
   -- the first fault comes first
   first_fault_from : {offset : ℕ} {bytes : List ℕ} {contents : List Content} (stop : Stop) (more : List Stop) → SegmentsFrom tables offset bytes contents (stop ∷ more) → SegmentFault tables offset bytes stop
   first_fault_from stop more (cut_short some wrong) = no_segment some wrong
   first_fault_from stop more (said framed only from) = after_segment framed only (first_fault_from stop more from)
-  first_fault_from stop more (at_fault reason framed wrong told from) = says_nothing reason framed wrong told
+  first_fault_from stop more (at_fault reason framed wrong from) = says_nothing reason framed wrong
 
 first_same : {A : Type 0} {x y : A} {xs ys : List A} → x ∷ xs ≡ y ∷ ys → x ≡ y
 first_same same = cc

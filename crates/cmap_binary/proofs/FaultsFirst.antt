@@ -1,5 +1,5 @@
 -- The first fault of a binary file: it is that of the segments that are left, and it has one offset.
-use Rattle.std.proofs.Common.{◌≡◌, ℕ, ◌+◌, ◌-◌, ◌≤◌, refl, sym, ap, ◌∙◌, subst, List, length, Ok, Err, inl, inr, arith}
+use Rattle.std.proofs.Common.{◌≡◌, ℕ, ◌+◌, ◌≤◌, refl, sym, ap, ◌∙◌, subst, List, length, Ok, Err, inl, inr, arith}
 use Rattle.std.specs.Prelude.{IfErr, Result}
 use Rattle.cmap_values.specs.Only.{IsOnly}
 use Rattle.cmap_values.specs.Outcomes.{RefusesWith}
@@ -37,13 +37,13 @@ fault_of_segments tables bytes body at (Err fault) stops = refused_as fault stop
 module _ (tables : PrefixTables) where
   segments_alike : {offset : ℕ} {bytes : List ℕ} {stop other : Stop} → SegmentFault tables offset bytes stop → SegmentFault tables offset bytes other → stop.offset ≡ other.offset
   segments_alike (no_segment some wrong) (no_segment also none) = refl
-  segments_alike (no_segment some wrong) (says_nothing reason framed none told) = absurd (wrong _ framed)
+  segments_alike (no_segment some wrong) (says_nothing reason framed told) = absurd (wrong _ framed)
   segments_alike (no_segment some wrong) (after_segment framed only fault) = absurd (wrong _ framed)
-  segments_alike (says_nothing reason framed wrong told) (no_segment some none) = absurd (none _ framed)
-  segments_alike (says_nothing reason framed wrong told) (says_nothing other also none too) = refl
-  segments_alike (says_nothing reason framed wrong told) (after_segment {content = content} also only fault) = let same = framed_alone 1 _ _ also framed in absurd (wrong content (subst (λ p. SegmentSays tables p.0 content) same only.holds))
+  segments_alike (says_nothing reason framed wrong) (no_segment some none) = absurd (none _ framed)
+  segments_alike (says_nothing reason framed wrong) (says_nothing other also too) = refl
+  segments_alike (says_nothing reason framed wrong) (after_segment {content = content} also only fault) = let same = framed_alone 1 _ _ also framed in absurd (wrong.0 content (subst (λ p. SegmentSays tables p.0 content) same only.holds))
   segments_alike (after_segment framed only fault) (no_segment some wrong) = absurd (wrong _ framed)
-  segments_alike (after_segment {content = content} framed only fault) (says_nothing reason also wrong told) = let same = framed_alone 1 _ _ framed also in absurd (wrong content (subst (λ p. SegmentSays tables p.0 content) same only.holds))
+  segments_alike (after_segment {content = content} framed only fault) (says_nothing reason also wrong) = let same = framed_alone 1 _ _ framed also in absurd (wrong.0 content (subst (λ p. SegmentSays tables p.0 content) same only.holds))
   segments_alike {offset} {other = other} (after_segment {segment = segment} {rest = rest} framed only fault) (after_segment {segment = next} {rest = left} also says found) =
       let same = framed_alone 1 (next, left) (segment, rest) also framed in
       segments_alike fault (subst (λ p. SegmentFault tables (offset + length p.0) p.1 other) same found)

@@ -1,13 +1,12 @@
 -- The bytes of a binary file say one thing, where no code word of its tables begins another one.
-use Rattle.std.proofs.Common.{◌≡◌, ℕ, zero, suc, ◌+◌, ◌-◌, ◌<◌, ◌^◌, refl, sym, ap, ◌∙◌, subst, List, [], ◌∷◌, drop, Some, None}
+use Rattle.std.proofs.Common.{ℕ, zero, suc, ◌+◌, sym, ap, ◌∙◌, subst, List, [], drop, Some, None}
 use Rattle.std.specs.Prelude.{Option, slice_index}
-use Rattle.cmap_values.specs.Files.{BfEntry, CidEntry, Declaration, File}
 use Rattle.cmap_packed.specs.Bundles.{PrefixTables}
-use Rattle.cmap_packed.specs.Fronts.{AllOf, ByteAt, CodeAt, FieldAt, FramedAt, RowOf, SizedAt, TerminatedAt, Then}
+use Rattle.cmap_packed.specs.Fronts.{AllOf, ByteAt, CodeAt, FieldAt, RowOf, SizedAt, TerminatedAt}
 use Rattle.cmap_packed.specs.PrefixWords.{CodeWord, IsPrefixFree, bits}
 use Rattle.cmap_packed.proofs.Fronts.{framed_alone, no_frame, pair_is}
 use Rattle.cmap_packed.proofs.FrontsAlone.{Alone, ArePrefixFree, all_alone, byte_alone, code_alone, field_alone, gives_alone, gives_if_alone, list_alone, row_alone, sized_alone, symbol_alone, terminated_alone, then_alone}
-use Rattle.cmap_binary.specs.BinaryEntries.{BfEntriesIn, BfEntryAt, CidColumns, CidEntriesIn, CidEntriesOf, CidEntryAt, CidsOf, Columns, ColumnsAfter, ColumnsAt, CountsAt, DestinationAt, Shape, SpanAt, SymbolAt, WidthAt, ranges, singles}
+use Rattle.cmap_binary.specs.BinaryEntries.{BfEntriesIn, BfEntryAt, CidColumns, CidEntriesIn, CidEntriesOf, CidEntryAt, Columns, ColumnsAfter, ColumnsAt, CountsAt, DestinationAt, Shape, SpanAt, SymbolAt, WidthAt, ranges, singles}
 use Rattle.cmap_binary.specs.BinaryFiles as files
 use Rattle.cmap_binary.specs.BinaryFiles.{CodespaceAt, CodespacesIn, CollectionIn, Content, IsBinaryFile, IsSegment, Kind, Made, NotdefAt, NotdefsIn, SaysAs, SaysIfKind, SegmentAt, file_of, kind_of}
 use Rattle.cmap_binary.proofs.Bodies.{body_alone}

@@ -7,7 +7,7 @@ use Rattle.cmap_values.specs.declared.fault.Reason.{Reason}
 use Rattle.cmap_values.specs.declared.fault.Reason.TheVariants.{SegmentLength}
 use Rattle.cmap_values.specs.declared.fault.Stop.{Stop}
 use Rattle.cmap_binary.specs.BinaryFiles.{Content, file_of}
-use Rattle.cmap_binary.specs.BinarySalvage.{IsTypeTold, SegmentSays, SegmentsFrom, SegmentsSalvaged, at_fault, cut_short, ended, said}
+use Rattle.cmap_binary.specs.BinarySalvage.{SaysNothing, SegmentSays, SegmentsFrom, SegmentsSalvaged, at_fault, cut_short, ended, said}
 use Rattle.cmap_binary.specs.BinarySeen.{with_content}
 use Rattle.cmap_packed.specs.Bundles.{PrefixTables}
 use Rattle.cmap_packed.specs.Fronts.{FramedAt}
@@ -69,13 +69,13 @@ module _ {tables : PrefixTables} {start here : List ℕ} {before : List Stop} {n
       within = next_within;
     }
 
-    pub salvaged_fault : (reason : Reason) (new : File) (stops : List Stop) → HoldsOfNone (SegmentSays tables segment) → IsTypeTold segment reason → new ≡ now → stops ≡ faults ++ record { offset = offset_of start here; reason = reason } ∷ [] → SalvagedSoFar tables start rest before new stops
-    salvaged_fault reason new stops wrong told same are = record {
+    pub salvaged_fault : (reason : Reason) (new : File) (stops : List Stop) → SaysNothing tables segment reason → new ≡ now → stops ≡ faults ++ record { offset = offset_of start here; reason = reason } ∷ [] → SalvagedSoFar tables start rest before new stops
+    salvaged_fault reason new stops wrong same are = record {
       contents = so_far.contents;
       found = so_far.found ++ record { offset = offset_of start here; reason = reason } ∷ [];
       goes_on = λ more later from.
           subst (λ all. SegmentsFrom tables 10 start (so_far.contents ++ more) all) (sym (append_assoc so_far.found _ later))
-          (so_far.goes_on more (_ ∷ later) (at_fault reason framed wrong told (subst (λ n. SegmentsFrom tables n rest more later) (sym next_offset) from)));
+          (so_far.goes_on more (_ ∷ later) (at_fault reason framed wrong (subst (λ n. SegmentsFrom tables n rest more later) (sym next_offset) from)));
       says = same ∙ so_far.says;
       added = are ∙ ap (λ f. f ++ record { offset = offset_of start here; reason = reason } ∷ []) so_far.added ∙ append_assoc before so_far.found _;
       within = next_within;

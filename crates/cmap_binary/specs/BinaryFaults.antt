@@ -7,14 +7,14 @@ use Rattle.cmap_values.specs.declared.fault.Stop.{Stop}
 use Rattle.cmap_packed.specs.Bundles.{PrefixTables}
 use Rattle.cmap_packed.specs.Fronts.{FramedAt}
 use Rattle.cmap_binary.specs.BinaryFiles.{BodyOf, Content}
-use Rattle.cmap_binary.specs.BinarySalvage.{IsTypeTold, SegmentSays, header_fault}
+use Rattle.cmap_binary.specs.BinarySalvage.{SaysNothing, SegmentSays, header_fault}
 
 -- the first fault of segments that stand at this offset of a file
 pub data SegmentFault (tables : PrefixTables) : ℕ → List ℕ → Stop → Type 0 where
   -- what is no whole segment
   no_segment : {offset : ℕ} {bytes : List ℕ} → bytes ≢ [] → HoldsOfNone (FramedAt 1 bytes) → SegmentFault tables offset bytes (record { offset = offset; reason = SegmentLength })
   -- a segment that says nothing
-  says_nothing : {offset : ℕ} {bytes segment rest : List ℕ} → (reason : Reason) → FramedAt 1 bytes (segment, rest) → HoldsOfNone (SegmentSays tables segment) → IsTypeTold segment reason
+  says_nothing : {offset : ℕ} {bytes segment rest : List ℕ} → (reason : Reason) → FramedAt 1 bytes (segment, rest) → SaysNothing tables segment reason
       → SegmentFault tables offset bytes (record { offset = offset; reason = reason })
   -- the first one after a segment that says something
   after_segment : {offset : ℕ} {bytes segment rest : List ℕ} {content : Content} {stop : Stop} → FramedAt 1 bytes (segment, rest) → IsOnly (SegmentSays tables segment) content

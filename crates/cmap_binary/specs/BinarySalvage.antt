@@ -1,21 +1,22 @@
 -- What a binary file says apart from its faults: each segment by itself.
-use Rattle.std.specs.Prelude.{◌≡◌, ◌≢◌, ℕ, ◌+◌, ◌≤◌, List, [], ◌∷◌, ◌++◌, length, take, drop, slice_index, None}
+use Rattle.std.specs.Prelude.{◌≡◌, ◌≢◌, ℕ, ◌+◌, ◌≤◌, List, [], ◌∷◌, ◌++◌, length, take, drop, slice_index}
 use Rattle.cmap_values.specs.Files.{File}
 use Rattle.cmap_values.specs.Only.{IsOnly, HoldsOfNone}
 use Rattle.cmap_values.specs.declared.fault.Reason.{Reason}
-use Rattle.cmap_values.specs.declared.fault.Reason.TheVariants.{Header, SegmentLength, SegmentType}
+use Rattle.cmap_values.specs.declared.fault.Reason.TheVariants.{Header, SegmentLength}
 use Rattle.cmap_values.specs.declared.fault.Stop.{Stop}
 use Rattle.cmap_packed.specs.Bundles.{PrefixTables}
-use Rattle.cmap_binary.specs.BinaryFiles.{BodyOf, Content, IsSegment, file_of, kind_of, magic}
+use Rattle.cmap_binary.specs.BinaryFiles.{BodyOf, Content, IsSegment, file_of, magic}
 use Rattle.cmap_packed.specs.Fronts.{BytesAt, FramedAt, GivesIf, Then}
+use Rattle.cmap_binary.specs.WrongSegments.{WrongSegment}
 
 -- a segment, with its type and its length, says this
 abbrev pub SegmentSays : PrefixTables → List ℕ → Content → Type 0
 SegmentSays tables segment = IsSegment tables (slice_index segment 0) (drop 5 segment)
 
--- a segment of an unknown type is at fault for that
-abbrev pub IsTypeTold : List ℕ → Reason → Type 0
-IsTypeTold segment reason = kind_of (slice_index segment 0) ≡ None → reason ≡ SegmentType
+-- a segment says nothing, and this is wrong with it
+abbrev pub SaysNothing : PrefixTables → List ℕ → Reason → Type 0
+SaysNothing tables segment reason = HoldsOfNone (SegmentSays tables segment) × WrongSegment tables (slice_index segment 0) (drop 5 segment) reason
 
 -- the bytes stand at this offset of a file: what their segments say, and the faults
 pub data SegmentsFrom (tables : PrefixTables) : ℕ → List ℕ → List Content → List Stop → Type 0 where
@@ -28,7 +29,7 @@ pub data SegmentsFrom (tables : PrefixTables) : ℕ → List ℕ → List Conten
   said : {offset : ℕ} {bytes segment rest : List ℕ} {content : Content} {contents : List Content} {faults : List Stop} → FramedAt 1 bytes (segment, rest) → IsOnly (SegmentSays tables segment) content
       → SegmentsFrom tables (offset + length segment) rest contents faults → SegmentsFrom tables offset bytes (content ∷ contents) faults
   -- a segment at fault says nothing
-  at_fault : {offset : ℕ} {bytes segment rest : List ℕ} {contents : List Content} {faults : List Stop} → (reason : Reason) → FramedAt 1 bytes (segment, rest) → HoldsOfNone (SegmentSays tables segment) → IsTypeTold segment reason
+  at_fault : {offset : ℕ} {bytes segment rest : List ℕ} {contents : List Content} {faults : List Stop} → (reason : Reason) → FramedAt 1 bytes (segment, rest) → SaysNothing tables segment reason
       → SegmentsFrom tables (offset + length segment) rest contents faults → SegmentsFrom tables offset bytes contents (record { offset = offset; reason = reason } ∷ faults)
 
 -- what follows a header of version 1, whatever length it gives

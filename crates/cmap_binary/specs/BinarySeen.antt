@@ -1,20 +1,20 @@
 -- Private aid: what contracts see of the types of segments, and of a file to which one is added.
-use Rattle.std.specs.Prelude.{◌≡◌, ℕ, List, [], ◌∷◌, ◌++◌, map, Some, None, IfErr, Result}
+use Rattle.std.specs.Prelude.{◌≡◌, ℕ, List, [], ◌∷◌, ◌++◌, map, Some, Result}
 use Rattle.cmap_values.specs.CodeLengths.{length_of}
 use Rattle.cmap_values.specs.Files.{Declaration, File, Lists, lists_of}
 use Rattle.cmap_values.specs.ListsAppended.{append_lists}
 use Rattle.cmap_values.specs.Only.{IsOnly, HoldsOfNone}
-use Rattle.cmap_values.specs.Outcomes.{RefusesWith, Succeeds}
+use Rattle.cmap_values.specs.Outcomes.{Outcome}
 use Rattle.cmap_values.specs.declared.fault.Fault.{Fault}
 use Rattle.cmap_values.specs.declared.fault.Reason.{Reason}
-use Rattle.cmap_values.specs.declared.fault.Reason.TheVariants.{SegmentType}
 use Rattle.cmap_packed.specs.Bundles.{PrefixTables}
 use Rattle.cmap_binary.specs.BinaryFiles as files
-use Rattle.cmap_binary.specs.BinaryFiles.{Content, declares, uses, sets_mode, sets_name, sets_collection, SegmentAt, file_of, kind_of}
+use Rattle.cmap_binary.specs.BinaryFiles.{Content, declares, uses, sets_mode, sets_name, sets_collection, SegmentAt, file_of}
 use Rattle.cmap_packed.specs.Fronts.{AllOf, RowOf}
 use Rattle.cmap_binary.specs.declared.kinds.Kind.{Kind}
 use Rattle.cmap_binary.specs.declared.kinds.Kind.TheVariants.{Cids, Texts, Base, Notdefs, Mode, Codespaces, Name, Collection}
 use Rattle.cmap_binary.specs.ColumnsSeen.{shape_seen}
+use Rattle.cmap_binary.specs.WrongSegments.{WrongInRow}
 
 abbrev pub kind_seen : Kind → files.Kind
 kind_seen (Cids shape len) = files.cids (shape_seen shape) (length_of len)
@@ -40,17 +40,21 @@ pub record SaysContent (reads : Content → Type 0) (old new : File) : Type 0 wh
   pub only : IsOnly reads content
   pub says : new ≡ with_content old content
 
--- a call that adds what it reads to a file
-abbrev pub Adds : (Content → Type 0) → File → File → Result Unit (Fault Reason) → Type 0
-Adds reads old new = Succeeds (SaysContent reads old new) (HoldsOfNone reads)
+-- nothing is read, and this is wrong
+abbrev pub IsWrong : {A : Type 0} → (A → Type 0) → (Reason → Type 0) → Reason → Type 0
+IsWrong reads wrong reason = HoldsOfNone reads × wrong reason
 
--- a segment of an unknown type is refused for that
-abbrev pub TellsType : ℕ → Result Unit (Fault Reason) → Type 0
-TellsType number result = kind_of number ≡ None → IfErr result (RefusesWith (λ reason. reason ≡ SegmentType))
+-- a call that reads one thing and no other, or else gives the reason
+abbrev pub ReadsOr : {A B : Type 0} → (B → Type 0) → (Reason → Type 0) → (A → B) → Result A (Fault Reason) → Type 0
+ReadsOr reads wrong seen = Outcome (λ x. IsOnly reads (seen x)) (IsWrong reads wrong)
+
+-- a call that adds what it reads to a file
+abbrev pub Adds : (Content → Type 0) → (Reason → Type 0) → File → File → Result Unit (Fault Reason) → Type 0
+Adds reads wrong old new = Outcome (λ done. SaysContent reads old new) (IsWrong reads wrong)
 
 -- the same, and where it adds nothing the file stays as it is
-abbrev pub AddsWhole : (Content → Type 0) → File → File → Result Unit (Fault Reason) → Type 0
-AddsWhole reads old new = Succeeds (SaysContent reads old new) (HoldsOfNone reads × (new ≡ old))
+abbrev pub AddsWhole : (Content → Type 0) → (Reason → Type 0) → File → File → Result Unit (Fault Reason) → Type 0
+AddsWhole reads wrong old new = Outcome (λ done. SaysContent reads old new) (λ reason. IsWrong reads wrong reason × (new ≡ old))
 
 -- declarations are read and nothing else, and the lists have them
 pub record SaysDeclared (reads : Content → Type 0) (old new : Lists) : Type 0 where
@@ -59,8 +63,8 @@ pub record SaysDeclared (reads : Content → Type 0) (old new : Lists) : Type 0 
   pub says : new ≡ append_lists old (lists_of declared)
 
 -- a call that adds the declarations that it reads to lists
-abbrev pub Declares : (Content → Type 0) → Lists → Lists → Result Unit (Fault Reason) → Type 0
-Declares reads old new = Succeeds (SaysDeclared reads old new) (HoldsOfNone reads)
+abbrev pub Declares : (Content → Type 0) → (Reason → Type 0) → Lists → Lists → Result Unit (Fault Reason) → Type 0
+Declares reads wrong old new = Outcome (λ done. SaysDeclared reads old new) (IsWrong reads wrong)
 
 -- n things in a row are read and no others, and the lists have them, as declarations of this kind
 pub record SaysRow {A S : Type 0} (item : S → A × S → Type 0) (kind : A → Declaration) (n : ℕ) (start : S) (old new : Lists) : Type 0 where
@@ -70,8 +74,8 @@ pub record SaysRow {A S : Type 0} (item : S → A × S → Type 0) (kind : A →
   pub says : new ≡ append_lists old (lists_of (map kind entries))
 
 -- a call that adds things in a row to lists
-abbrev pub AddsRow : {A S : Type 0} → (S → A × S → Type 0) → (A → Declaration) → ℕ → S → Lists → Lists → Result Unit (Fault Reason) → Type 0
-AddsRow item kind n start old new = Succeeds (SaysRow item kind n start old new) (HoldsOfNone (RowOf item n start))
+abbrev pub AddsRow : {A S : Type 0} → (S → A × S → Type 0) → (S → Reason → Type 0) → (A → Declaration) → ℕ → S → Lists → Lists → Result Unit (Fault Reason) → Type 0
+AddsRow item wrong kind n start old new = Outcome (λ done. SaysRow item kind n start old new) (IsWrong (RowOf item n start) (WrongInRow item wrong n start))
 
 -- the bytes are segments in a row, which say together what the file says
 abbrev pub SegmentsSay : PrefixTables → List ℕ → File → Type 0

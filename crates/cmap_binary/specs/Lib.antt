@@ -4,3 +4,4 @@ pub mod BinaryFiles
 pub mod BinarySalvage
 pub mod BinarySeen
 pub mod ColumnsSeen
+pub mod WrongSegments

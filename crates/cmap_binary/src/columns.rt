@@ -5,7 +5,9 @@ ghost use Rattle.cmap_packed.specs.Reader.{bits_left};
 ghost use Rattle.cmap_binary.specs.BinaryEntries.{ColumnsAfter, ColumnsAt, CountsAt, SpanAt, SymbolAt, WidthAt};
 ghost use Rattle.cmap_packed.specs.BundleSeen.{tables_seen};
 ghost use Rattle.cmap_binary.specs.ColumnsSeen.{columns_seen, shape_seen, span_seen};
-ghost use Rattle.cmap_values.specs.Outcomes.{Finds, Reads};
+ghost use Rattle.cmap_binary.specs.BinarySeen.{ReadsOr};
+ghost use Rattle.cmap_binary.specs.WrongSegments.{WrongSpan};
+ghost use Rattle.cmap_values.specs.Outcomes.{Finds};
 
 use cmap_packed::Tables;
 use cmap_packed::bits::Reader;
@@ -30,20 +32,18 @@ pub(crate) struct Columns<'b> {
     pub(crate) counts: Option<Reader<'b>>,
     /// The first code after the entry before.
     base: u64,
-    pub(crate) segment: Segment,
 }
 
-/// The columns that the text begins with, of such a segment.
+/// The columns that the text begins with.
 pub(crate) fn take_columns<'b>(
     text: &mut &'b [u8],
-    segment: Segment,
     shape: Shape,
 ) -> Option<Columns<'b>>
     ensures { Finds (ColumnsAt (shape_seen shape) text.old.now)
         (λ columns. (columns_seen columns, text.new.now)) result }
 {
     match take_sized(text) {
-        Some(deltas) => take_others(text, deltas, segment, shape),
+        Some(deltas) => take_others(text, deltas, shape),
         None => None,
     }
 }
@@ -52,7 +52,6 @@ pub(crate) fn take_columns<'b>(
 fn take_others<'b>(
     text: &mut &'b [u8],
     deltas: &'b [u8],
-    segment: Segment,
     shape: Shape,
 ) -> Option<Columns<'b>>
     ensures { Finds (ColumnsAfter (shape_seen shape) deltas.now text.old.now)
@@ -63,7 +62,6 @@ fn take_others<'b>(
             deltas: Reader::new(deltas),
             counts,
             base: 0,
-            segment,
         }),
         None => None,
     }
@@ -84,21 +82,26 @@ fn take_counts<'b>(text: &mut &'b [u8], shape: Shape) -> Option<Option<Reader<'b
 }
 
 impl Columns<'_> {
-    /// The codes of the next entry.
+    /// The codes of the next entry of such a segment.
     #[inline(always)]
-    pub(crate) fn next_range(&mut self, tables: &Tables) -> Result<Range, Fault<Reason>>
-        ensures next { Reads (SpanAt (tables_seen tables.now) (columns_seen self.old))
+    pub(crate) fn next_range(
+        &mut self,
+        tables: &Tables,
+        segment: Segment,
+    ) -> Result<Range, Fault<Reason>>
+        ensures next { ReadsOr (SpanAt (tables_seen tables.now) (columns_seen self.old))
+            (WrongSpan (tables_seen tables.now) segment (columns_seen self.old))
             (λ range. (span_seen range, columns_seen self.new)) result }
         ensures order { IfOk result (λ range. range.start ≤ range.end) }
     {
         let Some(delta) = next_symbol(&tables.delta, &mut self.deltas) else {
-            return Err(Fault::Refused(Reason::Entry(self.segment)));
+            return Err(Fault::Refused(Reason::Entry(segment)));
         };
         let Some(width) = next_width(&tables.count, &mut self.counts) else {
-            return Err(Fault::Refused(Reason::Entry(self.segment)));
+            return Err(Fault::Refused(Reason::Entry(segment)));
         };
         let Some(range) = range_after(self.base, delta, width) else {
-            return Err(Fault::Refused(Reason::CodeTooLarge(self.segment)));
+            return Err(Fault::Refused(Reason::CodeTooLarge(segment)));
         };
         self.base = u64::from(range.end) + 1;
         Ok(range)

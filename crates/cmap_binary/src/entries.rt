@@ -3,11 +3,15 @@
 ghost use Rattle.cmap_binary.specs.BinaryEntries.{BfEntryAt, CidEntryAt, DestinationAt};
 ghost use Rattle.cmap_binary.specs.BinaryFiles as files;
 ghost use Rattle.cmap_binary.specs.BinaryFiles.{SaysAs};
-ghost use Rattle.cmap_binary.specs.BinarySeen.{AddsRow, Declares};
+ghost use Rattle.cmap_binary.specs.BinarySeen.{AddsRow, Declares, ReadsOr};
+ghost use Rattle.cmap_binary.specs.WrongSegments.{WrongBfEntry, WrongCidEntry, WrongCids, WrongTexts};
 ghost use Rattle.cmap_packed.specs.BundleSeen.{tables_seen};
 ghost use Rattle.cmap_binary.specs.ColumnsSeen.{cid_columns_seen, columns_seen, shape_seen};
 ghost use Rattle.cmap_packed.specs.Fronts.{FieldAt, RowOf};
-ghost use Rattle.cmap_values.specs.Outcomes.{Finds, Reads};
+ghost use Rattle.cmap_values.specs.Outcomes.{Finds};
+ghost use Rattle.cmap_values.specs.declared.fault.Reason.TheVariants.{Entry};
+ghost use Rattle.cmap_values.specs.declared.fault.Segment.TheVariants.{Texts};
+ghost use Rattle.std.specs.Prelude.{◌≡◌};
 ghost use Rattle.cmap_values.specs.CodeLengths.{length_of};
 ghost use Rattle.cmap_values.specs.Files.{bf, cid};
 ghost use Rattle.cmap_values.specs.DeclarationsSeen.{cid_entry_seen, lists_seen};
@@ -35,10 +39,11 @@ impl CidColumns<'_> {
     /// The next entry: raw CID 0 goes on after the CIDs of the entry before.
     #[inline(always)]
     fn next_entry(&mut self, tables: &Tables) -> Result<CidRange, Fault<Reason>>
-        ensures { Reads (CidEntryAt (tables_seen tables.now) (cid_columns_seen self.old))
+        ensures { ReadsOr (CidEntryAt (tables_seen tables.now) (cid_columns_seen self.old))
+            (WrongCidEntry (tables_seen tables.now) (cid_columns_seen self.old))
             (λ entry. (cid_entry_seen entry, cid_columns_seen self.new)) result }
     {
-        let range = self.columns.next_range(tables)?;
+        let range = self.columns.next_range(tables, Segment::Cids)?;
         let Some(raw) = take_u16(&mut self.raws) else {
             return Err(Fault::Refused(Reason::Entry(Segment::Cids)));
         };
@@ -62,6 +67,7 @@ pub(crate) fn add_cids(
     lists: &mut Lists,
 ) -> Result<(), Fault<Reason>>
     ensures { Declares (SaysAs (tables_seen tables.now) (files.cids (shape_seen shape) (length_of len)) payload.now)
+        (WrongCids (tables_seen tables.now) (shape_seen shape) payload.now)
         (lists_seen lists.old) (lists_seen lists.new) result }
 {
     let Some(count) = take_u16(&mut payload) else {
@@ -70,7 +76,7 @@ pub(crate) fn add_cids(
     if count == 0 {
         return Ok(());
     }
-    let Some(columns) = take_columns(&mut payload, Segment::Cids, shape) else {
+    let Some(columns) = take_columns(&mut payload, shape) else {
         return Err(Fault::Refused(Reason::Field(Segment::Cids)));
     };
     // A count that is too great gets no more room than there are bytes.
@@ -92,7 +98,8 @@ fn add_cid_entries(
     len: CodeLength,
     lists: &mut Lists,
 ) -> Result<(), Fault<Reason>>
-    ensures { AddsRow (CidEntryAt (tables_seen tables.now)) (cid (length_of len)) count
+    ensures { AddsRow (CidEntryAt (tables_seen tables.now)) (WrongCidEntry (tables_seen tables.now))
+        (cid (length_of len)) count
         (cid_columns_seen left.entry) (lists_seen lists.old) (lists_seen lists.new) result }
 {
     let singles = left.columns.counts.is_none();
@@ -114,7 +121,8 @@ fn add_each_cid(
     len: CodeLength,
     lists: &mut Lists,
 ) -> Result<(), Fault<Reason>>
-    ensures { AddsRow (CidEntryAt (tables_seen tables.now)) (cid (length_of len)) count
+    ensures { AddsRow (CidEntryAt (tables_seen tables.now)) (WrongCidEntry (tables_seen tables.now))
+        (cid (length_of len)) count
         (cid_columns_seen left.entry) (lists_seen lists.old) (lists_seen lists.new) result }
 {
     for _ in 0..count {
@@ -136,12 +144,13 @@ pub(crate) fn add_texts(
     lists: &mut Lists,
 ) -> Result<(), Fault<Reason>>
     ensures { Declares (SaysAs (tables_seen tables.now) (files.texts (shape_seen shape) fixed) payload.now)
+        (WrongTexts (tables_seen tables.now) (shape_seen shape) fixed payload.now)
         (lists_seen lists.old) (lists_seen lists.new) result }
 {
     let Some(count) = take_u16(&mut payload) else {
         return Err(Fault::Refused(Reason::Field(Segment::Texts)));
     };
-    let Some(columns) = take_columns(&mut payload, Segment::Texts, shape) else {
+    let Some(columns) = take_columns(&mut payload, shape) else {
         return Err(Fault::Refused(Reason::Field(Segment::Texts)));
     };
     lists.bfs.reserve(usize::from(count).min(payload.len()))?;
@@ -158,7 +167,8 @@ fn add_text_entries(
     fixed: Option<u8>,
     lists: &mut Lists,
 ) -> Result<(), Fault<Reason>>
-    ensures { AddsRow (BfEntryAt (tables_seen tables.now) fixed) bf count
+    ensures { AddsRow (BfEntryAt (tables_seen tables.now) fixed)
+        (WrongBfEntry (tables_seen tables.now) fixed) bf count
         (columns_seen left.entry.0, left.entry.1.now) (lists_seen lists.old) (lists_seen lists.new) result }
 {
     let singles = left.0.counts.is_none();
@@ -179,13 +189,14 @@ fn add_each_text(
     fixed: Option<u8>,
     lists: &mut Lists,
 ) -> Result<(), Fault<Reason>>
-    ensures { AddsRow (BfEntryAt (tables_seen tables.now) fixed) bf count
+    ensures { AddsRow (BfEntryAt (tables_seen tables.now) fixed)
+        (WrongBfEntry (tables_seen tables.now) fixed) bf count
         (columns_seen left.entry.0, left.entry.1.now) (lists_seen lists.old) (lists_seen lists.new) result }
 {
     let (mut columns, mut text) = left;
     let mut buffer = Vec::new(alloc);
     for _ in 0..count {
-        let range = columns.next_range(tables)?;
+        let range = columns.next_range(tables, Segment::Texts)?;
         let units = read_destination(alloc, &mut text, fixed, &mut buffer)?;
         lists.add_bf(BfRange { range, units })?;
     }
@@ -200,7 +211,8 @@ fn read_destination(
     fixed: Option<u8>,
     buffer: &mut Vec<u16>,
 ) -> Result<Units, Fault<Reason>>
-    ensures { Reads (DestinationAt fixed text.old.now) (λ units. (units_seen units, text.new.now)) result }
+    ensures { ReadsOr (DestinationAt fixed text.old.now) (λ reason. reason ≡ Entry Texts)
+        (λ units. (units_seen units, text.new.now)) result }
 {
     match fixed {
         Some(count) => read_units(alloc, text, count, buffer),
@@ -221,7 +233,8 @@ fn read_units(
     count: u8,
     buffer: &mut Vec<u16>,
 ) -> Result<Units, Fault<Reason>>
-    ensures { Reads (RowOf (FieldAt 2) count text.old.now) (λ units. (units_seen units, text.new.now)) result }
+    ensures { ReadsOr (RowOf (FieldAt 2) count text.old.now) (λ reason. reason ≡ Entry Texts)
+        (λ units. (units_seen units, text.new.now)) result }
 {
     if count == 1 {
         let Some(unit) = take_u16(text) else {

@@ -3,6 +3,8 @@
 ghost use Rattle.cmap_binary.specs.BinaryFiles as files;
 ghost use Rattle.cmap_binary.specs.BinaryFiles.{CodespaceAt, NotdefAt, SaysAs};
 ghost use Rattle.cmap_binary.specs.BinarySeen.{Adds, Declares, no_tables};
+ghost use Rattle.cmap_binary.specs.WrongSegments.{WrongAs, WrongLength};
+ghost use Rattle.std.specs.Prelude.{slice_get};
 ghost use Rattle.cmap_values.specs.Outcomes.{Finds};
 ghost use Rattle.cmap_values.specs.DeclarationsSeen.{cid_entry_seen, codespace_seen, lists_seen};
 ghost use Rattle.cmap_values.specs.FilesSeen.{file_seen};
@@ -20,7 +22,7 @@ use std::alloc::Global;
 /// number, and the entries. Only without entries may the width be that of no code. Payload after
 /// them is ignored.
 pub(crate) fn add_notdefs(mut payload: &[u8], lists: &mut Lists) -> Result<(), Fault<Reason>>
-    ensures { Declares (SaysAs no_tables files.notdefs payload.now)
+    ensures { Declares (SaysAs no_tables files.notdefs payload.now) (WrongAs no_tables files.notdefs payload.now)
         (lists_seen lists.old) (lists_seen lists.new) result }
 {
     let Some(width) = take_byte(&mut payload) else {
@@ -60,16 +62,16 @@ fn take_notdef(text: &mut &[u8], width: u8) -> Option<CidRange>
 
 /// Adds the codespace ranges of a segment with this payload. Payload after them is ignored.
 pub(crate) fn add_codespaces(mut payload: &[u8], lists: &mut Lists) -> Result<(), Fault<Reason>>
-    ensures { Declares (SaysAs no_tables files.codespaces payload.now)
+    ensures { Declares (SaysAs no_tables files.codespaces payload.now) (WrongAs no_tables files.codespaces payload.now)
         (lists_seen lists.old) (lists_seen lists.new) result }
 {
     let Some(count) = take_byte(&mut payload) else {
         return Err(Fault::Refused(Reason::Field(Segment::Codespaces)));
     };
     for _ in 0..count {
-        let width = payload.first().copied();
+        let entry = payload;
         let Some(space) = take_codespace(&mut payload) else {
-            return Err(Fault::Refused(codespace_lack(width)));
+            return Err(Fault::Refused(codespace_lack(entry)));
         };
         lists.add_codespace(space)?;
     }
@@ -88,10 +90,12 @@ fn take_codespace(text: &mut &[u8]) -> Option<Codespace>
     Some(Codespace { len, low, high })
 }
 
-/// What is wrong with an entry of a codespace range that begins with this width and isn't read.
-fn codespace_lack(width: Option<u8>) -> Reason {
-    match width {
-        Some(width) if CodeLength::of(width).is_none() => Reason::CodeLength,
+/// What is wrong with the entry of a codespace range that stands here and isn't read.
+fn codespace_lack(entry: &[u8]) -> Reason
+    ensures { WrongLength (slice_get entry.now 0) result }
+{
+    match entry.first() {
+        Some(width) if CodeLength::of(*width).is_none() => Reason::CodeLength,
         _ => Reason::Entry(Segment::Codespaces),
     }
 }
@@ -103,7 +107,7 @@ pub(crate) fn set_collection(
     mut payload: &[u8],
     file: &mut File<'_>,
 ) -> Result<(), Fault<Reason>>
-    ensures { Adds (SaysAs no_tables files.collection payload.now)
+    ensures { Adds (SaysAs no_tables files.collection payload.now) (WrongAs no_tables files.collection payload.now)
         (file_seen file.old) (file_seen file.new) result }
 {
     let Some(registry) = take_terminated(&mut payload) else {

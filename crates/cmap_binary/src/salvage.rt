@@ -6,10 +6,11 @@ ghost use Rattle.cmap_values.specs.Files as files;
 ghost use Rattle.cmap_values.specs.FilesSeen.{file_seen};
 ghost use Rattle.cmap_values.specs.ListsAppended.{no_file};
 ghost use Rattle.cmap_values.specs.Only.{IsOnly, HoldsOfNone};
-ghost use Rattle.cmap_values.specs.Outcomes.{Finds, Succeeds};
+ghost use Rattle.cmap_values.specs.Outcomes.{Finds, Outcome};
 ghost use Rattle.cmap_binary.specs.BinaryFiles.{Content, IsBinaryFile, IsSegment};
 ghost use Rattle.cmap_binary.specs.BinarySalvage.{AfterHeader, BeginsWithin, BodyRead, SalvagesBinary, SegmentsSalvaged};
-ghost use Rattle.cmap_binary.specs.BinarySeen.{AddsWhole, TellsType};
+ghost use Rattle.cmap_binary.specs.BinarySeen.{AddsWhole, IsWrong};
+ghost use Rattle.cmap_binary.specs.WrongSegments.{WrongSegment};
 ghost use Rattle.cmap_packed.specs.BundleSeen.{bundle_seen, tables_seen};
 
 use crate::file::{HEAD, HEADER_LEN, SEGMENT_HEAD, TYPE_LEN, split_body};
@@ -149,9 +150,9 @@ fn try_segment<'d>(
     payload: &'d [u8],
     file: &mut File<'d>,
 ) -> Result<(), Fault<Reason>>
-    ensures adds { AddsWhole (IsSegment (tables_seen tables.now) number payload.now)
+    ensures { AddsWhole (IsSegment (tables_seen tables.now) number payload.now)
+        (WrongSegment (tables_seen tables.now) number payload.now)
         (file_seen file.old) (file_seen file.new) result }
-    ensures unknown { TellsType number result }
 {
     check_segment(alloc, tables, number, payload)?;
     read_segment(alloc, tables, number, payload, file)
@@ -164,9 +165,10 @@ fn check_segment(
     number: u8,
     payload: &[u8],
 ) -> Result<(), Fault<Reason>>
-    ensures says { Succeeds ((content : Content) × IsOnly (IsSegment (tables_seen tables.now) number payload.now) content)
-        (HoldsOfNone (IsSegment (tables_seen tables.now) number payload.now)) result }
-    ensures unknown { TellsType number result }
+    ensures { Outcome
+        (λ _. (content : Content) × IsOnly (IsSegment (tables_seen tables.now) number payload.now) content)
+        (IsWrong (IsSegment (tables_seen tables.now) number payload.now)
+            (WrongSegment (tables_seen tables.now) number payload.now)) result }
 {
     let mut file = File::new(alloc);
     read_segment(alloc, tables, number, payload, &mut file)

@@ -2,7 +2,8 @@
 
 ghost use Rattle.cmap_binary.specs.BinaryFiles as files;
 ghost use Rattle.cmap_binary.specs.BinaryFiles.{IsSegment, SaysAs};
-ghost use Rattle.cmap_binary.specs.BinarySeen.{Adds, TellsType, kind_seen, no_tables};
+ghost use Rattle.cmap_binary.specs.BinarySeen.{Adds, kind_seen, no_tables};
+ghost use Rattle.cmap_binary.specs.WrongSegments.{WrongAs, WrongSegment};
 ghost use Rattle.cmap_packed.specs.BundleSeen.{tables_seen};
 ghost use Rattle.cmap_values.specs.FilesSeen.{file_seen};
 
@@ -24,9 +25,9 @@ pub(crate) fn read_segment<'d>(
     payload: &'d [u8],
     file: &mut File<'d>,
 ) -> Result<(), Fault<Reason>>
-    ensures adds { Adds (IsSegment (tables_seen tables.now) number payload.now)
+    ensures { Adds (IsSegment (tables_seen tables.now) number payload.now)
+        (WrongSegment (tables_seen tables.now) number payload.now)
         (file_seen file.old) (file_seen file.new) result }
-    ensures unknown { TellsType number result }
 {
     match Kind::of(number) {
         Some(kind) => add_content(alloc, tables, kind, payload, file),
@@ -43,6 +44,7 @@ fn add_content<'d>(
     file: &mut File<'d>,
 ) -> Result<(), Fault<Reason>>
     ensures { Adds (SaysAs (tables_seen tables.now) (kind_seen kind) payload.now)
+        (WrongAs (tables_seen tables.now) (kind_seen kind) payload.now)
         (file_seen file.old) (file_seen file.new) result }
 {
     match kind {
@@ -66,7 +68,7 @@ fn add_content<'d>(
 
 /// The name of a file that is used.
 fn add_use<'d>(payload: &'d [u8], file: &mut File<'d>) -> Result<(), Fault<Reason>>
-    ensures { Adds (SaysAs no_tables files.base payload.now)
+    ensures { Adds (SaysAs no_tables files.base payload.now) (WrongAs no_tables files.base payload.now)
         (file_seen file.old) (file_seen file.new) result }
 {
     file.uses.push(payload)?;
@@ -75,7 +77,7 @@ fn add_use<'d>(payload: &'d [u8], file: &mut File<'d>) -> Result<(), Fault<Reaso
 
 /// The writing mode: the first byte is 0 for horizontal, 1 for vertical.
 fn set_mode(mut payload: &[u8], file: &mut File<'_>) -> Result<(), Fault<Reason>>
-    ensures { Adds (SaysAs no_tables files.mode payload.now)
+    ensures { Adds (SaysAs no_tables files.mode payload.now) (WrongAs no_tables files.mode payload.now)
         (file_seen file.old) (file_seen file.new) result }
 {
     let Some(number) = take_byte(&mut payload) else {
@@ -87,7 +89,7 @@ fn set_mode(mut payload: &[u8], file: &mut File<'_>) -> Result<(), Fault<Reason>
 
 /// The name of the file.
 fn set_name(alloc: Global, payload: &[u8], file: &mut File<'_>) -> Result<(), Fault<Reason>>
-    ensures { Adds (SaysAs no_tables files.name payload.now)
+    ensures { Adds (SaysAs no_tables files.name payload.now) (WrongAs no_tables files.name payload.now)
         (file_seen file.old) (file_seen file.new) result }
 {
     let name = Vec::from_slice(alloc, payload)?;

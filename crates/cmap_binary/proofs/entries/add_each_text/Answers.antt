@@ -1,6 +1,8 @@
-use Rattle.std.proofs.Common.{arith, refl}
+use Rattle.std.proofs.Common.{arith, inl, inr, refl}
 use Rattle.cmap_values.proofs.Outcomes.{passed_on}
 use Rattle.cmap_packed.proofs.Fronts.{gives, then_none, then_next, then_only}
+use Rattle.cmap_packed.specs.BundleSeen.{tables_seen}
+use Rattle.cmap_binary.specs.WrongSegments.{WrongBfEntry}
 use Rattle.cmap_binary.proofs.RowsAdded.{adds_start, adds_more, adds_wrong, adds_end}
 use Rattle.cmap_binary.proofs.entries.add_each_text.Goals as goal
 
@@ -9,12 +11,12 @@ loop-init c = adds_start _ _ _ _ _
 
 pub returns-in_err-range : goal.returns-in_err-range
 returns-in_err-range c =
-    passed_on _ _ _ c.from_residual.ensures.1 c.in_err-range.ensures.next.1 (λ reason none. adds_wrong c.loop.invariant (omega arith) (then_none _ _ none))
+    passed_on _ _ _ c.from_residual.ensures.1 c.in_err-range.ensures.next.1 (λ reason is. adds_wrong c.loop.invariant (WrongBfEntry (tables_seen c.args.tables.now) c.args.fixed) reason (omega arith) (then_none _ _ is.0) (inl is.1))
 
 pub returns-in_err-units : goal.returns-in_err-units
 returns-in_err-units c =
     passed_on _ _ _ c.from_residual-in_err-units.ensures.1 c.in_err-units.ensures.1
-    (λ reason none. adds_wrong c.loop.invariant (omega arith) (then_next _ c.in_ok-range.ensures.next.0 (then_none _ _ none)))
+    (λ reason is. adds_wrong c.loop.invariant (WrongBfEntry (tables_seen c.args.tables.now) c.args.fixed) reason (omega arith) (then_next _ c.in_ok-range.ensures.next.0 (then_none _ _ is.0)) (inr (_, _, c.in_ok-range.ensures.next.0.holds, is)))
 
 pub loop-preserved : goal.loop-preserved
 loop-preserved c =

@@ -1,13 +1,14 @@
+use Rattle.std.proofs.Common.{inl, inr, refl}
 use Rattle.cmap_packed.proofs.Fronts.{gives, then_none, then_next, then_only}
 use Rattle.cmap_binary.proofs.Reading.{made_none, made_only}
 use Rattle.cmap_binary.proofs.RowsAdded.{in_words}
 use Rattle.cmap_binary.proofs.entries.add_texts.Goals as goal
 
 pub returns-in_default : goal.returns-in_default
-returns-in_default c = (tt, made_none (then_none _ _ c.in_default.ensures))
+returns-in_default c = (tt, (made_none (then_none _ _ c.in_default.ensures), inl (c.in_default.ensures, refl)))
 
 pub returns-in_default-take_columns : goal.returns-in_default-take_columns
-returns-in_default-take_columns c = (tt, made_none (then_next _ c.in-Some.ensures (then_none _ _ c.in_default-take_columns.ensures)))
+returns-in_default-take_columns c = (tt, (made_none (then_next _ c.in-Some.ensures (then_none _ _ c.in_default-take_columns.ensures)), inr (_, _, c.in-Some.ensures.holds, inl (c.in_default-take_columns.ensures, refl))))
 
 pub returns : goal.returns
 returns c =
@@ -17,4 +18,7 @@ returns c =
       only = made_only (then_only _ c.in-Some.ensures (then_only _ c.in-Some-take_columns.ensures (then_only _ row.only gives)));
       says = rw c.reserve.ensures.items at row.says;
     })
-    (λ none. made_none (then_next _ c.in-Some.ensures (then_next _ c.in-Some-take_columns.ensures (then_none _ _ none))))
+    (λ reason is. (
+      made_none (then_next _ c.in-Some.ensures (then_next _ c.in-Some-take_columns.ensures (then_none _ _ is.0))),
+      inr (_, _, c.in-Some.ensures.holds, inr (_, _, c.in-Some-take_columns.ensures.holds, is.1)),
+    ))

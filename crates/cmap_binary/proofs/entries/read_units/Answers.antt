@@ -1,5 +1,5 @@
 use Rattle.cmap_binary.proofs.RowsAdded.{out_of_memory}
-use Rattle.std.proofs.Common.{arith}
+use Rattle.std.proofs.Common.{arith, refl}
 use Rattle.cmap_packed.specs.Fronts.{FieldAt}
 use Rattle.cmap_packed.proofs.Fronts.{row_start, row_more, row_wrong, row_end}
 use Rattle.cmap_binary.proofs.entries.read_units.Goals as goal
@@ -14,13 +14,13 @@ pub returns : goal.returns
 returns c = (rw (c.in_ok-units.ensures.units, c.deref.ensures.value) (row_end _ _ _ _ _ _ c.loop.invariant (omega arith)), tt)
 
 pub returns-in_default : goal.returns-in_default
-returns-in_default c = (tt, row_wrong (FieldAt 2) c.args.count c.args.text.now.now 0 _ _ (row_start _ _ _) (omega arith) c.in_default.ensures)
+returns-in_default c = (tt, (row_wrong (FieldAt 2) c.args.count c.args.text.now.now 0 _ _ (row_start _ _ _) (omega arith) c.in_default.ensures, refl))
 
 pub returns-in_default-take_u16 : goal.returns-in_default-take_u16
-returns-in_default-take_u16 c = (tt, row_wrong _ _ _ _ _ _ c.loop.invariant (omega arith) c.in_default-take_u16.ensures)
+returns-in_default-take_u16 c = (tt, (row_wrong _ _ _ _ _ _ c.loop.invariant (omega arith) c.in_default-take_u16.ensures, refl))
 
 pub returns-in_default-take_two : goal.returns-in_default-take_two
-returns-in_default-take_two c = (tt, rw c.if-count-eq2.true c.in_default-take_two.ensures)
+returns-in_default-take_two c = (tt, (rw c.if-count-eq2.true c.in_default-take_two.ensures, refl))
 
 pub returns-in_err-push : goal.returns-in_err-push
 returns-in_err-push c = out_of_memory _ _ c.from_residual.result c.from_residual.ensures.1

@@ -12,13 +12,13 @@ collection_only : (P : Collection → Type 0) (family other_family : Family) (nu
 collection_only P family other_family number other_number families numbers only = rw (families, numbers) only
 
 pub returns-in_default : goal.returns-in_default
-returns-in_default c = (tt, made_none (then_none _ _ c.in_default.ensures))
+returns-in_default c = (let none = then_none _ _ c.in_default.ensures in (tt, (made_none none, (none, refl))))
 
 pub returns-in_default-take_terminated : goal.returns-in_default-take_terminated
-returns-in_default-take_terminated c = (tt, made_none (then_next _ c.in-Some.ensures (then_none _ _ c.in_default-take_terminated.ensures)))
+returns-in_default-take_terminated c = (let none = then_next _ c.in-Some.ensures (then_none _ _ c.in_default-take_terminated.ensures) in (tt, (made_none none, (none, refl))))
 
 pub returns-in_default-take_u16 : goal.returns-in_default-take_u16
-returns-in_default-take_u16 c = (tt, made_none (then_next _ c.in-Some.ensures (then_next _ c.in-Some-take_terminated.ensures (then_none _ _ c.in_default-take_u16.ensures))))
+returns-in_default-take_u16 c = (let none = then_next _ c.in-Some.ensures (then_next _ c.in-Some-take_terminated.ensures (then_none _ _ c.in_default-take_u16.ensures)) in (tt, (made_none none, (none, refl))))
 
 pub returns : goal.returns
 returns c =

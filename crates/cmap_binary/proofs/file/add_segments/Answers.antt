@@ -46,18 +46,17 @@ returns-in_default-clause-first c = c.loop-segments.invariant.2 _ (no_segment (f
 
 pub returns-in-Err-Refused-clause-first : goal.returns-in-Err-Refused-clause-first
 returns-in-Err-Refused-clause-first c =
-    let none = rw (take_rest, c.in-Err-Refused.field-0-is) at c.in-Err-Refused.ensures.adds.1 in
-    let told = rw c.in-Err-Refused.field-0-is at c.in-Err-Refused.ensures.unknown in
-    rw c.in-Err-Refused.field-0-is (c.loop-segments.invariant.2 _ (says_nothing c.in-Err-Refused.reason c.in-Some.ensures.holds none told))
+    let wrong = rw (take_rest, c.in-Err-Refused.field-0-is) at c.in-Err-Refused.ensures.1 in
+    rw c.in-Err-Refused.field-0-is (c.loop-segments.invariant.2 _ (says_nothing c.in-Err-Refused.reason c.in-Some.ensures.holds wrong))
 
 pub returns-in-Err-Refused-clause-stops : goal.returns-in-Err-Refused-clause-stops
 returns-in-Err-Refused-clause-stops c =
-    let none = rw (take_rest, c.in-Err-Refused.field-0-is) at c.in-Err-Refused.ensures.adds.1 in
+    let (none, wrong) = rw (take_rest, c.in-Err-Refused.field-0-is) at c.in-Err-Refused.ensures.1 in
     (says_none c.loop-segments.invariant.0 (filled c.loop-segments-test.ensures) (then_next _ c.in-Some.ensures (λ other at. none other.0 at.0)), omega (arith, c.loop-segments.invariant.1))
 
 pub loop-segments-preserved : goal.loop-segments-preserved
 loop-segments-preserved c =
-    let content = c.in-Ok.ensures.adds.0 in (
+    let content = c.in-Ok.ensures.0 in (
       says_more c.loop-segments.invariant.0 _ (filled c.loop-segments-test.ensures) (segment_only _ _ _ _ _ c.in-Some.ensures (rw take_rest at content.only)) content.says,
       omega (arith, framed_within 1 c.in-Some.ensures.holds, c.loop-segments.invariant.1),
       faults_lead_on _ _ _ c.loop-segments.invariant.2 c.loop-segments.invariant.1 c.in-Some.ensures.holds (rw take_rest at content.only),

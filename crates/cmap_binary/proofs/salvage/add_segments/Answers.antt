@@ -11,13 +11,12 @@ pub returns-in_default : goal.returns-in_default
 returns-in_default c = on_ok_weaker c.add_fault.result (salvaged_cut c.loop-segments.invariant (filled c.loop-segments-test.ensures) c.in_default.ensures _) c.add_fault.ensures
 
 pub loop-segments-preserved-in-Ok : goal.loop-segments-preserved-in-Ok
-loop-segments-preserved-in-Ok c = let says = c.in-Ok.ensures.adds.0 in salvaged_said c.loop-segments.invariant c.in-Some.ensures.holds _ (rw take_rest at says.only) says.says
+loop-segments-preserved-in-Ok c = let says = c.in-Ok.ensures.0 in salvaged_said c.loop-segments.invariant c.in-Some.ensures.holds _ (rw take_rest at says.only) says.says
 
 pub loop-segments-preserved : goal.loop-segments-preserved
 loop-segments-preserved c =
-    let (wrong, same) = rw c.in-Err-Refused.field-0-is at c.in-Err-Refused.ensures.adds.1 in
-    let told = rw c.in-Err-Refused.field-0-is at c.in-Err-Refused.ensures.unknown in
-    salvaged_fault c.loop-segments.invariant c.in-Some.ensures.holds c.in-Err-Refused.reason _ _ (rw take_rest at wrong) told same c.in_ok-add_fault-in-Err-Refused.ensures
+    let (wrong, same) = rw c.in-Err-Refused.field-0-is at c.in-Err-Refused.ensures.1 in
+    salvaged_fault c.loop-segments.invariant c.in-Some.ensures.holds c.in-Err-Refused.reason _ _ (rw take_rest at wrong) same c.in_ok-add_fault-in-Err-Refused.ensures
 
 pub returns : goal.returns
 returns c = salvaged_end c.loop-segments.invariant (emptied c.loop-segments-test.ensures)
