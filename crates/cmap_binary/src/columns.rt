@@ -35,10 +35,7 @@ pub(crate) struct Columns<'b> {
 }
 
 /// The columns that the text begins with.
-pub(crate) fn take_columns<'b>(
-    text: &mut &'b [u8],
-    shape: Shape,
-) -> Option<Columns<'b>>
+pub(crate) fn take_columns<'b>(text: &mut &'b [u8], shape: Shape) -> Option<Columns<'b>>
     ensures { Finds (ColumnsAt (shape_seen shape) text.old.now)
         (λ columns. (columns_seen columns, text.new.now)) result }
 {
@@ -49,11 +46,7 @@ pub(crate) fn take_columns<'b>(
 }
 
 /// The columns that the text begins with after that of these deltas.
-fn take_others<'b>(
-    text: &mut &'b [u8],
-    deltas: &'b [u8],
-    shape: Shape,
-) -> Option<Columns<'b>>
+fn take_others<'b>(text: &mut &'b [u8], deltas: &'b [u8], shape: Shape) -> Option<Columns<'b>>
     ensures { Finds (ColumnsAfter (shape_seen shape) deltas.now text.old.now)
         (λ columns. (columns_seen columns, text.new.now)) result }
 {

@@ -40,7 +40,7 @@ pub fn is_marked_binary(bytes: &[u8]) -> bool
 }
 
 /// What a binary file says, by the tables of a bundle. A file that is refused says where its first
-/// segment stands that can't be read.
+/// segment stands that can't be read, and why.
 pub fn read_binary<'d>(
     alloc: Global,
     bundle: &Bundle<'_>,
@@ -48,7 +48,7 @@ pub fn read_binary<'d>(
 ) -> Result<File<'d>, Fault<Stop>>
     ensures file { ReadsFile (IsBinaryFile (bundle_seen bundle.now).tables) file_seen bytes.now result }
 
-    // The offset is that of the header, or else of the first segment at fault.
+    // It is that of the header, or else that of the first segment at fault.
     ensures place { IfErr result (RefusesWith (IsBinaryFault (bundle_seen bundle.now).tables bytes.now)) }
 {
     let Some(body) = split_body(bytes) else {

@@ -168,7 +168,7 @@ fn check_segment(
     ensures { Outcome
         (λ _. (content : Content) × IsOnly (IsSegment (tables_seen tables.now) number payload.now) content)
         (IsWrong (IsSegment (tables_seen tables.now) number payload.now)
-            (WrongSegment (tables_seen tables.now) number payload.now)) result }
+        (WrongSegment (tables_seen tables.now) number payload.now)) result }
 {
     let mut file = File::new(alloc);
     read_segment(alloc, tables, number, payload, &mut file)

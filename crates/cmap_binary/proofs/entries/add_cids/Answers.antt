@@ -34,12 +34,12 @@ returns-then-count-eq0 c = (record { declared = _; only = made_only (then_only _
 
 pub returns-in_default-take_columns : goal.returns-in_default-take_columns
 returns-in_default-take_columns c = (
-      tt,
-      (
-        made_none (then_next _ c.in-Some.ensures (rw (some_cids _ _ c.in-Some.count _ (omega arith)) (then_none _ _ c.in_default-take_columns.ensures))),
-        inr (_, _, c.in-Some.ensures.holds, rw (some_wrong _ _ c.in-Some.count _ _ (omega arith)) (inl (c.in_default-take_columns.ensures, refl))),
-      ),
-    )
+  tt,
+  (
+    made_none (then_next _ c.in-Some.ensures (rw (some_cids _ _ c.in-Some.count _ (omega arith)) (then_none _ _ c.in_default-take_columns.ensures))),
+    inr (_, _, c.in-Some.ensures.holds, rw (some_wrong _ _ c.in-Some.count _ _ (omega arith)) (inl (c.in_default-take_columns.ensures, refl))),
+  ),
+)
 
 pub returns : goal.returns
 returns c =

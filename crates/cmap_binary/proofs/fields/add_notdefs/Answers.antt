@@ -21,8 +21,7 @@ returns-then-count-eq0 c =
 
 pub returns-in_default-of : goal.returns-in_default-of
 returns-in_default-of c =
-    let none = row_wrong (NotdefAt c.in-Some.width) _ c.take_u16.new.text.now _ _ _ (row_start _ _ _) (omega arith) (λ other (start, mid, code, more). c.in_default-of.ensures code.0) in
-    (
+    let none = row_wrong (NotdefAt c.in-Some.width) _ c.take_u16.new.text.now _ _ _ (row_start _ _ _) (omega arith) (λ other (start, mid, code, more). c.in_default-of.ensures code.0) in (
       tt,
       (
         made_none (then_next _ c.in-Some.ensures (then_next _ c.in-Some-take_u16.ensures (then_none _ _ none))),

@@ -10,8 +10,7 @@ returns-in_default-next_width-clause-next c = (tt, (then_next _ c.in-Some.ensure
 
 pub returns-in_default-range_after-clause-next : goal.returns-in_default-range_after-clause-next
 returns-in_default-range_after-clause-next c =
-    let past = rw c.in_default-range_after.is at c.range_after.ensures in
-    (
+    let past = rw c.in_default-range_after.is at c.range_after.ensures in (
       tt,
       (
         then_next _ c.in-Some.ensures (then_next _ c.in-Some-next_width.ensures (gives_none (λ small. omega (arith, past, small)))),
