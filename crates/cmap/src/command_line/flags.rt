@@ -58,10 +58,7 @@ impl Flag {
 
 /// The values of an option or an argument with this id.
 pub(crate) fn values_of<'m, 'w>(arguments: &'m ArgMatches<'w>, id: &str) -> &'m [&'w str] {
-    match arguments.get_strs(id) {
-        Some(values) => values,
-        None => &[],
-    }
+    arguments.get_strs(id).unwrap_or(&[])
 }
 
 impl Value {
