@@ -18,6 +18,7 @@
 #include "hayro_cmap.h"
 
 #include <algorithm>
+#include <array>
 #include <cerrno>
 #include <cstddef>
 #include <cstdint>
@@ -750,13 +751,17 @@ inline std::optional<std::string> bytes_of(const std::filesystem::path &path) {
     std::error_code fault;
     if (!std::filesystem::is_regular_file(path, fault)) return std::nullopt;
     std::ifstream in(path, std::ios::binary);
-    std::ostringstream bytes;
-    // A read that fails sets badbit. An iterator over the buffer would throw std::ios_base::failure.
-    if (in) bytes << in.rdbuf();
-    if (!in || bytes.bad())
+    std::string bytes;
+    std::array<char, 1 << 14> part;
+    do {
+        in.read(part.data(), part.size());
+        bytes.append(part.data(), static_cast<std::size_t>(in.gcount()));
+    } while (in);
+    // A file that was read to its end sets eofbit, one that can't be opened or read doesn't.
+    if (!in.eof())
         throw std::filesystem::filesystem_error(
             "a CMap file can't be read", path, std::error_code(errno, std::generic_category()));
-    return bytes.str();
+    return bytes;
 }
 
 // The folders in a folder, in order; none where it can't be read.
