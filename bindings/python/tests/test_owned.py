@@ -66,11 +66,17 @@ class Closing(unittest.TestCase):
         def files(name):
             if name == b"B":
                 raise KeyError(name)
-            return b"begincidchar <> /B usecmap"
+            return b"begincidchar <> 1 endcidchar /B usecmap"
 
-        with unittest.mock.patch.object(library, "hayro_cmap_free", wraps=library.hayro_cmap_free) as free:
+        were_full, free = [], library.hayro_cmap_free
+
+        def freed(handle):
+            were_full.append(handle.full)
+            free(handle)
+
+        with unittest.mock.patch.object(library, "hayro_cmap_free", freed):
             self.assertRaises(KeyError, CMap.salvage, uses(b"A"), files)
-        free.assert_called_once()
+        self.assertEqual(sum(were_full), 1)
 
     def test_shared_after_close(self):
         cmap = CMap.parse(SMALL)
