@@ -446,10 +446,10 @@ hayro_cmap_status hayro_cmap_text_units(hayro_cmap *map, size_t layer, size_t in
                                         uint16_t *units, size_t units_len, size_t *needed);
 
 /* All codes that have this CID, as hayro_cmap_cid gives it for codes of `byte_len` bytes: ranges in
- * order, each as long as can be; none for a length outside 1 to 4. A file may declare larger codes than
- * so many bytes write, which are among them. With HAYRO_CMAP_OK they stand at
- * the head of `ranges`, and `needed` is how many they are, 0 where no code has the CID. With HAYRO_CMAP_NO_ROOM `needed` is how many there
- * are, and `ranges` is as it was. An empty handle is HAYRO_CMAP_ABSENT; then, and with
+ * order, each as long as can be; none for a length outside 1 to 4. Codes that a file declares and that
+ * `byte_len` bytes can't write are among them. With HAYRO_CMAP_OK they stand at the head of `ranges`, and
+ * `needed` is how many they are, 0 where no code has the CID. With HAYRO_CMAP_NO_ROOM `needed` is how many
+ * there are, and `ranges` is as it was. An empty handle is HAYRO_CMAP_ABSENT; then, and with
  * HAYRO_CMAP_NO_MEMORY, nothing is written. */
 hayro_cmap_status hayro_cmap_codes_of_cid(hayro_cmap *map, uint32_t cid, uint8_t byte_len,
                                           hayro_cmap_code_range *ranges, size_t ranges_len,

@@ -531,7 +531,7 @@ public:
     }
 
     // All codes that have this CID, as cid gives it for codes of `byte_len` bytes: ranges in order, each as
-    // long as can be. A file may declare larger codes than so many bytes write, which are among them.
+    // long as can be. Codes that a file declares and that `byte_len` bytes can't write are among them.
     std::vector<CodeRange> codes_of_cid(Cid cid, std::uint8_t byte_len) {
         return detail::listed<CodeRange>([&](auto room, auto len, auto needed) {
             return hayro_cmap_codes_of_cid(handle(), cid, byte_len, room, len, needed);

@@ -277,7 +277,7 @@ class CMap(Owned):
 
     def codes_of_cid(self, cid: int, byte_len: int) -> List[CodeRange]:
         """All codes that have this CID, as `cid` gives it for codes of `byte_len` bytes: ranges in order, each as long
-        as can be. A file may declare larger codes than so many bytes write, which are among them."""
+        as can be. Codes that a file declares and that `byte_len` bytes can't write are among them."""
         codes = self._listed(library.hayro_cmap_codes_of_cid, CodesInRow, cid_number(cid), code_length(byte_len))
         return [CodeRange(it.first, it.last) for it in codes]
 

@@ -263,8 +263,8 @@ impl CMap {
     }
 
     /// All codes that have this CID, as [`CMap::lookup_cid_code`] gives it for codes of `byte_len` bytes:
-    /// ranges in order, each as long as can be. A file may declare larger codes than so many bytes write,
-    /// which are among them.
+    /// ranges in order, each as long as can be. Codes that a file declares and that `byte_len` bytes can't
+    /// write are among them.
     ///
     /// ```
     /// let file = b"begincidrange <20> <7E> 1 endcidrange begincidchar <41> 7 endcidchar";
