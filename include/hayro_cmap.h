@@ -151,10 +151,9 @@ typedef enum hayro_cmap_cause {
     HAYRO_CMAP_PAST_BUDGET = 4   /* it has more bytes than are left of the budget */
 } hayro_cmap_cause;
 
-/* What is wrong where the reading of a malformed file stopped. */
+/* What is wrong where the reading of a malformed file stopped. No reason has the number 1. */
 typedef enum hayro_cmap_reason {
     HAYRO_CMAP_NO_REASON = 0,
-    HAYRO_CMAP_MALFORMED_TOKEN = 1,    /* no token stands here */
     HAYRO_CMAP_END_WITHIN_SECTION = 2, /* the file ends within a section */
     HAYRO_CMAP_CODE_EXPECTED = 3,      /* another token than a code */
     HAYRO_CMAP_CODE_LENGTH = 4,        /* a code of no or of more than four bytes */
@@ -169,7 +168,10 @@ typedef enum hayro_cmap_reason {
     HAYRO_CMAP_FIELD = 13,             /* a field of a segment is cut short */
     HAYRO_CMAP_ENTRY = 14,             /* an entry of a segment is cut short */
     HAYRO_CMAP_CODE_TOO_LARGE = 15,    /* a code of an entry of a segment passes 32 bits */
-    HAYRO_CMAP_CID_TOO_LARGE = 16      /* a CID of a binary file passes 32 bits */
+    HAYRO_CMAP_CID_TOO_LARGE = 16,     /* a CID of a binary file passes 32 bits */
+    HAYRO_CMAP_UNCLOSED_STRING = 17,   /* a string isn't closed */
+    HAYRO_CMAP_WRONG_DIGIT = 18,       /* a hexadecimal string has a byte that is no digit */
+    HAYRO_CMAP_STRAY_DELIMITER = 19    /* a ) or > stands alone */
 } hayro_cmap_reason;
 
 /* A segment of a binary file, by what it holds. */

@@ -125,7 +125,7 @@ class Refusals(unittest.TestCase):
 
     def test_uses(self):
         fault = self.refusal(CMap.uses, uses(b"A") + b" )")
-        self.assertEqual((fault.cause, fault.reason), (Cause.MALFORMED, Reason.MALFORMED_TOKEN))
+        self.assertEqual((fault.cause, fault.reason), (Cause.MALFORMED, Reason.STRAY_DELIMITER))
 
     def test_bundle(self):
         for data in [b"", b"\0\0\0\1", BUNDLE[:-1]]:

@@ -9,8 +9,15 @@ fn refusal(data: &[u8], get_cmap: impl Fn(CMapName<'_>) -> Option<&'static [u8]>
 
 #[test]
 fn a_malformed_file_has_an_offset_and_a_reason() {
-    let rows: [(&[u8], usize, Reason, &str); 8] = [
-        (b"begincidchar <0G> 1", 15, Reason::MalformedToken, "byte 15: no token stands here"),
+    let rows: [(&[u8], usize, Reason, &str); 10] = [
+        (
+            b"begincidchar <0G> 1",
+            15,
+            Reason::WrongDigit,
+            "byte 15: a hexadecimal string has a byte that is no digit",
+        ),
+        (b"begincidchar (0 1", 17, Reason::UnclosedString, "byte 17: a string isn't closed"),
+        (b"begincidchar ) 1", 13, Reason::StrayDelimiter, "byte 13: a ) or > stands alone"),
         (
             b"begincidchar <01> 1",
             19,

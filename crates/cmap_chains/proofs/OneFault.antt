@@ -8,7 +8,6 @@ use Rattle.cmap_values.specs.Only.{HoldsOfNone}
 use Rattle.cmap_values.specs.declared.fault.Stop.{Stop}
 use Rattle.cmap_packed.specs.Bundles.{PrefixTables}
 use Rattle.cmap_binary.proofs.FaultsFirst.{one_binary_fault}
-use Rattle.cmap_text.specs.Salvage.{stop_of}
 use Rattle.cmap_text.specs.TextReading.{StopsText}
 use Rattle.cmap_text.specs.TokenParsers.{Refused, offset_of}
 use Rattle.cmap_layers.specs.Layers.{Layer}
@@ -24,6 +23,9 @@ IsSameCause (Malformed stop) (Malformed other) = stop.offset ≡ other.offset
 IsSameCause cause other = cause ≡ other
 
 -- ---- one place in a file
+abbrev stop_of : ℕ → Refused → Stop
+stop_of len e = record { offset = min (offset_of e) len; reason = e.reason }
+
 stop_at : (len : ℕ) (e : Refused) (stop : Stop) → stop.offset ≡ min (offset_of e) len → stop.reason ≡ e.reason → stop ≡ stop_of len e
 stop_at len e stop offset reason = rw (← offset, ← reason) refl
 

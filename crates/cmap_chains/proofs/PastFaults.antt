@@ -10,7 +10,7 @@ use Rattle.cmap_chains.specs.Answers.{IsByName}
 use Rattle.cmap_chains.specs.BytesSpent.{About, Leaves, Resolves, GoesOverAt, of_file, of_use, of_uses}
 use Rattle.cmap_chains.specs.Layers.{Means}
 use Rattle.cmap_chains.specs.Refusals.{Fails, HasLayers, IsFaultWithin, IsUseFaultWithin, IsUsedAfter}
-use Rattle.cmap_chains.specs.Salvage.{Found, IsReadWithin, NamedFault, Opening, Salvages, SalvagesEach, SalvagesBytes, SalvagesNamed, SalvagesUse, faults_of}
+use Rattle.cmap_chains.specs.Salvage.{Found, IsReadWithin, IsRefusedFor, NamedFault, Opening, Salvages, SalvagesEach, SalvagesBytes, SalvagesNamed, SalvagesUse, faults_of}
 use Rattle.cmap_chains.specs.declared.refusal.Cause.{Cause}
 use Rattle.cmap_chains.specs.declared.refusal.Cause.TheVariants.{Malformed, NoFile, ChainLength, OverBudget}
 use Rattle.cmap_chains.proofs.Blamed.{fails_as, leads_file, leads_use}
@@ -26,7 +26,9 @@ pub record Refuted {Key : Type 0} (about : About Key) (key : Key) (leads : List 
   pub fails : Fails about key budget left fault.cause
   pub below : List (List ℕ)
   pub named : fault.names ≡ names ++ below
-  pub leads_on : leads below fault.cause
+  pub cause : Cause
+  pub shows : IsRefusedFor fault.cause cause
+  pub leads_on : leads below cause
 
 -- what is found without a fault, or else what the first one says
 pub data Ends {Key : Type 0} (about : About Key) (key : Key) (leads : List (List ℕ) → Cause → Type 0) (names : List (List ℕ)) (budget : Option ℕ) (found : Found) : Type 0 where
@@ -54,13 +56,17 @@ module _ (tables : Option PrefixTables) (answer : List ℕ → Option (List ℕ)
   past_ends : (most : ℕ) (bytes : List ℕ) (names : List (List ℕ)) (budget : Option ℕ) (file : File) (stops : List Stop) (rest : Option ℕ) → Leaves budget (length bytes) rest → HoldsOfNone (Means tables bytes) → (stops_are : List Stop) → stops ≡ stops_are
       → SalvagesBytes tables bytes file stops_are → ReadEnds most bytes names budget file (map Malformed stops_are) rest
   past_ends most bytes names budget file stops rest leaves none [] is salvages = absurd (none file (bytes_past.no_fault bytes file tables salvages))
-  past_ends most bytes names budget file stops rest leaves none (stop ∷ more) is salvages = faulty (Malformed stop) (map Malformed more) refl (record {
-    left = rest;
-    fails = Refuses-no_file (Means tables) answer most bytes budget rest none leaves;
-    below = [];
-    named = sym (append-nil names);
-    leads_on = (let first = bytes_past.first_fault bytes file tables stop more none salvages in (none, first.0, first.1, first.2));
-  })
+  past_ends most bytes names budget file stops rest leaves none (fault ∷ more) is salvages =
+      let (stop, shows, within, decided, first) = bytes_past.first_fault bytes file tables fault more none salvages in
+      faulty (Malformed fault) (map Malformed more) refl (record {
+        left = rest;
+        fails = Refuses-no_file (Means tables) answer most bytes budget rest none leaves;
+        below = [];
+        named = sym (append-nil names);
+        cause = Malformed stop;
+        shows = shows;
+        leads_on = (none, within, decided, first);
+      })
 
   read_ends : (most : ℕ) (bytes : List ℕ) (names : List (List ℕ)) (budget : Option ℕ) (file : File) (causes : List Cause) (rest : Option ℕ) → IsReadWithin tables budget bytes file causes rest → ReadEnds most bytes names budget file causes rest
   read_ends most bytes names budget file causes rest reads = elim reads [
@@ -69,6 +75,8 @@ module _ (tables : Option PrefixTables) (answer : List ℕ → Option (List ℕ)
       fails = GoesOver-here (Means tables) answer most bytes budget over;
       below = [];
       named = sym (append-nil names);
+      cause = OverBudget;
+      shows = inl refl;
       leads_on = GoesOverAt-here (Means tables) answer most bytes budget over;
     })
     | inr (stops, leaves, past, causes_are) ↦ elim past [
@@ -88,7 +96,9 @@ module _ (tables : Option PrefixTables) (answer : List ℕ → Option (List ℕ)
       pub fails : Fails (of_uses (use_about room)) uses budget left fault.cause
       pub below : List (List ℕ)
       pub named : fault.names ≡ names ++ below
-      pub leads_on : leads_from room name before below fault.cause
+      pub cause : Cause
+      pub shows : IsRefusedFor fault.cause cause
+      pub leads_on : leads_from room name before below cause
       pub passes : (leading : List (List ℕ)) → GoesOverAt (use_about room) name before leading → GoesOverAt (of_uses (use_about room)) uses budget leading
 
     pub data UsesEnd (uses : List (List ℕ)) (budget : Option ℕ) (found : Found) : Type 0 where
@@ -122,6 +132,8 @@ module _ (tables : Option PrefixTables) (answer : List ℕ → Option (List ℕ)
             fails = fails_as (Refuses-used used) (GoesOver-used used) fault.cause refuted.fails;
             below = refuted.below;
             named = refuted.named;
+            cause = refuted.cause;
+            shows = refuted.shows;
             leads_on = refuted.leads_on;
             passes = GoesOverAt-used used;
           })
@@ -139,8 +151,10 @@ module _ (tables : Option PrefixTables) (answer : List ℕ → Option (List ℕ)
         fails = fails_as (Refuses-file (Means tables) answer most bytes opening.left file rest only leaves refuted.left) (GoesOver-file (Means tables) answer most bytes opening.left file rest only leaves) fault.cause refuted.fails;
         below = refuted.below;
         named = refuted.named;
+        cause = refuted.cause;
+        shows = refuted.shows;
         leads_on = leads_file tables answer opening.left refuted.before most bytes file refuted.name only refuted.used
-            (λ leading over. GoesOverAt-file (Means tables) answer most bytes opening.left file rest only leaves leading (refuted.passes leading over)) fault.cause refuted.below refuted.leads_on;
+            (λ leading over. GoesOverAt-file (Means tables) answer most bytes opening.left file rest only leaves leading (refuted.passes leading over)) refuted.cause refuted.below refuted.leads_on;
       })
 
       file_ends : (file : File) (causes : List Cause) (rest : Option ℕ) (below found : Found) → ReadEnds most bytes names opening.left file causes rest
@@ -162,6 +176,8 @@ module _ (tables : Option PrefixTables) (answer : List ℕ → Option (List ℕ)
           fails = record { none = λ layers h. h.2; spent = record { lengths = []; opened = record { holds = refl; alone = λ other o. o }; leaves = Leaves-none opening.left } };
           below = name ∷ [];
           named = refl;
+          cause = ChainLength;
+          shows = inl refl;
           leads_on = (refl, inl (refl, refl));
         })
         named_ends (suc room) found file finds = elim finds [
@@ -170,6 +186,8 @@ module _ (tables : Option PrefixTables) (answer : List ℕ → Option (List ℕ)
             fails = Refuses-unanswered (Means tables) answer by_name name opening.left (suc room) room refl said;
             below = name ∷ [];
             named = refl;
+            cause = NoFile;
+            shows = inl refl;
             leads_on = (refl, inl ((omega arith, said), refl));
           })
           | inr (bytes, said, salvaged) ↦ answered bytes said (file bytes salvaged)
@@ -182,7 +200,9 @@ module _ (tables : Option PrefixTables) (answer : List ℕ → Option (List ℕ)
               fails = fails_as (Refuses-answered (Means tables) answer by_name name opening.left (suc room) room refl bytes said refuted.left) (GoesOver-answered (Means tables) answer by_name name opening.left (suc room) room refl bytes said) fault.cause refuted.fails;
               below = name ∷ refuted.below;
               named = refuted.named ∙ append_assoc names (name ∷ []) refuted.below;
-              leads_on = leads_use tables answer opening.left (suc room) room name bytes refl said (GoesOverAt-answered (Means tables) answer by_name name opening.left (suc room) room refl bytes said) fault.cause refuted.below refuted.leads_on;
+              cause = refuted.cause;
+              shows = refuted.shows;
+              leads_on = leads_use tables answer opening.left (suc room) room name bytes refl said (GoesOverAt-answered (Means tables) answer by_name name opening.left (suc room) room refl bytes said) refuted.cause refuted.below refuted.leads_on;
             })
 
     -- what is found of a file

@@ -47,7 +47,7 @@ module _ (tables : Option PrefixTables) (answers : List ℕ → Option (List ℕ
           | inl no_map ↦ absurd (no_map layers resolves.only.holds)
           | inr over ↦ absurd (not_over budget salvages.0.left _ resolves.spent.leaves (over.all (resolves.spent.lengths, false) resolves.spent.opened.holds))
         ]
-        by (wrong fault more begins refuted) = (fault, more, begins, subst (λ names. IsFaultWithin tables answers budget 16 bytes names fault.cause) (sym refuted.named) refuted.leads_on)
+        by (wrong fault more begins refuted) = (fault, more, refuted.cause, begins, refuted.shows, subst (λ names. IsFaultWithin tables answers budget 16 bytes names refuted.cause) (sym refuted.named) refuted.leads_on)
 
 -- ---- how many layers there are
 module _ (tables : Option PrefixTables) (answers : List ℕ → Option (List ℕ) → Type 0) where

@@ -1,8 +1,9 @@
 -- Files over the files that they use, where some are at fault: each is read past its faults, and reading goes on after a use that gives no file.
-use Rattle.std.specs.Prelude.{◌≡◌, ℕ, zero, suc, Bool, true, false, List, [], ◌∷◌, ◌++◌, ◌⊎◌, length, map, Option, Some, None}
+use Rattle.std.specs.Prelude.{◌≡◌, ◌≤◌, ℕ, zero, suc, Bool, true, false, List, [], ◌∷◌, ◌++◌, ◌⊎◌, length, map, Option, Some, None}
 use Rattle.cmap_values.specs.Files.{File}
 use Rattle.cmap_values.specs.ListsAppended.{no_file}
 use Rattle.cmap_values.specs.Only.{IsOnly, HoldsOfNone}
+use Rattle.cmap_values.specs.declared.fault.Reason.TheVariants.{UnclosedString}
 use Rattle.cmap_values.specs.declared.fault.Stop.{Stop}
 use Rattle.cmap_binary.specs.BinaryFiles.{IsMarkedBinary}
 use Rattle.cmap_binary.specs.BinarySalvage.{SalvagesBinary}
@@ -83,6 +84,15 @@ module _ (tables : Option PrefixTables) (answer : List ℕ → Option (List ℕ)
       × SalvagesEach (SalvagesUse answer (Salvages most) most names) file.uses [] (record { left = rest; closed = opening.closed }) below
       × (found ≡ record { layers = layer_of file ∷ below.layers; faults = faults_of names causes ++ below.faults; after = below.after })
 
+-- ---- a refusal
+-- a string that isn't closed, where it begins or where that is seen
+abbrev pub unclosed_at : ℕ → Cause
+unclosed_at offset = Malformed (record { offset = offset; reason = UnclosedString })
+
+-- for this fault a file is refused, and this is the cause: the fault itself; but only the end of a text shows that a string isn't closed
+abbrev pub IsRefusedFor : Cause → Cause → Type 0
+IsRefusedFor fault cause = (cause ≡ fault) ⊎ ((start : ℕ) × (end : ℕ) × (start ≤ end) × (fault ≡ unclosed_at start) × (cause ≡ unclosed_at end))
+
 -- ---- a map
 module _ (tables : Option PrefixTables) (answers : List ℕ → Option (List ℕ) → Type 0) (bytes : List ℕ) (budget : Option ℕ) where
   -- what is read of a file over those that it uses
@@ -91,7 +101,7 @@ module _ (tables : Option PrefixTables) (answers : List ℕ → Option (List ℕ
 
   -- the first fault is one for which the file is refused
   abbrev pub BeginsWithFault : List NamedFault → Type 0
-  BeginsWithFault faults = (first : NamedFault) × (more : List NamedFault) × (faults ≡ first ∷ more) × LeadsToFault tables answers bytes budget first.names first.cause
+  BeginsWithFault faults = (first : NamedFault) × (more : List NamedFault) × (cause : Cause) × (faults ≡ first ∷ more) × IsRefusedFor first.cause cause × LeadsToFault tables answers bytes budget first.names cause
 
   -- of a file that has a map, for which the budget suffices, it is that map, and there is no fault
   abbrev pub GivesMap : List Layer → List NamedFault → Type 0

@@ -1,6 +1,6 @@
 -- What calls that read tokens answer.
 use Rattle.std.proofs.Common.{◌≡◌, refl, ◌∙◌, true, false}
-use Rattle.std.specs.Prelude.{Option, Some, None, Result, Ok, Err, IfErr, IsErrAnd, IsOkAnd, MatchResult, OnOk, option_map}
+use Rattle.std.specs.Prelude.{Option, Some, None, Result, Ok, Err, IfErr, IfOk, IsErrAnd, IsOkAnd, MatchResult, OnOk, option_map}
 use Rattle.std.specs.Option.{ok_or}
 use Rattle.std.proofs.lemmas.Iterator.Adapters.{option_map_id}
 use Rattle.cmap_tokens.specs.TokensLeft.{Left}
@@ -93,3 +93,7 @@ no_string (declared.Number number) other = (refl, refl)
 pub where_refused : {R : Type 0} (P : WrongToken → Type 0) (holds : Type 0) (e : Fault WrongToken) → RefusesWith P e → WhereRefused {A = R} holds (Err e) → RefusesWith (λ wrong. P wrong × holds) e
 where_refused P holds (fault.Refused wrong) refused stays = (refused, stays wrong refl)
 where_refused P holds fault.Memory refused stays = tt
+
+pub if_ok : {A E : Type 0} (r : Result A E) (P Q : A → Type 0) → ((x : A) → P x → Q x) → IfOk r P → IfOk r Q
+if_ok (Ok x) P Q gives holds = gives x holds
+if_ok (Err e) P Q gives holds = tt

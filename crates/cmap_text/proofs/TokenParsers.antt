@@ -32,7 +32,7 @@ pub length-words : (left : Left) → length (words left) ≡ length left.tokens
 length-words left = length-map left.tokens (λ (p : EndedToken). p.token)
 
 abbrev pub having : List EndedToken → Left → Left
-having tokens left = record { passed = left.passed; tokens = tokens; ends = left.ends; stop = left.stop }
+having tokens left = record { passed = left.passed; tokens = tokens; ends = left.ends; kind = left.kind; stop = left.stop }
 
 -- ---- what tokens begin with, and those after it
 abbrev pub Relation : Type 0 → Type 1

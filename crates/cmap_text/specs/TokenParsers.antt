@@ -1,9 +1,10 @@
 -- Parsers of tokens: what each finds in the tokens that are left of a text, or else which token is wrong and why.
 use Rattle.std.specs.Prelude.{ℕ, zero, suc, ◌+◌, Bool, true, false, List, [], ◌∷◌, length, Option, Some, None, Result, Ok, Err, option_map, ok_or, if◌then◌else◌}
+use Rattle.cmap_tokens.specs.Malformed.{Malformed, unclosed_text, unclosed_hexadecimal, wrong_digit, stray}
 use Rattle.cmap_tokens.specs.Tokens.{Token}
 use Rattle.cmap_tokens.specs.TokensLeft.{EndedToken, Left}
 use Rattle.cmap_values.specs.declared.fault.Reason.{Reason}
-use Rattle.cmap_values.specs.declared.fault.Reason.TheVariants.{EndWithinSection, MalformedToken}
+use Rattle.cmap_values.specs.declared.fault.Reason.TheVariants.{EndWithinSection, StrayDelimiter, UnclosedString, WrongDigit}
 
 -- ---- what is found
 -- why nothing is found
@@ -41,19 +42,26 @@ or_wrong reason found t left = ok_or (option_map (λ x. (x, left)) found) (wrong
 
 -- what is left after this token, before those
 abbrev pub after : EndedToken → List EndedToken → Left → Left
-after p rest left = record { passed = p.end; tokens = rest; ends = left.ends; stop = left.stop }
+after p rest left = record { passed = p.end; tokens = rest; ends = left.ends; kind = left.kind; stop = left.stop }
+
+-- why no token comes
+abbrev pub malformed_reason : Malformed → Reason
+malformed_reason unclosed_text = UnclosedString
+malformed_reason unclosed_hexadecimal = UnclosedString
+malformed_reason wrong_digit = WrongDigit
+malformed_reason stray = StrayDelimiter
 
 -- the next token
 abbrev pub token_in : Left → Found Token
 token_in left = elim left.tokens [
-  | [] ↦ Err (missing (if left.ends then EndWithinSection else MalformedToken) left)
+  | [] ↦ Err (missing (if left.ends then EndWithinSection else malformed_reason left.kind) left)
   | p ∷ rest ↦ Ok (p.token, after p rest left)
 ]
 
 -- the next token, or none where the text ends
 abbrev pub next_in : Left → Found (Option Token)
 next_in left = elim left.tokens [
-  | [] ↦ if left.ends then Ok (None, left) else Err (missing MalformedToken left)
+  | [] ↦ if left.ends then Ok (None, left) else Err (missing (malformed_reason left.kind) left)
   | p ∷ rest ↦ Ok (Some p.token, after p rest left)
 ]
 

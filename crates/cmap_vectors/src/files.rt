@@ -1,6 +1,6 @@
 //! CMap files over other files, and bundles.
 
-use crate::bytes::{asked, number, unescaped};
+use crate::bytes::{asked, number, split_word, unescaped};
 use crate::line::Line;
 use crate::maps;
 use crate::row::Row;
@@ -97,7 +97,9 @@ impl<'r> Around<'r> {
             "asked" => self.push_asked(alloc, file, line)?,
             "cause" => self.push_cause(alloc, file, line)?,
             "uses" => self.push_uses(alloc, file, line)?,
+            "faults" => self.push_faults(alloc, file, line)?,
             "least" => return self.push_least_budget(alloc, file, rest, line),
+            "salvaged" => return self.push_of_salvaged(alloc, file, rest, line),
             _ => return self.push_of_map(alloc, file, word, rest, line),
         }
         Ok(())
@@ -179,6 +181,35 @@ impl<'r> Around<'r> {
             Err(Fault::Memory) => return Err(AllocError),
         }
         Ok(())
+    }
+
+    /// Adds the faults of a file that is read past them, each as `push_cause` does.
+    fn push_faults(&self, alloc: Global, file: &[u8], line: &mut Line) -> Result<(), AllocError> {
+        let files = NamedFiles::alone(self.bases.as_slice());
+        let read = CMap::salvage(alloc, self.budget, file, self.bundle.as_ref(), &files)?;
+        if read.faults.is_empty() {
+            line.push(" none");
+        }
+        for (i, fault) in read.faults.iter().enumerate() {
+            line.push(if i > 0 { " /" } else { "" });
+            push_refusal(fault, line);
+        }
+        Ok(())
+    }
+
+    /// Adds what the rest of a line asks of the map that a file gives past its faults.
+    fn push_of_salvaged(
+        &self,
+        alloc: Global,
+        file: &[u8],
+        rest: &str,
+        line: &mut Line,
+    ) -> Result<(), RowError> {
+        let (word, rest) = split_word(rest);
+        let files = NamedFiles::alone(self.bases.as_slice());
+        let read = CMap::salvage(alloc, self.budget, file, self.bundle.as_ref(), &files)?;
+        write!(line, " {word}");
+        maps::push_answer_alone(alloc, &read.map, word, rest, line)
     }
 
     /// Adds the names of the files that a file uses. None of them is asked for.

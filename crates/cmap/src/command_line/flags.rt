@@ -58,15 +58,7 @@ impl Flag {
 
 /// The values of an option or an argument with this id.
 pub(crate) fn values_of<'m, 'w>(arguments: &'m ArgMatches<'w>, id: &str) -> &'m [&'w str] {
-    given(arguments.get_strs(id))
-}
-
-/// The values that are given, or none.
-fn given<'m, T>(values: Option<&'m [T]>) -> &'m [T] {
-    match values {
-        Some(values) => values,
-        None => &[],
-    }
+    arguments.get_strs(id).unwrap_or(&[])
 }
 
 impl Value {
