@@ -13,7 +13,7 @@ use Rattle.cmap_values.specs.declared.fault.Reason.{Reason}
 use Rattle.cmap_values.specs.declared.fault.Reason.TheVariants.{BracketExpected, TextExpected, UnequalLengths}
 use Rattle.cmap_text.specs.TextFiles.{CidKind, Extent, Section, bf_char, bf_range, cids, closer, codespace_range, declares_cid}
 use Rattle.cmap_text.specs.TextReading.{adding, cids_after, Code, code_fault, code_in, code_or_closer, codespace, codespace_fault, codespace_to, destination_in, entry_after, is_executable, list_in, list_or_destination, next_code, next_destination, text_of, texts_from}
-use Rattle.cmap_text.specs.TokenParsers.{Found, followed_by, listed, or_wrong, Refused, run, token_in, wrong}
+use Rattle.cmap_text.specs.TokenParsers.{Found, followed_by, or_wrong, Refused, run, token_in, wrong}
 use Rattle.cmap_text.proofs.TokenParsers.{err-ok, same_Err, same_Ok}
 
 -- a token that is wrong is so whatever is made of a right one, and a right one is what it is read as
@@ -30,7 +30,7 @@ module _ (start end : ℕ) (lists : Lists) (t : Token) (next : Left) where
   abbrev pub texts : Found Lists
   texts = followed_by (λ found. run (texts_from start end lists found)) (or_wrong TextExpected (list_or_destination t) t next)
 
-  pub texts_list : true ≡ is_executable (codes "[") t → texts ≡ run (listed (list_in (end + 1 - start) start lists)) next
+  pub texts_list : true ≡ is_executable (codes "[") t → texts ≡ run (list_in (end + 1 - start) start lists) next
   texts_list opens = rw (← opens) refl
 
   module _ (other : false ≡ is_executable (codes "[") t) where

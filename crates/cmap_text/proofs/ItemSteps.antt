@@ -40,7 +40,7 @@ module _ (old : Said) (t : Token) (left : Left) (head : Option (List ℕ)) (head
         let none : head ≡ None = head_is ∙ ap (λ u. literal_head (other u)) (is_executable-found use_word t (sym is)) in
         ap (λ i. run_item t i left) (used is) ∙ rw (operand, none, added) refl
 
-    pub use_wrong : true ≡ is_executable use_word t → old.operand ≡ None → item_said old t left ≡ Err (record { token = Some t; reason = UseWithoutName; in_list = false; left = left })
+    pub use_wrong : true ≡ is_executable use_word t → old.operand ≡ None → item_said old t left ≡ Err (record { token = Some t; reason = UseWithoutName; left = left })
     use_wrong is operand = ap (λ i. run_item t i left) (used is) ∙ rw operand refl
 
     -- ---- what is no use
@@ -57,7 +57,7 @@ module _ (old : Said) (t : Token) (left : Left) (head : Option (List ℕ)) (head
 -- what a use adds, or why it is refused
 pub use_ends : (old : Said) (first : declared.Token) (left : Left) (head : Option (List ℕ)) (operand : Option (Bor (List ℕ))) (before after : List (Bor (List ℕ))) (r : Result (Unit {0}) (Fault WrongToken)) → head ≡ literal_head (other (token_seen first)) → None ≡ opened_by (token_seen first) → true ≡ is_executable use_word (token_seen first)
     → old.operand ≡ option_copied operand → old.uses ≡ names_seen before
-    → OnOk r ((name : Bor (List ℕ)) × (operand ≡ Some name) × (after ≡ before ++ name ∷ [])) → IfErr r (RefusesWith (λ (wrong : WrongToken). (option_copied operand ≡ None) × (wrong ≡ record { is_token = true; reason = UseWithoutName; in_list = false })))
+    → OnOk r ((name : Bor (List ℕ)) × (operand ≡ Some name) × (after ≡ before ++ name ∷ [])) → IfErr r (RefusesWith (λ (wrong : WrongToken). (option_copied operand ≡ None) × (wrong ≡ record { is_token = true; reason = UseWithoutName })))
     → Outcome (λ done. item_said old (token_seen first) left ≡ Ok (record { values = old.values; lists = old.lists; uses = names_seen after; operand = head }, left)) (RefusesAt left (item_said old (token_seen first) left)) r
 use_ends old first left head operand before after (Ok added_one) head_is no_section is operand_is uses_are (name, same, adds) refused =
     (use_said old (token_seen first) left head head_is no_section name.now (names_seen after) is (operand_is ∙ ap option_copied same) (ap names_seen adds ∙ map-append (λ (n : Bor (List ℕ)). n.now) before (name ∷ []) ∙ ap (λ u. u ++ name.now ∷ []) (sym uses_are)), tt)

@@ -27,7 +27,7 @@ found_in test (y ∷ xs) x is =
     ]
 
 -- ---- sections, keys and other tokens by themselves
-opened_by-own : (section : Section) → opened_by (opening section) ≡ Some section
+pub opened_by-own : (section : Section) → opened_by (opening section) ≡ Some section
 opened_by-own (cids mapped range) = refl
 opened_by-own (cids notdef range) = refl
 opened_by-own _ = refl
@@ -122,7 +122,7 @@ MeansItem ends (wanted reason found) tokens x rest = (found ≡ Some x) × (toke
 MeansItem ends (takes_value set) tokens x rest = (value : Option Token) × IsNext ends tokens value rest × (x ≡ set value)
 
 abbrev ending : Bool → Left → Left
-ending ends left = record { passed = left.passed; tokens = left.tokens; ends = ends; stop = left.stop }
+ending ends left = record { passed = left.passed; tokens = left.tokens; ends = ends; kind = left.kind; stop = left.stop }
 
 next_there : (left : Left) (p : Option Token × Left) → next_in left ≡ Ok p → IsThere (IsNext left.ends) left p
 next_there left p is = at left.tokens left.ends is
@@ -181,6 +181,37 @@ is_begun old tokens new rest (entries declared, (section, body, each, shape, are
     (_, opens section, _, shape, (adding old.lists (flat_map (λ ds. ds) each), (length each, entries_found section each old.lists body rest are), sym (same_Some _ new said) ∙ ap (λ ds. with_lists old (adding old.lists ds)) declares))
 is_begun old tokens new rest (use_of_base, shape, said) = (_, uses, _, shape, (said, refl))
 is_begun old tokens new rest (other t, (plain, shape), said) = (_, alone t plain, _, shape, (same_Some _ new said, refl))
+
+-- ---- an item by itself
+begun_now : (ends : Bool) (old : Said) (tokens : List Token) (new : Said) (rest : List Token) (item : Item) → IsItem tokens item rest → says old item ≡ Some new → ((k : List ℕ) × (item ≡ key k None)) ⊎ IsBegun ends old tokens new rest
+begun_now ends old tokens new rest (key k None) is said = inl (k, refl)
+begun_now ends old tokens new rest (key k (Some value)) (contained, shape) said = inr (_, takes k contained, _, shape, (Some value, refl, sym (same_Some _ new said)))
+begun_now ends old tokens new rest (entries declared) (section, body, each, shape, are, declares) said =
+    inr (_, opens section, _, shape, (adding old.lists (flat_map (λ ds. ds) each), (length each, entries_found section each old.lists body rest are), sym (same_Some _ new said) ∙ ap (λ ds. with_lists old (adding old.lists ds)) declares))
+begun_now ends old tokens new rest use_of_base shape said = inr (_, uses, _, shape, (said, refl))
+begun_now ends old tokens new rest (other t) (plain, shape) said = inr (_, alone t plain, _, shape, (same_Some _ new said, refl))
+
+-- what follows its first token is read, whether the text ends after all tokens or not, unless it is a key without a value
+pub one_found : (item : Item) (old : Said) (p : EndedToken) (others : List EndedToken) (left : Left) (new : Said) (rest : List Token) → IsItem (p.token ∷ words (after p others left)) item rest → says old item ≡ Some new
+    → ((k : List ℕ) × (item ≡ key k None)) ⊎ IsFound (item_said old p.token (after p others left)) new rest (after p others left)
+one_found item old p others left new rest is said = by (begun_now left.ends old (p.token ∷ words (after p others left)) new rest item is said)
+  where
+    next : Left
+    next = after p others left
+
+    by : ((k : List ℕ) × (item ≡ key k None)) ⊎ IsBegun left.ends old (p.token ∷ words next) new rest → ((k : List ℕ) × (item ≡ key k None)) ⊎ IsFound (item_said old p.token next) new rest next
+    by (inl none) = inl none
+    by (inr (t, kind, later, shape, means)) =
+        let token : t ≡ p.token = cc in
+        let whole : words next ≡ later = cc in
+        inr (subst (λ u. IsFound (item_said old u next) new rest next) token (item_found t (item_after old t) next later new rest whole (rw (item_as old kind) means)))
+
+pub no_item : (item : Item) (rest : List Token) → IsItem [] item rest → ⊥
+no_item (key k None) rest (contained, shape, end) = cc
+no_item (key k (Some value)) rest (contained, shape) = cc
+no_item (entries declared) rest (section, body, each, shape, are, declares) = cc
+no_item use_of_base rest shape = cc
+no_item (other t) rest (plain, shape) = cc
 
 -- the items that say this
 abbrev Say : Said → Left → Said → Type 0

@@ -11,12 +11,11 @@ pub mod UnitsRead
 pub mod ValuesRead
 pub mod Local
 mod TextsAdded
-mod Moves
-mod LastRead
-mod PartsRead
-mod Faulted
-mod PartSteps
-mod PartsDeclare
-mod WholeRead
 mod Stops
+mod FaultsAdded
+mod FaultPlaces
+mod ListsKept
+mod WholeRead
+mod FrontsKept
 pub mod TextFaults
+mod Declared

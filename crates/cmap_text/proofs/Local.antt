@@ -9,9 +9,9 @@ use Rattle.cmap_tokens.proofs.Fronts.{has_tokens}
 use Rattle.cmap_tokens.specs.TokensLeft.{EndedToken, Left, AreInOrder, EndInOrder, Agree, AgreesTo, start_of, tokens_of}
 use Rattle.cmap_values.specs.Only.{HoldsOfNone}
 use Rattle.cmap_values.specs.declared.fault.Reason.{Reason}
-use Rattle.cmap_values.specs.declared.fault.Reason.TheVariants.{EndWithinSection, MalformedToken}
+use Rattle.cmap_values.specs.declared.fault.Reason.TheVariants.{EndWithinSection}
 use Rattle.cmap_text.specs.TextFiles.{IsTextFile}
-use Rattle.cmap_text.specs.TokenParsers.{Found, Refused, missing, offset_of, after, followed_by, head_in, listed_so, next_in, or_wrong, token_in, Parser, done, head, giving, chain, repeat, listed, round, run, ItemParser, reads, takes_value, wanted, run_item}
+use Rattle.cmap_text.specs.TokenParsers.{Found, Refused, missing, offset_of, after, followed_by, head_in, malformed_reason, next_in, or_wrong, token_in, Parser, done, head, giving, chain, repeat, round, run, ItemParser, reads, takes_value, wanted, run_item}
 use Rattle.cmap_text.specs.TextReading.{all_said, item_after, item_said, nothing_said, Said}
 use Rattle.cmap_text.proofs.TokenParsers.{having, head-shorter, is_there, repeat_next}
 use Rattle.cmap_text.proofs.ItemsRead.{item-shorter, next-shorter, said_next}
@@ -33,10 +33,10 @@ module _ (k : ℕ) where
   Refuses found = (e : Refused) × (found ≡ Err e)
 
   no_token : (left : Left) → left.tokens ≡ [] → Refuses (token_in left)
-  no_token left none = (missing (if left.ends then EndWithinSection else MalformedToken) left, rw none refl)
+  no_token left none = (missing (if left.ends then EndWithinSection else malformed_reason left.kind) left, rw none refl)
 
   no_next : (left : Left) → left.tokens ≡ [] → left.ends ≡ false → Refuses (next_in left)
-  no_next left none not = (missing MalformedToken left, rw (none, not) refl)
+  no_next left none not = (missing (malformed_reason left.kind) left, rw (none, not) refl)
 
   -- what is found in the one and in the other; of what is left after it only if that matters
   abbrev Agrees : {A : Type 0} → Bool → Left → Found A → Found A → Type 0
@@ -72,15 +72,11 @@ module _ (k : ℕ) where
   wrong_local reason None t left other (order, agrees) = (omega arith, λ within. (_, refl))
   wrong_local reason (Some x) t left other alike = done_local x left other alike
 
-  listed_local : {A : Type 0} (left : Left) (found other : Found A) → Agrees true left found other → Agrees true left (listed_so found) (listed_so other)
-  listed_local left (Err e) other (less, same) = (less, λ within. let (d, is) = same within in (_, ap listed_so is))
-  listed_local left (Ok p) other (less, order, same) = (less, order, λ within. let (next, is, agrees) = same within in (next, ap listed_so is, agrees))
-
   token_local : IsLocal token_in
   token_local left other (order, agrees) = at left.tokens order (λ within. (agrees within).1)
     where
       at : (tokens : List EndedToken) → AreInOrder left.passed tokens left.stop → (left.passed ≤ k → Agree k tokens left other.tokens other) → Agrees true left (token_in (having tokens left)) (token_in other)
-      at [] o a = (o, λ within. let (ends, none, also, same) = a (omega (arith, o, within)) within in no_token other none)
+      at [] o a = (o, λ within. let (ends, none, also, kind, same) = a (omega (arith, o, within)) within in no_token other none)
       at (p ∷ rest) o a = (o.0, o.1, λ within. let (others, begins, more) = a (omega (arith, o.0, within)) within in (after p others other, rw begins refl, (refl, agree_after p rest others left other rest others more)))
 
   head_local : {A : Type 0} (fault : Token → Reason) (read : Token → Option A) → IsLocal (head_in fault read)
@@ -110,7 +106,6 @@ module _ (k : ℕ) where
   run_local (head fault read) = head_local fault read
   run_local (giving f parser) = then_local (λ x next. Ok (f x, next)) (run parser) (run_local parser) (λ x. done_local (f x))
   run_local (chain first more) = then_local (λ x. run (more x)) (run first) (run_local first) (λ x. run_local (more x))
-  run_local (listed parser) = λ left other alike. listed_local left (run parser left) (run parser other) (run_local parser left other alike)
   run_local (repeat fault begins more start) = λ left other. rounds_local fault begins more (λ now x. run_local (more now x)) (1 + length left.tokens) start left other (omega arith)
 
   -- ---- items
@@ -118,14 +113,14 @@ module _ (k : ℕ) where
   next_local : (left other : Left) → Alike left other → (next_in left ≡ Ok (None, left)) ⊎ Agrees true left (next_in left) (next_in other)
   next_local left other (order, agrees) = at left.tokens left.ends order (λ within. (agrees within).1)
     where
-      at : (tokens : List EndedToken) (ends : Bool) → AreInOrder left.passed tokens left.stop → let l : Left = record { passed = left.passed; tokens = tokens; ends = ends; stop = left.stop } in (left.passed ≤ k → Agree k tokens l other.tokens other)
+      at : (tokens : List EndedToken) (ends : Bool) → AreInOrder left.passed tokens left.stop → let l : Left = record { passed = left.passed; tokens = tokens; ends = ends; kind = left.kind; stop = left.stop } in (left.passed ≤ k → Agree k tokens l other.tokens other)
           → (next_in l ≡ Ok (None, l)) ⊎ Agrees true left (next_in l) (next_in other)
       at [] true o a = inl refl
-      at [] false o a = inr (o, λ within. let (ends, none, also, same) = a (omega (arith, o, within)) within in no_next other none also)
+      at [] false o a = inr (o, λ within. let (ends, none, also, kind, same) = a (omega (arith, o, within)) within in no_next other none also)
       at (p ∷ rest) ends o a = inr (
         o.0,
         o.1,
-        λ within. let (others, begins, more) = a (omega (arith, o.0, within)) within in (after p others other, rw begins refl, (refl, agree_after p rest others (record { passed = left.passed; tokens = p ∷ rest; ends = ends; stop = left.stop }) other rest others more)),
+        λ within. let (others, begins, more) = a (omega (arith, o.0, within)) within in (after p others other, rw begins refl, (refl, agree_after p rest others (record { passed = left.passed; tokens = p ∷ rest; ends = ends; kind = left.kind; stop = left.stop }) other rest others more)),
       )
 
   -- at the end all is said

@@ -1,6 +1,6 @@
 -- What calls that read tokens answer.
 use Rattle.std.proofs.Common.{◌≡◌, refl, ◌∙◌, true, false}
-use Rattle.std.specs.Prelude.{Option, Some, None, Result, Ok, Err, IfErr, IsErrAnd, IsOkAnd, MatchResult, OnOk, option_map}
+use Rattle.std.specs.Prelude.{Option, Some, None, Result, Ok, Err, IfErr, IfOk, IsErrAnd, IsOkAnd, MatchResult, OnOk, option_map}
 use Rattle.std.specs.Option.{ok_or}
 use Rattle.std.proofs.lemmas.Iterator.Adapters.{option_map_id}
 use Rattle.cmap_tokens.specs.TokensLeft.{Left}
@@ -74,13 +74,13 @@ none_refused (Err e) holds is wrong same = absurd (cc)
 
 -- what is found in an option, or a refusal of the token in its place
 pub given : {A B : Type 0} (seen : A → B) (o : Option A) (found : Option B) (old new : Left) (reason : Reason) (token : Token) → option_map seen o ≡ found → old ≡ new
-    → Outcome (λ x. or_wrong reason found token old ≡ Ok (seen x, new)) (RefusesAt new (or_wrong reason found token old)) (ok_or o (fault.Refused (record { is_token = true; reason = reason; in_list = false })))
+    → Outcome (λ x. or_wrong reason found token old ≡ Ok (seen x, new)) (RefusesAt new (or_wrong reason found token old)) (ok_or o (fault.Refused (record { is_token = true; reason = reason })))
 given seen None found old new reason token is same = (tt, (Some token, rw (← is, same) refl, refl))
 given seen (Some x) found old new reason token is same = (rw (← is, same) refl, tt)
 
 -- the same, where what is found is seen as it is
 pub given_so : {A : Type 0} (o found : Option A) (here : Left) (reason : Reason) (token : Token) → o ≡ found
-    → Outcome (λ x. or_wrong reason found token here ≡ Ok (x, here)) (RefusesAt here (or_wrong reason found token here)) (ok_or o (fault.Refused (record { is_token = true; reason = reason; in_list = false })))
+    → Outcome (λ x. or_wrong reason found token here ≡ Ok (x, here)) (RefusesAt here (or_wrong reason found token here)) (ok_or o (fault.Refused (record { is_token = true; reason = reason })))
 given_so o found here reason token is = given (λ x. x) o found here here reason token (option_map_id o ∙ is) refl
 
 -- a token that is no string is no code and no destination
@@ -93,3 +93,7 @@ no_string (declared.Number number) other = (refl, refl)
 pub where_refused : {R : Type 0} (P : WrongToken → Type 0) (holds : Type 0) (e : Fault WrongToken) → RefusesWith P e → WhereRefused {A = R} holds (Err e) → RefusesWith (λ wrong. P wrong × holds) e
 where_refused P holds (fault.Refused wrong) refused stays = (refused, stays wrong refl)
 where_refused P holds fault.Memory refused stays = tt
+
+pub if_ok : {A E : Type 0} (r : Result A E) (P Q : A → Type 0) → ((x : A) → P x → Q x) → IfOk r P → IfOk r Q
+if_ok (Ok x) P Q gives holds = gives x holds
+if_ok (Err e) P Q gives holds = tt

@@ -5,7 +5,7 @@ use Rattle.std.specs.Prelude.{map, Option, Some, None, Result, Ok, Err}
 use Rattle.cmap_tokens.specs.Tokens.{Token}
 use Rattle.cmap_tokens.specs.TokensLeft.{EndedToken, Left}
 use Rattle.cmap_values.specs.declared.fault.Reason.{Reason}
-use Rattle.cmap_text.specs.TokenParsers.{Found, after, followed_by, head_in, in_a_list, listed_so, or_wrong, Parser, done, head, giving, chain, repeat, listed, repeated, repeated_within, round, run}
+use Rattle.cmap_text.specs.TokenParsers.{Found, after, followed_by, head_in, or_wrong, Parser, done, head, giving, chain, repeat, repeated, repeated_within, round, run}
 
 pub err-ok : {A E : Type 0} (e : E) (x : A) → ◌≡◌ {A = Result A E} (Err e) (Ok x) → ⊥
 err-ok e x is = cc
@@ -20,10 +20,6 @@ pub bound : {A B : Type 0} (more : A → Left → Found B) (found : Found A) (y 
 bound more (Err e) y is = absurd (err-ok e y is)
 bound more (Ok p) y is = (p, refl, is)
 
-pub listed_ok : {A : Type 0} (found : Found A) (p : A × Left) → listed_so found ≡ Ok p → found ≡ Ok p
-listed_ok (Err e) p is = absurd (err-ok (in_a_list e) p is)
-listed_ok (Ok q) p is = is
-
 -- the tokens that are left
 abbrev pub words : Left → List Token
 words left = map (λ p. p.token) left.tokens
@@ -32,7 +28,7 @@ pub length-words : (left : Left) → length (words left) ≡ length left.tokens
 length-words left = length-map left.tokens (λ (p : EndedToken). p.token)
 
 abbrev pub having : List EndedToken → Left → Left
-having tokens left = record { passed = left.passed; tokens = tokens; ends = left.ends; stop = left.stop }
+having tokens left = record { passed = left.passed; tokens = tokens; ends = left.ends; kind = left.kind; stop = left.stop }
 
 -- ---- what tokens begin with, and those after it
 abbrev pub Relation : Type 0 → Type 1
@@ -51,7 +47,6 @@ Means (done y) tokens x rest = (y ≡ x) × (tokens ≡ rest)
 Means (head fault read) tokens x rest = (t : Token) × (tokens ≡ t ∷ rest) × (read t ≡ Some x)
 Means (giving f parser) tokens y rest = (x : _) × Means parser tokens x rest × (y ≡ f x)
 Means (chain first more) tokens y rest = (x : _) × (mid : List Token) × Means first tokens x mid × Means (more x) mid y rest
-Means (listed parser) tokens x rest = Means parser tokens x rest
 Means (repeat fault begins more start) tokens new rest = (n : ℕ) × Rounds begins (λ now x. Means (more now x)) n start tokens new rest
 
 -- ---- what is found is there
@@ -111,7 +106,6 @@ is_there (chain first more) left p is =
     let (first_is, first_ends, first_fewer) = is_there first left q goes_on in
     let (more_is, more_ends, more_fewer) = is_there (more q.0) q.1 p later in
     ((q.0, words q.1, first_is, more_is), more_ends ∙ first_ends, omega (arith, first_fewer, more_fewer))
-is_there (listed parser) left p is = is_there parser left p (listed_ok (run parser left) p is)
 is_there (repeat fault begins more start) left p is = rounds_there fault begins (λ now x. run (more now x)) (λ now x. Means (more now x)) (λ now x. is_there (more now x)) _ start left p is
 
 pub head-shorter : {A : Type 0} (fault : Token → Reason) (read : Token → Option A) (left : Left) (p : A × Left) → head_in fault read left ≡ Ok p → length p.1.tokens < length left.tokens
@@ -174,9 +168,6 @@ head_found fault read {x} tokens rest left at_left (t, whole, gives) = at left.t
         let token : q.token ≡ t = cc in
         record { next = after q others left; is = rw (token, gives) refl; whole = cc; ends = refl }
 
-listed_found : {A : Type 0} {found : Found A} {x : A} {rest : List Token} {left : Left} → IsFound found x rest left → IsFound (listed_so found) x rest left
-listed_found is = record { next = is.next; is = ap listed_so is.is; whole = is.whole; ends = is.ends }
-
 -- what finds all that is there
 abbrev FindsAll : {A : Type 0} → Parser A → Type 0
 FindsAll r = Implies (Means r) (λ tokens x rest. (left : Left) → words left ≡ tokens → IsFound (run r left) x rest left)
@@ -197,5 +188,4 @@ is_found (done x) tokens y rest (is, whole) left at = known is (at ∙ whole)
 is_found (head fault read) tokens x rest means left at = head_found fault read tokens rest left at means
 is_found (giving f parser) tokens y rest (x, is, same) left at = then_found (λ z next. Ok (f z, next)) (is_found parser tokens x rest is left at) (λ next. known (sym same))
 is_found (chain first more) tokens y rest (x, mid, first_is, more_is) left at = then_found (λ z. run (more z)) (is_found first tokens x mid first_is left at) (is_found (more x) mid y rest more_is)
-is_found (listed parser) tokens x rest means left at = listed_found (is_found parser tokens x rest means left at)
 is_found (repeat fault begins more start) tokens new rest (n, rounds) left at = rounds_found fault begins more (λ now x. is_found (more now x)) n start tokens new rest left at rounds

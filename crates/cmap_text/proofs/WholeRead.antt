@@ -1,266 +1,540 @@
--- A text that is read past its faults is read as without: where there is none it says the same, and the first is the one that refuses it.
-use Rattle.std.proofs.Common.{◌≡◌, ℕ, zero, suc, ◌+◌, ◌<◌, Bool, true, false, refl, sym, ap, ◌∙◌, subst, List, [], ◌∷◌, ◌++◌, length, arith, inl, inr, ◌-◌, append-nil, append_assoc}
-use Rattle.std.proofs.lemmas.Bool.{cases_lt}
-use Rattle.std.specs.Prelude.{codes, Option, Some, None, Ok, Err}
+-- A text that is read past its faults is read as without: where there is none it says the same, and the first is the one for which it is refused.
+use Rattle.std.proofs.Common.{◌≡◌, ◌∙◌, ℕ, zero, suc, ◌+◌, ◌-◌, ◌<◌, Bool, true, false, List, [], ◌∷◌, ◌++◌, length, ap, refl, sym, subst, arith, inl, inr}
+use Rattle.std.specs.Prelude.{◌&&◌, ◌||◌, nat_le, not, bytes_eq, codes, Option, Some, None, Ok, Err, option_map, is_some, if◌then◌else◌}
+use Rattle.std.specs.List.{list_any}
+use Rattle.std.proofs.Math.Bool.{or-false}
+use Rattle.std.proofs.lemmas.Bool.{cases_Bool, cond-false, cond-true, false≢true, le-leb, lt-leb}
+use Rattle.cmap_tokens.specs.Malformed.{Malformed, stray, unclosed_hexadecimal, unclosed_text, wrong_digit}
+use Rattle.cmap_tokens.specs.Pieces.{Piece, Wrong, pieces_left}
 use Rattle.cmap_tokens.specs.Tokens.{Token}
-use Rattle.cmap_tokens.specs.TokensLeft.{HasTokens, Left, start_of, tokens_of}
-use Rattle.cmap_values.specs.Files.{File, FileMetadata, Lists}
-use Rattle.cmap_values.specs.Only.{IsOnly, HoldsOfNone}
+use Rattle.cmap_tokens.specs.TokensLeft.{EndedToken, Left, start_of, tokens_of}
+use Rattle.cmap_tokens.proofs.PiecesTokens.{Cut, CutSo, IsAt, pieces_cut}
+use Rattle.cmap_values.specs.Files.{Declaration, Lists}
+use Rattle.cmap_values.specs.declared.fault.Reason.{Reason}
+use Rattle.cmap_values.specs.declared.fault.Reason.TheVariants.{BracketExpected, CidExpected, EndWithinSection, TextExpected, UnequalLengths, UseWithoutName}
 use Rattle.cmap_values.specs.declared.fault.Stop.{Stop}
-use Rattle.cmap_text.specs.TextFiles.{Section, IsMetadata, IsTextFile}
-use Rattle.cmap_text.specs.TextReading.{all_said, body_in, Code, code_fault, code_or_closer, entry_after, is_executable, item_after, item_said, nothing_said, opened_by, Said, with_lists, with_other}
-use Rattle.cmap_text.specs.TokenParsers.{Found, Refused, followed_by, head_in, next_in, or_wrong, round, run, token_in}
-use Rattle.cmap_text.specs.Salvage.{Next, item, rest_of, entry, list_of, nothing, Part, faulted, after_rest, after_item, after_entry, after_list, having_lists, is_word, read_so, step, step_from, stop_of, parts, Salvages, BeginsRefused}
+use Rattle.cmap_text.specs.TextFiles.{Section, bf_char, bf_range, cids, closer, codespace_range, opener, declares_cid, range, single, use_word}
+use Rattle.cmap_text.specs.TextReading.{Code, Said, adding, all_said, body_in, cid_in, code_fault, code_in, code_or_closer, codespace, codespace_fault, codespace_to, destination_in, entry_after, filed, is_executable, item_after, item_said, key_in, cids_after, list_in, list_or_destination, next_cid, next_code, next_destination, nothing_said, opened_by, text_of, with_key, with_lists, with_other, with_use}
+use Rattle.cmap_text.specs.TextReading.{texts_from as texts_from_code}
+use Rattle.cmap_text.specs.TokenParsers.{Found, Refused, after, chain, followed_by, giving, head, head_in, malformed_reason, missing, next_in, offset_of, or_wrong, round, run}
+use Rattle.cmap_text.specs.Salvage.{Class, Entry, Filled, begin_item, nothing_salvaged, saying, take_use, take_value, value, Salvaged, State, Texts, alone, class_of, class_of_malformed, class_of_name, class_of_token, close_bracket, entry_fault, fault_of, known, known_words, lone_brackets, no_text, open_bracket, part, past_texts, take_after_texts, take_in_list, take_text, text_in, fill, fill_high, finished, having_lists, in_entry, in_list, is_closer, item, list_begun, new_entry, no_parts, one, own_fault, refused_at, take_all, take_in_entry, take_part, two, with_fault, with_parts, with_piece}
+use Rattle.cmap_text.specs.Salvage as salvage
 use Rattle.cmap_text.proofs.EntriesRead.{body_next}
-use Rattle.cmap_text.proofs.ItemsRead.{item-shorter, next-shorter, said_next}
-use Rattle.cmap_text.proofs.PartsRead.{at_next}
-use Rattle.cmap_text.proofs.TextRead.{no_file, text_file}
+use Rattle.cmap_text.proofs.ItemsRead.{item-shorter, key_in-found, next-shorter, opened_by-found, said_next}
 use Rattle.cmap_text.proofs.TokenParsers.{head-shorter, is_there}
+use Rattle.cmap_text.proofs.TokensRead.{is_executable-found}
+use Rattle.cmap_text.proofs.FaultsAdded.{Adds, adds_none, adds_on, fault_first, no_text_adds, past_adds, rest_adds}
 
--- ---- parts one after another
-abbrev pub Reaches : List ℕ → Part → Part → Type 0
-Reaches text part later = (n : ℕ) × (parts text n part ≡ later)
+-- ---- a fault is the one for which a text is refused
+module _ (len : ℕ) where
+  pub record IsFaultOf (e : Refused) (fault : Stop) : Type 0 where
+    pub reason : fault.reason ≡ e.reason
+    pub offset : refused_at len fault.reason fault.offset ≡ offset_of e
 
-pub reaches_none : (text : List ℕ) (part : Part) → Reaches text part part
-unfolding parts
-reaches_none text part = (zero, refl)
+  -- it is the first
+  pub record Stops (e : Refused) (found : Salvaged) : Type 0 where
+    pub fault : Stop
+    pub more : List Stop
+    pub is : found.faults ≡ fault ∷ more
+    pub of : IsFaultOf e fault
 
-pub reaches_more : (text : List ℕ) (part mid later : Part) → Reaches text part mid → step text mid ≡ later → Reaches text part later
-unfolding parts
-reaches_more text part mid later (n, is) next = (suc n, ap (step text) is ∙ next)
+  stops_by : (e : Refused) (old new : Salvaged) (fault : Stop) → old.faults ≡ [] → Adds (with_fault old fault) new → IsFaultOf e fault → Stops e new
+  stops_by e old new fault none adds of = record { fault = fault; more = adds.more; is = adds.is ∙ ap (λ fs. (fs ++ fault ∷ []) ++ adds.more) none; of = of }
 
-module _ (text : List ℕ) where
-  first_part : (n : ℕ) (p : Part) → parts text n (step text p) ≡ parts text (suc n) p
-  unfolding parts
-  first_part zero p = refl
-  first_part (suc n) p = ap (step text) (first_part n p)
+  same_stops : {e d : Refused} {found : Salvaged} → Stops e found → e.reason ≡ d.reason → offset_of e ≡ offset_of d → Stops d found
+  same_stops stops reason offset = record { fault = stops.fault; more = stops.more; is = stops.is; of = record { reason = stops.of.reason ∙ reason; offset = stops.of.offset ∙ offset } }
 
-  reaches_first : (p mid later : Part) → step text p ≡ mid → Reaches text mid later → Reaches text p later
-  reaches_first p mid later next (n, is) = (suc n, sym (first_part n p) ∙ ap (parts text n) next ∙ is)
+  malformed_at : (kind : Malformed) (offset stop : ℕ) → IsAt len kind offset stop → refused_at len (malformed_reason kind) offset ≡ stop
+  malformed_at unclosed_text offset stop at = sym at
+  malformed_at unclosed_hexadecimal offset stop at = sym at
+  malformed_at wrong_digit offset stop at = at
+  malformed_at stray offset stop at = at
 
-  one_step : (p later : Part) → step text p ≡ later → Reaches text p later
-  one_step p later next = reaches_first p later later next (reaches_none text later)
+  malformed_of : (left : Left) (w : Wrong) → left.tokens ≡ [] → w.kind ≡ left.kind → IsAt len left.kind w.offset left.stop → IsFaultOf (missing (malformed_reason left.kind) left) (own_fault w)
+  malformed_of left w none same at = record { reason = ap malformed_reason same; offset = rw same (malformed_at left.kind w.offset left.stop at) }
 
-  reaches_on : (p mid later : Part) → Reaches text p mid → Reaches text mid later → Reaches text p later
-  unfolding parts
-  reaches_on p mid later first (zero, is) = subst (Reaches text p) is first
-  reaches_on p mid later first (suc m, is) = let (k, e) = reaches_on p mid (parts text m mid) first (m, refl) in (suc k, ap (step text) e ∙ is)
+  -- ---- what is read of the same pieces
+  abbrev pub Final : State × Salvaged → List Piece → Salvaged
+  Final now pieces = finished len (take_all now pieces)
 
-  -- from this part a fault comes, after those
-  abbrev pub Faulty : Part → List Stop → Refused → Type 0
-  Faulty p faults e = (q : Part) × Reaches text p q × (q.faults ≡ faults ++ stop_of (length text) e ∷ [])
+  -- what is found in what is left goes on in the same way; or the first fault is that for which nothing is found
+  abbrev pub Sim : {A : Type 0} → Found A → State × Salvaged → List Piece → (A → Bool → State × Salvaged) → Type 0
+  Sim (Ok p) now pieces ends = (b : Bool) × (rest : List Piece) × Cut len p.1 rest × (Final now pieces ≡ Final (ends p.0 b) rest)
+  Sim (Err e) now pieces ends = Stops e (Final now pieces)
 
-  faulty_after : (p mid : Part) (faults : List Stop) (e : Refused) → Reaches text p mid → Faulty mid faults e → Faulty p faults e
-  faulty_after p mid faults e first (q, more, adds) = (q, reaches_on p mid q first more, adds)
+  sim_from : {A : Type 0} (found : Found A) (now mid : State × Salvaged) (pieces rest : List Piece) (ends : A → Bool → State × Salvaged) → Final now pieces ≡ Final mid rest → Sim found mid rest ends → Sim found now pieces ends
+  sim_from (Ok p) now mid pieces rest ends same (b, later, cut, is) = (b, later, cut, same ∙ is)
+  sim_from (Err e) now mid pieces rest ends same stops = subst (Stops e) (sym same) stops
 
-  abbrev pub Simulates : {A : Type 0} → Found A → Part → List Stop → (A × Left → Part) → Type 0
-  Simulates (Ok x) p faults ends = Reaches text p (ends x)
-  Simulates (Err e) p faults ends = Faulty p faults e
+  sim_then : {A B : Type 0} (more : A → Left → Found B) (found : Found A) (now : State × Salvaged) (pieces : List Piece) (ends : A → Bool → State × Salvaged) (after : B → Bool → State × Salvaged) → Sim found now pieces ends
+      → ((x : A) (l : Left) (b : Bool) (rest : List Piece) → found ≡ Ok (x, l) → Cut len l rest → Sim (more x l) (ends x b) rest after) → Sim (followed_by more found) now pieces after
+  sim_then more (Ok p) now pieces ends after (b, rest, cut, is) each = sim_from (more p.0 p.1) now (ends p.0 b) pieces rest after is (each p.0 p.1 b rest refl cut)
+  sim_then more (Err e) now pieces ends after stops each = stops
 
-  module _ (faults : List Stop) where
-    -- ---- sections
-    abbrev at_entry : Section → Said → Lists → Left → Part
-    at_entry section old lists left = at_next (entry section) (with_lists old lists) left faults
+  sim_giving : {A B : Type 0} (f : A → B) (found : Found A) (now : State × Salvaged) (pieces : List Piece) (ends : B → Bool → State × Salvaged) → Sim found now pieces (λ x. ends (f x)) → Sim (followed_by (λ x next. Ok (f x, next)) found) now pieces ends
+  sim_giving f (Ok p) now pieces ends sim = sim
+  sim_giving f (Err e) now pieces ends stops = stops
 
-    abbrev ends_body : Said → Lists × Left → Part
-    ends_body old p = at_next item (with_lists old p.0) p.1 faults
+  -- what pieces begin with
+  pub data Begins (left : Left) (pieces : List Piece) : Type 0 where
+    at_end : left.tokens ≡ [] → left.ends ≡ true → pieces ≡ [] → left.stop ≡ len → Begins left pieces
+    at_wrong : (w : Wrong) (past : ℕ) (b : Bool) (more : List Piece) → left.tokens ≡ [] → left.ends ≡ false → pieces ≡ record { token = Err w; end = past; begins_line = b } ∷ more → w.kind ≡ left.kind → IsAt len left.kind w.offset left.stop → Begins left pieces
+    at_token : (p : EndedToken) (rest : List EndedToken) (b : Bool) (more : List Piece) → left.tokens ≡ p ∷ rest → pieces ≡ record { token = Ok p.token; end = p.end; begins_line = b } ∷ more → Cut len (after p rest left) more → Begins left pieces
 
-    abbrev body : Section → Lists → Left → Found Lists
-    body section now = run (body_in section now)
+  pub begins_so : (left : Left) (pieces : List Piece) → Cut len left pieces → Begins left pieces
+  begins_so left pieces = at left.tokens left.ends refl refl
+    where
+      at : (tokens : List EndedToken) (ends : Bool) → left.tokens ≡ tokens → left.ends ≡ ends → CutSo len left.tokens left.ends left.kind left.stop pieces → Begins left pieces
+      at [] true empty end cut = let (is, stop) = rw (empty, end) at cut in at_end empty end is stop
+      at [] false empty end cut = let (w, past, b, more, is, same, place) = rw (empty, end) at cut in at_wrong w past b more empty end is same place
+      at (p ∷ rest) ends begins end cut = let (b, more, is, later) = rw begins at cut in at_token p rest b more begins is later
 
-    sim_after : (old : Said) (p mid : Part) (found : Found Lists) → Reaches text p mid → Simulates found mid faults (ends_body old) → Simulates found p faults (ends_body old)
-    sim_after old p mid (Ok x) first more = reaches_on p mid _ first more
-    sim_after old p mid (Err e) first more = faulty_after p mid faults e first more
+  -- ---- a place of an entry
+  abbrev filled_by : {A : Type 0} → Option A → Reason → (A → State × Lists) → Filled
+  filled_by (Some x) reason gives = Ok (gives x)
+  filled_by None reason gives = Err reason
 
-    body_sim : (count : ℕ) (section : Section) (old : Said) (lists : Lists) (left : Left) → length left.tokens < count → Simulates (run (body_in section lists) left) (at_entry section old lists left) faults (ends_body old)
-    body_sim zero section old lists left long = absurd (omega (arith, long))
-    body_sim (suc count) section old lists left long = rw (body_next section lists left) (start_or (λ m l s. body_sim count section old m l s) (head_in code_fault (code_or_closer section) left) refl)
+  with_same : (entry : Entry) (piece : Piece) → no_parts entry.parts ≡ false → with_piece entry piece ≡ entry
+  with_same entry piece some = rw (some, or-false entry.begins_line) refl
+
+  in_part : (old : Salvaged) (entry : Entry) (piece : Piece) → no_parts entry.parts ≡ false → take_in_entry old entry piece ≡ take_part old entry piece
+  in_part old entry piece some = cond-false _ _ _ (ap (λ b. b && is_closer entry.section piece) some) ∙ ap (λ e. take_part old e piece) (with_same entry piece some)
+
+  module _ {A : Type 0} (fault : Token → Reason) (read : Token → Option A) (plain : (t : Token) (n : ℕ) → refused_at len (fault t) n ≡ n) (entry : Entry) (old : Salvaged) (gives : A → State × Lists) (some : no_parts entry.parts ≡ false) (none : old.faults ≡ [])
+      (fills : (t : Token) → fill old.said.lists entry t ≡ filled_by (read t) (fault t) gives) where
+    abbrev place_ends : A → Bool → State × Salvaged
+    place_ends x b = ((gives x).0, having_lists old (gives x).1)
+
+    wrong_place : (left : Left) (w : Wrong) (past : ℕ) (b : Bool) (more : List Piece) → left.tokens ≡ [] → w.kind ≡ left.kind → IsAt len left.kind w.offset left.stop
+        → Stops (missing (malformed_reason left.kind) left) (Final (in_entry entry, old) (record { token = Err w; end = past; begins_line = b } ∷ more))
+    unfolding take_all
+    wrong_place left w past b more empty same place =
+        let piece : Piece = record { token = Err w; end = past; begins_line = b } in
+        let goes : take_in_entry old entry piece ≡ entry_fault old entry piece (own_fault w) = in_part old entry piece some in
+        let adds : Adds (with_fault old (own_fault w)) (Final (entry_fault old entry piece (own_fault w)) more) = adds_on (fault_first old entry piece (own_fault w)).adds (rest_adds len (entry_fault old entry piece (own_fault w)) more) in
+        stops_by (missing (malformed_reason left.kind) left) old (Final (take_in_entry old entry piece) more) (own_fault w) none (subst (λ s. Adds (with_fault old (own_fault w)) (Final s more)) (sym goes) adds) (malformed_of left w empty same place)
+
+    place_sim : (left : Left) (pieces : List Piece) → Cut len left pieces → Sim (head_in fault read left) (in_entry entry, old) pieces place_ends
+    unfolding take_all
+    place_sim left pieces cut = at (begins_so left pieces cut)
       where
-        entry_or : ((m : Lists) (l : Left) → length l.tokens < count → Simulates (body section m l) (at_entry section old m l) faults (ends_body old)) → (code : Code) (next : Left) → head_in code_fault (code_or_closer section) left ≡ Ok (Some code, next) → (found : Found Lists) → run (entry_after section code lists) next ≡ found
-            → Simulates (followed_by (body section) found) (at_entry section old lists left) faults (ends_body old)
-        entry_or later code next is (Err e) wrong = (
-          faulted text (at_entry section old lists left) (with_lists old lists) e,
-          one_step _ _ (ap (after_entry text (at_entry section old lists left) section) is ∙ rw (wrong, after_entry) refl),
-          refl,
-        )
-        entry_or later code next is (Ok p) declares =
-            let shorter : length p.1.tokens < count = omega (arith, long, head-shorter code_fault (code_or_closer section) left (Some code, next) is, (is_there (entry_after section code lists) next p declares).2) in
-            sim_after old (at_entry section old lists left) (at_entry section old p.0 p.1) (body section p.0 p.1) (one_step _ _ (ap (after_entry text (at_entry section old lists left) section) is ∙ rw (declares, after_entry) refl)) (later p.0 p.1 shorter)
+        by : (p : EndedToken) (rest : List EndedToken) (b : Bool) (more : List Piece) → CutSo len rest left.ends left.kind left.stop more → (found : Option A) → read p.token ≡ found
+            → Sim (or_wrong (fault p.token) (read p.token) p.token (after p rest left)) (in_entry entry, old) (record { token = Ok p.token; end = p.end; begins_line = b } ∷ more) place_ends
+        by p rest b more cut (Some x) is =
+            let piece : Piece = record { token = Ok p.token; end = p.end; begins_line = b } in
+            let goes : take_in_entry old entry piece ≡ place_ends x b = in_part old entry piece some ∙ rw (fills p.token, is, take_part) refl in
+            rw is (b, more, cut, ap (λ s. Final s more) goes)
+        by p rest b more cut None is =
+            let piece : Piece = record { token = Ok p.token; end = p.end; begins_line = b } in
+            let stop : Stop = record { offset = p.end; reason = fault p.token } in
+            let goes : take_in_entry old entry piece ≡ entry_fault old entry piece stop = in_part old entry piece some ∙ rw (fills p.token, is, take_part) refl in
+            rw is (stops_by _ old (Final (in_entry entry, old) (piece ∷ more)) stop none (subst (λ s. Adds (with_fault old stop) (Final s more)) (sym goes) (adds_on (fault_first old entry piece stop).adds (rest_adds len (entry_fault old entry piece stop) more))) (record { reason = refl; offset = plain p.token p.end }))
 
-        start_or : ((m : Lists) (l : Left) → length l.tokens < count → Simulates (body section m l) (at_entry section old m l) faults (ends_body old)) → (found : Found (Option Code)) → head_in code_fault (code_or_closer section) left ≡ found
-            → Simulates (followed_by (round (body section) (λ now code. run (entry_after section code now)) lists) found) (at_entry section old lists left) faults (ends_body old)
-        start_or later (Err e) is = (faulted text (at_entry section old lists left) (with_lists old lists) e, one_step _ _ (ap (after_entry text (at_entry section old lists left) section) is), refl)
-        start_or later (Ok (None, next)) is = one_step _ _ (ap (after_entry text (at_entry section old lists left) section) is)
-        start_or later (Ok (Some code, next)) is = entry_or later code next is (run (entry_after section code lists) next) refl
+        at : Begins left pieces → Sim (head_in fault read left) (in_entry entry, old) pieces place_ends
+        at (at_end empty end is stop) =
+            let last : Stop = record { offset = len; reason = EndWithinSection } in
+            rw (empty, end, is) (stops_by _ old (with_fault old last) last none (adds_none refl) (record { reason = refl; offset = sym stop }))
+        at (at_wrong w past b more empty end is same place) = rw (empty, end, is) (same_stops (wrong_place left w past b more empty same place) refl refl)
+        at (at_token p rest b more begins is later) = rw (begins, is) (by p rest b more later (read p.token) refl)
 
-    -- ---- items
-    abbrev ends_all : Said × Left → Part
-    ends_all p = at_next nothing p.0 p.1 faults
+  -- ---- the first place, or the closer
+  abbrev pub start_ends : Section → Salvaged → Option Code → Bool → State × Salvaged
+  start_ends section old None b = (item, old)
+  start_ends section old (Some code) b = (in_entry (record { section = section; parts = one code; begins_line = b }), old)
 
-    says_after : (p mid : Part) (found : Found Said) → Reaches text p mid → Simulates found mid faults ends_all → Simulates found p faults ends_all
-    says_after p mid (Ok x) first more = reaches_on p mid _ first more
-    says_after p mid (Err e) first more = faulty_after p mid faults e first more
+  code_plain : (t : Token) (n : ℕ) → refused_at len (code_fault t) n ≡ n
+  code_plain (Token.String raw) n = refl
+  code_plain (Token.Name literal bytes) n = refl
+  code_plain (Token.Numeral number) n = refl
 
-    abbrev at_item : Said → Left → Part
-    at_item old left = at_next item old left faults
+  code_fills : (t : Token) (found : Option Code) (more : Code → Filled) → code_in t ≡ found → salvage.if_code t more ≡ elim found [ Some code ↦ more code | None ↦ Err (code_fault t) ]
+  code_fills t found more is = rw (is, salvage.if_code) refl
 
-    abbrev Later : ℕ → Type 0
-    Later count = (o : Said) (l : Left) → length l.tokens < count → Simulates (all_said o l) (at_item o l) faults ends_all
+  first_fills : (entry : Entry) (lists : Lists) (t : Token) (found : Option Code) → entry.parts ≡ salvage.none → code_in t ≡ found → fill lists entry t ≡ filled_by found (code_fault t) (λ code. (in_entry (with_parts entry (one code)), lists))
+  first_fills entry lists t (Some code) no_part is = rw (no_part, fill) (code_fills t (Some code) _ is)
+  first_fills entry lists t None no_part is = rw (no_part, fill) (code_fills t None _ is)
 
-    said_sim : (count : ℕ) (old : Said) (left : Left) → length left.tokens < count → Simulates (all_said old left) (at_item old left) faults ends_all
-    said_sim zero old left long = absurd (omega (arith, long))
-    said_sim (suc count) old left long = rw (said_next old left) (next_or (λ o l s. said_sim count o l s) (next_in left) refl)
+  module _ (section : Section) (begins : Bool) (old : Salvaged) (none : old.faults ≡ []) where
+    abbrev pub entry : Entry
+    entry = record { section = section; parts = salvage.none; begins_line = begins }
+
+    wrong_start : (left : Left) (w : Wrong) (past : ℕ) (b : Bool) (more : List Piece) → left.tokens ≡ [] → w.kind ≡ left.kind → IsAt len left.kind w.offset left.stop
+        → Stops (missing (malformed_reason left.kind) left) (Final (in_entry entry, old) (record { token = Err w; end = past; begins_line = b } ∷ more))
+    unfolding take_all
+    wrong_start left w past b more empty same place =
+        let piece : Piece = record { token = Err w; end = past; begins_line = b } in
+        let now = entry_fault old (with_piece entry piece) piece (own_fault w) in
+        stops_by (missing (malformed_reason left.kind) left) old (Final now more) (own_fault w) none (adds_on (fault_first old (with_piece entry piece) piece (own_fault w)).adds (rest_adds len now more)) (malformed_of left w empty same place)
+
+    pub start_sim : (left : Left) (pieces : List Piece) → Cut len left pieces → Sim (head_in code_fault (code_or_closer section) left) (in_entry entry, old) pieces (start_ends section old)
+    unfolding take_all
+    start_sim left pieces cut = at (begins_so left pieces cut)
       where
-        item_or : Later count → (t : Token) (next : Left) → next_in left ≡ Ok (Some t, next) → opened_by t ≡ None → (found : Found Said) → item_said old t next ≡ found → Simulates (followed_by all_said found) (at_item old left) faults ends_all
-        item_or later t next is opens (Err e) wrong = (
-          faulted text (at_next (rest_of t) old next faults) (with_other old t) e,
-          one_step _ _ (ap (after_item text (at_item old left)) is ∙ rw (opens, wrong, after_rest) refl),
-          refl,
+        by : (p : EndedToken) (rest : List EndedToken) (b : Bool) (more : List Piece) → CutSo len rest left.ends left.kind left.stop more → (closes : Bool) → is_executable (closer section) p.token ≡ closes → (found : Option Code) → code_in p.token ≡ found
+            → Sim (or_wrong (code_fault p.token) (code_or_closer section p.token) p.token (after p rest left)) (in_entry entry, old) (record { token = Ok p.token; end = p.end; begins_line = b } ∷ more) (start_ends section old)
+        by p rest b more cut true closes found is =
+            let piece : Piece = record { token = Ok p.token; end = p.end; begins_line = b } in
+            let goes : take_in_entry old entry piece ≡ (item, old) = rw (closes, take_in_entry) refl in
+            rw closes (b, more, cut, ap (λ s. Final s more) goes)
+        by p rest b more cut false closes (Some code) is =
+            let piece : Piece = record { token = Ok p.token; end = p.end; begins_line = b } in
+            let goes : take_in_entry old entry piece ≡ start_ends section old (Some code) (begins || b) = cond-false _ _ _ (ap (λ c. true && c) closes) ∙ rw (first_fills (with_piece entry piece) old.said.lists p.token _ refl is, take_part) refl in
+            rw (closes, is) (begins || b, more, cut, ap (λ s. Final s more) goes)
+        by p rest b more cut false closes None is =
+            let piece : Piece = record { token = Ok p.token; end = p.end; begins_line = b } in
+            let stop : Stop = record { offset = p.end; reason = code_fault p.token } in
+            let goes : take_in_entry old entry piece ≡ entry_fault old (with_piece entry piece) piece stop = cond-false _ _ _ (ap (λ c. true && c) closes) ∙ rw (first_fills (with_piece entry piece) old.said.lists p.token _ refl is, take_part) refl in
+            rw (closes, is) (stops_by _ old (Final (in_entry entry, old) (piece ∷ more)) stop none (subst (λ s. Adds (with_fault old stop) (Final s more)) (sym goes) (adds_on (fault_first old (with_piece entry piece) piece stop).adds (rest_adds len (entry_fault old (with_piece entry piece) piece stop) more))) (record { reason = refl; offset = code_plain p.token p.end }))
+
+        at : Begins left pieces → Sim (head_in code_fault (code_or_closer section) left) (in_entry entry, old) pieces (start_ends section old)
+        at (at_end empty end is stop) =
+            let last : Stop = record { offset = len; reason = EndWithinSection } in
+            rw (empty, end, is) (stops_by _ old (with_fault old last) last none (adds_none refl) (record { reason = refl; offset = sym stop }))
+        at (at_wrong w past b more empty end is same place) = rw (empty, end, is) (same_stops (wrong_start left w past b more empty same place) refl refl)
+        at (at_token p rest b more begins is later) = rw (begins, is) (by p rest b more later (is_executable (closer section) p.token) refl (code_in p.token) refl)
+
+  -- ---- lists of texts
+  bracket_closes : (t : Token) → is_executable (codes "]") t ≡ true → class_of_token t ≡ close_bracket
+  bracket_closes t is = rw (is_executable-found (codes "]") t is) refl
+
+  closing_bracket : (t : Token) → class_of_token t ≡ close_bracket → is_executable (codes "]") t ≡ true
+  closing_bracket (Token.String raw) closing = cc
+  closing_bracket (Token.Numeral number) closing = cc
+  closing_bracket (Token.Name true bytes) closing = cc
+  closing_bracket (Token.Name false bytes) closing = by (bytes_eq bytes (codes "[")) refl (bytes_eq bytes (codes "]")) refl (list_any (bytes_eq bytes) lone_brackets) refl (list_any (bytes_eq bytes) known_words) refl
+    where
+      by : (opens : Bool) → bytes_eq bytes (codes "[") ≡ opens → (closes : Bool) → bytes_eq bytes (codes "]") ≡ closes → (lone : Bool) → list_any (bytes_eq bytes) lone_brackets ≡ lone → (words : Bool) → list_any (bytes_eq bytes) known_words ≡ words → is_executable (codes "]") (Token.Name false bytes) ≡ true
+      by true o closes c lone l words w = let clash = rw (o, class_of_name) at closing in cc
+      by false o true c lone l words w = c
+      by false o false c true l words w = let clash = rw (o, c, l, class_of_name) at closing in cc
+      by false o false c false l true w = let clash = rw (o, c, l, w, class_of_name) at closing in cc
+      by false o false c false l false w = let clash = rw (o, c, l, w, class_of_name) at closing in cc
+
+  not_malformed : (kind : Malformed) → class_of_malformed kind ≡ close_bracket → ⊥
+  not_malformed unclosed_text is = cc
+  not_malformed unclosed_hexadecimal is = cc
+  not_malformed wrong_digit is = cc
+  not_malformed stray is = cc
+
+  lasts : (list : Texts) (count : ℕ) → count ≡ list.last + 1 - list.next → (count ≡ 0 → nat_le list.next list.last ≡ false) × (0 < count → nat_le list.next list.last ≡ true)
+  lasts list count is = (λ none. lt-leb _ _ (omega (arith, is, none)), λ some. le-leb _ _ (omega (arith, is, some)))
+
+  -- a text comes, in a list that has places
+  module _ (list : Texts) (old : Salvaged) (none : old.faults ≡ []) (open_places : nat_le list.next list.last ≡ true) where
+    abbrev text_ends : List ℕ → Bool → State × Salvaged
+    text_ends units one_line = (in_list (record { next = list.next + 1; last = list.last; kept = list.kept; begins_line = list.begins_line; one_line = one_line }), having_lists old (adding old.said.lists (text_of list.next list.next units)))
+
+    in_text : (piece : Piece) → take_in_list old list piece ≡ take_text old list piece
+    in_text piece = cond-true _ _ _ open_places
+
+    wrong_text : (e : Refused) (piece : Piece) (more : List Piece) → text_in piece ≡ None → IsFaultOf e (fault_of TextExpected piece) → Stops e (Final (in_list list, old) (piece ∷ more))
+    unfolding take_all
+    wrong_text e piece more without of =
+        let fault = fault_of TextExpected piece in
+        let passed = no_text (with_fault old fault) list piece in
+        let goes : take_in_list old list piece ≡ passed = in_text piece ∙ rw (without, take_text) refl in
+        let adds : Adds (with_fault old fault) (Final passed more) = adds_on (no_text_adds (with_fault old fault) list piece).adds (rest_adds len passed more) in
+        stops_by e old (Final (take_in_list old list piece) more) fault none (subst (λ s. Adds (with_fault old fault) (Final s more)) (sym goes) adds) of
+
+    text_sim : (left : Left) (pieces : List Piece) → Cut len left pieces → Sim (run next_destination left) (in_list list, old) pieces text_ends
+    unfolding take_all
+    text_sim left pieces cut = at (begins_so left pieces cut)
+      where
+        by : (p : EndedToken) (rest : List EndedToken) (b : Bool) (more : List Piece) → CutSo len rest left.ends left.kind left.stop more → (found : Option (List ℕ)) → destination_in p.token ≡ found
+            → Sim (or_wrong TextExpected (destination_in p.token) p.token (after p rest left)) (in_list list, old) (record { token = Ok p.token; end = p.end; begins_line = b } ∷ more) text_ends
+        by p rest b more cut (Some units) is =
+            let piece : Piece = record { token = Ok p.token; end = p.end; begins_line = b } in
+            let text : text_in piece ≡ Some units = is in
+            let goes : take_in_list old list piece ≡ text_ends units (list.one_line && not b) = in_text piece ∙ rw (text, take_text) refl in
+            rw is (list.one_line && not b, more, cut, ap (λ s. Final s more) goes)
+        by p rest b more cut None is = rw is (wrong_text _ (record { token = Ok p.token; end = p.end; begins_line = b }) more is (record { reason = refl; offset = refl }))
+
+        at : Begins left pieces → Sim (run next_destination left) (in_list list, old) pieces text_ends
+        at (at_end empty end is stop) =
+            let last : Stop = record { offset = len; reason = EndWithinSection } in
+            rw (empty, end, is) (stops_by _ old (with_fault old last) last none (adds_none refl) (record { reason = refl; offset = sym stop }))
+        at (at_wrong w past b more empty end is same place) = rw (empty, end, is) (same_stops (wrong_text (missing (malformed_reason left.kind) left) (record { token = Err w; end = past; begins_line = b }) more refl (malformed_of left w empty same place)) refl refl)
+        at (at_token p rest b more begins is later) = rw (begins, is) (by p rest b more later (destination_in p.token) refl)
+
+  -- the ] comes, in a list that has all its texts
+  module _ (list : Texts) (old : Salvaged) (none : old.faults ≡ []) (full : nat_le list.next list.last ≡ false) where
+    abbrev closed_ends : Lists → Bool → State × Salvaged
+    closed_ends lists b = (in_entry (new_entry bf_range), having_lists old lists)
+
+    abbrev closes : Token → Option Lists
+    closes t = if is_executable (codes "]") t then Some old.said.lists else None
+
+    past_text : (piece : Piece) → take_in_list old list piece ≡ take_after_texts old list piece
+    past_text piece = cond-false _ _ _ full
+
+    other_past : (k : Class) (piece : Piece) → (k ≡ close_bracket → ⊥) → elim k [ close_bracket ↦ (in_entry (new_entry bf_range), old) | _ ↦ past_texts (with_fault old (fault_of BracketExpected piece)) list piece ] ≡ past_texts (with_fault old (fault_of BracketExpected piece)) list piece
+    other_past known piece not = refl
+    other_past alone piece not = refl
+    other_past open_bracket piece not = refl
+    other_past close_bracket piece not = absurd (not refl)
+    other_past part piece not = refl
+
+    wrong_past : (e : Refused) (piece : Piece) (more : List Piece) → (class_of piece ≡ close_bracket → ⊥) → IsFaultOf e (fault_of BracketExpected piece) → Stops e (Final (in_list list, old) (piece ∷ more))
+    unfolding take_all
+    wrong_past e piece more not of =
+        let fault = fault_of BracketExpected piece in
+        let passed = past_texts (with_fault old fault) list piece in
+        let goes : take_in_list old list piece ≡ passed = past_text piece ∙ other_past (class_of piece) piece not in
+        let adds : Adds (with_fault old fault) (Final passed more) = adds_on (past_adds (with_fault old fault) list piece).adds (rest_adds len passed more) in
+        stops_by e old (Final (take_in_list old list piece) more) fault none (subst (λ s. Adds (with_fault old fault) (Final s more)) (sym goes) adds) of
+
+    close_sim : (left : Left) (pieces : List Piece) → Cut len left pieces → Sim (head_in (λ t. BracketExpected) closes left) (in_list list, old) pieces closed_ends
+    unfolding take_all
+    close_sim left pieces cut = at (begins_so left pieces cut)
+      where
+        by : (p : EndedToken) (rest : List EndedToken) (b : Bool) (more : List Piece) → CutSo len rest left.ends left.kind left.stop more → (found : Bool) → is_executable (codes "]") p.token ≡ found
+            → Sim (or_wrong BracketExpected (closes p.token) p.token (after p rest left)) (in_list list, old) (record { token = Ok p.token; end = p.end; begins_line = b } ∷ more) closed_ends
+        by p rest b more cut true is =
+            let piece : Piece = record { token = Ok p.token; end = p.end; begins_line = b } in
+            let goes : take_in_list old list piece ≡ (in_entry (new_entry bf_range), old) = past_text piece ∙ rw (bracket_closes p.token is, take_after_texts) refl in
+            rw is (true, more, cut, ap (λ s. Final s more) goes)
+        by p rest b more cut false is = rw is (wrong_past _ (record { token = Ok p.token; end = p.end; begins_line = b }) more (λ closing. false≢true (sym is ∙ closing_bracket p.token closing)) (record { reason = refl; offset = refl }))
+
+        at : Begins left pieces → Sim (head_in (λ t. BracketExpected) closes left) (in_list list, old) pieces closed_ends
+        at (at_end empty end is stop) =
+            let last : Stop = record { offset = len; reason = EndWithinSection } in
+            rw (empty, end, is) (stops_by _ old (with_fault old last) last none (adds_none refl) (record { reason = refl; offset = sym stop }))
+        at (at_wrong w past b more empty end is same place) = rw (empty, end, is) (same_stops (wrong_past (missing (malformed_reason left.kind) left) (record { token = Err w; end = past; begins_line = b }) more (not_malformed w.kind) (malformed_of left w empty same place)) refl refl)
+        at (at_token p rest b more begins is later) = rw (begins, is) (by p rest b more later (is_executable (codes "]") p.token) refl)
+
+  texts_from : (count : ℕ) (list : Texts) (old : Salvaged) → old.faults ≡ [] → count ≡ list.last + 1 - list.next → (left : Left) (pieces : List Piece) → Cut len left pieces
+      → Sim (run (list_in count list.next old.said.lists) left) (in_list list, old) pieces (λ lists b. (in_entry (new_entry bf_range), having_lists old lists))
+  unfolding list_in
+  texts_from zero list old none is left pieces cut = close_sim list old none (lt-leb list.next list.last (omega (arith, is))) left pieces cut
+  texts_from (suc count) list old none is left pieces cut =
+      sim_then (λ units. run (list_in count (list.next + 1) (adding old.said.lists (text_of list.next list.next units)))) (run next_destination left) (in_list list, old) pieces (text_ends list old none (le-leb list.next list.last (omega (arith, is)))) _ (text_sim list old none (le-leb list.next list.last (omega (arith, is))) left pieces cut) (
+      λ units l b rest found cut_rest. texts_from count (record { next = list.next + 1; last = list.last; kept = list.kept; begins_line = list.begins_line; one_line = b }) (having_lists old (adding old.said.lists (text_of list.next list.next units))) none (omega (arith, is)) l rest cut_rest
+      )
+
+  -- ---- what follows the first code
+  two_plain : (t : Token) (n : ℕ) → refused_at len (codespace_fault t) n ≡ n
+  two_plain t n = elim (cases_Bool (is_some (code_in t))) [ inl some ↦ rw (some, codespace_fault) refl | inr not ↦ rw (not, codespace_fault) (code_plain t n) ]
+
+  high_fills : (entry : Entry) (lists : Lists) (low : Code) (t : Token) (found : Option Code) → code_in t ≡ found → fill_high lists entry low t ≡ filled_by (codespace_to low t) (codespace_fault t) (λ declared. (in_entry (new_entry entry.section), adding lists declared))
+  high_fills entry lists low t None is = code_fills t None _ is ∙ rw (is, codespace_to, codespace_fault) refl
+  high_fills entry lists low t (Some high) is = code_fills t (Some high) _ is ∙ rw (is, codespace_to, codespace_fault) (by (codespace low high) refl)
+    where
+      by : (declared : Option (List Declaration)) → codespace low high ≡ declared → elim (codespace low high) [ Some d ↦ Ok (in_entry (new_entry entry.section), adding lists d) | None ↦ Err UnequalLengths ] ≡ filled_by (codespace low high) UnequalLengths (λ d. (in_entry (new_entry entry.section), adding lists d))
+      by None e = rw e refl
+      by (Some d) e = rw e refl
+
+  code_filled : (t : Token) (gives : Code → State × Lists) → salvage.if_code t (λ code. Ok (gives code)) ≡ filled_by (code_in t) (code_fault t) gives
+  code_filled t gives = by (code_in t) refl
+    where
+      by : (found : Option Code) → code_in t ≡ found → salvage.if_code t (λ code. Ok (gives code)) ≡ filled_by (code_in t) (code_fault t) gives
+      by (Some code) is = rw (is, salvage.if_code) refl
+      by None is = rw (is, salvage.if_code) refl
+
+  cid_filled : (t : Token) (gives : ℕ → State × Lists) → salvage.if_cid t (λ cid. Ok (gives cid)) ≡ filled_by (cid_in t) CidExpected gives
+  cid_filled t gives = by (cid_in t) refl
+    where
+      by : (found : Option ℕ) → cid_in t ≡ found → salvage.if_cid t (λ cid. Ok (gives cid)) ≡ filled_by (cid_in t) CidExpected gives
+      by (Some cid) is = rw (is, salvage.if_cid) refl
+      by None is = rw (is, salvage.if_cid) refl
+
+  text_filled : (t : Token) (gives : List ℕ → State × Lists) → salvage.if_text t (λ units. Ok (gives units)) ≡ filled_by (destination_in t) TextExpected gives
+  text_filled t gives = by (destination_in t) refl
+    where
+      by : (found : Option (List ℕ)) → destination_in t ≡ found → salvage.if_text t (λ units. Ok (gives units)) ≡ filled_by (destination_in t) TextExpected gives
+      by (Some units) is = rw (is, salvage.if_text) refl
+      by None is = rw (is, salvage.if_text) refl
+
+  -- a text, or a list of them
+  abbrev texts_given : Lists → Entry → Code → Code → Option (List ℕ) → State × Lists
+  texts_given lists entry start end None = (in_list (list_begun lists entry start end), lists)
+  texts_given lists entry start end (Some units) = (in_entry (new_entry entry.section), adding lists (text_of start.number end.number units))
+
+  texts_filled : (lists : Lists) (entry : Entry) (start end : Code) (t : Token) → salvage.fill_texts lists entry start end t ≡ filled_by (list_or_destination t) TextExpected (texts_given lists entry start end)
+  texts_filled lists entry start end t = by (is_executable (codes "[") t) refl (destination_in t) refl
+    where
+      by : (opens : Bool) → is_executable (codes "[") t ≡ opens → (found : Option (List ℕ)) → destination_in t ≡ found → salvage.fill_texts lists entry start end t ≡ filled_by (list_or_destination t) TextExpected (texts_given lists entry start end)
+      by true opens found is = rw (opens, list_or_destination) refl
+      by false opens (Some units) is = rw (opens, list_or_destination) (rw (is, salvage.fill_text, salvage.if_text) refl)
+      by false opens None is = rw (opens, list_or_destination) (rw (is, salvage.fill_text, salvage.if_text) refl)
+
+  abbrev pub entry_of : Section → Code → Bool → Entry
+  entry_of section code b = record { section = section; parts = one code; begins_line = b }
+
+  abbrev pub entry_ends : Section → Salvaged → Lists → Bool → State × Salvaged
+  entry_ends section old lists b = (in_entry (new_entry section), having_lists old lists)
+
+  module _ (start : Code) (line : Bool) (old : Salvaged) (none : old.faults ≡ []) (left : Left) (pieces : List Piece) (cut : Cut len left pieces) where
+    abbrev pub Entered : Section → Type 0
+    Entered section = Sim (run (entry_after section start old.said.lists) left) (in_entry (entry_of section start line), old) pieces (entry_ends section old)
+
+    pub entered : (section : Section) → Entered section
+    entered codespace_range =
+        sim_giving (adding old.said.lists) (head_in codespace_fault (codespace_to start) left) (in_entry (entry_of codespace_range start line), old) pieces (entry_ends codespace_range old) (
+        place_sim codespace_fault (codespace_to start) two_plain (entry_of codespace_range start line) old (λ declared. (in_entry (new_entry codespace_range), adding old.said.lists declared)) refl none (λ t. high_fills (entry_of codespace_range start line) old.said.lists start t (code_in t) refl) left pieces cut
         )
-        item_or later t next is opens (Ok p) says =
-            let shorter : length p.1.tokens < count = omega (arith, long, next-shorter left t next is, item-shorter t (item_after old t) next p says) in
-            says_after _ (at_item p.0 p.1) (all_said p.0 p.1) (one_step _ _ (ap (after_item text (at_item old left)) is ∙ rw (opens, says, after_rest) refl)) (later p.0 p.1 shorter)
+    entered bf_char =
+        sim_giving (λ units. adding old.said.lists (text_of start.number start.number units)) (run next_destination left) (in_entry (entry_of bf_char start line), old) pieces (entry_ends bf_char old) (
+        place_sim (λ t. TextExpected) destination_in (λ t n. refl) (entry_of bf_char start line) old (λ units. (in_entry (new_entry bf_char), adding old.said.lists (text_of start.number start.number units))) refl none (λ t. text_filled t _) left pieces cut
+        )
+    entered (cids kind single) =
+        sim_giving (λ p. adding old.said.lists (declares_cid kind p.0 p.1 ∷ [])) (run (cids_after single start) left) (in_entry (entry_of (cids kind single) start line), old) pieces (entry_ends (cids kind single) old) (
+        sim_giving (filed start start.number) (run next_cid left) (in_entry (entry_of (cids kind single) start line), old) pieces (λ p. entry_ends (cids kind single) old (adding old.said.lists (declares_cid kind p.0 p.1 ∷ []))) (
+        place_sim (λ t. CidExpected) cid_in (λ t n. refl) (entry_of (cids kind single) start line) old (λ cid. (in_entry (new_entry (cids kind single)), adding old.said.lists (declares_cid kind start.len (filed start start.number cid).1 ∷ []))) refl none (λ t. cid_filled t _) left pieces cut
+        ))
+    entered (cids kind range) =
+        let section = cids kind range in
+        sim_giving (λ p. adding old.said.lists (declares_cid kind p.0 p.1 ∷ [])) (run (cids_after range start) left) (in_entry (entry_of section start line), old) pieces (entry_ends section old) (
+        sim_then (λ end. run (giving (filed start end.number) next_cid)) (run next_code left) (in_entry (entry_of section start line), old) pieces (λ end b. (in_entry (with_parts (entry_of section start line) (two start end)), having_lists old old.said.lists)) _ (
+        place_sim code_fault code_in code_plain (entry_of section start line) old (λ end. (in_entry (with_parts (entry_of section start line) (two start end)), old.said.lists)) refl none (λ t. code_filled t _) left pieces cut
+        ) (
+        λ end l b rest found cut_rest.
+        let second = with_parts (entry_of section start line) (two start end) in
+        sim_giving (filed start end.number) (run next_cid l) (in_entry second, old) rest (λ p. entry_ends section old (adding old.said.lists (declares_cid kind p.0 p.1 ∷ []))) (
+        place_sim (λ t. CidExpected) cid_in (λ t n. refl) second old (λ cid. (in_entry (new_entry section), adding old.said.lists (declares_cid kind start.len (filed start end.number cid).1 ∷ []))) refl none (λ t. cid_filled t _) l rest cut_rest
+        )
+        ))
+    entered bf_range =
+        let first = entry_of bf_range start line in
+        sim_then (λ end. run (chain (head (λ t. TextExpected) list_or_destination) (texts_from_code start.number end.number old.said.lists))) (run next_code left) (in_entry first, old) pieces (λ end b. (in_entry (with_parts first (two start end)), having_lists old old.said.lists)) (entry_ends bf_range old) (
+        place_sim code_fault code_in code_plain first old (λ end. (in_entry (with_parts first (two start end)), old.said.lists)) refl none (λ t. code_filled t _) left pieces cut
+        ) (
+        λ end l b rest found cut_rest.
+        let second = with_parts first (two start end) in
+        sim_then (λ o. run (texts_from_code start.number end.number old.said.lists o)) (head_in (λ t. TextExpected) list_or_destination l) (in_entry second, old) rest (λ o c. let given = texts_given old.said.lists second start end o in (given.0, having_lists old given.1)) (entry_ends bf_range old) (
+        place_sim (λ t. TextExpected) list_or_destination (λ t n. refl) second old (texts_given old.said.lists second start end) refl none (texts_filled old.said.lists second start end) l rest cut_rest
+        ) (λ o m c later given cut_later. texts_read end o m c later cut_later)
+        )
+      where
+        texts_read : (end : Code) (o : Option (List ℕ)) (m : Left) (c : Bool) (later : List Piece) → Cut len m later
+            → Sim (run (texts_from_code start.number end.number old.said.lists o) m) (let given = texts_given old.said.lists (with_parts (entry_of bf_range start line) (two start end)) start end o in (given.0, having_lists old given.1)) later (entry_ends bf_range old)
+        texts_read end (Some units) m c later cut_later = (true, later, cut_later, refl)
+        texts_read end None m c later cut_later =
+            let list = list_begun old.said.lists (with_parts (entry_of bf_range start line) (two start end)) start end in
+            texts_from (end.number + 1 - start.number) list old none refl m later cut_later
 
-        body_or : Later count → (t : Token) (next : Left) (section : Section) → next_in left ≡ Ok (Some t, next) → opened_by t ≡ Some section → (found : Found Lists) → run (body_in section old.lists) next ≡ found → Simulates found (at_entry section old old.lists next) faults (ends_body old)
-            → Simulates (followed_by all_said (followed_by (λ x n. Ok (with_lists old x, n)) found)) (at_item old left) faults ends_all
-        body_or later t next section is opens (Err e) reads more = faulty_after _ _ faults e (one_step _ _ (ap (after_item text (at_item old left)) is ∙ rw (opens, after_rest) refl)) more
-        body_or later t next section is opens (Ok d) reads more =
-            let new : Said = with_lists old d.0 in
-            let shorter : length d.1.tokens < count = omega (arith, long, next-shorter left t next is, (is_there (body_in section old.lists) next d reads).2) in
-            says_after _ (at_item new d.1) (all_said new d.1) (reaches_on _ _ _ (one_step _ _ (ap (after_item text (at_item old left)) is ∙ rw (opens, after_rest) refl)) more) (later new d.1 shorter)
-
-        section_or : Later count → (t : Token) (next : Left) → next_in left ≡ Ok (Some t, next) → (s : Option Section) → opened_by t ≡ s → Simulates (round all_said item_said old (Some t) next) (at_item old left) faults ends_all
-        section_or later t next is None opens = item_or later t next is opens (item_said old t next) refl
-        section_or later t next is (Some section) opens =
-            let says : item_said old t next ≡ followed_by (λ x n. Ok (with_lists old x, n)) (run (body_in section old.lists) next) = rw (opens, item_said, item_after) refl in
-            let whole = body_or later t next section is opens (run (body_in section old.lists) next) refl (body_sim (1 + length next.tokens) section old old.lists next (omega arith)) in
-            subst (λ f. Simulates (followed_by all_said f) (at_item old left) faults ends_all) (sym says) whole
-
-        next_or : Later count → (found : Found (Option Token)) → next_in left ≡ found → Simulates (followed_by (round all_said item_said old) found) (at_item old left) faults ends_all
-        next_or later (Err e) is = (faulted text (at_item old left) old e, one_step _ _ (ap (after_item text (at_item old left)) is), refl)
-        next_or later (Ok (None, next)) is = one_step _ _ (ap (after_item text (at_item old left)) is)
-        next_or later (Ok (Some t, next)) is = section_or later t next is (opened_by t) refl
-
-    pub all_sim : (old : Said) (left : Left) → Simulates (all_said old left) (at_item old left) faults ends_all
-    all_sim old left = said_sim (1 + length left.tokens) old left (omega arith)
-
-  -- ---- faults are only added
-  abbrev pub AddsTo : Part → Part → Type 0
-  AddsTo old new = (more : List Stop) × (new.faults ≡ old.faults ++ more)
-
-  none_added : (part : Part) (next : Next) (said : Said) (left : Left) → AddsTo part (read_so part next said left)
-  none_added part next said left = ([], sym (append-nil part.faults))
-
-  rest_adds : (part : Part) (t : Token) (left : Left) → AddsTo part (after_rest text part t left)
-  rest_adds part t left = section_or (opened_by t) refl
+  -- ---- the entries of a section
+  body_sim : (count : ℕ) (section : Section) (line : Bool) (old : Salvaged) → old.faults ≡ [] → (left : Left) (pieces : List Piece) → length left.tokens < count → Cut len left pieces
+      → Sim (run (body_in section old.said.lists) left) (in_entry (record { section = section; parts = salvage.none; begins_line = line }), old) pieces (λ lists b. (item, having_lists old lists))
+  body_sim zero section line old none left pieces few cut = absurd (omega (arith, few))
+  body_sim (suc count) section line old none left pieces few cut =
+      rw (body_next section old.said.lists left) (
+      sim_then (round (λ now. run (body_in section now)) (λ now code. run (entry_after section code now)) old.said.lists) (head_in code_fault (code_or_closer section) left) (in_entry (record { section = section; parts = salvage.none; begins_line = line }), old) pieces (start_ends section old) (λ lists b. (item, having_lists old lists)) (
+      start_sim section line old none left pieces cut
+      ) (λ start l b rest found cut_rest. by start l b rest found cut_rest (λ new none_new m after_pieces less cut_after. body_sim count section false new none_new m after_pieces less cut_after))
+      )
     where
-      item_or : (found : Found Said) → item_said part.said t left ≡ found → opened_by t ≡ None → AddsTo part (after_rest text part t left)
-      item_or (Ok p) is opens = rw (opens, is, after_rest) (none_added part item p.0 p.1)
-      item_or (Err e) is opens = rw (opens, is, after_rest) (stop_of (length text) e ∷ [], refl)
+      by : (start : Option Code) (l : Left) (b : Bool) (rest : List Piece) → head_in code_fault (code_or_closer section) left ≡ Ok (start, l) → Cut len l rest
+          → ((new : Salvaged) → new.faults ≡ [] → (m : Left) (after_pieces : List Piece) → length m.tokens < count → Cut len m after_pieces → Sim (run (body_in section new.said.lists) m) (in_entry (new_entry section), new) after_pieces (λ lists c. (item, having_lists new lists)))
+          → Sim (round (λ now. run (body_in section now)) (λ now code. run (entry_after section code now)) old.said.lists start l) (start_ends section old start b) rest (λ lists c. (item, having_lists old lists))
+      by None l b rest found cut_rest later = (true, rest, cut_rest, refl)
+      by (Some code) l b rest found cut_rest later =
+          sim_then (λ now. run (body_in section now)) (run (entry_after section code old.said.lists) l) (in_entry (entry_of section code b), old) rest (entry_ends section old) (λ lists c. (item, having_lists old lists)) (entered code b old none l rest cut_rest section) (
+          λ lists m c after_pieces goes cut_after.
+          later (having_lists old lists) none m after_pieces (omega (arith, few, head-shorter code_fault (code_or_closer section) left (Some code, l) found, (is_there (entry_after section code old.said.lists) l (lists, m) goes).2)) cut_after
+          )
 
-      section_or : (s : Option Section) → opened_by t ≡ s → AddsTo part (after_rest text part t left)
-      section_or None opens = item_or (item_said part.said t left) refl opens
-      section_or (Some section) opens = rw (opens, after_rest) (none_added part (entry section) (with_lists part.said part.said.lists) left)
+  -- ---- items
+  abbrev pub item_ends : Salvaged → Said → Bool → State × Salvaged
+  item_ends old said b = (item, saying old said)
 
-  item_adds : (part : Part) (found : Found (Option Token)) → AddsTo part (after_item text part found)
-  item_adds part (Err e) = (stop_of (length text) e ∷ [], refl)
-  item_adds part (Ok (None, left)) = none_added part nothing part.said left
-  item_adds part (Ok (Some t, left)) = rest_adds (read_so part (rest_of t) part.said left) t left
+  -- the value of a key
+  module _ (k : List ℕ) (old : Salvaged) (none : old.faults ≡ []) where
+    abbrev keyed : Salvaged
+    keyed = saying old (with_other old.said (Token.Name true k))
 
-  entry_adds : (part : Part) (section : Section) (found : Found (Option Code)) → AddsTo part (after_entry text part section found)
-  entry_adds part section (Err e) = (stop_of (length text) e ∷ [], refl)
-  entry_adds part section (Ok (None, left)) = none_added part item part.said left
-  entry_adds part section (Ok (Some code, left)) = declares (run (entry_after section code part.said.lists) left) refl
+    wrong_value : (left : Left) (w : Wrong) (past : ℕ) (b : Bool) (more : List Piece) → left.tokens ≡ [] → w.kind ≡ left.kind → IsAt len left.kind w.offset left.stop
+        → Stops (missing (malformed_reason left.kind) left) (Final (value k, keyed) (record { token = Err w; end = past; begins_line = b } ∷ more))
+    unfolding take_all
+    wrong_value left w past b more empty same place =
+        let piece : Piece = record { token = Err w; end = past; begins_line = b } in
+        stops_by (missing (malformed_reason left.kind) left) keyed (Final (take_value keyed k piece) more) (own_fault w) none (rest_adds len (take_value keyed k piece) more) (malformed_of left w empty same place)
+
+    value_sim : (left : Left) (pieces : List Piece) → Cut len left pieces → Sim (followed_by (λ v next. Ok (with_key old.said k v, next)) (next_in left)) (value k, keyed) pieces (item_ends old)
+    unfolding take_all
+    value_sim left pieces cut = at (begins_so left pieces cut) cut
+      where
+        at : Begins left pieces → Cut len left pieces → Sim (followed_by (λ v next. Ok (with_key old.said k v, next)) (next_in left)) (value k, keyed) pieces (item_ends old)
+        at (at_end empty end is stop) cut =
+            let cut_here : CutSo len [] true left.kind left.stop [] = (refl, stop) in
+            rw (empty, end, is) (true, [], cut_here, refl)
+        at (at_wrong w past b more empty end is same place) cut = rw (empty, end, is) (same_stops (wrong_value left w past b more empty same place) refl refl)
+        at (at_token p rest b more begins is later) cut = rw (begins, is) (true, more, later, refl)
+
+  module _ (old : Salvaged) (none : old.faults ≡ []) (p : EndedToken) (rest : List EndedToken) (left : Left) (more : List Piece) (cut : Cut len (after p rest left) more) where
+    abbrev next : Left
+    next = after p rest left
+
+    abbrev Reads : Token → Type 0
+    Reads t = Sim (item_said old.said t next) (begin_item old t p.end) more (item_ends old)
+
+    section_sim : (section : Section) → Sim (followed_by (λ x n. Ok (with_lists old.said x, n)) (run (body_in section old.said.lists) next)) (in_entry (new_entry section), saying old (with_other old.said (Token.Name false (opener section)))) more (item_ends old)
+    section_sim section =
+        let now : Salvaged = saying old (with_other old.said (Token.Name false (opener section))) in
+        sim_giving (with_lists old.said) (run (body_in section old.said.lists) next) (in_entry (new_entry section), now) more (item_ends old) (body_sim (1 + length next.tokens) section false now none next more (omega arith) cut)
+
+    use_sim : (operand : Option (List ℕ)) → old.said.operand ≡ operand
+        → Sim (or_wrong UseWithoutName (option_map (with_use old.said) old.said.operand) (Token.Name false use_word) next) (take_use (saying old (with_other old.said (Token.Name false use_word))) old.said.operand p.end) more (item_ends old)
+    use_sim (Some name) is = rw is (true, more, cut, refl)
+    use_sim None is =
+        let now : Salvaged = saying old (with_other old.said (Token.Name false use_word)) in
+        let fault : Stop = record { offset = p.end; reason = UseWithoutName } in
+        rw is (stops_by _ now (Final (item, with_fault now fault) more) fault none (rest_adds len (item, with_fault now fault) more) (record { reason = refl; offset = refl }))
+
+    pub item_sim : (t : Token) → Reads t
+    item_sim t = by (opened_by t) refl (is_executable use_word t) refl (key_in t) refl
+      where
+        by : (s : Option Section) → opened_by t ≡ s → (u : Bool) → is_executable use_word t ≡ u → (k : Option (List ℕ)) → key_in t ≡ k → Reads t
+        by (Some section) opens u uses k is =
+            let token = opened_by-found t section opens in
+            rw (opens, item_said, item_after, begin_item) (subst (λ v. Sim (followed_by (λ x n. Ok (with_lists old.said x, n)) (run (body_in section old.said.lists) next)) (in_entry (new_entry section), saying old (with_other old.said v)) more (item_ends old)) (sym token) (section_sim section))
+        by None opens true uses k is =
+            let token = is_executable-found use_word t uses in
+            rw (opens, uses, item_said, item_after, begin_item) (subst (λ v. Sim (or_wrong UseWithoutName (option_map (with_use old.said) old.said.operand) v next) (take_use (saying old (with_other old.said v)) old.said.operand p.end) more (item_ends old)) (sym token) (use_sim old.said.operand refl))
+        by None opens false uses (Some k) is =
+            let token = (key_in-found t k is).1 in
+            rw (opens, uses, is, item_said, item_after, begin_item) (subst (λ v. Sim (followed_by (λ x n. Ok (with_key old.said k x, n)) (next_in next)) (value k, saying old (with_other old.said v)) more (item_ends old)) (sym token) (value_sim k old none next more cut))
+        by None opens false uses None is = rw (opens, uses, is, item_said, item_after, begin_item) (true, more, cut, refl)
+
+  -- ---- all items
+  abbrev pub Whole : Found Said → State × Salvaged → List Piece → Type 0
+  Whole (Ok p) now pieces = Final now pieces ≡ record { said = p.0; faults = [] }
+  Whole (Err e) now pieces = Stops e (Final now pieces)
+
+  whole_from : (found : Found Said) (now mid : State × Salvaged) (pieces rest : List Piece) → Final now pieces ≡ Final mid rest → Whole found mid rest → Whole found now pieces
+  whole_from (Ok p) now mid pieces rest same whole = same ∙ whole
+  whole_from (Err e) now mid pieces rest same stops = subst (Stops e) (sym same) stops
+
+  whole_then : (found : Found Said) (now : State × Salvaged) (pieces : List Piece) (old : Salvaged) → Sim found now pieces (item_ends old) → ((said : Said) (l : Left) (rest : List Piece) → found ≡ Ok (said, l) → Cut len l rest → Whole (all_said said l) (item, saying old said) rest) → Whole (followed_by all_said found) now pieces
+  whole_then (Ok p) now pieces old (b, rest, cut, is) later = whole_from (all_said p.0 p.1) now (item, saying old p.0) pieces rest is (later p.0 p.1 rest refl cut)
+  whole_then (Err e) now pieces old stops later = stops
+
+  wrong_item : (old : Salvaged) → old.faults ≡ [] → (left : Left) (w : Wrong) (past : ℕ) (b : Bool) (more : List Piece) → left.tokens ≡ [] → w.kind ≡ left.kind → IsAt len left.kind w.offset left.stop
+      → Stops (missing (malformed_reason left.kind) left) (Final (item, old) (record { token = Err w; end = past; begins_line = b } ∷ more))
+  unfolding take_all
+  wrong_item old none left w past b more empty same place = stops_by _ old (Final (item, with_fault old (own_fault w)) more) (own_fault w) none (rest_adds len (item, with_fault old (own_fault w)) more) (malformed_of left w empty same place)
+
+  said_whole : (count : ℕ) (old : Salvaged) → old.faults ≡ [] → (left : Left) (pieces : List Piece) → length left.tokens < count → Cut len left pieces → Whole (all_said old.said left) (item, old) pieces
+  unfolding take_all
+  said_whole zero old none left pieces few cut = absurd (omega (arith, few))
+  said_whole (suc count) old none left pieces few cut = rw (said_next old.said left) (at (begins_so left pieces cut) (λ new none_new l rest less cut_rest. said_whole count new none_new l rest less cut_rest))
     where
-      declares : (found : Found Lists) → run (entry_after section code part.said.lists) left ≡ found → AddsTo part (after_entry text part section (Ok (Some code, left)))
-      declares (Ok p) is = rw (is, after_entry) (none_added part (entry section) (having_lists part.said p.0) p.1)
-      declares (Err e) is = rw (is, after_entry) (stop_of (length text) e ∷ [], refl)
+      at : Begins left pieces → ((new : Salvaged) → new.faults ≡ [] → (l : Left) (rest : List Piece) → length l.tokens < count → Cut len l rest → Whole (all_said new.said l) (item, new) rest) → Whole (followed_by (round all_said item_said old.said) (next_in left)) (item, old) pieces
+      at (at_end empty end is stop) later = rw (empty, end, is) (ap (λ fs. let s : Salvaged = record { said = old.said; faults = fs } in s) none)
+      at (at_wrong w past b more empty end is same place) later = rw (empty, end, is) (same_stops (wrong_item old none left w past b more empty same place) refl refl)
+      at (at_token p rest b more begins is cut_more) later =
+          let taken_so : next_in left ≡ Ok (Some p.token, after p rest left) = rw begins refl in
+          rw (taken_so, is) (
+          whole_from (followed_by all_said (item_said old.said p.token (after p rest left))) (item, old) (begin_item old p.token p.end) (record { token = Ok p.token; end = p.end; begins_line = b } ∷ more) more refl (
+          whole_then (item_said old.said p.token (after p rest left)) (begin_item old p.token p.end) more old (item_sim old none p rest left more cut_more p.token) (
+          λ said l after_pieces goes cut_after.
+          later (saying old said) none l after_pieces (omega (arith, few, next-shorter left p.token (after p rest left) taken_so, item-shorter p.token (item_after old.said p.token) (after p rest left) (said, l) goes)) cut_after
+          )
+          )
+          )
 
-  list_adds : (part : Part) (section : Section) (found : Found Token) → AddsTo part (after_list text part section found)
-  list_adds part section (Err e) = (stop_of (length text) e ∷ [], refl)
-  list_adds part section (Ok (t, left)) = from (is_executable (codes "]") t) (is_word t) refl refl
-    where
-      from : (closes word : Bool) → is_executable (codes "]") t ≡ closes → is_word t ≡ word → AddsTo part (after_list text part section (Ok (t, left)))
-      from true word closes is = rw closes (none_added part (entry section) part.said left)
-      from false true closes is = rw (closes, is) (entry_adds part section (or_wrong (code_fault t) (code_or_closer section t) t left))
-      from false false closes is = rw (closes, is) (none_added part (list_of section) part.said left)
+-- of a text
+whole_text : (text : List ℕ) → Whole (length text) (all_said nothing_said (tokens_of (start_of text))) (item, nothing_salvaged) (pieces_left (start_of text))
+whole_text text = said_whole (length text) (1 + length (tokens_of (start_of text)).tokens) nothing_salvaged refl (tokens_of (start_of text)) (pieces_left (start_of text)) (omega arith) (pieces_cut text)
 
-  from_adds : (part : Part) (next : Next) → AddsTo part (step_from text part next)
-  from_adds part item = item_adds part (next_in part.left)
-  from_adds part (rest_of t) = rest_adds part t part.left
-  from_adds part (entry section) = entry_adds part section (head_in code_fault (code_or_closer section) part.left)
-  from_adds part (list_of section) = list_adds part section (token_in part.left)
-  from_adds part nothing = ([], sym (append-nil part.faults))
-
-  parts_add : (n : ℕ) (part : Part) → AddsTo part (parts text n part)
-  unfolding parts
-  parts_add zero part = ([], sym (append-nil part.faults))
-  parts_add (suc n) part =
-      let (more, is) = parts_add n part in
-      let (last, ends) = from_adds (parts text n part) (parts text n part).next in
-      (more ++ last, ends ∙ ap (λ f. f ++ last) is ∙ append_assoc part.faults more last)
-
-  -- ---- one end
-  stays : (n : ℕ) (said : Said) (left : Left) (faults : List Stop) → parts text n (at_next nothing said left faults) ≡ at_next nothing said left faults
-  unfolding parts
-  stays zero said left faults = refl
-  stays (suc n) said left faults = ap (step text) (stays n said left faults)
-
-  two_parts : (k n : ℕ) (part : Part) → parts text (k + n) part ≡ parts text k (parts text n part)
-  unfolding parts
-  two_parts zero n part = ap (λ m. parts text m part) (let same : 0 + n ≡ n = omega arith in same)
-  two_parts (suc k) n part = ap (λ m. parts text m part) (let same : suc k + n ≡ suc (k + n) = omega arith in same) ∙ ap (step text) (two_parts k n part)
-
-  meet : (p q : Part) (said : Said) (left : Left) (faults : List Stop) → Reaches text p q → Reaches text p (at_next nothing said left faults) → Reaches text q (at_next nothing said left faults)
-  meet p q said left faults (n, here) (m, end) = elim (cases_lt m n) [
-    | inl past ↦
-        let same : n ≡ (n - m) + m = omega (arith, past) in
-        let is : at_next nothing said left faults ≡ q = sym (stays (n - m) said left faults) ∙ ap (parts text (n - m)) (sym end) ∙ sym (two_parts (n - m) m p) ∙ ap (λ k. parts text k p) (sym same) ∙ here in
-        subst (λ r. Reaches text r (at_next nothing said left faults)) is (reaches_none text (at_next nothing said left faults))
-    | inr before ↦
-        let same : m ≡ (m - n) + n = omega (arith, before) in
-        (m - n, ap (parts text (m - n)) (sym here) ∙ sym (two_parts (m - n) n p) ∙ ap (λ k. parts text k p) (sym same) ∙ end)
-  ]
-
-  module _ (said : Said) (faults : List Stop) (salvages : Salvages text said faults) where
-    abbrev left : Left
-    left = tokens_of (start_of text)
-
-    pub salvage_ok : (p : Said × Left) → all_said nothing_said left ≡ Ok p → (said ≡ p.0) × (faults ≡ [])
-    salvage_ok p is =
-        let reaches = subst (λ f. Simulates f (at_next item nothing_said left []) [] (ends_all [])) is (all_sim [] nothing_said left) in
-        let (n, end, there) = salvages in
-        let (m, same) = meet (at_next item nothing_said left []) (at_next nothing p.0 p.1 []) said end faults reaches (n, there) in
-        let ends : at_next nothing p.0 p.1 [] ≡ at_next nothing said end faults = sym (stays m p.0 p.1 []) ∙ same in
-        (sym (ap (λ q. q.said) ends), sym (ap (λ q. q.faults) ends))
-
-    pub salvage_err : (e : Refused) → all_said nothing_said left ≡ Err e → (more : List Stop) × (faults ≡ stop_of (length text) e ∷ more)
-    salvage_err e is =
-        let (q, reaches, adds) = subst (λ f. Simulates f (at_next item nothing_said left []) [] (ends_all [])) is (all_sim [] nothing_said left) in
-        let (n, end, there) = salvages in
-        let (m, same) = meet (at_next item nothing_said left []) q said end faults reaches (n, there) in
-        let (more, later) = parts_add m q in
-        (more, ap (λ p. p.faults) (sym same) ∙ later ∙ ap (λ f. f ++ more) adds)
-
-    module _ (has : HasTokens text left) (metadata : FileMetadata) (only : IsOnly (IsMetadata said.values) metadata) where
-      abbrev found : File
-      found = record { metadata = metadata; lists = said.lists; uses = said.uses }
-
-      whole_file : (p : Said × Left) → all_said nothing_said left ≡ Ok p → said ≡ p.0 → IsOnly (IsTextFile text) found
-      whole_file p is same = text_file text left has said p.1 metadata (is ∙ ap (λ s. Ok (s, p.1)) (sym same)) only
-
-      -- a file is read as it is, with no fault
-      pub salvage_file : (file : File) → IsTextFile text file → (found ≡ file) × (faults ≡ [])
-      salvage_file file holds = by (all_said nothing_said left) refl
-        where
-          by : (r : Found Said) → all_said nothing_said left ≡ r → (found ≡ file) × (faults ≡ [])
-          by (Ok p) is = let (same, none) = salvage_ok p is in (sym ((whole_file p is same).alone file holds), none)
-          by (Err e) is = absurd (no_file text left has e is file holds)
-
-      -- of a text that is no file, the first fault is the one for which it is refused
-      pub salvage_first : HoldsOfNone (IsTextFile text) → BeginsRefused text faults
-      salvage_first none = by (all_said nothing_said left) refl
-        where
-          by : (r : Found Said) → all_said nothing_said left ≡ r → BeginsRefused text faults
-          by (Ok p) is = let (same, no_fault) = salvage_ok p is in absurd (none found (whole_file p is same).holds)
-          by (Err e) is = let (more, begins) = salvage_err e is in (e, is, more, begins)
+pub whole_of : (text : List ℕ) (found : Found Said) → all_said nothing_said (tokens_of (start_of text)) ≡ found → Whole (length text) found (item, nothing_salvaged) (pieces_left (start_of text))
+whole_of text found is = subst (λ r. Whole (length text) r (item, nothing_salvaged) (pieces_left (start_of text))) is (whole_text text)

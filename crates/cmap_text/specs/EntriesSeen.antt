@@ -14,7 +14,7 @@ use Rattle.cmap_text.specs.declared.wrong_token.WrongToken.{WrongToken}
 
 -- why reading goes no further, where that is left and this token is wrong
 abbrev pub refused_seen : Option Token → WrongToken → Left → parsers.Refused
-refused_seen token wrong here = record { token = token; reason = wrong.reason; in_list = wrong.in_list; left = here }
+refused_seen token wrong here = record { token = token; reason = wrong.reason; left = here }
 
 -- this tells whether a token is wrong; where none is, none comes where the reader has come to
 abbrev pub IsTold : Bool → Left → Option Token → Type 0

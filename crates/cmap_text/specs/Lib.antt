@@ -3,6 +3,6 @@ pub mod TextReading
 pub mod TextSeen
 pub mod EntriesSeen
 pub mod TokenParsers
-pub mod TokenPlaces
 pub mod Salvage
 pub mod SalvageSeen
+pub mod Standing

@@ -1,144 +1,429 @@
--- What a text says apart from its faults: how reading goes on after each.
-use Rattle.std.specs.Prelude.{◌≡◌, ◌&&◌, ℕ, zero, suc, not, nat_lt, min, Bool, false, List, [], ◌∷◌, ◌++◌, length, bytes_eq, codes, flat_map, map, Option, Some, None, Ok, Err, if◌then◌else◌}
-use Rattle.std.specs.List.{AllByRecursion, list_any}
-use Rattle.cmap_tokens.specs.Resumption.{resumed}
+-- What a text says apart from its faults, piece by piece.
+use Rattle.std.specs.Prelude.{◌≡◌, ℕ, ◌+◌, ◌-◌, ◌&&◌, ◌||◌, not, nat_le, Bool, true, false, List, [], ◌∷◌, ◌++◌, ◌⊎◌, flat_map, length, take, codes, bytes_eq, map, Option, Some, None, Result, Ok, Err, if◌then◌else◌}
+use Rattle.std.specs.List.{list_any}
+use Rattle.cmap_tokens.specs.Malformed as malformed
+use Rattle.cmap_tokens.specs.Malformed.{Malformed}
+use Rattle.cmap_tokens.specs.Pieces.{Piece, Wrong, pieces_left}
 use Rattle.cmap_tokens.specs.Tokens.{Token}
-use Rattle.cmap_tokens.specs.TokensLeft.{Left, tokens_of, start_of}
+use Rattle.cmap_tokens.specs.TokensLeft.{start_of, tokens_of}
 use Rattle.cmap_values.specs.Files.{Declaration, File, Lists, lists_of}
+use Rattle.cmap_values.specs.ListsAppended.{append_lists}
+use Rattle.cmap_values.specs.declared.fault.Reason.{Reason}
+use Rattle.cmap_values.specs.declared.fault.Reason.TheVariants.{BracketExpected, CidExpected, EndWithinSection, TextExpected, UnclosedString, UnequalLengths, UseWithoutName}
 use Rattle.cmap_values.specs.declared.fault.Stop.{Stop}
-use Rattle.cmap_text.specs.TextFiles.{IsEntry, IsMetadata, Section}
-use Rattle.cmap_text.specs.TokenParsers.{Found, Refused, head_in, next_in, offset_of, or_wrong, run, token_in}
-use Rattle.cmap_text.specs.TextReading.{Code, Said, all_said, code_fault, code_or_closer, entry_after, is_executable, item_said, nothing_said, opened_by, with_lists, with_other}
+use Rattle.cmap_text.specs.TextFiles.{CidKind, IsEntry, IsItem, IsMetadata, Item, Section, declared_by, names_used, bf_char, bf_range, cids, closer, codespace_range, opener, range, single, use_word, declares_cid}
+use Rattle.cmap_text.specs.TextReading.{Code, Said, StopsText, adding, cid_in, code_fault, code_in, codespace, destination_in, filed, is_executable, key_in, nothing_said, opened_by, sections, text_of, with_other, with_value}
+use Rattle.cmap_text.specs.TokenParsers.{malformed_reason}
 
--- what comes next: an item; the rest of one that begins with this token; an entry of this section, or its closer; what is left of a list of texts in it; or nothing
-pub data Next : Type 0 where
-  item : Next
-  rest_of : Token → Next
-  entry : Section → Next
-  list_of : Section → Next
-  nothing : Next
+-- ---- pieces in a section
+pub data Class : Type 0 where
+  -- an executable name that ends a section
+  known : Class
+  -- it takes no place of an entry
+  alone : Class
+  open_bracket : Class
+  close_bracket : Class
+  -- it may be a part of an entry
+  part : Class
 
--- how far a text is read: what comes next, what is said, what is left, and the faults
-pub record Part : Type 0 where
-  pub next : Next
+abbrev pub known_words : List (List ℕ)
+known_words =
+    map opener sections
+    ++ map closer sections
+    ++ codes "begincmap" ∷ codes "endcmap" ∷ codes "usecmap" ∷ codes "begin" ∷ codes "end" ∷ codes "def" ∷ codes "dict" ∷ codes "dup" ∷ codes "pop" ∷ codes "currentdict" ∷ codes "defineresource" ∷ codes "findresource" ∷ codes "endstream" ∷ codes "endobj" ∷ []
+
+abbrev pub lone_brackets : List (List ℕ)
+lone_brackets = codes "{" ∷ codes "}" ∷ codes "<<" ∷ codes ">>" ∷ []
+
+abbrev pub class_of_name : List ℕ → Class
+class_of_name name =
+    if bytes_eq name (codes "[") then open_bracket
+    else if bytes_eq name (codes "]") then close_bracket
+    else if list_any (bytes_eq name) lone_brackets then alone
+    else if list_any (bytes_eq name) known_words then known
+    else part
+
+abbrev pub class_of_token : Token → Class
+class_of_token (Token.Name false name) = class_of_name name
+class_of_token _ = part
+
+abbrev pub class_of_malformed : Malformed → Class
+class_of_malformed malformed.unclosed_text = alone
+class_of_malformed malformed.stray = alone
+class_of_malformed malformed.unclosed_hexadecimal = part
+class_of_malformed malformed.wrong_digit = part
+
+abbrev pub class_of : Piece → Class
+class_of piece = elim piece.token [ Ok t ↦ class_of_token t | Err w ↦ class_of_malformed w.kind ]
+
+abbrev pub is_string : Token → Bool
+is_string (Token.String raw) = true
+is_string _ = false
+
+-- a string, of any value
+abbrev pub is_string_piece : Piece → Bool
+is_string_piece piece = elim piece.token [ Ok t ↦ is_string t | Err w ↦ false ]
+
+-- ---- faults
+abbrev pub own_fault : Wrong → Stop
+own_fault w = record { offset = w.offset; reason = malformed_reason w.kind }
+
+-- a token's is at its end
+abbrev pub fault_of : Reason → Piece → Stop
+fault_of reason piece = elim piece.token [ Ok t ↦ record { offset = piece.end; reason = reason } | Err w ↦ own_fault w ]
+
+-- ---- aids: the reading of pieces, one after another
+-- the parts of an entry, as far as they are read
+pub data Parts : Type 0 where
+  none : Parts
+  one : Code → Parts
+  two : Code → Code → Parts
+
+pub record Entry : Type 0 where
+  pub section : Section
+  pub parts : Parts
+  -- whether one of its pieces begins a line, up to and including the one in its first place
+  pub begins_line : Bool
+
+-- what is left of an entry at fault
+pub record Rest : Type 0 where
+  pub section : Section
+  -- how many places are left
+  pub places : ℕ
+  pub begins_line : Bool
+
+-- a list of texts
+pub record Texts : Type 0 where
+  -- the code of its next place, and its last one
+  pub next : ℕ
+  pub last : ℕ
+  -- how many texts there were before it
+  pub kept : ℕ
+  pub begins_line : Bool
+  -- whether its entry begins a line and none of its own pieces does
+  pub one_line : Bool
+
+-- what comes next
+pub data State : Type 0 where
+  item : State
+  value : List ℕ → State
+  in_entry : Entry → State
+  at_fault : Rest → State
+  in_brackets : Rest → State
+  in_line : Section → State
+  in_list : Texts → State
+
+-- what is said so far, and the faults
+pub record Salvaged : Type 0 where
   pub said : Said
-  pub left : Left
   pub faults : List Stop
 
--- ---- after a fault
-abbrev pub brackets : List (List ℕ)
-brackets = codes "[" ∷ codes "]" ∷ codes "{" ∷ codes "}" ∷ codes "<<" ∷ codes ">>" ∷ []
+abbrev pub saying : Salvaged → Said → Salvaged
+saying old said = record { said = said; faults = old.faults }
 
--- an executable name that is no bracket, such as a closer or an opener
-abbrev pub is_word : Token → Bool
-is_word (Token.Name false bytes) = not (list_any (bytes_eq bytes) brackets)
-is_word _ = false
+abbrev pub with_fault : Salvaged → Stop → Salvaged
+with_fault old fault = record { said = old.said; faults = old.faults ++ fault ∷ [] }
 
--- a word that can't stand in a section ends it and begins an item. After another token the next entry comes; in a list, what is left of it up to its ]
-abbrev pub after_wrong : Section → Bool → Token → Next
-after_wrong section in_list t = if is_word t then rest_of t else if in_list && not (is_executable (codes "]") t) then list_of section else entry section
+abbrev pub having_lists : Salvaged → Lists → Salvaged
+having_lists old lists = saying old (record { values = old.said.values; lists = lists; uses = old.said.uses; operand = old.said.operand })
 
--- where no token comes, reading goes on after what is none, unless it lasts to the end of the text
-abbrev pub after_missing : List ℕ → Left → Next → Next
-after_missing text left here = if nat_lt left.stop (length text) then here else nothing
+abbrev pub having_value : Salvaged → List ℕ → Option Token → Salvaged
+having_value old k v = saying old (record { values = with_value old.said.values k v; lists = old.said.lists; uses = old.said.uses; operand = old.said.operand })
 
-abbrev pub within_section : Section → Bool → Next
-within_section section in_list = if in_list then list_of section else entry section
+abbrev pub having_use : Salvaged → List ℕ → Salvaged
+having_use old name = saying old (record { values = old.said.values; lists = old.said.lists; uses = old.said.uses ++ name ∷ []; operand = old.said.operand })
 
-abbrev pub wrong_after : Next → Bool → Token → Next
-wrong_after (entry section) in_list t = after_wrong section in_list t
-wrong_after (list_of section) in_list t = after_wrong section false t
-wrong_after next in_list t = item
+-- ---- what comes next
+abbrev pub new_entry : Section → Entry
+new_entry section = record { section = section; parts = none; begins_line = false }
 
-abbrev pub here_after : Next → Bool → Next
-here_after (entry section) in_list = within_section section in_list
-here_after (list_of section) in_list = list_of section
-here_after next in_list = item
+abbrev pub no_parts : Parts → Bool
+no_parts none = true
+no_parts (one code) = false
+no_parts (two start end) = false
 
-abbrev pub next_after : List ℕ → Next → Refused → Next
-next_after text next e = elim e.token [ Some t ↦ wrong_after next e.in_list t | None ↦ after_missing text e.left (here_after next e.in_list) ]
+abbrev pub with_parts : Entry → Parts → Entry
+with_parts entry parts = record { section = entry.section; parts = parts; begins_line = entry.begins_line }
 
-abbrev pub left_after : List ℕ → Refused → Left
-left_after text e = elim e.token [ Some t ↦ e.left | None ↦ tokens_of (resumed (record { source = text; passed = min e.left.passed (length text) })) ]
+abbrev pub with_piece : Entry → Piece → Entry
+with_piece entry piece = record { section = entry.section; parts = entry.parts; begins_line = entry.begins_line || (no_parts entry.parts && piece.begins_line) }
 
--- the fault, as of a text of this length
-abbrev pub stop_of : ℕ → Refused → Stop
-stop_of len e = record { offset = min (offset_of e) len; reason = e.reason }
+abbrev pub places_of : Section → ℕ
+places_of codespace_range = 2
+places_of (cids kind range) = 3
+places_of (cids kind single) = 2
+places_of bf_range = 3
+places_of bf_char = 2
 
--- ---- part by part
--- this fault, where that is said
-abbrev pub faulted : List ℕ → Part → Said → Refused → Part
-faulted text part said e = record { next = next_after text part.next e; said = said; left = left_after text e; faults = part.faults ++ stop_of (length text) e ∷ [] }
+abbrev pub count_of : Parts → ℕ
+count_of none = 0
+count_of (one code) = 1
+count_of (two start end) = 2
 
--- another part, with no fault
-abbrev pub read_so : Part → Next → Said → Left → Part
-read_so part next said left = record { next = next; said = said; left = left; faults = part.faults }
+abbrev pub rest_of : Entry → Rest
+rest_of entry = record { section = entry.section; places = places_of entry.section - count_of entry.parts; begins_line = entry.begins_line }
 
--- after the first token of an item. An item at fault says no more than that token by itself
-abbrev pub after_rest : List ℕ → Part → Token → Left → Part
-after_rest text part t left = elim (opened_by t) [
-  | Some section ↦ read_so part (entry section) (with_lists part.said part.said.lists) left
-  | None ↦ elim (item_said part.said t left) [ Ok p ↦ read_so part item p.0 p.1 | Err e ↦ faulted text part (with_other part.said t) e ]
+abbrev pub after_entry : Rest → State
+after_entry rest = if rest.begins_line then in_line rest.section else in_entry (new_entry rest.section)
+
+abbrev pub after_part : Rest → State
+after_part rest = if nat_le rest.places 1 then after_entry rest else at_fault (record { section = rest.section; places = rest.places - 1; begins_line = rest.begins_line })
+
+abbrev pub rest_in_line : Section → Rest
+rest_in_line section = record { section = section; places = 0; begins_line = true }
+
+-- ---- items
+abbrev pub take_use : Salvaged → Option (List ℕ) → ℕ → State × Salvaged
+take_use old operand end = elim operand [ Some name ↦ (item, having_use old name) | None ↦ (item, with_fault old (record { offset = end; reason = UseWithoutName })) ]
+
+-- the first token of an item, which ends at this offset
+abbrev pub begin_item : Salvaged → Token → ℕ → State × Salvaged
+begin_item old t end =
+    elim (opened_by t) [
+      | Some section ↦ (in_entry (new_entry section), saying old (with_other old.said t))
+      | None ↦ elim (is_executable use_word t) [
+        | true ↦ take_use (saying old (with_other old.said t)) old.said.operand end
+        | false ↦ elim (key_in t) [ Some k ↦ (value k, saying old (with_other old.said t)) | None ↦ (item, saying old (with_other old.said t)) ]
+      ]
+    ]
+
+abbrev pub take_item : Salvaged → Piece → State × Salvaged
+take_item old piece = elim piece.token [ Ok t ↦ begin_item old t piece.end | Err w ↦ (item, with_fault old (own_fault w)) ]
+
+-- the value of a key, which what is alone doesn't take
+abbrev pub after_malformed : List ℕ → Class → State
+after_malformed k alone = value k
+after_malformed k _ = item
+
+abbrev pub take_value : Salvaged → List ℕ → Piece → State × Salvaged
+take_value old k piece = elim piece.token [ Ok t ↦ (item, having_value old k (Some t)) | Err w ↦ (after_malformed k (class_of piece), with_fault old (own_fault w)) ]
+
+-- ---- an entry at fault
+abbrev pub pass_in_entry : Salvaged → Rest → Piece → State × Salvaged
+pass_in_entry old rest piece = elim (class_of piece) [
+  | known ↦ take_item old piece
+  | alone ↦ (at_fault rest, old)
+  | open_bracket ↦ (in_brackets rest, old)
+  | close_bracket ↦ (after_entry rest, old)
+  | part ↦ (after_part rest, old)
 ]
 
-abbrev pub after_item : List ℕ → Part → Found (Option Token) → Part
-after_item text part (Err e) = faulted text part part.said e
-after_item text part (Ok (None, left)) = read_so part nothing part.said left
-after_item text part (Ok (Some t, left)) = after_rest text (read_so part (rest_of t) part.said left) t left
+abbrev pub pass_in_list : Salvaged → Rest → Piece → State × Salvaged
+pass_in_list old rest piece = elim (class_of piece) [
+  | known ↦ take_item old piece
+  | alone ↦ (in_brackets rest, old)
+  | open_bracket ↦ (in_brackets rest, old)
+  | close_bracket ↦ (after_entry rest, old)
+  | part ↦ (in_brackets rest, old)
+]
 
--- these lists, in a section
-abbrev pub having_lists : Said → Lists → Said
-having_lists old lists = record { values = old.values; lists = lists; uses = old.uses; operand = old.operand }
+-- ---- an entry
+-- the next place is filled, and these are the lists then; or why it isn't
+abbrev pub Filled : Type 0
+Filled = Result (State × Lists) Reason
 
--- an entry is read whole, or says nothing
-abbrev pub after_entry : List ℕ → Part → Section → Found (Option Code) → Part
-after_entry text part section (Err e) = faulted text part part.said e
-after_entry text part section (Ok (None, left)) = read_so part item part.said left
-after_entry text part section (Ok (Some start, left)) = elim (run (entry_after section start part.said.lists) left) [ Ok p ↦ read_so part (entry section) (having_lists part.said p.0) p.1 | Err e ↦ faulted text part part.said e ]
+abbrev pub if_code : Token → (Code → Filled) → Filled
+if_code t more = elim (code_in t) [ Some code ↦ more code | None ↦ Err (code_fault t) ]
 
--- a token of a list of which an entry is lost: its ], a word, or one that is passed over
-abbrev pub after_list : List ℕ → Part → Section → Found Token → Part
-after_list text part section (Err e) = faulted text part part.said e
-after_list text part section (Ok (t, left)) =
-    if is_executable (codes "]") t then read_so part (entry section) part.said left
-    else if is_word t then after_entry text part section (or_wrong (code_fault t) (code_or_closer section t) t left)
-    else read_so part (list_of section) part.said left
+abbrev pub if_cid : Token → (ℕ → Filled) → Filled
+if_cid t more = elim (cid_in t) [ Some cid ↦ more cid | None ↦ Err CidExpected ]
 
--- one part more
-abbrev pub step_from : List ℕ → Part → Next → Part
-step_from text part item = after_item text part (next_in part.left)
-step_from text part (rest_of t) = after_rest text part t part.left
-step_from text part (entry section) = after_entry text part section (head_in code_fault (code_or_closer section) part.left)
-step_from text part (list_of section) = after_list text part section (token_in part.left)
-step_from text part nothing = part
+abbrev pub if_text : Token → (List ℕ → Filled) → Filled
+if_text t more = elim (destination_in t) [ Some units ↦ more units | None ↦ Err TextExpected ]
 
-abbrev pub step : List ℕ → Part → Part
-step text part = step_from text part part.next
+-- the high end of a codespace range
+abbrev pub fill_high : Lists → Entry → Code → Token → Filled
+fill_high lists entry low t = if_code t (λ high. elim (codespace low high) [ Some declared ↦ Ok (in_entry (new_entry entry.section), adding lists declared) | None ↦ Err UnequalLengths ])
 
-abbrev pub at_start : List ℕ → Part
-at_start text = record { next = item; said = nothing_said; left = tokens_of (start_of text); faults = [] }
+-- the second code of a range
+abbrev pub fill_end : Lists → Entry → Code → Token → Filled
+fill_end lists entry start t = if_code t (λ end. Ok (in_entry (with_parts entry (two start end)), lists))
 
--- after this many parts
-unfoldable pub parts : List ℕ → ℕ → Part → Part
-parts text zero part = part
-parts text (suc n) part = step text (parts text n part)
+abbrev pub fill_cid : Lists → Entry → CidKind → Code → Code → Token → Filled
+fill_cid lists entry kind start end t = if_cid t (λ cid. Ok (in_entry (new_entry entry.section), adding lists (declares_cid kind start.len (filed start end.number cid).1 ∷ [])))
+
+abbrev pub fill_text : Lists → Entry → Code → Code → Token → Filled
+fill_text lists entry start end t = if_text t (λ units. Ok (in_entry (new_entry entry.section), adding lists (text_of start.number end.number units)))
+
+abbrev pub list_begun : Lists → Entry → Code → Code → Texts
+list_begun lists entry start end = record { next = start.number; last = end.number; kept = length lists.bfs; begins_line = entry.begins_line; one_line = entry.begins_line }
+
+-- one text, or a list of them
+abbrev pub fill_texts : Lists → Entry → Code → Code → Token → Filled
+fill_texts lists entry start end t = if is_executable (codes "[") t then Ok (in_list (list_begun lists entry start end), lists) else fill_text lists entry start end t
+
+abbrev pub second_filled : Section → Lists → Entry → Code → Token → Filled
+second_filled codespace_range = fill_high
+second_filled (cids kind single) = λ lists entry start. fill_cid lists entry kind start start
+second_filled (cids kind range) = fill_end
+second_filled bf_range = fill_end
+second_filled bf_char = λ lists entry start. fill_text lists entry start start
+
+abbrev pub fill_second : Lists → Entry → Code → Token → Filled
+fill_second lists entry = second_filled entry.section lists entry
+
+abbrev pub third_filled : Section → Lists → Entry → Code → Code → Token → Filled
+third_filled codespace_range = fill_texts
+third_filled (cids kind extent) = λ lists entry. fill_cid lists entry kind
+third_filled bf_range = fill_texts
+third_filled bf_char = fill_texts
+
+abbrev pub fill_third : Lists → Entry → Code → Code → Token → Filled
+fill_third lists entry = third_filled entry.section lists entry
+
+abbrev pub fill : Lists → Entry → Token → Filled
+fill lists entry t = elim entry.parts [
+  | none ↦ if_code t (λ code. Ok (in_entry (with_parts entry (one code)), lists))
+  | one start ↦ fill_second lists entry start t
+  | two start end ↦ fill_third lists entry start end t
+]
+
+-- a piece that is alone leaves the place to be filled
+abbrev pub entry_fault : Salvaged → Entry → Piece → Stop → State × Salvaged
+entry_fault old entry piece fault = elim (class_of piece) [ alone ↦ (in_entry entry, with_fault old fault) | _ ↦ pass_in_entry (with_fault old fault) (rest_of entry) piece ]
+
+abbrev pub taken : Salvaged → Entry → Piece → Token → Filled → State × Salvaged
+taken old entry piece t (Ok p) = (p.0, having_lists old p.1)
+taken old entry piece t (Err reason) = entry_fault old entry piece (record { offset = piece.end; reason = reason })
+
+abbrev pub take_part : Salvaged → Entry → Piece → State × Salvaged
+take_part old entry piece = elim piece.token [ Ok t ↦ taken old entry piece t (fill old.said.lists entry t) | Err w ↦ entry_fault old entry piece (own_fault w) ]
+
+abbrev pub is_closer : Section → Piece → Bool
+is_closer section piece = elim piece.token [ Ok t ↦ is_executable (closer section) t | Err w ↦ false ]
+
+abbrev pub take_in_entry : Salvaged → Entry → Piece → State × Salvaged
+take_in_entry old entry piece = if no_parts entry.parts && is_closer entry.section piece then (item, old) else take_part old (with_piece entry piece) piece
+
+-- the next line has the next entry
+abbrev pub pass_in_line : Salvaged → Section → Piece → State × Salvaged
+pass_in_line old section piece = if piece.begins_line then take_in_entry old (new_entry section) piece else elim (class_of piece) [
+  | known ↦ take_item old piece
+  | alone ↦ (in_line section, old)
+  | open_bracket ↦ (in_brackets (rest_in_line section), old)
+  | close_bracket ↦ (in_line section, old)
+  | part ↦ (in_line section, old)
+]
+
+-- ---- a list of texts
+abbrev pub list_after : Texts → Piece → ℕ → State
+list_after list piece next = in_list (record { next = next; last = list.last; kept = list.kept; begins_line = list.begins_line; one_line = list.one_line && not piece.begins_line })
+
+abbrev pub rest_of_list : Texts → Rest
+rest_of_list list = record { section = bf_range; places = 1; begins_line = list.begins_line }
+
+-- the list is lost
+abbrev pub losing : Salvaged → Texts → Salvaged
+losing old list = having_lists old (record { cids = old.said.lists.cids; notdefs = old.said.lists.notdefs; bfs = take list.kept old.said.lists.bfs; spaces = old.said.lists.spaces })
+
+abbrev pub text_in : Piece → Option (List ℕ)
+text_in piece = elim piece.token [ Ok t ↦ destination_in t | Err w ↦ None ]
+
+abbrev pub no_text : Salvaged → Texts → Piece → State × Salvaged
+no_text old list piece = elim (class_of piece) [
+  | part ↦ (list_after list piece (list.next + 1), old)
+  | alone ↦ (list_after list piece list.next, old)
+  | open_bracket ↦ (list_after list piece list.next, old)
+  | close_bracket ↦ (after_entry (rest_of_list list), losing old list)
+  | known ↦ take_item (losing old list) piece
+]
+
+abbrev pub take_text : Salvaged → Texts → Piece → State × Salvaged
+take_text old list piece = elim (text_in piece) [
+  | Some units ↦ (list_after list piece (list.next + 1), having_lists old (adding old.said.lists (text_of list.next list.next units)))
+  | None ↦ no_text (with_fault old (fault_of TextExpected piece)) list piece
+]
+
+-- a string that begins a line shows that the ] is missing
+abbrev pub lacks_bracket : Texts → Piece → Bool
+lacks_bracket list piece = list.one_line && (piece.begins_line && is_string_piece piece)
+
+-- a part after all texts: the next entry begins with it, or the list is too long
+abbrev pub end_list : Salvaged → Texts → Piece → State × Salvaged
+end_list old list piece = if lacks_bracket list piece then take_in_entry old (new_entry bf_range) piece else (in_brackets (rest_of_list list), losing old list)
+
+abbrev pub past_texts : Salvaged → Texts → Piece → State × Salvaged
+past_texts old list piece = elim (class_of piece) [
+  | known ↦ take_item old piece
+  | part ↦ end_list old list piece
+  | alone ↦ (list_after list piece list.next, old)
+  | open_bracket ↦ (list_after list piece list.next, old)
+  | close_bracket ↦ (list_after list piece list.next, old)
+]
+
+abbrev pub take_after_texts : Salvaged → Texts → Piece → State × Salvaged
+take_after_texts old list piece = elim (class_of piece) [ close_bracket ↦ (in_entry (new_entry bf_range), old) | _ ↦ past_texts (with_fault old (fault_of BracketExpected piece)) list piece ]
+
+abbrev pub take_in_list : Salvaged → Texts → Piece → State × Salvaged
+take_in_list old list piece = if nat_le list.next list.last then take_text old list piece else take_after_texts old list piece
+
+-- ---- all pieces
+abbrev pub take_piece : State × Salvaged → Piece → State × Salvaged
+take_piece (item, old) piece = take_item old piece
+take_piece (value k, old) piece = take_value old k piece
+take_piece (in_entry entry, old) piece = take_in_entry old entry piece
+take_piece (at_fault rest, old) piece = pass_in_entry old rest piece
+take_piece (in_brackets rest, old) piece = pass_in_list old rest piece
+take_piece (in_line section, old) piece = pass_in_line old section piece
+take_piece (in_list list, old) piece = take_in_list old list piece
+
+unfoldable pub take_all : State × Salvaged → List Piece → State × Salvaged
+take_all now [] = now
+take_all now (piece ∷ pieces) = take_all (take_piece now piece) pieces
+
+-- at the end of a text of this length
+abbrev pub finished : ℕ → State × Salvaged → Salvaged
+finished len (item, old) = old
+finished len (value k, old) = having_value old k None
+finished len (in_entry entry, old) = with_fault old (record { offset = len; reason = EndWithinSection })
+finished len (at_fault rest, old) = with_fault old (record { offset = len; reason = EndWithinSection })
+finished len (in_brackets rest, old) = with_fault old (record { offset = len; reason = EndWithinSection })
+finished len (in_line section, old) = with_fault old (record { offset = len; reason = EndWithinSection })
+finished len (in_list list, old) = with_fault old (record { offset = len; reason = EndWithinSection })
+
+abbrev pub nothing_salvaged : Salvaged
+nothing_salvaged = record { said = nothing_said; faults = [] }
+
+abbrev pub salvaged : List ℕ → Salvaged
+salvaged text = finished (length text) (take_all (item, nothing_salvaged) (pieces_left (start_of text)))
 
 -- ---- the whole text
--- it is read to its end, and that is said, with these faults
-abbrev pub Salvages : List ℕ → Said → List Stop → Type 0
-Salvages text said faults = (n : ℕ) × (left : Left) × (parts text n (at_start text) ≡ record { next = nothing; said = said; left = left; faults = faults })
-
 abbrev pub SalvagesFile : List ℕ → File → List Stop → Type 0
-SalvagesFile text file faults = (said : Said) × Salvages text said faults × IsMetadata said.values file.metadata × (file.lists ≡ said.lists) × (file.uses ≡ said.uses)
+SalvagesFile text file faults = let found = salvaged text in IsMetadata found.said.values file.metadata × (file.lists ≡ found.said.lists) × (file.uses ≡ found.said.uses) × (faults ≡ found.faults)
+
+-- ---- the first fault
+-- the offset at which a text of this length is refused for a fault: only the end shows that a string isn't closed
+abbrev pub refused_at : ℕ → Reason → ℕ → ℕ
+refused_at len UnclosedString offset = len
+refused_at len _ offset = offset
+
+abbrev pub refusal_of : ℕ → Stop → Stop
+refusal_of len fault = record { offset = refused_at len fault.reason fault.offset; reason = fault.reason }
 
 -- the first is the fault for which a text is refused that is read up to its first one
 abbrev pub BeginsRefused : List ℕ → List Stop → Type 0
-BeginsRefused text faults = (e : Refused) × (all_said nothing_said (tokens_of (start_of text)) ≡ Err e) × (more : List Stop) × (faults ≡ stop_of (length text) e ∷ more)
+BeginsRefused text faults = (fault : Stop) × (more : List Stop) × (faults ≡ fault ∷ more) × StopsText text (refusal_of (length text) fault)
 
--- from an offset of the text on, its tokens begin with an entry of a section that declares this
-abbrev pub IsDeclaredIn : List ℕ → List Declaration → Type 0
-IsDeclaredIn text declared = (section : Section) × (k : ℕ) × (rest : List Token) × IsEntry section (map (λ p. p.token) (tokens_of (record { source = text; passed = k })).tokens) declared rest
+-- ---- what comes before the first fault
+-- the first entries of a section, and what each declares
+abbrev pub AreFirstEntries : Section → List Token → List (List Declaration) → Type 0
+AreFirstEntries section tokens [] = Unit {0}
+AreFirstEntries section tokens (declared ∷ others) = (rest : List Token) × IsEntry section tokens declared rest × AreFirstEntries section rest others
 
--- the lists hold what entries that stand in the text declare, and nothing more
-abbrev pub AreDeclared : List ℕ → Lists → Type 0
-AreDeclared text lists = (es : List (List Declaration)) × AllByRecursion (IsDeclaredIn text) es × (lists ≡ lists_of (flat_map (λ e. e) es))
+-- tokens open a section, of which the first entries declare this
+abbrev pub OpenSection : List Token → List (List Declaration) → Type 0
+OpenSection tokens each = (section : Section) × (body : List Token) × (tokens ≡ Token.Name false (opener section) ∷ body) × AreFirstEntries section body each
+
+-- tokens begin with these items, and perhaps with entries of a section after them, which declare this
+abbrev pub BeginWithItems : List Token → List Item → List (List Declaration) → Type 0
+BeginWithItems tokens [] each = (each ≡ []) ⊎ OpenSection tokens each
+BeginWithItems tokens (first ∷ items) each = (rest : List Token) × IsItem tokens first rest × BeginWithItems rest items each
+
+-- the lists begin with these
+abbrev pub BeginWithLists : Lists → Lists → Type 0
+BeginWithLists front lists = (more : Lists) × (lists ≡ append_lists front more)
+
+-- whatever items and entries the tokens of a text begin with, the lists begin with what these declare, and the uses with the names that they use. So it is with all that stands before the first fault
+abbrev pub KeepsFronts : List ℕ → Lists → List (List ℕ) → Type 0
+KeepsFronts text lists uses = (items : List Item) (each : List (List Declaration)) (names : List (List ℕ)) → BeginWithItems (map (λ p. p.token) (tokens_of (start_of text)).tokens) items each → names_used None items ≡ Some names
+    → BeginWithLists (lists_of (flat_map declared_by items ++ flat_map (λ ds. ds) each)) lists × ((more : List (List ℕ)) × (uses ≡ names ++ more))

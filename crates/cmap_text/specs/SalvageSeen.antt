@@ -1,39 +1,66 @@
 -- Private aid: what contracts see of a text that is read past its faults.
-use Rattle.std.specs.Prelude.{◌≡◌, ℕ, List, Option, Result}
-use Rattle.cmap_tokens.specs.TokenSeen.{token_seen}
-use Rattle.cmap_tokens.specs.Tokens.{Token}
-use Rattle.cmap_tokens.specs.TokensLeft.{Left}
+use Rattle.std.specs.Prelude.{◌≡◌, List, Option, Some, None, Result, Ok, Err}
+use Rattle.cmap_values.specs.DeclarationsSeen.{lists_seen}
+use Rattle.cmap_values.specs.Files.{Declaration, Lists}
 use Rattle.cmap_values.specs.Outcomes.{Outcome}
 use Rattle.cmap_values.specs.declared.fault.Fault.{Fault}
-use Rattle.cmap_values.specs.declared.fault.Stop.{Stop}
-use Rattle.cmap_text.specs.EntriesSeen.{IsTold, refused_seen}
+use Rattle.cmap_values.specs.declared.fault.Reason.{Reason}
 use Rattle.cmap_text.specs.Salvage as salvage
-use Rattle.cmap_text.specs.Salvage.{Part, faulted, step}
-use Rattle.cmap_text.specs.TextReading.{Said}
-use Rattle.cmap_text.specs.TextSeen.{section_seen}
-use Rattle.cmap_text.specs.TokenPlaces.{EndsWith}
-use Rattle.cmap_text.specs.declared.salvage.Next.{Next}
-use Rattle.cmap_text.specs.declared.salvage.Next.TheVariants.{Item, After, Entry, InList, Nothing}
-use Rattle.cmap_text.specs.declared.wrong_token.WrongToken.{WrongToken}
+use Rattle.cmap_text.specs.Salvage.{Filled, having_lists}
+use Rattle.cmap_text.specs.TextReading.{adding}
+use Rattle.cmap_text.specs.TextSeen.{code_seen, key_name, said_seen, section_seen}
+use Rattle.cmap_text.specs.declared.salvage.Found.{Found}
+use Rattle.cmap_text.specs.declared.salvage.pieces.Class.{Class}
+use Rattle.cmap_text.specs.declared.salvage.pieces.Class.TheVariants as class
+use Rattle.cmap_text.specs.declared.salvage.states.AtFault.{AtFault}
+use Rattle.cmap_text.specs.declared.salvage.states.Entry.{Entry}
+use Rattle.cmap_text.specs.declared.salvage.states.TextList.{TextList}
+use Rattle.cmap_text.specs.declared.salvage.states.Parts.{Parts}
+use Rattle.cmap_text.specs.declared.salvage.states.Parts.TheVariants as parts
+use Rattle.cmap_text.specs.declared.salvage.states.State.{State}
+use Rattle.cmap_text.specs.declared.salvage.states.State.TheVariants as state
 
-abbrev pub next_seen : Next → salvage.Next
-next_seen Item = salvage.item
-next_seen (After token) = salvage.rest_of (token_seen token)
-next_seen (Entry section) = salvage.entry (section_seen section)
-next_seen (InList section) = salvage.list_of (section_seen section)
-next_seen Nothing = salvage.nothing
+abbrev pub class_seen : Class → salvage.Class
+class_seen class.Word = salvage.known
+class_seen class.Alone = salvage.alone
+class_seen class.OpenBracket = salvage.open_bracket
+class_seen class.CloseBracket = salvage.close_bracket
+class_seen class.Part = salvage.part
 
-abbrev pub part_of : salvage.Next → Said → Left → List Stop → Part
-part_of next said left faults = record { next = next; said = said; left = left; faults = faults }
+abbrev pub parts_seen : Parts → salvage.Parts
+parts_seen parts.None = salvage.none
+parts_seen (parts.One code) = salvage.one (code_seen code)
+parts_seen (parts.Two start end) = salvage.two (code_seen start) (code_seen end)
 
--- in a section a wrong token is the last that is read
-abbrev pub EndsPart : salvage.Next → Left → Option Token → Left → Type 0
-EndsPart (salvage.entry section) = EndsWith
-EndsPart (salvage.list_of section) = EndsWith
-EndsPart next = λ before token here. Unit {0}
+abbrev pub entry_seen : Entry → salvage.Entry
+entry_seen entry = record { section = section_seen entry.section; parts = parts_seen entry.parts; begins_line = entry.begins_line }
 
--- from what came next before, with this said and that left, what comes next now is read, or there is a fault
-abbrev pub ReadsPart : salvage.Next → Said → Said → Left → Left → Result Next (Fault WrongToken) → Type 0
-ReadsPart next old new before here = Outcome
-    (λ then. (text : List ℕ) (faults : List Stop) → step text (part_of next old before faults) ≡ part_of (next_seen then) new here faults)
-    (λ wrong. (token : Option Token) × ((text : List ℕ) (faults : List Stop) → step text (part_of next old before faults) ≡ faulted text (part_of next old before faults) new (refused_seen token wrong here)) × IsTold wrong.is_token here token × EndsPart next before token here)
+abbrev pub rest_seen : AtFault → salvage.Rest
+rest_seen rest = record { section = section_seen rest.section; places = rest.places; begins_line = rest.begins_line }
+
+abbrev pub texts_seen : TextList → salvage.Texts
+texts_seen list = record { next = list.next; last = list.last; kept = list.kept; begins_line = list.begins_line; one_line = list.is_one_line }
+
+abbrev pub state_seen : State → salvage.State
+state_seen state.Item = salvage.item
+state_seen (state.Value key) = salvage.value (key_name key)
+state_seen (state.Entry entry) = salvage.in_entry (entry_seen entry)
+state_seen (state.AtFault rest) = salvage.at_fault (rest_seen rest)
+state_seen (state.PassingList rest) = salvage.in_brackets (rest_seen rest)
+state_seen (state.PassingLine section) = salvage.in_line (section_seen section)
+state_seen (state.List list) = salvage.in_list (texts_seen list)
+
+abbrev pub found_seen : Found → salvage.Salvaged
+found_seen found = record { said = said_seen found.said; faults = found.faults.items }
+
+-- the lists have these declarations more, and nothing else changes
+abbrev pub AddsLists : List Declaration → Found → Found → Type 0
+AddsLists declared old new = found_seen new ≡ having_lists (found_seen old) (adding (lists_seen old.said.lists) declared)
+
+-- a token that is read so, or else this is wrong
+abbrev pub ReadsToken : {A B : Type 0} → Option B → (A → B) → Reason → Result A (Fault Reason) → Type 0
+ReadsToken found seen fault = Outcome (λ x. found ≡ Some (seen x)) (λ reason. (found ≡ None) × (reason ≡ fault))
+
+-- a place is filled so, or nothing changes
+abbrev pub FillsPlace : Filled → Found → Found → Result State (Fault Reason) → Type 0
+FillsPlace filled old new = Outcome (λ state. (lists : Lists) × (filled ≡ Ok (state_seen state, lists)) × (found_seen new ≡ having_lists (found_seen old) lists)) (λ reason. (filled ≡ Err reason) × (found_seen new ≡ found_seen old))

@@ -11,7 +11,7 @@ use Rattle.cmap_values.specs.ListsAppended.{no_lists, append_lists}
 use Rattle.cmap_values.specs.declared.fault.Reason.{Reason}
 use Rattle.cmap_values.specs.declared.fault.Reason.TheVariants.{BracketExpected, CidExpected, CodeExpected, CodeLength, TextExpected, UnequalLengths, UseWithoutName}
 use Rattle.cmap_values.specs.declared.fault.Stop.{Stop}
-use Rattle.cmap_text.specs.TokenParsers.{Found, Refused, offset_of, Parser, done, head, giving, chain, repeat, listed, ItemParser, reads, takes_value, wanted, run_item, next_in, repeated}
+use Rattle.cmap_text.specs.TokenParsers.{Found, Refused, offset_of, Parser, done, head, giving, chain, repeat, ItemParser, reads, takes_value, wanted, run_item, next_in, repeated}
 use Rattle.cmap_text.specs.TextFiles.{Extent, range, single, Section, codespace_range, cids, bf_range, bf_char, mapped, notdef, keys, opener, closer, use_word, declares_bf, declares_cid, other, literal_head, Values}
 
 -- ---- single tokens
@@ -102,7 +102,7 @@ abbrev pub list_or_destination : Token → Option (Option (List ℕ))
 list_or_destination t = if is_executable (codes "[") t then Some None else option_map Some (destination_in t)
 
 abbrev pub texts_from : ℕ → ℕ → Lists → Option (List ℕ) → Parser Lists
-texts_from start end lists None = listed (list_in (end + 1 - start) start lists)
+texts_from start end lists None = list_in (end + 1 - start) start lists
 texts_from start end lists (Some units) = done (adding lists (text_of start end units))
 
 -- what comes after the first code of an entry

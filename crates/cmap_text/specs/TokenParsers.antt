@@ -1,9 +1,10 @@
 -- Parsers of tokens: what each finds in the tokens that are left of a text, or else which token is wrong and why.
 use Rattle.std.specs.Prelude.{ℕ, zero, suc, ◌+◌, Bool, true, false, List, [], ◌∷◌, length, Option, Some, None, Result, Ok, Err, option_map, ok_or, if◌then◌else◌}
+use Rattle.cmap_tokens.specs.Malformed.{Malformed, unclosed_text, unclosed_hexadecimal, wrong_digit, stray}
 use Rattle.cmap_tokens.specs.Tokens.{Token}
 use Rattle.cmap_tokens.specs.TokensLeft.{EndedToken, Left}
 use Rattle.cmap_values.specs.declared.fault.Reason.{Reason}
-use Rattle.cmap_values.specs.declared.fault.Reason.TheVariants.{EndWithinSection, MalformedToken}
+use Rattle.cmap_values.specs.declared.fault.Reason.TheVariants.{EndWithinSection, StrayDelimiter, UnclosedString, WrongDigit}
 
 -- ---- what is found
 -- why nothing is found
@@ -11,16 +12,14 @@ pub record Refused : Type 0 where
   -- the token that can't stand where it does, or none where no token comes
   pub token : Option Token
   pub reason : Reason
-  -- whether this is within a list of texts
-  pub in_list : Bool
   -- what is left after the token
   pub left : Left
 
 abbrev pub wrong : Reason → Token → Left → Refused
-wrong reason t left = record { token = Some t; reason = reason; in_list = false; left = left }
+wrong reason t left = record { token = Some t; reason = reason; left = left }
 
 abbrev pub missing : Reason → Left → Refused
-missing reason left = record { token = None; reason = reason; in_list = false; left = left }
+missing reason left = record { token = None; reason = reason; left = left }
 
 -- the offset of the end of the wrong token, or of the byte that shows that none comes
 abbrev pub offset_of : Refused → ℕ
@@ -41,19 +40,26 @@ or_wrong reason found t left = ok_or (option_map (λ x. (x, left)) found) (wrong
 
 -- what is left after this token, before those
 abbrev pub after : EndedToken → List EndedToken → Left → Left
-after p rest left = record { passed = p.end; tokens = rest; ends = left.ends; stop = left.stop }
+after p rest left = record { passed = p.end; tokens = rest; ends = left.ends; kind = left.kind; stop = left.stop }
+
+-- why no token comes
+abbrev pub malformed_reason : Malformed → Reason
+malformed_reason unclosed_text = UnclosedString
+malformed_reason unclosed_hexadecimal = UnclosedString
+malformed_reason wrong_digit = WrongDigit
+malformed_reason stray = StrayDelimiter
 
 -- the next token
 abbrev pub token_in : Left → Found Token
 token_in left = elim left.tokens [
-  | [] ↦ Err (missing (if left.ends then EndWithinSection else MalformedToken) left)
+  | [] ↦ Err (missing (if left.ends then EndWithinSection else malformed_reason left.kind) left)
   | p ∷ rest ↦ Ok (p.token, after p rest left)
 ]
 
 -- the next token, or none where the text ends
 abbrev pub next_in : Left → Found (Option Token)
 next_in left = elim left.tokens [
-  | [] ↦ if left.ends then Ok (None, left) else Err (missing MalformedToken left)
+  | [] ↦ if left.ends then Ok (None, left) else Err (missing (malformed_reason left.kind) left)
   | p ∷ rest ↦ Ok (Some p.token, after p rest left)
 ]
 
@@ -75,14 +81,6 @@ repeated_within (suc count) begins more now left = followed_by (round (repeated_
 unfoldable pub repeated : {S X : Type 0} → (Left → Found (Option X)) → (S → X → Left → Found S) → S → Left → Found S
 repeated begins more now left = repeated_within (1 + length left.tokens) begins more now left
 
--- the same, and where there is nothing it is in a list
-abbrev pub in_a_list : Refused → Refused
-in_a_list e = record { token = e.token; reason = e.reason; in_list = true; left = e.left }
-
-abbrev pub listed_so : {A : Type 0} → Found A → Found A
-listed_so (Ok p) = Ok p
-listed_so (Err e) = Err (in_a_list e)
-
 -- ---- what finds it
 pub data Parser : Type 0 → Type 1 where
   -- this, without a token
@@ -95,8 +93,6 @@ pub data Parser : Type 0 → Type 1 where
   chain : {A B : Type 0} → Parser A → (A → Parser B) → Parser B
   -- again and again, from this on: what the next token begins, and what follows; up to a token that begins none
   repeat : {S X : Type 0} → (Token → Reason) → (Token → Option (Option X)) → (S → X → Parser S) → S → Parser S
-  -- this, within a list
-  listed : {A : Type 0} → Parser A → Parser A
 
 abbrev pub run : {A : Type 0} → Parser A → Left → Found A
 run (done x) left = Ok (x, left)
@@ -104,7 +100,6 @@ run (head fault read) left = head_in fault read left
 run (giving f parser) left = followed_by (λ x next. Ok (f x, next)) (run parser left)
 run (chain first more) left = followed_by (λ x. run (more x)) (run first left)
 run (repeat fault begins more start) left = repeated (head_in fault begins) (λ now x. run (more now x)) start left
-run (listed parser) left = listed_so (run parser left)
 
 -- what follows the first token of an item: tokens that are read so; one token, which is its value, unless the text ends; or nothing, but the first token may be wrong
 pub data ItemParser : Type 0 → Type 1 where

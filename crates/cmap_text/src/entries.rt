@@ -15,7 +15,7 @@ ghost use Rattle.cmap_values.specs.UnitsSeen.{units_seen};
 ghost use Rattle.cmap_text.specs.TextFiles as files;
 ghost use Rattle.cmap_text.specs.TextSeen.{code_seen, extent_seen, kind_seen};
 ghost use Rattle.cmap_text.specs.TextReading.{cids_after, entry_after, list_in, list_or_destination, text_of, texts_from};
-ghost use Rattle.cmap_text.specs.TokenParsers.{followed_by, listed, or_wrong, run};
+ghost use Rattle.cmap_text.specs.TokenParsers.{followed_by, or_wrong, run};
 
 use crate::tokens::{Code, TokenReader, is_executable};
 use crate::wrong_token::{WrongToken, wrong};
@@ -168,7 +168,7 @@ fn add_list(
     end: u32,
     lists: &mut Lists,
 ) -> Result<(), Fault<WrongToken>>
-    ensures adds { AddsDeclarations (λ old. listed (list_in (end + 1 - start) start old)) reader.old
+    ensures adds { AddsDeclarations (list_in (end + 1 - start) start) reader.old
         lists.old lists.new reader.new result }
     ensures stays { WhereRefused (lists_seen lists.new ≡ lists_seen lists.old) result }
 {
@@ -178,7 +178,7 @@ fn add_list(
         Err(Fault::Memory) => Err(Fault::Memory),
         Err(Fault::Refused(wrong)) => {
             lists.bfs.truncate(count);
-            Err(Fault::Refused(wrong.within_list()))
+            Err(Fault::Refused(wrong))
         }
     }
 }

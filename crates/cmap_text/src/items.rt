@@ -49,7 +49,7 @@ fn add_use<'d>(uses: &mut Vec<&'d [u8]>, operand: Option<&'d [u8]>) -> Result<()
     ensures added { OnOk result ((name : Bor (List ℕ)) × (operand.entry ≡ Some name)
         × (uses.new.items ≡ uses.old.items ++ name ∷ [])) }
     ensures refused { IfErr result (RefusesWith (λ wrong. (option_copied operand.entry ≡ None)
-        × (wrong ≡ record { is_token = true; reason = UseWithoutName; in_list = false }))) }
+        × (wrong ≡ record { is_token = true; reason = UseWithoutName }))) }
     ensures stays { WhereRefused (uses.new.items ≡ uses.old.items) result }
 {
     let Some(name) = operand else {

@@ -1,57 +1,44 @@
-//! What a text says apart from its faults: reading goes on after each.
+//! What a text says apart from its faults.
 
-ghost use Rattle.std.specs.Prelude.{◌≡◌, ◌≤◌, [], length, Ok, Option, option_map, if◌then◌else◌, IfOk, OnOk};
-ghost use Rattle.cmap_tokens.specs.Tokens as tokens;
-ghost use Rattle.cmap_tokens.specs.TokenSeen.{token_seen};
-ghost use Rattle.cmap_tokens.specs.TokensLeft.{Left, start_of, tokens_of};
+ghost use Rattle.std.specs.Prelude.{◌≡◌, [], length, IfOk, OnOk};
+ghost use Rattle.std.specs.Option.{option_copied};
+ghost use Rattle.cmap_tokens.specs.TokenSeen.{piece_seen, token_seen};
+ghost use Rattle.cmap_tokens.specs.TokensLeft.{start_of};
 ghost use Rattle.cmap_values.specs.DeclarationsSeen.{lists_seen};
 ghost use Rattle.cmap_values.specs.Faults.{Ascend};
 ghost use Rattle.cmap_values.specs.Files as files;
 ghost use Rattle.cmap_values.specs.FilesSeen.{file_seen};
-ghost use Rattle.cmap_values.specs.Only.{HoldsOfNone, IsOnly};
 ghost use Rattle.cmap_values.specs.MetadataSeen.{metadata_seen};
-ghost use Rattle.cmap_text.specs.EntriesSeen.{IsTold, refused_seen};
-ghost use Rattle.cmap_text.specs.Salvage.{AreDeclared, BeginsRefused, Salvages, SalvagesFile, entry, faulted, list_of, nothing, rest_of, step};
+ghost use Rattle.cmap_values.specs.Only.{HoldsOfNone, IsOnly};
 ghost use Rattle.cmap_text.specs.Salvage as salvage;
-ghost use Rattle.cmap_text.specs.SalvageSeen.{EndsPart, ReadsPart, next_seen, part_of};
+ghost use Rattle.cmap_text.specs.Salvage.{BeginsRefused, KeepsFronts, SalvagesFile, nothing_salvaged};
+ghost use Rattle.cmap_text.specs.SalvageSeen.{entry_seen, found_seen, rest_seen, state_seen};
+ghost use Rattle.cmap_text.specs.Standing.{AreDeclared};
 ghost use Rattle.cmap_text.specs.TextFiles.{IsMetadata, IsTextFile};
-ghost use Rattle.cmap_text.specs.TextReading as reading;
-ghost use Rattle.cmap_text.specs.TextReading.{nothing_said};
-ghost use Rattle.cmap_text.specs.TextSeen.{said_seen, section_seen, values_seen};
-ghost use Rattle.cmap_text.specs.TokenParsers.{token_in};
-ghost use Rattle.cmap_text.specs.TokenPlaces.{Lies, left_at, token_ending};
+ghost use Rattle.cmap_text.specs.TextSeen.{key_name, section_seen, values_seen};
 
-use crate::file::stop_of;
-use crate::items::{Said, read_item};
-use crate::sections::{Section, next_start, read_entry};
-use crate::tokens::{TokenReader, is_executable, is_word};
-use crate::wrong_token::{WrongToken, wrong};
-use cmap_tokens::token::{Scanner, Token};
-use cmap_values::fault::{Fault, Reason, Stop};
+mod entries;
+mod known_words;
+mod lists;
+mod pieces;
+mod states;
+
+use self::pieces::{Class, class_of, own_fault};
+use self::states::{AtFault, Entry, State};
+use crate::items::Said;
+use crate::keys::Key;
+use crate::sections::Section;
+use crate::tokens::{Decoder, is_executable, literal_name};
+use cmap_tokens::token::{Piece, PieceReader, Token};
+use cmap_values::fault::{Reason, Stop};
 use cmap_values::file::{File, Salvaged};
 use cmap_values::metadata::Metadata;
 use std::alloc::{AllocError, Global};
-
-/// What comes next.
-#[derive(Clone, Copy)]
-enum Next<'d> {
-    /// An item.
-    Item,
-    /// The rest of the item that begins with this token.
-    After(Token<'d>),
-    /// An entry of this section, or its closer.
-    Entry(Section),
-    /// What is left of a list of texts, of which an entry of this section is lost.
-    InList(Section),
-    /// Nothing.
-    Nothing,
-}
 
 /// What a text says apart from its faults, and the faults.
 ///
 /// It fails only if memory runs out.
 pub fn salvage_text<'d>(alloc: Global, text: &'d [u8]) -> Result<Salvaged<'d>, AllocError>
-    // Reading goes on after each fault as `step` says.
     ensures says { IfOk result
         (λ found. SalvagesFile text.now (file_seen found.file) found.faults.items) }
 
@@ -63,263 +50,207 @@ pub fn salvage_text<'d>(alloc: Global, text: &'d [u8]) -> Result<Salvaged<'d>, A
     ensures first { IfOk result (λ found. HoldsOfNone (IsTextFile text.now)
         → BeginsRefused text.now found.faults.items) }
 
-    // Each declaration stands in the text.
+    // What is said before the first fault is a front of what is given.
+    ensures kept { IfOk result
+        (λ found. KeepsFronts text.now (lists_seen found.file.lists) (file_seen found.file).uses) }
+
+    // Each declaration stands in the text, at an entry of its own.
     ensures declared { IfOk result (λ found. AreDeclared text.now (lists_seen found.file.lists)) }
 
     // The faults are in order, and in the text.
     ensures ascend { IfOk result (λ found. Ascend 0 found.faults.items (length text.now)) }
 {
-    let mut said = Said::new(alloc);
-    let mut faults = Vec::new(alloc);
-    let metadata = read_said(alloc, text, &mut said, &mut faults)?;
+    let mut found = Found::new(alloc);
+    let metadata = found.read(alloc, text)?;
     Ok(Salvaged {
         file: File {
             metadata,
-            lists: said.lists,
-            uses: said.uses,
+            lists: found.said.lists,
+            uses: found.said.uses,
         },
-        faults,
+        faults: found.faults,
     })
 }
 
-/// Reads all that a text says, and gives what its keys say of the file.
-fn read_said<'d>(
-    alloc: Global,
-    text: &'d [u8],
-    said: &mut Said<'d>,
-    faults: &mut Vec<Stop>,
-) -> Result<Metadata, AllocError>
-    ensures { IfOk result (λ metadata. said_seen said.old ≡ nothing_said → faults.old.items ≡ []
-        → Salvages text.now (said_seen said.new) faults.new.items
-        × Ascend 0 faults.new.items (length text.now)
-        × AreDeclared text.now (lists_seen said.new.lists)
-        × IsOnly (IsMetadata (values_seen said.new.values)) (metadata_seen metadata)) }
-{
-    read_parts(alloc, text, said, faults)?;
-    said.values.metadata(alloc)
+/// What is found in a text, as far as its pieces are read.
+#[derive(Drop)]
+struct Found<'d> {
+    said: Said<'d>,
+    faults: Vec<Stop>,
+    decoder: Decoder,
 }
 
-/// Reads all the parts of a text.
-fn read_parts<'d>(
-    alloc: Global,
-    text: &'d [u8],
-    said: &mut Said<'d>,
-    faults: &mut Vec<Stop>,
-) -> Result<(), AllocError>
-    ensures { OnOk result (said_seen said.old ≡ nothing_said → faults.old.items ≡ []
-        → Salvages text.now (said_seen said.new) faults.new.items
-        × Ascend 0 faults.new.items (length text.now)
-        × AreDeclared text.now (lists_seen said.new.lists)) }
-{
-    let mut reader = TokenReader::new(alloc, text);
-    let mut next = Next::Item;
-    loop {
-        match read_on(&mut reader, text, next, said, faults) {
-            Ok(Next::Nothing) => return Ok(()),
-            Ok(then) => next = then,
-            Err(error) => return Err(error),
+impl<'d> Found<'d> {
+    fn new(alloc: Global) -> Self
+        ensures { found_seen result ≡ nothing_salvaged }
+    {
+        Found {
+            said: Said::new(alloc),
+            faults: Vec::new(alloc),
+            decoder: Decoder::new(alloc),
         }
     }
-}
 
-/// Reads a part, or adds a fault.
-fn read_on<'d>(
-    reader: &mut TokenReader<'d>,
-    text: &'d [u8],
-    next: Next<'d>,
-    said: &mut Said<'d>,
-    faults: &mut Vec<Stop>,
-) -> Result<Next<'d>, AllocError>
-    ensures { Lies text.now reader.old → IfOk result (λ after.
-        step text.now (part_of (next_seen next.entry) (said_seen said.old) reader.old faults.old.items)
-        ≡ part_of (next_seen after) (said_seen said.new) reader.new faults.new.items) }
-{
-    let start = reader.offset();
-    match read_part(reader, next, said) {
-        Ok(then) => Ok(then),
-        Err(Fault::Memory) => Err(AllocError),
-        Err(Fault::Refused(wrong)) => go_on(reader, text, start, next, wrong, faults),
+    /// Reads all the pieces of a text, and gives what its keys say of the file.
+    fn read(&mut self, alloc: Global, text: &'d [u8]) -> Result<Metadata, AllocError>
+        ensures { IfOk result (λ metadata. found_seen self.old ≡ nothing_salvaged
+            → (found_seen self.new ≡ salvage.salvaged text.now)
+            × IsOnly (IsMetadata (values_seen self.new.said.values)) (metadata_seen metadata)) }
+    {
+        self.read_pieces(alloc, text)?;
+        self.said.values.metadata(alloc)
     }
-}
 
-/// Reads an item, what is left of one or of a list, or an entry. A section that an item opens comes
-/// next.
-fn read_part<'d>(
-    reader: &mut TokenReader<'d>,
-    next: Next<'d>,
-    said: &mut Said<'d>,
-) -> Result<Next<'d>, Fault<WrongToken>>
-    ensures { ReadsPart (next_seen next.entry) (said_seen said.old) (said_seen said.new)
-        reader.old reader.new result }
-{
-    match next {
-        Next::Item => match reader.next_token() {
-            Ok(Some(first)) => read_rest(reader, &first, said),
-            Ok(None) => Ok(Next::Nothing),
-            // By `?` each clause would be shown again of the error.
-            Err(fault) => Err(fault),
-        },
-        Next::After(first) => read_rest(reader, &first, said),
-        Next::Entry(section) => read_one(reader, section, said),
-        Next::InList(section) => pass_list(reader, section),
-        Next::Nothing => Ok(Next::Nothing),
+    /// Reads all the pieces of a text.
+    fn read_pieces(&mut self, alloc: Global, text: &'d [u8]) -> Result<(), AllocError>
+        ensures { OnOk result (found_seen self.old ≡ nothing_salvaged
+            → found_seen self.new ≡ salvage.salvaged text.now) }
+    {
+        let mut reader = PieceReader::new(alloc, text);
+        let mut state = State::Item;
+        while let Some(piece) = reader.next_piece()? {
+            state = self.take(&piece, state)?;
+        }
+        self.finish(text.len(), state)
     }
-}
 
-/// Reads what follows the first token of an item, but no section.
-fn read_rest<'d>(
-    reader: &mut TokenReader<'d>,
-    first: &Token<'d>,
-    said: &mut Said<'d>,
-) -> Result<Next<'d>, Fault<WrongToken>>
-    ensures { ReadsPart (rest_of (token_seen first.now)) (said_seen said.old) (said_seen said.new)
-        reader.old reader.new result }
-{
-    if let Some(section) = Section::opened_by(first) {
-        said.operand = None;
-        return Ok(Next::Entry(section));
-    }
-    read_item(reader, first, said)?;
-    Ok(Next::Item)
-}
-
-/// Reads an entry of a section, or its closer.
-fn read_one<'d>(
-    reader: &mut TokenReader<'d>,
-    section: Section,
-    said: &mut Said<'d>,
-) -> Result<Next<'d>, Fault<WrongToken>>
-    ensures { ReadsPart (entry (section_seen section)) (said_seen said.old) (said_seen said.new)
-        reader.old reader.new result }
-{
-    let Some(start) = next_start(reader, section)? else {
-        return Ok(Next::Item);
-    };
-    read_entry(reader, section, start, &mut said.lists)?;
-    Ok(Next::Entry(section))
-}
-
-/// Passes over a token of a list of which an entry is lost.
-fn pass_list<'d>(
-    reader: &mut TokenReader<'d>,
-    section: Section,
-) -> Result<Next<'d>, Fault<WrongToken>>
-    ensures { (said : reading.Said) → ReadsPart (list_of (section_seen section)) said said
-        reader.old reader.new result }
-{
-    match reader.required_token() {
-        Ok(token) => after_listed(&token, section),
-        // By `?` each clause would be shown again of the error.
-        Err(fault) => Err(fault),
-    }
-}
-
-/// What comes after a token of a list of which an entry is lost.
-fn after_listed<'d>(token: &Token<'_>, section: Section) -> Result<Next<'d>, Fault<WrongToken>>
-    ensures { (said : reading.Said) (before here : Left) → token_in before ≡ Ok (token_seen token.now, here)
-        → ReadsPart (list_of (section_seen section)) said said before here result }
-{
-    if is_executable(token, b"]") {
-        Ok(Next::Entry(section))
-    } else if !is_word(token) {
-        Ok(Next::InList(section))
-    } else if is_executable(token, section.closer()) {
-        Ok(Next::Item)
-    } else {
-        Err(wrong(Reason::CodeExpected))
-    }
-}
-
-/// Adds a fault of the part that begins at the offset `start`, and says what comes after it.
-fn go_on<'d>(
-    reader: &mut TokenReader<'d>,
-    text: &'d [u8],
-    start: usize,
-    next: Next<'d>,
-    wrong: WrongToken,
-    faults: &mut Vec<Stop>,
-) -> Result<Next<'d>, AllocError>
-    ensures { IfOk result (λ after. (token : Option tokens.Token) → IsTold wrong.is_token reader.old token
-        → start ≤ length text.now → EndsPart (next_seen next.entry) (left_at text.now start) token reader.old
-        → (said : reading.Said)
-        → faulted text.now (part_of (next_seen next.entry) said reader.old faults.old.items) said
-        (refused_seen token wrong reader.old)
-        ≡ part_of (next_seen after) said reader.new faults.new.items) }
-{
-    faults.push(stop_of(reader, wrong, text.len()))?;
-    Ok(next_after(reader, text, start, next, wrong))
-}
-
-/// What comes after a fault of the part that begins at the offset `start`. The reader goes on after it.
-fn next_after<'d>(
-    reader: &mut TokenReader<'d>,
-    text: &'d [u8],
-    start: usize,
-    next: Next<'d>,
-    wrong: WrongToken,
-) -> Next<'d>
-    ensures { (token : Option tokens.Token) → IsTold wrong.is_token reader.old token
-        → start ≤ length text.now → EndsPart (next_seen next.entry) (left_at text.now start) token reader.old
-        → (salvage.next_after text.now (next_seen next.entry) (refused_seen token wrong reader.old) ≡ next_seen result)
-        × (salvage.left_after text.now (refused_seen token wrong reader.old) ≡ reader.new) }
-{
-    if !wrong.is_token {
-        let after = after_missing(next, wrong.in_list, reader.stop() < text.len());
-        reader.resume(text);
-        return after;
-    }
-    match token_between(text, start, reader.offset()) {
-        Some(token) => after_wrong(next, &token, wrong.in_list),
-        None => Next::Item,
-    }
-}
-
-/// The token that ends at the offset `end`, of those from the offset `start` on, which are read again up
-/// to there.
-fn token_between<'d>(text: &'d [u8], start: usize, end: usize) -> Option<Token<'d>>
-    ensures { start ≤ length text.now → start ≤ end
-        → option_map token_seen result ≡ token_ending end (left_at text.now start).tokens }
-{
-    let mut scanner = Scanner::new(&text[start.min(text.len())..]);
-    let len = end.saturating_sub(start);
-    while let Some(token) = scanner.next_token().ok().flatten() {
-        let offset = scanner.offset();
-        if offset >= len {
-            return (offset == len).then_some(token);
+    /// Takes a piece, and gives the state after it.
+    fn take(&mut self, piece: &Piece<'d>, state: State) -> Result<State, AllocError>
+        ensures { IfOk result (λ then. (state_seen then, found_seen self.new)
+            ≡ salvage.take_piece (state_seen state, found_seen self.old) (piece_seen piece.now)) }
+    {
+        match state {
+            State::Item => self.take_item(piece),
+            State::Value(key) => self.take_value(piece, key),
+            State::Entry(entry) => self.take_in_entry(piece, entry),
+            State::AtFault(rest) => self.pass_in_entry(piece, rest),
+            State::PassingList(rest) => self.pass_in_list(piece, rest),
+            State::PassingLine(section) => self.pass_in_line(piece, section),
+            State::List(list) => self.take_in_list(piece, list),
         }
     }
-    None
-}
 
-/// Next state after malformed input.
-fn after_missing<'d>(next: Next<'d>, in_list: bool, goes_on: bool) -> Next<'d>
-    ensures { next_seen result
-        ≡ (if goes_on then salvage.here_after (next_seen next.entry) in_list else nothing) }
-{
-    match next {
-        _ if !goes_on => Next::Nothing,
-        Next::Entry(section) if in_list => Next::InList(section),
-        Next::Entry(section) => Next::Entry(section),
-        Next::InList(section) => Next::InList(section),
-        _ => Next::Item,
+    /// At the end of a text of `len` bytes.
+    fn finish(&mut self, len: usize, state: State) -> Result<(), AllocError>
+        ensures { OnOk result (found_seen self.new ≡ salvage.finished len (state_seen state, found_seen self.old)) }
+    {
+        match state {
+            State::Item => {}
+            State::Value(key) => self.said.values.set(key, None),
+            _ => self.faults.push(Stop {
+                offset: len,
+                reason: Reason::EndWithinSection,
+            })?,
+        }
+        Ok(())
     }
-}
 
-/// What comes after a wrong token.
-fn after_wrong<'d>(next: Next<'d>, token: &Token<'d>, in_list: bool) -> Next<'d>
-    ensures { next_seen result
-        ≡ salvage.wrong_after (next_seen next.entry) in_list (token_seen token.now) }
-{
-    let (section, in_list) = match next {
-        Next::Entry(section) => (section, in_list),
-        Next::InList(section) => (section, false),
-        _ => return Next::Item,
-    };
-    if is_word(token) {
-        Next::After(*token)
-    } else if in_list && !is_executable(token, b"]") {
-        Next::InList(section)
-    } else {
-        Next::Entry(section)
+    /// Takes a piece with which an item begins.
+    fn take_item(&mut self, piece: &Piece<'d>) -> Result<State, AllocError>
+        ensures { IfOk result (λ state. (state_seen state, found_seen self.new)
+            ≡ salvage.take_item (found_seen self.old) (piece_seen piece.now)) }
+    {
+        match &piece.token {
+            Ok(token) => self.begin_item(token, piece.end),
+            Err(malformed) => {
+                self.faults.push(own_fault(*malformed))?;
+                Ok(State::Item)
+            }
+        }
+    }
+
+    /// Takes the first token of an item, which ends at this offset.
+    fn begin_item(&mut self, token: &Token<'d>, end: usize) -> Result<State, AllocError>
+        ensures { IfOk result (λ state. (state_seen state, found_seen self.new)
+            ≡ salvage.begin_item (found_seen self.old) (token_seen token.now) end) }
+    {
+        let operand = self.said.operand;
+        self.said.operand = literal_name(token);
+        if let Some(section) = Section::opened_by(token) {
+            return Ok(State::entry(section));
+        }
+        if is_executable(token, b"usecmap") {
+            return self.take_use(operand, end);
+        }
+        match Key::of(token) {
+            Some(key) => Ok(State::Value(key)),
+            None => Ok(State::Item),
+        }
+    }
+
+    /// Takes a `usecmap` that ends at this offset.
+    fn take_use(&mut self, operand: Option<&'d [u8]>, end: usize) -> Result<State, AllocError>
+        ensures { IfOk result (λ state. (state_seen state, found_seen self.new)
+            ≡ salvage.take_use (found_seen self.old) (option_copied operand.entry) end) }
+    {
+        match operand {
+            Some(name) => self.said.uses.push(name)?,
+            None => self.faults.push(Stop {
+                offset: end,
+                reason: Reason::UseWithoutName,
+            })?,
+        }
+        Ok(State::Item)
+    }
+
+    /// Takes a piece where the value of a key has to stand.
+    fn take_value(&mut self, piece: &Piece<'d>, key: Key) -> Result<State, AllocError>
+        ensures { IfOk result (λ state. (state_seen state, found_seen self.new)
+            ≡ salvage.take_value (found_seen self.old) (key_name key) (piece_seen piece.now)) }
+    {
+        match &piece.token {
+            Ok(token) => {
+                self.said.values.set(key, Some(*token));
+                Ok(State::Item)
+            }
+            Err(malformed) => {
+                self.faults.push(own_fault(*malformed))?;
+                match class_of(piece) {
+                    Class::Alone => Ok(State::Value(key)),
+                    _ => Ok(State::Item),
+                }
+            }
+        }
+    }
+
+    /// Takes a piece of an entry at fault, from the one at fault on.
+    fn pass_in_entry(&mut self, piece: &Piece<'d>, rest: AtFault) -> Result<State, AllocError>
+        ensures { IfOk result (λ state. (state_seen state, found_seen self.new)
+            ≡ salvage.pass_in_entry (found_seen self.old) (rest_seen rest) (piece_seen piece.now)) }
+    {
+        match class_of(piece) {
+            Class::Word => self.take_item(piece),
+            Class::Alone => Ok(State::AtFault(rest)),
+            Class::OpenBracket => Ok(State::PassingList(rest)),
+            Class::CloseBracket => Ok(rest.after_entry()),
+            Class::Part => Ok(rest.after_part()),
+        }
+    }
+
+    /// Takes a piece of a list of an entry at fault.
+    fn pass_in_list(&mut self, piece: &Piece<'d>, rest: AtFault) -> Result<State, AllocError>
+        ensures { IfOk result (λ state. (state_seen state, found_seen self.new)
+            ≡ salvage.pass_in_list (found_seen self.old) (rest_seen rest) (piece_seen piece.now)) }
+    {
+        match class_of(piece) {
+            Class::Word => self.take_item(piece),
+            Class::CloseBracket => Ok(rest.after_entry()),
+            _ => Ok(State::PassingList(rest)),
+        }
+    }
+
+    /// Takes a piece after an entry at fault that begins a line. The next entry begins with the next line.
+    fn pass_in_line(&mut self, piece: &Piece<'d>, section: Section) -> Result<State, AllocError>
+        ensures { IfOk result (λ state. (state_seen state, found_seen self.new)
+            ≡ salvage.pass_in_line (found_seen self.old) (section_seen section) (piece_seen piece.now)) }
+    {
+        if piece.begins_line {
+            return self.take_in_entry(piece, Entry::new(section));
+        }
+        match class_of(piece) {
+            Class::Word => self.take_item(piece),
+            Class::OpenBracket => Ok(State::PassingList(AtFault::in_line(section))),
+            _ => Ok(State::PassingLine(section)),
+        }
     }
 }

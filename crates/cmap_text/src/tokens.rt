@@ -9,19 +9,17 @@ ghost use Rattle.cmap_values.specs.declared.fault.Reason.TheVariants.{CidExpecte
 ghost use Rattle.cmap_values.specs.declared.fault.Reason.TheVariants as reason;
 ghost use Rattle.cmap_tokens.specs.Texts.{units_of};
 ghost use Rattle.cmap_tokens.specs.Numbers.{Integer};
-ghost use Rattle.cmap_tokens.specs.Resumption.{resumed};
 ghost use Rattle.cmap_tokens.specs.Tokens.{Numeral, String};
-ghost use Rattle.cmap_tokens.specs.TokenSeen.{string_raw, token_seen};
+ghost use Rattle.cmap_tokens.specs.TokenSeen.{malformed_seen, string_raw, token_seen};
 ghost use Rattle.cmap_tokens.specs.TokensLeft.{Left, start_of, tokens_of};
 ghost use Rattle.cmap_text.specs.EntriesSeen.{ReadsAs};
-ghost use Rattle.cmap_text.specs.Salvage.{brackets, is_word};
 ghost use Rattle.cmap_text.specs.TextFiles.{literal_head, other};
 ghost use Rattle.cmap_text.specs.TextReading.{cid_in, code_fault, code_in, code_of, destination_in, is_executable, is_literal, next_cid, next_code, next_destination};
 ghost use Rattle.cmap_text.specs.TextSeen.{code_seen};
-ghost use Rattle.cmap_text.specs.TokenParsers.{next_in, or_wrong, run, token_in};
+ghost use Rattle.cmap_text.specs.TokenParsers.{malformed_reason, next_in, or_wrong, run, token_in};
 
 use crate::wrong_token::{WrongToken, no_token, wrong};
-use cmap_tokens::token::{Number, Scanner, StringToken, Token};
+use cmap_tokens::token::{Malformed, Number, Scanner, StringToken, Token};
 use cmap_tokens::utf16::units;
 use cmap_values::code_length::{CodeLength, read_code};
 use cmap_values::fault::{Fault, Reason};
@@ -40,10 +38,8 @@ pub(crate) struct Code {
 /// Reads the tokens of a text; a clause sees what is left of it.
 #[derive(Drop)]
 pub(crate) struct TokenReader<'d> {
-    alloc: Global,
     scanner: Scanner<'d>,
-    /// the bytes of the last string
-    string: Vec<u8>,
+    decoder: Decoder,
 }
 
 impl<'d> Model for TokenReader<'d> {
@@ -59,9 +55,8 @@ impl<'d> TokenReader<'d> {
         ensures { result ≡ tokens_of (start_of text.now) }
     {
         TokenReader {
-            alloc,
             scanner: Scanner::new(text),
-            string: Vec::new(alloc),
+            decoder: Decoder::new(alloc),
         }
     }
 
@@ -69,10 +64,10 @@ impl<'d> TokenReader<'d> {
     pub(crate) fn next_token(&mut self) -> Result<Option<Token<'d>>, Fault<WrongToken>>
         ensures { ReadsAs (next_in self.old) (λ found. (option_map token_seen found, self.new)) self.new result }
     {
-        let Ok(found) = self.scanner.next_token() else {
-            return Err(no_token(Reason::MalformedToken));
-        };
-        Ok(found)
+        match self.scanner.next_token() {
+            Ok(found) => Ok(found),
+            Err(malformed) => Err(no_token(malformed_reason(malformed))),
+        }
     }
 
     /// The next token, which a section needs.
@@ -82,7 +77,7 @@ impl<'d> TokenReader<'d> {
         match self.scanner.next_token() {
             Ok(Some(token)) => Ok(token),
             Ok(None) => Err(no_token(Reason::EndWithinSection)),
-            Err(_) => Err(no_token(Reason::MalformedToken)),
+            Err(malformed) => Err(no_token(malformed_reason(malformed))),
         }
     }
 
@@ -91,25 +86,11 @@ impl<'d> TokenReader<'d> {
         ensures { ReadsAs (or_wrong (code_fault (token_seen token.now)) (code_in (token_seen token.now)) (token_seen token.now) self.old)
             (λ code. (code_seen code, self.new)) self.new result }
     {
-        match token {
-            Token::String(string) => self.string_code(string),
-            _ => Err(wrong(Reason::CodeExpected)),
+        match self.decoder.code(token) {
+            Ok(Some(code)) => Ok(code),
+            Ok(None) => Err(wrong(code_fault(token))),
+            Err(AllocError) => Err(Fault::Memory),
         }
-    }
-
-    /// The code that a string is: one of one to four bytes.
-    fn string_code(&mut self, string: &StringToken<'_>) -> Result<Code, Fault<WrongToken>>
-        ensures { ReadsAs (or_wrong reason.CodeLength (code_in (String (string_raw string.now))) (String (string_raw string.now)) self.old)
-            (λ code. (code_seen code, self.new)) self.new result }
-    {
-        if let Some((count, number)) = string.plain_number() {
-            let Some(len) = CodeLength::of(count) else {
-                return Err(wrong(Reason::CodeLength));
-            };
-            return Ok(Code { len, number });
-        }
-        string.decode_into(&mut self.string)?;
-        code_of(&self.string).ok_or(wrong(Reason::CodeLength))
     }
 
     /// The code of two bytes that comes next, where it stands as most do; `None` of any other token.
@@ -170,25 +151,11 @@ impl<'d> TokenReader<'d> {
         ensures { ReadsAs (or_wrong TextExpected (destination_in (token_seen token.now)) (token_seen token.now) self.old)
             (λ units. (units_seen units, self.new)) self.new result }
     {
-        match token {
-            Token::String(string) => self.string_units(string),
-            _ => Err(wrong(Reason::TextExpected)),
+        match self.decoder.destination(token) {
+            Ok(Some(units)) => Ok(units),
+            Ok(None) => Err(wrong(Reason::TextExpected)),
+            Err(AllocError) => Err(Fault::Memory),
         }
-    }
-
-    /// The units of the destination that a string is: one that isn't empty.
-    fn string_units(&mut self, string: &StringToken<'_>) -> Result<Units, Fault<WrongToken>>
-        ensures { ReadsAs (or_wrong TextExpected (destination_in (String (string_raw string.now))) (String (string_raw string.now)) self.old)
-            (λ units. (units_seen units, self.new)) self.new result }
-    {
-        if let Some((len, number)) = string.plain_number() {
-            return Ok(units_of_number(len, number));
-        }
-        string.decode_into(&mut self.string)?;
-        if self.string.is_empty() {
-            return Err(wrong(Reason::TextExpected));
-        }
-        Ok(units_of_bytes(self.alloc, &self.string)?)
     }
 
     /// The unit of the destination of two bytes that comes next, where it stands as most do; `None` of
@@ -252,15 +219,6 @@ impl<'d> TokenReader<'d> {
         }
     }
 
-    /// Goes on after the piece that is no token, where none comes; `text` is the text that is read.
-    pub(crate) fn resume(&mut self, text: &'d [u8])
-        ensures { self.new ≡ tokens_of (resumed
-            (record { source = text.now; passed = min self.old.passed (length text.now) })) }
-    {
-        let offset = self.scanner.offset().min(text.len());
-        self.scanner = Scanner::after_malformed(text, offset);
-    }
-
     /// How many bytes of the text have been read.
     pub(crate) fn offset(&self) -> usize
         ensures { result ≡ self.now.passed }
@@ -273,6 +231,92 @@ impl<'d> TokenReader<'d> {
         ensures { self.now.tokens ≡ [] → result ≡ self.now.stop }
     {
         self.scanner.stop()
+    }
+}
+
+/// Reads what strings stand for.
+#[derive(Drop)]
+pub(crate) struct Decoder {
+    alloc: Global,
+    /// The bytes of the last string that isn't plain.
+    bytes: Vec<u8>,
+}
+
+impl Decoder {
+    pub(crate) fn new(alloc: Global) -> Self {
+        Decoder {
+            alloc,
+            bytes: Vec::new(alloc),
+        }
+    }
+
+    /// The code that a token is: a string of one to four bytes.
+    pub(crate) fn code(&mut self, token: &Token<'_>) -> Result<Option<Code>, AllocError>
+        ensures { IfOk result (λ found. option_map code_seen found ≡ code_in (token_seen token.now)) }
+    {
+        match token {
+            Token::String(string) => self.string_code(string),
+            _ => Ok(None),
+        }
+    }
+
+    /// The code that a string is: one of one to four bytes.
+    fn string_code(&mut self, string: &StringToken<'_>) -> Result<Option<Code>, AllocError>
+        ensures { IfOk result (λ found. option_map code_seen found ≡ code_in (String (string_raw string.now))) }
+    {
+        if let Some((count, number)) = string.plain_number() {
+            let Some(len) = CodeLength::of(count) else {
+                return Ok(None);
+            };
+            return Ok(Some(Code { len, number }));
+        }
+        string.decode_into(&mut self.bytes)?;
+        Ok(code_of(&self.bytes))
+    }
+
+    /// The units of the destination that a token is: a string that isn't empty.
+    pub(crate) fn destination(&mut self, token: &Token<'_>) -> Result<Option<Units>, AllocError>
+        ensures { IfOk result (λ found. option_map units_seen found ≡ destination_in (token_seen token.now)) }
+    {
+        match token {
+            Token::String(string) => self.string_units(string),
+            _ => Ok(None),
+        }
+    }
+
+    /// The units of the destination that a string is: one that isn't empty.
+    fn string_units(&mut self, string: &StringToken<'_>) -> Result<Option<Units>, AllocError>
+        ensures { IfOk result (λ found. option_map units_seen found ≡ destination_in (String (string_raw string.now))) }
+    {
+        if let Some((len, number)) = string.plain_number() {
+            return Ok(Some(units_of_number(len, number)));
+        }
+        string.decode_into(&mut self.bytes)?;
+        if self.bytes.is_empty() {
+            return Ok(None);
+        }
+        Ok(Some(units_of_bytes(self.alloc, &self.bytes)?))
+    }
+}
+
+/// Why a token is no code.
+pub(crate) fn code_fault(token: &Token<'_>) -> Reason
+    ensures { result ≡ code_fault (token_seen token.now) }
+{
+    match token {
+        Token::String(_) => Reason::CodeLength,
+        _ => Reason::CodeExpected,
+    }
+}
+
+/// The reason for which a text is refused where no token comes.
+pub(crate) fn malformed_reason(malformed: Malformed) -> Reason
+    ensures { result ≡ malformed_reason (malformed_seen malformed) }
+{
+    match malformed {
+        Malformed::UnclosedText | Malformed::UnclosedHexadecimal => Reason::UnclosedString,
+        Malformed::WrongDigit => Reason::WrongDigit,
+        Malformed::Stray => Reason::StrayDelimiter,
     }
 }
 
@@ -334,7 +378,7 @@ fn cid_of_number(number: u64) -> Result<Cid, Fault<WrongToken>>
 }
 
 /// The CID that a token is.
-fn cid_of(token: &Token<'_>) -> Option<Cid>
+pub(crate) fn cid_of(token: &Token<'_>) -> Option<Cid>
     ensures { result ≡ cid_in (token_seen token.now) }
 {
     match token {
@@ -349,27 +393,6 @@ pub(crate) fn is_executable(token: &Token<'_>, name: &[u8]) -> bool
 {
     match token {
         Token::Name(found) => !found.is_literal() && found.as_bytes() == name,
-        _ => false,
-    }
-}
-
-/// Whether a token is an executable name that is no bracket.
-pub(crate) fn is_word(token: &Token<'_>) -> bool
-    ensures { result ≡ is_word (token_seen token.now) }
-{
-    match token {
-        Token::Name(name) => !name.is_literal() && !is_bracket(name.as_bytes()),
-        _ => false,
-    }
-}
-
-fn is_bracket(name: &[u8]) -> bool
-    ensures { result ≡ list_any (bytes_eq name.now) brackets }
-{
-    let single: &[u8] = b"[]{}";
-    match name {
-        [byte] => single.contains(byte),
-        [b'<', b'<'] | [b'>', b'>'] => true,
         _ => false,
     }
 }

@@ -11,41 +11,24 @@ pub(crate) struct WrongToken {
     /// Whether a token can't stand where it does; otherwise no token comes.
     pub(crate) is_token: bool,
     pub(crate) reason: Reason,
-    /// Whether this is within a list of texts.
-    pub(crate) in_list: bool,
-}
-
-impl WrongToken {
-    /// The same, within a list of texts.
-    pub(crate) fn within_list(self) -> Self
-        ensures { result ≡ record { is_token = self.is_token; reason = self.reason; in_list = true } }
-    {
-        WrongToken {
-            is_token: self.is_token,
-            reason: self.reason,
-            in_list: true,
-        }
-    }
 }
 
 /// The refusal of the token that was read last.
 pub(crate) fn wrong(reason: Reason) -> Fault<WrongToken>
-    ensures { result ≡ Refused (record { is_token = true; reason = reason; in_list = false }) }
+    ensures { result ≡ Refused (record { is_token = true; reason = reason }) }
 {
     Fault::Refused(WrongToken {
         is_token: true,
         reason,
-        in_list: false,
     })
 }
 
 /// The refusal of a text where no token comes.
 pub(crate) fn no_token(reason: Reason) -> Fault<WrongToken>
-    ensures { result ≡ Refused (record { is_token = false; reason = reason; in_list = false }) }
+    ensures { result ≡ Refused (record { is_token = false; reason = reason }) }
 {
     Fault::Refused(WrongToken {
         is_token: false,
         reason,
-        in_list: false,
     })
 }

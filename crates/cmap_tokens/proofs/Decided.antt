@@ -1,13 +1,14 @@
 -- Which bytes decide on the tokens: what is read before the end of a front of a text is read whatever follows that front.
 use Rattle.std.proofs.Common.{◌≡◌, ℕ, ◌+◌, ◌<◌, Bool, true, false, not, ◌==◌, List, [], ◌∷◌, ◌++◌, length, take, drop, Option, Some, None, zero, suc, inl, inr, refl, sym, ap, ◌∙◌, subst, arith, append_assoc, length-append, length-drop, length-take-le, ◌-◌, one-add}
 use Rattle.std.specs.List.{prefix_len}
-use Rattle.std.proofs.lemmas.Bool.{cases_Bool, lt-leb}
+use Rattle.std.proofs.lemmas.Bool.{cases_Bool, lt-leb, ne_eqb}
 use Rattle.std.proofs.lemmas.Option.{none-some}
 use Rattle.std.proofs.Math.ListN.{get_or-append}
 use Rattle.std.proofs.Math.Seq.{take-append-add}
 use Rattle.std.proofs.lemmas.List.{drop-append-le, take-append-drop}
 use Rattle.cmap_tokens.specs.Bytes.{is_regular, is_white}
 use Rattle.cmap_tokens.specs.Gaps.{ends_comment}
+use Rattle.cmap_tokens.specs.Malformed.{hexadecimal_kind, malformed_kind, wrong_digit}
 use Rattle.cmap_tokens.specs.Tokens.{Token, Front, begins_regular, is_bracket, is_hex_body}
 use Rattle.cmap_tokens.specs.TokenReading.{one_more, gap_len, hex_len, string_of, first_piece, malformed_len}
 use Rattle.cmap_tokens.specs.TokensLeft.{after_gap, Agree, AgreesTo, IsDecidedByFronts, EndInOrder, Left, EndedToken, start_of, tokens_of, with_token}
@@ -42,11 +43,16 @@ hex_len-kept front s t short =
 
 -- no piece, which is seen within the front
 abbrev NoneKept : List ℕ → List ℕ → List ℕ → Type 0
-NoneKept front s t = first_piece (front ++ s) ≡ None → malformed_len (front ++ s) < length front → (first_piece (front ++ t) ≡ None) × (malformed_len (front ++ t) ≡ malformed_len (front ++ s))
+NoneKept front s t = first_piece (front ++ s) ≡ None → malformed_len (front ++ s) < length front
+    → (first_piece (front ++ t) ≡ None) × (malformed_len (front ++ t) ≡ malformed_len (front ++ s)) × (malformed_kind (front ++ t) ≡ malformed_kind (front ++ s))
 
 no_string : (piece other : List ℕ) (len : Option ℕ) → string_of piece (one_more len) ≡ None → string_of other (one_more len) ≡ None
 no_string piece other None e = refl
 no_string piece other (Some n) e = cc
+
+-- a byte that is no digit comes before the end of the front
+wrong_within : (front s : List ℕ) → prefix_len is_hex_body (front ++ s) < length front → hexadecimal_kind (front ++ s) ≡ wrong_digit
+wrong_within front s short = let other : (prefix_len is_hex_body (front ++ s) == length (front ++ s)) ≡ false = ne_eqb _ _ (λ same. omega (arith, same, short, length-append front s)) in rw other refl
 
 less_kept : (front s t : List ℕ) → NoneKept (60 ∷ front) s t
 unfolding first_piece
@@ -56,13 +62,13 @@ less_kept (b ∷ front) s t e short =
     let same = hex_len-kept (b ∷ front) s t within in
     elim (cases_Bool (b == 60)) [
       | inl again ↦ let clash = rw again at e in cc
-      | inr single ↦ (rw single (ap (λ o. string_of (60 ∷ b ∷ front ++ t) (one_more o)) same ∙ no_string _ _ (hex_len (b ∷ front ++ s)) (rw single at e)), ap (λ n. 1 + n) (hex_kept (b ∷ front) s t within))
+      | inr single ↦ (rw single (ap (λ o. string_of (60 ∷ b ∷ front ++ t) (one_more o)) same ∙ no_string _ _ (hex_len (b ∷ front ++ s)) (rw single at e)), ap (λ n. 1 + n) (hex_kept (b ∷ front) s t within), wrong_within (b ∷ front) t (omega (arith, hex_kept (b ∷ front) s t within, within)) ∙ sym (wrong_within (b ∷ front) s within))
     ]
 
 greater_kept : (front s t : List ℕ) → NoneKept (62 ∷ front) s t
 unfolding first_piece
 greater_kept [] s t e short = absurd (omega (arith, short))
-greater_kept (b ∷ front) s t e short = (e, refl)
+greater_kept (b ∷ front) s t e short = (e, refl, refl)
 
 nothing_first : (b : ℕ) (text other : List ℕ) → (b == 60) ≡ false → (b == 62) ≡ false → (b == 40) ≡ false → first_piece (b ∷ text) ≡ None → first_piece (b ∷ other) ≡ None
 unfolding first_piece
@@ -87,10 +93,10 @@ nothing_kept (b ∷ front) s t =
     let P : ℕ → Type 0 = λ c. NoneKept (c ∷ front) s t in
     by_byte b 60 P (less_kept front s t) (λ not_less. by_byte b 62 P (greater_kept front s t) (λ not_greater.
     by_byte b 40 P (λ e short. absurd (omega (arith, short, length-append front s))) (λ not_open e short.
-    (nothing_first b (front ++ s) (front ++ t) not_less not_greater not_open e, rw (not_less, not_greater, not_open) refl))))
+    (nothing_first b (front ++ s) (front ++ t) not_less not_greater not_open e, rw (not_less, not_greater, not_open) refl, rw (not_less, not_open) refl))))
 
 pub none_kept : (front s t text : List ℕ) → text ≡ front ++ s → first_piece (after_gap text) ≡ None → gap_len false text + malformed_len (after_gap text) < length front
-    → (gap_len false (front ++ t) ≡ gap_len false text) × (first_piece (after_gap (front ++ t)) ≡ None) × (malformed_len (after_gap (front ++ t)) ≡ malformed_len (after_gap text))
+    → (gap_len false (front ++ t) ≡ gap_len false text) × (first_piece (after_gap (front ++ t)) ≡ None) × (malformed_len (after_gap (front ++ t)) ≡ malformed_len (after_gap text)) × (malformed_kind (after_gap (front ++ t)) ≡ malformed_kind (after_gap text))
 none_kept front s t text is e short =
     let n = gap_len false text in
     let begun : gap_len false (front ++ s) ≡ n = sym (ap (gap_len false) is) in
@@ -98,7 +104,7 @@ none_kept front s t text is e short =
     let after : after_gap text ≡ drop n front ++ s = ap (drop n) is ∙ drop-append-le n front s (omega (arith, short)) in
     let other_after : after_gap (front ++ t) ≡ drop n front ++ t = rw gap (drop-append-le n front t (omega (arith, short))) in
     let kept = nothing_kept (drop n front) s t (sym (ap first_piece after) ∙ e) (omega (arith, short, ap malformed_len after, length-drop n front)) in
-    (gap, ap first_piece other_after ∙ kept.0, ap malformed_len other_after ∙ kept.1 ∙ sym (ap malformed_len after))
+    (gap, ap first_piece other_after ∙ kept.0, ap malformed_len other_after ∙ kept.1 ∙ sym (ap malformed_len after), ap malformed_kind other_after ∙ kept.2 ∙ sym (ap malformed_kind after))
 
 -- ---- the tokens that are left
 order : (n passed : ℕ) (text : List ℕ) → length text < n → EndInOrder (left_from passed text)
@@ -147,11 +153,12 @@ agrees (suc n) k passed text more few within =
       | none e ↦ rw (left_none passed text e) (
         same_passed,
         λ by.
-            let (gap, piece, same) = none_kept front (drop (1 + k) text) more text (sym (take-append-drop (1 + k) text)) e (omega (arith, by, long)) in
+            let (gap, piece, same, kind) = none_kept front (drop (1 + k) text) more text (sym (take-append-drop (1 + k) text)) e (omega (arith, by, long)) in
             rw (left_none passed other piece) (
               lt-leb _ _ (omega (arith, by, within)),
               refl,
               lt-leb _ _ (omega (arith, by, gap, long, length-append front more)),
+              kind,
               omega (arith, gap, same),
             ),
       )

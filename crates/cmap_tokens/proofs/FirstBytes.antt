@@ -1,14 +1,13 @@
 -- What is read of a text, by its first byte.
-use Rattle.std.proofs.Common.{◌≡◌, ℕ, ◌+◌, ◌-◌, ◌<◌, ◌≤◌, ◌==◌, Bool, true, false, List, [], ◌∷◌, length, get_or, min, take, drop, Option, None, Some, inl, inr, one-add, ap, refl, sym, ◌∙◌, arith, length-drop}
+use Rattle.std.proofs.Common.{◌≡◌, ℕ, ◌+◌, ◌-◌, ◌<◌, ◌≤◌, ◌==◌, Bool, true, false, List, [], ◌∷◌, length, get_or, take, drop, Option, None, Some, inl, inr, one-add, ap, refl, sym, ◌∙◌, arith, length-drop}
 use Rattle.std.specs.Prelude.{◌⊎◌, IfSome, is_some, option_map}
 use Rattle.std.specs.Char.{is_digit}
 use Rattle.std.specs.List.{prefix_len}
-use Rattle.std.proofs.lemmas.Bool.{and_left, cases_Bool, cond-true, eq-eqb, ne_eqb, or_from}
+use Rattle.std.proofs.lemmas.Bool.{and_left, cases_Bool, cond-true, ne_eqb, or_from}
 use Rattle.std.proofs.lemmas.Bool.Decides.{nat_tests}
 use Rattle.std.proofs.lemmas.List.{take_rest}
 use Rattle.cmap_tokens.specs.Bytes.{is_white}
 use Rattle.cmap_tokens.specs.Numbers.{are_digits, decimal_front, digits_value, integer_in_base, is_exponent, radix_integer, without_sign}
-use Rattle.cmap_tokens.specs.Resumption.{hex_left, piece_len}
 use Rattle.cmap_tokens.specs.Scanner.{spaced_decimal}
 use Rattle.cmap_tokens.specs.Strings.{escape_value}
 use Rattle.cmap_tokens.specs.Tokens.{is_hex_body, opened}
@@ -140,14 +139,3 @@ escape_other [] some not_return not_line outside = absurd (omega (arith, some))
 escape_other (b ∷ text) some not_return not_line outside =
     let digit : is_digit b 8 ≡ false = grind (arith, nat_tests, outside) in
     rw (ne_eqb b 13 not_return, ne_eqb b 10 not_line, digit) refl
-
--- ---- pieces that are no token
-pub piece_less : (text : List ℕ) (shown left : ℕ) → get_or text 0 0 ≡ 60 → shown ≡ malformed_len text → left ≡ hex_left (take (length text - shown) (drop shown text)) → shown + left ≡ piece_len text
-piece_less text shown left is shown_is left_is =
-    let test : (get_or text 0 0 == 60) ≡ true = eq-eqb _ 60 is in
-    rw test (ap (λ n. shown + n) (left_is ∙ ap hex_left (take_rest text shown)) ∙ ap (λ n. n + hex_left (drop n text)) shown_is)
-
-pub piece_other : (text : List ℕ) (shown : ℕ) → (get_or text 0 0 ≡ 60 → ⊥) → shown ≡ malformed_len text → min (shown + 1) (length text) ≡ piece_len text
-piece_other text shown other shown_is =
-    let test : (get_or text 0 0 == 60) ≡ false = ne_eqb _ 60 other in
-    rw test (ap (λ n. min (n + 1) (length text)) shown_is)

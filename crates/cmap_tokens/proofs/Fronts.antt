@@ -5,9 +5,10 @@ use Rattle.std.proofs.lemmas.Bool.{cases_lt, le-leb, lt-leb, leb-true}
 use Rattle.std.proofs.lemmas.List.{take_at, drop_at, drop_all, take-append-drop, take_rest, drop-drop}
 use Rattle.cmap_tokens.specs.Gaps.{IsBlank}
 use Rattle.cmap_tokens.specs.Tokens.{Token, Front, IsMalformed, Tokens}
+use Rattle.cmap_tokens.specs.Malformed.{malformed_kind}
 use Rattle.cmap_tokens.specs.Scanner.{OnlyFront, Cursor, FirstToken, ReadsToken, rest_of, past}
 use Rattle.cmap_tokens.specs.TokenReading.{gap_len, first_piece, malformed_len}
-use Rattle.cmap_tokens.specs.TokensLeft.{after_gap, HasTokens, Left, LeavesAfter, LeavesNone, no_token, start_of, with_token, tokens_within, tokens_of}
+use Rattle.cmap_tokens.specs.TokensLeft.{after_gap, HasTokens, Left, LeavesAfter, LeavesMalformed, LeavesNone, no_token, start_of, with_token, tokens_within, tokens_of}
 use Rattle.cmap_tokens.proofs.Gaps.{measured, gap_len-append, gap_len-blank}
 use Rattle.cmap_tokens.proofs.TokenPieces.{IsFirst, first_is, is_read}
 
@@ -208,13 +209,13 @@ pub leaves_blank : (cursor : Cursor) → IsBlank (rest_of cursor) → LeavesNone
 unfolding tokens_of
 leaves_blank cursor blank = left_blank cursor.passed (rest_of cursor) blank
 
-pub leaves_malformed : (cursor : Cursor) → IsMalformed (rest_of cursor) → LeavesNone false cursor
+pub leaves_malformed : (cursor : Cursor) → IsMalformed (rest_of cursor) → LeavesMalformed (malformed_kind (after_gap (rest_of cursor))) cursor
 unfolding tokens_of
 leaves_malformed cursor malformed =
     elim (next (rest_of cursor)) [
       | none e ↦
           elim (cases_lt (gap_len false (rest_of cursor)) (length (rest_of cursor))) [
-            | inl less ↦ rw (left_none cursor.passed (rest_of cursor) e) (refl, lt-leb _ _ less)
+            | inl less ↦ rw (left_none cursor.passed (rest_of cursor) e) ((refl, lt-leb _ _ less), refl)
             | inr all ↦ absurd (malformed.0 ((measured false (rest_of cursor)).blank all))
           ]
       | one front ↦ absurd (malformed.1 _ _ _ _ front)

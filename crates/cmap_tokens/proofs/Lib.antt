@@ -6,7 +6,12 @@ pub mod Digits
 pub mod FirstBytes
 pub mod Fronts
 pub mod Gaps
+pub mod MalformedRead
 pub mod NumbersSpelled
+pub mod OpenTracked
+pub mod PiecePlaces
+pub mod PiecesLeft
+pub mod PiecesTokens
 pub mod SpacedStrings
 pub mod Stops
 pub mod StringCuts

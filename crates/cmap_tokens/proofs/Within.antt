@@ -3,9 +3,7 @@ use Rattle.std.proofs.Common.{◌≡◌, ℕ, zero, suc, ◌+◌, ◌<◌, ◌�
 use Rattle.std.proofs.lemmas.List.{drop_at, drop-drop}
 use Rattle.std.proofs.lemmas.Bool.{cases_Bool, leb-false}
 use Rattle.std.proofs.lemmas.List.Sums.{prefix_len-le-length}
-use Rattle.std.specs.List.{prefix_len}
 use Rattle.cmap_tokens.specs.Tokens.{Front, is_hex_body, Token}
-use Rattle.cmap_tokens.specs.Resumption.{hex_left, piece_len, resumed}
 use Rattle.cmap_tokens.specs.Scanner.{Cursor, rest_of}
 use Rattle.cmap_tokens.specs.TokenReading.{gap_len, malformed_len}
 use Rattle.cmap_tokens.specs.TokensLeft.{after_gap, EndedToken, IsWithin, Left, tokens_of}
@@ -50,45 +48,6 @@ pub lie_within : (cursor : Cursor) → cursor.passed ≤ length cursor.source �
 unfolding tokens_of
 lie_within cursor inside = within (suc (length (rest_of cursor))) (length cursor.source) cursor.passed (rest_of cursor) (omega (arith, inside, length-drop cursor.passed cursor.source)) (omega arith)
 
--- ---- where reading goes on
-hex-within : (text : List ℕ) → hex_left text ≤ length text
-hex-within [] = omega arith
-hex-within (b ∷ text) =
-    elim (cases_Bool (b == 62)) [
-      | inl is_greater ↦ rw is_greater (omega arith)
-      | inr not_greater ↦ elim (cases_Bool (b == 60)) [ inl is_less ↦ rw (not_greater, is_less) (omega arith) | inr other ↦ rw (not_greater, other) (omega (arith, hex-within text)) ]
-    ]
-
-piece-within : (text : List ℕ) → (malformed_len text ≤ piece_len text) × (piece_len text ≤ length text) × (0 < length text → 0 < piece_len text)
-piece-within [] = (omega arith, omega arith, λ some. omega (arith, some))
-piece-within (b ∷ text) =
-    elim (cases_Bool (b == 60)) [
-      | inl is_less ↦
-          let shown = 1 + prefix_len is_hex_body text in
-          rw is_less (omega arith, omega (arith, prefix_len-le-length is_hex_body text, hex-within (drop shown (b ∷ text)), length-drop shown (b ∷ text)), λ some. omega arith)
-      | inr not_less ↦ let most = rw not_less at (malformed-within (b ∷ text)) in rw not_less (omega (arith, most), omega arith, λ some. omega arith)
-    ]
-
--- reading goes on after the byte that shows that no token comes, or at it, and within the text
-pub resumed_within : (cursor : Cursor) → cursor.passed ≤ length cursor.source → (tokens_of cursor).tokens ≡ [] → let stop = (tokens_of cursor).stop in let passed = (resumed cursor).passed in (stop ≤ passed) × (passed ≤ length cursor.source) × (stop < length cursor.source → cursor.passed < passed)
-unfolding tokens_of
-resumed_within cursor inside empty =
-    let rest = rest_of cursor in
-    let (least, most, some) = piece-within (after_gap rest) in
-    let gap = (measured false rest).within in
-    let size = length-drop (gap_len false rest) rest in
-    let whole = length-drop cursor.passed cursor.source in
-    elim (next rest) [
-      | none e ↦
-          let is = left_none cursor.passed rest e in
-          let stop = ap (λ (l : Left). l.stop) is in (
-            omega (arith, least, stop),
-            omega (arith, inside, most, gap, size, whole),
-            λ more. omega (arith, some (omega (arith, more, stop, gap, size, whole))),
-          )
-      | one front ↦ let clash = rw (left_front front cursor.passed) at empty in cc
-    ]
-
 -- ---- after the next token
 abbrev pub at : List ℕ → ℕ → Cursor
 at source passed = record { source = source; passed = passed }
@@ -106,7 +65,7 @@ dropped {text} {gap} {piece} {token} {rest} front =
 
 -- what is left after a token is what is left from its end on
 pub after_token : (cursor : Cursor) (p : EndedToken) (rest : List EndedToken) → cursor.passed ≤ length cursor.source → (tokens_of cursor).tokens ≡ p ∷ rest
-    → let here : Left = tokens_of cursor in let later : Left = record { passed = p.end; tokens = rest; ends = here.ends; stop = here.stop } in (tokens_of (at cursor.source p.end) ≡ later) × (cursor.passed < p.end) × (p.end ≤ length cursor.source)
+    → let here : Left = tokens_of cursor in let later : Left = record { passed = p.end; tokens = rest; ends = here.ends; kind = here.kind; stop = here.stop } in (tokens_of (at cursor.source p.end) ≡ later) × (cursor.passed < p.end) × (p.end ≤ length cursor.source)
 unfolding tokens_of
 after_token cursor p rest inside is =
     elim (next (rest_of cursor)) [
@@ -121,5 +80,5 @@ after_token cursor p rest inside is =
           let ends : end ≡ p.end = sym (passed_is end later) ∙ ap (λ (q : EndedToken). q.end) (same_heads _ p _ rest first) in
           let tokens = same_tails _ p _ rest first in
           let from : drop end cursor.source ≡ later = sym (drop-drop len cursor.passed cursor.source) ∙ dropped front in
-          (rw (← ends, from, left, ← tokens) (ap (λ n. let l : Left = record { passed = n; tokens = (left_from end later).tokens; ends = (left_from end later).ends; stop = (left_from end later).stop } in l) (passed_is end later)), omega (arith, ends, filled), omega (arith, ends, size, whole, inside))
+          (rw (← ends, from, left, ← tokens) (ap (λ n. let l : Left = record { passed = n; tokens = (left_from end later).tokens; ends = (left_from end later).ends; kind = (left_from end later).kind; stop = (left_from end later).stop } in l) (passed_is end later)), omega (arith, ends, filled), omega (arith, ends, size, whole, inside))
     ]

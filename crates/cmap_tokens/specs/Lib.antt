@@ -12,4 +12,6 @@ pub mod TextSeen
 pub mod TokenReading
 pub mod TokensLeft
 pub mod Stops
-pub mod Resumption
+pub mod Malformed
+pub mod Pieces
+pub mod OpenSeen

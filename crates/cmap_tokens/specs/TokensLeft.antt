@@ -1,5 +1,6 @@
 -- The tokens that are left of a text: where each ends, whether the text ends after them, and the byte that shows that no more come.
 use Rattle.std.specs.Prelude.{◌≡◌, ◌↔◌, ◌+◌, ◌<◌, ◌≤◌, ℕ, zero, suc, nat_le, Bool, true, false, List, [], ◌∷◌, ◌++◌, length, map, take, drop, Some, None}
+use Rattle.cmap_tokens.specs.Malformed.{Malformed, malformed_kind}
 use Rattle.cmap_tokens.specs.Scanner.{Cursor, rest_of}
 use Rattle.cmap_tokens.specs.Tokens.{Token, Tokens}
 use Rattle.cmap_tokens.specs.TokenReading.{gap_len, first_piece, malformed_len}
@@ -14,12 +15,14 @@ pub record Left : Type 0 where
   pub passed : ℕ
   pub tokens : List EndedToken
   pub ends : Bool
+  -- where it doesn't end after them, why no token comes
+  pub kind : Malformed
   -- an aid: the offset of the byte that shows that no token comes after them, or the length of the text, as the code measures it. Stops says which byte that is
   pub stop : ℕ
 
 -- this token, which comes next from an offset on, and what is left after it
 abbrev pub with_token : Token → ℕ → Left → Left
-with_token token passed next = record { passed = passed; tokens = record { token = token; end = next.passed } ∷ next.tokens; ends = next.ends; stop = next.stop }
+with_token token passed next = record { passed = passed; tokens = record { token = token; end = next.passed } ∷ next.tokens; ends = next.ends; kind = next.kind; stop = next.stop }
 
 -- the text after its first gap
 abbrev pub after_gap : List ℕ → List ℕ
@@ -27,7 +30,7 @@ after_gap text = drop (gap_len false text) text
 
 -- no token comes
 abbrev pub no_token : ℕ → List ℕ → Left
-no_token passed text = record { passed = passed; tokens = []; ends = nat_le (length text) (gap_len false text); stop = passed + (gap_len false text + malformed_len (after_gap text)) }
+no_token passed text = record { passed = passed; tokens = []; ends = nat_le (length text) (gap_len false text); kind = malformed_kind (after_gap text); stop = passed + (gap_len false text + malformed_len (after_gap text)) }
 
 -- what is left of a text of at most n bytes
 unfoldable pub tokens_within : ℕ → ℕ → List ℕ → Left
@@ -56,6 +59,10 @@ LeavesAfter token old new = tokens_of old ≡ with_token token old.passed (token
 abbrev pub LeavesNone : Bool → Cursor → Type 0
 LeavesNone ends cursor = ((tokens_of cursor).tokens ≡ []) × ((tokens_of cursor).ends ≡ ends)
 
+-- no token is left, for this reason
+abbrev pub LeavesMalformed : Malformed → Cursor → Type 0
+LeavesMalformed kind cursor = LeavesNone false cursor × ((tokens_of cursor).kind ≡ kind)
+
 -- ---- which bytes decide on the tokens
 -- tokens that end one after another, from an offset on and up to another
 abbrev pub AreInOrder : ℕ → List EndedToken → ℕ → Type 0
@@ -67,7 +74,7 @@ EndInOrder left = AreInOrder left.passed left.tokens left.stop
 
 -- the tokens that end by k are the other's too, and where it is seen by k that no more come, none come there either
 abbrev pub Agree : ℕ → List EndedToken → Left → List EndedToken → Left → Type 0
-Agree k [] left others other = left.stop ≤ k → (left.ends ≡ false) × (others ≡ []) × (other.ends ≡ false) × (other.stop ≡ left.stop)
+Agree k [] left others other = left.stop ≤ k → (left.ends ≡ false) × (others ≡ []) × (other.ends ≡ false) × (other.kind ≡ left.kind) × (other.stop ≡ left.stop)
 Agree k (p ∷ tokens) left others other = p.end ≤ k → (rest : List EndedToken) × (others ≡ p ∷ rest) × Agree k tokens left rest other
 
 abbrev pub AgreesTo : ℕ → Left → Left → Type 0

@@ -6,13 +6,17 @@ ghost use Rattle.cmap_tokens.specs.TokenReading.{is_string};
 mod byte_class;
 mod gaps;
 mod lengths;
+mod malformed_pieces;
 mod numerals;
+mod piece_reader;
 mod pieces;
+mod unclosed;
 mod values;
 
 use self::gaps::gap_len;
-use self::lengths::{malformed_len, piece_len};
+use self::lengths::malformed_len;
 use self::numerals::{blank_decimal, short_decimal};
+pub use self::piece_reader::{MalformedPiece, Piece, PieceReader};
 use self::pieces::{TWO_BYTES_LEN, first_token, spaced_pairs, spaced_parts, two_bytes};
 use self::values::{decode_hex, decode_text, pairs_number};
 use std::alloc::AllocError;
@@ -168,10 +172,18 @@ impl fmt::Debug for Number {
     }
 }
 
-/// What comes next in a text isn't a token: a string without an end, another byte than a digit in a
-/// hexadecimal string, or a `)` or `>` alone.
+/// Why what comes next in a text isn't a token.
 #[derive(Clone, Copy, Debug, PartialEq, Eq)]
-pub struct Malformed;
+pub enum Malformed {
+    /// A `(` that no `)` balances up to the end of the text.
+    UnclosedText,
+    /// A `<` with digits and white space up to the end of the text.
+    UnclosedHexadecimal,
+    /// Another byte than a digit in a hexadecimal string.
+    WrongDigit,
+    /// A `)` or a `>` alone.
+    Stray,
+}
 
 /// Reads the tokens of a text in order. White space and comments separate them and aren't tokens
 /// (PostScript Language Reference, third edition, 3.2.1). A clause sees the text and how many of
@@ -197,14 +209,14 @@ impl<'a> Scanner<'a> {
     ghost use Rattle.std.specs.Prelude.{◌≡◌, ℕ, ◌↔◌, ◌+◌, ◌*◌, ◌%◌, ◌<◌, ◌≤◌, ◌^◌, List, [], false, true, length, None, Some, Ok, pos, IfOk, IfSome, IsErr, MatchOption, MatchResult, OnErr};
     ghost use Rattle.cmap_tokens.specs.Gaps.{IsBlank};
     ghost use Rattle.cmap_tokens.specs.Tokens.{HasNoFront, IsMalformed};
-    ghost use Rattle.cmap_tokens.specs.Resumption.{resumed};
     ghost use Rattle.cmap_tokens.specs.Stops.{StopsAt};
-    ghost use Rattle.cmap_tokens.specs.TokensLeft.{HasTokens, IsDecidedByFronts, EndInOrder, LeavesAfter, LeavesNone, start_of, tokens_of};
+    ghost use Rattle.cmap_tokens.specs.TokenReading.{gap_len};
+    ghost use Rattle.cmap_tokens.specs.TokensLeft.{HasTokens, IsDecidedByFronts, EndInOrder, LeavesAfter, LeavesMalformed, LeavesNone, start_of, tokens_of};
     ghost use Rattle.cmap_tokens.specs.Numbers.{Integer};
     ghost use Rattle.cmap_tokens.specs.Scanner.{ReadsToken, past, rest_of, spaced_decimal, spaced_pairs, spaced_parts, spaced_two_bytes};
     ghost use Rattle.cmap_tokens.specs.Strings.{WritesBytes, WritesParts, WritesTwoBytes};
     ghost use Rattle.cmap_tokens.specs.Tokens as tokens;
-    ghost use Rattle.cmap_tokens.specs.TokenSeen.{token_seen};
+    ghost use Rattle.cmap_tokens.specs.TokenSeen.{malformed_seen, token_seen};
 
     /// A scanner before the first byte of a text.
     pub fn new(source: &'a [u8]) -> Self
@@ -220,22 +232,6 @@ impl<'a> Scanner<'a> {
         Scanner { source, offset: 0 }
     }
 
-    /// A scanner of a text after a piece that is no token and comes next at this offset, in bytes: after
-    /// a hexadecimal string up to its `>`, or after the byte that shows that another piece is no token. So
-    /// reading can go on where `next_token` answers `Malformed`.
-    pub fn after_malformed(source: &'a [u8], offset: usize) -> Self
-        requires { offset ≤ length source.now }
-        ensures { result ≡ resumed (record { source = source.now; passed = offset }) }
-    {
-        let rest = &source[offset..];
-        let gap = gap_len(rest);
-        let len = gap + piece_len(&rest[gap..]);
-        Scanner {
-            source,
-            offset: offset + len,
-        }
-    }
-
     /// How many bytes of the text have been passed.
     #[tactic(auto, using(crate::proofs::Fronts::passed_of))]
     pub fn offset(&self) -> usize
@@ -243,6 +239,13 @@ impl<'a> Scanner<'a> {
         ensures left { result ≡ (tokens_of self.now).passed }
     {
         self.offset
+    }
+
+    /// The offset at which what comes next begins, after white space and comments.
+    pub fn next_start(&self) -> usize
+        ensures { result ≡ self.now.passed + gap_len false (rest_of self.now) }
+    {
+        self.offset + gap_len(&self.source[self.offset..])
     }
 
     /// Where no token comes next, the offset of the first byte that shows it: after the bytes up to and
@@ -353,8 +356,8 @@ impl<'a> Scanner<'a> {
     /// The next token, whose slices are those of the text; `None` where only white space and
     /// comments are left.
     ///
-    /// Only a token moves the scanner, to the byte after it. So after `Malformed` each later call
-    /// answers `Malformed` again.
+    /// Only a token moves the scanner, to the byte after it. So after an error each later call
+    /// answers the same error.
     pub fn next_token(&mut self) -> Result<Option<Token<'a>>, Malformed>
         // The token that is read is the one that the text begins with, and there is no other.
         ensures token { IfOk result
@@ -367,7 +370,8 @@ impl<'a> Scanner<'a> {
 
         // What this says of the tokens that are left, and of how they end.
         ensures left { MatchResult result (λ found. MatchOption found (LeavesNone true self.old)
-            (λ token. LeavesAfter (token_seen token) self.old self.new)) (λ _. LeavesNone false self.old) }
+            (λ token. LeavesAfter (token_seen token) self.old self.new))
+            (λ malformed. LeavesMalformed (malformed_seen malformed) self.old) }
     {
         match first_token(&self.source[self.offset..]) {
             Ok(Some((token, len))) => {
@@ -376,7 +380,7 @@ impl<'a> Scanner<'a> {
             }
             Ok(None) => Ok(None),
             // By `?` each clause would be shown again of the error.
-            Err(Malformed) => Err(Malformed),
+            Err(malformed) => Err(malformed),
         }
     }
 }

@@ -6,9 +6,12 @@ use std::fmt::{self, Display, Formatter, Write};
 /// What is wrong with a file where reading stopped.
 #[derive(Clone, Copy, Debug, PartialEq, Eq)]
 pub enum Reason {
-    /// A text has no token here: a string without an end, another byte than a digit in a hexadecimal
-    /// string, or a `)` or `>` alone.
-    MalformedToken,
+    /// A string of a text isn't closed.
+    UnclosedString,
+    /// A hexadecimal string of a text has a byte that is no digit.
+    WrongDigit,
+    /// A `)` or a `>` of a text stands alone.
+    StrayDelimiter,
     /// A text ends within a section.
     EndWithinSection,
     /// Another token than a code, which is a string.
@@ -44,7 +47,9 @@ pub enum Reason {
 impl Display for Reason {
     fn fmt<W: Write>(&self, f: &mut Formatter<W>) -> fmt::Result {
         let text = match self {
-            Reason::MalformedToken => "no token stands here",
+            Reason::UnclosedString => "a string isn't closed",
+            Reason::WrongDigit => "a hexadecimal string has a byte that is no digit",
+            Reason::StrayDelimiter => "a ) or > stands alone",
             Reason::EndWithinSection => "the file ends within a section",
             Reason::CodeExpected => "a code was expected",
             Reason::CodeLength => "a code has one to four bytes",
@@ -131,7 +136,8 @@ impl<R, T: Drop> From<AllocFailed<T>> for Fault<R> {
 pub struct Stop {
     /// Where in the file, in bytes. Of a text it is the end of the token that can't stand there; where
     /// no token stands, the offset of the byte that shows it; and where only the end of the file shows
-    /// it, its length. Of a binary file it is the start of the segment at fault.
+    /// it, its length. Of a text that is read past its faults it is the offset of the bracket where a
+    /// string isn't closed. Of a binary file it is the start of the segment at fault.
     pub offset: usize,
     pub reason: Reason,
 }

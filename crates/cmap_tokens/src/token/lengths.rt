@@ -4,7 +4,6 @@ ghost use Rattle.std.specs.Prelude.{◌≡◌, ◌+◌, ◌≤◌, length, IfSom
 ghost use Rattle.std.specs.List.{prefix_len};
 ghost use Rattle.cmap_tokens.specs.Bytes.{is_regular};
 ghost use Rattle.cmap_tokens.specs.Tokens.{is_hex_body, opened};
-ghost use Rattle.cmap_tokens.specs.Resumption as resumption;
 ghost use Rattle.cmap_tokens.specs.TokenReading as reading;
 
 use super::byte_class::{digit_value, is_regular, is_white};
@@ -48,36 +47,8 @@ pub(super) fn malformed_len(text: &[u8]) -> usize
     }
 }
 
-/// How many bytes the piece has that a text begins with and that is no token.
-pub(super) fn piece_len(text: &[u8]) -> usize
-    ensures exact { result ≡ resumption.piece_len text.now }
-    ensures within { result ≤ length text.now }
-{
-    let shown = malformed_len(text);
-    if matches!(text, [b'<', ..]) {
-        shown + hex_left(&text[shown..])
-    } else {
-        (shown + 1).min(text.len())
-    }
-}
-
-/// How many bytes of a hexadecimal string are left after its first wrong byte.
-fn hex_left(text: &[u8]) -> usize
-    ensures exact { result ≡ resumption.hex_left text.now }
-    ensures within { result ≤ length text.now }
-{
-    for (i, byte) in text.iter().enumerate() {
-        match byte {
-            b'>' => return i + 1,
-            b'<' => return i,
-            _ => {}
-        }
-    }
-    text.len()
-}
-
 /// How many digits and white bytes a text begins with.
-fn hex_body_len(text: &[u8]) -> usize
+pub(super) fn hex_body_len(text: &[u8]) -> usize
     ensures exact { result ≡ prefix_len is_hex_body text.now }
     ensures within { result ≤ length text.now }
 {

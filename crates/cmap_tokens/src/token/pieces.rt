@@ -8,11 +8,14 @@ ghost use Rattle.cmap_tokens.specs.Tokens as tokens;
 ghost use Rattle.cmap_tokens.specs.Tokens.{IsMalformed, name_or_number};
 ghost use Rattle.cmap_tokens.specs.Scanner.{FirstToken, closed_number, closed_parts, short_pairs, spaced_pairs, spaced_parts, spaced_two_bytes};
 ghost use Rattle.cmap_tokens.specs.TokenReading as reading;
-ghost use Rattle.cmap_tokens.specs.TokenSeen.{token_seen};
+ghost use Rattle.cmap_tokens.specs.TokenSeen.{malformed_seen, token_seen};
+ghost use Rattle.cmap_tokens.specs.Malformed.{malformed_kind};
+ghost use Rattle.cmap_tokens.specs.TokensLeft.{after_gap};
 
 use super::byte_class::{is_regular, is_white};
 use super::gaps::gap_len;
 use super::lengths::{run_len, string_len};
+use super::malformed_pieces::malformed_kind;
 use super::numerals::{hex_number, number_of};
 use super::{Malformed, Name, StringToken, Token};
 
@@ -20,7 +23,8 @@ use super::{Malformed, Name, StringToken, Token};
 #[tactic(auto, using(crate::proofs::Fronts::first_token_is, crate::proofs::Fronts::blank_is))]
 pub(super) fn first_token(text: &[u8]) -> Result<Option<(Token<'_>, usize)>, Malformed>
     ensures outcome { MatchResult result (λ found. MatchOption found (IsBlank text.now)
-        (λ first. FirstToken text.now (token_seen first.0) first.1)) (λ _. IsMalformed text.now) }
+        (λ first. FirstToken text.now (token_seen first.0) first.1))
+        (λ malformed. IsMalformed text.now × (malformed_seen malformed ≡ malformed_kind (after_gap text.now))) }
     ensures within { IfOk result (λ found. IfSome found (λ first. first.1 ≤ length text.now)) }
 {
     let gap = gap_len(text);
@@ -28,13 +32,13 @@ pub(super) fn first_token(text: &[u8]) -> Result<Option<(Token<'_>, usize)>, Mal
     match first_piece(rest) {
         Some((token, len)) => Ok(Some((token, gap + len))),
         None if rest.is_empty() => Ok(None),
-        None => Err(Malformed),
+        None => Err(malformed_kind(rest)),
     }
 }
 
 /// The token that a text begins with, with no gap before it, and how many bytes it takes.
 #[tactic(auto, unfolding(crate::specs::TokenReading::first_piece))]
-fn first_piece(text: &[u8]) -> Option<(Token<'_>, usize)>
+pub(super) fn first_piece(text: &[u8]) -> Option<(Token<'_>, usize)>
     ensures exact { option_map (λ first. (token_seen first.0, first.1)) result
         ≡ reading.first_piece text.now }
     ensures within { IfSome result (λ first. first.1 ≤ length text.now) }

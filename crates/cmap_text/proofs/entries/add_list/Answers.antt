@@ -4,7 +4,6 @@ use Rattle.std.proofs.lemmas.List.{length-map}
 use Rattle.std.proofs.lemmas.List.{take-map}
 use Rattle.cmap_values.specs.DeclarationsSeen.{bf_entry_seen, lists_seen}
 use Rattle.cmap_values.specs.declared.fault.Fault.TheVariants.{Memory}
-use Rattle.cmap_text.specs.TokenParsers.{listed_so}
 use Rattle.cmap_text.proofs.Refusals.{none_refused}
 use Rattle.cmap_text.proofs.TokenParsers.{err-ok}
 use Rattle.cmap_text.proofs.TextsAdded.{cut_back}
@@ -18,7 +17,7 @@ returns-in-Err-Refused-clause-stays c = λ wrong is.
 
 pub returns-in-Ok : goal.returns-in-Ok
 returns-in-Ok c = record {
-  adds = (ap listed_so c.in-Ok.ensures.adds.0, tt);
+  adds = (c.in-Ok.ensures.adds.0, tt);
   stays = λ wrong is. absurd (err-ok _ _ (sym is));
 }
 
@@ -30,5 +29,4 @@ returns-in-Err-Memory c = record {
 
 pub returns-in-Err-Refused-clause-adds : goal.returns-in-Err-Refused-clause-adds
 returns-in-Err-Refused-clause-adds c =
-    let (token, found, told) = rw c.in-Err-Refused.field-0-is at c.in-Err-Refused.ensures.adds.1 in
-    (tt, rw c.within_list.ensures (token, ap listed_so found, told))
+    (tt, rw c.in-Err-Refused.field-0-is at c.in-Err-Refused.ensures.adds.1)

@@ -1,31 +1,33 @@
-use Rattle.std.proofs.Common.{refl}
-use Rattle.std.proofs.lemmas.Result.{IfOk-from_err}
-use Rattle.cmap_tokens.proofs.Fronts.{has_tokens}
-use Rattle.cmap_text.specs.TextSeen.{said_seen}
-use Rattle.cmap_text.proofs.WholeRead.{salvage_file, salvage_first}
+use Rattle.std.proofs.Common.{◌≡◌, [], length, sym, ap, subst}
+use Rattle.cmap_values.specs.Faults.{Ascend}
+use Rattle.cmap_values.specs.Files.{File}
+use Rattle.cmap_values.specs.MetadataSeen.{metadata_seen}
+use Rattle.cmap_values.specs.Only.{HoldsOfNone, IsOnly}
+use Rattle.cmap_text.specs.Salvage.{BeginsRefused, KeepsFronts, Salvaged, salvaged}
+use Rattle.cmap_text.specs.TextFiles.{IsMetadata, IsTextFile}
+use Rattle.cmap_text.specs.Standing.{AreDeclared}
+use Rattle.cmap_text.proofs.Declared.{salvaged_declared}
+use Rattle.cmap_text.proofs.FaultPlaces.{salvaged_ascends}
+use Rattle.cmap_text.proofs.FrontsKept.{fronts_kept}
+use Rattle.cmap_text.proofs.TextFaults.{salvage_file, salvage_first}
 use Rattle.cmap_text.proofs.salvage.salvage_text.Goals as goal
-
-pub returns-in_err-metadata : goal.returns-in_err-metadata
-returns-in_err-metadata c =
-    let fails = c.from_residual.ensures.0 in
-    record {
-      says = IfOk-from_err c.from_residual.result _ fails;
-      file = IfOk-from_err c.from_residual.result _ fails;
-      first = IfOk-from_err c.from_residual.result _ fails;
-      declared = IfOk-from_err c.from_residual.result _ fails;
-      ascend = IfOk-from_err c.from_residual.result _ fails;
-    }
 
 pub returns : goal.returns
 returns c =
     let text = c.args.text.now in
-    let said = said_seen c.read_said.new.said in
-    let faults = c.read_said.new.faults.items in
-    let (salvages, ascend, declared, metadata) = c.in_ok-metadata.ensures c.new-said.ensures c.new-faults.ensures.items in
+    let metadata = metadata_seen c.in_ok-metadata.metadata in
+    let (same, only) = c.in_ok-metadata.ensures c.new-found.ensures in
+    let values : IsOnly (IsMetadata (salvaged text).said.values) metadata = subst (λ s. IsOnly (IsMetadata s.said.values) metadata) same only in
+    let Gives : Salvaged → Type 0 = λ s. (file : File) → IsTextFile text file → (record { metadata = metadata; lists = s.said.lists; uses = s.said.uses } ≡ file) × (s.faults ≡ []) in
+    let Ordered : Salvaged → Type 0 = λ s. Ascend 0 s.faults (length text) in
+    let Keeps : Salvaged → Type 0 = λ s. KeepsFronts text s.said.lists s.said.uses in
+    let Declares : Salvaged → Type 0 = λ s. AreDeclared text s.said.lists in
+    let Refused : Salvaged → Type 0 = λ s. HoldsOfNone (IsTextFile text) → BeginsRefused text s.faults in
     record {
-      says = (said, salvages, metadata.holds, refl, refl);
-      file = salvage_file text said faults salvages (has_tokens text) _ metadata;
-      first = salvage_first text said faults salvages (has_tokens text) _ metadata;
-      declared = declared;
-      ascend = ascend;
+      says = (values.holds, ap (λ s. s.said.lists) same, ap (λ s. s.said.uses) same, ap (λ s. s.faults) same);
+      file = subst Gives (sym same) (salvage_file text metadata values);
+      first = subst Refused (sym same) (salvage_first text metadata values);
+      kept = subst Keeps (sym same) (fronts_kept text);
+      declared = subst Declares (sym same) (salvaged_declared text);
+      ascend = subst Ordered (sym same) (salvaged_ascends text);
     }

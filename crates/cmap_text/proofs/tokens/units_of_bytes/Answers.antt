@@ -1,5 +1,5 @@
 use Rattle.std.proofs.Common.{◌∙◌}
-use Rattle.cmap_text.proofs.Faulted.{if_ok}
+use Rattle.cmap_text.proofs.Refusals.{if_ok}
 use Rattle.cmap_text.proofs.tokens.units_of_bytes.Goals as goal
 
 pub returns : goal.returns

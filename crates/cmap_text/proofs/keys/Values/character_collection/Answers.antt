@@ -1,5 +1,5 @@
 use Rattle.cmap_text.specs.TextSeen.{values_seen}
-use Rattle.cmap_text.proofs.Faulted.{if_ok}
+use Rattle.cmap_text.proofs.Refusals.{if_ok}
 use Rattle.cmap_text.proofs.ValuesRead.{collection_is}
 use Rattle.cmap_text.proofs.keys.Values.character_collection.Goals as goal
 

@@ -1,7 +1,9 @@
-use Rattle.std.proofs.Common.{◌≡◌, Option, Some, None, Result, Ok, Err, ap, ◌∙◌, refl, subst}
+use Rattle.std.proofs.Common.{◌≡◌, Option, Some, None, Result, Ok, Err, ap, sym, ◌∙◌, refl, subst}
 use Rattle.std.proofs.lemmas.Bool.{false≢true}
 use Rattle.std.proofs.lemmas.List.{take_rest}
 use Rattle.cmap_tokens.specs.Gaps.{IsBlank}
+use Rattle.cmap_tokens.specs.Malformed.{malformed_kind}
+use Rattle.cmap_tokens.specs.TokensLeft.{after_gap}
 use Rattle.cmap_tokens.specs.Tokens.{IsMalformed}
 use Rattle.cmap_tokens.specs.Scanner.{rest_of}
 use Rattle.cmap_tokens.proofs.Fronts.{front_not_blank, read_token, left_after, leaves_blank, leaves_malformed}
@@ -15,14 +17,16 @@ err_not_none x e = cc
 
 pub returns-in-Err : goal.returns-in-Err
 returns-in-Err c =
-    let malformed = subst IsMalformed (take_rest _ c.self.inside.offset ∙ ap rest_of c.self.view_is) c.in-Err.ensures.outcome in
+    let rest = take_rest _ c.self.inside.offset ∙ ap rest_of c.self.view_is in
+    let malformed = subst IsMalformed rest c.in-Err.ensures.outcome.0 in
+    let kind = c.in-Err.ensures.outcome.1 ∙ ap (λ t. malformed_kind (after_gap t)) rest in
     record {
       token = tt;
       end = (λ e. absurd (err_not_none _ e), λ blank. absurd (malformed.0 blank));
       malformed = (λ e. malformed, λ h. refl);
       end_stays = λ _. refl;
       err_stays = refl;
-      left = leaves_malformed _ malformed;
+      left = let (none, is) = leaves_malformed _ malformed in (none, is ∙ sym kind);
     }
 
 pub returns-in-Ok-None : goal.returns-in-Ok-None

@@ -1,0 +1,38 @@
+-- Where the declarations that are read past faults stand in the pieces of a text.
+use Rattle.std.specs.Prelude.{◌≡◌, ℕ, ◌+◌, ◌-◌, ◌≤◌, ◌⊎◌, false, List, [], ◌∷◌, ◌++◌, codes, Some, None, Ok}
+use Rattle.cmap_tokens.specs.Pieces.{Piece, pieces_left}
+use Rattle.cmap_tokens.specs.Tokens.{Token}
+use Rattle.cmap_tokens.specs.TokensLeft.{start_of}
+use Rattle.cmap_values.specs.BigEndian.{big_endian}
+use Rattle.cmap_values.specs.Files.{Declaration, Lists, lists_of}
+use Rattle.cmap_text.specs.TextFiles.{IsCode, IsEntry, Section}
+use Rattle.cmap_text.specs.TextReading.{text_of}
+use Rattle.cmap_text.specs.Salvage.{alone, class_of, open_bracket, part, text_in}
+
+-- pieces are these tokens, but for those that take no place
+pub data AreParts : List Piece → List Token → Type 0 where
+  no_part : AreParts [] []
+  lone_piece : {pieces : List Piece} {tokens : List Token} → AreParts pieces tokens → (piece : Piece) → class_of piece ≡ alone → AreParts (pieces ++ piece ∷ []) tokens
+  next_part : {pieces : List Piece} {tokens : List Token} → AreParts pieces tokens → (piece : Piece) (t : Token) → piece.token ≡ Ok t → AreParts (pieces ++ piece ∷ []) (tokens ++ t ∷ [])
+
+-- pieces of a list have texts for so many codes from this one on, or other parts in their place, and declare this
+pub data AreTexts (start : ℕ) : List Piece → ℕ → List Declaration → Type 0 where
+  no_text : AreTexts start [] 0 []
+  between : {pieces : List Piece} {n : ℕ} {declared : List Declaration} → AreTexts start pieces n declared → (piece : Piece) → (class_of piece ≡ alone) ⊎ (class_of piece ≡ open_bracket) → AreTexts start (pieces ++ piece ∷ []) n declared
+  other_part : {pieces : List Piece} {n : ℕ} {declared : List Declaration} → AreTexts start pieces n declared → (piece : Piece) → class_of piece ≡ part → text_in piece ≡ None → AreTexts start (pieces ++ piece ∷ []) (n + 1) declared
+  next_text : {pieces : List Piece} {n : ℕ} {declared : List Declaration} → AreTexts start pieces n declared → (piece : Piece) (units : List ℕ) → text_in piece ≡ Some units → AreTexts start (pieces ++ piece ∷ []) (n + 1) (declared ++ text_of (start + n) (start + n) units)
+
+-- pieces are an entry that declares this, or the beginning of one with a list
+pub data StandsAs : List Piece → List Declaration → Type 0 where
+  an_entry : {pieces : List Piece} {tokens : List Token} {declared : List Declaration} → AreParts pieces tokens → (section : Section) → IsEntry section tokens declared [] → StandsAs pieces declared
+  a_list : {opening others : List Piece} {a b : Token} {first last : List ℕ} {n : ℕ} {declared : List Declaration} → AreParts opening (a ∷ b ∷ Token.Name false (codes "[") ∷ []) → IsCode a first → IsCode b last → AreTexts (big_endian first) others n declared → n ≤ big_endian last + 1 - big_endian first → StandsAs (opening ++ others) declared
+
+-- what pieces declare, each declaration at an entry of its own, in order
+pub data Stands : List Piece → List Declaration → Type 0 where
+  nothing : Stands [] []
+  passed : {pieces : List Piece} {declared : List Declaration} → Stands pieces declared → (piece : Piece) → Stands (pieces ++ piece ∷ []) declared
+  entered : {pieces others : List Piece} {declared more : List Declaration} → Stands pieces declared → StandsAs others more → Stands (pieces ++ others) (declared ++ more)
+
+-- the lists hold what stands so in the text
+abbrev pub AreDeclared : List ℕ → Lists → Type 0
+AreDeclared text lists = (declared : List Declaration) × Stands (pieces_left (start_of text)) declared × (lists ≡ lists_of declared)

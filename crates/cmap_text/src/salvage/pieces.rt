@@ -1,0 +1,74 @@
+//! What single pieces are in a section, and their faults.
+
+ghost use Rattle.std.specs.Prelude.{◌≡◌};
+ghost use Rattle.cmap_tokens.specs.TokenSeen.{malformed_seen, piece_seen, wrong_seen};
+ghost use Rattle.cmap_text.specs.Salvage as salvage;
+ghost use Rattle.cmap_text.specs.SalvageSeen.{class_seen};
+
+use super::known_words::class_of_name;
+use crate::tokens::malformed_reason;
+use cmap_tokens::token::{Malformed, MalformedPiece, Piece, Token};
+use cmap_values::fault::{Reason, Stop};
+
+/// What a piece is in a section.
+#[derive(Clone, Copy, PartialEq, Eq)]
+pub(super) enum Class {
+    /// An executable name that ends a section.
+    Word,
+    /// It takes no place of an entry.
+    Alone,
+    OpenBracket,
+    CloseBracket,
+    /// It may be a part of an entry.
+    Part,
+}
+
+pub(super) fn class_of(piece: &Piece<'_>) -> Class
+    ensures { class_seen result ≡ salvage.class_of (piece_seen piece.now) }
+{
+    match &piece.token {
+        Ok(Token::Name(name)) if !name.is_literal() => class_of_name(name.as_bytes()),
+        Ok(_) => Class::Part,
+        Err(malformed) => class_of_malformed(malformed.kind),
+    }
+}
+
+/// What a piece that is no token is in a section.
+fn class_of_malformed(kind: Malformed) -> Class
+    ensures { class_seen result ≡ salvage.class_of_malformed (malformed_seen kind) }
+{
+    match kind {
+        Malformed::UnclosedText | Malformed::Stray => Class::Alone,
+        Malformed::UnclosedHexadecimal | Malformed::WrongDigit => Class::Part,
+    }
+}
+
+/// Whether a piece is a string, of any value.
+pub(super) fn is_string(piece: &Piece<'_>) -> bool
+    ensures { result ≡ salvage.is_string_piece (piece_seen piece.now) }
+{
+    matches!(piece.token, Ok(Token::String(_)))
+}
+
+/// The fault of a piece that is no token.
+pub(super) fn own_fault(malformed: MalformedPiece) -> Stop
+    ensures { result ≡ salvage.own_fault (wrong_seen malformed) }
+{
+    Stop {
+        offset: malformed.offset,
+        reason: malformed_reason(malformed.kind),
+    }
+}
+
+/// The fault of a piece: its own, or for this reason that of a token, at its end.
+pub(super) fn fault_of(piece: &Piece<'_>, reason: Reason) -> Stop
+    ensures { result ≡ salvage.fault_of reason (piece_seen piece.now) }
+{
+    match piece.token {
+        Ok(_) => Stop {
+            offset: piece.end,
+            reason,
+        },
+        Err(malformed) => own_fault(malformed),
+    }
+}

@@ -1,0 +1,273 @@
+//! What comes next, while a text is read past its faults.
+
+ghost use Rattle.std.specs.Prelude.{◌≡◌, ◌+◌, nat_le, false, true, MatchOption};
+ghost use Rattle.cmap_tokens.specs.TokenSeen.{piece_seen};
+ghost use Rattle.cmap_text.specs.Salvage as salvage;
+ghost use Rattle.cmap_text.specs.Salvage.{list_after};
+ghost use Rattle.cmap_text.specs.SalvageSeen.{entry_seen, rest_seen, state_seen, texts_seen};
+ghost use Rattle.cmap_text.specs.TextSeen.{code_seen, section_seen};
+
+use super::pieces::is_string;
+use crate::entries::Extent;
+use crate::keys::Key;
+use crate::sections::Section;
+use crate::tokens::Code;
+use cmap_tokens::token::Piece;
+
+/// What comes next.
+#[derive(Clone, Copy)]
+pub(super) enum State {
+    /// An item.
+    Item,
+    /// The value of this key.
+    Value(Key),
+    /// A part of an entry, or the closer of its section.
+    Entry(Entry),
+    /// A piece of an entry at fault.
+    AtFault(AtFault),
+    /// A piece of a list of an entry at fault, up to its `]`.
+    PassingList(AtFault),
+    /// A piece of the rest of a line in this section.
+    PassingLine(Section),
+    /// A text of a list, or the `]` after the texts.
+    List(TextList),
+}
+
+impl State {
+    /// A new entry.
+    pub(super) fn entry(section: Section) -> State
+        ensures { state_seen result ≡ salvage.in_entry (salvage.new_entry (section_seen section)) }
+    {
+        State::Entry(Entry::new(section))
+    }
+}
+
+/// The parts of an entry, as far as they are read.
+#[derive(Clone, Copy)]
+pub(super) enum Parts {
+    None,
+    One(Code),
+    Two(Code, Code),
+}
+
+/// An entry, as far as it is read.
+#[derive(Clone, Copy)]
+pub(super) struct Entry {
+    pub(super) section: Section,
+    pub(super) parts: Parts,
+    /// Whether one of its pieces begins a line, up to and including the one in its first place.
+    pub(super) begins_line: bool,
+}
+
+impl Entry {
+    /// One without parts.
+    pub(super) fn new(section: Section) -> Entry
+        ensures { entry_seen result ≡ salvage.new_entry (section_seen section) }
+    {
+        Entry {
+            section,
+            parts: Parts::None,
+            begins_line: false,
+        }
+    }
+
+    /// Whether it has no parts.
+    pub(super) fn is_empty(&self) -> bool
+        ensures { result ≡ salvage.no_parts (entry_seen self.now).parts }
+    {
+        matches!(self.parts, Parts::None)
+    }
+
+    /// The same with a piece that comes next.
+    pub(super) fn with_piece(self, piece: &Piece<'_>) -> Entry
+        ensures { entry_seen result ≡ salvage.with_piece (entry_seen self) (piece_seen piece.now) }
+    {
+        Entry {
+            begins_line: self.begins_line || self.is_empty() && piece.begins_line,
+            ..self
+        }
+    }
+
+    /// The state after its first code.
+    pub(super) fn after_one(self, code: Code) -> State
+        ensures { state_seen result
+            ≡ salvage.in_entry (salvage.with_parts (entry_seen self) (salvage.one (code_seen code))) }
+    {
+        State::Entry(Entry {
+            parts: Parts::One(code),
+            ..self
+        })
+    }
+
+    /// The state after both codes.
+    pub(super) fn after_two(self, start: Code, end: Code) -> State
+        ensures { state_seen result
+            ≡ salvage.in_entry (salvage.with_parts (entry_seen self) (salvage.two (code_seen start) (code_seen end))) }
+    {
+        State::Entry(Entry {
+            parts: Parts::Two(start, end),
+            ..self
+        })
+    }
+
+    /// What is left of it from the place that isn't filled on.
+    pub(super) fn at_fault(self) -> AtFault
+        ensures { rest_seen result ≡ salvage.rest_of (entry_seen self) }
+    {
+        AtFault {
+            section: self.section,
+            places: self.places_left(),
+            begins_line: self.begins_line,
+        }
+    }
+
+    /// How many places aren't filled.
+    fn places_left(&self) -> u8
+        ensures { result ≡ (salvage.rest_of (entry_seen self.now)).places }
+    {
+        let places = match self.section {
+            Section::Codespaces | Section::Cids(_, Extent::Single) | Section::BfChar => 2,
+            Section::Cids(_, Extent::Range) | Section::BfRange => 3,
+        };
+        match self.parts {
+            Parts::None => places,
+            Parts::One(_) => places - 1,
+            Parts::Two(_, _) => places - 2,
+        }
+    }
+}
+
+/// What is left of an entry at fault.
+#[derive(Clone, Copy)]
+pub(super) struct AtFault {
+    section: Section,
+    /// How many places are left.
+    places: u8,
+    /// Whether the entry begins a line.
+    begins_line: bool,
+}
+
+impl AtFault {
+    /// In a line of which no entry is read any more.
+    pub(super) fn in_line(section: Section) -> AtFault
+        ensures { rest_seen result ≡ salvage.rest_in_line (section_seen section) }
+    {
+        AtFault {
+            section,
+            places: 0,
+            begins_line: true,
+        }
+    }
+
+    /// The state after a part more.
+    pub(super) fn after_part(self) -> State
+        ensures { state_seen result ≡ salvage.after_part (rest_seen self) }
+    {
+        if self.places <= 1 {
+            self.after_entry()
+        } else {
+            State::AtFault(AtFault {
+                places: self.places - 1,
+                ..self
+            })
+        }
+    }
+
+    /// The state after the entry.
+    pub(super) fn after_entry(self) -> State
+        ensures { state_seen result ≡ salvage.after_entry (rest_seen self) }
+    {
+        if self.begins_line {
+            State::PassingLine(self.section)
+        } else {
+            State::entry(self.section)
+        }
+    }
+}
+
+/// A list of texts, as far as it is read.
+#[derive(Clone, Copy)]
+pub(super) struct TextList {
+    /// The code of its next place.
+    next: u64,
+    /// The last code.
+    last: u32,
+    /// How many texts there were before the list.
+    pub(super) kept: usize,
+    /// Whether its entry begins a line.
+    begins_line: bool,
+    /// Whether its entry does and none of its own pieces.
+    is_one_line: bool,
+}
+
+impl TextList {
+    /// The list of the codes from the first of an entry to the second, before its first text.
+    pub(super) fn new(start: Code, end: Code, kept: usize, begins_line: bool) -> TextList
+        ensures { texts_seen result ≡ record {
+          next = start.number;
+          last = end.number;
+          kept = kept;
+          begins_line = begins_line;
+          one_line = begins_line;
+        } }
+    {
+        TextList {
+            next: u64::from(start.number),
+            last: end.number,
+            kept,
+            begins_line,
+            is_one_line: begins_line,
+        }
+    }
+
+    /// The code whose text comes next; `None` if all have theirs.
+    pub(super) fn next_code(&self) -> Option<u32>
+        ensures { MatchOption result (nat_le self.now.next self.now.last ≡ false)
+            (λ code. (nat_le self.now.next self.now.last ≡ true) × (code ≡ self.now.next)) }
+    {
+        if self.next <= u64::from(self.last) {
+            Some(self.next as u32)
+        } else {
+            None
+        }
+    }
+
+    /// The state after a piece that fills no place.
+    pub(super) fn after_piece(self, piece: &Piece<'_>) -> State
+        ensures { state_seen result ≡ list_after (texts_seen self) (piece_seen piece.now) self.next }
+    {
+        State::List(TextList {
+            is_one_line: self.is_one_line && !piece.begins_line,
+            ..self
+        })
+    }
+
+    /// The state after a piece that fills the place of this code.
+    pub(super) fn after_code(self, code: u32, piece: &Piece<'_>) -> State
+        ensures { state_seen result ≡ list_after (texts_seen self) (piece_seen piece.now) (code + 1) }
+    {
+        State::List(TextList {
+            next: u64::from(code) + 1,
+            is_one_line: self.is_one_line && !piece.begins_line,
+            ..self
+        })
+    }
+
+    /// Whether its `]` is missing before this piece, which comes after all its texts.
+    pub(super) fn lacks_bracket(&self, piece: &Piece<'_>) -> bool
+        ensures { result ≡ salvage.lacks_bracket (texts_seen self.now) (piece_seen piece.now) }
+    {
+        self.is_one_line && piece.begins_line && is_string(piece)
+    }
+
+    /// What is left of its entry, if it is lost.
+    pub(super) fn at_fault(self) -> AtFault
+        ensures { rest_seen result ≡ salvage.rest_of_list (texts_seen self) }
+    {
+        AtFault {
+            section: Section::BfRange,
+            places: 1,
+            begins_line: self.begins_line,
+        }
+    }
+}
