@@ -1,6 +1,6 @@
--- The first fault of a binary file: it is that of the segments that are left, and it has one offset.
-use Rattle.std.proofs.Common.{◌≡◌, ℕ, ◌+◌, ◌≤◌, refl, sym, ap, ◌∙◌, subst, List, length, Ok, Err, inl, inr, arith}
-use Rattle.std.specs.Prelude.{IfErr, Result}
+-- The first fault of a binary file: it is that of the segments that are left, and it is one.
+use Rattle.std.proofs.Common.{◌≡◌, ℕ, ◌+◌, ◌≤◌, refl, sym, ap, ◌∙◌, subst, List, drop, length, Ok, Err, inl, inr, arith}
+use Rattle.std.specs.Prelude.{IfErr, Result, slice_index}
 use Rattle.cmap_values.specs.Only.{IsOnly}
 use Rattle.cmap_values.specs.Outcomes.{RefusesWith}
 use Rattle.cmap_values.specs.declared.fault.Fault.{Fault}
@@ -9,10 +9,12 @@ use Rattle.cmap_values.proofs.Outcomes.{refused_as}
 use Rattle.cmap_packed.specs.Bundles.{PrefixTables}
 use Rattle.cmap_packed.specs.Fronts.{FramedAt}
 use Rattle.cmap_packed.proofs.Fronts.{framed_alone}
+use Rattle.cmap_packed.proofs.FrontsAlone.{ArePrefixFree}
 use Rattle.cmap_binary.specs.BinaryFaults.{IsBinaryFault, SegmentFault, after_segment, no_segment, says_nothing}
 use Rattle.cmap_binary.specs.BinaryFiles.{BodyOf, Content}
-use Rattle.cmap_binary.specs.BinarySalvage.{SegmentSays}
+use Rattle.cmap_binary.specs.BinarySalvage.{SaysNothing, SegmentSays}
 use Rattle.cmap_binary.proofs.Bodies.{body_alone}
+use Rattle.cmap_binary.proofs.ReasonsAlone.{segment_wrong}
 use Rattle.cmap_binary.proofs.SegmentsSalvaged.{offset_of}
 
 -- the segments before these all say something
@@ -33,14 +35,17 @@ pub fault_of_segments : {A : Type 0} (tables : PrefixTables) (bytes body : List 
 fault_of_segments tables bytes body at (Ok x) stops = tt
 fault_of_segments tables bytes body at (Err fault) stops = refused_as fault stops (λ stop first. inr (body, at, first))
 
--- ---- there is one place
-module _ (tables : PrefixTables) where
-  segments_alike : {offset : ℕ} {bytes : List ℕ} {stop other : Stop} → SegmentFault tables offset bytes stop → SegmentFault tables offset bytes other → stop.offset ≡ other.offset
+-- ---- there is one fault
+module _ (tables : PrefixTables) (free : ArePrefixFree tables) where
+  segments_alike : {offset : ℕ} {bytes : List ℕ} {stop other : Stop} → SegmentFault tables offset bytes stop → SegmentFault tables offset bytes other → stop ≡ other
   segments_alike (no_segment some wrong) (no_segment also none) = refl
   segments_alike (no_segment some wrong) (says_nothing reason framed told) = absurd (wrong _ framed)
   segments_alike (no_segment some wrong) (after_segment framed only fault) = absurd (wrong _ framed)
   segments_alike (says_nothing reason framed wrong) (no_segment some none) = absurd (none _ framed)
-  segments_alike (says_nothing reason framed wrong) (says_nothing other also too) = refl
+  segments_alike {offset} (says_nothing {segment = segment} reason framed wrong) (says_nothing other also too) =
+      let same = framed_alone 1 _ _ also framed in
+      let here = subst (λ p. SaysNothing tables p.0 other) same too in
+      ap (λ r. record { offset = offset; reason = r }) (segment_wrong tables free (slice_index segment 0) (drop 5 segment) reason other wrong.1 here.1)
   segments_alike (says_nothing reason framed wrong) (after_segment {content = content} also only fault) = let same = framed_alone 1 _ _ also framed in absurd (wrong.0 content (subst (λ p. SegmentSays tables p.0 content) same only.holds))
   segments_alike (after_segment framed only fault) (no_segment some wrong) = absurd (wrong _ framed)
   segments_alike (after_segment {content = content} framed only fault) (says_nothing reason also wrong) = let same = framed_alone 1 _ _ framed also in absurd (wrong.0 content (subst (λ p. SegmentSays tables p.0 content) same only.holds))
@@ -48,10 +53,10 @@ module _ (tables : PrefixTables) where
       let same = framed_alone 1 (next, left) (segment, rest) also framed in
       segments_alike fault (subst (λ p. SegmentFault tables (offset + length p.0) p.1 other) same found)
 
-  pub one_binary_fault : (bytes : List ℕ) (stop other : Stop) → IsBinaryFault tables bytes stop → IsBinaryFault tables bytes other → stop.offset ≡ other.offset
+  pub one_binary_fault : (bytes : List ℕ) (stop other : Stop) → IsBinaryFault tables bytes stop → IsBinaryFault tables bytes other → stop ≡ other
   one_binary_fault bytes stop other fault found = elim fault [
     | inl (wrong, is) ↦ elim found [
-      | inl (none, same) ↦ ap (λ s. s.offset) is ∙ sym (ap (λ s. s.offset) same)
+      | inl (none, same) ↦ is ∙ sym same
       | inr (body, at, first) ↦ absurd (wrong body at)
     ]
     | inr (body, at, first) ↦ elim found [

@@ -4,6 +4,7 @@ pub mod EntrySums
 pub mod FaultsFirst
 pub mod OneFile
 pub mod Reading
+mod ReasonsAlone
 pub mod RowsAdded
 pub mod SegmentsSaid
 pub mod SegmentsSalvaged

@@ -16,23 +16,23 @@ counts_alone : (shape : Shape) (text : List ℕ) → Alone (CountsAt shape text)
 counts_alone ranges text = then_alone (SizedAt text) _ (sized_alone text) (λ counts rest. gives_alone (Some (bits counts), rest))
 counts_alone singles text = gives_alone (None, text)
 
-columns_alone : (shape : Shape) (text : List ℕ) → Alone (ColumnsAt shape text)
+pub columns_alone : (shape : Shape) (text : List ℕ) → Alone (ColumnsAt shape text)
 columns_alone shape text =
     then_alone (SizedAt text) (ColumnsAfter shape) (sized_alone text) (λ deltas rest. then_alone (CountsAt shape rest) _ (counts_alone shape rest) (λ counts left. gives_alone (record { deltas = bits deltas; counts = counts; base = 0 }, left)))
 
 -- ---- entries
-symbols_alone : (table : List CodeWord) → IsPrefixFree table → (stream : List ℕ) → Alone (SymbolAt table stream)
+pub symbols_alone : (table : List CodeWord) → IsPrefixFree table → (stream : List ℕ) → Alone (SymbolAt table stream)
 symbols_alone table free stream p q (len, one) (size, two) = let same = symbol_alone table free stream p.0 q.0 len size p.1 q.1 one two in pair_is p q same.0 same.1
 
 module _ (tables : PrefixTables) (free : ArePrefixFree tables) where
-  width_alone : (counts : Option (List ℕ)) → Alone (WidthAt tables.count counts)
+  pub width_alone : (counts : Option (List ℕ)) → Alone (WidthAt tables.count counts)
   width_alone None = gives_alone (0, None)
   width_alone (Some counts) = then_alone (SymbolAt tables.count counts) _ (symbols_alone tables.count free.count counts) (λ count rest. gives_alone (count + 1, Some rest))
 
-  span_alone : (columns : Columns) → Alone (SpanAt tables columns)
+  pub span_alone : (columns : Columns) → Alone (SpanAt tables columns)
   span_alone columns = then_alone (SymbolAt tables.delta columns.deltas) _ (symbols_alone tables.delta free.delta columns.deltas) (λ delta deltas. then_alone (WidthAt tables.count columns.counts) _ (width_alone columns.counts) (λ width counts. gives_if_alone _ _))
 
-  cid_alone : (left : CidColumns) → Alone (CidEntryAt tables left)
+  pub cid_alone : (left : CidColumns) → Alone (CidEntryAt tables left)
   cid_alone left = then_alone (SpanAt tables left.columns) _ (span_alone left.columns) (λ span columns. then_alone (FieldAt 2 left.raws) _ (field_alone 2 left.raws) (λ raw raws. gives_if_alone _ _))
 
   cids_of_alone : (shape : Shape) (n : ℕ) (text : List ℕ) → Alone (CidEntriesOf tables shape n text)
@@ -46,21 +46,21 @@ module _ (tables : PrefixTables) (free : ArePrefixFree tables) where
   destination_alone (Some n) text = row_alone (FieldAt 2) (field_alone 2) n text
   destination_alone None text = then_alone (ByteAt text) (RowOf (FieldAt 2)) (byte_alone text) (λ n rest. row_alone (FieldAt 2) (field_alone 2) n rest)
 
-  bf_alone : (fixed : Option ℕ) (left : Columns × List ℕ) → Alone (BfEntryAt tables fixed left)
+  pub bf_alone : (fixed : Option ℕ) (left : Columns × List ℕ) → Alone (BfEntryAt tables fixed left)
   bf_alone fixed left = then_alone (SpanAt tables left.0) _ (span_alone left.0) (λ span columns. then_alone (DestinationAt fixed left.1) _ (destination_alone fixed left.1) (λ units rest. gives_alone (record { start = span.start; end = span.end; units = units }, (columns, rest))))
 
   bfs_alone : (shape : Shape) (fixed : Option ℕ) (payload : List ℕ) → Alone (BfEntriesIn tables shape fixed payload)
   bfs_alone shape fixed payload = then_alone (FieldAt 2 payload) _ (field_alone 2 payload) (λ n text. then_alone (ColumnsAt shape text) _ (columns_alone shape text) (λ columns rest. list_alone (BfEntryAt tables fixed) (bf_alone fixed) n (columns, rest)))
 
 -- ---- plain fields
-notdef_alone : (width : ℕ) (text : List ℕ) → Alone (NotdefAt width text)
+pub notdef_alone : (width : ℕ) (text : List ℕ) → Alone (NotdefAt width text)
 notdef_alone width text =
     then_alone (CodeAt width text) _ (code_alone width text) (λ start mid. then_alone (CodeAt width mid) _ (code_alone width mid) (λ end tail. then_alone (FieldAt 2 tail) _ (field_alone 2 tail) (λ cid rest. gives_alone (record { start = start; end = end; cid = cid }, rest))))
 
 notdefs_alone : (payload : List ℕ) → Alone (NotdefsIn payload)
 notdefs_alone payload = then_alone (ByteAt payload) _ (byte_alone payload) (λ width mid. then_alone (FieldAt 2 mid) _ (field_alone 2 mid) (λ n text. then_alone (RowOf (NotdefAt width) n text) _ (row_alone (NotdefAt width) (notdef_alone width) n text) (λ entries ignored. gives_alone (width, entries))))
 
-space_alone : (text : List ℕ) → Alone (CodespaceAt text)
+pub space_alone : (text : List ℕ) → Alone (CodespaceAt text)
 space_alone text =
     then_alone (ByteAt text) _ (byte_alone text) (λ len mid. then_alone (CodeAt len mid) _ (code_alone len mid) (λ low tail. then_alone (CodeAt len tail) _ (code_alone len tail) (λ high rest. gives_alone (record { len = len; low = low; high = high }, rest))))
 
