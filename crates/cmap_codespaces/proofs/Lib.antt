@@ -1,3 +1,4 @@
 pub mod BytesWithin
+pub mod FrontRows
 pub mod RowBits
 pub mod SpacesFound

@@ -1,5 +1,5 @@
 -- Bits of codespace ranges: which are set by a range, and which rows the range is in.
-use Rattle.std.proofs.Common.{◌≡◌, ◌≢◌, ℕ, suc, ◌+◌, ◌-◌, ◌*◌, ◌/◌, ◌%◌, ◌^◌, ◌<◌, ◌≤◌, ◌⊎◌, ◌++◌, not, List, [], ◌∷◌, length, take, drop, set, get_or, true≢false, eq-eqb, ne_eqb, min, Some, replicate, sym, ap, ◌∙◌, subst, inl, inr, w64, get_or-set_same, get_or-set_other, slice_get, bit_and, bit_or, arith}
+use Rattle.std.proofs.Common.{◌≡◌, ◌≢◌, ℕ, suc, ◌+◌, ◌-◌, ◌*◌, ◌/◌, ◌%◌, ◌^◌, ◌<◌, ◌≤◌, ◌⊎◌, ◌++◌, not, List, [], ◌∷◌, length, take, drop, set, get_or, true≢false, eq-eqb, ne_eqb, min, Some, replicate, sym, ap, ◌∙◌, subst, inl, inr, w8, w64, get_or-set_same, get_or-set_other, slice_get, bit_and, bit_or, arith}
 use Rattle.std.specs.Prelude.{◌↔◌, IsSomeAnd, IsTrue, nat_eq}
 use Rattle.std.specs.Int.{bit_at, trailing_zeros}
 use Rattle.std.proofs.lemmas.Bool.{cases_eq, cases_lt}
@@ -29,22 +29,18 @@ all_set a b c d e i =
       λ each. five.1 (four.1 (three.1 (two.1 (each.0, each.1), each.2), each.3), each.4),
     )
 
-one_more : (n k i : ℕ) → k < 64 → (bit_at (bit_or n (1 * 2 ^ k % 2 ^ 64)) i ≡ 1) ↔ ((bit_at n i ≡ 1) ⊎ (i ≡ k))
-one_more n k i within =
-    let new = bit_or n (1 * 2 ^ k % 2 ^ 64) in
+one_more : (n new k i : ℕ) → bit_at new k ≡ 1 → ((j : ℕ) → j ≢ k → bit_at new j ≡ bit_at n j) → (bit_at new i ≡ 1) ↔ ((bit_at n i ≡ 1) ⊎ (i ≡ k))
+one_more n new k i its others =
     elim (cases_eq i k) [
-      | inl same ↦ (λ _. inr same, λ _. subst (λ j. bit_at new j ≡ 1) (sym same) (bit_at_set_same w64 n k within))
-      | inr other ↦
-          let is : bit_at new i ≡ bit_at n i = bit_at_set_other w64 n k within i other in
-          (λ now. inl (sym is ∙ now), λ either. elim either [ inl was ↦ is ∙ was | inr same ↦ absurd (other same) ])
+      | inl same ↦ (λ _. inr same, λ _. subst (λ j. bit_at new j ≡ 1) (sym same) its)
+      | inr other ↦ (λ now. inl (sym (others i other) ∙ now), λ either. elim either [ inl was ↦ others i other ∙ was | inr same ↦ absurd (other same) ])
     ]
 
 -- one bit more in one row
-pub row_set : (rows : List ℕ) (at bit row i : ℕ) → at < length rows → bit < 64
-    → (bit_at (get_or (set rows at (bit_or (get_or rows at 0) (1 * 2 ^ bit % 2 ^ 64))) row 0) i ≡ 1) ↔ ((bit_at (get_or rows row 0) i ≡ 1) ⊎ ((i ≡ bit) × (row ≡ at)))
-row_set rows at bit row i within small =
-    let new = bit_or (get_or rows at 0) (1 * 2 ^ bit % 2 ^ 64) in
-    let more = one_more (get_or rows at 0) bit i small in
+row_put : (rows : List ℕ) (at new bit row i : ℕ) → at < length rows → bit_at new bit ≡ 1 → ((j : ℕ) → j ≢ bit → bit_at new j ≡ bit_at (get_or rows at 0) j)
+    → (bit_at (get_or (set rows at new) row 0) i ≡ 1) ↔ ((bit_at (get_or rows row 0) i ≡ 1) ⊎ ((i ≡ bit) × (row ≡ at)))
+row_put rows at new bit row i within its others =
+    let more = one_more (get_or rows at 0) new bit i its others in
     elim (cases_eq row at) [
       | inl same ↦
           let is : get_or (set rows at new) row 0 ≡ new = ap (λ r. get_or (set rows at new) r 0) same ∙ get_or-set_same rows at new 0 within in
@@ -56,6 +52,15 @@ row_set rows at bit row i within small =
           let is : get_or (set rows at new) row 0 ≡ get_or rows row 0 = get_or-set_other rows at row new 0 other in
           (λ now. inl (ap (λ n. bit_at n i) (sym is) ∙ now), λ either. ap (λ n. bit_at n i) is ∙ elim either [ inl was ↦ was | inr its ↦ absurd (other its.1) ])
     ]
+
+pub row_set : (rows : List ℕ) (at bit row i : ℕ) → at < length rows → bit < 64
+    → (bit_at (get_or (set rows at (bit_or (get_or rows at 0) (1 * 2 ^ bit % 2 ^ 64))) row 0) i ≡ 1) ↔ ((bit_at (get_or rows row 0) i ≡ 1) ⊎ ((i ≡ bit) × (row ≡ at)))
+row_set rows at bit row i within small = row_put rows at (bit_or (get_or rows at 0) (1 * 2 ^ bit % 2 ^ 64)) bit row i within (bit_at_set_same w64 (get_or rows at 0) bit small) (bit_at_set_other w64 (get_or rows at 0) bit small)
+
+-- and in one of eight bits
+pub short_row_set : (rows : List ℕ) (at bit row i : ℕ) → at < length rows → bit < 8
+    → (bit_at (get_or (set rows at (bit_or (get_or rows at 0) (1 * 2 ^ bit % 2 ^ 8))) row 0) i ≡ 1) ↔ ((bit_at (get_or rows row 0) i ≡ 1) ⊎ ((i ≡ bit) × (row ≡ at)))
+short_row_set rows at bit row i within small = row_put rows at (bit_or (get_or rows at 0) (1 * 2 ^ bit % 2 ^ 8)) bit row i within (bit_at_set_same w8 (get_or rows at 0) bit small) (bit_at_set_other w8 (get_or rows at 0) bit small)
 
 -- some bit is set just where the number isn't 0
 pub any_bit : (n : ℕ) → n < 2 ^ 64 → IsTrue (not (nat_eq n 0)) ↔ ((i : ℕ) × (bit_at n i ≡ 1))

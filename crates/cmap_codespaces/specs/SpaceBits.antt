@@ -1,5 +1,5 @@
 -- Codespace ranges by bits. A block has bits for 64 ranges in a row: in each of its rows a bit for each range that is in the row.
-use Rattle.std.specs.Prelude.{◌≡◌, ◌≢◌, ◌↔◌, All, ℕ, ◌+◌, ◌*◌, ◌/◌, ◌%◌, ◌<◌, ◌≤◌, List, length, take, get_or, slice_get, slice_index, nat_lt, if◌then◌else◌, IsSomeAnd}
+use Rattle.std.specs.Prelude.{◌≡◌, ◌≢◌, ◌↔◌, ℕ, ◌+◌, ◌-◌, ◌*◌, ◌/◌, ◌%◌, ◌<◌, ◌≤◌, List, length, take, get_or, slice_get, slice_index, nat_lt, if◌then◌else◌, IsSomeAnd}
 use Rattle.std.specs.Global.{Vec}
 use Rattle.std.specs.Int.{bit_at}
 use Rattle.cmap_values.specs.DeclarationsSeen.{codespace_seen}
@@ -57,14 +57,36 @@ pub record AreGroups (blocks groups : List (Vec ℕ)) : Type 0 where
   pub all : length blocks ≤ 64 * length groups
   pub few : 64 * length groups < length blocks + 64
 
--- ranges with their blocks, the groups of these, and the groups of those; there may be no groups, where there are few blocks. No range has codes of fewer bytes
-pub record AreFoundBy (spaces : List declared.Codespace) (fewest : ℕ) (blocks groups tops : List (Vec ℕ)) : Type 0 where
-  pub positive : 1 ≤ fewest
-  pub short : fewest ≤ 4
-  pub least : All (λ space. fewest ≤ length_of space.len) spaces
+-- rows for the first bytes of codes: one for no byte, one for each first byte, and one for each two bytes
+abbrev pub front_row_count : ℕ
+front_row_count = 65793
+
+-- the row of the first two bytes, or of all where there are fewer
+abbrev pub row_of_front : List ℕ → ℕ
+row_of_front front = if nat_lt 0 (length front) then (if nat_lt 1 (length front) then 257 + 256 * slice_index front 0 + slice_index front 1 else 1 + slice_index front 0) else 0
+
+-- a code of the range may have this value at this place, if it has the place
+abbrev pub MayBeAt : Codespace → ℕ → ℕ → Type 0
+MayBeAt space place value = place < space.len → IsAt space place value
+
+-- a code of the range may begin with the bytes of a row, or where it has fewer bytes, be the first of them
+abbrev pub BeginsInRow : ℕ → Codespace → Type 0
+BeginsInRow row space = (1 ≤ row → row < 257 → MayBeAt space 0 (row - 1)) × (257 ≤ row → MayBeAt space 0 ((row - 257) / 256) × MayBeAt space 1 ((row - 257) % 256))
+
+abbrev pub HasLength : ℕ → ℕ → declared.Codespace → Type 0
+HasLength row i space = (i ≡ length_of space.len) × BeginsInRow row (codespace_seen space)
+
+-- each row has a bit for each length of those of the first ranges of a list that begin as it says
+pub record HaveLengths (spaces : List declared.Codespace) (count : ℕ) (rows : List ℕ) : Type 0 where
+  pub size : length rows ≡ front_row_count
+  pub bits : (row i : ℕ) → row < front_row_count → (bit_at (get_or rows row 0) i ≡ 1) ↔ ((k : ℕ) × (k < count) × IsSomeAnd (slice_get spaces k) (HasLength row i))
+
+-- ranges with their blocks, the groups of these, the groups of those, and the lengths by first bytes; where there are few blocks, there are no groups and no lengths; of wide ranges there are no lengths either
+pub record AreFoundBy (spaces : List declared.Codespace) (blocks groups tops : List (Vec ℕ)) (lengths : List ℕ) : Type 0 where
   pub by_blocks : AreBlocks spaces blocks
   pub by_groups : 0 < length groups → AreGroups blocks groups
   pub by_tops : AreGroups groups tops
+  pub by_lengths : 0 < length lengths → HaveLengths spaces (length spaces) lengths
 
 -- the row of the byte at a place of a front, or another one where the front is shorter
 abbrev pub front_row : List ℕ → ℕ → ℕ → ℕ

@@ -97,7 +97,7 @@ fn set_rows(rows: &mut [u64], low: usize, high: usize, bit: u32)
 }
 
 /// The byte of a number that stands `after` bytes before its last.
-fn byte_at(number: u32, after: u8) -> u32
+pub(crate) fn byte_at(number: u32, after: u8) -> u32
     requires { after < 4 }
     ensures { result ≡ byte_at number after }
 {

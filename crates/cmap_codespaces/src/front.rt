@@ -25,7 +25,7 @@ pub(crate) fn shortest_among_blocks(blocks: &[Vec<u64>], text: &[u8]) -> Option<
 
 /// The answer of `shortest_among_blocks`, where no code of a range has fewer bytes than `fewest`, and only
 /// those blocks are looked at that may have a range.
-#[inline(always)]
+#[inline(never)]
 pub(crate) fn shortest_among_groups(
     blocks: &[Vec<u64>],
     groups: &[Vec<u64>],

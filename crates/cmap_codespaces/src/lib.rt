@@ -5,6 +5,7 @@
 mod block;
 mod front;
 mod group;
+mod lengths;
 mod query;
 mod search;
 mod spaces;

@@ -122,7 +122,7 @@ fn finds_at(blocks: &[Vec<u64>], index: usize, query: &Query) -> bool
 
 /// The first bit that is set, from a place on.
 #[inline(always)]
-fn next_bit(bits: u64, from: u32) -> Option<u32>
+pub(crate) fn next_bit(bits: u64, from: u32) -> Option<u32>
     ensures within { IfSome result (λ bit. bit < 64) }
     ensures first { IsLeast (λ bit. (from ≤ bit) × (bit_at bits bit ≡ 1)) result }
 {

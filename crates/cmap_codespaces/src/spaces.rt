@@ -1,7 +1,7 @@
 //! The codespace ranges of a layer, with blocks of bits by which they are found.
 
-ghost use Rattle.std.specs.Prelude.{◌≡◌, ◌↔◌, ◌≤◌, All, Any, IfOk, IsTrue, length, map};
-ghost use Rattle.cmap_values.specs.CodeLengths.{IsCodeLength, length_of};
+ghost use Rattle.std.specs.Prelude.{◌≡◌, ◌↔◌, ◌≤◌, Any, IfOk, IsTrue, length, map};
+ghost use Rattle.cmap_values.specs.CodeLengths.{IsCodeLength};
 ghost use Rattle.cmap_values.specs.DeclarationsSeen.{codespace_seen};
 ghost use Rattle.cmap_codespaces.specs.CodesWithin.{HasFront, IsInsideRanges, IsLeast};
 ghost use Rattle.cmap_codespaces.specs.SpaceBits.{AreBlocks, AreRows, InRows};
@@ -11,8 +11,9 @@ use crate::front::{
     fewest_with_front, shortest_among_blocks, shortest_among_groups, shortest_in_block,
 };
 use crate::group::groups_of;
+use crate::lengths::{lengths_of, lengths_with_front};
 use crate::query::Query;
-use crate::search::{any_of_blocks, any_of_tops};
+use crate::search::{any_of_blocks, any_of_tops, next_bit};
 use cmap_values::declarations::Codespace;
 use std::alloc::{AllocError, Global};
 use std::fmt;
@@ -21,16 +22,19 @@ use std::marker::Model;
 /// With fewer blocks, each is looked at, and there are no groups.
 const FEWEST_BLOCKS: usize = 2;
 
+/// The most bytes of a front whose row has the lengths of those codes alone that begin with it.
+const EXACT_LEN: usize = 2;
+
 /// Codespace ranges in the order of their file, with the rows of bits of each block of 64. Where there are many
-/// blocks, with those of each group of 64 blocks, and of each top group of 64 groups.
+/// blocks, with those of each group of 64 blocks, of each top group of 64 groups, and unless ranges are wide, with
+/// the lengths of the codes that begin with a byte, or with two.
 #[derive(Drop)]
 pub struct Spaces {
     list: Vec<Codespace>,
-    /// No range has codes of fewer bytes.
-    fewest: u8,
     blocks: Vec<Vec<u64>>,
     groups: Vec<Vec<u64>>,
     tops: Vec<Vec<u64>>,
+    lengths: Vec<u8>,
 }
 
 impl Model for Spaces {
@@ -43,7 +47,7 @@ impl Model for Spaces {
     ghost view = { λ spaces. spaces.list.items };
 
     ghost invariant = { λ spaces.
-        AreFoundBy spaces.list.items spaces.fewest spaces.blocks.items spaces.groups.items spaces.tops.items };
+        AreFoundBy spaces.list.items spaces.blocks.items spaces.groups.items spaces.tops.items spaces.lengths.items };
 }
 
 impl fmt::Debug for Spaces {
@@ -66,13 +70,17 @@ impl Spaces {
             groups_of(alloc, &blocks)?
         };
         let tops = groups_of(alloc, &groups)?;
-        let fewest = fewest_of(&list);
+        let lengths = if groups.is_empty() {
+            Vec::new(alloc)
+        } else {
+            lengths_of(alloc, &list)?
+        };
         Ok(Spaces {
             list,
-            fewest,
             blocks,
             groups,
             tops,
+            lengths,
         })
     }
 
@@ -92,7 +100,25 @@ impl Spaces {
         if let [only] = self.blocks.as_slice() {
             return fewest_with_front(only, front);
         }
-        for byte_len in front.len().max(usize::from(self.fewest)) as u8..5 {
+        if self.lengths.is_empty() {
+            return self.fewest_by_queries(front);
+        }
+        let lengths = lengths_with_front(&self.lengths, front);
+        let bit = next_bit(lengths, front.len() as u32)?;
+        if front.len() <= EXACT_LEN {
+            return Some(bit as u8);
+        }
+        self.fewest_by_queries(front)
+    }
+
+    /// The answer of `fewest_with_front`, of any number of blocks.
+    #[inline(never)]
+    fn fewest_by_queries(&self, front: &[u8]) -> Option<u8>
+        requires { length front.now ≤ 4 }
+        ensures { IsLeast (λ n. IsCodeLength n
+            × Any (HasFront n front.now) (map codespace_seen self.now)) result }
+    {
+        for byte_len in front.len().max(1) as u8..5 {
             if self.any_of_all(&Query::of_front(byte_len, front)) {
                 return Some(byte_len);
             }
@@ -142,23 +168,21 @@ impl Spaces {
         ensures { IsLeast (IsInsideRanges text.now (map codespace_seen self.now)) result }
     {
         if self.groups.is_empty() {
-            shortest_among_blocks(&self.blocks, text)
-        } else {
-            shortest_among_groups(&self.blocks, &self.groups, &self.tops, self.fewest, text)
+            return shortest_among_blocks(&self.blocks, text);
         }
+        if self.lengths.is_empty() {
+            return shortest_among_groups(&self.blocks, &self.groups, &self.tops, 1, text);
+        }
+        let lengths = lengths_with_front(&self.lengths, text);
+        let fewest = next_bit(lengths, 1)? as u8;
+        if usize::from(fewest) > text.len() {
+            return None;
+        }
+        if usize::from(fewest) <= EXACT_LEN {
+            return Some(fewest);
+        }
+        shortest_among_groups(&self.blocks, &self.groups, &self.tops, fewest, text)
     }
-}
-
-/// How many bytes the codes of each range have at least.
-fn fewest_of(spaces: &[Codespace]) -> u8
-    ensures within { IsCodeLength result }
-    ensures least { All (λ space. result ≤ length_of space.len) spaces.now }
-{
-    let mut fewest = 4;
-    for space in spaces {
-        fewest = fewest.min(space.len.count());
-    }
-    fewest
 }
 
 /// The rows of each block of 64 ranges.

@@ -1,10 +1,11 @@
-use Rattle.std.proofs.Common.{◌≡◌, ◌∙◌, Any, map, sym, subst, inl, inr, rules, arith}
-use Rattle.std.proofs.lemmas.Bool.{cases_lt, false≢true}
+use Rattle.std.proofs.Common.{◌≡◌, ◌<◌, ◌∙◌, get_or, length, ap, sym, subst, rules, arith}
+use Rattle.std.specs.Int.{bit_at}
+use Rattle.std.proofs.lemmas.Bool.{eqb-false}
 use Rattle.cmap_values.specs.CodeLengths.{IsCodeLength}
-use Rattle.cmap_values.specs.DeclarationsSeen.{codespace_seen}
-use Rattle.cmap_codespaces.specs.CodesWithin.{HasFront, IsLeast}
-use Rattle.cmap_codespaces.specs.SpaceBits.{AreBlocks, InRows, IsFound, query_of}
-use Rattle.cmap_codespaces.proofs.SpacesFound.{any_same, fewest_ranges, only_item, too_few}
+use Rattle.cmap_codespaces.specs.CodesWithin.{IsLeast}
+use Rattle.cmap_codespaces.specs.SpaceBits.{AreBlocks, IsFound, query_of, row_of_front}
+use Rattle.cmap_codespaces.proofs.FrontRows.{first_bit_front, no_bit_front}
+use Rattle.cmap_codespaces.proofs.SpacesFound.{fewest_ranges, only_item}
 use Rattle.cmap_codespaces.proofs.spaces.Spaces.fewest_with_front.Goals as goal
 
 pub returns-in-len1 : goal.returns-in-len1
@@ -16,24 +17,17 @@ returns-in-len1 c =
     let here = subst (λ rows. IsLeast (λ n. IsCodeLength n × IsFound rows (query_of n front)) c.fewest_with_front.result) rows c.fewest_with_front.ensures in
     rw (← c.self.view_is) (fewest_ranges list block front c.fewest_with_front.result (λ k. omega (arith, c.type_inv.front k)) c.requires (subst (AreBlocks list) is c.self.invariant.by_blocks) here)
 
-pub loop-byte_len-init : goal.loop-byte_len-init
-loop-byte_len-init c = λ n some below found.
-    too_few c.self.inside.list.items c.args.front.now c.self.inside.fewest n c.self.invariant.least (omega arith) (rw c.self.view_is found)
+pub returns-in_err-bit : goal.returns-in_err-bit
+returns-in_err-bit c =
+    let list = c.self.inside.list.items in let rows = c.self.inside.lengths.items in let front = c.args.front.now in
+    let some : 0 < length c.self.inside.lengths.items = omega (arith, eqb-false _ 0 (sym c.if-is_empty.ensures)) in
+    let is : c.lengths_with_front-lengths.result ≡ get_or rows (row_of_front front) 0 = c.lengths_with_front-lengths.ensures ∙ ap (λ l. get_or l (row_of_front front) 0) c.deref-2.ensures.value in
+    rw (← c.self.view_is) (rw c.from_residual.ensures (no_bit_front list rows front (λ k. omega (arith, c.type_inv.front k)) (c.self.invariant.by_lengths some) (λ n fits set. c.in_err-bit.ensures.first n (fits, ap (λ b. bit_at b n) is ∙ set))))
 
-pub returns-then-any_of_all : goal.returns-then-any_of_all
-returns-then-any_of_all c =
-    let same = any_same (InRows c.of_front.result) (HasFront c.loop-byte_len.byte_len c.args.front.now) (map codespace_seen c.args.self.now) c.of_front.ensures.ranges in
-    (((omega arith, omega arith), same.0 (c.any_of_all.ensures.0 c.if-any_of_all.true)), λ m below holds. c.loop-byte_len.invariant m holds.0.0 below holds.1)
-
-pub loop-byte_len-preserved : goal.loop-byte_len-preserved
-loop-byte_len-preserved c = λ n some below found.
-    elim (cases_lt n c.loop-byte_len.byte_len) [
-      | inl before ↦ c.loop-byte_len.invariant n some before found
-      | inr last ↦
-          let is : n ≡ c.loop-byte_len.byte_len = omega arith in
-          let same = any_same (InRows c.of_front.result) (HasFront c.loop-byte_len.byte_len c.args.front.now) (map codespace_seen c.args.self.now) c.of_front.ensures.ranges in
-          false≢true (sym c.if-any_of_all.false ∙ c.any_of_all.ensures.1 (same.1 (subst (λ m. Any (HasFront m c.args.front.now) (map codespace_seen c.args.self.now)) is found)))
-    ]
-
-pub returns : goal.returns
-returns c = λ n holds. let most = holds.0.1 in c.loop-byte_len.invariant n holds.0.0 (omega arith) holds.1
+pub returns-then-front-le-EXACT_LEN : goal.returns-then-front-le-EXACT_LEN
+returns-then-front-le-EXACT_LEN c =
+    let list = c.self.inside.list.items in let rows = c.self.inside.lengths.items in let front = c.args.front.now in let bit = c.in_ok-bit.bit in
+    let some : 0 < length c.self.inside.lengths.items = omega (arith, eqb-false _ 0 (sym c.if-is_empty.ensures)) in
+    let is : c.lengths_with_front-lengths.result ≡ get_or rows (row_of_front front) 0 = c.lengths_with_front-lengths.ensures ∙ ap (λ l. get_or l (row_of_front front) 0) c.deref-2.ensures.value in
+    let least = c.in_ok-bit.ensures.first in
+    rw (← c.self.view_is) (first_bit_front list rows front bit (λ k. omega (arith, c.type_inv.front k)) (c.self.invariant.by_lengths some) c.if-front-le-EXACT_LEN.true least.0.0 (ap (λ b. bit_at b bit) (sym is) ∙ least.0.1) (λ m below fits set. least.1 m below (fits, ap (λ b. bit_at b m) is ∙ set)))
