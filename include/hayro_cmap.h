@@ -151,10 +151,9 @@ typedef enum hayro_cmap_cause {
     HAYRO_CMAP_PAST_BUDGET = 4   /* it has more bytes than are left of the budget */
 } hayro_cmap_cause;
 
-/* What is wrong where the reading of a malformed file stopped. */
+/* What is wrong where the reading of a malformed file stopped. No reason has the number 1. */
 typedef enum hayro_cmap_reason {
     HAYRO_CMAP_NO_REASON = 0,
-    HAYRO_CMAP_MALFORMED_TOKEN = 1,    /* no token stands here */
     HAYRO_CMAP_END_WITHIN_SECTION = 2, /* the file ends within a section */
     HAYRO_CMAP_CODE_EXPECTED = 3,      /* another token than a code */
     HAYRO_CMAP_CODE_LENGTH = 4,        /* a code of no or of more than four bytes */
@@ -169,7 +168,10 @@ typedef enum hayro_cmap_reason {
     HAYRO_CMAP_FIELD = 13,             /* a field of a segment is cut short */
     HAYRO_CMAP_ENTRY = 14,             /* an entry of a segment is cut short */
     HAYRO_CMAP_CODE_TOO_LARGE = 15,    /* a code of an entry of a segment passes 32 bits */
-    HAYRO_CMAP_CID_TOO_LARGE = 16      /* a CID of a binary file passes 32 bits */
+    HAYRO_CMAP_CID_TOO_LARGE = 16,     /* a CID of a binary file passes 32 bits */
+    HAYRO_CMAP_UNCLOSED_STRING = 17,   /* a string isn't closed */
+    HAYRO_CMAP_WRONG_DIGIT = 18,       /* a hexadecimal string has a byte that is no digit */
+    HAYRO_CMAP_STRAY_DELIMITER = 19    /* a ) or > stands alone */
 } hayro_cmap_reason;
 
 /* A segment of a binary file, by what it holds. */
@@ -216,11 +218,12 @@ static inline uint8_t *hayro_cmap_room(void *room) {
 
 /* Reads the CMap file `data`, a text or, with a bundle, also one in binary form.
  *
- * A file that it uses is the first of `files` with the name, else that of the bundle. It is refused
- * where it or a file that it uses is outside the grammar, where a use has no file, and where the
- * sixteenth file of a chain uses another one, which would be the seventeenth. A length of 0 means that
- * there is no bundle. The files that are opened may have no more bytes than `budget` together; the
- * bytes of the bundle don't count.
+ * A file that it uses is the first of `files` with the name, else that of the bundle; Identity-H and
+ * Identity-V need none. It is refused where it or a file that it uses is outside the grammar, where a
+ * use has no file, and where the sixteenth file of a chain uses another one, which would be the
+ * seventeenth. A length of 0 means that there is no bundle. The files that are opened may have no more
+ * bytes than `budget` together; the bytes of the bundle don't count, those of Identity-H and
+ * Identity-V do: 177 each.
  *
  * A map that the handle has is freed. With HAYRO_CMAP_OK the handle has the map, else it is empty.
  * The status is one of the first five. */
@@ -251,8 +254,8 @@ hayro_cmap_status hayro_cmap_explain(hayro_cmap *map, const uint8_t *data, size_
                                      uint8_t *room, size_t room_len, size_t *needed);
 
 /* Reads the CMap file `data`, and those that it uses, past their faults: the map of what they say, and each
- * fault. Of a file that hayro_cmap_explain accepts it gives the same map and no fault; of another one
- * the first fault is one for which that is refused. docs/FORMATS.md says how reading goes on.
+ * fault, those of a file once. Of a file that hayro_cmap_explain accepts it gives the same map and no
+ * fault; of another one the first fault is one for which that is refused. docs/FORMATS.md says how reading goes on.
  *
  * With HAYRO_CMAP_OK the handle has a map. `found` is how many faults there are, and `faults` begins
  * with them, as many as have room. The names that lead to the files at fault are written to `room`,
@@ -273,7 +276,7 @@ hayro_cmap_status hayro_cmap_message(const hayro_cmap_fault *fault, uint8_t *roo
 
 /* Reads the file of this name as hayro_cmap_parse_over does, so that what the file says of itself is
  * what the map says: the first of `files` with the name, else that of the bundle. Where neither has
- * one, Identity-H and Identity-V are made, and any other name is HAYRO_CMAP_ABSENT. */
+ * one, Identity-H and Identity-V need none, and any other name is HAYRO_CMAP_ABSENT. */
 hayro_cmap_status hayro_cmap_open(hayro_cmap *map, const uint8_t *name, size_t name_len,
                                   hayro_cmap_bundle *bundle,
                                   const hayro_cmap_file *files, size_t files_len,

@@ -67,7 +67,6 @@ enum class Cause : std::uint32_t {
 // What is wrong where the reading of a malformed file stopped.
 enum class Reason : std::uint16_t {
     none = HAYRO_CMAP_NO_REASON,
-    malformed_token = HAYRO_CMAP_MALFORMED_TOKEN,       // no token stands here
     end_within_section = HAYRO_CMAP_END_WITHIN_SECTION, // the file ends within a section
     code_expected = HAYRO_CMAP_CODE_EXPECTED,           // another token than a code
     code_length = HAYRO_CMAP_CODE_LENGTH,               // a code of no or of more than four bytes
@@ -82,7 +81,10 @@ enum class Reason : std::uint16_t {
     field = HAYRO_CMAP_FIELD,                           // a field of a segment is cut short
     entry = HAYRO_CMAP_ENTRY,                           // an entry of a segment is cut short
     code_too_large = HAYRO_CMAP_CODE_TOO_LARGE,         // a code of a segment passes 32 bits
-    cid_too_large = HAYRO_CMAP_CID_TOO_LARGE            // a CID of a binary file passes 32 bits
+    cid_too_large = HAYRO_CMAP_CID_TOO_LARGE,           // a CID of a binary file passes 32 bits
+    unclosed_string = HAYRO_CMAP_UNCLOSED_STRING,       // a string isn't closed
+    wrong_digit = HAYRO_CMAP_WRONG_DIGIT,               // a hexadecimal string has a byte that is no digit
+    stray_delimiter = HAYRO_CMAP_STRAY_DELIMITER        // a ) or > stands alone
 };
 
 // A segment of a binary file, by what it holds.
@@ -367,14 +369,14 @@ public:
     Map() noexcept = default;
 
     // Reads a CMap file over the files that it uses. A name is that of the first of `files` with it,
-    // else of the bundle. The files that are opened may have no more bytes than the budget together; a
-    // file counts as often as it is used.
+    // else of the bundle; Identity-H and Identity-V need no file. The files that are opened may have no
+    // more bytes than the budget together; a file counts as often as it is used.
     static Result parse(Bytes data, const Files &files = {}, std::uint64_t budget = no_budget);
     static Result parse(Bytes data, Bundle &bundle, const Files &files = {},
                         std::uint64_t budget = no_budget);
 
-    // Reads the file of a name, so that what the file says of itself is what the map says. Without a
-    // file Identity-H and Identity-V are made, and of any other name there is no answer.
+    // Reads the file of a name, so that what the file says of itself is what the map says. There is no
+    // answer where no file has the name.
     static std::optional<Result> open(Bytes name, const Files &files = {},
                                       std::uint64_t budget = no_budget);
     static std::optional<Result> open(Bytes name, Bundle &bundle, const Files &files = {},
@@ -623,8 +625,8 @@ private:
     std::variant<Map, Refusal> either_;
 };
 
-// A map, and the faults past which its files were read. Those of one file are in the order of their
-// offsets, before those of the files that it uses.
+// A map, and the faults past which its files were read, those of a file once. Those of one file are in the
+// order of their offsets, before those of the files that it uses.
 struct Salvaged {
     Map map;
     std::vector<Refusal> faults;

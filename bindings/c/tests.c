@@ -220,6 +220,13 @@ static hayro_cmap map_of(const uint8_t *data, size_t len) {
     return map;
 }
 
+static void a_use_of_an_identity_needs_no_file(void) {
+    hayro_cmap map = map_of(TEXT("/Identity-H usecmap"));
+    uint32_t cid = 0;
+    CHECK(hayro_cmap_cid(&map, 0x3042, 2, &cid) && cid == 0x3042);
+    hayro_cmap_free(&map);
+}
+
 static bool is_extracted(hayro_cmap_extracted extracted, size_t made, size_t taken, size_t used) {
     return extracted.made == made && extracted.taken == taken && extracted.used == used;
 }
@@ -314,7 +321,7 @@ static void files_are_read_past_their_faults(void) {
     hayro_cmap_fault faults[4];
     uint8_t room[6] = {0};
     size_t found = 0, needed = 0;
-    hayro_cmap_file file = {TEXT("AB"), TEXT("begincidchar <> <44> 9 endcidchar /C usecmap")};
+    hayro_cmap_file file = {TEXT("AB"), TEXT("begincidchar\n<> 8\n<44> 9\nendcidchar /C usecmap")};
     CHECK(hayro_cmap_salvage(&map, TEXT(SPOILED), &none, &file, 1, HAYRO_CMAP_NO_BUDGET, faults, 4, &found,
                              room, 6, &needed) == HAYRO_CMAP_OK);
     CHECK(found == 3 && needed == 5 && same(room, "ABABC\0", 6));
@@ -545,6 +552,7 @@ int main(void) {
     an_identity_answers_the_code();
     a_string_is_cut_up_to_the_room();
     a_string_may_end_before_its_last_code();
+    a_use_of_an_identity_needs_no_file();
     texts_come_from_the_code_or_the_cid();
     a_string_is_extracted_up_to_the_rooms();
     files_are_opened_by_their_names();

@@ -60,6 +60,8 @@ static void files_use_files() {
     CHECK(opened && *opened && (*opened)->cid(1, 1) == 1u);
     CHECK(!hayro::Map::open("Else", files));
     CHECK(hayro::Map::open("Identity-V") && hayro::Map::open("Identity-V").value()->name() == "Identity-V");
+    auto used = hayro::Map::parse("/Identity-H usecmap");
+    CHECK(used && used->cid(0x3042, 2) == 0x3042u);
     hayro::Map read;
     CHECK(read.read(base) == HAYRO_CMAP_OK && read.cid(1, 1) == 1u);
     CHECK(read.read("begincidchar") == HAYRO_CMAP_REFUSED && read.empty());
@@ -104,7 +106,7 @@ static void refusals_say_why() {
 }
 
 static void files_are_read_past_their_faults() {
-    auto base = "begincidchar <> <44> 9 endcidchar /C usecmap"s;
+    auto base = "begincidchar\n<> 8\n<44> 9\nendcidchar /C usecmap"s;
     auto found = hayro::Map::salvage("/AB usecmap begincidchar <41> 5 <42> /X <43> 7 endcidchar", {{"AB", base}});
     CHECK(found.map.cid(0x41, 1) == 5u && !found.map.cid(0x42, 1) && found.map.cid(0x43, 1) == 7u);
     CHECK(found.map.cid(0x44, 1) == 9u && found.map.layers() == 2 && found.faults.size() == 3);
@@ -114,9 +116,10 @@ static void files_are_read_past_their_faults() {
     CHECK(hayro::Map::salvage(base, {{"C", ""}}).faults.size() == 1);
     CHECK(hayro::Map::salvage("begincidchar <44> 9 endcidchar").faults.empty());
     std::string many;
-    for (int count = 0; count < 100; count++) many += " begincidchar <> endcidchar /nnnnnnnnn usecmap";
+    for (int count = 0; count < 100; count++)
+        many += " begincidchar <> endcidchar /" + std::to_string(100000000 + count) + " usecmap";
     auto faults = hayro::Map::salvage(many).faults;
-    CHECK(faults.size() == 200 && faults[199].names() == Names{"nnnnnnnnn"});
+    CHECK(faults.size() == 200 && faults[199].names() == Names{"100000099"});
     auto over = hayro::Map::salvage("/A usecmap", {{"A", "% bytes"}}, 10);
     CHECK(over.faults.size() == 1 && over.faults[0].cause() == hayro::Cause::past_budget);
 }

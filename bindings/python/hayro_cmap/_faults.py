@@ -22,7 +22,6 @@ class Cause(enum.IntEnum):
 class Reason(enum.IntEnum):
     """What is wrong where the reading of a malformed file stopped."""
 
-    MALFORMED_TOKEN = 1
     END_WITHIN_SECTION = 2
     CODE_EXPECTED = 3
     CODE_LENGTH = 4
@@ -38,6 +37,9 @@ class Reason(enum.IntEnum):
     ENTRY = 14
     CODE_TOO_LARGE = 15
     CID_TOO_LARGE = 16
+    UNCLOSED_STRING = 17
+    WRONG_DIGIT = 18
+    STRAY_DELIMITER = 19
 
 
 class Segment(enum.IntEnum):

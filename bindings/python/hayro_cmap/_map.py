@@ -190,9 +190,10 @@ class CMap(Owned):
     ) -> "Salvaged":
         """Reads a CMap file, and those that it uses, past their faults: the map of what they say, and each fault.
 
-        Of a file that `parse` reads it gives the same map, and no fault; of another one the first fault is one for
-        which it is refused. The parameters are those of `parse`; a callable isn't asked for a name that only a file
-        at fault uses, where the bundle has it.
+        The faults of a file come once, however often it is used. Of a file that `parse` reads it gives the same map,
+        and no fault; of another one the first fault is one for which it is refused. The parameters are those of
+        `parse`; a callable isn't asked for a name that only a file at fault uses, where the bundle has it
+        or it needs no file.
         """
         data, most = bytes_of(data), budget_of(budget)
         handle, faults = salvaged_over(data, files, bundle, most)

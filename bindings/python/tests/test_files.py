@@ -93,6 +93,15 @@ class Callables(unittest.TestCase):
         with CMap.open("Identity-V", {"Identity-V": SMALL}) as cmap:
             self.assertEqual(cmap.cid(0x41, 1), 34)
 
+    def test_use_of_an_identity(self):
+        """A use of an identity needs no file. One that has the name goes before."""
+        for files in [{}, Recorded({})]:
+            with CMap.parse(uses(b"Identity-H"), files) as cmap:
+                self.assertEqual(cmap.cid(0x3042, 2), 0x3042)
+        for files in [{"Identity-H": SMALL}, Recorded({b"Identity-H": SMALL})]:
+            with CMap.parse(uses(b"Identity-H"), files) as cmap:
+                self.assertEqual((cmap.cid(0x41, 1), cmap.cid(0x3042, 2)), (34, None))
+
     def test_chain(self):
         """A chain of 16 files is read, and no file beyond a chain of 16 is asked for."""
         for length, call in [(15, CMap.parse), (16, CMap.open)]:

@@ -42,7 +42,7 @@ class Refusals(unittest.TestCase):
 
     def test_salvage(self):
         data = uses(b"AB") + b" begincidchar <41> 5 <42> /X <43> 7 endcidchar"
-        files = {b"AB": b"begincidchar <> <44> 9 endcidchar /C usecmap"}
+        files = {b"AB": b"begincidchar\n<> 8\n<44> 9\nendcidchar /C usecmap"}
         for given in [files, files.get]:
             with CMap.salvage(data, given).cmap as cmap:
                 self.assertEqual([cmap.cid(code, 1) for code in b"ABCD"], [5, None, 7, 9])
@@ -125,7 +125,7 @@ class Refusals(unittest.TestCase):
 
     def test_uses(self):
         fault = self.refusal(CMap.uses, uses(b"A") + b" )")
-        self.assertEqual((fault.cause, fault.reason), (Cause.MALFORMED, Reason.MALFORMED_TOKEN))
+        self.assertEqual((fault.cause, fault.reason), (Cause.MALFORMED, Reason.STRAY_DELIMITER))
 
     def test_bundle(self):
         for data in [b"", b"\0\0\0\1", BUNDLE[:-1]]:

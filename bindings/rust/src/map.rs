@@ -78,7 +78,7 @@ impl CMap {
     }
 
     /// Reads a file, and those that it uses, past their faults: the map of what they say, and each
-    /// fault. Of a file that [`CMap::parse`] accepts it gives the same map, and no fault; of another
+    /// fault, those of a file once. Of a file that [`CMap::parse`] accepts it gives the same map, and no fault; of another
     /// one the first fault is one for which that is refused.
     ///
     /// ```

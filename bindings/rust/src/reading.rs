@@ -46,27 +46,30 @@ impl<'b> ParseOptions<'b> {
         ParseOptions { budget: Some(bytes), ..self }
     }
 
-    /// Reads a file, as [`CMap::parse_explained`] does.
+    /// Reads a file, as [`CMap::parse_explained`] does. It needs an answer also for Identity-H and Identity-V.
     pub fn parse<'a>(
         &self,
         data: &[u8],
         get_cmap: impl Fn(CMapName<'_>) -> Option<&'a [u8]>,
     ) -> Result<CMap, Refusal> {
         let mut used = Used::new(self, get_cmap);
-        used.gather(data);
-        self.read(data, &used.files())
+        match used.gather(data) {
+            Err(NoMap::Identity(names)) => Err(Refusal::no_file(names)),
+            _ => self.read(data, &used.files()),
+        }
     }
 
     /// Reads a file past its faults, as [`CMap::salvage`] does.
     ///
-    /// `get_cmap` isn't asked for a name that only a file at fault uses, where the bundle has it.
+    /// `get_cmap` isn't asked for a name that only a file at fault uses, where the bundle has it or it
+    /// needs no file.
     pub fn salvage<'a>(
         &self,
         data: &[u8],
         get_cmap: impl Fn(CMapName<'_>) -> Option<&'a [u8]>,
     ) -> Salvaged {
-        let mut used = Used::new(self, get_cmap);
-        used.gather(data);
+        let mut used = Used::named(self, get_cmap);
+        let _: Result<(), NoMap> = used.gather(data);
         loop {
             let (map, faults) = self.read_past(data, &used.files());
             if !used.gather_missing(&faults) {
@@ -81,10 +84,10 @@ impl<'b> ParseOptions<'b> {
         name: CMapName<'_>,
         get_cmap: impl Fn(CMapName<'_>) -> Option<&'a [u8]>,
     ) -> Result<Option<CMap>, Refusal> {
-        let mut used = Used::new(self, get_cmap);
+        let mut used = Used::named(self, get_cmap);
         let data = used.file(name.to_bytes());
         if let Some(data) = &data {
-            used.gather(data);
+            let _: Result<(), NoMap> = used.gather(data);
         }
         let files = used.files();
         let open = |bundle: &mut _| MapHandle::open(name.to_bytes(), bundle, &files, self.most());
@@ -137,38 +140,61 @@ struct Used<'a, 'o, F> {
     answers: HashMap<Vec<u8>, Option<&'a [u8]>>,
     /// How many bytes they have, each file counted once.
     bytes: u64,
+    /// Whether Identity-H and Identity-V need files too.
+    identities_need_files: bool,
 }
 
-/// There is no map: a file is missing or malformed, a chain is too long, or the budget is passed.
-/// Which of these it is the library says, by the files that were asked for until then.
-struct NoMap;
+/// There is no map.
+enum NoMap {
+    /// These names lead to Identity-H or Identity-V, which needs a file.
+    Identity(Vec<Vec<u8>>),
+    /// A file is missing or malformed, a chain is too long, or the budget is passed. Which of these it is
+    /// the library says, by the files that were asked for until then.
+    Told,
+}
 
 impl<'a, 'o, F: Fn(CMapName<'_>) -> Option<&'a [u8]>> Used<'a, 'o, F> {
     fn new(options: &'o ParseOptions<'o>, get_cmap: F) -> Used<'a, 'o, F> {
-        Used { options, get_cmap, answers: HashMap::new(), bytes: 0 }
+        let answers = HashMap::new();
+        Used { options, get_cmap, answers, bytes: 0, identities_need_files: true }
+    }
+
+    /// Where files are looked up by their names. Identity-H and Identity-V need none.
+    fn named(options: &'o ParseOptions<'o>, get_cmap: F) -> Used<'a, 'o, F> {
+        Used { identities_need_files: false, ..Used::new(options, get_cmap) }
     }
 
     /// Asks for the files that a file uses, and for what they use, in the order in which they are read.
-    fn gather(&mut self, data: &[u8]) {
+    fn gather(&mut self, data: &[u8]) -> Result<(), NoMap> {
         self.bytes = data.len() as u64;
-        let _: Result<(), NoMap> = self.gather_under(data, 1);
+        self.gather_under(data, &[])
     }
 
-    /// The same of a file to which a chain of so many files leads, itself counted.
-    fn gather_under(&mut self, data: &[u8], files: usize) -> Result<(), NoMap> {
+    /// The same of a file to which these names lead.
+    fn gather_under(&mut self, data: &[u8], names: &[Vec<u8>]) -> Result<(), NoMap> {
         if self.bytes > self.options.most() {
-            return Err(NoMap);
+            return Err(NoMap::Told);
         }
-        for name in self.uses(data).ok_or(NoMap)? {
-            if files == MOST_FILES {
-                return Err(NoMap);
+        for name in self.uses(data).ok_or(NoMap::Told)? {
+            if names.len() + 1 == MOST_FILES {
+                return Err(NoMap::Told);
             }
             if !self.answers.contains_key(&name) {
-                let file = self.file(&name).ok_or(NoMap)?;
-                self.gather_under(&file, files + 1)?;
+                self.gather_file(&[names, &[name]].concat())?;
             }
         }
         Ok(())
+    }
+
+    /// Asks for the file to which these names lead, and for what it uses.
+    fn gather_file(&mut self, names: &[Vec<u8>]) -> Result<(), NoMap> {
+        let name = names.last().ok_or(NoMap::Told)?;
+        match self.file(name) {
+            Some(file) => self.gather_under(&file, names),
+            None if !is_identity(name) => Err(NoMap::Told),
+            None if self.identities_need_files => Err(NoMap::Identity(names.to_vec())),
+            None => Ok(()),
+        }
     }
 
     /// Asks for the files that are missing by these faults: whether one of them is there.
@@ -202,6 +228,10 @@ impl<'a, 'o, F: Fn(CMapName<'_>) -> Option<&'a [u8]>> Used<'a, 'o, F> {
         let answered = self.answers.iter();
         answered.filter_map(|(name, bytes)| Some(File::new(name, (*bytes)?))).collect()
     }
+}
+
+fn is_identity(name: &[u8]) -> bool {
+    matches!(CMapName::from_bytes(name), CMapName::IdentityH | CMapName::IdentityV)
 }
 
 /// Whether a file may use another one. A text has the word `usecmap` where it does.

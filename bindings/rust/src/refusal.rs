@@ -28,8 +28,6 @@ pub enum Cause {
 #[derive(Clone, Copy, Debug, PartialEq, Eq, Hash)]
 #[non_exhaustive]
 pub enum Reason {
-    /// No token stands here.
-    MalformedToken,
     /// The file ends within a section.
     EndWithinSection,
     /// Another token than a code.
@@ -60,11 +58,16 @@ pub enum Reason {
     CodeTooLarge,
     /// A CID of a binary file passes 32 bits.
     CidTooLarge,
+    /// A string isn't closed.
+    UnclosedString,
+    /// A hexadecimal string has a byte that is no digit.
+    WrongDigit,
+    /// A `)` or a `>` stands alone.
+    StrayDelimiter,
 }
 
-/// The reasons in the order of their numbers, from 1 on.
-const REASONS: [Reason; 16] = [
-    Reason::MalformedToken,
+/// The reasons in the order of their numbers, from 2 on.
+const REASONS: [Reason; 18] = [
     Reason::EndWithinSection,
     Reason::CodeExpected,
     Reason::CodeLength,
@@ -80,7 +83,13 @@ const REASONS: [Reason; 16] = [
     Reason::Entry,
     Reason::CodeTooLarge,
     Reason::CidTooLarge,
+    Reason::UnclosedString,
+    Reason::WrongDigit,
+    Reason::StrayDelimiter,
 ];
+
+/// The number of `Cause::NoFile`.
+const NO_FILE: u32 = 2;
 
 /// A segment of a binary file, by what it holds.
 #[derive(Clone, Copy, Debug, PartialEq, Eq, Hash)]
@@ -115,10 +124,15 @@ impl Refusal {
         Refusal(fault)
     }
 
+    /// No file has the last of these names.
+    pub(crate) fn no_file(names: Vec<Vec<u8>>) -> Refusal {
+        Refusal(Fault { cause: NO_FILE, reason: 0, segment: 0, offset: 0, names })
+    }
+
     /// What is wrong.
     pub fn cause(&self) -> Cause {
         match self.0.cause {
-            2 => Cause::NoFile,
+            NO_FILE => Cause::NoFile,
             3 => Cause::ChainLength,
             4 => Cause::OverBudget,
             _ => Cause::Malformed,
@@ -127,12 +141,12 @@ impl Refusal {
 
     /// What is wrong with a malformed file; `None` with another cause.
     pub fn reason(&self) -> Option<Reason> {
-        numbered(&REASONS, self.0.reason)
+        numbered(&REASONS, 2, self.0.reason)
     }
 
     /// The segment of a malformed binary file, where the reason speaks of one.
     pub fn segment(&self) -> Option<Segment> {
-        numbered(&SEGMENTS, self.0.segment)
+        numbered(&SEGMENTS, 1, self.0.segment)
     }
 
     /// Where the reading of a malformed file stopped, in bytes; `None` with another cause.
@@ -150,8 +164,8 @@ impl Refusal {
     }
 }
 
-fn numbered<T: Copy>(values: &[T], number: u16) -> Option<T> {
-    values.get(usize::from(number).checked_sub(1)?).copied()
+fn numbered<T: Copy>(values: &[T], first: u16, number: u16) -> Option<T> {
+    values.get(usize::from(number.checked_sub(first)?)).copied()
 }
 
 impl Display for Refusal {

@@ -9,8 +9,15 @@ fn refusal(data: &[u8], get_cmap: impl Fn(CMapName<'_>) -> Option<&'static [u8]>
 
 #[test]
 fn a_malformed_file_has_an_offset_and_a_reason() {
-    let rows: [(&[u8], usize, Reason, &str); 8] = [
-        (b"begincidchar <0G> 1", 15, Reason::MalformedToken, "byte 15: no token stands here"),
+    let rows: [(&[u8], usize, Reason, &str); 10] = [
+        (
+            b"begincidchar <0G> 1",
+            15,
+            Reason::WrongDigit,
+            "byte 15: a hexadecimal string has a byte that is no digit",
+        ),
+        (b"begincidchar (0 1", 17, Reason::UnclosedString, "byte 17: a string isn't closed"),
+        (b"begincidchar ) 1", 13, Reason::StrayDelimiter, "byte 13: a ) or > stands alone"),
         (
             b"begincidchar <01> 1",
             19,
@@ -124,6 +131,21 @@ fn files_are_opened_by_name() {
 }
 
 #[test]
+fn a_named_file_uses_an_identity_without_a_file() {
+    let file = b"/Identity-V usecmap";
+    let is_own = |name: CMapName| matches!(name, CMapName::Custom(b"Own"));
+    let map = CMap::open(CMapName::Custom(b"Own"), |name| is_own(name).then_some(&file[..]));
+    assert_eq!(map.unwrap().unwrap().lookup_cid_code(0x1234, 2), Some(0x1234));
+    assert_eq!(CMap::salvage(file, |_| None).map.lookup_cid_code(0x1234, 2), Some(0x1234));
+    // Another file is asked for with those that it uses.
+    let refusal = CMap::parse_explained(b"/Own usecmap", |name| is_own(name).then_some(&file[..])).unwrap_err();
+    assert_eq!(refusal.cause(), Cause::NoFile);
+    assert_eq!(refusal.names(), [b"Own".to_vec(), b"Identity-V".to_vec()]);
+    let map = CMap::parse(file, |_| Some(b"begincidchar <01> 1 endcidchar")).unwrap();
+    assert_eq!((map.lookup_cid_code(1, 1), map.lookup_cid_code(0x1234, 2)), (Some(1), None));
+}
+
+#[test]
 fn uses_are_named_in_order() {
     let names = CMap::uses(b"/B usecmap /A usecmap /B usecmap").unwrap();
     assert_eq!(names, [b"B", b"A", b"B"]);
@@ -218,7 +240,7 @@ fn files_are_read_past_their_faults() {
     let found = CMap::salvage(data, |name| {
         asked.borrow_mut().push(name.to_bytes().to_vec());
         match name.to_bytes() {
-            b"AB" => Some(b"begincidchar <> <44> 9 endcidchar /C usecmap"),
+            b"AB" => Some(b"begincidchar\n<> 8\n<44> 9\nendcidchar /C usecmap"),
             _ => None,
         }
     });
@@ -234,11 +256,12 @@ fn files_are_read_past_their_faults() {
 
 #[test]
 fn many_faults_are_whole() {
-    let data = b" begincidchar <> endcidchar /nnnnnnnnn usecmap".repeat(100);
-    let faults = CMap::salvage(&data, |_| None).faults;
+    let part = |name| format!(" begincidchar <> endcidchar /{name} usecmap");
+    let data: String = (100_000_000..100_000_100).map(part).collect();
+    let faults = CMap::salvage(data.as_bytes(), |_| None).faults;
     assert_eq!(faults.len(), 200);
     assert_eq!(faults[99].offset(), Some(99 * 46 + 16));
-    assert_eq!(faults[199].names(), [b"nnnnnnnnn".to_vec()]);
+    assert_eq!(faults[199].names(), [b"100000099".to_vec()]);
     let over = ParseOptions::new().budget(10).salvage(b"/A usecmap", |_| Some(b"% bytes"));
     assert_eq!(over.faults[0].cause(), Cause::OverBudget);
 }

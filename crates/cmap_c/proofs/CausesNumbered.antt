@@ -20,7 +20,9 @@ segment_found segment.Codespaces = refl
 segment_found segment.Collection = refl
 
 reason_found : (r : Reason) → possible_reason (reason_number r) (segment_of r) ≡ Some r
-reason_found reason.MalformedToken = refl
+reason_found reason.UnclosedString = refl
+reason_found reason.WrongDigit = refl
+reason_found reason.StrayDelimiter = refl
 reason_found reason.EndWithinSection = refl
 reason_found reason.CodeExpected = refl
 reason_found reason.CodeLength = refl

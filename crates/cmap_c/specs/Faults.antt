@@ -31,7 +31,6 @@ segment_number segment.Collection = 6
 
 -- the number of a reason
 abbrev pub reason_number : Reason → ℕ
-reason_number reason.MalformedToken = 1
 reason_number reason.EndWithinSection = 2
 reason_number reason.CodeExpected = 3
 reason_number reason.CodeLength = 4
@@ -47,13 +46,18 @@ reason_number (reason.Field s) = 13
 reason_number (reason.Entry s) = 14
 reason_number (reason.CodeTooLarge s) = 15
 reason_number reason.CidTooLarge = 16
+reason_number reason.UnclosedString = 17
+reason_number reason.WrongDigit = 18
+reason_number reason.StrayDelimiter = 19
 
 -- the number of the segment that a reason names, or 0
 abbrev pub segment_of : Reason → ℕ
 segment_of (reason.Field s) = segment_number s
 segment_of (reason.Entry s) = segment_number s
 segment_of (reason.CodeTooLarge s) = segment_number s
-segment_of reason.MalformedToken = 0
+segment_of reason.UnclosedString = 0
+segment_of reason.WrongDigit = 0
+segment_of reason.StrayDelimiter = 0
 segment_of reason.EndWithinSection = 0
 segment_of reason.CodeExpected = 0
 segment_of reason.CodeLength = 0
@@ -143,8 +147,7 @@ segment_numbered n =
 -- the one reason that may have these numbers
 abbrev pub possible_reason : ℕ → ℕ → Option Reason
 possible_reason n s =
-    if n == 1 then Some reason.MalformedToken
-    else if n == 2 then Some reason.EndWithinSection
+    if n == 2 then Some reason.EndWithinSection
     else if n == 3 then Some reason.CodeExpected
     else if n == 4 then Some reason.CodeLength
     else if n == 5 then Some reason.UnequalLengths
@@ -159,6 +162,9 @@ possible_reason n s =
     else if n == 14 then option_map (λ segment. reason.Entry segment) (segment_numbered s)
     else if n == 15 then option_map (λ segment. reason.CodeTooLarge segment) (segment_numbered s)
     else if n == 16 then Some reason.CidTooLarge
+    else if n == 17 then Some reason.UnclosedString
+    else if n == 18 then Some reason.WrongDigit
+    else if n == 19 then Some reason.StrayDelimiter
     else None
 
 -- the one cause that may have these numbers

@@ -6,6 +6,7 @@ use Rattle.cmap_packed.specs.Bundles.{Bundle, IsBundle}
 use Rattle.cmap_values.specs.Only.{IsOnly}
 use Rattle.cmap_layers.specs.Layers.{Layer}
 use Rattle.cmap_chains.specs.Answers.{embedded}
+use Rattle.cmap_chains.specs.Identity.{identity_text}
 use Rattle.cmap_chains.specs.Layers.{AreUses, Means}
 use Rattle.cmap_chains.specs.Maps as maps
 use Rattle.cmap_chains.specs.NamedFiles.{first_named}
@@ -22,9 +23,9 @@ bytes_of file = file.bytes.now
 abbrev pub bundle_in : {B : Type 0} → (B → Bundle) → Option (Bor B) → Option Bundle
 bundle_in bundle_of bundle = option_map (λ b. bundle_of b.now) bundle
 
--- a name is answered by the first file with it, else by that of the bundle
+-- a name is answered by the first file with it, else by that of the bundle; Identity-H and Identity-V need none
 abbrev pub answers : Option Bundle → List BaseFile → List ℕ → Option (List ℕ) → Type 0
-answers bundle files name answer = answer ≡ option_or (first_named name_of bytes_of files name) (embedded bundle name)
+answers bundle files name answer = answer ≡ option_or (option_or (first_named name_of bytes_of files name) (embedded bundle name)) (identity_text name)
 
 -- what is said of a file over these files and those of the bundle
 module _ (bundle : Option Bundle) (files : List BaseFile) (bytes : List ℕ) where

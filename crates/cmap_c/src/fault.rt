@@ -153,7 +153,6 @@ fn reason_number(reason: Reason) -> u16
     ensures { result ≡ reason_number reason }
 {
     match reason {
-        Reason::MalformedToken => 1,
         Reason::EndWithinSection => 2,
         Reason::CodeExpected => 3,
         Reason::CodeLength => 4,
@@ -169,6 +168,9 @@ fn reason_number(reason: Reason) -> u16
         Reason::Entry(_) => 14,
         Reason::CodeTooLarge(_) => 15,
         Reason::CidTooLarge => 16,
+        Reason::UnclosedString => 17,
+        Reason::WrongDigit => 18,
+        Reason::StrayDelimiter => 19,
     }
 }
 
@@ -203,7 +205,6 @@ fn possible_reason(reason: u16, segment: u16) -> Option<Reason>
     ensures { result ≡ possible_reason reason segment }
 {
     match (reason, segment_numbered(segment)) {
-        (1, _) => Some(Reason::MalformedToken),
         (2, _) => Some(Reason::EndWithinSection),
         (3, _) => Some(Reason::CodeExpected),
         (4, _) => Some(Reason::CodeLength),
@@ -219,6 +220,9 @@ fn possible_reason(reason: u16, segment: u16) -> Option<Reason>
         (14, Some(segment)) => Some(Reason::Entry(segment)),
         (15, Some(segment)) => Some(Reason::CodeTooLarge(segment)),
         (16, _) => Some(Reason::CidTooLarge),
+        (17, _) => Some(Reason::UnclosedString),
+        (18, _) => Some(Reason::WrongDigit),
+        (19, _) => Some(Reason::StrayDelimiter),
         _ => None,
     }
 }

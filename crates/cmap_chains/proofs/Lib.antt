@@ -18,4 +18,6 @@ pub mod Walked
 pub mod UsedAgain
 pub mod Checked
 pub mod Larger
+pub mod Listed
+pub mod Again
 pub mod Stopped

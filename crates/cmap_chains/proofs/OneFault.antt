@@ -1,29 +1,39 @@
--- Of a file that is refused there is one first fault: one list of names leads to it, and it has one place.
+-- Of a file that is refused there is one first fault: one list of names leads to it, and it has one cause.
 use Rattle.std.proofs.Common.{◌≡◌, ℕ, zero, suc, ◌<◌, refl, sym, ap, ◌∙◌, subst, List, [], ◌∷◌, ◌++◌, length, inl, inr, arith}
-use Rattle.std.specs.Prelude.{◌⊎◌, All, min, Option, Some, None}
+use Rattle.std.specs.Prelude.{◌≢◌, ◌⊎◌, All, min, Option, Some, None}
 use Rattle.std.specs.List.{AllZip}
 use Rattle.std.proofs.lemmas.List.Elements.{All-head, All-tail}
 use Rattle.cmap_values.specs.Files.{File}
 use Rattle.cmap_values.specs.Only.{HoldsOfNone}
 use Rattle.cmap_values.specs.declared.fault.Stop.{Stop}
 use Rattle.cmap_packed.specs.Bundles.{PrefixTables}
+use Rattle.cmap_packed.proofs.FrontsAlone.{ArePrefixFree, tables_free}
 use Rattle.cmap_binary.proofs.FaultsFirst.{one_binary_fault}
-use Rattle.cmap_text.specs.Salvage.{stop_of}
 use Rattle.cmap_text.specs.TextReading.{StopsText}
 use Rattle.cmap_text.specs.TokenParsers.{Refused, offset_of}
 use Rattle.cmap_layers.specs.Layers.{Layer}
 use Rattle.cmap_chains.specs.Answers.{IsByName}
 use Rattle.cmap_chains.specs.Layers.{AreLayers, Means, OfAnswer}
+use Rattle.cmap_chains.specs.Maps.{FitsBudget, HasNoMap, LeadsToFault}
+use Rattle.cmap_chains.specs.Salvage.{AreOfBundle, IsFirstPastFaults}
 use Rattle.cmap_chains.specs.Refusals.{HasLayers, IsFault, IsFirstFault, IsMissing, IsOwnFault, IsUsedAfter}
 use Rattle.cmap_chains.specs.declared.refusal.Cause.{Cause}
 use Rattle.cmap_chains.specs.declared.refusal.Cause.TheVariants.{Malformed, NoFile, ChainLength, OverBudget}
+use Rattle.cmap_chains.proofs.SalvagedMaps.{first_map}
 
--- the same cause, at the same offset
-abbrev pub IsSameCause : Cause → Cause → Type 0
-IsSameCause (Malformed stop) (Malformed other) = stop.offset ≡ other.offset
-IsSameCause cause other = cause ≡ other
+-- no code word of the tables begins another one
+abbrev pub AreFree : Option PrefixTables → Type 0
+AreFree None = Unit {0}
+AreFree (Some tables) = ArePrefixFree tables
+
+pub free_of_bundle : (tables : Option PrefixTables) → AreOfBundle tables → AreFree tables
+free_of_bundle None of_bundle = tt
+free_of_bundle (Some tables) (text, holds) = tables_free text tables holds
 
 -- ---- one place in a file
+abbrev stop_of : ℕ → Refused → Stop
+stop_of len e = record { offset = min (offset_of e) len; reason = e.reason }
+
 stop_at : (len : ℕ) (e : Refused) (stop : Stop) → stop.offset ≡ min (offset_of e) len → stop.reason ≡ e.reason → stop ≡ stop_of len e
 stop_at len e stop offset reason = rw (← offset, ← reason) refl
 
@@ -32,16 +42,16 @@ text_alike text stop other (e, is, offset, reason) (d, same, place, why) =
     let one : e ≡ d = cc in
     stop_at (length text) e stop offset reason ∙ ap (stop_of (length text)) one ∙ sym (stop_at (length text) d other place why)
 
-pub first_alike : (tables : Option PrefixTables) (bytes : List ℕ) (stop other : Stop) → IsFirstFault tables bytes stop → IsFirstFault tables bytes other → stop.offset ≡ other.offset
-first_alike None bytes stop other first also = ap (λ s. s.offset) (text_alike bytes stop other first also)
-first_alike (Some tables) bytes stop other first also = elim first [
+pub first_alike : (tables : Option PrefixTables) → AreFree tables → (bytes : List ℕ) (stop other : Stop) → IsFirstFault tables bytes stop → IsFirstFault tables bytes other → stop ≡ other
+first_alike None free bytes stop other first also = text_alike bytes stop other first also
+first_alike (Some tables) free bytes stop other first also = elim first [
   | inl (marked, is) ↦ elim also [
-    | inl (_, same) ↦ one_binary_fault tables bytes stop other is same
+    | inl (_, same) ↦ one_binary_fault tables free bytes stop other is same
     | inr (unmarked, _) ↦ absurd (unmarked marked)
   ]
   | inr (unmarked, is) ↦ elim also [
     | inl (marked, _) ↦ absurd (unmarked marked)
-    | inr (_, same) ↦ ap (λ s. s.offset) (text_alike bytes stop other is same)
+    | inr (_, same) ↦ text_alike bytes stop other is same
   ]
 ]
 
@@ -65,7 +75,7 @@ each_has P [] after name (x ∷ each) h = (x, h.0)
 each_has P (b ∷ before) after name [] h = absurd h
 each_has P (b ∷ before) after name (x ∷ each) h = each_has P before after name each h.1
 
-module _ (tables : Option PrefixTables) (answer : List ℕ → Option (List ℕ) → Type 0) (by_name : IsByName answer) where
+module _ (tables : Option PrefixTables) (free : AreFree tables) (answer : List ℕ → Option (List ℕ) → Type 0) (by_name : IsByName answer) where
   -- ---- what is at fault has no layers
   own_none : (bytes : List ℕ) (cause : Cause) → IsOwnFault tables answer bytes cause → HoldsOfNone (Means tables bytes)
   own_none bytes (Malformed stop) fault = fault.0
@@ -103,8 +113,8 @@ module _ (tables : Option PrefixTables) (answer : List ℕ → Option (List ℕ)
   ]
 
   -- ---- one fault
-  own_alike : (bytes : List ℕ) (cause other : Cause) → IsOwnFault tables answer bytes cause → IsOwnFault tables answer bytes other → IsSameCause cause other
-  own_alike bytes (Malformed stop) (Malformed other) fault also = first_alike tables bytes stop other fault.3 also.3
+  own_alike : (bytes : List ℕ) (cause other : Cause) → IsOwnFault tables answer bytes cause → IsOwnFault tables answer bytes other → (cause ≡ other)
+  own_alike bytes (Malformed stop) (Malformed other) fault also = ap Malformed (first_alike tables free bytes stop other fault.3 also.3)
   own_alike bytes (Malformed stop) NoFile fault also = absurd also
   own_alike bytes (Malformed stop) ChainLength fault also = absurd also
   own_alike bytes (Malformed stop) OverBudget fault also = absurd also
@@ -112,7 +122,7 @@ module _ (tables : Option PrefixTables) (answer : List ℕ → Option (List ℕ)
   own_alike bytes ChainLength other fault also = absurd fault
   own_alike bytes OverBudget other fault also = absurd fault
 
-  missing_alike : (room : ℕ) (name : List ℕ) (cause other : Cause) → IsMissing tables answer room name cause → IsMissing tables answer room name other → IsSameCause cause other
+  missing_alike : (room : ℕ) (name : List ℕ) (cause other : Cause) → IsMissing tables answer room name cause → IsMissing tables answer room name other → (cause ≡ other)
   missing_alike room name NoFile NoFile missing also = refl
   missing_alike room name ChainLength ChainLength missing also = refl
   missing_alike room name NoFile ChainLength missing also = absurd (omega (arith, missing.0, also))
@@ -132,8 +142,8 @@ module _ (tables : Option PrefixTables) (answer : List ℕ → Option (List ℕ)
   missing_here room name base names OverBudget other missing said fault = missing
 
   ends_alike : (most : ℕ) (name : List ℕ) (names others : List (List ℕ)) (cause other : Cause)
-      → ((base : List ℕ) → IsFault tables answer most base names cause → IsFault tables answer most base others other → (names ≡ others) × IsSameCause cause other)
-      → Ends most name names cause → Ends most name others other → (names ≡ others) × IsSameCause cause other
+      → ((base : List ℕ) → IsFault tables answer most base names cause → IsFault tables answer most base others other → (names ≡ others) × (cause ≡ other))
+      → Ends most name names cause → Ends most name others other → (names ≡ others) × (cause ≡ other)
   ends_alike most name names others cause other deeper ends stops = elim ends [
     | inl (missing, none) ↦ elim stops [
       | inl (also, empty) ↦ (none ∙ sym empty, missing_alike most name cause other missing also)
@@ -145,7 +155,7 @@ module _ (tables : Option PrefixTables) (answer : List ℕ → Option (List ℕ)
     ]
   ]
 
-  pub one_fault : (most : ℕ) (bytes : List ℕ) (names others : List (List ℕ)) (cause other : Cause) → IsFault tables answer most bytes names cause → IsFault tables answer most bytes others other → (names ≡ others) × IsSameCause cause other
+  pub one_fault : (most : ℕ) (bytes : List ℕ) (names others : List (List ℕ)) (cause other : Cause) → IsFault tables answer most bytes names cause → IsFault tables answer most bytes others other → (names ≡ others) × (cause ≡ other)
   one_fault zero bytes names others cause other fault also = absurd fault
   one_fault (suc most) bytes [] [] cause other fault also = (refl, own_alike bytes cause other fault also)
   one_fault (suc most) bytes [] (o ∷ others) cause other fault (file, only, used, ends) = absurd (own_none bytes cause fault file only.holds)
@@ -155,3 +165,17 @@ module _ (tables : Option PrefixTables) (answer : List ℕ → Option (List ℕ)
       let same : n ≡ o = same_name (HasLayers tables answer most) file.uses n o used (subst (λ f. IsUsedAfter (HasLayers tables answer most) f.uses o) uses taken) (ends_none most n names cause ends) (ends_none most o others other stops) in
       let (rest, cause_is) = ends_alike most n names others cause other (λ base fault also. one_fault most base names others cause other fault also) ends (subst (λ name. Ends most name others other) (sym same) stops) in
       (cc, cause_is)
+
+  -- a fault that isn't of the budget
+  fault_only : (budget : Option ℕ) (bytes : List ℕ) (names : List (List ℕ)) (cause : Cause) → cause ≢ OverBudget → LeadsToFault tables answer bytes budget names cause → IsFault tables answer 16 bytes names cause
+  fault_only budget bytes names (Malformed stop) other leads = leads
+  fault_only budget bytes names NoFile other leads = leads
+  fault_only budget bytes names ChainLength other leads = leads
+  fault_only budget bytes names OverBudget other leads = absurd (other refl)
+
+  -- it is the first one that is read past
+  pub first_past : (budget : Option ℕ) (bytes : List ℕ) (names : List (List ℕ)) (cause : Cause) → cause ≢ OverBudget → HasNoMap tables answer bytes → FitsBudget tables answer bytes budget → LeadsToFault tables answer bytes budget names cause → IsFirstPastFaults tables answer bytes budget names cause
+  first_past budget bytes names cause other no_map fits leads layers faults salvages =
+      let (first, more, found, begins, shows, no_budget, also) = first_map tables answer bytes budget by_name layers faults salvages no_map fits in
+      let (same, one) = one_fault 16 bytes first.names names found cause (fault_only budget bytes first.names found no_budget also) (fault_only budget bytes names cause other leads) in
+      (first, more, begins, same, rw (← one) shows)

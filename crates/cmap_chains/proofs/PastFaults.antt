@@ -1,6 +1,8 @@
 -- What the faults say of a file and of those that it uses: without one it has the layers that are found; else the first is why it has none.
 use Rattle.std.proofs.Common.{◌≡◌, ℕ, zero, suc, refl, sym, ap, ◌∙◌, subst, false, List, [], ◌∷◌, ◌++◌, length, inl, inr, arith, append-nil, append_assoc}
 use Rattle.std.specs.Prelude.{map, Option, Some}
+use Rattle.std.specs.List.{All}
+use Rattle.std.proofs.lemmas.List.Elements.{All-append, All-cons, All-nil}
 use Rattle.cmap_values.specs.Files.{File}
 use Rattle.cmap_values.specs.Only.{IsOnly, HoldsOfNone}
 use Rattle.cmap_values.specs.declared.fault.Stop.{Stop}
@@ -10,7 +12,7 @@ use Rattle.cmap_chains.specs.Answers.{IsByName}
 use Rattle.cmap_chains.specs.BytesSpent.{About, Leaves, Resolves, GoesOverAt, of_file, of_use, of_uses}
 use Rattle.cmap_chains.specs.Layers.{Means}
 use Rattle.cmap_chains.specs.Refusals.{Fails, HasLayers, IsFaultWithin, IsUseFaultWithin, IsUsedAfter}
-use Rattle.cmap_chains.specs.Salvage.{Found, IsReadWithin, NamedFault, Opening, Salvages, SalvagesEach, SalvagesBytes, SalvagesNamed, SalvagesUse, faults_of}
+use Rattle.cmap_chains.specs.Salvage.{Found, IsReadWithin, IsRefusedFor, NamedFault, Opening, Reading, Salvages, SalvagesEach, SalvagesBytes, SalvagesNamed, SalvagesUse}
 use Rattle.cmap_chains.specs.declared.refusal.Cause.{Cause}
 use Rattle.cmap_chains.specs.declared.refusal.Cause.TheVariants.{Malformed, NoFile, ChainLength, OverBudget}
 use Rattle.cmap_chains.proofs.Blamed.{fails_as, leads_file, leads_use}
@@ -26,12 +28,57 @@ pub record Refuted {Key : Type 0} (about : About Key) (key : Key) (leads : List 
   pub fails : Fails about key budget left fault.cause
   pub below : List (List ℕ)
   pub named : fault.names ≡ names ++ below
-  pub leads_on : leads below fault.cause
+  pub cause : Cause
+  pub shows : IsRefusedFor fault.cause cause
+  pub leads_on : leads below cause
+
+abbrev pub HasNone : Reading → Type 0
+HasNone reading = reading.causes ≡ []
+
+-- the first fault of what is opened
+pub record HasFirst (readings : List Reading) (fault : NamedFault) : Type 0 where
+  pub before : List Reading
+  pub more : List Reading
+  pub causes : List Cause
+  pub split : readings ≡ before ++ record { names = fault.names; causes = fault.cause ∷ causes } ∷ more
+  pub none : All HasNone before
+
+-- the same after others that have none, and before others
+begins_after : (first : List Reading) {readings : List Reading} {fault : NamedFault} → All HasNone first → HasFirst readings fault → HasFirst (first ++ readings) fault
+begins_after first {readings} {fault} none begins =
+    let here : Reading = record { names = fault.names; causes = fault.cause ∷ begins.causes } in
+    record {
+      before = first ++ begins.before;
+      more = begins.more;
+      causes = begins.causes;
+      split = ap (λ r. first ++ r) begins.split ∙ sym (append_assoc first begins.before (here ∷ begins.more));
+      none = All-append HasNone first begins.before none begins.none;
+    }
+
+begins_before : (last : List Reading) {readings : List Reading} {fault : NamedFault} → HasFirst readings fault → HasFirst (readings ++ last) fault
+begins_before last {readings} {fault} begins =
+    let here : Reading = record { names = fault.names; causes = fault.cause ∷ begins.causes } in
+    record {
+      before = begins.before;
+      more = begins.more ++ last;
+      causes = begins.causes;
+      split = ap (λ r. r ++ last) begins.split ∙ append_assoc begins.before (here ∷ begins.more) last;
+      none = begins.none;
+    }
+
+begins_as : {readings others : List Reading} {fault : NamedFault} → others ≡ readings → HasFirst readings fault → HasFirst others fault
+begins_as {readings} {others} {fault} is begins = subst (λ r. HasFirst r fault) (sym is) begins
+
+none_as : {readings others : List Reading} → others ≡ readings → All HasNone readings → All HasNone others
+none_as is none = subst (All HasNone) (sym is) none
+
+begins_here : (names : List (List ℕ)) (cause : Cause) (causes : List Cause) (more : List Reading) → HasFirst (record { names = names; causes = cause ∷ causes } ∷ more) (record { names = names; cause = cause })
+begins_here names cause causes more = record { before = []; more = more; causes = causes; split = refl; none = All-nil HasNone }
 
 -- what is found without a fault, or else what the first one says
 pub data Ends {Key : Type 0} (about : About Key) (key : Key) (leads : List (List ℕ) → Cause → Type 0) (names : List (List ℕ)) (budget : Option ℕ) (found : Found) : Type 0 where
-  right : found.faults ≡ [] → Resolves about key found.layers budget found.after.left → found.after.closed ≡ false → Ends about key leads names budget found
-  wrong : (fault : NamedFault) (more : List NamedFault) → found.faults ≡ fault ∷ more → Refuted about key leads names budget fault → Ends about key leads names budget found
+  right : All HasNone found.readings → Resolves about key found.layers budget found.after.left → found.after.closed ≡ false → Ends about key leads names budget found
+  wrong : (fault : NamedFault) → HasFirst found.readings fault → Refuted about key leads names budget fault → Ends about key leads names budget found
 
 module _ (tables : Option PrefixTables) (answer : List ℕ → Option (List ℕ) → Type 0) where
   abbrev leads_in : ℕ → List ℕ → Option ℕ → List (List ℕ) → Cause → Type 0
@@ -54,13 +101,17 @@ module _ (tables : Option PrefixTables) (answer : List ℕ → Option (List ℕ)
   past_ends : (most : ℕ) (bytes : List ℕ) (names : List (List ℕ)) (budget : Option ℕ) (file : File) (stops : List Stop) (rest : Option ℕ) → Leaves budget (length bytes) rest → HoldsOfNone (Means tables bytes) → (stops_are : List Stop) → stops ≡ stops_are
       → SalvagesBytes tables bytes file stops_are → ReadEnds most bytes names budget file (map Malformed stops_are) rest
   past_ends most bytes names budget file stops rest leaves none [] is salvages = absurd (none file (bytes_past.no_fault bytes file tables salvages))
-  past_ends most bytes names budget file stops rest leaves none (stop ∷ more) is salvages = faulty (Malformed stop) (map Malformed more) refl (record {
-    left = rest;
-    fails = Refuses-no_file (Means tables) answer most bytes budget rest none leaves;
-    below = [];
-    named = sym (append-nil names);
-    leads_on = (let first = bytes_past.first_fault bytes file tables stop more none salvages in (none, first.0, first.1, first.2));
-  })
+  past_ends most bytes names budget file stops rest leaves none (fault ∷ more) is salvages =
+      let (stop, shows, within, decided, first) = bytes_past.first_fault bytes file tables fault more none salvages in
+      faulty (Malformed fault) (map Malformed more) refl (record {
+        left = rest;
+        fails = Refuses-no_file (Means tables) answer most bytes budget rest none leaves;
+        below = [];
+        named = sym (append-nil names);
+        cause = Malformed stop;
+        shows = shows;
+        leads_on = (none, within, decided, first);
+      })
 
   read_ends : (most : ℕ) (bytes : List ℕ) (names : List (List ℕ)) (budget : Option ℕ) (file : File) (causes : List Cause) (rest : Option ℕ) → IsReadWithin tables budget bytes file causes rest → ReadEnds most bytes names budget file causes rest
   read_ends most bytes names budget file causes rest reads = elim reads [
@@ -69,6 +120,8 @@ module _ (tables : Option PrefixTables) (answer : List ℕ → Option (List ℕ)
       fails = GoesOver-here (Means tables) answer most bytes budget over;
       below = [];
       named = sym (append-nil names);
+      cause = OverBudget;
+      shows = inl refl;
       leads_on = GoesOverAt-here (Means tables) answer most bytes budget over;
     })
     | inr (stops, leaves, past, causes_are) ↦ elim past [
@@ -88,12 +141,14 @@ module _ (tables : Option PrefixTables) (answer : List ℕ → Option (List ℕ)
       pub fails : Fails (of_uses (use_about room)) uses budget left fault.cause
       pub below : List (List ℕ)
       pub named : fault.names ≡ names ++ below
-      pub leads_on : leads_from room name before below fault.cause
+      pub cause : Cause
+      pub shows : IsRefusedFor fault.cause cause
+      pub leads_on : leads_from room name before below cause
       pub passes : (leading : List (List ℕ)) → GoesOverAt (use_about room) name before leading → GoesOverAt (of_uses (use_about room)) uses budget leading
 
     pub data UsesEnd (uses : List (List ℕ)) (budget : Option ℕ) (found : Found) : Type 0 where
-      all_right : found.faults ≡ [] → Resolves (of_uses (use_about room)) uses found.layers budget found.after.left → found.after.closed ≡ false → UsesEnd uses budget found
-      one_wrong : (fault : NamedFault) (more : List NamedFault) → found.faults ≡ fault ∷ more → UseRefuted uses budget fault → UsesEnd uses budget found
+      all_right : All HasNone found.readings → Resolves (of_uses (use_about room)) uses found.layers budget found.after.left → found.after.closed ≡ false → UsesEnd uses budget found
+      one_wrong : (fault : NamedFault) → HasFirst found.readings fault → UseRefuted uses budget fault → UsesEnd uses budget found
 
     abbrev EachEnds : (List ℕ → List Layer → Opening → Found → Type 0) → Type 0
     EachEnds salvages = (name : List ℕ) (base : List Layer) (opening : Opening) (found : Found) → opening.closed ≡ false → salvages name base opening found → Ends (use_about room) name (leads_from room name opening.left) names opening.left found
@@ -102,19 +157,19 @@ module _ (tables : Option PrefixTables) (answer : List ℕ → Option (List ℕ)
       uses_end : (rest : List (List ℕ)) (base : List Layer) (opening : Opening) (found : Found) → opening.closed ≡ false → AreUsed (use_about room) uses rest base budget opening.left
           → SalvagesEach salvages rest base opening found → UsesEnd uses budget found
       uses_end [] base opening found is_open used is =
-          all_right (ap (λ f. f.faults) is) (subst (λ f. Resolves (of_uses (use_about room)) uses f.layers budget f.after.left) (sym is) (Resolves-used used)) (ap (λ f. f.after.closed) is ∙ is_open)
+          all_right (none_as (ap (λ f. f.readings) is) (All-nil HasNone)) (subst (λ f. Resolves (of_uses (use_about room)) uses f.layers budget f.after.left) (sym is) (Resolves-used used)) (ap (λ f. f.after.closed) is ∙ is_open)
       uses_end (name ∷ rest) base opening found is_open used (first, last, finds, others, is) =
           by (λ still_open resolves. uses_end rest first.layers first.after last still_open (AreUsed-more used resolves) others) (each name base opening first is_open finds)
         where
-          after : first.faults ≡ [] → UsesEnd uses budget last → UsesEnd uses budget found
+          after : All HasNone first.readings → UsesEnd uses budget last → UsesEnd uses budget found
           after none (all_right no_more resolved at_end) =
-              all_right (ap (λ f. f.faults) is ∙ rw (none, no_more) refl) (subst (λ f. Resolves (of_uses (use_about room)) uses f.layers budget f.after.left) (sym is) resolved) (ap (λ f. f.after.closed) is ∙ at_end)
-          after none (one_wrong fault more begins refuted) = one_wrong fault more (ap (λ f. f.faults) is ∙ rw (none, begins) refl) refuted
+              all_right (none_as (ap (λ f. f.readings) is) (All-append HasNone first.readings last.readings none no_more)) (subst (λ f. Resolves (of_uses (use_about room)) uses f.layers budget f.after.left) (sym is) resolved) (ap (λ f. f.after.closed) is ∙ at_end)
+          after none (one_wrong fault begins refuted) = one_wrong fault (begins_as (ap (λ f. f.readings) is) (begins_after first.readings none begins)) refuted
 
           by : (first.after.closed ≡ false → Resolves (use_about room) name first.layers opening.left first.after.left → UsesEnd uses budget last)
               → Ends (use_about room) name (leads_from room name opening.left) names opening.left first → UsesEnd uses budget found
           by later (right none resolves still_open) = after none (later still_open resolves)
-          by later (wrong fault more begins refuted) = one_wrong fault (more ++ last.faults) (ap (λ f. f.faults) is ∙ rw begins refl) (record {
+          by later (wrong fault begins refuted) = one_wrong fault (begins_as (ap (λ f. f.readings) is) (begins_before last.readings begins)) (record {
             name = name;
             used = IsUsedAfter-used used;
             before = opening.left;
@@ -122,6 +177,8 @@ module _ (tables : Option PrefixTables) (answer : List ℕ → Option (List ℕ)
             fails = fails_as (Refuses-used used) (GoesOver-used used) fault.cause refuted.fails;
             below = refuted.below;
             named = refuted.named;
+            cause = refuted.cause;
+            shows = refuted.shows;
             leads_on = refuted.leads_on;
             passes = GoesOverAt-used used;
           })
@@ -131,45 +188,51 @@ module _ (tables : Option PrefixTables) (answer : List ℕ → Option (List ℕ)
     module _ (most : ℕ) (names : List (List ℕ)) (bytes : List ℕ) (opening : Opening) (is_open : opening.closed ≡ false) (salvages : List ℕ → List Layer → Opening → Found → Type 0) (each : EachEnds most names salvages) where
       -- what its uses end in
       over_uses : (file : File) (rest : Option ℕ) (below found : Found) → IsOnly (Means tables bytes) file → Leaves opening.left (length bytes) rest → UsesEnd most names file.uses rest below
-          → found ≡ record { layers = layer_of file ∷ below.layers; faults = below.faults; after = below.after } → Ends (file_about (suc most)) bytes (leads_in (suc most) bytes opening.left) names opening.left found
+          → found ≡ record { layers = layer_of file ∷ below.layers; readings = record { names = names; causes = [] } ∷ below.readings; after = below.after } → Ends (file_about (suc most)) bytes (leads_in (suc most) bytes opening.left) names opening.left found
       over_uses file rest below found only leaves (all_right none resolves still_open) is =
-          right (ap (λ f. f.faults) is ∙ none) (subst (λ f. Resolves (file_about (suc most)) bytes f.layers opening.left f.after.left) (sym is) (Resolves-file (Means tables) answer most bytes opening.left file rest only leaves below.layers below.after.left resolves)) (ap (λ f. f.after.closed) is ∙ still_open)
-      over_uses file rest below found only leaves (one_wrong fault more begins refuted) is = wrong fault more (ap (λ f. f.faults) is ∙ begins) (record {
+          right (none_as (ap (λ f. f.readings) is) (All-cons HasNone (record { names = names; causes = [] }) below.readings refl none)) (subst (λ f. Resolves (file_about (suc most)) bytes f.layers opening.left f.after.left) (sym is) (Resolves-file (Means tables) answer most bytes opening.left file rest only leaves below.layers below.after.left resolves)) (ap (λ f. f.after.closed) is ∙ still_open)
+      over_uses file rest below found only leaves (one_wrong fault begins refuted) is = wrong fault (begins_as (ap (λ f. f.readings) is) (begins_after (record { names = names; causes = [] } ∷ []) (All-cons HasNone (record { names = names; causes = [] }) [] refl (All-nil HasNone)) begins)) (record {
         left = refuted.left;
         fails = fails_as (Refuses-file (Means tables) answer most bytes opening.left file rest only leaves refuted.left) (GoesOver-file (Means tables) answer most bytes opening.left file rest only leaves) fault.cause refuted.fails;
         below = refuted.below;
         named = refuted.named;
+        cause = refuted.cause;
+        shows = refuted.shows;
         leads_on = leads_file tables answer opening.left refuted.before most bytes file refuted.name only refuted.used
-            (λ leading over. GoesOverAt-file (Means tables) answer most bytes opening.left file rest only leaves leading (refuted.passes leading over)) fault.cause refuted.below refuted.leads_on;
+            (λ leading over. GoesOverAt-file (Means tables) answer most bytes opening.left file rest only leaves leading (refuted.passes leading over)) refuted.cause refuted.below refuted.leads_on;
       })
 
       file_ends : (file : File) (causes : List Cause) (rest : Option ℕ) (below found : Found) → ReadEnds most bytes names opening.left file causes rest
           → SalvagesEach salvages file.uses [] (record { left = rest; closed = opening.closed }) below
-          → found ≡ record { layers = layer_of file ∷ below.layers; faults = faults_of names causes ++ below.faults; after = below.after } → Ends (file_about (suc most)) bytes (leads_in (suc most) bytes opening.left) names opening.left found
+          → found ≡ record { layers = layer_of file ∷ below.layers; readings = record { names = names; causes = causes } ∷ below.readings; after = below.after } → Ends (file_about (suc most)) bytes (leads_in (suc most) bytes opening.left) names opening.left found
       file_ends file causes rest below found (whole none only leaves) uses is =
           let ends = uses_end most names salvages each file.uses rest file.uses [] (record { left = rest; closed = opening.closed }) below is_open (AreUsed-none file.uses rest) uses in
           over_uses file rest below found only leaves ends (is ∙ rw none refl)
       file_ends file causes rest below found (faulty cause more begins refuted) uses is =
-          wrong (record { names = names; cause = cause }) (faults_of names more ++ below.faults) (ap (λ f. f.faults) is ∙ rw begins refl) refuted
+          wrong (record { names = names; cause = cause }) (begins_as (ap (λ f. f.readings) is ∙ rw begins refl) (begins_here names cause more below.readings)) refuted
 
     module _ (names : List (List ℕ)) (name : List ℕ) (opening : Opening) where
       module _ (salvages : List (List ℕ) → List ℕ → Opening → Found → Type 0) where
         -- the file of a name
         named_ends : (room : ℕ) (found : Found) → ((bytes : List ℕ) → salvages (names ++ name ∷ []) bytes opening found → Ends (file_about room) bytes (leads_in room bytes opening.left) (names ++ name ∷ []) opening.left found)
             → SalvagesNamed answer salvages room (names ++ name ∷ []) name opening found → Ends (use_about room) name (leads_from room name opening.left) names opening.left found
-        named_ends zero found file is = wrong (record { names = names ++ name ∷ []; cause = ChainLength }) [] (ap (λ f. f.faults) is) (record {
+        named_ends zero found file is = wrong (record { names = names ++ name ∷ []; cause = ChainLength }) (begins_as (ap (λ f. f.readings) is) (begins_here (names ++ name ∷ []) ChainLength [] [])) (record {
           left = opening.left;
           fails = record { none = λ layers h. h.2; spent = record { lengths = []; opened = record { holds = refl; alone = λ other o. o }; leaves = Leaves-none opening.left } };
           below = name ∷ [];
           named = refl;
+          cause = ChainLength;
+          shows = inl refl;
           leads_on = (refl, inl (refl, refl));
         })
         named_ends (suc room) found file finds = elim finds [
-          | inl (said, is) ↦ wrong (record { names = names ++ name ∷ []; cause = NoFile }) [] (ap (λ f. f.faults) is) (record {
+          | inl (said, is) ↦ wrong (record { names = names ++ name ∷ []; cause = NoFile }) (begins_as (ap (λ f. f.readings) is) (begins_here (names ++ name ∷ []) NoFile [] [])) (record {
             left = opening.left;
             fails = Refuses-unanswered (Means tables) answer by_name name opening.left (suc room) room refl said;
             below = name ∷ [];
             named = refl;
+            cause = NoFile;
+            shows = inl refl;
             leads_on = (refl, inl ((omega arith, said), refl));
           })
           | inr (bytes, said, salvaged) ↦ answered bytes said (file bytes salvaged)
@@ -177,12 +240,14 @@ module _ (tables : Option PrefixTables) (answer : List ℕ → Option (List ℕ)
           where
             answered : (bytes : List ℕ) → answer name (Some bytes) → Ends (file_about (suc room)) bytes (leads_in (suc room) bytes opening.left) (names ++ name ∷ []) opening.left found → Ends (use_about (suc room)) name (leads_from (suc room) name opening.left) names opening.left found
             answered bytes said (right none resolves still_open) = right none (Resolves-answered (Means tables) answer by_name name opening.left (suc room) room refl bytes said found.layers found.after.left resolves) still_open
-            answered bytes said (wrong fault more begins refuted) = wrong fault more begins (record {
+            answered bytes said (wrong fault begins refuted) = wrong fault begins (record {
               left = refuted.left;
               fails = fails_as (Refuses-answered (Means tables) answer by_name name opening.left (suc room) room refl bytes said refuted.left) (GoesOver-answered (Means tables) answer by_name name opening.left (suc room) room refl bytes said) fault.cause refuted.fails;
               below = name ∷ refuted.below;
               named = refuted.named ∙ append_assoc names (name ∷ []) refuted.below;
-              leads_on = leads_use tables answer opening.left (suc room) room name bytes refl said (GoesOverAt-answered (Means tables) answer by_name name opening.left (suc room) room refl bytes said) fault.cause refuted.below refuted.leads_on;
+              cause = refuted.cause;
+              shows = refuted.shows;
+              leads_on = leads_use tables answer opening.left (suc room) room name bytes refl said (GoesOverAt-answered (Means tables) answer by_name name opening.left (suc room) room refl bytes said) refuted.cause refuted.below refuted.leads_on;
             })
 
     -- what is found of a file

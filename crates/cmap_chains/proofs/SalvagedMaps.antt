@@ -1,6 +1,6 @@
 -- A map that is read past faults: of a file that has a map it is that one, and else the first fault is why it has none.
-use Rattle.std.proofs.Common.{◌≡◌, ℕ, zero, suc, ◌<◌, ◌≤◌, refl, sym, ap, subst, ◌++◌, false, List, [], ◌∷◌, length, inl, inr, arith}
-use Rattle.std.specs.Prelude.{◌⊎◌, Option}
+use Rattle.std.proofs.Common.{◌≡◌, ◌∙◌, ℕ, zero, suc, ◌<◌, ◌≤◌, refl, sym, ap, subst, ◌++◌, false, List, [], ◌∷◌, length, inl, inr, arith}
+use Rattle.std.specs.Prelude.{◌≢◌, ◌⊎◌, Option}
 use Rattle.std.proofs.Math.ListN.{length-map}
 use Rattle.cmap_packed.specs.Bundles.{PrefixTables}
 use Rattle.cmap_layers.specs.Layers.{Layer}
@@ -9,13 +9,14 @@ use Rattle.cmap_layers.specs.declared.layer.Layer as declared
 use Rattle.cmap_chains.specs.Answers.{IsByName}
 use Rattle.cmap_chains.specs.BytesSpent.{of_file}
 use Rattle.cmap_chains.specs.Layers.{Means}
-use Rattle.cmap_chains.specs.Maps.{ExceedsBudget, FitsBudget, HasNoMap, IsMapOf}
+use Rattle.cmap_chains.specs.Maps.{ExceedsBudget, FitsBudget, HasNoMap, IsMapOf, LeadsToFault}
 use Rattle.cmap_chains.specs.Refusals.{Fails, IsFaultWithin}
-use Rattle.cmap_chains.specs.Salvage.{BeginsWithFault, Found, GivesMap, NamedFault, Opening, Salvages, SalvagesEach, SalvagesMap, SalvagesNamed, SalvagesUse}
+use Rattle.cmap_chains.specs.Salvage.{BeginsWithFault, Found, GivesMap, IsRefusedFor, NamedFault, Opening, Reading, Salvages, SalvagesEach, SalvagesMap, SalvagesNamed, SalvagesUse, list_each}
 use Rattle.cmap_chains.specs.declared.refusal.Cause.{Cause}
 use Rattle.cmap_chains.specs.declared.refusal.Cause.TheVariants.{Malformed, NoFile, ChainLength, OverBudget}
 use Rattle.cmap_chains.proofs.BudgetLeft.{not_over}
-use Rattle.cmap_chains.proofs.PastFaults.{Ends, right, wrong, salvages_end}
+use Rattle.cmap_chains.proofs.Listed.{list_each-first, list_each-none}
+use Rattle.cmap_chains.proofs.PastFaults.{HasFirst, Ends, right, wrong, salvages_end}
 
 module _ (tables : Option PrefixTables) (answers : List ℕ → Option (List ℕ) → Type 0) (bytes : List ℕ) (budget : Option ℕ) where
   -- a file that fails has no map, or the budget doesn't suffice
@@ -25,29 +26,52 @@ module _ (tables : Option PrefixTables) (answers : List ℕ → Option (List ℕ
   fails_none left ChainLength fails layers is fits = fails.none layers is.holds
   fails_none left OverBudget fails layers is (trail, only, within) = within (fails trail only.holds)
 
-  module _ (by_name : IsByName answers) (layers : List Layer) (faults : List NamedFault) where
-    abbrev EndsSo : Opening → Type 0
-    EndsSo after = Ends (of_file (Means tables) answers 16) bytes (λ names cause. IsFaultWithin tables answers budget 16 bytes names cause) [] budget (record { layers = layers; faults = faults; after = after })
+  -- a file for which the budget suffices isn't refused for the budget
+  goes_over : (fault cause : Cause) (left : Option ℕ) → IsRefusedFor fault cause → cause ≡ OverBudget → Fails (of_file (Means tables) answers 16) bytes budget left fault → FitsBudget tables answers bytes budget → ⊥
+  goes_over fault cause left (inl same) over fails (trail, only, within) = within ((subst (λ c. Fails (of_file (Means tables) answers 16) bytes budget left c) (sym same ∙ over) fails) trail only.holds)
+  goes_over fault cause left (inr (start, end, less, fault_is, cause_is)) over fails fits = absurd (cc)
 
-    ends_so : (salvages : SalvagesMap tables answers bytes budget layers faults) → EndsSo salvages.0
-    ends_so (after, is) = salvages_end tables answers by_name 16 [] bytes (record { left = budget; closed = false }) (record { layers = layers; faults = faults; after = after }) refl is
+  module _ (by_name : IsByName answers) (layers : List Layer) (faults : List NamedFault) where
+    abbrev EndsSo : List Reading → Opening → Type 0
+    EndsSo readings after = Ends (of_file (Means tables) answers 16) bytes (λ names cause. IsFaultWithin tables answers budget 16 bytes names cause) [] budget (record { layers = layers; readings = readings; after = after })
+
+    ends_so : (salvages : SalvagesMap tables answers bytes budget layers faults) → EndsSo salvages.0 salvages.1
+    ends_so (readings, after, is, listed) = salvages_end tables answers by_name 16 [] bytes (record { left = budget; closed = false }) (record { layers = layers; readings = readings; after = after }) refl is
 
     pub right_map : SalvagesMap tables answers bytes budget layers faults → GivesMap tables answers bytes budget layers faults
     right_map salvages other is fits = by (ends_so salvages)
       where
-        by : EndsSo salvages.0 → (layers ≡ other) × (faults ≡ [])
-        by (right none resolves still_open) = (is.alone layers resolves.only.holds, none)
-        by (wrong fault more begins refuted) = absurd (fails_none refuted.left fault.cause refuted.fails other is fits)
+        by : EndsSo salvages.0 salvages.1 → (layers ≡ other) × (faults ≡ [])
+        by (right none resolves still_open) = (is.alone layers resolves.only.holds, salvages.3 ∙ list_each-none [] salvages.0 none)
+        by (wrong fault begins refuted) = absurd (fails_none refuted.left fault.cause refuted.fails other is fits)
+
+    begins_so : (readings : List Reading) (fault : NamedFault) → HasFirst readings fault → (more : List NamedFault) × (list_each [] readings ≡ fault ∷ more)
+    begins_so readings fault begins =
+        let (more, is) = list_each-first begins.before begins.more (record { names = fault.names; causes = fault.cause ∷ begins.causes }) fault.cause begins.causes begins.none refl in
+        (more, ap (λ r. list_each [] r) begins.split ∙ is)
 
     pub wrong_map : SalvagesMap tables answers bytes budget layers faults → HasNoMap tables answers bytes ⊎ ExceedsBudget tables answers bytes budget → BeginsWithFault tables answers bytes budget faults
     wrong_map salvages refused = by (ends_so salvages)
       where
-        by : EndsSo salvages.0 → BeginsWithFault tables answers bytes budget faults
+        by : EndsSo salvages.0 salvages.1 → BeginsWithFault tables answers bytes budget faults
         by (right none resolves still_open) = elim refused [
           | inl no_map ↦ absurd (no_map layers resolves.only.holds)
-          | inr over ↦ absurd (not_over budget salvages.0.left _ resolves.spent.leaves (over.all (resolves.spent.lengths, false) resolves.spent.opened.holds))
+          | inr over ↦ absurd (not_over budget salvages.1.left _ resolves.spent.leaves (over.all (resolves.spent.lengths, false) resolves.spent.opened.holds))
         ]
-        by (wrong fault more begins refuted) = (fault, more, begins, subst (λ names. IsFaultWithin tables answers budget 16 bytes names fault.cause) (sym refuted.named) refuted.leads_on)
+        by (wrong fault begins refuted) =
+            let (more, is) = begins_so salvages.0 fault begins in
+            (fault, more, refuted.cause, salvages.3 ∙ is, refuted.shows, subst (λ names. IsFaultWithin tables answers budget 16 bytes names refuted.cause) (sym refuted.named) refuted.leads_on)
+
+    -- where no budget is passed, the first fault is none of the budget
+    pub first_map : SalvagesMap tables answers bytes budget layers faults → HasNoMap tables answers bytes → FitsBudget tables answers bytes budget
+        → (first : NamedFault) × (more : List NamedFault) × (cause : Cause) × (faults ≡ first ∷ more) × IsRefusedFor first.cause cause × (cause ≢ OverBudget) × LeadsToFault tables answers bytes budget first.names cause
+    first_map salvages no_map fits = by (ends_so salvages)
+      where
+        by : EndsSo salvages.0 salvages.1 → (first : NamedFault) × (more : List NamedFault) × (cause : Cause) × (faults ≡ first ∷ more) × IsRefusedFor first.cause cause × (cause ≢ OverBudget) × LeadsToFault tables answers bytes budget first.names cause
+        by (right none resolves still_open) = absurd (no_map layers resolves.only.holds)
+        by (wrong fault begins refuted) =
+            let (more, is) = begins_so salvages.0 fault begins in
+            (fault, more, refuted.cause, salvages.3 ∙ is, refuted.shows, λ over. goes_over fault.cause refuted.cause refuted.left refuted.shows over refuted.fails fits, subst (λ names. IsFaultWithin tables answers budget 16 bytes names refuted.cause) (sym refuted.named) refuted.leads_on)
 
 -- ---- how many layers there are
 module _ (tables : Option PrefixTables) (answers : List ℕ → Option (List ℕ) → Type 0) where
@@ -79,7 +103,7 @@ module _ (tables : Option PrefixTables) (answers : List ℕ → Option (List ℕ
       (omega (arith, same), omega (arith, same, short))
 
   pub map_fits : (bytes : List ℕ) (budget : Option ℕ) (layers : List declared.Layer) (faults : List NamedFault) → SalvagesMap tables answers bytes budget (layers_seen layers) faults → (0 < length layers) × (length layers ≤ 16)
-  map_fits bytes budget layers faults (after, is) =
+  map_fits bytes budget layers faults (readings, after, is, listed) =
       let fits = salvages_fit 16 [] bytes _ _ is in
       let same : length (layers_seen layers) ≡ length layers = simp length-map in
       (omega (arith, fits.0, same), omega (arith, fits.1, same))

@@ -4,11 +4,11 @@ use Rattle.std.specs.Prelude.{IfSome, bytes_eq}
 use Rattle.std.proofs.lemmas.Slice.Eq.{bytes_eq-Decides}
 use Rattle.cmap_values.specs.Files.{File}
 use Rattle.cmap_chains.specs.BytesSpent.{Leaves, of_use}
-use Rattle.cmap_chains.specs.KnownFiles.{AreKnown, IsKnown, IsSpent, ResolvesFrom, SpendsAgain, file_known}
+use Rattle.cmap_chains.specs.KnownFiles.{IsKnown, IsSpent, ResolvesFrom, SpendsAgain, file_known}
 use Rattle.cmap_chains.specs.declared.known.KnownFile.{KnownFile}
 use Rattle.cmap_chains.specs.declared.known.KnownFiles.{KnownFiles}
 
-leaves_again : (before after : Option ℕ) (count : ℕ) → Leaves before count after → (spent : Option ℕ) → IfSome spent (IsSpent before after) → (budget left : Option ℕ) → SpendsAgain spent budget left → Leaves budget count left
+pub leaves_again : (before after : Option ℕ) (count : ℕ) → Leaves before count after → (spent : Option ℕ) → IfSome spent (IsSpent before after) → (budget left : Option ℕ) → SpendsAgain spent budget left → Leaves budget count left
 leaves_again before after count was spent is None left again = again
 leaves_again before after count was None is (Some budget) left again = absurd again
 leaves_again None after count was (Some n) is (Some budget) left again = absurd is
@@ -33,17 +33,22 @@ module _ (means : List ℕ → File → Type 0) (answer : List ℕ → Option (L
         );
   }
 
+-- ---- what holds of all that are known
+module _ (P : List ℕ → KnownFile → Type 0) where
+  abbrev pub HoldsOfKnown : KnownFiles → Type 0
+  HoldsOfKnown known = (name : List ℕ) (file : KnownFile) → file_known known name ≡ Some file → P name file
+
   -- no file is known
-  pub AreKnown-none : (known : KnownFiles) → ((name : List ℕ) → file_known known name ≡ None) → AreKnown means answer known
-  AreKnown-none known none = λ name file is. let same : None ≡ Some file = sym (none name) ∙ is in absurd (cc)
+  pub known-none : (known : KnownFiles) → ((name : List ℕ) → file_known known name ≡ None) → HoldsOfKnown known
+  known-none known none = λ name file is. let same : None ≡ Some file = sym (none name) ∙ is in absurd (cc)
 
   -- one more is
-  module _ (old new : KnownFiles) (name : List ℕ) (file : KnownFile) (known : AreKnown means answer old) (is_known : IsKnown means answer name file) where
-    known_at : (other : List ℕ) (found : KnownFile) (here : Bool) → bytes_eq name other ≡ here → cond here (Some file) (file_known old other) ≡ Some found → IsKnown means answer other found
+  module _ (old new : KnownFiles) (name : List ℕ) (file : KnownFile) (known : HoldsOfKnown old) (is_known : P name file) where
+    known_at : (other : List ℕ) (found : KnownFile) (here : Bool) → bytes_eq name other ≡ here → cond here (Some file) (file_known old other) ≡ Some found → P other found
     known_at other found true here is =
         let same : file ≡ found = cc in
-        subst (λ n. IsKnown means answer n found) ((bytes_eq-Decides name other).0 here) (subst (IsKnown means answer name) same is_known)
+        subst (λ n. P n found) ((bytes_eq-Decides name other).0 here) (subst (P name) same is_known)
     known_at other found false here is = known other found is
 
-    pub AreKnown-more : ((other : List ℕ) → file_known new other ≡ cond (bytes_eq name other) (Some file) (file_known old other)) → AreKnown means answer new
-    AreKnown-more added = λ other found is. known_at other found (bytes_eq name other) refl (sym (added other) ∙ is)
+    pub known-more : ((other : List ℕ) → file_known new other ≡ cond (bytes_eq name other) (Some file) (file_known old other)) → HoldsOfKnown new
+    known-more added = λ other found is. known_at other found (bytes_eq name other) refl (sym (added other) ∙ is)

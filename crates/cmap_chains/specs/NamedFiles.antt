@@ -4,6 +4,7 @@ use Rattle.std.specs.Borrow.{Bor}
 use Rattle.std.specs.Option.{option_or}
 use Rattle.cmap_packed.specs.Bundles.{Bundle}
 use Rattle.cmap_chains.specs.Answers.{embedded}
+use Rattle.cmap_chains.specs.Identity.{identity_text}
 
 module _ {N : Type 0} (name_of bytes_of : N → List ℕ) where
   -- the bytes of the first file of this name
@@ -15,3 +16,7 @@ module _ {N B : Type 0} (name_of bytes_of : N → List ℕ) (bundle_of : B → B
   -- where none has it, those of the bundle's file
   abbrev pub file_named : List N → Option (Bor B) → List ℕ → Option (List ℕ)
   file_named files bundle name = option_or (first_named name_of bytes_of files name) (embedded (option_map (λ b. bundle_of b.now) bundle) name)
+
+  -- where that has none either, Identity-H and Identity-V need no file. ISO 32000-1, 9.7.5.2
+  abbrev pub text_named : List N → Option (Bor B) → List ℕ → Option (List ℕ)
+  text_named files bundle name = option_or (file_named files bundle name) (identity_text name)

@@ -1,12 +1,14 @@
 -- Files over the files that they use, where some are at fault: each is read past its faults, and reading goes on after a use that gives no file.
-use Rattle.std.specs.Prelude.{◌≡◌, ℕ, zero, suc, Bool, true, false, List, [], ◌∷◌, ◌++◌, ◌⊎◌, length, map, Option, Some, None}
+use Rattle.std.specs.Prelude.{◌≡◌, ◌≤◌, ℕ, zero, suc, Bool, true, false, ◌&&◌, if◌then◌else◌, List, [], ◌∷◌, ◌++◌, ◌⊎◌, bytes_eq, length, map, Option, Some, None}
+use Rattle.std.specs.List.{last_or, list_any}
 use Rattle.cmap_values.specs.Files.{File}
 use Rattle.cmap_values.specs.ListsAppended.{no_file}
 use Rattle.cmap_values.specs.Only.{IsOnly, HoldsOfNone}
+use Rattle.cmap_values.specs.declared.fault.Reason.TheVariants.{UnclosedString}
 use Rattle.cmap_values.specs.declared.fault.Stop.{Stop}
 use Rattle.cmap_binary.specs.BinaryFiles.{IsMarkedBinary}
 use Rattle.cmap_binary.specs.BinarySalvage.{SalvagesBinary}
-use Rattle.cmap_packed.specs.Bundles.{PrefixTables}
+use Rattle.cmap_packed.specs.Bundles.{HoldsTables, PrefixTables}
 use Rattle.cmap_layers.specs.Layers.{Layer, layer_of}
 use Rattle.cmap_text.specs.Salvage.{SalvagesFile}
 use Rattle.cmap_chains.specs.Budgets.{IsOver}
@@ -26,10 +28,15 @@ pub record Opening : Type 0 where
   pub left : Option ℕ
   pub closed : Bool
 
--- what is found: layers, faults in order, and which files may be opened after it
+-- a file that is opened, or a use that opens none: the names that lead to it, and what is wrong with it
+pub record Reading : Type 0 where
+  pub names : List (List ℕ)
+  pub causes : List Cause
+
+-- what is found: layers, what was opened in order, and which files may be opened after it
 pub record Found : Type 0 where
   pub layers : List Layer
-  pub faults : List NamedFault
+  pub readings : List Reading
   pub after : Opening
 
 -- ---- one file
@@ -49,30 +56,26 @@ IsReadWithin tables budget bytes file causes rest =
     ⊎ ((stops : List Stop) × Leaves budget (length bytes) rest × IsReadPast tables bytes file stops × (causes ≡ map Malformed stops))
 
 -- ---- the files that it uses
--- these faults of the file that the names lead to
-abbrev pub faults_of : List (List ℕ) → List Cause → List NamedFault
-faults_of names causes = map (λ cause. record { names = names; cause = cause }) causes
-
--- no layers
-abbrev pub no_layers : List NamedFault → Opening → Found
-no_layers faults after = record { layers = []; faults = faults; after = after }
+-- no layers, for what is wrong with the file that the names lead to
+abbrev pub no_layers : List (List ℕ) → Cause → Opening → Found
+no_layers names cause after = record { layers = []; readings = record { names = names; causes = cause ∷ [] } ∷ []; after = after }
 
 -- uses one after another, from these layers on: the layers are those of the last one
 abbrev pub SalvagesEach : (List ℕ → List Layer → Opening → Found → Type 0) → List (List ℕ) → List Layer → Opening → Found → Type 0
-SalvagesEach salvages [] base opening found = found ≡ record { layers = base; faults = []; after = opening }
+SalvagesEach salvages [] base opening found = found ≡ record { layers = base; readings = []; after = opening }
 SalvagesEach salvages (name ∷ names) base opening found = (first : Found) × (last : Found) × salvages name base opening first × SalvagesEach salvages names first.layers first.after last
-    × (found ≡ record { layers = last.layers; faults = first.faults ++ last.faults; after = last.after })
+    × (found ≡ record { layers = last.layers; readings = first.readings ++ last.readings; after = last.after })
 
 module _ (answer : List ℕ → Option (List ℕ) → Type 0) (salvages : List (List ℕ) → List ℕ → Opening → Found → Type 0) where
   -- the file of this name, the last of those that lead to it. Where the chain has no room for it, nothing is opened any more
   abbrev pub SalvagesNamed : ℕ → List (List ℕ) → List ℕ → Opening → Found → Type 0
-  SalvagesNamed zero names name opening found = found ≡ no_layers (faults_of names (ChainLength ∷ [])) (record { left = opening.left; closed = true })
-  SalvagesNamed (suc room) names name opening found = (answer name None × (found ≡ no_layers (faults_of names (NoFile ∷ [])) opening))
+  SalvagesNamed zero names name opening found = found ≡ no_layers names ChainLength (record { left = opening.left; closed = true })
+  SalvagesNamed (suc room) names name opening found = (answer name None × (found ≡ no_layers names NoFile opening))
       ⊎ ((bytes : List ℕ) × answer name (Some bytes) × salvages names bytes opening found)
 
   -- a use, where the names lead to the file that has it. Once a chain was too long it is passed over, and the layers stay
   abbrev pub SalvagesUse : ℕ → List (List ℕ) → List ℕ → List Layer → Opening → Found → Type 0
-  SalvagesUse room leading name base opening found = ((opening.closed ≡ true) × (found ≡ record { layers = base; faults = []; after = opening }))
+  SalvagesUse room leading name base opening found = ((opening.closed ≡ true) × (found ≡ record { layers = base; readings = []; after = opening }))
       ⊎ ((opening.closed ≡ false) × SalvagesNamed room (leading ++ name ∷ []) name opening found)
 
 module _ (tables : Option PrefixTables) (answer : List ℕ → Option (List ℕ) → Type 0) where
@@ -81,17 +84,75 @@ module _ (tables : Option PrefixTables) (answer : List ℕ → Option (List ℕ)
   Salvages zero names bytes opening found = ⊥
   Salvages (suc most) names bytes opening found = (file : File) × (causes : List Cause) × (rest : Option ℕ) × (below : Found) × IsReadWithin tables opening.left bytes file causes rest
       × SalvagesEach (SalvagesUse answer (Salvages most) most names) file.uses [] (record { left = rest; closed = opening.closed }) below
-      × (found ≡ record { layers = layer_of file ∷ below.layers; faults = faults_of names causes ++ below.faults; after = below.after })
+      × (found ≡ record { layers = layer_of file ∷ below.layers; readings = record { names = names; causes = causes } ∷ below.readings; after = below.after })
+
+-- ---- the faults that are listed
+-- these faults of the file that the names lead to
+abbrev pub faults_of : List (List ℕ) → List Cause → List NamedFault
+faults_of names causes = map (λ cause. record { names = names; cause = cause }) causes
+
+abbrev pub is_same_kind : Cause → Cause → Bool
+is_same_kind (Malformed stop) (Malformed other) = true
+is_same_kind NoFile NoFile = true
+is_same_kind ChainLength ChainLength = true
+is_same_kind OverBudget OverBudget = true
+is_same_kind cause other = false
+
+abbrev pub is_name : List ℕ → Option (List ℕ) → Bool
+is_name name None = false
+is_name name (Some other) = bytes_eq other name
+
+-- a fault of this kind, of the file of this name: that of the last of the names that lead to it
+abbrev pub is_fault_of : List ℕ → Cause → NamedFault → Bool
+is_fault_of name cause fault = is_name name (last_or None fault.names) && is_same_kind cause fault.cause
+
+-- such a fault is listed; the top file has no name, and is opened once
+abbrev pub is_listed : List NamedFault → Option (List ℕ) → Cause → Bool
+is_listed listed None cause = false
+is_listed listed (Some name) cause = list_any (is_fault_of name cause) listed
+
+-- what is wrong with a file is listed where it is first met
+abbrev pub list_causes : List NamedFault → List (List ℕ) → List Cause → List NamedFault
+list_causes listed names [] = listed
+list_causes listed names (cause ∷ more) = if is_listed listed (last_or None names) cause then listed else (listed ++ faults_of names (cause ∷ more))
+
+-- the faults of what is opened, after those that are listed
+abbrev pub list_each : List NamedFault → List Reading → List NamedFault
+list_each listed [] = listed
+list_each listed (reading ∷ readings) = list_each (list_causes listed reading.names reading.causes) readings
+
+-- ---- a refusal
+-- a string that isn't closed, where it begins or where that is seen
+abbrev pub unclosed_at : ℕ → Cause
+unclosed_at offset = Malformed (record { offset = offset; reason = UnclosedString })
+
+-- for this fault a file is refused, and this is the cause: the fault itself; but only the end of a text shows that a string isn't closed
+abbrev pub IsRefusedFor : Cause → Cause → Type 0
+IsRefusedFor fault cause = (cause ≡ fault) ⊎ ((start : ℕ) × (end : ℕ) × (start ≤ end) × (fault ≡ unclosed_at start) × (cause ≡ unclosed_at end))
+
+-- the tables are those of a bundle, if there are any
+abbrev pub AreOfBundle : Option PrefixTables → Type 0
+AreOfBundle None = Unit {0}
+AreOfBundle (Some tables) = (text : List ℕ) × HoldsTables text tables
 
 -- ---- a map
 module _ (tables : Option PrefixTables) (answers : List ℕ → Option (List ℕ) → Type 0) (bytes : List ℕ) (budget : Option ℕ) where
-  -- what is read of a file over those that it uses
+  -- what is read of a file over those that it uses: the faults of each file are listed once, where it is first read
   abbrev pub SalvagesMap : List Layer → List NamedFault → Type 0
-  SalvagesMap layers faults = (after : Opening) × Salvages tables answers most_files [] bytes (record { left = budget; closed = false }) (record { layers = layers; faults = faults; after = after })
+  SalvagesMap layers faults = (readings : List Reading) × (after : Opening) × Salvages tables answers most_files [] bytes (record { left = budget; closed = false }) (record { layers = layers; readings = readings; after = after })
+      × (faults ≡ list_each [] readings)
 
   -- the first fault is one for which the file is refused
   abbrev pub BeginsWithFault : List NamedFault → Type 0
-  BeginsWithFault faults = (first : NamedFault) × (more : List NamedFault) × (faults ≡ first ∷ more) × LeadsToFault tables answers bytes budget first.names first.cause
+  BeginsWithFault faults = (first : NamedFault) × (more : List NamedFault) × (cause : Cause) × (faults ≡ first ∷ more) × IsRefusedFor first.cause cause × LeadsToFault tables answers bytes budget first.names cause
+
+  -- the first fault has these names, and the file is refused for it with this cause
+  abbrev pub BeginsWith : List NamedFault → List (List ℕ) → Cause → Type 0
+  BeginsWith faults names cause = (first : NamedFault) × (more : List NamedFault) × (faults ≡ first ∷ more) × (first.names ≡ names) × IsRefusedFor first.cause cause
+
+  -- whatever is read past the faults begins so
+  abbrev pub IsFirstPastFaults : List (List ℕ) → Cause → Type 0
+  IsFirstPastFaults names cause = (layers : List Layer) (faults : List NamedFault) → SalvagesMap layers faults → BeginsWith faults names cause
 
   -- of a file that has a map, for which the budget suffices, it is that map, and there is no fault
   abbrev pub GivesMap : List Layer → List NamedFault → Type 0

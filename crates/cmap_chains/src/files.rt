@@ -8,6 +8,7 @@ ghost use Rattle.cmap_chains.specs.Answers.{IsByName};
 ghost use Rattle.cmap_chains.specs.Layers.{AreUses, Means};
 ghost use Rattle.cmap_chains.specs.Maps.{ExceedsBudget, FitsBudget, HasNoMap, IsMapOf, LeadsToFault};
 ghost use Rattle.cmap_chains.specs.Opened.{ExceedsBudgetNamed, FitsBudgetNamed, HasNoMapNamed, IsMapNamed, IsUnknown, LeadsToFaultNamed};
+ghost use Rattle.cmap_chains.specs.Salvage.{AreOfBundle, IsFirstPastFaults};
 ghost use Rattle.cmap_chains.specs.declared.refusal.Cause.TheVariants as Cause;
 
 use crate::chain::{MOST_FILES, find_layers, read_file};
@@ -49,6 +50,12 @@ pub fn read_layers<'a, S: Source>(
     // The names lead to the file that is at fault; over a budget, to the first that passes it.
     ensures blames { IfErr result (RefusesWith (λ refusal.
         LeadsToFault (tables_given bundle.entry) (S.answers source.now) «data».now budget
+        (names_seen refusal.names.items) refusal.cause)) }
+
+    // Unless the budget is passed, it is the first fault that is read past.
+    ensures first { IfErr result (RefusesWith (λ refusal. refusal.cause ≢ Cause.OverBudget
+        → AreOfBundle (tables_given bundle.entry)
+        → IsFirstPastFaults (tables_given bundle.entry) (S.answers source.now) «data».now budget
         (names_seen refusal.names.items) refusal.cause)) }
     ensures few { IfErr result (RefusesWith (λ refusal. length refusal.names.items ≤ 16)) }
 {

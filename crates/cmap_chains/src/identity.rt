@@ -5,6 +5,8 @@ ghost use Rattle.cmap_values.specs.DeclarationsSeen.{lists_seen};
 ghost use Rattle.cmap_values.specs.Files as files;
 ghost use Rattle.cmap_values.specs.ListsAppended.{no_lists};
 ghost use Rattle.cmap_layers.specs.LayersSeen.{layers_seen, mode_seen};
+ghost use Rattle.std.specs.Option.{option_copied};
+ghost use Rattle.cmap_chains.specs.Identity as identity;
 ghost use Rattle.cmap_chains.specs.Identity.{identity_layer};
 ghost use Rattle.cmap_chains.specs.Opened.{IsIdentity, IsNoIdentity};
 
@@ -24,6 +26,26 @@ use std::alloc::{AllocError, Global};
 const HORIZONTAL: &[u8] = b"Identity-H";
 
 const VERTICAL: &[u8] = b"Identity-V";
+
+/// Texts that say what these say.
+const HORIZONTAL_TEXT: &[u8] =
+    b"/Registry (Adobe) /Ordering (Identity) /Supplement 0 /CMapName /Identity-H /WMode 0 begincodespacerange <0000> <FFFF> endcodespacerange begincidrange <0000> <FFFF> 0 endcidrange";
+
+const VERTICAL_TEXT: &[u8] =
+    b"/Registry (Adobe) /Ordering (Identity) /Supplement 0 /CMapName /Identity-V /WMode 1 begincodespacerange <0000> <FFFF> endcodespacerange begincidrange <0000> <FFFF> 0 endcidrange";
+
+/// A text that says what the predefined CMap of this name says, if it is Identity-H or Identity-V.
+pub fn identity_text(name: &[u8]) -> Option<&'static [u8]>
+    ensures { option_copied result ≡ identity.identity_text name.now }
+{
+    if name == HORIZONTAL {
+        Some(HORIZONTAL_TEXT)
+    } else if name == VERTICAL {
+        Some(VERTICAL_TEXT)
+    } else {
+        None
+    }
+}
 
 /// The one layer of the predefined CMap Identity-H: codes of two bytes are CIDs.
 pub fn identity_h(alloc: Global) -> Result<Layers, AllocError>

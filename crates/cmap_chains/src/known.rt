@@ -1,4 +1,4 @@
-//! Files that were checked, so that a further use of one need not read it.
+//! Files that were read, so that a further use of one need not read it.
 
 ghost use Rattle.std.specs.Prelude.{◌≡◌, ℕ, List, IfSome, None, OnOk, Some, bytes_eq, if◌then◌else◌};
 ghost use Rattle.cmap_chains.specs.KnownFiles.{IsSpent, file_known};
@@ -6,7 +6,7 @@ ghost use Rattle.cmap_chains.specs.KnownFiles.{IsSpent, file_known};
 use std::alloc::{AllocError, Global};
 use std::collections::BTreeMap;
 
-/// What is known of a file that has layers.
+/// What is known of a file.
 #[derive(Clone, Copy)]
 pub(crate) struct KnownFile {
     /// How many files stand in its longest chain, itself counted.

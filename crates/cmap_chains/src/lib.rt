@@ -4,6 +4,7 @@
 mod budget;
 mod chain;
 mod check;
+mod faults;
 mod files;
 mod identity;
 mod known;
@@ -14,7 +15,7 @@ mod search;
 pub mod source;
 
 pub use files::{open_layers, read_layers, uses};
-pub use identity::{identity_h, identity_v};
+pub use identity::{identity_h, identity_text, identity_v};
 pub use refusal::{Cause, Refusal};
 pub use salvage::{SalvagedLayers, salvaged_layers};
 pub use source::Source;

@@ -3,8 +3,9 @@
 ghost use Rattle.std.specs.Prelude.{◌≡◌, ℕ, List, None, Some, option_and_then};
 ghost use Rattle.std.specs.Option.{option_copied};
 ghost use Rattle.cmap_chains.specs.Answers.{embedded, unless_absent};
-ghost use Rattle.cmap_chains.specs.NamedFiles.{file_named};
+ghost use Rattle.cmap_chains.specs.NamedFiles.{file_named, text_named};
 
+use crate::identity::identity_text;
 use crate::source::Source;
 use cmap_packed::{Bundle, NO_FILE, OwnedBundle, load_embedded};
 use cmap_values::names::CMapName;
@@ -97,7 +98,7 @@ impl<B: BundleFiles> Source for Option<&B> {
 }
 
 /// Files by their names, and those of a bundle for the names that none of them has. Of several files of
-/// one name the first counts.
+/// one name the first counts. Identity-H and Identity-V need no file: ISO 32000-1, 9.7.5.2.
 #[derive(Drop)]
 pub struct NamedFiles<'f, N, B> {
     pub files: &'f [N],
@@ -137,9 +138,13 @@ impl<'f, N: NamedFile, B: BundleFiles> Source for NamedFiles<'f, N, B> {
     ghost can_ask = { λ files. ⊤ };
 
     ghost answers = { λ files name answer. answer
-        ≡ file_named N.name_of N.bytes_of B.bundle_of files.files.now files.bundle name };
+        ≡ text_named N.name_of N.bytes_of B.bundle_of files.files.now files.bundle name };
 
+    /// The file of this name; where there is none, the text of Identity-H or Identity-V.
     fn file(&self, name: &[u8]) -> Option<&[u8]> {
-        self.find(name)
+        match self.find(name) {
+            Some(bytes) => Some(bytes),
+            None => identity_text(name),
+        }
     }
 }

@@ -1,31 +1,31 @@
 //! Files over the files that they use, read past their faults.
 
-ghost use Rattle.std.specs.Prelude.{◌⊎◌, ◌≡◌, ◌<◌, ◌≤◌, ◌∷◌, [], false, length, map, suc, IfOk, Ok, OnOk};
-ghost use Rattle.std.specs.List.{All};
-ghost use Rattle.std.specs.Global.{Vec};
+ghost use Rattle.std.specs.Prelude.{◌≡◌, ◌≤◌, ◌∷◌, ◌⊎◌, [], ℕ, All, IfOk, List, MatchOption, None, Ok, OnOk, false, length, true};
 ghost use Rattle.cmap_packed.specs.BundleSeen.{tables_given};
 ghost use Rattle.cmap_values.specs.FilesSeen.{file_seen};
 ghost use Rattle.cmap_values.specs.NamesSeen.{names_seen};
 ghost use Rattle.cmap_layers.specs.Layers.{layer_of};
 ghost use Rattle.cmap_layers.specs.LayersSeen.{layers_seen};
-ghost use Rattle.cmap_layers.specs.declared.layer.Layer.{Layer};
 ghost use Rattle.cmap_chains.specs.Answers.{IsByName};
+ghost use Rattle.cmap_chains.specs.KnownFiles.{file_known};
 ghost use Rattle.cmap_chains.specs.Maps.{ExceedsBudget, HasNoMap};
-ghost use Rattle.cmap_chains.specs.Salvage.{BeginsWithFault, GivesMap, IsReadPast, Salvages, SalvagesBytes, SalvagesEach, SalvagesMap, SalvagesNamed, SalvagesUse, faults_of};
-ghost use Rattle.cmap_chains.specs.SalvageSeen.{GoesOn, ReadsOn, Walks, faults_seen, opening_seen};
-ghost use Rattle.cmap_chains.specs.declared.refusal.Cause.TheVariants.{Malformed};
+ghost use Rattle.cmap_chains.specs.Salvage.{BeginsWithFault, GivesMap, IsReadPast, SalvagesBytes, SalvagesMap};
+ghost use Rattle.cmap_chains.specs.SalvageSeen.{AreMarked, Knows, Lists, ReadsOn, WalksFile, WalksNamed, WalksOpen, WalksUse, WalksUses, faults_seen, opening_seen};
+ghost use Rattle.cmap_chains.specs.Searches.{PassesOver};
 
 use crate::budget::spend;
 use crate::chain::{MOST_FILES, layer_over, read_file};
+use crate::faults::Faults;
+use crate::known::KnownFile;
 use crate::refusal::{Cause, Refusal};
+use crate::search::Search;
 use crate::source::Source;
 use cmap_binary::{is_marked_binary, salvage_binary};
 use cmap_layers::layer::Layer;
 use cmap_layers::layers::Layers;
-use cmap_layers::lists::put_last;
 use cmap_packed::Bundle;
 use cmap_text::salvage_text;
-use cmap_values::fault::{Fault, Stop};
+use cmap_values::fault::Fault;
 use cmap_values::file::{File, Salvaged};
 use cmap_values::memory::after;
 use std::alloc::{AllocError, Global};
@@ -35,8 +35,8 @@ use std::alloc::{AllocError, Global};
 pub struct SalvagedLayers<'a> {
     /// Those of the file first.
     pub layers: Layers,
-    /// In the order in which the files are read. Those of one file come in the order of their
-    /// offsets, before those of the files that it uses.
+    /// In the order in which the files are first read, those of each file once. Those of one file
+    /// come in the order of their offsets, before those of the files that it uses.
     pub faults: Vec<Refusal<'a>>,
 }
 
@@ -44,10 +44,10 @@ pub struct SalvagedLayers<'a> {
 /// faults. Of a file that `read_layers` accepts it is those layers, and there is no fault; of another
 /// one, the first fault is one for which it is refused.
 ///
-/// A file is read past its faults. A use without a file, or for which the chain has no room, is a
-/// fault too, and gives no layers. After a chain that is too long no further file is opened, and
-/// the uses that follow are passed over. A file that would pass the budget isn't read, and gives a
-/// layer that says nothing.
+/// A file is read past its faults, which are listed once, however often it is used. A use without a
+/// file, or for which the chain has no room, is a fault too, and gives no layers. After a chain that
+/// is too long no further file is opened, and the uses that follow are passed over. A file that would
+/// pass the budget isn't read, and gives a layer that says nothing.
 ///
 /// It fails only if memory runs out.
 pub fn salvaged_layers<'a, S: Source>(
@@ -78,11 +78,14 @@ pub fn salvaged_layers<'a, S: Source>(
         (λ found. All (λ fault. length fault.names.items ≤ 16) found.faults.items) }
 {
     let mut walk = Walk::new(alloc, budget);
-    match salvage_layers(alloc, data, bundle, source, MOST_FILES - 1, &mut walk) {
-        Ok(layers) => Ok(SalvagedLayers {
-            layers: Layers::of(layers),
-            faults: walk.faults,
-        }),
+    match salvage_file(alloc, data, bundle, source, MOST_FILES - 1, true, &mut walk) {
+        Ok(file) => {
+            let faults = walk.faults;
+            Ok(SalvagedLayers {
+                layers: Layers::of(file.layers),
+                faults: faults.list,
+            })
+        }
         // By `?` each clause would be shown again of the error.
         Err(AllocError) => Err(AllocError),
     }
@@ -91,76 +94,90 @@ pub fn salvaged_layers<'a, S: Source>(
 /// How far the reading of files over files has come.
 #[derive(Drop)]
 pub(crate) struct Walk<'a> {
-    /// The names that lead to the file that is being read.
-    pub(crate) names: Vec<&'a [u8]>,
-    pub(crate) faults: Vec<Refusal<'a>>,
-    /// What is left of the budget, if there is one.
-    pub(crate) left: Option<u64>,
+    pub(crate) search: Search<'a>,
+    pub(crate) faults: Faults<'a>,
     /// A chain was too long, so that no further file is opened.
     pub(crate) is_closed: bool,
+    /// A chain was too long, or a file would have passed the budget, so that no further file becomes
+    /// known.
+    pub(crate) is_cut: bool,
+}
+
+/// What is read of files that use each other.
+#[derive(Drop)]
+pub(crate) struct Chain {
+    /// Those that are wanted. Where a chain was too long, they always are.
+    pub(crate) layers: Vec<Layer>,
+    /// How many files stand in the longest chain.
+    pub(crate) height: u8,
 }
 
 impl<'a> Walk<'a> {
     /// Before the first file.
     pub(crate) fn new(alloc: Global, budget: Option<u64>) -> Self
-        ensures names { result.names.items ≡ [] }
-        ensures faults { result.faults.items ≡ [] }
+        ensures names { result.search.names.items ≡ [] }
+        ensures faults { result.faults.list.items ≡ [] }
+        ensures marked { AreMarked result.faults }
+        ensures known { (name : List ℕ) → file_known result.search.known name ≡ None }
         ensures opening { opening_seen result ≡ record { left = budget; closed = false } }
     {
         Walk {
-            names: Vec::new(alloc),
-            faults: Vec::new(alloc),
-            left: budget,
+            search: Search::new(alloc, budget),
+            faults: Faults::new(alloc),
             is_closed: false,
+            is_cut: false,
         }
     }
 
     /// Adds a fault of the file that the names lead to.
     fn add_fault(&mut self, alloc: Global, cause: Cause) -> Result<(), AllocError>
-        ensures added { OnOk result
-            (GoesOn self.old self.new (faults_of (names_seen self.old.names.items) (cause ∷ []))) }
-        ensures same { opening_seen self.new ≡ opening_seen self.old }
+        requires { AreMarked self.old.faults }
+        ensures listed { OnOk result (Lists self.old.faults self.new.faults
+            (names_seen self.old.search.names.items) (cause ∷ [])) }
+        ensures same { self.new ≡ record self.old { faults = self.new.faults } }
     {
-        put_last(Refusal::new(alloc, &self.names, cause), &mut self.faults)
+        self.faults.add(alloc, &self.search.names, cause)
     }
 
-    /// Adds what is wrong with that file.
-    fn add_stops(&mut self, alloc: Global, stops: &[Stop]) -> Result<(), AllocError>
-        ensures added { OnOk result (GoesOn self.old self.new
-            (faults_of (names_seen self.old.names.items) (map Malformed stops.now))) }
-        ensures same { OnOk result (opening_seen self.new ≡ opening_seen self.old) }
+    /// Passes over a use of a known file of which no layers are wanted: how many files stand in its
+    /// longest chain.
+    fn pass_over(&mut self, name: &[u8], below: u8, wanted: bool) -> Option<u8>
+        ensures { MatchOption result (self.new ≡ self.old) (λ height.
+            PassesOver name.now below self.old.search self.new.search height
+            × (wanted ≡ false) × (self.new ≡ record self.old { search = self.new.search })) }
     {
-        for stop in stops {
-            self.add_fault(alloc, Cause::Malformed(*stop))?;
+        if wanted {
+            None
+        } else {
+            self.search.pass_over(name, below)
         }
-        Ok(())
     }
 }
 
-/// The layers of what can be read of a file, its own first. At most `below` files stand under it in a
-/// chain.
+/// What can be read of a file. At most `below` files stand under it in a chain; the height is that of
+/// the longest one. Its layers are wanted, or its faults alone.
 #[cycle(salvage)]
-pub(crate) fn salvage_layers<'a, S: Source>(
+pub(crate) fn salvage_file<'a, S: Source>(
     alloc: Global,
     bytes: &'a [u8],
     bundle: Option<&Bundle<'_>>,
     source: &'a S,
     below: u8,
+    wanted: bool,
     walk: &mut Walk<'a>,
-) -> Result<Vec<Layer>, AllocError>
+) -> Result<Chain, AllocError>
     requires can_ask { S.can_ask source.now }
     requires by_name { IsByName (S.answers source.now) }
-    ensures { IfOk result (λ layers. Walks
-        (Salvages (tables_given bundle.entry) (S.answers source.now) (suc below)
-        (names_seen walk.old.names.items) bytes.now)
-        walk.old walk.new (layers_seen layers.items)) }
+    requires known { Knows (tables_given bundle) (S.answers source.now) walk.old }
+    ensures { IfOk result (WalksFile (tables_given bundle.entry) (S.answers source.now) below bytes.now
+        wanted walk.old walk.new) }
 {
     let file = read_within(alloc, bytes, bundle, walk)?;
-    let base = salvage_base(alloc, &file.uses, bundle, source, below, walk);
-    put_over(alloc, file, base)
+    let base = salvage_base(alloc, &file.uses, bundle, source, below, wanted, walk);
+    put_over(alloc, file, base, wanted || walk.is_closed)
 }
 
-/// The layers of what can be read of the files that uses name, one after another: those of the last
+/// What can be read of the files that uses name, one after another: the layers are those of the last
 /// one.
 #[cycle(salvage)]
 fn salvage_base<'a, S: Source>(
@@ -169,54 +186,115 @@ fn salvage_base<'a, S: Source>(
     bundle: Option<&Bundle<'_>>,
     source: &'a S,
     below: u8,
+    wanted: bool,
     walk: &mut Walk<'a>,
-) -> Result<Vec<Layer>, AllocError>
+) -> Result<Chain, AllocError>
     requires can_ask { S.can_ask source.now }
     requires by_name { IsByName (S.answers source.now) }
-    ensures { IfOk result (λ layers. Walks
-        (SalvagesEach (SalvagesUse (S.answers source.now)
-        (Salvages (tables_given bundle.entry) (S.answers source.now) below)
-        below (names_seen walk.old.names.items)) (names_seen uses.now) [])
-        walk.old walk.new (layers_seen layers.items)) }
+    requires known { Knows (tables_given bundle) (S.answers source.now) walk.old }
+    ensures { IfOk result (WalksUses (tables_given bundle.entry) (S.answers source.now) below
+        (names_seen uses.now) wanted walk.old walk.new) }
 {
-    let mut base = Vec::new(alloc);
-    for name in uses {
-        base = salvage_used(alloc, *name, base, bundle, source, below, walk)?;
+    let mut base = Chain {
+        layers: Vec::new(alloc),
+        height: 0,
+    };
+    let Some((last, others)) = uses.split_last() else {
+        return Ok(base);
+    };
+    for name in others {
+        base = salvage_used(alloc, *name, base, bundle, source, below, false, walk)?;
     }
-    Ok(base)
+    salvage_used(alloc, *last, base, bundle, source, below, wanted, walk)
 }
 
-/// The layers of what can be read of the file that a use names. Once a chain was too long, those that
-/// are there stay.
+/// What can be read of the file that a use names, after that of other uses. Once a chain was too long,
+/// their layers stay.
 #[cycle(salvage)]
 fn salvage_used<'a, S: Source>(
     alloc: Global,
     name: &'a [u8],
-    base: Vec<Layer>,
+    others: Chain,
     bundle: Option<&Bundle<'_>>,
     source: &'a S,
     below: u8,
+    wanted: bool,
     walk: &mut Walk<'a>,
-) -> Result<Vec<Layer>, AllocError>
+) -> Result<Chain, AllocError>
     requires can_ask { S.can_ask source.now }
     requires by_name { IsByName (S.answers source.now) }
-    ensures { IfOk result (λ layers. Walks
-        (SalvagesUse (S.answers source.now)
-        (Salvages (tables_given bundle.entry) (S.answers source.now) below)
-        below (names_seen walk.old.names.items) name.now (layers_seen base.items))
-        walk.old walk.new (layers_seen layers.items)) }
+    requires known { Knows (tables_given bundle) (S.answers source.now) walk.old }
+    ensures { IfOk result (λ chain. others.height ≤ below → (others.height ≤ chain.height)
+        × WalksUse (tables_given bundle.entry) (S.answers source.now) below name.now
+        (layers_seen others.layers.items) wanted walk.old walk.new chain) }
 {
     if walk.is_closed {
-        return Ok(base);
+        return Ok(others);
     }
-    walk.names.push(name)?;
-    let layers = salvage_named(alloc, name, bundle, source, below, walk);
-    walk.names.pop();
-    layers
+    let used = salvage_open(alloc, name, bundle, source, below, wanted, walk)?;
+    Ok(Chain {
+        layers: used.layers,
+        height: others.height.max(used.height),
+    })
 }
 
-/// The same, where the last of the names leads to the file. None where the chain has no room for it, or
-/// no file has the name.
+/// What can be read of the file that a use names. One that is known isn't read again, if its layers
+/// aren't wanted, and the chain and the budget have room for it.
+#[cycle(salvage)]
+fn salvage_open<'a, S: Source>(
+    alloc: Global,
+    name: &'a [u8],
+    bundle: Option<&Bundle<'_>>,
+    source: &'a S,
+    below: u8,
+    wanted: bool,
+    walk: &mut Walk<'a>,
+) -> Result<Chain, AllocError>
+    requires can_ask { S.can_ask source.now }
+    requires by_name { IsByName (S.answers source.now) }
+    requires known { Knows (tables_given bundle) (S.answers source.now) walk.old }
+    ensures { IfOk result (WalksOpen (tables_given bundle.entry) (S.answers source.now) below name.now
+        wanted walk.old walk.new) }
+{
+    match walk.pass_over(name, below, wanted) {
+        Some(height) => Ok(Chain {
+            layers: Vec::new(alloc),
+            height,
+        }),
+        None => salvage_unknown(alloc, name, bundle, source, below, wanted, walk),
+    }
+}
+
+/// The same, where the file is read.
+#[cycle(salvage)]
+fn salvage_unknown<'a, S: Source>(
+    alloc: Global,
+    name: &'a [u8],
+    bundle: Option<&Bundle<'_>>,
+    source: &'a S,
+    below: u8,
+    wanted: bool,
+    walk: &mut Walk<'a>,
+) -> Result<Chain, AllocError>
+    requires can_ask { S.can_ask source.now }
+    requires by_name { IsByName (S.answers source.now) }
+    requires known { Knows (tables_given bundle) (S.answers source.now) walk.old }
+    ensures { IfOk result (WalksOpen (tables_given bundle.entry) (S.answers source.now) below name.now
+        wanted walk.old walk.new) }
+{
+    let before = walk.search.left;
+    walk.search.names.push(name)?;
+    let used = salvage_named(alloc, name, bundle, source, below, wanted, walk)?;
+    walk.search.names.pop();
+    if !walk.is_cut {
+        let file = KnownFile::new(used.height, before, walk.search.left);
+        walk.search.known.insert(name, file)?;
+    }
+    Ok(used)
+}
+
+/// The same, where the last of the names leads to the file. It has no layers where the chain has no
+/// room for it, or no file has the name.
 #[cycle(salvage)]
 fn salvage_named<'a, S: Source>(
     alloc: Global,
@@ -224,57 +302,75 @@ fn salvage_named<'a, S: Source>(
     bundle: Option<&Bundle<'_>>,
     source: &'a S,
     below: u8,
+    wanted: bool,
     walk: &mut Walk<'a>,
-) -> Result<Vec<Layer>, AllocError>
+) -> Result<Chain, AllocError>
     requires can_ask { S.can_ask source.now }
     requires by_name { IsByName (S.answers source.now) }
-    ensures { IfOk result (λ layers. Walks
-        (SalvagesNamed (S.answers source.now)
-        (Salvages (tables_given bundle.entry) (S.answers source.now) below)
-        below (names_seen walk.old.names.items) name.now)
-        walk.old walk.new (layers_seen layers.items)) }
+    requires known { Knows (tables_given bundle) (S.answers source.now) walk.old }
+    ensures { IfOk result (WalksNamed (tables_given bundle.entry) (S.answers source.now) below name.now
+        wanted walk.old walk.new) }
 {
     if below == 0 {
         walk.is_closed = true;
-        return without_layers(alloc, Cause::ChainLength, walk);
+        walk.is_cut = true;
+        return without_file(alloc, Cause::ChainLength, 0, walk);
     }
     match source.file(name) {
-        Some(bytes) => salvage_layers(alloc, bytes, bundle, source, below - 1, walk),
-        None => without_layers(alloc, Cause::NoFile, walk),
+        Some(bytes) => {
+            let file = salvage_file(alloc, bytes, bundle, source, below - 1, wanted, walk)?;
+            Ok(Chain {
+                layers: file.layers,
+                height: file.height + 1,
+            })
+        }
+        None => without_file(alloc, Cause::NoFile, 1, walk),
     }
 }
 
 /// No layers, for a fault of the file that the names lead to, which is added.
-fn without_layers(
+fn without_file(
     alloc: Global,
     cause: Cause,
+    height: u8,
     walk: &mut Walk<'_>,
-) -> Result<Vec<Layer>, AllocError>
-    ensures none { IfOk result (λ layers. (layers.items ≡ [])
-        × GoesOn walk.old walk.new (faults_of (names_seen walk.old.names.items) (cause ∷ []))) }
-    ensures same { opening_seen walk.new ≡ opening_seen walk.old }
+) -> Result<Chain, AllocError>
+    requires { AreMarked walk.old.faults }
+    ensures none { IfOk result (λ chain. (chain.layers.items ≡ []) × (chain.height ≡ height)
+        × Lists walk.old.faults walk.new.faults (names_seen walk.old.search.names.items) (cause ∷ [])) }
+    ensures same { walk.new ≡ record walk.old { faults = walk.new.faults } }
 {
     walk.add_fault(alloc, cause)?;
-    Ok(Vec::new(alloc))
+    Ok(Chain {
+        layers: Vec::new(alloc),
+        height,
+    })
 }
 
-/// The layer of a file over the layers that it is based on, if those can be read.
+/// The layer of a file over those that it is based on, if it is wanted and they can be read.
 fn put_over(
     alloc: Global,
     file: File<'_>,
-    base: Result<Vec<Layer>, AllocError>,
-) -> Result<Vec<Layer>, AllocError>
-    ensures { IfOk result (λ layers. (under : Vec Layer) × (base ≡ Ok under)
-        × (layers_seen layers.items ≡ layer_of (file_seen file.entry) ∷ layers_seen under.items)) }
+    base: Result<Chain, AllocError>,
+    wanted: bool,
+) -> Result<Chain, AllocError>
+    ensures { IfOk result (λ chain. (under : Chain) × (base ≡ Ok under) × (chain.height ≡ under.height)
+        × (wanted ≡ true → layers_seen chain.layers.items
+        ≡ layer_of (file_seen file.entry) ∷ layers_seen under.layers.items)) }
 {
-    match base {
-        Ok(base) => layer_over(alloc, file.metadata, file.lists, base),
-        // By `?` each clause would be shown again of the error.
-        Err(AllocError) => Err(AllocError),
+    let base = base?;
+    if !wanted {
+        drop(file);
+        return Ok(base);
     }
+    let layers = layer_over(alloc, file.metadata, file.lists, base.layers)?;
+    Ok(Chain {
+        layers,
+        height: base.height,
+    })
 }
 
-/// What a file says apart from its faults, which are added. One that would pass the budget isn't
+/// What a file says apart from its faults, which are listed. One that would pass the budget isn't
 /// read, and says nothing.
 fn read_within<'a>(
     alloc: Global,
@@ -282,15 +378,21 @@ fn read_within<'a>(
     bundle: Option<&Bundle<'_>>,
     walk: &mut Walk<'a>,
 ) -> Result<File<'a>, AllocError>
+    requires { AreMarked walk.old.faults }
     ensures { IfOk result (λ file. ReadsOn (tables_given bundle.entry) bytes.now
         walk.old walk.new (file_seen file)) }
 {
-    let Ok(()) = spend(&mut walk.left, bytes.len()) else {
+    let Ok(()) = spend(&mut walk.search.left, bytes.len()) else {
+        walk.is_cut = true;
         walk.add_fault(alloc, Cause::OverBudget)?;
         return Ok(File::new(alloc));
     };
     let read = read_past(alloc, bytes, bundle)?;
-    after(read.file, walk.add_stops(alloc, &read.faults))
+    after(
+        read.file,
+        walk.faults
+            .add_stops(alloc, &walk.search.names, &read.faults),
+    )
 }
 
 /// What bytes say apart from their faults, and the faults. Of a file it is just that file.

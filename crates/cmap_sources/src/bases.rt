@@ -9,7 +9,7 @@ use crate::folders::{files_in, is_folder, name_of};
 use crate::inputs::{read, report_unreadable, unreadable};
 use crate::search::Search;
 use crate::status::{ACCEPTED, FAILED};
-use hayro_cmap::{Bundle, BundleFiles, CMap, NamedFile, NamedFiles};
+use hayro_cmap::{Bundle, BundleFiles, CMap, NamedFile, NamedFiles, Source, identity_text};
 use std::alloc::{AllocError, Global};
 use std::collections::BTreeMap;
 
@@ -37,6 +37,28 @@ impl<'b> NamedFile for Base<'b> {
 /// The bases that were read.
 pub type Files<'f> = NamedFiles<'f, Base<'f>, Bundle<'f>>;
 
+/// The bases that were read, as a parse asks for them: one that isn't read yet is missing, also Identity-H.
+#[derive(Drop)]
+pub struct ReadBases<'f> {
+    pub files: Files<'f>,
+}
+
+impl<'f> Source for ReadBases<'f> {
+    ghost use Rattle.std.specs.Prelude.{◌≡◌, ⊤};
+    ghost use Rattle.cmap_packed.specs.BundleSeen.{bundle_seen};
+    ghost use Rattle.hayro_cmap.specs.NamedFiles.{file_named};
+
+    ghost can_ask = { λ bases. ⊤ };
+
+    ghost answers = { λ bases name answer. answer
+        ≡ file_named (λ base. base.name.items) (λ base. bytes_seen base.bytes) bundle_seen
+        bases.files.files.now bases.files.bundle name };
+
+    fn file(&self, name: &[u8]) -> Option<&[u8]> {
+        self.files.find(name)
+    }
+}
+
 /// What was found of a name.
 #[derive(Drop)]
 enum Found<'b> {
@@ -47,7 +69,7 @@ enum Found<'b> {
 }
 
 /// The files that others may use. A name is looked up in the folders of bases, then in the bundle, then by
-/// `search`.
+/// `search`; Identity-H and Identity-V need no file.
 #[derive(Drop)]
 pub struct Bases<'b> {
     pub bundle: Option<&'b Bundle<'b>>,
@@ -120,8 +142,10 @@ impl<'b> Bases<'b> {
 
     /// The bases that were read, without the bundle. A file of the bundle is added to them when it is used, so
     /// that the base of its name comes first.
-    pub fn read_files(&self) -> Files<'_> {
-        NamedFiles::alone(self.read.as_slice())
+    pub fn read_files(&self) -> ReadBases<'_> {
+        ReadBases {
+            files: NamedFiles::alone(self.read.as_slice()),
+        }
     }
 
     /// Whether a file that isn't read yet may have this name.
@@ -129,7 +153,10 @@ impl<'b> Bases<'b> {
         if self.base(name).is_some() {
             return false;
         }
-        self.path(name).is_some() || self.bundle_file(name).is_some() || self.search.may_have(name)
+        self.path(name).is_some()
+            || self.bundle_file(name).is_some()
+            || self.search.may_have(name)
+            || identity_text(name).is_some()
     }
 
     /// The path of the base of this name that isn't read yet.
@@ -222,12 +249,18 @@ impl<'b> Bases<'b> {
         if let Some(bytes) = self.bundle_file(name) {
             return Ok(Found::File(FileBytes::Lent(bytes)));
         }
-        if !self.search.may_have(name) {
-            return Ok(Found::Nothing);
-        }
-        match self.search.find(rt, name)? {
+        match self.searched(rt, name)? {
             Some(path) => found_at(rt, path),
-            None => Ok(Found::Nothing),
+            None => Ok(identity_found(name)),
+        }
+    }
+
+    /// The path of the file of this name that `search` finds.
+    fn searched(&mut self, rt: &HostRuntime, name: &[u8]) -> Result<Option<String>, Failure> {
+        if self.search.may_have(name) {
+            self.search.find(rt, name)
+        } else {
+            Ok(None)
         }
     }
 
@@ -315,6 +348,14 @@ impl<'b> Bases<'b> {
     /// The status of the bases: whether all that were used could be read.
     pub fn status(&self) -> u8 {
         if self.has_failed { FAILED } else { ACCEPTED }
+    }
+}
+
+/// The text of Identity-H or Identity-V, if this is its name.
+fn identity_found<'b>(name: &[u8]) -> Found<'b> {
+    match identity_text(name) {
+        Some(text) => Found::File(FileBytes::Lent(text)),
+        None => Found::Nothing,
     }
 }
 

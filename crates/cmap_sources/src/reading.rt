@@ -1,6 +1,6 @@
 //! A file is parsed over the bases that were read. If one is missing, it is read, and the file is parsed again.
 
-use crate::bases::{Bases, Files};
+use crate::bases::{Bases, Files, ReadBases};
 use crate::failure::Failure;
 use crate::fault_line::LineCounter;
 use crate::refused::{push_refusal, push_refusal_json};
@@ -52,8 +52,8 @@ pub struct Manner {
 }
 
 /// How often a file is parsed at most. The loop ends because each parse but the last misses a name that wasn't looked
-/// up before, and files have only so many names. But no clause says how many: so it has this bound, which no run
-/// reaches.
+/// up before, and files use a limited number of names. But no clause says how many, so it has this bound, which no
+/// run reaches.
 const MOST_PARSES: u32 = u32::MAX;
 
 /// Reads a file over the files that it uses.
@@ -116,7 +116,7 @@ impl Reading {
         input: Input<'f>,
         manner: Manner,
         bases: &Bases<'_>,
-        files: &'f Files<'_>,
+        files: &'f ReadBases<'_>,
     ) -> Result<(), AllocError> {
         match CMap::parse_from(alloc, manner.budget, input.bytes, bases.bundle, files) {
             Ok(map) => {
@@ -137,7 +137,7 @@ impl Reading {
         input: Input<'f>,
         manner: Manner,
         bases: &Bases<'_>,
-        files: &'f Files<'_>,
+        files: &'f ReadBases<'_>,
     ) -> Result<(), AllocError> {
         let read = CMap::salvage(alloc, manner.budget, input.bytes, bases.bundle, files)?;
         let SalvagedMap { map, faults } = read;
@@ -159,6 +159,23 @@ impl Reading {
             self.faults = lines_of(alloc, input, form, bases, faults)?;
         }
         Ok(())
+    }
+}
+
+/// The faults past which a file was read over these files.
+pub fn faults_of<'f>(
+    alloc: Global,
+    input: Input<'f>,
+    manner: Manner,
+    files: &'f Files<'_>,
+) -> Result<Vec<Refusal<'f>>, AllocError> {
+    match manner.faults {
+        Faults::First => Ok(Vec::new(alloc)),
+        Faults::All => {
+            let read = CMap::salvage(alloc, manner.budget, input.bytes, files.bundle, files)?;
+            let SalvagedMap { map: _, faults } = read;
+            Ok(faults)
+        }
     }
 }
 

@@ -5,12 +5,13 @@ use cmap_binary::is_marked_binary;
 use cmap_escape::escape::{escaped_names, push_name};
 use cmap_escape::json::push_value;
 use cmap_escape::object::Object;
-use hayro_cmap::{Bundle, Cause, NamedFile, NamedFiles, Refusal, Stop};
+use hayro_cmap::token::Scanner;
+use hayro_cmap::{Bundle, Cause, NamedFile, NamedFiles, Reason, Refusal, Stop};
 use serde_json::Value;
 use std::alloc::{AllocError, Global};
 use std::fmt::Write;
 
-/// Where reading stopped in the file at fault, and why.
+/// Where the fault of a file is reported, and why.
 #[derive(Clone, Copy)]
 struct LocatedStop {
     stop: Stop,
@@ -34,8 +35,33 @@ fn stop_of<'n, N: NamedFile>(
     if files.bundle.is_some() && is_marked_binary(file) {
         return Some(LocatedStop { stop, line: None });
     }
+    let stop = Stop {
+        offset: reported_offset(file, stop),
+        reason: stop.reason,
+    };
     let line = lines.line_of(name, file, stop.offset);
     Some(LocatedStop { stop, line })
+}
+
+/// Where the fault of a text is reported. A string that isn't closed refuses a text at its end, and is
+/// reported at its bracket.
+fn reported_offset(text: &[u8], stop: Stop) -> usize {
+    if stop.reason == Reason::UnclosedString && stop.offset == text.len() {
+        first_malformed(text)
+    } else {
+        stop.offset
+    }
+}
+
+/// The offset of the first piece of a text that is no token.
+fn first_malformed(text: &[u8]) -> usize {
+    let mut scanner = Scanner::new(text);
+    for _ in 0..text.len() {
+        let Ok(Some(_)) = scanner.next_token() else {
+            break;
+        };
+    }
+    scanner.next_start()
 }
 
 /// The bytes of the file at fault: the one of the last name, or the top file.

@@ -1,6 +1,6 @@
 //! CMap files over other files, and bundles.
 
-use crate::bytes::{asked, number, unescaped};
+use crate::bytes::{asked, number, split_word, unescaped};
 use crate::line::Line;
 use crate::maps;
 use crate::row::Row;
@@ -97,7 +97,9 @@ impl<'r> Around<'r> {
             "asked" => self.push_asked(alloc, file, line)?,
             "cause" => self.push_cause(alloc, file, line)?,
             "uses" => self.push_uses(alloc, file, line)?,
+            "faults" => self.push_faults(alloc, file, line)?,
             "least" => return self.push_least_budget(alloc, file, rest, line),
+            "salvaged" => return self.push_of_salvaged(alloc, file, rest, line),
             _ => return self.push_of_map(alloc, file, word, rest, line),
         }
         Ok(())
@@ -181,6 +183,44 @@ impl<'r> Around<'r> {
         Ok(())
     }
 
+    /// Adds the faults of a file that is read past them, each as `push_cause` does.
+    fn push_faults(&self, alloc: Global, file: &[u8], line: &mut Line) -> Result<(), AllocError> {
+        let files = NamedFiles::alone(self.bases.as_slice());
+        let read = CMap::salvage(alloc, self.budget, file, self.bundle.as_ref(), &files)?;
+        if read.faults.is_empty() {
+            line.push(" none");
+        }
+        for (i, fault) in read.faults.iter().enumerate() {
+            line.push(if i > 0 { " /" } else { "" });
+            push_refusal(fault, line);
+        }
+        Ok(())
+    }
+
+    /// Adds what the rest of a line asks of the map that a file gives past its faults, or how many
+    /// files are asked for.
+    fn push_of_salvaged(
+        &self,
+        alloc: Global,
+        file: &[u8],
+        rest: &str,
+        line: &mut Line,
+    ) -> Result<(), RowError> {
+        let (word, rest) = split_word(rest);
+        let files = CountedFiles {
+            files: NamedFiles::alone(self.bases.as_slice()),
+            asked: Cell::new(0),
+        };
+        let read = CMap::salvage(alloc, self.budget, file, self.bundle.as_ref(), &files)?;
+        line.push(" ");
+        line.push(word);
+        if word == "asked" {
+            write!(line, " {}", files.asked.get());
+            return Ok(());
+        }
+        maps::push_answer_alone(alloc, &read.map, word, rest, line)
+    }
+
     /// Adds the names of the files that a file uses. None of them is asked for.
     fn push_uses(&self, alloc: Global, file: &[u8], line: &mut Line) -> Result<(), AllocError> {
         if self.is_no_bundle {
@@ -252,17 +292,17 @@ struct CountedFiles<'s> {
 impl<'s> Source for CountedFiles<'s> {
     ghost use Rattle.std.specs.Prelude.{◌≡◌, ⊤};
     ghost use Rattle.cmap_packed.specs.BundleSeen.{bundle_seen};
-    ghost use Rattle.hayro_cmap.specs.NamedFiles.{file_named};
+    ghost use Rattle.hayro_cmap.specs.NamedFiles.{text_named};
 
     ghost can_ask = { λ counted. ⊤ };
 
     ghost answers = { λ counted name answer. answer
-        ≡ file_named (λ base. base.0.now) (λ base. base.1.now) bundle_seen
+        ≡ text_named (λ base. base.0.now) (λ base. base.1.now) bundle_seen
         counted.files.files.now counted.files.bundle name };
 
     fn file(&self, name: &[u8]) -> Option<&[u8]> {
         self.asked.set(self.asked.get().wrapping_add(1));
-        self.files.find(name)
+        self.files.file(name)
     }
 }
 

@@ -1,7 +1,7 @@
 //! What is asked of a map.
 
 use crate::bytes::{asked, code_of, hexadecimal};
-use crate::layers::push_layer;
+use crate::layers::{push_declarations, push_layer};
 use crate::line::Line;
 use crate::parts::texts::push_text;
 use crate::parts::tokens::push_code;
@@ -14,7 +14,7 @@ use std::alloc::{AllocError, Global};
 pub fn is_question(word: &str) -> bool {
     match word {
         "cid" | "strict" | "codes" | "bf" | "name" | "mode" => true,
-        "collection" | "unicode" | "ucs2" | "layers" | "declared" => true,
+        "collection" | "unicode" | "ucs2" | "layers" | "declared" | "declarations" => true,
         _ => false,
     }
 }
@@ -50,7 +50,8 @@ fn is_answer(
     Ok(answer.as_str() == line)
 }
 
-fn push_answer_alone(
+/// Adds what a word asks of a map.
+pub fn push_answer_alone(
     alloc: Global,
     map: &CMap,
     word: &str,
@@ -62,6 +63,7 @@ fn push_answer_alone(
         "codes" => return push_codes(alloc, map, rest, line),
         "bf" => return push_text_of(alloc, map, rest, line),
         "declared" => return push_layer(map, rest, line),
+        "declarations" => push_declarations(alloc, map, line)?,
         "collection" => push_collection(alloc, map, line)?,
         "name" => push_name(map.metadata(), line),
         "mode" => line.push(mode_of(map)),

@@ -12,7 +12,7 @@ ghost use Rattle.cmap_chains.specs.Maps.{ExceedsBudget, FitsBudget, HasNoMap, Is
 ghost use Rattle.cmap_chains.specs.Opened.{ExceedsBudgetNamed, FitsBudgetNamed, HasNoMapNamed, IsMapNamed, IsUnknown, LeadsToFaultNamed};
 ghost use Rattle.cmap_layers.specs.LayersSeen.{metadata_seen};
 ghost use Rattle.cmap_layers.specs.Layers.{top_metadata};
-ghost use Rattle.cmap_chains.specs.Salvage.{BeginsWithFault, GivesMap, SalvagesMap};
+ghost use Rattle.cmap_chains.specs.Salvage.{AreOfBundle, BeginsWithFault, GivesMap, IsFirstPastFaults, SalvagesMap};
 ghost use Rattle.cmap_chains.specs.SalvageSeen.{faults_seen};
 ghost use Rattle.cmap_layers.specs.CodeStretches.{AreCodesOfCid};
 ghost use Rattle.cmap_layers.specs.Lookups.{cid_of};
@@ -63,8 +63,8 @@ impl Model for CMap {
 #[derive(Debug, Drop)]
 pub struct SalvagedMap<'a> {
     pub map: CMap,
-    /// In the order in which the files are read. Those of one file come in the order of their
-    /// offsets, before those of the files that it uses.
+    /// In the order in which the files are first read, those of each file once. Those of one file
+    /// come in the order of their offsets, before those of the files that it uses.
     pub faults: Vec<Refusal<'a>>,
 }
 
@@ -167,6 +167,12 @@ impl CMap {
         ensures blames { IfErr result (RefusesWith (λ refusal.
             LeadsToFault (tables_given bundle.entry) (S.answers source.now) «data».now budget
             (names_seen refusal.names.items) refusal.cause)) }
+
+        // Unless the budget is passed, it is the first fault that `salvage` gives.
+        ensures first { IfErr result (RefusesWith (λ refusal. refusal.cause ≢ Cause.OverBudget
+            → AreOfBundle (tables_given bundle.entry)
+            → IsFirstPastFaults (tables_given bundle.entry) (S.answers source.now) «data».now budget
+            (names_seen refusal.names.items) refusal.cause)) }
         ensures few { IfErr result (RefusesWith (λ refusal. length refusal.names.items ≤ 16)) }
     {
         match read_layers(alloc, budget, data, bundle, source) {
@@ -220,10 +226,10 @@ impl CMap {
     /// faults. Of a file that `parse_from` accepts it is that map, and there is no fault; of another
     /// one, the first fault is one for which it is refused.
     ///
-    /// A file is read past its faults. A use without a file, or for which the chain has no room, is a
-    /// fault too, and gives no layers. After a chain that is too long no further file is opened, and
-    /// the uses that follow are passed over. A file that would pass the budget isn't read, and gives a
-    /// layer that says nothing.
+    /// A file is read past its faults, which are listed once, however often it is used. A use without
+    /// a file, or for which the chain has no room, is a fault too, and gives no layers. After a chain
+    /// that is too long no further file is opened, and the uses that follow are passed over. A file
+    /// that would pass the budget isn't read, and gives a layer that says nothing.
     ///
     /// It fails only if memory runs out.
     pub fn salvage<'a, S: Source>(

@@ -4,7 +4,7 @@ use Rattle.cmap_values.specs.FilesSeen.{file_seen}
 use Rattle.cmap_values.specs.NamesSeen.{names_seen}
 use Rattle.cmap_values.proofs.Outcomes.{passed_on, refused_as}
 use Rattle.cmap_chains.specs.BytesSpent.{of_use}
-use Rattle.cmap_chains.specs.KnownFiles.{ResolvesFrom}
+use Rattle.cmap_chains.specs.KnownFiles.{IsKnown, ResolvesFrom}
 use Rattle.cmap_chains.specs.Layers.{Means}
 use Rattle.cmap_chains.specs.Searches.{ChecksUse}
 use Rattle.cmap_chains.proofs.Checked.{AreUsedFrom-none, AreUsedFrom-more, AreUsedFrom-at, AreUsedFrom-end, ResolvesFrom-used, ResolvesFrom-answered, checks_file, checked_again}
@@ -12,7 +12,7 @@ use Rattle.cmap_chains.proofs.Larger.{larger_left, larger_right, larger_within}
 use Rattle.cmap_chains.proofs.OneNameMore.{names_back}
 use Rattle.cmap_chains.proofs.OneUse.{room_left}
 use Rattle.cmap_chains.proofs.Stopped.{stops_missing, stops_to_open, stops_use, stops_uses}
-use Rattle.cmap_chains.proofs.UsedAgain.{AreKnown-more, IsKnown-from_found}
+use Rattle.cmap_chains.proofs.UsedAgain.{IsKnown-from_found, known-more}
 use Rattle.cmap_chains.proofs.check.+check.Goals as goal
 
 pub check_file-returns-in-Err : goal.check_file-returns-in-Err
@@ -98,7 +98,7 @@ check_unknown-returns g t c =
         fits = omega (arith, some, checked.fits);
         resolves = found;
         names = names_back c.args.search.now.names.items c.push.new.self.items c.check_file.new.search.names.items c.pop.new.self.items name c.in_ok-push.ensures.items checked.names (rw c.check_file.new.search.names.ok.0 at c.pop.ensures.rest);
-        known = AreKnown-more means answer c.check_file.new.search.known c.insert.new.self name.now c.new.result checked.known known c.in_ok-insert.ensures;
+        known = known-more (IsKnown means answer) c.check_file.new.search.known c.insert.new.self name.now c.new.result checked.known known c.in_ok-insert.ensures;
       },
       tt,
     )
