@@ -2,9 +2,9 @@
 
 _cmap() {
     local current=${COMP_WORDS[COMP_CWORD]} before=${COMP_WORDS[COMP_CWORD - 1]} subcommand=${COMP_WORDS[1]}
-    local warnings="all nothing-declared no-codespace outside-codespace overlap inverted-range crosses-row no-text"
-    warnings+=" private-use noncharacter replacement-character null-character no-mapping name-differs mode-differs"
-    warnings+=" count-differs"
+    local warnings="all nothing-declared no-codespace outside-codespace overlap inverted-range crosses-row last-byte"
+    warnings+=" no-text private-use noncharacter replacement-character null-character no-mapping name-differs"
+    warnings+=" mode-differs count-differs long-section no-endcmap code-length odd-digits odd-text"
     COMPREPLY=()
     if ((COMP_CWORD == 1)); then
         mapfile -t COMPREPLY < <(compgen -W "info list find check decode lookup text where bundle --help --version" -- "$current")

@@ -10,7 +10,7 @@ use cmap_report::uses::uses_by_layer;
 use cmap_sources::bases::{Bases, Files};
 use cmap_sources::failure::{Failure, report};
 use cmap_sources::inputs::{Opened, open};
-use cmap_sources::reading::{Input, Manner};
+use cmap_sources::reading::{Input, Manner, faults_of};
 use cmap_sources::status::{ACCEPTED, FAILED, REFUSED};
 use hayro_cmap::CMap;
 use std::alloc::{AllocError, Global};
@@ -107,7 +107,7 @@ fn print_info(
         path,
         bytes: opened.bytes.as_slice(),
     };
-    let lines = lines_of(rt.alloc(), input, &opened.map, options.json, &bases.files())?;
+    let lines = lines_of(rt.alloc(), input, &opened.map, options, &bases.files())?;
     rt.print(lines.as_str())?;
     Ok(ACCEPTED)
 }
@@ -117,12 +117,14 @@ fn lines_of(
     alloc: Global,
     input: Input<'_>,
     map: &CMap,
-    json: bool,
+    options: &InfoOptions<'_, '_>,
     files: &Files<'_>,
 ) -> Result<String, AllocError> {
-    let uses = uses_by_layer(alloc, input.bytes, files, map.layers().as_slice().len())?;
+    let faults = faults_of(alloc, input, options.manner, files)?;
+    let layers = map.layers().as_slice().len();
+    let uses = uses_by_layer(alloc, input.bytes, files, &faults, layers)?;
     let mut lines = String::new(alloc);
-    if json {
+    if options.json {
         push_json(alloc, &mut lines, input.path, map, &uses)?;
     } else {
         push_info(&mut lines, input.path, map, &uses)?;

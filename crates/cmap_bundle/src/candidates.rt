@@ -1,10 +1,10 @@
 //! The files that arguments ask to be put in a bundle.
 
-use crate::known_names::is_known;
 use cmap_escape::count::Count;
 use cmap_sources::failure::{Failure, fault};
 use cmap_sources::folders::{files_in, is_folder, name_of};
 use cmap_sources::inputs::{STANDARD_INPUT, needed};
+use hayro_cmap::CMapName;
 
 /// A file that is asked for.
 #[derive(Drop)]
@@ -98,4 +98,9 @@ impl Candidates {
 fn known_file_name(path: &str) -> Option<&str> {
     let name = name_of(path);
     is_known(name.as_bytes()).then_some(name)
+}
+
+/// Whether a name is one of those that have a place in a bundle.
+pub(crate) fn is_known(name: &[u8]) -> bool {
+    CMapName::from_bytes(name).index().is_some()
 }

@@ -1,7 +1,6 @@
 //! The files that are put in the bundle.
 
-use crate::candidates::Candidate;
-use crate::known_names::is_known;
+use crate::candidates::{Candidate, is_known};
 use cmap_binary::is_marked_binary;
 use cmap_escape::count::Count;
 use cmap_escape::escape::{push_name, push_text};

@@ -55,7 +55,7 @@ fn uses_of<'b>(
         files: none,
         bundle: Some(bundle),
     };
-    let mut layers = uses_by_layer(alloc, bytes, &files, 1)?;
+    let mut layers = uses_by_layer(alloc, bytes, &files, &[], 1)?;
     Ok(layers.pop().unwrap_or(Vec::new(alloc)))
 }
 

@@ -8,7 +8,6 @@ pub mod choice;
 pub mod command;
 pub mod contents;
 pub mod difference;
-pub mod known_names;
 pub mod making;
 pub mod obstacle;
 pub mod summary;

@@ -20,7 +20,7 @@ impl Count {
         self.add(1);
     }
 
-    /// Counts so many more.
+    /// Counts `further` more.
     pub fn add(&mut self, further: usize) {
         self.number = self.number.saturating_add(further);
     }

@@ -8,7 +8,7 @@ use crate::text_spans::without_text;
 use crate::warning::Warning;
 use cmap_queries::code_lengths::LENGTHS;
 use hayro_cmap::runs::{Looks, Range, Table};
-use hayro_cmap::{CMap, CidRange, CodeLength, Codespace, Layer, TextStretch};
+use hayro_cmap::{ByLength, CMap, CidRange, CodeLength, Codespace, Layer, TextStretch};
 use std::alloc::{AllocError, Global};
 
 /// The lengths of codes among which those without a text are looked for.
@@ -31,6 +31,28 @@ pub(crate) fn has_codespace(map: &CMap) -> bool {
         }
     }
     false
+}
+
+/// Which lengths the codespace ranges of all layers have.
+pub(crate) fn codespace_lengths(map: &CMap) -> ByLength<bool> {
+    ByLength {
+        one: has_codespace_of(map, CodeLength::One),
+        two: has_codespace_of(map, CodeLength::Two),
+        three: has_codespace_of(map, CodeLength::Three),
+        four: has_codespace_of(map, CodeLength::Four),
+    }
+}
+
+/// Whether some layer has a codespace range of this length.
+fn has_codespace_of(map: &CMap, len: CodeLength) -> bool {
+    map.layers()
+        .as_slice()
+        .iter()
+        .any(|layer| has_space_of(layer.codespaces(), len))
+}
+
+fn has_space_of(spaces: &[Codespace], len: CodeLength) -> bool {
+    spaces.iter().any(|space| space.len == len)
 }
 
 /// The codes that the top layer gives a CID or a notdef, and that lie in no codespace range.

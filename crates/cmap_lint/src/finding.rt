@@ -8,7 +8,7 @@ use hayro_cmap::runs::Range;
 pub struct Finding<'m> {
     /// The warning.
     pub warning: Warning,
-    /// How many codes, declarations or sections it concerns; 1 where it concerns the file.
+    /// How many codes, declarations, sections or strings it concerns; 1 where it concerns the file.
     pub count: u64,
     /// The first of these.
     pub first: Place<'m>,

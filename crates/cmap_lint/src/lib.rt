@@ -13,5 +13,6 @@ pub mod printed;
 mod ranges;
 mod sections;
 mod shapes;
+mod strings;
 mod text_spans;
 pub mod warning;

@@ -5,7 +5,7 @@ use crate::codespaces::{has_codespace, no_codespace, no_mapping, outside_codespa
 use crate::finding::{Finding, Place};
 use crate::identity::{mode_differs, name_differs};
 use crate::overlaps::overlaps;
-use crate::sections::count_differs;
+use crate::sections::Sections;
 use crate::shapes::Shapes;
 use crate::text_spans::no_text;
 use crate::warning::Warning;
@@ -43,7 +43,7 @@ pub fn findings_of<'m>(
     findings.add(name_differs(subject.map, subject.file_name));
     findings.add(mode_differs(subject.map));
     if let Some(text) = subject.text {
-        findings.add(count_differs(text));
+        findings.add_of_text(alloc, subject.map, text);
     }
     findings.finish()
 }
@@ -108,6 +108,7 @@ impl<'m> Findings<'m> {
         let shapes = Shapes::of(map, layer);
         self.add(shapes.inverted);
         self.add(shapes.crossing);
+        self.add(shapes.passing);
         self.add_found(no_text(alloc, map, layer));
     }
 
@@ -117,6 +118,26 @@ impl<'m> Findings<'m> {
             self.add_found(characters(alloc, map, layer, *warning));
         }
         self.add_found(no_mapping(alloc, map));
+    }
+
+    /// Adds what looks wrong in how a text is written.
+    fn add_of_text(&mut self, alloc: Global, map: &CMap, text: &[u8]) {
+        match Sections::of(alloc, map, text) {
+            Ok(sections) => self.add_of_sections(map, &sections),
+            Err(AllocError) => self.is_whole = false,
+        }
+    }
+
+    /// Adds what looks wrong in sections.
+    fn add_of_sections(&mut self, map: &CMap, sections: &Sections<'m>) {
+        self.add(sections.count_differs);
+        self.add(sections.long);
+        self.add(sections.no_endcmap);
+        if has_codespace(map) {
+            self.add(sections.strings.code_length);
+        }
+        self.add(sections.strings.odd_digits);
+        self.add(sections.strings.odd_text);
     }
 
     fn finish(self) -> Result<Vec<Finding<'m>>, AllocError> {

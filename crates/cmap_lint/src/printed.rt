@@ -8,6 +8,7 @@ use crate::warning::Warning;
 use cmap_escape::digits::{byte_digits, code_digits, push_code};
 use cmap_escape::object::Object;
 use cmap_escape::{escape, json};
+use cmap_queries::code_lengths::printed_len;
 use hayro_cmap::runs::Range;
 use serde_json::Value;
 use std::alloc::{AllocError, Global};
@@ -51,11 +52,12 @@ fn sentence_of(warning: Warning) -> &'static str {
         }
         Warning::NoCodespace => "no layer has a codespace range",
         Warning::ModeDiffers => "the writing mode isn't vertical, but the name is",
+        Warning::NoEndcmap => "after begincmap comes no endcmap",
         _ => "the file has another name than",
     }
 }
 
-/// Adds how many codes, declarations or sections a warning concerns, up to where the first of them is.
+/// Adds how many codes, declarations, sections or strings a warning concerns, up to where the first of them is.
 fn push_count(out: &mut String, finding: &Finding<'_>) -> Result<(), AllocError> {
     let unit = unit_of(finding.warning);
     let plural = if finding.count == 1 { "" } else { "s" };
@@ -65,15 +67,18 @@ fn push_count(out: &mut String, finding: &Finding<'_>) -> Result<(), AllocError>
 /// What is counted.
 fn unit_of(warning: Warning) -> &'static str {
     match warning {
-        Warning::InvertedRange | Warning::CrossesRow | Warning::NoText => "declaration",
-        Warning::CountDiffers => "section",
+        Warning::InvertedRange | Warning::CrossesRow | Warning::LastByte | Warning::NoText => {
+            "declaration"
+        }
+        Warning::CountDiffers | Warning::LongSection => "section",
+        Warning::CodeLength | Warning::OddDigits | Warning::OddText => "string",
         _ => "code",
     }
 }
 
 fn push_code_in_brackets(out: &mut String, byte_len: u8, code: u32) -> Result<(), AllocError> {
     out.push('<')?;
-    push_code(out, byte_len, code)?;
+    push_code(out, printed_len(byte_len, code), code)?;
     out.push('>')
 }
 
@@ -117,12 +122,17 @@ fn set_place(alloc: Global, object: &mut Object, place: Place<'_>) {
             object.set_string("name_bytes", byte_digits(alloc, name));
         }
         Place::Code { byte_len, code } => {
-            object.set_string("first", code_digits(alloc, byte_len, code));
+            object.set_string("first", digits_of(alloc, byte_len, code));
         }
         Place::Range { byte_len, range } => {
-            object.set_string("first", code_digits(alloc, byte_len, range.start));
-            object.set_string("last", code_digits(alloc, byte_len, range.end));
+            object.set_string("first", digits_of(alloc, byte_len, range.start));
+            object.set_string("last", digits_of(alloc, byte_len, range.end));
         }
         Place::Offset(offset) => object.set("byte", Value::from(offset)),
     }
+}
+
+/// The digits of a code.
+fn digits_of(alloc: Global, byte_len: u8, code: u32) -> Result<String, AllocError> {
+    code_digits(alloc, printed_len(byte_len, code), code)
 }

@@ -1,48 +1,150 @@
-//! Sections of a text that have another number of entries than the number before them says. Adobe
-//! Technical Note 5014.
+//! How the sections of a text are written: the numbers before them, how long they are, and what stands around them.
+//! Adobe Technical Note 5014.
 
 ghost use Rattle.std.specs.Prelude.{◌<◌};
 
 use crate::finding::{Finding, Place};
+use crate::strings::{Part, Strings};
 use crate::warning::Warning;
 use cmap_escape::count::Count;
 use cmap_text::{Extent, Section, is_key, opened_section};
+use hayro_cmap::CMap;
 use hayro_cmap::token::{Number, Scanner, Token};
+use std::alloc::{AllocError, Global};
 
 /// The most entries that a section may have.
 const MOST_ENTRIES: usize = 100;
+
+/// The names around all sections.
+const CMAP_START: &[u8] = b"begincmap";
+
+const CMAP_END: &[u8] = b"endcmap";
 
 /// The names around the texts of a list.
 const LIST_START: &[u8] = b"[";
 
 const LIST_END: &[u8] = b"]";
 
-/// The sections of a text that is accepted. A section without a number before it counts too.
-pub(crate) fn count_differs<'m>(text: &[u8]) -> Finding<'m> {
-    let mut finding = Finding::new(Warning::CountDiffers);
-    let mut scanner = Scanner::new(text);
-    let mut before = None;
-    for _ in 0..text.len() {
-        let Ok(Some(token)) = scanner.next_token() else {
-            break;
-        };
-        if is_key(&token) {
-            let _value = scanner.next_token();
-        } else if let Some(section) = opened_section(&token) {
-            let offset = offset_of(&token, &scanner);
-            let entries = count_entries(&mut scanner, section, text.len());
-            if before != Some(entries) || entries > MOST_ENTRIES {
-                finding.add(1, Place::Offset(offset));
-            }
-        }
-        before = number_of(&token);
-    }
-    finding
+/// What looks wrong in the sections of a text.
+#[derive(Drop)]
+pub(crate) struct Sections<'m> {
+    /// A section without a number before it counts too.
+    pub(crate) count_differs: Finding<'m>,
+    pub(crate) long: Finding<'m>,
+    pub(crate) no_endcmap: Finding<'m>,
+    pub(crate) strings: Strings<'m>,
 }
 
-/// The offset of the opener that was read last.
-fn offset_of(opener: &Token<'_>, scanner: &Scanner<'_>) -> usize {
-    let len = executable(opener).map_or(0, |name| name.len());
+impl<'m> Sections<'m> {
+    /// Those of a text that is accepted, and whose map this is.
+    pub(crate) fn of(alloc: Global, map: &CMap, text: &[u8]) -> Result<Sections<'m>, AllocError> {
+        let mut sections = Sections {
+            count_differs: Finding::new(Warning::CountDiffers),
+            long: Finding::new(Warning::LongSection),
+            no_endcmap: Finding::new(Warning::NoEndcmap),
+            strings: Strings::new(alloc, map),
+        };
+        sections.add_text(text)?;
+        Ok(sections)
+    }
+
+    /// Looks at a text, item by item.
+    fn add_text(&mut self, text: &[u8]) -> Result<(), AllocError> {
+        let mut scanner = Scanner::new(text);
+        let mut before = None;
+        let mut is_open = false;
+        for _ in 0..text.len() {
+            let Ok(Some(token)) = scanner.next_token() else {
+                break;
+            };
+            if is_key(&token) {
+                let _value = scanner.next_token();
+            } else if let Some(section) = opened_section(&token) {
+                let offset = offset_of(executable(&token), &scanner);
+                let entries = self.add_entries(&mut scanner, section, text.len())?;
+                self.add_section(before, entries, offset);
+            }
+            is_open = is_open_after(is_open, &token);
+            before = number_of(&token);
+        }
+        if is_open {
+            self.no_endcmap.add(1, Place::File);
+        }
+        Ok(())
+    }
+
+    /// Looks at the number before a section, and at how many entries it has.
+    fn add_section(&mut self, before: Option<usize>, entries: usize, offset: usize) {
+        let place = Place::Offset(offset);
+        if before != Some(entries) {
+            self.count_differs.add(1, place);
+        }
+        if entries > MOST_ENTRIES {
+            self.long.add(1, place);
+        }
+    }
+
+    /// Reads a section up to its end, looks at the strings of its entries, and counts these. A list of texts is one
+    /// part of an entry.
+    fn add_entries(
+        &mut self,
+        scanner: &mut Scanner<'_>,
+        section: Section,
+        most: usize,
+    ) -> Result<usize, AllocError> {
+        let mut parts = Count::of(0);
+        let mut is_in_list = false;
+        for _ in 0..most {
+            let Ok(Some(token)) = scanner.next_token() else {
+                break;
+            };
+            match executable(&token) {
+                Some(name) if name == LIST_START => is_in_list = true,
+                Some(name) if name == LIST_END => {
+                    is_in_list = false;
+                    parts.add_one();
+                }
+                Some(_) => break,
+                None => {
+                    self.add_part(&token, scanner, part_of(section, parts.get()))?;
+                    if !is_in_list {
+                        parts.add_one();
+                    }
+                }
+            }
+        }
+        Ok(parts.get() / parts_of(section))
+    }
+
+    /// Looks at the part of an entry that was read last, if it is a string.
+    fn add_part(
+        &mut self,
+        token: &Token<'_>,
+        scanner: &Scanner<'_>,
+        part: Part,
+    ) -> Result<(), AllocError> {
+        match token {
+            Token::String(string) => {
+                let offset = offset_of(Some(string.raw()), scanner);
+                self.strings.add(string, part, offset)
+            }
+            _ => Ok(()),
+        }
+    }
+}
+
+/// Whether an `endcmap` is still to come after a token.
+fn is_open_after(is_open: bool, token: &Token<'_>) -> bool {
+    match executable(token) {
+        Some(name) if name == CMAP_START => true,
+        Some(name) if name == CMAP_END => false,
+        _ => is_open,
+    }
+}
+
+/// The offset of the token that was read last, of which these are the bytes.
+fn offset_of(bytes: Option<&[u8]>, scanner: &Scanner<'_>) -> usize {
+    let len = bytes.map_or(0, |bytes| bytes.len());
     scanner.offset().saturating_sub(len)
 }
 
@@ -62,12 +164,7 @@ fn executable<'t>(token: &Token<'t>) -> Option<&'t [u8]> {
     }
 }
 
-/// Reads a section up to its end, and counts its entries.
-fn count_entries(scanner: &mut Scanner<'_>, section: Section, most: usize) -> usize {
-    count_parts(scanner, most) / parts_of(section)
-}
-
-/// How many parts an entry of a section has: codes, CIDs and texts.
+/// How many parts an entry of a section has: codes, and a CID or texts.
 fn parts_of(section: Section) -> usize
     ensures some { 0 < result }
 {
@@ -77,24 +174,12 @@ fn parts_of(section: Section) -> usize
     }
 }
 
-/// Reads a section up to its end, and counts the parts of its entries. A list of texts is one part.
-fn count_parts(scanner: &mut Scanner<'_>, most: usize) -> usize {
-    let mut parts = Count::of(0);
-    let mut is_in_list = false;
-    for _ in 0..most {
-        let Ok(Some(token)) = scanner.next_token() else {
-            break;
-        };
-        match executable(&token) {
-            Some(name) if name == LIST_START => is_in_list = true,
-            Some(name) if name == LIST_END => {
-                is_in_list = false;
-                parts.add_one();
-            }
-            Some(_) => break,
-            None if !is_in_list => parts.add_one(),
-            None => {}
-        }
+/// What a string is that follows so many parts of entries of a section.
+fn part_of(section: Section, parts: usize) -> Part {
+    let further = parts % parts_of(section);
+    match section {
+        Section::BfRange if further == 2 => Part::Text,
+        Section::BfChar if further == 1 => Part::Text,
+        _ => Part::Code,
     }
-    parts.get()
 }

@@ -1,17 +1,18 @@
-//! Ranges whose ends look wrong.
+//! Ranges whose ends look wrong, or whose texts count on too far.
 
 use crate::declared::{CID_LISTS, CidList};
 use crate::finding::{Finding, Place};
 use crate::warning::Warning;
 use cmap_queries::code_lengths::{LENGTHS, text_code_len};
 use hayro_cmap::runs::{Looks, Range};
-use hayro_cmap::{CMap, CodeLength, Layer};
+use hayro_cmap::{BfRange, CMap, CodeLength, Layer};
 
-/// The declarations of a layer whose ends look wrong, by what is wrong with them.
+/// The declarations of a layer that look wrong, by what is wrong with them.
 #[derive(Clone, Copy)]
 pub(crate) struct Shapes<'m> {
     pub(crate) inverted: Finding<'m>,
     pub(crate) crossing: Finding<'m>,
+    pub(crate) passing: Finding<'m>,
 }
 
 impl<'m> Shapes<'m> {
@@ -20,6 +21,7 @@ impl<'m> Shapes<'m> {
         let mut shapes = Shapes {
             inverted: Finding::new(Warning::InvertedRange),
             crossing: Finding::new(Warning::CrossesRow),
+            passing: Finding::new(Warning::LastByte),
         };
         for list in CID_LISTS {
             shapes.add_list(layer, *list);
@@ -49,8 +51,13 @@ impl<'m> Shapes<'m> {
         let table = layer.texts();
         let mut looks = Looks::new();
         for index in 0..table.decl_count() {
-            let range = table.decl(index, &mut looks).range;
-            self.add(text_code_len(map.layers(), range), range);
+            let declared = table.decl(index, &mut looks);
+            let range = declared.range;
+            let byte_len = text_code_len(map.layers(), range);
+            self.add(byte_len, range);
+            if passes_last_byte(declared) {
+                self.passing.add(1, Place::Range { byte_len, range });
+            }
         }
     }
 
@@ -63,4 +70,14 @@ impl<'m> Shapes<'m> {
             self.crossing.add(1, place);
         }
     }
+}
+
+/// Whether the last byte of a text counts on past 255 before the last code. ISO 32000-1, 9.10.3.
+fn passes_last_byte(declared: &BfRange) -> bool {
+    let Some(unit) = declared.units.as_slice().last() else {
+        return false;
+    };
+    let Range { start, end } = declared.range;
+    let further = end.saturating_sub(start);
+    u32::from(*unit % 256).saturating_add(further) > 255
 }

@@ -15,6 +15,8 @@ pub enum Warning {
     InvertedRange,
     /// Ranges have ends that differ in another byte than the last. Adobe Technical Note 5014.
     CrossesRow,
+    /// Texts of a range have a last byte that counts on past 255. ISO 32000-1, 9.10.3.
+    LastByte,
     /// Declarations of texts give none for one of their codes.
     NoText,
     /// Texts have characters for private use.
@@ -31,8 +33,18 @@ pub enum Warning {
     NameDiffers,
     /// A name ends in `-V`, and the writing mode isn't vertical.
     ModeDiffers,
-    /// The number before a section isn't that of its entries, or is above 100.
+    /// The number before a section isn't that of its entries.
     CountDiffers,
+    /// Sections have more than 100 entries. Adobe Technical Note 5014.
+    LongSection,
+    /// After `begincmap` comes no `endcmap`. Adobe Technical Note 5014.
+    NoEndcmap,
+    /// Codes have a length that no codespace range has.
+    CodeLength,
+    /// Hexadecimal strings of entries have an odd number of digits.
+    OddDigits,
+    /// Destinations have an odd number of bytes.
+    OddText,
 }
 
 /// All warnings, in the order in which they are reported.
@@ -43,6 +55,7 @@ pub const WARNINGS: &[Warning] = &[
     Warning::Overlap,
     Warning::InvertedRange,
     Warning::CrossesRow,
+    Warning::LastByte,
     Warning::NoText,
     Warning::PrivateUse,
     Warning::Noncharacter,
@@ -52,6 +65,11 @@ pub const WARNINGS: &[Warning] = &[
     Warning::NameDiffers,
     Warning::ModeDiffers,
     Warning::CountDiffers,
+    Warning::LongSection,
+    Warning::NoEndcmap,
+    Warning::CodeLength,
+    Warning::OddDigits,
+    Warning::OddText,
 ];
 
 impl Warning {
@@ -64,6 +82,7 @@ impl Warning {
             Warning::Overlap => "overlap",
             Warning::InvertedRange => "inverted-range",
             Warning::CrossesRow => "crosses-row",
+            Warning::LastByte => "last-byte",
             Warning::NoText => "no-text",
             Warning::PrivateUse => "private-use",
             Warning::Noncharacter => "noncharacter",
@@ -73,6 +92,11 @@ impl Warning {
             Warning::NameDiffers => "name-differs",
             Warning::ModeDiffers => "mode-differs",
             Warning::CountDiffers => "count-differs",
+            Warning::LongSection => "long-section",
+            Warning::NoEndcmap => "no-endcmap",
+            Warning::CodeLength => "code-length",
+            Warning::OddDigits => "odd-digits",
+            Warning::OddText => "odd-text",
         }
     }
 

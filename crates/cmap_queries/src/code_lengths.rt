@@ -36,14 +36,25 @@ pub fn last_code(len: CodeLength) -> u32 {
     }
 }
 
-/// How many bytes the codes of a range need.
-pub fn fewest_bytes(range: Range) -> u8 {
-    match range.start.max(range.end) {
+/// How many bytes a code needs.
+fn byte_count(code: u32) -> u8 {
+    match code {
         0..0x100 => 1,
         0x100..0x1_0000 => 2,
         0x1_0000..0x100_0000 => 3,
         _ => 4,
     }
+}
+
+/// How many bytes the codes of a range need.
+pub fn fewest_bytes(range: Range) -> u8 {
+    byte_count(range.start.max(range.end))
+}
+
+/// How many bytes a code of a declaration for codes of `byte_len` bytes is printed with: so many, or as many as it
+/// needs. A declaration has the length of its first code, and its last one may need more.
+pub fn printed_len(byte_len: u8, code: u32) -> u8 {
+    byte_len.max(byte_count(code))
 }
 
 /// How many bytes the codes of a text are printed with, for which a file's declaration has no length:

@@ -3,28 +3,40 @@
 use cmap_binary::{is_marked_binary, salvage_binary};
 use cmap_text::salvage_text;
 use cmap_values::file::Salvaged;
-use hayro_cmap::{Bundle, CMap, NamedFile, NamedFiles};
+use hayro_cmap::{Bundle, CMap, Cause, NamedFile, NamedFiles, Refusal};
 use std::alloc::{AllocError, Global};
 
 /// The names that the file of each layer uses, the top layer first. The map is that of a file of these
-/// bytes over `files`, and has this number of layers.
+/// bytes over `files`, read past these faults, and has this number of layers. A file that passes the budget
+/// isn't read, and uses none.
 pub fn uses_by_layer<'f, N: NamedFile>(
     alloc: Global,
     bytes: &'f [u8],
     files: &NamedFiles<'f, N, Bundle<'f>>,
+    faults: &[Refusal<'f>],
     layers: usize,
 ) -> Result<Vec<Vec<&'f [u8]>>, AllocError> {
     let mut uses = Vec::new(alloc);
+    let mut path = Vec::new(alloc);
     let mut next = Some(bytes);
     for _ in 0..layers {
         let Some(file) = next else {
             break;
         };
-        let names = uses_of(alloc, file, files.bundle)?;
-        next = base_of(files, &names);
+        let names = if is_over_budget(faults, &path) {
+            Vec::new(alloc)
+        } else {
+            uses_of(alloc, file, files.bundle)?
+        };
+        next = open_base(files, faults, &names, &mut path)?;
         uses.push(names)?;
     }
     Ok(uses)
+}
+
+/// Whether the file that these names lead to passes the budget. Such a file has one fault, wherever it is used.
+fn is_over_budget(faults: &[Refusal<'_>], path: &[&[u8]]) -> bool {
+    faults.iter().any(|fault| fault.cause == Cause::OverBudget && fault.names.last() == path.last())
 }
 
 /// The names that a file uses. The file may have faults.
@@ -54,10 +66,33 @@ fn salvaged<'d>(
     }
 }
 
-/// The file under one that uses these names: the file of the last.
-fn base_of<'f, N: NamedFile>(
+/// The file under one that uses these names, and that the path leads to. Its name is added to the path.
+fn open_base<'f, N: NamedFile>(
     files: &NamedFiles<'f, N, Bundle<'f>>,
-    names: &[&[u8]],
-) -> Option<&'f [u8]> {
-    files.find(names.last()?)
+    faults: &[Refusal<'f>],
+    names: &[&'f [u8]],
+    path: &mut Vec<&'f [u8]>,
+) -> Result<Option<&'f [u8]>, AllocError> {
+    let Some(name) = base_of(faults, names, path.as_slice()) else {
+        return Ok(None);
+    };
+    path.push(name)?;
+    Ok(files.find(name))
+}
+
+/// The name of that file: the last one, or the one under which a chain was too long, since the uses after it
+/// are passed over.
+fn base_of<'f>(faults: &[Refusal<'f>], names: &[&'f [u8]], path: &[&'f [u8]]) -> Option<&'f [u8]> {
+    match too_long(faults) {
+        Some(chain) if chain.starts_with(path) => chain.get(path.len()).copied(),
+        _ => names.last().copied(),
+    }
+}
+
+/// The names of the chain that was too long, if one was.
+fn too_long<'a, 'f>(faults: &'a [Refusal<'f>]) -> Option<&'a [&'f [u8]]> {
+    let fault = faults
+        .iter()
+        .find(|fault| fault.cause == Cause::ChainLength)?;
+    Some(fault.names.as_slice())
 }

@@ -7,7 +7,7 @@ use cmap_escape::digits::{code_digits, push_code};
 use cmap_escape::escape::push_quoted;
 use cmap_escape::json;
 use cmap_escape::object::Object;
-use cmap_queries::code_lengths::text_code_len;
+use cmap_queries::code_lengths::{printed_len, text_code_len};
 use cmap_queries::texts::text_string;
 use hayro_cmap::runs::Range;
 use hayro_cmap::{BfRange, CMap, utf16};
@@ -95,12 +95,12 @@ pub fn push_line(out: &mut String, line: &Line) -> Result<(), AllocError> {
     out.push('\n')
 }
 
-/// Adds a range of codes as `<8140> <817E>`.
+/// Adds a range of codes as `<8140> <817E>`. The last one has more bytes where it needs them.
 pub(crate) fn push_range(out: &mut String, byte_len: u8, range: Range) -> Result<(), AllocError> {
     out.push('<')?;
     push_code(out, byte_len, range.start)?;
     out.push_str("> <")?;
-    push_code(out, byte_len, range.end)?;
+    push_code(out, printed_len(byte_len, range.end), range.end)?;
     out.push('>')
 }
 
@@ -137,13 +137,14 @@ pub fn push_json(
 
 fn line_object(alloc: Global, line: Line, layer: Option<usize>) -> Result<Value, AllocError> {
     let Range { start, end } = line.range;
+    let end_len = printed_len(line.byte_len, end);
     let mut object = Object::new(alloc);
     if let Some(layer) = layer {
         object.set("layer", Value::from(layer));
     }
     object.set_text("kind", line.given.kind());
     object.set_string("first", code_digits(alloc, line.byte_len, start));
-    object.set_string("last", code_digits(alloc, line.byte_len, end));
+    object.set_string("last", code_digits(alloc, end_len, end));
     set_given(&mut object, line.given);
     object.finish()
 }
