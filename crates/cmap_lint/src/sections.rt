@@ -174,7 +174,7 @@ fn parts_of(section: Section) -> usize
     }
 }
 
-/// What a string is that follows so many parts of entries of a section.
+/// What a string is that comes after `parts` parts of a section.
 fn part_of(section: Section, parts: usize) -> Part {
     let further = parts % parts_of(section);
     match section {

@@ -60,7 +60,7 @@ impl<'m> Strings<'m> {
         Ok(())
     }
 
-    /// Whether a codespace range has codes of so many bytes.
+    /// Whether a codespace range has codes of `byte_len` bytes.
     fn has_codespace(&self, byte_len: usize) -> bool {
         LENGTHS.iter().any(|len| usize::from(len.count()) == byte_len && *self.lengths.get(*len))
     }

@@ -51,8 +51,8 @@ pub fn fewest_bytes(range: Range) -> u8 {
     byte_count(range.start.max(range.end))
 }
 
-/// How many bytes a code of a declaration for codes of `byte_len` bytes is printed with: so many, or as many as it
-/// needs. A declaration has the length of its first code, and its last one may need more.
+/// How many bytes a code of a declaration for codes of `byte_len` bytes is printed with: these, or more if it needs
+/// more. A declaration has the length of its first code, and its last one may be longer.
 pub fn printed_len(byte_len: u8, code: u32) -> u8 {
     byte_len.max(byte_count(code))
 }
