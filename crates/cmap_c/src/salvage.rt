@@ -122,9 +122,12 @@ fn salvage_owned(
         (IsSalvageOver (option_copied bundle.entry) files.now «data».now budget)) }
 {
     let source = NamedFiles { files, bundle };
-    match salvaged_layers(alloc, budget, data, tables_of(bundle), &source) {
-        Ok(SalvagedLayers { layers, faults }) => Salvaged::of(alloc, layers, &faults),
-        // By `?` each clause would be shown again of the error.
-        Err(error) => Err(error),
-    }
+    let SalvagedLayers { layers, faults } = salvaged_layers(
+        alloc,
+        budget,
+        data,
+        tables_of(bundle),
+        &source,
+    )?;
+    Salvaged::of(alloc, layers, &faults)
 }

@@ -72,11 +72,8 @@ pub(crate) fn open_file<'a>(
         × Leaves left.old (length bytes.now) left.new)
         (FailsToOpen (tables_given bundle.entry) bytes.now left.old left.new) result }
 {
-    match spend(left, bytes.len()) {
-        Ok(()) => read_within(alloc, bytes, bundle),
-        // By `?` each clause would be shown again of the error.
-        Err(fault) => Err(fault),
-    }
+    spend(left, bytes.len())?;
+    read_within(alloc, bytes, bundle)
 }
 
 /// The same, where the budget has room for the file.
@@ -140,14 +137,9 @@ fn find_used<'a, S: Source>(
 {
     search.names.push(name)?;
     let bytes = file_used(name, source, below)?;
-    match find_layers(alloc, bytes, bundle, source, below - 1, search) {
-        Ok(layers) => {
-            search.names.pop();
-            Ok(layers)
-        }
-        // By `?` each clause would be shown again of the error.
-        Err(fault) => Err(fault),
-    }
+    let layers = find_layers(alloc, bytes, bundle, source, below - 1, search)?;
+    search.names.pop();
+    Ok(layers)
 }
 
 /// The file that a use names. It is refused where `below` is 0, since no file may stand under the one
@@ -181,14 +173,8 @@ fn put_over_found(
         ≡ layer_of (file_seen file.entry) ∷ layers_seen base.items) (λ cause. ⊥) result)
         (λ fault. result ≡ Err fault) }
 {
-    match base {
-        Ok(base) => match layer_over(alloc, file.metadata, file.lists, base) {
-            Ok(layers) => Ok(layers),
-            Err(AllocError) => Err(Fault::Memory),
-        },
-        // By `?` each clause would be shown again of the error.
-        Err(fault) => Err(fault),
-    }
+    let layers = layer_over(alloc, file.metadata, file.lists, base?)?;
+    Ok(layers)
 }
 
 /// A layer over those that it is based on.

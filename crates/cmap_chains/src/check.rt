@@ -31,15 +31,10 @@ fn check_file<'a, S: Source>(
     ensures { ChecksFile (tables_given bundle.entry) (S.answers source.now) below bytes.now
         search.old search.new result }
 {
-    match open_file(alloc, bytes, bundle, &mut search.left) {
-        Ok(file) => {
-            let height = check_uses(alloc, &file.uses, bundle, source, below, search);
-            drop(file);
-            height
-        }
-        // By `?` each clause would be shown again of the error.
-        Err(fault) => Err(fault),
-    }
+    let file = open_file(alloc, bytes, bundle, &mut search.left)?;
+    let height = check_uses(alloc, &file.uses, bundle, source, below, search);
+    drop(file);
+    height
 }
 
 /// How many files stand in the longest chain that begins at one of these uses.

@@ -24,8 +24,6 @@ use std::alloc::{AllocError, Global};
 /// The layers of the CMap file `data`, its own first, then those of the file that it is based on, and
 /// so on; or why there are none: the file at fault, by the names that lead to it, and what is wrong
 /// with it. No more bytes are opened than `budget`; `None` is no budget.
-///
-/// A caller whose `Source` says what it answers to each name meets both premises.
 pub fn read_layers<'a, S: Source>(
     alloc: Global,
     budget: Option<u64>,
@@ -33,6 +31,7 @@ pub fn read_layers<'a, S: Source>(
     bundle: Option<&Bundle<'_>>,
     source: &'a S,
 ) -> Result<Layers, Fault<Refusal<'a>>>
+    // A caller whose `Source` says what it answers to each name meets both premises.
     requires can_ask { S.can_ask source.now }
     requires by_name { IsByName (S.answers source.now) }
     ensures accepts { IfOk result
@@ -106,7 +105,7 @@ pub fn open_layers<'a, S: Source>(
         Some(data) => {
             match read_layers(alloc, budget, data, bundle, source) {
                 Ok(layers) => Ok(Some(layers)),
-                // By `?` each clause would be shown again of the error.
+                // In place of `?`, which is dearer to prove.
                 Err(fault) => Err(fault),
             }
         }

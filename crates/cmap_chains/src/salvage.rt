@@ -78,17 +78,12 @@ pub fn salvaged_layers<'a, S: Source>(
         (λ found. All (λ fault. length fault.names.items ≤ 16) found.faults.items) }
 {
     let mut walk = Walk::new(alloc, budget);
-    match salvage_file(alloc, data, bundle, source, MOST_FILES - 1, true, &mut walk) {
-        Ok(file) => {
-            let faults = walk.faults;
-            Ok(SalvagedLayers {
-                layers: Layers::of(file.layers),
-                faults: faults.list,
-            })
-        }
-        // By `?` each clause would be shown again of the error.
-        Err(AllocError) => Err(AllocError),
-    }
+    let file = salvage_file(alloc, data, bundle, source, MOST_FILES - 1, true, &mut walk)?;
+    let faults = walk.faults;
+    Ok(SalvagedLayers {
+        layers: Layers::of(file.layers),
+        faults: faults.list,
+    })
 }
 
 /// How far the reading of files over files has come.

@@ -5,13 +5,13 @@ ghost use Rattle.std.specs.Option.{option_copied};
 
 /// What finds the bytes of a file by the text of its name.
 ///
-/// What its files answer is stated by `answers`, so that a caller's own contract can name it. That of
-/// a function, as `CMap::parse` takes one, has no name.
+/// It answers a name alike each time it is asked. Which map comes out else isn't specified.
 pub trait Source {
     /// It may be asked any text.
     ghost can_ask: { Self → Type 0 };
 
-    /// Asked for this text, it may answer these bytes.
+    /// Asked for this text, it may answer these bytes. So a caller's own contract can name what it
+    /// answers; what a function answers, as `CMap::parse` takes one, has no name.
     ghost answers: { Self → List ℕ → Option (List ℕ) → Type 0 };
 
     /// The file of this name; `None` where there is none.

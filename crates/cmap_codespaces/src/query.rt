@@ -22,7 +22,7 @@ pub struct Query {
 }
 
 impl Query {
-    /// The ranges with codes of `byte_len` bytes that may begin with these.
+    /// The ranges with codes of `byte_len` bytes, from 1 to 4, that may begin with these, at most four.
     pub fn of_front(byte_len: u8, front: &[u8]) -> Query
         requires length { IsCodeLength byte_len }
         requires few { length front.now ≤ 4 }

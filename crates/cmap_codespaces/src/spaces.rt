@@ -91,7 +91,8 @@ impl Spaces {
         &self.list
     }
 
-    /// How many bytes the codes have at least of the ranges that may begin with these bytes.
+    /// How many bytes the codes have at least of the ranges that may begin with these bytes, at most
+    /// four.
     pub fn fewest_with_front(&self, front: &[u8]) -> Option<u8>
         requires { length front.now ≤ 4 }
         ensures { IsLeast (λ n. IsCodeLength n

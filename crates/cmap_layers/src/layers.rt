@@ -11,7 +11,7 @@ use std::alloc::{AllocError, Global};
 use std::marker::Model;
 
 /// The layers of a map, at least one and at most 16: the file's own first, then those of the file
-/// that it is based on, and so on. A clause sees the list of them.
+/// that it is based on, and so on.
 ///
 /// What codes stand for is decided by the first layer that says something of them.
 #[derive(Debug, Drop)]
@@ -19,6 +19,7 @@ pub struct Layers {
     list: Vec<Layer>,
 }
 
+// A clause sees the list of them.
 impl Model for Layers {
     ghost use Rattle.std.specs.Prelude.{List, ◌<◌, ◌≤◌, length};
     ghost use Rattle.cmap_layers.specs.Layers.{Layer};
@@ -33,7 +34,7 @@ impl Model for Layers {
 }
 
 impl Layers {
-    /// These layers, the top one first.
+    /// These layers, the top one first: at least one, and at most 16.
     pub fn of(list: Vec<Layer>) -> Layers
         requires { (0 < length list.items) × (length list.items ≤ 16) }
         ensures { result ≡ layers_seen list.items }

@@ -103,10 +103,10 @@ fn text_of(alloc: Global, found: &BfRange, offset: u32) -> Result<Option<BfStrin
     ensures err { OnErr result (IsSomeAnd (text_at (units_seen found.now.units) offset)
         (λ characters. 1 < length characters)) }
 {
-    if let Units::One(units) = &found.units
-        && let Some(character) = one_char(units, offset)
-    {
-        return Ok(Some(BfString::Char(character)));
+    if let Units::One(units) = &found.units {
+        if let Some(character) = one_char(units, offset) {
+            return Ok(Some(BfString::Char(character)));
+        }
     }
     text(alloc, found.units.as_slice(), offset)
 }

@@ -93,7 +93,7 @@ fn end_in_row(first: u32, last: u32, len: usize) -> usize
     requires { first ≤ last }
     ensures { result ≡ min (last - first + 1) len }
 {
-    ((last - first) as usize + 1).min(len)
+    (u64::from(last - first) + 1).min(len as u64) as usize
 }
 
 /// Writes what a declaration gives to the codes from `code` on, which it contains.

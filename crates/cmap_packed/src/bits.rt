@@ -8,9 +8,9 @@ ghost use Rattle.cmap_packed.specs.PrefixWords.{bits};
 use cmap_values::code_length::read_code;
 use std::marker::Model;
 
-/// Bytes, and how far they have been read. Bits are taken from the high bit of each byte on, and
-/// whole bytes only where no byte is begun (`at_byte`). A call that answers `None` takes nothing,
-/// and none takes memory. A clause sees the bytes and how many bits have been taken.
+/// Bytes, and how far they have been read. Bits are taken from the high bit of each byte on. Whole
+/// bytes are taken only where no byte is begun (`at_byte`); what the calls that read them answer else
+/// isn't specified. A call that answers `None` takes nothing, and none takes memory.
 #[derive(Debug, Drop)]
 pub struct Reader<'a> {
     bytes: &'a [u8],
@@ -20,6 +20,7 @@ pub struct Reader<'a> {
     bit: u32,
 }
 
+// A clause sees the bytes, and how many bits have been taken.
 impl<'a> Model for Reader<'a> {
     ghost use Rattle.std.specs.Prelude.{ℕ, ◌+◌, ◌*◌, ◌<◌, ◌≤◌, length};
     ghost use Rattle.cmap_packed.specs.Reader.{Reading};

@@ -14,14 +14,14 @@ use cmap_values::names::CMapName;
 use std::alloc::{AllocError, Global};
 use std::marker::Model;
 
-/// A bundle with copies of its files, so that it outlives the bytes that were parsed. A clause sees
-/// its tables and its files.
+/// A bundle with copies of its files, so that it outlives the bytes that were parsed.
 #[derive(Debug, Drop)]
 pub struct OwnedBundle {
     without_files: Bundle<'static>,
     files: Vec<Vec<u8>>,
 }
 
+// A clause sees its tables and its files.
 impl Model for OwnedBundle {
     ghost use Rattle.std.specs.Prelude.{◌≡◌, []};
     ghost use Rattle.cmap_packed.specs.BundleSeen.{tables_seen};

@@ -16,8 +16,7 @@ use std::fmt;
 use std::marker::Model;
 
 /// Symbols, each spelled by a word of 1 to 32 bits, so that bits can be read word by word. A row
-/// of bits need not begin with a word. A clause sees the symbols in the order of their words,
-/// each with the length of its word in bits.
+/// of bits need not begin with a word.
 #[derive(Drop)]
 pub struct PrefixTable {
     /// How many words there are of each length, from 1 on.
@@ -27,6 +26,7 @@ pub struct PrefixTable {
     known: Vec<Result<Word, Search>>,
 }
 
+// A clause sees the symbols in the order of their words, each with the length of its word in bits.
 impl Model for PrefixTable {
     ghost use Rattle.std.specs.Prelude.{◌≡◌, List, length};
     ghost use Rattle.cmap_packed.specs.PrefixWords.{CodeWord};
@@ -59,7 +59,7 @@ impl PrefixTable {
     /// where bytes are missing, a word is longer than 32 bits, or there are more words than fit.
     ///
     /// It fails only if memory runs out. Only a table moves the reader, to the byte after
-    /// it.
+    /// it. No byte of the reader is begun, as for all calls that read bytes.
     pub fn parse_delta(
         alloc: Global,
         reader: &mut Reader<'_>,

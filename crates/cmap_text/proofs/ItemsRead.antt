@@ -2,15 +2,16 @@
 use Rattle.std.proofs.Common.{◌≡◌, ℕ, zero, suc, ◌<◌, ◌≤◌, Bool, true, false, refl, sym, ap, ◌∙◌, subst, List, [], ◌∷◌, length, arith, inl, inr}
 use Rattle.std.proofs.lemmas.Bool.{cases_Bool, false≢true}
 use Rattle.std.proofs.lemmas.Option.{none-some, same_Some}
-use Rattle.std.specs.Prelude.{◌⊎◌, ◌↔◌, Contains, IsTrue, MatchOption, find, flat_map, is_some, Option, Some, None, Ok, option_map}
+use Rattle.std.proofs.lemmas.Slice.Eq.{bytes_eq-Decides}
+use Rattle.std.specs.Prelude.{◌⊎◌, ◌↔◌, Contains, IsTrue, MatchOption, bytes_eq, find, flat_map, is_some, Option, Some, None, Ok, option_map}
 use Rattle.cmap_values.specs.Only.{HoldsOfNone, IsOnly}
 use Rattle.cmap_tokens.specs.Tokens.{Token}
 use Rattle.cmap_tokens.specs.TokensLeft.{EndedToken, Left}
 use Rattle.cmap_values.specs.declared.fault.Reason.TheVariants.{UseWithoutName}
 use Rattle.cmap_text.specs.TextFiles.{Section, cids, mapped, notdef, range, keys, opener, use_word, Item, key, entries, use_of_base, other, IsKey, IsOtherToken, Opens, IsItem, AreItems}
 use Rattle.cmap_text.specs.TokenParsers.{after, followed_by, ItemParser, reads, done, giving, wanted, takes_value, next_in, repeated, repeated_within, round, run_item}
-use Rattle.cmap_text.specs.TextReading.{adding, all_said, body_in, is_executable, is_literal, item_after, item_said, key_in, opened_by, Said, sections, with_key, with_lists, with_other, with_use}
-use Rattle.cmap_text.proofs.TokensRead.{some_bound, is_executable-found, is_literal-found}
+use Rattle.cmap_text.specs.TextReading.{adding, all_said, body_in, is_executable, item_after, item_said, key_in, opened_by, Said, sections, with_key, with_lists, with_other, with_use}
+use Rattle.cmap_text.proofs.TokensRead.{some_bound, is_executable-found}
 use Rattle.cmap_text.proofs.TokenParsers.{bound, same_Ok, err-ok, having, length-words, words, Implies, Means, Relation, IsThere, is_there, IsFound, is_found, known, then_found, repeated_next, wrong_there}
 use Rattle.cmap_text.proofs.EntriesRead.{entries_there, entries_found}
 use Rattle.cmap_text.proofs.ItemsSaid.{says, says_all}
@@ -35,7 +36,7 @@ opened_by-own _ = refl
 pub opened_by-found : (t : Token) (section : Section) → opened_by t ≡ Some section → t ≡ opening section
 opened_by-found t section is = is_executable-found (opener section) t (found_in (λ s. is_executable (opener s) t) sections section is).1
 
-key_in-own : (k : List ℕ) → Contains keys k → key_in (Token.Name true k) ≡ Some k
+pub key_in-own : (k : List ℕ) → Contains keys k → key_in (Token.Name true k) ≡ Some k
 key_in-own k (zero, less, is) = rw (← is) refl
 key_in-own k (suc zero, less, is) = rw (← is) refl
 key_in-own k (suc (suc zero), less, is) = rw (← is) refl
@@ -44,7 +45,8 @@ key_in-own k (suc (suc (suc (suc zero))), less, is) = rw (← is) refl
 key_in-own k (suc (suc (suc (suc (suc i)))), less, is) = absurd (omega arith)
 
 pub key_in-found : (t : Token) (k : List ℕ) → key_in t ≡ Some k → Contains keys k × (t ≡ Token.Name true k)
-key_in-found t k is = let (contained, named) = found_in (λ j. is_literal j t) keys k is in (contained, is_literal-found k t named)
+key_in-found (Token.Name true name) k is = let (contained, named) = found_in (bytes_eq name) keys k is in (contained, ap (Token.Name true) ((bytes_eq-Decides name k).0 named))
+key_in-found _ k is = absurd (none-some k is)
 
 -- a key is what is found as one, and a section what a token opens
 pub is_key_if : (t : Token) (found : Option (List ℕ)) → key_in t ≡ found → IsTrue (is_some found) ↔ IsKey t

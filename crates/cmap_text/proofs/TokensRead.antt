@@ -11,7 +11,7 @@ use Rattle.cmap_tokens.proofs.StringValues.{IsValue-read, IsValue-from}
 use Rattle.cmap_tokens.specs.Texts.{units_of}
 use Rattle.cmap_tokens.specs.Tokens.{Token}
 use Rattle.cmap_text.specs.TextFiles.{IsCode, IsCid, IsDestination}
-use Rattle.cmap_text.specs.TextReading.{Code, code_of, code_in, cid_in, destination_of, destination_in, is_executable, is_literal, value_in}
+use Rattle.cmap_text.specs.TextReading.{Code, code_of, code_in, cid_in, destination_of, destination_in, is_executable, value_in}
 
 pub some_bound : {A B : Type 0} (f : A → Option B) (o : Option A) (y : B) → option_and_then f o ≡ Some y → (x : A) × (o ≡ Some x) × (f x ≡ Some y)
 some_bound f None y is = absurd (none-some y is)
@@ -32,10 +32,6 @@ is_executable-found name _ is = cc
 
 pub is_executable-own : (name : List ℕ) → is_executable name (Token.Name false name) ≡ true
 is_executable-own name = (bytes_eq-Decides name name).1 refl
-
-pub is_literal-found : (name : List ℕ) (t : Token) → is_literal name t ≡ true → t ≡ Token.Name true name
-is_literal-found name (Token.Name true bytes) is = ap (Token.Name true) ((bytes_eq-Decides bytes name).0 is)
-is_literal-found name _ is = cc
 
 -- ---- codes, CIDs and destinations
 -- a code of these bytes

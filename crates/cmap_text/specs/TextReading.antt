@@ -15,14 +15,10 @@ use Rattle.cmap_text.specs.TokenParsers.{Found, Refused, offset_of, Parser, done
 use Rattle.cmap_text.specs.TextFiles.{Extent, range, single, Section, codespace_range, cids, bf_range, bf_char, mapped, notdef, keys, opener, closer, use_word, declares_bf, declares_cid, other, literal_head, Values}
 
 -- ---- single tokens
--- whether a token is this executable name, or this literal one
+-- whether a token is this executable name
 abbrev pub is_executable : List ℕ → Token → Bool
 is_executable name (Token.Name false bytes) = bytes_eq bytes name
 is_executable name _ = false
-
-abbrev pub is_literal : List ℕ → Token → Bool
-is_literal name (Token.Name true bytes) = bytes_eq bytes name
-is_literal name _ = false
 
 -- the bytes of a string
 abbrev pub value_in : Token → Option (List ℕ)
@@ -128,9 +124,14 @@ sections = cids mapped range ∷ cids mapped single ∷ bf_range ∷ bf_char ∷
 abbrev pub opened_by : Token → Option Section
 opened_by t = find (λ section. is_executable (opener section) t) sections
 
+-- the key of a name
+abbrev pub key_named : List ℕ → Option (List ℕ)
+key_named name = find (bytes_eq name) keys
+
 -- the key that a token is
 abbrev pub key_in : Token → Option (List ℕ)
-key_in t = find (λ k. is_literal k t) keys
+key_in (Token.Name true name) = key_named name
+key_in _ = None
 
 -- what items say, as far as they are read
 pub record Said : Type 0 where

@@ -131,11 +131,10 @@ pub(crate) fn add_bf_range(
     let end = reader.next_code()?;
     match reader.plain_destination() {
         Some(units) => add_text(lists, start.number, end.number, units),
-        None => match reader.required_token() {
-            Ok(token) => add_texts(reader, &token, start.number, end.number, lists),
-            // By `?` each clause would be shown again of the error.
-            Err(fault) => Err(fault),
-        },
+        None => {
+            let token = reader.required_token()?;
+            add_texts(reader, &token, start.number, end.number, lists)
+        }
     }
 }
 
@@ -205,16 +204,11 @@ fn add_destinations(
 fn pass_closing_bracket(reader: &mut TokenReader<'_>) -> Result<(), Fault<WrongToken>>
     ensures { (start : ℕ) (lists : declared.Lists) → ReadsAs (run (list_in 0 start lists) reader.old) (λ done. (lists, reader.new)) reader.new result }
 {
-    match reader.required_token() {
-        Ok(token) => {
-            if is_executable(&token, b"]") {
-                Ok(())
-            } else {
-                Err(wrong(Reason::BracketExpected))
-            }
-        }
-        // By `?` each clause would be shown again of the error.
-        Err(fault) => Err(fault),
+    let token = reader.required_token()?;
+    if is_executable(&token, b"]") {
+        Ok(())
+    } else {
+        Err(wrong(Reason::BracketExpected))
     }
 }
 

@@ -1,14 +1,13 @@
 //! Keys: literal names that take the next token as their value.
 
-ghost use Rattle.std.specs.Prelude.{◌≡◌, ◌↔◌, IfOk, IsTrue, option_map};
+ghost use Rattle.std.specs.Prelude.{◌≡◌, ◌↔◌, IfOk, IsTrue, is_some, option_map};
 ghost use Rattle.cmap_tokens.specs.TokenSeen.{token_seen};
 ghost use Rattle.cmap_values.specs.MetadataSeen.{collection_seen, metadata_seen, mode_seen};
 ghost use Rattle.cmap_values.specs.Only.{IsOnly};
 ghost use Rattle.cmap_text.specs.TextFiles.{GivesText, IsCollection, IsKey, IsMetadata, collection_of, mode_in, name_in, supplement_in};
-ghost use Rattle.cmap_text.specs.TextReading.{key_in, no_values, with_value};
+ghost use Rattle.cmap_text.specs.TextReading.{key_in, key_named, no_values, with_value};
 ghost use Rattle.cmap_text.specs.TextSeen.{key_name, values_seen};
 
-use crate::tokens::is_literal;
 use cmap_tokens::token::{Number, Token};
 use cmap_values::character_collection::{CharacterCollection, CidFamily};
 use cmap_values::metadata::Metadata;
@@ -30,15 +29,25 @@ impl Key {
     pub(crate) fn of(token: &Token<'_>) -> Option<Key>
         ensures { option_map key_name result ≡ key_in (token_seen token.now) }
     {
-        if is_literal(token, b"Registry") {
+        match token {
+            Token::Name(name) if name.is_literal() => Key::named(name.as_bytes()),
+            _ => None,
+        }
+    }
+
+    /// The key of this name.
+    fn named(name: &[u8]) -> Option<Key>
+        ensures { option_map key_name result ≡ key_named name.now }
+    {
+        if name == b"Registry".as_slice() {
             Some(Key::Registry)
-        } else if is_literal(token, b"Ordering") {
+        } else if name == b"Ordering".as_slice() {
             Some(Key::Ordering)
-        } else if is_literal(token, b"Supplement") {
+        } else if name == b"Supplement".as_slice() {
             Some(Key::Supplement)
-        } else if is_literal(token, b"CMapName") {
+        } else if name == b"CMapName".as_slice() {
             Some(Key::CMapName)
-        } else if is_literal(token, b"WMode") {
+        } else if name == b"WMode".as_slice() {
             Some(Key::WMode)
         } else {
             None
@@ -51,6 +60,13 @@ pub fn is_key(token: &Token<'_>) -> bool
     ensures { IsTrue result ↔ IsKey (token_seen token.now) }
 {
     Key::of(token).is_some()
+}
+
+/// Whether a literal name with these bytes is a key.
+pub fn is_key_name(name: &[u8]) -> bool
+    ensures { result ≡ is_some (key_named name.now) }
+{
+    Key::named(name).is_some()
 }
 
 /// The last value of each key; it is absent where there is no key, and after a key that ends the file.

@@ -12,6 +12,6 @@ mod wrong_token;
 
 pub use entries::{CidKind, Extent};
 pub use file::read_text;
-pub use keys::is_key;
+pub use keys::{is_key, is_key_name};
 pub use salvage::salvage_text;
 pub use sections::{Section, opened_section};

@@ -53,8 +53,23 @@ impl Section {
         }
     }
 
+    /// The name that opens it.
+    pub fn opener(self) -> &'static [u8]
+        ensures { result.now ≡ files.opener (section_seen self) }
+    {
+        match self {
+            Section::Codespaces => b"begincodespacerange",
+            Section::Cids(CidKind::Cid, Extent::Range) => b"begincidrange",
+            Section::Cids(CidKind::Cid, Extent::Single) => b"begincidchar",
+            Section::Cids(CidKind::Notdef, Extent::Range) => b"beginnotdefrange",
+            Section::Cids(CidKind::Notdef, Extent::Single) => b"beginnotdefchar",
+            Section::BfRange => b"beginbfrange",
+            Section::BfChar => b"beginbfchar",
+        }
+    }
+
     /// The name that closes it.
-    pub(crate) fn closer(self) -> &'static [u8]
+    pub fn closer(self) -> &'static [u8]
         ensures { result.now ≡ files.closer (section_seen self) }
     {
         match self {
@@ -185,11 +200,8 @@ pub(crate) fn next_start(
     if let Some(code) = reader.short_code() {
         return Ok(Some(code));
     }
-    match reader.required_token() {
-        Ok(token) => code_or_closer(reader, &token, section),
-        // By `?` each clause would be shown again of the error.
-        Err(fault) => Err(fault),
-    }
+    let token = reader.required_token()?;
+    code_or_closer(reader, &token, section)
 }
 
 /// The code that a token is, of those that an entry of a section begins with; `None` of the closer.

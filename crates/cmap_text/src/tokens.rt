@@ -14,7 +14,7 @@ ghost use Rattle.cmap_tokens.specs.TokenSeen.{malformed_seen, string_raw, token_
 ghost use Rattle.cmap_tokens.specs.TokensLeft.{Left, start_of, tokens_of};
 ghost use Rattle.cmap_text.specs.EntriesSeen.{ReadsAs};
 ghost use Rattle.cmap_text.specs.TextFiles.{literal_head, other};
-ghost use Rattle.cmap_text.specs.TextReading.{cid_in, code_fault, code_in, code_of, destination_in, is_executable, is_literal, next_cid, next_code, next_destination};
+ghost use Rattle.cmap_text.specs.TextReading.{cid_in, code_fault, code_in, code_of, destination_in, is_executable, next_cid, next_code, next_destination};
 ghost use Rattle.cmap_text.specs.TextSeen.{code_seen};
 ghost use Rattle.cmap_text.specs.TokenParsers.{malformed_reason, next_in, or_wrong, run, token_in};
 
@@ -35,13 +35,14 @@ pub(crate) struct Code {
     pub(crate) number: u32,
 }
 
-/// Reads the tokens of a text; a clause sees what is left of it.
+/// Reads the tokens of a text.
 #[derive(Drop)]
 pub(crate) struct TokenReader<'d> {
     scanner: Scanner<'d>,
     decoder: Decoder,
 }
 
+// A clause sees what is left of it.
 impl<'d> Model for TokenReader<'d> {
     ghost use Rattle.cmap_tokens.specs.TokensLeft.{Left, tokens_of};
 
@@ -139,11 +140,8 @@ impl<'d> TokenReader<'d> {
         if let Some(code) = self.plain_code() {
             return Ok(code);
         }
-        match self.required_token() {
-            Ok(token) => self.code(&token),
-            // By `?` each clause would be shown again of the error.
-            Err(fault) => Err(fault),
-        }
+        let token = self.required_token()?;
+        self.code(&token)
     }
 
     /// The units of the destination that a token is: a string that isn't empty.
@@ -197,11 +195,8 @@ impl<'d> TokenReader<'d> {
         if let Some(units) = self.plain_destination() {
             return Ok(units);
         }
-        match self.required_token() {
-            Ok(token) => self.destination(&token),
-            // By `?` each clause would be shown again of the error.
-            Err(fault) => Err(fault),
-        }
+        let token = self.required_token()?;
+        self.destination(&token)
     }
 
     /// The CID that comes next: an integer of 32 bits without sign.
@@ -212,11 +207,8 @@ impl<'d> TokenReader<'d> {
         if let Some(number) = self.scanner.next_decimal() {
             return cid_of_number(number);
         }
-        match self.required_token() {
-            Ok(token) => cid_of(&token).ok_or(wrong(Reason::CidExpected)),
-            // By `?` each clause would be shown again of the error.
-            Err(fault) => Err(fault),
-        }
+        let token = self.required_token()?;
+        cid_of(&token).ok_or(wrong(Reason::CidExpected))
     }
 
     /// How many bytes of the text have been read.
@@ -393,16 +385,6 @@ pub(crate) fn is_executable(token: &Token<'_>, name: &[u8]) -> bool
 {
     match token {
         Token::Name(found) => !found.is_literal() && found.as_bytes() == name,
-        _ => false,
-    }
-}
-
-/// Whether a token is this literal name.
-pub(crate) fn is_literal(token: &Token<'_>, name: &[u8]) -> bool
-    ensures { result ≡ is_literal name.now (token_seen token.now) }
-{
-    match token {
-        Token::Name(found) => found.is_literal() && found.as_bytes() == name,
         _ => false,
     }
 }

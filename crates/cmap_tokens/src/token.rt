@@ -13,6 +13,7 @@ mod pieces;
 mod unclosed;
 mod values;
 
+pub use self::byte_class::is_regular;
 use self::gaps::gap_len;
 use self::lengths::malformed_len;
 use self::numerals::{blank_decimal, short_decimal};
@@ -186,14 +187,14 @@ pub enum Malformed {
 }
 
 /// Reads the tokens of a text in order. White space and comments separate them and aren't tokens
-/// (PostScript Language Reference, third edition, 3.2.1). A clause sees the text and how many of
-/// its bytes have been passed.
+/// (PostScript Language Reference, third edition, 3.2.1).
 #[derive(Debug, Drop)]
 pub struct Scanner<'a> {
     source: &'a [u8],
     offset: usize,
 }
 
+// A clause sees the text, and how many of its bytes have been passed.
 impl<'a> Model for Scanner<'a> {
     ghost use Rattle.std.specs.Prelude.{◌≤◌, length};
     ghost use Rattle.cmap_tokens.specs.Scanner.{Cursor};
@@ -373,14 +374,10 @@ impl<'a> Scanner<'a> {
             (λ token. LeavesAfter (token_seen token) self.old self.new))
             (λ malformed. LeavesMalformed (malformed_seen malformed) self.old) }
     {
-        match first_token(&self.source[self.offset..]) {
-            Ok(Some((token, len))) => {
-                self.offset += len;
-                Ok(Some(token))
-            }
-            Ok(None) => Ok(None),
-            // By `?` each clause would be shown again of the error.
-            Err(malformed) => Err(malformed),
-        }
+        let Some((token, len)) = first_token(&self.source[self.offset..])? else {
+            return Ok(None);
+        };
+        self.offset += len;
+        Ok(Some(token))
     }
 }

@@ -1,5 +1,6 @@
 -- What contracts see of declarations.
 use Rattle.std.specs.Prelude.{List, map}
+use Rattle.std.specs.Global.{Vec}
 use Rattle.cmap_runs.specs.Ranges.{Span}
 use Rattle.cmap_values.specs.CodeLengths.{length_of}
 use Rattle.cmap_values.specs.Files as files
@@ -30,10 +31,13 @@ codespace_seen space = record { len = length_of space.len; low = space.low; high
 abbrev pub entries_seen : List CidRange → List files.CidEntry
 entries_seen declarations = map cid_entry_seen declarations
 
+abbrev pub by_length_seen : ByLength (Vec CidRange) → files.ByLength
+by_length_seen lists = record { one = entries_seen lists.one.items; two = entries_seen lists.two.items; three = entries_seen lists.three.items; four = entries_seen lists.four.items }
+
 abbrev pub lists_seen : Lists → files.Lists
 lists_seen lists = record {
-  cids = record { one = entries_seen lists.cids.one.items; two = entries_seen lists.cids.two.items; three = entries_seen lists.cids.three.items; four = entries_seen lists.cids.four.items };
-  notdefs = record { one = entries_seen lists.notdefs.one.items; two = entries_seen lists.notdefs.two.items; three = entries_seen lists.notdefs.three.items; four = entries_seen lists.notdefs.four.items };
+  cids = by_length_seen lists.cids;
+  notdefs = by_length_seen lists.notdefs;
   bfs = map bf_entry_seen lists.bfs.items;
   spaces = map codespace_seen lists.spaces.items;
 }

@@ -13,3 +13,4 @@ pub mod Files
 pub mod DeclarationsSeen
 pub mod FilesSeen
 pub mod ListsAppended
+pub mod ListsByKind

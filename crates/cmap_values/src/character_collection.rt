@@ -57,10 +57,10 @@ impl CidFamily {
             (λ family. family_seen family ≡ family_of registry.now ordering.now) }
         ensures err { OnErr result (IsCustom (family_of registry.now ordering.now)) }
     {
-        if registry == ADOBE
-            && let Some(family) = CidFamily::of_adobe(ordering)
-        {
-            return Ok(family);
+        if registry == ADOBE {
+            if let Some(family) = CidFamily::of_adobe(ordering) {
+                return Ok(family);
+            }
         }
         CidFamily::custom(alloc, registry, ordering)
     }

@@ -44,12 +44,12 @@ use std::alloc::{AllocError, Global};
 use std::marker::{Model, PhantomData};
 
 /// What the codes of a CMap file stand for: the layers of the file and of those that it is based on.
-/// A clause sees the list of them, the top one first.
 #[derive(Debug, Drop)]
 pub struct CMap {
     layers: Layers,
 }
 
+// A clause sees the list of them, the top one first.
 impl Model for CMap {
     ghost use Rattle.std.specs.Prelude.{List};
     ghost use Rattle.cmap_layers.specs.Layers.{Layer};
@@ -76,6 +76,8 @@ impl CMap {
     /// and only after the file has been read whole. Each use needs its file, also one that a later
     /// use replaces. A file takes the layers of the last one that it uses. With a bundle, a file that
     /// begins with `bcmap` is read as binary, by the bundle's tables; all others are texts.
+    ///
+    /// It has to answer a name alike each time. Which map comes out else isn't specified.
     pub fn parse<'a, F>(
         alloc: Global,
         data: &[u8],
@@ -140,8 +142,6 @@ impl CMap {
 
     /// The map that `parse_within` gives, where the files that others use come from a `Source`; or why
     /// there is none: the file at fault, by the names that lead to it, and what is wrong with it.
-    ///
-    /// A caller whose `Source` says what it answers to each name meets both premises.
     pub fn parse_from<'a, S: Source>(
         alloc: Global,
         budget: Option<u64>,
@@ -149,6 +149,7 @@ impl CMap {
         bundle: Option<&Bundle<'_>>,
         source: &'a S,
     ) -> Result<CMap, Fault<Refusal<'a>>>
+        // A caller whose `Source` says what it answers to each name meets both premises.
         requires can_ask { S.can_ask source.now }
         requires by_name { IsByName (S.answers source.now) }
         ensures accepts { IfOk result
@@ -175,11 +176,8 @@ impl CMap {
             (names_seen refusal.names.items) refusal.cause)) }
         ensures few { IfErr result (RefusesWith (λ refusal. length refusal.names.items ≤ 16)) }
     {
-        match read_layers(alloc, budget, data, bundle, source) {
-            Ok(layers) => Ok(CMap { layers }),
-            // By `?` each clause would be shown again of the error.
-            Err(fault) => Err(fault),
-        }
+        let layers = read_layers(alloc, budget, data, bundle, source)?;
+        Ok(CMap { layers })
     }
 
     /// The map of the file of this name, which `source` answers: it is read as `parse_from` reads it, so
@@ -214,11 +212,9 @@ impl CMap {
             (names_seen refusal.names.items) refusal.cause)) }
         ensures few { IfErr result (RefusesWith (λ refusal. length refusal.names.items ≤ 16)) }
     {
-        match open_layers(alloc, budget, name, bundle, source) {
-            Ok(Some(layers)) => Ok(Some(CMap { layers })),
-            Ok(None) => Ok(None),
-            // By `?` each clause would be shown again of the error.
-            Err(fault) => Err(fault),
+        match open_layers(alloc, budget, name, bundle, source)? {
+            Some(layers) => Ok(Some(CMap { layers })),
+            None => Ok(None),
         }
     }
 
@@ -259,14 +255,13 @@ impl CMap {
         ensures few { IfOk result
             (λ found. All (λ fault. length fault.names.items ≤ 16) found.faults.items) }
     {
-        match salvaged_layers(alloc, budget, data, bundle, source) {
-            Ok(SalvagedLayers { layers, faults }) => Ok(SalvagedMap {
-                map: CMap { layers },
-                faults,
-            }),
-            // By `?` each clause would be shown again of the error.
-            Err(error) => Err(error),
-        }
+        let SalvagedLayers { layers, faults } = salvaged_layers(
+            alloc, budget, data, bundle, source,
+        )?;
+        Ok(SalvagedMap {
+            map: CMap { layers },
+            faults,
+        })
     }
 
     /// The names of the files that the CMap file `data` uses, in order; `None` where it is outside the

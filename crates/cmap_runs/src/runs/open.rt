@@ -11,13 +11,14 @@ use std::marker::Model;
 
 /// The index of the declaration of each open range, with its last code. One whose index is no less
 /// than those on the stack comes on top of it, without a search for its place; any other goes into
-/// the heap. A clause sees all of them.
+/// the heap.
 #[derive(Drop)]
 pub(super) struct OpenRanges {
     stack: Vec<(usize, u32)>,
     heap: BinaryHeap<(usize, u32)>,
 }
 
+// A clause sees all of them.
 impl Model for OpenRanges {
     ghost use Rattle.std.specs.Prelude.{ℕ, List, ◌++◌};
     ghost use Rattle.std.specs.BinaryHeap.{heap_items};
@@ -62,10 +63,10 @@ impl OpenRanges {
     fn is_seen_to_cover(&self, range: &Run) -> bool
         ensures { result ≡ true → IsCovered self.now range.now }
     {
-        if let Some(top) = self.stack.last()
-            && is_covered_by(range, top)
-        {
-            return true;
+        if let Some(top) = self.stack.last() {
+            if is_covered_by(range, top) {
+                return true;
+            }
         }
         match self.heap.peek() {
             Some(top) => is_covered_by(range, top),

@@ -21,8 +21,7 @@ pub struct Stretch<'t, T> {
     pub last: u32,
 }
 
-/// The codes of 32 bits from one on, which are taken stretch by stretch. A clause sees the
-/// declarations, and the next code.
+/// The codes of 32 bits from one on, which are taken stretch by stretch.
 #[derive(Drop)]
 pub struct Stretches<'t, T: HasRange> {
     held: &'t Held<T>,
@@ -31,6 +30,7 @@ pub struct Stretches<'t, T: HasRange> {
     next: u64,
 }
 
+// A clause sees the declarations, and the next code.
 impl<'t, T: HasRange> Model for Stretches<'t, T> {
     ghost use Rattle.std.specs.Prelude.{◌≡◌, map};
     ghost use Rattle.cmap_runs.specs.Ranges.{runs_of};

@@ -18,8 +18,7 @@ use std::marker::Model;
 
 /// A list of declarations, in which the last one that contains a code is found in a list of runs: by a
 /// count of bits for the first codes, and by halving for others. A run is a row of codes that one
-/// declaration decides, as long as can be. A clause sees the list. Indices count from 0, and codes are
-/// numbers of 32 bits.
+/// declaration decides, as long as can be. Indices count from 0, and codes are numbers of 32 bits.
 ///
 /// Where the ranges lie apart, they are the runs, and nothing but their order is held beside the
 /// declarations. A look at such a run reads the range of its declaration, and counts as a look at
@@ -30,6 +29,7 @@ pub struct Table<T: HasRange> {
     blocks: Blocks,
 }
 
+// A clause sees the list.
 impl<T: HasRange> Model for Table<T> {
     ghost use Rattle.std.specs.Prelude.{◌≡◌, ◌-◌, ◌*◌, ◌≤◌, List, length, map};
     ghost use Rattle.cmap_runs.specs.Blocks.{AreBlocks};
@@ -134,7 +134,7 @@ impl<T: HasRange> Table<T> {
     }
 
     /// The first code of the run at `i`, its last code and the index of the declaration that
-    /// decides them.
+    /// decides them. `i` is below `run_count`; a larger one panics.
     pub fn run(&self, i: usize, looks: &mut Looks) -> (u32, u32, usize)
         requires { i < length (runs_of (map T.span self.now)) }
         ensures run { slice_get (runs_of (map T.span self.now)) i
@@ -146,7 +146,7 @@ impl<T: HasRange> Table<T> {
         (run.low, run.high, run.index)
     }
 
-    /// The declaration at index `i`.
+    /// The declaration at index `i`, which is below `decl_count`; a larger one panics.
     pub fn decl(&self, i: usize, looks: &mut Looks) -> &T
         requires { i < length self.now }
         ensures declaration { slice_get self.now i ≡ Some result.now }

@@ -110,7 +110,9 @@ pub(super) fn is_white(byte: u8) -> bool
     CLASSES[byte as usize] & WHITE != 0
 }
 
-pub(super) fn is_regular(byte: u8) -> bool
+/// Whether a byte is regular: neither white space nor a delimiter. PostScript Language Reference,
+/// third edition, 3.2.2.
+pub fn is_regular(byte: u8) -> bool
     ensures { result ≡ bytes.is_regular byte }
 {
     CLASSES[byte as usize] & REGULAR != 0

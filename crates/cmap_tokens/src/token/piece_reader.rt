@@ -33,8 +33,8 @@ pub struct MalformedPiece {
     pub offset: usize,
 }
 
-/// Reads the pieces of a text in order, with white space and comments between them. A clause sees those
-/// that are left. All pieces together take time in proportion to the length of the text.
+/// Reads the pieces of a text in order, with white space and comments between them. All pieces together
+/// take time in proportion to the length of the text.
 #[derive(Drop)]
 pub struct PieceReader<'a> {
     alloc: Global,
@@ -43,6 +43,7 @@ pub struct PieceReader<'a> {
     unclosed: Unclosed,
 }
 
+// A clause sees the pieces that are left.
 impl<'a> Model for PieceReader<'a> {
     ghost use Rattle.std.specs.Prelude.{◌≤◌, List, length};
     ghost use Rattle.std.specs.List.{All};
@@ -59,7 +60,7 @@ impl<'a> Model for PieceReader<'a> {
 }
 
 impl<'a> PieceReader<'a> {
-    ghost use Rattle.std.specs.Prelude.{◌≡◌, ◌∷◌, [], IfOk, MatchOption};
+    ghost use Rattle.std.specs.Prelude.{◌≡◌, ◌∷◌, [], IfOk, MatchOption, OnErr};
     ghost use Rattle.cmap_tokens.specs.Pieces.{pieces_left};
     ghost use Rattle.cmap_tokens.specs.TokensLeft.{start_of};
     ghost use Rattle.cmap_tokens.specs.TokenSeen.{piece_seen};
@@ -78,10 +79,11 @@ impl<'a> PieceReader<'a> {
 
     /// The next piece; `None` where only white space and comments are left.
     ///
-    /// It fails only if memory runs out.
+    /// It fails only if memory runs out, and then leaves the reader in place.
     pub fn next_piece(&mut self) -> Result<Option<Piece<'a>>, AllocError>
-        ensures { IfOk result (λ found. MatchOption found (self.old ≡ [])
+        ensures piece { IfOk result (λ found. MatchOption found ((self.old ≡ []) × (self.new ≡ []))
             (λ piece. self.old ≡ piece_seen piece ∷ self.new)) }
+        ensures stays { OnErr result (self.new ≡ self.old) }
     {
         let start = self.offset + gap_len(&self.source[self.offset..]);
         if start >= self.source.len() {

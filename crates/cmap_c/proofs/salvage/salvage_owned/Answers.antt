@@ -12,15 +12,15 @@ use Rattle.cmap_c.specs.Salvaged.{AreFaultsShown, IsSalvage, IsSalvageOver, IsSa
 use Rattle.cmap_c.specs.declared.salvage.Salvaged.{Salvaged}
 use Rattle.cmap_c.proofs.salvage.salvage_owned.Goals as goal
 
-pub returns-in-Ok : goal.returns-in-Ok
+pub returns : goal.returns
 unfolding IsSalvageOver
-returns-in-Ok c =
-    let found = c.in-Ok.field-0 in
+returns c =
+    let found = c.in_ok-layers.field-0 in
     let faults = faults_seen c.deref.result.now in
     let same : c.deref.result.now ≡ found.faults.items = c.deref.ensures.value in
     let names = answers (option_copied c.args.bundle) c.args.files.now in
     let said : IsSalvage (tables_given c.tables_of.result) names c.args.data.now c.args.budget found.layers (faults_seen found.faults.items) =
-    record { says = c.in-Ok.ensures.says; right = c.in-Ok.ensures.right; wrong = c.in-Ok.ensures.wrong } in
+    record { says = c.in_ok-layers.ensures.says; right = c.in_ok-layers.ensures.right; wrong = c.in_ok-layers.ensures.wrong } in
     let says : (map : List Layer) → map ≡ found.layers → IsSalvageOver (option_copied c.args.bundle) c.args.files.now c.args.data.now c.args.budget map faults =
     λ map is. rw (is, same) (subst (λ (tables : Option PrefixTables). IsSalvage tables names c.args.data.now c.args.budget found.layers (faults_seen found.faults.items)) c.tables_of.ensures said) in
     IfOk-weaker c.of.result (λ (made : Salvaged). (made.map.value ≡ found.layers) × AreFaultsShown faults made.shown) (IsSalvagedWith (IsSalvageOver (option_copied c.args.bundle) c.args.files.now c.args.data.now c.args.budget))
@@ -30,4 +30,4 @@ pub salvaged_layers-requires-clause-by_name : goal.salvaged_layers-requires-clau
 salvaged_layers-requires-clause-by_name c _ _ _ one other = one ∙ sym other
 
 pub of-requires : goal.of-requires
-of-requires c = subst (All (λ (fault : Refusal). length fault.names.items ≤ 16)) (sym c.deref.ensures.value) c.in-Ok.ensures.few
+of-requires c = subst (All (λ (fault : Refusal). length fault.names.items ≤ 16)) (sym c.deref.ensures.value) c.in_ok-layers.ensures.few

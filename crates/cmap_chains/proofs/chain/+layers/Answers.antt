@@ -85,19 +85,17 @@ find_used-returns-in_err-bytes g t c =
     passed_on _ _ _ c.from_residual-in_err-bytes.ensures.1 c.in_err-bytes.ensures.1
     (stops_missing (tables_given c.args.bundle) (g.S.Source.answers c.args.source.now) c.args.below c.requires.by_name c.args.search.now c.push.new.self c.args.name c.in_ok-push.ensures.items)
 
-pub find_used-returns-in-Err : goal.find_used-returns-in-Err
-find_used-returns-in-Err g t c =
-    let (some, said) = c.in_ok-bytes.ensures.0 in (
-      tt,
-      refused_as c.in-Err.fault c.in-Err.ensures.1
-          (stops_use (tables_given c.args.bundle) (g.S.Source.answers c.args.source.now) c.args.below c.requires.by_name (c.args.below - 1) (room_left c.args.below some)
-          c.args.search.now c.find_layers.new.search c.push.new.self c.args.name c.in_ok-push.ensures.items c.in_ok-bytes.bytes.now said),
-    )
-
-pub find_used-returns-in-Ok : goal.find_used-returns-in-Ok
-find_used-returns-in-Ok g t c =
+pub find_used-returns-in_err-layers : goal.find_used-returns-in_err-layers
+find_used-returns-in_err-layers g t c =
     let (some, said) = c.in_ok-bytes.ensures.0 in
-    let found = c.in-Ok.ensures.0 in (
+    passed_on _ _ _ c.from_residual-in_err-layers.ensures.1 c.in_err-layers.ensures.1
+    (stops_use (tables_given c.args.bundle) (g.S.Source.answers c.args.source.now) c.args.below c.requires.by_name (c.args.below - 1) (room_left c.args.below some)
+    c.args.search.now c.find_layers.new.search c.push.new.self c.args.name c.in_ok-push.ensures.items c.in_ok-bytes.bytes.now said)
+
+pub find_used-returns : goal.find_used-returns
+find_used-returns g t c =
+    let (some, said) = c.in_ok-bytes.ensures.0 in
+    let found = c.in_ok-layers.ensures.0 in (
       (
         Resolves-answered _ _ c.requires.by_name c.args.name.now c.args.search.now.left c.args.below (c.args.below - 1) (room_left c.args.below some) c.in_ok-bytes.bytes.now said _ _ found.0,
         names_back c.args.search.now.names.items c.push.new.self.items c.find_layers.new.search.names.items c.pop.new.self.items c.args.name c.in_ok-push.ensures.items found.1 (rw c.find_layers.new.search.names.ok.0 at c.pop.ensures.rest),

@@ -10,5 +10,5 @@ outcome_as : {A R : Type 0} {P Q : A → Type 0} {F G : R → Type 0} (result : 
 outcome_as (Ok x) is found fails = (found x is.0, tt)
 outcome_as (Err fault) is found fails = (tt, refused_as fault is.1 fails)
 
-pub returns-in-Ok : goal.returns-in-Ok
-returns-in-Ok c = outcome_as c.read_within.result c.read_within.ensures (λ file only. (only, c.in-Ok.ensures.spent)) (λ cause fails. fails c.args.left.now c.spend.new.left c.in-Ok.ensures.spent)
+pub returns : goal.returns
+returns c = outcome_as c.read_within.result c.read_within.ensures (λ file only. (only, c.in_ok-spend.ensures.spent)) (λ cause fails. fails c.args.left.now c.spend.new.left c.in_ok-spend.ensures.spent)

@@ -15,16 +15,15 @@ use Rattle.cmap_chains.proofs.Stopped.{stops_missing, stops_to_open, stops_use, 
 use Rattle.cmap_chains.proofs.UsedAgain.{IsKnown-from_found, known-more}
 use Rattle.cmap_chains.proofs.check.+check.Goals as goal
 
-pub check_file-returns-in-Err : goal.check_file-returns-in-Err
-check_file-returns-in-Err g t c = (
-  tt,
-  refused_as c.in-Err.fault c.in-Err.ensures.1 (stops_to_open (tables_given c.args.bundle) (g.S.Source.answers c.args.source.now) c.args.below c.args.bytes.now c.args.search.now c.open_file.new.left),
-)
+pub check_file-returns-in_err-file : goal.check_file-returns-in_err-file
+check_file-returns-in_err-file g t c =
+    passed_on _ _ _ c.from_residual.ensures.1 c.in_err-file.ensures.1
+    (stops_to_open (tables_given c.args.bundle) (g.S.Source.answers c.args.source.now) c.args.below c.args.bytes.now c.args.search.now c.open_file.new.left)
 
-pub check_file-returns-in-Ok : goal.check_file-returns-in-Ok
-check_file-returns-in-Ok g t c =
-    let opens = c.in-Ok.ensures.0 in
-    checks_file (tables_given c.args.bundle) (g.S.Source.answers c.args.source.now) c.args.below c.args.bytes.now (file_seen c.in-Ok.file) c.open_file.new.left c.args.search.now _ _ opens.0 opens.1
+pub check_file-returns : goal.check_file-returns
+check_file-returns g t c =
+    let opens = c.in_ok-file.ensures.0 in
+    checks_file (tables_given c.args.bundle) (g.S.Source.answers c.args.source.now) c.args.below c.args.bytes.now (file_seen c.in_ok-file.file) c.open_file.new.left c.args.search.now _ _ opens.0 opens.1
     (rw c.deref.ensures.value at c.check_uses-height.ensures)
 
 pub check_uses-loop-name-init : goal.check_uses-loop-name-init

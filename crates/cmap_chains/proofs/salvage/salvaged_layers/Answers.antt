@@ -18,14 +18,14 @@ salvage_file-requires g c =
 
 pub of-requires : goal.of-requires
 of-requires g c =
-    let says = walks_map (tables_given c.args.bundle) (g.S.Source.answers c.args.source.now) c.args.«data».now c.args.budget c.new-walk.result c.salvage_file.new.walk c.in-Ok.file c.new-walk.ensures.names c.new-walk.ensures.faults c.new-walk.ensures.opening c.in-Ok.ensures in
-    map_fits (tables_given c.args.bundle) (g.S.Source.answers c.args.source.now) c.args.«data».now c.args.budget c.in-Ok.file.layers.items _ says
+    let says = walks_map (tables_given c.args.bundle) (g.S.Source.answers c.args.source.now) c.args.«data».now c.args.budget c.new-walk.result c.salvage_file.new.walk c.in_ok-file.file c.new-walk.ensures.names c.new-walk.ensures.faults c.new-walk.ensures.opening c.in_ok-file.ensures in
+    map_fits (tables_given c.args.bundle) (g.S.Source.answers c.args.source.now) c.args.«data».now c.args.budget c.in_ok-file.file.layers.items _ says
 
-pub returns-in-Ok : goal.returns-in-Ok
-returns-in-Ok g c =
+pub returns : goal.returns
+returns g c =
     let tables = tables_given c.args.bundle in let answers = g.S.Source.answers c.args.source.now in let bytes = c.args.«data».now in
     let faults = c.salvage_file.new.walk.faults.list.items in
-    let walked = walks_map tables answers bytes c.args.budget c.new-walk.result c.salvage_file.new.walk c.in-Ok.file c.new-walk.ensures.names c.new-walk.ensures.faults c.new-walk.ensures.opening c.in-Ok.ensures in
+    let walked = walks_map tables answers bytes c.args.budget c.new-walk.result c.salvage_file.new.walk c.in_ok-file.file c.new-walk.ensures.names c.new-walk.ensures.faults c.new-walk.ensures.opening c.in_ok-file.ensures in
     let says : SalvagesMap tables answers bytes c.args.budget c.of.result (faults_seen faults) = rw c.of.ensures walked in
     record {
       says = says;

@@ -5,7 +5,7 @@ use Rattle.cmap_values.specs.DeclarationsSeen.{lists_seen}
 use Rattle.cmap_text.specs.TextSeen.{code_seen}
 use Rattle.cmap_text.specs.TokenParsers.{token_in}
 use Rattle.cmap_text.proofs.EntrySteps.{range_ends, range_texts, texts_made}
-use Rattle.cmap_text.proofs.Refusals.{handed_on, made_so, never_refused, passed_on}
+use Rattle.cmap_text.proofs.Refusals.{made_so, never_refused, passed_on}
 use Rattle.cmap_text.proofs.entries.add_bf_range.Goals as goal
 
 pub returns-in_err-end : goal.returns-in_err-end
@@ -23,16 +23,16 @@ returns-in-Some c =
       stays = never_refused c.add_text.result _ c.add_text.ensures.fails;
     }
 
-pub returns-in-Ok : goal.returns-in-Ok
-returns-in-Ok c =
-    let reads = ap token_in (sym c.in-None.ensures) ∙ c.in-Ok.ensures.0 in
+pub returns-in_ok-token-in-None : goal.returns-in_ok-token-in-None
+returns-in_ok-token-in-None c =
+    let reads = ap token_in (sym c.in-None.ensures) ∙ c.in_ok-token-in-None.ensures.0 in
     record {
-      adds = rw (range_texts (code_seen c.args.start) (code_seen c.in_ok-end.end) (lists_seen c.args.lists.now) c.args.reader.now c.next_code.new.self c.in_ok-end.ensures.0 (token_seen c.in-Ok.token) c.required_token.new.self reads) c.add_texts.ensures.adds;
+      adds = rw (range_texts (code_seen c.args.start) (code_seen c.in_ok-end.end) (lists_seen c.args.lists.now) c.args.reader.now c.next_code.new.self c.in_ok-end.ensures.0 (token_seen c.in_ok-token-in-None.token) c.required_token.new.self reads) c.add_texts.ensures.adds;
       stays = c.add_texts.ensures.stays;
     }
 
-pub returns-in-Err : goal.returns-in-Err
-returns-in-Err c = record {
-  adds = (tt, handed_on c.in-Err.fault c.required_token.new.self _ _ c.in-Err.ensures.1 (λ e is. range_ends (code_seen c.args.start) (code_seen c.in_ok-end.end) (lists_seen c.args.lists.now) c.args.reader.now c.next_code.new.self c.in_ok-end.ensures.0 e (ap token_in (sym c.in-None.ensures) ∙ is)));
+pub returns-in_err-token-in-None : goal.returns-in_err-token-in-None
+returns-in_err-token-in-None c = record {
+  adds = passed_on c.from_residual-in_err-token-in-None.result _ _ c.required_token.new.self _ _ c.from_residual-in_err-token-in-None.ensures.1 c.in_err-token-in-None.ensures.1 (λ e is. range_ends (code_seen c.args.start) (code_seen c.in_ok-end.end) (lists_seen c.args.lists.now) c.args.reader.now c.next_code.new.self c.in_ok-end.ensures.0 e (ap token_in (sym c.in-None.ensures) ∙ is));
   stays = λ wrong is. refl;
 }

@@ -11,12 +11,12 @@ pub loop-reader-preserved : goal.loop-reader-preserved
 unfolding take_all
 loop-reader-preserved c =
     let rest : List Piece = c.next_piece.new.self in
-    let is : c.loop-reader.reader ≡ piece_seen c.in-Some.piece ∷ rest = rw c.in-Some.is at c.in_ok-piece.ensures in
+    let is : c.loop-reader.reader ≡ piece_seen c.in-Some.piece ∷ rest = rw c.in-Some.is at c.in_ok-piece.ensures.piece in
     ap (λ now. take_all now rest) c.in_ok-state.ensures ∙ ap (take_all (state_seen c.loop-reader.state, found_seen c.loop-reader.self)) (sym is) ∙ c.loop-reader.invariant
 
 pub returns : goal.returns
 unfolding take_all
 returns c =
-    let none : c.loop-reader.reader ≡ [] = rw c.in_default.is at c.in_ok-piece.ensures in
+    let none : c.loop-reader.reader ≡ [] = (rw c.in_default.is at c.in_ok-piece.ensures.piece).0 in
     let now : State × Salvaged = (state_seen c.loop-reader.state, found_seen c.loop-reader.self) in
     if_ok c.finish.result _ _ (λ done is start. is ∙ ap (finished (length c.args.text.now)) (ap (take_all now) (sym none) ∙ c.loop-reader.invariant ∙ ap (λ f. take_all (item, f) (pieces_left (start_of c.args.text.now))) start)) c.finish.ensures

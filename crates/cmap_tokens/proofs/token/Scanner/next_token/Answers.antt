@@ -1,4 +1,4 @@
-use Rattle.std.proofs.Common.{◌≡◌, Option, Some, None, Result, Ok, Err, ap, sym, ◌∙◌, refl, subst}
+use Rattle.std.proofs.Common.{◌≡◌, Option, Some, None, Result, Ok, Err, IsErrAnd, ap, sym, ◌∙◌, refl, subst}
 use Rattle.std.proofs.lemmas.Bool.{false≢true}
 use Rattle.std.proofs.lemmas.List.{take_rest}
 use Rattle.cmap_tokens.specs.Gaps.{IsBlank}
@@ -15,23 +15,27 @@ some_not_none x e = cc
 err_not_none : {A E : Type 0} (x : E) → ◌≡◌ {A = Result (Option A) E} (Err x) (Ok None) → ⊥
 err_not_none x e = cc
 
-pub returns-in-Err : goal.returns-in-Err
-returns-in-Err c =
+err_is : {A E : Type 0} (r : Result A E) (x : E) → IsErrAnd r (λ e. e ≡ x) → r ≡ Err x
+err_is (Ok y) x is = absurd is
+err_is (Err e) x is = ap Err is
+
+pub returns-in_err-token : goal.returns-in_err-token
+returns-in_err-token c =
     let rest = take_rest _ c.self.inside.offset ∙ ap rest_of c.self.view_is in
-    let malformed = subst IsMalformed rest c.in-Err.ensures.outcome.0 in
-    let kind = c.in-Err.ensures.outcome.1 ∙ ap (λ t. malformed_kind (after_gap t)) rest in
-    record {
+    let malformed = subst IsMalformed rest c.in_err-token.ensures.outcome.0 in
+    let kind = c.in_err-token.ensures.outcome.1 ∙ ap (λ t. malformed_kind (after_gap t)) rest in
+    rw (err_is c.from_residual.result _ c.from_residual.ensures.1) (record {
       token = tt;
       end = (λ e. absurd (err_not_none _ e), λ blank. absurd (malformed.0 blank));
       malformed = (λ e. malformed, λ h. refl);
       end_stays = λ _. refl;
       err_stays = refl;
       left = let (none, is) = leaves_malformed _ malformed in (none, is ∙ sym kind);
-    }
+    })
 
-pub returns-in-Ok-None : goal.returns-in-Ok-None
-returns-in-Ok-None c =
-    let blank = subst IsBlank (take_rest _ c.self.inside.offset ∙ ap rest_of c.self.view_is) (rw c.in-Ok-None.field-0-is at c.in-Ok-None.ensures.outcome) in
+pub returns-in_default : goal.returns-in_default
+returns-in_default c =
+    let blank = subst IsBlank (take_rest _ c.self.inside.offset ∙ ap rest_of c.self.view_is) (rw c.in_default.is at c.in_ok-token.ensures.outcome) in
     record {
       token = tt;
       end = (λ e. blank, λ h. refl);
@@ -41,9 +45,9 @@ returns-in-Ok-None c =
       left = leaves_blank _ blank;
     }
 
-pub returns-in-Ok-Some : goal.returns-in-Ok-Some
-returns-in-Ok-Some c =
-    let read = read_token _ _ _ c.in-Ok-Some.len _ c.self.view_is (take_rest _ c.self.inside.offset) (rw c.in-Ok-Some.field-0-is at c.in-Ok-Some.ensures.outcome) in
+pub returns : goal.returns
+returns c =
+    let read = read_token _ _ _ c.in-Some.len _ c.self.view_is (take_rest _ c.self.inside.offset) (rw c.in-Some.is at c.in_ok-token.ensures.outcome) in
     record {
       token = read;
       end = (λ e. absurd (some_not_none _ e), λ blank. absurd (front_not_blank read.2.front blank));

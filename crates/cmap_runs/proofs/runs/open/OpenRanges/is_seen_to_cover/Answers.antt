@@ -6,8 +6,8 @@ use Rattle.cmap_runs.specs.OpenRanges.{Ascend}
 use Rattle.cmap_runs.proofs.OpenEnds.{Ascend-top}
 use Rattle.cmap_runs.proofs.runs.open.OpenRanges.is_seen_to_cover.Goals as goal
 
-pub returns : goal.returns
-returns c = λ _.
+pub returns-then-is_covered_by : goal.returns-then-is_covered_by
+returns-then-is_covered_by c = λ _.
     let top = c.in-Some.top.now in let covered = c.is_covered_by.ensures c.if-is_covered_by.true in
     let last = Ascend-top c.deref.result.now top (subst Ascend (sym c.deref.ensures.value) c.self.invariant.0) (sym c.in-Some.ensures.value) in
     let on_stack = subst (λ ends. Contains ends top) c.deref.ensures.value last.is in

@@ -5,13 +5,14 @@ use Rattle.cmap_tokens.specs.TokenSeen.{piece_token_seen}
 use Rattle.cmap_tokens.proofs.PiecesLeft.{left_none, left_piece}
 use Rattle.cmap_tokens.proofs.token.piece_reader.PieceReader.next_piece.Goals as goal
 
-pub returns-then-start-self : goal.returns-then-start-self
-returns-then-start-self c =
+pub returns-then-start-self-clause-piece : goal.returns-then-start-self-clause-piece
+returns-then-start-self-clause-piece c =
     let source = c.self.inside.source.now in
-    sym c.self.view_is ∙ left_none source c.self.inside.offset c.gap_len.result (c.gap_len.ensures.exact ∙ ap (gap_len false) (take_rest source c.self.inside.offset)) c.if-start-self.true
+    let none = sym c.self.view_is ∙ left_none source c.self.inside.offset c.gap_len.result (c.gap_len.ensures.exact ∙ ap (gap_len false) (take_rest source c.self.inside.offset)) c.if-start-self.true in
+    (none, none)
 
-pub returns : goal.returns
-returns c =
+pub returns-clause-piece : goal.returns-clause-piece
+returns-clause-piece c =
     let source = c.self.inside.source.now in
     let gap = c.gap_len.ensures.exact ∙ ap (gap_len false) (take_rest source c.self.inside.offset) in
     sym c.self.view_is
