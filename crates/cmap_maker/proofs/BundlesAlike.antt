@@ -1,6 +1,6 @@
 -- A file over a bundle that is made answers as it does over the texts.
-use Rattle.std.proofs.Common.{◌≡◌, ◌≢◌, ℕ, ◌<◌, Bool, true, false, refl, sym, ap, ◌∙◌, subst, List, [], ◌∷◌, ◌++◌, drop, get_or, length, take, inl, inr, Option, Some, None, arith}
-use Rattle.std.specs.Prelude.{◌⊎◌, ◌↔◌, All, bytes_eq, codes, option_and_then, slice_get, if◌then◌else◌}
+use Rattle.std.proofs.Common.{◌≡◌, ◌≢◌, ℕ, ◌<◌, refl, sym, ap, ◌∙◌, subst, List, [], ◌∷◌, ◌++◌, drop, get_or, length, take, inl, inr, Option, Some, None, arith}
+use Rattle.std.specs.Prelude.{All, bytes_eq, codes, option_and_then, slice_get}
 use Rattle.std.specs.Borrow.{Bor}
 use Rattle.std.specs.Option.{option_copied}
 use Rattle.std.proofs.lemmas.Bool.{cases_Bool}
@@ -11,19 +11,16 @@ use Rattle.std.proofs.lemmas.Slice.Eq.{bytes_eq-Decides}
 use Rattle.std.proofs.lemmas.Option.{none-some, same_Some, slice_get-get_or}
 use Rattle.cmap_values.specs.CMapNames.{index_of_name}
 use Rattle.cmap_values.specs.Names.{index_of_text, known_names}
-use Rattle.cmap_values.specs.Only.{IsOnly}
 use Rattle.cmap_values.specs.Files.{File}
 use Rattle.cmap_values.specs.FilesSeen.{file_seen}
 use Rattle.cmap_text.specs.TextFiles.{IsTextFile}
 use Rattle.cmap_packed.specs.Bundles.{Bundle, IsBundle, PrefixTables, no_file_bytes}
-use Rattle.cmap_packed.specs.Fronts.{FramedAt}
 use Rattle.cmap_packed.proofs.FrontsAlone.{ArePrefixFree, tables_free}
-use Rattle.cmap_binary.specs.BinaryFiles.{BodyOf, IsBinaryFile, IsMarkedBinary, magic}
+use Rattle.cmap_binary.specs.BinaryFiles.{IsBinaryFile, IsMarkedBinary, magic}
 use Rattle.cmap_binary.proofs.OneFile.{one_file}
-use Rattle.cmap_layers.specs.Layers.{Layer}
 use Rattle.cmap_chains.specs.Answers.{embedded, unless_absent}
 use Rattle.cmap_chains.specs.Layers.{Means}
-use Rattle.cmap_writer.specs.Keeps.{AnswerAlike, KeepLists, Keeps}
+use Rattle.cmap_writer.specs.Keeps.{AnswerAlike, Keeps}
 use Rattle.cmap_writer.proofs.FileKept.{keeps}
 use Rattle.cmap_maker.specs.MapsAlike.{AnswersAsTexts, HasMapsAlike, IsRead, MeanTheSame, OfBundle, OfTexts, text_named}
 use Rattle.cmap_maker.specs.Slots.{IsFileFor, IsNamedBundle, IsTextBehind, is_index, source_at}
@@ -73,7 +70,7 @@ module _ (given : Option PrefixTables) (tables : PrefixTables) (free : ArePrefix
             | inr (unmarked, _) ↦ absurd (unmarked marked)
           ];
         }
-    | inr (text, text_is, behind) ↦
+    | inr (unsayable, (text, text_is, behind)) ↦
         let same : text ≡ read.text = same_Some text read.text (sym text_is ∙ read.given) in
         let here = subst (λ (t : Bor (List ℕ)). IsTextBehind t.now stored) same behind in
         let unmarked = behind_unmarked read.text.now stored here in record {
@@ -92,7 +89,7 @@ module _ (given : Option PrefixTables) (tables : PrefixTables) (free : ArePrefix
         let same : magic ++ (1 ∷ rest) ≡ no_file_bytes = sym begins ∙ none in
         let version : 1 ≡ 0 = ap (λ l. get_or l 5 0) same in
         omega (arith, version)
-    | inr (text, text_is, (size, spaces, begins, plain, white, framed)) ↦
+    | inr (unsayable, (text, text_is, (size, spaces, begins, plain, white, framed))) ↦
         let same : (codes "% text" ++ size) ++ (10 ∷ (text.now ++ spaces)) ≡ no_file_bytes = sym begins ∙ none in
         let first : 37 ≡ 98 = ap (λ l. get_or l 0 0) same in
         omega (arith, first)

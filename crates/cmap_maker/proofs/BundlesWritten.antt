@@ -1,5 +1,5 @@
 -- The front of a bundle, and its files.
-use Rattle.std.proofs.Common.{◌≡◌, ℕ, zero, suc, ◌+◌, ◌^◌, ◌<◌, ◌≤◌, inl, inr, true, List, [], ◌∷◌, ◌++◌, Some, None, length, get_or, drop, take, refl, ap, ◌∙◌, sym, subst, arith}
+use Rattle.std.proofs.Common.{◌≡◌, ℕ, zero, suc, ◌+◌, ◌^◌, ◌<◌, ◌≤◌, inl, inr, true, false, List, [], ◌∷◌, ◌++◌, Some, None, length, get_or, drop, take, refl, ap, ◌∙◌, sym, subst, arith}
 use Rattle.std.specs.Prelude.{Option, codes, if◌then◌else◌}
 use lib.Dec.{eqb}
 use Rattle.std.specs.Option.{option_eq}
@@ -83,7 +83,7 @@ for_source tables None (slot.File p) text is written = absurd is
 for_source tables None (slot.Text t) text is written = absurd is
 for_source tables (Some source) slot.Absent text is written = absurd is
 for_source tables (Some source) (slot.File p) text is written = inl (written.1 (file_seen source.file.now) is)
-for_source tables (Some source) (slot.Text t) text is written = inr (t, is, written)
+for_source tables (Some source) (slot.Text t) text (unsayable, is) written = inr (unsayable, (t, is, written))
 
 slots_length : (tables : PrefixTables) (slots : List Slot) (texts : List (List ℕ)) → AreSlotsWritten tables slots texts → length texts ≡ length slots
 slots_length tables [] [] written = refl
@@ -144,7 +144,7 @@ have_symbols tables counts deltas = record {
 }
 
 -- ---- the first source of a name
-is_index_tested : (o : Option ℕ) (place : ℕ) → option_eq eqb o (Some place) ≡ is_index o place
+pub is_index_tested : (o : Option ℕ) (place : ℕ) → option_eq eqb o (Some place) ≡ is_index o place
 is_index_tested None place = refl
 is_index_tested (Some i) place = refl
 
@@ -156,3 +156,9 @@ source_found sources i s place within here is =
     let rest : drop i sources ≡ s ∷ drop (i + 1) sources = drop_more sources i s within ∙ ap (λ x. x ∷ drop (i + 1) sources) (sym here) in
     let yes : is_index (index_of_name s.name) place ≡ true = sym (is_index_tested (index_of_name s.name) place) ∙ is in
     ap (λ ss. source_at ss place) rest ∙ ap (λ b. if b then Some s else source_at (drop (i + 1) sources) place) yes
+
+pub source_passed : (sources : List Source) (i : ℕ) (s : Source) (place : ℕ) → i < length sources → s ≡ get_or sources i s → option_eq eqb (index_of_name s.name) (Some place) ≡ false → source_at (drop i sources) place ≡ source_at (drop (i + 1) sources) place
+source_passed sources i s place within here other =
+    let rest : drop i sources ≡ s ∷ drop (i + 1) sources = drop_more sources i s within ∙ ap (λ x. x ∷ drop (i + 1) sources) (sym here) in
+    let passed : is_index (index_of_name s.name) place ≡ false = sym (is_index_tested (index_of_name s.name) place) ∙ other in
+    ap (λ ss. source_at ss place) rest ∙ ap (λ b. if b then Some s else source_at (drop (i + 1) sources) place) passed

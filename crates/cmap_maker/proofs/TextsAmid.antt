@@ -1,18 +1,16 @@
 -- A text behind a comment and before spaces has the same tokens, and means the same file.
 use Rattle.std.proofs.Common.{◌≡◌, ℕ, Bool, true, false, refl, sym, ap, ◌∙◌, subst, List, [], ◌∷◌, ◌++◌, get_or, inl, inr, Some, None, append_assoc, arith}
-use Rattle.std.specs.Prelude.{IsTrue, Option, codes, is_some, not, ◌==◌, ◌↔◌, bytes_eq}
+use Rattle.std.specs.Prelude.{IsTrue, Option, codes, is_some, not, ◌==◌}
 use Rattle.std.specs.List.{All}
 use Rattle.std.proofs.lemmas.Bool.{cases_Bool}
 use Rattle.std.proofs.lemmas.List.Elements.{All-head, All-tail}
 use Rattle.cmap_values.specs.Files.{File}
-use Rattle.cmap_values.specs.Only.{IsOnly}
 use Rattle.cmap_tokens.specs.Bytes.{is_white}
 use Rattle.cmap_tokens.specs.Gaps.{IsBlank, IsGap, comment_after, ends_comment}
 use Rattle.cmap_tokens.specs.Tokens.{Front, Token, Tokens, begins_regular}
 use Rattle.cmap_tokens.proofs.Fronts.{has_tokens}
 use Rattle.cmap_text.specs.TextFiles.{IsTextFile}
 use Rattle.cmap_binary.specs.BinaryFiles.{IsMarkedBinary}
-use Rattle.cmap_packed.specs.Bundles.{no_file_bytes}
 use Rattle.cmap_maker.specs.Slots.{IsTextBehind}
 
 -- ---- gaps

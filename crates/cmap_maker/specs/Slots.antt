@@ -8,7 +8,9 @@ use Rattle.cmap_values.specs.FilesSeen.{file_seen}
 use Rattle.cmap_packed.specs.Bundles.{IsBundle, PrefixTables, no_file_bytes}
 use Rattle.cmap_writer.specs.Written.{IsFramedFile}
 use Rattle.cmap_writer.specs.Keeps.{IsWritten}
+use Rattle.cmap_writer.specs.Obstacles.{IsObstacle}
 use Rattle.cmap_writer.specs.PreparedFiles.{IsPrepared}
+use Rattle.cmap_writer.specs.declared.obstacle.Obstacle.{Obstacle}
 use Rattle.cmap_maker.specs.declared.slots.Slot.{Slot}
 use Rattle.cmap_maker.specs.declared.slots.Slot.TheVariants as slot
 use Rattle.cmap_maker.specs.declared.source.Source.{Source}
@@ -30,10 +32,14 @@ source_at (source ∷ sources) place = if is_index (index_of_name source.name) p
 abbrev pub IsTextBehind : List ℕ → List ℕ → Type 0
 IsTextBehind text bytes = (size : List ℕ) × (spaces : List ℕ) × (bytes ≡ (codes "% text" ++ size) ++ (10 ∷ (text ++ spaces))) × All (λ b. ends_comment b ≡ false) size × All (λ b. b ≡ 32) spaces × IsFramedFile bytes
 
--- what stands in a bundle for a name: the file of its source, in the binary form or as its text; without a source no file
+-- the binary form can't say the file
+abbrev pub IsUnsayable : File → Type 0
+IsUnsayable file = (obstacle : Obstacle) × IsObstacle file obstacle
+
+-- what stands in a bundle for a name: the file of its source in the binary form, or where this can't say it its text; without a source no file
 abbrev pub IsFileFor : PrefixTables → Option Source → List ℕ → Type 0
 IsFileFor tables None bytes = bytes ≡ no_file_bytes
-IsFileFor tables (Some source) bytes = IsWritten tables (file_seen source.file.now) bytes ⊎ ((text : Bor (List ℕ)) × (source.text ≡ Some text) × IsTextBehind text.now bytes)
+IsFileFor tables (Some source) bytes = IsWritten tables (file_seen source.file.now) bytes ⊎ (IsUnsayable (file_seen source.file.now) × ((text : Bor (List ℕ)) × (source.text ≡ Some text) × IsTextBehind text.now bytes))
 
 -- the bytes are a bundle which has for each known name, at its index, the file of the first source of this name
 pub record IsNamedBundle (sources : List Source) (bytes : List ℕ) : Type 0 where
@@ -43,17 +49,23 @@ pub record IsNamedBundle (sources : List Source) (bytes : List ℕ) : Type 0 whe
   pub all : length texts ≡ places
   pub each : (place : ℕ) (d : List ℕ) → place < places → IsFileFor tables (source_at sources place) (get_or texts place d)
 
--- ---- private aid
 -- what is to be written for a name
 abbrev pub IsSlotFor : Option Source → Slot → Type 0
 IsSlotFor None slot.Absent = Unit {0}
 IsSlotFor (Some source) (slot.File prepared) = IsPrepared (file_seen source.file.now) prepared
-IsSlotFor (Some source) (slot.Text text) = source.text ≡ Some text
+IsSlotFor (Some source) (slot.Text text) = IsUnsayable (file_seen source.file.now) × (source.text ≡ Some text)
 IsSlotFor _ _ = ⊥
 
 abbrev pub AreSlotsFor : List Source → List Slot → ℕ → Type 0
 AreSlotsFor sources slots count = (length slots ≡ count) × ((place : ℕ) (d : Slot) → place < count → IsSlotFor (source_at sources place) (get_or slots place d))
 
+-- what is to be written of files
+abbrev pub AreSlotsOf : List File → List Slot → Type 0
+AreSlotsOf [] [] = Unit {0}
+AreSlotsOf (file ∷ files) (slot.File prepared ∷ slots) = IsPrepared file prepared × AreSlotsOf files slots
+AreSlotsOf files slots = ⊥
+
+-- ---- private aid
 -- these bytes are what is to be written
 abbrev pub IsSlotWritten : PrefixTables → Slot → List ℕ → Type 0
 IsSlotWritten tables (slot.File prepared) bytes = IsFramedFile bytes × ((file : File) → IsPrepared file prepared → IsWritten tables file bytes)
@@ -64,12 +76,6 @@ abbrev pub AreSlotsWritten : PrefixTables → List Slot → List (List ℕ) → 
 AreSlotsWritten tables [] [] = Unit {0}
 AreSlotsWritten tables (s ∷ slots) (text ∷ texts) = IsSlotWritten tables s text × AreSlotsWritten tables slots texts
 AreSlotsWritten tables slots texts = ⊥
-
--- the files of these slots
-abbrev pub AreSlotsOf : List File → List Slot → Type 0
-AreSlotsOf [] [] = Unit {0}
-AreSlotsOf (file ∷ files) (slot.File prepared ∷ slots) = IsPrepared file prepared × AreSlotsOf files slots
-AreSlotsOf files slots = ⊥
 
 -- the bytes are a bundle with what is to be written
 abbrev pub IsBundleOfSlots : List Slot → List ℕ → Type 0

@@ -1,44 +1,115 @@
--- Which source can't be written, and why.
-use Rattle.std.specs.Prelude.{◌≡◌, ℕ, ◌<◌, List, Any, Option, Some, None, get_or, length}
+-- Why a bundle can't be written, and which source is at fault.
+use Rattle.std.specs.Prelude.{◌≡◌, ℕ, ◌+◌, ◌≤◌, ◌<◌, ◌^◌, ◌⊎◌, List, All, Any, IsSome, Option, Some, None, length, slice_get, take}
 use Rattle.cmap_values.specs.CMapNames.{index_of_name}
 use Rattle.cmap_values.specs.Files.{File}
 use Rattle.cmap_values.specs.FilesSeen.{file_seen}
-use Rattle.cmap_writer.specs.Obstacles.{IsObstacle}
+use Rattle.cmap_packed.specs.Bundles.{PrefixTables}
+use Rattle.cmap_writer.specs.Obstacles.{HasNoWord, IsLarge, IsLongBy, IsObstacle}
 use Rattle.cmap_writer.specs.declared.obstacle.Obstacle.{Obstacle}
 use Rattle.cmap_writer.specs.declared.obstacle.Obstacle.TheVariants.{NoPlace, NoWord, TooLong}
+use Rattle.cmap_writer.specs.declared.segments.Segment.{Segment}
+use Rattle.cmap_maker.specs.Bundled.{HaveSymbols}
+use Rattle.cmap_maker.specs.Gathered.{counts_in, deltas_in, segments_in, slot_segments}
+use Rattle.cmap_maker.specs.Slots.{AreSlotsFor, AreSlotsOf, places, source_at}
+use Rattle.cmap_maker.specs.Tables.{HasManyNumbers, IsTableFor}
+use Rattle.cmap_maker.specs.declared.slots.Slot.{Slot}
+use Rattle.cmap_maker.specs.declared.slots.Slot.TheVariants as slot
 use Rattle.cmap_maker.specs.declared.unwritable.Unwritable.{Unwritable}
 use Rattle.cmap_maker.specs.declared.source.Source.{Source}
 
--- the name has no place; or the file can't be written for this reason, and has no text that could stand for it
-abbrev pub IsSourceObstacle : Source → Obstacle → Type 0
-IsSourceObstacle source NoPlace = index_of_name source.name ≡ None
-IsSourceObstacle source other = (source.text ≡ None) × IsObstacle (file_seen source.file.now) other
+-- ---- one source
+-- each name has a place
+abbrev pub AllHavePlaces : List Source → Type 0
+AllHavePlaces sources = All (λ source. IsSome (index_of_name source.name)) sources
 
--- the source at this index can't be written for this reason
-abbrev pub IsObstacleAt : List Source → ℕ → Obstacle → Type 0
-IsObstacleAt sources index obstacle = (index < length sources) × ((d : Source) → IsSourceObstacle (get_or sources index d) obstacle)
+-- the first of the sources whose name has no place
+pub record IsPlaceless (sources : List Source) (index : ℕ) : Type 0 where
+  pub source : Source
+  pub at_index : slice_get sources index ≡ Some source
+  pub placeless : index_of_name source.name ≡ None
+  pub before : AllHavePlaces (take index sources)
 
--- the bundle as a whole can't be written only since a number has no code word, or something is too long
-abbrev pub IsSpellingObstacle : Obstacle → Type 0
-IsSpellingObstacle NoWord = Unit {0}
-IsSpellingObstacle TooLong = Unit {0}
-IsSpellingObstacle other = ⊥
+-- all names have places; there is something to write for each place below that of the source, which is the first of its name, and which has no text and can't be written for this reason
+pub record IsUnwritable (sources : List Source) (index : ℕ) (obstacle : Obstacle) : Type 0 where
+  pub source : Source
+  pub at_index : slice_get sources index ≡ Some source
+  pub obstacle_is : IsObstacle (file_seen source.file.now) obstacle
+  pub textless : source.text ≡ None
+  pub place : ℕ
+  pub named : index_of_name source.name ≡ Some place
+  pub first : source_at (take index sources) place ≡ None
+  pub all : AllHavePlaces sources
+  pub below : (slots : List Slot) × AreSlotsFor sources slots place
 
--- the source at the index; without one the bundle as a whole
+-- ---- the bundle as a whole
+-- the file, or the text with its comment, is too long
+abbrev pub IsLongSlot : PrefixTables → Slot → Type 0
+IsLongSlot tables (slot.File prepared) = IsLongBy tables prepared
+IsLongSlot tables (slot.Text text) = 2 ^ 32 ≤ 11 + length text.now
+IsLongSlot tables slot.Absent = ⊥
+
+-- one of these is too long by tables of their numbers
+pub record HasLongSlot (slots : List Slot) : Type 0 where
+  pub tables : PrefixTables
+  pub deltas : IsTableFor (deltas_in (segments_in slots)) tables.delta
+  pub counts : IsTableFor (counts_in (segments_in slots)) tables.count
+  pub long : Any (IsLongSlot tables) slots
+
+-- these can't stand in one bundle: they have 2 ^ 16 different deltas or more, or one of them is too long
+abbrev pub IsWholeObstacle : List Slot → Obstacle → Type 0
+IsWholeObstacle slots NoWord = HasManyNumbers (deltas_in (segments_in slots))
+IsWholeObstacle slots TooLong = HasLongSlot slots
+IsWholeObstacle slots other = ⊥
+
+-- ---- bundles
+-- the source at the index; without one each source is something to write, and all together can't be written
 abbrev pub IsObstacleOf : List Source → Option ℕ → Obstacle → Type 0
-IsObstacleOf sources (Some index) obstacle = IsObstacleAt sources index obstacle
-IsObstacleOf sources None obstacle = IsSpellingObstacle obstacle
+IsObstacleOf sources (Some index) NoPlace = IsPlaceless sources index
+IsObstacleOf sources (Some index) other = IsUnwritable sources index other
+IsObstacleOf sources None obstacle = AllHavePlaces sources × ((slots : List Slot) × AreSlotsFor sources slots places × IsWholeObstacle slots obstacle)
 
 abbrev pub IsUnwritableOf : List Source → Unwritable → Type 0
 IsUnwritableOf sources unwritable = IsObstacleOf sources unwritable.index unwritable.obstacle
 
--- why a bundle of these files can't be written: one of them can't, for another reason than what is too long, or than its code words; of these nothing is said
+-- why a bundle of these files can't be written: one of them can't, or all together
 abbrev pub IsBundleObstacle : List File → Obstacle → Type 0
-IsBundleObstacle files NoWord = Unit {0}
-IsBundleObstacle files TooLong = Unit {0}
-IsBundleObstacle files other = Any (λ file. IsObstacle file other) files
+IsBundleObstacle files obstacle = Any (λ file. IsObstacle file obstacle) files ⊎ ((slots : List Slot) × AreSlotsOf files slots × IsWholeObstacle slots obstacle)
 
 -- ---- private aid
+-- the source at a place, which has no text and can't be written
+pub record IsUnwritableAt (sources : List Source) (place : ℕ) (unwritable : Unwritable) : Type 0 where
+  pub index : ℕ
+  pub is : unwritable.index ≡ Some index
+  pub source : Source
+  pub at_index : slice_get sources index ≡ Some source
+  pub obstacle_is : IsObstacle (file_seen source.file.now) unwritable.obstacle
+  pub textless : source.text ≡ None
+  pub named : index_of_name source.name ≡ Some place
+  pub first : source_at (take index sources) place ≡ None
+
 -- this source, which has this index, has no text and can't be written
 abbrev pub IsUnwritableAs : Source → ℕ → Unwritable → Type 0
 IsUnwritableAs source index unwritable = (unwritable.index ≡ Some index) × (source.text ≡ None) × IsObstacle (file_seen source.file.now) unwritable.obstacle
+
+-- deltas of four bytes and counts of one, and few of them
+pub record IsSound (segment : Segment) : Type 0 where
+  pub deltas : All (λ n. n < 2 ^ 32) segment.deltas.items
+  pub counts : All (λ n. n < 2 ^ 8) segment.counts.items
+  pub small : IsLarge segment → ⊥
+
+abbrev pub AreSound : List Slot → Type 0
+AreSound slots = All IsSound (segments_in slots)
+
+-- why these can't be written by tables
+abbrev pub IsSlotObstacle : PrefixTables → Slot → Obstacle → Type 0
+IsSlotObstacle tables s NoWord = Any (HasNoWord tables) (slot_segments s)
+IsSlotObstacle tables s TooLong = Any IsLarge (slot_segments s) ⊎ IsLongSlot tables s
+IsSlotObstacle tables s other = ⊥
+
+abbrev pub IsSlotsObstacle : PrefixTables → List Slot → Obstacle → Type 0
+IsSlotsObstacle tables slots obstacle = Any (λ s. IsSlotObstacle tables s obstacle) slots
+
+-- or these tables can't stand in a bundle
+abbrev pub IsTablesObstacle : PrefixTables → List Slot → Obstacle → Type 0
+IsTablesObstacle tables slots NoWord = (HaveSymbols tables → ⊥) ⊎ IsSlotsObstacle tables slots NoWord
+IsTablesObstacle tables slots other = IsSlotsObstacle tables slots other

@@ -1,6 +1,7 @@
 //! A text in a bundle, with a comment before it that holds its length.
 
-ghost use Rattle.std.specs.Prelude.{◌≡◌, ◌+◌, ◌*◌, ◌/◌, ◌%◌, ◌^◌, ◌∷◌, ◌++◌, ◌≤◌, ◌<◌, ◌↔◌, ℕ, All, IfErr, IfOk, IsTrue, List, false, length, true, ⊤};
+ghost use Rattle.std.specs.Prelude.{◌≡◌, ◌+◌, ◌^◌, ◌∷◌, ◌++◌, ◌≤◌, ◌<◌, ℕ, All, IfErr, IfOk, List, false, length, true};
+ghost use Rattle.std.specs.Int.{from_be_bytes, w32};
 ghost use Rattle.cmap_tokens.specs.Gaps.{ends_comment};
 ghost use Rattle.cmap_writer.specs.Failures.{IsTooLongIf};
 ghost use Rattle.cmap_maker.specs.Slots.{IsTextBehind};
@@ -14,11 +15,8 @@ use std::alloc::Global;
 /// The six bytes that begin a text: a comment, which goes on up to the line end after the length.
 const TEXT_HEAD: &[u8] = b"% text";
 
-/// How many bytes come before what a length counts beside them: the six, and the four of the length.
-const BEFORE: u64 = 10;
-
-/// The most spaces after a text. Fewer than 2^25 are enough for any length of four bytes.
-const MOST_SPACES: usize = 1 << 25;
+/// How many bytes come before a text: the six, the four of the length, and a line end.
+const BEFORE: u64 = 11;
 
 /// Writes a text after a comment, which holds its length.
 pub(crate) fn push_text(
@@ -27,7 +25,7 @@ pub(crate) fn push_text(
     out: &mut Vec<u8>,
 ) -> Result<(), Fault<Obstacle>>
     ensures written { IfOk result (λ _. Appends out.old.items out.new.items (IsTextBehind text.now)) }
-    ensures err { IfErr result (IsTooLongIf ⊤) }
+    ensures err { IfErr result (IsTooLongIf (2 ^ 32 ≤ 11 + length text.now)) }
 {
     let payload = text_payload(alloc, text)?;
     push_framed(out, TEXT_HEAD, &payload)?;
@@ -38,28 +36,57 @@ pub(crate) fn push_text(
 fn text_payload(alloc: Global, text: &[u8]) -> Result<Vec<u8>, Fault<Obstacle>>
     ensures written { IfOk result (λ payload. (spaces : List ℕ) × (payload.items ≡ 10 ∷ (text.now ++ spaces))
         × All (λ b. b ≡ 32) spaces × All (λ b. ends_comment b ≡ false) (bytes_of 4 (10 + length payload.items))) }
-    ensures err { IfErr result (IsTooLongIf ⊤) }
+    ensures len { IfOk result (λ payload. 10 + length payload.items < 2 ^ 32) }
+    ensures err { IfErr result (IsTooLongIf (2 ^ 32 ≤ 11 + length text.now)) }
 {
+    let Ok(least) = u32::try_from(BEFORE + text.len() as u64) else {
+        return Err(Fault::Refused(Obstacle::TooLong));
+    };
+    let spaces = vec![in alloc; b' '; (without_line_end(least) - least) as usize]?;
     let mut payload = Vec::new(alloc);
     payload.push(b'\n')?;
     payload.extend_from_slice(text)?;
-    for _ in 0..MOST_SPACES {
-        if !has_line_end(BEFORE + payload.len() as u64) {
-            return Ok(payload);
-        }
-        payload.push(b' ')?;
-    }
-    Err(Fault::Refused(Obstacle::TooLong))
+    payload.extend_from_slice(&spaces)?;
+    Ok(payload)
 }
 
-/// Whether one of the last four bytes of a number ends a comment.
-fn has_line_end(size: u64) -> bool
-    ensures { result ≡ false → All (λ b. ends_comment b ≡ false) (bytes_of 4 size) }
+/// The least number from this one on, no byte of which ends a comment.
+fn without_line_end(number: u32) -> u32
+    ensures more { number ≤ result }
+    ensures ends { All (λ b. ends_comment b ≡ false) (bytes_of 4 result) }
 {
-    is_line_end(byte_at(size, 3))
-        || is_line_end(byte_at(size, 2))
-        || is_line_end(byte_at(size, 1))
-        || is_line_end(byte_at(size, 0))
+    u32::from_be_bytes(raised(number.to_be_bytes()))
+}
+
+/// The bytes of the least number from that of these on, none of which ends a comment.
+fn raised(bytes: [u8; 4]) -> [u8; 4]
+    ensures more { from_be_bytes w32 bytes ≤ from_be_bytes w32 result }
+    ensures ends { All (λ b. ends_comment b ≡ false) result }
+    ensures small { All (λ b. b < 2 ^ 8) result }
+{
+    let [first, second, third, fourth] = bytes;
+    if is_line_end(first) {
+        [after_line_end(first), 0, 0, 0]
+    } else if is_line_end(second) {
+        [first, after_line_end(second), 0, 0]
+    } else if is_line_end(third) {
+        [first, second, after_line_end(third), 0]
+    } else {
+        [first, second, third, after_line_end(fourth)]
+    }
+}
+
+/// The least byte from this one on that doesn't end a comment.
+fn after_line_end(byte: u8) -> u8
+    ensures more { byte ≤ result }
+    ensures above { ends_comment byte ≡ true → byte < result }
+    ensures ends { ends_comment result ≡ false }
+{
+    match byte {
+        0x0A => 0x0B,
+        0x0C | 0x0D => 0x0E,
+        _ => byte,
+    }
 }
 
 /// Whether a byte ends a comment.
@@ -67,12 +94,4 @@ fn is_line_end(byte: u8) -> bool
     ensures { result ≡ ends_comment byte }
 {
     byte == 0x0A || byte == 0x0C || byte == 0x0D
-}
-
-/// The byte of a number that stands `after` bytes before its last.
-fn byte_at(number: u64, after: u8) -> u8
-    requires { after < 4 }
-    ensures { result ≡ number / 2 ^ (8 * after) % 2 ^ 8 }
-{
-    (number >> (8 * after) & 0xFF) as u8
 }

@@ -5,7 +5,7 @@ ghost use Rattle.cmap_values.specs.Outcomes.{RefusesWith};
 ghost use Rattle.cmap_packed.specs.Fronts.{FramedAt};
 ghost use Rattle.cmap_writer.specs.EncodersSeen.{encoders_seen};
 ghost use Rattle.cmap_maker.specs.Slots.{AreSlotsFor, AreSlotsWritten, IsSlotFor, IsSlotWritten, places, source_at};
-ghost use Rattle.cmap_maker.specs.Unwritables.{IsUnwritableAs, IsUnwritableOf, IsSpellingObstacle};
+ghost use Rattle.cmap_maker.specs.Unwritables.{AllHavePlaces, IsSlotObstacle, IsSlotsObstacle, IsUnwritableAs, IsUnwritableAt, IsUnwritableOf};
 ghost use Rattle.cmap_writer.specs.Written.{Appends, WritesAll};
 
 use crate::behind::push_text;
@@ -35,6 +35,7 @@ pub(crate) fn slots_of<'s>(
     sources: &[Source<'s, '_>],
 ) -> Result<Vec<Slot<'s>>, Fault<Unwritable>>
     ensures made { IfOk result (λ slots. AreSlotsFor sources.now slots.items places) }
+    ensures all { IfOk result (λ _. AllHavePlaces sources.now) }
     ensures err { IfErr result (RefusesWith (IsUnwritableOf sources.now)) }
 {
     check_names(sources)?;
@@ -48,7 +49,8 @@ pub(crate) fn slots_of<'s>(
 
 /// Checks that each name has a place.
 fn check_names(sources: &[Source<'_, '_>]) -> Result<(), Fault<Unwritable>>
-    ensures { IfErr result (RefusesWith (IsUnwritableOf sources.now)) }
+    ensures all { IfOk result (λ _. AllHavePlaces sources.now) }
+    ensures err { IfErr result (RefusesWith (IsUnwritableOf sources.now)) }
 {
     for index in 0..sources.len() {
         if sources[index].name.index().is_none() {
@@ -68,7 +70,7 @@ fn slot_at<'s>(
     place: usize,
 ) -> Result<Slot<'s>, Fault<Unwritable>>
     ensures made { IfOk result (IsSlotFor (source_at sources.now place)) }
-    ensures err { IfErr result (RefusesWith (IsUnwritableOf sources.now)) }
+    ensures err { IfErr result (RefusesWith (IsUnwritableAt sources.now place)) }
 {
     for index in 0..sources.len() {
         if sources[index].name.index() == Some(place) {
@@ -106,7 +108,7 @@ pub(crate) fn push_slots(
     out: &mut Vec<u8>,
 ) -> Result<(), Fault<Obstacle>>
     ensures written { IfOk result (λ _. (texts : List (List ℕ)) × Appends out.old.items out.new.items (WritesAll (FramedAt 6) texts) × AreSlotsWritten (encoders_seen tables.now) slots.now texts) }
-    ensures err { IfErr result (RefusesWith IsSpellingObstacle) }
+    ensures err { IfErr result (RefusesWith (IsSlotsObstacle (encoders_seen tables.now) slots.now)) }
 {
     for slot in slots {
         push_slot(alloc, tables, slot, out)?;
@@ -122,7 +124,7 @@ fn push_slot(
     out: &mut Vec<u8>,
 ) -> Result<(), Fault<Obstacle>>
     ensures written { IfOk result (λ _. Appends out.old.items out.new.items (IsSlotWritten (encoders_seen tables.now) slot.now)) }
-    ensures err { IfErr result (RefusesWith IsSpellingObstacle) }
+    ensures err { IfErr result (RefusesWith (IsSlotObstacle (encoders_seen tables.now) slot.now)) }
 {
     match slot {
         Slot::File(prepared) => {

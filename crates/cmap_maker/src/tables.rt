@@ -3,9 +3,7 @@
 
 ghost use Rattle.std.specs.Prelude.{◌≡◌, ◌⊎◌, ◌^◌, ◌≤◌, ◌++◌, All, Any, Contains, IfErr, IfOk, length, map};
 ghost use Rattle.std.specs.List.Sorted.{IsNonDecreasing, IsPermutation, IsStrictlyIncreasing};
-ghost use Rattle.cmap_values.specs.Outcomes.{RefusesWith};
 ghost use Rattle.cmap_maker.specs.Gathered.{counts_in, deltas_in, segments_in, slot_segments};
-ghost use Rattle.cmap_maker.specs.Unwritables.{IsSpellingObstacle};
 ghost use Rattle.cmap_maker.specs.Tables.{CountsNumber, HasManyNumbers, HasSameNumbers, IsTableFor, symbols_of};
 ghost use Rattle.cmap_maker.specs.TablesHeld.{frequent, lengthy};
 ghost use Rattle.cmap_maker.specs.WordsMissing.{IsNoWordIf};
@@ -63,7 +61,6 @@ pub(crate) fn tables_for(alloc: Global, slots: &[Slot<'_>]) -> Result<Encoders, 
     ensures deltas { IfOk result (λ tables. IsTableFor (deltas_in (segments_in slots.now)) tables.delta) }
     ensures counts { IfOk result (λ tables. IsTableFor (counts_in (segments_in slots.now)) tables.count) }
     ensures err { IfErr result (IsNoWordIf (HasManyNumbers (deltas_in (segments_in slots.now)) ⊎ HasManyNumbers (counts_in (segments_in slots.now)))) }
-    ensures spelling { IfErr result (RefusesWith IsSpellingObstacle) }
 {
     let Symbols { deltas, counts } = gather(alloc, slots)?;
     Ok(Encoders {

@@ -2,7 +2,7 @@
 use Rattle.std.proofs.Common.{◌≡◌, ℕ, suc, ◌+◌, ◌-◌, ◌*◌, ◌^◌, ◌<◌, List, [], ◌∷◌, ◌++◌, length, map, refl, ap, ◌∙◌, sym, subst, arith}
 use Rattle.std.specs.List.{All, flat_map}
 use Rattle.std.proofs.lemmas.List.{append_assoc, append-nil}
-use Rattle.std.proofs.lemmas.List.Elements.{All-head, All-tail}
+use Rattle.std.proofs.lemmas.List.Elements.{All-head, All-tail, All-weaker}
 use Rattle.cmap_values.specs.CodeLengths.{length_of}
 use Rattle.cmap_values.specs.Files.{CidEntry, Declaration}
 use Rattle.cmap_values.specs.declared.code_length.CodeLength.{CodeLength}
@@ -13,6 +13,7 @@ use Rattle.cmap_binary.specs.BinaryFiles.{IsSegment, declares}
 use Rattle.cmap_packed.specs.Fronts.{RowOf}
 use Rattle.cmap_writer.specs.ColumnsWritten.{HaveSpans, WritesColumns}
 use Rattle.cmap_writer.specs.Held.{AreHeld, AreOwnCids, entry_span, spans_of}
+use Rattle.cmap_writer.specs.Pieces.{IsShort}
 use Rattle.cmap_writer.specs.Written.{bytes_of, Appends}
 use Rattle.cmap_writer.proofs.FrontsWritten.{FieldAt-written}
 
@@ -45,7 +46,7 @@ row_written tables (e ∷ es) columns next tail (later, span, spans) small (firs
 entries_written : (tables : PrefixTables) (shape : Shape) (es : List CidEntry) (bytes : List ℕ) → AreHeld shape es → WritesColumns tables shape (spans_of es) bytes → CidEntriesOf tables shape (length es) (bytes ++ cids es) es
 entries_written tables shape [] bytes h columns = refl
 entries_written tables shape (e ∷ es) bytes h (columns, at, spans) =
-    let (last, row) = row_written tables (e ∷ es) columns 0 [] spans h.small h.own in
+    let (last, row) = row_written tables (e ∷ es) columns 0 [] spans (All-weaker IsShort (λ e. e.cid < 2 ^ 16) (λ e s. s.3) (e ∷ es) h.short) h.own in
     let all = subst (λ raws. RowOf (CidEntryAt tables) (suc (length es)) (left columns raws 0) (e ∷ es, last)) (append-nil (cids (e ∷ es))) row in
     (columns, cids (e ∷ es), at (cids (e ∷ es)), (e ∷ es, last, all, refl))
 

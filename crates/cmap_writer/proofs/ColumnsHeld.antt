@@ -54,7 +54,7 @@ have_spans tables (s ∷ spans) base deltas counts (low, some, high, order) (len
 
 module _ (tables : PrefixTables) (spans : List Span) (order : AreInOrder 0 spans) where
   pub range_columns : (old mid new : List ℕ) → AreShaped ranges spans → Appends old mid (WritesColumn tables.delta (deltas_of 0 spans)) → Appends mid new (WritesColumn tables.count (counts_of spans)) → Appends old new (WritesColumns tables ranges spans)
-  range_columns old mid new shaped (first, first_is, (deltas, sized, spelled)) (second, second_is, (counts, sized_too, spelled_too)) = (
+  range_columns old mid new shaped (first, first_is, (deltas, sized, spelled, tight)) (second, second_is, (counts, sized_too, spelled_too, tight_too)) = (
     first ++ second,
     second_is ∙ ap (λ bs. bs ++ second) first_is ∙ append_assoc old first second,
     (
@@ -65,7 +65,7 @@ module _ (tables : PrefixTables) (spans : List Span) (order : AreInOrder 0 spans
   )
 
   pub single_columns : (old new : List ℕ) → AreShaped singles spans → Appends old new (WritesColumn tables.delta (deltas_of 0 spans)) → Appends old new (WritesColumns tables singles spans)
-  single_columns old new shaped (first, first_is, (deltas, sized, spelled)) = (
+  single_columns old new shaped (first, first_is, (deltas, sized, spelled, tight)) = (
     first,
     first_is,
     (

@@ -16,6 +16,7 @@ pub mod PreparedKept
 pub mod RowsAdded
 pub mod RowsWritten
 pub mod RunParts
+pub mod SegmentNumbers
 pub mod SegmentsAdded
 pub mod SegmentsDone
 pub mod SegmentsMade
@@ -26,5 +27,6 @@ pub mod TextPartsSeen
 pub mod TextsMade
 pub mod TextsWritten
 pub mod Told
+pub mod Weighed
 pub mod WordsMade
 pub mod WordsSought

@@ -1,7 +1,8 @@
 -- Metadata that is written, and read back.
-use Rattle.std.proofs.Common.{◌≡◌, ℕ, zero, suc, pos, ◌+◌, ◌^◌, ◌<◌, Bool, true, false, List, inl, inr, [], ◌∷◌, ◌++◌, length, drop, get_or, map, take, refl, ap, ◌∙◌, sym, subst, arith}
+use Rattle.std.proofs.Common.{◌≡◌, ℕ, zero, suc, pos, ◌+◌, ◌^◌, ◌<◌, ◌≤◌, Bool, true, false, List, inl, inr, [], ◌∷◌, ◌++◌, length, drop, get_or, map, take, refl, ap, ◌∙◌, sym, subst, arith}
 use Rattle.std.specs.Prelude.{◌==◌, ◌&&◌, bytes_eq, codes, if◌then◌else◌}
-use Rattle.std.specs.List.{All, Contains, list_any, slice_index}
+use Rattle.std.specs.List.{All, Contains, list_any, slice_index, sum_by}
+use Rattle.std.proofs.lemmas.List.Sums.{sum_by_push}
 use Rattle.std.proofs.lemmas.Bool.{cases_Bool, eqb-false, eqb-true}
 use Rattle.std.proofs.lemmas.List.Elements.{All-cons, All-nil}
 use Rattle.std.proofs.lemmas.List.{append_assoc, append-nil, length-append, map-append, take_at, take_more}
@@ -9,14 +10,15 @@ use Rattle.std.specs.Borrow.{Bor}
 use Rattle.cmap_values.specs.NamesSeen.{names_seen}
 use Rattle.cmap_binary.specs.BinaryFiles as files
 use Rattle.std.proofs.Common.{Global, None, Option, Some, Vec}
-use Rattle.std.specs.Prelude.{option_map}
+use Rattle.std.specs.Prelude.{IsSomeAnd, option_map}
 use Rattle.cmap_values.specs.Metadata.{Collection, Mode}
 use Rattle.cmap_values.specs.MetadataSeen.{collection_seen, metadata_seen, mode_seen}
 use Rattle.cmap_values.specs.declared.metadata.Metadata.{Metadata}
-use Rattle.cmap_writer.specs.MetadataWritten.{from_option, metadata_contents}
+use Rattle.cmap_writer.specs.MetadataWritten.{from_option, metadata_contents, option_room}
 use Rattle.cmap_values.specs.Names.{Family, IsCustom, adobe_japan1, adobe_gb1, adobe_cns1, adobe_korea1, adobe_identity, custom, family_of}
 use Rattle.cmap_binary.specs.BinaryFiles.{CollectionIn, Content, IsSegment}
 use Rattle.cmap_packed.specs.Bundles.{PrefixTables}
+use Rattle.cmap_writer.specs.Obstacles.{IsLongName}
 use Rattle.cmap_writer.specs.SegmentsWritten.{SegmentByAny}
 use Rattle.cmap_packed.specs.Fronts.{FieldAt, TerminatedAt}
 use Rattle.cmap_writer.specs.Written.{bytes_of, Appends, Writes, WritesAll}
@@ -128,3 +130,21 @@ metadata_written m old a b new first second third =
 
 pub seen_as : (collection : Collection) (registry ordering : List ℕ) (number : ℕ) → family_of registry ordering ≡ collection.family → pos number ≡ collection.supplement → collection ≡ record { family = family_of registry ordering; supplement = pos number }
 seen_as collection registry ordering number family supplement = rw (family, supplement) refl
+
+-- a name that is too long, as it is seen
+pub long_name : (o : Option (Vec ℕ Global)) → IsSomeAnd o (λ name. IsLongName name.items) → IsSomeAnd (option_map (λ (name : Vec ℕ Global). name.items) o) IsLongName
+long_name None long = absurd long
+long_name (Some name) long = long
+
+-- one name more takes no more room than it has
+pub uses_room : (names : List (Bor (List ℕ))) (i : ℕ) (d : Bor (List ℕ)) (old now new : ℕ) → i < length names → now ≤ old + sum_by (λ name. 5 + length name) (names_seen (take i names)) → new ≡ now + 5 + length (get_or names i d).now → new ≤ old + sum_by (λ name. 5 + length name) (names_seen (take (i + 1) names))
+uses_room names i d old now new within before here =
+    let room : List ℕ → ℕ = λ name. 5 + length name in
+    let one = (get_or names i d).now in
+    let parted : names_seen (take (i + 1) names) ≡ names_seen (take i names) ++ one ∷ [] = ap names_seen (take_more names i d within) ∙ map-append (λ (name : Bor (List ℕ)). name.now) (take i names) (get_or names i d ∷ []) in
+    omega (arith, before, here, ap (sum_by room) parted, sum_by_push room (names_seen (take i names)) one)
+
+-- rooms of values that may be there, as they are seen
+pub room_seen : {A B : Type 0} (seen : A → B) (room : B → ℕ) (o : Option A) → option_room (λ x. room (seen x)) o ≡ option_room room (option_map seen o)
+room_seen seen room None = refl
+room_seen seen room (Some x) = refl

@@ -1,5 +1,5 @@
 -- Segments whose numbers are spelled hold the spans of their entries.
-use Rattle.std.proofs.Common.{◌≡◌, ℕ, suc, ◌+◌, List, [], ◌∷◌, ◌++◌, length, map, refl, ap, ◌∙◌, sym, subst}
+use Rattle.std.proofs.Common.{◌≡◌, ℕ, suc, ◌+◌, ◌-◌, ◌≤◌, List, [], ◌∷◌, ◌++◌, length, map, refl, ap, ◌∙◌, sym, subst, arith}
 use Rattle.std.proofs.lemmas.List.{append_assoc, length-map}
 use Rattle.cmap_runs.specs.Ranges.{Span}
 use Rattle.cmap_values.specs.Files.{CidEntry}
@@ -23,6 +23,10 @@ spans_seen (x ∷ xs) = ap (λ ss. cid_range_span x ∷ ss) (spans_seen xs)
 pub length_deltas_of : (base : ℕ) (spans : List Span) → length (deltas_of base spans) ≡ length spans
 length_deltas_of base [] = refl
 length_deltas_of base (s ∷ spans) = ap suc (length_deltas_of (s.end + 1) spans)
+
+pub length_counts_by : (shape : Shape) (spans : List Span) → length (counts_by shape spans) ≤ length spans
+length_counts_by ranges spans = omega (arith, length-map spans (λ (s : Span). s.end - s.start - 1))
+length_counts_by singles spans = omega arith
 
 pub numbers_columns : (tables : PrefixTables) (shape : Shape) (spans : List Span) (deltas counts bytes : List ℕ) → AreInOrder 0 spans → AreShaped shape spans → deltas ≡ deltas_of 0 spans → counts ≡ counts_by shape spans → WritesNumbers tables shape deltas counts bytes → WritesColumns tables shape spans bytes
 numbers_columns tables ranges spans deltas counts bytes order shaped deltas_are counts_are (first, second, is, spelled, spelled_too) =

@@ -4,22 +4,26 @@ use Rattle.std.specs.Prelude.{All, Any, Contains, IfErr, IsErrAnd, IsSomeAnd, Op
 use Rattle.std.proofs.lemmas.List.{get_or-map, length-map, map-append}
 use Rattle.cmap_values.specs.DeclarationsSeen.{bf_entry_seen, cid_entry_seen, codespace_seen, entries_seen}
 use Rattle.cmap_values.specs.Files as files
-use Rattle.cmap_values.specs.Files.{ByLength, BfEntry, CidEntry, File}
+use Rattle.std.proofs.Common.{zero, suc, ◌+◌, ◌*◌, [], ◌∷◌}
+use Rattle.std.proofs.lemmas.Bool.{cases_lt}
+use Rattle.cmap_values.specs.Files.{ByLength, BfEntry, CidEntry, Declaration, File}
 use Rattle.cmap_values.specs.Outcomes.{RefusesWith}
-use Rattle.cmap_values.proofs.Outcomes.{refused_as}
+use Rattle.cmap_values.proofs.ElementsSeen.{any_at}
 use Rattle.cmap_values.specs.UnitsSeen.{units_seen}
 use Rattle.cmap_values.specs.declared.declarations.BfRange.{BfRange}
 use Rattle.cmap_values.specs.declared.declarations.CidRange.{CidRange}
 use Rattle.cmap_values.specs.declared.declarations.Codespace.{Codespace}
 use Rattle.cmap_values.specs.declared.fault.Fault.TheVariants.{Memory, Refused}
 use Rattle.cmap_values.specs.declared.fault.Fault.{Fault}
-use Rattle.cmap_values.specs.Metadata.{Collection}
+use Rattle.cmap_values.specs.Metadata.{Collection, FileMetadata}
 use Rattle.cmap_values.specs.Names.{ordering_of, registry_of}
 use Rattle.cmap_layers.specs.Lookups.{last_bf}
 use Rattle.cmap_packed.specs.Bundles.{PrefixTables}
-use Rattle.cmap_writer.specs.Obstacles.{GivesLargeCid, HasLongText, HasManyTexts, IsCidListsObstacle, IsCidObstacle, IsCodeObstacle, IsCollectionObstacle, IsColumnObstacle, IsFamilyObstacle, IsLargeEnd, IsLargeNotdef, IsMetadataObstacle, IsNotdefListsObstacle, IsNotdefObstacle, IsNotdefsObstacle, IsObstacle, IsSegmentObstacle, IsSegmentsObstacle, IsSpaceObstacle, IsSpacesObstacle, IsTerminatedObstacle, IsTextObstacle, IsWriteObstacle}
+use Rattle.cmap_writer.specs.Obstacles.{GivesLargeCid, HasLongText, HasManyTexts, IsCidListsObstacle, IsCidObstacle, IsCodeObstacle, IsCollectionObstacle, IsColumnObstacle, IsFamilyObstacle, IsGivenCollectionObstacle, IsLarge, IsLargeEnd, IsLargeNotdef, IsMetadataObstacle, IsNotdefListsObstacle, IsNotdefObstacle, IsNotdefsObstacle, IsObstacle, IsPreparedObstacle, IsSegmentObstacle, IsSegmentsObstacle, IsSpaceObstacle, IsSpacesObstacle, IsTerminatedObstacle, IsTextObstacle, IsWriteObstacle}
 use Rattle.cmap_writer.specs.Failures.{IsTooLongIf}
+use Rattle.cmap_writer.specs.EncodersSeen.{shape_seen}
 use Rattle.cmap_writer.specs.PreparedFiles.{IsPrepared}
+use Rattle.cmap_writer.specs.Segments.{DeclareEach, IsSegmentOf, declared_span}
 use Rattle.cmap_writer.specs.Spelled.{IsNoSymbol}
 use Rattle.cmap_writer.specs.TextParts.{IsDecidedText, IsPartOf}
 use Rattle.cmap_writer.specs.Texts.{IsLongTextIn}
@@ -27,11 +31,8 @@ use Rattle.cmap_writer.specs.declared.obstacle.Obstacle.TheVariants.{CustomFamil
 use Rattle.cmap_writer.specs.declared.obstacle.Obstacle.{Obstacle}
 use Rattle.cmap_writer.specs.declared.prepared.Prepared.{Prepared}
 use Rattle.cmap_writer.specs.declared.segments.Segment.{Segment}
+use Rattle.cmap_writer.proofs.NumbersWritten.{length_counts_by, length_deltas_of}
 use Rattle.cmap_writer.proofs.Told.{Any-left, Any-right}
-
--- what holds of one element
-pub any_at : {X E : Type 0} (P : E → Type 0) (seen : X → E) (xs : List X) (i : ℕ) (d : X) → i < length xs → P (seen (get_or xs i d)) → Any P (map seen xs)
-any_at P seen xs i d within p = (i, seen (get_or xs i d), omega (arith, within, length-map xs seen), get_or-map seen xs i d (seen (get_or xs i d)) within, p)
 
 -- what holds of an element of a part
 pub any_in : {X E : Type 0} (P : E → Type 0) (seen : X → E) (all done left here later : List X) → all ≡ done ++ left → left ≡ here ++ later → Any P (map seen here) → Any P (map seen all)
@@ -48,13 +49,11 @@ notdef_among len entries i d within other h = absurd h
 pub notdefs_among : (len : ℕ) (all done left here later : List CidRange) → all ≡ done ++ left → left ≡ here ++ later → (o : Obstacle) → IsNotdefsObstacle len (entries_seen here) o → IsNotdefsObstacle len (entries_seen all) o
 notdefs_among len all done left here later whole cut (LargeCid range) h = any_in (IsLargeNotdef range) cid_entry_seen all done left here later whole cut h
 notdefs_among len all done left here later whole cut (LargeCode code) h = any_in (λ e. IsLargeEnd code len e.start e.end) cid_entry_seen all done left here later whole cut h
-notdefs_among len all done left here later whole cut TooLong h = tt
 notdefs_among len all done left here later whole cut other h = absurd h
 
 pub by_notdef_list : (lists : ByLength) (len : ℕ) (xs : List CidRange) → entries_seen xs ≡ files.of_length lists len → (o : Obstacle) → IsNotdefsObstacle len (entries_seen xs) o → IsNotdefListsObstacle lists o
 by_notdef_list lists len xs is (LargeCid range) h = (len, subst (λ es. Any (IsLargeNotdef range) es) is h)
 by_notdef_list lists len xs is (LargeCode code) h = (len, subst (λ es. Any (λ e. IsLargeEnd code len e.start e.end) es) is h)
-by_notdef_list lists len xs is TooLong h = tt
 by_notdef_list lists len xs is other h = absurd h
 
 -- a start that is too large is an obstacle of the declaration
@@ -84,7 +83,6 @@ space_among spaces i d within other h = absurd h
 
 pub spaces_among : (all done left here later : List Codespace) → all ≡ done ++ left → left ≡ here ++ later → (o : Obstacle) → IsSpacesObstacle (map codespace_seen here) o → IsSpacesObstacle (map codespace_seen all) o
 spaces_among all done left here later whole cut (LargeCode code) h = any_in (λ space. IsLargeEnd code space.len space.low space.high) codespace_seen all done left here later whole cut h
-spaces_among all done left here later whole cut TooLong h = tt
 spaces_among all done left here later whole cut other h = absurd h
 
 -- ---- the whole file
@@ -111,25 +109,58 @@ long_text es ranges small parts Memory h = tt
 -- ---- numbers without code words
 pub segment_among : (tables : PrefixTables) (segments : List Segment) (i : ℕ) (s : Segment) → i < length segments → s ≡ get_or segments i s → (o : Obstacle) → IsSegmentObstacle tables s o → IsSegmentsObstacle tables segments o
 segment_among tables segments i s within is NoWord h = (i, s, within, sym is, h)
-segment_among tables segments i s within is TooLong h = tt
+segment_among tables segments i s within is TooLong h = (i, s, within, sym is, inl h)
 segment_among tables segments i s within is other h = absurd h
 
-pub unspelled : (tables : PrefixTables) (file : File) (prepared : Prepared) → IsPrepared file prepared → (o : Obstacle) → IsSegmentsObstacle tables prepared.segments.items o → IsWriteObstacle tables file o
+-- a payload that is too long is that of a large segment
+pub large_payload : (segment : Segment) (len : ℕ) → len ≤ 10 + 4 * (length segment.deltas.items + length segment.counts.items) + length segment.values.items → 2 ^ 32 ≤ 5 + len → IsLarge segment
+large_payload segment len most long = elim (cases_lt (length segment.deltas.items) (2 ^ 16)) [
+  | inr many ↦ inl (inl many)
+  | inl few ↦
+      elim (cases_lt (length segment.counts.items) (2 ^ 16)) [
+        | inr many ↦ inl (inr many)
+        | inl fewer ↦ inr (omega (arith, most, long, few, fewer))
+      ]
+]
+
+pub large_among : (segments : List Segment) (i : ℕ) (s : Segment) → i < length segments → s ≡ get_or segments i s → IsLarge s → Any IsLarge segments
+large_among segments i s within is large = (i, s, within, sym is, large)
+
+-- segments of a file aren't large
+pub not_large : (s : Segment) (ds : List Declaration) → IsSegmentOf s ds → IsLarge s → ⊥
+not_large s ds is (inl (inl many)) = omega (arith, many, is.few, ap length is.deltas, length_deltas_of 0 (map declared_span ds), length-map ds declared_span)
+not_large s ds is (inl (inr many)) = omega (arith, many, is.few, ap length is.counts, length_counts_by (shape_seen s.shape) (map declared_span ds), length-map ds declared_span)
+not_large s ds is (inr long) = omega (arith, long, is.few, is.values)
+
+pub none_large : (segments : List Segment) (parts : List (List Declaration)) → DeclareEach segments parts → Any IsLarge segments → ⊥
+none_large [] parts each (k, s, within, is, large) = omega (arith, within)
+none_large (x ∷ segments) [] each any = absurd each
+none_large (x ∷ segments) (p ∷ parts) (first, each) (zero, s, within, is, large) = not_large x p first (subst IsLarge (sym is) large)
+none_large (x ∷ segments) (p ∷ parts) (first, each) (suc k, s, within, is, large) = none_large segments parts each (k, s, omega (arith, within), is, large)
+
+-- what stops segments stops what is prepared
+pub by_segments : (tables : PrefixTables) (prepared : Prepared) (o : Obstacle) → IsSegmentsObstacle tables prepared.segments.items o → IsPreparedObstacle tables prepared o
+by_segments tables prepared NoWord h = h
+by_segments tables prepared TooLong h = inl h
+by_segments tables prepared other h = absurd h
+
+pub unspelled : (tables : PrefixTables) (file : File) (prepared : Prepared) → IsPrepared file prepared → (o : Obstacle) → IsPreparedObstacle tables prepared o → IsWriteObstacle tables file o
 unspelled tables file prepared is NoWord h = (prepared, is, h)
-unspelled tables file prepared is TooLong h = tt
+unspelled tables file prepared is TooLong (inl large) = absurd (none_large prepared.segments.items is.parts is.segments large)
+unspelled tables file prepared is TooLong (inr long) = inr (prepared, is, long)
 unspelled tables file prepared is other h = absurd h
 
 -- ---- a column of a segment
 -- a delta without a code word is an obstacle of the segment
 pub by_deltas : (tables : PrefixTables) (segment : Segment) (symbols : List ℕ) → symbols ≡ segment.deltas.items → (o : Obstacle) → IsColumnObstacle tables.delta symbols o → IsSegmentObstacle tables segment o
 by_deltas tables segment symbols is NoWord h = inl (subst (Any (IsNoSymbol tables.delta)) is h)
-by_deltas tables segment symbols is TooLong h = tt
+by_deltas tables segment symbols is TooLong h = let size = ap length is in inl (omega (arith, size, h))
 by_deltas tables segment symbols is other h = absurd h
 
 -- so is a count
 pub by_counts : (tables : PrefixTables) (segment : Segment) (symbols : List ℕ) → symbols ≡ segment.counts.items → (o : Obstacle) → IsColumnObstacle tables.count symbols o → IsSegmentObstacle tables segment o
 by_counts tables segment symbols is NoWord h = inr (subst (Any (IsNoSymbol tables.count)) is h)
-by_counts tables segment symbols is TooLong h = tt
+by_counts tables segment symbols is TooLong h = let size = ap length is in inr (omega (arith, size, h))
 by_counts tables segment symbols is other h = absurd h
 
 -- ---- a character collection
@@ -148,33 +179,39 @@ pub by_ordering : (collection : Collection) (text : List ℕ) → text ≡ order
 by_ordering collection text is ZeroByte h = inr (subst (λ t. Contains t 0) is h)
 by_ordering collection text is other h = absurd h
 
--- what is wrong with the collection is wrong with the metadata
-pub by_collection : (said : Option Collection) (collection : Collection) → said ≡ Some collection → (o : Obstacle) → IsCollectionObstacle collection o → IsMetadataObstacle said o
+-- what is wrong with the collection, where there is one
+pub by_collection : (said : Option Collection) (collection : Collection) → said ≡ Some collection → (o : Obstacle) → IsCollectionObstacle collection o → IsGivenCollectionObstacle said o
 by_collection said collection is ZeroByte h = rw is h
 by_collection said collection is CustomFamily h = rw is h
 by_collection said collection is (Supplement n) h = rw is h
 by_collection said collection is other h = absurd h
 
+-- so it is wrong with the metadata
+pub by_given : (m : FileMetadata) (o : Obstacle) → IsGivenCollectionObstacle m.collection o → IsMetadataObstacle m o
+by_given m TooLong h = inl h
+by_given m ZeroByte h = h
+by_given m CustomFamily h = h
+by_given m (Supplement n) h = h
+by_given m other h = absurd h
+
 -- ---- parts of a file
 -- an obstacle of the metadata is one of the file
-pub by_metadata : (file : File) (o : Obstacle) → IsMetadataObstacle file.metadata.collection o → IsObstacle file o
+pub by_metadata : (file : File) (o : Obstacle) → IsMetadataObstacle file.metadata o → IsObstacle file o
 by_metadata file ZeroByte h = h
 by_metadata file CustomFamily h = h
 by_metadata file (Supplement n) h = h
-by_metadata file TooLong h = tt
+by_metadata file TooLong h = inl h
 by_metadata file other h = absurd h
 
 -- so is one of its codespace ranges
 pub by_spaces : (file : File) (spaces : List files.Codespace) → spaces ≡ file.lists.spaces → (o : Obstacle) → IsSpacesObstacle spaces o → IsObstacle file o
 by_spaces file spaces is (LargeCode code) h = inl (subst (Any (λ space. IsLargeEnd code space.len space.low space.high)) is h)
-by_spaces file spaces is TooLong h = tt
 by_spaces file spaces is other h = absurd h
 
 -- and one of its notdef declarations
 pub by_notdefs : (file : File) (o : Obstacle) → IsNotdefListsObstacle file.lists.notdefs o → IsObstacle file o
 by_notdefs file (LargeCid range) h = inr h
 by_notdefs file (LargeCode code) h = inr h
-by_notdefs file TooLong h = tt
 by_notdefs file other h = absurd h
 
 -- and one of its CIDs
@@ -202,31 +239,28 @@ long_of long more (Err (Refused TooLong)) h gives = gives h
 long_of long more (Err (Refused other)) h gives = absurd h
 long_of long more (Err Memory) h gives = tt
 
+-- nothing is too long
+pub never_long : {A : Type 0} (long : Type 0) (P : Obstacle → Type 0) (result : Result A (Fault Obstacle)) (fault : Fault Obstacle) → IsErrAnd result (λ e. e ≡ fault) → IsTooLongIf long fault → (long → ⊥) → IfErr result (RefusesWith P)
+never_long long P (Ok x) fault is h none = absurd is
+never_long long P (Err error) (Refused TooLong) is h none = absurd (none h)
+never_long long P (Err error) (Refused other) is h none = absurd h
+never_long long P (Err error) Memory is h none = rw is tt
+
 -- what is too long is refused as this, passed on by `?`
-pub too_long : {A : Type 0} (long : Type 0) (P : Obstacle → Type 0) (result : Result A (Fault Obstacle)) (fault : Fault Obstacle) → IsErrAnd result (λ e. e ≡ fault) → IsTooLongIf long fault → P TooLong → IfErr result (RefusesWith P)
+pub too_long : {A : Type 0} (long : Type 0) (P : Obstacle → Type 0) (result : Result A (Fault Obstacle)) (fault : Fault Obstacle) → IsErrAnd result (λ e. e ≡ fault) → IsTooLongIf long fault → (long → P TooLong) → IfErr result (RefusesWith P)
 too_long long P (Ok x) fault is h p = absurd is
-too_long long P (Err error) (Refused TooLong) is h p = rw is p
+too_long long P (Err error) (Refused TooLong) is h p = rw is (p h)
 too_long long P (Err error) (Refused other) is h p = absurd h
 too_long long P (Err error) Memory is h p = rw is tt
 
--- what holds of a result that is handed on
-pub refused_on : {A : Type 0} {P Q : Obstacle → Type 0} (result : Result A (Fault Obstacle)) → IfErr result (RefusesWith P) → ((o : Obstacle) → P o → Q o) → IfErr result (RefusesWith Q)
-refused_on (Ok x) h gives = tt
-refused_on (Err fault) h gives = refused_as fault h gives
-
 -- and where the result is handed on
-pub too_long_of : {A : Type 0} (long : Type 0) (P : Obstacle → Type 0) (result : Result A (Fault Obstacle)) → IfErr result (IsTooLongIf long) → P TooLong → IfErr result (RefusesWith P)
+pub too_long_of : {A : Type 0} (long : Type 0) (P : Obstacle → Type 0) (result : Result A (Fault Obstacle)) → IfErr result (IsTooLongIf long) → (long → P TooLong) → IfErr result (RefusesWith P)
 too_long_of long P (Ok x) h p = tt
-too_long_of long P (Err (Refused TooLong)) h p = p
+too_long_of long P (Err (Refused TooLong)) h p = p h
 too_long_of long P (Err (Refused other)) h p = absurd h
 too_long_of long P (Err Memory) h p = tt
 
 -- ---- a want of memory
--- of a want of memory nothing is said
-pub memory_on : {A : Type 0} (P : Obstacle → Type 0) (result : Result A (Fault Obstacle)) → IsErrAnd result (λ e. e ≡ Memory) → IfErr result (RefusesWith P)
-memory_on P (Ok x) is = absurd is
-memory_on P (Err error) is = rw is tt
-
 -- nor is something too long
 pub memory_long : {A : Type 0} (long : Type 0) (result : Result A (Fault Obstacle)) → IsErrAnd result (λ e. e ≡ Memory) → IfErr result (IsTooLongIf long)
 memory_long long (Ok x) is = absurd is

@@ -1,20 +1,23 @@
 -- A file that is prepared, and one that is written.
-use Rattle.std.proofs.Common.{◌≡◌, ℕ, List, [], ◌∷◌, ◌++◌, drop, map, take, refl, ap, ◌∙◌, sym, subst}
+use Rattle.std.proofs.Common.{◌≡◌, ℕ, ◌+◌, ◌≤◌, List, [], ◌∷◌, ◌++◌, arith, drop, length, map, take, refl, ap, ◌∙◌, sym, subst}
 use Rattle.std.specs.List.{flat_map}
-use Rattle.std.proofs.lemmas.List.{append_assoc, append-nil, map-append}
+use Rattle.std.proofs.lemmas.List.{append_assoc, append-nil, length-append, length-map, map-append}
 use Rattle.std.proofs.lemmas.List.Concat.{flat_map-append}
 use Rattle.cmap_values.specs.Files.{BfEntry, ByLength, Declaration, File, Lists, lists_of}
 use Rattle.cmap_binary.specs.BinaryFiles.{BodyOf, Content, IsBinaryFile, SegmentAt, declares, file_of, magic}
 use Rattle.cmap_binary.specs.BinaryFiles as files
 use Rattle.cmap_packed.specs.Bundles.{PrefixTables}
-use Rattle.cmap_writer.specs.Keeps.{HaveSameCids, HaveSameTexts, IsWritten, KeepLists, Keeps, by_length}
+use Rattle.cmap_writer.specs.Keeps.{HaveSameCids, HaveSameTexts, IsWritten, KeepLists, Keeps}
+use Rattle.cmap_values.specs.ListsByKind.{by_length}
 use Rattle.cmap_writer.specs.MetadataWritten.{metadata_contents}
 use Rattle.std.specs.Global.{Vec}
 use Rattle.cmap_values.specs.DeclarationsSeen.{entries_seen}
 use Rattle.cmap_values.specs.declared.declarations.ByLength.{ByLength as HeldByLength}
 use Rattle.cmap_values.specs.declared.declarations.CidRange.{CidRange}
-use Rattle.cmap_writer.specs.PreparedFiles.{AddsCidLists, AddsSameCids, IsPrepared}
+use Rattle.cmap_writer.specs.PreparedFiles.{AddsCidLists, AddsSameCids, IsPrepared, fields_room}
 use Rattle.cmap_writer.specs.Segments.{AddsSegments, DeclareEach}
+use Rattle.cmap_layers.specs.Lookups.{bf_span, cid_span}
+use Rattle.cmap_writer.specs.Weights.{AreFew}
 use Rattle.cmap_writer.specs.SegmentsWritten.{DeclareAll, SegmentByAny}
 use Rattle.cmap_writer.specs.Written.{Appends, IsFramed, WritesAll, IsFramedFile}
 use Rattle.cmap_writer.specs.declared.prepared.Prepared.{Prepared}
@@ -22,18 +25,29 @@ use Rattle.cmap_writer.specs.declared.segments.Segment.{Segment}
 use Rattle.cmap_writer.proofs.FileKept.{file_said, head, keeps}
 use Rattle.cmap_writer.proofs.FilesWritten.{AllOf-written, joined}
 use Rattle.cmap_writer.proofs.FrontsWritten.{FramedAt-written, payload-written}
-use Rattle.cmap_writer.proofs.ListsKept.{all_by_any, all_kinds, declared_both}
+use Rattle.cmap_values.proofs.KindsMade.{all_kinds}
+use Rattle.cmap_writer.proofs.ListsKept.{all_by_any, declared_both}
 use Rattle.cmap_writer.proofs.SegmentsAdded.{WrittenWhere, adds_both, adds_four}
 
 -- what is added to none
 from_none : (segments : List Segment) (ds : List Declaration) → AddsSegments [] segments ds → (parts : List (List Declaration)) × DeclareEach segments parts × (flat_map (λ part. part) parts ≡ ds)
 from_none segments ds (added, is, (parts, each, flat)) = (parts, subst (λ ss. DeclareEach ss parts) (sym is) each, flat)
 
+-- how many declarations these are
+length_declared : (made : ByLength) (texts : List BfEntry) → length (by_length Declaration.cid made.one made.two made.three made.four ++ map Declaration.bf texts) ≡ length made.one + (length made.two + (length made.three + (length made.four + length texts)))
+length_declared made texts =
+    let one = map (Declaration.cid 1) made.one in
+    let two = map (Declaration.cid 2) made.two in
+    let three = map (Declaration.cid 3) made.three in
+    let four = map (Declaration.cid 4) made.four in
+    omega (arith, length-append (one ++ (two ++ (three ++ four))) (map Declaration.bf texts), length-append one (two ++ (three ++ four)), length-append two (three ++ four), length-append three four, length-map made.one (Declaration.cid 1), length-map made.two (Declaration.cid 2), length-map made.three (Declaration.cid 3), length-map made.four (Declaration.cid 4), length-map texts Declaration.bf)
+
 module _ (file : File) (prepared : Prepared) (made : ByLength) (texts : List BfEntry) where
   pub prepared_is : (a b d : List ℕ) (some : List Segment) → Appends [] a (WritesAll SegmentByAny (metadata_contents file.metadata)) → Appends a b (WritesAll SegmentByAny (map files.uses file.uses)) → Appends b d (DeclareAll SegmentByAny (map Declaration.codespace file.lists.spaces))
       → Appends d prepared.fields.items (DeclareAll SegmentByAny (by_length Declaration.notdef file.lists.notdefs.one file.lists.notdefs.two file.lists.notdefs.three file.lists.notdefs.four)) → AddsSegments [] some (by_length Declaration.cid made.one made.two made.three made.four) → AddsSegments some prepared.segments.items (map Declaration.bf texts)
-      → HaveSameCids file.lists.cids.one made.one → HaveSameCids file.lists.cids.two made.two → HaveSameCids file.lists.cids.three made.three → HaveSameCids file.lists.cids.four made.four → HaveSameTexts file.lists.bfs texts → IsPrepared file prepared
-  prepared_is a b d some first second spaces notdefs cids bfs one_same two_same three_same four_same texts_same =
+      → HaveSameCids file.lists.cids.one made.one → HaveSameCids file.lists.cids.two made.two → HaveSameCids file.lists.cids.three made.three → HaveSameCids file.lists.cids.four made.four → HaveSameTexts file.lists.bfs texts
+      → AreFew (map cid_span file.lists.cids.one) (length made.one) → AreFew (map cid_span file.lists.cids.two) (length made.two) → AreFew (map cid_span file.lists.cids.three) (length made.three) → AreFew (map cid_span file.lists.cids.four) (length made.four) → AreFew (map bf_span file.lists.bfs) (length texts) → length prepared.fields.items ≤ fields_room file → IsPrepared file prepared
+  prepared_is a b d some first second spaces notdefs cids bfs one_same two_same three_same four_same texts_same one_few two_few three_few four_few texts_few room =
       let ds = map Declaration.codespace file.lists.spaces in
       let ns = by_length Declaration.notdef file.lists.notdefs.one file.lists.notdefs.two file.lists.notdefs.three file.lists.notdefs.four in
       let cs = by_length Declaration.cid made.one made.two made.three made.four in
@@ -58,6 +72,8 @@ module _ (file : File) (prepared : Prepared) (made : ByLength) (texts : List BfE
         fields = subst (WritesAll SegmentByAny contents) whole written;
         segments = each;
         keeps = subst (Keeps file) (sym says) (keeps file lists kept);
+        room = room;
+        few = omega (arith, ap length parts_flat, length_declared made texts, one_few, two_few, three_few, four_few, texts_few);
       }
 
 -- ---- the file
@@ -89,7 +105,7 @@ file_written tables file prepared body bytes h written (framed, bytes_are, at) =
 
 -- ---- CIDs of codes of each length
 pub cid_lists : (held : HeldByLength (Vec CidRange)) (old a b c new : List Segment) → AddsSameCids 1 (entries_seen held.one.items) old a → AddsSameCids 2 (entries_seen held.two.items) a b → AddsSameCids 3 (entries_seen held.three.items) b c → AddsSameCids 4 (entries_seen held.four.items) c new → AddsCidLists held old new
-cid_lists held old a b c new (m1, first, s1) (m2, second, s2) (m3, third, s3) (m4, fourth, s4) = record {
+cid_lists held old a b c new (m1, first, s1, f1) (m2, second, s2, f2) (m3, third, s3, f3) (m4, fourth, s4, f4) = record {
   one = m1;
   two = m2;
   three = m3;
@@ -99,4 +115,8 @@ cid_lists held old a b c new (m1, first, s1) (m2, second, s2) (m3, third, s3) (m
   two_same = s2;
   three_same = s3;
   four_same = s4;
+  one_few = f1;
+  two_few = f2;
+  three_few = f3;
+  four_few = f4;
 }

@@ -1,5 +1,5 @@
 -- Segments in a row that declare a list, part by part.
-use Rattle.std.proofs.Common.{◌≡◌, ℕ, List, [], ◌∷◌, ◌++◌, map, refl, ap, ◌∙◌, sym, subst}
+use Rattle.std.proofs.Common.{◌≡◌, ◌<◌, ℕ, zero, suc, List, [], ◌∷◌, ◌++◌, map, refl, ap, ◌∙◌, sym, subst, arith}
 use Rattle.std.specs.List.{flat_map}
 use Rattle.std.proofs.lemmas.List.{append_assoc, append-nil, map-append}
 use Rattle.std.proofs.lemmas.List.Concat.{flat_map-append}
@@ -38,3 +38,8 @@ module _ {X : Type 0} (item : List ℕ → Content × List ℕ → Type 0) (say 
 
   pub done_all : (all : List X) (old now : List ℕ) → DoneTo all [] old now → Appends old now (DeclareAll item (say all))
   done_all all old now h = subst (λ xs. Appends old now (DeclareAll item (say xs))) (sym (h.parts ∙ append-nil h.done)) h.written
+
+-- what is not empty has an element
+pub some_left : (n : ℕ) → (n ≡ 0 → ⊥) → 0 < n
+some_left zero none = absurd (none refl)
+some_left (suc n) none = omega arith

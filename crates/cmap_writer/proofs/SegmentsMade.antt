@@ -1,9 +1,9 @@
 -- Codes that are taken segment by segment.
-use Rattle.std.proofs.Common.{◌≡◌, ℕ, zero, suc, ◌+◌, ◌-◌, ◌^◌, ◌<◌, ◌≤◌, List, inl, inr, [], ◌∷◌, ◌++◌, length, drop, get_or, take, refl, ap, ◌∙◌, sym, subst, arith}
+use Rattle.std.proofs.Common.{◌≡◌, ℕ, zero, suc, ◌+◌, ◌-◌, ◌<◌, ◌≤◌, List, inl, inr, [], ◌∷◌, ◌++◌, length, drop, get_or, take, refl, ap, ◌∙◌, sym, subst, arith}
 use Rattle.std.specs.List.{All}
 use Rattle.std.proofs.lemmas.Bool.{cases_lt}
 use Rattle.std.proofs.lemmas.List.{length-map, length-take-le, map-append, take-append-drop}
-use Rattle.std.proofs.lemmas.List.Elements.{All-head, All-tail, All-weaker}
+use Rattle.std.proofs.lemmas.List.Elements.{All-head, All-tail}
 use Rattle.cmap_values.specs.DeclarationsSeen.{cid_entry_seen, entries_seen}
 use Rattle.cmap_values.specs.declared.declarations.CidRange.{CidRange}
 use Rattle.cmap_binary.specs.BinaryEntries.{Shape, cid_from}
@@ -71,7 +71,7 @@ held_segment shape count xs some few within short first later =
     record {
       order = in_order count 0 xs short (λ d filled. omega arith) (λ k d h w. let e : suc k - 1 ≡ k = omega arith in rw e at ((later (suc k) d (omega arith) h w).after));
       shaped = shaped shape count xs (λ k d h w. shape_at shape xs count k d first later h w);
-      small = All-weaker IsShort (λ e. e.cid < 2 ^ 16) (λ e s. s.3) (entries_seen (take count xs)) here;
+      short = here;
       own = own_segment count xs some (λ k d one h w. (later k d one h w).own);
       few = omega (arith, few, length-map (take count xs) cid_entry_seen, length-take-le count xs within);
     }

@@ -1,7 +1,7 @@
 -- A prefix table that is written, and read back.
-use Rattle.std.proofs.Common.{◌≡◌, ℕ, suc, ◌+◌, ◌*◌, ◌^◌, ◌<◌, List, [], ◌∷◌, ◌++◌, length, map, replicate, refl, ap, ◌∙◌, sym, subst, arith}
+use Rattle.std.proofs.Common.{◌≡◌, ℕ, suc, ◌+◌, ◌*◌, ◌^◌, ◌<◌, ◌≤◌, List, [], ◌∷◌, ◌++◌, length, map, replicate, refl, ap, ◌∙◌, sym, subst, arith}
 use Rattle.std.specs.List.{All, flat_map}
-use Rattle.std.proofs.lemmas.List.{append_assoc, append-nil, length-map}
+use Rattle.std.proofs.lemmas.List.{append_assoc, append-nil, length-append, length-map, length-replicate}
 use Rattle.std.proofs.lemmas.List.Elements.{All-cons, All-head, All-nil, All-tail}
 use Rattle.cmap_packed.specs.PrefixWords.{AreWordLengths, CodeWord, IsSound, lengths_from, lengths_of, zip_words}
 use Rattle.cmap_packed.specs.Fronts.{FieldAt, RowOf}
@@ -9,6 +9,7 @@ use Rattle.cmap_packed.specs.TableFronts.{TableAt}
 use Rattle.cmap_writer.specs.Written.{bytes_of, Appends, Writes}
 use Rattle.cmap_writer.specs.WordsHeld.{word_seen, words_seen}
 use Rattle.cmap_writer.specs.declared.words.Word.{Word}
+use Rattle.cmap_writer.proofs.BytesWritten.{length-bytes_of, length-row}
 use Rattle.cmap_writer.proofs.FrontsWritten.{FieldAt-written, fields, fields_written}
 
 -- one length more
@@ -67,3 +68,20 @@ table_written width m old a b c d counts words first second third last size smal
     ∙ ap (λ bs. bs ++ fields width symbols) (third ∙ ap (λ bs. bs ++ fields 2 counts) (second ∙ ap (λ bs. bs ++ m ∷ []) first ∙ ap (λ n. (old ++ bytes_of 2 1) ++ n ∷ []) size))
     ∙ simp append_assoc in
     (bytes, whole, subst (λ t. Writes (TableAt width) t bytes) table (TableAt-written width counts symbols small (All-symbols (2 ^ (8 * width)) words fit) each (subst AreWordLengths lens sound)))
+
+-- ---- how long a table is
+few_words : (len : ℕ) (counts : List ℕ) → All (λ n. n < 2 ^ 16) counts → length (lengths_from len counts) ≤ 65535 * length counts
+few_words len [] small = omega arith
+few_words len (count ∷ counts) small =
+    let here : count < 2 ^ 16 = All-head (λ n. n < 2 ^ 16) count counts small in
+    omega (arith, here, length-append (replicate count len) (lengths_from (len + 1) counts), length-replicate {A = ℕ} count len, few_words (len + 1) counts (All-tail (λ n. n < 2 ^ 16) count counts small))
+
+length-symbols : (width : ℕ) (words : List Word) → width ≤ 4 → length (flat_map (λ w. bytes_of width w.symbol) words) ≤ 4 * length words
+length-symbols width [] few = omega arith
+length-symbols width (w ∷ words) few = omega (arith, few, length-append (bytes_of width w.symbol) (flat_map (λ (w : Word). bytes_of width w.symbol) words), length-bytes_of width w.symbol, length-symbols width words few)
+
+pub table_len : (width m : ℕ) (words : List Word) (counts old a b c new : List ℕ) → a ≡ old ++ bytes_of 2 1 → b ≡ a ++ m ∷ [] → c ≡ b ++ fields 2 counts → new ≡ c ++ flat_map (λ w. bytes_of width w.symbol) words
+    → width ≤ 4 → All (λ n. n < 2 ^ 16) counts → length counts ≤ 32 → lengths_of (words_seen words) ≡ lengths_from 1 counts → length new < length old + 2 ^ 24
+table_len width m words counts old a b c new first second third last narrow small few are =
+    let size : length words ≡ length (lengths_from 1 counts) = sym (length-map (words_seen words) (λ (w : CodeWord). w.len) ∙ length-map words word_seen) ∙ ap length are in
+    omega (arith, size, few, few_words 1 counts small, ap length first, length-append old (bytes_of 2 1), ap length second, length-append {A = ℕ}, ap length third, length-append b (fields 2 counts), length-row 2 counts, ap length last, length-append c (flat_map (λ (w : Word). bytes_of width w.symbol) words), length-symbols width words narrow)

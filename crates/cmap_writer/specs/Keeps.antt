@@ -3,6 +3,7 @@ use Rattle.std.specs.Prelude.{◌≡◌, ℕ, List, ◌∷◌, ◌++◌, map}
 use Rattle.std.specs.Global.{Vec}
 use Rattle.cmap_values.specs.DeclarationsSeen.{entries_seen}
 use Rattle.cmap_values.specs.Files.{BfEntry, CidEntry, Declaration, File, Lists}
+use Rattle.cmap_values.specs.ListsByKind.{by_length}
 use Rattle.cmap_values.specs.declared.declarations.ByLength.{ByLength}
 use Rattle.cmap_values.specs.declared.declarations.CidRange.{CidRange}
 use Rattle.cmap_unicode.specs.Cids.{declared_cid}
@@ -53,9 +54,5 @@ pub record IsWritten (tables : PrefixTables) (file : File) (bytes : List ℕ) : 
   pub framed : IsFramedFile bytes
 
 -- ---- private aid
--- declarations for codes of one to four bytes
-abbrev pub by_length : (ℕ → CidEntry → Declaration) → List CidEntry → List CidEntry → List CidEntry → List CidEntry → List Declaration
-by_length declare one two three four = map (declare 1) one ++ (map (declare 2) two ++ (map (declare 3) three ++ map (declare 4) four))
-
 abbrev pub notdefs_declared : ByLength (Vec CidRange) → List Declaration
 notdefs_declared lists = by_length Declaration.notdef (entries_seen lists.one.items) (entries_seen lists.two.items) (entries_seen lists.three.items) (entries_seen lists.four.items)

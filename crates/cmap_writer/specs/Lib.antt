@@ -13,5 +13,6 @@ pub mod SegmentsWritten
 pub mod Spelled
 pub mod TextParts
 pub mod Texts
+pub mod Weights
 pub mod WordsHeld
 pub mod Written

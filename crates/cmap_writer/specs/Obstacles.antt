@@ -4,15 +4,16 @@ use Rattle.std.specs.Global.{Vec}
 use Rattle.cmap_runs.specs.declared.runs.Range.{Range}
 use Rattle.cmap_values.specs.DeclarationsSeen.{entries_seen}
 use Rattle.cmap_values.specs.Files.{BfEntry, ByLength, CidEntry, Codespace, File, of_length}
-use Rattle.cmap_values.specs.Metadata.{Collection}
-use Rattle.cmap_values.specs.declared.declarations.ByLength.{ByLength as HeldLists}
+use Rattle.cmap_values.specs.Metadata.{Collection, FileMetadata}
 use Rattle.cmap_values.specs.declared.declarations.CidRange.{CidRange}
 use Rattle.cmap_values.specs.Names.{Family, family_of, ordering_of, registry_of}
 use Rattle.cmap_layers.specs.Lookups.{last_bf}
 use Rattle.cmap_packed.specs.Bundles.{PrefixTables}
 use Rattle.cmap_packed.specs.PrefixWords.{CodeWord}
+use Rattle.cmap_writer.specs.MetadataWritten.{collection_len}
 use Rattle.cmap_writer.specs.Pieces.{cid_told}
 use Rattle.cmap_writer.specs.PreparedFiles.{IsPrepared}
+use Rattle.cmap_writer.specs.Segments.{AreSegmentBytes}
 use Rattle.cmap_writer.specs.Spelled.{IsNoSymbol}
 use Rattle.cmap_writer.specs.declared.prepared.Prepared.{Prepared}
 use Rattle.cmap_writer.specs.declared.segments.Segment.{Segment}
@@ -56,11 +57,22 @@ HasLongText es range = (range.start ≤ range.end) × IsSomeAnd (last_bf es rang
 abbrev pub HasManyTexts : List BfEntry → Range → Type 0
 HasManyTexts es range = (range.start + 2 ^ 16 ≤ range.end) × ((code : ℕ) → range.start ≤ code → code ≤ range.end → IsSome (last_bf es code))
 
+-- with the five bytes before it, it has 2^32 bytes or more
+abbrev pub IsLongCollection : Collection → Type 0
+IsLongCollection collection = 2 ^ 32 ≤ 5 + collection_len collection
+
+abbrev pub IsLongName : List ℕ → Type 0
+IsLongName name = 2 ^ 32 ≤ 5 + length name
+
+-- what names the collection, the name of the file or that of a file that it uses is too long
+abbrev pub HasLongName : File → Type 0
+HasLongName file = (IsSomeAnd file.metadata.collection IsLongCollection ⊎ IsSomeAnd file.metadata.name IsLongName) ⊎ Any IsLongName file.uses
+
 -- this holds of a length and of the list for codes of this length
 abbrev pub InSomeList : ByLength → (ℕ → List CidEntry → Type 0) → Type 0
 InSomeList lists P = (len : ℕ) × P len (of_length lists len)
 
--- the file has this, which the binary form can't say; of what is too long nothing is said
+-- the file has this, which the binary form can't say
 abbrev pub IsObstacle : File → Obstacle → Type 0
 IsObstacle file (LargeCid range) = InSomeList file.lists.cids (λ len es. GivesLargeCid es range) ⊎ InSomeList file.lists.notdefs (λ len es. Any (IsLargeNotdef range) es)
 IsObstacle file (LargeCode code) = Any (λ space. IsLargeEnd code space.len space.low space.high) file.lists.spaces ⊎ InSomeList file.lists.notdefs (λ len es. Any (λ e. IsLargeEnd code len e.start e.end) es)
@@ -68,7 +80,7 @@ IsObstacle file ZeroByte = IsSomeAnd file.metadata.collection HoldsZero
 IsObstacle file CustomFamily = IsSomeAnd file.metadata.collection IsMisnamed
 IsObstacle file (Supplement n) = IsSomeAnd file.metadata.collection (HasWideSupplement n)
 IsObstacle file (Text range) = HasLongText file.lists.bfs range ⊎ HasManyTexts file.lists.bfs range
-IsObstacle file TooLong = Unit {0}
+IsObstacle file TooLong = HasLongName file
 IsObstacle file NoWord = ⊥
 IsObstacle file NoPlace = ⊥
 
@@ -80,15 +92,23 @@ HasNoWord tables segment = Any (IsNoSymbol tables.delta) segment.deltas.items �
 abbrev pub IsUnspelled : PrefixTables → File → Type 0
 IsUnspelled tables file = (prepared : Prepared) × IsPrepared file prepared × Any (HasNoWord tables) prepared.segments.items
 
+-- the ten bytes of a head, and the bytes of all segments, are 2^32 or more
+pub record IsLongBy (tables : PrefixTables) (prepared : Prepared) : Type 0 where
+  pub bytes : List ℕ
+  pub are : AreSegmentBytes tables prepared.segments.items bytes
+  pub long : 2 ^ 32 ≤ 10 + (length prepared.fields.items + length bytes)
+
+-- segments say what the file says, and they are too long together
+abbrev pub IsLongFile : PrefixTables → File → Type 0
+IsLongFile tables file = (prepared : Prepared) × IsPrepared file prepared × IsLongBy tables prepared
+
 -- why a file can't be written by these tables
 abbrev pub IsWriteObstacle : PrefixTables → File → Obstacle → Type 0
 IsWriteObstacle tables file NoWord = IsUnspelled tables file
+IsWriteObstacle tables file TooLong = HasLongName file ⊎ IsLongFile tables file
 IsWriteObstacle tables file other = IsObstacle file other
 
 -- ---- private aid
-abbrev pub by_length_seen : HeldLists (Vec CidRange) → ByLength
-by_length_seen lists = record { one = entries_seen lists.one.items; two = entries_seen lists.two.items; three = entries_seen lists.three.items; four = entries_seen lists.four.items }
-
 -- what part of a file can't be said
 abbrev pub IsCodeObstacle : ℕ → ℕ → Obstacle → Type 0
 IsCodeObstacle len code (LargeCode large) = (large ≡ code) × (256 ^ len ≤ code)
@@ -102,13 +122,11 @@ IsNotdefObstacle len e other = ⊥
 abbrev pub IsNotdefsObstacle : ℕ → List CidEntry → Obstacle → Type 0
 IsNotdefsObstacle len es (LargeCid range) = Any (IsLargeNotdef range) es
 IsNotdefsObstacle len es (LargeCode code) = Any (λ e. IsLargeEnd code len e.start e.end) es
-IsNotdefsObstacle len es TooLong = Unit {0}
 IsNotdefsObstacle len es other = ⊥
 
 abbrev pub IsNotdefListsObstacle : ByLength → Obstacle → Type 0
 IsNotdefListsObstacle lists (LargeCid range) = InSomeList lists (λ len es. Any (IsLargeNotdef range) es)
 IsNotdefListsObstacle lists (LargeCode code) = InSomeList lists (λ len es. Any (λ e. IsLargeEnd code len e.start e.end) es)
-IsNotdefListsObstacle lists TooLong = Unit {0}
 IsNotdefListsObstacle lists other = ⊥
 
 abbrev pub IsSpaceObstacle : Codespace → Obstacle → Type 0
@@ -117,7 +135,6 @@ IsSpaceObstacle space other = ⊥
 
 abbrev pub IsSpacesObstacle : List Codespace → Obstacle → Type 0
 IsSpacesObstacle spaces (LargeCode code) = Any (λ space. IsLargeEnd code space.len space.low space.high) spaces
-IsSpacesObstacle spaces TooLong = Unit {0}
 IsSpacesObstacle spaces other = ⊥
 
 abbrev pub IsTerminatedObstacle : List ℕ → Obstacle → Type 0
@@ -134,12 +151,16 @@ IsCollectionObstacle collection CustomFamily = IsMisnamed collection
 IsCollectionObstacle collection (Supplement n) = HasWideSupplement n collection
 IsCollectionObstacle collection other = ⊥
 
-abbrev pub IsMetadataObstacle : Option Collection → Obstacle → Type 0
-IsMetadataObstacle o ZeroByte = IsSomeAnd o HoldsZero
-IsMetadataObstacle o CustomFamily = IsSomeAnd o IsMisnamed
-IsMetadataObstacle o (Supplement n) = IsSomeAnd o (HasWideSupplement n)
-IsMetadataObstacle o TooLong = Unit {0}
-IsMetadataObstacle o other = ⊥
+abbrev pub IsGivenCollectionObstacle : Option Collection → Obstacle → Type 0
+IsGivenCollectionObstacle o ZeroByte = IsSomeAnd o HoldsZero
+IsGivenCollectionObstacle o CustomFamily = IsSomeAnd o IsMisnamed
+IsGivenCollectionObstacle o (Supplement n) = IsSomeAnd o (HasWideSupplement n)
+IsGivenCollectionObstacle o TooLong = IsSomeAnd o IsLongCollection
+IsGivenCollectionObstacle o other = ⊥
+
+abbrev pub IsMetadataObstacle : FileMetadata → Obstacle → Type 0
+IsMetadataObstacle m TooLong = IsSomeAnd m.collection IsLongCollection ⊎ IsSomeAnd m.name IsLongName
+IsMetadataObstacle m other = IsGivenCollectionObstacle m.collection other
 
 abbrev pub IsCidObstacle : List CidEntry → Obstacle → Type 0
 IsCidObstacle es (LargeCid range) = GivesLargeCid es range
@@ -155,15 +176,29 @@ IsTextObstacle es other = ⊥
 
 abbrev pub IsColumnObstacle : List CodeWord → List ℕ → Obstacle → Type 0
 IsColumnObstacle table symbols NoWord = Any (IsNoSymbol table) symbols
-IsColumnObstacle table symbols TooLong = Unit {0}
+IsColumnObstacle table symbols TooLong = 2 ^ 30 ≤ length symbols
 IsColumnObstacle table symbols other = ⊥
+
+-- it has more entries than two bytes can count
+abbrev pub HasManyEntries : Segment → Type 0
+HasManyEntries segment = (2 ^ 16 ≤ length segment.deltas.items) ⊎ (2 ^ 16 ≤ length segment.counts.items)
+
+-- so large that it can't be a segment of a file that is prepared
+abbrev pub IsLarge : Segment → Type 0
+IsLarge segment = HasManyEntries segment ⊎ (2 ^ 31 ≤ length segment.values.items)
 
 abbrev pub IsSegmentObstacle : PrefixTables → Segment → Obstacle → Type 0
 IsSegmentObstacle tables segment NoWord = HasNoWord tables segment
-IsSegmentObstacle tables segment TooLong = Unit {0}
+IsSegmentObstacle tables segment TooLong = HasManyEntries segment
 IsSegmentObstacle tables segment other = ⊥
 
 abbrev pub IsSegmentsObstacle : PrefixTables → List Segment → Obstacle → Type 0
 IsSegmentsObstacle tables segments NoWord = Any (HasNoWord tables) segments
-IsSegmentsObstacle tables segments TooLong = Unit {0}
+IsSegmentsObstacle tables segments TooLong = Any IsLarge segments
 IsSegmentsObstacle tables segments other = ⊥
+
+-- why what is prepared can't be written
+abbrev pub IsPreparedObstacle : PrefixTables → Prepared → Obstacle → Type 0
+IsPreparedObstacle tables prepared NoWord = Any (HasNoWord tables) prepared.segments.items
+IsPreparedObstacle tables prepared TooLong = Any IsLarge prepared.segments.items ⊎ IsLongBy tables prepared
+IsPreparedObstacle tables prepared other = ⊥

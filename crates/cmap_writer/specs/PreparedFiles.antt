@@ -1,25 +1,40 @@
 -- What is to be written of a file, before it is known how its numbers are spelled.
-use Rattle.std.specs.Prelude.{ℕ, List, ◌++◌, map}
+use Rattle.std.specs.Prelude.{ℕ, ◌+◌, ◌*◌, ◌≤◌, List, ◌++◌, flat_map, length, map}
 use Rattle.cmap_values.specs.Files.{BfEntry, CidEntry, Declaration, File}
 use Rattle.cmap_binary.specs.BinaryFiles.{Content, declares, file_of}
 use Rattle.std.specs.Global.{Vec}
 use Rattle.cmap_values.specs.DeclarationsSeen.{entries_seen}
 use Rattle.cmap_values.specs.declared.declarations.ByLength.{ByLength}
 use Rattle.cmap_values.specs.declared.declarations.CidRange.{CidRange}
-use Rattle.cmap_writer.specs.Keeps.{HaveSameCids, HaveSameTexts, Keeps, by_length}
+use Rattle.cmap_writer.specs.Keeps.{HaveSameCids, HaveSameTexts, Keeps}
+use Rattle.cmap_values.specs.ListsByKind.{by_length}
+use Rattle.std.specs.List.{sum_by}
+use Rattle.cmap_writer.specs.MetadataWritten.{metadata_room}
 use Rattle.cmap_writer.specs.Segments.{AddsSegments, DeclareEach}
 use Rattle.cmap_writer.specs.SegmentsWritten.{SegmentByAny}
+use Rattle.cmap_layers.specs.Lookups.{bf_span, cid_span}
+use Rattle.cmap_writer.specs.Weights.{AreFew, weight_of}
 use Rattle.cmap_writer.specs.Written.{WritesAll}
 use Rattle.cmap_writer.specs.declared.prepared.Prepared.{Prepared}
 use Rattle.cmap_writer.specs.declared.segments.Segment.{Segment}
 
 -- segments by which codes of this length have the CIDs that they have by a list come after the old ones
 abbrev pub AddsSameCids : ℕ → List CidEntry → List Segment → List Segment → Type 0
-AddsSameCids len es old new = (made : List CidEntry) × AddsSegments old new (map (Declaration.cid len) made) × HaveSameCids es made
+AddsSameCids len es old new = (made : List CidEntry) × AddsSegments old new (map (Declaration.cid len) made) × HaveSameCids es made × AreFew (map cid_span es) (length made)
 
 -- and by which codes have the texts that they have by a list
 abbrev pub AddsSameTexts : List BfEntry → List Segment → List Segment → Type 0
-AddsSameTexts es old new = (made : List BfEntry) × AddsSegments old new (map Declaration.bf made) × HaveSameTexts es made
+AddsSameTexts es old new = (made : List BfEntry) × AddsSegments old new (map Declaration.bf made) × HaveSameTexts es made × AreFew (map bf_span es) (length made)
+
+-- the weights of all lists of a file
+abbrev pub file_weight : File → ℕ
+file_weight file = weight_of (map cid_span file.lists.cids.one) + (weight_of (map cid_span file.lists.cids.two) + (weight_of (map cid_span file.lists.cids.three) + (weight_of (map cid_span file.lists.cids.four) + weight_of (map bf_span file.lists.bfs))))
+
+-- the most bytes that a file has beside its CIDs and texts
+abbrev pub fields_room : File → ℕ
+fields_room file =
+    let notdefs = file.lists.notdefs in
+    metadata_room file.metadata + (sum_by (λ name. 5 + length name) file.uses + (15 * length file.lists.spaces + 18 * (length notdefs.one + (length notdefs.two + (length notdefs.three + length notdefs.four)))))
 
 -- segments without columns, and others, which say together what keeps the file
 pub record IsPrepared (file : File) (prepared : Prepared) : Type 0 where
@@ -28,6 +43,8 @@ pub record IsPrepared (file : File) (prepared : Prepared) : Type 0 where
   pub fields : WritesAll SegmentByAny contents prepared.fields.items
   pub segments : DeclareEach prepared.segments.items parts
   pub keeps : Keeps file (file_of (contents ++ map declares parts))
+  pub room : length prepared.fields.items ≤ fields_room file
+  pub few : 256 * length (flat_map (λ part. part) parts) ≤ file_weight file
 
 -- segments by which codes of each length have the CIDs that they have by these lists come after the old ones
 pub record AddsCidLists (lists : ByLength (Vec CidRange)) (old new : List Segment) : Type 0 where
@@ -40,3 +57,7 @@ pub record AddsCidLists (lists : ByLength (Vec CidRange)) (old new : List Segmen
   pub two_same : HaveSameCids (entries_seen lists.two.items) two
   pub three_same : HaveSameCids (entries_seen lists.three.items) three
   pub four_same : HaveSameCids (entries_seen lists.four.items) four
+  pub one_few : AreFew (map cid_span (entries_seen lists.one.items)) (length one)
+  pub two_few : AreFew (map cid_span (entries_seen lists.two.items)) (length two)
+  pub three_few : AreFew (map cid_span (entries_seen lists.three.items)) (length three)
+  pub four_few : AreFew (map cid_span (entries_seen lists.four.items)) (length four)

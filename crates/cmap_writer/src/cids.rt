@@ -11,7 +11,7 @@ ghost use Rattle.cmap_writer.specs.Held.{AreHeld};
 ghost use Rattle.cmap_writer.specs.Obstacles.{IsCidObstacle};
 ghost use Rattle.cmap_writer.specs.Pieces.{IsShort};
 ghost use Rattle.cmap_writer.specs.PreparedFiles.{AddsSameCids};
-ghost use Rattle.cmap_writer.specs.Segments.{AddsSegments, DeclaresAll};
+ghost use Rattle.cmap_writer.specs.Segments.{AddsSegments, IsSegmentOf};
 ghost use Rattle.cmap_writer.specs.Written.{bytes_of};
 
 use crate::bytes::push_number;
@@ -108,7 +108,7 @@ fn cid_segment(
     entries: &[CidRange],
 ) -> Result<Segment, AllocError>
     requires { AreHeld (shape_seen shape) (entries_seen entries.now) }
-    ensures { IfOk result (λ segment. DeclaresAll segment (map (Declaration.cid (length_of len)) (entries_seen entries.now))) }
+    ensures { IfOk result (λ segment. IsSegmentOf segment (map (Declaration.cid (length_of len)) (entries_seen entries.now))) }
 {
     let number = match shape {
         Shape::Ranges => 2 * len.count() - 1,

@@ -1,6 +1,6 @@
 //! Segments of codespace ranges.
 
-ghost use Rattle.std.specs.Prelude.{◌<◌, ◌^◌, IfErr, IfOk, length, map};
+ghost use Rattle.std.specs.Prelude.{◌+◌, ◌*◌, ◌<◌, ◌≤◌, ◌^◌, IfErr, IfOk, length, map};
 ghost use Rattle.cmap_values.specs.DeclarationsSeen.{codespace_seen};
 ghost use Rattle.cmap_values.specs.Files.{Declaration};
 ghost use Rattle.cmap_values.specs.Outcomes.{RefusesWith};
@@ -30,6 +30,7 @@ pub(crate) fn push_codespaces(
 ) -> Result<(), Fault<Obstacle>>
     ensures written { IfOk result (λ _. Appends out.old.items out.new.items
         (DeclareAll SegmentByAny (map Declaration.codespace (map codespace_seen spaces.now)))) }
+    ensures len { IfOk result (λ _. length out.new.items ≤ length out.old.items + 15 * length spaces.now) }
     ensures err { IfErr result (RefusesWith (IsSpacesObstacle (map codespace_seen spaces.now))) }
 {
     let mut left = spaces;
@@ -46,6 +47,7 @@ pub(crate) fn push_codespaces(
 fn codespace_payload(alloc: Global, spaces: &[Codespace]) -> Result<Vec<u8>, Fault<Obstacle>>
     requires { length spaces.now < 2 ^ 8 }
     ensures written { IfOk result (λ payload. CodespacesIn payload.items (map codespace_seen spaces.now)) }
+    ensures len { IfOk result (λ payload. length payload.items ≤ 1 + 9 * length spaces.now) }
     ensures err { IfErr result (RefusesWith (IsSpacesObstacle (map codespace_seen spaces.now))) }
 {
     let mut payload = Vec::new(alloc);
@@ -57,6 +59,7 @@ fn codespace_payload(alloc: Global, spaces: &[Codespace]) -> Result<Vec<u8>, Fau
 /// Writes codespace ranges in a row.
 fn push_spaces(out: &mut Vec<u8>, spaces: &[Codespace]) -> Result<(), Fault<Obstacle>>
     ensures written { IfOk result (λ _. Appends out.old.items out.new.items (WritesAll CodespaceAt (map codespace_seen spaces.now))) }
+    ensures len { IfOk result (λ _. length out.new.items ≤ length out.old.items + 9 * length spaces.now) }
     ensures err { IfErr result (RefusesWith (IsSpacesObstacle (map codespace_seen spaces.now))) }
 {
     for space in spaces {
@@ -68,6 +71,7 @@ fn push_spaces(out: &mut Vec<u8>, spaces: &[Codespace]) -> Result<(), Fault<Obst
 /// Writes a codespace range: the length of its codes, low, high.
 fn push_space(out: &mut Vec<u8>, space: Codespace) -> Result<(), Fault<Obstacle>>
     ensures written { IfOk result (λ _. Appends out.old.items out.new.items (Writes CodespaceAt (codespace_seen space))) }
+    ensures len { IfOk result (λ _. length out.new.items ≤ length out.old.items + 9) }
     ensures err { IfErr result (RefusesWith (IsSpaceObstacle (codespace_seen space))) }
 {
     out.push(space.len.count())?;

@@ -1,6 +1,6 @@
 //! Columns of a segment: which codes its entries have.
 
-ghost use Rattle.std.specs.Prelude.{◌≡◌, ◌≤◌, IfErr, IfOk, IsTrue, map};
+ghost use Rattle.std.specs.Prelude.{◌≡◌, ◌+◌, ◌*◌, ◌≤◌, IfErr, IfOk, IsTrue, length, map};
 ghost use Rattle.cmap_values.specs.Outcomes.{RefusesWith};
 ghost use Rattle.cmap_binary.specs.BinaryEntries.{ranges};
 ghost use Rattle.cmap_writer.specs.ColumnsWritten.{WritesColumn};
@@ -72,6 +72,7 @@ pub(crate) fn push_columns(
 ) -> Result<(), Fault<Obstacle>>
     ensures written { IfOk result (λ _. Appends out.old.items out.new.items (WritesNumbers (encoders_seen tables.now)
         (shape_seen segment.now.shape) segment.now.deltas.items segment.now.counts.items)) }
+    ensures len { IfOk result (λ _. length out.new.items ≤ length out.old.items + 8 + 4 * (length segment.now.deltas.items + length segment.now.counts.items)) }
     ensures err { IfErr result (RefusesWith (IsSegmentObstacle (encoders_seen tables.now) segment.now)) }
 {
     push_column(alloc, &tables.delta, &segment.deltas, out)?;
@@ -89,6 +90,7 @@ fn push_column(
     out: &mut Vec<u8>,
 ) -> Result<(), Fault<Obstacle>>
     ensures written { IfOk result (λ _. Appends out.old.items out.new.items (WritesColumn table.now symbols.now)) }
+    ensures len { IfOk result (λ _. length out.new.items ≤ length out.old.items + 4 + 4 * length symbols.now) }
     ensures err { IfErr result (RefusesWith (IsColumnObstacle table.now symbols.now)) }
 {
     let Some(text) = table.spell(alloc, symbols)? else {

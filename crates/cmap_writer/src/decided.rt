@@ -2,13 +2,14 @@
 //! matter.
 
 ghost use Rattle.std.specs.Prelude.{◌≡◌, ◌+◌, ◌-◌, ◌<◌, ◌≤◌, ◌^◌, All, IfErr, IfNone, IfOk, IfSome, IsTrue, get_or, length, map};
-ghost use Rattle.cmap_values.specs.DeclarationsSeen.{cid_entry_seen, entries_seen};
+ghost use Rattle.cmap_values.specs.DeclarationsSeen.{cid_entry_seen, cid_range_span, entries_seen};
 ghost use Rattle.cmap_values.specs.Outcomes.{RefusesWith};
 ghost use Rattle.cmap_layers.specs.Lookups.{cid_at, cid_span};
 ghost use Rattle.cmap_values.specs.declared.declarations.CidRange.{CidRange};
 ghost use Rattle.cmap_writer.specs.Follows.{GoesOn};
 ghost use Rattle.cmap_writer.specs.Obstacles.{IsCidObstacle};
 ghost use Rattle.cmap_writer.specs.Pieces.{CanBeSplit, SayTheSame, Takes};
+ghost use Rattle.cmap_writer.specs.Weights.{cids_weight, span_weight, weight_of};
 
 use crate::obstacle::Obstacle;
 use cmap_runs::runs::{Looks, Range, Table};
@@ -26,6 +27,7 @@ pub(crate) fn decided_cids(
     list: &[CidRange],
 ) -> Result<Vec<CidRange>, Fault<Obstacle>>
     ensures same { IfOk result (λ ranges. SayTheSame cid_span cid_at (entries_seen list.now) (entries_seen ranges.items) × All CanBeSplit (entries_seen ranges.items)) }
+    ensures few { IfOk result (λ ranges. cids_weight ranges.items ≤ weight_of (map cid_range_span list.now)) }
     ensures err { IfErr result (RefusesWith (IsCidObstacle (entries_seen list.now))) }
 {
     let table = table_of(alloc, list)?;
@@ -36,6 +38,7 @@ pub(crate) fn decided_cids(
 fn ranges_of(alloc: Global, table: &Table<CidRange>) -> Result<Vec<CidRange>, Fault<Obstacle>>
     requires { All (λ r. r.range.end < 2 ^ 32) table.now }
     ensures same { IfOk result (λ ranges. SayTheSame cid_span cid_at (entries_seen table.now) (entries_seen ranges.items) × All CanBeSplit (entries_seen ranges.items)) }
+    ensures few { IfOk result (λ ranges. cids_weight ranges.items ≤ weight_of (map cid_range_span table.now)) }
     ensures err { IfErr result (RefusesWith (IsCidObstacle (entries_seen table.now))) }
 {
     let mut looks = Looks::new();
@@ -103,6 +106,7 @@ fn push_joined(ranges: &mut Vec<CidRange>, range: CidRange) -> Result<(), AllocE
     requires all { All CanBeSplit (entries_seen ranges.now.items) }
     requires one { CanBeSplit (cid_entry_seen range) }
     ensures all { IfOk result (λ _. All CanBeSplit (entries_seen ranges.new.items)) }
+    ensures few { IfOk result (λ _. cids_weight ranges.new.items ≤ cids_weight ranges.old.items + span_weight (cid_range_span range)) }
     ensures taken { IfOk result (λ _. Takes cid_span cid_at (entries_seen ranges.old.items) (entries_seen ranges.new.items) (cid_entry_seen range)) }
 {
     if is_continued(ranges, &range) {

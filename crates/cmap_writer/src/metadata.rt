@@ -1,6 +1,7 @@
 //! Segments of what a file states about itself, and of the names that it uses.
 
-ghost use Rattle.std.specs.Prelude.{◌≡◌, ◌<◌, ◌^◌, ⊤, IfErr, IfNone, IfOk, IfSome, Some, map, option_map, pos};
+ghost use Rattle.std.specs.List.{sum_by};
+ghost use Rattle.std.specs.Prelude.{◌≡◌, ◌+◌, ◌<◌, ◌≤◌, ◌^◌, Any, IfErr, IfNone, IfOk, IfSome, IsSomeAnd, Some, length, map, option_map, pos};
 ghost use Rattle.cmap_values.specs.NamesSeen.{names_seen};
 ghost use Rattle.cmap_values.specs.Metadata.{mode_numbered};
 ghost use Rattle.cmap_values.specs.MetadataSeen.{collection_seen, family_seen, metadata_seen, mode_seen};
@@ -10,8 +11,8 @@ ghost use Rattle.cmap_binary.specs.BinaryFiles as files;
 ghost use Rattle.cmap_binary.specs.BinaryFiles.{CollectionIn, sets_collection, sets_mode, sets_name};
 ghost use Rattle.cmap_packed.specs.Fronts.{TerminatedAt};
 ghost use Rattle.cmap_writer.specs.Failures.{IsTooLongIf};
-ghost use Rattle.cmap_writer.specs.MetadataWritten.{from_option, metadata_contents};
-ghost use Rattle.cmap_writer.specs.Obstacles.{HasWideSupplement, IsCollectionObstacle, IsFamilyObstacle, IsMetadataObstacle, IsTerminatedObstacle};
+ghost use Rattle.cmap_writer.specs.MetadataWritten.{collection_len, from_option, metadata_contents, metadata_room, option_room};
+ghost use Rattle.cmap_writer.specs.Obstacles.{HasWideSupplement, IsCollectionObstacle, IsFamilyObstacle, IsGivenCollectionObstacle, IsLongName, IsMetadataObstacle, IsTerminatedObstacle};
 ghost use Rattle.cmap_writer.specs.SegmentsWritten.{SegmentByAny};
 ghost use Rattle.cmap_writer.specs.Written.{Appends, Writes, WritesAll};
 
@@ -40,7 +41,8 @@ pub(crate) fn push_metadata(
     out: &mut Vec<u8>,
 ) -> Result<(), Fault<Obstacle>>
     ensures written { IfOk result (λ _. Appends out.old.items out.new.items (WritesAll SegmentByAny (metadata_contents (metadata_seen metadata.now)))) }
-    ensures err { IfErr result (RefusesWith (IsMetadataObstacle (metadata_seen metadata.now).collection)) }
+    ensures len { IfOk result (λ _. length out.new.items ≤ length out.old.items + metadata_room (metadata_seen metadata.now)) }
+    ensures err { IfErr result (RefusesWith (IsMetadataObstacle (metadata_seen metadata.now))) }
 {
     push_collection(alloc, &metadata.character_collection, out)?;
     push_name(&metadata.name, out)?;
@@ -50,7 +52,8 @@ pub(crate) fn push_metadata(
 /// Writes segments for the names of the files that are used, in order.
 pub(crate) fn push_uses(names: &[&[u8]], out: &mut Vec<u8>) -> Result<(), Fault<Obstacle>>
     ensures written { IfOk result (λ _. Appends out.old.items out.new.items (WritesAll SegmentByAny (map files.uses (names_seen names.now)))) }
-    ensures err { IfErr result (IsTooLongIf ⊤) }
+    ensures len { IfOk result (λ _. length out.new.items ≤ length out.old.items + sum_by (λ name. 5 + length name) (names_seen names.now)) }
+    ensures err { IfErr result (IsTooLongIf (Any IsLongName (names_seen names.now))) }
 {
     for name in names {
         push_segment(out, USES, *name)?;
@@ -62,7 +65,8 @@ pub(crate) fn push_uses(names: &[&[u8]], out: &mut Vec<u8>) -> Result<(), Fault<
 fn push_name(name: &Option<Vec<u8>>, out: &mut Vec<u8>) -> Result<(), Fault<Obstacle>>
     ensures written { IfOk result (λ _. Appends out.old.items out.new.items
         (WritesAll SegmentByAny (from_option (λ name. sets_name name.items) name.now))) }
-    ensures err { IfErr result (IsTooLongIf ⊤) }
+    ensures len { IfOk result (λ _. length out.new.items ≤ length out.old.items + option_room (λ name. 5 + length name.items) name.now) }
+    ensures err { IfErr result (IsTooLongIf (IsSomeAnd name.now (λ name. IsLongName name.items))) }
 {
     match name {
         Some(name) => push_segment(out, NAME, name),
@@ -74,7 +78,8 @@ fn push_name(name: &Option<Vec<u8>>, out: &mut Vec<u8>) -> Result<(), Fault<Obst
 fn push_mode(mode: Option<WritingMode>, out: &mut Vec<u8>) -> Result<(), Fault<Obstacle>>
     ensures written { IfOk result (λ _. Appends out.old.items out.new.items
         (WritesAll SegmentByAny (from_option (λ mode. sets_mode (Some (mode_seen mode))) mode))) }
-    ensures err { IfErr result (IsTooLongIf ⊤) }
+    ensures len { IfOk result (λ _. length out.new.items ≤ length out.old.items + 6) }
+    ensures err { IfErr result (IsTooLongIf ⊥) }
 {
     match mode {
         Some(mode) => push_segment(out, MODE, &[mode_number(mode)]),
@@ -100,7 +105,9 @@ fn push_collection(
 ) -> Result<(), Fault<Obstacle>>
     ensures written { IfOk result (λ _. Appends out.old.items out.new.items
         (WritesAll SegmentByAny (from_option (λ collection. sets_collection (collection_seen collection)) collection.now))) }
-    ensures err { IfErr result (RefusesWith (IsMetadataObstacle (option_map collection_seen collection.now))) }
+    ensures len { IfOk result (λ _. length out.new.items ≤ length out.old.items
+        + option_room (λ collection. 5 + collection_len (collection_seen collection)) collection.now) }
+    ensures err { IfErr result (RefusesWith (IsGivenCollectionObstacle (option_map collection_seen collection.now))) }
 {
     match collection {
         Some(collection) => {
@@ -117,6 +124,7 @@ fn collection_payload(
     collection: &CharacterCollection,
 ) -> Result<Vec<u8>, Fault<Obstacle>>
     ensures written { IfOk result (λ payload. CollectionIn payload.items (collection_seen collection.now)) }
+    ensures len { IfOk result (λ payload. length payload.items ≡ collection_len (collection_seen collection.now)) }
     ensures err { IfErr result (RefusesWith (IsCollectionObstacle (collection_seen collection.now))) }
 {
     let family = &collection.family;
@@ -156,6 +164,7 @@ fn check_family(alloc: Global, family: &CidFamily) -> Result<(), Fault<Obstacle>
 /// Writes a text and the zero byte that ends it.
 fn push_terminated(out: &mut Vec<u8>, text: &[u8]) -> Result<(), Fault<Obstacle>>
     ensures written { IfOk result (λ _. Appends out.old.items out.new.items (Writes TerminatedAt text.now)) }
+    ensures len { IfOk result (λ _. length out.new.items ≡ length out.old.items + length text.now + 1) }
     ensures err { IfErr result (RefusesWith (IsTerminatedObstacle text.now)) }
 {
     if text.contains(&0) {

@@ -1,6 +1,6 @@
 //! Segments of notdef declarations.
 
-ghost use Rattle.std.specs.Prelude.{◌≡◌, ◌+◌, ◌*◌, ◌<◌, ◌^◌, IfErr, IfOk, length, map};
+ghost use Rattle.std.specs.Prelude.{◌≡◌, ◌+◌, ◌*◌, ◌<◌, ◌≤◌, ◌^◌, IfErr, IfOk, length, map};
 ghost use Rattle.cmap_values.specs.CodeLengths.{length_of};
 ghost use Rattle.cmap_values.specs.DeclarationsSeen.{cid_entry_seen, entries_seen};
 ghost use Rattle.cmap_values.specs.Files.{Declaration};
@@ -35,6 +35,7 @@ pub(crate) fn push_notdefs(
 ) -> Result<(), Fault<Obstacle>>
     ensures written { IfOk result (λ _. Appends out.old.items out.new.items
         (DeclareAll SegmentByAny (map (Declaration.notdef (length_of len)) (entries_seen entries.now)))) }
+    ensures len { IfOk result (λ _. length out.new.items ≤ length out.old.items + 18 * length entries.now) }
     ensures err { IfErr result (RefusesWith (IsNotdefsObstacle (length_of len) (entries_seen entries.now))) }
 {
     let mut left = entries;
@@ -55,6 +56,7 @@ fn notdef_payload(
 ) -> Result<Vec<u8>, Fault<Obstacle>>
     requires { length entries.now < 2 ^ 16 }
     ensures written { IfOk result (λ payload. NotdefsIn payload.items (length_of len, entries_seen entries.now)) }
+    ensures len { IfOk result (λ payload. length payload.items ≤ 3 + 10 * length entries.now) }
     ensures err { IfErr result (RefusesWith (IsNotdefsObstacle (length_of len) (entries_seen entries.now))) }
 {
     let mut payload = Vec::new(alloc);
@@ -71,6 +73,7 @@ fn push_entries(
     entries: &[CidRange],
 ) -> Result<(), Fault<Obstacle>>
     ensures written { IfOk result (λ _. Appends out.old.items out.new.items (WritesAll (NotdefAt (length_of len)) (entries_seen entries.now))) }
+    ensures len { IfOk result (λ _. length out.new.items ≤ length out.old.items + 10 * length entries.now) }
     ensures err { IfErr result (RefusesWith (IsNotdefsObstacle (length_of len) (entries_seen entries.now))) }
 {
     for entry in entries {
@@ -82,6 +85,7 @@ fn push_entries(
 /// Writes a notdef declaration: start, end, and a CID of two bytes.
 fn push_notdef(out: &mut Vec<u8>, len: CodeLength, entry: &CidRange) -> Result<(), Fault<Obstacle>>
     ensures written { IfOk result (λ _. Appends out.old.items out.new.items (Writes (NotdefAt (length_of len)) (cid_entry_seen entry.now))) }
+    ensures len { IfOk result (λ _. length out.new.items ≤ length out.old.items + 10) }
     ensures err { IfErr result (RefusesWith (IsNotdefObstacle (length_of len) (cid_entry_seen entry.now))) }
 {
     if entry.cid > LARGEST_CID {
@@ -100,6 +104,7 @@ pub(crate) fn push_code(
     code: u32,
 ) -> Result<(), Fault<Obstacle>>
     ensures written { IfOk result (λ _. Appends out.old.items out.new.items (Writes (CodeAt (length_of len)) code)) }
+    ensures len { IfOk result (λ _. length out.new.items ≤ length out.old.items + 4) }
     ensures err { IfErr result (RefusesWith (IsCodeObstacle (length_of len) code)) }
 {
     if code > largest_code(len) {

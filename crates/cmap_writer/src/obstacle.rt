@@ -19,7 +19,7 @@ pub enum Obstacle {
     /// in a row.
     Text(Range),
     /// A table has no code word for a number that is to be spelled by it; or there are more than
-    /// 65535 numbers to spell.
+    /// 65535 different numbers to spell.
     NoWord,
     /// Something would have 2^32 bytes or more.
     TooLong,

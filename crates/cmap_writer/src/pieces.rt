@@ -54,6 +54,8 @@ pub(crate) fn push_segment(
     ensures written { IfOk result (λ _. Appends out.old.items out.new.items (λ bytes.
         (tables : PrefixTables) (content : Content) → IsSegment tables number payload.now content
         → Writes (SegmentAt tables) content bytes)) }
+    ensures framed { IfOk result (λ _. Appends out.old.items out.new.items (IsFramed (number ∷ []) payload.now)) }
+    ensures len { IfOk result (λ _. length out.new.items ≡ length out.old.items + 5 + length payload.now) }
     ensures err { IfErr result (IsTooLongIf (2 ^ 32 ≤ 5 + length payload.now)) }
 {
     push_framed(out, &[number], payload)

@@ -1,12 +1,13 @@
 //! A file before it is known how its numbers are spelled.
 
-ghost use Rattle.std.specs.Prelude.{IfErr, IfOk};
+ghost use Rattle.std.specs.Prelude.{◌+◌, ◌*◌, ◌≤◌, IfErr, IfOk, length};
 ghost use Rattle.cmap_values.specs.Files.{File as Said};
 ghost use Rattle.cmap_values.specs.FilesSeen.{file_seen};
 ghost use Rattle.cmap_values.specs.Outcomes.{RefusesWith};
 ghost use Rattle.cmap_writer.specs.EncodersSeen.{encoders_seen};
 ghost use Rattle.cmap_writer.specs.Keeps.{IsWritten, notdefs_declared};
-ghost use Rattle.cmap_writer.specs.Obstacles.{IsCidListsObstacle, IsNotdefListsObstacle, IsObstacle, IsSegmentsObstacle, by_length_seen};
+ghost use Rattle.cmap_writer.specs.Obstacles.{IsCidListsObstacle, IsNotdefListsObstacle, IsObstacle, IsPreparedObstacle};
+ghost use Rattle.cmap_values.specs.DeclarationsSeen.{by_length_seen};
 ghost use Rattle.cmap_writer.specs.PreparedFiles.{AddsCidLists, IsPrepared};
 ghost use Rattle.cmap_writer.specs.SegmentsWritten.{DeclareAll, SegmentByAny};
 ghost use Rattle.cmap_writer.specs.Written.{Appends, IsFramedFile};
@@ -58,6 +59,8 @@ fn push_notdef_lists(
     out: &mut Vec<u8>,
 ) -> Result<(), Fault<Obstacle>>
     ensures written { IfOk result (λ _. Appends out.old.items out.new.items (DeclareAll SegmentByAny (notdefs_declared lists.now))) }
+    ensures len { IfOk result (λ _. length out.new.items ≤ length out.old.items
+        + 18 * (length lists.now.one.items + (length lists.now.two.items + (length lists.now.three.items + length lists.now.four.items)))) }
     ensures err { IfErr result (RefusesWith (IsNotdefListsObstacle (by_length_seen lists.now))) }
 {
     push_notdefs(alloc, CodeLength::One, &lists.one, out)?;
@@ -87,7 +90,7 @@ impl Prepared {
         ensures framed { IfOk result (λ bytes. IsFramedFile bytes.items) }
         ensures written { IfOk result (λ bytes. (file : Said) → IsPrepared file self.now
             → IsWritten (encoders_seen tables.now) file bytes.items) }
-        ensures err { IfErr result (RefusesWith (IsSegmentsObstacle (encoders_seen tables.now) self.now.segments.items)) }
+        ensures err { IfErr result (RefusesWith (IsPreparedObstacle (encoders_seen tables.now) self.now)) }
     {
         let mut body = Vec::from_slice(alloc, &self.fields)?;
         push_segments(alloc, tables, &self.segments, &mut body)?;

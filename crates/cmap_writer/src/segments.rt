@@ -1,12 +1,12 @@
 //! Segments of CIDs and of texts, before it is known how their numbers are spelled.
 
-ghost use Rattle.std.specs.Prelude.{IfErr, IfOk, List, map};
+ghost use Rattle.std.specs.Prelude.{◌+◌, ◌*◌, ◌≤◌, IfErr, IfOk, List, length, map};
 ghost use Rattle.cmap_values.specs.Files.{Declaration};
 ghost use Rattle.cmap_values.specs.Outcomes.{RefusesWith};
 ghost use Rattle.cmap_binary.specs.BinaryFiles.{SegmentAt, declares};
 ghost use Rattle.cmap_writer.specs.EncodersSeen.{encoders_seen};
 ghost use Rattle.cmap_writer.specs.Obstacles.{IsSegmentObstacle, IsSegmentsObstacle};
-ghost use Rattle.cmap_writer.specs.Segments.{DeclareEach, IsPayloadOf};
+ghost use Rattle.cmap_writer.specs.Segments.{AreSegmentBytes, DeclareEach, IsPayloadOf};
 ghost use Rattle.cmap_writer.specs.Written.{Appends, WritesAll};
 
 use crate::bytes::push_number;
@@ -38,6 +38,7 @@ pub(crate) fn push_segments(
 ) -> Result<(), Fault<Obstacle>>
     ensures written { IfOk result (λ _. (parts : List (List Declaration)) → DeclareEach segments.now parts
         → Appends out.old.items out.new.items (WritesAll (SegmentAt (encoders_seen tables.now)) (map declares parts))) }
+    ensures bytes { IfOk result (λ _. Appends out.old.items out.new.items (AreSegmentBytes (encoders_seen tables.now) segments.now)) }
     ensures err { IfErr result (RefusesWith (IsSegmentsObstacle (encoders_seen tables.now) segments.now)) }
 {
     for segment in segments {
@@ -54,6 +55,8 @@ fn payload_of(
     segment: &Segment,
 ) -> Result<Vec<u8>, Fault<Obstacle>>
     ensures written { IfOk result (λ payload. IsPayloadOf (encoders_seen tables.now) segment.now payload.items) }
+    ensures len { IfOk result (λ payload. length payload.items
+        ≤ 10 + 4 * (length segment.now.deltas.items + length segment.now.counts.items) + length segment.now.values.items) }
     ensures err { IfErr result (RefusesWith (IsSegmentObstacle (encoders_seen tables.now) segment.now)) }
 {
     let Ok(count) = u16::try_from(segment.deltas.len()) else {

@@ -1,14 +1,15 @@
 //! Which codes the declarations of a list decide to have texts: ranges that lie apart, in pieces that a
 //! segment can hold.
 
-ghost use Rattle.std.specs.Prelude.{◌≡◌, ◌-◌, ◌<◌, ◌≤◌, ◌^◌, [], ◌∷◌, ◌++◌, All, IfErr, IfOk, map};
-ghost use Rattle.cmap_values.specs.DeclarationsSeen.{bf_entry_seen};
+ghost use Rattle.std.specs.Prelude.{◌≡◌, ◌+◌, ◌-◌, ◌*◌, ◌<◌, ◌≤◌, ◌^◌, [], ◌∷◌, ◌++◌, All, IfErr, IfOk, length, map};
+ghost use Rattle.cmap_values.specs.DeclarationsSeen.{bf_entry_seen, bf_range_span};
 ghost use Rattle.cmap_values.specs.Outcomes.{RefusesWith};
 ghost use Rattle.cmap_values.specs.UnitsSeen.{units_seen};
 ghost use Rattle.cmap_layers.specs.Lookups.{bf_at, bf_span};
 ghost use Rattle.cmap_writer.specs.Obstacles.{IsTextObstacle};
 ghost use Rattle.cmap_writer.specs.Pieces.{ArePieces, CanBeSplitText, IsShortText, PushesPieces, SayTheSame};
 ghost use Rattle.cmap_writer.specs.TextParts.{IsDecidedText, IsPartOf, IsShifted};
+ghost use Rattle.cmap_writer.specs.Weights.{span_weight, texts_weight, weight_of};
 
 use crate::decided::last_code;
 use crate::obstacle::Obstacle;
@@ -31,6 +32,7 @@ pub(crate) fn decided_texts(
     ensures same { IfOk result (λ ranges. SayTheSame bf_span bf_at (map bf_entry_seen list.now) (map bf_entry_seen ranges.items)) }
     ensures small { IfOk result (λ ranges. All IsDecidedText (map bf_entry_seen ranges.items)) }
     ensures parts { IfOk result (λ ranges. All (IsPartOf (map bf_entry_seen list.now)) (map bf_entry_seen ranges.items)) }
+    ensures few { IfOk result (λ ranges. texts_weight ranges.items ≤ weight_of (map bf_span (map bf_entry_seen list.now))) }
     ensures err { IfErr result (RefusesWith (IsTextObstacle (map bf_entry_seen list.now))) }
 {
     let table = text_table(alloc, list)?;
@@ -43,6 +45,7 @@ fn text_ranges_of(alloc: Global, table: &Table<BfRange>) -> Result<Vec<BfRange>,
     ensures same { IfOk result (λ ranges. SayTheSame bf_span bf_at (map bf_entry_seen table.now) (map bf_entry_seen ranges.items)) }
     ensures small { IfOk result (λ ranges. All IsDecidedText (map bf_entry_seen ranges.items)) }
     ensures parts { IfOk result (λ ranges. All (IsPartOf (map bf_entry_seen table.now)) (map bf_entry_seen ranges.items)) }
+    ensures few { IfOk result (λ ranges. texts_weight ranges.items ≤ weight_of (map bf_range_span table.now)) }
     ensures err { IfErr result (RefusesWith (IsTextObstacle (map bf_entry_seen table.now))) }
 {
     let mut looks = Looks::new();
@@ -122,7 +125,8 @@ fn with_last(alloc: Global, front: &[u16], last: u16) -> Result<Units, AllocErro
 /// The same ranges, in pieces of 1 to 257 codes.
 pub(crate) fn split_texts(alloc: Global, ranges: &[BfRange]) -> Result<Vec<BfRange>, AllocError>
     requires { All CanBeSplitText (map bf_entry_seen ranges.now) }
-    ensures { IfOk result (λ pieces. ArePieces bf_span bf_at IsShortText (map bf_entry_seen ranges.now) (map bf_entry_seen pieces.items)) }
+    ensures pieces { IfOk result (λ pieces. ArePieces bf_span bf_at IsShortText (map bf_entry_seen ranges.now) (map bf_entry_seen pieces.items)) }
+    ensures few { IfOk result (λ pieces. 256 * length pieces.items ≤ texts_weight ranges.now) }
 {
     let mut pieces = Vec::new(alloc);
     for range in ranges {
@@ -138,7 +142,8 @@ fn push_text_pieces(
     entry: &BfRange,
 ) -> Result<(), AllocError>
     requires { CanBeSplitText (bf_entry_seen entry.now) }
-    ensures { IfOk result (λ _. PushesPieces bf_span bf_at IsShortText (bf_entry_seen entry.now) (map bf_entry_seen pieces.old.items) (map bf_entry_seen pieces.new.items)) }
+    ensures pushed { IfOk result (λ _. PushesPieces bf_span bf_at IsShortText (bf_entry_seen entry.now) (map bf_entry_seen pieces.old.items) (map bf_entry_seen pieces.new.items)) }
+    ensures few { IfOk result (λ _. 256 * length pieces.new.items ≤ 256 * length pieces.old.items + span_weight (bf_range_span entry.now)) }
 {
     let end = entry.range.end;
     let mut start = entry.range.start;

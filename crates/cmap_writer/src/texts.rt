@@ -8,7 +8,7 @@ ghost use Rattle.cmap_writer.specs.EncodersSeen.{shape_seen};
 ghost use Rattle.cmap_writer.specs.Obstacles.{IsTextObstacle};
 ghost use Rattle.cmap_writer.specs.Pieces.{IsShortText};
 ghost use Rattle.cmap_writer.specs.PreparedFiles.{AddsSameTexts};
-ghost use Rattle.cmap_writer.specs.Segments.{AddsSegments, DeclaresAll};
+ghost use Rattle.cmap_writer.specs.Segments.{AddsSegments, IsSegmentOf};
 ghost use Rattle.cmap_writer.specs.Texts.{AreHeldTexts, BeginsWithForm, CanFix, FollowsText, HasForm, IsLongTextIn, IsNumberOf, destination, destinations};
 
 use crate::bytes::push_u16s;
@@ -155,7 +155,7 @@ fn follows(form: TextForm, before: &BfRange, entry: &BfRange) -> bool
 fn text_segment(alloc: Global, form: TextForm, entries: &[BfRange]) -> Result<Segment, AllocError>
     requires fixes { CanFix (shape_seen form.shape) form.units }
     requires held { AreHeldTexts (shape_seen form.shape) form.units entries.now }
-    ensures { IfOk result (λ segment. DeclaresAll segment (map Declaration.bf (map bf_entry_seen entries.now))) }
+    ensures { IfOk result (λ segment. IsSegmentOf segment (map Declaration.bf (map bf_entry_seen entries.now))) }
 {
     let mut values = Vec::new(alloc);
     push_texts(&mut values, form.units, entries)?;

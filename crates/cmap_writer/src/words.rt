@@ -1,10 +1,10 @@
 //! The code words of symbols, and the bits that spell symbols by them.
 
-ghost use Rattle.std.specs.Prelude.{◌↔◌, ◌≡◌, ◌++◌, ◌≤◌, ◌<◌, ◌*◌, ◌-◌, ◌^◌, All, Any, IfNone, IfOk, IfSome, IsTrue, MatchOption, flat_map, length, replicate};
+ghost use Rattle.std.specs.Prelude.{◌↔◌, ◌≡◌, ◌+◌, ◌++◌, ◌≤◌, ◌<◌, ◌*◌, ◌-◌, ◌^◌, All, Any, IfNone, IfOk, IfSome, IsTrue, MatchOption, flat_map, length, replicate};
 ghost use Rattle.std.specs.List.Sorted.{IsNonDecreasingBy, IsPermutation};
 ghost use Rattle.cmap_packed.specs.TableFronts.{TableAt};
 ghost use Rattle.cmap_packed.specs.PrefixWords.{AreWordLengths, BeginWithWordsOf, bits, lengths_from, zip_words};
-ghost use Rattle.cmap_writer.specs.Spelled.{HasWord, IsNoSymbol, IsNoWordOf};
+ghost use Rattle.cmap_writer.specs.Spelled.{HasWord, IsNoSymbol, IsNoWordOf, IsSpelledIn};
 ghost use Rattle.cmap_writer.specs.WordsHeld.{MakesWords};
 ghost use Rattle.cmap_writer.specs.Written.{Appends, Writes, bytes_of};
 
@@ -106,7 +106,8 @@ impl Encoder {
     pub fn write(&self, out: &mut Vec<u8>, width: u8) -> Result<(), AllocError>
         requires width { (1 ≤ width) × (width ≤ 4) }
         requires symbols { All (λ p. p.symbol < 2 ^ (8 * width)) self.now }
-        ensures { IfOk result (λ _. Appends out.old.items out.new.items (Writes (TableAt width) self.now)) }
+        ensures written { IfOk result (λ _. Appends out.old.items out.new.items (Writes (TableAt width) self.now)) }
+        ensures len { IfOk result (λ _. length out.new.items < length out.old.items + 2 ^ 24) }
     {
         push_number(out, FILLED, 2)?;
         out.push(self.counts.len() as u8)?;
@@ -114,12 +115,13 @@ impl Encoder {
         push_symbols(out, &self.words, width)
     }
 
-    /// The bytes whose bits begin with the code words of these symbols, in order; `None` where one
-    /// of them has no word.
+    /// The fewest bytes whose bits begin with the code words of these symbols, in order; `None` where
+    /// one of them has no word.
     pub fn spell(&self, alloc: Global, symbols: &[u32]) -> Result<Option<Vec<u8>>, AllocError>
         ensures { IfOk result (λ o. MatchOption o (Any (IsNoSymbol self.now) symbols.now)
             (λ bytes. BeginWithWordsOf self.now symbols.now (bits bytes.items)
-            × (length bytes.items ≤ 4 * length symbols.now))) }
+            × (length bytes.items ≤ 4 * length symbols.now)
+            × IsSpelledIn self.now symbols.now bytes.items)) }
     {
         let mut written = BitWriter::new(alloc);
         for symbol in symbols {

@@ -6,8 +6,8 @@ use Rattle.cmap_maker.proofs.BundlesWritten.{bundle_of_files}
 use Rattle.std.proofs.lemmas.Result.{IfErr-weaker}
 use Rattle.cmap_values.proofs.Outcomes.{refused_as}
 use Rattle.cmap_values.specs.Outcomes.{RefusesWith}
-use Rattle.cmap_maker.specs.Unwritables.{IsBundleObstacle, IsSpellingObstacle}
-use Rattle.cmap_maker.proofs.BundleObstacles.{spelling_of_bundle}
+use Rattle.cmap_maker.specs.Unwritables.{AreSound, IsBundleObstacle, IsWholeObstacle}
+use Rattle.cmap_maker.proofs.BundleObstacles.{whole_of_bundle}
 use Rattle.cmap_maker.proofs.bundle.make_bundle.Goals as goal
 
 pub returns-clause-written : goal.returns-clause-written
@@ -18,4 +18,5 @@ returns-clause-written c =
 pub returns-clause-err : goal.returns-clause-err
 returns-clause-err c =
     let files = files_seen c.args.files.now in
-    IfErr-weaker c.bundle_of.result (RefusesWith IsSpellingObstacle) (RefusesWith (IsBundleObstacle files)) (λ fault h. refused_as fault h (spelling_of_bundle files)) c.bundle_of.ensures.err
+    let slots = c.in_ok-slots.slots.items in
+    IfErr-weaker c.bundle_of.result (RefusesWith (λ obstacle. AreSound c.deref.result.now → IsWholeObstacle c.deref.result.now obstacle)) (RefusesWith (IsBundleObstacle files)) (λ fault h. refused_as fault h (λ o holds. whole_of_bundle files slots c.in_ok-slots.ensures.made o (subst (λ ss. AreSound ss → IsWholeObstacle ss o) c.deref.ensures.value holds))) c.bundle_of.ensures.err

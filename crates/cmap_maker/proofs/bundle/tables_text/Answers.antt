@@ -1,4 +1,4 @@
-use Rattle.std.proofs.Common.{subst}
+use Rattle.std.proofs.Common.{length, ap, subst, arith}
 use Rattle.cmap_packed.specs.TableFronts.{TableAt}
 use Rattle.cmap_writer.specs.EncodersSeen.{encoders_seen}
 use Rattle.cmap_writer.specs.Written.{Appends, Writes}
@@ -9,5 +9,8 @@ pub returns-clause-written : goal.returns-clause-written
 returns-clause-written c =
     let tables = encoders_seen c.args.tables.now in
     HoldsTables-written tables c.write.new.out.items c.write-2.new.out.items
-    (subst (λ old. Appends old c.write.new.out.items (Writes (TableAt 4) tables.delta)) c.new-text.ensures.items c.in_ok-write.ensures)
-    c.in_ok-write-2.ensures
+    (subst (λ old. Appends old c.write.new.out.items (Writes (TableAt 4) tables.delta)) c.new-text.ensures.items c.in_ok-write.ensures.written)
+    c.in_ok-write-2.ensures.written
+
+pub returns-clause-len : goal.returns-clause-len
+returns-clause-len c = omega (arith, c.in_ok-write-2.ensures.len, c.in_ok-write.ensures.len, ap length c.new-text.ensures.items)

@@ -1,10 +1,13 @@
-use Rattle.std.proofs.Common.{◌∙◌, ◌++◌, ap, subst, sym}
+use Rattle.std.proofs.Common.{◌∙◌, ◌++◌, ap, inr, subst, sym}
 use Rattle.std.specs.Prelude.{IfOk}
 use Rattle.cmap_writer.specs.EncodersSeen.{encoders_seen}
 use Rattle.cmap_maker.specs.Slots.{IsSlotWritten}
+use Rattle.cmap_maker.specs.Unwritables.{IsSlotObstacle}
 use Rattle.cmap_writer.specs.Written.{Appends}
 use Rattle.cmap_values.proofs.Outcomes.{refuses_on}
-use Rattle.cmap_maker.proofs.BundleObstacles.{by_spelling}
+use Rattle.cmap_writer.proofs.ObstaclesMet.{too_long_of}
+use Rattle.cmap_maker.proofs.BundleObstacles.{by_prepared}
+use Rattle.cmap_writer.specs.declared.obstacle.Obstacle.TheVariants.{TooLong}
 use Rattle.cmap_maker.proofs.slots.push_slot.Goals as goal
 
 pub returns-in_ok-extend_from_slice-in-File-clause-written : goal.returns-in_ok-extend_from_slice-in-File-clause-written
@@ -19,4 +22,7 @@ pub returns-in-Text-clause-written : goal.returns-in-Text-clause-written
 returns-in-Text-clause-written c = subst (λ s. IfOk c.push_text.result (λ _. Appends c.args.out.now.items c.push_text.new.out.items (IsSlotWritten (encoders_seen c.args.tables.now) s))) (sym c.in-Text.is) c.push_text.ensures.written
 
 pub returns-in_err-text-in-File-clause-err : goal.returns-in_err-text-in-File-clause-err
-returns-in_err-text-in-File-clause-err c = refuses_on _ _ c.from_residual.ensures.1 c.in_err-text-in-File.ensures.err (by_spelling (encoders_seen c.args.tables.now) c.in-File.prepared.segments.items)
+returns-in_err-text-in-File-clause-err c = refuses_on _ _ c.from_residual.ensures.1 c.in_err-text-in-File.ensures.err (λ o h. subst (λ s. IsSlotObstacle (encoders_seen c.args.tables.now) s o) (sym c.in-File.is) (by_prepared (encoders_seen c.args.tables.now) c.in-File.prepared o h))
+
+pub returns-in-Text-clause-err : goal.returns-in-Text-clause-err
+returns-in-Text-clause-err c = too_long_of _ (IsSlotObstacle (encoders_seen c.args.tables.now) c.args.slot.now) c.push_text.result c.push_text.ensures.err (λ long. subst (λ s. IsSlotObstacle (encoders_seen c.args.tables.now) s TooLong) (sym c.in-Text.is) (inr long))

@@ -1,22 +1,24 @@
-use Rattle.std.proofs.Common.{All, map, subst, sym}
-use Rattle.std.proofs.lemmas.List.Sorted.{All-permutation, IsPermutation-map}
+use Rattle.std.proofs.Common.{◌*◌, ◌≤◌, All, ap, length, map, subst, sym, arith}
+use Rattle.std.proofs.lemmas.List.{length-map}
+use Rattle.std.proofs.lemmas.List.Sorted.{All-permutation, IsPermutation-map, length_permutation}
 use Rattle.std.proofs.lemmas.Result.{IfOk-from_err}
 use Rattle.cmap_values.specs.CodeLengths.{length_of}
-use Rattle.cmap_values.specs.DeclarationsSeen.{cid_entry_seen, entries_seen}
+use Rattle.cmap_values.specs.DeclarationsSeen.{cid_entry_seen, cid_range_span, entries_seen}
 use Rattle.cmap_values.specs.Files.{Declaration}
 use Rattle.cmap_layers.specs.Lookups.{cid_at, cid_span}
 use Rattle.cmap_writer.specs.Pieces.{ArePieces, IsShort}
 use Rattle.cmap_writer.specs.Segments.{AddsSegments}
-use Rattle.cmap_values.proofs.Outcomes.{refuses_on}
-use Rattle.cmap_writer.proofs.ObstaclesMet.{memory_on}
+use Rattle.cmap_writer.specs.Weights.{AreFew, cids_weight, weight_of}
+use Rattle.cmap_values.proofs.Outcomes.{memory_on, refuses_on}
 use Rattle.cmap_writer.proofs.Told.{pieces_say, same_permuted, same_told}
+use Rattle.cmap_writer.proofs.Weighed.{cid_spans_seen}
 use Rattle.cmap_writer.proofs.cids.add_cid_list.Goals as goal
 
 pub add_cids-requires : goal.add_cids-requires
 add_cids-requires c =
     let pieces = c.in_ok-pieces.pieces.items in
     let sorted = c.sort_by_key.new.self.items in
-    subst (λ xs. All IsShort (entries_seen xs)) (sym c.deref-2.ensures.value) (All-permutation IsShort (entries_seen pieces) (entries_seen sorted) (IsPermutation-map cid_entry_seen pieces sorted c.sort_by_key.ensures.permutation) c.in_ok-pieces.ensures.0)
+    subst (λ xs. All IsShort (entries_seen xs)) (sym c.deref-2.ensures.value) (All-permutation IsShort (entries_seen pieces) (entries_seen sorted) (IsPermutation-map cid_entry_seen pieces sorted c.sort_by_key.ensures.permutation) c.in_ok-pieces.ensures.pieces.0)
 
 pub returns-clause-added : goal.returns-clause-added
 returns-clause-added c =
@@ -25,10 +27,11 @@ returns-clause-added c =
     let pieces = c.in_ok-pieces.pieces.items in
     let sorted = c.sort_by_key.new.self.items in
     let say = c.in_ok-ranges.ensures.same.0 in
-    let parts = subst (λ xs. ArePieces cid_span cid_at IsShort (entries_seen xs) (entries_seen pieces)) c.deref.ensures.value c.in_ok-pieces.ensures in
+    let parts = subst (λ xs. ArePieces cid_span cid_at IsShort (entries_seen xs) (entries_seen pieces)) c.deref.ensures.value c.in_ok-pieces.ensures.pieces in
     let same = same_permuted cid_span cid_at es (entries_seen pieces) (entries_seen sorted) (IsPermutation-map cid_entry_seen pieces sorted c.sort_by_key.ensures.permutation) (pieces_say cid_span cid_at IsShort es (entries_seen ranges) (entries_seen pieces) parts say) in
     let added = subst (λ xs. AddsSegments c.args.segments.now.items c.add_cids.new.segments.items (map (Declaration.cid (length_of c.args.len)) (entries_seen xs))) c.deref-2.ensures.value c.in_ok-add_cids.ensures in
-    (entries_seen sorted, added, same_told cid_span cid_at es (entries_seen sorted) same)
+    let few : 256 * length (entries_seen sorted) ≤ weight_of (map cid_range_span c.args.list.now) = omega (arith, length-map sorted cid_entry_seen, length_permutation pieces sorted c.sort_by_key.ensures.permutation, c.in_ok-pieces.ensures.few, ap cids_weight c.deref.ensures.value, c.in_ok-ranges.ensures.few) in
+    (entries_seen sorted, added, same_told cid_span cid_at es (entries_seen sorted) same, subst (λ ss. AreFew ss (length (entries_seen sorted))) (sym (cid_spans_seen c.args.list.now)) few)
 
 pub returns-in_err-ranges-clause-err : goal.returns-in_err-ranges-clause-err
 returns-in_err-ranges-clause-err c = refuses_on _ _ c.from_residual.ensures.1 c.in_err-ranges.ensures.err (λ o h. h)

@@ -9,6 +9,7 @@ use Rattle.cmap_writer.specs.EncodersSeen.{shape_seen}
 use Rattle.cmap_writer.specs.Held.{AreInOrder, AreShaped, counts_by, deltas_of}
 use Rattle.cmap_writer.proofs.CidsWritten.{IsSegment-ranges, IsSegment-singles, cids}
 use Rattle.cmap_writer.proofs.NumbersWritten.{cids_spelled, spans_seen}
+use Rattle.cmap_writer.proofs.SegmentNumbers.{segment_of_cids}
 use Rattle.cmap_writer.proofs.cids.cid_segment.Goals as goal
 use Rattle.cmap_writer.proofs.cids.cid_segment.Goals.{in-Ranges, in-Singles}
 
@@ -19,18 +20,21 @@ pub counts-requires : goal.counts-requires
 counts-requires c = subst (AreShaped (shape_seen c.args.shape)) (sym (spans_seen c.args.entries.now)) c.requires.shaped
 
 pub returns : goal.returns
-returns c tables payload (columns, spelled, is) =
+returns c =
     let shape = shape_seen c.args.shape in
     let len = c.args.len in
     let es = entries_seen c.args.entries.now in
     let content = declares (map (Declaration.cid (length_of len)) es) in
     let spans = spans_seen c.args.entries.now in
+    let deltas = c.in_ok-deltas.ensures ∙ ap (deltas_of 0) spans in
+    let counts = c.in_ok-counts.ensures ∙ ap (counts_by shape) spans in
     let values : c.push_raw_cids.new.out.items ≡ cids es = c.in_ok-push_raw_cids.ensures ∙ ap (λ bs. bs ++ cids es) c.in_ok-values.ensures.items in
-    let within = cids_spelled tables shape es c.in_ok-deltas.field-0.items c.in_ok-counts.field-0.items c.push_raw_cids.new.out.items columns payload c.requires (c.in_ok-deltas.ensures ∙ ap (deltas_of 0) spans) (c.in_ok-counts.ensures ∙ ap (counts_by shape) spans) values spelled is in
+    segment_of_cids _ (length_of len) es (λ tables payload (columns, spelled, is).
+    let within = cids_spelled tables shape es c.in_ok-deltas.field-0.items c.in_ok-counts.field-0.items c.push_raw_cids.new.out.items columns payload c.requires deltas counts values spelled is in
     elim c.match-shape.branch [
       | in-Ranges w ↦ subst (λ n. IsSegment tables n payload content) (sym (w.number-is ∙ ap (λ n. 2 * n - 1) w.count.ensures)) (IsSegment-ranges tables len payload es (subst (λ s. CidEntriesIn tables (shape_seen s) payload es) w.in-Ranges.is within))
       | in-Singles w ↦ subst (λ n. IsSegment tables n payload content) (sym (w.number-is ∙ ap (λ n. 2 * n) w.count-in-Singles.ensures)) (IsSegment-singles tables len payload es (subst (λ s. CidEntriesIn tables (shape_seen s) payload es) w.in-Singles.is within))
-    ]
+    ]) c.requires deltas counts values
 
 pub returns-in_err-values : goal.returns-in_err-values
 returns-in_err-values c = IfOk-from_err _ _ c.from_residual.ensures.0

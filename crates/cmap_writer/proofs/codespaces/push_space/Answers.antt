@@ -1,8 +1,9 @@
-use Rattle.std.proofs.Common.{◌∙◌, ◌++◌, ◌∷◌, [], ap}
+use Rattle.std.proofs.Common.{◌≤◌, ◌+◌, ◌∙◌, ◌++◌, ◌∷◌, [], length, ap, arith}
+use Rattle.std.proofs.lemmas.List.{length-append}
 use Rattle.std.proofs.lemmas.Result.{IfOk-from_err, IfOk-weaker}
 use Rattle.cmap_values.specs.DeclarationsSeen.{codespace_seen}
-use Rattle.cmap_values.proofs.Outcomes.{refuses_on}
-use Rattle.cmap_writer.proofs.ObstaclesMet.{by_high, by_low, memory_on, refused_on}
+use Rattle.cmap_values.proofs.Outcomes.{memory_on, refused_on, refuses_on}
+use Rattle.cmap_writer.proofs.ObstaclesMet.{by_high, by_low}
 use Rattle.cmap_writer.proofs.RowsWritten.{codespace_written}
 use Rattle.cmap_writer.proofs.codespaces.push_space.Goals as goal
 
@@ -26,3 +27,12 @@ returns-in_err-push-clause-written c = IfOk-from_err _ _ c.from_residual.ensures
 
 pub returns-in_err-push_code-clause-written : goal.returns-in_err-push_code-clause-written
 returns-in_err-push_code-clause-written c = IfOk-from_err _ _ c.from_residual-in_err-push_code.ensures.0
+
+pub returns-in_err-push-clause-len : goal.returns-in_err-push-clause-len
+returns-in_err-push-clause-len c = IfOk-from_err _ _ c.from_residual.ensures.0
+
+pub returns-in_err-push_code-clause-len : goal.returns-in_err-push_code-clause-len
+returns-in_err-push_code-clause-len c = IfOk-from_err _ _ c.from_residual-in_err-push_code.ensures.0
+
+pub returns-clause-len : goal.returns-clause-len
+returns-clause-len c = IfOk-weaker _ _ (λ _. length c.push_code-2.new.out.items ≤ length c.args.out.now.items + 9) (λ _ high. omega (arith, high, c.in_ok-push_code.ensures.len, ap length c.in_ok-push.ensures.items, length-append c.args.out.now.items (c.count.result ∷ []))) c.push_code-2.ensures.len

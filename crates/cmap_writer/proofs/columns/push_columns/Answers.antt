@@ -1,12 +1,12 @@
-use Rattle.std.proofs.Common.{◌∙◌, ◌++◌, ap, refl, subst, sym}
+use Rattle.std.proofs.Common.{◌≤◌, ◌+◌, ◌*◌, ◌∙◌, ◌++◌, length, ap, refl, subst, sym, arith}
 use Rattle.std.proofs.lemmas.List.{append_assoc}
 use Rattle.std.proofs.lemmas.Result.{IfOk-from_err, IfOk-weaker}
-use Rattle.cmap_values.proofs.Outcomes.{refuses_on}
+use Rattle.cmap_values.proofs.Outcomes.{refused_on, refuses_on}
 use Rattle.cmap_writer.specs.ColumnsWritten.{WritesColumn}
 use Rattle.cmap_writer.specs.EncodersSeen.{encoders_seen, shape_seen}
 use Rattle.cmap_writer.specs.Segments.{WritesNumbers}
 use Rattle.cmap_writer.specs.Written.{Appends}
-use Rattle.cmap_writer.proofs.ObstaclesMet.{by_counts, by_deltas, refused_on}
+use Rattle.cmap_writer.proofs.ObstaclesMet.{by_counts, by_deltas}
 use Rattle.cmap_writer.proofs.columns.push_columns.Goals as goal
 
 pub returns-in-Ranges-clause-written : goal.returns-in-Ranges-clause-written
@@ -38,3 +38,12 @@ returns-in-Ranges-clause-err c = refused_on _ c.push_column-in-Ranges.ensures.er
 
 pub returns-in_err-push_column-clause-written : goal.returns-in_err-push_column-clause-written
 returns-in_err-push_column-clause-written c = IfOk-from_err _ _ c.from_residual.ensures.0
+
+pub returns-in_err-push_column-clause-len : goal.returns-in_err-push_column-clause-len
+returns-in_err-push_column-clause-len c = IfOk-from_err _ _ c.from_residual.ensures.0
+
+pub returns-in-Ranges-clause-len : goal.returns-in-Ranges-clause-len
+returns-in-Ranges-clause-len c = IfOk-weaker _ _ (λ _. length c.push_column-in-Ranges.new.out.items ≤ length c.args.out.now.items + 8 + 4 * (length c.args.segment.now.deltas.items + length c.args.segment.now.counts.items)) (λ _ more. omega (arith, more, c.in_ok-push_column.ensures.len, ap length c.deref.ensures.value, ap length c.deref-in-Ranges.ensures.value)) c.push_column-in-Ranges.ensures.len
+
+pub returns-in-Singles-clause-len : goal.returns-in-Singles-clause-len
+returns-in-Singles-clause-len c = omega (arith, c.in_ok-push_column.ensures.len, ap length c.deref.ensures.value)

@@ -1,4 +1,4 @@
-use Rattle.std.proofs.Common.{◌≡◌, List, length, map, refl, subst, arith}
+use Rattle.std.proofs.Common.{◌≡◌, List, length, map, refl, ap, subst, arith}
 use Rattle.std.proofs.lemmas.List.Elements.{All-nil}
 use Rattle.std.proofs.lemmas.Result.{IfOk-from_err}
 use Rattle.cmap_runs.specs.Ranges.{Run, runs_of}
@@ -7,8 +7,9 @@ use Rattle.cmap_values.specs.declared.declarations.CidRange.{CidRange}
 use Rattle.cmap_layers.specs.Lookups.{cid_at, cid_span}
 use Rattle.cmap_writer.specs.Pieces.{CanBeSplit, SaysAs}
 use Rattle.cmap_writer.proofs.DecidedParts.{declaration_within, large_given, part_can, part_has, part_right, run_within}
-use Rattle.cmap_writer.proofs.ObstaclesMet.{memory_on}
+use Rattle.cmap_values.proofs.Outcomes.{memory_on}
 use Rattle.cmap_writer.proofs.RunParts.{HaveRuns, have_all, have_more, have_none}
+use Rattle.cmap_writer.proofs.Weighed.{run_weighed, runs_weighed}
 use Rattle.cmap_writer.proofs.decided.ranges_of.Goals as goal
 
 abbrev runs : List CidRange → List Run
@@ -48,6 +49,7 @@ loop-i-preserved c =
     record {
       right = taken.0 (entries_seen table) c.loop-i.invariant.right says;
       small = c.in_ok-push_joined.ensures.all;
+      few = omega (arith, c.loop-i.invariant.few, c.in_ok-push_joined.ensures.few, ap (λ r. r.start) is.0, ap (λ r. r.end) is.0, run_weighed (runs table) i (record { low = low; high = high; index = index }) (omega arith) at);
       whole = have_more cid_range_span cid_entry_seen cid_span cid_at (λ x. refl) table (runs table) are old new i low high index (cid_entry_seen part) c.loop-i.invariant.whole at taken.1 (part_has table (runs table) are i low high index at e there part _ refl refl is.0 is.1);
     }
 
@@ -76,5 +78,12 @@ loop-i-init c =
     rw c.new-ranges.ensures.items (record {
       right = All-nil (SaysAs cid_span cid_at (entries_seen table));
       small = All-nil CanBeSplit;
+      few = omega arith;
       whole = have_none cid_range_span cid_entry_seen cid_span cid_at (λ x. refl) table (runs table) c.run_count-i-end.ensures.runs.0;
     })
+
+pub returns-clause-few : goal.returns-clause-few
+returns-clause-few c = omega (arith, c.loop-i.invariant.few, runs_weighed (runs c.args.table.now) c.loop-i.i (omega arith))
+
+pub returns-in_err-push_joined-clause-few : goal.returns-in_err-push_joined-clause-few
+returns-in_err-push_joined-clause-few c = IfOk-from_err _ _ c.from_residual.ensures.0

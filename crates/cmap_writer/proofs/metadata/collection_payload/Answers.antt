@@ -1,12 +1,14 @@
-use Rattle.std.proofs.Common.{◌∙◌, ◌++◌, ap, subst}
+use Rattle.std.proofs.Common.{◌∙◌, ◌++◌, length, ap, subst, arith}
+use Rattle.std.proofs.lemmas.List.{length-append}
 use Rattle.std.proofs.lemmas.Result.{IfOk-from_err}
 use Rattle.cmap_values.specs.MetadataSeen.{collection_seen}
 use Rattle.cmap_values.specs.Names.{ordering_of, registry_of}
 use Rattle.cmap_packed.specs.Fronts.{TerminatedAt}
 use Rattle.cmap_writer.specs.Written.{bytes_of, Appends, Writes}
+use Rattle.cmap_writer.proofs.BytesWritten.{length-bytes_of}
 use Rattle.cmap_writer.proofs.MetadataHeld.{collection_written, seen_as}
-use Rattle.cmap_values.proofs.Outcomes.{refuses_on}
-use Rattle.cmap_writer.proofs.ObstaclesMet.{by_family, by_ordering, by_registry, memory_on}
+use Rattle.cmap_values.proofs.Outcomes.{memory_on, refuses_on}
+use Rattle.cmap_writer.proofs.ObstaclesMet.{by_family, by_ordering, by_registry}
 use Rattle.cmap_writer.proofs.metadata.collection_payload.Goals as goal
 
 pub returns-clause-written : goal.returns-clause-written
@@ -47,3 +49,19 @@ returns-in_err-push_terminated-2-clause-written c = IfOk-from_err _ _ c.from_res
 
 pub returns-in_err-push_number-clause-written : goal.returns-in_err-push_number-clause-written
 returns-in_err-push_number-clause-written c = IfOk-from_err _ _ c.from_residual-in_err-push_number.ensures.0
+
+pub returns-in_err-check_family-clause-len : goal.returns-in_err-check_family-clause-len
+returns-in_err-check_family-clause-len c = IfOk-from_err _ _ c.from_residual.ensures.0
+
+pub returns-in_err-push_terminated-clause-len : goal.returns-in_err-push_terminated-clause-len
+returns-in_err-push_terminated-clause-len c = IfOk-from_err _ _ c.from_residual-in_err-push_terminated.ensures.0
+
+pub returns-in_err-push_terminated-2-clause-len : goal.returns-in_err-push_terminated-2-clause-len
+returns-in_err-push_terminated-2-clause-len c = IfOk-from_err _ _ c.from_residual-in_err-push_terminated-2.ensures.0
+
+pub returns-in_err-push_number-clause-len : goal.returns-in_err-push_number-clause-len
+returns-in_err-push_number-clause-len c = IfOk-from_err _ _ c.from_residual-in_err-push_number.ensures.0
+
+pub returns-clause-len : goal.returns-clause-len
+returns-clause-len c =
+    omega (arith, ap length c.in_ok-push_number.ensures, length-append c.push_terminated-2.new.out.items (bytes_of 2 c.from.result), length-bytes_of 2 c.from.result, c.in_ok-push_terminated-2.ensures.len, c.in_ok-push_terminated.ensures.len, ap length c.new-payload.ensures.items, ap length c.registry.ensures, ap length c.ordering.ensures)

@@ -1,4 +1,4 @@
-use Rattle.std.proofs.Common.{[], ◌∷◌, Some, ap, refl, sym, subst}
+use Rattle.std.proofs.Common.{◌≤◌, ◌+◌, length, [], ◌∷◌, Some, ap, refl, sym, subst, arith}
 use Rattle.std.proofs.lemmas.Result.{IfOk-weaker}
 use Rattle.cmap_values.specs.MetadataSeen.{mode_seen}
 use Rattle.cmap_values.specs.declared.writing_mode.WritingMode.{WritingMode}
@@ -19,4 +19,7 @@ returns-in-Some-clause-written c =
     IfOk-weaker _ _ _ (λ _ written. subst (λ m. Appends old new (WritesAll SegmentByAny (from_option (λ (mode : WritingMode). sets_mode (Some (mode_seen mode))) m))) (sym c.in-Some.is) (one_of SegmentByAny content old new (by_any old new 11 (number ∷ []) content (λ tables. ((number, []), refl, ap sets_mode (sym c.mode_number.ensures))) written))) c.push_segment.ensures.written
 
 pub returns-in-Some-clause-err : goal.returns-in-Some-clause-err
-returns-in-Some-clause-err c = long_of _ _ _ c.push_segment.ensures.err (λ long. tt)
+returns-in-Some-clause-err c = long_of _ ⊥ _ c.push_segment.ensures.err (λ long. omega (arith, long))
+
+pub returns-in-Some-clause-len : goal.returns-in-Some-clause-len
+returns-in-Some-clause-len c = IfOk-weaker _ _ (λ _. length c.push_segment.new.out.items ≤ length c.args.out.now.items + 6) (λ _ len. omega (arith, len)) c.push_segment.ensures.len

@@ -1,7 +1,8 @@
-use Rattle.std.proofs.Common.{◌∙◌, sym}
+use Rattle.std.proofs.Common.{◌∙◌, ℕ, length, ap, sym, arith}
+use Rattle.std.proofs.lemmas.List.{length-append}
 use Rattle.std.proofs.lemmas.Result.{IfOk-from_err}
 use Rattle.cmap_writer.proofs.MetadataHeld.{has_zero, no_zero, terminated}
-use Rattle.cmap_writer.proofs.ObstaclesMet.{memory_on}
+use Rattle.cmap_values.proofs.Outcomes.{memory_on}
 use Rattle.cmap_writer.proofs.metadata.push_terminated.Goals as goal
 
 pub returns-clause-written : goal.returns-clause-written
@@ -21,3 +22,12 @@ returns-in_err-extend_from_slice-clause-written c = IfOk-from_err _ _ c.from_res
 
 pub returns-in_err-push-clause-written : goal.returns-in_err-push-clause-written
 returns-in_err-push-clause-written c = IfOk-from_err _ _ c.from_residual-in_err-push.ensures.0
+
+pub returns-in_err-extend_from_slice-clause-len : goal.returns-in_err-extend_from_slice-clause-len
+returns-in_err-extend_from_slice-clause-len c = IfOk-from_err _ _ c.from_residual.ensures.0
+
+pub returns-in_err-push-clause-len : goal.returns-in_err-push-clause-len
+returns-in_err-push-clause-len c = IfOk-from_err _ _ c.from_residual-in_err-push.ensures.0
+
+pub returns-clause-len : goal.returns-clause-len
+returns-clause-len c = omega (arith, ap length c.in_ok-push.ensures.items, ap length c.in_ok-extend_from_slice.ensures.items, length-append {A = ℕ})

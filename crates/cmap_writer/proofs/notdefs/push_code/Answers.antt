@@ -1,8 +1,10 @@
-use Rattle.std.proofs.Common.{◌∙◌, ◌++◌, ap, arith}
+use Rattle.std.proofs.Common.{◌∙◌, ◌++◌, length, ap, arith}
+use Rattle.std.proofs.lemmas.List.{length-append}
 use Rattle.std.proofs.lemmas.Result.{IfOk-from_err}
 use Rattle.cmap_writer.specs.Written.{bytes_of}
-use Rattle.cmap_writer.proofs.ObstaclesMet.{memory_on}
-use Rattle.cmap_writer.proofs.RowsWritten.{code_written}
+use Rattle.cmap_writer.proofs.BytesWritten.{length-bytes_of}
+use Rattle.cmap_values.proofs.Outcomes.{memory_on}
+use Rattle.cmap_writer.proofs.RowsWritten.{code_written, is_length}
 use Rattle.cmap_writer.proofs.notdefs.push_code.Goals as goal
 
 pub returns-clause-written : goal.returns-clause-written
@@ -13,3 +15,9 @@ returns-in_err-push_number-clause-err c = memory_on _ _ c.from_residual.ensures.
 
 pub returns-in_err-push_number-clause-written : goal.returns-in_err-push_number-clause-written
 returns-in_err-push_number-clause-written c = IfOk-from_err _ _ c.from_residual.ensures.0
+
+pub returns-in_err-push_number-clause-len : goal.returns-in_err-push_number-clause-len
+returns-in_err-push_number-clause-len c = IfOk-from_err _ _ c.from_residual.ensures.0
+
+pub returns-clause-len : goal.returns-clause-len
+returns-clause-len c = omega (arith, ap length c.in_ok-push_number.ensures, length-append c.args.out.now.items (bytes_of c.count.result c.args.code), length-bytes_of c.count.result c.args.code, c.count.ensures, (is_length c.args.len).1)

@@ -1,9 +1,12 @@
-use Rattle.std.proofs.Common.{arith}
+use Rattle.std.proofs.Common.{length, ap, arith}
+use Rattle.std.proofs.lemmas.List.{length-append}
 use Rattle.std.proofs.lemmas.Result.{IfOk-from_err}
 use Rattle.cmap_values.specs.CodeLengths.{length_of}
 use Rattle.cmap_values.specs.DeclarationsSeen.{cid_entry_seen}
-use Rattle.cmap_values.proofs.Outcomes.{refuses_on}
-use Rattle.cmap_writer.proofs.ObstaclesMet.{by_end, by_start, memory_on}
+use Rattle.cmap_values.proofs.Outcomes.{memory_on, refuses_on}
+use Rattle.cmap_writer.specs.Written.{bytes_of}
+use Rattle.cmap_writer.proofs.BytesWritten.{length-bytes_of}
+use Rattle.cmap_writer.proofs.ObstaclesMet.{by_end, by_start}
 use Rattle.cmap_writer.proofs.RowsWritten.{notdef_written}
 use Rattle.cmap_writer.proofs.notdefs.push_notdef.Goals as goal
 
@@ -27,3 +30,15 @@ returns-in_err-push_code-2-clause-written c = IfOk-from_err _ _ c.from_residual-
 
 pub returns-in_err-push_number-clause-written : goal.returns-in_err-push_number-clause-written
 returns-in_err-push_number-clause-written c = IfOk-from_err _ _ c.from_residual-in_err-push_number.ensures.0
+
+pub returns-in_err-push_code-clause-len : goal.returns-in_err-push_code-clause-len
+returns-in_err-push_code-clause-len c = IfOk-from_err _ _ c.from_residual.ensures.0
+
+pub returns-in_err-push_code-2-clause-len : goal.returns-in_err-push_code-2-clause-len
+returns-in_err-push_code-2-clause-len c = IfOk-from_err _ _ c.from_residual-in_err-push_code-2.ensures.0
+
+pub returns-in_err-push_number-clause-len : goal.returns-in_err-push_number-clause-len
+returns-in_err-push_number-clause-len c = IfOk-from_err _ _ c.from_residual-in_err-push_number.ensures.0
+
+pub returns-clause-len : goal.returns-clause-len
+returns-clause-len c = omega (arith, c.in_ok-push_code.ensures.len, c.in_ok-push_code-2.ensures.len, ap length c.in_ok-push_number.ensures, length-append c.push_code-2.new.out.items (bytes_of 2 c.args.entry.now.cid), length-bytes_of 2 c.args.entry.now.cid)

@@ -1,11 +1,10 @@
 use Rattle.std.proofs.Common.{ap, subst}
 use Rattle.std.proofs.lemmas.Result.{IfOk-from_err, IfOk-weaker}
-use Rattle.cmap_values.specs.DeclarationsSeen.{entries_seen}
+use Rattle.cmap_values.specs.DeclarationsSeen.{by_length_seen, entries_seen}
 use Rattle.cmap_writer.specs.PreparedFiles.{AddsSameCids}
 use Rattle.cmap_writer.proofs.PreparedKept.{cid_lists}
-use Rattle.cmap_values.proofs.Outcomes.{refuses_on}
-use Rattle.cmap_writer.proofs.ObstaclesMet.{by_cid_list, refused_on}
-use Rattle.cmap_writer.specs.Obstacles.{by_length_seen}
+use Rattle.cmap_values.proofs.Outcomes.{refused_on, refuses_on}
+use Rattle.cmap_writer.proofs.ObstaclesMet.{by_cid_list}
 use Rattle.cmap_writer.proofs.prepared.add_cid_lists.Goals as goal
 
 pub returns-clause-added : goal.returns-clause-added

@@ -1,13 +1,12 @@
-use Rattle.std.proofs.Common.{ap, map, subst}
+use Rattle.std.proofs.Common.{◌≤◌, ◌+◌, ◌*◌, ap, length, map, subst, arith}
 use Rattle.std.proofs.lemmas.Result.{IfOk-from_err, IfOk-weaker}
-use Rattle.cmap_values.specs.DeclarationsSeen.{entries_seen}
+use Rattle.cmap_values.specs.DeclarationsSeen.{by_length_seen, entries_seen}
 use Rattle.cmap_values.specs.Files.{Declaration}
 use Rattle.cmap_writer.specs.SegmentsWritten.{DeclareAll, SegmentByAny}
 use Rattle.cmap_writer.specs.Written.{Appends}
 use Rattle.cmap_writer.proofs.ListsKept.{declared_four}
-use Rattle.cmap_values.proofs.Outcomes.{refuses_on}
-use Rattle.cmap_writer.proofs.ObstaclesMet.{by_notdef_list, refused_on}
-use Rattle.cmap_writer.specs.Obstacles.{by_length_seen}
+use Rattle.cmap_values.proofs.Outcomes.{refused_on, refuses_on}
+use Rattle.cmap_writer.proofs.ObstaclesMet.{by_notdef_list}
 use Rattle.cmap_writer.proofs.prepared.push_notdef_lists.Goals as goal
 
 pub returns-clause-written : goal.returns-clause-written
@@ -42,3 +41,17 @@ returns-in_err-push_notdefs-2-clause-written c = IfOk-from_err _ _ c.from_residu
 
 pub returns-in_err-push_notdefs-3-clause-written : goal.returns-in_err-push_notdefs-3-clause-written
 returns-in_err-push_notdefs-3-clause-written c = IfOk-from_err _ _ c.from_residual-in_err-push_notdefs-3.ensures.0
+
+pub returns-in_err-push_notdefs-clause-len : goal.returns-in_err-push_notdefs-clause-len
+returns-in_err-push_notdefs-clause-len c = IfOk-from_err _ _ c.from_residual.ensures.0
+
+pub returns-in_err-push_notdefs-2-clause-len : goal.returns-in_err-push_notdefs-2-clause-len
+returns-in_err-push_notdefs-2-clause-len c = IfOk-from_err _ _ c.from_residual-in_err-push_notdefs-2.ensures.0
+
+pub returns-in_err-push_notdefs-3-clause-len : goal.returns-in_err-push_notdefs-3-clause-len
+returns-in_err-push_notdefs-3-clause-len c = IfOk-from_err _ _ c.from_residual-in_err-push_notdefs-3.ensures.0
+
+pub returns-clause-len : goal.returns-clause-len
+returns-clause-len c =
+    let lists = c.args.lists.now in
+    IfOk-weaker _ _ (λ _. length c.push_notdefs-4.new.out.items ≤ length c.args.out.now.items + 18 * (length lists.one.items + (length lists.two.items + (length lists.three.items + length lists.four.items)))) (λ _ last. omega (arith, last, c.in_ok-push_notdefs-3.ensures.len, c.in_ok-push_notdefs-2.ensures.len, c.in_ok-push_notdefs.ensures.len, ap length c.deref.ensures.value, ap length c.deref-2.ensures.value, ap length c.deref-3.ensures.value, ap length c.deref-4.ensures.value)) c.push_notdefs-4.ensures.len

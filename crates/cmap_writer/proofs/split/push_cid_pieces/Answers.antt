@@ -11,19 +11,29 @@ loop-start-preserved c =
     let now = c.loop-start.pieces.items in
     let i = c.loop-start.invariant in
     record {
+      few = omega (arith, i.few, c.in_ok-push.ensures.len);
       can = can_be_split_later c.loop-start.start e.range.end c.loop-start.cid i.can (omega arith);
       pieces = piece_more (cid_entry_seen e) c.loop-start.start e.range.end c.loop-start.cid (entries_seen c.args.pieces.now.items) (entries_seen now) (entries_seen c.push.new.self.items) i.pieces i.can (omega arith) (ap entries_seen c.in_ok-push.ensures.items ∙ map-append cid_entry_seen now _);
     }
 
-pub returns : goal.returns
-returns c =
+pub returns-clause-pushed : goal.returns-clause-pushed
+returns-clause-pushed c =
     let e = c.args.entry.now in
     let now = c.loop-start.pieces.items in
     let i = c.loop-start.invariant in
     piece_end (cid_entry_seen e) c.loop-start.start e.range.end c.loop-start.cid (entries_seen c.args.pieces.now.items) (entries_seen now) (entries_seen c.push-2.new.self.items) i.pieces i.can (omega arith) (ap entries_seen c.in_ok-push-2.ensures.items ∙ map-append cid_entry_seen now _)
 
-pub returns-in_err-push : goal.returns-in_err-push
-returns-in_err-push c = IfOk-from_err _ _ c.from_residual.ensures.0
+pub returns-in_err-push-clause-pushed : goal.returns-in_err-push-clause-pushed
+returns-in_err-push-clause-pushed c = IfOk-from_err _ _ c.from_residual.ensures.0
 
-pub returns-in_err-push-2 : goal.returns-in_err-push-2
-returns-in_err-push-2 c = IfOk-from_err _ _ c.from_residual-in_err-push-2.ensures.0
+pub returns-in_err-push-2-clause-pushed : goal.returns-in_err-push-2-clause-pushed
+returns-in_err-push-2-clause-pushed c = IfOk-from_err _ _ c.from_residual-in_err-push-2.ensures.0
+
+pub returns-in_err-push-clause-few : goal.returns-in_err-push-clause-few
+returns-in_err-push-clause-few c = IfOk-from_err _ _ c.from_residual.ensures.0
+
+pub returns-in_err-push-2-clause-few : goal.returns-in_err-push-2-clause-few
+returns-in_err-push-2-clause-few c = IfOk-from_err _ _ c.from_residual-in_err-push-2.ensures.0
+
+pub returns-clause-few : goal.returns-clause-few
+returns-clause-few c = omega (arith, c.loop-start.invariant.few, c.in_ok-push-2.ensures.len, c.loop-start.invariant.can.0)

@@ -1,4 +1,4 @@
-use Rattle.std.proofs.Common.{◌-◌}
+use Rattle.std.proofs.Common.{◌+◌, ◌-◌, ◌*◌, ◌≤◌, length}
 use Rattle.cmap_values.specs.DeclarationsSeen.{cid_entry_seen, entries_seen}
 use Rattle.cmap_layers.specs.Lookups.{cid_at, cid_span}
 use Rattle.cmap_writer.specs.Pieces.{CanBeSplit, IsShort}
@@ -8,6 +8,7 @@ use Rattle.cmap_writer.proofs.split.push_cid_pieces.Given as goal
 
 abbrev pub invariant-loop-start : goal.invariant-loop-start
 invariant-loop-start l = record {
+  few : 256 * length l.pieces.items + l.entry.range.start ≤ 256 * length l.initial.pieces.items + l.start;
   can : CanBeSplit (entry l.start l.end l.cid);
   pieces : PiecesTo cid_span cid_at IsShort (cid_entry_seen l.entry) (entry l.start l.end l.cid) (entries_seen l.initial.pieces.items) (entries_seen l.pieces.items);
 }

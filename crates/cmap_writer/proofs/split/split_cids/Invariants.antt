@@ -1,8 +1,12 @@
-use Rattle.std.proofs.Common.{take}
+use Rattle.std.proofs.Common.{◌*◌, ◌≤◌, length, take}
 use Rattle.cmap_values.specs.DeclarationsSeen.{entries_seen}
 use Rattle.cmap_layers.specs.Lookups.{cid_at, cid_span}
 use Rattle.cmap_writer.specs.Pieces.{ArePieces, IsShort}
+use Rattle.cmap_writer.specs.Weights.{cids_weight}
 use Rattle.cmap_writer.proofs.split.split_cids.Given as goal
 
 abbrev pub invariant-loop-range : goal.invariant-loop-range
-invariant-loop-range l = ArePieces cid_span cid_at IsShort (entries_seen (take l.range-index l.ranges)) (entries_seen l.pieces.items)
+invariant-loop-range l = record {
+  pieces : ArePieces cid_span cid_at IsShort (entries_seen (take l.range-index l.ranges)) (entries_seen l.pieces.items);
+  few : 256 * length l.pieces.items ≤ cids_weight (take l.range-index l.ranges);
+}

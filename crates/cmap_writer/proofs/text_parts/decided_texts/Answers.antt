@@ -1,4 +1,4 @@
-use Rattle.std.proofs.Common.{All, map, subst}
+use Rattle.std.proofs.Common.{◌≤◌, All, map, subst, sym}
 use Rattle.std.specs.Prelude.{IfErr, IfOk}
 use Rattle.std.proofs.lemmas.Result.{IfOk-from_err}
 use Rattle.cmap_values.specs.DeclarationsSeen.{bf_entry_seen}
@@ -7,7 +7,9 @@ use Rattle.cmap_layers.specs.Lookups.{bf_at, bf_span}
 use Rattle.cmap_writer.specs.Obstacles.{IsTextObstacle}
 use Rattle.cmap_writer.specs.Pieces.{SayTheSame}
 use Rattle.cmap_writer.specs.TextParts.{IsPartOf}
-use Rattle.cmap_writer.proofs.ObstaclesMet.{memory_on}
+use Rattle.cmap_writer.specs.Weights.{texts_weight, weight_of}
+use Rattle.cmap_values.proofs.Outcomes.{memory_on}
+use Rattle.cmap_writer.proofs.Weighed.{bf_spans_seen}
 use Rattle.cmap_writer.proofs.text_parts.decided_texts.Goals as goal
 
 pub text_ranges_of-requires : goal.text_ranges_of-requires
@@ -36,3 +38,11 @@ returns-in_err-table-clause-parts c = IfOk-from_err _ _ c.from_residual.ensures.
 
 pub returns-in_err-table-clause-err : goal.returns-in_err-table-clause-err
 returns-in_err-table-clause-err c = memory_on _ _ c.from_residual.ensures.1
+
+pub returns-clause-few : goal.returns-clause-few
+returns-clause-few c =
+    let table = c.in_ok-table.table in
+    subst (λ es. IfOk c.text_ranges_of.result (λ ranges. texts_weight ranges.items ≤ weight_of (map bf_span es))) c.in_ok-table.ensures.0 (subst (λ ss. IfOk c.text_ranges_of.result (λ ranges. texts_weight ranges.items ≤ weight_of ss)) (sym (bf_spans_seen table)) c.text_ranges_of.ensures.few)
+
+pub returns-in_err-table-clause-few : goal.returns-in_err-table-clause-few
+returns-in_err-table-clause-few c = IfOk-from_err _ _ c.from_residual.ensures.0

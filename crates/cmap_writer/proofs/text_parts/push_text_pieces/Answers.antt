@@ -8,6 +8,7 @@ use Rattle.cmap_writer.proofs.text_parts.push_text_pieces.Goals as goal
 pub loop-start-init : goal.loop-start-init
 loop-start-init c = record {
   first = omega arith;
+  few = omega arith;
   left = c.requires.0;
   pieces = pieces_start (bf_entry_seen c.args.entry.now) (map bf_entry_seen c.args.pieces.now.items);
 }
@@ -24,12 +25,13 @@ loop-start-preserved c =
     let end = ap (λ r. r.end) is.0 in
     record {
       first = omega (arith, i.first);
+      few = omega (arith, i.few, c.in_ok-push.ensures.len);
       left = omega arith;
       pieces = pieces_next e (bf_entry_seen part) s (s + 256) c.requires i.first (ap (λ r. r.start) is.0) (omega (arith, end)) (omega (arith, end)) (omega (arith, end)) (omega (arith, end)) is.1 old (map bf_entry_seen now) (map bf_entry_seen c.push.new.self.items) i.pieces (ap (map bf_entry_seen) c.in_ok-push.ensures.items ∙ map-append bf_entry_seen now _);
     }
 
-pub returns : goal.returns
-returns c =
+pub returns-clause-pushed : goal.returns-clause-pushed
+returns-clause-pushed c =
     let e = bf_entry_seen c.args.entry.now in
     let part = c.in_ok-part_of_text-2.field-0 in
     let is = c.in_ok-part_of_text-2.ensures in
@@ -41,14 +43,29 @@ returns c =
     let end = ap (λ r. r.end) is.0 in
     pieces_end e (e.end + 1) old new (omega arith) (pieces_next e (bf_entry_seen part) s (e.end + 1) c.requires i.first (ap (λ r. r.start) is.0) (omega (arith, end, i.left)) (omega (arith, end)) (omega (arith, end)) (omega (arith, end)) is.1 old (map bf_entry_seen now) new i.pieces (ap (map bf_entry_seen) c.in_ok-push-2.ensures.items ∙ map-append bf_entry_seen now _))
 
-pub returns-in_err-part_of_text : goal.returns-in_err-part_of_text
-returns-in_err-part_of_text c = IfOk-from_err _ _ c.from_residual.ensures.0
+pub returns-in_err-part_of_text-clause-pushed : goal.returns-in_err-part_of_text-clause-pushed
+returns-in_err-part_of_text-clause-pushed c = IfOk-from_err _ _ c.from_residual.ensures.0
 
-pub returns-in_err-push : goal.returns-in_err-push
-returns-in_err-push c = IfOk-from_err _ _ c.from_residual-in_err-push.ensures.0
+pub returns-in_err-push-clause-pushed : goal.returns-in_err-push-clause-pushed
+returns-in_err-push-clause-pushed c = IfOk-from_err _ _ c.from_residual-in_err-push.ensures.0
 
-pub returns-in_err-part_of_text-2 : goal.returns-in_err-part_of_text-2
-returns-in_err-part_of_text-2 c = IfOk-from_err _ _ c.from_residual-in_err-part_of_text-2.ensures.0
+pub returns-in_err-part_of_text-2-clause-pushed : goal.returns-in_err-part_of_text-2-clause-pushed
+returns-in_err-part_of_text-2-clause-pushed c = IfOk-from_err _ _ c.from_residual-in_err-part_of_text-2.ensures.0
 
-pub returns-in_err-push-2 : goal.returns-in_err-push-2
-returns-in_err-push-2 c = IfOk-from_err _ _ c.from_residual-in_err-push-2.ensures.0
+pub returns-in_err-push-2-clause-pushed : goal.returns-in_err-push-2-clause-pushed
+returns-in_err-push-2-clause-pushed c = IfOk-from_err _ _ c.from_residual-in_err-push-2.ensures.0
+
+pub returns-in_err-part_of_text-clause-few : goal.returns-in_err-part_of_text-clause-few
+returns-in_err-part_of_text-clause-few c = IfOk-from_err _ _ c.from_residual.ensures.0
+
+pub returns-in_err-push-clause-few : goal.returns-in_err-push-clause-few
+returns-in_err-push-clause-few c = IfOk-from_err _ _ c.from_residual-in_err-push.ensures.0
+
+pub returns-in_err-part_of_text-2-clause-few : goal.returns-in_err-part_of_text-2-clause-few
+returns-in_err-part_of_text-2-clause-few c = IfOk-from_err _ _ c.from_residual-in_err-part_of_text-2.ensures.0
+
+pub returns-in_err-push-2-clause-few : goal.returns-in_err-push-2-clause-few
+returns-in_err-push-2-clause-few c = IfOk-from_err _ _ c.from_residual-in_err-push-2.ensures.0
+
+pub returns-clause-few : goal.returns-clause-few
+returns-clause-few c = omega (arith, c.loop-start.invariant.few, c.in_ok-push-2.ensures.len, c.loop-start.invariant.left)

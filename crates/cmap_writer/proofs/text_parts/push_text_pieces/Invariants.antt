@@ -1,4 +1,4 @@
-use Rattle.std.proofs.Common.{◌-◌, ◌≤◌, map}
+use Rattle.std.proofs.Common.{◌+◌, ◌-◌, ◌*◌, ◌≤◌, length, map}
 use Rattle.cmap_values.specs.DeclarationsSeen.{bf_entry_seen}
 use Rattle.cmap_writer.proofs.TextParts.{PiecesBefore}
 use Rattle.cmap_writer.proofs.text_parts.push_text_pieces.Given as goal
@@ -7,6 +7,7 @@ abbrev pub invariant-loop-start : goal.invariant-loop-start
 invariant-loop-start l = record {
   first : l.entry.range.start ≤ l.start;
   left : l.start ≤ l.end;
+  few : 256 * length l.pieces.items + l.entry.range.start ≤ 256 * length l.initial.pieces.items + l.start;
   pieces : PiecesBefore (bf_entry_seen l.entry) l.start (map bf_entry_seen l.initial.pieces.items) (map bf_entry_seen l.pieces.items);
 }
 

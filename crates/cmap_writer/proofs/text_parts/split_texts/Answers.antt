@@ -1,6 +1,10 @@
-use Rattle.std.proofs.Common.{map, arith, subst, sym}
+use Rattle.std.proofs.Common.{ap, map, arith, subst, sym}
+use Rattle.std.proofs.lemmas.List.{take_all}
+use Rattle.std.proofs.lemmas.List.Sums.{sum_by_more}
 use Rattle.std.proofs.lemmas.Result.{IfOk-from_err}
-use Rattle.cmap_values.specs.DeclarationsSeen.{bf_entry_seen}
+use Rattle.cmap_values.specs.DeclarationsSeen.{bf_entry_seen, bf_range_span}
+use Rattle.cmap_values.specs.declared.declarations.BfRange.{BfRange}
+use Rattle.cmap_writer.specs.Weights.{span_weight, texts_weight}
 use Rattle.cmap_layers.specs.Lookups.{bf_at, bf_span}
 use Rattle.cmap_writer.specs.Pieces.{CanBeSplitText, IsShortText, PushesPieces}
 use Rattle.cmap_writer.proofs.TextPartsSeen.{one_can, texts_all, texts_more}
@@ -16,10 +20,19 @@ loop-range-preserved c =
     let e = c.range-item.result in
     let old = map bf_entry_seen c.loop-range.pieces.items in
     let new = map bf_entry_seen c.push_text_pieces.new.pieces.items in
-    texts_more c.args.ranges.now c.loop-range.range-index e old new (omega arith) c.loop-range.invariant (subst (λ x. PushesPieces bf_span bf_at IsShortText (bf_entry_seen x) old new) c.range-item.is c.in_ok-push_text_pieces.ensures)
+    record {
+      pieces = texts_more c.args.ranges.now c.loop-range.range-index e old new (omega arith) c.loop-range.invariant.pieces (subst (λ x. PushesPieces bf_span bf_at IsShortText (bf_entry_seen x) old new) c.range-item.is c.in_ok-push_text_pieces.ensures.pushed);
+      few = omega (arith, c.loop-range.invariant.few, c.in_ok-push_text_pieces.ensures.few, ap (λ (r : BfRange). span_weight (bf_range_span r)) c.range-item.is, sum_by_more (λ (r : BfRange). span_weight (bf_range_span r)) c.args.ranges.now c.loop-range.range-index e c.loop-range-test.true);
+    }
 
-pub returns : goal.returns
-returns c = texts_all c.args.ranges.now c.loop-range.range-index (map bf_entry_seen c.loop-range.pieces.items) (omega arith) c.loop-range.invariant
+pub returns-clause-pieces : goal.returns-clause-pieces
+returns-clause-pieces c = texts_all c.args.ranges.now c.loop-range.range-index (map bf_entry_seen c.loop-range.pieces.items) (omega arith) c.loop-range.invariant.pieces
 
-pub returns-in_err-push_text_pieces : goal.returns-in_err-push_text_pieces
-returns-in_err-push_text_pieces c = IfOk-from_err _ _ c.from_residual.ensures.0
+pub returns-in_err-push_text_pieces-clause-pieces : goal.returns-in_err-push_text_pieces-clause-pieces
+returns-in_err-push_text_pieces-clause-pieces c = IfOk-from_err _ _ c.from_residual.ensures.0
+
+pub returns-in_err-push_text_pieces-clause-few : goal.returns-in_err-push_text_pieces-clause-few
+returns-in_err-push_text_pieces-clause-few c = IfOk-from_err _ _ c.from_residual.ensures.0
+
+pub returns-clause-few : goal.returns-clause-few
+returns-clause-few c = omega (arith, c.loop-range.invariant.few, ap texts_weight (take_all c.loop-range.range-index c.args.ranges.now c.loop-range-test.false))

@@ -1,15 +1,17 @@
-use Rattle.std.proofs.Common.{All, ◌<◌, ◌^◌, length, map, subst, sym}
-use Rattle.std.proofs.lemmas.List.Sorted.{All-permutation, IsPermutation-map}
+use Rattle.std.proofs.Common.{All, ◌<◌, ◌^◌, ap, length, map, subst, sym, arith}
+use Rattle.std.proofs.lemmas.List.{length-map}
+use Rattle.std.proofs.lemmas.List.Sorted.{All-permutation, IsPermutation-map, length_permutation}
 use Rattle.std.proofs.lemmas.Result.{IfOk-from_err}
 use Rattle.cmap_values.specs.DeclarationsSeen.{bf_entry_seen}
 use Rattle.cmap_values.specs.Files.{Declaration}
 use Rattle.cmap_layers.specs.Lookups.{bf_at, bf_span}
 use Rattle.cmap_writer.specs.Pieces.{ArePieces, CanBeSplitText, IsShortText}
 use Rattle.cmap_writer.specs.Segments.{AddsSegments}
+use Rattle.cmap_writer.specs.Weights.{AreFew, texts_weight}
 use Rattle.cmap_writer.specs.TextParts.{IsDecidedText, IsPartOf}
 use Rattle.cmap_writer.proofs.Told.{pieces_say, same_permuted, same_told}
-use Rattle.cmap_values.proofs.Outcomes.{refuses_on}
-use Rattle.cmap_writer.proofs.ObstaclesMet.{long_text, memory_on}
+use Rattle.cmap_values.proofs.Outcomes.{memory_on, refuses_on}
+use Rattle.cmap_writer.proofs.ObstaclesMet.{long_text}
 use Rattle.cmap_writer.proofs.TextsMade.{can_split}
 use Rattle.cmap_writer.proofs.texts.add_text_list.Goals as goal
 
@@ -17,7 +19,7 @@ pub add_texts-requires : goal.add_texts-requires
 add_texts-requires c =
     let pieces = c.in_ok-pieces.pieces.items in
     let sorted = c.sort_by_key.new.self.items in
-    subst (λ xs. All IsShortText (map bf_entry_seen xs)) (sym c.deref-3.ensures.value) (All-permutation IsShortText (map bf_entry_seen pieces) (map bf_entry_seen sorted) (IsPermutation-map bf_entry_seen pieces sorted c.sort_by_key.ensures.permutation) c.in_ok-pieces.ensures.0)
+    subst (λ xs. All IsShortText (map bf_entry_seen xs)) (sym c.deref-3.ensures.value) (All-permutation IsShortText (map bf_entry_seen pieces) (map bf_entry_seen sorted) (IsPermutation-map bf_entry_seen pieces sorted c.sort_by_key.ensures.permutation) c.in_ok-pieces.ensures.pieces.0)
 
 pub returns-clause-added : goal.returns-clause-added
 returns-clause-added c =
@@ -26,10 +28,11 @@ returns-clause-added c =
     let items = c.in_ok-pieces.pieces.items in
     let pieces = map bf_entry_seen items in
     let sorted = c.sort_by_key.new.self.items in
-    let parts = subst (λ xs. ArePieces bf_span bf_at IsShortText (map bf_entry_seen xs) pieces) c.deref-2.ensures.value c.in_ok-pieces.ensures in
+    let parts = subst (λ xs. ArePieces bf_span bf_at IsShortText (map bf_entry_seen xs) pieces) c.deref-2.ensures.value c.in_ok-pieces.ensures.pieces in
     let same = same_permuted bf_span bf_at es pieces (map bf_entry_seen sorted) (IsPermutation-map bf_entry_seen items sorted c.sort_by_key.ensures.permutation) (pieces_say bf_span bf_at IsShortText es ranges pieces parts c.in_ok-ranges.ensures.same) in
     let added = subst (λ xs. AddsSegments c.args.segments.now.items c.add_texts.new.segments.items (map Declaration.bf (map bf_entry_seen xs))) c.deref-3.ensures.value c.in_ok-add_texts.ensures in
-    (map bf_entry_seen sorted, added, same_told bf_span bf_at es (map bf_entry_seen sorted) same)
+    let few : AreFew (map bf_span es) (length (map bf_entry_seen sorted)) = omega (arith, length-map sorted bf_entry_seen, length_permutation items sorted c.sort_by_key.ensures.permutation, c.in_ok-pieces.ensures.few, ap texts_weight c.deref-2.ensures.value, c.in_ok-ranges.ensures.few) in
+    (map bf_entry_seen sorted, added, same_told bf_span bf_at es (map bf_entry_seen sorted) same, few)
 
 pub returns-in_err-check_units-clause-err : goal.returns-in_err-check_units-clause-err
 returns-in_err-check_units-clause-err c = refuses_on _ _ c.from_residual-in_err-check_units.ensures.1 (long_text (map bf_entry_seen c.args.list.now) c.deref.result.now (subst (λ xs. All IsDecidedText (map bf_entry_seen xs)) (sym c.deref.ensures.value) c.in_ok-ranges.ensures.small) (subst (λ xs. All (IsPartOf (map bf_entry_seen c.args.list.now)) (map bf_entry_seen xs)) (sym c.deref.ensures.value) c.in_ok-ranges.ensures.parts) _ c.in_err-check_units.ensures.err) (λ o h. h)

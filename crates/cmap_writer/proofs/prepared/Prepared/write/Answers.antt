@@ -1,11 +1,13 @@
-use Rattle.std.proofs.Common.{◌∙◌, ◌≡◌, subst}
+use Rattle.std.proofs.Common.{◌∙◌, ◌≡◌, ◌+◌, inr, length, ap, subst, arith}
+use Rattle.std.proofs.lemmas.List.{length-append}
 use Rattle.std.proofs.lemmas.Result.{IfOk-from_err}
 use Rattle.cmap_writer.specs.EncodersSeen.{encoders_seen}
 use Rattle.cmap_writer.specs.Written.{Appends, IsFramed}
 use Rattle.cmap_writer.proofs.FileKept.{head}
-use Rattle.cmap_values.proofs.Outcomes.{refuses_on}
+use Rattle.cmap_values.proofs.Outcomes.{memory_on, refuses_on}
 use Rattle.cmap_writer.specs.Obstacles.{IsSegmentsObstacle}
-use Rattle.cmap_writer.proofs.ObstaclesMet.{memory_on, too_long}
+use Rattle.cmap_writer.specs.Segments.{AreSegmentBytes}
+use Rattle.cmap_writer.proofs.ObstaclesMet.{by_segments, too_long}
 use Rattle.cmap_writer.proofs.PreparedKept.{file_framed, file_written}
 use Rattle.cmap_writer.proofs.SegmentsAdded.{WrittenWhere}
 use Rattle.cmap_writer.proofs.prepared.Prepared.write.Goals as goal
@@ -32,10 +34,17 @@ pub returns-in_err-body-clause-err : goal.returns-in_err-body-clause-err
 returns-in_err-body-clause-err c = memory_on _ _ c.from_residual.ensures.1
 
 pub returns-in_err-push_segments-clause-err : goal.returns-in_err-push_segments-clause-err
-returns-in_err-push_segments-clause-err c = refuses_on _ _ c.from_residual-in_err-push_segments.ensures.1 c.in_err-push_segments.ensures.err (λ o h. subst (λ ss. IsSegmentsObstacle (encoders_seen c.args.tables.now) ss o) c.deref-2.ensures.value h)
+returns-in_err-push_segments-clause-err c = refuses_on _ _ c.from_residual-in_err-push_segments.ensures.1 c.in_err-push_segments.ensures.err (λ o h. by_segments (encoders_seen c.args.tables.now) c.args.self.now o (subst (λ ss. IsSegmentsObstacle (encoders_seen c.args.tables.now) ss o) c.deref-2.ensures.value h))
 
 pub returns-in_err-push_framed-clause-err : goal.returns-in_err-push_framed-clause-err
-returns-in_err-push_framed-clause-err c = too_long _ _ _ _ c.from_residual-in_err-push_framed.ensures.1 c.in_err-push_framed.ensures.err tt
+returns-in_err-push_framed-clause-err c = too_long _ _ _ _ c.from_residual-in_err-push_framed.ensures.1 c.in_err-push_framed.ensures.err (λ long.
+    let (bytes, is, are) = c.in_ok-push_segments.ensures.bytes in
+    let body : length c.push_segments.new.out.items ≡ length c.in_ok-body.body.items + length bytes = ap length is ∙ length-append c.in_ok-body.body.items bytes in
+    inr (record {
+      bytes = bytes;
+      are = subst (λ ss. AreSegmentBytes (encoders_seen c.args.tables.now) ss bytes) c.deref-2.ensures.value are;
+      long = omega (arith, long, body, ap length c.deref-3.ensures.value, ap length c.in_ok-body.ensures.items, ap length c.deref.ensures.value);
+    }))
 
 pub returns-in_err-body-clause-framed : goal.returns-in_err-body-clause-framed
 returns-in_err-body-clause-framed c = IfOk-from_err _ _ c.from_residual.ensures.0

@@ -2,13 +2,13 @@ use Rattle.std.proofs.Common.{◌<◌, ◌*◌, ◌^◌, ◌∙◌, ◌++◌, le
 use Rattle.std.specs.List.{All, flat_map}
 use Rattle.std.proofs.lemmas.Result.{IfOk-from_err, IfOk-weaker}
 use Rattle.cmap_writer.specs.Written.{bytes_of, Appends, Writes}
-use Rattle.cmap_writer.proofs.TablesWritten.{table_written}
+use Rattle.cmap_writer.proofs.TablesWritten.{table_len, table_written}
 use Rattle.cmap_writer.proofs.FrontsWritten.{fields}
 use Rattle.cmap_packed.specs.TableFronts.{TableAt}
 use Rattle.cmap_writer.proofs.words.Encoder.write.Goals as goal
 
-pub returns : goal.returns
-returns c =
+pub returns-clause-written : goal.returns-clause-written
+returns-clause-written c =
     let i = c.self.inside in
     let width = c.args.width in
     let fit = subst (λ t. All (λ p. p.symbol < 2 ^ (8 * width)) t) (sym c.self.view_is) c.requires.symbols in
@@ -25,11 +25,35 @@ returns c =
     c.self.invariant.sound
     c.self.invariant.counts)) c.push_symbols.ensures
 
-pub returns-in_err-push_number : goal.returns-in_err-push_number
-returns-in_err-push_number c = IfOk-from_err _ _ c.from_residual.ensures.0
+pub returns-clause-len : goal.returns-clause-len
+returns-clause-len c =
+    let words = c.self.inside.words.items in
+    let counts = c.self.inside.counts.items in
+    let small = subst (λ ns. All (λ n. n < 2 ^ 16) ns) c.deref.ensures.value c.in_ok-push_u16s.ensures.small in
+    IfOk-weaker _ _ _ (λ _ symbols. table_len c.args.width _ words counts c.args.out.now.items c.push_number.new.out.items c.push.new.self.items c.push_u16s.new.out.items c.push_symbols.new.out.items
+    c.in_ok-push_number.ensures
+    c.in_ok-push.ensures.items
+    (c.in_ok-push_u16s.ensures.written ∙ ap (λ ns. c.push.new.self.items ++ fields 2 ns) c.deref.ensures.value)
+    (symbols ∙ ap (λ ws. c.push_u16s.new.out.items ++ flat_map (λ w. bytes_of c.args.width w.symbol) ws) c.deref-2.ensures.value)
+    c.requires.width.1
+    small
+    c.self.invariant.few
+    c.self.invariant.counts) c.push_symbols.ensures
 
-pub returns-in_err-push : goal.returns-in_err-push
-returns-in_err-push c = IfOk-from_err _ _ c.from_residual-in_err-push.ensures.0
+pub returns-in_err-push_number-clause-written : goal.returns-in_err-push_number-clause-written
+returns-in_err-push_number-clause-written c = IfOk-from_err _ _ c.from_residual.ensures.0
 
-pub returns-in_err-push_u16s : goal.returns-in_err-push_u16s
-returns-in_err-push_u16s c = IfOk-from_err _ _ c.from_residual-in_err-push_u16s.ensures.0
+pub returns-in_err-push-clause-written : goal.returns-in_err-push-clause-written
+returns-in_err-push-clause-written c = IfOk-from_err _ _ c.from_residual-in_err-push.ensures.0
+
+pub returns-in_err-push_u16s-clause-written : goal.returns-in_err-push_u16s-clause-written
+returns-in_err-push_u16s-clause-written c = IfOk-from_err _ _ c.from_residual-in_err-push_u16s.ensures.0
+
+pub returns-in_err-push_number-clause-len : goal.returns-in_err-push_number-clause-len
+returns-in_err-push_number-clause-len c = IfOk-from_err _ _ c.from_residual.ensures.0
+
+pub returns-in_err-push-clause-len : goal.returns-in_err-push-clause-len
+returns-in_err-push-clause-len c = IfOk-from_err _ _ c.from_residual-in_err-push.ensures.0
+
+pub returns-in_err-push_u16s-clause-len : goal.returns-in_err-push_u16s-clause-len
+returns-in_err-push_u16s-clause-len c = IfOk-from_err _ _ c.from_residual-in_err-push_u16s.ensures.0
