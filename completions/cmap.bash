@@ -7,7 +7,7 @@ _cmap() {
     warnings+=" mode-differs count-differs long-section no-endcmap code-length odd-digits odd-text"
     COMPREPLY=()
     if ((COMP_CWORD == 1)); then
-        mapfile -t COMPREPLY < <(compgen -W "info list find check decode lookup text where bundle --help --version" -- "$current")
+        mapfile -t COMPREPLY < <(compgen -W "info list find check decode lookup text where write repair bundle --help --version" -- "$current")
         return
     fi
     case $before in
@@ -35,13 +35,14 @@ _cmap() {
         ;;
     esac
     case $subcommand in
-    info | list | find | check | decode | lookup | text | where | bundle) ;;
+    info | list | find | check | decode | lookup | text | where | write | repair | bundle) ;;
     *) return ;;
     esac
     if [[ $current == -* ]]; then
         case $subcommand in
         list) mapfile -t COMPREPLY < <(compgen -W "--budget --lenient --effective" -- "$current") ;;
         where) ;;
+        write | repair) mapfile -t COMPREPLY < <(compgen -W "--base --bundle --no-predefined --output --help" -- "$current") && return ;;
         bundle) mapfile -t COMPREPLY < <(compgen -W "--output --name --verify --help" -- "$current") && return ;;
         decode | text) mapfile -t COMPREPLY < <(compgen -W "--to-unicode --budget --lenient" -- "$current") ;;
         check) mapfile -t COMPREPLY < <(compgen -W "--budget --files-from --null --first --lint --to-unicode --deny --quiet" -- "$current") ;;

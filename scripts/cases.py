@@ -72,6 +72,7 @@ class Case:
     output: list = field(default_factory=list)
     errors: list = field(default_factory=list)
     status: int = 0
+    written: list = field(default_factory=list)
 
 
 def unescape(text):
@@ -181,6 +182,10 @@ class Reader:
             case.errors.append(self.fill(rest))
         elif word == "status":
             case.status = int(rest)
+        elif word == "writes":
+            case.written.append(File(unescape(rest)))
+        elif word == "=":
+            case.written[-1].bytes += unescape(rest) + b"\n"
         else:
             raise Misspelled(f"no word of a case: {word}")
 
@@ -264,4 +269,12 @@ def failures_of(program, folder, case):
             found.append(f"{name}:\n{text}expected:\n{text_of(expected)}")
         if harmful(output):
             found.append(f"{name} has characters that do harm: {harmful(output)!a}")
-    return found
+    return found + [fault for file in case.written for fault in differences(folder, file)]
+
+
+def differences(folder, file):
+    """What differs between a file that a case has to write and the one that is there."""
+    path = Path(os.fsdecode(os.path.join(os.fsencode(folder), file.path)))
+    got = path.read_bytes() if path.exists() else None
+    if got != file.bytes:
+        yield f"{path.name}:\n{got!a}\nexpected:\n{bytes(file.bytes)!a}"

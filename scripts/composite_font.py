@@ -21,12 +21,13 @@ import tempfile
 from functools import partial
 from pathlib import Path
 
+from poppler import resources
+
 TOP = Path(__file__).resolve().parent.parent
 ROWS = TOP / "examples" / "strings.rows"
 TO_UNICODE_ROWS = TOP / "examples" / "to_unicode.rows"
 TO_UNICODE = TOP / "examples" / "to_unicode"
 PROGRAM = TOP / "crates" / "cmap" / "out" / "cmap"
-RESOURCES = Path("/usr/share/poppler/cMap")
 ORDERING = re.compile(rb"/Ordering\s*\((\w+)\)")
 
 
@@ -55,7 +56,7 @@ def rows_with_files():
 
 def resource(name):
     """The path of a resource."""
-    return next(path for path in sorted(RESOURCES.rglob(name)) if path.is_file())
+    return next(path for path in resources() if path.name == name)
 
 
 def ordering(name):

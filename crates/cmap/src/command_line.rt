@@ -4,7 +4,8 @@ pub(crate) mod flags;
 
 use self::flags::{
     BASE, BUDGET, BUNDLE, DENY, EFFECTIVE, FILES_FROM, FIRST, Flag, JSON, LENIENT, LINT,
-    LINT_TO_UNICODE, NAME, NO_PREDEFINED, NULL, OUTPUT, QUIET, TO_UNICODE, VERIFY, values_of,
+    LINT_TO_UNICODE, NAME, NO_PREDEFINED, NULL, OUTPUT, QUIET, TEXT_OUTPUT, TO_UNICODE, VERIFY,
+    values_of,
 };
 use clap::{Arg, ArgAction, ArgMatches, Command};
 use cmap_sources::inputs::STANDARD_INPUT;
@@ -24,7 +25,7 @@ struct Form {
     flags: &'static [Flag],
     /// Whether its first argument is a file.
     has_file: bool,
-    /// Its other arguments. `list` has none.
+    /// Its other arguments. `list`, `write` and `repair` have none.
     arguments: Option<Arguments>,
 }
 
@@ -50,6 +51,9 @@ const STRING_FLAGS: &[Flag] = &[
     BUDGET,
     LENIENT,
 ];
+
+/// The options of a subcommand that writes a file anew.
+const REWRITE_FLAGS: &[Flag] = &[BASE, BUNDLE, NO_PREDEFINED, TEXT_OUTPUT];
 
 /// The strings of `decode` and `text`.
 const STRINGS: Arguments = Arguments {
@@ -161,6 +165,20 @@ const SUBCOMMANDS: &[Form] = &[
             unless: Some("name"),
             help: "CMap files, and folders of them; - is the standard input",
         }),
+    },
+    Form {
+        name: "write",
+        about: "Writes anew what a file says, as text",
+        flags: REWRITE_FLAGS,
+        has_file: true,
+        arguments: None,
+    },
+    Form {
+        name: "repair",
+        about: "Writes anew what a file says apart from its faults, which are reported",
+        flags: REWRITE_FLAGS,
+        has_file: true,
+        arguments: None,
     },
     Form {
         name: "lookup",

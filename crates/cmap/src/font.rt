@@ -17,7 +17,7 @@ pub(crate) struct StringOptions<'m, 'w> {
     file: &'w str,
     to_unicode: Option<&'w str>,
     /// Strings in hexadecimal digits.
-    pub(crate) strings: &'m [&'w str],
+    strings: &'m [&'w str],
     pub(crate) sources: Sources<'m, 'w>,
     manner: Manner,
     pub(crate) json: bool,
@@ -64,8 +64,19 @@ impl Font {
     }
 }
 
+/// The font and the strings that the arguments ask for.
+pub(crate) fn font_and_strings(
+    rt: &HostRuntime,
+    options: &StringOptions<'_, '_>,
+    bases: &mut Bases<'_>,
+) -> Result<(Font, Vec<Vec<u8>>), Failure> {
+    let strings = strings_of(rt, options.strings)?;
+    let font = font_of(rt, options, bases)?;
+    Ok((font, strings))
+}
+
 /// The CMaps that the arguments ask for, with that of the collection if it is found.
-pub(crate) fn font_of(
+fn font_of(
     rt: &HostRuntime,
     options: &StringOptions<'_, '_>,
     bases: &mut Bases<'_>,
@@ -122,7 +133,7 @@ fn family_of(map: &CMap) -> Option<&CidFamily> {
 }
 
 /// The strings of the arguments; `-` stands for those of the standard input.
-pub(crate) fn strings_of(rt: &HostRuntime, arguments: &[&str]) -> Result<Vec<Vec<u8>>, Failure> {
+fn strings_of(rt: &HostRuntime, arguments: &[&str]) -> Result<Vec<Vec<u8>>, Failure> {
     let mut strings = Vec::new(rt.alloc());
     for argument in arguments {
         add_argument(rt, argument, &mut strings)?;

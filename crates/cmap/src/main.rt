@@ -14,6 +14,7 @@ mod locate;
 mod lookup;
 mod options;
 mod progress;
+mod rewrite;
 mod subcommands;
 mod text;
 mod usage;

@@ -10,11 +10,14 @@ use crate::list::{ListOptions, list};
 use crate::locate::{LocateOptions, locate};
 use crate::lookup::{LookupOptions, lookup};
 use crate::options::Sources;
+use crate::rewrite::Rewriting;
 use crate::text::text;
 use clap::ArgMatches;
 use cmap_bundle::command::{BundleOptions, bundle};
+use cmap_rewrite::command::rewrite;
 use cmap_sources::bases::Bases;
 use cmap_sources::failure::Failure;
+use cmap_sources::reading::Faults;
 
 /// A subcommand, with what its arguments ask for.
 #[derive(Clone, Copy)]
@@ -27,6 +30,7 @@ pub(crate) enum Subcommand<'m, 'w> {
     Text(StringOptions<'m, 'w>),
     Lookup(LookupOptions<'m, 'w>),
     Where(LocateOptions<'m, 'w>),
+    Rewrite(Rewriting<'m, 'w>),
     Bundle(BundleOptions<'m, 'w>),
 }
 
@@ -42,6 +46,8 @@ impl<'m, 'w> Subcommand<'m, 'w> {
             "text" => Subcommand::Text(StringOptions::of(arguments)),
             "lookup" => Subcommand::Lookup(LookupOptions::of(arguments)),
             "where" => Subcommand::Where(LocateOptions::of(arguments)),
+            "write" => Subcommand::Rewrite(Rewriting::of(arguments, Faults::First)),
+            "repair" => Subcommand::Rewrite(Rewriting::of(arguments, Faults::All)),
             "bundle" => Subcommand::Bundle(bundle_options(arguments)),
             _ => return None,
         })
@@ -58,6 +64,7 @@ impl<'m, 'w> Subcommand<'m, 'w> {
             Subcommand::Text(options) => options.sources,
             Subcommand::Lookup(options) => options.sources,
             Subcommand::Where(options) => options.sources,
+            Subcommand::Rewrite(rewriting) => rewriting.sources,
             Subcommand::Bundle(_) => Sources::nowhere(),
         }
     }
@@ -73,6 +80,7 @@ impl<'m, 'w> Subcommand<'m, 'w> {
             Subcommand::Text(options) => text(rt, options, bases),
             Subcommand::Lookup(options) => lookup(rt, options, bases),
             Subcommand::Where(options) => locate(rt, options, bases),
+            Subcommand::Rewrite(rewriting) => rewrite(rt, &rewriting.options, bases),
             Subcommand::Bundle(options) => bundle(rt, options),
         }
     }

@@ -1,6 +1,6 @@
 //! `cmap text`: the texts of strings.
 
-use crate::font::{StringOptions, font_of, strings_of};
+use crate::font::{StringOptions, font_and_strings};
 use cmap_report::decode::{push_text_json, push_text_line};
 use cmap_sources::bases::Bases;
 use cmap_sources::failure::Failure;
@@ -13,8 +13,7 @@ pub(crate) fn text(
     options: &StringOptions<'_, '_>,
     bases: &mut Bases<'_>,
 ) -> Result<u8, Failure> {
-    let strings = strings_of(rt, options.strings)?;
-    let font = font_of(rt, options, bases)?;
+    let (font, strings) = font_and_strings(rt, options, bases)?;
     print_texts(rt, options, &font.extractor(), &strings)
 }
 

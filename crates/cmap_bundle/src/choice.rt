@@ -6,13 +6,13 @@ use cmap_escape::count::Count;
 use cmap_escape::escape::{push_name, push_text};
 use cmap_sources::failure::Failure;
 use cmap_sources::fault_line::LineCounter;
-use cmap_sources::refused::push_refusal;
+use cmap_sources::refused::stop_line;
 use cmap_text::read_text;
 use cmap_values::fault::{Fault, Stop};
 use cmap_values::file::File;
 use cmap_values::names::CMapName;
-use hayro_cmap::{Bundle, Cause, NamedFiles, Refusal};
-use std::alloc::{AllocError, Global};
+use hayro_cmap::{Bundle, NamedFiles};
+use std::alloc::AllocError;
 
 /// A file that is put in the bundle.
 #[derive(Drop)]
@@ -133,7 +133,10 @@ impl<'c> Choice<'c> {
         candidate: &Candidate,
         stop: Stop,
     ) -> Result<(), Failure> {
-        let line = fault_line(rt.alloc(), candidate, stop)?;
+        let none: NamedFiles<'_, (&[u8], &[u8]), Bundle<'_>> = NamedFiles::alone(&[]);
+        let path = candidate.path.as_str();
+        let mut lines = LineCounter::new();
+        let line = stop_line(rt.alloc(), path, &candidate.bytes, &none, stop, &mut lines)?;
         eprintln!(rt; "cmap: {line}")?;
         self.left_out.add_one();
         Ok(())
@@ -155,29 +158,4 @@ fn push_already(reason: &mut String, name: &[u8], path: &str) -> Result<(), Allo
     push_name(reason, name)?;
     reason.push_str(" already, of ")?;
     push_text(reason, path)
-}
-
-/// The line of a fault, as `cmap check` prints it.
-fn fault_line(alloc: Global, candidate: &Candidate, stop: Stop) -> Result<String, AllocError> {
-    let mut line = String::new(alloc);
-    push_text(&mut line, candidate.path.as_str())?;
-    line.push_str(": ")?;
-    push_stop(alloc, &mut line, candidate, stop)?;
-    Ok(line)
-}
-
-/// Adds where the reading of a file stopped, and why.
-fn push_stop(
-    alloc: Global,
-    line: &mut String,
-    candidate: &Candidate,
-    stop: Stop,
-) -> Result<(), AllocError> {
-    let none: NamedFiles<'_, (&[u8], &[u8]), Bundle<'_>> = NamedFiles::alone(&[]);
-    let refusal = Refusal {
-        names: Vec::new(alloc),
-        cause: Cause::Malformed(stop),
-    };
-    let mut lines = LineCounter::new();
-    push_refusal(line, &candidate.bytes, &none, &refusal, &mut lines)
 }

@@ -1,11 +1,11 @@
 //! `cmap bundle`: makes a bundle of files.
 
-use crate::beside::Beside;
 use crate::candidates::candidates_of;
 use crate::choice::{Choice, Chosen, choose};
 use crate::making::bundle_of;
 use crate::summary::push_summary;
 use crate::verify::differences;
+use cmap_sources::beside::Beside;
 use cmap_sources::failure::{Failure, fault};
 use cmap_sources::inputs::{STANDARD_INPUT, needed};
 use cmap_sources::status::{ACCEPTED, REFUSED};

@@ -2,7 +2,6 @@
 //! they say.
 #![tactic(auto)]
 
-pub mod beside;
 pub mod candidates;
 pub mod choice;
 pub mod command;

@@ -6,7 +6,7 @@ use crate::file_bytes::FileBytes;
 use crate::folders::is_file;
 use crate::reading::{Input, Manner, read_over};
 use crate::status::FAILED;
-use hayro_cmap::{CMap, Fault};
+use hayro_cmap::{CMap, Fault, identity_text};
 use std::fs;
 use std::io::{self, ErrorKind, Read};
 
@@ -91,23 +91,36 @@ pub fn open<'b>(
     manner: Manner,
     bases: &mut Bases<'b>,
 ) -> Result<Opened<'b>, Failure> {
-    if argument != STANDARD_INPUT && !is_file(rt, argument) {
-        return open_by_name(rt, argument, manner, bases);
+    match bytes_of(rt, argument, bases)? {
+        Some(bytes) => open_bytes(rt, argument, bytes, manner, bases),
+        None => open_predefined(rt, argument, bases),
     }
-    let bytes = FileBytes::of(needed(rt, argument)?)?;
-    open_bytes(rt, argument, bytes, manner, bases)
 }
 
-/// The file of this name, or else the predefined CMap.
-fn open_by_name<'b>(
+/// The bytes of the file of this path, or if no file has the path, of this name; `None` if no file has the name either.
+fn bytes_of<'b>(
     rt: &HostRuntime,
-    name: &str,
-    manner: Manner,
+    argument: &str,
     bases: &mut Bases<'b>,
-) -> Result<Opened<'b>, Failure> {
-    match bases.file(rt, name.as_bytes())? {
-        Some(bytes) => open_bytes(rt, name, bytes, manner, bases),
-        None => open_predefined(rt, name, bases),
+) -> Result<Option<FileBytes<'b>>, Failure> {
+    if argument == STANDARD_INPUT || is_file(rt, argument) {
+        return Ok(Some(FileBytes::of(needed(rt, argument)?)?));
+    }
+    bases.file(rt, argument.as_bytes())
+}
+
+/// The bytes of a file that a run needs, by its path or its name. Identity-H and Identity-V have a text without a file.
+pub fn bytes_needed<'b>(
+    rt: &HostRuntime,
+    argument: &str,
+    bases: &mut Bases<'b>,
+) -> Result<FileBytes<'b>, Failure> {
+    if let Some(bytes) = bytes_of(rt, argument, bases)? {
+        return Ok(bytes);
+    }
+    match identity_text(argument.as_bytes()) {
+        Some(text) => Ok(FileBytes::Lent(text)),
+        None => Err(missing(rt, argument, bases)),
     }
 }
 

@@ -2,7 +2,9 @@
 //! refused.
 #![tactic(auto)]
 
+pub mod alone;
 pub mod bases;
+pub mod beside;
 pub mod failure;
 pub mod fault_line;
 pub mod file_bytes;

@@ -3,8 +3,7 @@
 use crate::bases::{Bases, Files, ReadBases};
 use crate::failure::Failure;
 use crate::fault_line::LineCounter;
-use crate::refused::{push_refusal, push_refusal_json};
-use cmap_escape::escape::push_text;
+use crate::refused::{push_refusal_json, push_refusal_line};
 use hayro_cmap::{CMap, Cause, Fault, Refusal, SalvagedMap};
 use std::alloc::{AllocError, Global};
 
@@ -252,11 +251,7 @@ fn line_of<'n>(
     let files = bases.files();
     match form {
         Form::Json => push_refusal_json(alloc, &mut line, path, bytes, &files, fault, counter)?,
-        Form::Text => {
-            push_text(&mut line, path)?;
-            line.push_str(": ")?;
-            push_refusal(&mut line, bytes, &files, fault, counter)?;
-        }
+        Form::Text => push_refusal_line(&mut line, path, bytes, &files, fault, counter)?,
     }
     Ok(line)
 }

@@ -2,7 +2,7 @@
 
 use crate::fault_line::LineCounter;
 use cmap_binary::is_marked_binary;
-use cmap_escape::escape::{escaped_names, push_name};
+use cmap_escape::escape::{escaped_names, push_name, push_text};
 use cmap_escape::json::push_value;
 use cmap_escape::object::Object;
 use hayro_cmap::token::Scanner;
@@ -95,6 +95,38 @@ pub fn push_refusal<'n, N: NamedFile>(
         None => write!(out, "{}", refusal.cause)?,
     }
     push_named(out, ", in /", last)
+}
+
+/// Adds the line of a refusal without its line end: the path, and why the file is refused.
+pub fn push_refusal_line<'n, N: NamedFile>(
+    out: &mut String,
+    path: &str,
+    bytes: &[u8],
+    files: &NamedFiles<'_, N, Bundle<'_>>,
+    refusal: &Refusal<'n>,
+    lines: &mut LineCounter<'n>,
+) -> Result<(), AllocError> {
+    push_text(out, path)?;
+    out.push_str(": ")?;
+    push_refusal(out, bytes, files, refusal, lines)
+}
+
+/// The line of a fault of the file itself.
+pub fn stop_line<N: NamedFile>(
+    alloc: Global,
+    path: &str,
+    bytes: &[u8],
+    files: &NamedFiles<'_, N, Bundle<'_>>,
+    stop: Stop,
+    lines: &mut LineCounter<'_>,
+) -> Result<String, AllocError> {
+    let refusal = Refusal {
+        names: Vec::new(alloc),
+        cause: Cause::Malformed(stop),
+    };
+    let mut line = String::new(alloc);
+    push_refusal_line(&mut line, path, bytes, files, &refusal, lines)?;
+    Ok(line)
 }
 
 /// Adds a text and a name after it, or nothing if there is no name.

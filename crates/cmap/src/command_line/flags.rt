@@ -214,6 +214,14 @@ pub(crate) const OUTPUT: Flag = Flag {
     help: "The bundle, which is written as a whole or not at all",
 };
 
+pub(crate) const TEXT_OUTPUT: Flag = Flag {
+    id: "output",
+    short: Some('o'),
+    long: "output",
+    value: Value::Needed("OUT"),
+    help: "The CMap file, which is written as a whole or not at all",
+};
+
 pub(crate) const NAME: Flag = Flag {
     id: "name",
     short: None,

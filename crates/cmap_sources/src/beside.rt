@@ -1,6 +1,6 @@
 //! A file that is written beside another one and then takes its place, so that a path always has a whole file.
 
-use cmap_sources::failure::{Failure, fault};
+use crate::failure::{Failure, fault};
 use std::fs::{self, File, OpenOptions};
 use std::io::{self, ErrorKind, Write};
 

@@ -1,0 +1,5 @@
+//! `cmap write` and `cmap repair`: what a file says is written anew, as text.
+#![tactic(auto)]
+
+pub mod command;
+mod obstacle;

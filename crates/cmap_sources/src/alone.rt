@@ -1,0 +1,77 @@
+//! What one file says by itself, whatever files it uses.
+
+use crate::bases::Bases;
+use crate::failure::Failure;
+use crate::fault_line::LineCounter;
+use crate::reading::{Faults, Input};
+use crate::refused::stop_line;
+use cmap_binary::{is_marked_binary, read_binary, salvage_binary};
+use cmap_text::{read_text, salvage_text};
+use cmap_values::fault::{Fault, Stop};
+use cmap_values::file::{File, Salvaged};
+
+/// What a file says. Its faults are reported. If it isn't read past them, it is refused at the first.
+pub fn file_of<'d>(
+    rt: &HostRuntime,
+    input: Input<'d>,
+    faults: Faults,
+    bases: &Bases<'_>,
+) -> Result<File<'d>, Failure> {
+    match faults {
+        Faults::First => read_strictly(rt, input, bases),
+        Faults::All => read_past(rt, input, bases),
+    }
+}
+
+fn read_strictly<'d>(
+    rt: &HostRuntime,
+    input: Input<'d>,
+    bases: &Bases<'_>,
+) -> Result<File<'d>, Failure> {
+    let read = match bases.bundle {
+        Some(bundle) if is_marked_binary(input.bytes) => {
+            read_binary(rt.alloc(), bundle, input.bytes)
+        }
+        _ => read_text(rt.alloc(), input.bytes),
+    };
+    match read {
+        Ok(file) => Ok(file),
+        Err(Fault::Refused(stop)) => {
+            report_stops(rt, input, &[stop], bases)?;
+            Err(Failure::Refused)
+        }
+        Err(Fault::Memory) => Err(Failure::Memory),
+    }
+}
+
+fn read_past<'d>(
+    rt: &HostRuntime,
+    input: Input<'d>,
+    bases: &Bases<'_>,
+) -> Result<File<'d>, Failure> {
+    let Salvaged { file, faults } = match bases.bundle {
+        Some(bundle) if is_marked_binary(input.bytes) => {
+            salvage_binary(rt.alloc(), bundle, input.bytes)?
+        }
+        _ => salvage_text(rt.alloc(), input.bytes)?,
+    };
+    report_stops(rt, input, &faults, bases)?;
+    Ok(file)
+}
+
+/// Reports the faults of a file, each with its byte and its line.
+fn report_stops(
+    rt: &HostRuntime,
+    input: Input<'_>,
+    stops: &[Stop],
+    bases: &Bases<'_>,
+) -> Result<(), Failure> {
+    let Input { path, bytes } = input;
+    let files = bases.files();
+    let mut lines = LineCounter::new();
+    for stop in stops {
+        let line = stop_line(rt.alloc(), path, bytes, &files, *stop, &mut lines)?;
+        eprintln!(rt; "cmap: {line}")?;
+    }
+    Ok(())
+}

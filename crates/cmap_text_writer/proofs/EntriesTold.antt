@@ -1,0 +1,147 @@
+-- Entries of sections that are written, and what a reader finds in them.
+use Rattle.std.proofs.Common.{◌≡◌, ◌∙◌, ℕ, ◌+◌, ◌^◌, ◌<◌, ◌≤◌, List, [], ◌∷◌, ◌++◌, get_or, inl, inr, length, map, take, refl, sym, ap, subst, arith}
+use Rattle.std.specs.Prelude.{decimal}
+use Rattle.std.specs.Int.{bytes_high_first}
+use Rattle.std.proofs.lemmas.Bool.{cases_lt, le-ltb, lt-ltb}
+use Rattle.std.proofs.lemmas.List.{append_assoc, append-nil, map-append, take_more}
+use Rattle.cmap_values.specs.Files.{CidEntry, Codespace, Declaration}
+use Rattle.cmap_text.specs.TextFiles.{AreEntries, CidKind, Extent, Section, cids, codespace_range, declares_cid, range, single}
+use Rattle.cmap_text_writer.specs.Fits.{CidFits, Fits, IsOfExtent, IsSpaceFitting}
+use Rattle.cmap_text_writer.specs.Spelled.{cid_spelled, end_length, hex_string, space_spelled}
+use Rattle.cmap_text_writer.specs.Told.{Appends, TellsEntries, TellsEntry, TellsTokens, each_of}
+use Rattle.cmap_text_writer.proofs.StringsTold.{code_back, code_is_token, code_string, decimal_is_token, is_cid, is_code, length-code, number_token}
+use Rattle.cmap_text_writer.proofs.TokensTold.{lined, no_tokens, spaced, tokens_both}
+
+-- ---- codespace ranges
+space_same : (s : Codespace) (len low high : ℕ) → len ≡ s.len → low ≡ s.low → high ≡ s.high → Declaration.codespace s ∷ [] ≡ Declaration.codespace (record { len = len; low = low; high = high }) ∷ []
+space_same s len low high a b c = rw (a, b, c) refl
+
+pub space_told : (s : Codespace) → Fits s.len s.low → Fits s.len s.high → TellsEntry codespace_range (Declaration.codespace s) (space_spelled s)
+space_told s low high =
+    let a = code_string s.len s.low in
+    let b = code_string s.len s.high in
+    let lows = bytes_high_first s.len s.low in
+    let highs = bytes_high_first s.len s.high in record {
+      tokens = a ∷ b ∷ [];
+      told = tokens_both (a ∷ []) (b ∷ []) _ _ (spaced (hex_string lows) a (code_is_token s.len s.low)) (lined (hex_string highs) b (code_is_token s.len s.high));
+      is = λ rest. (
+        a,
+        b,
+        lows,
+        highs,
+        refl,
+        is_code s.len s.low low.some low.few,
+        is_code s.len s.high low.some low.few,
+        length-code s.len s.low ∙ sym (length-code s.len s.high),
+        space_same s (length lows) _ _ (length-code s.len s.low) (code_back s.len s.low low) (code_back s.len s.high high),
+      );
+    }
+
+pub space_by : (s : Codespace) → IsSpaceFitting s → TellsEntry codespace_range (Declaration.codespace s) (space_spelled s)
+space_by s fits = space_told s fits.0 fits.1
+
+-- ---- CIDs
+cid_same : (kind : CidKind) (e : CidEntry) (len n start end : ℕ) → n ≡ len → start ≡ e.start → end ≡ e.end → declares_cid kind len e ∷ [] ≡ declares_cid kind n (record { start = start; end = end; cid = e.cid }) ∷ []
+cid_same kind e len n start end a b c = rw (a, b, c) refl
+
+-- the last code of a range fits the bytes that it is given
+pub end_fits : (len end : ℕ) → 1 ≤ len → len ≤ 4 → end < 2 ^ 32 → Fits (end_length len end) end
+end_fits len end some few small =
+    elim (cases_lt end (256 ^ len)) [
+      | inl fits ↦ rw (lt-ltb end (256 ^ len) fits) (record { some = some; few = few; small = fits })
+      | inr past ↦ rw (le-ltb end (256 ^ len) past) (record { some = omega arith; few = omega arith; small = small })
+    ]
+
+cid_lined : (n : ℕ) → n < 2 ^ 32 → TellsTokens (number_token n ∷ []) (decimal n ++ 10 ∷ [])
+cid_lined n small = lined (decimal n) (number_token n) (decimal_is_token n (omega arith))
+
+pub range_told : (kind : CidKind) (len : ℕ) (e : CidEntry) → CidFits len e → TellsEntry (cids kind range) (declares_cid kind len e) (cid_spelled len range e)
+range_told kind len e fits =
+    let longer = end_length len e.end in
+    let last = end_fits len e.end fits.start.some fits.start.few fits.end in
+    let a = code_string len e.start in
+    let b = code_string longer e.end in
+    let starts = bytes_high_first len e.start in
+    let ends = bytes_high_first longer e.end in record {
+      tokens = a ∷ b ∷ number_token e.cid ∷ [];
+      told = tokens_both (a ∷ b ∷ []) (number_token e.cid ∷ []) _ _ (tokens_both (a ∷ []) (b ∷ []) _ _ (spaced (hex_string starts) a (code_is_token len e.start)) (spaced (hex_string ends) b (code_is_token longer e.end))) (cid_lined e.cid fits.cid);
+      is = λ rest. (
+        a,
+        b,
+        number_token e.cid,
+        starts,
+        ends,
+        e.cid,
+        refl,
+        is_code len e.start fits.start.some fits.start.few,
+        is_code longer e.end last.some last.few,
+        is_cid e.cid fits.cid,
+        cid_same kind e len (length starts) _ _ (length-code len e.start) (code_back len e.start fits.start) (code_back longer e.end last),
+      );
+    }
+
+pub single_told : (kind : CidKind) (len : ℕ) (e : CidEntry) → CidFits len e → e.start ≡ e.end → TellsEntry (cids kind single) (declares_cid kind len e) (cid_spelled len single e)
+single_told kind len e fits one =
+    let a = code_string len e.start in
+    let code = bytes_high_first len e.start in
+    let back = code_back len e.start fits.start in record {
+      tokens = a ∷ number_token e.cid ∷ [];
+      told = tokens_both (a ∷ []) (number_token e.cid ∷ []) _ _ (spaced (hex_string code) a (code_is_token len e.start)) (cid_lined e.cid fits.cid);
+      is = λ rest. (a, number_token e.cid, code, e.cid, refl, is_code len e.start fits.start.some fits.start.few, is_cid e.cid fits.cid, cid_same kind e len (length code) _ _ (length-code len e.start) back (back ∙ one));
+    }
+
+pub cid_told : (kind : CidKind) (len : ℕ) (extent : Extent) (e : CidEntry) → CidFits len e → IsOfExtent extent e.start e.end → TellsEntry (cids kind extent) (declares_cid kind len e) (cid_spelled len extent e)
+cid_told kind len single e fits one = single_told kind len e fits one
+cid_told kind len range e fits any = range_told kind len e fits
+
+-- ---- entries in a row
+pub no_entries : (section : Section) → TellsEntries section [] []
+no_entries section = record { tokens = []; told = no_tokens; are = λ rest end each are. are }
+
+pub entries_push : (section : Section) (ds : List Declaration) (d : Declaration) (a b : List ℕ) → TellsEntries section ds a → TellsEntry section d b → TellsEntries section (ds ++ d ∷ []) (a ++ b)
+entries_push section ds d a b first second = let ts = first.tokens in let us = second.tokens in record {
+  tokens = ts ++ us;
+  told = tokens_both ts us a b first.told second.told;
+  are = λ rest end each later.
+      let all = first.are (us ++ rest) end ((d ∷ []) ∷ each) (rest, second.is rest, later) in
+      let parted : each_of (ds ++ d ∷ []) ++ each ≡ each_of ds ++ ((d ∷ []) ∷ each) = ap (λ es. es ++ each) (map-append (λ d. d ∷ []) ds (d ∷ [])) ∙ append_assoc (each_of ds) ((d ∷ []) ∷ []) each in
+      subst (λ tokens. AreEntries section tokens (each_of (ds ++ d ∷ []) ++ each) end) (sym (append_assoc ts us rest)) (subst (λ es. AreEntries section (ts ++ (us ++ rest)) es end) (sym parted) all);
+}
+
+-- the entries of a list, up to an index
+pub appended_none : (section : Section) (old : List ℕ) → Appends old old (TellsEntries section [])
+appended_none section old = ([], sym (append-nil old), no_entries section)
+
+pub appended_more : {X E : Type 0} (section : Section) (say : E → Declaration) (seen : X → E) (xs : List X) (i : ℕ) (d : X) (old now new entry : List ℕ) → i < length xs
+    → Appends old now (TellsEntries section (map say (map seen (take i xs)))) → new ≡ now ++ entry → TellsEntry section (say (seen (get_or xs i d))) entry → Appends old new (TellsEntries section (map say (map seen (take (i + 1) xs))))
+appended_more section say seen xs i d old now new entry within (bytes, first, all) second here =
+    let x = seen (get_or xs i d) in
+    let before = map say (map seen (take i xs)) in
+    let parted : map say (map seen (take (i + 1) xs)) ≡ before ++ say x ∷ [] = ap (λ es. map say (map seen es)) (take_more xs i d within) ∙ ap (map say) (map-append seen (take i xs) (get_or xs i d ∷ [])) ∙ map-append say (map seen (take i xs)) (x ∷ []) in (
+      bytes ++ entry,
+      second ∙ ap (λ bs. bs ++ entry) first ∙ append_assoc old bytes entry,
+      subst (λ ds. TellsEntries section ds (bytes ++ entry)) (sym parted) (entries_push section before (say x) bytes entry all here),
+    )
+
+-- the same, of each kind of CIDs
+abbrev pub TellsCids : Extent → ℕ → List CidEntry → List ℕ → Type 0
+TellsCids extent len es bytes = (kind : CidKind) → TellsEntries (cids kind extent) (map (declares_cid kind len) es) bytes
+
+pub cids_none : (extent : Extent) (len : ℕ) (old : List ℕ) → Appends old old (TellsCids extent len [])
+cids_none extent len old = ([], sym (append-nil old), λ kind. no_entries (cids kind extent))
+
+pub cids_more : {X : Type 0} (extent : Extent) (len : ℕ) (seen : X → CidEntry) (xs : List X) (i : ℕ) (d : X) (old now new entry : List ℕ) → i < length xs
+    → Appends old now (TellsCids extent len (map seen (take i xs))) → new ≡ now ++ entry → ((kind : CidKind) → TellsEntry (cids kind extent) (declares_cid kind len (seen (get_or xs i d))) entry) → Appends old new (TellsCids extent len (map seen (take (i + 1) xs)))
+cids_more extent len seen xs i d old now new entry within (bytes, first, all) second here = (
+  bytes ++ entry,
+  second ∙ ap (λ bs. bs ++ entry) first ∙ append_assoc old bytes entry,
+  λ kind.
+      let x = seen (get_or xs i d) in
+      let say = declares_cid kind len in
+      let before = map say (map seen (take i xs)) in
+      let parted : map say (map seen (take (i + 1) xs)) ≡ before ++ say x ∷ [] = ap (λ es. map say (map seen es)) (take_more xs i d within) ∙ ap (map say) (map-append seen (take i xs) (get_or xs i d ∷ [])) ∙ map-append say (map seen (take i xs)) (x ∷ []) in
+      subst (λ ds. TellsEntries (cids kind extent) ds (bytes ++ entry)) (sym parted) (entries_push (cids kind extent) before (say x) bytes entry (all kind) (here kind)),
+)
+
+pub of_kind : (kind : CidKind) (extent : Extent) (len : ℕ) (es : List CidEntry) (old new : List ℕ) → Appends old new (TellsCids extent len es) → Appends old new (TellsEntries (cids kind extent) (map (declares_cid kind len) es))
+of_kind kind extent len es old new (bytes, is, told) = (bytes, is, told kind)

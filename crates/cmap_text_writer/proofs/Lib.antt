@@ -1,0 +1,16 @@
+pub mod TokensTold
+pub mod StringsTold
+pub mod EntriesTold
+pub mod ItemsTold
+pub mod SectionsTold
+pub mod TextStrings
+pub mod FileTold
+pub mod ValuesTold
+pub mod HeaderTold
+pub mod MetadataTold
+pub mod UsesTold
+pub mod WholeTold
+pub mod TextsTold
+pub mod Walked
+pub mod Sayable
+pub mod ObstaclesMet

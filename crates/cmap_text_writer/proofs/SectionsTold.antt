@@ -1,0 +1,120 @@
+-- Sections that are written, in order.
+use Rattle.std.proofs.Common.{◌≡◌, ◌∙◌, ℕ, ◌^◌, ◌<◌, ◌≤◌, false, List, [], ◌∷◌, ◌++◌, length, refl, sym, ap, subst, arith}
+use Rattle.std.specs.Prelude.{decimal, flat_map}
+use Rattle.std.specs.List.{AllByRecursion}
+use Rattle.std.proofs.lemmas.List.{append_assoc, append-nil}
+use Rattle.std.proofs.lemmas.List.Concat.{flat_map-append}
+use Rattle.cmap_values.specs.Files.{Declaration}
+use Rattle.cmap_tokens.specs.Numbers.{numeral, integer, radix_integer, is_real}
+use Rattle.cmap_tokens.specs.Tokens.{IsToken, Token}
+use Rattle.cmap_text.specs.TextFiles.{AreEntries, Item, Section, bf_char, bf_range, cids, closer, codespace_range, declared_by, entries, mapped, notdef, opener, other, range, single}
+use Rattle.cmap_text_writer.specs.Spelled.{closer_spelled, opener_spelled}
+use Rattle.cmap_text_writer.specs.Told.{Appends, IsOfSections, TellsEntries, TellsItems, TellsSections, each_of}
+use Rattle.cmap_text_writer.proofs.ItemsTold.{items_both, no_items, one_item, other_item}
+use Rattle.cmap_text_writer.proofs.StringsTold.{decimal_is_token, number_token}
+use Rattle.cmap_text_writer.proofs.TokensTold.{is_word, lined, spaced, tokens_both}
+
+-- ---- the words of a section
+opener_is : (section : Section) → IsToken (opener section) (Token.Name false (opener section))
+unfolding numeral integer radix_integer is_real
+opener_is codespace_range = is_word (opener codespace_range) (omega arith) refl refl
+opener_is (cids mapped range) = is_word (opener (cids mapped range)) (omega arith) refl refl
+opener_is (cids mapped single) = is_word (opener (cids mapped single)) (omega arith) refl refl
+opener_is (cids notdef range) = is_word (opener (cids notdef range)) (omega arith) refl refl
+opener_is (cids notdef single) = is_word (opener (cids notdef single)) (omega arith) refl refl
+opener_is bf_range = is_word (opener bf_range) (omega arith) refl refl
+opener_is bf_char = is_word (opener bf_char) (omega arith) refl refl
+
+closer_is : (section : Section) → IsToken (closer section) (Token.Name false (closer section))
+unfolding numeral integer radix_integer is_real
+closer_is codespace_range = is_word (closer codespace_range) (omega arith) refl refl
+closer_is (cids mapped range) = is_word (closer (cids mapped range)) (omega arith) refl refl
+closer_is (cids mapped single) = is_word (closer (cids mapped single)) (omega arith) refl refl
+closer_is (cids notdef range) = is_word (closer (cids notdef range)) (omega arith) refl refl
+closer_is (cids notdef single) = is_word (closer (cids notdef single)) (omega arith) refl refl
+closer_is bf_range = is_word (closer bf_range) (omega arith) refl refl
+closer_is bf_char = is_word (closer bf_char) (omega arith) refl refl
+
+-- ---- one section
+flat_each : (ds : List Declaration) → flat_map (λ es. es) (each_of ds) ≡ ds
+flat_each [] = refl
+flat_each (d ∷ ds) = ap (λ es. d ∷ es) (flat_each ds)
+
+-- its opener, entries and closer
+body_told : (section : Section) (ds : List Declaration) (body : List ℕ) → TellsEntries section ds body → TellsItems (entries ds ∷ []) ((opener section ++ 10 ∷ []) ++ (body ++ closer_spelled section))
+body_told section ds body h =
+    let ts = h.tokens in
+    let begin = Token.Name false (opener section) in
+    let close = Token.Name false (closer section) in
+    one_item (entries ds) (begin ∷ (ts ++ close ∷ [])) _
+    (tokens_both (begin ∷ []) (ts ++ close ∷ []) _ _ (lined (opener section) begin (opener_is section)) (tokens_both ts (close ∷ []) body _ h.told (lined (closer section) close (closer_is section))))
+    (λ rest. (
+      section,
+      (ts ++ close ∷ []) ++ rest,
+      each_of ds,
+      refl,
+      subst (λ es. AreEntries section ((ts ++ close ∷ []) ++ rest) es rest) (append-nil (each_of ds))
+          (subst (λ tokens. AreEntries section tokens (each_of ds ++ []) rest) (sym (append_assoc ts (close ∷ []) rest)) (h.are (close ∷ rest) rest [] refl)),
+      sym (flat_each ds),
+    ))
+
+-- with the count before it
+pub section_told : (section : Section) (ds : List Declaration) (count : ℕ) (body : List ℕ) → count < 2 ^ 63 → length ds ≤ 100 → TellsEntries section ds body → TellsSections ds (opener_spelled count section ++ (body ++ closer_spelled section))
+section_told section ds count body small few told =
+    let t = number_token count in
+    let parts : (decimal count ++ 32 ∷ []) ++ ((opener section ++ 10 ∷ []) ++ (body ++ closer_spelled section)) ≡ opener_spelled count section ++ (body ++ closer_spelled section) = simp append_assoc in
+    let items = items_both (other t ∷ []) (entries ds ∷ []) _ _ (other_item t _ (spaced (decimal count) t (decimal_is_token count small)) refl refl refl) (body_told section ds body told) in
+    record { items = other t ∷ entries ds ∷ []; told = subst (TellsItems (other t ∷ entries ds ∷ [])) parts items; all = (tt, (few, tt)); flat = append-nil ds }
+
+pub section_made : (section : Section) (ds : List Declaration) (count : ℕ) (old a b new : List ℕ) → count < 2 ^ 63 → length ds ≤ 100 → a ≡ old ++ opener_spelled count section → Appends a b (TellsEntries section ds) → new ≡ b ++ closer_spelled section → Appends old new (TellsSections ds)
+section_made section ds count old a b new small few first (body, second, told) third = (
+  opener_spelled count section ++ (body ++ closer_spelled section),
+  third ∙ ap (λ bs. bs ++ closer_spelled section) (second ∙ ap (λ bs. bs ++ body) first) ∙ simp append_assoc,
+  section_told section ds count body small few told,
+)
+
+-- ---- sections after others
+of_sections_both : (is js : List Item) → AllByRecursion IsOfSections is → AllByRecursion IsOfSections js → AllByRecursion IsOfSections (is ++ js)
+of_sections_both [] js all more = more
+of_sections_both (i ∷ is) js (first, later) more = (first, of_sections_both is js later more)
+
+pub no_sections : TellsSections [] []
+no_sections = record { items = []; told = no_items; all = tt; flat = refl }
+
+pub sections_both : (ds es : List Declaration) (a b : List ℕ) → TellsSections ds a → TellsSections es b → TellsSections (ds ++ es) (a ++ b)
+sections_both ds es a b first second = let is = first.items in let js = second.items in record {
+  items = is ++ js;
+  told = items_both is js a b first.told second.told;
+  all = of_sections_both is js first.all second.all;
+  flat = flat_map-append declared_by is js ∙ ap (λ xs. xs ++ flat_map declared_by js) first.flat ∙ ap (λ xs. ds ++ xs) second.flat;
+}
+
+pub sections_appended_both : (ds es : List Declaration) (old mid new : List ℕ) → Appends old mid (TellsSections ds) → Appends mid new (TellsSections es) → Appends old new (TellsSections (ds ++ es))
+sections_appended_both ds es old mid new (a, first, told) (b, second, told_too) = (a ++ b, second ∙ ap (λ bs. bs ++ b) first ∙ append_assoc old a b, sections_both ds es a b told told_too)
+
+-- ---- a list, section by section
+module _ {X : Type 0} (say : List X → List Declaration) where
+  -- these are written, and those are left
+  pub record DoneTo (all left : List X) (old now : List ℕ) : Type 0 where
+    pub done : List X
+    pub parts : all ≡ done ++ left
+    pub told : Appends old now (TellsSections (say done))
+
+  pub done_none : say [] ≡ [] → (all : List X) (old : List ℕ) → DoneTo all all old old
+  done_none none all old = record { done = []; parts = refl; told = ([], sym (append-nil old), subst (λ ds. TellsSections ds []) (sym none) no_sections) }
+
+  pub done_more : ((a b : List X) → say (a ++ b) ≡ say a ++ say b) → (all left here later : List X) (old now new : List ℕ) → DoneTo all left old now → left ≡ here ++ later → Appends now new (TellsSections (say here)) → DoneTo all later old new
+  done_more both all left here later old now new h cut (last, last_is, at) =
+      let (bytes, first_is, told) = h.told in
+      record {
+        done = h.done ++ here;
+        parts = h.parts ∙ ap (λ xs. h.done ++ xs) cut ∙ sym (append_assoc h.done here later);
+        told = (
+          bytes ++ last,
+          last_is ∙ ap (λ bs. bs ++ last) first_is ∙ append_assoc old bytes last,
+          subst (λ ds. TellsSections ds (bytes ++ last)) (sym (both h.done here)) (sections_both (say h.done) (say here) bytes last told at),
+        );
+      }
+
+  pub done_all : (all : List X) (old now : List ℕ) → DoneTo all [] old now → Appends old now (TellsSections (say all))
+  done_all all old now h = subst (λ xs. Appends old now (TellsSections (say xs))) (sym (h.parts ∙ append-nil h.done)) h.told

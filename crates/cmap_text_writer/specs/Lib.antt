@@ -1,0 +1,6 @@
+pub mod Fits
+pub mod Spelled
+pub mod Told
+pub mod FileItems
+pub mod Obstacles
+pub mod Written

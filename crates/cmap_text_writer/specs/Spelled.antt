@@ -1,0 +1,53 @@
+-- How a text spells codes, numbers, strings, entries and sections.
+use Rattle.std.specs.Prelude.{ℕ, ◌+◌, ◌/◌, ◌%◌, ◌^◌, nat_lt, List, [], ◌∷◌, ◌++◌, decimal, flat_map, if◌then◌else◌}
+use Rattle.std.specs.Int.{bytes_high_first}
+use Rattle.cmap_values.specs.Files.{BfEntry, CidEntry, Codespace}
+use Rattle.cmap_tokens.specs.Ascii.{less, greater, line_feed, space}
+use Rattle.cmap_text.specs.TextFiles.{Extent, Section, closer, opener, range, single}
+
+-- the hexadecimal digit of a number below 16
+abbrev pub hex_digit : ℕ → ℕ
+hex_digit n = if nat_lt n 10 then 48 + n else 55 + n
+
+-- the two digits of a byte
+abbrev pub hex_pair : ℕ → List ℕ
+hex_pair byte = hex_digit (byte / 16) ∷ hex_digit (byte % 16) ∷ []
+
+-- < digits >
+abbrev pub hex_string : List ℕ → List ℕ
+hex_string bytes = less ∷ flat_map hex_pair bytes ++ greater ∷ []
+
+-- a code of so many bytes, and the byte after it
+abbrev pub code_spelled : ℕ → ℕ → ℕ → List ℕ
+code_spelled len code end = hex_string (bytes_high_first len code) ++ end ∷ []
+
+-- units, two bytes each, and a line end
+abbrev pub units_spelled : List ℕ → List ℕ
+units_spelled units = hex_string (flat_map (bytes_high_first 2) units) ++ line_feed ∷ []
+
+-- how many bytes the last code of a range has: as many as the first, or four where these are too few
+abbrev pub end_length : ℕ → ℕ → ℕ
+end_length len code = if nat_lt code (256 ^ len) then len else 4
+
+-- ---- entries, a line each
+abbrev pub space_spelled : Codespace → List ℕ
+space_spelled s = code_spelled s.len s.low space ++ code_spelled s.len s.high line_feed
+
+-- the code of a single entry, or both ends of a range, each with a space after it
+abbrev pub codes_spelled : ℕ → ℕ → ℕ → Extent → List ℕ
+codes_spelled len start end single = code_spelled len start space
+codes_spelled len start end range = code_spelled len start space ++ code_spelled (end_length len end) end space
+
+abbrev pub cid_spelled : ℕ → Extent → CidEntry → List ℕ
+cid_spelled len extent e = codes_spelled len e.start e.end extent ++ (decimal e.cid ++ line_feed ∷ [])
+
+-- ---- a section
+-- its count and its first word
+abbrev pub opener_spelled : ℕ → Section → List ℕ
+opener_spelled count section = decimal count ++ (space ∷ opener section ++ line_feed ∷ [])
+
+abbrev pub closer_spelled : Section → List ℕ
+closer_spelled section = closer section ++ line_feed ∷ []
+
+abbrev pub text_spelled : ℕ → Extent → BfEntry → List ℕ
+text_spelled len extent e = codes_spelled len e.start e.end extent ++ units_spelled e.units

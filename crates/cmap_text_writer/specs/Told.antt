@@ -1,0 +1,54 @@
+-- Bytes that are written, and what a reader finds in them.
+use Rattle.std.specs.Prelude.{◌≡◌, ℕ, ◌≤◌, List, [], ◌∷◌, ◌++◌, flat_map, length, map}
+use Rattle.std.specs.List.{AllByRecursion}
+use Rattle.cmap_values.specs.Files.{Declaration}
+use Rattle.cmap_tokens.specs.Tokens.{Token, Tokens}
+use Rattle.cmap_text.specs.TextFiles.{AreEntries, AreItems, Extent, IsEntry, Item, Section, bf_char, bf_range, declared_by, entries, other, range, single}
+
+-- bytes of which this holds come after the old ones
+abbrev pub Appends : List ℕ → List ℕ → (List ℕ → Type 0) → Type 0
+Appends old new P = (bytes : List ℕ) × (new ≡ old ++ bytes) × P bytes
+
+-- whatever text follows these bytes, a reader finds these tokens, and then those of the text
+pub record TellsTokens (tokens : List Token) (bytes : List ℕ) : Type 0 where
+  pub read : (rest : List ℕ) (more : List Token) → Tokens rest more → Tokens (bytes ++ rest) (tokens ++ more)
+
+-- sections of texts
+abbrev pub text_section : Extent → Section
+text_section range = bf_range
+text_section single = bf_char
+
+-- an entry of a section
+pub record TellsEntry (section : Section) (declared : Declaration) (bytes : List ℕ) : Type 0 where
+  pub tokens : List Token
+  pub told : TellsTokens tokens bytes
+  pub is : (rest : List Token) → IsEntry section (tokens ++ rest) (declared ∷ []) rest
+
+-- what each of these declares
+abbrev pub each_of : List Declaration → List (List Declaration)
+each_of declared = map (λ d. d ∷ []) declared
+
+-- entries of a section, in order
+pub record TellsEntries (section : Section) (declared : List Declaration) (bytes : List ℕ) : Type 0 where
+  pub tokens : List Token
+  pub told : TellsTokens tokens bytes
+  pub are : (rest end : List Token) (each : List (List Declaration)) → AreEntries section rest each end → AreEntries section (tokens ++ rest) (each_of declared ++ each) end
+
+-- items, and then those of the text that follows
+pub record TellsItems (items : List Item) (bytes : List ℕ) : Type 0 where
+  pub tokens : List Token
+  pub told : TellsTokens tokens bytes
+  pub are : (rest : List Token) (more : List Item) → AreItems rest more → AreItems (tokens ++ rest) (items ++ more)
+
+-- an item of sections: the count before one, or one of at most 100 entries
+abbrev pub IsOfSections : Item → Type 0
+IsOfSections (entries declared) = length declared ≤ 100
+IsOfSections (other (Token.Numeral n)) = Unit {0}
+IsOfSections _ = ⊥
+
+-- sections that declare these, in order
+pub record TellsSections (declared : List Declaration) (bytes : List ℕ) : Type 0 where
+  pub items : List Item
+  pub told : TellsItems items bytes
+  pub all : AllByRecursion IsOfSections items
+  pub flat : flat_map declared_by items ≡ declared

@@ -1,0 +1,127 @@
+//! Entries of sections, a line each.
+
+ghost use Rattle.std.specs.Prelude.{◌≡◌, ◌++◌, ◌<◌, ◌^◌, All, OnOk, map};
+ghost use Rattle.cmap_values.specs.DeclarationsSeen.{bf_entry_seen, cid_entry_seen, codespace_seen, entries_seen};
+ghost use Rattle.cmap_values.specs.Files.{Declaration};
+ghost use Rattle.cmap_text.specs.TextFiles as files;
+ghost use Rattle.cmap_values.specs.CodeLengths.{length_of};
+ghost use Rattle.cmap_values.specs.declared.code_length.CodeLength.{CodeLength};
+ghost use Rattle.cmap_values.specs.UnitsSeen.{units_seen};
+ghost use Rattle.cmap_text_writer.specs.Fits.{BeginsFitting, HasUnits, IsOfExtent, IsSpaceFitting};
+ghost use Rattle.cmap_text.specs.TextSeen.{extent_seen};
+ghost use Rattle.cmap_text_writer.specs.Spelled.{cid_spelled, codes_spelled, end_length, space_spelled, text_spelled};
+ghost use Rattle.cmap_text_writer.specs.Told.{Appends, TellsEntries, text_section};
+
+use crate::digits::{fitting, push_code, push_number, push_units};
+use crate::text_lengths::TextLengths;
+use cmap_runs::runs::Range;
+use cmap_text::Extent;
+use cmap_values::code_length::CodeLength;
+use cmap_values::declarations::{BfRange, CidRange, Codespace};
+use std::alloc::AllocError;
+
+/// Writes codespace ranges.
+pub(crate) fn push_spaces(out: &mut Vec<u8>, spaces: &[Codespace]) -> Result<(), AllocError>
+    requires { All IsSpaceFitting (map codespace_seen spaces.now) }
+    ensures { OnOk result (Appends out.old.items out.new.items
+        (TellsEntries files.codespace_range (map Declaration.codespace (map codespace_seen spaces.now)))) }
+{
+    for space in spaces {
+        push_space(out, *space)?;
+    }
+    Ok(())
+}
+
+/// Writes a codespace range: low, high.
+fn push_space(out: &mut Vec<u8>, space: Codespace) -> Result<(), AllocError>
+    ensures { OnOk result (out.new.items ≡ out.old.items ++ space_spelled (codespace_seen space)) }
+{
+    push_code(out, space.len, space.low, b' ')?;
+    push_code(out, space.len, space.high, b'\n')
+}
+
+/// Writes declarations of CIDs.
+pub(crate) fn push_cid_entries(
+    out: &mut Vec<u8>,
+    len: CodeLength,
+    extent: Extent,
+    entries: &[CidRange],
+) -> Result<(), AllocError>
+    requires start { All (BeginsFitting (length_of len)) (entries_seen entries.now) }
+    requires extent { All (λ e. IsOfExtent (extent_seen extent) e.start e.end) (entries_seen entries.now) }
+    ensures { OnOk result (Appends out.old.items out.new.items (λ bytes. (kind : files.CidKind)
+        → TellsEntries (files.cids kind (extent_seen extent)) (map (files.declares_cid kind (length_of len)) (entries_seen entries.now)) bytes)) }
+{
+    for entry in entries {
+        push_cid(out, len, extent, entry)?;
+    }
+    Ok(())
+}
+
+/// Writes a declaration of CIDs: its code or both ends, CID.
+fn push_cid(
+    out: &mut Vec<u8>,
+    len: CodeLength,
+    extent: Extent,
+    entry: &CidRange,
+) -> Result<(), AllocError>
+    ensures written { OnOk result (out.new.items ≡ out.old.items ++ cid_spelled (length_of len) (extent_seen extent) (cid_entry_seen entry.now)) }
+    ensures end { OnOk result (entry.now.range.end < 2 ^ 32) }
+    ensures cid { OnOk result (entry.now.cid < 2 ^ 32) }
+{
+    push_codes(out, len, extent, entry.range)?;
+    push_number(out, entry.cid, b'\n')
+}
+
+/// Writes the code or both ends of a declaration, each with a space after it.
+fn push_codes(
+    out: &mut Vec<u8>,
+    len: CodeLength,
+    extent: Extent,
+    range: Range,
+) -> Result<(), AllocError>
+    ensures written { OnOk result (out.new.items ≡ out.old.items ++ codes_spelled (length_of len) range.start range.end (extent_seen extent)) }
+    ensures start { range.start < 2 ^ 32 }
+    ensures end { range.end < 2 ^ 32 }
+{
+    push_code(out, len, range.start, b' ')?;
+    match extent {
+        Extent::Single => Ok(()),
+        Extent::Range => push_code(out, fitting(len, range.end), range.end, b' '),
+    }
+}
+
+/// Writes declarations of texts.
+pub(crate) fn push_text_entries(
+    out: &mut Vec<u8>,
+    lengths: TextLengths,
+    extent: Extent,
+    entries: &[BfRange],
+) -> Result<(), AllocError>
+    requires units { All HasUnits (map bf_entry_seen entries.now) }
+    requires extent { All (λ e. IsOfExtent (extent_seen extent) e.start e.end) (map bf_entry_seen entries.now) }
+    ensures { OnOk result (Appends out.old.items out.new.items
+        (TellsEntries (text_section (extent_seen extent)) (map Declaration.bf (map bf_entry_seen entries.now)))) }
+{
+    for entry in entries {
+        push_text(out, lengths, extent, entry)?;
+    }
+    Ok(())
+}
+
+/// Writes a declaration of a text: its code or both ends, units.
+fn push_text(
+    out: &mut Vec<u8>,
+    lengths: TextLengths,
+    extent: Extent,
+    entry: &BfRange,
+) -> Result<(), AllocError>
+    ensures written { OnOk result ((len : CodeLength) × (out.new.items ≡ out.old.items ++ text_spelled (end_length (length_of len) entry.now.range.start) (extent_seen extent) (bf_entry_seen entry.now))) }
+    ensures start { OnOk result (entry.now.range.start < 2 ^ 32) }
+    ensures end { OnOk result (entry.now.range.end < 2 ^ 32) }
+    ensures units { OnOk result (All (λ u. u < 2 ^ 16) (units_seen entry.now.units)) }
+{
+    let len = lengths.of(entry.range.start);
+    push_codes(out, fitting(len, entry.range.start), extent, entry.range)?;
+    push_units(out, entry.units.as_slice())
+}

@@ -1,0 +1,108 @@
+//! A file as text.
+
+ghost use Rattle.std.specs.Prelude.{◌≡◌, ◌++◌, IfErr, IfOk, OnOk, option_map};
+ghost use Rattle.cmap_values.specs.FilesSeen.{file_seen};
+ghost use Rattle.cmap_text.specs.TextFiles.{IsTextFile};
+ghost use Rattle.cmap_values.specs.Outcomes.{RefusesWith};
+ghost use Rattle.cmap_text_writer.specs.Fits.{IsSayable};
+ghost use Rattle.cmap_text_writer.specs.Obstacles.{IsObstacle, NoTextSays};
+ghost use Rattle.cmap_text_writer.specs.Written.{HasShortSections, IsWritten};
+ghost use Rattle.cmap_text_writer.specs.Told.{Appends};
+ghost use Rattle.cmap_text_writer.specs.FileItems.{comments_text, footer_text, header_text, resource_text, type_text};
+
+use crate::check::check_file;
+use crate::lists::push_lists;
+use crate::metadata::{push_metadata, push_uses};
+use crate::obstacle::Obstacle;
+use cmap_values::declarations::{ByLength, CidRange, Lists};
+use cmap_values::fault::Fault;
+use cmap_values::file::File;
+use std::alloc::{AllocError, Global};
+
+/// A text that says what a file says, as Adobe Technical Notes 5014 and 5411 lay it out.
+///
+/// It is refused with what no text can say.
+pub fn write_text(alloc: Global, file: &File<'_>) -> Result<Vec<u8>, Fault<Obstacle>>
+    ensures written { IfOk result (λ text. IsTextFile text.items (file_seen file.now)) }
+    ensures short { IfOk result (λ text. HasShortSections text.items) }
+    ensures err { IfErr result (RefusesWith (IsObstacle (file_seen file.now))) }
+    ensures none { IfErr result (RefusesWith (λ obstacle. NoTextSays (file_seen file.now))) }
+{
+    check_file(alloc, file)?;
+    let mut out = Vec::new(alloc);
+    push_file(&mut out, file)?;
+    Ok(out)
+}
+
+/// Writes a file.
+fn push_file(out: &mut Vec<u8>, file: &File<'_>) -> Result<(), AllocError>
+    requires { IsSayable (file_seen file.now) }
+    ensures { OnOk result (Appends out.old.items out.new.items (IsWritten (file_seen file.now))) }
+{
+    push_comments(out, &file.metadata.name)?;
+    push_header(out, is_to_unicode(&file.lists))?;
+    push_uses(out, &file.uses)?;
+    push_metadata(out, &file.metadata)?;
+    push_lists(out, &file.lists)?;
+    push_footer(out)
+}
+
+/// Whether codes stand for Unicode texts alone, and not for CIDs.
+fn is_to_unicode(lists: &Lists) -> bool {
+    !lists.bfs.is_empty() && has_none(&lists.cids) && has_none(&lists.notdefs)
+}
+
+/// Whether there is no declaration for codes of any length.
+fn has_none(lists: &ByLength<Vec<CidRange>>) -> bool {
+    lists.one.is_empty() && lists.two.is_empty() && lists.three.is_empty() && lists.four.is_empty()
+}
+
+/// Writes the comments before a file of this name.
+fn push_comments(out: &mut Vec<u8>, name: &Option<Vec<u8>>) -> Result<(), AllocError>
+    ensures { OnOk result (out.new.items ≡ out.old.items
+        ++ comments_text (option_map (λ name. name.items) name.now)) }
+{
+    out.extend_from_slice(b"%!PS-Adobe-3.0 Resource-CMap\n")?;
+    match name {
+        Some(name) => push_resource(out, name),
+        None => Ok(()),
+    }
+}
+
+/// Writes the comment that names the resource.
+fn push_resource(out: &mut Vec<u8>, name: &[u8]) -> Result<(), AllocError>
+    ensures { OnOk result (out.new.items ≡ out.old.items ++ resource_text name.now) }
+{
+    out.extend_from_slice(b"%%BeginResource: CMap (")?;
+    out.extend_from_slice(name)?;
+    out.extend_from_slice(b")\n")?;
+    Ok(())
+}
+
+/// Writes the first lines.
+fn push_header(out: &mut Vec<u8>, is_to_unicode: bool) -> Result<(), AllocError>
+    ensures { OnOk result (out.new.items ≡ out.old.items ++ header_text is_to_unicode) }
+{
+    out.extend_from_slice(b"/CIDInit /ProcSet findresource begin\n12 dict begin\nbegincmap\n")?;
+    push_type(out, is_to_unicode)
+}
+
+/// Writes the type of the CMap: 2 where codes stand for Unicode texts alone. Adobe Technical Note 5411.
+fn push_type(out: &mut Vec<u8>, is_to_unicode: bool) -> Result<(), AllocError>
+    ensures { OnOk result (out.new.items ≡ out.old.items ++ type_text is_to_unicode) }
+{
+    out.extend_from_slice(if is_to_unicode {
+        b"/CMapType 2 def\n"
+    } else {
+        b"/CMapType 1 def\n"
+    })
+}
+
+/// Writes the last lines.
+fn push_footer(out: &mut Vec<u8>) -> Result<(), AllocError>
+    ensures { OnOk result (out.new.items ≡ out.old.items ++ footer_text) }
+{
+    out.extend_from_slice(
+        b"endcmap\nCMapName currentdict /CMap defineresource pop\nend\nend\n%%EOF\n",
+    )
+}
