@@ -1,6 +1,7 @@
 //! Character collections, and the CMaps that lead from and to Unicode.
 
 use crate::CMapName;
+use alloc::vec::Vec;
 
 /// A family of character collections: the registry and the ordering of a CIDSystemInfo dictionary.
 /// Adobe Technical Note 5014.

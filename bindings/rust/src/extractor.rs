@@ -1,6 +1,5 @@
-//! The texts of strings.
+//! The maps of a font, and the codes of its strings.
 
-use crate::ffi::{MapHandle, RawCharacter};
 use crate::map::{CMap, StringCode};
 use crate::text::BfString;
 
@@ -15,9 +14,9 @@ use crate::text::BfString;
 /// ```
 #[derive(Clone, Debug)]
 pub struct Extractor {
-    encoding: CMap,
-    to_unicode: Option<CMap>,
-    collection: Option<CMap>,
+    pub(crate) encoding: CMap,
+    pub(crate) to_unicode: Option<CMap>,
+    pub(crate) collection: Option<CMap>,
 }
 
 impl Extractor {
@@ -27,46 +26,6 @@ impl Extractor {
     pub fn new(encoding: CMap, to_unicode: Option<CMap>, collection: Option<CMap>) -> Extractor {
         Extractor { encoding, to_unicode, collection }
     }
-
-    /// The codes of a string, one after another, each with its CID and its text: that of the ToUnicode
-    /// CMap, where it has one for the code; else that of the CID in the map of the collection. Codes in no
-    /// codespace range are looked up too.
-    pub fn characters(&self, string: &[u8]) -> Vec<Character> {
-        ask(self.to_unicode.as_ref(), |to_unicode| {
-            ask(self.collection.as_ref(), |collection| {
-                self.encoding.ask(|encoding| extracted(encoding, to_unicode, collection, string))
-            })
-        })
-    }
-}
-
-/// Asks a map, or an empty one in the place of one that is absent.
-fn ask<R>(map: Option<&CMap>, call: impl FnOnce(&mut MapHandle) -> R) -> R {
-    match map {
-        Some(map) => map.ask(call),
-        None => call(&mut MapHandle::empty()),
-    }
-}
-
-fn extracted(
-    encoding: &mut MapHandle,
-    to_unicode: &mut MapHandle,
-    collection: &mut MapHandle,
-    string: &[u8],
-) -> Vec<Character> {
-    let mut characters = Vec::new();
-    let (mut room, mut text) = ([RawCharacter::default(); 64], vec![0; 256]);
-    let mut rest = string;
-    while !rest.is_empty() {
-        let done = encoding.extract(to_unicode, collection, rest, &mut room, &mut text);
-        let made = room[..done.made].iter();
-        characters.extend(made.map(|raw| Character::of(raw, &text)));
-        rest = &rest[done.taken..];
-        if done.made == 0 {
-            text.resize(2 * text.len(), 0);
-        }
-    }
-    characters
 }
 
 /// A code of a string of a font.
@@ -78,10 +37,4 @@ pub struct Character {
     pub code: StringCode,
     /// Its text.
     pub text: Option<BfString>,
-}
-
-impl Character {
-    fn of(raw: &RawCharacter, room: &[u8]) -> Character {
-        Character { code: StringCode::of(&raw.code), text: raw.text(room).map(BfString::of) }
-    }
 }

@@ -2,17 +2,23 @@
 #![deny(unsafe_code, unsafe_op_in_unsafe_fn)]
 #![warn(missing_docs)]
 
+extern crate alloc;
+
 mod bundle;
 mod collection;
+mod extracting;
 mod extractor;
 #[allow(unsafe_code)]
 mod ffi;
 mod map;
 mod metadata;
 mod names;
+mod opening;
+mod options;
 mod pool;
 mod predefined;
 mod reading;
+mod reason;
 mod refusal;
 mod text;
 
@@ -22,9 +28,10 @@ pub use extractor::{Character, Extractor};
 pub use map::{CMap, Cid, CidRange, Codespace, Layer, StringCode, TextRange};
 pub use metadata::{Metadata, WritingMode};
 pub use names::CMapName;
+pub use options::{ParseOptions, Salvaged};
 pub use predefined::{OpenError, predefined_file};
-pub use reading::{ParseOptions, Salvaged};
-pub use refusal::{Cause, Reason, Refusal, Segment};
+pub use reason::{Cause, Reason, Segment};
+pub use refusal::Refusal;
 pub use text::BfString;
 
 /// The version of the library that the crate is built over, which is the project's.

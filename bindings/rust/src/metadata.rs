@@ -1,6 +1,7 @@
 //! What a CMap file says of itself.
 
 use crate::CharacterCollection;
+use alloc::vec::Vec;
 
 /// The direction of a text: horizontal, unless a file says otherwise.
 #[derive(Clone, Copy, Debug, Default, PartialEq, Eq)]

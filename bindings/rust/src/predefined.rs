@@ -1,15 +1,17 @@
 //! The predefined CMap files that a system has.
 
+use crate::CMapName;
 use crate::map::CMap;
-use crate::names::CMapName;
-use crate::reading::{MOST_FILES, ParseOptions};
+use crate::options::ParseOptions;
+use crate::reading::MOST_FILES;
 use crate::refusal::Refusal;
 use std::collections::BTreeMap;
 use std::ffi::OsStr;
 use std::fmt::{self, Display, Formatter};
 use std::os::unix::ffi::OsStrExt;
 use std::path::{Path, PathBuf};
-use std::{env, fs, io};
+use std::vec::Vec;
+use std::{env, fs, io, vec};
 
 /// Where poppler-data, Ghostscript and the packages cmap-adobe-* put the files.
 const SYSTEM_FOLDERS: [&str; 3] =
@@ -99,11 +101,23 @@ impl From<Refusal> for OpenError {
     }
 }
 
-/// The map of the predefined CMap of a name.
-pub(crate) fn open(name: CMapName<'_>) -> Result<Option<CMap>, OpenError> {
-    let files = files_of(name)?;
-    let get_cmap = |name: CMapName<'_>| files.get(name.to_bytes()).map(Vec::as_slice);
-    Ok(ParseOptions::new().open(name, get_cmap)?)
+impl CMap {
+    /// Reads the predefined CMap of a name, and the files that it uses, each as
+    /// [`predefined_file`](crate::predefined_file) finds it. Where the system has no such file,
+    /// Identity-H and Identity-V are made, and any other name is `Ok(None)`.
+    ///
+    /// ```no_run
+    /// use hayro_cmap::{CMap, CMapName};
+    ///
+    /// let map = CMap::open_predefined(CMapName::N90msRksjH)?.expect("poppler-data isn't installed");
+    /// assert_eq!(map.lookup_cid_code(0x93FA, 2), Some(3284));
+    /// # Ok::<(), hayro_cmap::OpenError>(())
+    /// ```
+    pub fn open_predefined(name: CMapName<'_>) -> Result<Option<CMap>, OpenError> {
+        let files = files_of(name)?;
+        let get_cmap = |name: CMapName<'_>| files.get(name.to_bytes()).map(Vec::as_slice);
+        Ok(ParseOptions::new().open(name, get_cmap)?)
+    }
 }
 
 /// The file of a name, and those that it uses as far as a chain of files may go, by their names.

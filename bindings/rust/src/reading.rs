@@ -4,48 +4,16 @@ use crate::bundle::Bundle;
 use crate::ffi::{File, MapHandle, Opened};
 use crate::map::CMap;
 use crate::names::CMapName;
-use crate::refusal::{Cause, Refusal};
+use crate::options::{ParseOptions, Salvaged};
+use crate::reason::Cause;
+use crate::refusal::Refusal;
 use std::borrow::Cow;
 use std::collections::HashMap;
 
 /// How many files a chain has at most, the top one included.
 pub(crate) const MOST_FILES: usize = 16;
 
-/// How a file is read: over a bundle, and within a budget.
-///
-/// ```
-/// use hayro_cmap::{Cause, ParseOptions};
-///
-/// let file = b"/Base usecmap";
-/// let within = ParseOptions::new().budget(20);
-/// assert!(within.parse(file, |_| Some(b"% bytes")).is_ok());
-/// let refusal = within.parse(file, |_| Some(b"% more bytes")).unwrap_err();
-/// assert_eq!(refusal.cause(), Cause::OverBudget);
-/// ```
-#[derive(Clone, Copy, Debug, Default)]
-pub struct ParseOptions<'b> {
-    bundle: Option<&'b Bundle>,
-    budget: Option<u64>,
-}
-
-impl<'b> ParseOptions<'b> {
-    /// Neither a bundle nor a budget.
-    pub fn new() -> ParseOptions<'b> {
-        ParseOptions::default()
-    }
-
-    /// Over a bundle: binary files are read by its tables, and it has the files whose names `get_cmap`
-    /// doesn't answer.
-    pub fn bundle(self, bundle: &'b Bundle) -> ParseOptions<'b> {
-        ParseOptions { bundle: Some(bundle), ..self }
-    }
-
-    /// Within a budget: the files that are opened may have no more bytes together. A file counts as
-    /// often as it is used. The bytes of the bundle don't count.
-    pub fn budget(self, bytes: u64) -> ParseOptions<'b> {
-        ParseOptions { budget: Some(bytes), ..self }
-    }
-
+impl ParseOptions<'_> {
     /// Reads a file, as [`CMap::parse_explained`] does. It needs an answer also for Identity-H and Identity-V.
     pub fn parse<'a>(
         &self,
@@ -115,22 +83,13 @@ impl<'b> ParseOptions<'b> {
         (map, faults.into_iter().map(Refusal::of).collect())
     }
 
-    fn tables(&self) -> &'b Bundle {
+    fn tables(&self) -> &Bundle {
         self.bundle.unwrap_or_else(|| Bundle::none())
     }
 
     fn most(&self) -> u64 {
         self.budget.unwrap_or(u64::MAX)
     }
-}
-
-/// What is read of a file past its faults.
-#[derive(Clone, Debug)]
-pub struct Salvaged {
-    /// The map of what the file says apart from its faults.
-    pub map: CMap,
-    /// Those of one file are in the order of their offsets, before those of the files that it uses.
-    pub faults: Vec<Refusal>,
 }
 
 /// The files that a file uses, and those that they use. Each name is asked for once.

@@ -132,6 +132,15 @@ fn cids_in_a_row_are_those_of_single_codes() {
     map.fill_cids(0, 2, 0, &mut []);
 }
 
+/// Also where `usize` has 32 bits, which the count of all codes passes.
+#[test]
+fn a_row_begins_at_the_first_of_all_codes() {
+    let map = CMap::parse(b"begincidrange <00000000> <FFFFFFFF> 5 endcidrange", |_| None).unwrap();
+    let mut cids = [0; 3];
+    map.fill_cids(0, 4, u32::MAX, &mut cids);
+    assert_eq!(cids, [5, 6, 7]);
+}
+
 #[test]
 fn layers_have_their_codespaces() {
     let file = b"begincodespacerange <00> <80> <8140> <9FFC> endcodespacerange /H usecmap";

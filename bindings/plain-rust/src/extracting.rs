@@ -1,0 +1,32 @@
+//! The texts of strings.
+
+use crate::extractor::{Character, Extractor};
+use crate::fallible::alloc::Global;
+use crate::made;
+use crate::map::{CMap, StringCode};
+use crate::reader;
+use crate::text::BfString;
+use alloc::vec::Vec;
+
+impl Extractor {
+    /// The codes of a string, one after another, each with its CID and its text: that of the ToUnicode
+    /// CMap, where it has one for the code; else that of the CID in the map of the collection. Codes in no
+    /// codespace range are looked up too.
+    pub fn characters(&self, string: &[u8]) -> Vec<Character> {
+        let font = reader::Extractor {
+            encoding: self.encoding.reader_layers(),
+            to_unicode: self.to_unicode.as_ref().map(CMap::reader_layers),
+            collection: self.collection.as_ref().map(CMap::reader_layers),
+        };
+        made(font.characters(Global, string)).into_iter().map(Character::of).collect()
+    }
+}
+
+impl Character {
+    fn of(found: reader::Character) -> Character {
+        Character {
+            code: StringCode::of(found.code, found.cid),
+            text: found.text.map(BfString::of),
+        }
+    }
+}

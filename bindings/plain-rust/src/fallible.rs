@@ -1,0 +1,17 @@
+//! Collections whose growth is an error where memory runs out.
+//!
+//! Each holds the collection of the same name of `alloc`, or a list of it, and takes memory by `try_reserve` before it
+//! adds something. So none of them ends the program.
+
+pub mod alloc;
+mod boxed;
+pub mod collections;
+mod slices;
+mod sorting;
+mod string;
+mod vec;
+
+pub use boxed::Box;
+pub use slices::{TakeFront, TryEach};
+pub use string::String;
+pub use vec::{CollectIn, Vec};

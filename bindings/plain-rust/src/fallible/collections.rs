@@ -1,0 +1,155 @@
+//! Collections in the order of their items.
+
+use crate::fallible::alloc::{AllocFailed, Global};
+use alloc::collections;
+use alloc::vec::Vec;
+use core::borrow::Borrow;
+
+/// A queue by priority: the greatest item comes first.
+pub struct BinaryHeap<T: Ord>(collections::BinaryHeap<T>);
+
+impl<T: Ord> BinaryHeap<T> {
+    /// No item; it takes no memory.
+    pub fn new(_: Global) -> Self {
+        BinaryHeap(collections::BinaryHeap::new())
+    }
+
+    /// Adds an item.
+    pub fn push(&mut self, value: T) -> Result<(), AllocFailed<T>> {
+        if self.0.try_reserve(1).is_err() {
+            return Err(AllocFailed { value });
+        }
+        self.0.push(value);
+        Ok(())
+    }
+
+    /// Takes the greatest item out.
+    pub fn pop(&mut self) -> Option<T> {
+        self.0.pop()
+    }
+
+    /// The greatest item.
+    pub fn peek(&self) -> Option<&T> {
+        self.0.peek()
+    }
+}
+
+/// How many entries a part of a map has at most.
+const MOST_ENTRIES: usize = 512;
+
+/// Values by their keys.
+///
+/// The entries lie in the order of their keys, in parts of at most 512. So a new one moves few others, and a key is
+/// found by halving.
+pub struct BTreeMap<K, V> {
+    parts: Vec<Vec<(K, V)>>,
+}
+
+impl<K: Ord, V> BTreeMap<K, V> {
+    /// No entry; it takes no memory.
+    pub fn new(_: Global) -> Self {
+        BTreeMap { parts: Vec::new() }
+    }
+
+    /// The value of a key.
+    pub fn get<Q: Ord + ?Sized>(&self, key: &Q) -> Option<&V>
+    where
+        K: Borrow<Q>,
+    {
+        let part = self.parts.get(self.part_of(key))?;
+        let at = part.binary_search_by(|(other, _)| other.borrow().cmp(key)).ok()?;
+        Some(&part[at].1)
+    }
+
+    /// Gives a key its value; the value that it had.
+    pub fn insert(&mut self, key: K, value: V) -> Result<Option<V>, AllocFailed<(K, V)>> {
+        let index = self.part_of(&key);
+        let Ok(part) = part_with_room(&mut self.parts, index, &key) else {
+            return Err(AllocFailed { value: (key, value) });
+        };
+        match part.binary_search_by(|(other, _)| other.cmp(&key)) {
+            Ok(at) => Ok(Some(core::mem::replace(&mut part[at].1, value))),
+            Err(at) => {
+                part.insert(at, (key, value));
+                Ok(None)
+            }
+        }
+    }
+
+    /// The index of the part that has the key, if one has it.
+    fn part_of<Q: Ord + ?Sized>(&self, key: &Q) -> usize
+    where
+        K: Borrow<Q>,
+    {
+        let begins_by = |part: &Vec<(K, V)>| part[0].0.borrow() <= key;
+        self.parts.partition_point(begins_by).saturating_sub(1)
+    }
+}
+
+/// The part at an index, or the one after it, in which the key has its place, with room for one more entry.
+fn part_with_room<'p, K: Ord, V>(
+    parts: &'p mut Vec<Vec<(K, V)>>,
+    index: usize,
+    key: &K,
+) -> Result<&'p mut Vec<(K, V)>, collections::TryReserveError> {
+    if parts.is_empty() {
+        let mut part = Vec::new();
+        part.try_reserve(1)?;
+        parts.try_reserve(1)?;
+        parts.push(part);
+    }
+    if parts[index].len() < MOST_ENTRIES {
+        parts[index].try_reserve(1)?;
+        return Ok(&mut parts[index]);
+    }
+    let mut last = Vec::new();
+    last.try_reserve_exact(MOST_ENTRIES)?;
+    parts.try_reserve(1)?;
+    last.extend(parts[index].drain(MOST_ENTRIES / 2..));
+    let comes_last = last[0].0 <= *key;
+    parts.insert(index + 1, last);
+    Ok(&mut parts[index + usize::from(comes_last)])
+}
+
+#[cfg(test)]
+mod tests {
+    use super::*;
+
+    #[test]
+    fn the_greatest_item_comes_first() {
+        let mut heap = BinaryHeap::new(Global);
+        for item in [2, 7, 1, 7] {
+            heap.push(item).unwrap();
+        }
+        assert_eq!(heap.peek(), Some(&7));
+        let items = core::array::from_fn(|_| heap.pop());
+        assert_eq!(items, [Some(7), Some(7), Some(2), Some(1), None]);
+    }
+
+    #[test]
+    fn a_map_is_that_of_alloc() {
+        let mut map = BTreeMap::new(Global);
+        let mut expected = collections::BTreeMap::new();
+        assert_eq!(map.get(&7_u32), None);
+        let mut number = 1_u32;
+        for value in 0..20_000 {
+            number = number.wrapping_mul(1_664_525).wrapping_add(1_013_904_223);
+            let key = number >> 17;
+            assert_eq!(map.insert(key, value).unwrap(), expected.insert(key, value));
+        }
+        for key in 0..0x8000 {
+            assert_eq!(map.get(&key), expected.get(&key));
+        }
+    }
+
+    #[test]
+    fn keys_in_order_are_all_found() {
+        let mut map = BTreeMap::new(Global);
+        for key in (0..3000_u32).chain((3000..6000).rev()) {
+            assert_eq!(map.insert(key.to_be_bytes(), key).unwrap(), None);
+        }
+        for key in 0..6000_u32 {
+            assert_eq!(map.get(&key.to_be_bytes()[..]), Some(&key));
+        }
+    }
+}

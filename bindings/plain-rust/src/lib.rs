@@ -1,0 +1,58 @@
+#![doc = include_str!("../README.md")]
+#![no_std]
+#![forbid(unsafe_code)]
+#![warn(missing_docs)]
+
+extern crate alloc;
+#[cfg(feature = "std")]
+extern crate std;
+
+#[cfg(target_pointer_width = "16")]
+compile_error!("hayro-cmap needs addresses of at least 32 bits");
+
+mod bundle;
+mod collection;
+mod extracting;
+mod extractor;
+pub mod fallible;
+mod map;
+mod metadata;
+mod opening;
+mod options;
+#[cfg(feature = "std")]
+mod predefined;
+// Proofs read some arguments alone, other crates of the project use some items, and the style is that of the sources.
+#[allow(clippy::all, dead_code, missing_docs, unused_imports, unused_variables)]
+pub mod reader;
+mod reading;
+mod reason;
+mod refusal;
+mod said;
+mod text;
+
+pub use bundle::{Bundle, load_embedded};
+pub use collection::{CharacterCollection, CidFamily};
+pub use extractor::{Character, Extractor};
+pub use map::{CMap, CidRange, Codespace, Layer, StringCode, TextRange};
+pub use metadata::{Metadata, WritingMode};
+pub use options::{ParseOptions, Salvaged};
+#[cfg(feature = "std")]
+pub use predefined::{OpenError, predefined_file};
+pub use reader::{CMapName, Cid};
+pub use reason::{Cause, Reason, Segment};
+pub use refusal::Refusal;
+pub use text::BfString;
+
+use alloc::alloc::{Layout, handle_alloc_error};
+use alloc::string::String;
+
+/// The version of the project whose sources these are.
+pub fn library_version() -> String {
+    let version = env!("CARGO_PKG_VERSION");
+    String::from(version.split_once('+').map_or(version, |(_, own)| own))
+}
+
+/// What was made. Where memory ran out the program ends, as with the collections of `alloc`.
+fn made<T, E>(made: Result<T, E>) -> T {
+    made.unwrap_or_else(|_| handle_alloc_error(Layout::new::<u8>()))
+}

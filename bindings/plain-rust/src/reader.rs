@@ -1,0 +1,28 @@
+//! The reader under the calls of this crate, for programs that go on where memory runs out: a call that takes memory is
+//! passed [`Global`](crate::fallible::alloc::Global), and reports where there is none left.
+//!
+//! ```
+//! use hayro_cmap::fallible::alloc::{AllocError, Global};
+//! use hayro_cmap::reader::CMap;
+//!
+//! let file = b"begincidrange <20> <7E> 1 endcidrange";
+//! let map = CMap::parse(Global, file, None, &|_name| None)?.expect("it is in the grammar");
+//! assert_eq!(map.lookup_cid_code(0x41, 1), Some(34));
+//! # Ok::<(), AllocError>(())
+//! ```
+
+pub(crate) mod cmap_binary;
+pub(crate) mod cmap_chains;
+pub(crate) mod cmap_codespaces;
+pub(crate) mod cmap_layers;
+pub(crate) mod cmap_packed;
+pub(crate) mod cmap_runs;
+pub(crate) mod cmap_text;
+pub(crate) mod cmap_tokens;
+pub(crate) mod cmap_unicode;
+pub(crate) mod cmap_values;
+pub(crate) mod hayro_cmap;
+
+pub use cmap_chains::named_files::BundleFiles;
+pub use cmap_unicode::{Character, Extractor, declared_cid, ucs2_name};
+pub use hayro_cmap::*;

@@ -1,0 +1,118 @@
+//! Why a file gives no map.
+
+use crate::reader;
+use crate::reason::{Cause, Reason, Segment};
+use alloc::vec::Vec;
+use core::fmt::{self, Display, Formatter};
+
+/// Why a file gives no map: which file is at fault, and what is wrong with it.
+///
+/// It prints as `Small-H: byte 27: a CID was expected`, the name of the file at fault first, where the
+/// fault isn't in the file itself.
+#[derive(Clone, Debug, PartialEq, Eq)]
+pub struct Refusal {
+    names: Vec<Vec<u8>>,
+    cause: reader::Cause,
+}
+
+impl Reason {
+    fn of(reason: reader::Reason) -> Reason {
+        match reason {
+            reader::Reason::EndWithinSection => Reason::EndWithinSection,
+            reader::Reason::CodeExpected => Reason::CodeExpected,
+            reader::Reason::CodeLength => Reason::CodeLength,
+            reader::Reason::UnequalLengths => Reason::UnequalLengths,
+            reader::Reason::CidExpected => Reason::CidExpected,
+            reader::Reason::TextExpected => Reason::TextExpected,
+            reader::Reason::BracketExpected => Reason::BracketExpected,
+            reader::Reason::UseWithoutName => Reason::UseWithoutName,
+            reader::Reason::Header => Reason::Header,
+            reader::Reason::SegmentLength => Reason::SegmentLength,
+            reader::Reason::SegmentType => Reason::SegmentType,
+            reader::Reason::Field(_) => Reason::Field,
+            reader::Reason::Entry(_) => Reason::Entry,
+            reader::Reason::CodeTooLarge(_) => Reason::CodeTooLarge,
+            reader::Reason::CidTooLarge => Reason::CidTooLarge,
+            reader::Reason::UnclosedString => Reason::UnclosedString,
+            reader::Reason::WrongDigit => Reason::WrongDigit,
+            reader::Reason::StrayDelimiter => Reason::StrayDelimiter,
+        }
+    }
+}
+
+impl Segment {
+    fn of(segment: reader::Segment) -> Segment {
+        match segment {
+            reader::Segment::Cids => Segment::Cids,
+            reader::Segment::Texts => Segment::Texts,
+            reader::Segment::Notdefs => Segment::Notdefs,
+            reader::Segment::WritingMode => Segment::WritingMode,
+            reader::Segment::Codespaces => Segment::Codespaces,
+            reader::Segment::Collection => Segment::Collection,
+        }
+    }
+}
+
+impl Refusal {
+    pub(crate) fn of(refusal: &reader::Refusal<'_>) -> Refusal {
+        let names = refusal.names.iter().map(|name| name.to_vec()).collect();
+        Refusal { names, cause: refusal.cause }
+    }
+
+    /// What is wrong.
+    pub fn cause(&self) -> Cause {
+        match self.cause {
+            reader::Cause::Malformed(_) => Cause::Malformed,
+            reader::Cause::NoFile => Cause::NoFile,
+            reader::Cause::ChainLength => Cause::ChainLength,
+            reader::Cause::OverBudget => Cause::OverBudget,
+        }
+    }
+
+    /// What is wrong with a malformed file; `None` with another cause.
+    pub fn reason(&self) -> Option<Reason> {
+        Some(Reason::of(self.stop()?.reason))
+    }
+
+    /// The segment of a malformed binary file, where the reason speaks of one.
+    pub fn segment(&self) -> Option<Segment> {
+        match self.stop()?.reason {
+            reader::Reason::Field(segment)
+            | reader::Reason::Entry(segment)
+            | reader::Reason::CodeTooLarge(segment) => Some(Segment::of(segment)),
+            _ => None,
+        }
+    }
+
+    /// Where the reading of a malformed file stopped, in bytes; `None` with another cause.
+    ///
+    /// In a text it is the end of the token that can't stand there, or the byte that shows that there
+    /// is no token, or the end of the file. In a binary file it is the start of the segment.
+    pub fn offset(&self) -> Option<usize> {
+        Some(self.stop()?.offset)
+    }
+
+    /// The names that lead to the file at fault, each used by the file before it. There is none where
+    /// the fault is in the file itself.
+    pub fn names(&self) -> &[Vec<u8>] {
+        &self.names
+    }
+
+    fn stop(&self) -> Option<reader::Stop> {
+        match self.cause {
+            reader::Cause::Malformed(stop) => Some(stop),
+            _ => None,
+        }
+    }
+}
+
+impl Display for Refusal {
+    fn fmt(&self, f: &mut Formatter<'_>) -> fmt::Result {
+        if let Some(name) = self.names.last() {
+            write!(f, "{}: ", name.escape_ascii())?;
+        }
+        self.cause.fmt(f)
+    }
+}
+
+impl core::error::Error for Refusal {}

@@ -1,0 +1,201 @@
+"""What the eraser makes of sources, and what it refuses: cases for scripts/test-plain-rust."""
+
+# what it shows, a source of the crate `runs`, and what is left
+ERASED = [
+    ("clauses and the comments among them", """
+/// Adds one.
+pub fn add(n: u32) -> u32
+    requires { n < 2 ^ 32 - 1 }
+
+    // The sum.
+    ensures sum { result ≡ n + 1 }
+{
+    n + 1
+}
+""", """
+/// Adds one.
+pub fn add(n: u32) -> u32 {
+    n + 1
+}
+"""),
+    ("clauses after bounds", """
+fn ask<F>(f: &F) -> u8
+where
+    F: Fn(u8) -> u8,
+    requires { F.IsAlwaysCallable f.now }
+{
+    f(1)
+}
+""", """
+fn ask<F>(f: &F) -> u8
+where
+    F: Fn(u8) -> u8,
+{
+    f(1)
+}
+"""),
+    ("members of traits", """
+trait Source {
+    /// What it may answer.
+    ghost answers: { Self → List ℕ };
+
+    /// A file.
+    fn file(&self) -> &[u8]
+        ensures { answers self.now result.now };
+}
+
+impl Source for &[u8] {
+    ghost answers = { λ s. s.now };
+
+    fn file(&self) -> &[u8] {
+        self
+    }
+}
+""", """
+trait Source {
+    /// A file.
+    fn file(&self) -> &[u8];
+}
+
+impl Source for &[u8] {
+    fn file(&self) -> &[u8] {
+        self
+    }
+}
+"""),
+    ("ghost imports, fields, models and their comments", """
+//! Counts.
+
+ghost use Rattle.std.specs.Prelude.{ℕ, ◌+◌};
+
+use std::marker::{Model, PhantomData};
+
+/// A count.
+#[derive(Clone, Drop)]
+pub struct Count {
+    of: PhantomData<u8>,
+    /// Only proofs see it.
+    pub ghost count: { ℕ },
+}
+
+// A clause sees the count.
+impl Model for Count {
+    ghost Value = { ℕ };
+
+    ghost view = { λ c. c.count };
+}
+
+/// None.
+fn none() {}
+""", """
+//! Counts.
+
+use core::marker::PhantomData;
+
+/// A count.
+#[derive(Clone)]
+pub struct Count {
+    of: PhantomData<u8>,
+}
+
+/// None.
+fn none() {}
+"""),
+    ("attributes of the prover, and bounds", """
+//! Pairs.
+#![tactic(auto)]
+
+use std::marker::Model;
+
+/// A pair.
+#[derive(Drop)]
+pub struct Pair<T: Drop + Copy>(T, T);
+
+#[cycle(pairs)]
+#[inline(always)]
+fn both<T: Copy + Drop, U: Drop>(t: T, u: U) -> (T, U) {
+    (t, u)
+}
+""", """
+//! Pairs.
+
+/// A pair.
+pub struct Pair<T: Copy>(T, T);
+
+#[inline(always)]
+fn both<T: Copy, U>(t: T, u: U) -> (T, U) {
+    (t, u)
+}
+"""),
+    ("formatters", """
+use std::fmt::{self, Display, Formatter, Write};
+
+impl Display for Cause {
+    fn fmt<W: Write>(&self, f: &mut Formatter<W>) -> fmt::Result {
+        write!(f, "≡ {}", self.0)
+    }
+}
+""", """
+use core::fmt::{self, Display, Formatter};
+
+impl Display for Cause {
+    fn fmt(&self, f: &mut Formatter<'_>) -> fmt::Result {
+        write!(f, "≡ {}", self.0)
+    }
+}
+"""),
+    ("paths, what takes memory, and methods by hand", """
+use crate::held::Held;
+use std::alloc::{AllocError, Global};
+use values::names::Cid;
+
+fn cids(alloc: Global, held: &mut &[Cid]) -> Result<Vec<Cid>, AllocError> {
+    held.split_off_first();
+    held.split_off(..2);
+    held.iter().copied().collect(alloc)
+}
+""", """
+use crate::fallible::alloc::{AllocError, Global};
+use crate::fallible::{CollectIn, TakeFront, Vec};
+use crate::reader::runs::held::Held;
+use crate::reader::values::names::Cid;
+
+fn cids(alloc: Global, held: &mut &[Cid]) -> Result<Vec<Cid>, AllocError> {
+    held.take_one();
+    held.take_front(..2);
+    held.iter().copied().collect_in(alloc)
+}
+"""),
+    ("no word of a text or a comment", """
+// requires { nothing } of `Drop`, ghost
+const TEXT: &str = "ghost use std::io; ensures { ≡ }";
+const BYTE: u8 = b'"';
+""", """
+// requires { nothing } of `Drop`, ghost
+const TEXT: &str = "ghost use std::io; ensures { ≡ }";
+const BYTE: u8 = b'"';
+"""),
+]
+
+# what it shows, a source, the line of the fault, and what is said
+REFUSED = [
+    ("a destructor", "struct S;\n\nimpl Drop for S {}\n", 3, "a `Drop` that is no bound"),
+    ("unsafe code", "fn f() {\n    unsafe { g() }\n}\n", 2, "an unknown construct: unsafe"),
+    ("an unknown attribute", "\n#[repr(C)]\nstruct S;\n", 2, "an unknown attribute: repr"),
+    ("an unknown macro", "fn f() {\n    let v = vec![in alloc; 1]?;\n}\n", 2, "an unknown macro: vec!"),
+    ("an unknown part of std", "use std::thread;\n", 1, "an unknown path: std::thread"),
+    ("an unknown collection", "use std::collections::HashMap;\n", 1, "an unknown path: std::collections::HashMap"),
+    ("an unknown ghost", "impl S {\n    ghost fn f() {}\n}\n", 2, "an unknown ghost"),
+    ("a member of a model that is code", "impl Model for S {\n    fn f() {}\n}\n", 2,
+     "a member of a model that is no ghost"),
+    ("a clause without braces", "fn f()\n    requires a b { c }\n{}\n", 2, "a clause without braces"),
+    ("clauses before no body", "fn f()\n    ensures { a }\n    where\n{}\n", 3,
+     "the clauses of a function end before its body"),
+    ("another formatter", "fn f<W: Write, V>(f: &mut Formatter<W>) {}\n", 1,
+     "a formatter that isn't the one of a function `fmt`"),
+    ("a clause elsewhere", "fn f() {\n    for x in y\n        invariant { a }\n    {}\n}\n", 3,
+     "an unknown construct: invariant"),
+    ("a sign of a specification", "fn f() {\n    let x = a ≡ b;\n}\n", 2, "an unknown construct: ≡"),
+    ("a trait object", "fn f(x: &dyn Read) {}\n", 1, "an unknown construct: dyn"),
+    ("a bracket that isn't closed", "#[inline(always]\nfn f() {}\n", 1, "a bracket isn't closed"),
+]

@@ -1,0 +1,96 @@
+"""The crate of plain Rust: which files it has, and where they come from."""
+
+import re
+import shutil
+
+from programs import CRATES, TOP, and_below
+
+from .erasing import erased
+from .source import Unknown
+
+BY_HAND = TOP / "bindings" / "plain-rust"
+# the bindings over the C library have the same interface: types, and calls of others; tests and an example of them
+SHARED = TOP / "bindings" / "rust"
+SHARED_SOURCES = ["collection", "extractor", "metadata", "opening", "options", "predefined", "reason"]
+LICENSES = ["LICENSE-APACHE", "LICENSE-MIT"]
+README = "README.md"
+# the crates on which all others of the reader stand
+READER = ["hayro_cmap", "cmap_unicode"]
+# the program that runs rows of data, and the crate that it is a call of
+ROWS = "cmap_vectors"
+QUERIES = "cmap_queries"
+# functions of lookups that Rust inlines into another crate only where they say so
+INLINED = {
+    "cmap_layers/src/lookup.rt": ["text", "find_bf"],
+    "cmap_tokens/src/utf16.rt": ["one_char"],
+    "hayro_cmap/src/map.rt": ["lookup_bf_string", "next_code"],
+}
+BESIDE = {name: f"crate::{name}" for name in (QUERIES, "hex")}
+
+
+def crates_of_reader():
+    """The crates of the reader."""
+    return sorted({name for crate in READER for name in and_below(crate)})
+
+
+def with_inlined(text, names):
+    """The text with an attribute before each of these functions."""
+    for name in names:
+        text, count = re.subn(rf"^( *)(?=(pub )?fn {name}\b)", r"\1#[inline(always)]\n\1", text, flags=re.M)
+        if count != 1:
+            raise Unknown(f"{count} functions have the name {name}")
+    return text
+
+
+def erase_crate(crate, folder, root, paths):
+    """Writes the sources of a crate into a folder, its root as `root`; what is there by hand stays."""
+    for path in sorted((CRATES / crate / "src").rglob("*.rt")):
+        inner = path.relative_to(CRATES / crate / "src").with_suffix(".rs")
+        made = root if inner.name in ("lib.rs", "main.rs") and inner.parent.name == "" else folder / inner
+        if made.exists():
+            continue
+        made.parent.mkdir(parents=True, exist_ok=True)
+        text = erased(path.relative_to(TOP), path.read_text(), paths)
+        made.write_text(with_inlined(text, INLINED.get(str(path.relative_to(CRATES)), [])))
+
+
+def write_reader(out):
+    """The sources of the reader, a module for each crate."""
+    folder = out / "src" / "reader"
+    paths = {crate: f"crate::reader::{crate}" for crate in crates_of_reader()}
+    for crate in paths:
+        own = {"crate": paths[crate], "std": "crate::fallible", **paths}
+        erase_crate(crate, folder / crate, folder / f"{crate}.rs", own)
+
+
+def write_rows(out):
+    """The rows of data, and the program that runs them as a test."""
+    folder = out / "tests" / "rows"
+    paths = {"hayro_cmap": "hayro_cmap::reader", "std": "hayro_cmap::fallible", **BESIDE}
+    erase_crate(ROWS, folder, folder / "main.rs", {"crate": "crate", **paths})
+    erase_crate(QUERIES, folder / QUERIES, folder / f"{QUERIES}.rs", {"crate": BESIDE[QUERIES], **paths})
+    shutil.copytree(CRATES / ROWS / "data", folder / "data")
+    shutil.copy(CRATES / ROWS / "stdout", folder / "stdout")
+
+
+def write_crate(out):
+    """Makes the crate in a new folder; nothing where a construct is unknown."""
+    try:
+        write_files(out)
+    except Unknown:
+        shutil.rmtree(out)
+        raise
+
+
+def write_files(out):
+    """The files by hand, those of the bindings over the C library, and the sources."""
+    shutil.copytree(BY_HAND, out, ignore=shutil.ignore_patterns("target", "Cargo.lock", "compare"))
+    for name in LICENSES:
+        shutil.copy(TOP / name, out / name)
+    shutil.copy(SHARED / README, out / README)
+    for name in SHARED_SOURCES:
+        shutil.copy(SHARED / "src" / f"{name}.rs", out / "src" / f"{name}.rs")
+    for folder in ["tests", "examples"]:
+        shutil.copytree(SHARED / folder, out / folder, dirs_exist_ok=True)
+    write_reader(out)
+    write_rows(out)

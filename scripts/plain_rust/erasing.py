@@ -1,0 +1,233 @@
+"""Erases contracts and ghost code from a source file: what is left is Rust.
+
+Each rule looks at the tokens around a word, never at types. It knows the forms that the sources have, and stops at any
+other one. A call that Rust lacks or means otherwise doesn't compile: the module `fallible`, by hand, has those that the
+sources use.
+"""
+
+from .source import Source
+
+# what no rule has erased, or what Rust means otherwise
+REFUSED = ["Drop", "HostRuntime", "Model", "async", "await", "cycle", "dyn", "ensures", "extern", "ghost", "invariant",
+           "macro_rules", "prove", "requires", "tactic", "union", "unsafe"]
+ATTRIBUTES = ["cold", "default", "derive", "inline"]
+MACROS = ["matches", "unreachable", "write", "writeln"]
+# modules of std that are in core, and those that are by hand, with the names that are there
+CORE = ["cell", "fmt", "marker", "str"]
+BY_HAND = {"alloc": ["AllocError", "AllocFailed", "Global"], "collections": ["BTreeMap", "BinaryHeap"]}
+PRELUDE = ["Box", "String", "Vec"]
+# methods with arguments that are by hand: the trait, and the name there
+METHODS = {"collect": ("CollectIn", "collect_in"), "split_off": ("TakeFront", "take_front"),
+           "try_map": ("TryEach", "try_each")}
+# and without
+BARE_METHODS = {"split_off_first": ("TakeFront", "take_one")}
+
+
+def erased(path, text, paths):
+    """The text of a source file as Rust. `paths` says where a crate's items are in Rust, those of `crate` and `std` too."""
+    source = Source(path, text)
+    for rule in (erase_models, erase_ghosts, erase_clauses, erase_attributes, erase_drop_bounds, erase_writers,
+                 erase_imports):
+        rule(source)
+    refuse_unknown(source)
+    plain_paths(source, paths)
+    plain_std(source, paths["std"])
+    add_imports(source, plain_methods(source), paths["std"])
+    return source.text()
+
+
+def end_of_ghost(source, at):
+    """The end of `ghost use ..;`, `ghost name: { .. };` or `ghost name = { .. };`, of a field with its comma."""
+    if source.word(at + 1) == "use":
+        return source.find(at, ";") + 1
+    if source.tokens[at + 1].kind != "word" or source.word(at + 2) not in (":", "=") or source.word(at + 3) != "{":
+        source.refuse(at, "an unknown ghost")
+    end = source.closing(at + 3) + 1
+    if source.word(end) not in (";", ",", "}"):
+        source.refuse(at, "a ghost without an end")
+    return end if source.word(end) == "}" else end + 1
+
+
+def erase_models(source):
+    """`impl Model for T { .. }`, all of whose members are ghosts."""
+    for at in source.indices("Model"):
+        if source.word(at + 1) != "for":
+            continue
+        body = source.find(at, "{")
+        member, end = body + 1, source.closing(body)
+        while member < end:
+            if source.word(member) != "ghost":
+                source.refuse(member, "a member of a model that is no ghost")
+            member = end_of_ghost(source, member)
+        source.erase_item(source.find_back(at, "impl"), end + 1)
+
+
+def erase_ghosts(source):
+    """Ghost imports, members of traits and impls, and fields."""
+    for at in source.indices("ghost"):
+        start = at - 1 if source.word(at - 1) == "pub" else at
+        source.erase_item(start, end_of_ghost(source, at))
+
+
+def erase_clauses(source):
+    """The clauses of a function, between its signature and its body, with the comments among them."""
+    for at in source.indices("fn"):
+        start = end = source.find(at, "requires", "ensures", "{", ";", "}", ")", "]", ",")
+        while source.word(end) in (",", ")", "]"):
+            start = end = source.find(end + 1, "requires", "ensures", "{", ";", "}", ")", "]", ",")
+        while source.word(end) in ("requires", "ensures"):
+            braces = end + 1 if source.word(end + 1) == "{" else end + 2
+            if source.word(braces) != "{":
+                source.refuse(end, "a clause without braces")
+            end = source.closing(braces) + 1
+        if end > start:
+            join_body(source, start, end)
+
+
+def join_body(source, start, end):
+    """Puts the body that begins at `end` after the signature that ends before `start`."""
+    if source.word(end) not in ("{", ";"):
+        source.refuse(end, "the clauses of a function end before its body")
+    is_after_bounds = source.word(start - 1) == ","
+    lead = source.tokens[end].lead if is_after_bounds else "" if source.word(end) == ";" else " "
+    source.erase(start, end)
+    source.tokens[start].lead = lead
+
+
+def erase_attributes(source):
+    """The attributes for the prover; `Drop` among the derives."""
+    for at in source.indices("#"):
+        is_inner = source.word(at + 1) == "!"
+        name = source.word(at + 2 + is_inner)
+        end = source.closing(at + 1 + is_inner) + 1
+        if name in ("tactic", "cycle"):
+            (source.erase_item if is_inner else source.erase)(at, end)
+        elif name not in ATTRIBUTES:
+            source.refuse(at, f"an unknown attribute: {name}")
+        elif source.words(at + 2, "derive", "(", "Drop", ")"):
+            source.erase(at, end)
+        elif name == "derive":
+            erase_names(source, at + 3, "Drop")
+
+
+def erase_names(source, bracket, name):
+    """A name of a list between brackets, with a comma; where it is there."""
+    for at in range(bracket + 1, source.closing(bracket)):
+        if source.word(at) != name:
+            continue
+        if source.word(at + 1) == ",":
+            source.erase(at, at + 2)
+        else:
+            lead = source.tokens[at + 1].lead
+            source.erase(at - 1, at + 1)
+            source.tokens[at - 1].lead = lead
+        return
+
+
+def erase_drop_bounds(source):
+    """`T: Drop`, `T: Drop + U`, `T: U + Drop`: in Rust each value may be dropped."""
+    for at in source.indices("Drop"):
+        if source.word(at - 1) not in (":", "+"):
+            source.refuse(at, "a `Drop` that is no bound")
+        if source.word(at + 1) == "+":
+            source.erase(at, at + 2)
+        else:
+            lead = source.tokens[at + 1].lead
+            source.erase(at - 1, at + 1)
+            source.tokens[at - 1].lead = lead
+
+
+def erase_writers(source):
+    """`fn fmt<W: fmt::Write>(.., f: &mut fmt::Formatter<W>)`: a formatter of Rust has no parameter."""
+    for at in source.indices("Formatter"):
+        if source.word(at + 1) != "<":
+            continue
+        writer, bound = source.word(at + 2), source.find_back(at, "fn") + 2
+        lengths = [len(form) for form in ([writer, ":", "fmt", "::", "Write"], [writer, ":", "Write"])
+                   if source.words(bound, "<", *form, ">")]
+        if not lengths:
+            source.refuse(at, "a formatter that isn't the one of a function `fmt`")
+        source.tokens[at + 2].text = "'_"
+        source.erase(bound, bound + lengths[0] + 2)
+
+
+def erase_imports(source):
+    """Imports that only what was erased has named."""
+    for name in ("Model", "Write"):
+        found = source.indices(name)
+        if len(found) != 1 or source.word(source.find_back(found[0], "use", ";", "}")) != "use":
+            continue
+        at = found[0]
+        bracket = source.find_back(at, "{", "use")
+        if source.word(bracket) == "use":
+            source.erase_item(bracket, source.find(at, ";") + 1)
+            continue
+        erase_names(source, bracket, name)
+        if source.word(bracket + 2) == "}":
+            del source.tokens[bracket + 2], source.tokens[bracket]
+
+
+def refuse_unknown(source):
+    """Stops at what isn't Rust, and at what Rust may mean otherwise."""
+    for at, token in enumerate(source.tokens):
+        if token.kind == "text":
+            continue
+        if token.text in REFUSED or not token.text.isascii():
+            source.refuse(at, f"an unknown construct: {token.text}")
+        is_macro = token.kind == "word" and source.word(at + 1) == "!" and not source.tokens[at + 1].lead
+        if is_macro and source.word(at + 2) != "=" and token.text not in MACROS:
+            source.refuse(at, f"an unknown macro: {token.text}!")
+
+
+def plain_paths(source, paths):
+    """The paths of crates."""
+    for at in source.indices(*(name for name in paths if name != "std")):
+        if source.word(at + 1) == "::" and source.word(at - 1) != "::":
+            source.tokens[at].text = paths[source.word(at)]
+
+
+def plain_std(source, by_hand):
+    """`std::fmt` is `core::fmt`; what takes memory is by hand."""
+    for at in source.indices("std"):
+        if source.word(at + 1) != "::":
+            continue
+        modules = names_at(source, at + 2)
+        items = names_at(source, at + 4) if source.word(at + 3) == "::" else []
+        if all(name in CORE for name in modules):
+            source.tokens[at].text = "core"
+        elif items and set(items) <= set(BY_HAND.get(modules[0], [])):
+            source.tokens[at].text = by_hand
+        elif modules != ["io"]:
+            source.refuse(at, f"an unknown path: std::{'::'.join([*modules, *items])}")
+
+
+def names_at(source, at):
+    """A name, or those between braces."""
+    if source.word(at) != "{":
+        return [source.word(at)]
+    return [source.word(i) for i in range(at + 1, source.closing(at)) if source.tokens[i].kind == "word"]
+
+
+def plain_methods(source):
+    """Gives methods their names by hand; their traits."""
+    traits = set()
+    for at in source.indices("."):
+        is_call = source.word(at + 2) == "("
+        methods = BARE_METHODS if source.word(at + 3) == ")" else METHODS
+        if is_call and source.word(at + 1) in methods:
+            trait, source.tokens[at + 1].text = methods[source.word(at + 1)]
+            traits.add(trait)
+    return traits
+
+
+def add_imports(source, traits, by_hand):
+    """Imports what the prelude has and that of Rust's `core` hasn't, and the traits of methods."""
+    names = {source.word(at) for at in range(len(source.tokens))
+             if source.word(at - 1) != "::" and source.word(at + 1) != "("}
+    names = sorted(traits.union(names.intersection(PRELUDE)))
+    if not names:
+        return
+    at = next((at for at in range(len(source.tokens)) if source.word(at) == "use"), 0)
+    at -= source.word(at - 1) == "pub"
+    path = names[0] if len(names) == 1 else "{" + ", ".join(names) + "}"
+    source.insert(at, f"use {by_hand}::{path};", "\n" if source.word(at) in ("use", "pub") else "\n\n")
