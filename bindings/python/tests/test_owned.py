@@ -1,5 +1,6 @@
 """Closing, and several threads."""
 
+import contextlib
 import copy
 import gc
 import pickle
@@ -8,12 +9,28 @@ import unittest
 import unittest.mock
 from concurrent.futures import ThreadPoolExecutor
 
-from hayro_cmap import Bundle, CMap
+from hayro_cmap import Bundle, CMap, _reading
 from hayro_cmap._owned import library
 
 from .files import BINARY, BUNDLE, FIRST, SMALL, uses
 
 THREADS, ROUNDS = 8, 2000
+
+#: A file with a fault, which uses another one.
+WRONG = b"begincidchar <> 1 endcidchar /B usecmap"
+
+
+@contextlib.contextmanager
+def freed_handles():
+    """Of each handle that is freed within a block, whether it had a map."""
+    were_full, free = [], library.hayro_cmap_free
+
+    def freed(handle):
+        were_full.append(handle.full)
+        free(handle)
+
+    with unittest.mock.patch.object(library, "hayro_cmap_free", freed):
+        yield were_full
 
 
 class Closing(unittest.TestCase):
@@ -66,16 +83,28 @@ class Closing(unittest.TestCase):
         def files(name):
             if name == b"B":
                 raise KeyError(name)
-            return b"begincidchar <> 1 endcidchar /B usecmap"
+            return WRONG
 
-        were_full, free = [], library.hayro_cmap_free
-
-        def freed(handle):
-            were_full.append(handle.full)
-            free(handle)
-
-        with unittest.mock.patch.object(library, "hayro_cmap_free", freed):
+        with freed_handles() as were_full:
             self.assertRaises(KeyError, CMap.salvage, uses(b"A"), files)
+        self.assertEqual(sum(were_full), 1)
+
+    def test_a_bundle_that_is_closed_meanwhile(self):
+        bundle = Bundle.open(BUNDLE)
+
+        def files(name):
+            if name == b"B":
+                bundle.close()
+                return SMALL
+            return WRONG
+
+        with freed_handles() as were_full:
+            self.assertRaises(ValueError, CMap.salvage, uses(b"A"), files, bundle=bundle)
+        self.assertEqual(sum(were_full), 1)
+
+    def test_faults_that_cannot_be_told(self):
+        with freed_handles() as were_full, unittest.mock.patch.object(_reading, "refusals", side_effect=MemoryError):
+            self.assertRaises(MemoryError, CMap.salvage, WRONG)
         self.assertEqual(sum(were_full), 1)
 
     def test_shared_after_close(self):
