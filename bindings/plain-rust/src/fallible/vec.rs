@@ -111,7 +111,7 @@ impl<T> Vec<T> {
     }
 
     /// Sorts by keys, each of which is made once. Items of equal keys stay in their order.
-    pub fn sort_by_key<K: Ord>(&mut self, key: impl FnMut(&T) -> K) -> Result<(), AllocError> {
+    pub fn sort_by_key<K: Ord + Copy>(&mut self, key: impl FnMut(&T) -> K) -> Result<(), AllocError> {
         let order = sorted_indices(self.0.iter().map(key))?;
         let mut taken = with_capacity(self.0.len())?;
         taken.extend(self.0.drain(..).map(Some));
