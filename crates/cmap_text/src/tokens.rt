@@ -140,8 +140,11 @@ impl<'d> TokenReader<'d> {
         if let Some(code) = self.plain_code() {
             return Ok(code);
         }
-        let token = self.required_token()?;
-        self.code(&token)
+        match self.required_token() {
+            Ok(token) => self.code(&token),
+            // By `?` a file takes up to 2 % more instructions.
+            Err(fault) => Err(fault),
+        }
     }
 
     /// The units of the destination that a token is: a string that isn't empty.
@@ -195,8 +198,11 @@ impl<'d> TokenReader<'d> {
         if let Some(units) = self.plain_destination() {
             return Ok(units);
         }
-        let token = self.required_token()?;
-        self.destination(&token)
+        match self.required_token() {
+            Ok(token) => self.destination(&token),
+            // By `?` a file takes up to 2 % more instructions.
+            Err(fault) => Err(fault),
+        }
     }
 
     /// The CID that comes next: an integer of 32 bits without sign.
@@ -207,8 +213,11 @@ impl<'d> TokenReader<'d> {
         if let Some(number) = self.scanner.next_decimal() {
             return cid_of_number(number);
         }
-        let token = self.required_token()?;
-        cid_of(&token).ok_or(wrong(Reason::CidExpected))
+        match self.required_token() {
+            Ok(token) => cid_of(&token).ok_or(wrong(Reason::CidExpected)),
+            // By `?` a file takes up to 2 % more instructions.
+            Err(fault) => Err(fault),
+        }
     }
 
     /// How many bytes of the text have been read.
