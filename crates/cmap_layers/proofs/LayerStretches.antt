@@ -1,8 +1,9 @@
 -- What a layer decides for codes in a row, by what its lists say of them.
-use Rattle.std.proofs.Common.{◌≡◌, ℕ, ◌+◌, ◌<◌, ◌≤◌, ◌^◌, List, ◌∷◌, Option, Some, None, arith, get_or, inl, inr, length, map, min, refl, ap, subst, sym, ◌∙◌, true}
+use Rattle.std.proofs.Common.{◌≡◌, ℕ, ◌+◌, ◌<◌, ◌≤◌, ◌^◌, List, [], ◌∷◌, ◌++◌, Option, Some, None, arith, drop, get_or, inl, inr, length, map, min, refl, ap, subst, sym, take, ◌∙◌, true}
 use Rattle.std.proofs.lemmas.Bool.{cases_lt}
-use Rattle.std.proofs.lemmas.List.{get_or-map, length-map}
-use Rattle.std.specs.Prelude.{◌&&◌, ◌⊎◌, Any, IsSomeAnd, nat_le, option_map, unwrap_or}
+use Rattle.std.proofs.lemmas.List.{map-append, take-append-drop, take_more}
+use Rattle.std.proofs.lemmas.List.Elements.{All-append, All-cons, All-nil}
+use Rattle.std.specs.Prelude.{◌&&◌, ◌⊎◌, All, IsSomeAnd, nat_le, option_map, unwrap_or}
 use Rattle.std.specs.Option.{option_or}
 use Rattle.cmap_runs.specs.Stretches.{IsLongest, IsStretch}
 use Rattle.cmap_values.specs.CodeLengths.{length_of}
@@ -15,12 +16,12 @@ use Rattle.cmap_values.specs.declared.declarations.CidRange.{CidRange}
 use Rattle.cmap_layers.specs.Layers.{Layer}
 use Rattle.cmap_layers.specs.LayersDecide.{decided_in, deciding_bf, layer_cid}
 use Rattle.cmap_layers.specs.Lookups.{bf_span, cid_in, cid_of, cid_span, last_bf, last_cid}
-use Rattle.cmap_layers.specs.CodeStretches.{ChangesAfter, EndsAfter, EndsRow}
+use Rattle.cmap_layers.specs.CodeStretches.{EndsAfter, EndsRow, HasNoText, HoldsBelow, OthersEnd, TextsEnd}
 use Rattle.cmap_layers.specs.LayersSeen.{layer_seen, layers_seen}
 use Rattle.cmap_layers.specs.declared.layer.Layer as declared
 use Rattle.cmap_layers.specs.declared.stretches.Cids.{Cids}
 use Rattle.cmap_layers.proofs.LastFound.{decided_cid-decided_in, last_of-map, spans-map}
-use Rattle.cmap_layers.proofs.LayersSearched.{has_length}
+use Rattle.cmap_layers.proofs.LayersSearched.{drop_next, has_length}
 
 -- the last declaration of a list that contains a code of a stretch
 pub found_in : (table : List CidRange) (entries : List CidEntry) (first last code : ℕ) (d : Option CidRange) → entries_seen table ≡ entries → IsStretch cid_range_span table first last d
@@ -62,33 +63,42 @@ at_lesser P one other lesser is here there small =
       | inr after ↦ let same : other ≡ lesser = omega arith in subst P same (there (omega arith))
     ]
 
--- texts that end, of a layer
-pub text_ends : (layer : Layer) (len first last : ℕ) → IsLongest (map bf_span layer.lists.bfs) first last ⊎ EndsRow layer.lists.bfs last → EndsAfter len first last layer
-text_ends layer len first last (inl longest) = inl (inr (inr longest))
-text_ends layer len first last (inr row) = inr row
+-- the list of CIDs, or where it has none for the first code what else the layer has, whichever ends first
+pub cids_end : (layer : Layer) (len first cids others lesser : ℕ) → lesser ≡ min cids others → last_cid (of_length layer.lists.cids len) first ≡ None → IsLongest (map cid_span (of_length layer.lists.cids len)) first cids
+    → (others + 1 < 2 ^ 32 → OthersEnd len first others layer) → lesser + 1 < 2 ^ 32 → EndsAfter len first lesser layer
+cids_end layer len first cids others lesser is none of_cids of_others = at_lesser (λ last. EndsAfter len first last layer) cids others lesser is (λ _. inl of_cids) (λ small. inr (none, of_others small))
 
--- the list of CIDs or that of notdefs, whichever ends first
-pub lists_end : (layer : Layer) (len first cids notdefs lesser : ℕ) → lesser ≡ min cids notdefs → IsLongest (map cid_span (of_length layer.lists.cids len)) first cids
-    → IsLongest (map cid_span (of_length layer.lists.notdefs len)) first notdefs → lesser + 1 < 2 ^ 32 → ChangesAfter len first lesser layer
-lists_end layer len first cids notdefs lesser is of_cids of_notdefs = at_lesser (λ last. ChangesAfter len first last layer) cids notdefs lesser is (λ _. inl of_cids) (λ _. inr (inl of_notdefs))
+-- the list of notdefs, or where it has none the texts
+pub notdefs_end : (layer : Layer) (len first notdefs texts lesser : ℕ) → lesser ≡ min notdefs texts → last_cid (of_length layer.lists.notdefs len) first ≡ None → IsLongest (map cid_span (of_length layer.lists.notdefs len)) first notdefs
+    → IsLongest (map bf_span layer.lists.bfs) first texts ⊎ EndsRow layer.lists.bfs texts → lesser + 1 < 2 ^ 32 → OthersEnd len first lesser layer
+notdefs_end layer len first notdefs texts lesser is none of_notdefs of_texts = at_lesser (λ last. OthersEnd len first last layer) notdefs texts lesser is (λ _. inl of_notdefs) (λ _. inr (none, of_texts))
 
 -- where a layer decides nothing, no CIDs end
 pub no_cids : (Ends : Type 0) (P : Cids → Type 0) → Ends ⊎ IsSomeAnd None P → Ends
 no_cids Ends P (inl ends) = ends
 no_cids Ends P (inr none) = absurd none
 
--- what holds of the layer at an index holds of some layer
-pub at_layer : (P : Layer → Type 0) (layers : List declared.Layer) (k : ℕ) (layer : declared.Layer) → k < length layers → layer ≡ get_or layers k layer → P (layer_seen layer) → Any P (layers_seen layers)
-at_layer P layers k layer within is holds =
-    (k, layer_seen layer, omega (arith, length-map layers layer_seen), get_or-map layer_seen layers k layer (layer_seen layer) within ∙ ap layer_seen (sym is), holds)
+-- the layers before an index, the one there, and those after it
+layers_at : (layers : List declared.Layer) (k : ℕ) (layer : declared.Layer) → k < length layers → layer ≡ get_or layers k layer → layers_seen layers ≡ layers_seen (take k layers) ++ layer_seen layer ∷ layers_seen (drop (k + 1) layers)
+layers_at layers k layer within is = ap layers_seen (sym (take-append-drop k layers) ∙ ap (λ rest. take k layers ++ rest) (drop_next layers k layer within is)) ∙ map-append layer_seen (take k layers) (layer ∷ drop (k + 1) layers)
+
+-- what holds of the layer at an index, above which all are passed over
+pub at_layer : (IsPassed Holds : Layer → Type 0) (layers : List declared.Layer) (k : ℕ) (layer : declared.Layer) → k < length layers → layer ≡ get_or layers k layer → All IsPassed (layers_seen (take k layers)) → Holds (layer_seen layer) → HoldsBelow IsPassed Holds (layers_seen layers)
+at_layer IsPassed Holds layers k layer within is passed holds = (layers_seen (take k layers), layer_seen layer, layers_seen (drop (k + 1) layers), layers_at layers k layer within is, passed, holds)
+
+-- one more layer is passed over
+pub passed_next : (IsPassed : Layer → Type 0) (layers : List declared.Layer) (k : ℕ) (layer : declared.Layer) → k < length layers → layer ≡ get_or layers k layer → All IsPassed (layers_seen (take k layers)) → IsPassed (layer_seen layer) → All IsPassed (layers_seen (take (k + 1) layers))
+passed_next IsPassed layers k layer within is passed here =
+    let next : take (k + 1) layers ≡ take k layers ++ layer ∷ [] = take_more layers k layer within ∙ ap (λ x. take k layers ++ x ∷ []) (sym is) in
+    rw (next, map-append layer_seen (take k layers) (layer ∷ [])) (All-append IsPassed (layers_seen (take k layers)) (layer_seen layer ∷ []) passed (All-cons IsPassed (layer_seen layer) [] here (All-nil IsPassed)))
 
 -- the texts of a layer, or those of the layers above it, whichever end first
 pub texts_end : (layers : List declared.Layer) (k : ℕ) (layer : declared.Layer) (table : List BfRange) (first above here lesser : ℕ) → k < length layers → layer ≡ get_or layers k layer → map bf_entry_seen table ≡ (layer_seen layer).lists.bfs
-    → lesser ≡ min above here → (above + 1 < 2 ^ 32 → Any (λ layer. IsLongest (map bf_span layer.lists.bfs) first above) (layers_seen layers)) → IsLongest (map bf_range_span table) first here
-    → lesser + 1 < 2 ^ 32 → Any (λ layer. IsLongest (map bf_span layer.lists.bfs) first lesser) (layers_seen layers)
-texts_end layers k layer table first above here lesser within is seen least of_above of_here =
-    at_lesser (λ last. Any (λ layer. IsLongest (map bf_span layer.lists.bfs) first last) (layers_seen layers)) above here lesser least of_above
-    (λ _. at_layer (λ layer. IsLongest (map bf_span layer.lists.bfs) first here) layers k layer within is (longest_texts table (layer_seen layer).lists.bfs first here seen of_here))
+    → lesser ≡ min above here → All (HasNoText first) (layers_seen (take k layers)) → (above + 1 < 2 ^ 32 → HoldsBelow (HasNoText first) (TextsEnd first above) (layers_seen layers)) → IsLongest (map bf_range_span table) first here
+    → lesser + 1 < 2 ^ 32 → HoldsBelow (HasNoText first) (TextsEnd first lesser) (layers_seen layers)
+texts_end layers k layer table first above here lesser within is seen least passed of_above of_here =
+    at_lesser (λ last. HoldsBelow (HasNoText first) (TextsEnd first last) (layers_seen layers)) above here lesser least of_above
+    (λ _. at_layer (HasNoText first) (TextsEnd first here) layers k layer within is passed (longest_texts table (layer_seen layer).lists.bfs first here seen of_here))
 
 -- the declaration of a text, of the first layer that has one
 pub found_text : (table : List BfRange) (entries : List BfEntry) (first last code : ℕ) (d : Option BfRange) → map bf_entry_seen table ≡ entries → IsStretch bf_range_span table first last d

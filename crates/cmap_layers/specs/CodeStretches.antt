@@ -1,5 +1,5 @@
 -- What codes in a row stand for, and the codes of a CID.
-use Rattle.std.specs.Prelude.{◌≡◌, ◌↔◌, ◌⊎◌, ℕ, ◌+◌, ◌-◌, ◌%◌, ◌<◌, ◌≤◌, ◌^◌, IsTrue, List, Any, Option, Some, None, IsSomeAnd, MatchOption, flat_map, length, map, option_and_then, option_map, slice_index_or}
+use Rattle.std.specs.Prelude.{◌≡◌, ◌↔◌, ◌⊎◌, ℕ, ◌+◌, ◌-◌, ◌%◌, ◌<◌, ◌≤◌, ◌^◌, IsTrue, List, ◌∷◌, ◌++◌, All, Option, Some, None, IsSomeAnd, MatchOption, flat_map, length, map, option_and_then, option_map, slice_index_or}
 use Rattle.std.specs.Char.Escape.{encode_utf16}
 use Rattle.std.specs.Str.{all_scalars}
 use Rattle.cmap_runs.specs.declared.runs.Range.{Range}
@@ -7,7 +7,8 @@ use Rattle.cmap_values.specs.Files.{BfEntry, of_length}
 use Rattle.cmap_layers.specs.CodeRanges.{AreRangesOf, IsIn}
 use Rattle.cmap_layers.specs.Layers.{Layer}
 use Rattle.cmap_runs.specs.Stretches.{IsLongest}
-use Rattle.cmap_layers.specs.Lookups.{bf_at, bf_of, bf_span, cid_of, cid_span, deciding_bf, last_bf}
+use Rattle.cmap_layers.specs.LayersDecide.{layer_cid}
+use Rattle.cmap_layers.specs.Lookups.{bf_at, bf_of, bf_span, cid_of, cid_span, deciding_bf, last_bf, last_cid}
 use Rattle.cmap_layers.specs.declared.stretches.Cids.{Cids}
 use Rattle.cmap_layers.specs.declared.stretches.Cids.TheVariants.{Absent, Same, CountOn}
 use Rattle.cmap_layers.specs.declared.stretches.CidStretch.{CidStretch}
@@ -18,11 +19,6 @@ cid_after Absent k = None
 cid_after (Same cid) k = Some cid
 cid_after (CountOn cid) k = Some (cid + k)
 
--- in a list of the layer another declaration decides the code after the last one than decides the first: of CIDs, of notdefs, of texts
-abbrev pub ChangesAfter : ℕ → ℕ → ℕ → Layer → Type 0
-ChangesAfter len first last layer = IsLongest (map cid_span (of_length layer.lists.cids len)) first last
-    ⊎ (IsLongest (map cid_span (of_length layer.lists.notdefs len)) first last ⊎ IsLongest (map bf_span layer.lists.bfs) first last)
-
 -- at this offset the last unit of a text is the last of a row of 1,024 units, by which surrogates lie
 abbrev pub IsRowEnd : List ℕ → ℕ → Type 0
 IsRowEnd units offset = (slice_index_or units (length units - 1) 0 + offset) % 1024 ≡ 1023
@@ -31,9 +27,29 @@ IsRowEnd units offset = (slice_index_or units (length units - 1) 0 + offset) % 1
 abbrev pub EndsRow : List BfEntry → ℕ → Type 0
 EndsRow entries last = (entry : BfEntry) × (last_bf entries last ≡ Some entry) × IsRowEnd entry.units (last - entry.start)
 
--- what the layer decides for the first code ends with the last one
+-- in the list of notdefs another declaration decides the code after the last one than decides the first; or, where no notdef does, in that of texts, or a row of texts ends
+abbrev pub OthersEnd : ℕ → ℕ → ℕ → Layer → Type 0
+OthersEnd len first last layer = IsLongest (map cid_span (of_length layer.lists.notdefs len)) first last
+    ⊎ ((last_cid (of_length layer.lists.notdefs len) first ≡ None) × (IsLongest (map bf_span layer.lists.bfs) first last ⊎ EndsRow layer.lists.bfs last))
+
+-- in the list of CIDs another declaration decides the code after the last one than decides the first; or, where no CID is declared for the first, one of these ends
 abbrev pub EndsAfter : ℕ → ℕ → ℕ → Layer → Type 0
-EndsAfter len first last layer = ChangesAfter len first last layer ⊎ EndsRow layer.lists.bfs last
+EndsAfter len first last layer = IsLongest (map cid_span (of_length layer.lists.cids len)) first last ⊎ ((last_cid (of_length layer.lists.cids len) first ≡ None) × OthersEnd len first last layer)
+
+-- the layer decides no CID for the code, and no text
+abbrev pub HasNoCid : ℕ → ℕ → Layer → Type 0
+HasNoCid len code layer = layer_cid layer code len ≡ None
+
+abbrev pub HasNoText : ℕ → Layer → Type 0
+HasNoText code layer = last_bf layer.lists.bfs code ≡ None
+
+-- in its list of texts another declaration decides the code after the last one than decides the first
+abbrev pub TextsEnd : ℕ → ℕ → Layer → Type 0
+TextsEnd first last layer = IsLongest (map bf_span layer.lists.bfs) first last
+
+-- it holds of some layer, and each layer above that one is passed over
+abbrev pub HoldsBelow : (Layer → Type 0) → (Layer → Type 0) → List Layer → Type 0
+HoldsBelow IsPassed Holds layers = (above : List Layer) × (layer : Layer) × (below : List Layer) × (layers ≡ above ++ layer ∷ below) × All IsPassed above × Holds layer
 
 -- this many codes after the first the CIDs reach the last one of 32 bits
 abbrev pub EndsCids : Cids → ℕ → Type 0
@@ -43,8 +59,8 @@ EndsCids _ more = ⊥
 -- the CIDs of the codes of len bytes from the first to the last one
 pub record IsCidStretch (layers : List Layer) (len first : ℕ) (stretch : CidStretch) : Type 0 where
   pub cids : (code : ℕ) → first ≤ code → code ≤ stretch.last → cid_of layers code len ≡ cid_after stretch.cids (code - first)
-  -- it ends, unless with the last code of 32 bits, where another declaration decides, where a row of texts ends or with the last CID
-  pub longest : stretch.last + 1 < 2 ^ 32 → Any (EndsAfter len first stretch.last) layers ⊎ EndsCids stretch.cids (stretch.last - first)
+  -- it ends, unless with the last code of 32 bits, where another declaration decides, where a row of texts ends or with the last CID; in a layer above which none decides the first code
+  pub longest : stretch.last + 1 < 2 ^ 32 → HoldsBelow (HasNoCid len first) (EndsAfter len first stretch.last) layers ⊎ EndsCids stretch.cids (stretch.last - first)
 
 -- the texts of the codes from the first to the last one
 pub record IsTextStretch (layers : List Layer) (first last : ℕ) (declaration : Option BfEntry) : Type 0 where
@@ -52,8 +68,8 @@ pub record IsTextStretch (layers : List Layer) (first last : ℕ) (declaration :
   pub decides : (code : ℕ) → first ≤ code → code ≤ last → deciding_bf layers code ≡ declaration
   -- so they are those that it gives
   pub texts : (code : ℕ) → first ≤ code → code ≤ last → bf_of layers code ≡ option_and_then (λ entry. bf_at entry code) declaration
-  -- in the list of some layer another declaration decides the code after the last one, if there is such a code
-  pub longest : last + 1 < 2 ^ 32 → Any (λ layer. IsLongest (map bf_span layer.lists.bfs) first last) layers
+  -- in the list of some layer, above which none has a text for the first code, another declaration decides the code after the last one, if there is such a code
+  pub longest : last + 1 < 2 ^ 32 → HoldsBelow (HasNoText first) (TextsEnd first last) layers
 
 -- the ranges have just those codes that have the CID, as codes of len bytes
 abbrev pub AreCodesOfCid : List Layer → ℕ → ℕ → List Range → Type 0

@@ -1,4 +1,4 @@
--- Private aid: what one layer decides by itself, which the layers below can't change.
+-- What one layer decides by itself, which the layers below can't change.
 use Rattle.std.specs.Prelude.{ℕ, Option, Some, None, option_and_then}
 use Rattle.cmap_tokens.specs.Texts.{only_character}
 use Rattle.cmap_values.specs.Files.{CidEntry, of_length}

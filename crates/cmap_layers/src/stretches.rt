@@ -63,9 +63,9 @@ struct LayerStretch {
 
 impl Layers {
     /// The CIDs of codes of this length from `first` on, as `cid` gives them. The stretch ends where
-    /// another declaration of some list decides, with the last CID, or within a text that gives CIDs, since
-    /// the characters of a text count on in rows. A caller who goes on with the code after the last one has
-    /// the CIDs of all codes.
+    /// another declaration decides, in a list that is searched for `first`; with the last CID; or within a
+    /// text that gives CIDs, since the characters of a text count on in rows. A caller who goes on with the
+    /// code after the last one has the CIDs of all codes.
     pub fn cid_stretch(&self, first: u32, len: CodeLength) -> CidStretch
         ensures within { first ≤ result.last }
         ensures cids { IsCidStretch self.now (length_of len) first result }
@@ -86,7 +86,8 @@ impl Layers {
     }
 
     /// The declaration that decides the texts of the codes from `first` on, as `text` gives them, or that
-    /// none does. The stretch ends where another declaration of some layer decides.
+    /// none does. The stretch ends where another declaration decides, in a layer that is searched for
+    /// `first`.
     pub fn text_stretch(&self, first: u32) -> TextStretch<'_>
         ensures within { first ≤ result.last }
         ensures start { IfSome result.declaration

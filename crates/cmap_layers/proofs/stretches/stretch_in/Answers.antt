@@ -1,43 +1,49 @@
-use Rattle.std.proofs.Common.{◌≡◌, ◌-◌, Some, None, ap, inl, inr, map, sym, ◌∙◌, subst, arith}
-use Rattle.std.specs.Prelude.{option_map}
+use Rattle.std.proofs.Common.{◌≡◌, ◌-◌, Some, None, ap, inl, inr, map, min, refl, sym, ◌∙◌, subst, arith}
+use Rattle.std.specs.Prelude.{◌⊎◌, option_map}
 use Rattle.std.specs.Option.{option_copied}
 use Rattle.cmap_runs.specs.Stretches.{IsLongest, IsStretch}
 use Rattle.cmap_values.specs.CodeLengths.{length_of}
 use Rattle.cmap_values.specs.DeclarationsSeen.{cid_range_span}
 use Rattle.cmap_values.specs.Files.{of_length}
-use Rattle.cmap_layers.specs.CodeStretches.{EndsAfter, cid_after}
+use Rattle.cmap_layers.specs.CodeStretches.{EndsRow, cid_after}
 use Rattle.cmap_layers.specs.LayersDecide.{decided_in}
 use Rattle.cmap_layers.specs.LayersSeen.{layer_seen}
-use Rattle.cmap_layers.specs.Lookups.{cid_span, last_cid}
+use Rattle.cmap_layers.specs.Lookups.{bf_span, cid_span, last_cid}
 use Rattle.cmap_layers.specs.RowsWritten.{character_said}
-use Rattle.cmap_layers.proofs.LayerStretches.{at_lesser, found_in, lists_end, longest_cids, text_ends, undecided}
+use Rattle.cmap_layers.proofs.LayerStretches.{cids_end, found_in, longest_cids, notdefs_end, undecided}
 use Rattle.cmap_layers.proofs.stretches.stretch_in.Goals as goal
 
 pub returns-in-Some-clause-longest : goal.returns-in-Some-clause-longest
 returns-in-Some-clause-longest c = λ small.
     let first = c.args.first in let layer = layer_seen c.args.layer.now in let len = length_of c.args.len in
     elim c.declared_cids.ensures.ends [
-      | inl same ↦ inl (inl (inl (subst (IsLongest (map cid_span (of_length layer.lists.cids len)) first) (sym same)
-          (longest_cids c.cids.result.now (of_length layer.lists.cids len) first c.stretch_of-cids.result.last c.cids.ensures c.stretch_of-cids.ensures.longest))))
+      | inl same ↦ inl (inl (subst (IsLongest (map cid_span (of_length layer.lists.cids len)) first) (sym same)
+          (longest_cids c.cids.result.now (of_length layer.lists.cids len) first c.stretch_of-cids.result.last c.cids.ensures c.stretch_of-cids.ensures.longest)))
       | inr ends ↦ inr ends
     ]
 
 pub returns-in-Some-declaration-clause-longest : goal.returns-in-Some-declaration-clause-longest
 returns-in-Some-declaration-clause-longest c = λ small.
     let first = c.args.first in let layer = layer_seen c.args.layer.now in let len = length_of c.args.len in
-    inl (inl (lists_end layer len first c.stretch_of-cids.result.last c.stretch_of-notdefs.result.last c.min-last.result (omega (arith, c.min-last.ensures))
+    let none = subst (λ o. IsStretch cid_range_span c.cids.result.now first c.stretch_of-cids.result.last (option_copied o)) c.in_default.is c.stretch_of-cids.ensures.same in
+    let missed = found_in c.cids.result.now (of_length layer.lists.cids len) first c.stretch_of-cids.result.last first None c.cids.ensures none (omega arith) (omega arith) in
+    inl (cids_end layer len first c.stretch_of-cids.result.last c.stretch_of-notdefs.result.last c.min-last.result (omega (arith, c.min-last.ensures)) missed
     (longest_cids c.cids.result.now (of_length layer.lists.cids len) first c.stretch_of-cids.result.last c.cids.ensures c.stretch_of-cids.ensures.longest)
-    (longest_cids c.notdefs.result.now (of_length layer.lists.notdefs len) first c.stretch_of-notdefs.result.last c.notdefs.ensures c.stretch_of-notdefs.ensures.longest) small))
+    (λ _. inl (longest_cids c.notdefs.result.now (of_length layer.lists.notdefs len) first c.stretch_of-notdefs.result.last c.notdefs.ensures c.stretch_of-notdefs.ensures.longest)) small)
 
 pub returns-clause-longest : goal.returns-clause-longest
 returns-clause-longest c = λ small.
     let first = c.args.first in let layer = layer_seen c.args.layer.now in let len = length_of c.args.len in
-    let texts : EndsAfter len first c.characters_in-characters.result.last layer =
-    text_ends layer len first c.characters_in-characters.result.last (rw c.texts.ensures at c.characters_in-characters.ensures.ends) in
-    let lists = lists_end layer len first c.stretch_of-cids.result.last c.stretch_of-notdefs.result.last c.min-last.result (omega (arith, c.min-last.ensures))
+    let none = subst (λ o. IsStretch cid_range_span c.cids.result.now first c.stretch_of-cids.result.last (option_copied o)) c.in_default.is c.stretch_of-cids.ensures.same in
+    let missed = found_in c.cids.result.now (of_length layer.lists.cids len) first c.stretch_of-cids.result.last first None c.cids.ensures none (omega arith) (omega arith) in
+    let neither = subst (λ o. IsStretch cid_range_span c.notdefs.result.now first c.stretch_of-notdefs.result.last (option_copied o)) c.in_default-declaration.is c.stretch_of-notdefs.ensures.same in
+    let missed_too = found_in c.notdefs.result.now (of_length layer.lists.notdefs len) first c.stretch_of-notdefs.result.last first None c.notdefs.ensures neither (omega arith) (omega arith) in
+    let texts : IsLongest (map bf_span layer.lists.bfs) first c.characters_in-characters.result.last ⊎ EndsRow layer.lists.bfs c.characters_in-characters.result.last = rw c.texts.ensures at c.characters_in-characters.ensures.ends in
+    let notdefs = c.stretch_of-notdefs.result.last in let characters = c.characters_in-characters.result.last in
+    inl (cids_end layer len first c.stretch_of-cids.result.last (min notdefs characters) c.min.result (omega (arith, c.min-last.ensures, c.min.ensures)) missed
     (longest_cids c.cids.result.now (of_length layer.lists.cids len) first c.stretch_of-cids.result.last c.cids.ensures c.stretch_of-cids.ensures.longest)
-    (longest_cids c.notdefs.result.now (of_length layer.lists.notdefs len) first c.stretch_of-notdefs.result.last c.notdefs.ensures c.stretch_of-notdefs.ensures.longest) in
-    inl (at_lesser (λ last. EndsAfter len first last layer) c.min-last.result c.characters_in-characters.result.last c.min.result (omega (arith, c.min.ensures)) (λ small. inl (lists small)) (λ _. texts) small)
+    (notdefs_end layer len first notdefs characters (min notdefs characters) refl missed_too
+    (longest_cids c.notdefs.result.now (of_length layer.lists.notdefs len) first notdefs c.notdefs.ensures c.stretch_of-notdefs.ensures.longest) texts) small)
 
 pub returns-in-Some-clause-cids : goal.returns-in-Some-clause-cids
 returns-in-Some-clause-cids c = λ code le lt.

@@ -1,6 +1,6 @@
-use Rattle.std.proofs.Common.{◌≡◌, ℕ, ◌+◌, ◌<◌, ◌≤◌, ◌^◌, drop}
-use Rattle.std.specs.Prelude.{Any}
-use Rattle.cmap_layers.specs.CodeStretches.{EndsAfter}
+use Rattle.std.proofs.Common.{◌≡◌, ℕ, ◌+◌, ◌<◌, ◌≤◌, ◌^◌, drop, take}
+use Rattle.std.specs.Prelude.{All}
+use Rattle.cmap_layers.specs.CodeStretches.{EndsAfter, HasNoCid, HoldsBelow}
 use Rattle.cmap_values.specs.CodeLengths.{length_of}
 use Rattle.cmap_layers.specs.LayersSeen.{layers_seen}
 use Rattle.cmap_layers.specs.Lookups.{cid_in}
@@ -10,6 +10,7 @@ use Rattle.cmap_layers.proofs.layers.Layers.cid_stretch.Given as goal
 abbrev pub invariant-loop-layer : goal.invariant-loop-layer
 invariant-loop-layer l = record {
   within : l.first ≤ l.last;
-  longest : l.last + 1 < 2 ^ 32 → Any (EndsAfter (length_of l.len) l.first l.last) (layers_seen l.layers);
+  undecided : All (HasNoCid (length_of l.len) l.first) (layers_seen (take l.layer-index l.layers));
+  longest : l.last + 1 < 2 ^ 32 → HoldsBelow (HasNoCid (length_of l.len) l.first) (EndsAfter (length_of l.len) l.first l.last) (layers_seen l.layers);
   passed : (code : ℕ) → l.first ≤ code → code ≤ l.last → cid_in (layers_seen l.layers) code (length_of l.len) ≡ cid_in (layers_seen (drop l.layer-index l.layers)) code (length_of l.len);
 }

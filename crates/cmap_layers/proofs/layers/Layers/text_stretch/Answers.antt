@@ -4,10 +4,11 @@ use Rattle.std.specs.Option.{option_copied}
 use Rattle.std.proofs.lemmas.List.{drop_all}
 use Rattle.cmap_runs.specs.Stretches.{IsStretch}
 use Rattle.cmap_values.specs.DeclarationsSeen.{bf_entry_seen, bf_range_span}
+use Rattle.cmap_layers.specs.CodeStretches.{HasNoText}
 use Rattle.cmap_layers.specs.LayersDecide.{deciding_bf}
 use Rattle.cmap_layers.specs.LayersSeen.{layer_seen, layers_seen}
 use Rattle.cmap_layers.specs.Lookups.{bf_at, bf_of}
-use Rattle.cmap_layers.proofs.LayerStretches.{found_text, text_decided, texts_end}
+use Rattle.cmap_layers.proofs.LayerStretches.{found_text, passed_next, text_decided, texts_end}
 use Rattle.cmap_layers.proofs.LayersSearched.{bf_of-deciding_bf, drop_next}
 use Rattle.cmap_layers.proofs.layers.Layers.text_stretch.Goals as goal
 use Rattle.cmap_layers.proofs.layers.Layers.text_stretch.Goals.{In-Some}
@@ -30,14 +31,19 @@ returns-in-Some-clause-texts c =
       decides = λ code le lt. ap (λ layers. deciding_bf layers code) (sym layers) ∙ decided c code le lt;
       texts = λ code le lt. ap (λ layers. bf_of layers code) (sym layers) ∙ bf_of-deciding_bf (layers_seen c.as_slice-layers.result.now) code ∙ ap (option_and_then (λ e. bf_at e code)) (decided c code le lt);
       longest = rw layers at (texts_end c.as_slice-layers.result.now c.loop-layer.layer-index c.layer-item.result c.texts.result.now c.args.first c.loop-layer.last c.stretch_of-stretch.result.last c.min-last.result
-          c.loop-layer-test.true c.layer-item.is c.texts.ensures (omega (arith, c.min-last.ensures)) c.loop-layer.invariant.longest c.stretch_of-stretch.ensures.longest);
+          c.loop-layer-test.true c.layer-item.is c.texts.ensures (omega (arith, c.min-last.ensures)) c.loop-layer.invariant.undecided c.loop-layer.invariant.longest c.stretch_of-stretch.ensures.longest);
     }
 
 pub loop-layer-preserved : goal.loop-layer-preserved
 loop-layer-preserved c = record {
   within = omega arith;
   longest = texts_end c.as_slice-layers.result.now c.loop-layer.layer-index c.layer-item.result c.texts.result.now c.args.first c.loop-layer.last c.stretch_of-stretch.result.last c.min-last.result
-      c.loop-layer-test.true c.layer-item.is c.texts.ensures (omega (arith, c.min-last.ensures)) c.loop-layer.invariant.longest c.stretch_of-stretch.ensures.longest;
+      c.loop-layer-test.true c.layer-item.is c.texts.ensures (omega (arith, c.min-last.ensures)) c.loop-layer.invariant.undecided c.loop-layer.invariant.longest c.stretch_of-stretch.ensures.longest;
+  undecided =
+      let layer = layer_seen c.layer-item.result in
+      let none = subst (λ o. IsStretch bf_range_span c.texts.result.now c.args.first c.stretch_of-stretch.result.last (option_copied o)) c.in_default.is c.stretch_of-stretch.ensures.same in
+      passed_next (HasNoText c.args.first) c.as_slice-layers.result.now c.loop-layer.layer-index c.layer-item.result c.loop-layer-test.true c.layer-item.is c.loop-layer.invariant.undecided
+      (found_text c.texts.result.now layer.lists.bfs c.args.first c.stretch_of-stretch.result.last c.args.first None c.texts.ensures none (omega arith) (omega arith));
   passed = λ code le lt.
       let layers = layers_seen c.as_slice-layers.result.now in let below = layers_seen (drop (c.loop-layer.layer-index + 1) c.as_slice-layers.result.now) in
       let layer = layer_seen c.layer-item.result in let last = c.stretch_of-stretch.result.last in
