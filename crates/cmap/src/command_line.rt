@@ -3,9 +3,9 @@
 pub(crate) mod flags;
 
 use self::flags::{
-    BASE, BUDGET, BUNDLE, DENY, EFFECTIVE, FILES_FROM, FIRST, Flag, JSON, LENIENT, LINT,
-    LINT_TO_UNICODE, NAME, NO_PREDEFINED, NULL, OUTPUT, QUIET, TEXT_OUTPUT, TO_UNICODE, VERIFY,
-    values_of,
+    BASE, BUDGET, BUNDLE, CMAP_NAME, COLLECTION, DENY, EFFECTIVE, FILES_FROM, FIRST, Flag, JSON,
+    LENIENT, LINT, LINT_TO_UNICODE, NAME, NO_PREDEFINED, NULL, OUTPUT, QUIET, TEXT_OUTPUT,
+    TO_UNICODE, USE, VERIFY, VERTICAL, values_of,
 };
 use clap::{Arg, ArgAction, ArgMatches, Command};
 use cmap_sources::inputs::STANDARD_INPUT;
@@ -23,11 +23,32 @@ struct Form {
     about: &'static str,
     /// Its options, in the order of the help.
     flags: &'static [Flag],
-    /// Whether its first argument is a file.
-    has_file: bool,
-    /// Its other arguments. `list`, `write` and `repair` have none.
+    /// Its first argument, if that is one file.
+    file: Option<FileArgument>,
+    /// Its other arguments. `list`, `write`, `repair` and `make` have none.
     arguments: Option<Arguments>,
 }
+
+/// An argument that is one file.
+#[derive(Clone, Copy)]
+struct FileArgument {
+    /// Its name in the help.
+    value_name: &'static str,
+    /// Its text in the help.
+    help: &'static str,
+}
+
+/// A file whose map is asked.
+const CMAP_FILE: FileArgument = FileArgument {
+    value_name: "FILE",
+    help: "A CMap file, by its path or its name; - is the standard input",
+};
+
+/// The file of which `make` makes one.
+const TABLE: FileArgument = FileArgument {
+    value_name: "TABLE",
+    help: "The lines that cmap list prints of one layer; - is the standard input",
+};
 
 /// Arguments of a subcommand, at least one.
 struct Arguments {
@@ -68,7 +89,7 @@ const SUBCOMMANDS: &[Form] = &[
         name: "info",
         about: "Prints what files say: their names, codespace ranges, declarations and layers",
         flags: &[BASE, BUNDLE, NO_PREDEFINED, JSON, BUDGET, LENIENT],
-        has_file: false,
+        file: None,
         arguments: Some(Arguments {
             id: FILE,
             value_name: "FILE",
@@ -88,14 +109,14 @@ const SUBCOMMANDS: &[Form] = &[
             LENIENT,
             EFFECTIVE,
         ],
-        has_file: true,
+        file: Some(CMAP_FILE),
         arguments: None,
     },
     Form {
         name: "find",
         about: "Prints the codes that have a CID or a text",
         flags: &[BASE, BUNDLE, NO_PREDEFINED, JSON, BUDGET, LENIENT],
-        has_file: true,
+        file: Some(CMAP_FILE),
         arguments: Some(Arguments {
             id: ARGUMENT,
             value_name: "WANTED",
@@ -120,7 +141,7 @@ const SUBCOMMANDS: &[Form] = &[
             LINT_TO_UNICODE,
             DENY,
         ],
-        has_file: false,
+        file: None,
         arguments: Some(Arguments {
             id: FILE,
             value_name: "FILE|FOLDER",
@@ -132,21 +153,21 @@ const SUBCOMMANDS: &[Form] = &[
         name: "decode",
         about: "Prints the codes of strings, with their CIDs and their texts",
         flags: STRING_FLAGS,
-        has_file: true,
+        file: Some(CMAP_FILE),
         arguments: Some(STRINGS),
     },
     Form {
         name: "text",
         about: "Prints the texts of strings",
         flags: STRING_FLAGS,
-        has_file: true,
+        file: Some(CMAP_FILE),
         arguments: Some(STRINGS),
     },
     Form {
         name: "where",
         about: "Prints the paths of the files that names stand for",
         flags: &[BASE, BUNDLE, NO_PREDEFINED, JSON],
-        has_file: false,
+        file: None,
         arguments: Some(Arguments {
             id: FILE,
             value_name: "NAME",
@@ -158,7 +179,7 @@ const SUBCOMMANDS: &[Form] = &[
         name: "bundle",
         about: "Makes a bundle of the files that have known names",
         flags: &[OUTPUT, NAME, VERIFY],
-        has_file: false,
+        file: None,
         arguments: Some(Arguments {
             id: FILE,
             value_name: "FILE|FOLDER",
@@ -170,21 +191,28 @@ const SUBCOMMANDS: &[Form] = &[
         name: "write",
         about: "Writes anew what a file says, as text",
         flags: REWRITE_FLAGS,
-        has_file: true,
+        file: Some(CMAP_FILE),
         arguments: None,
     },
     Form {
         name: "repair",
         about: "Writes anew what a file says apart from its faults, which are reported",
         flags: REWRITE_FLAGS,
-        has_file: true,
+        file: Some(CMAP_FILE),
+        arguments: None,
+    },
+    Form {
+        name: "make",
+        about: "Makes a file of the lines that list prints",
+        flags: &[CMAP_NAME, COLLECTION, VERTICAL, USE, TEXT_OUTPUT],
+        file: Some(TABLE),
         arguments: None,
     },
     Form {
         name: "lookup",
         about: "Prints the CIDs and the texts of single codes",
         flags: &[BASE, BUNDLE, NO_PREDEFINED, JSON, BUDGET, LENIENT],
-        has_file: true,
+        file: Some(CMAP_FILE),
         arguments: Some(Arguments {
             id: ARGUMENT,
             value_name: "CODE",
@@ -215,10 +243,9 @@ fn program<'a>(alloc: Global) -> Result<Command<'a>, AllocError> {
 impl Form {
     fn command<'a>(&self, alloc: Global) -> Result<Command<'a>, AllocError> {
         let command = self.add_flags(alloc, Command::new(alloc, self.name).about(self.about))?;
-        let command = if self.has_file {
-            command.arg(file(alloc))?
-        } else {
-            command
+        let command = match self.file {
+            Some(file) => command.arg(file.arg(alloc))?,
+            None => command,
         };
         match &self.arguments {
             Some(arguments) => command.arg(arguments.arg(alloc)?),
@@ -254,11 +281,15 @@ impl Arguments {
     }
 }
 
-fn file<'a>(alloc: Global) -> Arg<'a> {
-    Arg::new(alloc, FILE)
-        .required(true)
-        .action(ArgAction::Set)
-        .help("A CMap file, by its path or its name; - is the standard input")
+impl FileArgument {
+    /// The argument as `clap` takes it.
+    fn arg<'a>(self, alloc: Global) -> Arg<'a> {
+        Arg::new(alloc, FILE)
+            .value_name(self.value_name)
+            .required(true)
+            .action(ArgAction::Set)
+            .help(self.help)
+    }
 }
 
 /// The files among the arguments. For `check` and `bundle` also the folders.

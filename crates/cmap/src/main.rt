@@ -12,6 +12,7 @@ mod lint;
 mod list;
 mod locate;
 mod lookup;
+mod make;
 mod options;
 mod progress;
 mod rewrite;

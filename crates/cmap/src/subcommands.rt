@@ -9,12 +9,14 @@ use crate::info::{InfoOptions, info};
 use crate::list::{ListOptions, list};
 use crate::locate::{LocateOptions, locate};
 use crate::lookup::{LookupOptions, lookup};
+use crate::make::make_options;
 use crate::options::Sources;
 use crate::rewrite::Rewriting;
 use crate::text::text;
 use clap::ArgMatches;
 use cmap_bundle::command::{BundleOptions, bundle};
 use cmap_rewrite::command::rewrite;
+use cmap_rewrite::make::{MakeOptions, make};
 use cmap_sources::bases::Bases;
 use cmap_sources::failure::Failure;
 use cmap_sources::reading::Faults;
@@ -31,6 +33,7 @@ pub(crate) enum Subcommand<'m, 'w> {
     Lookup(LookupOptions<'m, 'w>),
     Where(LocateOptions<'m, 'w>),
     Rewrite(Rewriting<'m, 'w>),
+    Make(MakeOptions<'m, 'w>),
     Bundle(BundleOptions<'m, 'w>),
 }
 
@@ -48,12 +51,13 @@ impl<'m, 'w> Subcommand<'m, 'w> {
             "where" => Subcommand::Where(LocateOptions::of(arguments)),
             "write" => Subcommand::Rewrite(Rewriting::of(arguments, Faults::First)),
             "repair" => Subcommand::Rewrite(Rewriting::of(arguments, Faults::All)),
+            "make" => Subcommand::Make(make_options(arguments)),
             "bundle" => Subcommand::Bundle(bundle_options(arguments)),
             _ => return None,
         })
     }
 
-    /// Where files are looked up by their names. `bundle` looks up none.
+    /// Where files are looked up by their names. `make` and `bundle` look up none.
     pub(crate) fn sources(&self) -> Sources<'m, 'w> {
         match self {
             Subcommand::Info(options) => options.sources,
@@ -65,7 +69,7 @@ impl<'m, 'w> Subcommand<'m, 'w> {
             Subcommand::Lookup(options) => options.sources,
             Subcommand::Where(options) => options.sources,
             Subcommand::Rewrite(rewriting) => rewriting.sources,
-            Subcommand::Bundle(_) => Sources::nowhere(),
+            Subcommand::Make(_) | Subcommand::Bundle(_) => Sources::nowhere(),
         }
     }
 
@@ -81,6 +85,7 @@ impl<'m, 'w> Subcommand<'m, 'w> {
             Subcommand::Lookup(options) => lookup(rt, options, bases),
             Subcommand::Where(options) => locate(rt, options, bases),
             Subcommand::Rewrite(rewriting) => rewrite(rt, &rewriting.options, bases),
+            Subcommand::Make(options) => make(rt, options),
             Subcommand::Bundle(options) => bundle(rt, options),
         }
     }

@@ -31,19 +31,34 @@ pub fn rewrite(
     options: &RewriteOptions<'_>,
     bases: &mut Bases<'_>,
 ) -> Result<u8, Failure> {
-    let output = options.output;
-    if output == STANDARD_INPUT {
-        return Err(fault(rt, output, "a CMap is written to a file"));
-    }
+    check_output(rt, options.output)?;
     let bytes = bytes_needed(rt, options.file, bases)?;
     let input = Input {
         path: options.file,
         bytes: bytes.as_slice(),
     };
     let file = file_of(rt, input, options.faults, bases)?;
-    let text = text_of(rt.alloc(), input.path, &file)?;
-    Beside::write(rt, output, &text)?.put_in_place(rt)?;
+    write_file(rt, input.path, &file, options.output)?;
     Ok(ACCEPTED)
+}
+
+/// Checks that the output isn't `-`.
+pub(crate) fn check_output(rt: &HostRuntime, output: &str) -> Result<(), Failure> {
+    if output == STANDARD_INPUT {
+        return Err(fault(rt, output, "a CMap is written to a file"));
+    }
+    Ok(())
+}
+
+/// Writes a file as text. `path` is that of what it was read from.
+pub(crate) fn write_file(
+    rt: &HostRuntime,
+    path: &str,
+    file: &File<'_>,
+    output: &str,
+) -> Result<(), Failure> {
+    let text = text_of(rt.alloc(), path, file)?;
+    Beside::write(rt, output, &text)?.put_in_place(rt)
 }
 
 /// The text of a file.

@@ -1,5 +1,7 @@
-//! `cmap write` and `cmap repair`: what a file says is written anew, as text.
+//! What writes CMap files: `cmap write`, `cmap repair` and `cmap make`.
 #![tactic(auto)]
 
 pub mod command;
+pub mod make;
 mod obstacle;
+mod table;

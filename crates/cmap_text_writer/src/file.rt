@@ -14,12 +14,14 @@ use crate::check::check_file;
 use crate::lists::push_lists;
 use crate::metadata::{push_metadata, push_uses};
 use crate::obstacle::Obstacle;
+use crate::text_lengths::TextLengths;
 use cmap_values::declarations::{ByLength, CidRange, Lists};
 use cmap_values::fault::Fault;
 use cmap_values::file::File;
 use std::alloc::{AllocError, Global};
 
-/// A text that says what a file says, as Adobe Technical Notes 5014 and 5411 lay it out.
+/// A text that says what a file says, as Adobe Technical Notes 5014 and 5411 lay it out. The codes of
+/// texts, whose length a file doesn't keep, have that of the codespace ranges around them.
 ///
 /// It is refused with what no text can say.
 pub fn write_text(alloc: Global, file: &File<'_>) -> Result<Vec<u8>, Fault<Obstacle>>
@@ -28,14 +30,28 @@ pub fn write_text(alloc: Global, file: &File<'_>) -> Result<Vec<u8>, Fault<Obsta
     ensures err { IfErr result (RefusesWith (IsObstacle (file_seen file.now))) }
     ensures none { IfErr result (RefusesWith (λ obstacle. NoTextSays (file_seen file.now))) }
 {
+    write_text_by(alloc, file, TextLengths::by(&file.lists.spaces))
+}
+
+/// The text of `write_text`, with these lengths of the codes of texts.
+pub fn write_text_by(
+    alloc: Global,
+    file: &File<'_>,
+    lengths: TextLengths,
+) -> Result<Vec<u8>, Fault<Obstacle>>
+    ensures written { IfOk result (λ text. IsTextFile text.items (file_seen file.now)) }
+    ensures short { IfOk result (λ text. HasShortSections text.items) }
+    ensures err { IfErr result (RefusesWith (IsObstacle (file_seen file.now))) }
+    ensures none { IfErr result (RefusesWith (λ obstacle. NoTextSays (file_seen file.now))) }
+{
     check_file(alloc, file)?;
     let mut out = Vec::new(alloc);
-    push_file(&mut out, file)?;
+    push_file(&mut out, file, lengths)?;
     Ok(out)
 }
 
 /// Writes a file.
-fn push_file(out: &mut Vec<u8>, file: &File<'_>) -> Result<(), AllocError>
+fn push_file(out: &mut Vec<u8>, file: &File<'_>, lengths: TextLengths) -> Result<(), AllocError>
     requires { IsSayable (file_seen file.now) }
     ensures { OnOk result (Appends out.old.items out.new.items (IsWritten (file_seen file.now))) }
 {
@@ -43,7 +59,7 @@ fn push_file(out: &mut Vec<u8>, file: &File<'_>) -> Result<(), AllocError>
     push_header(out, is_to_unicode(&file.lists))?;
     push_uses(out, &file.uses)?;
     push_metadata(out, &file.metadata)?;
-    push_lists(out, &file.lists)?;
+    push_lists(out, &file.lists, lengths)?;
     push_footer(out)
 }
 

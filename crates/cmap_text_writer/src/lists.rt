@@ -19,14 +19,18 @@ use cmap_values::declarations::{BfRange, ByLength, CidRange, Codespace, Lists};
 use std::alloc::AllocError;
 
 /// Writes all declarations of a file.
-pub(crate) fn push_lists(out: &mut Vec<u8>, lists: &Lists) -> Result<(), AllocError>
+pub(crate) fn push_lists(
+    out: &mut Vec<u8>,
+    lists: &Lists,
+    lengths: TextLengths,
+) -> Result<(), AllocError>
     requires { AllFit (lists_seen lists.now) }
     ensures { OnOk result (Appends out.old.items out.new.items (TellsSections (declarations_of (lists_seen lists.now)))) }
 {
     push_codespaces(out, &lists.spaces)?;
     push_by_length(out, CidKind::Notdef, &lists.notdefs)?;
     push_by_length(out, CidKind::Cid, &lists.cids)?;
-    push_texts(out, TextLengths::by(&lists.spaces), &lists.bfs)
+    push_texts(out, lengths, &lists.bfs)
 }
 
 /// Writes codespace ranges.

@@ -10,24 +10,33 @@ const NONE: Range = Range {
     end: 0,
 };
 
-/// From the lowest to the highest code of the codespace ranges of each length.
+/// How many bytes the codes of texts are written with. A code that has no room in them has four.
 #[derive(Clone, Copy)]
-pub(crate) struct TextLengths {
+pub struct TextLengths {
+    /// From the lowest to the highest code of the codespace ranges of each length.
     one: Range,
     two: Range,
     three: Range,
     four: Range,
+    /// The length of other codes.
+    other: CodeLength,
 }
 
 impl TextLengths {
-    /// By these codespace ranges.
-    pub(crate) fn by(spaces: &[Codespace]) -> TextLengths {
-        let mut lengths = TextLengths {
+    /// This length.
+    pub fn same(len: CodeLength) -> TextLengths {
+        TextLengths {
             one: NONE,
             two: NONE,
             three: NONE,
             four: NONE,
-        };
+            other: len,
+        }
+    }
+
+    /// The least length of which codespace ranges have codes around the code, and two bytes where none has.
+    pub fn by(spaces: &[Codespace]) -> TextLengths {
+        let mut lengths = TextLengths::same(CodeLength::Two);
         for space in spaces {
             match space.len {
                 CodeLength::One => lengths.one = widened(lengths.one, *space),
@@ -39,7 +48,7 @@ impl TextLengths {
         lengths
     }
 
-    /// The least length of which there are codes around this one, and two bytes where there is none.
+    /// The length of a code.
     pub(crate) fn of(self, code: u32) -> CodeLength {
         if contains(self.one, code) {
             CodeLength::One
@@ -50,7 +59,7 @@ impl TextLengths {
         } else if contains(self.four, code) {
             CodeLength::Four
         } else {
-            CodeLength::Two
+            self.other
         }
     }
 }

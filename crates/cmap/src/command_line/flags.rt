@@ -237,3 +237,35 @@ pub(crate) const VERIFY: Flag = Flag {
     value: Value::Nothing,
     help: "Compares what the bundle says with the files, code by code, before it is put in place",
 };
+
+pub(crate) const CMAP_NAME: Flag = Flag {
+    id: "cmap-name",
+    short: None,
+    long: "name",
+    value: Value::Text("NAME"),
+    help: "The name of the file, its CMapName",
+};
+
+pub(crate) const COLLECTION: Flag = Flag {
+    id: "collection",
+    short: None,
+    long: "collection",
+    value: Value::Text("COLLECTION"),
+    help: "The character collection, as Adobe-Japan1-6",
+};
+
+pub(crate) const VERTICAL: Flag = Flag {
+    id: "vertical",
+    short: None,
+    long: "vertical",
+    value: Value::Nothing,
+    help: "The file is for vertical text",
+};
+
+pub(crate) const USE: Flag = Flag {
+    id: "use",
+    short: None,
+    long: "use",
+    value: Value::Texts("NAME"),
+    help: "The name of a file that the file uses",
+};

@@ -3,7 +3,7 @@ use Rattle.cmap_values.proofs.Outcomes.{memory_on, refuses_on}
 use Rattle.cmap_text_writer.specs.Obstacles.{IsObstacle, NoTextSays}
 use Rattle.cmap_text_writer.proofs.ObstaclesMet.{no_text}
 use Rattle.cmap_text_writer.proofs.WholeTold.{written_alone}
-use Rattle.cmap_text_writer.proofs.file.write_text.Goals as goal
+use Rattle.cmap_text_writer.proofs.file.write_text_by.Goals as goal
 
 pub returns-clause-written : goal.returns-clause-written
 returns-clause-written c = (written_alone (file_seen c.args.file.now) _ c.push_file.new.out.items c.new-out.ensures.items c.in_ok-push_file.ensures).is

@@ -1,0 +1,103 @@
+//! `cmap make`: a file of what a table says.
+
+use crate::command::{check_output, write_file};
+use crate::table::{TableFault, lists_of};
+use cmap_sources::failure::{Failure, fault};
+use cmap_sources::inputs::needed;
+use cmap_sources::status::ACCEPTED;
+use cmap_values::character_collection::{CharacterCollection, CidFamily};
+use cmap_values::fault::Fault;
+use cmap_values::file::File;
+use cmap_values::metadata::Metadata;
+use cmap_values::writing_mode::WritingMode;
+use std::alloc::{AllocError, Global};
+
+/// What the arguments of `make` ask for.
+#[derive(Clone, Copy)]
+pub struct MakeOptions<'m, 'w> {
+    /// The path of the table; `-` is the standard input.
+    pub table: &'w str,
+    /// The path of the file.
+    pub output: &'w str,
+    /// The name of the file.
+    pub name: Option<&'w str>,
+    /// The character collection, as Adobe-Japan1-6.
+    pub collection: Option<&'w str>,
+    /// Whether the text is vertical.
+    pub is_vertical: bool,
+    /// The names of the files that it uses.
+    pub uses: &'m [&'w str],
+}
+
+/// Writes a file of what a table says, and gives the status.
+pub fn make(rt: &HostRuntime, options: &MakeOptions<'_, '_>) -> Result<u8, Failure> {
+    check_output(rt, options.output)?;
+    let metadata = metadata_of(rt, options)?;
+    let bytes = needed(rt, options.table)?;
+    let Ok(table) = str::from_utf8(&bytes) else {
+        return Err(fault(rt, options.table, "not UTF-8"));
+    };
+    let lists = match lists_of(rt.alloc(), table) {
+        Ok(lists) => lists,
+        Err(Fault::Refused(wrong)) => return Err(wrong_line(rt, options.table, wrong)),
+        Err(Fault::Memory) => return Err(Failure::Memory),
+    };
+    let file = File {
+        metadata,
+        lists,
+        uses: names_of(rt.alloc(), options.uses)?,
+    };
+    write_file(rt, options.table, &file, options.output)?;
+    Ok(ACCEPTED)
+}
+
+/// The failure of a line of a table.
+fn wrong_line(rt: &HostRuntime, path: &str, fault_of_line: TableFault) -> Failure {
+    let TableFault { line, wrong } = fault_of_line;
+    match format!(in rt.alloc(); "line {line}: {}", wrong.words()) {
+        Ok(words) => fault(rt, path, words.as_str()),
+        Err(AllocError) => Failure::Memory,
+    }
+}
+
+/// What the options say of the file.
+fn metadata_of(rt: &HostRuntime, options: &MakeOptions<'_, '_>) -> Result<Metadata, Failure> {
+    let character_collection = match options.collection {
+        Some(spelled) => Some(collection_of(rt, spelled)?),
+        None => None,
+    };
+    let name = match options.name {
+        Some(name) => Some(Vec::from_slice(rt.alloc(), name.as_bytes())?),
+        None => None,
+    };
+    Ok(Metadata {
+        character_collection,
+        name,
+        writing_mode: options.is_vertical.then_some(WritingMode::Vertical),
+    })
+}
+
+/// The collection that is spelled, as Adobe-Japan1-6.
+fn collection_of(rt: &HostRuntime, spelled: &str) -> Result<CharacterCollection, Failure> {
+    let Some((registry, ordering, supplement)) = parts_of(spelled) else {
+        return Err(fault(rt, spelled, "not REGISTRY-ORDERING-SUPPLEMENT"));
+    };
+    let family = CidFamily::from_registry_ordering(
+        rt.alloc(),
+        registry.as_bytes(),
+        ordering.as_bytes(),
+    )?;
+    Ok(CharacterCollection { family, supplement })
+}
+
+/// The registry, the ordering and the supplement. An ordering may have hyphens.
+fn parts_of(spelled: &str) -> Option<(&str, &str, i32)> {
+    let (front, supplement) = spelled.rsplit_once('-')?;
+    let (registry, ordering) = front.split_once('-')?;
+    Some((registry, ordering, supplement.parse::<i32>().ok()?))
+}
+
+/// The bytes of the names.
+fn names_of<'w>(alloc: Global, names: &[&'w str]) -> Result<Vec<&'w [u8]>, AllocError> {
+    names.iter().map(|name| name.as_bytes()).collect(alloc)
+}

@@ -1,0 +1,161 @@
+//! The table of `cmap make`: the lines that `cmap list` prints of one layer.
+
+mod codes;
+mod quoted;
+
+use self::codes::{CodePair, code_pair};
+use self::quoted::unquoted;
+use cmap_escape::count::Count;
+use cmap_queries::arguments::decimal;
+use cmap_values::declarations::{BfRange, CidRange, Codespace, Lists};
+use cmap_values::fault::Fault;
+use cmap_values::units::Units;
+use std::alloc::{AllocError, Global};
+
+/// A line of a table that isn't one, counted from 1 on.
+#[derive(Clone, Copy, Debug)]
+pub struct TableFault {
+    pub line: usize,
+    pub wrong: WrongLine,
+}
+
+/// What is wrong with a line of a table.
+#[derive(Clone, Copy, Debug)]
+pub enum WrongLine {
+    /// It doesn't begin with the word for a declaration.
+    Kind,
+    /// It begins the lines of a further layer.
+    Layer,
+    /// It has no first and last code of one to four bytes.
+    Codes,
+    /// The codes of a codespace range have several lengths.
+    Lengths,
+    /// It has no CID of 32 bits, or more than that.
+    Cid,
+    /// It has no text between quotation marks, or more than that.
+    Text,
+    /// More follows the codes of a codespace range.
+    Codespace,
+}
+
+impl WrongLine {
+    /// What is wrong, in words.
+    pub fn words(self) -> &'static str {
+        match self {
+            WrongLine::Kind => "neither codespace, cid, notdef nor text",
+            WrongLine::Layer => "a file has one layer; --effective lists what all of them say",
+            WrongLine::Codes => "no first and last code, as <8140> <817E>",
+            WrongLine::Lengths => "the codes of a codespace range have several lengths",
+            WrongLine::Cid => "a CID was expected",
+            WrongLine::Text => "a text between quotation marks was expected",
+            WrongLine::Codespace => "nothing more was expected",
+        }
+    }
+}
+
+/// What the lines of a table declare. Empty lines, and those that begin with `#`, say nothing.
+pub fn lists_of(alloc: Global, table: &str) -> Result<Lists, Fault<TableFault>> {
+    let mut lists = Lists::new(alloc);
+    let mut number = Count::of(0);
+    for line in table.lines() {
+        number.add_one();
+        let Err(fault) = add_line(alloc, &mut lists, line.trim()) else {
+            continue;
+        };
+        return Err(at_line(number, fault));
+    }
+    Ok(lists)
+}
+
+/// The fault of a line.
+fn at_line(line: Count, fault: Fault<WrongLine>) -> Fault<TableFault> {
+    match fault {
+        Fault::Refused(wrong) => Fault::Refused(TableFault {
+            line: line.get(),
+            wrong,
+        }),
+        Fault::Memory => Fault::Memory,
+    }
+}
+
+/// Adds what a line declares.
+fn add_line(alloc: Global, lists: &mut Lists, line: &str) -> Result<(), Fault<WrongLine>> {
+    if line.is_empty() || line.starts_with('#') {
+        return Ok(());
+    }
+    let Some((kind, rest)) = line.split_once(' ') else {
+        return Err(Fault::Refused(WrongLine::Kind));
+    };
+    match kind {
+        "codespace" => add_codespace(lists, rest),
+        "cid" => add_cids(lists, rest),
+        "notdef" => add_notdefs(lists, rest),
+        "text" => add_texts(alloc, lists, rest),
+        "layer" => Err(Fault::Refused(WrongLine::Layer)),
+        _ => Err(Fault::Refused(WrongLine::Kind)),
+    }
+}
+
+/// Adds a codespace range, as `<8140> <9FFC>`.
+fn add_codespace(lists: &mut Lists, line: &str) -> Result<(), Fault<WrongLine>> {
+    let (CodePair { first, last }, rest) = pair_and_rest(line)?;
+    if first.len != last.len {
+        return Err(Fault::Refused(WrongLine::Lengths));
+    }
+    if !rest.is_empty() {
+        return Err(Fault::Refused(WrongLine::Codespace));
+    }
+    lists.add_codespace(Codespace {
+        len: first.len,
+        low: first.number,
+        high: last.number,
+    })?;
+    Ok(())
+}
+
+/// Adds a declaration of CIDs, as `<8140> <817E> 633`.
+fn add_cids(lists: &mut Lists, line: &str) -> Result<(), Fault<WrongLine>> {
+    let (codes, rest) = pair_and_rest(line)?;
+    let cid = cid_of(rest)?;
+    let range = codes.range();
+    lists.add_cid(codes.first.len, CidRange { range, cid })?;
+    Ok(())
+}
+
+/// Adds a notdef declaration, as `<00> <1F> 231`.
+fn add_notdefs(lists: &mut Lists, line: &str) -> Result<(), Fault<WrongLine>> {
+    let (codes, rest) = pair_and_rest(line)?;
+    let cid = cid_of(rest)?;
+    let range = codes.range();
+    lists.add_notdef(codes.first.len, CidRange { range, cid })?;
+    Ok(())
+}
+
+/// Adds a declaration of texts, as `<41> <5A> "A"`.
+fn add_texts(alloc: Global, lists: &mut Lists, line: &str) -> Result<(), Fault<WrongLine>> {
+    let (codes, rest) = pair_and_rest(line)?;
+    let Some(text) = unquoted(alloc, rest)? else {
+        return Err(Fault::Refused(WrongLine::Text));
+    };
+    let units = units_of(alloc, text.as_str())?;
+    let range = codes.range();
+    lists.add_bf(BfRange { range, units })?;
+    Ok(())
+}
+
+/// The codes that the rest of a line begins with, and what follows them.
+fn pair_and_rest(line: &str) -> Result<(CodePair, &str), Fault<WrongLine>> {
+    code_pair(line).ok_or(Fault::Refused(WrongLine::Codes))
+}
+
+/// The CID that decimal digits spell.
+fn cid_of(digits: &str) -> Result<u32, Fault<WrongLine>> {
+    let number = decimal(digits).ok_or(Fault::Refused(WrongLine::Cid))?;
+    u32::try_from(number).map_err(|_| Fault::Refused(WrongLine::Cid))
+}
+
+/// The units of a text.
+fn units_of(alloc: Global, text: &str) -> Result<Units, AllocError> {
+    let units: Vec<u16> = text.encode_utf16().collect(alloc)?;
+    Units::from_slice(alloc, &units)
+}
