@@ -1,11 +1,11 @@
 -- Items that are written one after another.
-use Rattle.std.proofs.Common.{◌≡◌, ◌∙◌, ℕ, zero, suc, false, true, List, [], ◌∷◌, ◌++◌, Some, None, refl, sym, ap, subst, arith}
+use Rattle.std.proofs.Common.{◌≡◌, ◌∙◌, ℕ, false, true, List, [], ◌∷◌, ◌++◌, Some, None, refl, sym, ap, subst}
 use Rattle.std.specs.Prelude.{Contains}
 use Rattle.std.proofs.lemmas.Bool.{false≢true}
 use Rattle.std.proofs.lemmas.List.{append_assoc}
 use Rattle.std.proofs.lemmas.Option.{none-some}
 use Rattle.cmap_tokens.specs.Tokens.{Token}
-use Rattle.cmap_text.specs.TextFiles.{AreItems, IsItem, IsOtherToken, Item, Section, cids, key, keys, mapped, notdef, opener, other, range, use_word}
+use Rattle.cmap_text.specs.TextFiles.{AreItems, IsItem, IsOtherToken, Item, key, keys, other, use_word}
 use Rattle.cmap_text.specs.TextReading.{is_executable, key_in, opened_by}
 use Rattle.cmap_text.proofs.ItemsRead.{key_in-own, opened_by-own}
 use Rattle.cmap_text_writer.specs.Told.{TellsItems, TellsTokens}

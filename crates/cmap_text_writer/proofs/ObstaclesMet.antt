@@ -1,12 +1,8 @@
 -- Obstacles of parts of a file, and of the whole.
-use Rattle.std.proofs.Common.{◌≡◌, ℕ, ◌<◌, ◌≤◌, ◌^◌, inl, inr, List, [], Ok, Err, Some, None, get_or, length, map, refl, sym, subst, arith}
-use Rattle.std.specs.Prelude.{◌==◌, All, Any, IfErr, IfSome, IsErrAnd, IsSomeAnd, Option, Result}
+use Rattle.std.proofs.Common.{◌≡◌, ℕ, ◌≤◌, ◌^◌, inl, inr, List, [], Some, None, refl, sym, subst, arith}
+use Rattle.std.specs.Prelude.{◌==◌, All, Any, IfSome, IsSomeAnd, Option}
 use Rattle.std.proofs.lemmas.Bool.{cases_Bool, eqb-true}
-use Rattle.std.proofs.lemmas.List.{get_or-map, length-map}
 use Rattle.cmap_values.specs.Files.{BfEntry, ByLength, CidEntry, Codespace, File, Lists, of_length}
-use Rattle.cmap_values.specs.Outcomes.{RefusesWith}
-use Rattle.cmap_values.specs.declared.fault.Fault.{Fault}
-use Rattle.cmap_values.specs.declared.fault.Fault.TheVariants.{Memory, Refused}
 use Rattle.cmap_text_writer.specs.Fits.{BeginsFitting, Fits, HasOwnFamily, HasUnits, IsName, IsSayable, IsSayableName, IsSpaceFitting, ListsFit}
 use Rattle.cmap_text_writer.specs.Obstacles.{BeginsLarge, HasLargeStart, IsByLengthObstacle, IsCidsObstacle, IsEmptyText, IsLargeEnd, IsListsObstacle, IsObstacle, IsSpacesObstacle, IsTextsObstacle, NoTextSays}
 use Rattle.cmap_text_writer.specs.declared.obstacle.Obstacle.{Obstacle}

@@ -1,8 +1,8 @@
 -- The items of a text that says what a file says.
-use Rattle.std.specs.Prelude.{ℕ, pos, ◌==◌, ◌&&◌, nat_le, not, Bool, false, true, List, [], ◌∷◌, ◌++◌, Option, Some, None, bytes_eq, codes, find, flat_map, is_some, map, if◌then◌else◌}
+use Rattle.std.specs.Prelude.{ℕ, pos, ◌==◌, ◌&&◌, nat_le, not, Bool, false, true, List, [], ◌∷◌, ◌++◌, Option, Some, None, bytes_eq, codes, find, flat_map, is_some, if◌then◌else◌}
 use Rattle.std.specs.Fmt.{signed_decimal}
 use Rattle.std.specs.List.{list_all}
-use Rattle.cmap_values.specs.Files.{CidEntry, Collection, Declaration, FileMetadata, Lists, Mode, horizontal, vertical}
+use Rattle.cmap_values.specs.Files.{Collection, FileMetadata, Mode, horizontal, vertical}
 use Rattle.cmap_values.specs.Names.{ordering_of, registry_of}
 use Rattle.cmap_tokens.specs.Ascii.{backslash, close_parenthesis, open_parenthesis, slash}
 use Rattle.cmap_tokens.specs.Bytes.{is_regular}

@@ -21,4 +21,4 @@ returns c =
     let new = c.push_texts.new.out.items in
     let first = subst (λ xs. Appends o a (TellsSections (map Declaration.codespace (map codespace_seen xs)))) c.deref.ensures.value c.in_ok-push_codespaces.ensures in
     IfOk-weaker _ _ _ (λ _ last. sections_appended_both (spaces ++ notdefs) (cids ++ texts) o b new (sections_appended_both spaces notdefs o a b first c.in_ok-push_by_length.ensures)
-    (sections_appended_both cids texts b d new c.in_ok-push_by_length-2.ensures (subst (λ xs. Appends d new (TellsSections (map Declaration.bf (map bf_entry_seen xs)))) c.deref-3.ensures.value last))) c.push_texts.ensures
+    (sections_appended_both cids texts b d new c.in_ok-push_by_length-2.ensures (subst (λ xs. Appends d new (TellsSections (map Declaration.bf (map bf_entry_seen xs)))) c.deref-2.ensures.value last))) c.push_texts.ensures
