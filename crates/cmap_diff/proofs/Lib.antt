@@ -1,0 +1,3 @@
+pub mod CidsGrow
+pub mod Growing
+pub mod Patterns
