@@ -1,7 +1,6 @@
 -- How the differences of CIDs grow with the limit.
-use Rattle.std.proofs.Common.{◌≡◌, ℕ, ◌+◌, ◌<◌, ◌≤◌, List, [], ◌∷◌, ◌++◌, Option, refl, inl, inr, arith}
+use Rattle.std.proofs.Common.{◌≡◌, ℕ, ◌+◌, ◌≤◌, List, [], ◌∷◌, ◌++◌, Option, refl, arith}
 use Rattle.std.specs.Prelude.{◌≢◌, Some}
-use Rattle.std.proofs.lemmas.Bool.{cases_lt}
 use Rattle.std.proofs.lemmas.List.Elements.{All-pop}
 use Rattle.cmap_diff.specs.Differences.{AreCidDifferencesBelow, CouldBeOneOfCids, IsCidDifference}
 use Rattle.cmap_diff.specs.declared.cids.CidDifference.{CidDifference}

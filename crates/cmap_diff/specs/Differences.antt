@@ -26,6 +26,10 @@ pub record AreDifferences {D : Type 0} (range_of : D → Range) (IsDifference : 
 abbrev pub HasCids : (ℕ → Option ℕ) → ℕ → ℕ → Cids → Type 0
 HasCids answer first last cids = (code : ℕ) → first ≤ code → code ≤ last → answer code ≡ cid_after cids (code - first)
 
+-- the CIDs of codes of len bytes
+abbrev pub cids_of : List Layer → ℕ → ℕ → Option ℕ
+cids_of layers len code = cid_of layers code len
+
 -- codes in a row with their CIDs in two maps, another one at each code
 pub record IsCidDifference (left right : ℕ → Option ℕ) (difference : CidDifference) : Type 0 where
   pub left_cids : HasCids left difference.range.start difference.range.end difference.left
@@ -44,7 +48,7 @@ AreCidDifferencesBelow left right limit differences = AreDifferences (λ (d : Ci
 
 -- all codes of len bytes at which the maps differ in their CID
 abbrev pub AreCidDifferences : List Layer → List Layer → ℕ → List CidDifference → Type 0
-AreCidDifferences left right len differences = AreCidDifferencesBelow (λ code. cid_of left code len) (λ code. cid_of right code len) (2 ^ 32) differences
+AreCidDifferences left right len differences = AreCidDifferencesBelow (cids_of left len) (cids_of right len) (2 ^ 32) differences
 
 -- the first code of 32 bits at which two answers differ, if there is one
 abbrev pub IsFirstDifference : (ℕ → Option ℕ) → (ℕ → Option ℕ) → Option ℕ → Type 0

@@ -23,8 +23,9 @@ pub struct CidDifference {
     pub right: Cids,
 }
 
-/// All codes of this length at which two maps differ in their CID, in order, and each stretch as long as
-/// its CIDs go on in both maps. Larger codes than this length has are among them, if a file declares some.
+/// All codes of this length at which two maps differ in their CID, in order, and each stretch as
+/// long as its CIDs go on in both maps. Larger codes than this length has are among them, if a file
+/// declares some.
 ///
 /// It fails only if memory runs out.
 pub fn cid_differences(

@@ -1,4 +1,5 @@
-//! CIDs of codes in a row beside those of another map: up to which code they differ at each, or at none.
+//! CIDs of codes in a row beside those of another map: up to which code they differ at each, or at
+//! none.
 
 ghost use Rattle.std.specs.Prelude.{◌≡◌, ◌≢◌, ◌+◌, ◌≤◌, ℕ, Some};
 ghost use Rattle.cmap_layers.specs.CodeStretches.{cid_after};
@@ -7,8 +8,8 @@ ghost use Rattle.cmap_diff.specs.Differences.{DiffersIf};
 use cmap_layers::stretches::Cids;
 use cmap_values::names::Cid;
 
-/// Whether codes in a row differ, at each of them or at none, and how many further codes after the first
-/// these are.
+/// Whether codes in a row differ, at each of them or at none, and how many further codes after the
+/// first these are.
 #[derive(Clone, Copy)]
 pub(crate) struct Comparison {
     pub(crate) differs: bool,
@@ -58,7 +59,6 @@ pub(crate) fn first_of(cids: Cids) -> Option<Cid>
 {
     match cids {
         Cids::Absent => None,
-        Cids::Same(cid) => Some(cid),
-        Cids::CountOn(cid) => Some(cid),
+        Cids::Same(cid) | Cids::CountOn(cid) => Some(cid),
     }
 }

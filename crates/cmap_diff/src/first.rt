@@ -2,18 +2,17 @@
 
 ghost use Rattle.std.specs.Prelude.{◌≡◌};
 ghost use Rattle.cmap_values.specs.CodeLengths.{length_of};
-ghost use Rattle.cmap_layers.specs.Lookups.{cid_of};
-ghost use Rattle.cmap_diff.specs.Differences.{IsFirstDifference};
+ghost use Rattle.cmap_diff.specs.Differences.{IsFirstDifference, cids_of};
 
 use crate::parts::{CODE_COUNT, cid_part};
 use cmap_layers::layers::Layers;
 use cmap_values::code_length::CodeLength;
 
-/// The first code of this length at which two maps differ in their CID; `None` if they agree at all codes
-/// of 32 bits. It takes no memory.
+/// The first code of this length at which two maps differ in their CID; `None` if they agree at all
+/// codes of 32 bits. It takes no memory.
 pub fn first_cid_difference(left: &Layers, right: &Layers, len: CodeLength) -> Option<u32>
-    ensures { IsFirstDifference (λ code. cid_of left.now code (length_of len))
-        (λ code. cid_of right.now code (length_of len)) result }
+    ensures { IsFirstDifference (cids_of left.now (length_of len))
+        (cids_of right.now (length_of len)) result }
 {
     let mut next = 0;
     while next < CODE_COUNT {

@@ -2,8 +2,7 @@
 
 ghost use Rattle.std.specs.Prelude.{◌≡◌, ◌+◌, ◌-◌, ◌≤◌, ℕ};
 ghost use Rattle.cmap_values.specs.CodeLengths.{length_of};
-ghost use Rattle.cmap_layers.specs.Lookups.{cid_of};
-ghost use Rattle.cmap_diff.specs.Differences.{DiffersIf, HasCids};
+ghost use Rattle.cmap_diff.specs.Differences.{DiffersIf, HasCids, cids_of};
 
 use crate::compared::compared;
 use cmap_layers::layers::Layers;
@@ -25,10 +24,11 @@ pub(crate) struct CidPart {
 /// The part that begins with this code.
 pub(crate) fn cid_part(left: &Layers, right: &Layers, len: CodeLength, first: u32) -> CidPart
     ensures within { first ≤ result.last }
-    ensures left { HasCids (λ code. cid_of left.now code (length_of len)) first result.last result.left }
-    ensures right { HasCids (λ code. cid_of right.now code (length_of len)) first result.last result.right }
+    ensures left { HasCids (cids_of left.now (length_of len)) first result.last result.left }
+    ensures right { HasCids (cids_of right.now (length_of len)) first result.last result.right }
     ensures answers { (code : ℕ) → first ≤ code → code ≤ result.last
-        → DiffersIf result.differs (cid_of left.now code (length_of len)) (cid_of right.now code (length_of len)) }
+        → DiffersIf result.differs (cids_of left.now (length_of len) code)
+        (cids_of right.now (length_of len) code) }
 {
     let here = left.cid_stretch(first, len);
     let there = right.cid_stretch(first, len);

@@ -12,8 +12,8 @@ use cmap_tokens::utf16::text;
 use cmap_values::declarations::BfRange;
 use std::alloc::{AllocError, Global};
 
-/// Codes in a row, with the declarations that decide their texts in both maps, which differ at each code or
-/// at none.
+/// Codes in a row, with the declarations that decide their texts in both maps, which differ at each
+/// code or at none.
 #[derive(Clone, Copy)]
 pub(crate) struct TextPart<'l> {
     pub(crate) left: Option<&'l BfRange>,
@@ -54,7 +54,8 @@ pub(crate) fn text_part<'l>(
 /// The units of a declaration, and the offset of a code from its start; without one no units.
 fn spelling(declaration: Option<&BfRange>, first: u32) -> (&[u16], u32)
     requires { IfSome declaration (λ declaration. declaration.now.range.start ≤ first) }
-    ensures { (code : ℕ) → first ≤ code → option_and_then (λ entry. bf_at entry code) (declared declaration.entry)
+    ensures { (code : ℕ) → first ≤ code
+        → option_and_then (λ entry. bf_at entry code) (declared declaration.entry)
         ≡ text_at result.0.now (result.1 + (code - first)) }
 {
     match declaration {
@@ -66,8 +67,8 @@ fn spelling(declaration: Option<&BfRange>, first: u32) -> (&[u16], u32)
     }
 }
 
-/// How the texts of units compare, from an offset of each on. If their units are the same, so are their
-/// texts at each further offset; else they are the same while there is none.
+/// How the texts of units compare, from an offset of each on. If their units are the same, so are
+/// their texts at each further offset; else they are the same while there is none.
 fn compared_units(
     alloc: Global,
     left: &[u16],
@@ -76,7 +77,8 @@ fn compared_units(
     other_offset: u32,
 ) -> Result<Comparison, AllocError>
     ensures { IfOk result (λ part. (k : ℕ) → k ≤ part.more
-        → DiffersIf part.differs (text_at left.now (offset + k)) (text_at right.now (other_offset + k))) }
+        → DiffersIf part.differs (text_at left.now (offset + k))
+        (text_at right.now (other_offset + k))) }
 {
     if are_alike(left, offset, right, other_offset) {
         return Ok(Comparison {
@@ -114,8 +116,8 @@ fn is_there(alloc: Global, units: &[u16], offset: u32) -> Result<bool, AllocErro
     Ok(text.is_some())
 }
 
-/// How many further offsets have a text if this one has one, and none if it has none: as far as the row of
-/// 1,024 units goes, by which surrogates lie.
+/// How many further offsets have a text if this one has one, and none if it has none: as far as the
+/// row of 1,024 units goes, by which surrogates lie.
 fn further_in_row(units: &[u16], offset: u32) -> u32
     ensures { (k : ℕ) → k ≤ result
         → is_some (text_at units.now (offset + k)) ≡ is_some (text_at units.now offset) }

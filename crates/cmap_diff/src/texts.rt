@@ -24,7 +24,8 @@ pub struct TextDifference<'l> {
 }
 
 /// All codes at which two maps differ in their text, in order, and each stretch as long as the same
-/// declarations decide. They are the numbers of codes: a text doesn't depend on how many bytes its code has.
+/// declarations decide. They are the numbers of codes: a text doesn't depend on how many bytes its
+/// code has.
 ///
 /// It fails only if memory runs out.
 pub fn text_differences<'l>(

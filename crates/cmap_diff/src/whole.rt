@@ -10,8 +10,8 @@ use cmap_layers::stretches::Cids;
 use cmap_runs::runs::Range;
 use cmap_values::names::Cid;
 
-/// The CIDs of the codes of two ranges, of which the second begins just after the first, if they are CIDs
-/// of codes in a row.
+/// The CIDs of the codes of two ranges, of which the second begins just after the first, if they
+/// are CIDs of codes in a row.
 pub(crate) fn whole(front: Cids, first: Range, back: Cids, then: Range) -> Option<Cids>
     requires filled { first.start ≤ first.end }
     requires filled_too { then.start ≤ then.end }
