@@ -1,0 +1,2 @@
+pub mod Differences
+pub mod UnitsAlike
