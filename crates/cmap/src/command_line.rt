@@ -14,6 +14,9 @@ use std::alloc::{AllocError, Global};
 /// The id of files and folders.
 const FILE: &str = "FILE";
 
+/// The id of the file that another one is compared with.
+const OTHER: &str = "OTHER";
+
 /// The id of other arguments, after a file.
 const ARGUMENT: &str = "ARGUMENT";
 
@@ -23,8 +26,8 @@ struct Form {
     about: &'static str,
     /// Its options, in the order of the help.
     flags: &'static [Flag],
-    /// Its first argument, if that is one file.
-    file: Option<FileArgument>,
+    /// Its first arguments, each one file.
+    files: &'static [FileArgument],
     /// Its other arguments. `list`, `write`, `repair` and `make` have none.
     arguments: Option<Arguments>,
 }
@@ -32,6 +35,7 @@ struct Form {
 /// An argument that is one file.
 #[derive(Clone, Copy)]
 struct FileArgument {
+    id: &'static str,
     /// Its name in the help.
     value_name: &'static str,
     /// Its text in the help.
@@ -40,12 +44,21 @@ struct FileArgument {
 
 /// A file whose map is asked.
 const CMAP_FILE: FileArgument = FileArgument {
+    id: FILE,
     value_name: "FILE",
     help: "A CMap file, by its path or its name; - is the standard input",
 };
 
+/// The file that `diff` compares with another one.
+const OTHER_FILE: FileArgument = FileArgument {
+    id: OTHER,
+    value_name: "OTHER",
+    help: "The CMap file that it is compared with",
+};
+
 /// The file of which `make` makes one.
 const TABLE: FileArgument = FileArgument {
+    id: FILE,
     value_name: "TABLE",
     help: "The lines that cmap list prints of one layer; - is the standard input",
 };
@@ -89,7 +102,7 @@ const SUBCOMMANDS: &[Form] = &[
         name: "info",
         about: "Prints what files say: their names, codespace ranges, declarations and layers",
         flags: &[BASE, BUNDLE, NO_PREDEFINED, JSON, BUDGET, LENIENT],
-        file: None,
+        files: &[],
         arguments: Some(Arguments {
             id: FILE,
             value_name: "FILE",
@@ -109,20 +122,27 @@ const SUBCOMMANDS: &[Form] = &[
             LENIENT,
             EFFECTIVE,
         ],
-        file: Some(CMAP_FILE),
+        files: &[CMAP_FILE],
         arguments: None,
     },
     Form {
         name: "find",
         about: "Prints the codes that have a CID or a text",
         flags: &[BASE, BUNDLE, NO_PREDEFINED, JSON, BUDGET, LENIENT],
-        file: Some(CMAP_FILE),
+        files: &[CMAP_FILE],
         arguments: Some(Arguments {
             id: ARGUMENT,
             value_name: "WANTED",
             unless: None,
             help: "cid:N for the codes of a CID, text:TEXT for those of a text",
         }),
+    },
+    Form {
+        name: "diff",
+        about: "Prints what codes have in two files, where they differ",
+        flags: &[BASE, BUNDLE, NO_PREDEFINED, JSON, BUDGET, LENIENT],
+        files: &[CMAP_FILE, OTHER_FILE],
+        arguments: None,
     },
     Form {
         name: "check",
@@ -141,7 +161,7 @@ const SUBCOMMANDS: &[Form] = &[
             LINT_TO_UNICODE,
             DENY,
         ],
-        file: None,
+        files: &[],
         arguments: Some(Arguments {
             id: FILE,
             value_name: "FILE|FOLDER",
@@ -153,21 +173,21 @@ const SUBCOMMANDS: &[Form] = &[
         name: "decode",
         about: "Prints the codes of strings, with their CIDs and their texts",
         flags: STRING_FLAGS,
-        file: Some(CMAP_FILE),
+        files: &[CMAP_FILE],
         arguments: Some(STRINGS),
     },
     Form {
         name: "text",
         about: "Prints the texts of strings",
         flags: STRING_FLAGS,
-        file: Some(CMAP_FILE),
+        files: &[CMAP_FILE],
         arguments: Some(STRINGS),
     },
     Form {
         name: "where",
         about: "Prints the paths of the files that names stand for",
         flags: &[BASE, BUNDLE, NO_PREDEFINED, JSON],
-        file: None,
+        files: &[],
         arguments: Some(Arguments {
             id: FILE,
             value_name: "NAME",
@@ -179,7 +199,7 @@ const SUBCOMMANDS: &[Form] = &[
         name: "bundle",
         about: "Makes a bundle of the files that have known names",
         flags: &[OUTPUT, NAME, VERIFY],
-        file: None,
+        files: &[],
         arguments: Some(Arguments {
             id: FILE,
             value_name: "FILE|FOLDER",
@@ -191,28 +211,28 @@ const SUBCOMMANDS: &[Form] = &[
         name: "write",
         about: "Writes anew what a file says, as text",
         flags: REWRITE_FLAGS,
-        file: Some(CMAP_FILE),
+        files: &[CMAP_FILE],
         arguments: None,
     },
     Form {
         name: "repair",
         about: "Writes anew what a file says apart from its faults, which are reported",
         flags: REWRITE_FLAGS,
-        file: Some(CMAP_FILE),
+        files: &[CMAP_FILE],
         arguments: None,
     },
     Form {
         name: "make",
         about: "Makes a file of the lines that list prints",
         flags: &[CMAP_NAME, COLLECTION, VERTICAL, USE, TEXT_OUTPUT],
-        file: Some(TABLE),
+        files: &[TABLE],
         arguments: None,
     },
     Form {
         name: "lookup",
         about: "Prints the CIDs and the texts of single codes",
         flags: &[BASE, BUNDLE, NO_PREDEFINED, JSON, BUDGET, LENIENT],
-        file: Some(CMAP_FILE),
+        files: &[CMAP_FILE],
         arguments: Some(Arguments {
             id: ARGUMENT,
             value_name: "CODE",
@@ -242,11 +262,8 @@ fn program<'a>(alloc: Global) -> Result<Command<'a>, AllocError> {
 
 impl Form {
     fn command<'a>(&self, alloc: Global) -> Result<Command<'a>, AllocError> {
-        let command = self.add_flags(alloc, Command::new(alloc, self.name).about(self.about))?;
-        let command = match self.file {
-            Some(file) => command.arg(file.arg(alloc))?,
-            None => command,
-        };
+        let command = Command::new(alloc, self.name).about(self.about);
+        let command = self.add_files(alloc, self.add_flags(alloc, command)?)?;
         match &self.arguments {
             Some(arguments) => command.arg(arguments.arg(alloc)?),
             None => Ok(command),
@@ -261,6 +278,18 @@ impl Form {
     ) -> Result<Command<'a>, AllocError> {
         for flag in self.flags {
             command = command.arg(flag.arg(alloc))?;
+        }
+        Ok(command)
+    }
+
+    /// The subcommand with its first arguments.
+    fn add_files<'a>(
+        &self,
+        alloc: Global,
+        mut command: Command<'a>,
+    ) -> Result<Command<'a>, AllocError> {
+        for file in self.files {
+            command = command.arg(file.arg(alloc))?;
         }
         Ok(command)
     }
@@ -284,7 +313,7 @@ impl Arguments {
 impl FileArgument {
     /// The argument as `clap` takes it.
     fn arg<'a>(self, alloc: Global) -> Arg<'a> {
-        Arg::new(alloc, FILE)
+        Arg::new(alloc, self.id)
             .value_name(self.value_name)
             .required(true)
             .action(ArgAction::Set)
@@ -303,6 +332,11 @@ pub(crate) fn file_of<'w>(arguments: &ArgMatches<'w>) -> &'w str {
         .first()
         .copied()
         .unwrap_or(STANDARD_INPUT)
+}
+
+/// The file that the first one is compared with, by `diff` alone. `clap` refuses `diff` without it.
+pub(crate) fn other_of<'w>(arguments: &ArgMatches<'w>) -> Option<&'w str> {
+    arguments.get_str(OTHER)
 }
 
 /// The arguments after the file: strings, codes, or what `find` looks for.

@@ -5,7 +5,7 @@ use crate::command_line::flags::{EFFECTIVE, JSON};
 use crate::options::{Sources, manner_of};
 use clap::ArgMatches;
 use cmap_report::list::effective::effective_lines;
-use cmap_report::list::line::{Line, push_json, push_line};
+use cmap_report::list::line::{Line, Place, push_json, push_line};
 use cmap_report::list::lines_by_layer;
 use cmap_sources::bases::Bases;
 use cmap_sources::failure::Failure;
@@ -66,7 +66,7 @@ fn lines_of(
 fn effective(alloc: Global, map: &CMap, json: bool) -> Result<String, AllocError> {
     let mut printed = String::new(alloc);
     let lines = effective_lines(alloc, map)?;
-    push_lines(alloc, &mut printed, lines, None, json)?;
+    push_lines(alloc, &mut printed, lines, Place::AllLayers, json)?;
     Ok(printed)
 }
 
@@ -79,7 +79,7 @@ fn declared(alloc: Global, map: &CMap, json: bool) -> Result<String, AllocError>
         if index > 0 && !json {
             writeln!(printed, "layer {layer}")?;
         }
-        push_lines(alloc, &mut printed, lines, Some(layer), json)?;
+        push_lines(alloc, &mut printed, lines, Place::Layer(layer), json)?;
     }
     Ok(printed)
 }
@@ -88,12 +88,12 @@ fn push_lines(
     alloc: Global,
     printed: &mut String,
     lines: Vec<Line>,
-    layer: Option<usize>,
+    place: Place,
     json: bool,
 ) -> Result<(), AllocError> {
     for line in lines {
         if json {
-            push_json(alloc, printed, line, layer)?;
+            push_json(alloc, printed, line, place)?;
         } else {
             push_line(printed, &line)?;
         }

@@ -5,6 +5,7 @@ mod bundle;
 mod check;
 mod command_line;
 mod decode;
+mod diff;
 mod find;
 mod font;
 mod info;

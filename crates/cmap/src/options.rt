@@ -3,7 +3,7 @@
 use crate::command_line::flags::{
     BASE, BUDGET, BUNDLE, FILES_FROM, LENIENT, NAME, NO_PREDEFINED, TO_UNICODE,
 };
-use crate::command_line::{arguments_of, files_of};
+use crate::command_line::{arguments_of, files_of, other_of};
 use clap::ArgMatches;
 use cmap_escape::count::Count;
 use cmap_sources::bases::Bases;
@@ -75,6 +75,9 @@ pub(crate) fn asks_twice_for_standard_input(arguments: &ArgMatches<'_>) -> bool 
         if option.text(arguments) == Some(STANDARD_INPUT) {
             count.add_one();
         }
+    }
+    if other_of(arguments) == Some(STANDARD_INPUT) {
+        count.add_one();
     }
     add_named(&mut count, NAME.texts(arguments));
     count.get() > 1

@@ -3,6 +3,7 @@
 use crate::bundle::bundle_options;
 use crate::check::{CheckOptions, check};
 use crate::decode::decode;
+use crate::diff::{DiffOptions, diff};
 use crate::find::{FindOptions, find};
 use crate::font::StringOptions;
 use crate::info::{InfoOptions, info};
@@ -27,6 +28,7 @@ pub(crate) enum Subcommand<'m, 'w> {
     Info(InfoOptions<'m, 'w>),
     List(ListOptions<'m, 'w>),
     Find(FindOptions<'m, 'w>),
+    Diff(DiffOptions<'m, 'w>),
     Check(CheckOptions<'m, 'w>),
     Decode(StringOptions<'m, 'w>),
     Text(StringOptions<'m, 'w>),
@@ -44,6 +46,7 @@ impl<'m, 'w> Subcommand<'m, 'w> {
             "info" => Subcommand::Info(InfoOptions::of(arguments)),
             "list" => Subcommand::List(ListOptions::of(arguments)),
             "find" => Subcommand::Find(FindOptions::of(arguments)),
+            "diff" => Subcommand::Diff(DiffOptions::of(arguments)),
             "check" => Subcommand::Check(CheckOptions::of(arguments)),
             "decode" => Subcommand::Decode(StringOptions::of(arguments)),
             "text" => Subcommand::Text(StringOptions::of(arguments)),
@@ -63,6 +66,7 @@ impl<'m, 'w> Subcommand<'m, 'w> {
             Subcommand::Info(options) => options.sources,
             Subcommand::List(options) => options.sources,
             Subcommand::Find(options) => options.sources,
+            Subcommand::Diff(options) => options.sources,
             Subcommand::Check(options) => options.sources,
             Subcommand::Decode(options) => options.sources,
             Subcommand::Text(options) => options.sources,
@@ -79,6 +83,7 @@ impl<'m, 'w> Subcommand<'m, 'w> {
             Subcommand::Info(options) => info(rt, options, bases),
             Subcommand::List(options) => list(rt, options, bases),
             Subcommand::Find(options) => find(rt, options, bases),
+            Subcommand::Diff(options) => diff(rt, options, bases),
             Subcommand::Check(options) => check(rt, options, bases),
             Subcommand::Decode(options) => decode(rt, options, bases),
             Subcommand::Text(options) => text(rt, options, bases),

@@ -1,7 +1,7 @@
 //! Prefix tables: symbols that are spelled by words of bits, none of which begins another one.
 
-ghost use Rattle.std.specs.Prelude.{◌≡◌, ℕ, IfSome, IfNone};
-ghost use Rattle.cmap_packed.specs.PrefixWords.{BeginsAt, Decodes};
+ghost use Rattle.std.specs.Prelude.{◌≡◌, ℕ, IfSome, IfNone, length};
+ghost use Rattle.cmap_packed.specs.PrefixWords.{AreWordLengths, BeginsAt, Decodes, lengths_from, zip_words};
 ghost use Rattle.cmap_packed.specs.Reader.{bits_left, IsAtByte, after_bits};
 ghost use Rattle.cmap_packed.specs.TableTaken.{ParsesTable};
 
@@ -80,6 +80,15 @@ impl PrefixTable {
         ensures { ParsesTable 1 reader.old reader.new result }
     {
         parse(alloc, reader, 1)
+    }
+
+    /// How many words there are of each length, from 1 on, and the symbols in the order of their words.
+    pub fn parts(&self) -> (&[u32], &[u32])
+        ensures words { zip_words (lengths_from 1 result.0.now) result.1.now ≡ self.now }
+        ensures lengths { AreWordLengths (lengths_from 1 result.0.now) }
+        ensures symbols { length result.1.now ≡ length (lengths_from 1 result.0.now) }
+    {
+        (&self.counts, &self.symbols)
     }
 
     /// The symbol whose word comes next, and the reader moves past that word; `None` where no

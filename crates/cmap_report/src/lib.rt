@@ -2,6 +2,7 @@
 #![tactic(auto)]
 
 pub mod decode;
+pub mod diff;
 pub mod find;
 pub mod info;
 pub mod list;

@@ -6,6 +6,9 @@ pub const ACCEPTED: u8 = 0;
 /// The status if a file is refused.
 pub const REFUSED: u8 = 1;
 
+/// The status if two files differ.
+pub const DIFFERENT: u8 = 1;
+
 /// The status if an argument is wrong, or something can't be read or written.
 pub const FAILED: u8 = 2;
 

@@ -3,6 +3,7 @@
 ghost use Rattle.std.specs.Prelude.{OnOk, string_bytes};
 ghost use Rattle.cmap_escape.specs.Escapes.{AddsLine, AddsOfLine};
 
+use crate::diff::Side;
 use cmap_escape::digits::{code_digits, push_code};
 use cmap_escape::escape::push_quoted;
 use cmap_escape::json;
@@ -118,29 +119,41 @@ fn push_given(out: &mut String, given: &Given) -> Result<(), AllocError> {
     }
 }
 
-/// Adds the object of a declaration, and ends the line. The top layer is layer 1. What codes have over all
-/// layers has no layer.
+/// Where a line was found, as its object says.
+#[derive(Clone, Copy)]
+pub enum Place {
+    /// In this layer; the top one is layer 1.
+    Layer(usize),
+    /// Over all layers, which the object doesn't say.
+    AllLayers,
+    /// In one of two maps.
+    Side(Side),
+}
+
+/// Adds the object of a line, and ends the line.
 pub fn push_json(
     alloc: Global,
     out: &mut String,
     line: Line,
-    layer: Option<usize>,
+    place: Place,
 ) -> Result<(), AllocError>
     ensures line { OnOk result (AddsLine (string_bytes out.old) (string_bytes out.new)) }
 
     // Also where memory runs out.
     ensures printable { AddsOfLine (string_bytes out.old) (string_bytes out.new) }
 {
-    let object = line_object(alloc, line, layer)?;
+    let object = line_object(alloc, line, place)?;
     json::push_line(alloc, out, &object)
 }
 
-fn line_object(alloc: Global, line: Line, layer: Option<usize>) -> Result<Value, AllocError> {
+fn line_object(alloc: Global, line: Line, place: Place) -> Result<Value, AllocError> {
     let Range { start, end } = line.range;
     let end_len = printed_len(line.byte_len, end);
     let mut object = Object::new(alloc);
-    if let Some(layer) = layer {
-        object.set("layer", Value::from(layer));
+    match place {
+        Place::Layer(layer) => object.set("layer", Value::from(layer)),
+        Place::AllLayers => {}
+        Place::Side(side) => object.set_text("side", side.word()),
     }
     object.set_text("kind", line.given.kind());
     object.set_string("first", code_digits(alloc, line.byte_len, start));

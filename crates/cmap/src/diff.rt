@@ -1,0 +1,79 @@
+//! `cmap diff`: where two files differ.
+
+use crate::command_line::flags::JSON;
+use crate::command_line::{file_of, other_of};
+use crate::options::{Sources, manner_of};
+use clap::ArgMatches;
+use cmap_report::diff::{DiffLine, diff_lines, push_diff_json, push_diff_line};
+use cmap_sources::bases::Bases;
+use cmap_sources::failure::Failure;
+use cmap_sources::inputs::{STANDARD_INPUT, map_needed};
+use cmap_sources::reading::Manner;
+use cmap_sources::status::{ACCEPTED, DIFFERENT, FAILED};
+use hayro_cmap::CMap;
+use std::alloc::{AllocError, Global};
+
+/// What the arguments of `diff` ask for.
+#[derive(Clone, Copy)]
+pub(crate) struct DiffOptions<'m, 'w> {
+    left: &'w str,
+    right: &'w str,
+    pub(crate) sources: Sources<'m, 'w>,
+    manner: Manner,
+    json: bool,
+}
+
+impl<'m, 'w> DiffOptions<'m, 'w> {
+    pub(crate) fn of(arguments: &'m ArgMatches<'w>) -> DiffOptions<'m, 'w> {
+        DiffOptions {
+            left: file_of(arguments),
+            right: other_of(arguments).unwrap_or(STANDARD_INPUT),
+            sources: Sources::of(arguments),
+            manner: manner_of(arguments),
+            json: JSON.is_given(arguments),
+        }
+    }
+}
+
+/// Prints what codes have where two files differ, and gives the status. A file that is refused is a failure, unlike
+/// with other subcommands, since status 1 says that the files differ.
+pub(crate) fn diff(
+    rt: &HostRuntime,
+    options: &DiffOptions<'_, '_>,
+    bases: &mut Bases<'_>,
+) -> Result<u8, Failure> {
+    match compare(rt, options, bases) {
+        Err(Failure::Refused) => Ok(FAILED),
+        compared => compared,
+    }
+}
+
+fn compare(
+    rt: &HostRuntime,
+    options: &DiffOptions<'_, '_>,
+    bases: &mut Bases<'_>,
+) -> Result<u8, Failure> {
+    let left = map_needed(rt, options.left, options.manner, bases)?;
+    let right = map_needed(rt, options.right, options.manner, bases)?;
+    let lines = diff_lines(rt.alloc(), &left, &right)?;
+    let status = if lines.is_empty() {
+        ACCEPTED
+    } else {
+        DIFFERENT
+    };
+    rt.print(printed(rt.alloc(), lines, options.json)?.as_str())?;
+    Ok(status)
+}
+
+/// The lines as they are printed.
+fn printed(alloc: Global, lines: Vec<DiffLine>, json: bool) -> Result<String, AllocError> {
+    let mut printed = String::new(alloc);
+    for line in lines {
+        if json {
+            push_diff_json(alloc, &mut printed, line)?;
+        } else {
+            push_diff_line(&mut printed, &line)?;
+        }
+    }
+    Ok(printed)
+}
