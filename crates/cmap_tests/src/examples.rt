@@ -1,5 +1,6 @@
 //! Callers that the crates' pages show.
 
+use cmap_diff::first_cid_difference;
 use cmap_maker::{Source, make_named_bundle};
 use cmap_unicode::Extractor;
 use cmap_values::file::File;
@@ -7,7 +8,7 @@ use hayro_cmap::bcmap::Bundle;
 use hayro_cmap::runs::{Looks, Table};
 use hayro_cmap::token::{Scanner, Token};
 use hayro_cmap::{
-    BfString, CMap, CMapName, CharacterCollection, Cid, CidRange, Fault, load_embedded,
+    BfString, CMap, CMapName, CharacterCollection, Cid, CidRange, CodeLength, Fault, load_embedded,
 };
 use std::alloc::{AllocError, Global};
 
@@ -84,4 +85,9 @@ pub fn text_of_string(
         }
     }
     Ok(Some(whole))
+}
+
+/// Whether two maps give the same CIDs to codes of two bytes.
+pub fn have_same_cids(left: &CMap, right: &CMap) -> bool {
+    first_cid_difference(left.layers(), right.layers(), CodeLength::Two).is_none()
 }

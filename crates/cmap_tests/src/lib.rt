@@ -1,6 +1,6 @@
 //! What rows of data can't show: the callers that the pages show, and tests of the order of calls, of
-//! names by their variants, of a call over a closure, of codes in a row, of a table of many ranges, of
-//! files that are read past their faults, and of the texts of strings.
+//! names by their variants, of a call over a closure, of codes in a row, of the differences of two maps,
+//! of a table of many ranges, of files that are read past their faults, and of the texts of strings.
 #![tactic(auto)]
 
 #[cfg(test)]
@@ -11,6 +11,8 @@ mod bits;
 mod caller;
 #[cfg(test)]
 mod codes_in_a_row;
+#[cfg(test)]
+mod differences;
 #[cfg(test)]
 mod examples;
 #[cfg(test)]
