@@ -1,0 +1,4 @@
+pub mod CidsAdded
+pub mod ListsEnd
+pub mod ListsSaid
+pub mod TidyAdded
