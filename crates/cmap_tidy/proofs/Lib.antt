@@ -2,3 +2,4 @@ pub mod CidsAdded
 pub mod ListsEnd
 pub mod ListsSaid
 pub mod TidyAdded
+pub mod NotdefsAdded

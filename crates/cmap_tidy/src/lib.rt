@@ -2,6 +2,10 @@
 #![tactic(auto)]
 
 mod cids;
+mod notdefs;
 mod rows;
+mod texts;
 
 pub use cids::push_cids;
+pub use notdefs::push_notdefs;
+pub use texts::push_texts;
