@@ -3,3 +3,6 @@ pub mod ListsEnd
 pub mod ListsSaid
 pub mod TidyAdded
 pub mod NotdefsAdded
+pub mod TextUnits
+pub mod TextsAdded
+pub mod RowsSaid

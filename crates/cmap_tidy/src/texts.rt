@@ -66,13 +66,14 @@ fn counted_on(alloc: Global, units: &[u16], offset: u32) -> Result<Units, AllocE
 /// The last code, up to `last`, of the row of `first`, up to which the last unit counts on within the row of
 /// its last byte.
 fn text_row_end(first: u32, last: u32, units: &[u16]) -> u32
-    requires { first ≤ last }
+    requires within { first ≤ last }
+    requires some { 0 < length units.now }
     ensures within { (first ≤ result) × (result ≤ last) }
     ensures row { IsTextRow (record { start = first; end = result; units = units.now }) }
 {
     let end = row_end(first, last);
     match units.last() {
-        Some(unit) => (first + u32::from(255 - unit % 256)).min(end),
+        Some(unit) => first + (end - first).min(u32::from(255 - unit % 256)),
         None => end,
     }
 }
@@ -115,12 +116,13 @@ fn count_on(units: &[u16], offset: u32, later: &[u16]) -> bool
     ensures { IsTrue result ↔ ((shifted units.now offset ≡ Some later.now)
         × (last_unit units.now / 256 ≡ last_unit later.now / 256)) }
 {
-    match (units, later) {
-        ([front @ .., unit], [later_front @ .., later_unit]) => {
-            unit / 256 == later_unit / 256
-                && u64::from(*unit) + u64::from(offset) == u64::from(*later_unit)
-                && front == later_front
-        }
-        _ => false,
-    }
+    let Some((unit, front)) = units.split_last() else {
+        return false;
+    };
+    let Some((later_unit, later_front)) = later.split_last() else {
+        return false;
+    };
+    u64::from(*unit) + u64::from(offset) == u64::from(*later_unit)
+        && unit / 256 == later_unit / 256
+        && front == later_front
 }

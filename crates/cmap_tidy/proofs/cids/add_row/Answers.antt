@@ -1,7 +1,7 @@
-use Rattle.std.proofs.Common.{◌≡◌, ◌<◌, ◌-◌, ◌++◌, ◌∷◌, [], Some, length, refl, subst, sym, ap, ◌∙◌, arith, true≢false}
-use Rattle.std.specs.Prelude.{All, slice_get}
+use Rattle.std.proofs.Common.{◌≡◌, ◌<◌, ◌-◌, ◌++◌, ◌∷◌, [], Some, length, refl, subst, sym, ap, ◌∙◌, true≢false}
+use Rattle.std.specs.Prelude.{slice_get}
 use Rattle.std.proofs.lemmas.List.{map-append}
-use Rattle.std.proofs.lemmas.Option.{same_Some, get_or_from_slice_get, slice_get_within}
+use Rattle.std.proofs.lemmas.Option.{same_Some}
 use Rattle.cmap_values.specs.DeclarationsSeen.{cid_entry_seen, entries_seen}
 use Rattle.cmap_values.specs.Files.{CidEntry}
 use Rattle.cmap_tidy.specs.Tidy.{CouldBeOneCid, IsCidRow}
