@@ -1,6 +1,6 @@
 -- Declarations of CIDs that could be one.
-use Rattle.std.proofs.Common.{◌≡◌, ℕ, ◌+◌, ◌-◌, ◌<◌, ◌≤◌, ◌^◌, refl, ap, ◌∙◌, arith}
-use Rattle.std.specs.Prelude.{Option, Some, None, if◌then◌else◌, nat_lt}
+use Rattle.std.proofs.Common.{◌≡◌, ◌+◌, ◌-◌, ◌^◌, refl, ap, ◌∙◌, arith}
+use Rattle.std.specs.Prelude.{Some, None, if◌then◌else◌, nat_lt}
 use Rattle.cmap_values.specs.Files.{CidEntry}
 use Rattle.cmap_layers.specs.Lookups.{cid_at, cid_span}
 use Rattle.cmap_tidy.specs.Tidy.{CouldBeOneCid, IsCidRow}

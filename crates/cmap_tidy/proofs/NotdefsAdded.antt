@@ -1,5 +1,5 @@
 -- Notdef declarations that could be one.
-use Rattle.std.proofs.Common.{◌≡◌, ◌≤◌, refl, sym, ◌∙◌, arith}
+use Rattle.std.proofs.Common.{refl, sym, ◌∙◌, arith}
 use Rattle.cmap_values.specs.Files.{CidEntry}
 use Rattle.cmap_layers.specs.Lookups.{cid_span}
 use Rattle.cmap_tidy.specs.Tidy.{CouldBeOneNotdef, IsNotdefRow, notdef_at}

@@ -1,9 +1,9 @@
 -- Declarations of texts that could be one.
-use Rattle.std.proofs.Common.{◌≡◌, ℕ, ◌+◌, ◌-◌, ◌/◌, ◌%◌, ◌<◌, ◌≤◌, ◌^◌, refl, sym, ap, ◌∙◌, arith}
+use Rattle.std.proofs.Common.{◌≡◌, ◌+◌, ◌-◌, refl, ap, ◌∙◌, arith}
 use Rattle.cmap_tokens.specs.Texts.{shifted}
 use Rattle.cmap_values.specs.Files.{BfEntry}
 use Rattle.cmap_layers.specs.Lookups.{bf_span}
-use Rattle.cmap_tidy.specs.Tidy.{CouldBeOneText, IsTextRow, last_unit, units_at}
+use Rattle.cmap_tidy.specs.Tidy.{CouldBeOneText, IsTextRow, units_at}
 use Rattle.cmap_tidy.proofs.TextUnits.{shifted_is, shifted_twice}
 use Rattle.cmap_tidy.proofs.TidyAdded.{AreMerged}
 

@@ -1,5 +1,5 @@
 -- Tidy lists with one more declaration at the end, or whose last one goes on.
-use Rattle.std.proofs.Common.{◌≡◌, ℕ, ◌+◌, ◌-◌, ◌<◌, ◌≤◌, ◌^◌, List, [], ◌∷◌, ◌++◌, Option, Some, length, get_or, set, refl, sym, ap, ◌∙◌, subst, inl, inr, arith}
+use Rattle.std.proofs.Common.{◌≡◌, ℕ, ◌+◌, ◌-◌, ◌<◌, ◌≤◌, List, [], ◌∷◌, ◌++◌, Some, length, get_or, set, refl, sym, ap, ◌∙◌, subst, inl, inr, arith}
 use Rattle.std.specs.Prelude.{All, AllPairs, slice_get}
 use Rattle.std.proofs.lemmas.Bool.{cases_lt}
 use Rattle.std.proofs.lemmas.List.Elements.{All-push, All-pop, All-weaker}
@@ -7,7 +7,7 @@ use Rattle.std.proofs.lemmas.List.{get_or_append_left, get_or_push, length_push,
 use Rattle.std.proofs.lemmas.List.Quantifiers.{all_pairs_push}
 use Rattle.std.proofs.lemmas.Option.{get_or_from_slice_get, slice_get_within, slice_get-get_or}
 use Rattle.cmap_runs.specs.Ranges.{Span}
-use Rattle.cmap_tidy.specs.Tidy.{AreTidy, said}
+use Rattle.cmap_tidy.specs.Tidy.{AreTidy}
 use Rattle.cmap_tidy.specs.TidyAdded.{AddsRow}
 use Rattle.cmap_tidy.proofs.ListsEnd.{last_split}
 use Rattle.cmap_tidy.proofs.ListsSaid.{said_pushed, said_went_on}

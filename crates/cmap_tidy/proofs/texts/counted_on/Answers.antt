@@ -1,4 +1,4 @@
-use Rattle.std.proofs.Common.{◌≡◌, ◌+◌, ◌-◌, ◌<◌, Some, length, set, refl, sym, ap, ◌∙◌, subst, arith, true≢false}
+use Rattle.std.proofs.Common.{◌≡◌, ◌+◌, ◌-◌, Some, length, set, sym, ap, ◌∙◌, subst, arith, true≢false}
 use Rattle.std.specs.Vec.{vec_len}
 use Rattle.std.proofs.lemmas.Result.{IfOk-weaker}
 use Rattle.cmap_values.specs.UnitsSeen.{units_seen}
@@ -18,7 +18,7 @@ returns c =
       | in-Some w ↦
           let last = w.in-Some.last.now in
           let is : last ≡ last_unit units = last_is c.in_ok-copy.copy.items units (vec_len c.in_ok-copy.copy - 1) last copied (omega (arith, count, c.in_ok-copy.copy.ok.0)) c.requires.some w.in-Some.ensures.value in
-          subst (λ us. shifted units c.args.offset ≡ Some us) (sym (ap (λ v. v.items) w.copy-is ∙ ap (λ us. set us _ (last + c.args.offset)) copied))
+          subst (λ us. shifted units c.args.offset ≡ Some us) (sym (ap (λ v. v.items) w.copy-is ∙ ap (λ us. set us (vec_len c.in_ok-copy.copy - 1) (last + c.args.offset)) copied))
           (shifted_set units c.args.offset last (vec_len c.in_ok-copy.copy - 1) c.requires.some (omega (arith, count, c.in_ok-copy.copy.ok.0)) is (omega arith))
       | in_default w ↦ absurd (true≢false (sym (w.in_default.ensures.variant.1 (omega (arith, count, c.in_ok-copy.copy.ok.0)))))
     ]

@@ -1,10 +1,7 @@
-use Rattle.std.proofs.Common.{◌≡◌, ℕ, ◌+◌, ◌-◌, ◌<◌, ◌≤◌, Some, map, ap, ◌∙◌, sym, subst, arith}
-use Rattle.std.specs.Prelude.{All}
-use Rattle.std.proofs.lemmas.List.Elements.{All-weaker}
+use Rattle.std.proofs.Common.{◌≡◌, ℕ, ◌+◌, ◌-◌, map, ap, ◌∙◌, sym, subst, arith}
 use Rattle.cmap_tokens.specs.Texts.{shifted}
 use Rattle.cmap_values.specs.DeclarationsSeen.{bf_entry_seen}
 use Rattle.cmap_values.specs.UnitsSeen.{units_seen}
-use Rattle.cmap_values.specs.Files.{BfEntry}
 use Rattle.cmap_tidy.specs.Tidy.{units_said, units_at}
 use Rattle.cmap_tidy.specs.TidyAdded.{IsSaidTo}
 use Rattle.cmap_tidy.proofs.TextUnits.{shifted_twice}
