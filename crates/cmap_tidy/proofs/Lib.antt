@@ -6,3 +6,4 @@ pub mod NotdefsAdded
 pub mod TextUnits
 pub mod TextsAdded
 pub mod RowsSaid
+pub mod SaidSoFar

@@ -1,7 +1,9 @@
 //! Lists of declarations written anew in the fewest declarations.
 #![tactic(auto)]
 
+mod cid_lists;
 mod cids;
+mod copies;
 mod notdefs;
 mod rows;
 mod texts;
