@@ -1,13 +1,12 @@
 -- What a list that is made run by run says.
-use Rattle.std.proofs.Common.{◌≡◌, ℕ, suc, ◌+◌, ◌<◌, ◌≤◌, true, false, List, [], ◌∷◌, ◌++◌, Option, Some, None, length, map, refl, sym, ap, ◌∙◌, subst, inl, inr, arith}
-use Rattle.std.specs.Prelude.{All, IsTrue, option_map, option_and_then, slice_get, if◌then◌else◌}
+use Rattle.std.proofs.Common.{◌≡◌, ℕ, ◌+◌, ◌<◌, ◌≤◌, false, List, [], ◌∷◌, Option, Some, None, map, refl, sym, ap, ◌∙◌, subst, inl, inr, arith}
+use Rattle.std.specs.Prelude.{All, IsTrue, option_map, option_and_then, slice_get}
 use Rattle.std.proofs.lemmas.Bool.Decides.{nat_tests}
 use Rattle.std.proofs.lemmas.Bool.{cases_lt}
 use Rattle.std.proofs.lemmas.List.Elements.{All-head, All-nil, All-tail, All-weaker}
 use Rattle.cmap_layers.proofs.LastFound.{last_of-map}
-use Rattle.cmap_runs.specs.Ranges.{Span, contains, last_index, last_of}
+use Rattle.cmap_runs.specs.Ranges.{Span, contains, last_index}
 use Rattle.cmap_runs.specs.Stretches.{IsStretch}
-use Rattle.cmap_runs.specs.declared.runs.Range.{Range}
 use Rattle.cmap_tidy.specs.Tidy.{said, said_with}
 use Rattle.cmap_tidy.specs.TidyAdded.{SaysSoFar}
 use Rattle.cmap_tidy.proofs.ListsSaid.{is_after, is_before, is_in}

@@ -5,7 +5,7 @@ use Rattle.cmap_runs.specs.declared.runs.Range.{Range}
 use Rattle.cmap_tokens.specs.Texts.{shifted}
 use Rattle.cmap_values.specs.Files.{BfEntry, CidEntry}
 use Rattle.cmap_layers.specs.Lookups.{bf_span, cid_at, cid_span}
-use Rattle.cmap_tidy.specs.Tidy.{AreTidy, CouldBeOneCid, CouldBeOneNotdef, CouldBeOneText, IsCidRow, IsNotdefRow, IsTextRow, last_unit, notdef_at, said, units_at}
+use Rattle.cmap_tidy.specs.Tidy.{AreTidy, AreTidyTexts, CouldBeOneCid, CouldBeOneNotdef, CouldBeOneText, IsCidRow, IsNotdefRow, IsTextRow, last_unit, notdef_at, said, said_with, units_at, units_said}
 
 -- the tidy list says of the row's codes what the row says, and of others what the old list says
 pub record AddsRow {E X : Type 0} (span : E → Span) (at : E → ℕ → X) (IsRow : E → Type 0) (CouldBeOne : E → E → Type 0) (old : List E) (row : E) (new : List E) : Type 0 where
@@ -38,3 +38,9 @@ GivesCids e range cid = (cid + (range.end - range.start) < 2 ^ 32) × ((code : �
 -- for each code of the range it gives the units whose last one counts on from these
 abbrev pub GivesTexts : BfEntry → Range → List ℕ → Type 0
 GivesTexts e range units = (0 < length units) × (last_unit units + (range.end - range.start) < 2 ^ 16) × ((code : ℕ) → range.start ≤ code → units_at e code ≡ shifted units (code - range.start))
+
+-- codes with the texts that count on from these units were added to a tidy list, which is tidy
+pub record AddsTexts (old : List BfEntry) (range : Range) (units : List ℕ) (new : List BfEntry) : Type 0 where
+  pub tidy : AreTidyTexts new
+  pub said : (code : ℕ) → units_said new code ≡ said_with range (λ code. shifted units (code - range.start)) (units_said old) code
+  pub last : All (λ e. e.end ≤ range.end) new

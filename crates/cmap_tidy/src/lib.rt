@@ -4,8 +4,10 @@
 mod cid_lists;
 mod cids;
 mod copies;
+mod notdef_lists;
 mod notdefs;
 mod rows;
+mod text_lists;
 mod texts;
 
 pub use cids::push_cids;

@@ -1,8 +1,8 @@
-use Rattle.std.proofs.Common.{◌≡◌, ℕ, ◌+◌, ◌-◌, ◌≤◌, Some, None, ap, ◌∙◌, sym, subst, arith}
+use Rattle.std.proofs.Common.{◌+◌, ◌-◌, Some, ap, ◌∙◌, sym, subst, arith}
 use Rattle.std.specs.Option.{option_copied}
 use Rattle.cmap_layers.specs.Lookups.{cid_at, cid_span}
 use Rattle.cmap_values.specs.DeclarationsSeen.{cid_entry_seen, entries_seen}
-use Rattle.cmap_tidy.specs.Tidy.{AreTidyCids, cid_said}
+use Rattle.cmap_tidy.specs.Tidy.{AreTidyCids}
 use Rattle.cmap_tidy.specs.TidyAdded.{SaysSoFar}
 use Rattle.cmap_tidy.proofs.SaidSoFar.{added_on, passed_over, said_by}
 use Rattle.cmap_tidy.proofs.cid_lists.cids_by_runs.Goals as goal
