@@ -1,6 +1,6 @@
 -- A file written anew with the same answers in the fewest declarations.
 use Rattle.std.specs.Prelude.{◌≡◌, ◌⊎◌, ℕ, ◌<◌, ◌^◌, List, Option, Some, None}
-use Rattle.cmap_values.specs.Files.{BfEntry, CidEntry, File, of_length}
+use Rattle.cmap_values.specs.Files.{BfEntry, CidEntry, File, Lists, of_length}
 use Rattle.cmap_tidy.specs.Tidy.{AreTidyCids, AreTidyNotdefs, AreTidyTexts, cid_said, notdef_said, units_said}
 
 -- of each code of 32 bits the same is said
@@ -23,11 +23,15 @@ AreTidiedNotdefs old new = AreTidyNotdefs new × SaysTheSame (notdef_said old) (
 abbrev pub AreTidiedTexts : List BfEntry → List BfEntry → Type 0
 AreTidiedTexts old new = (AreTidyTexts new × SaysTheSame (units_said old) (units_said new)) ⊎ (SaysNone (units_said old) × (new ≡ old))
 
--- each list of declarations is written anew, and all else stays
+-- each list of declarations is written anew, and codespace ranges stay
+pub record AreTidiedLists (old new : Lists) : Type 0 where
+  pub cids : (len : ℕ) → AreTidiedCids (of_length old.cids len) (of_length new.cids len)
+  pub notdefs : (len : ℕ) → AreTidiedNotdefs (of_length old.notdefs len) (of_length new.notdefs len)
+  pub texts : AreTidiedTexts old.bfs new.bfs
+  pub spaces : new.spaces ≡ old.spaces
+
+-- so is each list of the file, and all else stays
 pub record IsTidied (old new : File) : Type 0 where
   pub metadata : new.metadata ≡ old.metadata
+  pub lists : AreTidiedLists old.lists new.lists
   pub uses : new.uses ≡ old.uses
-  pub spaces : new.lists.spaces ≡ old.lists.spaces
-  pub cids : (len : ℕ) → AreTidiedCids (of_length old.lists.cids len) (of_length new.lists.cids len)
-  pub notdefs : (len : ℕ) → AreTidiedNotdefs (of_length old.lists.notdefs len) (of_length new.lists.notdefs len)
-  pub texts : AreTidiedTexts old.lists.bfs new.lists.bfs

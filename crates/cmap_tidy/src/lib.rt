@@ -4,6 +4,7 @@
 mod cid_lists;
 mod cids;
 mod copies;
+mod file;
 mod notdef_lists;
 mod notdefs;
 mod rows;
@@ -11,5 +12,6 @@ mod text_lists;
 mod texts;
 
 pub use cids::push_cids;
+pub use file::tidy;
 pub use notdefs::push_notdefs;
 pub use texts::push_texts;
