@@ -7,3 +7,4 @@ pub mod TextUnits
 pub mod TextsAdded
 pub mod RowsSaid
 pub mod SaidSoFar
+pub mod EachLength
