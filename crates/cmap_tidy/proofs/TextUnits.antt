@@ -107,3 +107,9 @@ shifted_past (u ∷ us) offset past =
     let (front, same) = parted (u ∷ us) (omega arith) in
     ap (λ these. shifted these offset) same ∙ shifted-push front (last_unit (u ∷ us)) offset
     ∙ cond-false (nat_lt (last_unit (u ∷ us) + offset) (2 ^ 16)) _ _ (let past = past (omega arith) in grind (arith, nat_tests))
+
+pub shifted_zero : (units : List ℕ) → 0 < length units → last_unit units < 2 ^ 16 → shifted units 0 ≡ Some units
+shifted_zero units some small =
+    let (front, same) = parted units some in
+    let zero : last_unit units + 0 ≡ last_unit units = omega arith in
+    ap (λ us. shifted us 0) same ∙ shifted-push front (last_unit units) 0 ∙ ap (ended front) zero ∙ ended_some front (last_unit units) small ∙ ap (λ us. Some us) (sym same)

@@ -56,6 +56,9 @@ pub(crate) fn counted_on(alloc: Global, units: &[u16], offset: u32) -> Result<Un
     requires fits { last_unit units.now + offset < 2 ^ 16 }
     ensures { IfOk result (λ made. shifted units.now offset ≡ Some (units_seen made)) }
 {
+    if offset == 0 {
+        return Units::from_slice(alloc, units);
+    }
     let mut copy = Vec::from_slice(alloc, units)?;
     if let Some(last) = copy.last_mut() {
         *last += offset as u16;
