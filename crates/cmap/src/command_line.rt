@@ -3,9 +3,9 @@
 pub(crate) mod flags;
 
 use self::flags::{
-    BASE, BUDGET, BUNDLE, CMAP_NAME, COLLECTION, DENY, EFFECTIVE, FILES_FROM, FIRST, Flag, JSON,
-    LENIENT, LINT, LINT_TO_UNICODE, NAME, NO_PREDEFINED, NULL, OUTPUT, QUIET, TEXT_OUTPUT,
-    TO_UNICODE, USE, VERIFY, VERTICAL, values_of,
+    BASE, BUDGET, BUNDLE, CMAP_NAME, CODES, COLLECTION, DENY, EFFECTIVE, FILES_FROM, FIRST,
+    FLATTEN, Flag, JSON, LENIENT, LINT, LINT_TO_UNICODE, NAME, NO_PREDEFINED, NULL, OUTPUT, QUIET,
+    TEXT_OUTPUT, TIDY, TO_UNICODE, USE, VERIFY, VERTICAL, values_of,
 };
 use clap::{Arg, ArgAction, ArgMatches, Command};
 use cmap_sources::inputs::STANDARD_INPUT;
@@ -85,9 +85,6 @@ const STRING_FLAGS: &[Flag] = &[
     BUDGET,
     LENIENT,
 ];
-
-/// The options of a subcommand that writes a file anew.
-const REWRITE_FLAGS: &[Flag] = &[BASE, BUNDLE, NO_PREDEFINED, TEXT_OUTPUT];
 
 /// The strings of `decode` and `text`.
 const STRINGS: Arguments = Arguments {
@@ -210,14 +207,24 @@ const SUBCOMMANDS: &[Form] = &[
     Form {
         name: "write",
         about: "Writes anew what a file says, as text",
-        flags: REWRITE_FLAGS,
+        flags: &[
+            BASE,
+            BUNDLE,
+            NO_PREDEFINED,
+            BUDGET,
+            FLATTEN,
+            CODES,
+            TIDY,
+            CMAP_NAME,
+            TEXT_OUTPUT,
+        ],
         files: &[CMAP_FILE],
         arguments: None,
     },
     Form {
         name: "repair",
         about: "Writes anew what a file says apart from its faults, which are reported",
-        flags: REWRITE_FLAGS,
+        flags: &[BASE, BUNDLE, NO_PREDEFINED, TEXT_OUTPUT],
         files: &[CMAP_FILE],
         arguments: None,
     },

@@ -3,9 +3,10 @@
 use crate::command_line::flags::{JSON, TO_UNICODE};
 use crate::command_line::{arguments_of, file_of};
 use crate::options::{Sources, manner_of};
+use crate::strings::strings_of;
 use clap::ArgMatches;
 use cmap_sources::bases::Bases;
-use cmap_sources::failure::{Failure, fault};
+use cmap_sources::failure::Failure;
 use cmap_sources::inputs::{STANDARD_INPUT, map_needed, map_of, needed};
 use cmap_sources::reading::Manner;
 use cmap_unicode::{Extractor, ucs2_name};
@@ -130,44 +131,4 @@ fn family_of(map: &CMap) -> Option<&CidFamily> {
         }
     }
     None
-}
-
-/// The strings of the arguments; `-` stands for those of the standard input.
-fn strings_of(rt: &HostRuntime, arguments: &[&str]) -> Result<Vec<Vec<u8>>, Failure> {
-    let mut strings = Vec::new(rt.alloc());
-    for argument in arguments {
-        add_argument(rt, argument, &mut strings)?;
-    }
-    Ok(strings)
-}
-
-/// Adds the string of an argument; `-` stands for those of the standard input.
-fn add_argument(
-    rt: &HostRuntime,
-    argument: &str,
-    strings: &mut Vec<Vec<u8>>,
-) -> Result<(), Failure> {
-    if argument == STANDARD_INPUT {
-        return add_strings(rt, &needed(rt, argument)?, strings);
-    }
-    Ok(strings.push(string_of(rt, argument)?)?)
-}
-
-/// Adds the strings of the standard input.
-fn add_strings(rt: &HostRuntime, input: &[u8], strings: &mut Vec<Vec<u8>>) -> Result<(), Failure> {
-    let Ok(text) = str::from_utf8(input) else {
-        return Err(fault(rt, STANDARD_INPUT, "not UTF-8"));
-    };
-    for spelled in text.split_whitespace() {
-        strings.push(string_of(rt, spelled)?)?;
-    }
-    Ok(())
-}
-
-/// The bytes that hexadecimal digits spell, two for each.
-fn string_of(rt: &HostRuntime, digits: &str) -> Result<Vec<u8>, Failure> {
-    match hex::decode(rt.alloc(), digits.as_bytes()) {
-        Ok(string) => Ok(string),
-        Err(_) => Err(fault(rt, digits, "not hexadecimal digits in pairs")),
-    }
 }

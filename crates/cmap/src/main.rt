@@ -17,6 +17,7 @@ mod make;
 mod options;
 mod progress;
 mod rewrite;
+mod strings;
 mod subcommands;
 mod text;
 mod usage;

@@ -1,29 +1,67 @@
-//! The options of `cmap write` and `cmap repair`.
+//! `cmap write` and `cmap repair`.
 
 use crate::command_line::file_of;
-use crate::command_line::flags::TEXT_OUTPUT;
+use crate::command_line::flags::{BUDGET, CMAP_NAME, CODES, FLATTEN, TEXT_OUTPUT, TIDY};
 use crate::options::Sources;
+use crate::strings::listed_strings;
 use clap::ArgMatches;
-use cmap_rewrite::command::RewriteOptions;
-use cmap_sources::reading::Faults;
+use cmap_rewrite::command::{RewriteOptions, rewrite};
+use cmap_sources::bases::Bases;
+use cmap_sources::failure::Failure;
+use cmap_sources::reading::{Faults, Form, Manner};
 
 /// What the arguments ask for, and where files are looked up by their names. `clap` refuses them without a path for
 /// the text.
 #[derive(Clone, Copy)]
 pub(crate) struct Rewriting<'m, 'w> {
-    pub(crate) options: RewriteOptions<'w>,
+    options: RewriteOptions<'m, 'w>,
     pub(crate) sources: Sources<'m, 'w>,
 }
 
 impl<'m, 'w> Rewriting<'m, 'w> {
-    pub(crate) fn of(arguments: &'m ArgMatches<'w>, faults: Faults) -> Rewriting<'m, 'w> {
+    /// Of `write`.
+    pub(crate) fn writing(arguments: &'m ArgMatches<'w>) -> Rewriting<'m, 'w> {
         Rewriting {
             options: RewriteOptions {
                 file: file_of(arguments),
                 output: TEXT_OUTPUT.text(arguments).unwrap_or(""),
-                faults,
+                manner: Manner {
+                    budget: BUDGET.number(arguments),
+                    faults: Faults::First,
+                    form: Form::Text,
+                },
+                is_flat: FLATTEN.is_given(arguments),
+                is_tidy: TIDY.is_given(arguments),
+                name: CMAP_NAME.text(arguments),
+                codes: CODES.texts(arguments),
             },
             sources: Sources::of(arguments),
         }
+    }
+
+    /// Of `repair`.
+    pub(crate) fn repairing(arguments: &'m ArgMatches<'w>) -> Rewriting<'m, 'w> {
+        Rewriting {
+            options: RewriteOptions {
+                file: file_of(arguments),
+                output: TEXT_OUTPUT.text(arguments).unwrap_or(""),
+                manner: Manner {
+                    budget: None,
+                    faults: Faults::All,
+                    form: Form::Text,
+                },
+                is_flat: false,
+                is_tidy: true,
+                name: None,
+                codes: &[],
+            },
+            sources: Sources::of(arguments),
+        }
+    }
+
+    /// Does what the arguments ask for, and gives the status.
+    pub(crate) fn run(&self, rt: &HostRuntime, bases: &mut Bases<'_>) -> Result<u8, Failure> {
+        let strings = listed_strings(rt, self.options.codes)?;
+        rewrite(rt, &self.options, &strings, bases)
     }
 }

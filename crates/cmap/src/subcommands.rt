@@ -16,11 +16,9 @@ use crate::rewrite::Rewriting;
 use crate::text::text;
 use clap::ArgMatches;
 use cmap_bundle::command::{BundleOptions, bundle};
-use cmap_rewrite::command::rewrite;
 use cmap_rewrite::make::{MakeOptions, make};
 use cmap_sources::bases::Bases;
 use cmap_sources::failure::Failure;
-use cmap_sources::reading::Faults;
 
 /// A subcommand, with what its arguments ask for.
 #[derive(Clone, Copy)]
@@ -52,8 +50,8 @@ impl<'m, 'w> Subcommand<'m, 'w> {
             "text" => Subcommand::Text(StringOptions::of(arguments)),
             "lookup" => Subcommand::Lookup(LookupOptions::of(arguments)),
             "where" => Subcommand::Where(LocateOptions::of(arguments)),
-            "write" => Subcommand::Rewrite(Rewriting::of(arguments, Faults::First)),
-            "repair" => Subcommand::Rewrite(Rewriting::of(arguments, Faults::All)),
+            "write" => Subcommand::Rewrite(Rewriting::writing(arguments)),
+            "repair" => Subcommand::Rewrite(Rewriting::repairing(arguments)),
             "make" => Subcommand::Make(make_options(arguments)),
             "bundle" => Subcommand::Bundle(bundle_options(arguments)),
             _ => return None,
@@ -89,7 +87,7 @@ impl<'m, 'w> Subcommand<'m, 'w> {
             Subcommand::Text(options) => text(rt, options, bases),
             Subcommand::Lookup(options) => lookup(rt, options, bases),
             Subcommand::Where(options) => locate(rt, options, bases),
-            Subcommand::Rewrite(rewriting) => rewrite(rt, &rewriting.options, bases),
+            Subcommand::Rewrite(rewriting) => rewriting.run(rt, bases),
             Subcommand::Make(options) => make(rt, options),
             Subcommand::Bundle(options) => bundle(rt, options),
         }

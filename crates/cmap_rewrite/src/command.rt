@@ -1,44 +1,78 @@
 //! The two subcommands.
 
+use crate::changes::{one_file, tidied};
 use crate::obstacle::push_obstacle;
 use cmap_escape::escape::push_text;
 use cmap_sources::alone::file_of;
 use cmap_sources::bases::Bases;
 use cmap_sources::beside::Beside;
 use cmap_sources::failure::{Failure, fault};
-use cmap_sources::inputs::{STANDARD_INPUT, bytes_needed};
-use cmap_sources::reading::{Faults, Input};
+use cmap_sources::inputs::{STANDARD_INPUT, bytes_needed, map_needed};
+use cmap_sources::reading::{Input, Manner};
 use cmap_sources::status::ACCEPTED;
-use cmap_text_writer::{Obstacle, write_text};
+use cmap_text_writer::{Obstacle, TextLengths, write_text_by};
 use cmap_values::fault::Fault;
 use cmap_values::file::File;
 use std::alloc::{AllocError, Global};
 
 /// What the arguments of `write` and `repair` ask for.
 #[derive(Clone, Copy)]
-pub struct RewriteOptions<'w> {
+pub struct RewriteOptions<'m, 'w> {
     /// The file, by its path or its name.
     pub file: &'w str,
     /// The path of the text.
     pub output: &'w str,
-    /// Whether the file is read past its faults.
-    pub faults: Faults,
+    /// How it is read.
+    pub manner: Manner,
+    /// Whether one file is made of all layers.
+    pub is_flat: bool,
+    /// Whether it is written in the fewest declarations.
+    pub is_tidy: bool,
+    /// Its new name.
+    pub name: Option<&'w str>,
+    /// Strings of hexadecimal digits, or lists of them behind `@`. Where there are some, one file is made for their codes
+    /// alone.
+    pub codes: &'m [&'w str],
 }
 
-/// Writes what a file says as text, and gives the status. Its faults are reported.
+/// Writes what a file says as text, and gives the status. Its faults are reported. `strings` are those of the codes.
 pub fn rewrite(
     rt: &HostRuntime,
-    options: &RewriteOptions<'_>,
+    options: &RewriteOptions<'_, '_>,
+    strings: &[Vec<u8>],
     bases: &mut Bases<'_>,
 ) -> Result<u8, Failure> {
     check_output(rt, options.output)?;
+    if options.is_flat || !options.codes.is_empty() {
+        let map = map_needed(rt, options.file, options.manner, bases)?;
+        let file = one_file(rt.alloc(), options.file, &map, strings)?;
+        return finish(rt, options, file);
+    }
     let bytes = bytes_needed(rt, options.file, bases)?;
     let input = Input {
         path: options.file,
         bytes: bytes.as_slice(),
     };
-    let file = file_of(rt, input, options.faults, bases)?;
-    write_file(rt, input.path, &file, options.output)?;
+    let file = file_of(rt, input, options.manner.faults, bases)?;
+    let file = if options.is_tidy {
+        tidied(rt.alloc(), file)?
+    } else {
+        file
+    };
+    finish(rt, options, file)
+}
+
+/// Gives the file its name, and writes it.
+fn finish(
+    rt: &HostRuntime,
+    options: &RewriteOptions<'_, '_>,
+    mut file: File<'_>,
+) -> Result<u8, Failure> {
+    if let Some(name) = options.name {
+        file.metadata.name = Some(Vec::from_slice(rt.alloc(), name.as_bytes())?);
+    }
+    let lengths = TextLengths::by(&file.lists.spaces);
+    write_file(rt, options.file, &file, lengths, options.output)?;
     Ok(ACCEPTED)
 }
 
@@ -50,20 +84,26 @@ pub(crate) fn check_output(rt: &HostRuntime, output: &str) -> Result<(), Failure
     Ok(())
 }
 
-/// Writes a file as text. `path` is that of what it was read from.
+/// Writes a file as text, with these lengths of the codes of texts. `path` is that of what it was read from.
 pub(crate) fn write_file(
     rt: &HostRuntime,
     path: &str,
     file: &File<'_>,
+    lengths: TextLengths,
     output: &str,
 ) -> Result<(), Failure> {
-    let text = text_of(rt.alloc(), path, file)?;
+    let text = text_of(rt.alloc(), path, file, lengths)?;
     Beside::write(rt, output, &text)?.put_in_place(rt)
 }
 
 /// The text of a file.
-fn text_of(alloc: Global, path: &str, file: &File<'_>) -> Result<Vec<u8>, Failure> {
-    match write_text(alloc, file) {
+fn text_of(
+    alloc: Global,
+    path: &str,
+    file: &File<'_>,
+    lengths: TextLengths,
+) -> Result<Vec<u8>, Failure> {
+    match write_text_by(alloc, file, lengths) {
         Ok(text) => Ok(text),
         Err(Fault::Memory) => Err(Failure::Memory),
         Err(Fault::Refused(obstacle)) => {

@@ -1,7 +1,7 @@
 //! `cmap make`: a file of what a table says.
 
 use crate::command::{check_output, write_file};
-use crate::table::{TableFault, lists_of};
+use crate::table::{TableFault, declared_by};
 use cmap_sources::failure::{Failure, fault};
 use cmap_sources::inputs::needed;
 use cmap_sources::status::ACCEPTED;
@@ -37,17 +37,18 @@ pub fn make(rt: &HostRuntime, options: &MakeOptions<'_, '_>) -> Result<u8, Failu
     let Ok(table) = str::from_utf8(&bytes) else {
         return Err(fault(rt, options.table, "not UTF-8"));
     };
-    let lists = match lists_of(rt.alloc(), table) {
-        Ok(lists) => lists,
+    let declared = match declared_by(rt.alloc(), table) {
+        Ok(declared) => declared,
         Err(Fault::Refused(wrong)) => return Err(wrong_line(rt, options.table, wrong)),
         Err(Fault::Memory) => return Err(Failure::Memory),
     };
+    let lengths = declared.text_lengths();
     let file = File {
         metadata,
-        lists,
+        lists: declared.lists,
         uses: names_of(rt.alloc(), options.uses)?,
     };
-    write_file(rt, options.table, &file, options.output)?;
+    write_file(rt, options.table, &file, lengths, options.output)?;
     Ok(ACCEPTED)
 }
 

@@ -7,6 +7,8 @@ use self::codes::{CodePair, code_pair};
 use self::quoted::unquoted;
 use cmap_escape::count::Count;
 use cmap_queries::arguments::decimal;
+use cmap_text_writer::TextLengths;
+use cmap_values::code_length::CodeLength;
 use cmap_values::declarations::{BfRange, CidRange, Codespace, Lists};
 use cmap_values::fault::Fault;
 use cmap_values::units::Units;
@@ -53,18 +55,62 @@ impl WrongLine {
     }
 }
 
+/// What the lines of a table declare.
+#[derive(Drop)]
+pub struct Declared {
+    pub lists: Lists,
+    text_codes: TextCodes,
+}
+
+/// How many bytes the codes of texts have in a table.
+#[derive(Clone, Copy)]
+enum TextCodes {
+    /// There are none.
+    Absent,
+    /// All have this length.
+    Same(CodeLength),
+    /// They have several.
+    Several,
+}
+
+impl Declared {
+    /// What no line declares.
+    fn new(alloc: Global) -> Declared {
+        Declared {
+            lists: Lists::new(alloc),
+            text_codes: TextCodes::Absent,
+        }
+    }
+
+    /// How many bytes the codes of texts are written with: as in the table, if all have one length there.
+    pub fn text_lengths(&self) -> TextLengths {
+        match self.text_codes {
+            TextCodes::Same(len) => TextLengths::same(len),
+            TextCodes::Absent | TextCodes::Several => TextLengths::by(&self.lists.spaces),
+        }
+    }
+
+    /// Counts a length of the codes of a text.
+    fn add_text_length(&mut self, len: CodeLength) {
+        self.text_codes = match self.text_codes {
+            TextCodes::Absent => TextCodes::Same(len),
+            TextCodes::Same(other) if other == len => TextCodes::Same(len),
+            TextCodes::Same(_) | TextCodes::Several => TextCodes::Several,
+        };
+    }
+}
+
 /// What the lines of a table declare. Empty lines, and those that begin with `#`, say nothing.
-pub fn lists_of(alloc: Global, table: &str) -> Result<Lists, Fault<TableFault>> {
-    let mut lists = Lists::new(alloc);
+pub fn declared_by(alloc: Global, table: &str) -> Result<Declared, Fault<TableFault>> {
+    let mut declared = Declared::new(alloc);
     let mut number = Count::of(0);
     for line in table.lines() {
         number.add_one();
-        let Err(fault) = add_line(alloc, &mut lists, line.trim()) else {
-            continue;
-        };
-        return Err(at_line(number, fault));
+        if let Err(fault) = add_line(alloc, &mut declared, line.trim()) {
+            return Err(at_line(number, fault));
+        }
     }
-    Ok(lists)
+    Ok(declared)
 }
 
 /// The fault of a line.
@@ -79,7 +125,7 @@ fn at_line(line: Count, fault: Fault<WrongLine>) -> Fault<TableFault> {
 }
 
 /// Adds what a line declares.
-fn add_line(alloc: Global, lists: &mut Lists, line: &str) -> Result<(), Fault<WrongLine>> {
+fn add_line(alloc: Global, declared: &mut Declared, line: &str) -> Result<(), Fault<WrongLine>> {
     if line.is_empty() || line.starts_with('#') {
         return Ok(());
     }
@@ -87,10 +133,10 @@ fn add_line(alloc: Global, lists: &mut Lists, line: &str) -> Result<(), Fault<Wr
         return Err(Fault::Refused(WrongLine::Kind));
     };
     match kind {
-        "codespace" => add_codespace(lists, rest),
-        "cid" => add_cids(lists, rest),
-        "notdef" => add_notdefs(lists, rest),
-        "text" => add_texts(alloc, lists, rest),
+        "codespace" => add_codespace(&mut declared.lists, rest),
+        "cid" => add_cids(&mut declared.lists, rest),
+        "notdef" => add_notdefs(&mut declared.lists, rest),
+        "text" => add_texts(alloc, declared, rest),
         "layer" => Err(Fault::Refused(WrongLine::Layer)),
         _ => Err(Fault::Refused(WrongLine::Kind)),
     }
@@ -132,14 +178,15 @@ fn add_notdefs(lists: &mut Lists, line: &str) -> Result<(), Fault<WrongLine>> {
 }
 
 /// Adds a declaration of texts, as `<41> <5A> "A"`.
-fn add_texts(alloc: Global, lists: &mut Lists, line: &str) -> Result<(), Fault<WrongLine>> {
+fn add_texts(alloc: Global, declared: &mut Declared, line: &str) -> Result<(), Fault<WrongLine>> {
     let (codes, rest) = pair_and_rest(line)?;
     let Some(text) = unquoted(alloc, rest)? else {
         return Err(Fault::Refused(WrongLine::Text));
     };
     let units = units_of(alloc, text.as_str())?;
     let range = codes.range();
-    lists.add_bf(BfRange { range, units })?;
+    declared.add_text_length(codes.first.len);
+    declared.lists.add_bf(BfRange { range, units })?;
     Ok(())
 }
 

@@ -269,3 +269,27 @@ pub(crate) const USE: Flag = Flag {
     value: Value::Texts("NAME"),
     help: "The name of a file that the file uses",
 };
+
+pub(crate) const FLATTEN: Flag = Flag {
+    id: "flatten",
+    short: None,
+    long: "flatten",
+    value: Value::Nothing,
+    help: "Makes one file of FILE and those that it is based on, with the same answers",
+};
+
+pub(crate) const CODES: Flag = Flag {
+    id: "codes",
+    short: None,
+    long: "codes",
+    value: Value::Texts("HEX|@LIST"),
+    help: "As --flatten, with answers for the codes of these strings alone; @LIST is a file of strings",
+};
+
+pub(crate) const TIDY: Flag = Flag {
+    id: "tidy",
+    short: None,
+    long: "tidy",
+    value: Value::Nothing,
+    help: "Writes the same answers in the fewest declarations",
+};

@@ -1,0 +1,52 @@
+//! Strings in hexadecimal digits.
+
+use cmap_sources::failure::{Failure, fault};
+use cmap_sources::inputs::{STANDARD_INPUT, needed};
+
+/// The strings of the arguments; `-` stands for those of the standard input.
+pub(crate) fn strings_of(rt: &HostRuntime, arguments: &[&str]) -> Result<Vec<Vec<u8>>, Failure> {
+    let mut strings = Vec::new(rt.alloc());
+    for argument in arguments {
+        if *argument == STANDARD_INPUT {
+            add_list(rt, argument, &mut strings)?;
+        } else {
+            strings.push(string_of(rt, argument)?)?;
+        }
+    }
+    Ok(strings)
+}
+
+/// The strings of `--codes`; `@LIST` stands for those of a file.
+pub(crate) fn listed_strings(
+    rt: &HostRuntime,
+    arguments: &[&str],
+) -> Result<Vec<Vec<u8>>, Failure> {
+    let mut strings = Vec::new(rt.alloc());
+    for argument in arguments {
+        match argument.strip_prefix('@') {
+            Some(path) => add_list(rt, path, &mut strings)?,
+            None => strings.push(string_of(rt, argument)?)?,
+        }
+    }
+    Ok(strings)
+}
+
+/// Adds the strings of a file, between which white space stands.
+fn add_list(rt: &HostRuntime, path: &str, strings: &mut Vec<Vec<u8>>) -> Result<(), Failure> {
+    let bytes = needed(rt, path)?;
+    let Ok(text) = str::from_utf8(&bytes) else {
+        return Err(fault(rt, path, "not UTF-8"));
+    };
+    for spelled in text.split_whitespace() {
+        strings.push(string_of(rt, spelled)?)?;
+    }
+    Ok(())
+}
+
+/// The bytes that hexadecimal digits spell, two for each.
+fn string_of(rt: &HostRuntime, digits: &str) -> Result<Vec<u8>, Failure> {
+    match hex::decode(rt.alloc(), digits.as_bytes()) {
+        Ok(string) => Ok(string),
+        Err(_) => Err(fault(rt, digits, "not hexadecimal digits in pairs")),
+    }
+}

@@ -1,0 +1,156 @@
+//! What is written in the place of what a file says: one file for all layers of a map, or for some of its codes, and
+//! the fewest declarations.
+
+use cmap_escape::digits::push_code;
+use cmap_escape::escape::push_text;
+use cmap_flatten::{Codes, Contradiction, flatten, subset};
+use cmap_queries::code_lengths::LENGTHS;
+use cmap_runs::runs::{Looks, Range, Table};
+use cmap_sources::failure::Failure;
+use cmap_tidy::tidy;
+use cmap_values::code_length::CodeLength;
+use cmap_values::declarations::{ByLength, CidRange, Lists};
+use cmap_values::fault::Fault;
+use cmap_values::file::File;
+use hayro_cmap::{CMap, HasRange, Layer};
+use std::alloc::{AllocError, Global};
+
+/// The most rows of 256 codes for which declarations are made. A range of a few bytes can have 2^24.
+const MOST_ROWS: u64 = 1 << 20;
+
+/// One file that answers as the map, or for the codes of these strings alone.
+pub(crate) fn one_file<'d>(
+    alloc: Global,
+    path: &str,
+    map: &CMap,
+    strings: &[Vec<u8>],
+) -> Result<File<'d>, Failure> {
+    let made = if strings.is_empty() {
+        if rows_of_map(map) > MOST_ROWS {
+            return Err(Failure::Message(large_line(alloc, path)?));
+        }
+        flatten(alloc, map.layers())
+    } else {
+        subset(alloc, map.layers(), &codes_of(alloc, map, strings)?)
+    };
+    match made {
+        Ok(file) => Ok(file),
+        Err(Fault::Refused(contradiction)) => {
+            Err(Failure::Message(contradiction_line(alloc, path, contradiction)?))
+        }
+        Err(Fault::Memory) => Err(Failure::Memory),
+    }
+}
+
+/// The codes of strings.
+fn codes_of(alloc: Global, map: &CMap, strings: &[Vec<u8>]) -> Result<Vec<Codes>, AllocError> {
+    let mut codes = Vec::new(alloc);
+    for string in strings {
+        add_codes(&mut codes, map, string)?;
+    }
+    Ok(codes)
+}
+
+/// Adds the codes of a string.
+fn add_codes(codes: &mut Vec<Codes>, map: &CMap, string: &[u8]) -> Result<(), AllocError> {
+    let mut rest = string;
+    while let Some(next) = map.next_code(rest) {
+        if let Some(len) = CodeLength::of(next.byte_len) {
+            let (start, end) = (next.code, next.code);
+            let range = Range { start, end };
+            codes.push(Codes { len, range })?;
+        }
+        rest = &rest[usize::from(next.byte_len)..];
+    }
+    Ok(())
+}
+
+/// The file in the fewest declarations. One whose ranges have too many rows of codes stays as it is.
+pub(crate) fn tidied<'d>(alloc: Global, file: File<'d>) -> Result<File<'d>, AllocError> {
+    if rows_of_file(&file.lists) > MOST_ROWS {
+        return Ok(file);
+    }
+    tidy(alloc, &file)
+}
+
+/// How many rows of 256 codes the declarations of a file are for, each counted by itself.
+fn rows_of_file(lists: &Lists) -> u64 {
+    let mut rows: u64 = rows_of(&lists.bfs);
+    for list in [&lists.cids, &lists.notdefs] {
+        rows = rows.saturating_add(rows_by_length(list));
+    }
+    rows
+}
+
+fn rows_by_length(lists: &ByLength<Vec<CidRange>>) -> u64 {
+    let mut rows: u64 = 0;
+    for len in LENGTHS {
+        rows = rows.saturating_add(rows_of(lists.get(*len)));
+    }
+    rows
+}
+
+fn rows_of<T: HasRange>(list: &[T]) -> u64 {
+    let mut rows: u64 = 0;
+    for entry in list {
+        rows = rows.saturating_add(rows_in(entry.range()));
+    }
+    rows
+}
+
+/// How many rows the declarations of all layers are for.
+fn rows_of_map(map: &CMap) -> u64 {
+    let mut rows: u64 = 0;
+    for layer in map.layers().as_slice() {
+        rows = rows.saturating_add(rows_of_layer(layer));
+    }
+    rows
+}
+
+fn rows_of_layer(layer: &Layer) -> u64 {
+    let mut rows = rows_of_table(layer.texts());
+    for len in LENGTHS {
+        rows = rows.saturating_add(rows_of_table(layer.cids(*len)));
+        rows = rows.saturating_add(rows_of_table(layer.notdefs(*len)));
+    }
+    rows
+}
+
+fn rows_of_table<T: HasRange>(table: &Table<T>) -> u64 {
+    let mut looks = Looks::new();
+    let mut rows: u64 = 0;
+    for index in 0..table.decl_count() {
+        rows = rows.saturating_add(rows_in(table.decl(index, &mut looks).range()));
+    }
+    rows
+}
+
+/// How many rows of 256 codes a range has a code of.
+fn rows_in(range: &Range) -> u64 {
+    match (range.end / 256).checked_sub(range.start / 256) {
+        Some(further) => u64::from(further) + 1,
+        None => 0,
+    }
+}
+
+/// That a file has too many codes.
+fn large_line(alloc: Global, path: &str) -> Result<String, AllocError> {
+    let mut line = String::new(alloc);
+    push_text(&mut line, path)?;
+    line.push_str(": its ranges have codes of more than 1048576 rows")?;
+    Ok(line)
+}
+
+/// That no one file gives a code what the map gives it.
+fn contradiction_line(
+    alloc: Global,
+    path: &str,
+    contradiction: Contradiction,
+) -> Result<String, AllocError> {
+    let mut line = String::new(alloc);
+    push_text(&mut line, path)?;
+    line.push_str(": no one file gives the code <")?;
+    push_code(&mut line, contradiction.len.count(), contradiction.code)?;
+    line.push_str("> the CID and the text that its layers give it")?;
+    Ok(line)
+}
