@@ -5,14 +5,14 @@ use cmap_escape::digits::push_code;
 use cmap_escape::escape::push_text;
 use cmap_flatten::{Codes, Contradiction, flatten, subset};
 use cmap_queries::code_lengths::LENGTHS;
-use cmap_runs::runs::{Looks, Range, Table};
+use cmap_runs::runs::{HasRange, Looks, Range, Table};
 use cmap_sources::failure::Failure;
 use cmap_tidy::tidy;
 use cmap_values::code_length::CodeLength;
 use cmap_values::declarations::{ByLength, CidRange, Lists};
 use cmap_values::fault::Fault;
 use cmap_values::file::File;
-use hayro_cmap::{CMap, HasRange, Layer};
+use hayro_cmap::{CMap, Layer};
 use std::alloc::{AllocError, Global};
 
 /// The most rows of 256 codes for which declarations are made. A range of a few bytes can have 2^24.
