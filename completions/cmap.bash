@@ -43,7 +43,7 @@ _cmap() {
         list) mapfile -t COMPREPLY < <(compgen -W "--budget --lenient --effective" -- "$current") ;;
         where) ;;
         repair) mapfile -t COMPREPLY < <(compgen -W "--base --bundle --no-predefined --output --help" -- "$current") && return ;;
-        write) mapfile -t COMPREPLY < <(compgen -W "--base --bundle --no-predefined --budget --flatten --codes --tidy --name --output --help" -- "$current") && return ;;
+        write) mapfile -t COMPREPLY < <(compgen -W "--base --bundle --no-predefined --budget --flatten --codes --tidy --binary --name --output --help" -- "$current") && return ;;
         make) mapfile -t COMPREPLY < <(compgen -W "--name --collection --vertical --use --output --help" -- "$current") && return ;;
         bundle) mapfile -t COMPREPLY < <(compgen -W "--output --name --verify --help" -- "$current") && return ;;
         decode | text) mapfile -t COMPREPLY < <(compgen -W "--to-unicode --budget --lenient" -- "$current") ;;

@@ -3,7 +3,7 @@
 pub(crate) mod flags;
 
 use self::flags::{
-    BASE, BUDGET, BUNDLE, CMAP_NAME, CODES, COLLECTION, DENY, EFFECTIVE, FILES_FROM, FIRST,
+    BASE, BINARY, BUDGET, BUNDLE, CMAP_NAME, CODES, COLLECTION, DENY, EFFECTIVE, FILES_FROM, FIRST,
     FLATTEN, Flag, JSON, LENIENT, LINT, LINT_TO_UNICODE, NAME, NO_PREDEFINED, NULL, OUTPUT, QUIET,
     TEXT_OUTPUT, TIDY, TO_UNICODE, USE, VERIFY, VERTICAL, values_of,
 };
@@ -216,6 +216,7 @@ const SUBCOMMANDS: &[Form] = &[
             CODES,
             TIDY,
             CMAP_NAME,
+            BINARY,
             TEXT_OUTPUT,
         ],
         files: &[CMAP_FILE],

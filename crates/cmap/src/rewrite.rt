@@ -1,7 +1,7 @@
 //! `cmap write` and `cmap repair`.
 
 use crate::command_line::file_of;
-use crate::command_line::flags::{BUDGET, CMAP_NAME, CODES, FLATTEN, TEXT_OUTPUT, TIDY};
+use crate::command_line::flags::{BINARY, BUDGET, CMAP_NAME, CODES, FLATTEN, TEXT_OUTPUT, TIDY};
 use crate::options::Sources;
 use crate::strings::listed_strings;
 use clap::ArgMatches;
@@ -33,6 +33,7 @@ impl<'m, 'w> Rewriting<'m, 'w> {
                 is_flat: FLATTEN.is_given(arguments),
                 is_tidy: TIDY.is_given(arguments),
                 name: CMAP_NAME.text(arguments),
+                is_binary: BINARY.is_given(arguments),
                 codes: CODES.texts(arguments),
             },
             sources: Sources::of(arguments),
@@ -53,6 +54,7 @@ impl<'m, 'w> Rewriting<'m, 'w> {
                 is_flat: false,
                 is_tidy: true,
                 name: None,
+                is_binary: false,
                 codes: &[],
             },
             sources: Sources::of(arguments),

@@ -1,5 +1,6 @@
 //! The two subcommands.
 
+use crate::binary::binary_of;
 use crate::changes::{one_file, tidied};
 use crate::obstacle::push_obstacle;
 use cmap_escape::escape::push_text;
@@ -20,7 +21,7 @@ use std::alloc::{AllocError, Global};
 pub struct RewriteOptions<'m, 'w> {
     /// The file, by its path or its name.
     pub file: &'w str,
-    /// The path of the text.
+    /// The path of what is written.
     pub output: &'w str,
     /// How it is read.
     pub manner: Manner,
@@ -30,12 +31,14 @@ pub struct RewriteOptions<'m, 'w> {
     pub is_tidy: bool,
     /// Its new name.
     pub name: Option<&'w str>,
+    /// Whether it is written in the binary form.
+    pub is_binary: bool,
     /// Strings of hexadecimal digits, or lists of them behind `@`. Where there are some, one file is made for their codes
     /// alone.
     pub codes: &'m [&'w str],
 }
 
-/// Writes what a file says as text, and gives the status. Its faults are reported. `strings` are those of the codes.
+/// Writes what a file says anew, and gives the status. Its faults are reported. `strings` are those of the codes.
 pub fn rewrite(
     rt: &HostRuntime,
     options: &RewriteOptions<'_, '_>,
@@ -46,7 +49,7 @@ pub fn rewrite(
     if options.is_flat || !options.codes.is_empty() {
         let map = map_needed(rt, options.file, options.manner, bases)?;
         let file = one_file(rt.alloc(), options.file, &map, strings)?;
-        return finish(rt, options, file);
+        return finish(rt, options, file, bases);
     }
     let bytes = bytes_needed(rt, options.file, bases)?;
     let input = Input {
@@ -59,7 +62,7 @@ pub fn rewrite(
     } else {
         file
     };
-    finish(rt, options, file)
+    finish(rt, options, file, bases)
 }
 
 /// Gives the file its name, and writes it.
@@ -67,12 +70,22 @@ fn finish(
     rt: &HostRuntime,
     options: &RewriteOptions<'_, '_>,
     mut file: File<'_>,
+    bases: &Bases<'_>,
 ) -> Result<u8, Failure> {
     if let Some(name) = options.name {
         file.metadata.name = Some(Vec::from_slice(rt.alloc(), name.as_bytes())?);
     }
-    let lengths = TextLengths::by(&file.lists.spaces);
-    write_file(rt, options.file, &file, lengths, options.output)?;
+    let bytes = if options.is_binary {
+        binary_of(rt, options.file, &file, bases.bundle)?
+    } else {
+        text_of(
+            rt.alloc(),
+            options.file,
+            &file,
+            TextLengths::by(&file.lists.spaces),
+        )?
+    };
+    Beside::write(rt, options.output, &bytes)?.put_in_place(rt)?;
     Ok(ACCEPTED)
 }
 
@@ -84,20 +97,8 @@ pub(crate) fn check_output(rt: &HostRuntime, output: &str) -> Result<(), Failure
     Ok(())
 }
 
-/// Writes a file as text, with these lengths of the codes of texts. `path` is that of what it was read from.
-pub(crate) fn write_file(
-    rt: &HostRuntime,
-    path: &str,
-    file: &File<'_>,
-    lengths: TextLengths,
-    output: &str,
-) -> Result<(), Failure> {
-    let text = text_of(rt.alloc(), path, file, lengths)?;
-    Beside::write(rt, output, &text)?.put_in_place(rt)
-}
-
-/// The text of a file.
-fn text_of(
+/// The text of a file, with these lengths of the codes of texts. `path` is that of what it was read from.
+pub(crate) fn text_of(
     alloc: Global,
     path: &str,
     file: &File<'_>,

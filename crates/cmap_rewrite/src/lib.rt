@@ -1,6 +1,7 @@
 //! What writes CMap files: `cmap write`, `cmap repair` and `cmap make`.
 #![tactic(auto)]
 
+mod binary;
 mod changes;
 pub mod command;
 pub mod make;

@@ -1,7 +1,8 @@
 //! `cmap make`: a file of what a table says.
 
-use crate::command::{check_output, write_file};
+use crate::command::{check_output, text_of};
 use crate::table::{TableFault, declared_by};
+use cmap_sources::beside::Beside;
 use cmap_sources::failure::{Failure, fault};
 use cmap_sources::inputs::needed;
 use cmap_sources::status::ACCEPTED;
@@ -48,7 +49,8 @@ pub fn make(rt: &HostRuntime, options: &MakeOptions<'_, '_>) -> Result<u8, Failu
         lists: declared.lists,
         uses: names_of(rt.alloc(), options.uses)?,
     };
-    write_file(rt, options.table, &file, lengths, options.output)?;
+    let text = text_of(rt.alloc(), options.table, &file, lengths)?;
+    Beside::write(rt, options.output, &text)?.put_in_place(rt)?;
     Ok(ACCEPTED)
 }
 

@@ -15,6 +15,7 @@ pub mod pieces;
 pub mod prepared;
 pub mod segments;
 mod split;
+mod tables;
 mod text_parts;
 mod texts;
 mod words;

@@ -293,3 +293,11 @@ pub(crate) const TIDY: Flag = Flag {
     value: Value::Nothing,
     help: "Writes the same answers in the fewest declarations",
 };
+
+pub(crate) const BINARY: Flag = Flag {
+    id: "binary",
+    short: None,
+    long: "binary",
+    value: Value::Nothing,
+    help: "Writes the binary form, by the tables of the bundle",
+};

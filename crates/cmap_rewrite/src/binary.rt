@@ -1,0 +1,46 @@
+//! A file in the binary form, by the tables of a bundle.
+
+use cmap_bundle::obstacle::push_obstacle;
+use cmap_escape::escape::push_text;
+use cmap_packed::Bundle;
+use cmap_sources::failure::{Failure, fault};
+use cmap_values::fault::Fault;
+use cmap_values::file::File;
+use cmap_writer::{Encoders, Obstacle, write_file};
+use std::alloc::{AllocError, Global};
+
+/// The bytes of a file in the binary form. `path` is that of what it was read from.
+pub(crate) fn binary_of(
+    rt: &HostRuntime,
+    path: &str,
+    file: &File<'_>,
+    bundle: Option<&Bundle<'_>>,
+) -> Result<Vec<u8>, Failure> {
+    let Some(bundle) = bundle else {
+        return Err(fault(rt, path, "--binary needs the tables of a --bundle"));
+    };
+    let Some(tables) = Encoders::of_tables(rt.alloc(), bundle.tables())? else {
+        return Err(fault(rt, path, "the bundle has tables with too many words"));
+    };
+    match write_file(rt.alloc(), &tables, file) {
+        Ok(bytes) => Ok(bytes),
+        Err(Fault::Memory) => Err(Failure::Memory),
+        Err(Fault::Refused(Obstacle::NoWord)) => Err(fault(
+            rt,
+            path,
+            "the bundle has no code word for one of its numbers",
+        )),
+        Err(Fault::Refused(obstacle)) => {
+            Err(Failure::Message(obstacle_line(rt.alloc(), path, obstacle)?))
+        }
+    }
+}
+
+/// Why the binary form can't say what a file says.
+fn obstacle_line(alloc: Global, path: &str, obstacle: Obstacle) -> Result<String, AllocError> {
+    let mut line = String::new(alloc);
+    push_text(&mut line, path)?;
+    line.push_str(": the binary form can't say ")?;
+    push_obstacle(&mut line, obstacle)?;
+    Ok(line)
+}

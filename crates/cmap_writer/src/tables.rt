@@ -1,0 +1,62 @@
+//! The code words of a bundle that is read, so that files are written by them.
+
+ghost use Rattle.std.specs.Prelude.{◌≡◌, ◌≤◌, ◌^◌, Any, IfOk, IfSome, MatchOption};
+ghost use Rattle.cmap_packed.specs.BundleSeen.{tables_seen};
+ghost use Rattle.cmap_writer.specs.EncodersSeen.{encoders_seen};
+
+use crate::columns::Encoders;
+use crate::words::Encoder;
+use cmap_packed::Tables;
+use cmap_packed::prefix::PrefixTable;
+use std::alloc::{AllocError, Global};
+
+/// No code word has more bits.
+const MOST_BITS: usize = 32;
+
+impl Encoders {
+    /// The code words of the tables of a bundle. `None` where more than 32 lengths are counted, or 2^16
+    /// words of one length.
+    ///
+    /// It fails only if memory runs out.
+    pub fn of_tables(alloc: Global, tables: &Tables) -> Result<Option<Encoders>, AllocError>
+        ensures { IfOk result (λ found. IfSome found
+            (λ encoders. encoders_seen encoders ≡ tables_seen tables.now)) }
+    {
+        let Some(delta) = encoder_of(alloc, &tables.delta)? else {
+            return Ok(None);
+        };
+        let Some(count) = encoder_of(alloc, &tables.count)? else {
+            return Ok(None);
+        };
+        Ok(Some(Encoders { delta, count }))
+    }
+}
+
+/// The code words of a table.
+fn encoder_of(alloc: Global, table: &PrefixTable) -> Result<Option<Encoder>, AllocError>
+    ensures { IfOk result (λ found. IfSome found (λ encoder. encoder ≡ table.now)) }
+{
+    let (counts, symbols) = table.parts();
+    if counts.len() > MOST_BITS {
+        return Ok(None);
+    }
+    let Some(counts) = narrowed(alloc, counts)? else {
+        return Ok(None);
+    };
+    Encoder::new(alloc, counts, symbols)
+}
+
+/// The numbers in two bytes each, where they have no more.
+fn narrowed(alloc: Global, numbers: &[u32]) -> Result<Option<Vec<u16>>, AllocError>
+    ensures { IfOk result (λ found. MatchOption found (Any (λ n. 2 ^ 16 ≤ n) numbers.now)
+        (λ narrow. narrow.items ≡ numbers.now)) }
+{
+    let mut narrow = Vec::new(alloc);
+    for number in numbers {
+        let Ok(number) = u16::try_from(*number) else {
+            return Ok(None);
+        };
+        narrow.push(number)?;
+    }
+    Ok(Some(narrow))
+}
