@@ -8,6 +8,6 @@ pub mod command;
 pub mod contents;
 pub mod difference;
 pub mod making;
-pub pub mod obstacle;
+pub mod obstacle;
 pub mod summary;
 pub mod verify;
