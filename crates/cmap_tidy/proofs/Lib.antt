@@ -8,3 +8,4 @@ pub mod TextsAdded
 pub mod RowsSaid
 pub mod SaidSoFar
 pub mod EachLength
+pub mod OnlyTidy
