@@ -132,3 +132,123 @@ module _ {E X : Type 0} (span : E → Span) (at : E → ℕ → X) (IsRow : E �
                   (known.grows x z later (first_row x (later ∷ xs) are) (first_row z zs were) (first_row later xs rest) after within first (sym starts) (omega arith) (rw starts here)))
             ]
       ]
+
+  -- what both lists say from a code on, after the first one of each
+  same_later : (low next : ℕ) (x z : E) (xs zs : List E) → SayTheSame low (x ∷ xs) (z ∷ zs) → low ≤ next → (span x).end < next → (span z).end < next → SayTheSame next xs zs
+  same_later low next x z xs zs same from after after_too code later below =
+      sym (said_later span at x xs code (omega arith)) ∙ same code (omega arith) below ∙ said_later span at z zs code (omega arith)
+
+  same_later_one : (low next : ℕ) (z : E) (xs zs : List E) → SayTheSame low xs (z ∷ zs) → low ≤ next → (span z).end < next → SayTheSame next xs zs
+  same_later_one low next z xs zs same from after code later below = same code (omega arith) below ∙ said_later span at z zs code (omega arith)
+
+  ends_later : (x : E) (xs : List E) → AreRows span IsRow limit (x ∷ xs) → All (λ e. (span x).end + 1 ≤ (span e).end) xs
+  ends_later x xs are = λ k d lt. omega (arith, later_ones x xs are k d lt, known.filled _ ((rows_tail x xs are).rows k d lt))
+
+  starts_later : (x : E) (xs : List E) → AreRows span IsRow limit (x ∷ xs) → All (λ e. (span x).end + 1 ≤ (span e).start) xs
+  starts_later x xs are = λ k d lt. omega (arith, later_ones x xs are k d lt)
+
+  abbrev AreJoined : List E → Type 0
+  AreJoined xs = AllPairs (λ e later. CouldBeOne e later → ⊥) xs
+
+  -- from a code on, which the first declaration may begin before
+  fewest_from : (low : ℕ) (xs zs : List E) → AreRows span IsRow limit xs → AreJoined xs → All (λ e. low ≤ (span e).end) xs
+      → AreRows span IsRow limit zs → All (λ e. low ≤ (span e).start) zs → SayTheSame low xs zs → length xs ≤ length zs
+  fewest_from low [] zs are joined ends were starts same = omega arith
+  fewest_from low (x ∷ xs) [] are joined ends were starts same =
+      let last = (span x).end in
+      let filled = first_filled x xs are in
+      let nothing : Some (at x last) ≡ None = sym (says_first x xs last are filled (omega arith)) ∙ same last (All-head (λ e. low ≤ (span e).end) x xs ends) (first_below x xs are) in
+      absurd cc
+  fewest_from low (x ∷ xs) (z ∷ zs) are joined ends were starts same =
+      let filled = first_filled x xs are in let filled_too = first_filled z zs were in
+      let below = first_below x xs are in let below_too = first_below z zs were in
+      let from = All-head (λ e. low ≤ (span e).start) z zs starts in let to = All-head (λ e. low ≤ (span e).end) x xs ends in
+      let after : (span x).start ≤ (span z).start =
+      elim (cases_lt (span z).start (span x).start) [
+        | inr after ↦ after
+        | inl sooner ↦
+            let nothing : None ≡ Some (at z (span z).start) =
+            sym (says_none x xs (span z).start are sooner) ∙ same (span z).start from (omega arith) ∙ says_first z zs (span z).start were (omega arith) filled_too in
+            absurd cc
+      ]
+      in
+      let within : (span z).start ≤ (span x).end =
+      elim (cases_lt (span x).end (span z).start) [
+        | inr within ↦ within
+        | inl past ↦
+            let nothing : Some (at x (span x).end) ≡ None = sym (says_first x xs (span x).end are filled (omega arith)) ∙ same (span x).end to below ∙ says_none z zs (span x).end were past in
+            absurd cc
+      ]
+      in
+      let ends_soon = ends_within low x z xs zs are (pairs_head (λ e later. CouldBeOne e later → ⊥) x xs joined) were from after within same in
+      elim (cases_lt (span z).end (span x).end) [
+        | inl part ↦
+            let fewer = fewest_from ((span z).end + 1) (x ∷ xs) zs are joined
+                (All-cons (λ e. (span z).end + 1 ≤ (span e).end) x xs (omega arith) (All-weaker (λ e. (span x).end + 1 ≤ (span e).end) (λ e. (span z).end + 1 ≤ (span e).end) (λ e lt. omega arith) xs (ends_later x xs are)))
+                (rows_tail z zs were) (starts_later z zs were) (same_later_one low ((span z).end + 1) z (x ∷ xs) zs same (omega arith) (omega arith)) in
+            omega (arith, fewer)
+        | inr whole ↦
+            let next = (span z).end + 1 in
+            let fewer = fewest_from next xs zs (rows_tail x xs are) (pairs_tail (λ e later. CouldBeOne e later → ⊥) x xs joined)
+                (All-weaker (λ e. (span x).end + 1 ≤ (span e).end) (λ e. next ≤ (span e).end) (λ e le. omega arith) xs (ends_later x xs are))
+                (rows_tail z zs were) (starts_later z zs were) (same_later low next x z xs zs same (omega arith) (omega arith) (omega arith)) in
+            omega (arith, fewer)
+      ]
+
+  -- where the first of two tidy lists begins
+  begins : (low : ℕ) (x y : E) (xs ys : List E) → AreRows span IsRow limit (x ∷ xs) → AreRows span IsRow limit (y ∷ ys) → low ≤ (span x).start → SayTheSame low (x ∷ xs) (y ∷ ys) → (span y).start ≤ (span x).start
+  begins low x y xs ys are were from same =
+      elim (cases_lt (span x).start (span y).start) [
+        | inr after ↦ after
+        | inl sooner ↦
+            let filled = first_filled x xs are in let below = first_below x xs are in
+            let nothing : Some (at x (span x).start) ≡ None = sym (says_first x xs (span x).start are (omega arith) filled) ∙ same (span x).start from (omega arith) ∙ says_none y ys (span x).start were sooner in
+            absurd cc
+      ]
+
+  turned : (low : ℕ) (xs ys : List E) → SayTheSame low xs ys → SayTheSame low ys xs
+  turned low xs ys same code from below = sym (same code from below)
+
+  only_from : (low : ℕ) (xs ys : List E) → AreRows span IsRow limit xs → AreJoined xs → All (λ e. low ≤ (span e).start) xs
+      → AreRows span IsRow limit ys → AreJoined ys → All (λ e. low ≤ (span e).start) ys → SayTheSame low xs ys → xs ≡ ys
+  only_from low [] [] are joined from were joined_too from_too same = refl
+  only_from low [] (y ∷ ys) are joined from were joined_too from_too same =
+      let filled = first_filled y ys were in let below = first_below y ys were in
+      let nothing : None ≡ Some (at y (span y).start) = same (span y).start (All-head (λ e. low ≤ (span e).start) y ys from_too) (omega arith) ∙ says_first y ys (span y).start were (omega arith) filled in
+      absurd cc
+  only_from low (x ∷ xs) [] are joined from were joined_too from_too same =
+      let filled = first_filled x xs are in let below = first_below x xs are in
+      let nothing : Some (at x (span x).start) ≡ None = sym (says_first x xs (span x).start are (omega arith) filled) ∙ same (span x).start (All-head (λ e. low ≤ (span e).start) x xs from) (omega arith) in
+      absurd cc
+  only_from low (x ∷ xs) (y ∷ ys) are joined from were joined_too from_too same =
+      let filled = first_filled x xs are in let filled_too = first_filled y ys were in let below = first_below x xs are in
+      let starts_from = All-head (λ e. low ≤ (span e).start) x xs from in let starts_from_too = All-head (λ e. low ≤ (span e).start) y ys from_too in
+      let back = turned low (x ∷ xs) (y ∷ ys) same in
+      let one = begins low x y xs ys are were starts_from same in let other = begins low y x ys xs were are starts_from_too back in
+      let starts : (span x).start ≡ (span y).start = omega arith in
+      let ends : (span x).end ≡ (span y).end =
+      omega (arith, ends_within low x y xs ys are (pairs_head (λ e later. CouldBeOne e later → ⊥) x xs joined) were starts_from_too (omega arith) (omega arith) same,
+      ends_within low y x ys xs were (pairs_head (λ e later. CouldBeOne e later → ⊥) y ys joined_too) are starts_from (omega arith) (omega arith) back) in
+      let here : at x (span x).start ≡ at y (span x).start =
+      same_Some _ _ (sym (says_first x xs (span x).start are (omega arith) filled) ∙ same (span x).start starts_from (omega arith) ∙ says_first y ys (span x).start were (omega arith) (omega arith)) in
+      let is : x ≡ y = known.same x y (first_row x xs are) (first_row y ys were) starts ends here in
+      let next = (span x).end + 1 in
+      let rest : xs ≡ ys =
+      only_from next xs ys (rows_tail x xs are) (pairs_tail (λ e later. CouldBeOne e later → ⊥) x xs joined) (starts_later x xs are)
+      (rows_tail y ys were) (pairs_tail (λ e later. CouldBeOne e later → ⊥) y ys joined_too)
+      (All-weaker (λ e. (span y).end + 1 ≤ (span e).start) (λ e. next ≤ (span e).start) (λ e le. omega arith) ys (starts_later y ys were))
+      (same_later low next x y xs ys same (omega arith) (omega arith) (omega arith)) in
+      λ i. is i ∷ rest i
+
+  -- the two that are stated of lists of declarations
+  pub fewest : (xs zs : List E) → AreTidy span IsRow CouldBeOne xs → All (λ e. (span e).end < limit) xs → All IsRow zs → AllPairs (λ e later. (span e).end < (span later).start) zs → All (λ e. (span e).end < limit) zs
+      → ((code : ℕ) → code < limit → said span at xs code ≡ said span at zs code) → length xs ≤ length zs
+  fewest xs zs tidy below rows apart below_too same =
+      fewest_from 0 xs zs (record { rows = tidy.rows; apart = tidy.apart; below = below }) tidy.joined (λ k d lt. omega arith) (record { rows = rows; apart = apart; below = below_too }) (λ k d lt. omega arith)
+      (λ code from lt. same code lt)
+
+  pub only_one : (xs ys : List E) → AreTidy span IsRow CouldBeOne xs → All (λ e. (span e).end < limit) xs → AreTidy span IsRow CouldBeOne ys → All (λ e. (span e).end < limit) ys
+      → ((code : ℕ) → code < limit → said span at xs code ≡ said span at ys code) → xs ≡ ys
+  only_one xs ys tidy below tidy_too below_too same =
+      only_from 0 xs ys (record { rows = tidy.rows; apart = tidy.apart; below = below }) tidy.joined (λ k d lt. omega arith) (record { rows = tidy_too.rows; apart = tidy_too.apart; below = below_too }) tidy_too.joined (λ k d lt. omega arith)
+      (λ code from lt. same code lt)
