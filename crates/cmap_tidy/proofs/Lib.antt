@@ -9,3 +9,4 @@ pub mod RowsSaid
 pub mod SaidSoFar
 pub mod EachLength
 pub mod OnlyTidy
+pub mod OnlyTidyLists

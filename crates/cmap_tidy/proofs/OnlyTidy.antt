@@ -184,14 +184,14 @@ module _ {E X : Type 0} (span : E → Span) (at : E → ℕ → X) (IsRow : E �
       elim (cases_lt (span z).end (span x).end) [
         | inl part ↦
             let fewer = fewest_from ((span z).end + 1) (x ∷ xs) zs are joined
-                (All-cons (λ e. (span z).end + 1 ≤ (span e).end) x xs (omega arith) (All-weaker (λ e. (span x).end + 1 ≤ (span e).end) (λ e. (span z).end + 1 ≤ (span e).end) (λ e lt. omega arith) xs (ends_later x xs are)))
-                (rows_tail z zs were) (starts_later z zs were) (same_later_one low ((span z).end + 1) z (x ∷ xs) zs same (omega arith) (omega arith)) in
+            (All-cons (λ e. (span z).end + 1 ≤ (span e).end) x xs (omega arith) (All-weaker (λ e. (span x).end + 1 ≤ (span e).end) (λ e. (span z).end + 1 ≤ (span e).end) (λ e lt. omega arith) xs (ends_later x xs are)))
+            (rows_tail z zs were) (starts_later z zs were) (same_later_one low ((span z).end + 1) z (x ∷ xs) zs same (omega arith) (omega arith)) in
             omega (arith, fewer)
         | inr whole ↦
             let next = (span z).end + 1 in
             let fewer = fewest_from next xs zs (rows_tail x xs are) (pairs_tail (λ e later. CouldBeOne e later → ⊥) x xs joined)
-                (All-weaker (λ e. (span x).end + 1 ≤ (span e).end) (λ e. next ≤ (span e).end) (λ e le. omega arith) xs (ends_later x xs are))
-                (rows_tail z zs were) (starts_later z zs were) (same_later low next x z xs zs same (omega arith) (omega arith) (omega arith)) in
+            (All-weaker (λ e. (span x).end + 1 ≤ (span e).end) (λ e. next ≤ (span e).end) (λ e le. omega arith) xs (ends_later x xs are))
+            (rows_tail z zs were) (starts_later z zs were) (same_later low next x z xs zs same (omega arith) (omega arith) (omega arith)) in
             omega (arith, fewer)
       ]
 
@@ -227,8 +227,11 @@ module _ {E X : Type 0} (span : E → Span) (at : E → ℕ → X) (IsRow : E �
       let one = begins low x y xs ys are were starts_from same in let other = begins low y x ys xs were are starts_from_too back in
       let starts : (span x).start ≡ (span y).start = omega arith in
       let ends : (span x).end ≡ (span y).end =
-      omega (arith, ends_within low x y xs ys are (pairs_head (λ e later. CouldBeOne e later → ⊥) x xs joined) were starts_from_too (omega arith) (omega arith) same,
-      ends_within low y x ys xs were (pairs_head (λ e later. CouldBeOne e later → ⊥) y ys joined_too) are starts_from (omega arith) (omega arith) back) in
+      omega (
+        arith,
+        ends_within low x y xs ys are (pairs_head (λ e later. CouldBeOne e later → ⊥) x xs joined) were starts_from_too (omega arith) (omega arith) same,
+        ends_within low y x ys xs were (pairs_head (λ e later. CouldBeOne e later → ⊥) y ys joined_too) are starts_from (omega arith) (omega arith) back,
+      ) in
       let here : at x (span x).start ≡ at y (span x).start =
       same_Some _ _ (sym (says_first x xs (span x).start are (omega arith) filled) ∙ same (span x).start starts_from (omega arith) ∙ says_first y ys (span x).start were (omega arith) (omega arith)) in
       let is : x ≡ y = known.same x y (first_row x xs are) (first_row y ys were) starts ends here in
