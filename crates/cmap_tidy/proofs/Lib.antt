@@ -10,3 +10,4 @@ pub mod SaidSoFar
 pub mod EachLength
 pub mod OnlyTidy
 pub mod OnlyTidyLists
+pub mod SameAnswers
