@@ -243,6 +243,23 @@ module _ {E X : Type 0} (span : E → Span) (at : E → ℕ → X) (IsRow : E �
       (same_later low next x y xs ys same (omega arith) (omega arith) (omega arith)) in
       λ i. is i ∷ rest i
 
+  -- what is said of a code one of the rows says
+  found_in : (xs : List E) (code : ℕ) (v : X) → AreRows span IsRow limit xs → said span at xs code ≡ Some v → (e : E) × IsRow e × ((span e).start ≤ code) × (code ≤ (span e).end) × (at e code ≡ v)
+  found_in [] code v are is = absurd (let nothing : None ≡ Some v = is in cc)
+  found_in (x ∷ xs) code v are is =
+      elim (cases_lt code (span x).start) [
+        | inl sooner ↦ absurd (let nothing : None ≡ Some v = sym (says_none x xs code are sooner) ∙ is in cc)
+        | inr after ↦
+            elim (cases_lt (span x).end code) [
+              | inl past ↦ found_in xs code v (rows_tail x xs are) (sym (said_later span at x xs code past) ∙ is)
+              | inr within ↦ (x, first_row x xs are, after, within, same_Some _ _ (sym (says_first x xs code are after within) ∙ is))
+            ]
+      ]
+
+  pub found : (xs : List E) (code : ℕ) (v : X) → AreTidy span IsRow CouldBeOne xs → All (λ e. (span e).end < limit) xs → said span at xs code ≡ Some v
+      → (e : E) × IsRow e × ((span e).start ≤ code) × (code ≤ (span e).end) × (at e code ≡ v)
+  found xs code v tidy below is = found_in xs code v (record { rows = tidy.rows; apart = tidy.apart; below = below }) is
+
   -- the two that are stated of lists of declarations
   pub fewest : (xs zs : List E) → AreTidy span IsRow CouldBeOne xs → All (λ e. (span e).end < limit) xs → All IsRow zs → AllPairs (λ e later. (span e).end < (span later).start) zs → All (λ e. (span e).end < limit) zs
       → ((code : ℕ) → code < limit → said span at xs code ≡ said span at zs code) → length xs ≤ length zs

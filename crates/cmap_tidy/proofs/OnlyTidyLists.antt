@@ -1,5 +1,5 @@
 -- There is one tidy list that says what a list says, and it is the shortest.
-use Rattle.std.proofs.Common.{◌≡◌, ℕ, ◌+◌, ◌-◌, ◌/◌, ◌%◌, ◌*◌, ◌<◌, ◌≤◌, ◌^◌, true, List, Option, Some, None, length, refl, sym, ap, ◌∙◌, inl, inr, arith}
+use Rattle.std.proofs.Common.{◌≡◌, ℕ, ◌+◌, ◌-◌, ◌/◌, ◌%◌, ◌*◌, ◌<◌, ◌≤◌, ◌^◌, true, List, Option, Some, None, length, set, refl, sym, ap, ◌∙◌, inl, inr, arith}
 use Rattle.std.specs.Prelude.{All, AllPairs, nat_lt, if◌then◌else◌}
 use Rattle.std.proofs.lemmas.Bool.Decides.{nat_tests}
 use Rattle.std.proofs.lemmas.Bool.{cond-true}
@@ -9,8 +9,8 @@ use Rattle.cmap_values.specs.Files.{BfEntry, CidEntry}
 use Rattle.cmap_layers.specs.Lookups.{bf_span, cid_at, cid_span}
 use Rattle.cmap_tidy.specs.Tidied.{AreTidiedCids, AreTidiedNotdefs, AreTidiedTexts, SaysTheSame}
 use Rattle.cmap_tidy.specs.Tidy.{AreTidyCids, AreTidyNotdefs, AreTidyTexts, CouldBeOneCid, CouldBeOneNotdef, CouldBeOneText, IsCidRow, IsNotdefRow, IsTextRow, cid_said, last_unit, notdef_at, notdef_said, units_at, units_said}
-use Rattle.cmap_tidy.proofs.OnlyTidy.{AreKnown, fewest, only_one}
-use Rattle.cmap_tidy.proofs.TextUnits.{shifted_is, shifted_twice, shifted_zero}
+use Rattle.cmap_tidy.proofs.OnlyTidy.{AreKnown, fewest, found, only_one}
+use Rattle.cmap_tidy.proofs.TextUnits.{shifted_is, shifted_set, shifted_twice, shifted_zero}
 
 -- ---- CIDs
 cid_given : (e : CidEntry) (code : ℕ) → IsCidRow e → e.start ≤ code → code ≤ e.end → cid_at e code ≡ Some (e.cid + (code - e.start))
@@ -89,3 +89,35 @@ fewest_notdefs entries others tidy fit rows apart fit_too same = fewest cid_span
 pub fewest_texts : (entries others : List BfEntry) → AreTidyTexts entries → FitTexts entries → All IsTextRow others → AllPairs (λ e later. e.end < later.start) others → FitTexts others
     → SaysTheSame (units_said others) (units_said entries) → length entries ≤ length others
 fewest_texts entries others tidy fit rows apart fit_too same = fewest bf_span units_at IsTextRow CouldBeOneText texts_known (2 ^ 32) entries others tidy fit rows apart fit_too same
+
+-- ---- what a file is written anew as
+cids_say_some : (entries : List CidEntry) (code : ℕ) → AreTidyCids entries → Fit entries → cid_said entries code ≡ Some None → ⊥
+cids_say_some entries code tidy fit is =
+    let (e, row, from, to, none) = found cid_span cid_at IsCidRow CouldBeOneCid cids_known (2 ^ 32) entries code None tidy fit is in
+    let nothing : Some (e.cid + (code - e.start)) ≡ None = sym (cid_given e code row from to) ∙ none in
+    cc
+
+units_given : (e : BfEntry) (code : ℕ) → IsTextRow e → e.start ≤ code → code ≤ e.end → units_at e code ≡ Some (set e.units (length e.units - 1) (last_unit e.units + (code - e.start)))
+units_given e code row from to = shifted_set e.units (code - e.start) (last_unit e.units) (length e.units - 1) row.1 refl refl (omega arith)
+
+texts_say_some : (entries : List BfEntry) (code : ℕ) → AreTidyTexts entries → FitTexts entries → units_said entries code ≡ Some None → ⊥
+texts_say_some entries code tidy fit is =
+    let (e, row, from, to, none) = found bf_span units_at IsTextRow CouldBeOneText texts_known (2 ^ 32) entries code None tidy fit is in
+    let nothing : Some (set e.units (length e.units - 1) (last_unit e.units + (code - e.start))) ≡ None = sym (units_given e code row from to) ∙ none in
+    cc
+
+-- a list is written anew as one list only
+pub one_cids : (old new other : List CidEntry) → AreTidiedCids old new → Fit new → AreTidiedCids old other → Fit other → new ≡ other
+one_cids old new other (inl tidied) fit (inl tidied_too) fit_too = only_cids new other tidied.0 fit tidied_too.0 fit_too (λ code small. tidied.1 code small ∙ sym (tidied_too.1 code small))
+one_cids old new other (inl tidied) fit (inr ((code, small, none), kept)) fit_too = absurd (cids_say_some new code tidied.0 fit (tidied.1 code small ∙ none))
+one_cids old new other (inr ((code, small, none), kept)) fit (inl tidied) fit_too = absurd (cids_say_some other code tidied.0 fit_too (tidied.1 code small ∙ none))
+one_cids old new other (inr kept) fit (inr kept_too) fit_too = kept.1 ∙ sym kept_too.1
+
+pub one_notdefs : (old new other : List CidEntry) → AreTidiedNotdefs old new → Fit new → AreTidiedNotdefs old other → Fit other → new ≡ other
+one_notdefs old new other tidied fit tidied_too fit_too = only_notdefs new other tidied.0 fit tidied_too.0 fit_too (λ code small. tidied.1 code small ∙ sym (tidied_too.1 code small))
+
+pub one_texts : (old new other : List BfEntry) → AreTidiedTexts old new → FitTexts new → AreTidiedTexts old other → FitTexts other → new ≡ other
+one_texts old new other (inl tidied) fit (inl tidied_too) fit_too = only_texts new other tidied.0 fit tidied_too.0 fit_too (λ code small. tidied.1 code small ∙ sym (tidied_too.1 code small))
+one_texts old new other (inl tidied) fit (inr ((code, small, none), kept)) fit_too = absurd (texts_say_some new code tidied.0 fit (tidied.1 code small ∙ none))
+one_texts old new other (inr ((code, small, none), kept)) fit (inl tidied) fit_too = absurd (texts_say_some other code tidied.0 fit_too (tidied.1 code small ∙ none))
+one_texts old new other (inr kept) fit (inr kept_too) fit_too = kept.1 ∙ sym kept_too.1
