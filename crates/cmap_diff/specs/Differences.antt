@@ -14,7 +14,7 @@ use Rattle.cmap_layers.specs.declared.stretches.Cids.{Cids}
 use Rattle.cmap_diff.specs.declared.cids.CidDifference.{CidDifference}
 use Rattle.cmap_diff.specs.declared.texts.TextDifference.{TextDifference}
 
--- differences, each with its range of codes: in order, below a limit; they have just the codes below it that differ, and no two of them could be one
+-- each is a difference, with a range of codes; in order, below a limit, they have all codes below it that differ, and no two of them could be one
 pub record AreDifferences {D : Type 0} (range_of : D → Range) (IsDifference : D → Type 0) (Differs : ℕ → Type 0) (CouldBeOne : D → D → Type 0) (limit : ℕ) (differences : List D) : Type 0 where
   pub each : All IsDifference differences
   pub all : (code : ℕ) → code < limit → Differs code → Any (λ difference. IsIn code (range_of difference)) differences
