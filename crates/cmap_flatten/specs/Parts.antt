@@ -1,0 +1,68 @@
+-- Private aid: what is declared for codes in a row, and the lists so far.
+use Rattle.std.specs.Prelude.{◌≡◌, ℕ, ◌+◌, ◌-◌, ◌<◌, ◌≤◌, ◌^◌, List, All, Option, Some, None, IfSome, option_and_then, option_map, unwrap_or}
+use Rattle.std.specs.Option.{option_or}
+use Rattle.cmap_runs.specs.Ranges.{last_of}
+use Rattle.cmap_runs.specs.declared.runs.Range.{Range}
+use Rattle.cmap_values.specs.Files.{BfEntry, CidEntry}
+use Rattle.cmap_layers.specs.CodeStretches.{cid_after}
+use Rattle.cmap_layers.specs.Layers.{Layer}
+use Rattle.cmap_layers.specs.Lookups.{bf_at, bf_of, last_bf}
+use Rattle.cmap_layers.specs.declared.stretches.Cids.{Cids}
+use Rattle.cmap_layers.specs.declared.stretches.Cids.TheVariants.{Absent, Same, CountOn}
+use Rattle.cmap_layers.specs.declared.stretches.CidStretch.{CidStretch}
+use Rattle.cmap_unicode.specs.Cids.{declared_cid}
+use Rattle.cmap_flatten.specs.Chosen.{Chosen, codes_span}
+use Rattle.cmap_flatten.specs.Subsets.{AnswersOnly}
+use Rattle.cmap_tidy.specs.Tidy.{AreTidyCids, AreTidyNotdefs, AreTidyTexts, cid_said, notdef_said}
+use Rattle.cmap_flatten.specs.declared.codes.Codes.{Codes}
+
+-- the CIDs that count on are numbers of 32 bits up to this many codes after the first
+abbrev pub Fits : Cids → ℕ → Type 0
+Fits (CountOn cid) more = cid + more < 2 ^ 32
+Fits _ more = Unit {0}
+
+-- of the codes from the first to the last one a layer decides that they have these CIDs, or it decides nothing
+abbrev pub Decides : (ℕ → Option (Option ℕ)) → ℕ → ℕ → Option Cids → Type 0
+Decides decision first last cids = (code : ℕ) → first ≤ code → code ≤ last → decision code ≡ option_map (λ these. cid_after these (code - first)) cids
+
+-- the CIDs that are declared for codes of len bytes from the first one on
+pub record IsDeclaredStretch (layers : List Layer) (len first : ℕ) (stretch : CidStretch) : Type 0 where
+  pub cids : (code : ℕ) → first ≤ code → code ≤ stretch.last → declared_cid layers code len ≡ cid_after stretch.cids (code - first)
+  pub fit : Fits stretch.cids (stretch.last - first)
+
+-- the CID that two lists declare for a code: that of a CID declaration, or else of a notdef
+abbrev pub said : List CidEntry → List CidEntry → ℕ → Option ℕ
+said cids notdefs code = unwrap_or (option_or (cid_said cids code) (option_map (λ cid. Some cid) (notdef_said notdefs code))) None
+
+-- what the answer for a code is to be: that of the whole where the table has the code
+abbrev pub wanted : {A : Type 0} → List Codes → ℕ → Option A → Option A
+wanted table code whole = option_and_then (λ one. whole) (last_of codes_span table code)
+
+-- two tidy lists of declarations, none for a code from a limit on
+pub record IsRoom (cids notdefs : List CidEntry) (limit : ℕ) : Type 0 where
+  pub tidy_cids : AreTidyCids cids
+  pub tidy_notdefs : AreTidyNotdefs notdefs
+  pub cids_end : All (λ e. e.end < limit) cids
+  pub notdefs_end : All (λ e. e.end < limit) notdefs
+
+-- they declare what the layers do for the codes below the limit that the table has, and for no others
+pub record AreDeclaredBelow (layers : List Layer) (len : ℕ) (table : List Codes) (limit : ℕ) (cids notdefs : List CidEntry) : Type 0 where
+  pub room : IsRoom cids notdefs limit
+  pub codes : (code : ℕ) → code < limit → said cids notdefs code ≡ wanted table code (declared_cid layers code len)
+
+-- texts of codes likewise
+pub record AreTextsBelow (layers : List Layer) (table : List Codes) (limit : ℕ) (texts : List BfEntry) : Type 0 where
+  pub tidy : AreTidyTexts texts
+  pub ends : All (λ e. e.end < limit) texts
+  pub codes : (code : ℕ) → code < limit → option_and_then (λ e. bf_at e code) (last_bf texts code) ≡ wanted table code (bf_of layers code)
+
+-- codes with these CIDs are added to two lists, and for all others these declare what they did
+pub record IsAdded (cids notdefs : List CidEntry) (range : Range) (these : Cids) (new_cids new_notdefs : List CidEntry) : Type 0 where
+  pub room : IsRoom new_cids new_notdefs (range.end + 1)
+  pub here : (code : ℕ) → range.start ≤ code → code ≤ range.end → said new_cids new_notdefs code ≡ cid_after these (code - range.start)
+  pub below : (code : ℕ) → code < range.start → said new_cids new_notdefs code ≡ said cids notdefs code
+
+-- two tidy lists that declare what the layers do for the chosen codes of len bytes, and for no others
+pub record AreDeclared (layers : List Layer) (chosen : List Codes) (len : ℕ) (cids notdefs : List CidEntry) : Type 0 where
+  pub tidy : AreTidyCids cids × AreTidyNotdefs notdefs
+  pub codes : (code : ℕ) → code < 2 ^ 32 → AnswersOnly (Chosen chosen code len) (declared_cid layers code len) (said cids notdefs code)
