@@ -1,0 +1,25 @@
+-- Private aid: a tidy list to which a declaration was added.
+use Rattle.std.specs.Prelude.{◌≡◌, ℕ, ◌≤◌, List, All, Option, Some, ◌&&◌, nat_le, nat_lt, if◌then◌else◌}
+use Rattle.cmap_runs.specs.Ranges.{Span, contains}
+use Rattle.cmap_values.specs.Files.{BfEntry, CidEntry}
+use Rattle.cmap_layers.specs.Lookups.{bf_span, cid_at, cid_span}
+use Rattle.cmap_tidy.specs.Tidy.{AreTidy, CouldBeOneCid, CouldBeOneNotdef, CouldBeOneText, IsCidRow, IsNotdefRow, IsTextRow, notdef_at, said, units_at}
+
+-- the tidy list says of the row's codes what the row says, and of others what the old list says
+pub record AddsRow {E X : Type 0} (span : E → Span) (at : E → ℕ → X) (IsRow : E → Type 0) (CouldBeOne : E → E → Type 0) (old : List E) (row : E) (new : List E) : Type 0 where
+  pub tidy : AreTidy span IsRow CouldBeOne new
+  pub said : (code : ℕ) → said span at new code ≡ (if contains (span row) code then Some (at row code) else said span at old code)
+  pub last : All (λ e. (span e).end ≤ (span row).end) new
+
+abbrev pub AddsCidRow : List CidEntry → CidEntry → List CidEntry → Type 0
+AddsCidRow old row new = AddsRow cid_span cid_at IsCidRow CouldBeOneCid old row new
+
+abbrev pub AddsNotdefRow : List CidEntry → CidEntry → List CidEntry → Type 0
+AddsNotdefRow old row new = AddsRow cid_span notdef_at IsNotdefRow CouldBeOneNotdef old row new
+
+abbrev pub AddsTextRow : List BfEntry → BfEntry → List BfEntry → Type 0
+AddsTextRow old row new = AddsRow bf_span units_at IsTextRow CouldBeOneText old row new
+
+-- of the codes from the first to the one before `next` is said what `here` gives, and of others what was said before
+abbrev pub IsSaidTo : {X : Type 0} → ℕ → ℕ → (ℕ → X) → (ℕ → Option X) → (ℕ → Option X) → Type 0
+IsSaidTo first next here before now = (code : ℕ) → now code ≡ (if nat_le first code && nat_lt code next then Some (here code) else before code)
