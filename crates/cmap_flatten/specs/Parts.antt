@@ -11,7 +11,7 @@ use Rattle.cmap_layers.specs.declared.stretches.Cids.{Cids}
 use Rattle.cmap_layers.specs.declared.stretches.Cids.TheVariants.{Absent, Same, CountOn}
 use Rattle.cmap_layers.specs.declared.stretches.CidStretch.{CidStretch}
 use Rattle.cmap_unicode.specs.Cids.{declared_cid}
-use Rattle.cmap_flatten.specs.Chosen.{Chosen, codes_span}
+use Rattle.cmap_flatten.specs.Chosen.{Chosen, ChosenNumber, codes_span}
 use Rattle.cmap_flatten.specs.Subsets.{AnswersOnly}
 use Rattle.cmap_tidy.specs.Tidy.{AreTidyCids, AreTidyNotdefs, AreTidyTexts, cid_said, notdef_said}
 use Rattle.cmap_flatten.specs.declared.codes.Codes.{Codes}
@@ -50,11 +50,30 @@ pub record AreDeclaredBelow (layers : List Layer) (len : ℕ) (table : List Code
   pub room : IsRoom cids notdefs limit
   pub codes : (code : ℕ) → code < limit → said cids notdefs code ≡ wanted table code (declared_cid layers code len)
 
--- texts of codes likewise
-pub record AreTextsBelow (layers : List Layer) (table : List Codes) (limit : ℕ) (texts : List BfEntry) : Type 0 where
+-- the text that a list declares for a code
+abbrev pub text_said : List BfEntry → ℕ → Option (List ℕ)
+text_said texts code = option_and_then (λ e. bf_at e code) (last_bf texts code)
+
+-- a tidy list of texts, none for a code from a limit on
+pub record IsTextRoom (texts : List BfEntry) (limit : ℕ) : Type 0 where
   pub tidy : AreTidyTexts texts
   pub ends : All (λ e. e.end < limit) texts
-  pub codes : (code : ℕ) → code < limit → option_and_then (λ e. bf_at e code) (last_bf texts code) ≡ wanted table code (bf_of layers code)
+
+-- they are the texts of the layers for the codes below the limit that the table has, and for no others
+pub record AreTextsBelow (layers : List Layer) (table : List Codes) (limit : ℕ) (texts : List BfEntry) : Type 0 where
+  pub room : IsTextRoom texts limit
+  pub codes : (code : ℕ) → code < limit → text_said texts code ≡ wanted table code (bf_of layers code)
+
+-- codes with these texts are added to a list, and for all others it declares what it did
+pub record AreTextsAdded (texts : List BfEntry) (range : Range) (text : ℕ → Option (List ℕ)) (new : List BfEntry) : Type 0 where
+  pub room : IsTextRoom new (range.end + 1)
+  pub here : (code : ℕ) → range.start ≤ code → code ≤ range.end → text_said new code ≡ text code
+  pub below : (code : ℕ) → code < range.start → text_said new code ≡ text_said texts code
+
+-- a tidy list of the texts of the layers for the chosen numbers, and for no others
+pub record AreTexts (layers : List Layer) (chosen : List Codes) (texts : List BfEntry) : Type 0 where
+  pub tidy : AreTidyTexts texts
+  pub codes : (code : ℕ) → code < 2 ^ 32 → AnswersOnly (ChosenNumber chosen code) (bf_of layers code) (text_said texts code)
 
 -- codes with these CIDs are added to two lists, and for all others these declare what they did
 pub record IsAdded (cids notdefs : List CidEntry) (range : Range) (these : Cids) (new_cids new_notdefs : List CidEntry) : Type 0 where

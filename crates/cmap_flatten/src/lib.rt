@@ -6,3 +6,4 @@ mod cids;
 pub mod codes;
 mod declared;
 mod stretch;
+mod texts;
