@@ -84,3 +84,15 @@ lengths_differ a b other same = true≢false (sym (eq-eqb _ _ same) ∙ sym (sam
 -- what stands at an index past the end
 abbrev pub no_codes : Codes
 no_codes = record { len = One; range = record { start = 0; end = 0 } }
+
+-- ---- the declaration that decides a code is one of the list, and contains the code
+module _ {A : Type 0} (span : A → Span) (xs : List A) (code : ℕ) (x : A) where
+  one_at : (o : Option ℕ) → IsLast (map span xs) code o → option_and_then (slice_get xs) o ≡ Some x → Any (λ y. (y ≡ x) × Holds span xs code y) xs
+  one_at None last none = absurd (none-some x none)
+  one_at (Some index) last is =
+      let same = same_Some _ _ (sym last.0.1 ∙ slice_get-map span xs index ∙ ap (option_map span) is) in
+      let parts = and_parts _ _ (subst (λ s. contains s code ≡ true) same last.0.2) in
+      (index, x, slice_get_within xs index x is, get_or_from_slice_get xs index x x is, (refl, (leb-true _ _ parts.0, leb-true _ _ parts.1)))
+
+  pub found_one : last_of span xs code ≡ Some x → Any (λ y. (y ≡ x) × Holds span xs code y) xs
+  found_one is = one_at (last_index (map span xs) code) (is_last (map span xs) code) is

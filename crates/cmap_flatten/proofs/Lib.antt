@@ -3,6 +3,8 @@ pub mod ChosenCodes
 pub mod CodesDeclared
 pub mod DeclaredStretches
 pub mod ListsAdded
+pub mod OneFile
 pub mod TextsAdded
 pub mod TextsDeclared
 pub mod TidyLists
+pub mod WithoutTexts

@@ -1,18 +1,21 @@
 -- Private aid: what is declared for codes in a row, and the lists so far.
-use Rattle.std.specs.Prelude.{◌≡◌, ℕ, ◌+◌, ◌-◌, ◌<◌, ◌≤◌, ◌^◌, List, All, Option, Some, None, IfSome, option_and_then, option_map, unwrap_or}
+use Rattle.std.specs.Prelude.{◌≡◌, ℕ, ◌+◌, ◌-◌, ◌<◌, ◌≤◌, ◌^◌, List, [], All, Option, Some, None, IfSome, option_and_then, option_map, unwrap_or}
 use Rattle.std.specs.Option.{option_or}
 use Rattle.cmap_runs.specs.Ranges.{last_of}
 use Rattle.cmap_runs.specs.declared.runs.Range.{Range}
-use Rattle.cmap_values.specs.Files.{BfEntry, CidEntry}
+use Rattle.cmap_values.specs.CodeLengths.{length_of}
+use Rattle.cmap_values.specs.Files.{BfEntry, CidEntry, File, Lists}
+use Rattle.cmap_values.specs.declared.code_length.CodeLength.{CodeLength}
 use Rattle.cmap_layers.specs.CodeStretches.{cid_after}
-use Rattle.cmap_layers.specs.Layers.{Layer}
-use Rattle.cmap_layers.specs.Lookups.{bf_at, bf_of, last_bf}
+use Rattle.cmap_layers.specs.Layers.{Layer, top_metadata}
+use Rattle.cmap_layers.specs.Lookups.{bf_at, bf_of, cid_of, last_bf}
+use Rattle.cmap_layers.specs.StringCodes.{ranges_of}
 use Rattle.cmap_layers.specs.declared.stretches.Cids.{Cids}
 use Rattle.cmap_layers.specs.declared.stretches.Cids.TheVariants.{Absent, Same, CountOn}
 use Rattle.cmap_layers.specs.declared.stretches.CidStretch.{CidStretch}
 use Rattle.cmap_unicode.specs.Cids.{declared_cid}
 use Rattle.cmap_flatten.specs.Chosen.{Chosen, ChosenNumber, codes_span}
-use Rattle.cmap_flatten.specs.Subsets.{AnswersOnly}
+use Rattle.cmap_flatten.specs.Subsets.{AnswersOnly, IsKept, cid_of_one}
 use Rattle.cmap_tidy.specs.Tidy.{AreTidyCids, AreTidyNotdefs, AreTidyTexts, cid_said, notdef_said}
 use Rattle.cmap_flatten.specs.declared.codes.Codes.{Codes}
 
@@ -85,3 +88,30 @@ pub record IsAdded (cids notdefs : List CidEntry) (range : Range) (these : Cids)
 pub record AreDeclared (layers : List Layer) (chosen : List Codes) (len : ℕ) (cids notdefs : List CidEntry) : Type 0 where
   pub tidy : AreTidyCids cids × AreTidyNotdefs notdefs
   pub codes : (code : ℕ) → code < 2 ^ 32 → AnswersOnly (Chosen chosen code len) (declared_cid layers code len) (said cids notdefs code)
+
+-- the lists of one file: what the layers declare for the chosen codes, and their codespace ranges
+pub record AreLists (layers : List Layer) (chosen : List Codes) (lists : Lists) : Type 0 where
+  pub one : AreDeclared layers chosen 1 lists.cids.one lists.notdefs.one
+  pub two : AreDeclared layers chosen 2 lists.cids.two lists.notdefs.two
+  pub three : AreDeclared layers chosen 3 lists.cids.three lists.notdefs.three
+  pub four : AreDeclared layers chosen 4 lists.cids.four lists.notdefs.four
+  pub texts : AreTexts layers chosen lists.bfs
+  pub spaces : lists.spaces ≡ ranges_of layers
+
+-- the file of the top layer's metadata and of such lists
+pub record IsFileOf (layers : List Layer) (chosen : List Codes) (file : File) : Type 0 where
+  pub metadata : top_metadata layers ≡ Some file.metadata
+  pub uses : file.uses ≡ []
+  pub lists : AreLists layers chosen file.lists
+
+-- one file can give each chosen code of a length its CID
+abbrev pub AreKept : List Layer → List Codes → CodeLength → Type 0
+AreKept layers chosen len = (code : ℕ) → code < 2 ^ 32 → Chosen chosen code (length_of len) → IsKept layers code (length_of len)
+
+-- and each of any length
+abbrev pub AreAllKept : List Layer → List Codes → Type 0
+AreAllKept layers chosen = (len : CodeLength) → AreKept layers chosen len
+
+-- the CIDs of a map are those that one file can give to the chosen codes
+abbrev pub HasCidsOfOne : List Layer → List Codes → List Layer → Type 0
+HasCidsOfOne layers chosen flat = (code : ℕ) (len : CodeLength) → code < 2 ^ 32 → Chosen chosen code (length_of len) → cid_of flat code (length_of len) ≡ cid_of_one layers code (length_of len)

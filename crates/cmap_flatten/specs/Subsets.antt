@@ -1,10 +1,9 @@
 -- One file with the answers of a map of several layers, for all codes or for those that are chosen.
-use Rattle.std.specs.Prelude.{◌≡◌, ◌≢◌, ◌↔◌, ℕ, ◌<◌, ◌^◌, List, [], ◌∷◌, Any, Option, Some, None}
-use Rattle.std.specs.List.{Contains}
+use Rattle.std.specs.Prelude.{◌≡◌, ◌↔◌, ℕ, ◌<◌, ◌^◌, List, [], ◌∷◌, Any, Option, Some, None}
 use Rattle.std.specs.Option.{option_or}
 use Rattle.cmap_tokens.specs.Texts.{only_character}
 use Rattle.cmap_values.specs.CodeLengths.{IsCodeLength, length_of}
-use Rattle.cmap_values.specs.Files.{File, Lists}
+use Rattle.cmap_values.specs.Files.{Codespace, File, Lists}
 use Rattle.cmap_layers.specs.Layers.{Layer, layer_of, top_metadata}
 use Rattle.cmap_layers.specs.Lookups.{bf_of, cid_of}
 use Rattle.cmap_unicode.specs.Cids.{declared_cid}
@@ -31,7 +30,7 @@ pub record AnswersAs (IsChosen : ℕ → ℕ → Type 0) (IsChosenNumber : ℕ �
   pub metadata : top_metadata layers ≡ Some file.metadata
   pub uses : file.uses ≡ []
   -- a codespace range is one of the file just if it is one of some layer, so strings are cut alike
-  pub spaces : (space : _) → (Any (λ own. own ≡ space) file.lists.spaces ↔ Any (λ layer. Any (λ own. own ≡ space) layer.lists.spaces) layers)
+  pub spaces : (space : Codespace) → (Any (λ own. own ≡ space) file.lists.spaces ↔ Any (λ layer. Any (λ own. own ≡ space) layer.lists.spaces) layers)
   pub declared : (code len : ℕ) → code < 2 ^ 32 → IsCodeLength len → AnswersOnly (IsChosen code len) (declared_cid layers code len) (declared_cid (layer_of file ∷ []) code len)
   pub texts : (code : ℕ) → code < 2 ^ 32 → AnswersOnly (IsChosenNumber code) (bf_of layers code) (bf_of (layer_of file ∷ []) code)
   pub answers : (code len : ℕ) → code < 2 ^ 32 → IsCodeLength len → IsChosen code len → cid_of (layer_of file ∷ []) code len ≡ cid_of layers code len
@@ -45,6 +44,18 @@ IsSubset layers codes file = AnswersAs (Chosen codes) (ChosenNumber codes) layer
 abbrev pub IsFlat : List Layer → File → Type 0
 IsFlat layers file = AnswersAs (λ code len. Unit {0}) (λ code. Unit {0}) layers file
 
--- no file has all answers for the code: its CID isn't the one that is declared, nor, where none is, the character of its text. A text of a layer stands before a CID of a layer below
+-- the CID that one file can give to a code, which declares no other CID and gives no other text: the one that is declared, and else the character of the text
+abbrev pub cid_of_one : List Layer → ℕ → ℕ → Option ℕ
+cid_of_one layers code len = option_or (declared_cid layers code len) (only_character (bf_of layers code))
+
+-- it is that of the layers
+abbrev pub IsKept : List Layer → ℕ → ℕ → Type 0
+IsKept layers code len = cid_of layers code len ≡ cid_of_one layers code len
+
+-- no file has all answers for the code: in the layers a character stands before a CID of a layer below, or a CID that passes 32 bits before a character
 abbrev pub Contradicts : List Layer → Contradiction → Type 0
-Contradicts layers at = let len = length_of at.len in cid_of layers at.code len ≢ option_or (declared_cid layers at.code len) (only_character (bf_of layers at.code))
+Contradicts layers at = IsKept layers at.code (length_of at.len) → ⊥
+
+-- the code is a chosen one
+abbrev pub IsContradiction : List Layer → List Codes → Contradiction → Type 0
+IsContradiction layers codes at = Chosen codes at.code (length_of at.len) × Contradicts layers at

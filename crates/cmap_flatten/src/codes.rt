@@ -1,8 +1,8 @@
 //! The codes that are chosen.
 
-ghost use Rattle.std.specs.Prelude.{◌↔◌, ℕ, IfOk, IsSome};
+ghost use Rattle.std.specs.Prelude.{◌↔◌, ℕ, ◌<◌, ◌^◌, IfOk, IsSome};
 ghost use Rattle.cmap_runs.specs.Ranges.{last_of};
-ghost use Rattle.cmap_values.specs.CodeLengths.{length_of};
+ghost use Rattle.cmap_values.specs.CodeLengths.{IsCodeLength, length_of};
 ghost use Rattle.cmap_flatten.specs.Chosen.{Chosen, ChosenNumber, codes_span};
 
 use cmap_runs::runs::{HasRange, Range, Table};
@@ -53,4 +53,20 @@ pub(crate) fn numbers_of(alloc: Global, codes: &[Codes]) -> Result<Table<Codes>,
 {
     let list = Vec::from_slice(alloc, codes)?;
     Table::build(alloc, list)
+}
+
+/// All codes of each length.
+pub(crate) fn all_codes() -> [Codes; 4]
+    ensures { (code len : ℕ) → code < 2 ^ 32 → IsCodeLength len → Chosen result code len }
+{
+    let range = Range {
+        start: 0,
+        end: u32::MAX,
+    };
+    [
+        Codes { len: CodeLength::One, range },
+        Codes { len: CodeLength::Two, range },
+        Codes { len: CodeLength::Three, range },
+        Codes { len: CodeLength::Four, range },
+    ]
 }
