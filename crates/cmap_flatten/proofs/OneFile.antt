@@ -69,8 +69,8 @@ one_cid layer code len tidy =
     ∙ combined code (last_cid cids code) (last_cid (of_length layer.lists.notdefs (length_of len)) code) (only_character (text_said layer.lists.bfs code)) (λ e is. fits cids code e tidy is)
 
 -- ---- the lists of one file
-chosen_number : (chosen : List Codes) (code len : ℕ) → Chosen chosen code len → ChosenNumber chosen code
-chosen_number chosen code len (k, one, lt, is, same, within) = (k, one, lt, is, within)
+pub chosen_number : (chosen : List Codes) (code len : ℕ) → Chosen chosen code len → ChosenNumber chosen code
+chosen_number chosen code len (k, one, lt, is, here) = (k, one, lt, is, here.1)
 
 module _ (layers : List Layer) (chosen : List Codes) (lists : Lists) (are : AreLists layers chosen lists) where
   pub of_each : (len : CodeLength) → AreDeclared layers chosen (length_of len) (of_length lists.cids (length_of len)) (of_length lists.notdefs (length_of len))
@@ -141,3 +141,8 @@ is_flat layers chosen file all is = record {
   answers = λ code len small few _. is.answers code len small few (all code len small few);
   tidy = is.tidy;
 }
+
+-- a map of one layer with such lists
+pub flat_of : (layers : List Layer) (chosen : List Codes) (lists : Lists) {metadata : FileMetadata} (flat : List Layer) (layer : Layer) → AreLists layers chosen lists → flat ≡ layer ∷ [] → layer ≡ record { metadata = metadata; lists = lists }
+    → HasCidsOfOne layers chosen flat
+flat_of layers chosen lists {metadata} flat layer are one is = subst (HasCidsOfOne layers chosen) (sym (one ∙ ap (λ l. l ∷ []) is)) (cids_of_one layers chosen lists are metadata)
