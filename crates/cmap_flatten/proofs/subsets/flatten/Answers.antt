@@ -1,10 +1,12 @@
-use Rattle.std.proofs.Common.{rules, IfOk, ◌≡◌, ℕ, ◌+◌, ◌-◌, ◌*◌, ◌<◌, ◌≤◌, length, ◌/◌, ◌%◌, Bool, true, false, nat_eq, nat_lt, List, [], ◌∷◌, ◌++◌, slice_index_or, slice_set, bit_and, bit_or, Fits, w8, w32, w64, Bor, MutBor}
+use Rattle.std.proofs.lemmas.Result.{IfOk-weaker}
+use Rattle.cmap_values.proofs.Outcomes.{refused_on}
 use Rattle.cmap_values.specs.FilesSeen.{file_seen}
-use Rattle.cmap_values.specs.Outcomes.{Outcome}
-use Rattle.cmap_flatten.specs.Parts.{IsFileOf}
-use Rattle.cmap_flatten.specs.Subsets.{Contradicts, IsContradiction, IsFlat, IsSubset}
+use Rattle.cmap_flatten.specs.Subsets.{IsFlat, IsSubset}
+use Rattle.cmap_flatten.proofs.OneFile.{is_flat}
 use Rattle.cmap_flatten.proofs.subsets.flatten.Goals as goal
 
--- src/subsets.rt:25:1
 pub returns : goal.returns
-returns c = ?
+returns c =
+    let layers = c.args.layers.now in let codes = c.all_codes.result in
+    (IfOk-weaker c.subset.result (λ file. IsSubset layers codes (file_seen file)) (λ file. IsFlat layers (file_seen file)) (λ file is. is_flat layers codes (file_seen file) c.all_codes.ensures is) c.subset.ensures.0,
+    refused_on c.subset.result c.subset.ensures.1 (λ at is. is.1))
