@@ -1,0 +1,11 @@
+pub mod AnyElements
+pub mod ChosenCodes
+pub mod CodesDeclared
+pub mod DeclaredStretches
+pub mod LengthsTried
+pub mod ListsAdded
+pub mod OneFile
+pub mod TextsAdded
+pub mod TextsDeclared
+pub mod TidyLists
+pub mod WithoutTexts
