@@ -5,6 +5,7 @@ pub mod DeclaredStretches
 pub mod LengthsTried
 pub mod ListsAdded
 pub mod OneFile
+pub mod SameElements
 pub mod TextsAdded
 pub mod TextsDeclared
 pub mod TidyLists

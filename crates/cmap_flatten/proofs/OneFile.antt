@@ -1,10 +1,9 @@
 -- The answers of one file, by what its lists declare.
-use Rattle.std.proofs.Common.{◌≡◌, ℕ, zero, suc, ◌+◌, ◌-◌, ◌<◌, ◌≤◌, ◌^◌, List, [], ◌∷◌, ◌++◌, Option, Some, None, length, get_or, inl, inr, refl, sym, ap, ◌∙◌, subst, arith}
-use Rattle.std.specs.Prelude.{◌↔◌, Any, All, option_and_then, option_map, slice_get, unwrap_or}
+use Rattle.std.proofs.Common.{◌≡◌, ℕ, zero, suc, ◌+◌, ◌-◌, ◌<◌, ◌≤◌, ◌^◌, List, [], ◌∷◌, Option, Some, None, inl, inr, refl, sym, ap, ◌∙◌, subst, arith}
+use Rattle.std.specs.Prelude.{Contains, ◌↔◌, Any, option_and_then, option_map, unwrap_or}
 use Rattle.std.specs.Option.{option_or}
 use Rattle.std.proofs.lemmas.Bool.{cond-true}
 use Rattle.std.proofs.lemmas.Bool.Decides.{nat_tests}
-use Rattle.cmap_runs.specs.Ranges.{last_of}
 use Rattle.cmap_tokens.specs.Texts.{only_character}
 use Rattle.cmap_values.specs.CodeLengths.{IsCodeLength, length_of}
 use Rattle.cmap_values.specs.Files.{BfEntry, CidEntry, Codespace, File, FileMetadata, Lists, of_length}
@@ -16,10 +15,10 @@ use Rattle.cmap_layers.specs.StringCodes.{ranges_of}
 use Rattle.cmap_layers.proofs.LayerStretches.{has_code_length}
 use Rattle.cmap_unicode.specs.Cids.{declared_cid}
 use Rattle.cmap_unicode.specs.LayersTried.{declared_by, declared_in}
-use Rattle.cmap_tidy.specs.Tidy.{AreTidyCids, cid_said, notdef_at, notdef_said}
+use Rattle.cmap_tidy.specs.Tidy.{AreTidyCids, notdef_at}
 use Rattle.cmap_flatten.specs.Chosen.{Chosen, ChosenNumber}
 use Rattle.cmap_flatten.specs.Parts.{AreAllKept, AreDeclared, AreLists, HasCidsOfOne, IsFileOf, said, text_said}
-use Rattle.cmap_flatten.specs.Subsets.{AnswersAs, AnswersOnly, IsFlat, IsSubset, cid_of_one}
+use Rattle.cmap_flatten.specs.Subsets.{AnswersOnly, IsFlat, IsSubset}
 use Rattle.cmap_flatten.specs.declared.codes.Codes.{Codes}
 use Rattle.cmap_flatten.proofs.AnyElements.{Any-cases, Any-left, Any-nil, Any-right}
 use Rattle.cmap_flatten.proofs.ChosenCodes.{found_one}
@@ -101,6 +100,13 @@ any_range P layers = (into layers, back layers) where
   back (layer ∷ below) (zero, found, lt, is, holds) = Any-left P layer.lists.spaces (ranges_of below) (subst (λ (l : Layer). Any P l.lists.spaces) (sym is) holds)
   back (layer ∷ below) (suc k, found, lt, is, holds) = Any-right P layer.lists.spaces (ranges_of below) (back below (k, found, omega arith, is, holds))
 
+-- an element of a list, as one that is the same as some
+contained : {A : Type 0} (xs : List A) (x : A) → Contains xs x → Any (λ own. own ≡ x) xs
+contained xs x (k, within, is) = (k, x, within, is, refl)
+
+containing : {A : Type 0} (xs : List A) (x : A) → Any (λ own. own ≡ x) xs → Contains xs x
+containing xs x (k, own, within, is, same) = subst (Contains xs) same (k, within, is)
+
 -- ---- one file
 -- a length that codes have
 of_count : (len : ℕ) → IsCodeLength len → (of : CodeLength) × (length_of of ≡ len)
@@ -117,7 +123,9 @@ is_subset layers chosen file are kept =
     record {
       metadata = are.metadata;
       uses = are.uses;
-      spaces = λ space. subst (λ spaces. Any (λ own. own ≡ space) spaces ↔ Any (λ layer. Any (λ own. own ≡ space) layer.lists.spaces) layers) (sym lists.spaces) (any_range (λ own. own ≡ space) layers);
+      spaces = λ space.
+          let (into, back) = any_range (λ own. own ≡ space) layers in let (kept, found) = lists.spaces space in
+          (λ any. into (contained (ranges_of layers) space (found (containing file.lists.spaces space any))), λ any. contained file.lists.spaces space (kept (containing (ranges_of layers) space (back any))));
       declared = λ code count small few.
           let (len, is) = of_count count few in
           subst (λ count. AnswersOnly (Chosen chosen code count) (declared_cid layers code count) (declared_cid (layer ∷ []) code count)) is

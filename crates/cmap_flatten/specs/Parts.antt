@@ -1,5 +1,5 @@
 -- Private aid: what is declared for codes in a row, and the lists so far.
-use Rattle.std.specs.Prelude.{◌≡◌, ℕ, ◌+◌, ◌-◌, ◌<◌, ◌≤◌, ◌^◌, List, [], All, Option, Some, None, IfSome, option_and_then, option_map, unwrap_or}
+use Rattle.std.specs.Prelude.{◌≡◌, ◌↔◌, ℕ, ◌+◌, ◌-◌, ◌<◌, ◌≤◌, ◌^◌, List, [], All, Contains, Option, Some, None, option_and_then, option_map, unwrap_or}
 use Rattle.std.specs.Option.{option_or}
 use Rattle.cmap_runs.specs.Ranges.{last_of}
 use Rattle.cmap_runs.specs.declared.runs.Range.{Range}
@@ -11,7 +11,7 @@ use Rattle.cmap_layers.specs.Layers.{Layer, top_metadata}
 use Rattle.cmap_layers.specs.Lookups.{bf_at, bf_of, cid_of, last_bf}
 use Rattle.cmap_layers.specs.StringCodes.{ranges_of}
 use Rattle.cmap_layers.specs.declared.stretches.Cids.{Cids}
-use Rattle.cmap_layers.specs.declared.stretches.Cids.TheVariants.{Absent, Same, CountOn}
+use Rattle.cmap_layers.specs.declared.stretches.Cids.TheVariants.{CountOn}
 use Rattle.cmap_layers.specs.declared.stretches.CidStretch.{CidStretch}
 use Rattle.cmap_unicode.specs.Cids.{declared_cid}
 use Rattle.cmap_flatten.specs.Chosen.{Chosen, ChosenNumber, codes_span}
@@ -89,6 +89,10 @@ pub record AreDeclared (layers : List Layer) (chosen : List Codes) (len : ℕ) (
   pub tidy : AreTidyCids cids × AreTidyNotdefs notdefs
   pub codes : (code : ℕ) → code < 2 ^ 32 → AnswersOnly (Chosen chosen code len) (declared_cid layers code len) (said cids notdefs code)
 
+-- two lists have the same elements, in whatever order and however often
+abbrev pub HasSame : {A : Type 0} → List A → List A → Type 0
+HasSame {A} xs ys = (x : A) → Contains xs x ↔ Contains ys x
+
 -- the lists of one file: what the layers declare for the chosen codes, and their codespace ranges
 pub record AreLists (layers : List Layer) (chosen : List Codes) (lists : Lists) : Type 0 where
   pub one : AreDeclared layers chosen 1 lists.cids.one lists.notdefs.one
@@ -96,7 +100,7 @@ pub record AreLists (layers : List Layer) (chosen : List Codes) (lists : Lists) 
   pub three : AreDeclared layers chosen 3 lists.cids.three lists.notdefs.three
   pub four : AreDeclared layers chosen 4 lists.cids.four lists.notdefs.four
   pub texts : AreTexts layers chosen lists.bfs
-  pub spaces : lists.spaces ≡ ranges_of layers
+  pub spaces : HasSame (ranges_of layers) lists.spaces
 
 -- the file of the top layer's metadata and of such lists
 pub record IsFileOf (layers : List Layer) (chosen : List Codes) (file : File) : Type 0 where

@@ -2,7 +2,7 @@ use Rattle.std.proofs.Common.{◌≡◌, ◌++◌, drop, map}
 use Rattle.cmap_values.specs.DeclarationsSeen.{codespace_seen}
 use Rattle.cmap_layers.specs.LayersSeen.{layers_seen}
 use Rattle.cmap_layers.specs.StringCodes.{ranges_of}
-use Rattle.cmap_flatten.proofs.lists.spaces_of.Given as goal
+use Rattle.cmap_flatten.proofs.lists.all_spaces.Given as goal
 
 -- the ranges so far, and those of the layers that are left
 abbrev pub invariant-loop-layer : goal.invariant-loop-layer
