@@ -6,3 +6,8 @@ pub mod NotdefsAdded
 pub mod TextUnits
 pub mod TextsAdded
 pub mod RowsSaid
+pub mod SaidSoFar
+pub mod EachLength
+pub mod OnlyTidy
+pub mod OnlyTidyLists
+pub mod SameAnswers

@@ -2,7 +2,7 @@
 use Rattle.std.proofs.Common.{◌≡◌, ℕ, ◌+◌, ◌-◌, ◌<◌, ◌^◌, true, false, List, [], ◌∷◌, ◌++◌, Option, Some, None, length, get_or, set, take, refl, sym, ap, ◌∙◌, arith}
 use Rattle.std.specs.Prelude.{nat_lt, option_and_then, slice_get, if◌then◌else◌}
 use Rattle.std.proofs.lemmas.Bool.Decides.{nat_tests}
-use Rattle.std.proofs.lemmas.Bool.{cond-true}
+use Rattle.std.proofs.lemmas.Bool.{cond-false, cond-true}
 use Rattle.std.proofs.lemmas.List.{get_or_push, length_push, same_from_push, set_at, take_at}
 use Rattle.std.proofs.lemmas.Option.{slice_get-get_or, same_Some}
 use Rattle.cmap_tokens.specs.Texts.{shifted}
@@ -94,3 +94,22 @@ last_is xs units i last same at some is =
     let here : last ≡ get_or units (length units - 1) last = is ∙ ap (λ us. get_or us i last) same ∙ ap (λ k. get_or units k last) at in
     same_Some last (last_unit units)
     (ap (λ u. Some u) here ∙ sym (slice_get-get_or units (length units - 1) last (omega arith)) ∙ slice_get-get_or units (length units - 1) 0 (omega arith))
+
+pub later_some : (units later : List ℕ) (offset : ℕ) → shifted units offset ≡ Some later → 0 < length later
+later_some units later offset is =
+    let (front, same, small, made, last) = shifted_is units later offset is in
+    let count = length_push front (last_unit units + offset) in omega (arith, ap length made)
+
+-- where there are no units, or the last one passes 16 bits
+pub shifted_past : (units : List ℕ) (offset : ℕ) → (0 < length units → last_unit units + offset < 2 ^ 16 → ⊥) → shifted units offset ≡ None
+shifted_past [] offset past = refl
+shifted_past (u ∷ us) offset past =
+    let (front, same) = parted (u ∷ us) (omega arith) in
+    ap (λ these. shifted these offset) same ∙ shifted-push front (last_unit (u ∷ us)) offset
+    ∙ cond-false (nat_lt (last_unit (u ∷ us) + offset) (2 ^ 16)) _ _ (let past = past (omega arith) in grind (arith, nat_tests))
+
+pub shifted_zero : (units : List ℕ) → 0 < length units → last_unit units < 2 ^ 16 → shifted units 0 ≡ Some units
+shifted_zero units some small =
+    let (front, same) = parted units some in
+    let zero : last_unit units + 0 ≡ last_unit units = omega arith in
+    ap (λ us. shifted us 0) same ∙ shifted-push front (last_unit units) 0 ∙ ap (ended front) zero ∙ ended_some front (last_unit units) small ∙ ap (λ us. Some us) (sym same)

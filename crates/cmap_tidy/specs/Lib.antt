@@ -1,2 +1,3 @@
+pub mod Tidied
 pub mod Tidy
 pub mod TidyAdded

@@ -1,9 +1,11 @@
 -- Private aid: a tidy list to which a declaration was added.
-use Rattle.std.specs.Prelude.{◌≡◌, ℕ, ◌≤◌, List, All, Option, Some, ◌&&◌, nat_le, nat_lt, if◌then◌else◌}
+use Rattle.std.specs.Prelude.{◌≡◌, ℕ, ◌+◌, ◌-◌, ◌<◌, ◌≤◌, ◌^◌, List, All, Option, Some, ◌&&◌, length, nat_le, nat_lt, if◌then◌else◌}
 use Rattle.cmap_runs.specs.Ranges.{Span, contains}
+use Rattle.cmap_runs.specs.declared.runs.Range.{Range}
+use Rattle.cmap_tokens.specs.Texts.{shifted}
 use Rattle.cmap_values.specs.Files.{BfEntry, CidEntry}
 use Rattle.cmap_layers.specs.Lookups.{bf_span, cid_at, cid_span}
-use Rattle.cmap_tidy.specs.Tidy.{AreTidy, CouldBeOneCid, CouldBeOneNotdef, CouldBeOneText, IsCidRow, IsNotdefRow, IsTextRow, notdef_at, said, units_at}
+use Rattle.cmap_tidy.specs.Tidy.{AreTidy, AreTidyTexts, CouldBeOneCid, CouldBeOneNotdef, CouldBeOneText, IsCidRow, IsNotdefRow, IsTextRow, last_unit, notdef_at, said, said_with, units_at, units_said}
 
 -- the tidy list says of the row's codes what the row says, and of others what the old list says
 pub record AddsRow {E X : Type 0} (span : E → Span) (at : E → ℕ → X) (IsRow : E → Type 0) (CouldBeOne : E → E → Type 0) (old : List E) (row : E) (new : List E) : Type 0 where
@@ -23,3 +25,22 @@ AddsTextRow old row new = AddsRow bf_span units_at IsTextRow CouldBeOneText old 
 -- of the codes from the first to the one before `next` is said what `here` gives, and of others what was said before
 abbrev pub IsSaidTo : {X : Type 0} → ℕ → ℕ → (ℕ → X) → (ℕ → Option X) → (ℕ → Option X) → Type 0
 IsSaidTo first next here before now = (code : ℕ) → now code ≡ (if nat_le first code && nat_lt code next then Some (here code) else before code)
+
+-- a tidy list of codes below `next`, which says of them what another list says
+pub record SaysSoFar {E X : Type 0} (span : E → Span) (at : E → ℕ → X) (list : List E) (next : ℕ) (new : List E) : Type 0 where
+  pub before : All (λ e. (span e).end < next) new
+  pub said : (code : ℕ) → code < next → said span at new code ≡ said span at list code
+
+-- for each code of the range the declaration gives the CIDs that count on from this one
+abbrev pub GivesCids : CidEntry → Range → ℕ → Type 0
+GivesCids e range cid = (cid + (range.end - range.start) < 2 ^ 32) × ((code : ℕ) → range.start ≤ code → code ≤ range.end → cid_at e code ≡ Some (cid + (code - range.start)))
+
+-- for each code of the range it gives the units whose last one counts on from these
+abbrev pub GivesTexts : BfEntry → Range → List ℕ → Type 0
+GivesTexts e range units = (0 < length units) × (last_unit units + (range.end - range.start) < 2 ^ 16) × ((code : ℕ) → range.start ≤ code → units_at e code ≡ shifted units (code - range.start))
+
+-- codes with the texts that count on from these units were added to a tidy list, which is tidy
+pub record AddsTexts (old : List BfEntry) (range : Range) (units : List ℕ) (new : List BfEntry) : Type 0 where
+  pub tidy : AreTidyTexts new
+  pub said : (code : ℕ) → units_said new code ≡ said_with range (λ code. shifted units (code - range.start)) (units_said old) code
+  pub last : All (λ e. e.end ≤ range.end) new

@@ -51,11 +51,14 @@ pub fn push_texts(
 }
 
 /// Units whose last one counts on by the offset.
-fn counted_on(alloc: Global, units: &[u16], offset: u32) -> Result<Units, AllocError>
+pub(crate) fn counted_on(alloc: Global, units: &[u16], offset: u32) -> Result<Units, AllocError>
     requires some { 0 < length units.now }
     requires fits { last_unit units.now + offset < 2 ^ 16 }
     ensures { IfOk result (λ made. shifted units.now offset ≡ Some (units_seen made)) }
 {
+    if offset == 0 {
+        return Units::from_slice(alloc, units);
+    }
     let mut copy = Vec::from_slice(alloc, units)?;
     if let Some(last) = copy.last_mut() {
         *last += offset as u16;

@@ -4,7 +4,7 @@ use Rattle.std.proofs.lemmas.Result.{IfOk-weaker}
 use Rattle.cmap_values.specs.UnitsSeen.{units_seen}
 use Rattle.cmap_tokens.specs.Texts.{shifted}
 use Rattle.cmap_tidy.specs.Tidy.{last_unit}
-use Rattle.cmap_tidy.proofs.TextUnits.{last_is, shifted_set}
+use Rattle.cmap_tidy.proofs.TextUnits.{last_is, shifted_set, shifted_zero}
 use Rattle.cmap_tidy.proofs.texts.counted_on.Goals as goal
 use Rattle.cmap_tidy.proofs.texts.counted_on.Goals.{in-Some, in_default}
 
@@ -23,5 +23,11 @@ returns c =
       | in_default w ↦ absurd (true≢false (sym (w.in_default.ensures.variant.1 (omega (arith, count, c.in_ok-copy.copy.ok.0)))))
     ]
     in
-    IfOk-weaker c.from_slice-2.result (λ these. units_seen these ≡ c.as_slice.result.now) (λ these. shifted units c.args.offset ≡ Some (units_seen these))
-    (λ these same. made ∙ ap (λ us. Some us) (sym (same ∙ c.as_slice.ensures.value))) c.from_slice-2.ensures.units
+    IfOk-weaker c.from_slice-3.result (λ these. units_seen these ≡ c.as_slice.result.now) (λ these. shifted units c.args.offset ≡ Some (units_seen these))
+    (λ these same. made ∙ ap (λ us. Some us) (sym (same ∙ c.as_slice.ensures.value))) c.from_slice-3.ensures.units
+
+pub returns-then-offset-eq0 : goal.returns-then-offset-eq0
+returns-then-offset-eq0 c =
+    let units = c.args.units.now in
+    let same : shifted units c.args.offset ≡ Some units = ap (shifted units) c.if-offset-eq0.true ∙ shifted_zero units c.requires.some (omega arith) in
+    IfOk-weaker c.from_slice.result (λ these. units_seen these ≡ units) (λ these. shifted units c.args.offset ≡ Some (units_seen these)) (λ these is. same ∙ ap (λ us. Some us) (sym is)) c.from_slice.ensures.units
