@@ -1,9 +1,9 @@
 -- What is tried for codes of each length.
-use Rattle.std.proofs.Common.{◌≡◌, ℕ, ◌+◌, ◌<◌, ◌^◌, true, false, true≢false, List, [], ◌∷◌, ◌++◌, Option, Some, None, get_or, length, take, zero, suc, refl, sym, subst, arith}
+use Rattle.std.proofs.Common.{◌≡◌, ℕ, ◌+◌, ◌<◌, ◌^◌, true, false, true≢false, List, [], ◌∷◌, Option, Some, None, get_or, take, zero, suc, refl, sym, subst, arith}
 use Rattle.std.specs.Prelude.{All, MatchOption, is_some}
 use Rattle.std.proofs.lemmas.List.{take_more}
 use Rattle.std.proofs.lemmas.List.Elements.{All-push}
-use Rattle.cmap_values.specs.CodeLengths.{IsCodeLength, length_of}
+use Rattle.cmap_values.specs.CodeLengths.{IsCodeLength}
 use Rattle.cmap_values.specs.declared.code_length.CodeLength.{CodeLength}
 use Rattle.cmap_values.specs.declared.code_length.CodeLength.TheVariants.{One, Two, Three, Four}
 use Rattle.cmap_flatten.specs.Chosen.{Chosen}
