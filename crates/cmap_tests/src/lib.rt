@@ -14,6 +14,8 @@ mod codes_in_a_row;
 #[cfg(test)]
 mod examples;
 #[cfg(test)]
+mod flattened;
+#[cfg(test)]
 mod maker;
 #[cfg(test)]
 mod maps;
