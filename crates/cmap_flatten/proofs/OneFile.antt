@@ -18,7 +18,8 @@ use Rattle.cmap_unicode.specs.LayersTried.{declared_by, declared_in}
 use Rattle.cmap_tidy.specs.Tidy.{AreTidyCids, notdef_at}
 use Rattle.cmap_flatten.specs.Chosen.{Chosen, ChosenNumber}
 use Rattle.cmap_flatten.specs.Parts.{AreAllKept, AreDeclared, AreLists, HasCidsOfOne, IsFileOf, said, text_said}
-use Rattle.cmap_flatten.specs.Subsets.{AnswersOnly, IsFlat, IsSubset}
+use Rattle.cmap_flatten.specs.Subsets.{AnswersOnly, AreTidy, IsContradiction, IsFlat, IsSubset, cid_of_one}
+use Rattle.cmap_flatten.specs.declared.answers.Contradiction.{Contradiction}
 use Rattle.cmap_flatten.specs.declared.codes.Codes.{Codes}
 use Rattle.cmap_flatten.proofs.AnyElements.{Any-cases, Any-left, Any-nil, Any-right}
 use Rattle.cmap_flatten.proofs.ChosenCodes.{found_one}
@@ -154,3 +155,25 @@ is_flat layers chosen file all is = record {
 pub flat_of : (layers : List Layer) (chosen : List Codes) (lists : Lists) {metadata : FileMetadata} (flat : List Layer) (layer : Layer) → AreLists layers chosen lists → flat ≡ layer ∷ [] → layer ≡ record { metadata = metadata; lists = lists }
     → HasCidsOfOne layers chosen flat
 flat_of layers chosen lists {metadata} flat layer are one is = subst (HasCidsOfOne layers chosen) (sym (one ∙ ap (λ l. l ∷ []) is)) (cids_of_one layers chosen lists are metadata)
+
+-- ---- what is refused
+some_bytes : (len : CodeLength) → IsCodeLength (length_of len)
+some_bytes One = (omega arith, omega arith)
+some_bytes Two = (omega arith, omega arith)
+some_bytes Three = (omega arith, omega arith)
+some_bytes Four = (omega arith, omega arith)
+
+tidy_cids : (lists : Lists) → AreTidy lists → (len : CodeLength) → AreTidyCids (of_length lists.cids (length_of len))
+tidy_cids lists tidy One = tidy.one.0
+tidy_cids lists tidy Two = tidy.two.0
+tidy_cids lists tidy Three = tidy.three.0
+tidy_cids lists tidy Four = tidy.four.0
+
+-- where a chosen code has a contradiction, no file has the answers for the chosen codes
+pub no_subset : (layers : List Layer) (chosen : List Codes) (at : Contradiction) (file : File) → at.code < 2 ^ 32 → IsContradiction layers chosen at → IsSubset layers chosen file → ⊥
+no_subset layers chosen at file small refused is =
+    let layer = layer_of file in let code = at.code in let len = length_of at.len in let few = some_bytes at.len in
+    let declared = sym (one_declared layer code at.len) ∙ (is.declared code len small few).0 refused.0 in
+    let text = sym (one_text layer code) ∙ (is.texts code small).0 (chosen_number chosen code len refused.0) in
+    refused.1 (sym (is.answers code len small few refused.0) ∙ one_cid layer code at.len (tidy_cids file.lists is.tidy at.len)
+    ∙ ap (λ cid. option_or cid (only_character (text_said file.lists.bfs code))) declared ∙ ap (λ text. option_or (declared_cid layers code len) (only_character text)) text)

@@ -16,6 +16,8 @@ mod differences;
 #[cfg(test)]
 mod examples;
 #[cfg(test)]
+mod flattened;
+#[cfg(test)]
 mod maker;
 #[cfg(test)]
 mod maps;
