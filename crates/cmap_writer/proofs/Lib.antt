@@ -1,9 +1,12 @@
+pub mod Arranged
+pub mod ArrangedTexts
 pub mod BitsWritten
 pub mod BytesWritten
 pub mod CidParts
 pub mod CidsWritten
 pub mod ColumnsHeld
 pub mod ColumnsMade
+pub mod Cuts
 pub mod DecidedParts
 pub mod FileKept
 pub mod FilesWritten

@@ -29,7 +29,7 @@ returns-clause-added c =
     let say = c.in_ok-ranges.ensures.same.0 in
     let parts = subst (λ xs. ArePieces cid_span cid_at IsShort (entries_seen xs) (entries_seen pieces)) c.deref.ensures.value c.in_ok-pieces.ensures.pieces in
     let same = same_permuted cid_span cid_at es (entries_seen pieces) (entries_seen sorted) (IsPermutation-map cid_entry_seen pieces sorted c.sort_by_key.ensures.permutation) (pieces_say cid_span cid_at IsShort es (entries_seen ranges) (entries_seen pieces) parts say) in
-    let added = subst (λ xs. AddsSegments c.args.segments.now.items c.add_cids.new.segments.items (map (Declaration.cid (length_of c.args.len)) (entries_seen xs))) c.deref-2.ensures.value c.in_ok-add_cids.ensures in
+    let added = subst (λ xs. AddsSegments c.args.segments.now.items c.add_cids.new.segments.items (map (Declaration.cid (length_of c.args.len)) (entries_seen xs))) c.deref-2.ensures.value c.in_ok-add_cids.ensures.added in
     let few : 256 * length (entries_seen sorted) ≤ weight_of (map cid_range_span c.args.list.now) = omega (arith, length-map sorted cid_entry_seen, length_permutation pieces sorted c.sort_by_key.ensures.permutation, c.in_ok-pieces.ensures.few, ap cids_weight c.deref.ensures.value, c.in_ok-ranges.ensures.few) in
     (entries_seen sorted, added, same_told cid_span cid_at es (entries_seen sorted) same, subst (λ ss. AreFew ss (length (entries_seen sorted))) (sym (cid_spans_seen c.args.list.now)) few)
 

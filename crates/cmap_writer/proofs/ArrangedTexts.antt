@@ -1,0 +1,89 @@
+-- Texts that stand in full segments.
+use Rattle.std.proofs.Common.{◌≡◌, ℕ, zero, suc, ◌+◌, ◌-◌, ◌*◌, ◌^◌, ◌<◌, ◌≤◌, List, inl, inr, [], ◌∷◌, Option, length, drop, get_or, map, take, refl, ap, ◌∙◌, sym, subst, arith}
+use Rattle.std.specs.List.{All}
+use Rattle.std.proofs.lemmas.Simd.{map-map}
+use Rattle.std.proofs.lemmas.Bool.{cases_lt}
+use Rattle.std.proofs.lemmas.List.{length-map, length-take-le}
+use Rattle.std.proofs.lemmas.List.Elements.{All-cons, All-head, All-nil, All-tail}
+use Rattle.cmap_runs.specs.Ranges.{Span}
+use Rattle.cmap_values.specs.DeclarationsSeen.{bf_entry_seen, bf_range_span}
+use Rattle.cmap_values.specs.Files.{BfEntry, Declaration}
+use Rattle.cmap_values.specs.declared.declarations.BfRange.{BfRange}
+use Rattle.cmap_binary.specs.BinaryEntries.{Shape}
+use Rattle.cmap_writer.specs.Arranged.{AreEnded, AreInOne, CanFollow, HasNumbersOf, bf_type, segment_type}
+use Rattle.cmap_writer.specs.Held.{AreInOrder, AreShaped, counts_by, deltas_of}
+use Rattle.cmap_writer.specs.Segments.{declared_span}
+use Rattle.cmap_writer.specs.Texts.{AreHeldTexts}
+use Rattle.cmap_writer.specs.declared.segments.Segment.{Segment}
+use Rattle.cmap_writer.proofs.Arranged.{ended_here, numbers_of}
+use Rattle.cmap_writer.proofs.SegmentNumbers.{text_spans}
+
+-- ---- entries of one type
+-- the first ones have this type
+abbrev pub HaveType : ℕ → List BfRange → ℕ → Type 0
+HaveType number xs count = (k : ℕ) (d : BfRange) → k < count → k < length xs → bf_type (bf_entry_seen (get_or xs k d)) ≡ number
+
+pub type_first : (number : ℕ) (xs : List BfRange) → ((d : BfRange) → bf_type (bf_entry_seen (get_or xs 0 d)) ≡ number) → HaveType number xs 1
+type_first number xs first zero d below within = first d
+type_first number xs first (suc k) d below within = absurd (omega (arith, below))
+
+pub type_more : (number : ℕ) (xs : List BfRange) (count : ℕ) (e : BfRange) → count < length xs → e ≡ get_or xs count e → bf_type (bf_entry_seen e) ≡ number → HaveType number xs count → HaveType number xs (count + 1)
+type_more number xs count e within is typed before k d below inside = elim (cases_lt k count) [
+  | inl earlier ↦ before k d earlier inside
+  | inr last ↦
+      let at : k ≡ count = omega (arith, below, last) in
+      ap (λ n. bf_type (bf_entry_seen (get_or xs n d))) at ∙ ap (λ x. bf_type (bf_entry_seen x)) (same_within xs count d e within ∙ sym is) ∙ typed
+]
+  where
+    same_within : (xs : List BfRange) (i : ℕ) (d e : BfRange) → i < length xs → get_or xs i d ≡ get_or xs i e
+    same_within [] i d e h = absurd (omega (arith, h))
+    same_within (x ∷ xs) zero d e h = refl
+    same_within (x ∷ xs) (suc i) d e h = same_within xs i d e (omega (arith, h))
+
+pub type_taken : (number : ℕ) (xs : List BfRange) (count : ℕ) → HaveType number xs count → All (λ e. bf_type e ≡ number) (map bf_entry_seen (take count xs))
+type_taken number xs zero have = All-nil (λ e. bf_type e ≡ number)
+type_taken number [] (suc count) have = All-nil (λ e. bf_type e ≡ number)
+type_taken number (x ∷ xs) (suc count) have = All-cons (λ e. bf_type e ≡ number) (bf_entry_seen x) (map bf_entry_seen (take count xs)) (have 0 x (omega arith) (omega arith)) (type_taken number xs count (λ k d below within. have (suc k) d (omega (arith, below)) (omega (arith, within))))
+
+-- ---- where a segment ends
+abbrev pub said : BfRange → Declaration
+said x = Declaration.bf (bf_entry_seen x)
+
+-- the next entry doesn't follow
+pub ended_texts : (number : ℕ) (xs : List BfRange) (count : ℕ) (b e : BfRange) → 1 ≤ count → count < length xs → b ≡ get_or xs (count - 1) b → e ≡ get_or xs count e → HaveType number xs count → (b.range.end < e.range.start → bf_type (bf_entry_seen e) ≡ number → ⊥) → AreEnded (map Declaration.bf (map bf_entry_seen (take count xs))) (map Declaration.bf (map bf_entry_seen (drop count xs)))
+ended_texts number xs count b e one within b_is e_is typed never =
+    let last : bf_type (bf_entry_seen b) ≡ number = ap (λ x. bf_type (bf_entry_seen x)) b_is ∙ typed (count - 1) b (omega (arith, one)) (omega (arith, within)) in
+    let ended = ended_here said xs count b e one within (λ can.
+    let follows = subst (λ x. CanFollow x (said e)) (ap said (sym b_is)) (subst (λ x. CanFollow (said (get_or xs (count - 1) b)) x) (ap said (sym e_is)) can) in
+    never follows.after (follows.same ∙ last)) in
+    subst (AreEnded (map Declaration.bf (map bf_entry_seen (take count xs)))) (sym (map-map Declaration.bf bf_entry_seen (drop count xs))) (subst (λ part. AreEnded part (map said (drop count xs))) (sym (map-map Declaration.bf bf_entry_seen (take count xs))) ended)
+
+-- ---- entries in one segment
+in_one : (number base : ℕ) (x : BfRange) (xs : List BfRange) → AreInOrder base (map bf_range_span (x ∷ xs)) → All (λ e. bf_type e ≡ number) (map bf_entry_seen (x ∷ xs)) → AreInOne (map Declaration.bf (map bf_entry_seen (x ∷ xs)))
+in_one number base x [] order typed = tt
+in_one number base x (y ∷ xs) (low, filled, small, order) typed =
+    let later = All-tail (λ e. bf_type e ≡ number) (bf_entry_seen x) (map bf_entry_seen (y ∷ xs)) typed in (
+      record {
+        same = All-head (λ e. bf_type e ≡ number) (bf_entry_seen y) (map bf_entry_seen xs) later ∙ sym (All-head (λ e. bf_type e ≡ number) (bf_entry_seen x) (map bf_entry_seen (y ∷ xs)) typed);
+        after = omega (arith, order.0);
+        own = tt;
+      },
+      in_one number (x.range.end + 1) y xs order later,
+    )
+
+texts_in_one : (number : ℕ) (xs : List BfRange) → 0 < length xs → AreInOrder 0 (map bf_range_span xs) → All (λ e. bf_type e ≡ number) (map bf_entry_seen xs) → AreInOne (map Declaration.bf (map bf_entry_seen xs))
+texts_in_one number [] some order typed = absurd (omega (arith, some))
+texts_in_one number (x ∷ xs) some order typed = in_one number 0 x xs order typed
+
+pub taken_texts_in_one : (shape : Shape) (fixed : Option ℕ) (number count : ℕ) (xs : List BfRange) → 1 ≤ count → count ≤ length xs → AreHeldTexts shape fixed (take count xs) → All (λ e. bf_type e ≡ number) (map bf_entry_seen (take count xs)) → AreInOne (map Declaration.bf (map bf_entry_seen (take count xs)))
+taken_texts_in_one shape fixed number count xs some within held typed = texts_in_one number (take count xs) (omega (arith, some, length-take-le count xs within)) held.order typed
+
+-- ---- the numbers of a segment
+text_types : (number : ℕ) (es : List BfEntry) → All (λ e. bf_type e ≡ number) es → All (λ d. segment_type d ≡ number) (map Declaration.bf es)
+text_types number [] typed = All-nil (λ d. segment_type d ≡ number)
+text_types number (e ∷ es) typed = All-cons (λ d. segment_type d ≡ number) (Declaration.bf e) (map Declaration.bf es) (All-head (λ e. bf_type e ≡ number) e es typed) (text_types number es (All-tail (λ e. bf_type e ≡ number) e es typed))
+
+pub numbers_of_texts : (segment : Segment) (shape : Shape) (fixed : Option ℕ) (xs : List BfRange) → AreHeldTexts shape fixed xs → All (λ e. bf_type e ≡ segment.number) (map bf_entry_seen xs) → segment.deltas.items ≡ deltas_of 0 (map bf_range_span xs) → segment.counts.items ≡ counts_by shape (map bf_range_span xs) → HasNumbersOf segment (map Declaration.bf (map bf_entry_seen xs))
+numbers_of_texts segment shape fixed xs held typed deltas counts =
+    let spans = text_spans xs in
+    numbers_of segment shape (map Declaration.bf (map bf_entry_seen xs)) (text_types segment.number (map bf_entry_seen xs) typed) (subst (AreShaped shape) (sym spans) held.shaped) (deltas ∙ ap (deltas_of 0) (sym spans)) (counts ∙ ap (counts_by shape) (sym spans))
