@@ -10,7 +10,7 @@ use Rattle.cmap_values.specs.DeclarationsSeen.{cid_entry_seen, cid_range_span, e
 use Rattle.cmap_values.specs.Files.{CidEntry}
 use Rattle.cmap_values.specs.declared.declarations.CidRange.{CidRange}
 use Rattle.cmap_writer.specs.Arranged.{AreCut, AreWhole, CanJoin, EndBefore, IsCut, KeepsWhole, PushesCut}
-use Rattle.cmap_writer.specs.Follows.{GoesOn}
+use Rattle.cmap_writer.specs.Weights.{run_span}
 use Rattle.cmap_writer.proofs.Told.{All-back, All-front}
 
 -- ---- the pieces of a range
@@ -100,3 +100,7 @@ next_before runs i run next es ordered at there before =
     let within = slice_get_within runs (i + 1) next there in
     let apart : run.high < next.low = subst (λ (r : Run). r.high < next.low) (get_or_from_slice_get runs i run run at) (subst (λ (r : Run). (get_or runs i run).high < r.low) (get_or_from_slice_get runs (i + 1) next run there) (ordered i (i + 1) run (omega arith) within)) in
     end_later (run.high + 1) next.low es (omega (arith, apart)) before
+
+-- one more run
+pub run_pushed : (runs : List Run) (i : ℕ) (run : Run) (spans : List Span) → i < length runs → slice_get runs i ≡ Some run → spans ≡ map run_span (take i runs) → spans ++ run_span run ∷ [] ≡ map run_span (take (i + 1) runs)
+run_pushed runs i run spans within at is = ap (λ ss. ss ++ run_span run ∷ []) is ∙ sym (ap (map run_span) (take_more runs i run within ∙ ap (λ r. take i runs ++ r ∷ []) (get_or_from_slice_get runs i run run at)) ∙ map-append run_span (take i runs) (run ∷ []))

@@ -8,6 +8,7 @@ pub mod ColumnsHeld
 pub mod ColumnsMade
 pub mod Cuts
 pub mod DecidedParts
+pub mod EntriesOrdered
 pub mod FileKept
 pub mod FilesWritten
 pub mod FrontsWritten

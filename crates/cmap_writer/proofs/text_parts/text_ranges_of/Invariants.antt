@@ -1,4 +1,4 @@
-use Rattle.std.proofs.Common.{◌≤◌, All, map, take}
+use Rattle.std.proofs.Common.{◌≡◌, ◌≤◌, All, map, take}
 use Rattle.std.specs.List.{sum_by}
 use Rattle.cmap_runs.specs.Ranges.{runs_of}
 use Rattle.cmap_values.specs.DeclarationsSeen.{bf_entry_seen, bf_range_span}
@@ -13,6 +13,7 @@ abbrev pub invariant-loop-i : goal.invariant-loop-i
 invariant-loop-i l = record {
   right : AllSayAs bf_span bf_at (map bf_entry_seen l.table) (map bf_entry_seen l.ranges.items);
   small : All IsDecidedText (map bf_entry_seen l.ranges.items);
+  runs : map bf_range_span l.ranges.items ≡ map run_span (take l.i (runs_of (map bf_range_span l.table)));
   few : texts_weight l.ranges.items ≤ sum_by (λ run. span_weight (run_span run)) (take l.i (runs_of (map bf_range_span l.table)));
   parts : All (IsPartOf (map bf_entry_seen l.table)) (map bf_entry_seen l.ranges.items);
   whole : HaveRuns bf_span (runs_of (map bf_range_span l.table)) (map bf_entry_seen l.ranges.items) l.i;
