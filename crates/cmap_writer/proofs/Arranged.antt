@@ -10,18 +10,19 @@ use Rattle.std.proofs.lemmas.List.Elements.{All-cons, All-head, All-nil, All-tai
 use Rattle.cmap_runs.specs.Ranges.{Span}
 use Rattle.cmap_values.specs.CodeLengths.{length_of}
 use Rattle.cmap_values.specs.DeclarationsSeen.{cid_entry_seen, entries_seen}
-use Rattle.cmap_values.specs.Files.{CidEntry, Declaration}
+use Rattle.cmap_values.specs.Files.{ByLength, CidEntry, Declaration, File}
 use Rattle.cmap_values.specs.declared.code_length.CodeLength.{CodeLength}
 use Rattle.cmap_values.specs.declared.code_length.CodeLength.TheVariants.{One, Two, Three, Four}
 use Rattle.cmap_values.specs.declared.declarations.CidRange.{CidRange}
 use Rattle.cmap_packed.specs.Bundles.{PrefixTables}
 use Rattle.cmap_binary.specs.BinaryEntries.{CidEntriesIn, Shape, cid_from, ranges, singles}
 use Rattle.cmap_binary.specs.BinaryFiles.{IsSegment, declares}
-use Rattle.cmap_writer.specs.Arranged.{AddsFull, AreEnded, AreFull, AreInOne, CanFollow, HasNumbersOf, HaveNumbersOf, StandIn, cid_type, count_of, segment_type, shape_of}
+use Rattle.cmap_writer.specs.Arranged.{AddsByLength, AddsCidEntries, AddsFull, AddsInTurn, AddsTextEntries, AreEnded, AreFull, AreInOne, CanFollow, HasNumbersOf, HaveNumbersOf, IsArranged, StandIn, StandInTurn, lists_by_length, cid_type, count_of, segment_type, shape_of}
 use Rattle.cmap_writer.specs.Follows.{Follows, HasShapeOf}
 use Rattle.cmap_writer.specs.Held.{AreHeld, AreInOrder, AreOwnCids, AreShaped, HasShape, counts_by, deltas_of, entry_span, spans_of}
 use Rattle.cmap_writer.specs.Pieces.{IsShort}
 use Rattle.cmap_writer.specs.Segments.{declared_span}
+use Rattle.cmap_writer.specs.declared.prepared.Prepared.{Prepared}
 use Rattle.cmap_writer.specs.declared.segments.Segment.{Segment}
 use Rattle.cmap_writer.proofs.CidsWritten.{IsSegment-ranges, IsSegment-singles}
 use Rattle.cmap_writer.proofs.SegmentNumbers.{cid_spans}
@@ -209,3 +210,35 @@ module _ {X : Type 0} (say : List X → List Declaration) where
     all = h.flat ∙ ap say (sym (h.cut ∙ append-nil h.done));
     full = full_at_end h.parts (subst (AreFullBefore h.parts) none h.full);
   })
+
+-- ---- lists in turn
+stand_both : (x y : List Segment) (a b : List (List Declaration)) → StandInTurn x a → StandInTurn y b → StandInTurn (x ++ y) (a ++ b)
+stand_both x y [] b none more = subst (λ ss. StandInTurn ss b) (ap (λ ss. ss ++ y) (sym none)) more
+stand_both x y (ds ∷ a) b (here, later, is, stand, all) more = (here, later ++ y, ap (λ ss. ss ++ y) is ∙ append_assoc here later y, stand, stand_both later y a b all more)
+
+turn_one : (old new : List Segment) (ds : List Declaration) → AddsFull old new ds → AddsInTurn old new (ds ∷ [])
+turn_one old new ds (added, is, stand) = (added, is, (added, [], sym (append-nil added), stand, refl))
+
+turn_both : (old mid new : List Segment) (a b : List (List Declaration)) → AddsInTurn old mid a → AddsInTurn mid new b → AddsInTurn old new (a ++ b)
+turn_both old mid new a b (x, x_is, first) (y, y_is, second) = (x ++ y, y_is ∙ ap (λ ss. ss ++ y) x_is ∙ append_assoc old x y, stand_both x y a b first second)
+
+pub by_lengths : (lists : ByLength) (o a b d e : List Segment) → AddsCidEntries 1 lists.one o a → AddsCidEntries 2 lists.two a b → AddsCidEntries 3 lists.three b d → AddsCidEntries 4 lists.four d e → AddsByLength lists o e
+by_lengths lists o a b d e (one, one_are, first) (two, two_are, second) (three, three_are, third) (four, four_are, last) =
+    let says : ℕ → List CidEntry → List Declaration = λ len es. map (Declaration.cid len) es in (
+      record { one = one; two = two; three = three; four = four },
+      record { one = one_are; two = two_are; three = three_are; four = four_are },
+      turn_both o a e (says 1 one ∷ []) (says 2 two ∷ says 3 three ∷ says 4 four ∷ []) (turn_one o a (says 1 one) first)
+      (turn_both a b e (says 2 two ∷ []) (says 3 three ∷ says 4 four ∷ []) (turn_one a b (says 2 two) second) (turn_both b d e (says 3 three ∷ []) (says 4 four ∷ []) (turn_one b d (says 3 three) third) (turn_one d e (says 4 four) last))),
+    )
+
+pub arranged_is : (file : File) (prepared : Prepared) (some : List Segment) → AddsByLength file.lists.cids [] some → AddsTextEntries file.lists.bfs some prepared.segments.items → IsArranged file prepared
+arranged_is file prepared some (cids, cids_are, turn) (texts, texts_are, full) =
+    let all = prepared.segments.items in
+    let (added, is, stand) = turn_both [] some all (lists_by_length cids) (map Declaration.bf texts ∷ []) turn (turn_one some all (map Declaration.bf texts) full) in
+    record {
+      cids = cids;
+      texts = texts;
+      cid_entries = cids_are;
+      text_entries = texts_are;
+      segments = subst (λ ss. StandInTurn ss (lists_by_length cids ++ map Declaration.bf texts ∷ [])) (sym is) stand;
+    }
