@@ -6,7 +6,8 @@ use Rattle.cmap_values.specs.Files.{BfEntry, ByLength, CidEntry, Declaration, Fi
 use Rattle.cmap_layers.specs.Lookups.{bf_at, bf_span, cid_at, cid_span}
 use Rattle.cmap_binary.specs.BinaryEntries.{Shape, ranges, singles}
 use Rattle.cmap_writer.specs.Held.{deltas_of}
-use Rattle.cmap_writer.specs.Pieces.{SayTheSame}
+use Rattle.cmap_writer.specs.Pieces.{CanBeSplit, IsShort, IsShortText, SayTheSame}
+use Rattle.cmap_writer.specs.PreparedFiles.{IsPrepared}
 use Rattle.cmap_writer.specs.Segments.{declared_span}
 use Rattle.cmap_writer.specs.Weights.{run_span}
 use Rattle.cmap_writer.specs.declared.prepared.Prepared.{Prepared}
@@ -136,9 +137,11 @@ pub record AreCidEntries (len : ℕ) (es made : List CidEntry) : Type 0 where
   pub ranges : List CidEntry
   pub pieces : List CidEntry
   pub said : SayTheSame cid_span cid_at es ranges
+  pub small : All CanBeSplit ranges
   pub whole : AreWhole ranges
   pub cut : AreCut (map cid_span ranges) (map cid_span pieces)
   pub same : SayTheSame cid_span cid_at es pieces
+  pub short : All IsShort pieces
   pub moved : IsPermutation pieces made
   pub ordered : AreOrdered (map (Declaration.cid len) made)
 
@@ -147,6 +150,7 @@ pub record AreTextEntries (es made : List BfEntry) : Type 0 where
   pub pieces : List BfEntry
   pub cut : AreCut (map run_span (runs_of (map bf_span es))) (map bf_span pieces)
   pub same : SayTheSame bf_span bf_at es pieces
+  pub short : All IsShortText pieces
   pub moved : IsPermutation pieces made
   pub ordered : AreOrdered (map Declaration.bf made)
 
@@ -187,6 +191,10 @@ pub record IsArranged (file : File) (prepared : Prepared) : Type 0 where
   pub cid_entries : AreByLength file.lists.cids cids
   pub text_entries : AreTextEntries file.lists.bfs texts
   pub segments : StandInTurn prepared.segments.items (lists_by_length cids ++ map Declaration.bf texts ∷ [])
+
+-- what is to be written of a file: what it says, and where it stands
+abbrev pub IsPreparedFor : File → Prepared → Type 0
+IsPreparedFor file prepared = IsPrepared file prepared × IsArranged file prepared
 
 -- ---- private aid
 -- the pieces of a range come after the old ones

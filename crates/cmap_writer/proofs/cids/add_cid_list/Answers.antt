@@ -85,9 +85,11 @@ returns-clause-arranged c =
         ranges = entries_seen ranges;
         pieces = entries_seen pieces;
         said = same.0;
+        small = same.1;
         whole = c.in_ok-ranges.ensures.whole;
         cut = seen;
         same = pieces_say cid_span cid_at IsShort es (entries_seen ranges) (entries_seen pieces) parts same.0;
+        short = c.in_ok-pieces.ensures.pieces.0;
         moved = IsPermutation-map cid_entry_seen pieces sorted c.sort_by_key.ensures.permutation;
         ordered = subst AreOrdered (sym (map-map (Declaration.cid len) cid_entry_seen sorted)) ordered;
       },

@@ -99,6 +99,7 @@ returns-clause-arranged c =
         pieces = pieces;
         cut = subst (AreCut (map run_span runs)) (sym (bf_spans_seen items)) cut;
         same = pieces_say bf_span bf_at IsShortText es (map bf_entry_seen ranges) pieces parts c.in_ok-ranges.ensures.same;
+        short = c.in_ok-pieces.ensures.pieces.0;
         moved = IsPermutation-map bf_entry_seen items sorted c.sort_by_key.ensures.permutation;
         ordered = subst AreOrdered (sym (map-map Declaration.bf bf_entry_seen sorted)) ordered;
       },
