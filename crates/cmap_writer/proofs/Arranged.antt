@@ -125,9 +125,9 @@ module _ {X : Type 0} (say : X → Declaration) where
       let size : length (map say (take count xs)) ≡ count = length-map (take count xs) say ∙ length-take-le count xs (omega (arith, within)) in
       let left : 0 < length (drop count xs) = omega (arith, within, length-drop count xs) in
       let last : get_or (map say (take count xs)) (length (map say (take count xs)) - 1) d ≡ say (get_or xs (count - 1) b) =
-          ap (λ n. get_or (map say (take count xs)) (n - 1) d) size ∙ get_or-map say (take count xs) (count - 1) b d (omega (arith, one, size, length-map (take count xs) say)) ∙ ap say (get_or-take count xs (count - 1) b (omega (arith, one))) in
+      ap (λ n. get_or (map say (take count xs)) (n - 1) d) size ∙ get_or-map say (take count xs) (count - 1) b d (omega (arith, one, size, length-map (take count xs) say)) ∙ ap say (get_or-take count xs (count - 1) b (omega (arith, one))) in
       let next : get_or (map say (drop count xs)) 0 d ≡ say (get_or xs count e) =
-          get_or-map say (drop count xs) 0 e d left ∙ ap say (get_or-drop count xs 0 e ∙ ap (λ n. get_or xs n e) (omega arith)) in
+      get_or-map say (drop count xs) 0 e d left ∙ ap say (get_or-drop count xs 0 e ∙ ap (λ n. get_or xs n e) (omega arith)) in
       ends (subst (λ x. CanFollow x (say (get_or xs count e))) last (subst (CanFollow (get_or (map say (take count xs)) (length (map say (take count xs)) - 1) d)) next follows))
 
 -- an entry of codes that can follow in a segment of its shape follows
@@ -163,7 +163,7 @@ full_push : (parts : List (List Declaration)) (part later : List Declaration) �
 full_push [] part later none one few ended = (one, few, ended, tt)
 full_push (p ∷ parts) part later (a, b, ends, more) one few ended =
     let same : flat_map id_part parts ++ (part ++ later) ≡ flat_map id_part (parts ++ part ∷ []) ++ later =
-        sym (append_assoc (flat_map id_part parts) part later) ∙ ap (λ ds. ds ++ later) (ap (λ ds. flat_map id_part parts ++ ds) (sym (append-nil part)) ∙ sym (flat_map-append id_part parts (part ∷ []))) in
+    sym (append_assoc (flat_map id_part parts) part later) ∙ ap (λ ds. ds ++ later) (ap (λ ds. flat_map id_part parts ++ ds) (sym (append-nil part)) ∙ sym (flat_map-append id_part parts (part ∷ []))) in
     (a, b, subst (AreEnded p) same ends, full_push parts part later more one few ended)
 
 full_at_end : (parts : List (List Declaration)) → AreFullBefore parts [] → AreFull parts
@@ -204,12 +204,16 @@ module _ {X : Type 0} (say : List X → List Declaration) where
   }
 
   pub full_all : say [] ≡ [] → (all : List X) (old now : List Segment) → FullTo all [] old now → AddsFull old now (say all)
-  full_all none all old now h = (h.added, h.now_is, record {
-    parts = h.parts;
-    numbers = h.numbers;
-    all = h.flat ∙ ap say (sym (h.cut ∙ append-nil h.done));
-    full = full_at_end h.parts (subst (AreFullBefore h.parts) none h.full);
-  })
+  full_all none all old now h = (
+    h.added,
+    h.now_is,
+    record {
+      parts = h.parts;
+      numbers = h.numbers;
+      all = h.flat ∙ ap say (sym (h.cut ∙ append-nil h.done));
+      full = full_at_end h.parts (subst (AreFullBefore h.parts) none h.full);
+    },
+  )
 
 -- ---- lists in turn
 stand_both : (x y : List Segment) (a b : List (List Declaration)) → StandInTurn x a → StandInTurn y b → StandInTurn (x ++ y) (a ++ b)
@@ -228,7 +232,7 @@ by_lengths lists o a b d e (one, one_are, first) (two, two_are, second) (three, 
       record { one = one; two = two; three = three; four = four },
       record { one = one_are; two = two_are; three = three_are; four = four_are },
       turn_both o a e (says 1 one ∷ []) (says 2 two ∷ says 3 three ∷ says 4 four ∷ []) (turn_one o a (says 1 one) first)
-      (turn_both a b e (says 2 two ∷ []) (says 3 three ∷ says 4 four ∷ []) (turn_one a b (says 2 two) second) (turn_both b d e (says 3 three ∷ []) (says 4 four ∷ []) (turn_one b d (says 3 three) third) (turn_one d e (says 4 four) last))),
+          (turn_both a b e (says 2 two ∷ []) (says 3 three ∷ says 4 four ∷ []) (turn_one a b (says 2 two) second) (turn_both b d e (says 3 three ∷ []) (says 4 four ∷ []) (turn_one b d (says 3 three) third) (turn_one d e (says 4 four) last))),
     )
 
 pub arranged_is : (file : File) (prepared : Prepared) (some : List Segment) → AddsByLength file.lists.cids [] some → AddsTextEntries file.lists.bfs some prepared.segments.items → IsArranged file prepared

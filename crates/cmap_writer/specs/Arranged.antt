@@ -6,9 +6,10 @@ use Rattle.cmap_values.specs.Files.{BfEntry, ByLength, CidEntry, Declaration, Fi
 use Rattle.cmap_layers.specs.Lookups.{bf_at, bf_span, cid_at, cid_span}
 use Rattle.cmap_binary.specs.BinaryEntries.{Shape, ranges, singles}
 use Rattle.cmap_writer.specs.Held.{deltas_of}
-use Rattle.cmap_writer.specs.Pieces.{CanBeSplit, IsShort, IsShortText, SayTheSame}
+use Rattle.cmap_writer.specs.Pieces.{AllSayAs, CanBeSplit, IsShort, IsShortText, SayTheSame}
 use Rattle.cmap_writer.specs.PreparedFiles.{IsPrepared}
 use Rattle.cmap_writer.specs.Segments.{declared_span}
+use Rattle.cmap_writer.specs.TextParts.{units_at}
 use Rattle.cmap_writer.specs.Weights.{run_span}
 use Rattle.cmap_writer.specs.declared.prepared.Prepared.{Prepared}
 use Rattle.cmap_writer.specs.declared.segments.Segment.{Segment}
@@ -150,6 +151,7 @@ pub record AreTextEntries (es made : List BfEntry) : Type 0 where
   pub pieces : List BfEntry
   pub cut : AreCut (map run_span (runs_of (map bf_span es))) (map bf_span pieces)
   pub same : SayTheSame bf_span bf_at es pieces
+  pub units : AllSayAs bf_span units_at es pieces
   pub short : All IsShortText pieces
   pub moved : IsPermutation pieces made
   pub ordered : AreOrdered (map Declaration.bf made)

@@ -78,8 +78,7 @@ returns-clause-arranged c =
     let order : AreInOrder 0 (map cid_range_span pieces) = subst (AreInOrder 0) (cid_spans_seen pieces) (cuts_in_order 0 (map cid_span (entries_seen ranges)) (map cid_span (entries_seen pieces)) (wholes_in_order (entries_seen ranges) c.in_ok-ranges.ensures.whole same.1) seen) in
     let types : CidRange → ℕ = λ x. segment_type (say x) in
     let keys = always_returns_same _ (λ a r. r ≡ types a.0.now) _ (λ a r next called. search rules) in
-    let ordered = sorted_ordered say pieces sorted order (c.in_ok-sort_by_key.ensures.sorted types keys) (c.sort_by_key.ensures.stable types keys) in
-    (
+    let ordered = sorted_ordered say pieces sorted order (c.in_ok-sort_by_key.ensures.sorted types keys) (c.sort_by_key.ensures.stable types keys) in (
       entries_seen sorted,
       record {
         ranges = entries_seen ranges;

@@ -6,8 +6,8 @@ use Rattle.cmap_values.specs.DeclarationsSeen.{bf_entry_seen, bf_range_span}
 use Rattle.cmap_values.specs.Outcomes.{RefusesWith}
 use Rattle.cmap_layers.specs.Lookups.{bf_at, bf_span}
 use Rattle.cmap_writer.specs.Obstacles.{IsTextObstacle}
-use Rattle.cmap_writer.specs.Pieces.{SayTheSame}
-use Rattle.cmap_writer.specs.TextParts.{IsPartOf}
+use Rattle.cmap_writer.specs.Pieces.{AllSayAs, SayTheSame}
+use Rattle.cmap_writer.specs.TextParts.{IsPartOf, units_at}
 use Rattle.cmap_writer.specs.Weights.{run_span, texts_weight, weight_of}
 use Rattle.cmap_values.proofs.Outcomes.{memory_on}
 use Rattle.cmap_writer.proofs.Weighed.{bf_spans_seen}
@@ -55,3 +55,10 @@ returns-clause-runs c =
 
 pub returns-in_err-table-clause-runs : goal.returns-in_err-table-clause-runs
 returns-in_err-table-clause-runs c = IfOk-from_err _ _ c.from_residual.ensures.0
+
+pub returns-clause-units : goal.returns-clause-units
+returns-clause-units c =
+    subst (λ es. IfOk c.text_ranges_of.result (λ ranges. AllSayAs bf_span units_at es (map bf_entry_seen ranges.items))) c.in_ok-table.ensures.0 c.text_ranges_of.ensures.units
+
+pub returns-in_err-table-clause-units : goal.returns-in_err-table-clause-units
+returns-in_err-table-clause-units c = IfOk-from_err _ _ c.from_residual.ensures.0

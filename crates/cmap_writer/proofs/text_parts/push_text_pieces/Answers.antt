@@ -3,7 +3,7 @@ use Rattle.std.proofs.lemmas.List.{map-append}
 use Rattle.std.proofs.lemmas.Result.{IfOk-from_err}
 use Rattle.cmap_values.specs.DeclarationsSeen.{bf_entry_seen, bf_range_span}
 use Rattle.cmap_writer.proofs.Cuts.{cut_end, cut_more, cut_start}
-use Rattle.cmap_writer.proofs.TextParts.{pieces_end, pieces_next, pieces_start}
+use Rattle.cmap_writer.proofs.TextParts.{pieces_end, pieces_next, pieces_start, pieces_units}
 use Rattle.cmap_writer.proofs.text_parts.push_text_pieces.Goals as goal
 
 pub loop-start-init : goal.loop-start-init
@@ -45,6 +45,19 @@ returns-clause-pushed c =
     let s = c.loop-start.start in
     let end = ap (λ r. r.end) is.0 in
     pieces_end e (e.end + 1) old new (omega arith) (pieces_next e (bf_entry_seen part) s (e.end + 1) c.requires i.first (ap (λ r. r.start) is.0) (omega (arith, end, i.left)) (omega (arith, end)) (omega (arith, end)) (omega (arith, end)) is.1 old (map bf_entry_seen now) new i.pieces (ap (map bf_entry_seen) c.in_ok-push-2.ensures.items ∙ map-append bf_entry_seen now _))
+
+pub returns-clause-units : goal.returns-clause-units
+returns-clause-units c =
+    let e = bf_entry_seen c.args.entry.now in
+    let part = c.in_ok-part_of_text-2.field-0 in
+    let is = c.in_ok-part_of_text-2.ensures in
+    let old = map bf_entry_seen c.args.pieces.now.items in
+    let new = map bf_entry_seen c.push-2.new.self.items in
+    let now = c.loop-start.pieces.items in
+    let i = c.loop-start.invariant in
+    let s = c.loop-start.start in
+    let end = ap (λ r. r.end) is.0 in
+    pieces_units e (e.end + 1) old new (pieces_next e (bf_entry_seen part) s (e.end + 1) c.requires i.first (ap (λ r. r.start) is.0) (omega (arith, end, i.left)) (omega (arith, end)) (omega (arith, end)) (omega (arith, end)) is.1 old (map bf_entry_seen now) new i.pieces (ap (map bf_entry_seen) c.in_ok-push-2.ensures.items ∙ map-append bf_entry_seen now _))
 
 pub returns-in_err-part_of_text-clause-pushed : goal.returns-in_err-part_of_text-clause-pushed
 returns-in_err-part_of_text-clause-pushed c = IfOk-from_err _ _ c.from_residual.ensures.0
@@ -91,3 +104,15 @@ returns-in_err-part_of_text-2-clause-cut c = IfOk-from_err _ _ c.from_residual-i
 
 pub returns-in_err-push-2-clause-cut : goal.returns-in_err-push-2-clause-cut
 returns-in_err-push-2-clause-cut c = IfOk-from_err _ _ c.from_residual-in_err-push-2.ensures.0
+
+pub returns-in_err-part_of_text-clause-units : goal.returns-in_err-part_of_text-clause-units
+returns-in_err-part_of_text-clause-units c = IfOk-from_err _ _ c.from_residual.ensures.0
+
+pub returns-in_err-push-clause-units : goal.returns-in_err-push-clause-units
+returns-in_err-push-clause-units c = IfOk-from_err _ _ c.from_residual-in_err-push.ensures.0
+
+pub returns-in_err-part_of_text-2-clause-units : goal.returns-in_err-part_of_text-2-clause-units
+returns-in_err-part_of_text-2-clause-units c = IfOk-from_err _ _ c.from_residual-in_err-part_of_text-2.ensures.0
+
+pub returns-in_err-push-2-clause-units : goal.returns-in_err-push-2-clause-units
+returns-in_err-push-2-clause-units c = IfOk-from_err _ _ c.from_residual-in_err-push-2.ensures.0

@@ -1,4 +1,4 @@
-use Rattle.std.proofs.Common.{ℕ, ◌≡◌, All, rules, ◌<◌, ◌^◌, ap, length, map, subst, sym, arith}
+use Rattle.std.proofs.Common.{ℕ, ◌≡◌, All, List, rules, ◌<◌, ◌^◌, ap, length, map, subst, sym, arith}
 use Rattle.std.proofs.lemmas.List.{length-map}
 use Rattle.std.proofs.lemmas.List.Sorted.{All-permutation, IsPermutation-map, length_permutation}
 use Rattle.std.proofs.lemmas.Fn.{always_returns_same}
@@ -8,14 +8,14 @@ use Rattle.cmap_runs.specs.Ranges.{runs_of}
 use Rattle.cmap_runs.proofs.MaximalRuns.{AreRuns-runs_of}
 use Rattle.cmap_values.specs.DeclarationsSeen.{bf_entry_seen, bf_range_span}
 use Rattle.cmap_values.specs.declared.declarations.BfRange.{BfRange}
-use Rattle.cmap_values.specs.Files.{Declaration}
+use Rattle.cmap_values.specs.Files.{BfEntry, Declaration}
 use Rattle.cmap_layers.specs.Lookups.{bf_at, bf_span}
 use Rattle.cmap_writer.specs.Arranged.{AddsFull, AreCut, AreOrdered, segment_type}
 use Rattle.cmap_writer.specs.Held.{AreInOrder}
-use Rattle.cmap_writer.specs.Pieces.{ArePieces, CanBeSplitText, IsShortText}
+use Rattle.cmap_writer.specs.Pieces.{AllSayAs, ArePieces, CanBeSplitText, IsShortText}
 use Rattle.cmap_writer.specs.Segments.{AddsSegments}
 use Rattle.cmap_writer.specs.Weights.{AreFew, run_span, texts_weight}
-use Rattle.cmap_writer.specs.TextParts.{IsDecidedText, IsPartOf}
+use Rattle.cmap_writer.specs.TextParts.{IsDecidedText, IsPartOf, units_at}
 use Rattle.cmap_writer.proofs.ArrangedTexts.{said}
 use Rattle.cmap_writer.proofs.EntriesOrdered.{cuts_in_order, runs_in_order, sorted_ordered}
 use Rattle.cmap_writer.proofs.Weighed.{bf_spans_seen}
@@ -92,13 +92,13 @@ returns-clause-arranged c =
     let order : AreInOrder 0 (map bf_range_span items) = cuts_in_order 0 (map run_span runs) (map bf_range_span items) (runs_in_order (map bf_span es) runs (AreRuns-runs_of (map bf_span es))) cut in
     let types : BfRange → ℕ = λ x. segment_type (said x) in
     let keys = always_returns_same _ (λ a r. r ≡ types a.0.now) _ (λ a r next called. search rules) in
-    let ordered = sorted_ordered said items sorted order (c.in_ok-sort_by_key.ensures.sorted types keys) (c.sort_by_key.ensures.stable types keys) in
-    (
+    let ordered = sorted_ordered said items sorted order (c.in_ok-sort_by_key.ensures.sorted types keys) (c.sort_by_key.ensures.stable types keys) in (
       map bf_entry_seen sorted,
       record {
         pieces = pieces;
         cut = subst (AreCut (map run_span runs)) (sym (bf_spans_seen items)) cut;
         same = pieces_say bf_span bf_at IsShortText es (map bf_entry_seen ranges) pieces parts c.in_ok-ranges.ensures.same;
+        units = subst (λ xs. (es : List BfEntry) → AllSayAs bf_span units_at es (map bf_entry_seen xs) → AllSayAs bf_span units_at es pieces) c.deref-2.ensures.value c.in_ok-pieces.ensures.units es c.in_ok-ranges.ensures.units;
         short = c.in_ok-pieces.ensures.pieces.0;
         moved = IsPermutation-map bf_entry_seen items sorted c.sort_by_key.ensures.permutation;
         ordered = subst AreOrdered (sym (map-map Declaration.bf bf_entry_seen sorted)) ordered;
