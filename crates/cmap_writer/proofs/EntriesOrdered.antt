@@ -1,15 +1,16 @@
 -- Entries in the order of their types and codes.
 use Rattle.std.proofs.Common.{◌≡◌, ◌⊎◌, ℕ, zero, suc, false, ◌+◌, ◌-◌, ◌^◌, ◌<◌, ◌≤◌, inl, inr, List, [], ◌∷◌, ◌++◌, Some, length, get_or, map, refl, ap, ◌∙◌, sym, subst, arith}
-use native.Mathlib.Numerals.{unary_clauses}
-use Rattle.std.specs.List.{All, AllPairs}
-use Rattle.std.specs.List.Sorted.{IsNonDecreasingBy, IsSortedByKey, IsStableByKey}
+use native.Mathlib.Numerals.{add-one}
+use Rattle.std.specs.List.{All, AllPairs, filter}
+use Rattle.std.specs.List.Sorted.{IsSortedByKey, IsStableByKey, ties}
 use Rattle.std.specs.Ordering.{is_lt, nat_cmp}
 use Rattle.std.specs.declared.cmp.Ordering.TheVariants.{Equal, Greater, Less}
-use Rattle.std.specs.Prelude.{Bool, true, cond, ◌==◌}
+use Rattle.std.specs.Prelude.{Bool, true, cond, not, ◌&&◌, ◌==◌}
 use Rattle.std.proofs.lemmas.Bool.{cases_lt, le-ltb}
 use Rattle.std.proofs.lemmas.List.{get_or-map, length-map}
-use Rattle.std.proofs.lemmas.List.Elements.{All-head, All-tail}
-use Rattle.std.proofs.lemmas.List.Sorted.{IsNonDecreasingBy-from_sort, ties_still_rise}
+use Rattle.std.proofs.lemmas.List.Elements.{All-cons, All-head, All-nil, All-tail, All-weaker}
+use Rattle.std.proofs.lemmas.List.Sorted.{IsNonDecreasingBy-from_sort}
+use Rattle.std.proofs.lemmas.List.Kept.{AllPairs-cons, AllPairs-filter}
 use Rattle.std.proofs.lemmas.Simd.{map-map}
 use Rattle.cmap_runs.specs.Ranges.{AreRuns, IsRun, Run, Span, last_index}
 use Rattle.cmap_values.specs.Files.{CidEntry, Declaration}
@@ -53,12 +54,6 @@ cuts_in_order base [] pieces order none = subst (AreInOrder base) (sym none) tt
 cuts_in_order base (s ∷ spans) pieces (low, filled, small, order) (here, later, is, cut, cuts) = subst (AreInOrder base) (sym is) (cut_in_order base s here later low filled small cut (cuts_in_order (s.end + 1) spans later order cuts))
 
 -- ---- a stable sort by types
-starts_rise : (base : ℕ) (spans : List Span) (k : ℕ) (d : Span) → AreInOrder base spans → k + 1 < length spans → (get_or spans k d).start ≤ (get_or spans (k + 1) d).start
-starts_rise base [] k d order within = absurd (omega (arith, within))
-starts_rise base (s ∷ []) k d order within = absurd (omega (arith, within))
-starts_rise base (s ∷ t ∷ spans) zero d (low, filled, small, later) within = omega (arith, filled, later.0)
-starts_rise base (s ∷ t ∷ spans) (suc k) d (low, filled, small, later) within = simp unary_clauses (simp unary_clauses at (starts_rise (s.end + 1) (t ∷ spans) k d later (omega (arith, within))))
-
 not_less : (b : Bool) → is_lt (cond b Equal Greater) ≡ false
 not_less true = refl
 not_less false = refl
@@ -67,23 +62,48 @@ never_less : (a b : ℕ) → b ≤ a → is_lt (nat_cmp a b) ≡ false
 never_less a b most = ap (λ t. is_lt (cond t Less (cond (a == b) Equal Greater))) (le-ltb a b most) ∙ not_less (a == b)
 
 module _ {X : Type 0} (say : X → Declaration) where
-  abbrev start_of : X → ℕ
-  start_of x = (declared_span (say x)).start
+  abbrev span_of : X → Span
+  span_of x = declared_span (say x)
 
   abbrev type_of : X → ℕ
   type_of x = segment_type (say x)
 
-  sorted_by_start : (xs : List X) → AreInOrder 0 (map (λ x. declared_span (say x)) xs) → IsSortedByKey start_of nat_cmp xs
-  sorted_by_start xs order k d low within =
-      let spanned : List Span = map (λ x. declared_span (say x)) xs in
-      let s : Span = declared_span (say d) in
-      let rise = starts_rise 0 spanned k s order (omega (arith, within, length-map xs (λ x. declared_span (say x)))) in
-      let first = get_or-map (λ x. declared_span (say x)) xs k d s (omega (arith, within)) in
-      let second = get_or-map (λ x. declared_span (say x)) xs (k + 1) d s within in
-      let up : start_of (get_or xs k d) ≤ start_of (get_or xs (k + 1) d) = omega (arith, rise, ap (λ (x : Span). x.start) first, ap (λ (x : Span). x.start) second) in
-      never_less (start_of (get_or xs (k + 1) d)) (start_of (get_or xs k d)) up
+  abbrev Below : X → X → Type 0
+  Below x y = (span_of x).end < (span_of y).start
 
-  before_next : (d e : Declaration) → segment_type d ≤ segment_type e → (segment_type d ≡ segment_type e → (declared_span d).start ≤ (declared_span e).start) → IsBefore d e
+  later_all : (base : ℕ) (xs : List X) → AreInOrder base (map span_of xs) → All (λ x. base ≤ (span_of x).start) xs
+  later_all base [] order = All-nil (λ x. base ≤ (span_of x).start)
+  later_all base (x ∷ xs) (low, filled, small, later) = All-cons (λ x. base ≤ (span_of x).start) x xs low (All-weaker (λ y. (span_of x).end + 1 ≤ (span_of y).start) (λ y. base ≤ (span_of y).start) (λ y h. omega (arith, low, filled, h)) xs (later_all ((span_of x).end + 1) xs later))
+
+  pairs_below : (base : ℕ) (xs : List X) → AreInOrder base (map span_of xs) → AllPairs Below xs
+  pairs_below base [] order = λ i j d less within. absurd (omega (arith, within))
+  pairs_below base (x ∷ xs) (low, filled, small, later) = AllPairs-cons Below x xs (All-weaker (λ y. (span_of x).end + 1 ≤ (span_of y).start) (Below x) (λ y h. omega (arith, h)) xs (later_all ((span_of x).end + 1) xs later)) (pairs_below ((span_of x).end + 1) xs later)
+
+  rest_below : (kept : Bool) (x : X) (xs : List X) → AllPairs Below (cond kept (x ∷ xs) xs) → AllPairs Below xs
+  rest_below true x xs h = λ i j d less within. h (suc i) (suc j) d (omega (arith, less)) (omega (arith, within))
+  rest_below false x xs h = h
+
+  -- neighbours that pass a test are neighbours of what passes it
+  kept_below : (t : X → Bool) (ys : List X) (k : ℕ) (d : X) → suc k < length ys → t (get_or ys k d) ≡ true → t (get_or ys (suc k) d) ≡ true → AllPairs Below (filter t ys) → Below (get_or ys k d) (get_or ys (suc k) d)
+  kept_below t [] k d w p q h = absurd (omega (arith, w))
+  kept_below t (a ∷ []) k d w p q h = absurd (omega (arith, w))
+  kept_below t (a ∷ b ∷ r) zero d w p q h =
+      let both : AllPairs Below (a ∷ b ∷ filter t r) = subst (AllPairs Below) (λ i. cond (p i) (a ∷ cond (q i) (b ∷ filter t r) (filter t r)) (cond (q i) (b ∷ filter t r) (filter t r))) h in
+      both 0 1 a (omega arith) (omega arith)
+  kept_below t (a ∷ b ∷ r) (suc k) d w p q h = kept_below t (b ∷ r) k d (omega (arith, w)) p q (rest_below (t a) a (filter t (b ∷ r)) h)
+
+  abbrev lower : X → X → Bool
+  lower x y = is_lt (nat_cmp (type_of x) (type_of y))
+
+  tied : (x y : X) → type_of x ≡ type_of y → ties lower x y ≡ true
+  tied x y same = λ i. not (never_less (type_of x) (type_of y) (omega (arith, same)) i) && not (never_less (type_of y) (type_of x) (omega (arith, same)) i)
+
+  tied_below : (old new : List X) → AllPairs Below old → IsStableByKey type_of nat_cmp old new → (k : ℕ) (d : X) → suc k < length new → type_of (get_or new k d) ≡ type_of (get_or new (suc k) d) → Below (get_or new k d) (get_or new (suc k) d)
+  tied_below old new pairs stable k d within same =
+      let x = get_or new k d in
+      kept_below (ties lower x) new k d within (tied x x refl) (tied x (get_or new (suc k) d) same) (subst (AllPairs Below) (sym (stable x)) (AllPairs-filter Below (ties lower x) old pairs))
+
+  before_next : (d e : Declaration) → segment_type d ≤ segment_type e → (segment_type d ≡ segment_type e → (declared_span d).end < (declared_span e).start) → IsBefore d e
   before_next d e up rise = elim (cases_lt (segment_type d) (segment_type e)) [
     | inl less ↦ inl less
     | inr most ↦ let same : segment_type d ≡ segment_type e = omega (arith, up, most) in inr (same, rise same)
@@ -95,7 +115,7 @@ module _ {X : Type 0} (say : X → Declaration) where
       let xs : List X = x ∷ rest in
       let inside : k + 1 < length xs = omega (arith, within, length-map xs say) in
       let up = IsNonDecreasingBy-from_sort type_of xs sorted k (k + 1) x (omega arith) inside in
-      let rise = ties_still_rise start_of type_of old xs (sorted_by_start old order) stable k x inside in
+      let rise = subst (λ n. n < length xs → type_of (get_or xs k x) ≡ type_of (get_or xs n x) → Below (get_or xs k x) (get_or xs n x)) (sym (add-one k)) (λ w. tied_below old xs (pairs_below 0 old order) stable k x w) inside in
       let first = get_or-map say xs k x d (omega (arith, inside)) in
       let second = get_or-map say xs (k + 1) x d inside in
       subst (λ a. IsBefore a (get_or (map say xs) (k + 1) d)) (sym first) (subst (IsBefore (say (get_or xs k x))) (sym second) (before_next (say (get_or xs k x)) (say (get_or xs (k + 1) x)) up rise))

@@ -103,9 +103,9 @@ abbrev pub AddsFull : List Segment → List Segment → List Declaration → Typ
 AddsFull old new ds = (added : List Segment) × (new ≡ old ++ added) × StandIn added ds
 
 -- ---- the entries of a list
--- an entry before another one: its type is lower, or it is the same and its codes begin no later
+-- an entry before another one: its type is lower, or it is the same and its codes are lower
 abbrev pub IsBefore : Declaration → Declaration → Type 0
-IsBefore d e = (segment_type d < segment_type e) ⊎ ((segment_type d ≡ segment_type e) × ((declared_span d).start ≤ (declared_span e).start))
+IsBefore d e = (segment_type d < segment_type e) ⊎ ((segment_type d ≡ segment_type e) × ((declared_span d).end < (declared_span e).start))
 
 -- each of these is before the next one
 abbrev pub AreOrdered : List Declaration → Type 0
