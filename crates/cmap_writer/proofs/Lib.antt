@@ -1,4 +1,5 @@
 pub mod Arranged
+pub mod ArrangedAlone
 pub mod ArrangedTexts
 pub mod BitsWritten
 pub mod BytesWritten
