@@ -31,14 +31,14 @@ not_shorter (d ∷ p) q r s same one ended other few less =
     let follows : CanFollow (get_or q k d) (get_or q (suc k) d) = next_follows q k d other (omega (arith, less)) in
     let end : k ≡ length all - 1 = omega arith in
     let last : get_or q k d ≡ get_or all (length all - 1) d =
-        sym (get_or_append_left q s d k (omega (arith, less))) ∙ ap (λ ds. get_or ds k d) (sym same) ∙ get_or_append_left all r d k (omega arith) ∙ ap (λ n. get_or all n d) end in
+    sym (get_or_append_left q s d k (omega (arith, less))) ∙ ap (λ ds. get_or ds k d) (sym same) ∙ get_or_append_left all r d k (omega arith) ∙ ap (λ n. get_or all n d) end in
     let seam : suc k ≡ length all + 0 = omega arith in
     let next : get_or q (suc k) d ≡ get_or r 0 d =
-        sym (get_or_append_left q s d (suc k) (omega (arith, less))) ∙ ap (λ ds. get_or ds (suc k) d) (sym same) ∙ ap (λ n. get_or (all ++ r) n d) seam ∙ get_or-append-add all r 0 d in
+    sym (get_or_append_left q s d (suc k) (omega (arith, less))) ∙ ap (λ ds. get_or ds (suc k) d) (sym same) ∙ ap (λ n. get_or (all ++ r) n d) seam ∙ get_or-append-add all r 0 d in
     ended d (omega (arith, less, few)) left (subst (λ x. CanFollow x (get_or r 0 d)) last (subst (CanFollow (get_or q k d)) next follows))
 
 -- lists that are equally long in front
-front_same : {X : Type 0} (p q r s : List X) → length p ≡ length q → p ++ r ≡ q ++ s → (p ≡ q) × (r ≡ s)
+pub front_same : {X : Type 0} (p q r s : List X) → length p ≡ length q → p ++ r ≡ q ++ s → (p ≡ q) × (r ≡ s)
 front_same [] [] r s size same = (refl, same)
 front_same [] (y ∷ q) r s size same = absurd (omega (arith, size))
 front_same (x ∷ p) [] r s size same = absurd (omega (arith, size))

@@ -9,6 +9,7 @@ pub mod ColumnsHeld
 pub mod ColumnsMade
 pub mod Cuts
 pub mod DecidedParts
+pub mod EntriesAlone
 pub mod EntriesOrdered
 pub mod FileKept
 pub mod FilesWritten

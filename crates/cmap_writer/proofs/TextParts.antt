@@ -36,14 +36,14 @@ text_split front last offset =
     rw (count, last_got front last, front_kept front last) (either (nat_lt (last + offset) (2 ^ 16)) (front ++ (last + offset) ∷ []))
 
 -- the units of which this is the last one
-abbrev units_with : List ℕ → ℕ → List ℕ
+abbrev pub units_with : List ℕ → ℕ → List ℕ
 units_with front value = if nat_lt value (2 ^ 16) then front ++ value ∷ [] else []
 
 either_units : (b : Bool) (units : List ℕ) → unwrap_or (if b then Some units else None) [] ≡ (if b then units else [])
 either_units true units = refl
 either_units false units = refl
 
-units_split : (front : List ℕ) (last offset : ℕ) → units_from (front ++ last ∷ []) offset ≡ units_with front (last + offset)
+pub units_split : (front : List ℕ) (last offset : ℕ) → units_from (front ++ last ∷ []) offset ≡ units_with front (last + offset)
 units_split front last offset =
     let units = front ++ last ∷ [] in
     let count : length units - 1 ≡ length front = omega (arith, length-append front (last ∷ [])) in

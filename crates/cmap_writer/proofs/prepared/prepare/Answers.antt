@@ -15,7 +15,6 @@ use Rattle.cmap_writer.specs.SegmentsWritten.{DeclareAll, SegmentByAny}
 use Rattle.cmap_writer.specs.Written.{Appends, WritesAll}
 use Rattle.cmap_values.proofs.Outcomes.{refuses_on}
 use Rattle.cmap_writer.proofs.ObstaclesMet.{by_cids, by_metadata, by_notdefs, by_spaces, by_texts, too_long}
-use Rattle.cmap_writer.proofs.ArrangedAlone.{cuts_alone, turns_alone}
 use Rattle.cmap_writer.proofs.Arranged.{arranged_is}
 use Rattle.cmap_writer.proofs.PreparedKept.{prepared_is}
 use Rattle.cmap_writer.proofs.prepared.prepare.Goals as goal
