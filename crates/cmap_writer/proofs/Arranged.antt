@@ -17,14 +17,16 @@ use Rattle.cmap_values.specs.declared.declarations.CidRange.{CidRange}
 use Rattle.cmap_packed.specs.Bundles.{PrefixTables}
 use Rattle.cmap_binary.specs.BinaryEntries.{CidEntriesIn, Shape, cid_from, ranges, singles}
 use Rattle.cmap_binary.specs.BinaryFiles.{IsSegment, declares}
-use Rattle.cmap_writer.specs.Arranged.{AddsByLength, AddsCidEntries, AddsFull, AddsInTurn, AddsTextEntries, AreEnded, AreFull, AreInOne, CanFollow, HasNumbersOf, HaveNumbersOf, IsArranged, StandIn, StandInTurn, lists_by_length, cid_type, count_of, segment_type, shape_of}
+use Rattle.cmap_writer.specs.Arranged.{AddsByLength, AddsCidEntries, AddsFull, AddsInTurn, AddsTextEntries, AreEnded, AreFull, AreInOne, CanFollow, HoldsEntries, HoldEach, IsArranged, StandIn, StandInTurn, lists_by_length, cid_type, count_of, segment_type, shape_of, value_of}
+use Rattle.cmap_writer.specs.EncodersSeen.{shape_seen}
 use Rattle.cmap_writer.specs.Follows.{Follows, HasShapeOf}
 use Rattle.cmap_writer.specs.Held.{AreHeld, AreInOrder, AreOwnCids, AreShaped, HasShape, counts_by, deltas_of, entry_span, spans_of}
 use Rattle.cmap_writer.specs.Pieces.{IsShort}
 use Rattle.cmap_writer.specs.Segments.{declared_span}
+use Rattle.cmap_writer.specs.Written.{bytes_of}
 use Rattle.cmap_writer.specs.declared.prepared.Prepared.{Prepared}
 use Rattle.cmap_writer.specs.declared.segments.Segment.{Segment}
-use Rattle.cmap_writer.proofs.CidsWritten.{IsSegment-ranges, IsSegment-singles}
+use Rattle.cmap_writer.proofs.CidsWritten.{IsSegment-ranges, IsSegment-singles, cids}
 use Rattle.cmap_writer.proofs.SegmentNumbers.{cid_spans}
 use Rattle.cmap_writer.proofs.SegmentsMade.{Follow, shape_at}
 
@@ -55,7 +57,7 @@ pub segment_said : (tables : PrefixTables) (shape : Shape) (len : CodeLength) (p
 segment_said tables ranges len payload es within = IsSegment-ranges tables len payload es within
 segment_said tables singles len payload es within = IsSegment-singles tables len payload es within
 
--- ---- the numbers of a segment
+-- ---- what a segment holds
 counts_are : (shape : Shape) (spans : List Span) (count : Span → List ℕ) → ((s : Span) → HasShape shape s.start s.end → count s ≡ counts_by shape (s ∷ [])) → AreShaped shape spans → flat_map count spans ≡ counts_by shape spans
 counts_are ranges [] count each shaped = refl
 counts_are singles [] count each shaped = refl
@@ -73,8 +75,14 @@ counts_spanned : (ds : List Declaration) → flat_map count_of ds ≡ flat_map c
 counts_spanned [] = refl
 counts_spanned (d ∷ ds) = ap (λ ns. count_of d ++ ns) (counts_spanned ds)
 
-pub numbers_of : (segment : Segment) (shape : Shape) (ds : List Declaration) → All (λ d. segment_type d ≡ segment.number) ds → AreShaped shape (map declared_span ds) → segment.deltas.items ≡ deltas_of 0 (map declared_span ds) → segment.counts.items ≡ counts_by shape (map declared_span ds) → HasNumbersOf segment ds
-numbers_of segment shape ds type shaped deltas counts = record {
+shapes_are : (shape : Shape) (ds : List Declaration) → AreShaped shape (map declared_span ds) → All (λ d. shape_of (declared_span d).start (declared_span d).end ≡ shape) ds
+shapes_are shape [] shaped = All-nil (λ d. shape_of (declared_span d).start (declared_span d).end ≡ shape)
+shapes_are shape (d ∷ ds) (here, later) = All-cons (λ d. shape_of (declared_span d).start (declared_span d).end ≡ shape) d ds (shape_is shape (declared_span d).start (declared_span d).end here) (shapes_are shape ds later)
+
+pub holds : (segment : Segment) (ds : List Declaration) → All (λ d. segment_type d ≡ segment.number) ds → AreShaped (shape_seen segment.shape) (map declared_span ds) → segment.deltas.items ≡ deltas_of 0 (map declared_span ds) → segment.counts.items ≡ counts_by (shape_seen segment.shape) (map declared_span ds) → segment.values.items ≡ flat_map value_of ds → HoldsEntries segment ds
+holds segment ds type shaped deltas counts values = let shape = shape_seen segment.shape in record {
+  shape = shapes_are shape ds shaped;
+  values = values;
   type = type;
   deltas = deltas;
   counts = counts ∙ sym (counts_are shape (map declared_span ds) count_in (one_count shape) shaped) ∙ sym (counts_spanned ds);
@@ -84,10 +92,15 @@ cid_types : (len n : ℕ) (shape : Shape) (es : List CidEntry) → cid_type len 
 cid_types len n shape [] is shaped = All-nil (λ d. segment_type d ≡ n)
 cid_types len n shape (e ∷ es) is (here, later) = All-cons (λ d. segment_type d ≡ n) (Declaration.cid len e) (map (Declaration.cid len) es) (ap (cid_type len) (shape_is shape e.start e.end here) ∙ is) (cid_types len n shape es is later)
 
-pub numbers_of_cids : (segment : Segment) (len : ℕ) (shape : Shape) (es : List CidEntry) → segment.number ≡ cid_type len shape → AreHeld shape es → segment.deltas.items ≡ deltas_of 0 (spans_of es) → segment.counts.items ≡ counts_by shape (spans_of es) → HasNumbersOf segment (map (Declaration.cid len) es)
-numbers_of_cids segment len shape es number held deltas counts =
+cid_values : (len : ℕ) (es : List CidEntry) → cids es ≡ flat_map value_of (map (Declaration.cid len) es)
+cid_values len [] = refl
+cid_values len (e ∷ es) = ap (λ bs. bytes_of 2 e.cid ++ bs) (cid_values len es)
+
+pub holds_cids : (segment : Segment) (len : ℕ) (es : List CidEntry) → segment.number ≡ cid_type len (shape_seen segment.shape) → AreHeld (shape_seen segment.shape) es → segment.deltas.items ≡ deltas_of 0 (spans_of es) → segment.counts.items ≡ counts_by (shape_seen segment.shape) (spans_of es) → segment.values.items ≡ cids es → HoldsEntries segment (map (Declaration.cid len) es)
+holds_cids segment len es number held deltas counts values =
     let spans = cid_spans len es in
-    numbers_of segment shape (map (Declaration.cid len) es) (cid_types len segment.number shape es (sym number) held.shaped) (subst (AreShaped shape) (sym spans) held.shaped) (deltas ∙ ap (deltas_of 0) (sym spans)) (counts ∙ ap (counts_by shape) (sym spans))
+    let shape = shape_seen segment.shape in
+    holds segment (map (Declaration.cid len) es) (cid_types len segment.number shape es (sym number) held.shaped) (subst (AreShaped shape) (sym spans) held.shaped) (deltas ∙ ap (deltas_of 0) (sym spans)) (counts ∙ ap (counts_by shape) (sym spans)) (values ∙ cid_values len es)
 
 -- ---- entries in one segment
 no_zero : (cid next : ℕ) → 0 < next → cid_from cid next ≡ cid → 0 < cid
@@ -170,11 +183,11 @@ full_at_end : (parts : List (List Declaration)) → AreFullBefore parts [] → A
 full_at_end [] none = tt
 full_at_end (p ∷ parts) (a, b, ends, more) = (a, b, subst (AreEnded p) (append-nil (flat_map id_part parts)) ends, full_at_end parts more)
 
-numbers_push : (a : List Segment) (s : Segment) (parts : List (List Declaration)) (part : List Declaration) → HaveNumbersOf a parts → HasNumbersOf s part → HaveNumbersOf (a ++ s ∷ []) (parts ++ part ∷ [])
-numbers_push [] s [] part none here = (here, tt)
-numbers_push [] s (p ∷ parts) part none here = absurd none
-numbers_push (x ∷ a) s [] part none here = absurd none
-numbers_push (x ∷ a) s (p ∷ parts) part (first, later) here = (first, numbers_push a s parts part later here)
+held_push : (a : List Segment) (s : Segment) (parts : List (List Declaration)) (part : List Declaration) → HoldEach a parts → HoldsEntries s part → HoldEach (a ++ s ∷ []) (parts ++ part ∷ [])
+held_push [] s [] part none here = (here, tt)
+held_push [] s (p ∷ parts) part none here = absurd none
+held_push (x ∷ a) s [] part none here = absurd none
+held_push (x ∷ a) s (p ∷ parts) part (first, later) here = (first, held_push a s parts part later here)
 
 module _ {X : Type 0} (say : List X → List Declaration) where
   -- segments of these are added, and those are left
@@ -184,21 +197,21 @@ module _ {X : Type 0} (say : List X → List Declaration) where
     pub parts : List (List Declaration)
     pub added : List Segment
     pub now_is : now ≡ old ++ added
-    pub numbers : HaveNumbersOf added parts
+    pub held : HoldEach added parts
     pub flat : flat_map id_part parts ≡ say done
     pub full : AreFullBefore parts (say left)
 
   pub full_none : say [] ≡ [] → (all : List X) (old : List Segment) → FullTo all all old old
-  full_none none all old = record { done = []; cut = refl; parts = []; added = []; now_is = sym (append-nil old); numbers = tt; flat = sym none; full = tt }
+  full_none none all old = record { done = []; cut = refl; parts = []; added = []; now_is = sym (append-nil old); held = tt; flat = sym none; full = tt }
 
-  pub full_more : ((a b : List X) → say (a ++ b) ≡ say a ++ say b) → (all left here later : List X) (old now new : List Segment) (s : Segment) → FullTo all left old now → left ≡ here ++ later → new ≡ now ++ s ∷ [] → HasNumbersOf s (say here) → AreInOne (say here) → length (say here) < 2 ^ 16 → AreEnded (say here) (say later) → FullTo all later old new
-  full_more both all left here later old now new s h cut is numbers one few ended = record {
+  pub full_more : ((a b : List X) → say (a ++ b) ≡ say a ++ say b) → (all left here later : List X) (old now new : List Segment) (s : Segment) → FullTo all left old now → left ≡ here ++ later → new ≡ now ++ s ∷ [] → HoldsEntries s (say here) → AreInOne (say here) → length (say here) < 2 ^ 16 → AreEnded (say here) (say later) → FullTo all later old new
+  full_more both all left here later old now new s h cut is holds one few ended = record {
     done = h.done ++ here;
     cut = h.cut ∙ ap (λ xs. h.done ++ xs) cut ∙ sym (append_assoc h.done here later);
     parts = h.parts ++ say here ∷ [];
     added = h.added ++ s ∷ [];
     now_is = is ∙ ap (λ ss. ss ++ s ∷ []) h.now_is ∙ append_assoc old h.added (s ∷ []);
-    numbers = numbers_push h.added s h.parts (say here) h.numbers numbers;
+    held = held_push h.added s h.parts (say here) h.held holds;
     flat = flat_map-append id_part h.parts (say here ∷ []) ∙ ap (λ ds. flat_map id_part h.parts ++ ds) (append-nil (say here)) ∙ ap (λ ds. ds ++ say here) h.flat ∙ sym (both h.done here);
     full = full_push h.parts (say here) (say later) (subst (AreFullBefore h.parts) (ap say cut ∙ both here later) h.full) one few ended;
   }
@@ -209,7 +222,7 @@ module _ {X : Type 0} (say : List X → List Declaration) where
     h.now_is,
     record {
       parts = h.parts;
-      numbers = h.numbers;
+      held = h.held;
       all = h.flat ∙ ap say (sym (h.cut ∙ append-nil h.done));
       full = full_at_end h.parts (subst (AreFullBefore h.parts) none h.full);
     },

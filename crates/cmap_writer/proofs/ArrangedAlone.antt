@@ -7,7 +7,10 @@ use Rattle.std.proofs.lemmas.List.{get_or-append-add, get_or_append_left, length
 use Rattle.std.proofs.lemmas.List.Elements.{All-head, All-tail}
 use Rattle.cmap_runs.specs.Ranges.{Span}
 use Rattle.cmap_values.specs.Files.{Declaration}
-use Rattle.cmap_writer.specs.Arranged.{AreCut, AreEnded, AreFull, AreInOne, CanFollow, HasNumbersOf, HaveNumbersOf, IsCut, StandIn, StandInTurn, segment_type}
+use Rattle.cmap_binary.specs.BinaryEntries.{Shape}
+use Rattle.cmap_writer.specs.Arranged.{AreCut, AreEnded, AreFull, AreInOne, CanFollow, HoldsEntries, HoldEach, IsCut, StandIn, StandInTurn, segment_type, shape_of}
+use Rattle.cmap_writer.specs.EncodersSeen.{shape_seen}
+use Rattle.cmap_writer.specs.Segments.{declared_span}
 use Rattle.cmap_writer.specs.declared.segments.Segment.{Segment}
 
 -- ---- parts
@@ -63,44 +66,52 @@ parts_alone (p ∷ ps) (q ∷ qs) same (one, few, ended, full) (two, less, stops
       ]
     ]
 
--- ---- the numbers of segments
--- the type of a segment, its deltas and its counts
-pub record Numbers : Type 0 where
+-- ---- what segments hold
+-- the type of a segment, its shape, its deltas, its counts and its values
+pub record SegmentSeen : Type 0 where
   pub type : ℕ
+  pub shape : Shape
   pub deltas : List ℕ
   pub counts : List ℕ
+  pub values : List ℕ
 
-abbrev pub numbers_of : Segment → Numbers
-numbers_of segment = record { type = segment.number; deltas = segment.deltas.items; counts = segment.counts.items }
+abbrev pub segment_seen : Segment → SegmentSeen
+segment_seen segment = record { type = segment.number; shape = shape_seen segment.shape; deltas = segment.deltas.items; counts = segment.counts.items; values = segment.values.items }
 
-type_alone : (a b : Segment) (ds : List Declaration) → AreInOne ds → HasNumbersOf a ds → HasNumbersOf b ds → a.number ≡ b.number
+type_alone : (a b : Segment) (ds : List Declaration) → AreInOne ds → HoldsEntries a ds → HoldsEntries b ds → a.number ≡ b.number
 type_alone a b [] one first second = absurd one
 type_alone a b (d ∷ ds) one first second = sym (All-head (λ d. segment_type d ≡ a.number) d ds first.type) ∙ All-head (λ d. segment_type d ≡ b.number) d ds second.type
 
-numbers_alone : (a b : Segment) (ds : List Declaration) → AreInOne ds → HasNumbersOf a ds → HasNumbersOf b ds → numbers_of a ≡ numbers_of b
-numbers_alone a b ds one first second =
-    ap (λ n. record { type = n; deltas = a.deltas.items; counts = a.counts.items }) (type_alone a b ds one first second)
-    ∙ ap (λ ns. record { type = b.number; deltas = ns; counts = a.counts.items }) (first.deltas ∙ sym second.deltas)
-    ∙ ap (λ ns. record { type = b.number; deltas = b.deltas.items; counts = ns }) (first.counts ∙ sym second.counts)
+shape_alone : (a b : Segment) (ds : List Declaration) → AreInOne ds → HoldsEntries a ds → HoldsEntries b ds → shape_seen a.shape ≡ shape_seen b.shape
+shape_alone a b [] one first second = absurd one
+shape_alone a b (d ∷ ds) one first second = sym (All-head (λ d. shape_of (declared_span d).start (declared_span d).end ≡ shape_seen a.shape) d ds first.shape) ∙ All-head (λ d. shape_of (declared_span d).start (declared_span d).end ≡ shape_seen b.shape) d ds second.shape
 
-each_alone : (a b : List Segment) (parts : List (List Declaration)) → AreFull parts → HaveNumbersOf a parts → HaveNumbersOf b parts → map numbers_of a ≡ map numbers_of b
+seen_alone : (a b : Segment) (ds : List Declaration) → AreInOne ds → HoldsEntries a ds → HoldsEntries b ds → segment_seen a ≡ segment_seen b
+seen_alone a b ds one first second =
+    ap (λ n. record { type = n; shape = shape_seen a.shape; deltas = a.deltas.items; counts = a.counts.items; values = a.values.items }) (type_alone a b ds one first second)
+    ∙ ap (λ s. record { type = b.number; shape = s; deltas = a.deltas.items; counts = a.counts.items; values = a.values.items }) (shape_alone a b ds one first second)
+    ∙ ap (λ ns. record { type = b.number; shape = shape_seen b.shape; deltas = ns; counts = a.counts.items; values = a.values.items }) (first.deltas ∙ sym second.deltas)
+    ∙ ap (λ ns. record { type = b.number; shape = shape_seen b.shape; deltas = b.deltas.items; counts = ns; values = a.values.items }) (first.counts ∙ sym second.counts)
+    ∙ ap (λ bs. record { type = b.number; shape = shape_seen b.shape; deltas = b.deltas.items; counts = b.counts.items; values = bs }) (first.values ∙ sym second.values)
+
+each_alone : (a b : List Segment) (parts : List (List Declaration)) → AreFull parts → HoldEach a parts → HoldEach b parts → map segment_seen a ≡ map segment_seen b
 each_alone [] [] [] full first second = refl
 each_alone [] [] (p ∷ parts) full first second = absurd first
 each_alone [] (y ∷ b) [] full first second = absurd second
 each_alone [] (y ∷ b) (p ∷ parts) full first second = absurd first
 each_alone (x ∷ a) b [] full first second = absurd first
 each_alone (x ∷ a) [] (p ∷ parts) full first second = absurd second
-each_alone (x ∷ a) (y ∷ b) (p ∷ parts) (one, few, ended, full) (here, first) (there, second) = ap (λ n. n ∷ map numbers_of a) (numbers_alone x y p one here there) ∙ ap (λ ns. numbers_of y ∷ ns) (each_alone a b parts full first second)
+each_alone (x ∷ a) (y ∷ b) (p ∷ parts) (one, few, ended, full) (here, first) (there, second) = ap (λ n. n ∷ map segment_seen a) (seen_alone x y p one here there) ∙ ap (λ ns. segment_seen y ∷ ns) (each_alone a b parts full first second)
 
-stand_alone : (a b : List Segment) (ds : List Declaration) → StandIn a ds → StandIn b ds → map numbers_of a ≡ map numbers_of b
+stand_alone : (a b : List Segment) (ds : List Declaration) → StandIn a ds → StandIn b ds → map segment_seen a ≡ map segment_seen b
 stand_alone a b ds first second =
     let same = parts_alone second.parts first.parts (second.all ∙ sym first.all) second.full first.full in
-    each_alone a b first.parts first.full first.numbers (subst (HaveNumbersOf b) same second.numbers)
+    each_alone a b first.parts first.full first.held (subst (HoldEach b) same second.held)
 
-pub turns_alone : (a b : List Segment) (lists : List (List Declaration)) → StandInTurn a lists → StandInTurn b lists → map numbers_of a ≡ map numbers_of b
-turns_alone a b [] none empty = ap (map numbers_of) (none ∙ sym empty)
+pub turns_alone : (a b : List Segment) (lists : List (List Declaration)) → StandInTurn a lists → StandInTurn b lists → map segment_seen a ≡ map segment_seen b
+turns_alone a b [] none empty = ap (map segment_seen) (none ∙ sym empty)
 turns_alone a b (ds ∷ lists) (here, later, is, stand, more) (there, rest, are, stand_too, more_too) =
-    ap (map numbers_of) is ∙ map-append numbers_of here later ∙ ap (λ ns. ns ++ map numbers_of later) (stand_alone here there ds stand stand_too) ∙ ap (λ ns. map numbers_of there ++ ns) (turns_alone later rest lists more more_too) ∙ sym (map-append numbers_of there rest) ∙ ap (map numbers_of) (sym are)
+    ap (map segment_seen) is ∙ map-append segment_seen here later ∙ ap (λ ns. ns ++ map segment_seen later) (stand_alone here there ds stand stand_too) ∙ ap (λ ns. map segment_seen there ++ ns) (turns_alone later rest lists more more_too) ∙ sym (map-append segment_seen there rest) ∙ ap (map segment_seen) (sym are)
 
 -- ---- pieces
 cut_alone : (s : Span) (ps qs : List Span) → IsCut s ps → IsCut s qs → ps ≡ qs

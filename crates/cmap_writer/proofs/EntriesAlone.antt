@@ -16,7 +16,7 @@ use Rattle.cmap_writer.specs.Pieces.{AllSayAs, CanBeSplit, Cover, IsShort, IsSho
 use Rattle.cmap_writer.specs.Segments.{declared_span}
 use Rattle.cmap_writer.specs.TextParts.{units_at, units_from}
 use Rattle.cmap_writer.specs.declared.prepared.Prepared.{Prepared}
-use Rattle.cmap_writer.proofs.ArrangedAlone.{cuts_alone, front_same, numbers_of, turns_alone}
+use Rattle.cmap_writer.proofs.ArrangedAlone.{cuts_alone, front_same, segment_seen, turns_alone}
 use Rattle.cmap_writer.proofs.CidParts.{has_from, has_within, last_split}
 use Rattle.cmap_writer.proofs.EntriesOrdered.{wholes_in_order}
 use Rattle.cmap_writer.proofs.TextParts.{text_has, units_split, units_with}
@@ -252,8 +252,8 @@ cid_entries_alone len es a b first second =
     moved_alone (Declaration.cid len) first.pieces second.pieces a b pieces first.moved second.moved (All-weaker IsShort (λ e. e.start ≤ e.end) (λ e s. s.0) first.pieces first.short) first.ordered second.ordered
 
 -- ---- a file
--- two that are arranged for one file have the same numbers in their segments
-pub arranged_alone : (file : File) (a b : Prepared) → IsArranged file a → IsArranged file b → map numbers_of a.segments.items ≡ map numbers_of b.segments.items
+-- two that are arranged for one file have the same segments
+pub arranged_alone : (file : File) (a b : Prepared) → IsArranged file a → IsArranged file b → map segment_seen a.segments.items ≡ map segment_seen b.segments.items
 arranged_alone file a b first second =
     let one = cid_entries_alone 1 file.lists.cids.one second.cids.one first.cids.one second.cid_entries.one first.cid_entries.one in
     let two = cid_entries_alone 2 file.lists.cids.two second.cids.two first.cids.two second.cid_entries.two first.cid_entries.two in

@@ -5,12 +5,15 @@ use Rattle.cmap_runs.specs.Ranges.{Span, runs_of}
 use Rattle.cmap_values.specs.Files.{BfEntry, ByLength, CidEntry, Declaration, File}
 use Rattle.cmap_layers.specs.Lookups.{bf_at, bf_span, cid_at, cid_span}
 use Rattle.cmap_binary.specs.BinaryEntries.{Shape, ranges, singles}
+use Rattle.cmap_writer.specs.EncodersSeen.{shape_seen}
 use Rattle.cmap_writer.specs.Held.{deltas_of}
 use Rattle.cmap_writer.specs.Pieces.{AllSayAs, CanBeSplit, IsShort, IsShortText, SayTheSame}
 use Rattle.cmap_writer.specs.PreparedFiles.{IsPrepared}
 use Rattle.cmap_writer.specs.Segments.{declared_span}
 use Rattle.cmap_writer.specs.TextParts.{units_at}
+use Rattle.cmap_writer.specs.Texts.{destination}
 use Rattle.cmap_writer.specs.Weights.{run_span}
+use Rattle.cmap_writer.specs.Written.{bytes_of}
 use Rattle.cmap_writer.specs.declared.prepared.Prepared.{Prepared}
 use Rattle.cmap_writer.specs.declared.segments.Segment.{Segment}
 
@@ -80,21 +83,29 @@ AreFull (part ∷ parts) = AreInOne part × (length part < 2 ^ 16) × AreEnded p
 abbrev pub count_of : Declaration → List ℕ
 count_of d = if nat_lt (declared_span d).start (declared_span d).end then ((declared_span d).end - (declared_span d).start - 1) ∷ [] else []
 
--- the segment has the type of these entries, their deltas and their counts
-pub record HasNumbersOf (segment : Segment) (ds : List Declaration) : Type 0 where
+-- the CID or the text of an entry, as it is written
+abbrev pub value_of : Declaration → List ℕ
+value_of (Declaration.cid len e) = bytes_of 2 e.cid
+value_of (Declaration.bf e) = destination (units_fixed (shape_of e.start e.end) (length e.units)) e.units
+value_of other = []
+
+-- the segment has the type and the shape of these entries, their deltas, their counts and their values
+pub record HoldsEntries (segment : Segment) (ds : List Declaration) : Type 0 where
+  pub shape : All (λ d. shape_of (declared_span d).start (declared_span d).end ≡ shape_seen segment.shape) ds
   pub type : All (λ d. segment_type d ≡ segment.number) ds
   pub deltas : segment.deltas.items ≡ deltas_of 0 (map declared_span ds)
   pub counts : segment.counts.items ≡ flat_map count_of ds
+  pub values : segment.values.items ≡ flat_map value_of ds
 
-abbrev pub HaveNumbersOf : List Segment → List (List Declaration) → Type 0
-HaveNumbersOf [] [] = Unit {0}
-HaveNumbersOf (segment ∷ segments) (part ∷ parts) = HasNumbersOf segment part × HaveNumbersOf segments parts
-HaveNumbersOf segments parts = ⊥
+abbrev pub HoldEach : List Segment → List (List Declaration) → Type 0
+HoldEach [] [] = Unit {0}
+HoldEach (segment ∷ segments) (part ∷ parts) = HoldsEntries segment part × HoldEach segments parts
+HoldEach segments parts = ⊥
 
 -- these entries stand in the segments, in order, and each segment is full before the next one
 pub record StandIn (segments : List Segment) (ds : List Declaration) : Type 0 where
   pub parts : List (List Declaration)
-  pub numbers : HaveNumbersOf segments parts
+  pub held : HoldEach segments parts
   pub all : flat_map (λ p. p) parts ≡ ds
   pub full : AreFull parts
 

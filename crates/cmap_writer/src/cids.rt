@@ -5,7 +5,7 @@ ghost use Rattle.cmap_values.specs.CodeLengths.{length_of};
 ghost use Rattle.cmap_values.specs.DeclarationsSeen.{cid_entry_seen, entries_seen};
 ghost use Rattle.cmap_values.specs.Files.{Declaration};
 ghost use Rattle.cmap_values.specs.Outcomes.{RefusesWith};
-ghost use Rattle.cmap_writer.specs.Arranged.{AddsCidEntries, AddsFull, AreEnded, HasNumbersOf, segment_type};
+ghost use Rattle.cmap_writer.specs.Arranged.{AddsCidEntries, AddsFull, AreEnded, HoldsEntries, segment_type};
 ghost use Rattle.cmap_writer.specs.EncodersSeen.{shape_seen};
 ghost use Rattle.cmap_writer.specs.Follows.{Follows, HasShapeOf};
 ghost use Rattle.cmap_writer.specs.Held.{AreHeld};
@@ -121,7 +121,7 @@ fn cid_segment(
 ) -> Result<Segment, AllocError>
     requires { AreHeld (shape_seen shape) (entries_seen entries.now) }
     ensures says { IfOk result (λ segment. IsSegmentOf segment (map (Declaration.cid (length_of len)) (entries_seen entries.now))) }
-    ensures numbers { IfOk result (λ segment. HasNumbersOf segment (map (Declaration.cid (length_of len)) (entries_seen entries.now))) }
+    ensures holds { IfOk result (λ segment. HoldsEntries segment (map (Declaration.cid (length_of len)) (entries_seen entries.now))) }
 {
     let number = shape.cid_type(len);
     let mut values = Vec::with_capacity(alloc, 2 * entries.len())?;

@@ -6,7 +6,7 @@ ghost use Rattle.cmap_values.specs.Files.{Declaration};
 ghost use Rattle.cmap_values.specs.Outcomes.{RefusesWith};
 ghost use Rattle.cmap_values.specs.UnitsSeen.{units_seen};
 ghost use Rattle.cmap_values.specs.declared.declarations.BfRange.{BfRange};
-ghost use Rattle.cmap_writer.specs.Arranged.{AddsFull, AddsTextEntries, AreEnded, HasNumbersOf, bf_type, shape_of, text_type, units_fixed};
+ghost use Rattle.cmap_writer.specs.Arranged.{AddsFull, AddsTextEntries, AreEnded, HoldsEntries, bf_type, shape_of, text_type, units_fixed};
 ghost use Rattle.cmap_writer.specs.EncodersSeen.{shape_seen};
 ghost use Rattle.cmap_writer.specs.Obstacles.{IsTextObstacle};
 ghost use Rattle.cmap_writer.specs.Pieces.{IsShortText};
@@ -178,7 +178,7 @@ fn text_segment(alloc: Global, form: TextForm, entries: &[BfRange]) -> Result<Se
     requires held { AreHeldTexts (shape_seen form.shape) form.units entries.now }
     requires typed { All (λ e. bf_type e ≡ text_type (shape_seen form.shape) form.units) (map bf_entry_seen entries.now) }
     ensures says { IfOk result (λ segment. IsSegmentOf segment (map Declaration.bf (map bf_entry_seen entries.now))) }
-    ensures numbers { IfOk result (λ segment. HasNumbersOf segment (map Declaration.bf (map bf_entry_seen entries.now))) }
+    ensures holds { IfOk result (λ segment. HoldsEntries segment (map Declaration.bf (map bf_entry_seen entries.now))) }
 {
     let mut values = Vec::new(alloc);
     push_texts(&mut values, form.units, entries)?;

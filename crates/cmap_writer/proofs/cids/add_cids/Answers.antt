@@ -32,7 +32,7 @@ loop-left-preserved c =
     record {
       short = subst (λ xs. All IsShort (entries_seen xs)) (sym c.split_at.ensures.back) (short_later count left c.loop-left.invariant.short);
       done = added_more say both c.args.pieces.now left here later c.args.segments.now.items c.loop-left.segments.items c.push.new.self.items _ c.loop-left.invariant.done cut c.in_ok-push.ensures.items c.in_ok-cid_segment.ensures.says;
-      full = full_more say both c.args.pieces.now left here later c.args.segments.now.items c.loop-left.segments.items c.push.new.self.items _ c.loop-left.invariant.full cut c.in_ok-push.ensures.items c.in_ok-cid_segment.ensures.numbers one c.in_ok-cid_segment.ensures.says.few ended;
+      full = full_more say both c.args.pieces.now left here later c.args.segments.now.items c.loop-left.segments.items c.push.new.self.items _ c.loop-left.invariant.full cut c.in_ok-push.ensures.items c.in_ok-cid_segment.ensures.holds one c.in_ok-cid_segment.ensures.says.few ended;
     }
 
 pub loop-left-init : goal.loop-left-init

@@ -7,7 +7,7 @@ use Rattle.cmap_binary.specs.BinaryEntries.{CidEntriesIn}
 use Rattle.cmap_binary.specs.BinaryFiles.{IsSegment, declares}
 use Rattle.cmap_writer.specs.EncodersSeen.{shape_seen}
 use Rattle.cmap_writer.specs.Held.{AreInOrder, AreShaped, counts_by, deltas_of}
-use Rattle.cmap_writer.proofs.Arranged.{numbers_of_cids, segment_said}
+use Rattle.cmap_writer.proofs.Arranged.{holds_cids, segment_said}
 use Rattle.cmap_writer.proofs.CidsWritten.{cids}
 use Rattle.cmap_writer.proofs.NumbersWritten.{cids_spelled, spans_seen}
 use Rattle.cmap_writer.proofs.SegmentNumbers.{segment_of_cids}
@@ -33,33 +33,33 @@ returns-clause-says c =
     let within = cids_spelled tables shape es c.in_ok-deltas.field-0.items c.in_ok-counts.field-0.items c.push_raw_cids.new.out.items columns payload c.requires deltas counts values spelled is in
     subst (λ n. IsSegment tables n payload content) (sym c.cid_type-number.ensures) (segment_said tables shape len payload es within)) c.requires deltas counts values
 
-pub returns-clause-numbers : goal.returns-clause-numbers
-returns-clause-numbers c =
+pub returns-clause-holds : goal.returns-clause-holds
+returns-clause-holds c =
     let shape = shape_seen c.args.shape in
     let es = entries_seen c.args.entries.now in
     let spans = spans_seen c.args.entries.now in
-    numbers_of_cids _ (length_of c.args.len) shape es c.cid_type-number.ensures c.requires (c.in_ok-deltas.ensures ∙ ap (deltas_of 0) spans) (c.in_ok-counts.ensures ∙ ap (counts_by shape) spans)
+    holds_cids _ (length_of c.args.len) es c.cid_type-number.ensures c.requires (c.in_ok-deltas.ensures ∙ ap (deltas_of 0) spans) (c.in_ok-counts.ensures ∙ ap (counts_by shape) spans) (c.in_ok-push_raw_cids.ensures ∙ ap (λ bs. bs ++ cids es) c.in_ok-values.ensures.items)
 
 pub returns-in_err-values-clause-says : goal.returns-in_err-values-clause-says
 returns-in_err-values-clause-says c = IfOk-from_err _ _ c.from_residual.ensures.0
 
-pub returns-in_err-values-clause-numbers : goal.returns-in_err-values-clause-numbers
-returns-in_err-values-clause-numbers c = IfOk-from_err _ _ c.from_residual.ensures.0
+pub returns-in_err-values-clause-holds : goal.returns-in_err-values-clause-holds
+returns-in_err-values-clause-holds c = IfOk-from_err _ _ c.from_residual.ensures.0
 
 pub returns-in_err-push_raw_cids-clause-says : goal.returns-in_err-push_raw_cids-clause-says
 returns-in_err-push_raw_cids-clause-says c = IfOk-from_err _ _ c.from_residual-in_err-push_raw_cids.ensures.0
 
-pub returns-in_err-push_raw_cids-clause-numbers : goal.returns-in_err-push_raw_cids-clause-numbers
-returns-in_err-push_raw_cids-clause-numbers c = IfOk-from_err _ _ c.from_residual-in_err-push_raw_cids.ensures.0
+pub returns-in_err-push_raw_cids-clause-holds : goal.returns-in_err-push_raw_cids-clause-holds
+returns-in_err-push_raw_cids-clause-holds c = IfOk-from_err _ _ c.from_residual-in_err-push_raw_cids.ensures.0
 
 pub returns-in_err-deltas-clause-says : goal.returns-in_err-deltas-clause-says
 returns-in_err-deltas-clause-says c = IfOk-from_err _ _ c.from_residual-in_err-deltas.ensures.0
 
-pub returns-in_err-deltas-clause-numbers : goal.returns-in_err-deltas-clause-numbers
-returns-in_err-deltas-clause-numbers c = IfOk-from_err _ _ c.from_residual-in_err-deltas.ensures.0
+pub returns-in_err-deltas-clause-holds : goal.returns-in_err-deltas-clause-holds
+returns-in_err-deltas-clause-holds c = IfOk-from_err _ _ c.from_residual-in_err-deltas.ensures.0
 
 pub returns-in_err-counts-clause-says : goal.returns-in_err-counts-clause-says
 returns-in_err-counts-clause-says c = IfOk-from_err _ _ c.from_residual-in_err-counts.ensures.0
 
-pub returns-in_err-counts-clause-numbers : goal.returns-in_err-counts-clause-numbers
-returns-in_err-counts-clause-numbers c = IfOk-from_err _ _ c.from_residual-in_err-counts.ensures.0
+pub returns-in_err-counts-clause-holds : goal.returns-in_err-counts-clause-holds
+returns-in_err-counts-clause-holds c = IfOk-from_err _ _ c.from_residual-in_err-counts.ensures.0
