@@ -7,8 +7,7 @@ use Rattle.std.proofs.lemmas.List.{get_or-append-add, get_or_append_left, length
 use Rattle.std.proofs.lemmas.List.Elements.{All-head, All-tail}
 use Rattle.cmap_runs.specs.Ranges.{Span}
 use Rattle.cmap_values.specs.Files.{Declaration}
-use Rattle.cmap_binary.specs.BinaryEntries.{Shape}
-use Rattle.cmap_writer.specs.Arranged.{AreCut, AreEnded, AreFull, AreInOne, CanFollow, HoldsEntries, HoldEach, IsCut, StandIn, StandInTurn, segment_type, shape_of}
+use Rattle.cmap_writer.specs.Arranged.{AreCut, AreEnded, AreFull, AreInOne, CanFollow, HoldsEntries, HoldEach, IsCut, StandIn, StandInTurn, segment_seen, segment_type, shape_of}
 use Rattle.cmap_writer.specs.EncodersSeen.{shape_seen}
 use Rattle.cmap_writer.specs.Segments.{declared_span}
 use Rattle.cmap_writer.specs.declared.segments.Segment.{Segment}
@@ -67,17 +66,6 @@ parts_alone (p ∷ ps) (q ∷ qs) same (one, few, ended, full) (two, less, stops
     ]
 
 -- ---- what segments hold
--- the type of a segment, its shape, its deltas, its counts and its values
-pub record SegmentSeen : Type 0 where
-  pub type : ℕ
-  pub shape : Shape
-  pub deltas : List ℕ
-  pub counts : List ℕ
-  pub values : List ℕ
-
-abbrev pub segment_seen : Segment → SegmentSeen
-segment_seen segment = record { type = segment.number; shape = shape_seen segment.shape; deltas = segment.deltas.items; counts = segment.counts.items; values = segment.values.items }
-
 type_alone : (a b : Segment) (ds : List Declaration) → AreInOne ds → HoldsEntries a ds → HoldsEntries b ds → a.number ≡ b.number
 type_alone a b [] one first second = absurd one
 type_alone a b (d ∷ ds) one first second = sym (All-head (λ d. segment_type d ≡ a.number) d ds first.type) ∙ All-head (λ d. segment_type d ≡ b.number) d ds second.type

@@ -10,13 +10,13 @@ use Rattle.std.proofs.lemmas.Option.{same_Some}
 use Rattle.cmap_runs.specs.Ranges.{Span}
 use Rattle.cmap_values.specs.Files.{BfEntry, CidEntry, Declaration, File}
 use Rattle.cmap_layers.specs.Lookups.{bf_span, cid_at, cid_span}
-use Rattle.cmap_writer.specs.Arranged.{AreCidEntries, AreCut, AreOrdered, AreTextEntries, AreWhole, CanJoin, IsArranged, IsBefore, StandInTurn, lists_by_length, segment_type}
+use Rattle.cmap_writer.specs.Arranged.{AreCidEntries, AreCut, AreOrdered, AreTextEntries, AreWhole, CanJoin, IsArranged, IsBefore, StandInTurn, lists_by_length, segment_seen, segment_type}
 use Rattle.cmap_writer.specs.Held.{AreInOrder}
 use Rattle.cmap_writer.specs.Pieces.{AllSayAs, CanBeSplit, Cover, IsShort, IsShortText, SaysAs, told}
 use Rattle.cmap_writer.specs.Segments.{declared_span}
 use Rattle.cmap_writer.specs.TextParts.{units_at, units_from}
 use Rattle.cmap_writer.specs.declared.prepared.Prepared.{Prepared}
-use Rattle.cmap_writer.proofs.ArrangedAlone.{cuts_alone, front_same, segment_seen, turns_alone}
+use Rattle.cmap_writer.proofs.ArrangedAlone.{cuts_alone, front_same, turns_alone}
 use Rattle.cmap_writer.proofs.CidParts.{has_from, has_within, last_split}
 use Rattle.cmap_writer.proofs.EntriesOrdered.{wholes_in_order}
 use Rattle.cmap_writer.proofs.TextParts.{text_has, units_split, units_with}

@@ -102,6 +102,17 @@ HoldEach [] [] = Unit {0}
 HoldEach (segment ∷ segments) (part ∷ parts) = HoldsEntries segment part × HoldEach segments parts
 HoldEach segments parts = ⊥
 
+-- the type of a segment, its shape, its deltas, its counts and its values
+pub record SegmentSeen : Type 0 where
+  pub type : ℕ
+  pub shape : Shape
+  pub deltas : List ℕ
+  pub counts : List ℕ
+  pub values : List ℕ
+
+abbrev pub segment_seen : Segment → SegmentSeen
+segment_seen segment = record { type = segment.number; shape = shape_seen segment.shape; deltas = segment.deltas.items; counts = segment.counts.items; values = segment.values.items }
+
 -- these entries stand in the segments, in order, and each segment is full before the next one
 pub record StandIn (segments : List Segment) (ds : List Declaration) : Type 0 where
   pub parts : List (List Declaration)
