@@ -1,5 +1,5 @@
 -- Entries that stand in full segments.
-use Rattle.std.proofs.Common.{◌≡◌, ℕ, zero, suc, true, false, ◌+◌, ◌-◌, ◌*◌, ◌^◌, ◌<◌, ◌≤◌, ◌⊎◌, inl, inr, List, [], ◌∷◌, ◌++◌, Option, Some, None, length, drop, get_or, map, take, refl, ap, ◌∙◌, sym, subst, arith}
+use Rattle.std.proofs.Common.{◌≡◌, ℕ, zero, suc, ◌+◌, ◌-◌, ◌^◌, ◌<◌, ◌≤◌, inl, inr, List, [], ◌∷◌, ◌++◌, length, drop, get_or, map, take, refl, ap, ◌∙◌, sym, subst, arith}
 use Rattle.std.specs.Prelude.{nat_lt, if◌then◌else◌}
 use Rattle.std.specs.List.{All, flat_map}
 use Rattle.std.proofs.lemmas.Simd.{map-map}
@@ -17,10 +17,10 @@ use Rattle.cmap_values.specs.declared.declarations.CidRange.{CidRange}
 use Rattle.cmap_packed.specs.Bundles.{PrefixTables}
 use Rattle.cmap_binary.specs.BinaryEntries.{CidEntriesIn, Shape, cid_from, ranges, singles}
 use Rattle.cmap_binary.specs.BinaryFiles.{IsSegment, declares}
-use Rattle.cmap_writer.specs.Arranged.{AddsByLength, AddsCidEntries, AddsFull, AddsInTurn, AddsTextEntries, AreEnded, AreFull, AreInOne, CanFollow, HoldsEntries, HoldEach, IsArranged, StandIn, StandInTurn, lists_by_length, cid_type, count_of, segment_type, shape_of, value_of}
+use Rattle.cmap_writer.specs.Arranged.{AddsByLength, AddsCidEntries, AddsFull, AddsInTurn, AddsTextEntries, AreEnded, AreFull, AreInOne, CanFollow, HoldsEntries, HoldEach, IsArranged, StandInTurn, lists_by_length, cid_type, count_of, segment_type, shape_of, value_of}
 use Rattle.cmap_writer.specs.EncodersSeen.{shape_seen}
 use Rattle.cmap_writer.specs.Follows.{Follows, HasShapeOf}
-use Rattle.cmap_writer.specs.Held.{AreHeld, AreInOrder, AreOwnCids, AreShaped, HasShape, counts_by, deltas_of, entry_span, spans_of}
+use Rattle.cmap_writer.specs.Held.{AreHeld, AreInOrder, AreOwnCids, AreShaped, HasShape, counts_by, deltas_of, spans_of}
 use Rattle.cmap_writer.specs.Pieces.{IsShort}
 use Rattle.cmap_writer.specs.Segments.{declared_span}
 use Rattle.cmap_writer.specs.Written.{bytes_of}

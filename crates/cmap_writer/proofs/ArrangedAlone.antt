@@ -1,10 +1,9 @@
 -- No other segments are arranged so.
-use Rattle.std.proofs.Common.{◌≡◌, ◌⊎◌, ℕ, zero, suc, ◌+◌, ◌-◌, ◌*◌, ◌^◌, ◌<◌, ◌≤◌, inl, inr, List, [], ◌∷◌, ◌++◌, length, drop, get_or, length-append, map, take, refl, ap, ◌∙◌, sym, subst, arith}
-use Rattle.std.specs.List.{All, Contains, flat_map}
-use Rattle.std.specs.List.Sorted.{IsPermutation}
+use Rattle.std.proofs.Common.{◌≡◌, ℕ, zero, suc, ◌+◌, ◌-◌, ◌^◌, ◌<◌, inl, inr, List, [], ◌∷◌, ◌++◌, length, drop, get_or, length-append, map, refl, ap, ◌∙◌, sym, subst, arith}
+use Rattle.std.specs.List.{flat_map}
 use Rattle.std.proofs.lemmas.Bool.{cases_lt}
-use Rattle.std.proofs.lemmas.List.{get_or-append-add, get_or_append_left, length-map, map-append}
-use Rattle.std.proofs.lemmas.List.Elements.{All-head, All-tail}
+use Rattle.std.proofs.lemmas.List.{get_or-append-add, get_or_append_left, map-append}
+use Rattle.std.proofs.lemmas.List.Elements.{All-head}
 use Rattle.cmap_runs.specs.Ranges.{Span}
 use Rattle.cmap_values.specs.Files.{Declaration}
 use Rattle.cmap_writer.specs.Arranged.{AreCut, AreEnded, AreFull, AreInOne, CanFollow, HoldsEntries, HoldEach, IsCut, StandIn, StandInTurn, segment_seen, segment_type, shape_of}

@@ -1,12 +1,11 @@
 -- Texts that stand in full segments.
-use Rattle.std.proofs.Common.{◌≡◌, ℕ, zero, suc, ◌+◌, ◌-◌, ◌*◌, ◌^◌, ◌<◌, ◌≤◌, List, inl, inr, [], ◌∷◌, ◌++◌, Option, Some, None, length, drop, get_or, map, take, refl, ap, ◌∙◌, sym, subst, arith}
+use Rattle.std.proofs.Common.{◌≡◌, ℕ, zero, suc, ◌+◌, ◌-◌, ◌<◌, ◌≤◌, List, inl, inr, [], ◌∷◌, ◌++◌, Option, Some, None, length, drop, get_or, map, take, refl, ap, ◌∙◌, sym, subst, arith}
 use Rattle.std.specs.Prelude.{Bool, true, false, ◌&&◌, nat_le, if◌then◌else◌}
 use Rattle.std.specs.List.{All, flat_map}
 use Rattle.std.proofs.lemmas.Simd.{map-map}
 use Rattle.std.proofs.lemmas.Bool.{and_parts, cases_lt, leb-true}
-use Rattle.std.proofs.lemmas.List.{length-map, length-take-le}
+use Rattle.std.proofs.lemmas.List.{length-take-le}
 use Rattle.std.proofs.lemmas.List.Elements.{All-cons, All-head, All-nil, All-tail}
-use Rattle.cmap_runs.specs.Ranges.{Span}
 use Rattle.cmap_values.specs.DeclarationsSeen.{bf_entry_seen, bf_range_span}
 use Rattle.cmap_values.specs.Files.{BfEntry, Declaration}
 use Rattle.cmap_values.specs.declared.declarations.BfRange.{BfRange}
@@ -15,7 +14,6 @@ use Rattle.cmap_binary.specs.BinaryFiles.{Kind, kind_of, texts}
 use Rattle.cmap_writer.specs.Arranged.{AreEnded, AreInOne, CanFollow, HoldsEntries, bf_type, most_fixed, segment_type, shape_of, text_type, units_fixed, value_of}
 use Rattle.cmap_writer.specs.EncodersSeen.{shape_seen}
 use Rattle.cmap_writer.specs.Held.{AreInOrder, AreShaped, counts_by, deltas_of}
-use Rattle.cmap_writer.specs.Segments.{declared_span}
 use Rattle.cmap_writer.specs.Texts.{AreHeldTexts, CanFix, destination, destinations}
 use Rattle.cmap_writer.specs.declared.segments.Segment.{Segment}
 use Rattle.cmap_writer.proofs.Arranged.{ended_here, holds}

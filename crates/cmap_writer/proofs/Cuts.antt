@@ -1,14 +1,11 @@
 -- Ranges as large as can be, their pieces, and the order of these.
-use Rattle.std.proofs.Common.{◌≡◌, ◌⊎◌, ℕ, zero, suc, false, ◌+◌, ◌-◌, ◌*◌, ◌^◌, ◌<◌, ◌≤◌, inl, inr, List, [], ◌∷◌, ◌++◌, Some, length, get_or, map, set, take, refl, ap, ◌∙◌, sym, subst, arith}
-use Rattle.std.specs.List.{All, AllPairs, slice_get}
-use Rattle.std.proofs.lemmas.Bool.{cases_lt, le-ltb}
+use Rattle.std.proofs.Common.{◌≡◌, ℕ, ◌+◌, ◌-◌, ◌<◌, ◌≤◌, List, [], ◌∷◌, ◌++◌, Some, length, get_or, map, take, refl, ap, ◌∙◌, sym, subst, arith}
+use Rattle.std.specs.List.{AllPairs, slice_get}
 use Rattle.std.proofs.lemmas.List.{append_assoc, append-nil, map-append, take_all, take_more}
 use Rattle.std.proofs.lemmas.Option.{get_or_from_slice_get, slice_get_within}
-use Rattle.std.proofs.lemmas.List.Elements.{All-cons, All-head, All-nil, All-push, All-tail, All-weaker}
+use Rattle.std.proofs.lemmas.List.Elements.{All-cons, All-head, All-nil, All-push, All-weaker}
 use Rattle.cmap_runs.specs.Ranges.{Run, Span}
-use Rattle.cmap_values.specs.DeclarationsSeen.{cid_entry_seen, cid_range_span, entries_seen}
 use Rattle.cmap_values.specs.Files.{CidEntry}
-use Rattle.cmap_values.specs.declared.declarations.CidRange.{CidRange}
 use Rattle.cmap_writer.specs.Arranged.{AreCut, AreWhole, CanJoin, EndBefore, IsCut, KeepsWhole, PushesCut}
 use Rattle.cmap_writer.specs.Weights.{run_span}
 use Rattle.cmap_writer.proofs.Told.{All-back, All-front}

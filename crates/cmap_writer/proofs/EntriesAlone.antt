@@ -1,6 +1,6 @@
 -- No other entries are those of a list.
-use Rattle.std.proofs.Common.{◌≡◌, ◌⊎◌, ℕ, zero, suc, ◌+◌, ◌-◌, ◌*◌, ◌^◌, ◌<◌, ◌≤◌, inl, inr, List, [], ◌∷◌, ◌++◌, Some, None, length, get_or, map, take, refl, ap, ◌∙◌, sym, subst, arith}
-use Rattle.std.specs.Prelude.{IsSome, nat_lt, if◌then◌else◌}
+use Rattle.std.proofs.Common.{◌≡◌, ◌⊎◌, ℕ, zero, suc, ◌+◌, ◌-◌, ◌^◌, ◌<◌, ◌≤◌, inl, inr, List, [], ◌∷◌, ◌++◌, Some, None, length, get_or, map, take, refl, ap, ◌∙◌, sym, subst, arith}
+use Rattle.std.specs.Prelude.{IsSome, if◌then◌else◌}
 use Rattle.std.specs.List.{All, Contains}
 use Rattle.std.specs.List.Sorted.{IsPermutation}
 use Rattle.std.proofs.lemmas.Bool.{cases_lt, lt-ltb}
@@ -10,7 +10,7 @@ use Rattle.std.proofs.lemmas.Option.{same_Some}
 use Rattle.cmap_runs.specs.Ranges.{Span}
 use Rattle.cmap_values.specs.Files.{BfEntry, CidEntry, Declaration, File}
 use Rattle.cmap_layers.specs.Lookups.{bf_span, cid_at, cid_span}
-use Rattle.cmap_writer.specs.Arranged.{AreCidEntries, AreCut, AreOrdered, AreTextEntries, AreWhole, CanJoin, IsArranged, IsBefore, StandInTurn, lists_by_length, segment_seen, segment_type}
+use Rattle.cmap_writer.specs.Arranged.{AreCidEntries, AreCut, AreOrdered, AreTextEntries, AreWhole, IsArranged, IsBefore, StandInTurn, lists_by_length, segment_seen}
 use Rattle.cmap_writer.specs.Held.{AreInOrder}
 use Rattle.cmap_writer.specs.Pieces.{AllSayAs, CanBeSplit, Cover, IsShort, IsShortText, SaysAs, told}
 use Rattle.cmap_writer.specs.Segments.{declared_span}

@@ -1,9 +1,8 @@
-use Rattle.std.proofs.Common.{◌-◌, ◌*◌, ◌∙◌, ◌≡◌, ◌++◌, map, ap, sym, subst}
+use Rattle.std.proofs.Common.{◌∙◌, ◌≡◌, ◌++◌, map, ap, sym, subst}
 use Rattle.std.proofs.lemmas.Result.{IfOk-from_err}
 use Rattle.cmap_values.specs.CodeLengths.{length_of}
 use Rattle.cmap_values.specs.DeclarationsSeen.{entries_seen}
 use Rattle.cmap_values.specs.Files.{Declaration}
-use Rattle.cmap_binary.specs.BinaryEntries.{CidEntriesIn}
 use Rattle.cmap_binary.specs.BinaryFiles.{IsSegment, declares}
 use Rattle.cmap_writer.specs.EncodersSeen.{shape_seen}
 use Rattle.cmap_writer.specs.Held.{AreInOrder, AreShaped, counts_by, deltas_of}
