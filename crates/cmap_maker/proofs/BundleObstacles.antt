@@ -69,7 +69,7 @@ sound_slot None slot.Absent is = All-nil IsSound
 sound_slot None (slot.File p) is = absurd is
 sound_slot None (slot.Text t) is = absurd is
 sound_slot (Some source) slot.Absent is = absurd is
-sound_slot (Some source) (slot.File p) is = sound_prepared (file_seen source.file.now) p is
+sound_slot (Some source) (slot.File p) is = sound_prepared (file_seen source.file.now) p is.0
 sound_slot (Some source) (slot.Text t) is = All-nil IsSound
 
 pub sound_for : (sources : List Source) (slots : List Slot) (count : ℕ) → AreSlotsFor sources slots count → AreSound slots
@@ -79,7 +79,7 @@ sound_of : (files : List File) (slots : List Slot) → AreSlotsOf files slots �
 sound_of [] [] each = All-nil IsSound
 sound_of [] (s ∷ slots) each = absurd each
 sound_of (f ∷ files) [] each = absurd each
-sound_of (f ∷ files) (slot.File p ∷ slots) (first, each) = All-append IsSound p.segments.items (segments_in slots) (sound_prepared f p first) (sound_of files slots each)
+sound_of (f ∷ files) (slot.File p ∷ slots) (first, each) = All-append IsSound p.segments.items (segments_in slots) (sound_prepared f p first.0) (sound_of files slots each)
 sound_of (f ∷ files) (slot.Text t ∷ slots) each = absurd each
 sound_of (f ∷ files) (slot.Absent ∷ slots) each = absurd each
 

@@ -15,7 +15,7 @@ use Rattle.cmap_packed.specs.TableFronts.{TableAt}
 use Rattle.cmap_packed.specs.Bundles.{HoldsTables, IsBundle, PrefixTables, no_file_bytes}
 use Rattle.cmap_packed.specs.Fronts.{FramedAt, SizedAt}
 use Rattle.cmap_maker.specs.Bundled.{HaveSymbols, IsBundleOf, AreWritten, files_seen}
-use Rattle.cmap_writer.specs.PreparedFiles.{IsPrepared}
+use Rattle.cmap_writer.specs.Arranged.{IsPreparedFor}
 use Rattle.cmap_maker.specs.Slots.{AreSlotsFor, AreSlotsOf, AreSlotsWritten, IsBundleOfSlots, IsFileFor, IsNamedBundle, IsSlotFor, IsSlotWritten, is_index, places, source_at}
 use Rattle.cmap_writer.specs.Written.{Appends, Writes, WritesAll, IsFramedFile}
 use Rattle.cmap_writer.specs.declared.prepared.Prepared.{Prepared}
@@ -49,7 +49,7 @@ bundle_written tables slots text mid bytes holds (first, first_is, sized) texts 
 
 -- ---- a bundle of files by their indices
 -- one file more
-pub slots_more : (files : List File) (slots : List Slot) (file : File) (prepared : Prepared) → AreSlotsOf files slots → IsPrepared file prepared → AreSlotsOf (files ++ file ∷ []) (slots ++ slot.File prepared ∷ [])
+pub slots_more : (files : List File) (slots : List Slot) (file : File) (prepared : Prepared) → AreSlotsOf files slots → IsPreparedFor file prepared → AreSlotsOf (files ++ file ∷ []) (slots ++ slot.File prepared ∷ [])
 slots_more [] [] file prepared each here = (here, tt)
 slots_more [] (s ∷ slots) file prepared each here = absurd each
 slots_more (f ∷ files) [] file prepared each here = absurd each
@@ -57,7 +57,7 @@ slots_more (f ∷ files) (slot.File p ∷ slots) file prepared (first, each) her
 slots_more (f ∷ files) (slot.Text t ∷ slots) file prepared each here = absurd each
 slots_more (f ∷ files) (slot.Absent ∷ slots) file prepared each here = absurd each
 
-pub file_slots_more : (files : List HeldFile) (i : ℕ) (d : HeldFile) (now : List Slot) (prepared : Prepared) → i < length files → AreSlotsOf (files_seen (take i files)) now → IsPrepared (file_seen (get_or files i d)) prepared → AreSlotsOf (files_seen (take (i + 1) files)) (now ++ slot.File prepared ∷ [])
+pub file_slots_more : (files : List HeldFile) (i : ℕ) (d : HeldFile) (now : List Slot) (prepared : Prepared) → i < length files → AreSlotsOf (files_seen (take i files)) now → IsPreparedFor (file_seen (get_or files i d)) prepared → AreSlotsOf (files_seen (take (i + 1) files)) (now ++ slot.File prepared ∷ [])
 file_slots_more files i d now prepared within each here =
     let file = file_seen (get_or files i d) in
     let seen : files_seen (take (i + 1) files) ≡ files_seen (take i files) ++ file ∷ [] = ap files_seen (take_more files i d within) ∙ map-append file_seen (take i files) (get_or files i d ∷ []) in
@@ -69,7 +69,7 @@ each_written tables [] [] (t ∷ texts) each written = absurd written
 each_written tables [] (s ∷ slots) texts each written = absurd each
 each_written tables (f ∷ files) [] texts each written = absurd each
 each_written tables (f ∷ files) (slot.File p ∷ slots) [] each written = absurd written
-each_written tables (f ∷ files) (slot.File p ∷ slots) (t ∷ texts) (first, each) (here, written) = (here.1 f first, each_written tables files slots texts each written)
+each_written tables (f ∷ files) (slot.File p ∷ slots) (t ∷ texts) (first, each) (here, written) = (here.1 f first.0, each_written tables files slots texts each written)
 each_written tables (f ∷ files) (slot.Text x ∷ slots) texts each written = absurd each
 each_written tables (f ∷ files) (slot.Absent ∷ slots) texts each written = absurd each
 
@@ -82,7 +82,7 @@ for_source tables None slot.Absent text is written = written
 for_source tables None (slot.File p) text is written = absurd is
 for_source tables None (slot.Text t) text is written = absurd is
 for_source tables (Some source) slot.Absent text is written = absurd is
-for_source tables (Some source) (slot.File p) text is written = inl (written.1 (file_seen source.file.now) is)
+for_source tables (Some source) (slot.File p) text is written = inl (written.1 (file_seen source.file.now) is.0)
 for_source tables (Some source) (slot.Text t) text (unsayable, is) written = inr (unsayable, (t, is, written))
 
 slots_length : (tables : PrefixTables) (slots : List Slot) (texts : List (List ℕ)) → AreSlotsWritten tables slots texts → length texts ≡ length slots

@@ -3,6 +3,7 @@ pub mod BundlesAlike
 pub mod BundlesWritten
 pub mod ChainsFollowed
 pub mod NumbersGathered
+pub mod SlotsAlone
 pub mod TablesMade
 pub mod TextsAmid
 pub mod TextsBehind

@@ -6,6 +6,7 @@ use Rattle.cmap_values.specs.CMapNames.{index_of_name}
 use Rattle.cmap_values.specs.Files.{File}
 use Rattle.cmap_values.specs.FilesSeen.{file_seen}
 use Rattle.cmap_packed.specs.Bundles.{IsBundle, PrefixTables, no_file_bytes}
+use Rattle.cmap_writer.specs.Arranged.{IsPreparedFor}
 use Rattle.cmap_writer.specs.Written.{IsFramedFile}
 use Rattle.cmap_writer.specs.Keeps.{IsWritten}
 use Rattle.cmap_writer.specs.Obstacles.{IsObstacle}
@@ -52,7 +53,7 @@ pub record IsNamedBundle (sources : List Source) (bytes : List ℕ) : Type 0 whe
 -- what is to be written for a name
 abbrev pub IsSlotFor : Option Source → Slot → Type 0
 IsSlotFor None slot.Absent = Unit {0}
-IsSlotFor (Some source) (slot.File prepared) = IsPrepared (file_seen source.file.now) prepared
+IsSlotFor (Some source) (slot.File prepared) = IsPreparedFor (file_seen source.file.now) prepared
 IsSlotFor (Some source) (slot.Text text) = IsUnsayable (file_seen source.file.now) × (source.text ≡ Some text)
 IsSlotFor _ _ = ⊥
 
@@ -62,7 +63,7 @@ AreSlotsFor sources slots count = (length slots ≡ count) × ((place : ℕ) (d 
 -- what is to be written of files
 abbrev pub AreSlotsOf : List File → List Slot → Type 0
 AreSlotsOf [] [] = Unit {0}
-AreSlotsOf (file ∷ files) (slot.File prepared ∷ slots) = IsPrepared file prepared × AreSlotsOf files slots
+AreSlotsOf (file ∷ files) (slot.File prepared ∷ slots) = IsPreparedFor file prepared × AreSlotsOf files slots
 AreSlotsOf files slots = ⊥
 
 -- ---- private aid

@@ -12,6 +12,8 @@ use Rattle.cmap_values.specs.DeclarationsSeen.{cid_entry_seen, entries_seen}
 use Rattle.cmap_values.specs.declared.declarations.CidRange.{CidRange}
 use Rattle.cmap_writer.specs.Follows.{GoesOn}
 use Rattle.cmap_writer.specs.Pieces.{ArePieces, CanBeSplit, Cover, Has, IsShort, PushesPieces, SaysAs, Takes}
+use Rattle.cmap_writer.specs.Arranged.{KeepsWhole}
+use Rattle.cmap_writer.proofs.Cuts.{whole_first, whole_joined, whole_pushed}
 use Rattle.cmap_writer.proofs.Told.{All-back, All-front, Any-cases, Any-left, Any-one, Any-right, PiecesTo, pieces_more, to_end, to_more}
 
 abbrev pub entry : ℕ → ℕ → ℕ → CidEntry
@@ -145,6 +147,20 @@ module _ (xs : List CidRange) (range last : CidRange) (some : 0 < length xs) (at
 
   pub longer_takes : Takes cid_span cid_at (entries_seen xs) (entries_seen (set xs (length xs - 1) (longer last range))) (cid_entry_seen range)
   longer_takes = takes_joined (cid_entry_seen last) (cid_entry_seen range) can.0 on.next on.cids one.0 (entries_seen front) (entries_seen xs) (entries_seen new) old_is new_is
+
+  -- and the ranges stay whole
+  pub longer_whole : KeepsWhole (entries_seen xs) (entries_seen (set xs (length xs - 1) (longer last range))) (cid_entry_seen range)
+  longer_whole = whole_joined (entries_seen front) (cid_entry_seen last) (cid_entry_seen range) (entries_seen xs) (entries_seen new) old_is new_is one.0
+
+-- a range that doesn't go on from the last one is pushed
+pub pushed_whole : (xs new : List CidRange) (range : CidRange) → new ≡ xs ++ range ∷ [] → range.range.start ≤ range.range.end → ((d : CidRange) → 0 < length xs → GoesOn (get_or xs (length xs - 1) d) range → ⊥) → KeepsWhole (entries_seen xs) (entries_seen new) (cid_entry_seen range)
+pushed_whole [] new range is filled apart = whole_first (cid_entry_seen range) [] (entries_seen new) refl (ap entries_seen is)
+pushed_whole (x ∷ xs) new range is filled apart =
+    let all = x ∷ xs in
+    let last : CidRange = get_or all (length all - 1) x in
+    let front = take (length all - 1) all in
+    let parted : entries_seen all ≡ entries_seen front ++ cid_entry_seen last ∷ [] = ap entries_seen (last_split all x (omega arith)) ∙ map-append cid_entry_seen front (last ∷ []) in
+    whole_pushed (entries_seen front) (cid_entry_seen last) (cid_entry_seen range) (entries_seen all) (entries_seen new) parted (ap entries_seen is ∙ map-append cid_entry_seen all (range ∷ [])) filled (λ can. apart x (omega arith) (record { next = can.after; cids = can.cids }))
 
 pub last_filled : (xs : List CidRange) (last : CidRange) → All CanBeSplit (entries_seen xs) → slice_get xs (length xs - 1) ≡ Some last → last.range.start ≤ last.range.end
 last_filled xs last all is =

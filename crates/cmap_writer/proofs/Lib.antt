@@ -1,10 +1,16 @@
+pub mod Arranged
+pub mod ArrangedAlone
+pub mod ArrangedTexts
 pub mod BitsWritten
 pub mod BytesWritten
 pub mod CidParts
 pub mod CidsWritten
 pub mod ColumnsHeld
 pub mod ColumnsMade
+pub mod Cuts
 pub mod DecidedParts
+pub mod EntriesAlone
+pub mod EntriesOrdered
 pub mod FileKept
 pub mod FilesWritten
 pub mod FrontsWritten

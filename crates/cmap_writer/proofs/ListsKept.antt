@@ -1,14 +1,11 @@
 -- The lists of a file whose declarations are written kind by kind.
-use Rattle.std.proofs.Common.{◌≡◌, ℕ, List, [], ◌∷◌, ◌++◌, map, refl, ap, ◌∙◌, sym, subst}
+use Rattle.std.proofs.Common.{ℕ, List, [], ◌∷◌, ◌++◌, map, ap, ◌∙◌, sym, subst}
 use Rattle.std.specs.List.{flat_map}
-use Rattle.std.proofs.lemmas.List.{append_assoc, append-nil, map-append}
+use Rattle.std.proofs.lemmas.List.{append_assoc, map-append}
 use Rattle.std.proofs.lemmas.List.Concat.{flat_map-append}
-use Rattle.cmap_values.specs.Files.{BfEntry, ByLength, CidEntry, Codespace, Declaration, Lists, lists_of}
-use Rattle.cmap_values.specs.ListsAppended.{append_lists}
-use Rattle.cmap_values.proofs.ListsMade.{lists_of-append}
+use Rattle.cmap_values.specs.Files.{Declaration}
 use Rattle.cmap_binary.specs.BinaryFiles.{Content, SegmentAt, declares}
 use Rattle.cmap_packed.specs.Bundles.{PrefixTables}
-use Rattle.cmap_values.specs.ListsByKind.{by_length}
 use Rattle.cmap_writer.specs.SegmentsWritten.{DeclareAll, SegmentByAny}
 use Rattle.cmap_writer.specs.Written.{Appends, WritesAll}
 use Rattle.cmap_writer.proofs.FilesWritten.{joined}

@@ -19,10 +19,10 @@ use Rattle.cmap_values.specs.Metadata.{Collection, FileMetadata}
 use Rattle.cmap_values.specs.Names.{ordering_of, registry_of}
 use Rattle.cmap_layers.specs.Lookups.{last_bf}
 use Rattle.cmap_packed.specs.Bundles.{PrefixTables}
+use Rattle.cmap_writer.specs.Arranged.{IsPreparedFor}
 use Rattle.cmap_writer.specs.Obstacles.{GivesLargeCid, HasLongText, HasManyTexts, IsCidListsObstacle, IsCidObstacle, IsCodeObstacle, IsCollectionObstacle, IsColumnObstacle, IsFamilyObstacle, IsGivenCollectionObstacle, IsLarge, IsLargeEnd, IsLargeNotdef, IsMetadataObstacle, IsNotdefListsObstacle, IsNotdefObstacle, IsNotdefsObstacle, IsObstacle, IsPreparedObstacle, IsSegmentObstacle, IsSegmentsObstacle, IsSpaceObstacle, IsSpacesObstacle, IsTerminatedObstacle, IsTextObstacle, IsWriteObstacle}
 use Rattle.cmap_writer.specs.Failures.{IsTooLongIf}
 use Rattle.cmap_writer.specs.EncodersSeen.{shape_seen}
-use Rattle.cmap_writer.specs.PreparedFiles.{IsPrepared}
 use Rattle.cmap_writer.specs.Segments.{DeclareEach, IsSegmentOf, declared_span}
 use Rattle.cmap_writer.specs.Spelled.{IsNoSymbol}
 use Rattle.cmap_writer.specs.TextParts.{IsDecidedText, IsPartOf}
@@ -144,9 +144,9 @@ by_segments tables prepared NoWord h = h
 by_segments tables prepared TooLong h = inl h
 by_segments tables prepared other h = absurd h
 
-pub unspelled : (tables : PrefixTables) (file : File) (prepared : Prepared) → IsPrepared file prepared → (o : Obstacle) → IsPreparedObstacle tables prepared o → IsWriteObstacle tables file o
+pub unspelled : (tables : PrefixTables) (file : File) (prepared : Prepared) → IsPreparedFor file prepared → (o : Obstacle) → IsPreparedObstacle tables prepared o → IsWriteObstacle tables file o
 unspelled tables file prepared is NoWord h = (prepared, is, h)
-unspelled tables file prepared is TooLong (inl large) = absurd (none_large prepared.segments.items is.parts is.segments large)
+unspelled tables file prepared is TooLong (inl large) = absurd (none_large prepared.segments.items is.0.parts is.0.segments large)
 unspelled tables file prepared is TooLong (inr long) = inr (prepared, is, long)
 unspelled tables file prepared is other h = absurd h
 

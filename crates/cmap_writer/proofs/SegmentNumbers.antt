@@ -42,7 +42,7 @@ small_by ranges spans narrow = small_counts spans narrow
 small_by singles spans narrow = All-nil (λ n. n < 2 ^ 8)
 
 -- ---- CIDs
-cid_spans : (len : ℕ) (es : List CidEntry) → map declared_span (map (Declaration.cid len) es) ≡ spans_of es
+pub cid_spans : (len : ℕ) (es : List CidEntry) → map declared_span (map (Declaration.cid len) es) ≡ spans_of es
 cid_spans len [] = refl
 cid_spans len (e ∷ es) = ap (λ ss. entry_span e ∷ ss) (cid_spans len es)
 
@@ -69,7 +69,7 @@ segment_of_cids segment len es declares held deltas counts values =
     }
 
 -- ---- texts
-text_spans : (xs : List BfRange) → map declared_span (map Declaration.bf (map bf_entry_seen xs)) ≡ map bf_range_span xs
+pub text_spans : (xs : List BfRange) → map declared_span (map Declaration.bf (map bf_entry_seen xs)) ≡ map bf_range_span xs
 text_spans [] = refl
 text_spans (x ∷ xs) = ap (λ ss. bf_range_span x ∷ ss) (text_spans xs)
 

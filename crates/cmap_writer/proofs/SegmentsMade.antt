@@ -60,7 +60,7 @@ follow_more shape xs count some here before k d one below within = elim (cases_l
   | inr last ↦ let e : count ≡ k = omega arith in rw e at (here d)
 ]
 
-shape_at : (shape : Shape) (xs : List CidRange) (count k : ℕ) (d : CidRange) → HasShapeOf shape xs 0 → Follow shape xs count → k < count → k < length xs → HasShape shape (get_or xs k d).range.start (get_or xs k d).range.end
+pub shape_at : (shape : Shape) (xs : List CidRange) (count k : ℕ) (d : CidRange) → HasShapeOf shape xs 0 → Follow shape xs count → k < count → k < length xs → HasShape shape (get_or xs k d).range.start (get_or xs k d).range.end
 shape_at shape xs count zero d first later h w = first.1 d
 shape_at shape xs count (suc k) d first later h w = (later (suc k) d (omega arith) h w).shaped
 

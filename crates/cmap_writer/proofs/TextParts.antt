@@ -1,15 +1,15 @@
 -- Parts of ranges of texts.
 use Rattle.std.proofs.Common.{◌≡◌, ℕ, ◌+◌, ◌-◌, ◌^◌, ◌<◌, ◌≤◌, inl, inr, Bool, true, false, List, [], ◌∷◌, ◌++◌, length, length-append, take, Some, None, refl, ap, ◌∙◌, sym, subst, arith}
-use Rattle.std.specs.Prelude.{Option, nat_le, nat_lt, option_and_then, if◌then◌else◌}
+use Rattle.std.specs.Prelude.{Option, nat_le, nat_lt, option_and_then, unwrap_or, if◌then◌else◌}
 use Rattle.std.specs.List.{All, slice_get}
 use Rattle.std.proofs.lemmas.Bool.{and_from, and_parts, cases_lt, le-leb, le-ltb, leb-true}
 use Rattle.std.proofs.lemmas.List.{append_assoc, append-nil}
-use Rattle.std.proofs.lemmas.List.Elements.{All-nil, All-push}
+use Rattle.std.proofs.lemmas.List.Elements.{All-append, All-nil, All-push}
 use Rattle.cmap_tokens.specs.Texts.{characters, text_at}
 use Rattle.cmap_values.specs.Files.{BfEntry}
 use Rattle.cmap_layers.specs.Lookups.{bf_at, bf_span}
 use Rattle.cmap_writer.specs.Pieces.{AllSayAs, CanBeSplitText, Cover, Has, IsShortText, PushesPieces, SaysAs}
-use Rattle.cmap_writer.specs.TextParts.{IsShifted, ShiftsTo}
+use Rattle.cmap_writer.specs.TextParts.{GivesUnits, IsShifted, ShiftsTo, units_at, units_from}
 use Rattle.cmap_writer.proofs.Told.{Any-head, Any-left, Any-right}
 
 -- ---- the text at an offset
@@ -35,10 +35,25 @@ text_split front last offset =
     let count : length units - 1 ≡ length front = omega (arith, length-append front (last ∷ [])) in
     rw (count, last_got front last, front_kept front last) (either (nat_lt (last + offset) (2 ^ 16)) (front ++ (last + offset) ∷ []))
 
+-- the units of which this is the last one
+abbrev pub units_with : List ℕ → ℕ → List ℕ
+units_with front value = if nat_lt value (2 ^ 16) then front ++ value ∷ [] else []
+
+either_units : (b : Bool) (units : List ℕ) → unwrap_or (if b then Some units else None) [] ≡ (if b then units else [])
+either_units true units = refl
+either_units false units = refl
+
+pub units_split : (front : List ℕ) (last offset : ℕ) → units_from (front ++ last ∷ []) offset ≡ units_with front (last + offset)
+units_split front last offset =
+    let units = front ++ last ∷ [] in
+    let count : length units - 1 ≡ length front = omega (arith, length-append front (last ∷ [])) in
+    rw (count, last_got front last, front_kept front last) (either_units (nat_lt (last + offset) (2 ^ 16)) (front ++ (last + offset) ∷ []))
+
 -- ---- units with an offset added
 pub raised : (front : List ℕ) (last offset : ℕ) → All (λ u. u < 2 ^ 16) (front ++ (last + offset) ∷ []) → IsShifted (front ++ last ∷ []) offset (front ++ (last + offset) ∷ [])
 raised front last offset small = record {
   texts = λ more. text_split front (last + offset) more ∙ ap (text_with front) (omega arith) ∙ sym (text_split front last (offset + more));
+  exact = λ more. units_split front (last + offset) more ∙ ap (units_with front) (omega arith) ∙ sym (units_split front last (offset + more));
   counted = omega (arith, length-append front (last ∷ []), length-append front ((last + offset) ∷ []));
   small = small;
 }
@@ -46,15 +61,19 @@ raised front last offset small = record {
 pub lost : (front : List ℕ) (last offset : ℕ) → 2 ^ 16 ≤ last + offset → IsShifted (front ++ last ∷ []) offset []
 lost front last offset past = record {
   texts = λ more. sym (text_split front last (offset + more) ∙ none more);
+  exact = λ more. sym (units_split front last (offset + more) ∙ no_units more);
   counted = omega arith;
   small = All-nil (λ u. u < 2 ^ 16);
 }
   where
+    no_units : (more : ℕ) → units_with front (last + (offset + more)) ≡ []
+    no_units more = rw (le-ltb (last + (offset + more)) (2 ^ 16) (omega (arith, past))) refl
+
     none : (more : ℕ) → text_with front (last + (offset + more)) ≡ None
     none more = rw (le-ltb (last + (offset + more)) (2 ^ 16) (omega (arith, past))) refl
 
 pub without : (offset : ℕ) → IsShifted [] offset []
-without offset = record { texts = λ more. refl; counted = omega arith; small = All-nil (λ u. u < 2 ^ 16) }
+without offset = record { texts = λ more. refl; exact = λ more. refl; counted = omega arith; small = All-nil (λ u. u < 2 ^ 16) }
 
 -- ---- what a range says, its part says
 pub text_has : (e : BfEntry) (code : ℕ) → e.start ≤ code → code ≤ e.end → Has bf_span e code
@@ -68,6 +87,16 @@ same_text e part code low after shifts =
     let sum : code - e.start ≡ part.start - e.start + (code - part.start) = omega (arith, low, after) in
     ap (text_at e.units) sum ∙ sym (shifts (code - part.start))
 
+pub same_units : (e part : BfEntry) (code : ℕ) → e.start ≤ part.start → part.start ≤ code → ((more : ℕ) → units_from part.units more ≡ units_from e.units (part.start - e.start + more)) → units_at e code ≡ units_at part code
+same_units e part code low after units =
+    let sum : code - e.start ≡ part.start - e.start + (code - part.start) = omega (arith, low, after) in
+    ap (units_from e.units) sum ∙ sym (units (code - part.start))
+
+part_units : (e part : BfEntry) (es : List BfEntry) → e.start ≤ part.start → part.end ≤ e.end → ((more : ℕ) → units_from part.units more ≡ units_from e.units (part.start - e.start + more)) → SaysAs bf_span units_at es e → SaysAs bf_span units_at es part
+part_units e part es low high units whole code here =
+    let within = text_within part code here in
+    whole code (text_has e code (omega (arith, within.0, low)) (omega (arith, within.1, high))) ∙ ap Some (same_units e part code low within.0 units)
+
 part_says : (e part : BfEntry) (es : List BfEntry) → e.start ≤ part.start → part.end ≤ e.end → ShiftsTo e.units (part.start - e.start) part.units → SaysAs bf_span bf_at es e → SaysAs bf_span bf_at es part
 part_says e part es low high shifts whole code here =
     let within = text_within part code here in
@@ -80,6 +109,7 @@ pub record PiecesBefore (e : BfEntry) (start : ℕ) (old new : List BfEntry) : T
   pub new_is : new ≡ old ++ pieces
   pub short : All IsShortText pieces
   pub say : (es : List BfEntry) → SaysAs bf_span bf_at es e → AllSayAs bf_span bf_at es pieces
+  pub say_units : (es : List BfEntry) → SaysAs bf_span units_at es e → AllSayAs bf_span units_at es pieces
   pub cover : (code : ℕ) → Has bf_span e code → code < start → Cover bf_span pieces code
 
 pub pieces_start : (e : BfEntry) (old : List BfEntry) → PiecesBefore e e.start old old
@@ -88,12 +118,16 @@ pieces_start e old = record {
   new_is = sym (append-nil old);
   short = All-nil IsShortText;
   say = λ es whole. All-nil (SaysAs bf_span bf_at es);
+  say_units = λ es whole. All-nil (SaysAs bf_span units_at es);
   cover = λ code has below. absurd (omega (arith, below, (text_within e code has).0));
 }
 
 module _ (e part : BfEntry) (start later : ℕ) (can : CanBeSplitText e) (low : e.start ≤ start) (start_is : part.start ≡ start) (filled : start ≤ part.end) (high : part.end ≤ e.end) (few : part.end - start ≤ 256) (after : later ≡ part.end + 1) (shifted : IsShifted e.units (start - e.start) part.units) where
   texts : ShiftsTo e.units (part.start - e.start) part.units
   texts = subst (λ s. ShiftsTo e.units (s - e.start) part.units) (sym start_is) shifted.texts
+
+  units : (more : ℕ) → units_from part.units more ≡ units_from e.units (part.start - e.start + more)
+  units = subst (λ s. (more : ℕ) → units_from part.units more ≡ units_from e.units (s - e.start + more)) (sym start_is) shifted.exact
 
   short_part : IsShortText part
   short_part = ((omega (arith, filled, start_is), omega (arith, high, can.1), omega (arith, shifted.counted, can.2), shifted.small), omega (arith, few, start_is))
@@ -104,6 +138,7 @@ module _ (e part : BfEntry) (start later : ℕ) (can : CanBeSplitText e) (low : 
     new_is = is ∙ ap (λ es. es ++ part ∷ []) h.new_is ∙ append_assoc old h.pieces (part ∷ []);
     short = All-push IsShortText h.pieces part h.short short_part;
     say = λ es whole. All-push (SaysAs bf_span bf_at es) h.pieces part (h.say es whole) (part_says e part es (omega (arith, low, start_is)) high texts whole);
+    say_units = λ es whole. All-push (SaysAs bf_span units_at es) h.pieces part (h.say_units es whole) (part_units e part es (omega (arith, low, start_is)) high units whole);
     cover = λ code has below. elim (cases_lt code start) [
       | inl before ↦ Any-left (λ p. Has bf_span p code) h.pieces (part ∷ []) (h.cover code has before)
       | inr here ↦ Any-right (λ p. Has bf_span p code) h.pieces (part ∷ []) (Any-head (λ p. Has bf_span p code) part [] (text_has part code (omega (arith, here, start_is)) (omega (arith, below, after))))
@@ -112,3 +147,6 @@ module _ (e part : BfEntry) (start later : ℕ) (can : CanBeSplitText e) (low : 
 
 pub pieces_end : (e : BfEntry) (later : ℕ) (old new : List BfEntry) → e.end < later → PiecesBefore e later old new → PushesPieces bf_span bf_at IsShortText e old new
 pieces_end e later old new past h = (h.pieces, h.new_is, h.short, (h.say, λ code has. h.cover code has (omega (arith, past, (text_within e code has).1))))
+
+pub pieces_units : (e : BfEntry) (later : ℕ) (old new : List BfEntry) → PiecesBefore e later old new → GivesUnits e old new
+pieces_units e later old new h es before whole = subst (AllSayAs bf_span units_at es) (sym h.new_is) (All-append (SaysAs bf_span units_at es) old h.pieces before (h.say_units es whole))

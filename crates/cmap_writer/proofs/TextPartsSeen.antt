@@ -4,6 +4,7 @@ use Rattle.std.specs.Prelude.{IsSome, IsSomeAnd, Option, None, Result, option_ma
 use Rattle.std.specs.List.{All, slice_get}
 use Rattle.std.specs.Result.{IfOk}
 use Rattle.std.proofs.lemmas.List.{get_or-map, length-map, map-append, take_all, take_more}
+use Rattle.std.proofs.lemmas.List.Elements.{All-head}
 use Rattle.std.proofs.lemmas.Option.{slice_get-get_or}
 use Rattle.cmap_runs.specs.Ranges.{AreRuns, Run}
 use Rattle.cmap_runs.specs.declared.runs.Range.{Range}
@@ -13,12 +14,12 @@ use Rattle.cmap_values.specs.UnitsSeen.{units_seen}
 use Rattle.cmap_values.specs.declared.declarations.BfRange.{BfRange}
 use Rattle.cmap_values.specs.declared.units.Units.{Units}
 use Rattle.cmap_layers.specs.Lookups.{bf_at, bf_span, last_bf}
-use Rattle.cmap_writer.specs.Pieces.{ArePieces, CanBeSplitText, Has, IsShortText, PushesPieces, SaysAs}
-use Rattle.cmap_writer.specs.TextParts.{IsDecidedText, IsPartOf, IsShifted, ShiftsTo}
+use Rattle.cmap_writer.specs.Pieces.{AllSayAs, ArePieces, CanBeSplitText, Has, IsShortText, PushesPieces, SaysAs}
+use Rattle.cmap_writer.specs.TextParts.{GivesUnits, IsDecidedText, IsPartOf, IsShifted, ShiftsTo, units_at, units_from}
 use Rattle.cmap_writer.proofs.CidParts.{last_split}
 use Rattle.cmap_writer.proofs.RunParts.{index_within, run_contained, run_is, run_of, run_told}
-use Rattle.cmap_writer.proofs.TextParts.{lost, raised, same_text, text_has, text_within}
-use Rattle.cmap_writer.proofs.Told.{pieces_more}
+use Rattle.cmap_writer.proofs.TextParts.{lost, raised, same_text, same_units, text_has, text_within}
+use Rattle.cmap_writer.proofs.Told.{All-back, All-front, pieces_more}
 
 -- ---- units with an offset added to the last one
 module _ (units : List ℕ) (last offset : ℕ) (some : 0 < length units) (last_is : last ≡ get_or units (length units - 1) 0) where
@@ -76,6 +77,13 @@ module _ (list : List BfRange) (runs : List Run) (are : AreRuns (map bf_range_sp
           run_told bf_range_span bf_entry_seen bf_span bf_at (λ x. refl) list runs are i low high index code e at there (omega (arith, within.0, start_is)) (omega (arith, within.1, end_is))
           ∙ ap Some (same_text (bf_entry_seen e) (bf_entry_seen part) code (omega (arith, start_is, run_within.0)) within.0 texts)
 
+      pub part_units : SaysAs bf_span units_at (map bf_entry_seen list) (bf_entry_seen part)
+      part_units code here =
+          let within = text_within (bf_entry_seen part) code here in
+          let units = subst (λ r. (more : ℕ) → units_from (units_seen part.units) more ≡ units_from (units_seen e.units) (r.start - e.range.start + more)) (sym range_is) shifted.exact in
+          run_told bf_range_span bf_entry_seen bf_span units_at (λ x. refl) list runs are i low high index code e at there (omega (arith, within.0, start_is)) (omega (arith, within.1, end_is))
+          ∙ ap Some (same_units (bf_entry_seen e) (bf_entry_seen part) code (omega (arith, start_is, run_within.0)) within.0 units)
+
       pub part_has : (code : ℕ) → low ≤ code → code ≤ high → Has bf_span (bf_entry_seen part) code
       part_has code after before = text_has (bf_entry_seen part) code (omega (arith, after, start_is)) (omega (arith, before, end_is))
 
@@ -101,3 +109,10 @@ all_told list runs are i low high index at code after before =
     let d = some_element list index within in
     let told = last_is list runs are i low high index at (get_or list index d) (slice_get-get_or list index d within) code after before in
     subst (λ o. IsSome o) (sym told) refl
+
+-- the units of one range more
+pub units_more : (xs : List BfRange) (i : ℕ) (d : BfRange) (old new : List BfEntry) → i < length xs → ((es : List BfEntry) → AllSayAs bf_span units_at es (map bf_entry_seen (take i xs)) → AllSayAs bf_span units_at es old) → GivesUnits (bf_entry_seen (get_or xs i d)) old new → (es : List BfEntry) → AllSayAs bf_span units_at es (map bf_entry_seen (take (i + 1) xs)) → AllSayAs bf_span units_at es new
+units_more xs i d old new within h gives es all =
+    let parted : map bf_entry_seen (take (i + 1) xs) ≡ map bf_entry_seen (take i xs) ++ bf_entry_seen (get_or xs i d) ∷ [] = ap (map bf_entry_seen) (take_more xs i d within) ∙ map-append bf_entry_seen (take i xs) (get_or xs i d ∷ []) in
+    let parts = subst (AllSayAs bf_span units_at es) parted all in
+    gives es (h es (All-front (SaysAs bf_span units_at es) (map bf_entry_seen (take i xs)) (bf_entry_seen (get_or xs i d) ∷ []) parts)) (All-head (SaysAs bf_span units_at es) (bf_entry_seen (get_or xs i d)) [] (All-back (SaysAs bf_span units_at es) (map bf_entry_seen (take i xs)) (bf_entry_seen (get_or xs i d) ∷ []) parts))

@@ -1,5 +1,5 @@
 -- What a file that is written keeps of the one that was handed in.
-use Rattle.std.specs.Prelude.{◌≡◌, ℕ, List, ◌∷◌, ◌++◌, map}
+use Rattle.std.specs.Prelude.{◌≡◌, ℕ, List, ◌∷◌, map}
 use Rattle.std.specs.Global.{Vec}
 use Rattle.cmap_values.specs.DeclarationsSeen.{entries_seen}
 use Rattle.cmap_values.specs.Files.{BfEntry, CidEntry, Declaration, File, Lists}

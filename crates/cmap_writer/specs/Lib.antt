@@ -1,3 +1,4 @@
+pub mod Arranged
 pub mod ColumnsWritten
 pub mod EncodersSeen
 pub mod Failures

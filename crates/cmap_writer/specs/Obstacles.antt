@@ -1,18 +1,15 @@
 -- Why a file can't be written in the binary form.
 use Rattle.std.specs.Prelude.{◌≡◌, ◌≢◌, ◌⊎◌, ℕ, ℤ, pos, ◌+◌, ◌≤◌, ◌<◌, ◌^◌, List, Any, Contains, Option, Some, None, IsSome, IsSomeAnd, length}
-use Rattle.std.specs.Global.{Vec}
 use Rattle.cmap_runs.specs.declared.runs.Range.{Range}
-use Rattle.cmap_values.specs.DeclarationsSeen.{entries_seen}
 use Rattle.cmap_values.specs.Files.{BfEntry, ByLength, CidEntry, Codespace, File, of_length}
 use Rattle.cmap_values.specs.Metadata.{Collection, FileMetadata}
-use Rattle.cmap_values.specs.declared.declarations.CidRange.{CidRange}
 use Rattle.cmap_values.specs.Names.{Family, family_of, ordering_of, registry_of}
 use Rattle.cmap_layers.specs.Lookups.{last_bf}
 use Rattle.cmap_packed.specs.Bundles.{PrefixTables}
 use Rattle.cmap_packed.specs.PrefixWords.{CodeWord}
+use Rattle.cmap_writer.specs.Arranged.{IsPreparedFor}
 use Rattle.cmap_writer.specs.MetadataWritten.{collection_len}
 use Rattle.cmap_writer.specs.Pieces.{cid_told}
-use Rattle.cmap_writer.specs.PreparedFiles.{IsPrepared}
 use Rattle.cmap_writer.specs.Segments.{AreSegmentBytes}
 use Rattle.cmap_writer.specs.Spelled.{IsNoSymbol}
 use Rattle.cmap_writer.specs.declared.prepared.Prepared.{Prepared}
@@ -88,9 +85,9 @@ IsObstacle file NoPlace = ⊥
 abbrev pub HasNoWord : PrefixTables → Segment → Type 0
 HasNoWord tables segment = Any (IsNoSymbol tables.delta) segment.deltas.items ⊎ Any (IsNoSymbol tables.count) segment.counts.items
 
--- segments say what the file says, and one of their numbers has no code word in these tables
+-- what is to be written of the file has a number without a code word in these tables
 abbrev pub IsUnspelled : PrefixTables → File → Type 0
-IsUnspelled tables file = (prepared : Prepared) × IsPrepared file prepared × Any (HasNoWord tables) prepared.segments.items
+IsUnspelled tables file = (prepared : Prepared) × IsPreparedFor file prepared × Any (HasNoWord tables) prepared.segments.items
 
 -- the ten bytes of a head, and the bytes of all segments, are 2^32 or more
 pub record IsLongBy (tables : PrefixTables) (prepared : Prepared) : Type 0 where
@@ -98,9 +95,9 @@ pub record IsLongBy (tables : PrefixTables) (prepared : Prepared) : Type 0 where
   pub are : AreSegmentBytes tables prepared.segments.items bytes
   pub long : 2 ^ 32 ≤ 10 + (length prepared.fields.items + length bytes)
 
--- segments say what the file says, and they are too long together
+-- what is to be written of the file is too long
 abbrev pub IsLongFile : PrefixTables → File → Type 0
-IsLongFile tables file = (prepared : Prepared) × IsPrepared file prepared × IsLongBy tables prepared
+IsLongFile tables file = (prepared : Prepared) × IsPreparedFor file prepared × IsLongBy tables prepared
 
 -- why a file can't be written by these tables
 abbrev pub IsWriteObstacle : PrefixTables → File → Obstacle → Type 0

@@ -1,16 +1,26 @@
 -- Parts of declarations of texts.
-use Rattle.std.specs.Prelude.{◌≡◌, ℕ, ◌+◌, ◌-◌, ◌<◌, ◌≤◌, ◌^◌, List, All, IsSomeAnd, length}
-use Rattle.cmap_tokens.specs.Texts.{text_at}
+use Rattle.std.specs.Prelude.{◌≡◌, ℕ, ◌+◌, ◌-◌, ◌<◌, ◌≤◌, ◌^◌, List, [], All, IsSomeAnd, length, unwrap_or}
+use Rattle.cmap_tokens.specs.Texts.{shifted, text_at}
 use Rattle.cmap_values.specs.Files.{BfEntry}
-use Rattle.cmap_layers.specs.Lookups.{last_bf}
+use Rattle.cmap_layers.specs.Lookups.{bf_span, last_bf}
+use Rattle.cmap_writer.specs.Pieces.{AllSayAs, SaysAs}
 
 -- units whose texts are those of others from an offset on
 abbrev pub ShiftsTo : List ℕ → ℕ → List ℕ → Type 0
 ShiftsTo units offset shifted = (more : ℕ) → text_at shifted more ≡ text_at units (offset + more)
 
--- and no more of them, each of 16 bits
+-- the units at an offset: with the offset added to the last one; none where there is no unit, or the sum isn't one
+abbrev pub units_from : List ℕ → ℕ → List ℕ
+units_from units offset = unwrap_or (shifted units offset) []
+
+-- the units that an entry gives a code
+abbrev pub units_at : BfEntry → ℕ → List ℕ
+units_at e code = units_from e.units (code - e.start)
+
+-- they are those at the offset, and so are their texts; no more of them, each of 16 bits
 pub record IsShifted (units : List ℕ) (offset : ℕ) (shifted : List ℕ) : Type 0 where
   pub texts : ShiftsTo units offset shifted
+  pub exact : (more : ℕ) → units_from shifted more ≡ units_from units (offset + more)
   pub counted : length shifted ≤ length units
   pub small : All (λ u. u < 2 ^ 16) shifted
 
@@ -21,3 +31,7 @@ IsDecidedText e = (e.start ≤ e.end) × (e.end < 2 ^ 32) × (e.end - e.start < 
 -- the declaration that decides its first code has no fewer units
 abbrev pub IsPartOf : List BfEntry → BfEntry → Type 0
 IsPartOf es part = IsSomeAnd (last_bf es part.start) (λ e. length part.units ≤ length e.units)
+
+-- entries that give each code the units that a list gives it still do with those of one more range
+abbrev pub GivesUnits : BfEntry → List BfEntry → List BfEntry → Type 0
+GivesUnits e old new = (es : List BfEntry) → AllSayAs bf_span units_at es old → SaysAs bf_span units_at es e → AllSayAs bf_span units_at es new

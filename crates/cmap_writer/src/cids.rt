@@ -1,10 +1,11 @@
 //! Segments of codes with their CIDs.
 
-ghost use Rattle.std.specs.Prelude.{◌≡◌, ◌≤◌, ◌<◌, ◌++◌, All, IfErr, IfOk, IsTrue, flat_map, length, map, take};
+ghost use Rattle.std.specs.Prelude.{◌≡◌, ◌≤◌, ◌<◌, ◌++◌, ℕ, All, IfErr, IfOk, IsFalse, IsTrue, drop, flat_map, length, map, take};
 ghost use Rattle.cmap_values.specs.CodeLengths.{length_of};
-ghost use Rattle.cmap_values.specs.DeclarationsSeen.{entries_seen};
+ghost use Rattle.cmap_values.specs.DeclarationsSeen.{cid_entry_seen, entries_seen};
 ghost use Rattle.cmap_values.specs.Files.{Declaration};
 ghost use Rattle.cmap_values.specs.Outcomes.{RefusesWith};
+ghost use Rattle.cmap_writer.specs.Arranged.{AddsCidEntries, AddsFull, AreEnded, HoldsEntries, segment_type};
 ghost use Rattle.cmap_writer.specs.EncodersSeen.{shape_seen};
 ghost use Rattle.cmap_writer.specs.Follows.{Follows, HasShapeOf};
 ghost use Rattle.cmap_writer.specs.Held.{AreHeld};
@@ -36,13 +37,21 @@ pub(crate) fn add_cid_list(
     segments: &mut Vec<Segment>,
 ) -> Result<(), Fault<Obstacle>>
     ensures added { IfOk result (λ _. AddsSameCids (length_of len) (entries_seen list.now) segments.old.items segments.new.items) }
+    ensures arranged { IfOk result (λ _. AddsCidEntries (length_of len) (entries_seen list.now) segments.old.items segments.new.items) }
     ensures err { IfErr result (RefusesWith (IsCidObstacle (entries_seen list.now))) }
 {
     let ranges = decided_cids(alloc, list)?;
     let mut pieces = split_cids(alloc, &ranges)?;
-    pieces.sort_by_key(|piece| Shape::of(piece.range).order())?;
+    pieces.sort_by_key(|piece| type_of(len, piece))?;
     add_cids(alloc, len, &pieces, segments)?;
     Ok(())
+}
+
+/// The type of the segments in which an entry stands.
+fn type_of(len: CodeLength, entry: &CidRange) -> u8
+    ensures { result ≡ segment_type (Declaration.cid (length_of len) (cid_entry_seen entry.now)) }
+{
+    Shape::of(entry.range).cid_type(len)
 }
 
 /// Adds segments that declare these pieces of ranges of codes of one length, in order.
@@ -53,7 +62,8 @@ fn add_cids(
     segments: &mut Vec<Segment>,
 ) -> Result<(), AllocError>
     requires { All IsShort (entries_seen pieces.now) }
-    ensures { IfOk result (λ _. AddsSegments segments.old.items segments.new.items (map (Declaration.cid (length_of len)) (entries_seen pieces.now))) }
+    ensures added { IfOk result (λ _. AddsSegments segments.old.items segments.new.items (map (Declaration.cid (length_of len)) (entries_seen pieces.now))) }
+    ensures full { IfOk result (λ _. AddsFull segments.old.items segments.new.items (map (Declaration.cid (length_of len)) (entries_seen pieces.now))) }
 {
     let mut left = pieces;
     while !left.is_empty() {
@@ -82,6 +92,7 @@ fn segment_len(shape: Shape, entries: &[CidRange]) -> usize
     ensures some { 1 ≤ result }
     ensures within { result ≤ length entries.now }
     ensures held { AreHeld (shape_seen shape) (entries_seen (take result entries.now)) }
+    ensures ended { (len : ℕ) → 1 ≤ len → AreEnded (map (Declaration.cid len) (entries_seen (take result entries.now))) (map (Declaration.cid len) (entries_seen (drop result entries.now))) }
 {
     let mut count = 1;
     while count < entries.len()
@@ -95,7 +106,8 @@ fn segment_len(shape: Shape, entries: &[CidRange]) -> usize
 
 /// Whether an entry can follow another one in a segment of this shape.
 fn follows(shape: Shape, before: &CidRange, entry: &CidRange) -> bool
-    ensures { IsTrue result → Follows (shape_seen shape) before.now entry.now }
+    ensures yes { IsTrue result → Follows (shape_seen shape) before.now entry.now }
+    ensures no { IsFalse result → Follows (shape_seen shape) before.now entry.now → ⊥ }
 {
     entry.cid != 0 && before.range.end < entry.range.start && shape.fits(entry.range)
 }
@@ -108,12 +120,10 @@ fn cid_segment(
     entries: &[CidRange],
 ) -> Result<Segment, AllocError>
     requires { AreHeld (shape_seen shape) (entries_seen entries.now) }
-    ensures { IfOk result (λ segment. IsSegmentOf segment (map (Declaration.cid (length_of len)) (entries_seen entries.now))) }
+    ensures says { IfOk result (λ segment. IsSegmentOf segment (map (Declaration.cid (length_of len)) (entries_seen entries.now))) }
+    ensures holds { IfOk result (λ segment. HoldsEntries segment (map (Declaration.cid (length_of len)) (entries_seen entries.now))) }
 {
-    let number = match shape {
-        Shape::Ranges => 2 * len.count() - 1,
-        Shape::Singles => 2 * len.count(),
-    };
+    let number = shape.cid_type(len);
     let mut values = Vec::with_capacity(alloc, 2 * entries.len())?;
     push_raw_cids(&mut values, entries)?;
     Ok(Segment {

@@ -1,8 +1,10 @@
 //! Columns of a segment: which codes its entries have.
 
-ghost use Rattle.std.specs.Prelude.{◌≡◌, ◌+◌, ◌*◌, ◌≤◌, IfErr, IfOk, IsTrue, length, map};
+ghost use Rattle.std.specs.Prelude.{◌≡◌, ◌+◌, ◌*◌, ◌≤◌, IfErr, IfOk, IsFalse, IsTrue, length, map};
+ghost use Rattle.cmap_values.specs.CodeLengths.{length_of};
 ghost use Rattle.cmap_values.specs.Outcomes.{RefusesWith};
 ghost use Rattle.cmap_binary.specs.BinaryEntries.{ranges};
+ghost use Rattle.cmap_writer.specs.Arranged.{cid_type, most_fixed, shape_of};
 ghost use Rattle.cmap_writer.specs.ColumnsWritten.{WritesColumn};
 ghost use Rattle.cmap_writer.specs.EncodersSeen.{encoders_seen, shape_seen};
 ghost use Rattle.cmap_writer.specs.Held.{AreInOrder, AreShaped, HasShape, counts_by, counts_of, deltas_of};
@@ -15,6 +17,7 @@ use crate::pieces::push_sized;
 use crate::segments::Segment;
 use crate::words::Encoder;
 use cmap_runs::runs::{HasRange, Range};
+use cmap_values::code_length::CodeLength;
 use cmap_values::fault::Fault;
 use std::alloc::{AllocError, Global};
 
@@ -35,7 +38,8 @@ pub(crate) enum Shape {
 impl Shape {
     /// The shape of a range that has a code.
     pub(crate) fn of(range: Range) -> Shape
-        ensures { range.start ≤ range.end → HasShape (shape_seen result) range.start range.end }
+        ensures is { shape_seen result ≡ shape_of range.start range.end }
+        ensures has { range.start ≤ range.end → HasShape (shape_seen result) range.start range.end }
     {
         if range.start < range.end {
             Shape::Ranges
@@ -44,17 +48,30 @@ impl Shape {
         }
     }
 
-    /// Where segments of this shape stand among those of a list.
-    pub(crate) fn order(self) -> u8 {
+    /// The type of segments of this shape with CIDs of codes of this length.
+    pub(crate) fn cid_type(self, len: CodeLength) -> u8
+        ensures { result ≡ cid_type (length_of len) (shape_seen self) }
+    {
         match self {
-            Shape::Ranges => 0,
-            Shape::Singles => 1,
+            Shape::Ranges => 2 * len.count() - 1,
+            Shape::Singles => 2 * len.count(),
+        }
+    }
+
+    /// The most units that segments of this shape can fix for all their texts.
+    pub(crate) fn most_fixed(self) -> usize
+        ensures { result ≡ most_fixed (shape_seen self) }
+    {
+        match self {
+            Shape::Ranges => 2,
+            Shape::Singles => 4,
         }
     }
 
     /// Whether a range has this shape.
     pub(crate) fn fits(self, range: Range) -> bool
-        ensures { IsTrue result → HasShape (shape_seen self) range.start range.end }
+        ensures yes { IsTrue result → HasShape (shape_seen self) range.start range.end }
+        ensures no { IsFalse result → HasShape (shape_seen self) range.start range.end → ⊥ }
     {
         match self {
             Shape::Ranges => range.start < range.end,

@@ -1,11 +1,12 @@
 //! Which codes the declarations of a list decide: ranges that lie apart, so that their order doesn't
 //! matter.
 
-ghost use Rattle.std.specs.Prelude.{◌≡◌, ◌+◌, ◌-◌, ◌<◌, ◌≤◌, ◌^◌, All, IfErr, IfNone, IfOk, IfSome, IsTrue, get_or, length, map};
+ghost use Rattle.std.specs.Prelude.{◌≡◌, ◌+◌, ◌-◌, ◌<◌, ◌≤◌, ◌^◌, All, IfErr, IfNone, IfOk, IfSome, IsFalse, IsTrue, get_or, length, map};
 ghost use Rattle.cmap_values.specs.DeclarationsSeen.{cid_entry_seen, cid_range_span, entries_seen};
 ghost use Rattle.cmap_values.specs.Outcomes.{RefusesWith};
 ghost use Rattle.cmap_layers.specs.Lookups.{cid_at, cid_span};
 ghost use Rattle.cmap_values.specs.declared.declarations.CidRange.{CidRange};
+ghost use Rattle.cmap_writer.specs.Arranged.{AreWhole, KeepsWhole};
 ghost use Rattle.cmap_writer.specs.Follows.{GoesOn};
 ghost use Rattle.cmap_writer.specs.Obstacles.{IsCidObstacle};
 ghost use Rattle.cmap_writer.specs.Pieces.{CanBeSplit, SayTheSame, Takes};
@@ -27,6 +28,7 @@ pub(crate) fn decided_cids(
     list: &[CidRange],
 ) -> Result<Vec<CidRange>, Fault<Obstacle>>
     ensures same { IfOk result (λ ranges. SayTheSame cid_span cid_at (entries_seen list.now) (entries_seen ranges.items) × All CanBeSplit (entries_seen ranges.items)) }
+    ensures whole { IfOk result (λ ranges. AreWhole (entries_seen ranges.items)) }
     ensures few { IfOk result (λ ranges. cids_weight ranges.items ≤ weight_of (map cid_range_span list.now)) }
     ensures err { IfErr result (RefusesWith (IsCidObstacle (entries_seen list.now))) }
 {
@@ -38,6 +40,7 @@ pub(crate) fn decided_cids(
 fn ranges_of(alloc: Global, table: &Table<CidRange>) -> Result<Vec<CidRange>, Fault<Obstacle>>
     requires { All (λ r. r.range.end < 2 ^ 32) table.now }
     ensures same { IfOk result (λ ranges. SayTheSame cid_span cid_at (entries_seen table.now) (entries_seen ranges.items) × All CanBeSplit (entries_seen ranges.items)) }
+    ensures whole { IfOk result (λ ranges. AreWhole (entries_seen ranges.items)) }
     ensures few { IfOk result (λ ranges. cids_weight ranges.items ≤ weight_of (map cid_range_span table.now)) }
     ensures err { IfErr result (RefusesWith (IsCidObstacle (entries_seen table.now))) }
 {
@@ -106,6 +109,7 @@ fn push_joined(ranges: &mut Vec<CidRange>, range: CidRange) -> Result<(), AllocE
     requires all { All CanBeSplit (entries_seen ranges.now.items) }
     requires one { CanBeSplit (cid_entry_seen range) }
     ensures all { IfOk result (λ _. All CanBeSplit (entries_seen ranges.new.items)) }
+    ensures whole { IfOk result (λ _. KeepsWhole (entries_seen ranges.old.items) (entries_seen ranges.new.items) (cid_entry_seen range)) }
     ensures few { IfOk result (λ _. cids_weight ranges.new.items ≤ cids_weight ranges.old.items + span_weight (cid_range_span range)) }
     ensures taken { IfOk result (λ _. Takes cid_span cid_at (entries_seen ranges.old.items) (entries_seen ranges.new.items) (cid_entry_seen range)) }
 {
@@ -123,6 +127,7 @@ fn is_continued(ranges: &[CidRange], range: &CidRange) -> bool
     requires { All CanBeSplit (entries_seen ranges.now) }
     ensures some { IsTrue result → 0 < length ranges.now }
     ensures answer { IsTrue result → (d : CidRange) → GoesOn (get_or ranges.now (length ranges.now - 1) d) range.now }
+    ensures no { IsFalse result → (d : CidRange) → 0 < length ranges.now → GoesOn (get_or ranges.now (length ranges.now - 1) d) range.now → ⊥ }
 {
     match ranges.last() {
         Some(last) => goes_on(last, range),
@@ -133,7 +138,8 @@ fn is_continued(ranges: &[CidRange], range: &CidRange) -> bool
 /// Whether a range goes on where another one ends, with the CIDs after its.
 fn goes_on(last: &CidRange, range: &CidRange) -> bool
     requires { last.now.range.start ≤ last.now.range.end }
-    ensures { IsTrue result → GoesOn last.now range.now }
+    ensures yes { IsTrue result → GoesOn last.now range.now }
+    ensures no { IsFalse result → GoesOn last.now range.now → ⊥ }
 {
     range.range.start > last.range.end
         && range.range.start - last.range.end == 1

@@ -4,6 +4,7 @@ ghost use Rattle.std.specs.Prelude.{◌+◌, ◌*◌, ◌≤◌, IfErr, IfOk, le
 ghost use Rattle.cmap_values.specs.Files.{File as Said};
 ghost use Rattle.cmap_values.specs.FilesSeen.{file_seen};
 ghost use Rattle.cmap_values.specs.Outcomes.{RefusesWith};
+ghost use Rattle.cmap_writer.specs.Arranged.{AddsByLength, IsArranged};
 ghost use Rattle.cmap_writer.specs.EncodersSeen.{encoders_seen};
 ghost use Rattle.cmap_writer.specs.Keeps.{IsWritten, notdefs_declared};
 ghost use Rattle.cmap_writer.specs.Obstacles.{IsCidListsObstacle, IsNotdefListsObstacle, IsObstacle, IsPreparedObstacle};
@@ -39,6 +40,7 @@ pub struct Prepared {
 /// What is to be written of a file. It is refused with what the binary form can't say.
 pub fn prepare(alloc: Global, file: &File<'_>) -> Result<Prepared, Fault<Obstacle>>
     ensures made { IfOk result (λ prepared. IsPrepared (file_seen file.now) prepared) }
+    ensures arranged { IfOk result (λ prepared. IsArranged (file_seen file.now) prepared) }
     ensures err { IfErr result (RefusesWith (IsObstacle (file_seen file.now))) }
 {
     let mut fields = Vec::new(alloc);
@@ -76,6 +78,7 @@ fn add_cid_lists(
     segments: &mut Vec<Segment>,
 ) -> Result<(), Fault<Obstacle>>
     ensures added { IfOk result (λ _. AddsCidLists lists.now segments.old.items segments.new.items) }
+    ensures arranged { IfOk result (λ _. AddsByLength (by_length_seen lists.now) segments.old.items segments.new.items) }
     ensures err { IfErr result (RefusesWith (IsCidListsObstacle (by_length_seen lists.now))) }
 {
     add_cid_list(alloc, CodeLength::One, &lists.one, segments)?;

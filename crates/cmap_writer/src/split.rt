@@ -1,8 +1,9 @@
 //! Ranges in pieces that a segment can hold.
 
-ghost use Rattle.std.specs.Prelude.{◌+◌, ◌*◌, ◌≤◌, All, IfOk, length};
+ghost use Rattle.std.specs.Prelude.{◌+◌, ◌*◌, ◌≤◌, All, IfOk, length, map};
 ghost use Rattle.cmap_values.specs.DeclarationsSeen.{cid_entry_seen, cid_range_span, entries_seen};
 ghost use Rattle.cmap_layers.specs.Lookups.{cid_at, cid_span};
+ghost use Rattle.cmap_writer.specs.Arranged.{AreCut, PushesCut};
 ghost use Rattle.cmap_writer.specs.Pieces.{ArePieces, CanBeSplit, IsShort, PushesPieces};
 ghost use Rattle.cmap_writer.specs.Weights.{cids_weight, span_weight};
 
@@ -17,6 +18,7 @@ pub(crate) const MOST_AFTER: u32 = 256;
 pub(crate) fn split_cids(alloc: Global, ranges: &[CidRange]) -> Result<Vec<CidRange>, AllocError>
     requires { All CanBeSplit (entries_seen ranges.now) }
     ensures pieces { IfOk result (λ pieces. ArePieces cid_span cid_at IsShort (entries_seen ranges.now) (entries_seen pieces.items)) }
+    ensures cut { IfOk result (λ pieces. AreCut (map cid_range_span ranges.now) (map cid_range_span pieces.items)) }
     ensures few { IfOk result (λ pieces. 256 * length pieces.items ≤ cids_weight ranges.now) }
 {
     let mut pieces = Vec::new(alloc);
@@ -30,6 +32,7 @@ pub(crate) fn split_cids(alloc: Global, ranges: &[CidRange]) -> Result<Vec<CidRa
 fn push_cid_pieces(pieces: &mut Vec<CidRange>, entry: &CidRange) -> Result<(), AllocError>
     requires { CanBeSplit (cid_entry_seen entry.now) }
     ensures pushed { IfOk result (λ _. PushesPieces cid_span cid_at IsShort (cid_entry_seen entry.now) (entries_seen pieces.old.items) (entries_seen pieces.new.items)) }
+    ensures cut { IfOk result (λ _. PushesCut (cid_range_span entry.now) (map cid_range_span pieces.old.items) (map cid_range_span pieces.new.items)) }
     ensures few { IfOk result (λ _. 256 * length pieces.new.items ≤ 256 * length pieces.old.items + span_weight (cid_range_span entry.now)) }
 {
     let end = entry.range.end;

@@ -1,15 +1,18 @@
 //! Which codes the declarations of a list decide to have texts: ranges that lie apart, in pieces that a
 //! segment can hold.
 
-ghost use Rattle.std.specs.Prelude.{◌≡◌, ◌+◌, ◌-◌, ◌*◌, ◌<◌, ◌≤◌, ◌^◌, [], ◌∷◌, ◌++◌, All, IfErr, IfOk, length, map};
+ghost use Rattle.std.specs.Prelude.{◌≡◌, ◌+◌, ◌-◌, ◌*◌, ◌<◌, ◌≤◌, ◌^◌, [], ◌∷◌, ◌++◌, All, IfErr, IfOk, List, length, map};
 ghost use Rattle.cmap_values.specs.DeclarationsSeen.{bf_entry_seen, bf_range_span};
+ghost use Rattle.cmap_values.specs.Files.{BfEntry};
 ghost use Rattle.cmap_values.specs.Outcomes.{RefusesWith};
 ghost use Rattle.cmap_values.specs.UnitsSeen.{units_seen};
 ghost use Rattle.cmap_layers.specs.Lookups.{bf_at, bf_span};
+ghost use Rattle.cmap_runs.specs.Ranges.{runs_of};
+ghost use Rattle.cmap_writer.specs.Arranged.{AreCut, PushesCut};
 ghost use Rattle.cmap_writer.specs.Obstacles.{IsTextObstacle};
-ghost use Rattle.cmap_writer.specs.Pieces.{ArePieces, CanBeSplitText, IsShortText, PushesPieces, SayTheSame};
-ghost use Rattle.cmap_writer.specs.TextParts.{IsDecidedText, IsPartOf, IsShifted};
-ghost use Rattle.cmap_writer.specs.Weights.{span_weight, texts_weight, weight_of};
+ghost use Rattle.cmap_writer.specs.Pieces.{AllSayAs, ArePieces, CanBeSplitText, IsShortText, PushesPieces, SayTheSame};
+ghost use Rattle.cmap_writer.specs.TextParts.{GivesUnits, IsDecidedText, IsPartOf, IsShifted, units_at};
+ghost use Rattle.cmap_writer.specs.Weights.{run_span, span_weight, texts_weight, weight_of};
 
 use crate::decided::last_code;
 use crate::obstacle::Obstacle;
@@ -32,6 +35,8 @@ pub(crate) fn decided_texts(
     ensures same { IfOk result (λ ranges. SayTheSame bf_span bf_at (map bf_entry_seen list.now) (map bf_entry_seen ranges.items)) }
     ensures small { IfOk result (λ ranges. All IsDecidedText (map bf_entry_seen ranges.items)) }
     ensures parts { IfOk result (λ ranges. All (IsPartOf (map bf_entry_seen list.now)) (map bf_entry_seen ranges.items)) }
+    ensures units { IfOk result (λ ranges. AllSayAs bf_span units_at (map bf_entry_seen list.now) (map bf_entry_seen ranges.items)) }
+    ensures runs { IfOk result (λ ranges. map bf_range_span ranges.items ≡ map run_span (runs_of (map bf_span (map bf_entry_seen list.now)))) }
     ensures few { IfOk result (λ ranges. texts_weight ranges.items ≤ weight_of (map bf_span (map bf_entry_seen list.now))) }
     ensures err { IfErr result (RefusesWith (IsTextObstacle (map bf_entry_seen list.now))) }
 {
@@ -45,6 +50,8 @@ fn text_ranges_of(alloc: Global, table: &Table<BfRange>) -> Result<Vec<BfRange>,
     ensures same { IfOk result (λ ranges. SayTheSame bf_span bf_at (map bf_entry_seen table.now) (map bf_entry_seen ranges.items)) }
     ensures small { IfOk result (λ ranges. All IsDecidedText (map bf_entry_seen ranges.items)) }
     ensures parts { IfOk result (λ ranges. All (IsPartOf (map bf_entry_seen table.now)) (map bf_entry_seen ranges.items)) }
+    ensures units { IfOk result (λ ranges. AllSayAs bf_span units_at (map bf_entry_seen table.now) (map bf_entry_seen ranges.items)) }
+    ensures runs { IfOk result (λ ranges. map bf_range_span ranges.items ≡ map run_span (runs_of (map bf_range_span table.now))) }
     ensures few { IfOk result (λ ranges. texts_weight ranges.items ≤ weight_of (map bf_range_span table.now)) }
     ensures err { IfErr result (RefusesWith (IsTextObstacle (map bf_entry_seen table.now))) }
 {
@@ -126,6 +133,8 @@ fn with_last(alloc: Global, front: &[u16], last: u16) -> Result<Units, AllocErro
 pub(crate) fn split_texts(alloc: Global, ranges: &[BfRange]) -> Result<Vec<BfRange>, AllocError>
     requires { All CanBeSplitText (map bf_entry_seen ranges.now) }
     ensures pieces { IfOk result (λ pieces. ArePieces bf_span bf_at IsShortText (map bf_entry_seen ranges.now) (map bf_entry_seen pieces.items)) }
+    ensures units { IfOk result (λ pieces. (es : List BfEntry) → AllSayAs bf_span units_at es (map bf_entry_seen ranges.now) → AllSayAs bf_span units_at es (map bf_entry_seen pieces.items)) }
+    ensures cut { IfOk result (λ pieces. AreCut (map bf_range_span ranges.now) (map bf_range_span pieces.items)) }
     ensures few { IfOk result (λ pieces. 256 * length pieces.items ≤ texts_weight ranges.now) }
 {
     let mut pieces = Vec::new(alloc);
@@ -143,6 +152,8 @@ fn push_text_pieces(
 ) -> Result<(), AllocError>
     requires { CanBeSplitText (bf_entry_seen entry.now) }
     ensures pushed { IfOk result (λ _. PushesPieces bf_span bf_at IsShortText (bf_entry_seen entry.now) (map bf_entry_seen pieces.old.items) (map bf_entry_seen pieces.new.items)) }
+    ensures units { IfOk result (λ _. GivesUnits (bf_entry_seen entry.now) (map bf_entry_seen pieces.old.items) (map bf_entry_seen pieces.new.items)) }
+    ensures cut { IfOk result (λ _. PushesCut (bf_range_span entry.now) (map bf_range_span pieces.old.items) (map bf_range_span pieces.new.items)) }
     ensures few { IfOk result (λ _. 256 * length pieces.new.items ≤ 256 * length pieces.old.items + span_weight (bf_range_span entry.now)) }
 {
     let end = entry.range.end;

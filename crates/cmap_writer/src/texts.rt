@@ -1,9 +1,12 @@
 //! Segments of codes with their texts.
 
-ghost use Rattle.std.specs.Prelude.{◌≡◌, ◌≤◌, ◌<◌, ◌^◌, ◌++◌, All, IfErr, IfOk, IsTrue, length, map, take};
+ghost use Rattle.std.specs.Prelude.{◌≡◌, ◌≤◌, ◌<◌, ◌^◌, ◌++◌, All, IfErr, IfOk, IsFalse, IsTrue, drop, get_or, length, map, take};
 ghost use Rattle.cmap_values.specs.DeclarationsSeen.{bf_entry_seen};
 ghost use Rattle.cmap_values.specs.Files.{Declaration};
 ghost use Rattle.cmap_values.specs.Outcomes.{RefusesWith};
+ghost use Rattle.cmap_values.specs.UnitsSeen.{units_seen};
+ghost use Rattle.cmap_values.specs.declared.declarations.BfRange.{BfRange};
+ghost use Rattle.cmap_writer.specs.Arranged.{AddsFull, AddsTextEntries, AreEnded, HoldsEntries, bf_type, shape_of, text_type, units_fixed};
 ghost use Rattle.cmap_writer.specs.EncodersSeen.{shape_seen};
 ghost use Rattle.cmap_writer.specs.Obstacles.{IsTextObstacle};
 ghost use Rattle.cmap_writer.specs.Pieces.{IsShortText};
@@ -33,12 +36,13 @@ pub(crate) fn add_text_list(
     segments: &mut Vec<Segment>,
 ) -> Result<(), Fault<Obstacle>>
     ensures added { IfOk result (λ _. AddsSameTexts (map bf_entry_seen list.now) segments.old.items segments.new.items) }
+    ensures arranged { IfOk result (λ _. AddsTextEntries (map bf_entry_seen list.now) segments.old.items segments.new.items) }
     ensures err { IfErr result (RefusesWith (IsTextObstacle (map bf_entry_seen list.now))) }
 {
     let ranges = decided_texts(alloc, list)?;
     check_units(&ranges)?;
     let mut pieces = split_texts(alloc, &ranges)?;
-    pieces.sort_by_key(|piece| TextForm::of(piece).number())?;
+    pieces.sort_by_key(|piece| type_of(piece))?;
     add_texts(alloc, &pieces, segments)?;
     Ok(())
 }
@@ -67,16 +71,17 @@ struct TextForm {
 impl TextForm {
     /// The form in which an entry takes the fewest bytes.
     fn of(entry: &BfRange) -> TextForm
+        ensures shape { shape_seen result.shape ≡ shape_of entry.now.range.start entry.now.range.end }
+        ensures units { result.units ≡ units_fixed (shape_seen result.shape) (length (units_seen entry.now.units)) }
         ensures fixes { CanFix (shape_seen result.shape) result.units }
         ensures form { HasForm (shape_seen result.shape) result.units entry.now }
     {
         let shape = Shape::of(entry.range);
-        let units = match (shape, entry.units.as_slice().len()) {
-            (_, 1) => Some(1),
-            (_, 2) => Some(2),
-            (Shape::Singles, 3) => Some(3),
-            (Shape::Singles, 4) => Some(4),
-            _ => None,
+        let count = entry.units.as_slice().len();
+        let units = if 1 <= count && count <= shape.most_fixed() {
+            Some(count as u8)
+        } else {
+            None
         };
         TextForm { shape, units }
     }
@@ -84,7 +89,8 @@ impl TextForm {
     /// The type of the segment.
     fn number(self) -> u8
         requires { CanFix (shape_seen self.shape) self.units }
-        ensures { IsNumberOf (shape_seen self.shape) self.units result }
+        ensures read { IsNumberOf (shape_seen self.shape) self.units result }
+        ensures is { result ≡ text_type (shape_seen self.shape) self.units }
     {
         match (self.shape, self.units) {
             (Shape::Ranges, Some(units)) => 0x14 + units,
@@ -95,6 +101,13 @@ impl TextForm {
     }
 }
 
+/// The type of the segments in which an entry stands.
+fn type_of(entry: &BfRange) -> u8
+    ensures { result ≡ bf_type (bf_entry_seen entry.now) }
+{
+    TextForm::of(entry).number()
+}
+
 /// Adds segments that declare these pieces of ranges, in order.
 fn add_texts(
     alloc: Global,
@@ -102,7 +115,9 @@ fn add_texts(
     segments: &mut Vec<Segment>,
 ) -> Result<(), AllocError>
     requires { All IsShortText (map bf_entry_seen pieces.now) }
-    ensures { IfOk result (λ _. AddsSegments segments.old.items segments.new.items
+    ensures added { IfOk result (λ _. AddsSegments segments.old.items segments.new.items
+        (map Declaration.bf (map bf_entry_seen pieces.now))) }
+    ensures full { IfOk result (λ _. AddsFull segments.old.items segments.new.items
         (map Declaration.bf (map bf_entry_seen pieces.now))) }
 {
     let mut left = pieces;
@@ -120,6 +135,7 @@ fn first_form(entries: &[BfRange]) -> TextForm
     requires { 0 < length entries.now }
     ensures fixes { CanFix (shape_seen result.shape) result.units }
     ensures first { BeginsWithForm (shape_seen result.shape) result.units entries.now }
+    ensures typed { (d : BfRange) → bf_type (bf_entry_seen (get_or entries.now 0 d)) ≡ text_type (shape_seen result.shape) result.units }
 {
     TextForm::of(&entries[0])
 }
@@ -128,10 +144,13 @@ fn first_form(entries: &[BfRange]) -> TextForm
 fn segment_len(form: TextForm, entries: &[BfRange]) -> usize
     requires fixes { CanFix (shape_seen form.shape) form.units }
     requires first { BeginsWithForm (shape_seen form.shape) form.units entries.now }
+    requires typed { (d : BfRange) → bf_type (bf_entry_seen (get_or entries.now 0 d)) ≡ text_type (shape_seen form.shape) form.units }
     requires short { All IsShortText (map bf_entry_seen entries.now) }
     ensures some { 1 ≤ result }
     ensures within { result ≤ length entries.now }
     ensures held { AreHeldTexts (shape_seen form.shape) form.units (take result entries.now) }
+    ensures typed { All (λ e. bf_type e ≡ text_type (shape_seen form.shape) form.units) (map bf_entry_seen (take result entries.now)) }
+    ensures ended { AreEnded (map Declaration.bf (map bf_entry_seen (take result entries.now))) (map Declaration.bf (map bf_entry_seen (drop result entries.now))) }
 {
     let mut count = 1;
     while count < entries.len()
@@ -146,7 +165,9 @@ fn segment_len(form: TextForm, entries: &[BfRange]) -> usize
 /// Whether an entry can follow another one in a segment of this form.
 fn follows(form: TextForm, before: &BfRange, entry: &BfRange) -> bool
     requires { CanFix (shape_seen form.shape) form.units }
-    ensures { IsTrue result → FollowsText (shape_seen form.shape) form.units before.now entry.now }
+    ensures yes { IsTrue result → FollowsText (shape_seen form.shape) form.units before.now entry.now }
+    ensures typed { IsTrue result → bf_type (bf_entry_seen entry.now) ≡ text_type (shape_seen form.shape) form.units }
+    ensures no { IsFalse result → before.now.range.end < entry.now.range.start → bf_type (bf_entry_seen entry.now) ≡ text_type (shape_seen form.shape) form.units → ⊥ }
 {
     before.range.end < entry.range.start && TextForm::of(entry).number() == form.number()
 }
@@ -155,7 +176,9 @@ fn follows(form: TextForm, before: &BfRange, entry: &BfRange) -> bool
 fn text_segment(alloc: Global, form: TextForm, entries: &[BfRange]) -> Result<Segment, AllocError>
     requires fixes { CanFix (shape_seen form.shape) form.units }
     requires held { AreHeldTexts (shape_seen form.shape) form.units entries.now }
-    ensures { IfOk result (λ segment. IsSegmentOf segment (map Declaration.bf (map bf_entry_seen entries.now))) }
+    requires typed { All (λ e. bf_type e ≡ text_type (shape_seen form.shape) form.units) (map bf_entry_seen entries.now) }
+    ensures says { IfOk result (λ segment. IsSegmentOf segment (map Declaration.bf (map bf_entry_seen entries.now))) }
+    ensures holds { IfOk result (λ segment. HoldsEntries segment (map Declaration.bf (map bf_entry_seen entries.now))) }
 {
     let mut values = Vec::new(alloc);
     push_texts(&mut values, form.units, entries)?;

@@ -1,5 +1,6 @@
 use Rattle.std.proofs.Common.{refl, arith}
 use Rattle.cmap_writer.specs.EncodersSeen.{shape_seen}
+use Rattle.cmap_writer.proofs.Arranged.{ended_cids}
 use Rattle.cmap_writer.proofs.SegmentsMade.{follow_more, follow_next, held_segment}
 use Rattle.cmap_writer.proofs.cids.segment_len.Goals as goal
 
@@ -22,7 +23,7 @@ loop-count-preserved c =
       some = omega arith;
       within = omega arith;
       few = omega arith;
-      follow = follow_more (shape_seen c.args.shape) c.args.entries.now c.loop-count.count i.some (follow_next (shape_seen c.args.shape) c.args.entries.now c.loop-count.count _ _ c.loop-count-test.true (c.if-follows.ensures refl)) i.follow;
+      follow = follow_more (shape_seen c.args.shape) c.args.entries.now c.loop-count.count i.some (follow_next (shape_seen c.args.shape) c.args.entries.now c.loop-count.count _ _ c.loop-count-test.true (c.if-follows.ensures.yes refl)) i.follow;
     }
 
 pub overflow_sub-count : goal.overflow_sub-count
@@ -39,3 +40,6 @@ overflow_add-count c = omega (arith, c.if-count-lt-MOST.true)
 
 pub loop-count-smaller : goal.loop-count-smaller
 loop-count-smaller c = omega (arith, c.loop-count-test.true)
+
+pub returns-else-follows-clause-ended : goal.returns-else-follows-clause-ended
+returns-else-follows-clause-ended c len some = let i = c.loop-count.invariant in ended_cids len (shape_seen c.args.shape) c.args.entries.now c.loop-count.count _ _ some i.some c.loop-count-test.true c.requires.short c.requires.first i.follow (c.if-follows.ensures.no refl)

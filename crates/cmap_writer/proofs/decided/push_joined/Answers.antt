@@ -8,10 +8,11 @@ use Rattle.std.proofs.lemmas.Result.{IfOk-from_err}
 use Rattle.cmap_values.specs.DeclarationsSeen.{cid_entry_seen, cid_range_span, entries_seen}
 use Rattle.cmap_values.specs.declared.declarations.CidRange.{CidRange}
 use Rattle.cmap_layers.specs.Lookups.{cid_at, cid_span}
+use Rattle.cmap_writer.specs.Arranged.{KeepsWhole}
 use Rattle.cmap_writer.specs.Follows.{GoesOn}
 use Rattle.cmap_writer.specs.Pieces.{CanBeSplit, Takes}
 use Rattle.cmap_writer.specs.Weights.{cids_weight, span_weight}
-use Rattle.cmap_writer.proofs.CidParts.{last_filled, longer, longer_can, longer_takes, takes_pushed}
+use Rattle.cmap_writer.proofs.CidParts.{last_filled, longer, longer_can, longer_takes, longer_whole, pushed_whole, takes_pushed}
 use Rattle.cmap_writer.proofs.Weighed.{longer_weight}
 use Rattle.cmap_writer.proofs.decided.push_joined.Goals as goal
 
@@ -72,3 +73,19 @@ returns-clause-few c =
 
 pub returns-in_err-push-clause-few : goal.returns-in_err-push-clause-few
 returns-in_err-push-clause-few c = IfOk-from_err _ _ c.from_residual.ensures.0
+
+pub returns-then-is_continued-clause-whole : goal.returns-then-is_continued-clause-whole
+returns-then-is_continued-clause-whole c =
+    let xs = c.args.ranges.now.items in
+    let last : CidRange = c.index_mut.result.now in
+    let here = c.deref.ensures.value in
+    let some : 0 < length xs = subst (λ xs. 0 < length xs) here (c.is_continued.ensures.some c.if-is_continued.true) in
+    let n : c.len-last.result - 1 ≡ length xs - 1 = omega arith in
+    let at : slice_get xs (length xs - 1) ≡ Some last = slice_get_read xs (length xs) (length xs - 1) last refl (omega (arith, some)) (subst (λ k. last ≡ get_or xs k last) n c.index_mut.ensures.value) in
+    subst (λ k. KeepsWhole (entries_seen xs) (entries_seen (set xs k (longer last c.args.range))) (cid_entry_seen c.args.range)) (sym n) (longer_whole xs c.args.range last some at c.requires.all c.requires.one (subst (λ ys. (d : CidRange) → GoesOn (get_or ys (length ys - 1) d) c.args.range) here (c.is_continued.ensures.answer c.if-is_continued.true)))
+
+pub returns-clause-whole : goal.returns-clause-whole
+returns-clause-whole c =
+    let xs = c.args.ranges.now.items in
+    let apart = subst (λ ys. (d : CidRange) → 0 < length ys → GoesOn (get_or ys (length ys - 1) d) c.args.range → ⊥) c.deref.ensures.value (c.is_continued.ensures.no c.if-is_continued.false) in
+    pushed_whole xs c.push.new.self.items c.args.range c.in_ok-push.ensures.items c.requires.one.0 apart

@@ -1,11 +1,13 @@
-use Rattle.std.proofs.Common.{◌≡◌, List, length, map, refl, ap, subst, arith}
+use Rattle.std.proofs.Common.{◌≡◌, ◌+◌, ◌<◌, List, length, sym, map, refl, ap, subst, arith}
 use Rattle.std.proofs.lemmas.List.Elements.{All-nil}
 use Rattle.std.proofs.lemmas.Result.{IfOk-from_err}
 use Rattle.cmap_runs.specs.Ranges.{Run, runs_of}
 use Rattle.cmap_values.specs.DeclarationsSeen.{cid_entry_seen, cid_range_span, entries_seen}
 use Rattle.cmap_values.specs.declared.declarations.CidRange.{CidRange}
 use Rattle.cmap_layers.specs.Lookups.{cid_at, cid_span}
+use Rattle.cmap_writer.specs.Arranged.{EndBefore}
 use Rattle.cmap_writer.specs.Pieces.{CanBeSplit, SaysAs}
+use Rattle.cmap_writer.proofs.Cuts.{next_before}
 use Rattle.cmap_writer.proofs.DecidedParts.{declaration_within, large_given, part_can, part_has, part_right, run_within}
 use Rattle.cmap_values.proofs.Outcomes.{memory_on}
 use Rattle.cmap_writer.proofs.RunParts.{HaveRuns, have_all, have_more, have_none}
@@ -46,8 +48,14 @@ loop-i-preserved c =
     let new = entries_seen c.push_joined.new.ranges.items in
     let says = part_right table (runs table) are i low high index at e there part _ refl refl is.0 is.1 in
     let taken = c.in_ok-push_joined.ensures.taken in
+    let run : Run = record { low = low; high = high; index = index } in
+    let first : EndBefore part.range.start old = subst (λ n. EndBefore n old) (ap (λ r. r.start) (sym is.0)) (c.loop-i.invariant.before run at) in
+    let parted = c.in_ok-push_joined.ensures.whole c.loop-i.invariant.parted first in
+    let after : EndBefore (high + 1) new = subst (λ n. EndBefore (n + 1) new) (ap (λ r. r.end) is.0) parted.1 in
     record {
       right = taken.0 (entries_seen table) c.loop-i.invariant.right says;
+      parted = parted.0;
+      before = λ next there. next_before (runs table) i run next new are.ordered at there after;
       small = c.in_ok-push_joined.ensures.all;
       few = omega (arith, c.loop-i.invariant.few, c.in_ok-push_joined.ensures.few, ap (λ r. r.start) is.0, ap (λ r. r.end) is.0, run_weighed (runs table) i (record { low = low; high = high; index = index }) (omega arith) at);
       whole = have_more cid_range_span cid_entry_seen cid_span cid_at (λ x. refl) table (runs table) are old new i low high index (cid_entry_seen part) c.loop-i.invariant.whole at taken.1 (part_has table (runs table) are i low high index at e there part _ refl refl is.0 is.1);
@@ -79,6 +87,8 @@ loop-i-init c =
       right = All-nil (SaysAs cid_span cid_at (entries_seen table));
       small = All-nil CanBeSplit;
       few = omega arith;
+      parted = tt;
+      before = λ run at. All-nil (λ e. e.end < run.low);
       whole = have_none cid_range_span cid_entry_seen cid_span cid_at (λ x. refl) table (runs table) c.run_count-i-end.ensures.runs.0;
     })
 
@@ -87,3 +97,6 @@ returns-clause-few c = omega (arith, c.loop-i.invariant.few, runs_weighed (runs 
 
 pub returns-in_err-push_joined-clause-few : goal.returns-in_err-push_joined-clause-few
 returns-in_err-push_joined-clause-few c = IfOk-from_err _ _ c.from_residual.ensures.0
+
+pub returns-clause-whole : goal.returns-clause-whole
+returns-clause-whole c = c.loop-i.invariant.parted

@@ -12,4 +12,4 @@ returns-clause-err c =
     let tables = encoders_seen c.args.tables.now in
     let file = file_seen c.args.file.now in
     let prepared = c.in_ok-prepared.prepared in
-    IfErr-weaker c.write.result (RefusesWith (IsPreparedObstacle tables prepared)) (RefusesWith (IsWriteObstacle tables file)) (λ fault h. refused_as fault h (unspelled tables file prepared c.in_ok-prepared.ensures.made)) c.write.ensures.err
+    IfErr-weaker c.write.result (RefusesWith (IsPreparedObstacle tables prepared)) (RefusesWith (IsWriteObstacle tables file)) (λ fault h. refused_as fault h (unspelled tables file prepared (c.in_ok-prepared.ensures.made, c.in_ok-prepared.ensures.arranged))) c.write.ensures.err

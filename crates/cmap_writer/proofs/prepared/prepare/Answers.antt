@@ -7,6 +7,7 @@ use Rattle.cmap_values.specs.Files.{Declaration}
 use Rattle.cmap_values.specs.FilesSeen.{file_seen}
 use Rattle.cmap_values.specs.NamesSeen.{names_seen}
 use Rattle.cmap_binary.specs.BinaryFiles as files
+use Rattle.cmap_writer.specs.Arranged.{AddsByLength, AddsTextEntries}
 use Rattle.cmap_writer.specs.MetadataWritten.{metadata_contents}
 use Rattle.cmap_writer.specs.Obstacles.{IsLongName}
 use Rattle.cmap_writer.specs.PreparedFiles.{AddsCidLists, AddsSameTexts, fields_room}
@@ -14,6 +15,7 @@ use Rattle.cmap_writer.specs.SegmentsWritten.{DeclareAll, SegmentByAny}
 use Rattle.cmap_writer.specs.Written.{Appends, WritesAll}
 use Rattle.cmap_values.proofs.Outcomes.{refuses_on}
 use Rattle.cmap_writer.proofs.ObstaclesMet.{by_cids, by_metadata, by_notdefs, by_spaces, by_texts, too_long}
+use Rattle.cmap_writer.proofs.Arranged.{arranged_is}
 use Rattle.cmap_writer.proofs.PreparedKept.{prepared_is}
 use Rattle.cmap_writer.proofs.prepared.prepare.Goals as goal
 
@@ -72,3 +74,30 @@ returns-in_err-add_cid_lists-clause-made c = IfOk-from_err _ _ c.from_residual-i
 
 pub returns-in_err-add_text_list-clause-made : goal.returns-in_err-add_text_list-clause-made
 returns-in_err-add_text_list-clause-made c = IfOk-from_err _ _ c.from_residual-in_err-add_text_list.ensures.0
+
+pub returns-clause-arranged : goal.returns-clause-arranged
+returns-clause-arranged c =
+    let file = file_seen c.args.file.now in
+    let some = c.add_cid_lists.new.segments.items in
+    let all = c.add_text_list.new.segments.items in
+    let cids = subst (λ old. AddsByLength file.lists.cids old some) c.new-segments.ensures.items c.in_ok-add_cid_lists.ensures.arranged in
+    let texts = subst (λ xs. AddsTextEntries (map bf_entry_seen xs) some all) c.deref-3.ensures.value c.in_ok-add_text_list.ensures.arranged in
+    arranged_is file (record { fields = c.push_notdef_lists.new.out; segments = c.add_text_list.new.segments }) some cids texts
+
+pub returns-in_err-push_metadata-clause-arranged : goal.returns-in_err-push_metadata-clause-arranged
+returns-in_err-push_metadata-clause-arranged c = IfOk-from_err _ _ c.from_residual.ensures.0
+
+pub returns-in_err-push_uses-clause-arranged : goal.returns-in_err-push_uses-clause-arranged
+returns-in_err-push_uses-clause-arranged c = IfOk-from_err _ _ c.from_residual-in_err-push_uses.ensures.0
+
+pub returns-in_err-push_codespaces-clause-arranged : goal.returns-in_err-push_codespaces-clause-arranged
+returns-in_err-push_codespaces-clause-arranged c = IfOk-from_err _ _ c.from_residual-in_err-push_codespaces.ensures.0
+
+pub returns-in_err-push_notdef_lists-clause-arranged : goal.returns-in_err-push_notdef_lists-clause-arranged
+returns-in_err-push_notdef_lists-clause-arranged c = IfOk-from_err _ _ c.from_residual-in_err-push_notdef_lists.ensures.0
+
+pub returns-in_err-add_cid_lists-clause-arranged : goal.returns-in_err-add_cid_lists-clause-arranged
+returns-in_err-add_cid_lists-clause-arranged c = IfOk-from_err _ _ c.from_residual-in_err-add_cid_lists.ensures.0
+
+pub returns-in_err-add_text_list-clause-arranged : goal.returns-in_err-add_text_list-clause-arranged
+returns-in_err-add_text_list-clause-arranged c = IfOk-from_err _ _ c.from_residual-in_err-add_text_list.ensures.0

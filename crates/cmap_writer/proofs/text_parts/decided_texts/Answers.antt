@@ -1,13 +1,14 @@
-use Rattle.std.proofs.Common.{◌≤◌, All, map, subst, sym}
+use Rattle.std.proofs.Common.{◌≡◌, ◌≤◌, All, map, subst, sym}
 use Rattle.std.specs.Prelude.{IfErr, IfOk}
 use Rattle.std.proofs.lemmas.Result.{IfOk-from_err}
-use Rattle.cmap_values.specs.DeclarationsSeen.{bf_entry_seen}
+use Rattle.cmap_runs.specs.Ranges.{runs_of}
+use Rattle.cmap_values.specs.DeclarationsSeen.{bf_entry_seen, bf_range_span}
 use Rattle.cmap_values.specs.Outcomes.{RefusesWith}
 use Rattle.cmap_layers.specs.Lookups.{bf_at, bf_span}
 use Rattle.cmap_writer.specs.Obstacles.{IsTextObstacle}
-use Rattle.cmap_writer.specs.Pieces.{SayTheSame}
-use Rattle.cmap_writer.specs.TextParts.{IsPartOf}
-use Rattle.cmap_writer.specs.Weights.{texts_weight, weight_of}
+use Rattle.cmap_writer.specs.Pieces.{AllSayAs, SayTheSame}
+use Rattle.cmap_writer.specs.TextParts.{IsPartOf, units_at}
+use Rattle.cmap_writer.specs.Weights.{run_span, texts_weight, weight_of}
 use Rattle.cmap_values.proofs.Outcomes.{memory_on}
 use Rattle.cmap_writer.proofs.Weighed.{bf_spans_seen}
 use Rattle.cmap_writer.proofs.text_parts.decided_texts.Goals as goal
@@ -46,3 +47,18 @@ returns-clause-few c =
 
 pub returns-in_err-table-clause-few : goal.returns-in_err-table-clause-few
 returns-in_err-table-clause-few c = IfOk-from_err _ _ c.from_residual.ensures.0
+
+pub returns-clause-runs : goal.returns-clause-runs
+returns-clause-runs c =
+    let table = c.in_ok-table.table in
+    subst (λ es. IfOk c.text_ranges_of.result (λ ranges. map bf_range_span ranges.items ≡ map run_span (runs_of (map bf_span es)))) c.in_ok-table.ensures.0 (subst (λ ss. IfOk c.text_ranges_of.result (λ ranges. map bf_range_span ranges.items ≡ map run_span (runs_of ss))) (sym (bf_spans_seen table)) c.text_ranges_of.ensures.runs)
+
+pub returns-in_err-table-clause-runs : goal.returns-in_err-table-clause-runs
+returns-in_err-table-clause-runs c = IfOk-from_err _ _ c.from_residual.ensures.0
+
+pub returns-clause-units : goal.returns-clause-units
+returns-clause-units c =
+    subst (λ es. IfOk c.text_ranges_of.result (λ ranges. AllSayAs bf_span units_at es (map bf_entry_seen ranges.items))) c.in_ok-table.ensures.0 c.text_ranges_of.ensures.units
+
+pub returns-in_err-table-clause-units : goal.returns-in_err-table-clause-units
+returns-in_err-table-clause-units c = IfOk-from_err _ _ c.from_residual.ensures.0

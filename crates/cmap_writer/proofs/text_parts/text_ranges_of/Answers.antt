@@ -1,6 +1,6 @@
 use Rattle.std.proofs.Common.{ℕ, ◌≡◌, ◌∙◌, inr, ◌++◌, ◌∷◌, [], All, List, length, map, ap, refl, subst, sym, arith}
 use Rattle.std.specs.List.{sum_by}
-use Rattle.std.proofs.lemmas.List.{map-append}
+use Rattle.std.proofs.lemmas.List.{map-append, take_all}
 use Rattle.std.proofs.lemmas.List.Sums.{sum_by_push}
 use Rattle.std.proofs.lemmas.List.Elements.{All-nil, All-push}
 use Rattle.std.proofs.lemmas.Result.{IfOk-from_err}
@@ -9,11 +9,12 @@ use Rattle.cmap_values.specs.DeclarationsSeen.{bf_entry_seen, bf_range_span}
 use Rattle.cmap_values.specs.declared.declarations.BfRange.{BfRange}
 use Rattle.cmap_layers.specs.Lookups.{bf_at, bf_span}
 use Rattle.cmap_writer.specs.Pieces.{AllSayAs, Cover, SaysAs}
-use Rattle.cmap_writer.specs.TextParts.{IsDecidedText, IsPartOf}
-use Rattle.cmap_writer.specs.Weights.{span_weight}
+use Rattle.cmap_writer.specs.TextParts.{IsDecidedText, IsPartOf, units_at}
+use Rattle.cmap_writer.specs.Weights.{run_span, span_weight}
 use Rattle.cmap_values.proofs.Outcomes.{memory_on}
+use Rattle.cmap_writer.proofs.Cuts.{run_pushed}
 use Rattle.cmap_writer.proofs.RunParts.{HaveRuns, have_all, have_more, have_none}
-use Rattle.cmap_writer.proofs.TextPartsSeen.{all_told, declaration_within, part_decided, part_from, part_has, part_right, run_filled, run_within}
+use Rattle.cmap_writer.proofs.TextPartsSeen.{all_told, declaration_within, part_decided, part_from, part_has, part_right, part_units, run_filled, run_within}
 use Rattle.cmap_writer.proofs.Weighed.{run_weighed, runs_weighed}
 use Rattle.cmap_writer.proofs.text_parts.text_ranges_of.Goals as goal
 
@@ -53,6 +54,8 @@ loop-i-preserved c =
     let from = part_from table (runs table) are i low high index at e there part _ refl refl is.0 is.1 in
     record {
       right = subst (AllSayAs bf_span bf_at (map bf_entry_seen table)) (sym pushed) (All-push (SaysAs bf_span bf_at (map bf_entry_seen table)) old (bf_entry_seen part) c.loop-i.invariant.right says);
+      units = subst (AllSayAs bf_span units_at (map bf_entry_seen table)) (sym pushed) (All-push (SaysAs bf_span units_at (map bf_entry_seen table)) old (bf_entry_seen part) c.loop-i.invariant.units (part_units table (runs table) are i low high index at e there part _ refl refl is.0 is.1));
+      runs = ap (map bf_range_span) c.in_ok-push.ensures.items ∙ map-append bf_range_span c.loop-i.ranges.items (part ∷ []) ∙ ap (λ r. map bf_range_span c.loop-i.ranges.items ++ record { start = r.start; end = r.end } ∷ []) is.0 ∙ run_pushed (runs table) i (record { low = low; high = high; index = index }) (map bf_range_span c.loop-i.ranges.items) (omega arith) at c.loop-i.invariant.runs;
       few = omega (arith, c.loop-i.invariant.few, sum_by_push weight c.loop-i.ranges.items part, ap (sum_by weight) c.in_ok-push.ensures.items, ap (λ r. r.start) is.0, ap (λ r. r.end) is.0, run_weighed (runs table) i (record { low = low; high = high; index = index }) (omega arith) at);
       small = subst (All IsDecidedText) (sym pushed) (All-push IsDecidedText old (bf_entry_seen part) c.loop-i.invariant.small decided);
       parts = subst (All (IsPartOf (map bf_entry_seen table))) (sym pushed) (All-push (IsPartOf (map bf_entry_seen table)) old (bf_entry_seen part) c.loop-i.invariant.parts from);
@@ -81,6 +84,8 @@ loop-i-init c =
     rw c.new-ranges.ensures.items (record {
       right = All-nil (SaysAs bf_span bf_at (map bf_entry_seen table));
       small = All-nil IsDecidedText;
+      units = All-nil (SaysAs bf_span units_at (map bf_entry_seen table));
+      runs = refl;
       few = omega arith;
       parts = All-nil (IsPartOf (map bf_entry_seen table));
       whole = have_none bf_range_span bf_entry_seen bf_span bf_at (λ x. refl) table (runs table) c.run_count-i-end.ensures.runs.0;
@@ -118,3 +123,21 @@ returns-in_err-part-clause-few c = IfOk-from_err _ _ c.from_residual.ensures.0
 
 pub returns-in_err-push-clause-few : goal.returns-in_err-push-clause-few
 returns-in_err-push-clause-few c = IfOk-from_err _ _ c.from_residual-in_err-push.ensures.0
+
+pub returns-clause-runs : goal.returns-clause-runs
+returns-clause-runs c = c.loop-i.invariant.runs ∙ ap (map run_span) (take_all c.loop-i.i (runs c.args.table.now) (omega arith))
+
+pub returns-in_err-part-clause-runs : goal.returns-in_err-part-clause-runs
+returns-in_err-part-clause-runs c = IfOk-from_err _ _ c.from_residual.ensures.0
+
+pub returns-in_err-push-clause-runs : goal.returns-in_err-push-clause-runs
+returns-in_err-push-clause-runs c = IfOk-from_err _ _ c.from_residual-in_err-push.ensures.0
+
+pub returns-clause-units : goal.returns-clause-units
+returns-clause-units c = c.loop-i.invariant.units
+
+pub returns-in_err-part-clause-units : goal.returns-in_err-part-clause-units
+returns-in_err-part-clause-units c = IfOk-from_err _ _ c.from_residual.ensures.0
+
+pub returns-in_err-push-clause-units : goal.returns-in_err-push-clause-units
+returns-in_err-push-clause-units c = IfOk-from_err _ _ c.from_residual-in_err-push.ensures.0

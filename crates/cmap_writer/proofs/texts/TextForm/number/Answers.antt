@@ -5,14 +5,14 @@ use Rattle.cmap_writer.specs.Texts.{CanFix, IsNumberOf}
 use Rattle.cmap_writer.proofs.TextsMade.{range_number, single_number}
 use Rattle.cmap_writer.proofs.texts.TextForm.number.Goals as goal
 
-pub returns-in-Ranges-Some : goal.returns-in-Ranges-Some
-returns-in-Ranges-Some c =
+pub returns-in-Ranges-Some-clause-read : goal.returns-in-Ranges-Some-clause-read
+returns-in-Ranges-Some-clause-read c =
     let h = c.in-Ranges-Some in
     let fixes : CanFix ranges (Some h.units) = subst (CanFix ranges) h.is-1 (subst (λ shape. CanFix (shape_seen shape) c.args.self.units) h.is-0 c.requires) in
     subst (λ shape. IsNumberOf (shape_seen shape) c.args.self.units (20 + h.units)) (sym h.is-0) (subst (λ units. IsNumberOf ranges units (20 + h.units)) (sym h.is-1) (range_number h.units fixes.0 fixes.1))
 
-pub returns-in-Singles-Some : goal.returns-in-Singles-Some
-returns-in-Singles-Some c =
+pub returns-in-Singles-Some-clause-read : goal.returns-in-Singles-Some-clause-read
+returns-in-Singles-Some-clause-read c =
     let h = c.in-Singles-Some in
     let fixes : CanFix singles (Some h.units) = subst (CanFix singles) h.is-1 (subst (λ shape. CanFix (shape_seen shape) c.args.self.units) h.is-0 c.requires) in
     subst (λ shape. IsNumberOf (shape_seen shape) c.args.self.units (16 + h.units)) (sym h.is-0) (subst (λ units. IsNumberOf singles units (16 + h.units)) (sym h.is-1) (single_number h.units fixes.0 fixes.1))
