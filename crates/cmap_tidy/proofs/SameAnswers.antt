@@ -1,12 +1,12 @@
 -- A map whose files were written anew answers the same.
-use Rattle.std.proofs.Common.{◌≡◌, ℕ, ◌<◌, ◌≤◌, ◌^◌, Bool, true, false, List, [], ◌∷◌, Option, Some, None, refl, sym, ap, ◌∙◌, inl, inr}
+use Rattle.std.proofs.Common.{◌≡◌, ℕ, ◌<◌, ◌^◌, List, [], ◌∷◌, Option, Some, None, refl, sym, ap, ◌∙◌, inl, inr}
 use Rattle.std.specs.Prelude.{◌&&◌, nat_le, option_and_then, option_map, if◌then◌else◌}
 use Rattle.std.specs.List.{AllZip}
 use Rattle.cmap_tokens.specs.Texts.{characters, only_character}
 use Rattle.cmap_values.specs.Files.{BfEntry, CidEntry, of_length}
 use Rattle.cmap_layers.specs.Layers.{Layer}
 use Rattle.cmap_layers.specs.Lookups.{bf_at, bf_of, cid_at, cid_in, cid_of, decided_cid, decided_text, last_bf, last_cid}
-use Rattle.cmap_tidy.specs.Tidied.{AreTidiedCids, AreTidiedLists, AreTidiedNotdefs, AreTidiedTexts}
+use Rattle.cmap_tidy.specs.Tidied.{AreTidiedCids, AreTidiedLists, AreTidiedTexts}
 use Rattle.cmap_tidy.specs.Tidy.{cid_said, notdef_at, notdef_said, units_at, units_said}
 
 cids_same : (old new : List CidEntry) (code : ℕ) → AreTidiedCids old new → code < 2 ^ 32 → cid_said new code ≡ cid_said old code
