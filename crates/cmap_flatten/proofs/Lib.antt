@@ -1,0 +1,10 @@
+pub mod AnyElements
+pub mod ChosenCodes
+pub mod CodesDeclared
+pub mod DeclaredStretches
+pub mod ListsAdded
+pub mod OneFile
+pub mod TextsAdded
+pub mod TextsDeclared
+pub mod TidyLists
+pub mod WithoutTexts

@@ -1,0 +1,79 @@
+-- What two lists declare for a code, after one more declaration.
+use Rattle.std.proofs.Common.{◌≡◌, ℕ, ◌+◌, ◌-◌, ◌<◌, ◌≤◌, Bool, true, false, true≢false, List, Option, Some, None, Ok, Err, refl, sym, ap, ◌∙◌, subst, arith}
+use Rattle.std.specs.Prelude.{◌&&◌, All, OnOk, Result, IsSome, is_some, nat_le, option_map, unwrap_or}
+use Rattle.std.specs.Option.{option_or}
+use Rattle.std.proofs.lemmas.Bool.{and_from, and_parts, cond-false, cond-true, false_from_ne_true, le-leb, leb-true}
+use Rattle.std.proofs.lemmas.List.Elements.{All-weaker}
+use Rattle.cmap_runs.specs.Ranges.{Span, last_of}
+use Rattle.cmap_runs.specs.declared.runs.Range.{Range}
+use Rattle.cmap_values.specs.Files.{CidEntry}
+use Rattle.cmap_layers.specs.CodeStretches.{cid_after}
+use Rattle.cmap_layers.specs.Lookups.{cid_at, cid_span}
+use Rattle.cmap_layers.specs.declared.stretches.Cids.TheVariants.{Absent, Same, CountOn}
+use Rattle.cmap_tidy.specs.Tidy.{AreTidyCids, AreTidyNotdefs, cid_said, notdef_said, said_with}
+use Rattle.cmap_flatten.specs.Parts.{IsAdded, IsRoom, said}
+use Rattle.cmap_flatten.proofs.ChosenCodes.{has_any}
+
+pub none_of : {A : Type 0} (o : Option A) → (IsSome o → ⊥) → o ≡ None
+none_of None none = refl
+none_of (Some x) none = absurd (none refl)
+
+-- past the ends of all declarations none decides
+pub past_ends : {A : Type 0} (span : A → Span) (entries : List A) (limit code : ℕ) → All (λ e. (span e).end < limit) entries → limit ≤ code → last_of span entries code ≡ None
+past_ends span entries limit code ends past = none_of (last_of span entries code) (λ some.
+    let (k, e, lt, is, within) = (has_any span entries code).0 some in
+    let end : (span e).end < limit = subst (λ e. (span e).end < limit) is (ends k e lt) in omega arith)
+
+-- ---- what is said of a range and of other codes
+module _ {X : Type 0} (range : Range) (here : ℕ → X) (before : ℕ → Option X) (code : ℕ) where
+  pub with_here : range.start ≤ code → code ≤ range.end → said_with range here before code ≡ Some (here code)
+  with_here le within = cond-true _ (Some (here code)) (before code) (and_from _ _ (le-leb _ _ le) (le-leb _ _ within))
+
+  pub with_others : (range.start ≤ code → code ≤ range.end → ⊥) → said_with range here before code ≡ before code
+  with_others outside = cond-false _ (Some (here code)) (before code) (false_from_ne_true _ (λ both. let parts = and_parts _ _ both in outside (leb-true _ _ parts.0) (leb-true _ _ parts.1)))
+
+-- what a CID declaration says, or else what a notdef does
+abbrev pub told : Option (Option ℕ) → Option ℕ → Option ℕ
+told cid notdef = unwrap_or (option_or cid (option_map (λ cid. Some cid) notdef)) None
+
+-- three facts of a success
+pub on_ok_all : {T E P Q R S : Type 0} (r : Result T E) → (P → Q → R → S) → OnOk r P → OnOk r Q → OnOk r R → OnOk r S
+on_ok_all (Ok x) so one other third = so one other third
+on_ok_all (Err e) so one other third = tt
+
+-- ---- one more declaration
+module _ (cids notdefs : List CidEntry) (range : Range) (room : IsRoom cids notdefs range.start) (filled : range.start ≤ range.end) where
+  not_yet : (entries : List CidEntry) → All (λ e. e.end < range.start) entries → All (λ e. e.end < range.end + 1) entries
+  not_yet entries ends = All-weaker (λ e. e.end < range.start) (λ e. e.end < range.end + 1) (λ e before. omega arith) entries ends
+
+  to_end : (entries : List CidEntry) → All (λ e. e.end ≤ range.end) entries → All (λ e. e.end < range.end + 1) entries
+  to_end entries ends = All-weaker (λ e. e.end ≤ range.end) (λ e. e.end < range.end + 1) (λ e before. omega arith) entries ends
+
+  no_cid : (code : ℕ) → range.start ≤ code → cid_said cids code ≡ None
+  no_cid code le = ap (option_map (λ e. cid_at e code)) (past_ends cid_span cids range.start code room.cids_end le)
+
+  no_notdef : (code : ℕ) → range.start ≤ code → notdef_said notdefs code ≡ None
+  no_notdef code le = ap (option_map (λ e. e.cid)) (past_ends cid_span notdefs range.start code room.notdefs_end le)
+
+  pub none_added : IsAdded cids notdefs range Absent cids notdefs
+  none_added = record {
+    room = record { tidy_cids = room.tidy_cids; tidy_notdefs = room.tidy_notdefs; cids_end = not_yet cids room.cids_end; notdefs_end = not_yet notdefs room.notdefs_end };
+    here = λ code le within. ap (λ c. told c (notdef_said notdefs code)) (no_cid code le) ∙ ap (told None) (no_notdef code le);
+    below = λ code lt. refl;
+  }
+
+  pub cids_added : (cid : ℕ) (new : List CidEntry) → AreTidyCids new → ((code : ℕ) → cid_said new code ≡ said_with range (λ code. Some (cid + (code - range.start))) (cid_said cids) code)
+      → All (λ e. e.end ≤ range.end) new → IsAdded cids notdefs range (CountOn cid) new notdefs
+  cids_added cid new tidy now ends = record {
+    room = record { tidy_cids = tidy; tidy_notdefs = room.tidy_notdefs; cids_end = to_end new ends; notdefs_end = not_yet notdefs room.notdefs_end };
+    here = λ code le within. ap (λ c. told c (notdef_said notdefs code)) (now code ∙ with_here range (λ code. Some (cid + (code - range.start))) (cid_said cids) code le within);
+    below = λ code lt. ap (λ c. told c (notdef_said notdefs code)) (now code ∙ with_others range (λ code. Some (cid + (code - range.start))) (cid_said cids) code (λ le within. omega arith));
+  }
+
+  pub notdefs_added : (cid : ℕ) (new : List CidEntry) → AreTidyNotdefs new → ((code : ℕ) → notdef_said new code ≡ said_with range (λ code. cid) (notdef_said notdefs) code)
+      → All (λ e. e.end ≤ range.end) new → IsAdded cids notdefs range (Same cid) cids new
+  notdefs_added cid new tidy now ends = record {
+    room = record { tidy_cids = room.tidy_cids; tidy_notdefs = tidy; cids_end = not_yet cids room.cids_end; notdefs_end = to_end new ends };
+    here = λ code le within. ap (λ c. told c (notdef_said new code)) (no_cid code le) ∙ ap (told None) (now code ∙ with_here range (λ code. cid) (notdef_said notdefs) code le within);
+    below = λ code lt. ap (told (cid_said cids code)) (now code ∙ with_others range (λ code. cid) (notdef_said notdefs) code (λ le within. omega arith));
+  }

@@ -1,0 +1,143 @@
+-- The answers of one file, by what its lists declare.
+use Rattle.std.proofs.Common.{◌≡◌, ℕ, zero, suc, ◌+◌, ◌-◌, ◌<◌, ◌≤◌, ◌^◌, List, [], ◌∷◌, ◌++◌, Option, Some, None, length, get_or, inl, inr, refl, sym, ap, ◌∙◌, subst, arith}
+use Rattle.std.specs.Prelude.{◌↔◌, Any, All, option_and_then, option_map, slice_get, unwrap_or}
+use Rattle.std.specs.Option.{option_or}
+use Rattle.std.proofs.lemmas.Bool.{cond-true}
+use Rattle.std.proofs.lemmas.Bool.Decides.{nat_tests}
+use Rattle.cmap_runs.specs.Ranges.{last_of}
+use Rattle.cmap_tokens.specs.Texts.{only_character}
+use Rattle.cmap_values.specs.CodeLengths.{IsCodeLength, length_of}
+use Rattle.cmap_values.specs.Files.{BfEntry, CidEntry, Codespace, File, FileMetadata, Lists, of_length}
+use Rattle.cmap_values.specs.declared.code_length.CodeLength.{CodeLength}
+use Rattle.cmap_values.specs.declared.code_length.CodeLength.TheVariants.{One, Two, Three, Four}
+use Rattle.cmap_layers.specs.Layers.{Layer, layer_of}
+use Rattle.cmap_layers.specs.Lookups.{bf_at, bf_of, cid_at, cid_of, cid_span, decided_cid, decided_text, last_bf, last_cid}
+use Rattle.cmap_layers.specs.StringCodes.{ranges_of}
+use Rattle.cmap_layers.proofs.LayerStretches.{has_code_length}
+use Rattle.cmap_unicode.specs.Cids.{declared_cid}
+use Rattle.cmap_unicode.specs.LayersTried.{declared_by, declared_in}
+use Rattle.cmap_tidy.specs.Tidy.{AreTidyCids, cid_said, notdef_at, notdef_said}
+use Rattle.cmap_flatten.specs.Chosen.{Chosen, ChosenNumber}
+use Rattle.cmap_flatten.specs.Parts.{AreAllKept, AreDeclared, AreLists, HasCidsOfOne, IsFileOf, said, text_said}
+use Rattle.cmap_flatten.specs.Subsets.{AnswersAs, AnswersOnly, IsFlat, IsSubset, cid_of_one}
+use Rattle.cmap_flatten.specs.declared.codes.Codes.{Codes}
+use Rattle.cmap_flatten.proofs.AnyElements.{Any-cases, Any-left, Any-nil, Any-right}
+use Rattle.cmap_flatten.proofs.ChosenCodes.{found_one}
+use Rattle.cmap_flatten.proofs.DeclaredStretches.{declared_in_turn, layer_declares}
+use Rattle.cmap_flatten.proofs.ListsAdded.{told}
+
+-- ---- a map of one layer
+said_is : (code : ℕ) (cid notdef : Option CidEntry) → unwrap_or (declared_by code cid notdef) None ≡ told (option_map (λ e. cid_at e code) cid) (option_map (λ e. notdef_at e code) notdef)
+said_is code (Some e) notdef = refl
+said_is code None (Some e) = refl
+said_is code None None = refl
+
+pub one_declared : (layer : Layer) (code : ℕ) (len : CodeLength)
+    → declared_cid (layer ∷ []) code (length_of len) ≡ said (of_length layer.lists.cids (length_of len)) (of_length layer.lists.notdefs (length_of len)) code
+one_declared layer code len =
+    declared_in_turn (layer ∷ []) code len ∙ layer_declares layer [] code (length_of len) (declared_in layer code (length_of len)) refl
+    ∙ said_is code (last_cid (of_length layer.lists.cids (length_of len)) code) (last_cid (of_length layer.lists.notdefs (length_of len)) code)
+
+decided_is : (code : ℕ) (found : Option BfEntry) → decided_text code found None ≡ option_and_then (λ e. bf_at e code) found
+decided_is code None = refl
+decided_is code (Some e) = refl
+
+pub one_text : (layer : Layer) (code : ℕ) → bf_of (layer ∷ []) code ≡ text_said layer.lists.bfs code
+one_text layer code = decided_is code (last_bf layer.lists.bfs code)
+
+-- a CID of a tidy list is a number of 32 bits
+fits : (entries : List CidEntry) (code : ℕ) (e : CidEntry) → AreTidyCids entries → last_cid entries code ≡ Some e → cid_at e code ≡ Some (e.cid + (code - e.start))
+fits entries code e tidy is =
+    let (k, one, lt, at, (same, within)) = found_one cid_span entries code e is in
+    let row = subst (λ (e : CidEntry). e.cid + (e.end - e.start) < 2 ^ 32) (at ∙ same) (tidy.rows k one lt).1 in
+    let held = subst (λ (e : CidEntry). (e.start ≤ code) × (code ≤ e.end)) same within in
+    let small : e.cid + (code - e.start) < 2 ^ 32 = omega (arith, row, held) in
+    cond-true _ (Some (e.cid + (code - e.start))) None (grind (arith, nat_tests))
+
+combined : (code : ℕ) (cid notdef : Option CidEntry) (character : Option ℕ) → ((e : CidEntry) → cid ≡ Some e → cid_at e code ≡ Some (e.cid + (code - e.start)))
+    → decided_cid code cid notdef character None ≡ option_or (told (option_map (λ e. cid_at e code) cid) (option_map (λ e. notdef_at e code) notdef)) character
+combined code (Some e) notdef character fit = fit e refl ∙ sym (ap (λ cid. option_or cid character) (fit e refl))
+combined code None (Some e) character fit = refl
+combined code None None (Some c) fit = refl
+combined code None None None fit = refl
+
+pub one_cid : (layer : Layer) (code : ℕ) (len : CodeLength) → AreTidyCids (of_length layer.lists.cids (length_of len))
+    → cid_of (layer ∷ []) code (length_of len) ≡ option_or (said (of_length layer.lists.cids (length_of len)) (of_length layer.lists.notdefs (length_of len)) code) (only_character (text_said layer.lists.bfs code))
+one_cid layer code len tidy =
+    let cids = of_length layer.lists.cids (length_of len) in
+    has_code_length (layer ∷ []) code len
+    ∙ combined code (last_cid cids code) (last_cid (of_length layer.lists.notdefs (length_of len)) code) (only_character (text_said layer.lists.bfs code)) (λ e is. fits cids code e tidy is)
+
+-- ---- the lists of one file
+chosen_number : (chosen : List Codes) (code len : ℕ) → Chosen chosen code len → ChosenNumber chosen code
+chosen_number chosen code len (k, one, lt, is, same, within) = (k, one, lt, is, within)
+
+module _ (layers : List Layer) (chosen : List Codes) (lists : Lists) (are : AreLists layers chosen lists) where
+  pub of_each : (len : CodeLength) → AreDeclared layers chosen (length_of len) (of_length lists.cids (length_of len)) (of_length lists.notdefs (length_of len))
+  of_each One = are.one
+  of_each Two = are.two
+  of_each Three = are.three
+  of_each Four = are.four
+
+  pub cids_of_one : (metadata : FileMetadata) → HasCidsOfOne layers chosen (record { metadata = metadata; lists = lists } ∷ [])
+  cids_of_one metadata code len small is =
+      let layer : Layer = record { metadata = metadata; lists = lists } in
+      one_cid layer code len (of_each len).tidy.0
+      ∙ ap (λ cid. option_or cid (only_character (text_said lists.bfs code))) (((of_each len).codes code small).0 is)
+      ∙ ap (λ text. option_or (declared_cid layers code (length_of len)) (only_character text)) ((are.texts.codes code small).0 (chosen_number chosen code (length_of len) is))
+
+-- the codespace ranges of all layers
+any_range : (P : Codespace → Type 0) (layers : List Layer) → Any P (ranges_of layers) ↔ Any (λ layer. Any P layer.lists.spaces) layers
+any_range P layers = (into layers, back layers) where
+  into : (layers : List Layer) → Any P (ranges_of layers) → Any (λ layer. Any P layer.lists.spaces) layers
+  into [] any = absurd (Any-nil P any)
+  into (layer ∷ below) any = elim (Any-cases P layer.lists.spaces (ranges_of below) any) [
+    | inl here ↦ (0, layer, omega arith, refl, here)
+    | inr later ↦ let (k, found, lt, is, holds) = into below later in (suc k, found, omega arith, is, holds)
+  ]
+
+  back : (layers : List Layer) → Any (λ layer. Any P layer.lists.spaces) layers → Any P (ranges_of layers)
+  back [] any = absurd (Any-nil (λ layer. Any P layer.lists.spaces) any)
+  back (layer ∷ below) (zero, found, lt, is, holds) = Any-left P layer.lists.spaces (ranges_of below) (subst (λ (l : Layer). Any P l.lists.spaces) (sym is) holds)
+  back (layer ∷ below) (suc k, found, lt, is, holds) = Any-right P layer.lists.spaces (ranges_of below) (back below (k, found, omega arith, is, holds))
+
+-- ---- one file
+-- a length that codes have
+of_count : (len : ℕ) → IsCodeLength len → (of : CodeLength) × (length_of of ≡ len)
+of_count zero few = absurd (omega (arith, few))
+of_count (suc zero) few = (One, refl)
+of_count (suc (suc zero)) few = (Two, refl)
+of_count (suc (suc (suc zero))) few = (Three, refl)
+of_count (suc (suc (suc (suc zero)))) few = (Four, refl)
+of_count (suc (suc (suc (suc (suc n))))) few = absurd (omega (arith, few))
+
+pub is_subset : (layers : List Layer) (chosen : List Codes) (file : File) → IsFileOf layers chosen file → AreAllKept layers chosen → IsSubset layers chosen file
+is_subset layers chosen file are kept =
+    let layer = layer_of file in let lists = are.lists in
+    record {
+      metadata = are.metadata;
+      uses = are.uses;
+      spaces = λ space. subst (λ spaces. Any (λ own. own ≡ space) spaces ↔ Any (λ layer. Any (λ own. own ≡ space) layer.lists.spaces) layers) (sym lists.spaces) (any_range (λ own. own ≡ space) layers);
+      declared = λ code count small few.
+          let (len, is) = of_count count few in
+          subst (λ count. AnswersOnly (Chosen chosen code count) (declared_cid layers code count) (declared_cid (layer ∷ []) code count)) is
+          (subst (AnswersOnly (Chosen chosen code (length_of len)) (declared_cid layers code (length_of len))) (sym (one_declared layer code len)) ((of_each layers chosen file.lists lists len).codes code small));
+      texts = λ code small. subst (AnswersOnly (ChosenNumber chosen code) (bf_of layers code)) (sym (one_text layer code)) (lists.texts.codes code small);
+      answers = λ code count small few.
+          let (len, is) = of_count count few in
+          subst (λ count. Chosen chosen code count → cid_of (layer ∷ []) code count ≡ cid_of layers code count) is
+          (λ one. cids_of_one layers chosen file.lists lists file.metadata code len small one ∙ sym (kept len code small one));
+      tidy = record { one = lists.one.tidy; two = lists.two.tidy; three = lists.three.tidy; four = lists.four.tidy; texts = lists.texts.tidy };
+    }
+
+-- a file for all codes
+pub is_flat : (layers : List Layer) (chosen : List Codes) (file : File) → ((code len : ℕ) → code < 2 ^ 32 → IsCodeLength len → Chosen chosen code len) → IsSubset layers chosen file → IsFlat layers file
+is_flat layers chosen file all is = record {
+  metadata = is.metadata;
+  uses = is.uses;
+  spaces = is.spaces;
+  declared = λ code len small few. (λ _. (is.declared code len small few).0 (all code len small few), λ none. absurd (none tt));
+  texts = λ code small. (λ _. (is.texts code small).0 (chosen_number chosen code 1 (all code 1 small (omega arith, omega arith))), λ none. absurd (none tt));
+  answers = λ code len small few _. is.answers code len small few (all code len small few);
+  tidy = is.tidy;
+}

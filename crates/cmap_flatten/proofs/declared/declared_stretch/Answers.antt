@@ -1,0 +1,46 @@
+use Rattle.std.proofs.Common.{◌≡◌, ℕ, ◌+◌, ◌-◌, None, Some, ap, drop, map, ◌∙◌, sym, arith}
+use Rattle.std.specs.Prelude.{option_map, unwrap_or}
+use Rattle.std.proofs.lemmas.List.{drop_all}
+use Rattle.cmap_values.specs.CodeLengths.{length_of}
+use Rattle.cmap_layers.specs.CodeStretches.{cid_after}
+use Rattle.cmap_layers.specs.LayersSeen.{layer_seen, layers_seen}
+use Rattle.cmap_layers.specs.Lookups.{cid_in}
+use Rattle.cmap_layers.proofs.LayersSearched.{drop_next}
+use Rattle.cmap_unicode.specs.Cids.{declared_cid, without_texts}
+use Rattle.cmap_flatten.proofs.DeclaredStretches.{declared_in_turn, fewer_fit, layer_declares}
+use Rattle.cmap_flatten.proofs.declared.declared_stretch.Goals as goal
+
+pub loop-layer-preserved : goal.loop-layer-preserved
+loop-layer-preserved c = let len = length_of c.args.len in record {
+  within = omega arith;
+  passed = λ code le lt.
+      let next = ap layers_seen (drop_next c.as_slice-layers.result.now c.loop-layer.layer-index c.layer-item.result c.loop-layer-test.true c.layer-item.is) in
+      let below = layers_seen (drop (c.loop-layer.layer-index + 1) c.as_slice-layers.result.now) in
+      let none = rw c.in_default.is at (c.stretch_in-stretch.ensures.cids code le (omega arith)) in
+      c.loop-layer.invariant.passed code le (omega arith) ∙ ap (λ rest. cid_in (map without_texts rest) code len) next ∙ layer_declares (layer_seen c.layer-item.result) below code len None none;
+}
+
+pub returns-in-Some-clause-cids : goal.returns-in-Some-clause-cids
+returns-in-Some-clause-cids c =
+    let len = length_of c.args.len in let cids = c.in-Some.cids in let first = c.args.first in
+    let layers = c.as_slice-layers.result.now in let same = c.as_slice-layers.ensures.layers in
+    let next = ap layers_seen (drop_next layers c.loop-layer.layer-index c.layer-item.result c.loop-layer-test.true c.layer-item.is) in
+    let below = layers_seen (drop (c.loop-layer.layer-index + 1) layers) in
+    record {
+      cids = λ code le lt.
+          let some = rw c.in-Some.is at (c.stretch_in-stretch.ensures.cids code le (omega arith)) in
+          ap (λ layers. declared_cid layers code len) (sym same) ∙ declared_in_turn (layers_seen layers) code c.args.len
+          ∙ c.loop-layer.invariant.passed code le (omega arith) ∙ ap (λ rest. cid_in (map without_texts rest) code len) next
+          ∙ layer_declares (layer_seen c.layer-item.result) below code len (Some (cid_after cids (code - first))) some;
+      fit = fewer_fit cids (c.stretch_in-stretch.result.last - first) (c.min-last.result - first) (omega arith) (rw c.in-Some.is at c.stretch_in-stretch.ensures.fit);
+    }
+
+pub returns-clause-cids : goal.returns-clause-cids
+returns-clause-cids c =
+    let len = length_of c.args.len in let layers = c.as_slice-layers.result.now in let same = c.as_slice-layers.ensures.layers in
+    record {
+      cids = λ code le lt.
+          ap (λ layers. declared_cid layers code len) (sym same) ∙ declared_in_turn (layers_seen layers) code c.args.len
+          ∙ c.loop-layer.invariant.passed code le lt ∙ ap (λ rest. cid_in (map without_texts (layers_seen rest)) code len) (drop_all c.loop-layer.layer-index layers (omega arith));
+      fit = tt;
+    }

@@ -1,0 +1,117 @@
+-- Private aid: what is declared for codes in a row, and the lists so far.
+use Rattle.std.specs.Prelude.{◌≡◌, ℕ, ◌+◌, ◌-◌, ◌<◌, ◌≤◌, ◌^◌, List, [], All, Option, Some, None, IfSome, option_and_then, option_map, unwrap_or}
+use Rattle.std.specs.Option.{option_or}
+use Rattle.cmap_runs.specs.Ranges.{last_of}
+use Rattle.cmap_runs.specs.declared.runs.Range.{Range}
+use Rattle.cmap_values.specs.CodeLengths.{length_of}
+use Rattle.cmap_values.specs.Files.{BfEntry, CidEntry, File, Lists}
+use Rattle.cmap_values.specs.declared.code_length.CodeLength.{CodeLength}
+use Rattle.cmap_layers.specs.CodeStretches.{cid_after}
+use Rattle.cmap_layers.specs.Layers.{Layer, top_metadata}
+use Rattle.cmap_layers.specs.Lookups.{bf_at, bf_of, cid_of, last_bf}
+use Rattle.cmap_layers.specs.StringCodes.{ranges_of}
+use Rattle.cmap_layers.specs.declared.stretches.Cids.{Cids}
+use Rattle.cmap_layers.specs.declared.stretches.Cids.TheVariants.{Absent, Same, CountOn}
+use Rattle.cmap_layers.specs.declared.stretches.CidStretch.{CidStretch}
+use Rattle.cmap_unicode.specs.Cids.{declared_cid}
+use Rattle.cmap_flatten.specs.Chosen.{Chosen, ChosenNumber, codes_span}
+use Rattle.cmap_flatten.specs.Subsets.{AnswersOnly, IsKept, cid_of_one}
+use Rattle.cmap_tidy.specs.Tidy.{AreTidyCids, AreTidyNotdefs, AreTidyTexts, cid_said, notdef_said}
+use Rattle.cmap_flatten.specs.declared.codes.Codes.{Codes}
+
+-- the CIDs that count on are numbers of 32 bits up to this many codes after the first
+abbrev pub Fits : Cids → ℕ → Type 0
+Fits (CountOn cid) more = cid + more < 2 ^ 32
+Fits _ more = Unit {0}
+
+-- of the codes from the first to the last one a layer decides that they have these CIDs, or it decides nothing
+abbrev pub Decides : (ℕ → Option (Option ℕ)) → ℕ → ℕ → Option Cids → Type 0
+Decides decision first last cids = (code : ℕ) → first ≤ code → code ≤ last → decision code ≡ option_map (λ these. cid_after these (code - first)) cids
+
+-- the CIDs that are declared for codes of len bytes from the first one on
+pub record IsDeclaredStretch (layers : List Layer) (len first : ℕ) (stretch : CidStretch) : Type 0 where
+  pub cids : (code : ℕ) → first ≤ code → code ≤ stretch.last → declared_cid layers code len ≡ cid_after stretch.cids (code - first)
+  pub fit : Fits stretch.cids (stretch.last - first)
+
+-- the CID that two lists declare for a code: that of a CID declaration, or else of a notdef
+abbrev pub said : List CidEntry → List CidEntry → ℕ → Option ℕ
+said cids notdefs code = unwrap_or (option_or (cid_said cids code) (option_map (λ cid. Some cid) (notdef_said notdefs code))) None
+
+-- what the answer for a code is to be: that of the whole where the table has the code
+abbrev pub wanted : {A : Type 0} → List Codes → ℕ → Option A → Option A
+wanted table code whole = option_and_then (λ one. whole) (last_of codes_span table code)
+
+-- two tidy lists of declarations, none for a code from a limit on
+pub record IsRoom (cids notdefs : List CidEntry) (limit : ℕ) : Type 0 where
+  pub tidy_cids : AreTidyCids cids
+  pub tidy_notdefs : AreTidyNotdefs notdefs
+  pub cids_end : All (λ e. e.end < limit) cids
+  pub notdefs_end : All (λ e. e.end < limit) notdefs
+
+-- they declare what the layers do for the codes below the limit that the table has, and for no others
+pub record AreDeclaredBelow (layers : List Layer) (len : ℕ) (table : List Codes) (limit : ℕ) (cids notdefs : List CidEntry) : Type 0 where
+  pub room : IsRoom cids notdefs limit
+  pub codes : (code : ℕ) → code < limit → said cids notdefs code ≡ wanted table code (declared_cid layers code len)
+
+-- the text that a list declares for a code
+abbrev pub text_said : List BfEntry → ℕ → Option (List ℕ)
+text_said texts code = option_and_then (λ e. bf_at e code) (last_bf texts code)
+
+-- a tidy list of texts, none for a code from a limit on
+pub record IsTextRoom (texts : List BfEntry) (limit : ℕ) : Type 0 where
+  pub tidy : AreTidyTexts texts
+  pub ends : All (λ e. e.end < limit) texts
+
+-- they are the texts of the layers for the codes below the limit that the table has, and for no others
+pub record AreTextsBelow (layers : List Layer) (table : List Codes) (limit : ℕ) (texts : List BfEntry) : Type 0 where
+  pub room : IsTextRoom texts limit
+  pub codes : (code : ℕ) → code < limit → text_said texts code ≡ wanted table code (bf_of layers code)
+
+-- codes with these texts are added to a list, and for all others it declares what it did
+pub record AreTextsAdded (texts : List BfEntry) (range : Range) (text : ℕ → Option (List ℕ)) (new : List BfEntry) : Type 0 where
+  pub room : IsTextRoom new (range.end + 1)
+  pub here : (code : ℕ) → range.start ≤ code → code ≤ range.end → text_said new code ≡ text code
+  pub below : (code : ℕ) → code < range.start → text_said new code ≡ text_said texts code
+
+-- a tidy list of the texts of the layers for the chosen numbers, and for no others
+pub record AreTexts (layers : List Layer) (chosen : List Codes) (texts : List BfEntry) : Type 0 where
+  pub tidy : AreTidyTexts texts
+  pub codes : (code : ℕ) → code < 2 ^ 32 → AnswersOnly (ChosenNumber chosen code) (bf_of layers code) (text_said texts code)
+
+-- codes with these CIDs are added to two lists, and for all others these declare what they did
+pub record IsAdded (cids notdefs : List CidEntry) (range : Range) (these : Cids) (new_cids new_notdefs : List CidEntry) : Type 0 where
+  pub room : IsRoom new_cids new_notdefs (range.end + 1)
+  pub here : (code : ℕ) → range.start ≤ code → code ≤ range.end → said new_cids new_notdefs code ≡ cid_after these (code - range.start)
+  pub below : (code : ℕ) → code < range.start → said new_cids new_notdefs code ≡ said cids notdefs code
+
+-- two tidy lists that declare what the layers do for the chosen codes of len bytes, and for no others
+pub record AreDeclared (layers : List Layer) (chosen : List Codes) (len : ℕ) (cids notdefs : List CidEntry) : Type 0 where
+  pub tidy : AreTidyCids cids × AreTidyNotdefs notdefs
+  pub codes : (code : ℕ) → code < 2 ^ 32 → AnswersOnly (Chosen chosen code len) (declared_cid layers code len) (said cids notdefs code)
+
+-- the lists of one file: what the layers declare for the chosen codes, and their codespace ranges
+pub record AreLists (layers : List Layer) (chosen : List Codes) (lists : Lists) : Type 0 where
+  pub one : AreDeclared layers chosen 1 lists.cids.one lists.notdefs.one
+  pub two : AreDeclared layers chosen 2 lists.cids.two lists.notdefs.two
+  pub three : AreDeclared layers chosen 3 lists.cids.three lists.notdefs.three
+  pub four : AreDeclared layers chosen 4 lists.cids.four lists.notdefs.four
+  pub texts : AreTexts layers chosen lists.bfs
+  pub spaces : lists.spaces ≡ ranges_of layers
+
+-- the file of the top layer's metadata and of such lists
+pub record IsFileOf (layers : List Layer) (chosen : List Codes) (file : File) : Type 0 where
+  pub metadata : top_metadata layers ≡ Some file.metadata
+  pub uses : file.uses ≡ []
+  pub lists : AreLists layers chosen file.lists
+
+-- one file can give each chosen code of a length its CID
+abbrev pub AreKept : List Layer → List Codes → CodeLength → Type 0
+AreKept layers chosen len = (code : ℕ) → code < 2 ^ 32 → Chosen chosen code (length_of len) → IsKept layers code (length_of len)
+
+-- and each of any length
+abbrev pub AreAllKept : List Layer → List Codes → Type 0
+AreAllKept layers chosen = (len : CodeLength) → AreKept layers chosen len
+
+-- the CIDs of a map are those that one file can give to the chosen codes
+abbrev pub HasCidsOfOne : List Layer → List Codes → List Layer → Type 0
+HasCidsOfOne layers chosen flat = (code : ℕ) (len : CodeLength) → code < 2 ^ 32 → Chosen chosen code (length_of len) → cid_of flat code (length_of len) ≡ cid_of_one layers code (length_of len)

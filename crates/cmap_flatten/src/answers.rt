@@ -1,0 +1,215 @@
+//! The codes for which no file has all answers of a map.
+
+ghost use Rattle.std.specs.Prelude.{◌≡◌, ◌≢◌, ℕ, ◌+◌, ◌-◌, ◌<◌, ◌≤◌, ◌^◌, All, IfOk, IsSome, MatchOption, [], false};
+ghost use Rattle.cmap_runs.specs.Ranges.{last_of};
+ghost use Rattle.cmap_values.specs.CodeLengths.{length_of};
+ghost use Rattle.cmap_layers.specs.CodeStretches.{cid_after};
+ghost use Rattle.cmap_layers.specs.Lookups.{cid_of};
+ghost use Rattle.cmap_flatten.specs.Chosen.{Chosen, codes_span};
+ghost use Rattle.cmap_flatten.specs.Parts.{AreAllKept, AreKept, HasCidsOfOne};
+ghost use Rattle.cmap_flatten.specs.Subsets.{IsContradiction};
+
+use crate::codes::{Codes, codes_of_length};
+use crate::lists::lists_of;
+use crate::stretch::{CODE_COUNT, stretch_of};
+use cmap_layers::layer::Layer;
+use cmap_layers::layers::Layers;
+use cmap_layers::stretches::Cids;
+use cmap_runs::runs::Table;
+use cmap_values::code_length::CodeLength;
+use cmap_values::metadata::Metadata;
+use cmap_values::names::Cid;
+use std::alloc::{AllocError, Global};
+
+/// A code whose CID no file can give beside its text and the CID that is declared for it: in the layers the
+/// character of a text stands before a CID of a layer below, or a CID that passes 32 bits before the
+/// character of a text.
+#[derive(Clone, Copy, Debug, PartialEq, Eq)]
+pub struct Contradiction {
+    /// How many bytes the code has.
+    pub len: CodeLength,
+    /// Its number.
+    pub code: u32,
+}
+
+/// A contradiction among the chosen codes, if there is one. Without texts there is none.
+pub(crate) fn find_contradiction(
+    alloc: Global,
+    layers: &Layers,
+    codes: &[Codes],
+) -> Result<Option<Contradiction>, AllocError>
+    ensures { IfOk result (λ found. MatchOption found (AreAllKept layers.now codes.now)
+        (IsContradiction layers.now codes.now)) }
+{
+    if !declare_texts(layers) {
+        return Ok(None);
+    }
+    let flat = flat_layers(alloc, layers, codes)?;
+    contradiction_with(alloc, layers, &flat, codes)
+}
+
+/// Whether some layer declares texts.
+fn declare_texts(layers: &Layers) -> bool
+    ensures { result ≡ false → All (λ layer. layer.lists.bfs ≡ []) layers.now }
+{
+    let layers = layers.as_slice();
+    for layer in layers {
+        if layer.texts().decl_count() > 0 {
+            return true;
+        }
+    }
+    false
+}
+
+/// A map of one layer that has the declarations of all layers for the chosen codes.
+fn flat_layers(alloc: Global, layers: &Layers, codes: &[Codes]) -> Result<Layers, AllocError>
+    ensures { IfOk result (HasCidsOfOne layers.now codes.now) }
+{
+    let metadata = Metadata {
+        character_collection: None,
+        name: None,
+        writing_mode: None,
+    };
+    let lists = lists_of(alloc, layers, codes)?;
+    let mut list = Vec::new(alloc);
+    list.push(Layer::build(alloc, metadata, lists)?)?;
+    Ok(Layers::of(list))
+}
+
+/// A chosen code for which the two maps have different CIDs, if there is one.
+fn contradiction_with(
+    alloc: Global,
+    layers: &Layers,
+    flat: &Layers,
+    codes: &[Codes],
+) -> Result<Option<Contradiction>, AllocError>
+    requires { HasCidsOfOne layers.now codes.now flat.now }
+    ensures { IfOk result (λ found. MatchOption found (AreAllKept layers.now codes.now)
+        (IsContradiction layers.now codes.now)) }
+{
+    let lens = [
+        CodeLength::One,
+        CodeLength::Two,
+        CodeLength::Three,
+        CodeLength::Four,
+    ];
+    for len in &lens {
+        let found = contradiction_of_length(alloc, layers, flat, codes, *len)?;
+        if found.is_some() {
+            return Ok(found);
+        }
+    }
+    Ok(None)
+}
+
+/// A chosen code of this length for which the two maps have different CIDs, if there is one.
+fn contradiction_of_length(
+    alloc: Global,
+    layers: &Layers,
+    flat: &Layers,
+    codes: &[Codes],
+    len: CodeLength,
+) -> Result<Option<Contradiction>, AllocError>
+    requires { HasCidsOfOne layers.now codes.now flat.now }
+    ensures { IfOk result (λ found. MatchOption found (AreKept layers.now codes.now len)
+        (IsContradiction layers.now codes.now)) }
+{
+    let chosen = codes_of_length(alloc, codes, len)?;
+    match difference(layers, flat, &chosen, len) {
+        Some(code) => Ok(Some(Contradiction { len, code })),
+        None => Ok(None),
+    }
+}
+
+/// The first code of a table for which two maps have different CIDs.
+fn difference(one: &Layers, other: &Layers, chosen: &Table<Codes>, len: CodeLength) -> Option<u32>
+    ensures { MatchOption result
+        ((code : ℕ) → code < 2 ^ 32 → IsSome (last_of codes_span chosen.now code)
+        → cid_of one.now code (length_of len) ≡ cid_of other.now code (length_of len))
+        (λ code. IsSome (last_of codes_span chosen.now code)
+        × (cid_of one.now code (length_of len) ≢ cid_of other.now code (length_of len))) }
+{
+    let mut next = 0;
+    while next < CODE_COUNT {
+        let part = compared_from(one, other, chosen, next as u32, len);
+        if part.difference.is_some() {
+            return part.difference;
+        }
+        next = u64::from(part.last) + 1;
+    }
+    None
+}
+
+/// Codes in a row, and the first of them for which two maps have different CIDs.
+#[derive(Clone, Copy)]
+struct Compared {
+    difference: Option<u32>,
+    last: u32,
+}
+
+/// What codes of a table from `first` on have in two maps.
+fn compared_from(
+    one: &Layers,
+    other: &Layers,
+    chosen: &Table<Codes>,
+    first: u32,
+    len: CodeLength,
+) -> Compared
+    ensures within { first ≤ result.last }
+    ensures difference { MatchOption result.difference
+        ((code : ℕ) → first ≤ code → code ≤ result.last → IsSome (last_of codes_span chosen.now code)
+        → cid_of one.now code (length_of len) ≡ cid_of other.now code (length_of len))
+        (λ code. IsSome (last_of codes_span chosen.now code)
+        × (cid_of one.now code (length_of len) ≢ cid_of other.now code (length_of len))) }
+{
+    let part = stretch_of(chosen, first);
+    if part.declaration.is_none() {
+        return Compared {
+            difference: None,
+            last: part.last,
+        };
+    }
+    let mine = one.cid_stretch(first, len);
+    let theirs = other.cid_stretch(first, len);
+    let last = part.last.min(mine.last).min(theirs.last);
+    Compared {
+        difference: first_difference(mine.cids, theirs.cids, first, last),
+        last,
+    }
+}
+
+/// The first of the codes from `first` to `last` for which these CIDs differ.
+fn first_difference(one: Cids, other: Cids, first: u32, last: u32) -> Option<u32>
+    requires { first ≤ last }
+    ensures { MatchOption result
+        ((code : ℕ) → first ≤ code → code ≤ last
+        → cid_after one (code - first) ≡ cid_after other (code - first))
+        (λ code. (first ≤ code) × (code ≤ last)
+        × (cid_after one (code - first) ≢ cid_after other (code - first))) }
+{
+    match (one, other) {
+        (Cids::Absent, Cids::Absent) => None,
+        (Cids::Same(a), Cids::Same(b)) => (a != b).then_some(first),
+        (Cids::CountOn(a), Cids::CountOn(b)) => (a != b).then_some(first),
+        (Cids::Same(a), Cids::CountOn(b)) => first_apart(a, b, first, last),
+        (Cids::CountOn(a), Cids::Same(b)) => first_apart(b, a, first, last),
+        _ => Some(first),
+    }
+}
+
+/// The first of the codes from `first` to `last` that doesn't have the one CID, where the CIDs count on
+/// from the other.
+fn first_apart(same: Cid, begin: Cid, first: u32, last: u32) -> Option<u32>
+    requires { first ≤ last }
+    ensures { MatchOption result
+        ((code : ℕ) → first ≤ code → code ≤ last → begin + (code - first) ≡ same)
+        (λ code. (first ≤ code) × (code ≤ last) × (begin + (code - first) ≢ same)) }
+{
+    if same != begin {
+        Some(first)
+    } else if first < last {
+        Some(first + 1)
+    } else {
+        None
+    }
+}

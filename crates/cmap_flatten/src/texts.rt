@@ -1,0 +1,126 @@
+//! The declarations of texts for the chosen codes.
+
+ghost use Rattle.std.specs.Prelude.{◌≡◌, ◌+◌, ◌-◌, ◌<◌, ◌≤◌, ◌^◌, IfOk, OnOk, map, option_map};
+ghost use Rattle.cmap_tokens.specs.Texts.{shifted, text_at};
+ghost use Rattle.cmap_values.specs.DeclarationsSeen.{bf_entry_seen};
+ghost use Rattle.cmap_layers.specs.Lookups.{bf_at};
+ghost use Rattle.cmap_flatten.specs.Parts.{AreTexts, AreTextsAdded, AreTextsBelow, IsTextRoom};
+
+use crate::codes::{Codes, numbers_of};
+use crate::stretch::{CODE_COUNT, stretch_of};
+use cmap_layers::layers::Layers;
+use cmap_runs::runs::{Range, Table};
+use cmap_tidy::push_texts;
+use cmap_values::declarations::BfRange;
+use std::alloc::{AllocError, Global};
+
+/// The declarations for the numbers of the chosen codes: they give to each the text that the layers give.
+pub(crate) fn texts_of(
+    alloc: Global,
+    layers: &Layers,
+    codes: &[Codes],
+) -> Result<Vec<BfRange>, AllocError>
+    ensures { IfOk result (λ texts. AreTexts layers.now codes.now (map bf_entry_seen texts.items)) }
+{
+    let chosen = numbers_of(alloc, codes)?;
+    texts_in(alloc, layers, &chosen)
+}
+
+/// The declarations for the codes of a table.
+fn texts_in(
+    alloc: Global,
+    layers: &Layers,
+    chosen: &Table<Codes>,
+) -> Result<Vec<BfRange>, AllocError>
+    ensures { IfOk result (λ texts. AreTextsBelow layers.now chosen.now (2 ^ 32) (map bf_entry_seen texts.items)) }
+{
+    let mut texts = Vec::new(alloc);
+    let mut next = 0;
+    while next < CODE_COUNT {
+        let last = add_stretch(alloc, &mut texts, layers, chosen, next as u32)?;
+        next = u64::from(last) + 1;
+    }
+    Ok(texts)
+}
+
+/// Adds declarations for codes from `first` on, and gives the last of these codes.
+fn add_stretch(
+    alloc: Global,
+    texts: &mut Vec<BfRange>,
+    layers: &Layers,
+    chosen: &Table<Codes>,
+    first: u32,
+) -> Result<u32, AllocError>
+    requires { AreTextsBelow layers.now chosen.now first (map bf_entry_seen texts.now.items) }
+    ensures within { IfOk result (λ last. first ≤ last) }
+    ensures added { IfOk result (λ last. AreTextsBelow layers.now chosen.now (last + 1) (map bf_entry_seen texts.new.items)) }
+{
+    let part = stretch_of(chosen, first);
+    if part.declaration.is_none() {
+        return Ok(part.last);
+    }
+    let stretch = layers.text_stretch(first);
+    let last = part.last.min(stretch.last);
+    if let Some(declaration) = stretch.declaration {
+        let range = Range { start: first, end: last };
+        add_declared(alloc, texts, declaration, range)?;
+    }
+    Ok(last)
+}
+
+/// Adds the texts that a declaration gives to codes that it contains, after all others.
+fn add_declared(
+    alloc: Global,
+    texts: &mut Vec<BfRange>,
+    declaration: &BfRange,
+    range: Range,
+) -> Result<(), AllocError>
+    requires room { IsTextRoom (map bf_entry_seen texts.now.items) range.start }
+    requires range { range.start ≤ range.end }
+    requires start { declaration.now.range.start ≤ range.start }
+    ensures { OnOk result (AreTextsAdded (map bf_entry_seen texts.old.items) range
+        (λ code. bf_at (bf_entry_seen declaration.now) code) (map bf_entry_seen texts.new.items)) }
+{
+    let offset = range.start - declaration.range.start;
+    match units_at(alloc, declaration.units.as_slice(), offset)? {
+        Some(units) => add_units(alloc, texts, &units, range),
+        None => Ok(()),
+    }
+}
+
+/// Adds texts that count on from those of these units, up to where the last unit passes 16 bits.
+fn add_units(
+    alloc: Global,
+    texts: &mut Vec<BfRange>,
+    units: &[u16],
+    range: Range,
+) -> Result<(), AllocError>
+    requires room { IsTextRoom (map bf_entry_seen texts.now.items) range.start }
+    requires range { range.start ≤ range.end }
+    ensures { OnOk result (AreTextsAdded (map bf_entry_seen texts.old.items) range
+        (λ code. text_at units.now (code - range.start)) (map bf_entry_seen texts.new.items)) }
+{
+    let Some(last) = units.last() else {
+        return Ok(());
+    };
+    let more = u32::from(u16::MAX - *last);
+    let start = range.start;
+    let end = start + (range.end - start).min(more);
+    push_texts(alloc, texts, Range { start, end }, units)
+}
+
+/// The units with the offset added to the last one; `None` where there is none, and where it passes 16
+/// bits.
+fn units_at(alloc: Global, units: &[u16], offset: u32) -> Result<Option<Vec<u16>>, AllocError>
+    ensures { IfOk result (λ made. option_map (λ units. units.items) made ≡ shifted units.now offset) }
+{
+    let [front @ .., last] = units else {
+        return Ok(None);
+    };
+    let Ok(last) = u16::try_from(u64::from(*last) + u64::from(offset)) else {
+        return Ok(None);
+    };
+    let mut made = Vec::from_slice(alloc, front)?;
+    made.push(last)?;
+    Ok(Some(made))
+}
