@@ -1,0 +1,2 @@
+mod AllDeclared
+mod UnitsGiven
