@@ -1,2 +1,3 @@
 mod AllDeclared
+mod LengthsGiven
 mod UnitsGiven
