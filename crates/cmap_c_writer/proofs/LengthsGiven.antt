@@ -1,5 +1,5 @@
 -- The lengths of codes that C hands in.
-use Rattle.std.proofs.Common.{◌≡◌, ◌∙◌, ℕ, None, Some, inl, inr, refl, sym}
+use Rattle.std.proofs.Common.{◌≡◌, ℕ, Some, inl, inr, sym}
 use Rattle.std.specs.Prelude.{◌&&◌, nat_le}
 use Rattle.std.proofs.lemmas.Bool.{cases_Bool}
 use Rattle.std.proofs.lemmas.Option.{none-some, same_Some}

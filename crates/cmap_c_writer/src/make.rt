@@ -39,5 +39,9 @@ fn made_text(
 {
     let file = file_of(alloc, facts, declarations)?;
     let tidied = tidy(alloc, &file)?;
-    text_of(alloc, &tidied, text_lengths(declarations, &file.lists.spaces))
+    text_of(
+        alloc,
+        &tidied,
+        text_lengths(declarations, &file.lists.spaces),
+    )
 }

@@ -1,5 +1,4 @@
 use Rattle.std.proofs.Common.{arith}
-use Rattle.std.proofs.lemmas.List.{take_all}
 use Rattle.cmap_values.proofs.Outcomes.{passed_on}
 use Rattle.cmap_c_writer.proofs.AllDeclared.{declared_at, none_at}
 use Rattle.cmap_c_writer.proofs.declarations.declared_lists.Goals as goal

@@ -1,9 +1,7 @@
 use Rattle.std.proofs.Common.{◌≡◌, ◌∙◌, ℕ, Some, ap, refl, sym}
 use Rattle.std.specs.Prelude.{option_map}
 use Rattle.cmap_values.specs.CodeLengths.{length_of}
-use Rattle.cmap_values.specs.DeclarationsSeen.{bf_entry_seen, cid_entry_seen, codespace_seen}
-use Rattle.cmap_values.specs.Files.{bf, cid, codespace, notdef}
-use Rattle.cmap_values.specs.UnitsSeen.{units_seen}
+use Rattle.cmap_values.specs.Files.{bf}
 use Rattle.cmap_c_writer.specs.Given.{declared_by, kind_numbered, length_given, said_by}
 use Rattle.cmap_c_writer.specs.declared.declaration.Declaration.{Declaration}
 use Rattle.cmap_c_writer.specs.declared.declaration.Kind.{Kind}
@@ -34,8 +32,7 @@ returns-in_ok-add_notdef-in-NotdefRange c = (
 
 pub returns-in_ok-add_bf-in-TextRange : goal.returns-in_ok-add_bf-in-TextRange
 returns-in_ok-add_bf-in-TextRange c =
-    let d = c.args.self.now in
-    (
+    let d = c.args.self.now in (
       (_, declared_as d (length_of c.in-Some.len) c.from.result TextRange c.in-Some-numbered.kind c.in-Some.ensures c.from.ensures c.in-Some-numbered.ensures c.in-TextRange.is ∙ ap (option_map (λ units. bf (record { start = d.first; end = d.last; units = units }))) c.in_ok-units-in-TextRange.ensures.0, c.in_ok-add_bf-in-TextRange.ensures.added),
       tt,
     )
