@@ -20,8 +20,10 @@
  *   map or bundle at once, each by a handle of its own, which hayro_cmap_share and
  *   hayro_cmap_bundle_share make. A handle may go to another thread, where a lock, or the start or the
  *   join of a thread, orders the calls.
- * - No pointer is null, not even where its length is 0; nor are those in a hayro_cmap_file. Where one
- *   may be null, hayro_cmap_bytes, hayro_cmap_files and hayro_cmap_room give one to use in its place.
+ * - No pointer is null, not even where its length is 0; nor are those in a hayro_cmap_file, a
+ *   hayro_cmap_declaration or a hayro_cmap_facts. Where one may be null, hayro_cmap_bytes,
+ *   hayro_cmap_files, hayro_cmap_room, hayro_cmap_declarations and hayro_cmap_chosen give one to use in
+ *   its place.
  *   Each points to as many items as its length says, aligned as their type requires; together they
  *   have no more than PTRDIFF_MAX bytes.
  * - A room, and what a pointer points to that a call only writes to (`cid`, `supplement`, `needed`,
@@ -125,10 +127,52 @@ typedef struct hayro_cmap_code_range {
     uint32_t last;
 } hayro_cmap_code_range;
 
+/* The codes from `first` to `last`, of `byte_len` bytes. */
+typedef struct hayro_cmap_codes {
+    uint32_t first;
+    uint32_t last;
+    uint32_t byte_len; /* 1 to 4 */
+} hayro_cmap_codes;
+
+/* What a declaration gives its codes. */
+typedef enum hayro_cmap_kind {
+    HAYRO_CMAP_CODESPACE_RANGE = 0, /* they are codes, each byte between those of `first` and `last` */
+    HAYRO_CMAP_CID_RANGE = 1,       /* CIDs, which count on from `cid` */
+    HAYRO_CMAP_NOTDEF_RANGE = 2,    /* the CID `cid`, each, where they have no other */
+    HAYRO_CMAP_TEXT_RANGE = 3       /* texts, whose last unit of UTF-16 counts on from that of `text` */
+} hayro_cmap_kind;
+
+/* A declaration of a file that is made: for the codes from `first` to `last`; none where `first` is
+ * greater. */
+typedef struct hayro_cmap_declaration {
+    uint16_t kind;     /* a hayro_cmap_kind */
+    uint16_t byte_len; /* how many bytes the codes have, 1 to 4 */
+    uint32_t first;
+    uint32_t last;
+    uint32_t cid;        /* of CIDs that of `first`, of a notdef that of all; else it isn't looked at */
+    const uint8_t *text; /* the text of `first`, in UTF-8; of other kinds it isn't looked at */
+    size_t text_len;
+} hayro_cmap_declaration;
+
+/* What a file that is made says of itself. */
+typedef struct hayro_cmap_facts {
+    const uint8_t *name; /* its name, as UniJIS-UTF16-H */
+    size_t name_len;
+    const uint8_t *registry; /* of its character collection, as Adobe */
+    size_t registry_len;
+    const uint8_t *ordering; /* as Japan1 */
+    size_t ordering_len;
+    int32_t supplement;
+    uint8_t has_name;       /* 0 where it gives no name */
+    uint8_t has_collection; /* 0 where it gives no character collection */
+    uint16_t writing_mode;  /* a hayro_cmap_mode */
+} hayro_cmap_facts;
+
 /* How a call ends. It is an int of 32 bits. */
 typedef enum hayro_cmap_status {
     HAYRO_CMAP_OK = 0,           /* there is an answer, and it is written */
-    HAYRO_CMAP_REFUSED = 1,      /* the file, or one that it uses, is outside the grammar or missing */
+    HAYRO_CMAP_REFUSED = 1,      /* the file, or one that it uses, is outside the grammar or missing;
+                                    or no file says what one is to say */
     HAYRO_CMAP_NO_MEMORY = 2,    /* out of memory: an allocation failed */
     HAYRO_CMAP_OVER_BUDGET = 3,  /* the files that are opened have more bytes than the budget */
     HAYRO_CMAP_NOT_A_BUNDLE = 4, /* the bundle is invalid */
@@ -206,6 +250,17 @@ static inline const uint8_t *hayro_cmap_bytes(const void *bytes) {
 static inline const hayro_cmap_file *hayro_cmap_files(const hayro_cmap_file *files) {
     static const hayro_cmap_file none = {NULL, 0, NULL, 0};
     return files ? files : &none;
+}
+
+static inline const hayro_cmap_declaration *
+hayro_cmap_declarations(const hayro_cmap_declaration *declarations) {
+    static const hayro_cmap_declaration none = {0, 0, 0, 0, 0, NULL, 0};
+    return declarations ? declarations : &none;
+}
+
+static inline const hayro_cmap_codes *hayro_cmap_chosen(const hayro_cmap_codes *codes) {
+    static const hayro_cmap_codes none = {0, 0, 0};
+    return codes ? codes : &none;
 }
 
 static inline uint8_t *hayro_cmap_room(void *room) {
@@ -457,6 +512,31 @@ hayro_cmap_status hayro_cmap_text_units(hayro_cmap *map, size_t layer, size_t in
 hayro_cmap_status hayro_cmap_codes_of_cid(hayro_cmap *map, uint32_t cid, uint8_t byte_len,
                                           hayro_cmap_code_range *ranges, size_t ranges_len,
                                           size_t *needed);
+
+/* Makes a CMap file of these declarations, in their order, and of what it says of itself: its text, in the
+ * fewest declarations that give each code the same. Codes of texts are written with the length of the
+ * declarations of texts if that is one; else with the least length of which codespace ranges have codes
+ * below and above, or two bytes; and with four bytes where a code has no room in these.
+ *
+ * With HAYRO_CMAP_OK the text stands at the head of `room`, and `needed` is how many bytes it has. With
+ * HAYRO_CMAP_NO_ROOM `needed` is how many it has, and the room is as it was. With HAYRO_CMAP_REFUSED a
+ * declaration is of no kind, its codes have no length of 1 to 4 bytes, or its text is empty or isn't
+ * UTF-8; or no text says what the file would: its name has a byte that no name has, as a blank, or a code
+ * has more bytes than its length. Then, and with HAYRO_CMAP_NO_MEMORY, nothing is written. */
+hayro_cmap_status hayro_cmap_make(const hayro_cmap_facts *facts,
+                                  const hayro_cmap_declaration *declarations,
+                                  size_t declarations_len, uint8_t *room, size_t room_len,
+                                  size_t *needed);
+
+/* Writes the map as one CMap file, which uses no other: its text, which answers each code as the map does.
+ * Where there are `codes`, it does so for these alone, and has nothing for others; none stand for all.
+ *
+ * The text is written as that of hayro_cmap_make is. With HAYRO_CMAP_REFUSED no one file answers so, where
+ * in the layers the character of a text stands for a code before a CID of a layer below; or no text says
+ * what the file would; or `codes` have a length outside 1 to 4. An empty handle is HAYRO_CMAP_ABSENT. Then, and with HAYRO_CMAP_NO_MEMORY, nothing is
+ * written. */
+hayro_cmap_status hayro_cmap_write(hayro_cmap *map, const hayro_cmap_codes *codes, size_t codes_len,
+                                   uint8_t *room, size_t room_len, size_t *needed);
 
 /* The version of the library, as 1.0.0, written as a text is. */
 hayro_cmap_status hayro_cmap_version(uint8_t *room, size_t room_len, size_t *needed);
