@@ -18,7 +18,7 @@ use Rattle.cmap_unicode.specs.LayersTried.{declared_by, declared_in}
 use Rattle.cmap_tidy.specs.Tidy.{AreTidyCids, notdef_at}
 use Rattle.cmap_flatten.specs.Chosen.{Chosen, ChosenNumber}
 use Rattle.cmap_flatten.specs.Parts.{AreAllKept, AreDeclared, AreLists, HasCidsOfOne, IsFileOf, said, text_said}
-use Rattle.cmap_flatten.specs.Subsets.{AnswersOnly, AreTidy, IsContradiction, IsFlat, IsSubset, cid_of_one}
+use Rattle.cmap_flatten.specs.Subsets.{AnswersOnly, AreTidy, IsContradiction, IsFlat, IsSubset}
 use Rattle.cmap_flatten.specs.declared.answers.Contradiction.{Contradiction}
 use Rattle.cmap_flatten.specs.declared.codes.Codes.{Codes}
 use Rattle.cmap_flatten.proofs.AnyElements.{Any-cases, Any-left, Any-nil, Any-right}
@@ -168,3 +168,15 @@ no_subset layers chosen at file small refused is =
     let text = sym (one_text layer code) ∙ (is.texts code small).0 (chosen_number chosen code len refused.0) in
     refused.1 (sym (is.answers code len small few refused.0) ∙ one_cid layer code at.len (tidy_cids file.lists is.tidy at.len)
     ∙ ap (λ cid. option_or cid (only_character (text_said file.lists.bfs code))) declared ∙ ap (λ text. option_or (declared_cid layers code len) (only_character text)) text)
+
+-- a file with the answers of all codes is one of chosen codes that are all
+pub all_subset : (layers : List Layer) (chosen : List Codes) (file : File) → ((code len : ℕ) → code < 2 ^ 32 → IsCodeLength len → Chosen chosen code len) → IsFlat layers file → IsSubset layers chosen file
+all_subset layers chosen file all is = record {
+  metadata = is.metadata;
+  uses = is.uses;
+  spaces = is.spaces;
+  declared = λ code len small few. (λ _. (is.declared code len small few).0 tt, λ none. absurd (none (all code len small few)));
+  texts = λ code small. (λ _. (is.texts code small).0 tt, λ none. absurd (none (chosen_number chosen code 1 (all code 1 small (omega arith, omega arith)))));
+  answers = λ code len small few _. is.answers code len small few tt;
+  tidy = is.tidy;
+}

@@ -1,8 +1,9 @@
 //! One file with the answers of a map.
 
-ghost use Rattle.std.specs.Prelude.{IfOk};
+ghost use Rattle.std.specs.Prelude.{IfErr, IfOk};
+ghost use Rattle.cmap_values.specs.Only.{HoldsOfNone};
 ghost use Rattle.cmap_values.specs.FilesSeen.{file_seen};
-ghost use Rattle.cmap_values.specs.Outcomes.{Outcome};
+ghost use Rattle.cmap_values.specs.Outcomes.{Outcome, RefusesWith};
 ghost use Rattle.cmap_flatten.specs.Parts.{IsFileOf};
 ghost use Rattle.cmap_flatten.specs.Subsets.{Contradicts, IsContradiction, IsFlat, IsSubset};
 
@@ -23,7 +24,8 @@ use std::alloc::{AllocError, Global};
 /// It is refused with a code that has a contradiction: one file gives the character of a text as a CID
 /// only where it declares none. Else it fails only if memory runs out.
 pub fn flatten<'d>(alloc: Global, layers: &Layers) -> Result<File<'d>, Fault<Contradiction>>
-    ensures { Outcome (λ file. IsFlat layers.now (file_seen file)) (Contradicts layers.now) result }
+    ensures file { Outcome (λ file. IsFlat layers.now (file_seen file)) (Contradicts layers.now) result }
+    ensures none { IfErr result (RefusesWith (λ at. HoldsOfNone (IsFlat layers.now))) }
 {
     subset(alloc, layers, &all_codes())
 }
@@ -39,8 +41,9 @@ pub fn subset<'d>(
     layers: &Layers,
     codes: &[Codes],
 ) -> Result<File<'d>, Fault<Contradiction>>
-    ensures { Outcome (λ file. IsSubset layers.now codes.now (file_seen file))
+    ensures file { Outcome (λ file. IsSubset layers.now codes.now (file_seen file))
         (IsContradiction layers.now codes.now) result }
+    ensures none { IfErr result (RefusesWith (λ at. HoldsOfNone (IsSubset layers.now codes.now))) }
 {
     if let Some(contradiction) = find_contradiction(alloc, layers, codes)? {
         return Err(Fault::Refused(contradiction));
