@@ -1,9 +1,11 @@
 -- The answers of one file, by what its lists declare.
 use Rattle.std.proofs.Common.{◌≡◌, ℕ, zero, suc, ◌+◌, ◌-◌, ◌<◌, ◌≤◌, ◌^◌, List, [], ◌∷◌, Option, Some, None, inl, inr, refl, sym, ap, ◌∙◌, subst, arith}
 use Rattle.std.specs.Prelude.{◌↔◌, Any, option_and_then, option_map, unwrap_or}
+use Rattle.std.specs.List.{Contains}
 use Rattle.std.specs.Option.{option_or}
 use Rattle.std.proofs.lemmas.Bool.{cond-true}
 use Rattle.std.proofs.lemmas.Bool.Decides.{nat_tests}
+use Rattle.std.proofs.lemmas.List.Elements.{Contains-append_cases, Contains-append_left, Contains-append_right}
 use Rattle.cmap_tokens.specs.Texts.{only_character}
 use Rattle.cmap_values.specs.CodeLengths.{IsCodeLength, length_of}
 use Rattle.cmap_values.specs.Files.{BfEntry, CidEntry, Codespace, File, FileMetadata, Lists, of_length}
@@ -18,10 +20,10 @@ use Rattle.cmap_unicode.specs.LayersTried.{declared_by, declared_in}
 use Rattle.cmap_tidy.specs.Tidy.{AreTidyCids, notdef_at}
 use Rattle.cmap_flatten.specs.Chosen.{Chosen, ChosenNumber}
 use Rattle.cmap_flatten.specs.Parts.{AreAllKept, AreDeclared, AreLists, HasCidsOfOne, IsFileOf, said, text_said}
-use Rattle.cmap_flatten.specs.Subsets.{AnswersOnly, AreTidy, IsContradiction, IsFlat, IsSubset}
+use Rattle.cmap_flatten.specs.Subsets.{AnswersOnly, AreAllTidy, IsContradiction, IsFlat, IsSubset}
 use Rattle.cmap_flatten.specs.declared.answers.Contradiction.{Contradiction}
 use Rattle.cmap_flatten.specs.declared.codes.Codes.{Codes}
-use Rattle.cmap_flatten.proofs.AnyElements.{Any-cases, Any-left, Any-nil, Any-right}
+use Rattle.cmap_flatten.proofs.AnyElements.{Any-nil}
 use Rattle.cmap_flatten.proofs.ChosenCodes.{found_one}
 use Rattle.cmap_flatten.proofs.DeclaredStretches.{declared_in_turn, layer_declares}
 use Rattle.cmap_flatten.proofs.ListsAdded.{told}
@@ -87,19 +89,19 @@ module _ (layers : List Layer) (chosen : List Codes) (lists : Lists) (are : AreL
       ∙ ap (λ text. option_or (declared_cid layers code (length_of len)) (only_character text)) ((are.texts.codes code small).0 (chosen_number chosen code (length_of len) is))
 
 -- the codespace ranges of all layers
-any_range : (P : Codespace → Type 0) (layers : List Layer) → Any P (ranges_of layers) ↔ Any (λ layer. Any P layer.lists.spaces) layers
-any_range P layers = (into layers, back layers) where
-  into : (layers : List Layer) → Any P (ranges_of layers) → Any (λ layer. Any P layer.lists.spaces) layers
-  into [] any = absurd (Any-nil P any)
-  into (layer ∷ below) any = elim (Any-cases P layer.lists.spaces (ranges_of below) any) [
+any_range : (space : Codespace) (layers : List Layer) → Contains (ranges_of layers) space ↔ Any (λ layer. Contains layer.lists.spaces space) layers
+any_range space layers = (into layers, back layers) where
+  into : (layers : List Layer) → Contains (ranges_of layers) space → Any (λ layer. Contains layer.lists.spaces space) layers
+  into [] found = absurd (omega (arith, found.1))
+  into (layer ∷ below) found = elim (Contains-append_cases layer.lists.spaces (ranges_of below) space found) [
     | inl here ↦ (0, layer, omega arith, refl, here)
-    | inr later ↦ let (k, found, lt, is, holds) = into below later in (suc k, found, omega arith, is, holds)
+    | inr later ↦ let (k, one, lt, is, holds) = into below later in (suc k, one, omega arith, is, holds)
   ]
 
-  back : (layers : List Layer) → Any (λ layer. Any P layer.lists.spaces) layers → Any P (ranges_of layers)
-  back [] any = absurd (Any-nil (λ layer. Any P layer.lists.spaces) any)
-  back (layer ∷ below) (zero, found, lt, is, holds) = Any-left P layer.lists.spaces (ranges_of below) (subst (λ (l : Layer). Any P l.lists.spaces) (sym is) holds)
-  back (layer ∷ below) (suc k, found, lt, is, holds) = Any-right P layer.lists.spaces (ranges_of below) (back below (k, found, omega arith, is, holds))
+  back : (layers : List Layer) → Any (λ layer. Contains layer.lists.spaces space) layers → Contains (ranges_of layers) space
+  back [] any = absurd (Any-nil (λ layer. Contains layer.lists.spaces space) any)
+  back (layer ∷ below) (zero, one, lt, is, holds) = Contains-append_left layer.lists.spaces (ranges_of below) space (subst (λ (l : Layer). Contains l.lists.spaces space) (sym is) holds)
+  back (layer ∷ below) (suc k, one, lt, is, holds) = Contains-append_right layer.lists.spaces (ranges_of below) space (back below (k, one, omega arith, is, holds))
 
 -- ---- one file
 -- a length that codes have
@@ -117,7 +119,7 @@ is_subset layers chosen file are kept =
     record {
       metadata = are.metadata;
       uses = are.uses;
-      spaces = λ space. subst (λ spaces. Any (λ own. own ≡ space) spaces ↔ Any (λ layer. Any (λ own. own ≡ space) layer.lists.spaces) layers) (sym lists.spaces) (any_range (λ own. own ≡ space) layers);
+      spaces = λ space. subst (λ spaces. Contains spaces space ↔ Any (λ layer. Contains layer.lists.spaces space) layers) (sym lists.spaces) (any_range space layers);
       declared = λ code count small few.
           let (len, is) = of_count count few in
           subst (λ count. AnswersOnly (Chosen chosen code count) (declared_cid layers code count) (declared_cid (layer ∷ []) code count)) is
@@ -154,7 +156,7 @@ some_bytes Two = (omega arith, omega arith)
 some_bytes Three = (omega arith, omega arith)
 some_bytes Four = (omega arith, omega arith)
 
-tidy_cids : (lists : Lists) → AreTidy lists → (len : CodeLength) → AreTidyCids (of_length lists.cids (length_of len))
+tidy_cids : (lists : Lists) → AreAllTidy lists → (len : CodeLength) → AreTidyCids (of_length lists.cids (length_of len))
 tidy_cids lists tidy One = tidy.one.0
 tidy_cids lists tidy Two = tidy.two.0
 tidy_cids lists tidy Three = tidy.three.0

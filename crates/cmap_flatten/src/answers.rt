@@ -20,9 +20,9 @@ use cmap_values::metadata::Metadata;
 use cmap_values::names::Cid;
 use std::alloc::{AllocError, Global};
 
-/// A code whose CID no file can give beside its text and the CID that is declared for it: in the layers the
-/// character of a text stands before a CID of a layer below, or a CID that passes 32 bits before the
-/// character of a text.
+/// A code whose CID no tidy file can give beside its text and the CID that is declared for it. In the layers
+/// a text of one character stands above a declaration of a CID, a text of several characters above one of
+/// one character, or a CID that is declared passes 32 bits.
 #[derive(Clone, Copy, Debug, PartialEq, Eq)]
 pub struct Contradiction {
     /// How many bytes the code has.

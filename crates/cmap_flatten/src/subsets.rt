@@ -21,8 +21,9 @@ use std::alloc::{AllocError, Global};
 /// Lists of declarations are tidy: they ascend, each declaration has codes of one row of 256, and no two
 /// could be one. So a declaration of many codes is written as many, up to 2^24 of them.
 ///
-/// It is refused with a code that has a contradiction: one file gives the character of a text as a CID
-/// only where it declares none. Else it fails only if memory runs out.
+/// It is refused with a code that has a contradiction, and only where no file has all answers: one file
+/// gives the character of a text as a CID only where it declares none. Else it fails only if memory runs
+/// out.
 pub fn flatten<'d>(alloc: Global, layers: &Layers) -> Result<File<'d>, Fault<Contradiction>>
     ensures file { Outcome (λ file. IsFlat layers.now (file_seen file)) (Contradicts layers.now) result }
     ensures none { IfErr result (RefusesWith (λ at. HoldsOfNone (IsFlat layers.now))) }
