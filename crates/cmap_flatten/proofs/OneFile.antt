@@ -1,5 +1,5 @@
 -- The answers of one file, by what its lists declare.
-use Rattle.std.proofs.Common.{◌≡◌, ℕ, zero, suc, ◌+◌, ◌-◌, ◌<◌, ◌≤◌, ◌^◌, List, [], ◌∷◌, Option, Some, None, inl, inr, refl, sym, ap, ◌∙◌, subst, arith}
+use Rattle.std.proofs.Common.{◌≡◌, ℕ, zero, suc, ◌+◌, ◌-◌, ◌<◌, ◌≤◌, ◌^◌, List, [], ◌∷◌, ◌++◌, Option, Some, None, inl, inr, refl, sym, ap, ◌∙◌, subst, arith}
 use Rattle.std.specs.Prelude.{◌↔◌, Any, option_and_then, option_map, unwrap_or}
 use Rattle.std.specs.List.{Contains}
 use Rattle.std.specs.Option.{option_or}
@@ -12,8 +12,10 @@ use Rattle.cmap_values.specs.Files.{BfEntry, CidEntry, Codespace, File, FileMeta
 use Rattle.cmap_values.specs.declared.code_length.CodeLength.{CodeLength}
 use Rattle.cmap_values.specs.declared.code_length.CodeLength.TheVariants.{One, Two, Three, Four}
 use Rattle.cmap_layers.specs.Layers.{Layer, layer_of}
+use Rattle.cmap_layers.specs.LayersSeen.{layer_seen, layers_seen}
 use Rattle.cmap_layers.specs.Lookups.{bf_at, bf_of, cid_at, cid_of, cid_span, decided_cid, decided_text, last_bf, last_cid}
 use Rattle.cmap_layers.specs.StringCodes.{ranges_of}
+use Rattle.cmap_layers.specs.declared.layer.Layer as declared
 use Rattle.cmap_layers.proofs.LayerStretches.{has_code_length}
 use Rattle.cmap_unicode.specs.Cids.{declared_cid}
 use Rattle.cmap_unicode.specs.LayersTried.{declared_by, declared_in}
@@ -145,9 +147,10 @@ is_flat layers chosen file all is = record {
 }
 
 -- a map of one layer with such lists
-pub flat_of : (layers : List Layer) (chosen : List Codes) (lists : Lists) {metadata : FileMetadata} (flat : List Layer) (layer : Layer) → AreLists layers chosen lists → flat ≡ layer ∷ [] → layer ≡ record { metadata = metadata; lists = lists }
-    → HasCidsOfOne layers chosen flat
-flat_of layers chosen lists {metadata} flat layer are one is = subst (HasCidsOfOne layers chosen) (sym (one ∙ ap (λ l. l ∷ []) is)) (cids_of_one layers chosen lists are metadata)
+pub flat_of : (layers : List Layer) (chosen : List Codes) (lists : Lists) {metadata : FileMetadata} (flat : List Layer) (none one : List declared.Layer) (layer : declared.Layer) → AreLists layers chosen lists
+    → flat ≡ layers_seen one → one ≡ none ++ layer ∷ [] → none ≡ [] → layer_seen layer ≡ record { metadata = metadata; lists = lists } → HasCidsOfOne layers chosen flat
+flat_of layers chosen lists {metadata} flat none one layer are seen pushed empty is =
+    subst (HasCidsOfOne layers chosen) (sym (seen ∙ ap layers_seen (pushed ∙ ap (λ none. none ++ layer ∷ []) empty) ∙ ap (λ l. l ∷ []) is)) (cids_of_one layers chosen lists are metadata)
 
 -- ---- what is refused
 some_bytes : (len : CodeLength) → IsCodeLength (length_of len)

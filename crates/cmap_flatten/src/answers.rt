@@ -5,7 +5,7 @@ ghost use Rattle.cmap_runs.specs.Ranges.{last_of};
 ghost use Rattle.cmap_values.specs.CodeLengths.{length_of};
 ghost use Rattle.cmap_layers.specs.CodeStretches.{cid_after};
 ghost use Rattle.cmap_layers.specs.Lookups.{cid_of};
-ghost use Rattle.cmap_flatten.specs.Chosen.{Chosen, codes_span};
+ghost use Rattle.cmap_flatten.specs.Chosen.{codes_span};
 ghost use Rattle.cmap_flatten.specs.Parts.{AreAllKept, AreKept, HasCidsOfOne, IsFound};
 
 use crate::codes::{Codes, codes_of_length};
