@@ -1,6 +1,6 @@
 -- What holds of the lists for codes of each length.
-use Rattle.std.proofs.Common.{◌≡◌, ℕ, ◌<◌, Bool, true, false, List, [], refl, inl, arith}
-use Rattle.std.specs.Prelude.{All, ◌==◌, if◌then◌else◌}
+use Rattle.std.proofs.Common.{ℕ, Bool, true, false, List, [], refl, inl, arith}
+use Rattle.std.specs.Prelude.{◌==◌, if◌then◌else◌}
 use Rattle.cmap_values.specs.Files.{ByLength, CidEntry, of_length}
 use Rattle.cmap_layers.specs.Lookups.{cid_span}
 use Rattle.cmap_tidy.specs.Tidied.{AreTidiedCids, AreTidiedNotdefs}

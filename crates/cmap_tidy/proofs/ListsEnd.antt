@@ -1,7 +1,7 @@
 -- The last element of a list, and of what clauses see of a list.
-use Rattle.std.proofs.Common.{◌≡◌, ℕ, suc, ◌+◌, ◌-◌, ◌<◌, List, [], ◌∷◌, ◌++◌, Some, length, map, get_or, set, take, refl, sym, ap, ◌∙◌, subst, arith}
+use Rattle.std.proofs.Common.{◌≡◌, ℕ, ◌+◌, ◌-◌, ◌<◌, List, [], ◌∷◌, ◌++◌, Some, length, map, get_or, set, take, sym, ap, ◌∙◌, subst, arith}
 use Rattle.std.specs.Prelude.{All, option_map, slice_get}
-use Rattle.std.proofs.lemmas.List.{length-take-le, map-set, set-get_or, take_all, take_more}
+use Rattle.std.proofs.lemmas.List.{length-map, length-take-le, map-set, set-get_or, take_all, take_more}
 use Rattle.std.proofs.lemmas.Option.{get_or_from_slice_get, slice_get_within, slice_get-get_or, slice_get-map}
 
 -- a list with a last element
@@ -15,19 +15,15 @@ last_split xs last at =
       length-take-le (length xs - 1) xs (omega arith),
     )
 
-pub length-of_map : {E Y : Type 0} (f : E → Y) (xs : List E) → length (map f xs) ≡ length xs
-length-of_map f [] = refl
-length-of_map f (x ∷ xs) = ap suc (length-of_map f xs)
-
 pub seen_last : {A B : Type 0} (v : A → B) (xs : List A) (n : ℕ) (last : A) → n ≡ length xs → 0 < n → last ≡ get_or xs (n - 1) last
     → slice_get (map v xs) (length (map v xs) - 1) ≡ Some (v last)
 seen_last v xs n last count some is =
-    let same : length (map v xs) - 1 ≡ n - 1 = omega (arith, length-of_map v xs) in
+    let same : length (map v xs) - 1 ≡ n - 1 = omega (arith, length-map xs v) in
     ap (slice_get (map v xs)) same ∙ slice_get-map v xs (n - 1) ∙ ap (option_map v) (slice_get-get_or xs (n - 1) last (omega arith)) ∙ ap (λ x. Some (v x)) (sym is)
 
 pub seen_set : {A B : Type 0} (v : A → B) (xs : List A) (n : ℕ) (y : A) → n ≡ length xs → map v (set xs (n - 1) y) ≡ set (map v xs) (length (map v xs) - 1) (v y)
 seen_set v xs n y count =
-    let same : n - 1 ≡ length (map v xs) - 1 = omega (arith, length-of_map v xs) in
+    let same : n - 1 ≡ length (map v xs) - 1 = omega (arith, length-map xs v) in
     map-set v xs (n - 1) y ∙ ap (λ k. set (map v xs) k (v y)) same
 
 pub seen_none : {A B : Type 0} (v : A → B) (xs : List A) (n : ℕ) (last : B) → n ≡ length xs → (0 < n → ⊥) → slice_get (map v xs) (length (map v xs) - 1) ≡ Some last → ⊥

@@ -4,10 +4,9 @@ use Rattle.std.specs.Prelude.{option_and_then, option_map, slice_get, if◌then�
 use Rattle.std.specs.Option.{option_or}
 use Rattle.std.proofs.lemmas.Bool.Decides.{nat_tests}
 use Rattle.std.proofs.lemmas.Bool.{cases_lt}
-use Rattle.std.proofs.lemmas.List.{map-append}
+use Rattle.std.proofs.lemmas.List.{length-map, map-append}
 use Rattle.cmap_runs.specs.Ranges.{Span, contains, last_index, last_of}
 use Rattle.cmap_tidy.specs.Tidy.{said}
-use Rattle.cmap_tidy.proofs.ListsEnd.{length-of_map}
 
 -- a test of a span, and what shows it
 pub is_in : (span : Span) (code : ℕ) → span.start ≤ code → code ≤ span.end → contains span code ≡ true
@@ -65,8 +64,8 @@ module _ {E X : Type 0} (span : E → Span) (at : E → ℕ → X) where
       let spans = map span xs in
       ap (λ s. option_map (λ x. at x code) (option_and_then (slice_get (xs ++ e ∷ [])) (last_index s code))) (map-append span xs (e ∷ []))
       ∙ ap (λ o. option_map (λ x. at x code) (option_and_then (slice_get (xs ++ e ∷ [])) o)) (last_index-pushed spans (span e) code)
-      ∙ ap (option_map (λ x. at x code)) (found_pushed xs e (contains (span e) code) (length spans) (last_index spans code) (length-of_map span xs)
-      (λ i is. omega (arith, last_index-within spans code i is, length-of_map span xs)))
+      ∙ ap (option_map (λ x. at x code)) (found_pushed xs e (contains (span e) code) (length spans) (last_index spans code) (length-map xs span)
+      (λ i is. omega (arith, last_index-within spans code i is, length-map xs span)))
       ∙ map_if (λ x. at x code) (contains (span e) code) (Some e) (last_of span xs code)
 
   -- the last one goes on to the codes of the row

@@ -1,11 +1,11 @@
 -- Only one tidy list says what it says, and no list of rows without overlaps that says so is shorter.
-use Rattle.std.proofs.Common.{◌≡◌, ℕ, suc, ◌+◌, ◌-◌, ◌<◌, ◌≤◌, ◌⊎◌, true, false, List, [], ◌∷◌, Option, Some, None, length, map, refl, sym, ap, ◌∙◌, subst, inl, inr, arith}
+use Rattle.std.proofs.Common.{◌≡◌, ℕ, suc, ◌+◌, ◌<◌, ◌≤◌, List, [], ◌∷◌, Option, Some, None, length, map, refl, sym, ap, ◌∙◌, inl, inr, arith}
 use Rattle.std.specs.Prelude.{All, AllPairs, option_map, option_and_then, slice_get, if◌then◌else◌}
 use Rattle.std.specs.Option.{option_or}
 use Rattle.std.proofs.lemmas.Bool.{cases_lt}
 use Rattle.std.proofs.lemmas.List.Elements.{All-cons, All-head, All-tail, All-weaker}
 use Rattle.std.proofs.lemmas.Option.{same_Some}
-use Rattle.cmap_runs.specs.Ranges.{Span, contains, last_index, last_of}
+use Rattle.cmap_runs.specs.Ranges.{Span, contains, last_index}
 use Rattle.cmap_tidy.specs.Tidy.{AreTidy, said}
 use Rattle.cmap_tidy.proofs.ListsSaid.{is_after, is_before, is_in}
 

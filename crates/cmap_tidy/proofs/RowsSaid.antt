@@ -3,9 +3,7 @@ use Rattle.std.proofs.Common.{◌≡◌, ℕ, ◌+◌, ◌<◌, ◌≤◌, true,
 use Rattle.std.specs.Prelude.{◌&&◌, nat_le, nat_lt, if◌then◌else◌}
 use Rattle.std.proofs.lemmas.Bool.Decides.{nat_tests}
 use Rattle.std.proofs.lemmas.Bool.{cases_lt}
-use Rattle.cmap_runs.specs.Ranges.{Span, contains}
-use Rattle.cmap_runs.specs.declared.runs.Range.{Range}
-use Rattle.cmap_tidy.specs.Tidy.{said_with}
+use Rattle.cmap_runs.specs.Ranges.{contains}
 use Rattle.cmap_tidy.specs.TidyAdded.{IsSaidTo}
 use Rattle.cmap_tidy.proofs.ListsSaid.{is_after, is_before, is_in}
 
@@ -19,9 +17,6 @@ later : (first next code : ℕ) → next ≤ code → (nat_le first code && nat_
 later first next code after = grind (arith, nat_tests)
 
 module _ {X : Type 0} (here : ℕ → X) (before : ℕ → Option X) where
-  pub none_said : (first : ℕ) → IsSaidTo first first here before before
-  none_said first code = elim (cases_lt code first) [ inl lt ↦ rw (earlier first first code lt) refl | inr from ↦ rw (later first first code from) refl ]
-
   -- one row more
   pub row_said : (first next end : ℕ) (mid now : ℕ → Option X) (row : ℕ → X) → first ≤ next → next ≤ end → IsSaidTo first next here before mid
       → ((code : ℕ) → now code ≡ (if contains (record { start = next; end = end }) code then Some (row code) else mid code))
@@ -40,18 +35,5 @@ module _ {X : Type 0} (here : ℕ → X) (before : ℕ → Option X) where
             elim (cases_lt end code) [
               | inl past ↦ rw (is, is_after (record { start = next; end = end }) code past, was, later first next code after, later first (end + 1) code (omega arith)) refl
               | inr within ↦ rw (is, is_in (record { start = next; end = end }) code after within, between first (end + 1) code (omega arith) (omega arith)) (ap Some (same code after))
-            ]
-      ]
-
-  pub all_said : (range : Range) (next : ℕ) (now : ℕ → Option X) → next ≡ range.end + 1 → IsSaidTo range.start next here before now → (code : ℕ) → now code ≡ said_with range here before code
-  all_said range next now is old code =
-      let was = old code in
-      let span : Span = record { start = range.start; end = range.end } in
-      elim (cases_lt code range.start) [
-        | inl lt ↦ rw (was, earlier range.start next code lt, is_before span code lt) refl
-        | inr from ↦
-            elim (cases_lt range.end code) [
-              | inl past ↦ rw (was, later range.start next code (omega arith), is_after span code past) refl
-              | inr within ↦ rw (was, between range.start next code from (omega arith), is_in span code from within) refl
             ]
       ]

@@ -1,18 +1,14 @@
 -- What a list that is made run by run says.
 use Rattle.std.proofs.Common.{◌≡◌, ℕ, ◌+◌, ◌<◌, ◌≤◌, false, List, [], ◌∷◌, Option, Some, None, map, refl, sym, ap, ◌∙◌, subst, inl, inr, arith}
-use Rattle.std.specs.Prelude.{All, IsTrue, option_map, option_and_then, slice_get}
-use Rattle.std.proofs.lemmas.Bool.Decides.{nat_tests}
+use Rattle.std.specs.Prelude.{All, option_map, option_and_then, slice_get}
 use Rattle.std.proofs.lemmas.Bool.{cases_lt}
-use Rattle.std.proofs.lemmas.List.Elements.{All-head, All-nil, All-tail, All-weaker}
+use Rattle.std.proofs.lemmas.List.Elements.{All-head, All-tail, All-weaker}
 use Rattle.cmap_layers.proofs.LastFound.{last_of-map}
 use Rattle.cmap_runs.specs.Ranges.{Span, contains, last_index}
 use Rattle.cmap_runs.specs.Stretches.{IsStretch}
 use Rattle.cmap_tidy.specs.Tidy.{said, said_with}
 use Rattle.cmap_tidy.specs.TidyAdded.{SaysSoFar}
 use Rattle.cmap_tidy.proofs.ListsSaid.{is_after, is_before, is_in}
-
-pub starts_before : (span : Span) (code : ℕ) → IsTrue (contains span code) → span.start ≤ code
-starts_before span code is = grind (arith, nat_tests)
 
 said_of : {T E X : Type 0} (seen : T → E) (at : E → X) (d : Option T) → option_map at (option_map seen d) ≡ option_map (λ x. at (seen x)) d
 said_of seen at None = refl
@@ -45,9 +41,6 @@ pub said_none : {E X : Type 0} (span : E → Span) (at : E → ℕ → X) (xs : 
 said_none span at xs code before = ap (λ o. option_map (λ e. at e code) (option_and_then (slice_get xs) o)) (none_last span xs code before)
 
 module _ {E X : Type 0} (span : E → Span) (at : E → ℕ → X) (list : List E) where
-  pub none_so_far : SaysSoFar span at list 0 []
-  none_so_far = record { before = All-nil (λ e. (span e).end < 0); said = λ code lt. absurd (omega (arith, lt)) }
-
   -- codes of which nothing is said
   pub passed_over : (next last : ℕ) (new : List E) → SaysSoFar span at list next new → next ≤ last → ((code : ℕ) → next ≤ code → code ≤ last → said span at list code ≡ None) → SaysSoFar span at list (last + 1) new
   passed_over next last new so_far filled none = record {

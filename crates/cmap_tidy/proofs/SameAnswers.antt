@@ -1,12 +1,14 @@
 -- A map whose files were written anew answers the same.
-use Rattle.std.proofs.Common.{◌≡◌, ℕ, ◌<◌, ◌≤◌, ◌^◌, Bool, true, false, List, [], ◌∷◌, Option, Some, None, refl, sym, ap, ◌∙◌, inl, inr}
-use Rattle.std.specs.Prelude.{◌&&◌, nat_le, option_and_then, option_map, if◌then◌else◌}
+use Rattle.std.proofs.Common.{◌≡◌, ℕ, ◌<◌, ◌^◌, List, [], ◌∷◌, Option, Some, None, length, get_or, refl, sym, ap, subst, ◌∙◌, inl, inr, arith}
+use Rattle.std.specs.Prelude.{◌↔◌, ◌&&◌, Any, nat_le, option_and_then, option_map, if◌then◌else◌}
 use Rattle.std.specs.List.{AllZip}
+use Rattle.std.proofs.lemmas.List.Elements.{AllZip-get_or, length_all_zip}
+use Rattle.std.proofs.lemmas.Option.{same_Some, slice_get-get_or}
 use Rattle.cmap_tokens.specs.Texts.{characters, only_character}
 use Rattle.cmap_values.specs.Files.{BfEntry, CidEntry, of_length}
 use Rattle.cmap_layers.specs.Layers.{Layer}
-use Rattle.cmap_layers.specs.Lookups.{bf_at, bf_of, cid_at, cid_in, cid_of, decided_cid, decided_text, last_bf, last_cid}
-use Rattle.cmap_tidy.specs.Tidied.{AreTidiedCids, AreTidiedLists, AreTidiedNotdefs, AreTidiedTexts}
+use Rattle.cmap_layers.specs.Lookups.{InCodespace, IsWithin, bf_at, bf_of, cid_at, cid_in, cid_of, decided_cid, decided_text, last_bf, last_cid}
+use Rattle.cmap_tidy.specs.Tidied.{AreTidiedCids, AreTidiedLists, AreTidiedTexts}
 use Rattle.cmap_tidy.specs.Tidy.{cid_said, notdef_at, notdef_said, units_at, units_said}
 
 cids_same : (old new : List CidEntry) (code : ℕ) → AreTidiedCids old new → code < 2 ^ 32 → cid_said new code ≡ cid_said old code
@@ -89,3 +91,36 @@ same_text (layer ∷ layers) (anew ∷ others) code (tidied, more) small =
     let below = same_text layers others code more small in
     decided_text_by code (last_bf anew.lists.bfs code) (bf_of others code) ∙ ap (λ o. decided_texts o (bf_of others code)) texts
     ∙ ap (decided_texts (units_said layer.lists.bfs code)) below ∙ sym (decided_text_by code (last_bf layer.lists.bfs code) (bf_of layers code))
+
+-- ---- codespace ranges
+turned : (old new : List Layer) → AreTidiedLayers old new → AllZip (λ (anew layer : Layer). AreTidiedLists layer.lists anew.lists) new old
+turned [] [] tidied = tidied
+turned [] (layer ∷ layers) tidied = absurd tidied
+turned (layer ∷ layers) [] tidied = absurd tidied
+turned (layer ∷ layers) (anew ∷ others) (tidied, more) = (tidied, turned layers others more)
+
+any_zip : {A : Type 0} (R : A → A → Type 0) (P : A → Type 0) (xs ys : List A) → AllZip R xs ys → ((x y : A) → R x y → P x → P y) → Any P xs → Any P ys
+any_zip R P xs ys zip same (k, x, lt, is, holds) =
+    let count = length_all_zip R xs ys zip in
+    let y = get_or ys k x in
+    let within : k < length ys = omega arith in
+    (k, y, within, same_Some _ _ (sym (slice_get-get_or ys k y within) ∙ slice_get-get_or ys k x within), same (get_or xs k x) y (AllZip-get_or R xs ys k x x zip lt) (subst P (sym is) holds))
+
+abbrev HasCode : ℕ → ℕ → Layer → Type 0
+HasCode code len layer = Any (λ space. IsWithin space code len) layer.lists.spaces
+
+pub same_codespace : (old new : List Layer) (code len : ℕ) → AreTidiedLayers old new → InCodespace new code len ↔ InCodespace old code len
+same_codespace old new code len tidied = (
+  λ (least, most, small, found). (
+    least,
+    most,
+    small,
+    any_zip (λ anew layer. AreTidiedLists layer.lists anew.lists) (HasCode code len) new old (turned old new tidied) (λ anew layer lists has. subst (λ spaces. Any (λ space. IsWithin space code len) spaces) lists.spaces has) found,
+  ),
+  λ (least, most, small, found). (
+    least,
+    most,
+    small,
+    any_zip (λ layer anew. AreTidiedLists layer.lists anew.lists) (HasCode code len) old new tidied (λ layer anew lists has. subst (λ spaces. Any (λ space. IsWithin space code len) spaces) (sym lists.spaces) has) found,
+  ),
+)

@@ -1,6 +1,6 @@
 //! CIDs of codes, put into tidy lists.
 
-ghost use Rattle.std.specs.Prelude.{◌≡◌, ◌↔◌, ℕ, ◌+◌, ◌-◌, ◌<◌, ◌≤◌, ◌^◌, All, IsTrue, OnOk, Some};
+ghost use Rattle.std.specs.Prelude.{◌≡◌, ◌↔◌, ℕ, ◌+◌, ◌-◌, ◌<◌, ◌≤◌, ◌^◌, All, IsTrue, OnErr, OnOk, Some};
 ghost use Rattle.cmap_values.specs.DeclarationsSeen.{cid_entry_seen, entries_seen};
 ghost use Rattle.cmap_tidy.specs.Tidy.{AreTidyCids, CouldBeOneCid, IsCidRow, cid_said, said_with};
 ghost use Rattle.cmap_tidy.specs.TidyAdded.{AddsCidRow};
@@ -16,7 +16,7 @@ use std::alloc::AllocError;
 /// A declaration is added for each row of 256 codes, so for up to 2^24 rows. Where the first row goes on
 /// from the last declaration of the list, the two are one.
 ///
-/// It fails only if memory runs out.
+/// It fails only if memory runs out. The list is tidy then, too, and may have the first of the codes.
 pub fn push_cids(list: &mut Vec<CidRange>, range: Range, cid: Cid) -> Result<(), AllocError>
     requires tidy { AreTidyCids (entries_seen list.now.items) }
     requires after { All (λ e. e.end < range.start) (entries_seen list.now.items) }
@@ -25,6 +25,7 @@ pub fn push_cids(list: &mut Vec<CidRange>, range: Range, cid: Cid) -> Result<(),
     ensures said { OnOk result ((code : ℕ) → cid_said (entries_seen list.new.items) code
         ≡ said_with range (λ code. Some (cid + (code - range.start))) (cid_said (entries_seen list.old.items)) code) }
     ensures last { OnOk result (All (λ e. e.end ≤ range.end) (entries_seen list.new.items)) }
+    ensures err { OnErr result (AreTidyCids (entries_seen list.new.items)) }
 {
     let end = u64::from(range.end);
     let mut next = u64::from(range.start);
@@ -46,7 +47,8 @@ fn add_row(list: &mut Vec<CidRange>, row: CidRange) -> Result<(), AllocError>
     requires tidy { AreTidyCids (entries_seen list.now.items) }
     requires after { All (λ e. e.end < row.range.start) (entries_seen list.now.items) }
     requires row { IsCidRow (cid_entry_seen row) }
-    ensures { OnOk result (AddsCidRow (entries_seen list.old.items) (cid_entry_seen row) (entries_seen list.new.items)) }
+    ensures added { OnOk result (AddsCidRow (entries_seen list.old.items) (cid_entry_seen row) (entries_seen list.new.items)) }
+    ensures same { OnErr result (list.new.items ≡ list.old.items) }
 {
     if let Some(last) = list.last_mut() {
         if could_be_one(last, &row) {

@@ -1,6 +1,6 @@
 //! Texts of codes, put into tidy lists.
 
-ghost use Rattle.std.specs.Prelude.{◌≡◌, ◌↔◌, ℕ, ◌+◌, ◌-◌, ◌/◌, ◌<◌, ◌≤◌, ◌^◌, All, IfOk, IsTrue, OnOk, Some, length, map};
+ghost use Rattle.std.specs.Prelude.{◌≡◌, ◌↔◌, ℕ, ◌+◌, ◌-◌, ◌/◌, ◌<◌, ◌≤◌, ◌^◌, All, IfOk, IsTrue, OnErr, OnOk, Some, length, map};
 ghost use Rattle.cmap_tokens.specs.Texts.{shifted};
 ghost use Rattle.cmap_values.specs.DeclarationsSeen.{bf_entry_seen};
 ghost use Rattle.cmap_values.specs.UnitsSeen.{units_seen};
@@ -19,7 +19,7 @@ use std::alloc::{AllocError, Global};
 /// A declaration is added for each row of 256 codes, and of those for each row of 256 last units. Where the
 /// first one goes on from the last declaration of the list, the two are one.
 ///
-/// It fails only if memory runs out.
+/// It fails only if memory runs out. The list is tidy then, too, and may have the first of the codes.
 pub fn push_texts(
     alloc: Global,
     list: &mut Vec<BfRange>,
@@ -34,6 +34,7 @@ pub fn push_texts(
     ensures said { OnOk result ((code : ℕ) → units_said (map bf_entry_seen list.new.items) code
         ≡ said_with range (λ code. shifted units.now (code - range.start)) (units_said (map bf_entry_seen list.old.items)) code) }
     ensures last { OnOk result (All (λ e. e.end ≤ range.end) (map bf_entry_seen list.new.items)) }
+    ensures err { OnErr result (AreTidyTexts (map bf_entry_seen list.new.items)) }
 {
     let end = u64::from(range.end);
     let mut next = u64::from(range.start);
@@ -86,7 +87,8 @@ fn add_row(list: &mut Vec<BfRange>, row: BfRange) -> Result<(), AllocError>
     requires tidy { AreTidyTexts (map bf_entry_seen list.now.items) }
     requires after { All (λ e. e.end < row.range.start) (map bf_entry_seen list.now.items) }
     requires row { IsTextRow (bf_entry_seen row) }
-    ensures { OnOk result (AddsTextRow (map bf_entry_seen list.old.items) (bf_entry_seen row) (map bf_entry_seen list.new.items)) }
+    ensures added { OnOk result (AddsTextRow (map bf_entry_seen list.old.items) (bf_entry_seen row) (map bf_entry_seen list.new.items)) }
+    ensures same { OnErr result (list.new.items ≡ list.old.items) }
 {
     if let Some(last) = list.last_mut() {
         if could_be_one(last, &row) {

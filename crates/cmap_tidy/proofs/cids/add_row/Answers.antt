@@ -21,15 +21,15 @@ pub could_be_one-requires-clause-after : goal.could_be_one-requires-clause-after
 could_be_one-requires-clause-after c =
     at_end (λ (e : CidEntry). e.end < c.args.row.range.start) _ _ (seen_last cid_entry_seen c.args.list.now.items _ c.in-Some.last.now c.args.list.now.ok.0 (c.in-Some.ensures.variant.0 refl) c.in-Some.ensures.value) c.requires.after
 
-pub returns-then-could_be_one : goal.returns-then-could_be_one
-returns-then-could_be_one c =
+pub returns-then-could_be_one-clause-added : goal.returns-then-could_be_one-clause-added
+returns-then-could_be_one-clause-added c =
     let old = entries_seen c.args.list.now.items in let last = c.in-Some.last.now in let row = cid_entry_seen c.args.row in
     let found = seen_last cid_entry_seen c.args.list.now.items _ last c.args.list.now.ok.0 (c.in-Some.ensures.variant.0 refl) c.in-Some.ensures.value in
     subst (AddsCidRow old row) (sym (seen_set cid_entry_seen c.args.list.now.items _ _ c.args.list.now.ok.0))
     (row_went_on cid_span cid_at IsCidRow CouldBeOneCid merge cids_merged old (cid_entry_seen last) row c.requires.tidy c.requires.after c.requires.row found (c.could_be_one.ensures.0 c.if-could_be_one.true))
 
-pub returns : goal.returns
-returns c =
+pub returns-clause-added : goal.returns-clause-added
+returns-clause-added c =
     let list = c.args.list.now in let old = entries_seen list.items in let row = cid_entry_seen c.args.row in
     let apart : (last : CidEntry) → slice_get old (length old - 1) ≡ Some last → CouldBeOneCid last row → ⊥ =
     elim c.match-last_mut.branch [

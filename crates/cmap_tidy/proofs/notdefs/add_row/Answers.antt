@@ -17,15 +17,15 @@ pub could_be_one-requires : goal.could_be_one-requires
 could_be_one-requires c =
     at_end (λ (e : CidEntry). e.end < c.args.row.range.start) _ _ (seen_last cid_entry_seen c.args.list.now.items _ c.in-Some.last.now c.args.list.now.ok.0 (c.in-Some.ensures.variant.0 refl) c.in-Some.ensures.value) c.requires.after
 
-pub returns-then-could_be_one : goal.returns-then-could_be_one
-returns-then-could_be_one c =
+pub returns-then-could_be_one-clause-added : goal.returns-then-could_be_one-clause-added
+returns-then-could_be_one-clause-added c =
     let old = entries_seen c.args.list.now.items in let last = c.in-Some.last.now in let row = cid_entry_seen c.args.row in
     let found = seen_last cid_entry_seen c.args.list.now.items _ last c.args.list.now.ok.0 (c.in-Some.ensures.variant.0 refl) c.in-Some.ensures.value in
     subst (AddsNotdefRow old row) (sym (seen_set cid_entry_seen c.args.list.now.items _ _ c.args.list.now.ok.0))
     (row_went_on cid_span notdef_at IsNotdefRow CouldBeOneNotdef merge notdefs_merged old (cid_entry_seen last) row c.requires.tidy c.requires.after c.requires.row found (c.could_be_one.ensures.0 c.if-could_be_one.true))
 
-pub returns : goal.returns
-returns c =
+pub returns-clause-added : goal.returns-clause-added
+returns-clause-added c =
     let list = c.args.list.now in let old = entries_seen list.items in let row = cid_entry_seen c.args.row in
     let apart : (last : CidEntry) → slice_get old (length old - 1) ≡ Some last → CouldBeOneNotdef last row → ⊥ =
     elim c.match-last_mut.branch [

@@ -11,7 +11,7 @@ use Rattle.cmap_tidy.proofs.texts.push_texts.Goals as goal
 pub loop-next-preserved : goal.loop-next-preserved
 loop-next-preserved c =
     let old = c.loop-next.invariant in let first = c.args.range.start in let units = c.args.units.now in let next = c.loop-next.next in
-    let here = λ (code : ℕ). shifted units (code - first) in let before = units_said (map bf_entry_seen c.args.list.now.items) in let added = c.in_ok-add_row.ensures in
+    let here = λ (code : ℕ). shifted units (code - first) in let before = units_said (map bf_entry_seen c.args.list.now.items) in let added = c.in_ok-add_row.ensures.added in
     record {
       tidy = added.tidy;
       before = λ k d lt. omega (arith, added.last k d lt);
