@@ -2,7 +2,7 @@
 use Rattle.std.proofs.Common.{zero, suc, List, [], ◌∷◌, ◌++◌, inl, inr, sym, subst, arith}
 use Rattle.std.specs.Prelude.{◌⊎◌, Any}
 use Rattle.std.specs.List.{Contains}
-use Rattle.std.proofs.lemmas.List.Elements.{Contains-append_cases, Contains-append_left, Contains-append_right}
+use Rattle.std.proofs.lemmas.List.Elements.{Contains-append_cases, Contains-append_left}
 
 module _ {X : Type 0} (P : X → Type 0) where
   through : (xs ys : List X) → ((x : X) → Contains xs x → Contains ys x) → Any P xs → Any P ys
@@ -10,9 +10,6 @@ module _ {X : Type 0} (P : X → Type 0) where
 
   pub Any-left : (xs ys : List X) → Any P xs → Any P (xs ++ ys)
   Any-left xs ys = through xs (xs ++ ys) (λ x. Contains-append_left xs ys x)
-
-  pub Any-right : (xs ys : List X) → Any P ys → Any P (xs ++ ys)
-  Any-right xs ys = through ys (xs ++ ys) (λ x. Contains-append_right xs ys x)
 
   pub Any-cases : (xs ys : List X) → Any P (xs ++ ys) → Any P xs ⊎ Any P ys
   Any-cases xs ys (k, x, within, is, holds) =

@@ -1,27 +1,31 @@
 -- The answers of one file, by what its lists declare.
-use Rattle.std.proofs.Common.{◌≡◌, ℕ, zero, suc, ◌+◌, ◌-◌, ◌<◌, ◌≤◌, ◌^◌, List, [], ◌∷◌, Option, Some, None, inl, inr, refl, sym, ap, ◌∙◌, subst, arith}
-use Rattle.std.specs.Prelude.{Contains, ◌↔◌, Any, option_and_then, option_map, unwrap_or}
+use Rattle.std.proofs.Common.{◌≡◌, ℕ, zero, suc, ◌+◌, ◌-◌, ◌<◌, ◌≤◌, ◌^◌, List, [], ◌∷◌, ◌++◌, Option, Some, None, inl, inr, refl, sym, ap, ◌∙◌, subst, arith}
+use Rattle.std.specs.Prelude.{◌↔◌, Any, option_and_then, option_map, unwrap_or}
+use Rattle.std.specs.List.{Contains}
 use Rattle.std.specs.Option.{option_or}
 use Rattle.std.proofs.lemmas.Bool.{cond-true}
 use Rattle.std.proofs.lemmas.Bool.Decides.{nat_tests}
+use Rattle.std.proofs.lemmas.List.Elements.{Contains-append_cases, Contains-append_left, Contains-append_right}
 use Rattle.cmap_tokens.specs.Texts.{only_character}
 use Rattle.cmap_values.specs.CodeLengths.{IsCodeLength, length_of}
 use Rattle.cmap_values.specs.Files.{BfEntry, CidEntry, Codespace, File, FileMetadata, Lists, of_length}
 use Rattle.cmap_values.specs.declared.code_length.CodeLength.{CodeLength}
 use Rattle.cmap_values.specs.declared.code_length.CodeLength.TheVariants.{One, Two, Three, Four}
 use Rattle.cmap_layers.specs.Layers.{Layer, layer_of}
+use Rattle.cmap_layers.specs.LayersSeen.{layer_seen, layers_seen}
 use Rattle.cmap_layers.specs.Lookups.{bf_at, bf_of, cid_at, cid_of, cid_span, decided_cid, decided_text, last_bf, last_cid}
 use Rattle.cmap_layers.specs.StringCodes.{ranges_of}
+use Rattle.cmap_layers.specs.declared.layer.Layer as declared
 use Rattle.cmap_layers.proofs.LayerStretches.{has_code_length}
 use Rattle.cmap_unicode.specs.Cids.{declared_cid}
 use Rattle.cmap_unicode.specs.LayersTried.{declared_by, declared_in}
 use Rattle.cmap_tidy.specs.Tidy.{AreTidyCids, notdef_at}
 use Rattle.cmap_flatten.specs.Chosen.{Chosen, ChosenNumber}
 use Rattle.cmap_flatten.specs.Parts.{AreAllKept, AreDeclared, AreLists, HasCidsOfOne, IsFileOf, said, text_said}
-use Rattle.cmap_flatten.specs.Subsets.{AnswersOnly, AreTidy, IsContradiction, IsFlat, IsSubset, cid_of_one}
+use Rattle.cmap_flatten.specs.Subsets.{AnswersOnly, AreAllTidy, IsContradiction, IsFlat, IsSubset}
 use Rattle.cmap_flatten.specs.declared.answers.Contradiction.{Contradiction}
 use Rattle.cmap_flatten.specs.declared.codes.Codes.{Codes}
-use Rattle.cmap_flatten.proofs.AnyElements.{Any-cases, Any-left, Any-nil, Any-right}
+use Rattle.cmap_flatten.proofs.AnyElements.{Any-nil}
 use Rattle.cmap_flatten.proofs.ChosenCodes.{found_one}
 use Rattle.cmap_flatten.proofs.DeclaredStretches.{declared_in_turn, layer_declares}
 use Rattle.cmap_flatten.proofs.ListsAdded.{told}
@@ -87,26 +91,19 @@ module _ (layers : List Layer) (chosen : List Codes) (lists : Lists) (are : AreL
       ∙ ap (λ text. option_or (declared_cid layers code (length_of len)) (only_character text)) ((are.texts.codes code small).0 (chosen_number chosen code (length_of len) is))
 
 -- the codespace ranges of all layers
-any_range : (P : Codespace → Type 0) (layers : List Layer) → Any P (ranges_of layers) ↔ Any (λ layer. Any P layer.lists.spaces) layers
-any_range P layers = (into layers, back layers) where
-  into : (layers : List Layer) → Any P (ranges_of layers) → Any (λ layer. Any P layer.lists.spaces) layers
-  into [] any = absurd (Any-nil P any)
-  into (layer ∷ below) any = elim (Any-cases P layer.lists.spaces (ranges_of below) any) [
+any_range : (space : Codespace) (layers : List Layer) → Contains (ranges_of layers) space ↔ Any (λ layer. Contains layer.lists.spaces space) layers
+any_range space layers = (into layers, back layers) where
+  into : (layers : List Layer) → Contains (ranges_of layers) space → Any (λ layer. Contains layer.lists.spaces space) layers
+  into [] found = absurd (omega (arith, found.1))
+  into (layer ∷ below) found = elim (Contains-append_cases layer.lists.spaces (ranges_of below) space found) [
     | inl here ↦ (0, layer, omega arith, refl, here)
-    | inr later ↦ let (k, found, lt, is, holds) = into below later in (suc k, found, omega arith, is, holds)
+    | inr later ↦ let (k, one, lt, is, holds) = into below later in (suc k, one, omega arith, is, holds)
   ]
 
-  back : (layers : List Layer) → Any (λ layer. Any P layer.lists.spaces) layers → Any P (ranges_of layers)
-  back [] any = absurd (Any-nil (λ layer. Any P layer.lists.spaces) any)
-  back (layer ∷ below) (zero, found, lt, is, holds) = Any-left P layer.lists.spaces (ranges_of below) (subst (λ (l : Layer). Any P l.lists.spaces) (sym is) holds)
-  back (layer ∷ below) (suc k, found, lt, is, holds) = Any-right P layer.lists.spaces (ranges_of below) (back below (k, found, omega arith, is, holds))
-
--- an element of a list, as one that is the same as some
-contained : {A : Type 0} (xs : List A) (x : A) → Contains xs x → Any (λ own. own ≡ x) xs
-contained xs x (k, within, is) = (k, x, within, is, refl)
-
-containing : {A : Type 0} (xs : List A) (x : A) → Any (λ own. own ≡ x) xs → Contains xs x
-containing xs x (k, own, within, is, same) = subst (Contains xs) same (k, within, is)
+  back : (layers : List Layer) → Any (λ layer. Contains layer.lists.spaces space) layers → Contains (ranges_of layers) space
+  back [] any = absurd (Any-nil (λ layer. Contains layer.lists.spaces space) any)
+  back (layer ∷ below) (zero, one, lt, is, holds) = Contains-append_left layer.lists.spaces (ranges_of below) space (subst (λ (l : Layer). Contains l.lists.spaces space) (sym is) holds)
+  back (layer ∷ below) (suc k, one, lt, is, holds) = Contains-append_right layer.lists.spaces (ranges_of below) space (back below (k, one, omega arith, is, holds))
 
 -- ---- one file
 -- a length that codes have
@@ -125,8 +122,8 @@ is_subset layers chosen file are kept =
       metadata = are.metadata;
       uses = are.uses;
       spaces = λ space.
-          let (into, back) = any_range (λ own. own ≡ space) layers in let (kept, found) = lists.spaces space in
-          (λ any. into (contained (ranges_of layers) space (found (containing file.lists.spaces space any))), λ any. contained file.lists.spaces space (kept (containing (ranges_of layers) space (back any))));
+          let (into, back) = any_range space layers in let (kept, found) = lists.spaces space in
+          (λ own. into (found own), λ any. kept (back any));
       declared = λ code count small few.
           let (len, is) = of_count count few in
           subst (λ count. AnswersOnly (Chosen chosen code count) (declared_cid layers code count) (declared_cid (layer ∷ []) code count)) is
@@ -152,9 +149,10 @@ is_flat layers chosen file all is = record {
 }
 
 -- a map of one layer with such lists
-pub flat_of : (layers : List Layer) (chosen : List Codes) (lists : Lists) {metadata : FileMetadata} (flat : List Layer) (layer : Layer) → AreLists layers chosen lists → flat ≡ layer ∷ [] → layer ≡ record { metadata = metadata; lists = lists }
-    → HasCidsOfOne layers chosen flat
-flat_of layers chosen lists {metadata} flat layer are one is = subst (HasCidsOfOne layers chosen) (sym (one ∙ ap (λ l. l ∷ []) is)) (cids_of_one layers chosen lists are metadata)
+pub flat_of : (layers : List Layer) (chosen : List Codes) (lists : Lists) {metadata : FileMetadata} (flat : List Layer) (none one : List declared.Layer) (layer : declared.Layer) → AreLists layers chosen lists
+    → flat ≡ layers_seen one → one ≡ none ++ layer ∷ [] → none ≡ [] → layer_seen layer ≡ record { metadata = metadata; lists = lists } → HasCidsOfOne layers chosen flat
+flat_of layers chosen lists {metadata} flat none one layer are seen pushed empty is =
+    subst (HasCidsOfOne layers chosen) (sym (seen ∙ ap layers_seen (pushed ∙ ap (λ none. none ++ layer ∷ []) empty) ∙ ap (λ l. l ∷ []) is)) (cids_of_one layers chosen lists are metadata)
 
 -- ---- what is refused
 some_bytes : (len : CodeLength) → IsCodeLength (length_of len)
@@ -163,7 +161,7 @@ some_bytes Two = (omega arith, omega arith)
 some_bytes Three = (omega arith, omega arith)
 some_bytes Four = (omega arith, omega arith)
 
-tidy_cids : (lists : Lists) → AreTidy lists → (len : CodeLength) → AreTidyCids (of_length lists.cids (length_of len))
+tidy_cids : (lists : Lists) → AreAllTidy lists → (len : CodeLength) → AreTidyCids (of_length lists.cids (length_of len))
 tidy_cids lists tidy One = tidy.one.0
 tidy_cids lists tidy Two = tidy.two.0
 tidy_cids lists tidy Three = tidy.three.0
@@ -177,3 +175,15 @@ no_subset layers chosen at file small refused is =
     let text = sym (one_text layer code) ∙ (is.texts code small).0 (chosen_number chosen code len refused.0) in
     refused.1 (sym (is.answers code len small few refused.0) ∙ one_cid layer code at.len (tidy_cids file.lists is.tidy at.len)
     ∙ ap (λ cid. option_or cid (only_character (text_said file.lists.bfs code))) declared ∙ ap (λ text. option_or (declared_cid layers code len) (only_character text)) text)
+
+-- a file with the answers of all codes is one of chosen codes that are all
+pub all_subset : (layers : List Layer) (chosen : List Codes) (file : File) → ((code len : ℕ) → code < 2 ^ 32 → IsCodeLength len → Chosen chosen code len) → IsFlat layers file → IsSubset layers chosen file
+all_subset layers chosen file all is = record {
+  metadata = is.metadata;
+  uses = is.uses;
+  spaces = is.spaces;
+  declared = λ code len small few. (λ _. (is.declared code len small few).0 tt, λ none. absurd (none (all code len small few)));
+  texts = λ code small. (λ _. (is.texts code small).0 tt, λ none. absurd (none (chosen_number chosen code 1 (all code 1 small (omega arith, omega arith)))));
+  answers = λ code len small few _. is.answers code len small few tt;
+  tidy = is.tidy;
+}

@@ -15,7 +15,8 @@ use Rattle.cmap_layers.specs.declared.stretches.Cids.TheVariants.{CountOn}
 use Rattle.cmap_layers.specs.declared.stretches.CidStretch.{CidStretch}
 use Rattle.cmap_unicode.specs.Cids.{declared_cid}
 use Rattle.cmap_flatten.specs.Chosen.{Chosen, ChosenNumber, codes_span}
-use Rattle.cmap_flatten.specs.Subsets.{AnswersOnly, IsKept, cid_of_one}
+use Rattle.cmap_flatten.specs.Subsets.{AnswersOnly, IsContradiction, IsKept, cid_of_one}
+use Rattle.cmap_flatten.specs.declared.answers.Contradiction.{Contradiction}
 use Rattle.cmap_tidy.specs.Tidy.{AreTidyCids, AreTidyNotdefs, AreTidyTexts, cid_said, notdef_said}
 use Rattle.cmap_flatten.specs.declared.codes.Codes.{Codes}
 
@@ -115,6 +116,10 @@ AreKept layers chosen len = (code : ℕ) → code < 2 ^ 32 → Chosen chosen cod
 -- and each of any length
 abbrev pub AreAllKept : List Layer → List Codes → Type 0
 AreAllKept layers chosen = (len : CodeLength) → AreKept layers chosen len
+
+-- a contradiction, for a code of 32 bits
+abbrev pub IsFound : List Layer → List Codes → Contradiction → Type 0
+IsFound layers chosen at = (at.code < 2 ^ 32) × IsContradiction layers chosen at
 
 -- the CIDs of a map are those that one file can give to the chosen codes
 abbrev pub HasCidsOfOne : List Layer → List Codes → List Layer → Type 0

@@ -1,5 +1,6 @@
 -- One file with the answers of a map of several layers, for all codes or for those that are chosen.
 use Rattle.std.specs.Prelude.{◌≡◌, ◌↔◌, ℕ, ◌<◌, ◌^◌, List, [], ◌∷◌, Any, Option, Some, None}
+use Rattle.std.specs.List.{Contains}
 use Rattle.std.specs.Option.{option_or}
 use Rattle.cmap_tokens.specs.Texts.{only_character}
 use Rattle.cmap_values.specs.CodeLengths.{IsCodeLength, length_of}
@@ -16,8 +17,8 @@ use Rattle.cmap_flatten.specs.declared.answers.Contradiction.{Contradiction}
 abbrev pub AnswersOnly : {A : Type 0} → Type 0 → Option A → Option A → Type 0
 AnswersOnly IsChosen whole answer = (IsChosen → answer ≡ whole) × ((IsChosen → ⊥) → answer ≡ None)
 
--- each list ascends, and none of its declarations could be part of another
-pub record AreTidy (lists : Lists) : Type 0 where
+-- all lists are tidy
+pub record AreAllTidy (lists : Lists) : Type 0 where
   pub one : AreTidyCids lists.cids.one × AreTidyNotdefs lists.notdefs.one
   pub two : AreTidyCids lists.cids.two × AreTidyNotdefs lists.notdefs.two
   pub three : AreTidyCids lists.cids.three × AreTidyNotdefs lists.notdefs.three
@@ -30,11 +31,14 @@ pub record AnswersAs (IsChosen : ℕ → ℕ → Type 0) (IsChosenNumber : ℕ �
   pub metadata : top_metadata layers ≡ Some file.metadata
   pub uses : file.uses ≡ []
   -- a codespace range is one of the file just if it is one of some layer, so strings are cut alike
-  pub spaces : (space : Codespace) → (Any (λ own. own ≡ space) file.lists.spaces ↔ Any (λ layer. Any (λ own. own ≡ space) layer.lists.spaces) layers)
+  pub spaces : (space : Codespace) → (Contains file.lists.spaces space ↔ Any (λ layer. Contains layer.lists.spaces space) layers)
+  -- for each chosen code it declares the CID that the layers do
   pub declared : (code len : ℕ) → code < 2 ^ 32 → IsCodeLength len → AnswersOnly (IsChosen code len) (declared_cid layers code len) (declared_cid (layer_of file ∷ []) code len)
+  -- and it gives the text that they give
   pub texts : (code : ℕ) → code < 2 ^ 32 → AnswersOnly (IsChosenNumber code) (bf_of layers code) (bf_of (layer_of file ∷ []) code)
+  -- a lookup, which falls back on the text, gives the same CID
   pub answers : (code len : ℕ) → code < 2 ^ 32 → IsCodeLength len → IsChosen code len → cid_of (layer_of file ∷ []) code len ≡ cid_of layers code len
-  pub tidy : AreTidy file.lists
+  pub tidy : AreAllTidy file.lists
 
 -- the file has the answers of the layers for the chosen codes, and for no others
 abbrev pub IsSubset : List Layer → List Codes → File → Type 0
@@ -44,7 +48,7 @@ IsSubset layers codes file = AnswersAs (Chosen codes) (ChosenNumber codes) layer
 abbrev pub IsFlat : List Layer → File → Type 0
 IsFlat layers file = AnswersAs (λ code len. Unit {0}) (λ code. Unit {0}) layers file
 
--- the CID that one file can give to a code, which declares no other CID and gives no other text: the one that is declared, and else the character of the text
+-- the CID that one file gives to a code, if it declares the same CID and the same text: the one that is declared, and else the character of the text
 abbrev pub cid_of_one : List Layer → ℕ → ℕ → Option ℕ
 cid_of_one layers code len = option_or (declared_cid layers code len) (only_character (bf_of layers code))
 
@@ -52,7 +56,7 @@ cid_of_one layers code len = option_or (declared_cid layers code len) (only_char
 abbrev pub IsKept : List Layer → ℕ → ℕ → Type 0
 IsKept layers code len = cid_of layers code len ≡ cid_of_one layers code len
 
--- no file has all answers for the code: in the layers a character stands before a CID of a layer below, or a CID that passes 32 bits before a character
+-- no tidy file has all answers for the code: in the layers a character stands above a CID, a text of several characters above a character, or a CID that is declared passes 32 bits
 abbrev pub Contradicts : List Layer → Contradiction → Type 0
 Contradicts layers at = IsKept layers at.code (length_of at.len) → ⊥
 

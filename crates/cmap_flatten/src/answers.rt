@@ -5,9 +5,8 @@ ghost use Rattle.cmap_runs.specs.Ranges.{last_of};
 ghost use Rattle.cmap_values.specs.CodeLengths.{length_of};
 ghost use Rattle.cmap_layers.specs.CodeStretches.{cid_after};
 ghost use Rattle.cmap_layers.specs.Lookups.{cid_of};
-ghost use Rattle.cmap_flatten.specs.Chosen.{Chosen, codes_span};
-ghost use Rattle.cmap_flatten.specs.Parts.{AreAllKept, AreKept, HasCidsOfOne};
-ghost use Rattle.cmap_flatten.specs.Subsets.{IsContradiction};
+ghost use Rattle.cmap_flatten.specs.Chosen.{codes_span};
+ghost use Rattle.cmap_flatten.specs.Parts.{AreAllKept, AreKept, HasCidsOfOne, IsFound};
 
 use crate::codes::{Codes, codes_of_length};
 use crate::lists::lists_of;
@@ -21,9 +20,9 @@ use cmap_values::metadata::Metadata;
 use cmap_values::names::Cid;
 use std::alloc::{AllocError, Global};
 
-/// A code whose CID no file can give beside its text and the CID that is declared for it: in the layers the
-/// character of a text stands before a CID of a layer below, or a CID that passes 32 bits before the
-/// character of a text.
+/// A code whose CID no tidy file can give beside its text and the CID that is declared for it. In the layers
+/// a text of one character stands above a declaration of a CID, a text of several characters above one of
+/// one character, or a CID that is declared passes 32 bits.
 #[derive(Clone, Copy, Debug, PartialEq, Eq)]
 pub struct Contradiction {
     /// How many bytes the code has.
@@ -39,7 +38,7 @@ pub(crate) fn find_contradiction(
     codes: &[Codes],
 ) -> Result<Option<Contradiction>, AllocError>
     ensures { IfOk result (λ found. MatchOption found (AreAllKept layers.now codes.now)
-        (IsContradiction layers.now codes.now)) }
+        (IsFound layers.now codes.now)) }
 {
     if !declare_texts(layers) {
         return Ok(None);
@@ -85,7 +84,7 @@ fn contradiction_with(
 ) -> Result<Option<Contradiction>, AllocError>
     requires { HasCidsOfOne layers.now codes.now flat.now }
     ensures { IfOk result (λ found. MatchOption found (AreAllKept layers.now codes.now)
-        (IsContradiction layers.now codes.now)) }
+        (IsFound layers.now codes.now)) }
 {
     let lens = [
         CodeLength::One,
@@ -112,7 +111,7 @@ fn contradiction_of_length(
 ) -> Result<Option<Contradiction>, AllocError>
     requires { HasCidsOfOne layers.now codes.now flat.now }
     ensures { IfOk result (λ found. MatchOption found (AreKept layers.now codes.now len)
-        (IsContradiction layers.now codes.now)) }
+        (IsFound layers.now codes.now)) }
 {
     let chosen = codes_of_length(alloc, codes, len)?;
     match difference(layers, flat, &chosen, len) {
@@ -126,7 +125,7 @@ fn difference(one: &Layers, other: &Layers, chosen: &Table<Codes>, len: CodeLeng
     ensures { MatchOption result
         ((code : ℕ) → code < 2 ^ 32 → IsSome (last_of codes_span chosen.now code)
         → cid_of one.now code (length_of len) ≡ cid_of other.now code (length_of len))
-        (λ code. IsSome (last_of codes_span chosen.now code)
+        (λ code. (code < 2 ^ 32) × IsSome (last_of codes_span chosen.now code)
         × (cid_of one.now code (length_of len) ≢ cid_of other.now code (length_of len))) }
 {
     let mut next = 0;
@@ -159,7 +158,7 @@ fn compared_from(
     ensures difference { MatchOption result.difference
         ((code : ℕ) → first ≤ code → code ≤ result.last → IsSome (last_of codes_span chosen.now code)
         → cid_of one.now code (length_of len) ≡ cid_of other.now code (length_of len))
-        (λ code. IsSome (last_of codes_span chosen.now code)
+        (λ code. (code < 2 ^ 32) × IsSome (last_of codes_span chosen.now code)
         × (cid_of one.now code (length_of len) ≢ cid_of other.now code (length_of len))) }
 {
     let part = stretch_of(chosen, first);

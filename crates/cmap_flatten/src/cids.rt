@@ -1,10 +1,9 @@
 //! The declarations of CIDs and of notdefs for the chosen codes.
 
-ghost use Rattle.std.specs.Prelude.{◌≡◌, ℕ, ◌+◌, ◌-◌, ◌<◌, ◌≤◌, ◌^◌, IfOk, OnOk};
+ghost use Rattle.std.specs.Prelude.{◌+◌, ◌-◌, ◌≤◌, ◌^◌, IfOk, OnOk};
 ghost use Rattle.cmap_values.specs.CodeLengths.{length_of};
 ghost use Rattle.cmap_values.specs.DeclarationsSeen.{entries_seen};
-ghost use Rattle.cmap_layers.specs.CodeStretches.{cid_after};
-ghost use Rattle.cmap_flatten.specs.Parts.{AreDeclared, AreDeclaredBelow, Fits, IsAdded, IsRoom, said};
+ghost use Rattle.cmap_flatten.specs.Parts.{AreDeclared, AreDeclaredBelow, Fits, IsAdded, IsRoom};
 
 use crate::codes::{Codes, codes_of_length};
 use crate::declared::declared_stretch;
@@ -27,7 +26,8 @@ pub(crate) struct Declared {
 impl Declared {
     /// Adds codes with these CIDs, after all others.
     fn add(&mut self, cids: Cids, range: Range) -> Result<(), AllocError>
-        requires room { IsRoom (entries_seen self.now.cids.items) (entries_seen self.now.notdefs.items) range.start }
+        requires room { IsRoom (entries_seen self.now.cids.items)
+            (entries_seen self.now.notdefs.items) range.start }
         requires range { range.start ≤ range.end }
         requires fits { Fits cids (range.end - range.start) }
         ensures { OnOk result (IsAdded (entries_seen self.old.cids.items) (entries_seen self.old.notdefs.items)
@@ -49,7 +49,8 @@ pub(crate) fn declared_of(
     codes: &[Codes],
     len: CodeLength,
 ) -> Result<Declared, AllocError>
-    ensures { IfOk result (λ made. AreDeclared layers.now codes.now (length_of len) (entries_seen made.cids.items) (entries_seen made.notdefs.items)) }
+    ensures { IfOk result (λ made. AreDeclared layers.now codes.now (length_of len)
+        (entries_seen made.cids.items) (entries_seen made.notdefs.items)) }
 {
     let chosen = codes_of_length(alloc, codes, len)?;
     declared_in(alloc, layers, &chosen, len)

@@ -1,8 +1,9 @@
 //! One file with the answers of a map.
 
-ghost use Rattle.std.specs.Prelude.{IfOk};
+ghost use Rattle.std.specs.Prelude.{IfErr, IfOk};
+ghost use Rattle.cmap_values.specs.Only.{HoldsOfNone};
 ghost use Rattle.cmap_values.specs.FilesSeen.{file_seen};
-ghost use Rattle.cmap_values.specs.Outcomes.{Outcome};
+ghost use Rattle.cmap_values.specs.Outcomes.{Outcome, RefusesWith};
 ghost use Rattle.cmap_flatten.specs.Parts.{IsFileOf};
 ghost use Rattle.cmap_flatten.specs.Subsets.{Contradicts, IsContradiction, IsFlat, IsSubset};
 
@@ -20,10 +21,12 @@ use std::alloc::{AllocError, Global};
 /// Lists of declarations are tidy: they ascend, each declaration has codes of one row of 256, and no two
 /// could be one. So a declaration of many codes is written as many, up to 2^24 of them.
 ///
-/// It is refused with a code that has a contradiction: one file gives the character of a text as a CID
-/// only where it declares none. Else it fails only if memory runs out.
+/// It is refused with a code that has a contradiction, and only where no file has all answers: one file
+/// gives the character of a text as a CID only where it declares none. Else it fails only if memory runs
+/// out.
 pub fn flatten<'d>(alloc: Global, layers: &Layers) -> Result<File<'d>, Fault<Contradiction>>
-    ensures { Outcome (λ file. IsFlat layers.now (file_seen file)) (Contradicts layers.now) result }
+    ensures file { Outcome (λ file. IsFlat layers.now (file_seen file)) (Contradicts layers.now) result }
+    ensures none { IfErr result (RefusesWith (λ at. HoldsOfNone (IsFlat layers.now))) }
 {
     subset(alloc, layers, &all_codes())
 }
@@ -39,8 +42,9 @@ pub fn subset<'d>(
     layers: &Layers,
     codes: &[Codes],
 ) -> Result<File<'d>, Fault<Contradiction>>
-    ensures { Outcome (λ file. IsSubset layers.now codes.now (file_seen file))
+    ensures file { Outcome (λ file. IsSubset layers.now codes.now (file_seen file))
         (IsContradiction layers.now codes.now) result }
+    ensures none { IfErr result (RefusesWith (λ at. HoldsOfNone (IsSubset layers.now codes.now))) }
 {
     if let Some(contradiction) = find_contradiction(alloc, layers, codes)? {
         return Err(Fault::Refused(contradiction));

@@ -1,6 +1,6 @@
 //! The declarations of texts for the chosen codes.
 
-ghost use Rattle.std.specs.Prelude.{◌≡◌, ◌+◌, ◌-◌, ◌<◌, ◌≤◌, ◌^◌, IfOk, OnOk, map, option_map};
+ghost use Rattle.std.specs.Prelude.{◌≡◌, ◌+◌, ◌-◌, ◌≤◌, ◌^◌, IfOk, OnOk, map, option_map};
 ghost use Rattle.cmap_tokens.specs.Texts.{shifted, text_at};
 ghost use Rattle.cmap_values.specs.DeclarationsSeen.{bf_entry_seen};
 ghost use Rattle.cmap_layers.specs.Lookups.{bf_at};
@@ -32,7 +32,8 @@ fn texts_in(
     layers: &Layers,
     chosen: &Table<Codes>,
 ) -> Result<Vec<BfRange>, AllocError>
-    ensures { IfOk result (λ texts. AreTextsBelow layers.now chosen.now (2 ^ 32) (map bf_entry_seen texts.items)) }
+    ensures { IfOk result (λ texts. AreTextsBelow layers.now chosen.now (2 ^ 32)
+        (map bf_entry_seen texts.items)) }
 {
     let mut texts = Vec::new(alloc);
     let mut next = 0;
@@ -53,7 +54,8 @@ fn add_stretch(
 ) -> Result<u32, AllocError>
     requires { AreTextsBelow layers.now chosen.now first (map bf_entry_seen texts.now.items) }
     ensures within { IfOk result (λ last. first ≤ last) }
-    ensures added { IfOk result (λ last. AreTextsBelow layers.now chosen.now (last + 1) (map bf_entry_seen texts.new.items)) }
+    ensures added { IfOk result (λ last. AreTextsBelow layers.now chosen.now (last + 1)
+        (map bf_entry_seen texts.new.items)) }
 {
     let part = stretch_of(chosen, first);
     if part.declaration.is_none() {
