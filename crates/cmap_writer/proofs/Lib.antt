@@ -16,6 +16,7 @@ pub mod FilesWritten
 pub mod FrontsWritten
 pub mod ListsKept
 pub mod MetadataHeld
+pub mod NoneLarge
 pub mod NumbersWritten
 pub mod ObstaclesMet
 pub mod PreparedKept

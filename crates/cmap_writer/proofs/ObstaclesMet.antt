@@ -1,7 +1,8 @@
 -- Obstacles of parts of a file, and of the whole.
 use Rattle.std.proofs.Common.{◌≡◌, ◌∙◌, ℕ, ◌<◌, ◌≤◌, ◌^◌, ◌⊎◌, inl, inr, List, Ok, Err, ◌++◌, Some, None, get_or, length, map, ap, sym, subst, arith}
-use Rattle.std.specs.Prelude.{All, Any, Contains, IfErr, IsErrAnd, IsSomeAnd, Option, Result}
+use Rattle.std.specs.Prelude.{All, Any, Contains, IfErr, IsErrAnd, IsSomeAnd, Option, Result, option_map}
 use Rattle.std.proofs.lemmas.List.{get_or-map, length-map, map-append}
+use Rattle.std.proofs.lemmas.Option.{none-some, same_Some}
 use Rattle.cmap_values.specs.DeclarationsSeen.{bf_entry_seen, cid_entry_seen, codespace_seen, entries_seen}
 use Rattle.cmap_values.specs.Files as files
 use Rattle.std.proofs.Common.{zero, suc, ◌+◌, ◌*◌, [], ◌∷◌}
@@ -9,7 +10,6 @@ use Rattle.std.proofs.lemmas.Bool.{cases_lt}
 use Rattle.cmap_values.specs.Files.{ByLength, BfEntry, CidEntry, Declaration, File}
 use Rattle.cmap_values.specs.Outcomes.{RefusesWith}
 use Rattle.cmap_values.proofs.ElementsSeen.{any_at}
-use Rattle.cmap_values.specs.UnitsSeen.{units_seen}
 use Rattle.cmap_values.specs.declared.declarations.BfRange.{BfRange}
 use Rattle.cmap_values.specs.declared.declarations.CidRange.{CidRange}
 use Rattle.cmap_values.specs.declared.declarations.Codespace.{Codespace}
@@ -17,7 +17,7 @@ use Rattle.cmap_values.specs.declared.fault.Fault.TheVariants.{Memory, Refused}
 use Rattle.cmap_values.specs.declared.fault.Fault.{Fault}
 use Rattle.cmap_values.specs.Metadata.{Collection, FileMetadata}
 use Rattle.cmap_values.specs.Names.{ordering_of, registry_of}
-use Rattle.cmap_layers.specs.Lookups.{last_bf}
+use Rattle.cmap_layers.specs.Lookups.{bf_span, last_bf}
 use Rattle.cmap_packed.specs.Bundles.{PrefixTables}
 use Rattle.cmap_writer.specs.Arranged.{IsPreparedFor}
 use Rattle.cmap_writer.specs.Obstacles.{GivesLargeCid, HasLongText, HasManyTexts, IsCidListsObstacle, IsCidObstacle, IsCodeObstacle, IsCollectionObstacle, IsColumnObstacle, IsFamilyObstacle, IsGivenCollectionObstacle, IsLarge, IsLargeEnd, IsLargeNotdef, IsMetadataObstacle, IsNotdefListsObstacle, IsNotdefObstacle, IsNotdefsObstacle, IsObstacle, IsPreparedObstacle, IsSegmentObstacle, IsSegmentsObstacle, IsSpaceObstacle, IsSpacesObstacle, IsTerminatedObstacle, IsTextObstacle, IsWriteObstacle}
@@ -25,13 +25,15 @@ use Rattle.cmap_writer.specs.Failures.{IsTooLongIf}
 use Rattle.cmap_writer.specs.EncodersSeen.{shape_seen}
 use Rattle.cmap_writer.specs.Segments.{DeclareEach, IsSegmentOf, declared_span}
 use Rattle.cmap_writer.specs.Spelled.{IsNoSymbol}
-use Rattle.cmap_writer.specs.TextParts.{IsDecidedText, IsPartOf}
+use Rattle.cmap_writer.specs.Pieces.{AllSayAs, SaysAs}
+use Rattle.cmap_writer.specs.TextParts.{IsDecidedText, units_at, units_from}
 use Rattle.cmap_writer.specs.Texts.{IsLongTextIn}
 use Rattle.cmap_writer.specs.declared.obstacle.Obstacle.TheVariants.{CustomFamily, LargeCid, LargeCode, NoWord, Supplement, Text, TooLong, ZeroByte}
 use Rattle.cmap_writer.specs.declared.obstacle.Obstacle.{Obstacle}
 use Rattle.cmap_writer.specs.declared.prepared.Prepared.{Prepared}
 use Rattle.cmap_writer.specs.declared.segments.Segment.{Segment}
 use Rattle.cmap_writer.proofs.NumbersWritten.{length_counts_by, length_deltas_of}
+use Rattle.cmap_writer.proofs.TextParts.{text_has, units_first}
 use Rattle.cmap_writer.proofs.Told.{Any-left, Any-right}
 
 -- what holds of an element of a part
@@ -91,20 +93,22 @@ by_cid_list lists len xs is (LargeCid range) h = (len, subst (λ es. GivesLargeC
 by_cid_list lists len xs is other h = absurd h
 
 -- ---- texts
-some_as : {A : Type 0} (P Q : A → Type 0) (o : Option A) → IsSomeAnd o P → ((x : A) → P x → Q x) → IsSomeAnd o Q
-some_as P Q None h gives = absurd h
-some_as P Q (Some x) h gives = gives x h
+some_told : {A B : Type 0} (f : A → B) (P : B → Type 0) (o : Option A) (b : B) → option_map f o ≡ Some b → P b → IsSomeAnd o (λ a. P (f a))
+some_told f P None b is p = absurd (none-some b is)
+some_told f P (Some a) b is p = subst P (sym (same_Some (f a) b is)) p
 
 element : (P : BfEntry → Type 0) (ranges : List BfRange) (k : ℕ) (e : BfRange) → k < length ranges → get_or ranges k e ≡ e → All P (map bf_entry_seen ranges) → P (bf_entry_seen e)
 element P ranges k e within is all = subst (λ r. P (bf_entry_seen r)) is (subst P (get_or-map bf_entry_seen ranges k e (bf_entry_seen e) within) (all k (bf_entry_seen e) (omega (arith, within, length-map ranges bf_entry_seen))))
 
-pub long_text : (es : List BfEntry) (ranges : List BfRange) → All IsDecidedText (map bf_entry_seen ranges) → All (IsPartOf es) (map bf_entry_seen ranges) → (fault : Fault Obstacle) → IsLongTextIn ranges fault → RefusesWith (IsTextObstacle es) fault
-long_text es ranges small parts (Refused (Text range)) (k, e, within, is, (range_is, long)) =
+pub long_text : (es : List BfEntry) (ranges : List BfRange) → All IsDecidedText (map bf_entry_seen ranges) → AllSayAs bf_span units_at es (map bf_entry_seen ranges) → (fault : Fault Obstacle) → IsLongTextIn ranges fault → RefusesWith (IsTextObstacle es) fault
+long_text es ranges small say (Refused (Text range)) (k, e, within, is, (range_is, long)) =
+    let part = bf_entry_seen e in
     let decided = element IsDecidedText ranges k e within is small in
-    let part = element (IsPartOf es) ranges k e within is parts in
-    inl (subst (λ r. HasLongText es r) range_is (decided.0, some_as (λ d. length (units_seen e.units) ≤ length d.units) (λ d. 2 ^ 8 ≤ length d.units) (last_bf es e.range.start) part (λ d more. omega (arith, more, long))))
-long_text es ranges small parts (Refused other) h = absurd h
-long_text es ranges small parts Memory h = tt
+    let first : units_at part part.start ≡ part.units = ap (units_from part.units) (omega arith) ∙ units_first part.units decided.3 in
+    let told = element (SaysAs bf_span units_at es) ranges k e within is say part.start (text_has part part.start (omega arith) decided.0) ∙ ap Some first in
+    inl (subst (λ r. HasLongText es r) range_is (decided.0, some_told (λ d. units_at d part.start) (λ units. 2 ^ 8 ≤ length units) (last_bf es part.start) part.units told long))
+long_text es ranges small say (Refused other) h = absurd h
+long_text es ranges small say Memory h = tt
 
 -- ---- numbers without code words
 pub segment_among : (tables : PrefixTables) (segments : List Segment) (i : ℕ) (s : Segment) → i < length segments → s ≡ get_or segments i s → (o : Obstacle) → IsSegmentObstacle tables s o → IsSegmentsObstacle tables segments o

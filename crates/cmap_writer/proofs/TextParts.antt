@@ -1,15 +1,16 @@
 -- Parts of ranges of texts.
-use Rattle.std.proofs.Common.{◌≡◌, ℕ, ◌+◌, ◌-◌, ◌^◌, ◌<◌, ◌≤◌, inl, inr, Bool, true, false, List, [], ◌∷◌, ◌++◌, length, length-append, take, Some, None, refl, ap, ◌∙◌, sym, subst, arith}
+use Rattle.std.proofs.Common.{◌≡◌, ℕ, ◌+◌, ◌-◌, ◌^◌, ◌<◌, ◌≤◌, inl, inr, Bool, true, false, List, [], ◌∷◌, ◌++◌, length, length-append, get_or, take, Some, None, refl, ap, ◌∙◌, sym, subst, arith}
 use Rattle.std.specs.Prelude.{Option, nat_le, nat_lt, option_and_then, unwrap_or, if◌then◌else◌}
 use Rattle.std.specs.List.{All, slice_get}
-use Rattle.std.proofs.lemmas.Bool.{and_from, and_parts, cases_lt, le-leb, le-ltb, leb-true}
+use Rattle.std.proofs.lemmas.Bool.{and_from, and_parts, cases_lt, le-leb, le-ltb, leb-true, lt-ltb}
 use Rattle.std.proofs.lemmas.List.{append_assoc, append-nil}
-use Rattle.std.proofs.lemmas.List.Elements.{All-append, All-nil, All-push}
+use Rattle.std.proofs.lemmas.List.Elements.{All-append, All-head, All-nil, All-push, All-tail}
 use Rattle.cmap_tokens.specs.Texts.{characters, text_at}
 use Rattle.cmap_values.specs.Files.{BfEntry}
 use Rattle.cmap_layers.specs.Lookups.{bf_at, bf_span}
 use Rattle.cmap_writer.specs.Pieces.{AllSayAs, CanBeSplitText, Cover, Has, IsShortText, PushesPieces, SaysAs}
 use Rattle.cmap_writer.specs.TextParts.{GivesUnits, IsShifted, ShiftsTo, units_at, units_from}
+use Rattle.cmap_writer.proofs.CidParts.{last_split}
 use Rattle.cmap_writer.proofs.Told.{Any-head, Any-left, Any-right}
 
 -- ---- the text at an offset
@@ -48,6 +49,22 @@ units_split front last offset =
     let units = front ++ last ∷ [] in
     let count : length units - 1 ≡ length front = omega (arith, length-append front (last ∷ [])) in
     rw (count, last_got front last, front_kept front last) (either_units (nat_lt (last + offset) (2 ^ 16)) (front ++ (last + offset) ∷ []))
+
+last_small : (front : List ℕ) (last : ℕ) → All (λ u. u < 2 ^ 16) (front ++ last ∷ []) → last < 2 ^ 16
+last_small [] last small = All-head (λ u. u < 2 ^ 16) last [] small
+last_small (x ∷ front) last small = last_small front last (All-tail (λ u. u < 2 ^ 16) x (front ++ last ∷ []) small)
+
+-- the units at the first code are all of them
+pub units_first : (units : List ℕ) → All (λ u. u < 2 ^ 16) units → units_from units 0 ≡ units
+units_first [] small = refl
+units_first (x ∷ units) small =
+    let all = x ∷ units in
+    let front = take (length all - 1) all in
+    let last = get_or all (length all - 1) 0 in
+    let parted : all ≡ front ++ last ∷ [] = last_split all 0 (omega arith) in
+    let fits : last + 0 < 2 ^ 16 = omega (arith, last_small front last (subst (All (λ u. u < 2 ^ 16)) parted small)) in
+    let whole : units_with front (last + 0) ≡ front ++ last ∷ [] = rw (lt-ltb (last + 0) (2 ^ 16) fits) (ap (λ u. front ++ u ∷ []) (omega arith)) in
+    ap (λ us. units_from us 0) parted ∙ units_split front last 0 ∙ whole ∙ sym parted
 
 -- ---- units with an offset added
 pub raised : (front : List ℕ) (last offset : ℕ) → All (λ u. u < 2 ^ 16) (front ++ (last + offset) ∷ []) → IsShifted (front ++ last ∷ []) offset (front ++ (last + offset) ∷ [])

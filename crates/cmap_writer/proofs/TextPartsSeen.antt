@@ -1,11 +1,11 @@
 -- Units with an offset added, the part of a declaration of texts for the codes of a run, and ranges taken one after another.
-use Rattle.std.proofs.Common.{◌≡◌, ℕ, ◌+◌, ◌-◌, ◌^◌, ◌<◌, ◌≤◌, List, [], ◌∷◌, ◌++◌, length, get_or, map, take, Ok, Err, Some, refl, ap, ◌∙◌, sym, subst, arith}
-use Rattle.std.specs.Prelude.{IsSome, IsSomeAnd, Option, None, Result, option_map}
-use Rattle.std.specs.List.{All, slice_get}
+use Rattle.std.proofs.Common.{◌≡◌, ℕ, ◌+◌, ◌-◌, ◌^◌, ◌<◌, ◌≤◌, List, [], ◌∷◌, ◌++◌, length, get_or, map, take, drop, Ok, Err, Some, refl, ap, ◌∙◌, sym, subst, arith}
+use Rattle.std.specs.Prelude.{Option, None, Result, option_map}
+use Rattle.std.specs.List.{All, Any, slice_get}
 use Rattle.std.specs.Result.{IfOk}
 use Rattle.std.proofs.lemmas.List.{get_or-map, length-map, map-append, take_all, take_more}
-use Rattle.std.proofs.lemmas.List.Elements.{All-head}
-use Rattle.std.proofs.lemmas.Option.{slice_get-get_or}
+use Rattle.std.proofs.lemmas.List.Elements.{All-cons, All-head, All-nil, All-tail}
+use Rattle.std.proofs.lemmas.Option.{get_or_from_slice_get, slice_get_within}
 use Rattle.cmap_runs.specs.Ranges.{AreRuns, Run}
 use Rattle.cmap_runs.specs.declared.runs.Range.{Range}
 use Rattle.cmap_values.specs.DeclarationsSeen.{bf_entry_seen, bf_range_span}
@@ -15,7 +15,8 @@ use Rattle.cmap_values.specs.declared.declarations.BfRange.{BfRange}
 use Rattle.cmap_values.specs.declared.units.Units.{Units}
 use Rattle.cmap_layers.specs.Lookups.{bf_at, bf_span, last_bf}
 use Rattle.cmap_writer.specs.Pieces.{AllSayAs, ArePieces, CanBeSplitText, Has, IsShortText, PushesPieces, SaysAs}
-use Rattle.cmap_writer.specs.TextParts.{GivesUnits, IsDecidedText, IsPartOf, IsShifted, ShiftsTo, units_at, units_from}
+use Rattle.cmap_writer.specs.TextParts.{GivesUnits, IsDecidedText, IsShifted, ShiftsTo, units_at, units_from}
+use Rattle.cmap_writer.specs.Weights.{run_span}
 use Rattle.cmap_writer.proofs.CidParts.{last_split}
 use Rattle.cmap_writer.proofs.RunParts.{index_within, run_contained, run_is, run_of, run_told}
 use Rattle.cmap_writer.proofs.TextParts.{lost, raised, same_text, same_units, text_has, text_within}
@@ -40,10 +41,6 @@ same_option : {A : Type 0} (o : Option A) (x : A) → option_map (λ y. y) o ≡
 same_option None x is = is
 same_option (Some y) x is = is
 
-some_element : (xs : List BfRange) (i : ℕ) → i < length xs → BfRange
-some_element [] i within = absurd (omega (arith, within))
-some_element (x ∷ xs) i within = x
-
 module _ (list : List BfRange) (runs : List Run) (are : AreRuns (map bf_range_span list) runs) (i low high index : ℕ) (at : slice_get runs i ≡ Some (run_of low high index)) where
   pub declaration_within : index < length list
   declaration_within = index_within bf_range_span bf_entry_seen bf_span bf_at (λ x. refl) list runs are i low high index at
@@ -64,9 +61,6 @@ module _ (list : List BfRange) (runs : List Run) (are : AreRuns (map bf_range_sp
 
       end_is : part.range.end ≡ high
       end_is = ap (λ r. r.end) range_is ∙ high_is
-
-      pub part_from : IsPartOf (map bf_entry_seen list) (bf_entry_seen part)
-      part_from = subst (λ o. IsSomeAnd o (λ d. length (units_seen part.units) ≤ length d.units)) (sym (last_is part.range.start (omega (arith, start_is)) (omega (arith, start_is, run_within.1)))) shifted.counted
 
       texts : ShiftsTo (units_seen e.units) (part.range.start - e.range.start) (units_seen part.units)
       texts = subst (λ r. ShiftsTo (units_seen e.units) (r.start - e.range.start) (units_seen part.units)) (sym range_is) shifted.texts
@@ -102,13 +96,20 @@ texts_more xs i d old new within h here =
 pub texts_all : (xs : List BfRange) (i : ℕ) (pieces : List BfEntry) → length xs ≤ i → ArePieces bf_span bf_at IsShortText (map bf_entry_seen (take i xs)) pieces → ArePieces bf_span bf_at IsShortText (map bf_entry_seen xs) pieces
 texts_all xs i pieces all h = subst (λ ys. ArePieces bf_span bf_at IsShortText (map bf_entry_seen ys) pieces) (take_all i xs all) h
 
--- a declaration decides each code of a run
-pub all_told : (list : List BfRange) (runs : List Run) (are : AreRuns (map bf_range_span list) runs) (i low high index : ℕ) (at : slice_get runs i ≡ Some (run_of low high index)) (code : ℕ) → low ≤ code → code ≤ high → IsSome (last_bf (map bf_entry_seen list) code)
-all_told list runs are i low high index at code after before =
-    let within = declaration_within list runs are i low high index at in
-    let d = some_element list index within in
-    let told = last_is list runs are i low high index at (get_or list index d) (slice_get-get_or list index d within) code after before in
-    subst (λ o. IsSome o) (sym told) refl
+-- a run is one of the runs
+pub run_among : (runs : List Run) (i low high index : ℕ) → slice_get runs i ≡ Some (run_of low high index) → Any (λ run. (run.low ≡ low) × (run.high ≡ high)) runs
+run_among runs i low high index at = let run = run_of low high index in (i, run, slice_get_within runs i run at, get_or_from_slice_get runs i run run at, (refl, refl))
+
+-- runs that are ranges of at most 2^16 codes
+pub runs_few : (ranges : List BfRange) (runs : List Run) → map bf_range_span ranges ≡ map run_span runs → All IsDecidedText (map bf_entry_seen ranges) → All (λ run. run.high - run.low < 2 ^ 16) runs
+runs_few [] [] is small = All-nil (λ run. run.high - run.low < 2 ^ 16)
+runs_few [] (run ∷ runs) is small = absurd (omega (arith, ap length is))
+runs_few (x ∷ ranges) [] is small = absurd (omega (arith, ap length is))
+runs_few (x ∷ ranges) (run ∷ runs) is small =
+    let first = All-head IsDecidedText (bf_entry_seen x) (map bf_entry_seen ranges) small in
+    let low = ap (λ ss. (get_or ss 0 (run_span run)).start) is in
+    let high = ap (λ ss. (get_or ss 0 (run_span run)).end) is in
+    All-cons (λ run. run.high - run.low < 2 ^ 16) run runs (omega (arith, first.2, low, high)) (runs_few ranges runs (ap (drop 1) is) (All-tail IsDecidedText (bf_entry_seen x) (map bf_entry_seen ranges) small))
 
 -- the units of one range more
 pub units_more : (xs : List BfRange) (i : ℕ) (d : BfRange) (old new : List BfEntry) → i < length xs → ((es : List BfEntry) → AllSayAs bf_span units_at es (map bf_entry_seen (take i xs)) → AllSayAs bf_span units_at es old) → GivesUnits (bf_entry_seen (get_or xs i d)) old new → (es : List BfEntry) → AllSayAs bf_span units_at es (map bf_entry_seen (take (i + 1) xs)) → AllSayAs bf_span units_at es new

@@ -168,9 +168,10 @@ pub record AreCidEntries (len : ℕ) (es made : List CidEntry) : Type 0 where
   pub moved : IsPermutation pieces made
   pub ordered : AreOrdered (map (Declaration.cid len) made)
 
--- the entries of a list of texts: the runs of codes that one declaration decides, each cut in pieces, these in order
+-- the entries of a list of texts: the runs of codes that one declaration decides, each of at most 2^16 codes and cut in pieces, these in order
 pub record AreTextEntries (es made : List BfEntry) : Type 0 where
   pub pieces : List BfEntry
+  pub few : All (λ run. run.high - run.low < 2 ^ 16) (runs_of (map bf_span es))
   pub cut : AreCut (map run_span (runs_of (map bf_span es))) (map bf_span pieces)
   pub same : SayTheSame bf_span bf_at es pieces
   pub units : AllSayAs bf_span units_at es pieces

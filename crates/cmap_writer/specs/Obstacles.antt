@@ -1,10 +1,11 @@
 -- Why a file can't be written in the binary form.
-use Rattle.std.specs.Prelude.{◌≡◌, ◌≢◌, ◌⊎◌, ℕ, ℤ, pos, ◌+◌, ◌≤◌, ◌<◌, ◌^◌, List, Any, Contains, Option, Some, None, IsSome, IsSomeAnd, length}
+use Rattle.std.specs.Prelude.{◌≡◌, ◌≢◌, ◌⊎◌, ℕ, ℤ, pos, ◌+◌, ◌≤◌, ◌<◌, ◌^◌, List, Any, Contains, Option, Some, None, IsSomeAnd, length, map}
+use Rattle.cmap_runs.specs.Ranges.{runs_of}
 use Rattle.cmap_runs.specs.declared.runs.Range.{Range}
 use Rattle.cmap_values.specs.Files.{BfEntry, ByLength, CidEntry, Codespace, File, of_length}
 use Rattle.cmap_values.specs.Metadata.{Collection, FileMetadata}
 use Rattle.cmap_values.specs.Names.{Family, family_of, ordering_of, registry_of}
-use Rattle.cmap_layers.specs.Lookups.{last_bf}
+use Rattle.cmap_layers.specs.Lookups.{bf_span, last_bf}
 use Rattle.cmap_packed.specs.Bundles.{PrefixTables}
 use Rattle.cmap_packed.specs.PrefixWords.{CodeWord}
 use Rattle.cmap_writer.specs.Arranged.{IsPreparedFor}
@@ -12,6 +13,7 @@ use Rattle.cmap_writer.specs.MetadataWritten.{collection_len}
 use Rattle.cmap_writer.specs.Pieces.{cid_told}
 use Rattle.cmap_writer.specs.Segments.{AreSegmentBytes}
 use Rattle.cmap_writer.specs.Spelled.{IsNoSymbol}
+use Rattle.cmap_writer.specs.TextParts.{units_at}
 use Rattle.cmap_writer.specs.declared.prepared.Prepared.{Prepared}
 use Rattle.cmap_writer.specs.declared.segments.Segment.{Segment}
 use Rattle.cmap_writer.specs.declared.obstacle.Obstacle.{Obstacle}
@@ -46,13 +48,13 @@ IsMisnamed collection = family_of (registry_of collection.family) (ordering_of c
 abbrev pub HasWideSupplement : ℤ → Collection → Type 0
 HasWideSupplement n collection = (collection.supplement ≡ n) × ((number : ℕ) → number < 2 ^ 16 → pos number ≢ n)
 
--- the declaration that decides the text of the first code has more units than a byte can count
+-- the declaration that decides the text of the first code gives it more units than a byte can count
 abbrev pub HasLongText : List BfEntry → Range → Type 0
-HasLongText es range = (range.start ≤ range.end) × IsSomeAnd (last_bf es range.start) (λ e. 2 ^ 8 ≤ length e.units)
+HasLongText es range = (range.start ≤ range.end) × IsSomeAnd (last_bf es range.start) (λ e. 2 ^ 8 ≤ length (units_at e range.start))
 
--- more than 2^16 codes, for each of which a declaration decides a text
+-- a run of more than 2^16 codes, for which one declaration decides
 abbrev pub HasManyTexts : List BfEntry → Range → Type 0
-HasManyTexts es range = (range.start + 2 ^ 16 ≤ range.end) × ((code : ℕ) → range.start ≤ code → code ≤ range.end → IsSome (last_bf es code))
+HasManyTexts es range = (range.start + 2 ^ 16 ≤ range.end) × Any (λ run. (run.low ≡ range.start) × (run.high ≡ range.end)) (runs_of (map bf_span es))
 
 -- with the five bytes before it, it has 2^32 bytes or more
 abbrev pub IsLongCollection : Collection → Type 0

@@ -1,8 +1,8 @@
 -- Parts of declarations of texts.
-use Rattle.std.specs.Prelude.{◌≡◌, ℕ, ◌+◌, ◌-◌, ◌<◌, ◌≤◌, ◌^◌, List, [], All, IsSomeAnd, length, unwrap_or}
+use Rattle.std.specs.Prelude.{◌≡◌, ℕ, ◌+◌, ◌-◌, ◌<◌, ◌≤◌, ◌^◌, List, [], All, length, unwrap_or}
 use Rattle.cmap_tokens.specs.Texts.{shifted, text_at}
 use Rattle.cmap_values.specs.Files.{BfEntry}
-use Rattle.cmap_layers.specs.Lookups.{bf_span, last_bf}
+use Rattle.cmap_layers.specs.Lookups.{bf_span}
 use Rattle.cmap_writer.specs.Pieces.{AllSayAs, SaysAs}
 
 -- units whose texts are those of others from an offset on
@@ -27,10 +27,6 @@ pub record IsShifted (units : List ℕ) (offset : ℕ) (shifted : List ℕ) : Ty
 -- from 1 to 65536 codes
 abbrev pub IsDecidedText : BfEntry → Type 0
 IsDecidedText e = (e.start ≤ e.end) × (e.end < 2 ^ 32) × (e.end - e.start < 2 ^ 16) × All (λ u. u < 2 ^ 16) e.units
-
--- the declaration that decides its first code has no fewer units
-abbrev pub IsPartOf : List BfEntry → BfEntry → Type 0
-IsPartOf es part = IsSomeAnd (last_bf es part.start) (λ e. length part.units ≤ length e.units)
 
 -- entries that give each code the units that a list gives it still do with those of one more range
 abbrev pub GivesUnits : BfEntry → List BfEntry → List BfEntry → Type 0

@@ -11,7 +11,7 @@ ghost use Rattle.cmap_runs.specs.Ranges.{runs_of};
 ghost use Rattle.cmap_writer.specs.Arranged.{AreCut, PushesCut};
 ghost use Rattle.cmap_writer.specs.Obstacles.{IsTextObstacle};
 ghost use Rattle.cmap_writer.specs.Pieces.{AllSayAs, ArePieces, CanBeSplitText, IsShortText, PushesPieces, SayTheSame};
-ghost use Rattle.cmap_writer.specs.TextParts.{GivesUnits, IsDecidedText, IsPartOf, IsShifted, units_at};
+ghost use Rattle.cmap_writer.specs.TextParts.{GivesUnits, IsDecidedText, IsShifted, units_at};
 ghost use Rattle.cmap_writer.specs.Weights.{run_span, span_weight, texts_weight, weight_of};
 
 use crate::decided::last_code;
@@ -34,7 +34,6 @@ pub(crate) fn decided_texts(
 ) -> Result<Vec<BfRange>, Fault<Obstacle>>
     ensures same { IfOk result (λ ranges. SayTheSame bf_span bf_at (map bf_entry_seen list.now) (map bf_entry_seen ranges.items)) }
     ensures small { IfOk result (λ ranges. All IsDecidedText (map bf_entry_seen ranges.items)) }
-    ensures parts { IfOk result (λ ranges. All (IsPartOf (map bf_entry_seen list.now)) (map bf_entry_seen ranges.items)) }
     ensures units { IfOk result (λ ranges. AllSayAs bf_span units_at (map bf_entry_seen list.now) (map bf_entry_seen ranges.items)) }
     ensures runs { IfOk result (λ ranges. map bf_range_span ranges.items ≡ map run_span (runs_of (map bf_span (map bf_entry_seen list.now)))) }
     ensures few { IfOk result (λ ranges. texts_weight ranges.items ≤ weight_of (map bf_span (map bf_entry_seen list.now))) }
@@ -49,7 +48,6 @@ fn text_ranges_of(alloc: Global, table: &Table<BfRange>) -> Result<Vec<BfRange>,
     requires { All (λ r. r.range.end < 2 ^ 32) table.now }
     ensures same { IfOk result (λ ranges. SayTheSame bf_span bf_at (map bf_entry_seen table.now) (map bf_entry_seen ranges.items)) }
     ensures small { IfOk result (λ ranges. All IsDecidedText (map bf_entry_seen ranges.items)) }
-    ensures parts { IfOk result (λ ranges. All (IsPartOf (map bf_entry_seen table.now)) (map bf_entry_seen ranges.items)) }
     ensures units { IfOk result (λ ranges. AllSayAs bf_span units_at (map bf_entry_seen table.now) (map bf_entry_seen ranges.items)) }
     ensures runs { IfOk result (λ ranges. map bf_range_span ranges.items ≡ map run_span (runs_of (map bf_range_span table.now))) }
     ensures few { IfOk result (λ ranges. texts_weight ranges.items ≤ weight_of (map bf_range_span table.now)) }

@@ -1,4 +1,4 @@
-use Rattle.std.proofs.Common.{◌≡◌, ◌≤◌, All, map, subst, sym}
+use Rattle.std.proofs.Common.{◌≡◌, ◌≤◌, map, subst, sym}
 use Rattle.std.specs.Prelude.{IfErr, IfOk}
 use Rattle.std.proofs.lemmas.Result.{IfOk-from_err}
 use Rattle.cmap_runs.specs.Ranges.{runs_of}
@@ -7,7 +7,7 @@ use Rattle.cmap_values.specs.Outcomes.{RefusesWith}
 use Rattle.cmap_layers.specs.Lookups.{bf_at, bf_span}
 use Rattle.cmap_writer.specs.Obstacles.{IsTextObstacle}
 use Rattle.cmap_writer.specs.Pieces.{AllSayAs, SayTheSame}
-use Rattle.cmap_writer.specs.TextParts.{IsPartOf, units_at}
+use Rattle.cmap_writer.specs.TextParts.{units_at}
 use Rattle.cmap_writer.specs.Weights.{run_span, texts_weight, weight_of}
 use Rattle.cmap_values.proofs.Outcomes.{memory_on}
 use Rattle.cmap_writer.proofs.Weighed.{bf_spans_seen}
@@ -20,10 +20,6 @@ pub returns-clause-same : goal.returns-clause-same
 returns-clause-same c =
     subst (λ es. IfOk c.text_ranges_of.result (λ ranges. SayTheSame bf_span bf_at es (map bf_entry_seen ranges.items))) c.in_ok-table.ensures.0 c.text_ranges_of.ensures.same
 
-pub returns-clause-parts : goal.returns-clause-parts
-returns-clause-parts c =
-    subst (λ es. IfOk c.text_ranges_of.result (λ ranges. All (IsPartOf es) (map bf_entry_seen ranges.items))) c.in_ok-table.ensures.0 c.text_ranges_of.ensures.parts
-
 pub returns-clause-err : goal.returns-clause-err
 returns-clause-err c =
     subst (λ es. IfErr c.text_ranges_of.result (RefusesWith (IsTextObstacle es))) c.in_ok-table.ensures.0 c.text_ranges_of.ensures.err
@@ -33,9 +29,6 @@ returns-in_err-table-clause-same c = IfOk-from_err _ _ c.from_residual.ensures.0
 
 pub returns-in_err-table-clause-small : goal.returns-in_err-table-clause-small
 returns-in_err-table-clause-small c = IfOk-from_err _ _ c.from_residual.ensures.0
-
-pub returns-in_err-table-clause-parts : goal.returns-in_err-table-clause-parts
-returns-in_err-table-clause-parts c = IfOk-from_err _ _ c.from_residual.ensures.0
 
 pub returns-in_err-table-clause-err : goal.returns-in_err-table-clause-err
 returns-in_err-table-clause-err c = memory_on _ _ c.from_residual.ensures.1

@@ -1,5 +1,5 @@
 use Rattle.std.proofs.Common.{ℕ, ◌≡◌, ◌∙◌, inr, ◌++◌, ◌∷◌, [], All, List, length, map, ap, refl, subst, sym, arith}
-use Rattle.std.specs.List.{sum_by}
+use Rattle.std.specs.List.{Any, sum_by}
 use Rattle.std.proofs.lemmas.List.{map-append, take_all}
 use Rattle.std.proofs.lemmas.List.Sums.{sum_by_push}
 use Rattle.std.proofs.lemmas.List.Elements.{All-nil, All-push}
@@ -9,13 +9,13 @@ use Rattle.cmap_values.specs.DeclarationsSeen.{bf_entry_seen, bf_range_span}
 use Rattle.cmap_values.specs.declared.declarations.BfRange.{BfRange}
 use Rattle.cmap_layers.specs.Lookups.{bf_at, bf_span}
 use Rattle.cmap_writer.specs.Pieces.{AllSayAs, Cover, SaysAs}
-use Rattle.cmap_writer.specs.TextParts.{IsDecidedText, IsPartOf, units_at}
+use Rattle.cmap_writer.specs.TextParts.{IsDecidedText, units_at}
 use Rattle.cmap_writer.specs.Weights.{run_span, span_weight}
 use Rattle.cmap_values.proofs.Outcomes.{memory_on}
 use Rattle.cmap_writer.proofs.Cuts.{run_pushed}
 use Rattle.cmap_writer.proofs.RunParts.{HaveRuns, have_all, have_more, have_none}
-use Rattle.cmap_writer.proofs.TextPartsSeen.{all_told, declaration_within, part_decided, part_from, part_has, part_right, part_units, run_filled, run_within}
-use Rattle.cmap_writer.proofs.Weighed.{run_weighed, runs_weighed}
+use Rattle.cmap_writer.proofs.TextPartsSeen.{declaration_within, part_decided, part_has, part_right, part_units, run_among, run_filled, run_within}
+use Rattle.cmap_writer.proofs.Weighed.{bf_spans_seen, run_weighed, runs_weighed}
 use Rattle.cmap_writer.proofs.text_parts.text_ranges_of.Goals as goal
 
 abbrev weight : BfRange → ℕ
@@ -51,14 +51,12 @@ loop-i-preserved c =
     let pushed : new ≡ old ++ bf_entry_seen part ∷ [] = ap (map bf_entry_seen) c.in_ok-push.ensures.items ∙ map-append bf_entry_seen c.loop-i.ranges.items (part ∷ []) in
     let says = part_right table (runs table) are i low high index at e there part _ refl refl is.0 is.1 in
     let decided : IsDecidedText (bf_entry_seen part) = part_decided table (runs table) are i low high index at e there part _ refl refl is.0 is.1 (omega arith) in
-    let from = part_from table (runs table) are i low high index at e there part _ refl refl is.0 is.1 in
     record {
       right = subst (AllSayAs bf_span bf_at (map bf_entry_seen table)) (sym pushed) (All-push (SaysAs bf_span bf_at (map bf_entry_seen table)) old (bf_entry_seen part) c.loop-i.invariant.right says);
       units = subst (AllSayAs bf_span units_at (map bf_entry_seen table)) (sym pushed) (All-push (SaysAs bf_span units_at (map bf_entry_seen table)) old (bf_entry_seen part) c.loop-i.invariant.units (part_units table (runs table) are i low high index at e there part _ refl refl is.0 is.1));
       runs = ap (map bf_range_span) c.in_ok-push.ensures.items ∙ map-append bf_range_span c.loop-i.ranges.items (part ∷ []) ∙ ap (λ r. map bf_range_span c.loop-i.ranges.items ++ record { start = r.start; end = r.end } ∷ []) is.0 ∙ run_pushed (runs table) i (record { low = low; high = high; index = index }) (map bf_range_span c.loop-i.ranges.items) (omega arith) at c.loop-i.invariant.runs;
       few = omega (arith, c.loop-i.invariant.few, sum_by_push weight c.loop-i.ranges.items part, ap (sum_by weight) c.in_ok-push.ensures.items, ap (λ r. r.start) is.0, ap (λ r. r.end) is.0, run_weighed (runs table) i (record { low = low; high = high; index = index }) (omega arith) at);
       small = subst (All IsDecidedText) (sym pushed) (All-push IsDecidedText old (bf_entry_seen part) c.loop-i.invariant.small decided);
-      parts = subst (All (IsPartOf (map bf_entry_seen table))) (sym pushed) (All-push (IsPartOf (map bf_entry_seen table)) old (bf_entry_seen part) c.loop-i.invariant.parts from);
       whole = have_more bf_range_span bf_entry_seen bf_span bf_at (λ x. refl) table (runs table) are old new i low high index (bf_entry_seen part) c.loop-i.invariant.whole at (λ code. subst (λ es. Cover bf_span es code) (sym pushed)) (part_has table (runs table) are i low high index at e there part _ refl refl is.0 is.1);
     }
 
@@ -70,7 +68,7 @@ returns-clause-same c =
     have_all bf_range_span bf_entry_seen bf_span bf_at (λ x. refl) table (runs table) c.run_count-i-end.ensures.runs.0 ranges c.requires c.loop-i.invariant.right (subst (HaveRuns bf_span (runs table) ranges) end c.loop-i.invariant.whole)
 
 pub returns-then-end-start-gt-MOST_TEXTS_AFTER-clause-err : goal.returns-then-end-start-gt-MOST_TEXTS_AFTER-clause-err
-returns-then-end-start-gt-MOST_TEXTS_AFTER-clause-err c = inr (omega arith, all_told c.args.table.now (runs c.args.table.now) c.run_count-i-end.ensures.runs.0 c.loop-i.i c.run-start.result.0 c.run-start.result.1 c.run-start.result.2 c.run-start.ensures.run)
+returns-then-end-start-gt-MOST_TEXTS_AFTER-clause-err c = inr (omega arith, subst (λ ss. Any (λ run. (run.low ≡ c.run-start.result.0) × (run.high ≡ c.run-start.result.1)) (runs_of ss)) (sym (bf_spans_seen c.args.table.now)) (run_among (runs c.args.table.now) c.loop-i.i c.run-start.result.0 c.run-start.result.1 c.run-start.result.2 c.run-start.ensures.run))
 
 pub returns-in_err-part-clause-err : goal.returns-in_err-part-clause-err
 returns-in_err-part-clause-err c = memory_on _ _ c.from_residual.ensures.1
@@ -87,15 +85,11 @@ loop-i-init c =
       units = All-nil (SaysAs bf_span units_at (map bf_entry_seen table));
       runs = refl;
       few = omega arith;
-      parts = All-nil (IsPartOf (map bf_entry_seen table));
       whole = have_none bf_range_span bf_entry_seen bf_span bf_at (λ x. refl) table (runs table) c.run_count-i-end.ensures.runs.0;
     })
 
 pub returns-clause-small : goal.returns-clause-small
 returns-clause-small c = c.loop-i.invariant.small
-
-pub returns-clause-parts : goal.returns-clause-parts
-returns-clause-parts c = c.loop-i.invariant.parts
 
 pub returns-in_err-part-clause-same : goal.returns-in_err-part-clause-same
 returns-in_err-part-clause-same c = IfOk-from_err _ _ c.from_residual.ensures.0
@@ -106,14 +100,8 @@ returns-in_err-push-clause-same c = IfOk-from_err _ _ c.from_residual-in_err-pus
 pub returns-in_err-part-clause-small : goal.returns-in_err-part-clause-small
 returns-in_err-part-clause-small c = IfOk-from_err _ _ c.from_residual.ensures.0
 
-pub returns-in_err-part-clause-parts : goal.returns-in_err-part-clause-parts
-returns-in_err-part-clause-parts c = IfOk-from_err _ _ c.from_residual.ensures.0
-
 pub returns-in_err-push-clause-small : goal.returns-in_err-push-clause-small
 returns-in_err-push-clause-small c = IfOk-from_err _ _ c.from_residual-in_err-push.ensures.0
-
-pub returns-in_err-push-clause-parts : goal.returns-in_err-push-clause-parts
-returns-in_err-push-clause-parts c = IfOk-from_err _ _ c.from_residual-in_err-push.ensures.0
 
 pub returns-clause-few : goal.returns-clause-few
 returns-clause-few c = omega (arith, c.loop-i.invariant.few, runs_weighed (runs c.args.table.now) c.loop-i.i (omega arith))

@@ -15,10 +15,11 @@ use Rattle.cmap_writer.specs.Held.{AreInOrder}
 use Rattle.cmap_writer.specs.Pieces.{AllSayAs, ArePieces, CanBeSplitText, IsShortText}
 use Rattle.cmap_writer.specs.Segments.{AddsSegments}
 use Rattle.cmap_writer.specs.Weights.{AreFew, run_span, texts_weight}
-use Rattle.cmap_writer.specs.TextParts.{IsDecidedText, IsPartOf, units_at}
+use Rattle.cmap_writer.specs.TextParts.{IsDecidedText, units_at}
 use Rattle.cmap_writer.proofs.ArrangedTexts.{said}
 use Rattle.cmap_writer.proofs.EntriesOrdered.{cuts_in_order, runs_in_order, sorted_ordered}
 use Rattle.cmap_writer.proofs.Weighed.{bf_spans_seen}
+use Rattle.cmap_writer.proofs.TextPartsSeen.{runs_few}
 use Rattle.cmap_writer.proofs.Told.{pieces_say, same_permuted, same_told}
 use Rattle.cmap_values.proofs.Outcomes.{memory_on, refuses_on}
 use Rattle.cmap_writer.proofs.ObstaclesMet.{long_text}
@@ -45,7 +46,7 @@ returns-clause-added c =
     (map bf_entry_seen sorted, added, same_told bf_span bf_at es (map bf_entry_seen sorted) same, few)
 
 pub returns-in_err-check_units-clause-err : goal.returns-in_err-check_units-clause-err
-returns-in_err-check_units-clause-err c = refuses_on _ _ c.from_residual-in_err-check_units.ensures.1 (long_text (map bf_entry_seen c.args.list.now) c.deref.result.now (subst (λ xs. All IsDecidedText (map bf_entry_seen xs)) (sym c.deref.ensures.value) c.in_ok-ranges.ensures.small) (subst (λ xs. All (IsPartOf (map bf_entry_seen c.args.list.now)) (map bf_entry_seen xs)) (sym c.deref.ensures.value) c.in_ok-ranges.ensures.parts) _ c.in_err-check_units.ensures.err) (λ o h. h)
+returns-in_err-check_units-clause-err c = refuses_on _ _ c.from_residual-in_err-check_units.ensures.1 (long_text (map bf_entry_seen c.args.list.now) c.deref.result.now (subst (λ xs. All IsDecidedText (map bf_entry_seen xs)) (sym c.deref.ensures.value) c.in_ok-ranges.ensures.small) (subst (λ xs. AllSayAs bf_span units_at (map bf_entry_seen c.args.list.now) (map bf_entry_seen xs)) (sym c.deref.ensures.value) c.in_ok-ranges.ensures.units) _ c.in_err-check_units.ensures.err) (λ o h. h)
 
 pub returns-in_err-ranges-clause-err : goal.returns-in_err-ranges-clause-err
 returns-in_err-ranges-clause-err c = refuses_on _ _ c.from_residual.ensures.1 c.in_err-ranges.ensures.err (λ o h. h)
@@ -96,6 +97,7 @@ returns-clause-arranged c =
       map bf_entry_seen sorted,
       record {
         pieces = pieces;
+        few = runs_few ranges runs c.in_ok-ranges.ensures.runs c.in_ok-ranges.ensures.small;
         cut = subst (AreCut (map run_span runs)) (sym (bf_spans_seen items)) cut;
         same = pieces_say bf_span bf_at IsShortText es (map bf_entry_seen ranges) pieces parts c.in_ok-ranges.ensures.same;
         units = subst (λ xs. (es : List BfEntry) → AllSayAs bf_span units_at es (map bf_entry_seen xs) → AllSayAs bf_span units_at es pieces) c.deref-2.ensures.value c.in_ok-pieces.ensures.units es c.in_ok-ranges.ensures.units;
