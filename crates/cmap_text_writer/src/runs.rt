@@ -18,7 +18,7 @@ const ROW: usize = 8;
 /// The least texts of codes in a row that are shorter as an array.
 const LEAST: usize = 3;
 
-/// By how many single codes, written as ranges, a section becomes longer than by a head of its own.
+/// What the count and the two names of a section cost, in single codes that are written as ranges.
 const HEAD: usize = 4;
 
 /// Which declarations of a list are the next section: for what each entry is, and how many they are.
@@ -83,20 +83,22 @@ pub(crate) fn next_text_section(entries: &[BfRange]) -> (Extent, usize)
     ensures few { result.1 ≤ 100 }
     ensures all { All (λ e. IsOfExtent (extent_seen result.0) e.range.start e.range.end) (take result.1 entries.now) }
 {
+    let most = entries.len().min(MOST);
     let singles = count_singles(entries);
-    let kept = count_kept(&entries[..singles], Extent::Single);
-    if kept > HEAD || kept == entries.len() {
+    let enough = if singles < most { 0 } else { HEAD };
+    let kept = count_kept(&entries[..singles], Extent::Single, enough);
+    if kept > 0 {
         return (Extent::Single, kept);
     }
-    let most = entries.len().min(MOST);
     (
         Extent::Range,
-        count_kept(&entries[..most], Extent::Range).max(1),
+        count_kept(&entries[..most], Extent::Range, HEAD).max(1),
     )
 }
 
-/// How many texts stand before those that are shorter in a section of the other kind.
-fn count_kept(entries: &[BfRange], extent: Extent) -> usize
+/// How many texts stand before those that are shorter in a section of the other kind: by two heads, or by
+/// more than enough at the end.
+fn count_kept(entries: &[BfRange], extent: Extent, enough: usize) -> usize
     ensures { result ≤ length entries.now }
 {
     let mut left = entries;
@@ -105,30 +107,25 @@ fn count_kept(entries: &[BfRange], extent: Extent) -> usize
         Extent::Single => HEAD,
         Extent::Range => 0,
     };
-    while !left.is_empty() {
+    while !left.is_empty() && gain < 2 * HEAD {
         let (line, later) = left.split_at(count_line(left));
         left = later;
         gain = gain_after(gain, line, extent);
         if gain == 0 {
             kept = entries.len() - left.len();
         }
-        if gain >= 2 * HEAD {
-            return kept;
-        }
     }
-    if gain > HEAD { kept } else { entries.len() }
+    if gain > enough { kept } else { entries.len() }
 }
 
-/// By how much texts are shorter in a section of the other kind, with one more line, which is shorter
-/// there or not. One more single code, written as a range, is one more.
+/// By how much texts are shorter in a section of the other kind, with one more line, in single codes that
+/// are written as ranges: 7 bytes each. An array saves this much for all but two of its texts.
 fn gain_after(gain: usize, line: &[BfRange], extent: Extent) -> usize {
     match (extent, line) {
         (Extent::Single, [_]) => gain.saturating_sub(1),
         (Extent::Single, _) => gain.saturating_add(line.len().saturating_sub(2)),
-        (Extent::Range, [entry]) => match is_single(&entry.range) {
-            true => gain.saturating_add(1),
-            false => 0,
-        },
+        (Extent::Range, [entry]) if is_single(&entry.range) => gain.saturating_add(1),
+        (Extent::Range, [_]) => 0,
         (Extent::Range, _) => gain.saturating_sub(line.len().saturating_sub(2)),
     }
 }
