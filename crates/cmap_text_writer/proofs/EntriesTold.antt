@@ -1,14 +1,15 @@
 -- Entries of sections that are written, and what a reader finds in them.
 use Rattle.std.proofs.Common.{◌≡◌, ◌∙◌, ℕ, ◌+◌, ◌^◌, ◌<◌, ◌≤◌, List, [], ◌∷◌, ◌++◌, get_or, inl, inr, length, map, take, refl, sym, ap, subst, arith}
-use Rattle.std.specs.Prelude.{decimal}
+use Rattle.std.specs.Prelude.{decimal, flat_map}
 use Rattle.std.specs.Int.{bytes_high_first}
 use Rattle.std.proofs.lemmas.Bool.{cases_lt, le-ltb, lt-ltb}
 use Rattle.std.proofs.lemmas.List.{append_assoc, append-nil, map-append, take_more}
+use Rattle.std.proofs.lemmas.List.Concat.{flat_map-append}
 use Rattle.cmap_values.specs.Files.{CidEntry, Codespace, Declaration}
 use Rattle.cmap_text.specs.TextFiles.{AreEntries, CidKind, Extent, Section, cids, codespace_range, declares_cid, range, single}
 use Rattle.cmap_text_writer.specs.Fits.{CidFits, Fits, IsOfExtent, IsSpaceFitting}
 use Rattle.cmap_text_writer.specs.Spelled.{cid_spelled, end_length, hex_string, space_spelled}
-use Rattle.cmap_text_writer.specs.Told.{Appends, TellsEntries, TellsEntry, TellsTokens, each_of}
+use Rattle.cmap_text_writer.specs.Told.{Appends, TellsEntries, TellsEntry, TellsTokens}
 use Rattle.cmap_text_writer.proofs.StringsTold.{code_back, code_is_token, code_string, decimal_is_token, is_cid, is_code, length-code, number_token}
 use Rattle.cmap_text_writer.proofs.TokensTold.{lined, no_tokens, spaced, tokens_both}
 
@@ -16,7 +17,7 @@ use Rattle.cmap_text_writer.proofs.TokensTold.{lined, no_tokens, spaced, tokens_
 space_same : (s : Codespace) (len low high : ℕ) → len ≡ s.len → low ≡ s.low → high ≡ s.high → Declaration.codespace s ∷ [] ≡ Declaration.codespace (record { len = len; low = low; high = high }) ∷ []
 space_same s len low high a b c = rw (a, b, c) refl
 
-pub space_told : (s : Codespace) → Fits s.len s.low → Fits s.len s.high → TellsEntry codespace_range (Declaration.codespace s) (space_spelled s)
+pub space_told : (s : Codespace) → Fits s.len s.low → Fits s.len s.high → TellsEntry codespace_range (Declaration.codespace s ∷ []) (space_spelled s)
 space_told s low high =
     let a = code_string s.len s.low in
     let b = code_string s.len s.high in
@@ -37,7 +38,7 @@ space_told s low high =
       );
     }
 
-pub space_by : (s : Codespace) → IsSpaceFitting s → TellsEntry codespace_range (Declaration.codespace s) (space_spelled s)
+pub space_by : (s : Codespace) → IsSpaceFitting s → TellsEntry codespace_range (Declaration.codespace s ∷ []) (space_spelled s)
 space_by s fits = space_told s fits.0 fits.1
 
 -- ---- CIDs
@@ -55,7 +56,7 @@ end_fits len end some few small =
 cid_lined : (n : ℕ) → n < 2 ^ 32 → TellsTokens (number_token n ∷ []) (decimal n ++ 10 ∷ [])
 cid_lined n small = lined (decimal n) (number_token n) (decimal_is_token n (omega arith))
 
-pub range_told : (kind : CidKind) (len : ℕ) (e : CidEntry) → CidFits len e → TellsEntry (cids kind range) (declares_cid kind len e) (cid_spelled len range e)
+pub range_told : (kind : CidKind) (len : ℕ) (e : CidEntry) → CidFits len e → TellsEntry (cids kind range) (declares_cid kind len e ∷ []) (cid_spelled len range e)
 range_told kind len e fits =
     let longer = end_length len e.end in
     let last = end_fits len e.end fits.start.some fits.start.few fits.end in
@@ -80,7 +81,7 @@ range_told kind len e fits =
       );
     }
 
-pub single_told : (kind : CidKind) (len : ℕ) (e : CidEntry) → CidFits len e → e.start ≡ e.end → TellsEntry (cids kind single) (declares_cid kind len e) (cid_spelled len single e)
+pub single_told : (kind : CidKind) (len : ℕ) (e : CidEntry) → CidFits len e → e.start ≡ e.end → TellsEntry (cids kind single) (declares_cid kind len e ∷ []) (cid_spelled len single e)
 single_told kind len e fits one =
     let a = code_string len e.start in
     let code = bytes_high_first len e.start in
@@ -90,30 +91,37 @@ single_told kind len e fits one =
       is = λ rest. (a, number_token e.cid, code, e.cid, refl, is_code len e.start fits.start.some fits.start.few, is_cid e.cid fits.cid, cid_same kind e len (length code) _ _ (length-code len e.start) back (back ∙ one));
     }
 
-pub cid_told : (kind : CidKind) (len : ℕ) (extent : Extent) (e : CidEntry) → CidFits len e → IsOfExtent extent e.start e.end → TellsEntry (cids kind extent) (declares_cid kind len e) (cid_spelled len extent e)
+pub cid_told : (kind : CidKind) (len : ℕ) (extent : Extent) (e : CidEntry) → CidFits len e → IsOfExtent extent e.start e.end → TellsEntry (cids kind extent) (declares_cid kind len e ∷ []) (cid_spelled len extent e)
 cid_told kind len single e fits one = single_told kind len e fits one
 cid_told kind len range e fits any = range_told kind len e fits
 
 -- ---- entries in a row
 pub no_entries : (section : Section) → TellsEntries section [] []
-no_entries section = record { tokens = []; told = no_tokens; are = λ rest end each are. are }
+no_entries section = record { tokens = []; each = []; flat = refl; told = no_tokens; are = λ rest end others are. are }
 
-pub entries_push : (section : Section) (ds : List Declaration) (d : Declaration) (a b : List ℕ) → TellsEntries section ds a → TellsEntry section d b → TellsEntries section (ds ++ d ∷ []) (a ++ b)
-entries_push section ds d a b first second = let ts = first.tokens in let us = second.tokens in record {
+pub one_entry : (section : Section) (ds : List Declaration) (bytes : List ℕ) → TellsEntry section ds bytes → TellsEntries section ds bytes
+one_entry section ds bytes entry = record { tokens = entry.tokens; each = ds ∷ []; flat = append-nil ds; told = entry.told; are = λ rest end others later. (rest, entry.is rest, later) }
+
+pub entries_both : (section : Section) (ds es : List Declaration) (a b : List ℕ) → TellsEntries section ds a → TellsEntries section es b → TellsEntries section (ds ++ es) (a ++ b)
+entries_both section ds es a b first second = let ts = first.tokens in let us = second.tokens in record {
   tokens = ts ++ us;
+  each = first.each ++ second.each;
+  flat = flat_map-append (λ xs. xs) first.each second.each ∙ ap (λ xs. xs ++ flat_map (λ ys. ys) second.each) first.flat ∙ ap (λ xs. ds ++ xs) second.flat;
   told = tokens_both ts us a b first.told second.told;
-  are = λ rest end each later.
-      let all = first.are (us ++ rest) end ((d ∷ []) ∷ each) (rest, second.is rest, later) in
-      let parted : each_of (ds ++ d ∷ []) ++ each ≡ each_of ds ++ ((d ∷ []) ∷ each) = ap (λ es. es ++ each) (map-append (λ d. d ∷ []) ds (d ∷ [])) ∙ append_assoc (each_of ds) ((d ∷ []) ∷ []) each in
-      subst (λ tokens. AreEntries section tokens (each_of (ds ++ d ∷ []) ++ each) end) (sym (append_assoc ts us rest)) (subst (λ es. AreEntries section (ts ++ (us ++ rest)) es end) (sym parted) all);
+  are = λ rest end others later.
+      let all = first.are (us ++ rest) end (second.each ++ others) (second.are rest end others later) in
+      subst (λ tokens. AreEntries section tokens ((first.each ++ second.each) ++ others) end) (sym (append_assoc ts us rest)) (subst (λ es. AreEntries section (ts ++ (us ++ rest)) es end) (sym (append_assoc first.each second.each others)) all);
 }
+
+pub entries_push : (section : Section) (ds : List Declaration) (d : Declaration) (a b : List ℕ) → TellsEntries section ds a → TellsEntry section (d ∷ []) b → TellsEntries section (ds ++ d ∷ []) (a ++ b)
+entries_push section ds d a b first second = entries_both section ds (d ∷ []) a b first (one_entry section (d ∷ []) b second)
 
 -- the entries of a list, up to an index
 pub appended_none : (section : Section) (old : List ℕ) → Appends old old (TellsEntries section [])
 appended_none section old = ([], sym (append-nil old), no_entries section)
 
 pub appended_more : {X E : Type 0} (section : Section) (say : E → Declaration) (seen : X → E) (xs : List X) (i : ℕ) (d : X) (old now new entry : List ℕ) → i < length xs
-    → Appends old now (TellsEntries section (map say (map seen (take i xs)))) → new ≡ now ++ entry → TellsEntry section (say (seen (get_or xs i d))) entry → Appends old new (TellsEntries section (map say (map seen (take (i + 1) xs))))
+    → Appends old now (TellsEntries section (map say (map seen (take i xs)))) → new ≡ now ++ entry → TellsEntry section (say (seen (get_or xs i d)) ∷ []) entry → Appends old new (TellsEntries section (map say (map seen (take (i + 1) xs))))
 appended_more section say seen xs i d old now new entry within (bytes, first, all) second here =
     let x = seen (get_or xs i d) in
     let before = map say (map seen (take i xs)) in
@@ -131,7 +139,7 @@ pub cids_none : (extent : Extent) (len : ℕ) (old : List ℕ) → Appends old o
 cids_none extent len old = ([], sym (append-nil old), λ kind. no_entries (cids kind extent))
 
 pub cids_more : {X : Type 0} (extent : Extent) (len : ℕ) (seen : X → CidEntry) (xs : List X) (i : ℕ) (d : X) (old now new entry : List ℕ) → i < length xs
-    → Appends old now (TellsCids extent len (map seen (take i xs))) → new ≡ now ++ entry → ((kind : CidKind) → TellsEntry (cids kind extent) (declares_cid kind len (seen (get_or xs i d))) entry) → Appends old new (TellsCids extent len (map seen (take (i + 1) xs)))
+    → Appends old now (TellsCids extent len (map seen (take i xs))) → new ≡ now ++ entry → ((kind : CidKind) → TellsEntry (cids kind extent) (declares_cid kind len (seen (get_or xs i d)) ∷ []) entry) → Appends old new (TellsCids extent len (map seen (take (i + 1) xs)))
 cids_more extent len seen xs i d old now new entry within (bytes, first, all) second here = (
   bytes ++ entry,
   second ∙ ap (λ bs. bs ++ entry) first ∙ append_assoc old bytes entry,

@@ -11,6 +11,7 @@ pub mod MetadataTold
 pub mod UsesTold
 pub mod WholeTold
 pub mod TextsTold
+pub mod ArraysTold
 pub mod Walked
 pub mod Sayable
 pub mod ObstaclesMet

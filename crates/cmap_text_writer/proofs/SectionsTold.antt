@@ -9,7 +9,7 @@ use Rattle.cmap_tokens.specs.Numbers.{numeral, integer, radix_integer, is_real}
 use Rattle.cmap_tokens.specs.Tokens.{IsToken, Token}
 use Rattle.cmap_text.specs.TextFiles.{AreEntries, Item, Section, bf_char, bf_range, cids, closer, codespace_range, declared_by, entries, mapped, notdef, opener, other, range, single}
 use Rattle.cmap_text_writer.specs.Spelled.{closer_spelled, opener_spelled}
-use Rattle.cmap_text_writer.specs.Told.{Appends, IsOfSections, TellsEntries, TellsItems, TellsSections, each_of}
+use Rattle.cmap_text_writer.specs.Told.{Appends, IsOfSections, TellsEntries, TellsItems, TellsSections}
 use Rattle.cmap_text_writer.proofs.ItemsTold.{items_both, no_items, one_item, other_item}
 use Rattle.cmap_text_writer.proofs.StringsTold.{decimal_is_token, number_token}
 use Rattle.cmap_text_writer.proofs.TokensTold.{is_word, lined, spaced, tokens_both}
@@ -36,10 +36,6 @@ closer_is bf_range = is_word (closer bf_range) (omega arith) refl refl
 closer_is bf_char = is_word (closer bf_char) (omega arith) refl refl
 
 -- ---- one section
-flat_each : (ds : List Declaration) → flat_map (λ es. es) (each_of ds) ≡ ds
-flat_each [] = refl
-flat_each (d ∷ ds) = ap (λ es. d ∷ es) (flat_each ds)
-
 -- its opener, entries and closer
 body_told : (section : Section) (ds : List Declaration) (body : List ℕ) → TellsEntries section ds body → TellsItems (entries ds ∷ []) ((opener section ++ 10 ∷ []) ++ (body ++ closer_spelled section))
 body_told section ds body h =
@@ -51,11 +47,11 @@ body_told section ds body h =
     (λ rest. (
       section,
       (ts ++ close ∷ []) ++ rest,
-      each_of ds,
+      h.each,
       refl,
-      subst (λ es. AreEntries section ((ts ++ close ∷ []) ++ rest) es rest) (append-nil (each_of ds))
-          (subst (λ tokens. AreEntries section tokens (each_of ds ++ []) rest) (sym (append_assoc ts (close ∷ []) rest)) (h.are (close ∷ rest) rest [] refl)),
-      sym (flat_each ds),
+      subst (λ es. AreEntries section ((ts ++ close ∷ []) ++ rest) es rest) (append-nil h.each)
+          (subst (λ tokens. AreEntries section tokens (h.each ++ []) rest) (sym (append_assoc ts (close ∷ []) rest)) (h.are (close ∷ rest) rest [] refl)),
+      sym h.flat,
     ))
 
 -- with the count before it
@@ -92,29 +88,29 @@ sections_both ds es a b first second = let is = first.items in let js = second.i
 pub sections_appended_both : (ds es : List Declaration) (old mid new : List ℕ) → Appends old mid (TellsSections ds) → Appends mid new (TellsSections es) → Appends old new (TellsSections (ds ++ es))
 sections_appended_both ds es old mid new (a, first, told) (b, second, told_too) = (a ++ b, second ∙ ap (λ bs. bs ++ b) first ∙ append_assoc old a b, sections_both ds es a b told told_too)
 
--- ---- a list, section by section
-module _ {X : Type 0} (say : List X → List Declaration) where
+-- a list of which parts say parts
+pub sections_joined : {X : Type 0} (say : List X → List Declaration) → ((a b : List X) → say (a ++ b) ≡ say a ++ say b) → (a b : List X) (x y : List ℕ) → TellsSections (say a) x → TellsSections (say b) y → TellsSections (say (a ++ b)) (x ++ y)
+sections_joined say both a b x y first second = subst (λ ds. TellsSections ds (x ++ y)) (sym (both a b)) (sections_both (say a) (say b) x y first second)
+
+-- ---- a list, part by part
+module _ {X : Type 0} (Tells : List X → List ℕ → Type 0) where
   -- these are written, and those are left
   pub record DoneTo (all left : List X) (old now : List ℕ) : Type 0 where
     pub done : List X
     pub parts : all ≡ done ++ left
-    pub told : Appends old now (TellsSections (say done))
+    pub told : Appends old now (Tells done)
 
-  pub done_none : say [] ≡ [] → (all : List X) (old : List ℕ) → DoneTo all all old old
-  done_none none all old = record { done = []; parts = refl; told = ([], sym (append-nil old), subst (λ ds. TellsSections ds []) (sym none) no_sections) }
+  pub done_none : Tells [] [] → (all : List X) (old : List ℕ) → DoneTo all all old old
+  done_none none all old = record { done = []; parts = refl; told = ([], sym (append-nil old), none) }
 
-  pub done_more : ((a b : List X) → say (a ++ b) ≡ say a ++ say b) → (all left here later : List X) (old now new : List ℕ) → DoneTo all left old now → left ≡ here ++ later → Appends now new (TellsSections (say here)) → DoneTo all later old new
+  pub done_more : ((a b : List X) (x y : List ℕ) → Tells a x → Tells b y → Tells (a ++ b) (x ++ y)) → (all left here later : List X) (old now new : List ℕ) → DoneTo all left old now → left ≡ here ++ later → Appends now new (Tells here) → DoneTo all later old new
   done_more both all left here later old now new h cut (last, last_is, at) =
       let (bytes, first_is, told) = h.told in
       record {
         done = h.done ++ here;
         parts = h.parts ∙ ap (λ xs. h.done ++ xs) cut ∙ sym (append_assoc h.done here later);
-        told = (
-          bytes ++ last,
-          last_is ∙ ap (λ bs. bs ++ last) first_is ∙ append_assoc old bytes last,
-          subst (λ ds. TellsSections ds (bytes ++ last)) (sym (both h.done here)) (sections_both (say h.done) (say here) bytes last told at),
-        );
+        told = (bytes ++ last, last_is ∙ ap (λ bs. bs ++ last) first_is ∙ append_assoc old bytes last, both h.done here bytes last told at);
       }
 
-  pub done_all : (all : List X) (old now : List ℕ) → DoneTo all [] old now → Appends old now (TellsSections (say all))
-  done_all all old now h = subst (λ xs. Appends old now (TellsSections (say xs))) (sym (h.parts ∙ append-nil h.done)) h.told
+  pub done_all : (all : List X) (old now : List ℕ) → DoneTo all [] old now → Appends old now (Tells all)
+  done_all all old now h = subst (λ xs. Appends old now (Tells xs)) (sym (h.parts ∙ append-nil h.done)) h.told

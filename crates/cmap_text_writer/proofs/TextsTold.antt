@@ -21,7 +21,7 @@ use Rattle.cmap_text_writer.proofs.TokensTold.{lined, spaced, tokens_both}
 text_same : (e : BfEntry) (start end : ℕ) → start ≡ e.start → end ≡ e.end → Declaration.bf e ∷ [] ≡ declares_bf start end e.units ∷ []
 text_same e start end a b = rw (a, b) refl
 
-pub text_told : (len : ℕ) (extent : Extent) (e : BfEntry) → Fits len e.start → TextFits e → IsOfExtent extent e.start e.end → TellsEntry (text_section extent) (Declaration.bf e) (text_spelled len extent e)
+pub text_told : (len : ℕ) (extent : Extent) (e : BfEntry) → Fits len e.start → TextFits e → IsOfExtent extent e.start e.end → TellsEntry (text_section extent) (Declaration.bf e ∷ []) (text_spelled len extent e)
 text_told len single e first fits one =
     let a = code_string len e.start in
     let d = units_string e.units in
@@ -52,7 +52,7 @@ text_told len range e first fits any =
       );
     }
 
-is_length : (len : CodeLength) → (1 ≤ length_of len) × (length_of len ≤ 4)
+pub is_length : (len : CodeLength) → (1 ≤ length_of len) × (length_of len ≤ 4)
 is_length One = (omega arith, omega arith)
 is_length Two = (omega arith, omega arith)
 is_length Three = (omega arith, omega arith)
@@ -61,10 +61,10 @@ is_length Four = (omega arith, omega arith)
 -- an entry of a list
 pub text_by : (len : CodeLength) (extent : Extent) (xs : List BfRange) (i : ℕ) (x : BfRange) → i < length xs → x ≡ get_or xs i x → All HasUnits (map bf_entry_seen xs) → All (λ e. IsOfExtent extent e.start e.end) (map bf_entry_seen xs)
     → x.range.start < 2 ^ 32 → x.range.end < 2 ^ 32 → All (λ u. u < 2 ^ 16) (units_seen x.units)
-    → TellsEntry (text_section extent) (Declaration.bf (bf_entry_seen (get_or xs i x))) (text_spelled (end_length (length_of len) x.range.start) extent (bf_entry_seen x))
+    → TellsEntry (text_section extent) (Declaration.bf (bf_entry_seen (get_or xs i x)) ∷ []) (text_spelled (end_length (length_of len) x.range.start) extent (bf_entry_seen x))
 text_by len extent xs i x within is units extents start end small =
     let some = subst (λ y. HasUnits (bf_entry_seen y)) (sym is) (all_at HasUnits bf_entry_seen xs i x within units) in
     let one = subst (λ y. IsOfExtent extent (bf_entry_seen y).start (bf_entry_seen y).end) (sym is) (all_at (λ e. IsOfExtent extent e.start e.end) bf_entry_seen xs i x within extents) in
     let (many, few) = is_length len in
     let told = text_told (end_length (length_of len) x.range.start) extent (bf_entry_seen x) (end_fits (length_of len) x.range.start many few start) (record { end = end; some = some; units = small }) one in
-    subst (λ y. TellsEntry (text_section extent) (Declaration.bf (bf_entry_seen y)) (text_spelled (end_length (length_of len) x.range.start) extent (bf_entry_seen x))) is told
+    subst (λ y. TellsEntry (text_section extent) (Declaration.bf (bf_entry_seen y) ∷ []) (text_spelled (end_length (length_of len) x.range.start) extent (bf_entry_seen x))) is told

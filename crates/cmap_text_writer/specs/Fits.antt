@@ -1,5 +1,5 @@
 -- What a text can say.
-use Rattle.std.specs.Prelude.{◌≡◌, ◌⊎◌, ℕ, ℤ, ◌<◌, ◌≤◌, ◌^◌, List, All, IfSome, IsTrue, Some, length}
+use Rattle.std.specs.Prelude.{◌≡◌, ◌⊎◌, ℕ, ℤ, ◌<◌, ◌≤◌, ◌+◌, ◌^◌, List, [], ◌∷◌, All, IfSome, IsTrue, Some, length}
 use Rattle.std.specs.List.{AllByRecursion, list_all}
 use Rattle.cmap_values.specs.Files.{BfEntry, ByLength, CidEntry, Codespace, Collection, File, Lists}
 use Rattle.cmap_values.specs.Names.{family_of, ordering_of, registry_of}
@@ -88,3 +88,13 @@ pub record CollectionFits (c : Collection) : Type 0 where
 abbrev pub IsOfExtent : Extent → ℕ → ℕ → Type 0
 IsOfExtent single start end = start ≡ end
 IsOfExtent range start end = Unit {0}
+
+-- ---- texts in a row
+-- single codes from this one on, each after the one before
+abbrev pub IsRow : ℕ → List BfEntry → Type 0
+IsRow code [] = Unit {0}
+IsRow code (e ∷ es) = (e.start ≡ code) × (e.end ≡ code) × IsRow (code + 1) es
+
+-- what one line of a section for ranges declares: one text, or an array of texts
+abbrev pub IsLine : List BfEntry → Type 0
+IsLine es = (length es ≡ 1) ⊎ ((code : ℕ) × IsRow code es)

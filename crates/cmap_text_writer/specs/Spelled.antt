@@ -21,9 +21,9 @@ hex_string bytes = less ∷ flat_map hex_pair bytes ++ greater ∷ []
 abbrev pub code_spelled : ℕ → ℕ → ℕ → List ℕ
 code_spelled len code end = hex_string (bytes_high_first len code) ++ end ∷ []
 
--- units, two bytes each, and a line end
+-- units, two bytes each
 abbrev pub units_spelled : List ℕ → List ℕ
-units_spelled units = hex_string (flat_map (bytes_high_first 2) units) ++ line_feed ∷ []
+units_spelled units = hex_string (flat_map (bytes_high_first 2) units)
 
 -- how many bytes the last code of a range has: as many as the first, or four where these are too few
 abbrev pub end_length : ℕ → ℕ → ℕ
@@ -50,4 +50,4 @@ abbrev pub closer_spelled : Section → List ℕ
 closer_spelled section = closer section ++ line_feed ∷ []
 
 abbrev pub text_spelled : ℕ → Extent → BfEntry → List ℕ
-text_spelled len extent e = codes_spelled len e.start e.end extent ++ units_spelled e.units
+text_spelled len extent e = codes_spelled len e.start e.end extent ++ (units_spelled e.units ++ line_feed ∷ [])

@@ -1,9 +1,9 @@
 -- Bytes that are written, and what a reader finds in them.
-use Rattle.std.specs.Prelude.{◌≡◌, ℕ, ◌≤◌, List, [], ◌∷◌, ◌++◌, flat_map, length, map}
-use Rattle.std.specs.List.{AllByRecursion}
+use Rattle.std.specs.Prelude.{◌≡◌, ℕ, ◌≤◌, List, [], ◌∷◌, ◌++◌, false, codes, flat_map, length}
+use Rattle.std.specs.List.{AllByRecursion, AllZip}
 use Rattle.cmap_values.specs.Files.{Declaration}
 use Rattle.cmap_tokens.specs.Tokens.{Token, Tokens}
-use Rattle.cmap_text.specs.TextFiles.{AreEntries, AreItems, Extent, IsEntry, Item, Section, bf_char, bf_range, declared_by, entries, other, range, single}
+use Rattle.cmap_text.specs.TextFiles.{AreEntries, AreItems, Extent, IsDestination, IsEntry, Item, Section, bf_char, bf_range, declared_by, entries, other, range, single}
 
 -- bytes of which this holds come after the old ones
 abbrev pub Appends : List ℕ → List ℕ → (List ℕ → Type 0) → Type 0
@@ -18,21 +18,31 @@ abbrev pub text_section : Extent → Section
 text_section range = bf_range
 text_section single = bf_char
 
--- an entry of a section
-pub record TellsEntry (section : Section) (declared : Declaration) (bytes : List ℕ) : Type 0 where
+-- an entry of a section, which declares these
+pub record TellsEntry (section : Section) (declared : List Declaration) (bytes : List ℕ) : Type 0 where
   pub tokens : List Token
   pub told : TellsTokens tokens bytes
-  pub is : (rest : List Token) → IsEntry section (tokens ++ rest) (declared ∷ []) rest
-
--- what each of these declares
-abbrev pub each_of : List Declaration → List (List Declaration)
-each_of declared = map (λ d. d ∷ []) declared
+  pub is : (rest : List Token) → IsEntry section (tokens ++ rest) declared rest
 
 -- entries of a section, in order
 pub record TellsEntries (section : Section) (declared : List Declaration) (bytes : List ℕ) : Type 0 where
   pub tokens : List Token
+  pub each : List (List Declaration)
+  pub flat : flat_map (λ ds. ds) each ≡ declared
   pub told : TellsTokens tokens bytes
-  pub are : (rest end : List Token) (each : List (List Declaration)) → AreEntries section rest each end → AreEntries section (tokens ++ rest) (each_of declared ++ each) end
+  pub are : (rest end : List Token) (others : List (List Declaration)) → AreEntries section rest others end → AreEntries section (tokens ++ rest) (each ++ others) end
+
+-- texts of an array, in order
+pub record TellsTexts (texts : List (List ℕ)) (bytes : List ℕ) : Type 0 where
+  pub tokens : List Token
+  pub told : TellsTokens tokens bytes
+  pub are : AllZip IsDestination tokens texts
+
+-- an array of texts
+pub record TellsArray (texts : List (List ℕ)) (bytes : List ℕ) : Type 0 where
+  pub tokens : List Token
+  pub told : TellsTokens (Token.Name false (codes "[") ∷ tokens ++ Token.Name false (codes "]") ∷ []) bytes
+  pub are : AllZip IsDestination tokens texts
 
 -- items, and then those of the text that follows
 pub record TellsItems (items : List Item) (bytes : List ℕ) : Type 0 where

@@ -1,18 +1,19 @@
 //! Entries of sections, a line each.
 
-ghost use Rattle.std.specs.Prelude.{◌≡◌, ◌++◌, ◌<◌, ◌^◌, All, OnOk, map};
+ghost use Rattle.std.specs.Prelude.{◌≡◌, ◌++◌, ◌<◌, ◌^◌, All, OnOk, length, map};
 ghost use Rattle.cmap_values.specs.DeclarationsSeen.{bf_entry_seen, cid_entry_seen, codespace_seen, entries_seen};
 ghost use Rattle.cmap_values.specs.Files.{Declaration};
 ghost use Rattle.cmap_text.specs.TextFiles as files;
 ghost use Rattle.cmap_values.specs.CodeLengths.{length_of};
 ghost use Rattle.cmap_values.specs.declared.code_length.CodeLength.{CodeLength};
 ghost use Rattle.cmap_values.specs.UnitsSeen.{units_seen};
-ghost use Rattle.cmap_text_writer.specs.Fits.{BeginsFitting, HasUnits, IsOfExtent, IsSpaceFitting};
+ghost use Rattle.cmap_text_writer.specs.Fits.{BeginsFitting, HasUnits, IsLine, IsOfExtent, IsSpaceFitting};
 ghost use Rattle.cmap_text.specs.TextSeen.{extent_seen};
 ghost use Rattle.cmap_text_writer.specs.Spelled.{cid_spelled, codes_spelled, end_length, space_spelled, text_spelled};
-ghost use Rattle.cmap_text_writer.specs.Told.{Appends, TellsEntries, text_section};
+ghost use Rattle.cmap_text_writer.specs.Told.{Appends, TellsArray, TellsEntries, TellsTexts, text_section};
 
 use crate::digits::{fitting, push_code, push_number, push_units};
+use crate::runs::count_line;
 use crate::text_lengths::TextLengths;
 use cmap_runs::runs::Range;
 use cmap_text::Extent;
@@ -91,7 +92,7 @@ fn push_codes(
     }
 }
 
-/// Writes declarations of texts.
+/// Writes the entries of a section of texts.
 pub(crate) fn push_text_entries(
     out: &mut Vec<u8>,
     lengths: TextLengths,
@@ -103,8 +104,25 @@ pub(crate) fn push_text_entries(
     ensures { OnOk result (Appends out.old.items out.new.items
         (TellsEntries (text_section (extent_seen extent)) (map Declaration.bf (map bf_entry_seen entries.now)))) }
 {
+    match extent {
+        Extent::Single => push_single_texts(out, lengths, entries),
+        Extent::Range => push_text_lines(out, lengths, entries),
+    }
+}
+
+/// Writes texts of single codes.
+fn push_single_texts(
+    out: &mut Vec<u8>,
+    lengths: TextLengths,
+    entries: &[BfRange],
+) -> Result<(), AllocError>
+    requires units { All HasUnits (map bf_entry_seen entries.now) }
+    requires single { All (λ e. IsOfExtent files.single e.start e.end) (map bf_entry_seen entries.now) }
+    ensures { OnOk result (Appends out.old.items out.new.items
+        (TellsEntries files.bf_char (map Declaration.bf (map bf_entry_seen entries.now)))) }
+{
     for entry in entries {
-        push_text(out, lengths, extent, entry)?;
+        push_text(out, lengths, Extent::Single, entry)?;
     }
     Ok(())
 }
@@ -121,7 +139,94 @@ fn push_text(
     ensures end { OnOk result (entry.now.range.end < 2 ^ 32) }
     ensures units { OnOk result (All (λ u. u < 2 ^ 16) (units_seen entry.now.units)) }
 {
-    let len = lengths.of(entry.range.start);
-    push_codes(out, fitting(len, entry.range.start), extent, entry.range)?;
-    push_units(out, entry.units.as_slice())
+    push_text_codes(out, lengths, extent, entry.range)?;
+    push_units(out, entry.units.as_slice())?;
+    out.extend_from_slice(b"\n")
+}
+
+/// Writes the code or both ends of a declaration of texts, each with a space after it.
+fn push_text_codes(
+    out: &mut Vec<u8>,
+    lengths: TextLengths,
+    extent: Extent,
+    range: Range,
+) -> Result<(), AllocError>
+    ensures written { OnOk result ((len : CodeLength) × (out.new.items ≡ out.old.items ++ codes_spelled (end_length (length_of len) range.start) range.start range.end (extent_seen extent))) }
+    ensures start { range.start < 2 ^ 32 }
+    ensures end { range.end < 2 ^ 32 }
+{
+    let len = lengths.of(range.start);
+    push_codes(out, fitting(len, range.start), extent, range)
+}
+
+/// Writes texts of ranges, and arrays of texts.
+fn push_text_lines(
+    out: &mut Vec<u8>,
+    lengths: TextLengths,
+    entries: &[BfRange],
+) -> Result<(), AllocError>
+    requires { All HasUnits (map bf_entry_seen entries.now) }
+    ensures { OnOk result (Appends out.old.items out.new.items
+        (TellsEntries files.bf_range (map Declaration.bf (map bf_entry_seen entries.now)))) }
+{
+    let mut left = entries;
+    while !left.is_empty() {
+        let (here, later) = left.split_at(count_line(left));
+        push_text_line(out, lengths, here)?;
+        left = later;
+    }
+    Ok(())
+}
+
+/// Writes one line: a text of a range, or an array of texts.
+fn push_text_line(
+    out: &mut Vec<u8>,
+    lengths: TextLengths,
+    entries: &[BfRange],
+) -> Result<(), AllocError>
+    requires units { All HasUnits (map bf_entry_seen entries.now) }
+    requires line { IsLine (map bf_entry_seen entries.now) }
+    ensures { OnOk result (Appends out.old.items out.new.items
+        (TellsEntries files.bf_range (map Declaration.bf (map bf_entry_seen entries.now)))) }
+{
+    match entries {
+        [entry] => push_text(out, lengths, Extent::Range, entry),
+        [first, .., last] => {
+            let range = Range {
+                start: first.range.start,
+                end: last.range.end,
+            };
+            push_text_codes(out, lengths, Extent::Range, range)?;
+            push_array(out, entries)
+        }
+        [] => Ok(()),
+    }
+}
+
+/// Writes an array of texts, and a line end.
+fn push_array(out: &mut Vec<u8>, entries: &[BfRange]) -> Result<(), AllocError>
+    requires some { 0 < length entries.now }
+    requires units { All HasUnits (map bf_entry_seen entries.now) }
+    ensures { OnOk result (Appends out.old.items out.new.items (TellsArray (map (λ e. e.units) (map bf_entry_seen entries.now)))) }
+{
+    let [first, others @ ..] = entries else {
+        return Ok(());
+    };
+    out.extend_from_slice(b"[")?;
+    push_units(out, first.units.as_slice())?;
+    push_more_texts(out, others)?;
+    out.extend_from_slice(b"]\n")?;
+    Ok(())
+}
+
+/// Writes texts, each with a space before it.
+fn push_more_texts(out: &mut Vec<u8>, entries: &[BfRange]) -> Result<(), AllocError>
+    requires { All HasUnits (map bf_entry_seen entries.now) }
+    ensures { OnOk result (Appends out.old.items out.new.items (TellsTexts (map (λ e. e.units) (map bf_entry_seen entries.now)))) }
+{
+    for entry in entries {
+        out.extend_from_slice(b" ")?;
+        push_units(out, entry.units.as_slice())?;
+    }
+    Ok(())
 }

@@ -10,7 +10,7 @@ ghost use Rattle.cmap_values.specs.ListsByKind.{by_length, declarations_of};
 ghost use Rattle.cmap_text.specs.TextSeen.{kind_seen};
 ghost use Rattle.cmap_text_writer.specs.Told.{Appends, TellsSections};
 
-use crate::runs::{MOST, next_section};
+use crate::runs::{MOST, next_section, next_text_section};
 use crate::sections::{push_cid_section, push_space_section, push_text_section};
 use crate::text_lengths::TextLengths;
 use cmap_text::CidKind;
@@ -96,7 +96,7 @@ fn push_texts(
 {
     let mut left = entries;
     while !left.is_empty() {
-        let (extent, count) = next_section(left);
+        let (extent, count) = next_text_section(left);
         let (here, later) = left.split_at(count);
         push_text_section(out, lengths, extent, here)?;
         left = later;

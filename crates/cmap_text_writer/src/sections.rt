@@ -12,6 +12,7 @@ ghost use Rattle.cmap_text_writer.specs.Told.{Appends, TellsSections, text_secti
 
 use crate::digits::push_number;
 use crate::entries::{push_cid_entries, push_spaces, push_text_entries};
+use crate::runs::count_lines;
 use crate::text_lengths::TextLengths;
 use cmap_text::{CidKind, Extent, Section};
 use cmap_values::code_length::CodeLength;
@@ -77,6 +78,17 @@ fn text_section(extent: Extent) -> Section
     }
 }
 
+/// How many entries these texts are in a section.
+fn count_entries(extent: Extent, entries: &[BfRange]) -> u32
+    requires { length entries.now ≤ 100 }
+    ensures { result ≤ 100 }
+{
+    match extent {
+        Extent::Range => count_lines(entries) as u32,
+        Extent::Single => entries.len() as u32,
+    }
+}
+
 /// Writes a section of texts.
 pub(crate) fn push_text_section(
     out: &mut Vec<u8>,
@@ -91,7 +103,7 @@ pub(crate) fn push_text_section(
         (TellsSections (map Declaration.bf (map bf_entry_seen entries.now)))) }
 {
     let section = text_section(extent);
-    push_opener(out, entries.len() as u32, section)?;
+    push_opener(out, count_entries(extent, entries), section)?;
     push_text_entries(out, lengths, extent, entries)?;
     push_closer(out, section)
 }

@@ -5,9 +5,12 @@ use Rattle.cmap_values.specs.CodeLengths.{length_of}
 use Rattle.cmap_text_writer.specs.Fits.{BeginsFitting, IsOfExtent}
 use Rattle.cmap_text.specs.TextSeen.{extent_seen}
 use Rattle.cmap_text_writer.specs.Told.{Appends}
-use Rattle.cmap_text_writer.proofs.EntriesTold.{TellsCids, cid_told, cids_more}
+use Rattle.cmap_text_writer.proofs.EntriesTold.{TellsCids, cid_told, cids_more, cids_none}
 use Rattle.cmap_text_writer.proofs.Walked.{all_at}
 use Rattle.cmap_text_writer.proofs.entries.push_cid_entries.Goals as goal
+
+pub loop-entry-init : goal.loop-entry-init
+loop-entry-init c = cids_none (extent_seen c.args.extent) (length_of c.args.len) c.args.out.now.items
 
 pub loop-entry-preserved : goal.loop-entry-preserved
 loop-entry-preserved c =

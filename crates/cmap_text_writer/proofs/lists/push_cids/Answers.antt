@@ -8,7 +8,8 @@ use Rattle.cmap_text.specs.TextFiles.{declares_cid}
 use Rattle.cmap_values.specs.CodeLengths.{length_of}
 use Rattle.cmap_text_writer.specs.Fits.{BeginsFitting, IsOfExtent}
 use Rattle.cmap_text.specs.TextSeen.{extent_seen, kind_seen}
-use Rattle.cmap_text_writer.proofs.SectionsTold.{done_more}
+use Rattle.cmap_text_writer.specs.Told.{TellsSections}
+use Rattle.cmap_text_writer.proofs.SectionsTold.{done_more, sections_joined}
 use Rattle.cmap_text_writer.proofs.Walked.{all_here}
 use Rattle.cmap_text_writer.proofs.lists.push_cids.Goals as goal
 
@@ -34,4 +35,4 @@ loop-left-preserved c =
     let later = c.split_at.result.1.now in
     let count = c.next_section-extent.result.1 in
     let cut : left ≡ here ++ later = sym (take-append-drop count left) ∙ ap (λ xs. xs ++ drop count left) (sym c.split_at.ensures.front) ∙ ap (λ xs. here ++ xs) (sym c.split_at.ensures.back) in
-    done_more (λ (xs : List CidRange). map say (entries_seen xs)) (λ a b. ap (map say) (map-append cid_entry_seen a b) ∙ map-append say (entries_seen a) (entries_seen b)) c.args.entries.now left here later c.args.out.now.items c.loop-left.out.items c.push_cid_section.new.out.items c.loop-left.invariant cut c.in_ok-push_cid_section.ensures
+    done_more (λ (xs : List CidRange). TellsSections (map say (entries_seen xs))) (sections_joined (λ (xs : List CidRange). map say (entries_seen xs)) (λ a b. ap (map say) (map-append cid_entry_seen a b) ∙ map-append say (entries_seen a) (entries_seen b))) c.args.entries.now left here later c.args.out.now.items c.loop-left.out.items c.push_cid_section.new.out.items c.loop-left.invariant cut c.in_ok-push_cid_section.ensures

@@ -7,7 +7,8 @@ use Rattle.cmap_values.specs.Files.{Declaration}
 use Rattle.cmap_values.specs.declared.declarations.BfRange.{BfRange}
 use Rattle.cmap_text_writer.specs.Fits.{HasUnits, IsOfExtent}
 use Rattle.cmap_text.specs.TextSeen.{extent_seen}
-use Rattle.cmap_text_writer.proofs.SectionsTold.{done_more}
+use Rattle.cmap_text_writer.specs.Told.{TellsSections}
+use Rattle.cmap_text_writer.proofs.SectionsTold.{done_more, sections_joined}
 use Rattle.cmap_text_writer.proofs.Walked.{all_here}
 use Rattle.cmap_text_writer.proofs.lists.push_texts.Goals as goal
 
@@ -16,20 +17,20 @@ push_text_section-requires-clause-units c =
     let left = c.loop-left.left.now in
     let here = c.split_at.result.0.now in
     let later = c.split_at.result.1.now in
-    let count = c.next_section-extent.result.1 in
+    let count = c.next_text_section-extent.result.1 in
     let cut : left ≡ here ++ later = sym (take-append-drop count left) ∙ ap (λ xs. xs ++ drop count left) (sym c.split_at.ensures.front) ∙ ap (λ xs. here ++ xs) (sym c.split_at.ensures.back) in
     all_here HasUnits bf_entry_seen c.args.entries.now c.loop-left.invariant.done left here later c.loop-left.invariant.parts cut c.requires
 
 pub push_text_section-requires-clause-extent : goal.push_text_section-requires-clause-extent
 push_text_section-requires-clause-extent c =
-    let extent = extent_seen c.next_section-extent.result.0 in
-    All-map (λ e. IsOfExtent extent e.start e.end) bf_entry_seen c.split_at.result.0.now (subst (All (λ (e : BfRange). IsOfExtent extent e.range.start e.range.end)) (sym c.split_at.ensures.front) c.next_section-extent.ensures.all)
+    let extent = extent_seen c.next_text_section-extent.result.0 in
+    All-map (λ e. IsOfExtent extent e.start e.end) bf_entry_seen c.split_at.result.0.now (subst (All (λ (e : BfRange). IsOfExtent extent e.range.start e.range.end)) (sym c.split_at.ensures.front) c.next_text_section-extent.ensures.all)
 
 pub loop-left-preserved : goal.loop-left-preserved
 loop-left-preserved c =
     let left = c.loop-left.left.now in
     let here = c.split_at.result.0.now in
     let later = c.split_at.result.1.now in
-    let count = c.next_section-extent.result.1 in
+    let count = c.next_text_section-extent.result.1 in
     let cut : left ≡ here ++ later = sym (take-append-drop count left) ∙ ap (λ xs. xs ++ drop count left) (sym c.split_at.ensures.front) ∙ ap (λ xs. here ++ xs) (sym c.split_at.ensures.back) in
-    done_more (λ (xs : List BfRange). map Declaration.bf (map bf_entry_seen xs)) (λ a b. ap (map Declaration.bf) (map-append bf_entry_seen a b) ∙ map-append Declaration.bf (map bf_entry_seen a) (map bf_entry_seen b)) c.args.entries.now left here later c.args.out.now.items c.loop-left.out.items c.push_text_section.new.out.items c.loop-left.invariant cut c.in_ok-push_text_section.ensures
+    done_more (λ (xs : List BfRange). TellsSections (map Declaration.bf (map bf_entry_seen xs))) (sections_joined (λ (xs : List BfRange). map Declaration.bf (map bf_entry_seen xs)) (λ a b. ap (map Declaration.bf) (map-append bf_entry_seen a b) ∙ map-append Declaration.bf (map bf_entry_seen a) (map bf_entry_seen b))) c.args.entries.now left here later c.args.out.now.items c.loop-left.out.items c.push_text_section.new.out.items c.loop-left.invariant cut c.in_ok-push_text_section.ensures
