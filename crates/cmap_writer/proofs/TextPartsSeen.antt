@@ -1,6 +1,6 @@
 -- Units with an offset added, the part of a declaration of texts for the codes of a run, and ranges taken one after another.
 use Rattle.std.proofs.Common.{◌≡◌, ℕ, ◌+◌, ◌-◌, ◌^◌, ◌<◌, ◌≤◌, List, [], ◌∷◌, ◌++◌, length, get_or, map, take, drop, Ok, Err, Some, refl, ap, ◌∙◌, sym, subst, arith}
-use Rattle.std.specs.Prelude.{Option, None, Result, option_map}
+use Rattle.std.specs.Prelude.{Result}
 use Rattle.std.specs.List.{All, Any, slice_get}
 use Rattle.std.specs.Result.{IfOk}
 use Rattle.std.proofs.lemmas.List.{get_or-map, length-map, map-append, take_all, take_more}
@@ -13,7 +13,7 @@ use Rattle.cmap_values.specs.Files.{BfEntry}
 use Rattle.cmap_values.specs.UnitsSeen.{units_seen}
 use Rattle.cmap_values.specs.declared.declarations.BfRange.{BfRange}
 use Rattle.cmap_values.specs.declared.units.Units.{Units}
-use Rattle.cmap_layers.specs.Lookups.{bf_at, bf_span, last_bf}
+use Rattle.cmap_layers.specs.Lookups.{bf_at, bf_span}
 use Rattle.cmap_writer.specs.Pieces.{AllSayAs, ArePieces, CanBeSplitText, Has, IsShortText, PushesPieces, SaysAs}
 use Rattle.cmap_writer.specs.TextParts.{GivesUnits, IsDecidedText, IsShifted, ShiftsTo, units_at, units_from}
 use Rattle.cmap_writer.specs.Weights.{run_span}
@@ -37,10 +37,6 @@ module _ (units : List ℕ) (last offset : ℕ) (some : 0 < length units) (last_
   lost_units past = subst (λ us. IsShifted us offset []) (sym parted) (lost (take (length units - 1) units) last offset past)
 
 -- ---- the declaration that decides a run
-same_option : {A : Type 0} (o : Option A) (x : A) → option_map (λ y. y) o ≡ Some x → o ≡ Some x
-same_option None x is = is
-same_option (Some y) x is = is
-
 module _ (list : List BfRange) (runs : List Run) (are : AreRuns (map bf_range_span list) runs) (i low high index : ℕ) (at : slice_get runs i ≡ Some (run_of low high index)) where
   pub declaration_within : index < length list
   declaration_within = index_within bf_range_span bf_entry_seen bf_span bf_at (λ x. refl) list runs are i low high index at
@@ -51,9 +47,6 @@ module _ (list : List BfRange) (runs : List Run) (are : AreRuns (map bf_range_sp
   module _ (e : BfRange) (there : slice_get list index ≡ Some e) where
     pub run_within : (e.range.start ≤ low) × (low ≤ high) × (high ≤ e.range.end) × (high < 2 ^ 32)
     run_within = run_contained bf_range_span bf_entry_seen bf_span bf_at (λ x. refl) list runs are i low high index e at there
-
-    pub last_is : (code : ℕ) → low ≤ code → code ≤ high → last_bf (map bf_entry_seen list) code ≡ Some (bf_entry_seen e)
-    last_is code after before = same_option (last_bf (map bf_entry_seen list) code) (bf_entry_seen e) (run_told bf_range_span bf_entry_seen bf_span (λ e code. e) (λ x. refl) list runs are i low high index code e at there after before)
 
     module _ (part : BfRange) (range : Range) (low_is : range.start ≡ low) (high_is : range.end ≡ high) (range_is : part.range ≡ range) (shifted : IsShifted (units_seen e.units) (range.start - e.range.start) (units_seen part.units)) where
       start_is : part.range.start ≡ low
