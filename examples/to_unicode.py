@@ -4,8 +4,8 @@
     to_unicode.py OUT TEXT..
 
 Each TEXT is what one glyph stands for: `to_unicode.py out.pdf o ffi c e` shows four, one of them a ligature, and
-`pdftotext out.pdf -` then prints `office`. The codes of the font are 1, 2 and so on. The file has no font program, so that
-viewers draw the glyphs of another font.
+`pdftotext out.pdf -` then prints `office`. The codes of the font are 1, 2 and so on. The file has no font program, so
+that viewers draw the glyphs of another font.
 """
 
 import sys

@@ -298,13 +298,14 @@ class CMap(Owned):
         return [CodeRange(it.first, it.last) for it in codes]
 
     def write(self, codes: Optional[Iterable[Union[Buffer, Code]]] = None) -> bytes:
-        """One CMap file, which uses no other and answers each code as the map does: its text, in the fewest declarations.
+        """One CMap file, which uses no other and answers each code as the map does: its text.
 
-        With `codes` it does so for these alone, and has nothing for others. Each is a bytes object of one to four bytes,
-        or a code of `decode`: `cmap.write(cmap.decode(string))` is for the codes of a string. Codespace ranges stay.
+        With `codes` it does so for these alone, and has nothing for others. Each is a bytes object of one to four
+        bytes, or a code of `decode`: `cmap.write(cmap.decode(string))` is for the codes of a string. Codespace ranges
+        stay.
 
-        NotWritable where no one file answers so, as where a code has a CID by one layer that a lower layer of another
-        kind overrides, or where the map has a name that no text can give it.
+        NotWritable where no one file answers so, as where a code has no CID but a text in one layer, and a CID in a
+        lower one.
         """
         table = chosen(() if codes is None else codes)
         count = 0 if codes is None else len(table)

@@ -27,8 +27,8 @@ class CMapWriter:
         data = writer.write()
 
     A declaration is for the codes from a first to a last one. A code is a bytes object of one to four bytes, or the
-    number that they write, which then are `code_len` bytes. Where several declarations of a kind contain a code, the last
-    one decides. ValueError where the two codes have unequal lengths, or the last one comes before the first.
+    number that they write, which then are `code_len` bytes. Where several declarations of a kind contain a code, the
+    last one decides. ValueError where the two codes have unequal lengths, or the last one comes before the first.
 
     The name, the registry and the ordering are bytes, or a str, which stands for its UTF-8. What is None isn't said.
     """

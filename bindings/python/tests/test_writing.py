@@ -82,7 +82,7 @@ class Declarations(unittest.TestCase):
 
     def test_wrong_codes(self):
         writer = CMapWriter()
-        wrong = [(-1, 1), (0, 0x10000), (2, 1), (b"\x02", b"\x01"), (b"\x01", 1), (b"", b""), (b"\x00" * 5, b"\x01" * 5)]
+        wrong = [(-1, 1), (0, 0x10000), (2, 1), (b"\x02", b"\x01"), (b"\x01", 1), (b"", b""), (b"\x00" * 5,) * 2]
         for first, last in wrong:
             with self.subTest(first=first, last=last):
                 self.assertRaises(ValueError, writer.codespace, first, last)
@@ -111,10 +111,10 @@ class Declarations(unittest.TestCase):
 
 class ToUnicode(unittest.TestCase):
     def test_texts(self):
-        texts = {1: "A", 2: "ffi", 0xFFFF: "\U0001F600", b"\x01\x00": "日"}
-        data = to_unicode(texts)
+        data = to_unicode({1: "A", 2: "ffi", 0xFFFF: "\U0001F600", b"\x01\x00": "日"})
         with CMap.parse(data) as cmap:
-            self.assertEqual([cmap.text(it) for it in [1, 2, 3, 0x100, 0xFFFF]], ["A", "ffi", None, "日", "\U0001F600"])
+            found = [cmap.text(code) for code in [1, 2, 3, 0x100, 0xFFFF]]
+            self.assertEqual(found, ["A", "ffi", None, "日", "\U0001F600"])
             self.assertEqual(cmap.layers[0].codespaces, [Codespace(0, 0xFFFF, 2)])
             self.assertEqual(cmap.metadata, Metadata(b"Adobe-Identity-UCS", b"Adobe", b"UCS", 0, None))
         self.assertIn(b"/CMapType 2 def", data)
@@ -173,7 +173,8 @@ class Maps(unittest.TestCase):
 
     def test_chosen_codes(self):
         with CMap.parse(SMALL) as cmap:
-            for codes in [cmap.decode(b"A\x81\x40A"), [b"\x81\x40", bytearray(b"A")], iter([b"A", memoryview(b"\x81\x40")])]:
+            given = [cmap.decode(b"A\x81\x40A"), [b"\x81\x40", bytearray(b"A")], iter([b"A", memoryview(b"\x81\x40")])]
+            for codes in given:
                 with CMap.parse(cmap.write(codes)) as chosen:
                     self.assertEqual([chosen.cid(0x41, 1), chosen.cid(0x42, 1), chosen.text(0x41)], [34, None, "A"])
                     self.assertEqual([chosen.cid(0x8140, 2), chosen.cid(0x8141, 2)], [633, None])
@@ -212,7 +213,8 @@ class Maps(unittest.TestCase):
         with CMap.parse(predefined("UniJIS-UTF16-V"), files) as cmap, CMap.parse(cmap.write()) as alone:
             self.assertEqual(alone.metadata, cmap.metadata)
             self.assertEqual(alone.cids(0, 0x10000, 2), cmap.cids(0, 0x10000, 2))
-            self.assertEqual(alone.decode("日本語（".encode("utf-16-be")), cmap.decode("日本語（".encode("utf-16-be")))
+            string = "日本語（".encode("utf-16-be")
+            self.assertEqual(alone.decode(string), cmap.decode(string))
 
 
 if __name__ == "__main__":
