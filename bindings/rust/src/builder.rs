@@ -199,8 +199,8 @@ pub enum WriteError {
     InvalidCodes,
     /// A declaration gives codes an empty text.
     EmptyText,
-    /// No CMap file says it: its name would have a byte that no name has, as a blank; or of a map no one file
-    /// gives the answers, as where a code has a CID by one layer that a lower layer of another kind overrides.
+    /// No one file answers as the map does, as where a code has no CID but a text in one layer, and a CID in
+    /// a lower one; or the file's name would have a byte that no name has, as a blank.
     NotWritable,
 }
 
