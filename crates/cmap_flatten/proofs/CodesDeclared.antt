@@ -1,6 +1,6 @@
 -- What two lists declare for the codes of a table, stretch by stretch.
-use Rattle.std.proofs.Common.{◌≡◌, ℕ, ◌+◌, ◌-◌, ◌<◌, ◌≤◌, ◌^◌, List, [], Option, Some, None, false, true≢false, inl, inr, refl, sym, ap, ◌∙◌, arith}
-use Rattle.std.specs.Prelude.{◌↔◌, IsSome, is_some, option_and_then, option_map}
+use Rattle.std.proofs.Common.{◌≡◌, ℕ, ◌+◌, ◌≤◌, ◌^◌, List, [], Option, Some, None, true≢false, inl, inr, refl, sym, ap, ◌∙◌, arith}
+use Rattle.std.specs.Prelude.{◌↔◌, IsSome, option_and_then}
 use Rattle.std.specs.Borrow.{Bor}
 use Rattle.std.specs.Option.{option_copied}
 use Rattle.std.proofs.lemmas.Bool.{cases_lt}
@@ -9,17 +9,14 @@ use Rattle.cmap_runs.specs.Ranges.{last_of}
 use Rattle.cmap_runs.specs.Stretches.{IsStretch}
 use Rattle.cmap_runs.specs.declared.runs.Range.{Range}
 use Rattle.cmap_values.specs.Files.{CidEntry}
-use Rattle.cmap_layers.specs.CodeStretches.{cid_after}
 use Rattle.cmap_layers.specs.Layers.{Layer}
-use Rattle.cmap_layers.specs.Lookups.{cid_at, cid_span}
 use Rattle.cmap_layers.specs.declared.stretches.CidStretch.{CidStretch}
 use Rattle.cmap_unicode.specs.Cids.{declared_cid}
-use Rattle.cmap_tidy.specs.Tidy.{AreTidyCids, AreTidyNotdefs, cid_said, notdef_said}
+use Rattle.cmap_tidy.specs.Tidy.{AreTidyCids, AreTidyNotdefs}
 use Rattle.cmap_flatten.specs.Chosen.{Chosen, codes_span}
 use Rattle.cmap_flatten.specs.Parts.{AreDeclared, AreDeclaredBelow, IsAdded, IsDeclaredStretch, said, wanted}
-use Rattle.cmap_flatten.specs.Subsets.{AnswersOnly}
 use Rattle.cmap_flatten.specs.declared.codes.Codes.{Codes}
-use Rattle.cmap_flatten.proofs.ListsAdded.{none_added, none_of, past_ends, told}
+use Rattle.cmap_flatten.proofs.ListsAdded.{none_added}
 
 -- an answer that is wanted just where a table has the code
 pub wanted_of : {A : Type 0} (table : List Codes) (code : ℕ) (whole : Option A) (found : Option Codes) → last_of codes_span table code ≡ found → wanted table code whole ≡ option_and_then (λ one. whole) found

@@ -1,10 +1,9 @@
 -- The answers of one file, by what its lists declare.
-use Rattle.std.proofs.Common.{◌≡◌, ℕ, zero, suc, ◌+◌, ◌-◌, ◌<◌, ◌≤◌, ◌^◌, List, [], ◌∷◌, ◌++◌, Option, Some, None, length, get_or, inl, inr, refl, sym, ap, ◌∙◌, subst, arith}
-use Rattle.std.specs.Prelude.{◌↔◌, Any, All, option_and_then, option_map, slice_get, unwrap_or}
+use Rattle.std.proofs.Common.{◌≡◌, ℕ, zero, suc, ◌+◌, ◌-◌, ◌<◌, ◌≤◌, ◌^◌, List, [], ◌∷◌, Option, Some, None, inl, inr, refl, sym, ap, ◌∙◌, subst, arith}
+use Rattle.std.specs.Prelude.{◌↔◌, Any, option_and_then, option_map, unwrap_or}
 use Rattle.std.specs.Option.{option_or}
 use Rattle.std.proofs.lemmas.Bool.{cond-true}
 use Rattle.std.proofs.lemmas.Bool.Decides.{nat_tests}
-use Rattle.cmap_runs.specs.Ranges.{last_of}
 use Rattle.cmap_tokens.specs.Texts.{only_character}
 use Rattle.cmap_values.specs.CodeLengths.{IsCodeLength, length_of}
 use Rattle.cmap_values.specs.Files.{BfEntry, CidEntry, Codespace, File, FileMetadata, Lists, of_length}
@@ -16,10 +15,10 @@ use Rattle.cmap_layers.specs.StringCodes.{ranges_of}
 use Rattle.cmap_layers.proofs.LayerStretches.{has_code_length}
 use Rattle.cmap_unicode.specs.Cids.{declared_cid}
 use Rattle.cmap_unicode.specs.LayersTried.{declared_by, declared_in}
-use Rattle.cmap_tidy.specs.Tidy.{AreTidyCids, cid_said, notdef_at, notdef_said}
+use Rattle.cmap_tidy.specs.Tidy.{AreTidyCids, notdef_at}
 use Rattle.cmap_flatten.specs.Chosen.{Chosen, ChosenNumber}
 use Rattle.cmap_flatten.specs.Parts.{AreAllKept, AreDeclared, AreLists, HasCidsOfOne, IsFileOf, said, text_said}
-use Rattle.cmap_flatten.specs.Subsets.{AnswersAs, AnswersOnly, IsFlat, IsSubset, cid_of_one}
+use Rattle.cmap_flatten.specs.Subsets.{AnswersOnly, IsFlat, IsSubset}
 use Rattle.cmap_flatten.specs.declared.codes.Codes.{Codes}
 use Rattle.cmap_flatten.proofs.AnyElements.{Any-cases, Any-left, Any-nil, Any-right}
 use Rattle.cmap_flatten.proofs.ChosenCodes.{found_one}
@@ -69,8 +68,8 @@ one_cid layer code len tidy =
     ∙ combined code (last_cid cids code) (last_cid (of_length layer.lists.notdefs (length_of len)) code) (only_character (text_said layer.lists.bfs code)) (λ e is. fits cids code e tidy is)
 
 -- ---- the lists of one file
-chosen_number : (chosen : List Codes) (code len : ℕ) → Chosen chosen code len → ChosenNumber chosen code
-chosen_number chosen code len (k, one, lt, is, same, within) = (k, one, lt, is, within)
+pub chosen_number : (chosen : List Codes) (code len : ℕ) → Chosen chosen code len → ChosenNumber chosen code
+chosen_number chosen code len (k, one, lt, is, here) = (k, one, lt, is, here.1)
 
 module _ (layers : List Layer) (chosen : List Codes) (lists : Lists) (are : AreLists layers chosen lists) where
   pub of_each : (len : CodeLength) → AreDeclared layers chosen (length_of len) (of_length lists.cids (length_of len)) (of_length lists.notdefs (length_of len))
@@ -141,3 +140,8 @@ is_flat layers chosen file all is = record {
   answers = λ code len small few _. is.answers code len small few (all code len small few);
   tidy = is.tidy;
 }
+
+-- a map of one layer with such lists
+pub flat_of : (layers : List Layer) (chosen : List Codes) (lists : Lists) {metadata : FileMetadata} (flat : List Layer) (layer : Layer) → AreLists layers chosen lists → flat ≡ layer ∷ [] → layer ≡ record { metadata = metadata; lists = lists }
+    → HasCidsOfOne layers chosen flat
+flat_of layers chosen lists {metadata} flat layer are one is = subst (HasCidsOfOne layers chosen) (sym (one ∙ ap (λ l. l ∷ []) is)) (cids_of_one layers chosen lists are metadata)

@@ -1,5 +1,5 @@
 -- What a list of texts declares for codes, after one more declaration.
-use Rattle.std.proofs.Common.{◌≡◌, ℕ, ◌+◌, ◌-◌, ◌<◌, ◌≤◌, ◌^◌, false, List, [], ◌∷◌, Option, Some, None, length, take, inl, inr, refl, sym, ap, ◌∙◌, arith}
+use Rattle.std.proofs.Common.{◌≡◌, ℕ, ◌+◌, ◌-◌, ◌<◌, ◌≤◌, ◌^◌, List, [], ◌∷◌, Option, Some, None, length, take, inl, inr, refl, sym, ap, ◌∙◌, arith}
 use Rattle.std.specs.Prelude.{All, nat_lt, option_and_then, option_map, slice_get}
 use Rattle.std.proofs.lemmas.Bool.{cases_lt, cond-false}
 use Rattle.std.proofs.lemmas.Bool.Decides.{nat_tests}

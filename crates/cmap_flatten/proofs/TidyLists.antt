@@ -1,5 +1,5 @@
 -- Lists without declarations are tidy.
-use Rattle.std.proofs.Common.{◌+◌, [], arith}
+use Rattle.std.proofs.Common.{[], arith}
 use Rattle.std.proofs.lemmas.List.Elements.{All-nil}
 use Rattle.cmap_tidy.specs.Tidy.{AreTidyCids, AreTidyNotdefs, AreTidyTexts, IsCidRow, IsNotdefRow, IsTextRow}
 

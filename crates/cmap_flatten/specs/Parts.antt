@@ -1,5 +1,5 @@
 -- Private aid: what is declared for codes in a row, and the lists so far.
-use Rattle.std.specs.Prelude.{◌≡◌, ℕ, ◌+◌, ◌-◌, ◌<◌, ◌≤◌, ◌^◌, List, [], All, Option, Some, None, IfSome, option_and_then, option_map, unwrap_or}
+use Rattle.std.specs.Prelude.{◌≡◌, ℕ, ◌+◌, ◌-◌, ◌<◌, ◌≤◌, ◌^◌, List, [], All, Option, Some, None, option_and_then, option_map, unwrap_or}
 use Rattle.std.specs.Option.{option_or}
 use Rattle.cmap_runs.specs.Ranges.{last_of}
 use Rattle.cmap_runs.specs.declared.runs.Range.{Range}
@@ -11,7 +11,7 @@ use Rattle.cmap_layers.specs.Layers.{Layer, top_metadata}
 use Rattle.cmap_layers.specs.Lookups.{bf_at, bf_of, cid_of, last_bf}
 use Rattle.cmap_layers.specs.StringCodes.{ranges_of}
 use Rattle.cmap_layers.specs.declared.stretches.Cids.{Cids}
-use Rattle.cmap_layers.specs.declared.stretches.Cids.TheVariants.{Absent, Same, CountOn}
+use Rattle.cmap_layers.specs.declared.stretches.Cids.TheVariants.{CountOn}
 use Rattle.cmap_layers.specs.declared.stretches.CidStretch.{CidStretch}
 use Rattle.cmap_unicode.specs.Cids.{declared_cid}
 use Rattle.cmap_flatten.specs.Chosen.{Chosen, ChosenNumber, codes_span}

@@ -9,10 +9,10 @@ ghost use Rattle.cmap_flatten.specs.Parts.{AreDeclared, AreDeclaredBelow, Fits, 
 use crate::codes::{Codes, codes_of_length};
 use crate::declared::declared_stretch;
 use crate::stretch::{CODE_COUNT, stretch_of};
-use cmap_tidy::{push_cids, push_notdefs};
 use cmap_layers::layers::Layers;
 use cmap_layers::stretches::Cids;
 use cmap_runs::runs::{Range, Table};
+use cmap_tidy::{push_cids, push_notdefs};
 use cmap_values::code_length::CodeLength;
 use cmap_values::declarations::CidRange;
 use std::alloc::{AllocError, Global};
@@ -97,6 +97,12 @@ fn add_stretch(
     }
     let declared = declared_stretch(layers, first, len);
     let last = part.last.min(declared.last);
-    made.add(declared.cids, Range { start: first, end: last })?;
+    made.add(
+        declared.cids,
+        Range {
+            start: first,
+            end: last,
+        },
+    )?;
     Ok(last)
 }

@@ -64,9 +64,21 @@ pub(crate) fn all_codes() -> [Codes; 4]
         end: u32::MAX,
     };
     [
-        Codes { len: CodeLength::One, range },
-        Codes { len: CodeLength::Two, range },
-        Codes { len: CodeLength::Three, range },
-        Codes { len: CodeLength::Four, range },
+        Codes {
+            len: CodeLength::One,
+            range,
+        },
+        Codes {
+            len: CodeLength::Two,
+            range,
+        },
+        Codes {
+            len: CodeLength::Three,
+            range,
+        },
+        Codes {
+            len: CodeLength::Four,
+            range,
+        },
     ]
 }

@@ -62,7 +62,10 @@ fn add_stretch(
     let stretch = layers.text_stretch(first);
     let last = part.last.min(stretch.last);
     if let Some(declaration) = stretch.declaration {
-        let range = Range { start: first, end: last };
+        let range = Range {
+            start: first,
+            end: last,
+        };
         add_declared(alloc, texts, declaration, range)?;
     }
     Ok(last)

@@ -27,3 +27,5 @@ mod salvage;
 mod tables;
 #[cfg(test)]
 mod texts_of_strings;
+#[cfg(test)]
+mod tidied;

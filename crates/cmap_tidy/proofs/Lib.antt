@@ -8,3 +8,6 @@ pub mod TextsAdded
 pub mod RowsSaid
 pub mod SaidSoFar
 pub mod EachLength
+pub mod OnlyTidy
+pub mod OnlyTidyLists
+pub mod SameAnswers

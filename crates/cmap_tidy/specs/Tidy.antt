@@ -71,9 +71,9 @@ AreTidyNotdefs entries = AreTidy cid_span IsNotdefRow CouldBeOneNotdef entries
 abbrev pub last_unit : List ℕ → ℕ
 last_unit units = slice_index_or units (length units - 1) 0
 
--- the last byte of the last unit counts on within 255: Adobe Technical Note 5411; ISO 32000-1, 9.10.3
+-- there are units, the last one of 16 bits, and its last byte counts on within 255: Adobe Technical Note 5411; ISO 32000-1, 9.10.3
 abbrev pub IsTextRow : BfEntry → Type 0
-IsTextRow e = IsCodeRow (bf_span e) × (0 < length e.units) × (last_unit e.units % 256 + (e.end - e.start) < 256)
+IsTextRow e = IsCodeRow (bf_span e) × (0 < length e.units) × (last_unit e.units < 2 ^ 16) × (last_unit e.units % 256 + (e.end - e.start) < 256)
 
 -- the later last unit counts on from the other in its last byte alone, after the same units
 abbrev pub CouldBeOneText : BfEntry → BfEntry → Type 0

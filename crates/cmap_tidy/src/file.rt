@@ -1,4 +1,4 @@
-//! A file written anew in the fewest declarations.
+//! A file written anew in the fewest declarations that don't overlap.
 
 ghost use Rattle.std.specs.Prelude.{◌≡◌, ℕ, IfOk, map};
 ghost use Rattle.cmap_values.specs.DeclarationsSeen.{bf_entry_seen, by_length_seen, lists_seen};
@@ -14,15 +14,16 @@ use cmap_values::file::File;
 use cmap_values::memory::both;
 use std::alloc::{AllocError, Global};
 
-/// A file that says the same of each code in the fewest declarations: none overlap, each is for codes that
-/// differ in their last byte alone, none counts a text past the last byte of its last unit, and no two could
-/// be one. Adobe Technical Notes 5014 and 5411; ISO 32000-1, 9.10.3.
+/// A file that says the same of each code, in the fewest declarations that don't overlap. Each is for codes
+/// that differ in their last byte alone (Adobe Technical Note 5014), and within each the last byte of a text
+/// doesn't pass 255 (Adobe Technical Note 5411; ISO 32000-1, 9.10.3).
 ///
-/// A list in which a declaration decides that a code stands for nothing stays as it is: where a CID would
-/// pass 32 bits, where a text has no units, or where its last unit would pass 16 bits. No shorter list says
-/// that of a code. Metadata, codespace ranges and the names of files that are used stay.
+/// A list stays as it is where it says of some code that it stands for nothing: its CID would pass 32 bits,
+/// its text has no units, or the last one would pass 16 bits. Metadata, codespace ranges and the names of
+/// files that are used stay.
 ///
-/// A declaration for many codes becomes one for each row of 256 codes, so at most 2^24 in each list.
+/// A declaration for many codes becomes one for each row of 256 codes, so a list may grow to 2^24
+/// declarations.
 ///
 /// It fails only if memory runs out.
 pub fn tidy<'d>(alloc: Global, file: &File<'d>) -> Result<File<'d>, AllocError>

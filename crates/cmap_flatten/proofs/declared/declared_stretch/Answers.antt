@@ -1,5 +1,4 @@
-use Rattle.std.proofs.Common.{◌≡◌, ℕ, ◌+◌, ◌-◌, None, Some, ap, drop, map, ◌∙◌, sym, arith}
-use Rattle.std.specs.Prelude.{option_map, unwrap_or}
+use Rattle.std.proofs.Common.{◌+◌, ◌-◌, None, Some, ap, drop, map, ◌∙◌, sym, arith}
 use Rattle.std.proofs.lemmas.List.{drop_all}
 use Rattle.cmap_values.specs.CodeLengths.{length_of}
 use Rattle.cmap_layers.specs.CodeStretches.{cid_after}

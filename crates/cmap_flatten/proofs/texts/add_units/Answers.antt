@@ -1,7 +1,6 @@
-use Rattle.std.proofs.Common.{◌≡◌, ◌+◌, ◌-◌, ◌<◌, Some, length, map, refl, sym, ap, ◌∙◌, arith}
+use Rattle.std.proofs.Common.{◌+◌, ◌-◌, length, map, sym, arith}
 use Rattle.std.proofs.lemmas.Option.{get_or_from_slice_get, slice_get_within}
 use Rattle.cmap_values.specs.DeclarationsSeen.{bf_entry_seen}
-use Rattle.cmap_tidy.specs.Tidy.{last_unit}
 use Rattle.cmap_flatten.proofs.ListsAdded.{on_ok_all}
 use Rattle.cmap_flatten.proofs.TextsAdded.{no_units_no_text, none_added, units_added}
 use Rattle.cmap_flatten.proofs.texts.add_units.Goals as goal

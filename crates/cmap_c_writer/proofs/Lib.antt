@@ -1,0 +1,3 @@
+mod AllDeclared
+mod LengthsGiven
+mod UnitsGiven

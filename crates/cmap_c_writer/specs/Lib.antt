@@ -1,0 +1,3 @@
+pub mod Given
+pub mod Made
+pub mod Whole

@@ -1,0 +1,14 @@
+//! How many bytes codes have, as C says it.
+
+ghost use Rattle.std.specs.Prelude.{◌≡◌, option_map};
+ghost use Rattle.cmap_values.specs.CodeLengths.{length_of};
+ghost use Rattle.cmap_c_writer.specs.Given.{length_given};
+
+use cmap_values::code_length::CodeLength;
+
+/// The length of codes of so many bytes; `None` unless these are one to four.
+pub(crate) fn code_length(count: u32) -> Option<CodeLength>
+    ensures { option_map length_of result ≡ length_given count }
+{
+    CodeLength::of(u8::try_from(count).ok()?)
+}

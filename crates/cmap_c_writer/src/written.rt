@@ -1,0 +1,50 @@
+//! A file as text, in a room.
+
+ghost use Rattle.std.specs.Prelude.{◌≡◌, List, ℕ, MatchResult};
+ghost use Rattle.cmap_values.specs.FilesSeen.{file_seen};
+ghost use Rattle.cmap_values.specs.Outcomes.{Outcome};
+ghost use Rattle.cmap_text.specs.TextFiles.{IsTextFile};
+ghost use Rattle.cmap_text_writer.specs.Obstacles.{NoTextSays};
+ghost use Rattle.cmap_c_writer.specs.Made.{EndsAs};
+
+use cmap_handles::room::put;
+use cmap_handles::status::Status;
+use cmap_text_writer::{TextLengths, write_text_by};
+use cmap_values::fault::Fault;
+use cmap_values::file::File;
+use std::alloc::Global;
+
+/// No text says what is handed in.
+#[derive(Clone, Copy)]
+pub(crate) struct NoText;
+
+/// A text that says what the file says; refused where there is none.
+pub(crate) fn text_of(
+    alloc: Global,
+    file: &File<'_>,
+    lengths: TextLengths,
+) -> Result<Vec<u8>, Fault<NoText>>
+    ensures { Outcome (λ text. IsTextFile text.items (file_seen file.now))
+        (λ _. NoTextSays (file_seen file.now)) result }
+{
+    match write_text_by(alloc, file, lengths) {
+        Ok(text) => Ok(text),
+        Err(Fault::Refused(_)) => Err(Fault::Refused(NoText)),
+        Err(Fault::Memory) => Err(Fault::Memory),
+    }
+}
+
+/// Writes the text at the head of the room, where it has room, and how many bytes it has.
+pub(crate) fn put_text(
+    text: Result<Vec<u8>, Fault<NoText>>,
+    room: &mut [u8],
+    needed: &mut usize,
+) -> u32
+    ensures { EndsAs text room.old room.new needed.old needed.new result }
+{
+    match text {
+        Ok(text) => put(&text, room, needed),
+        Err(Fault::Refused(_)) => Status::Refused.number(),
+        Err(Fault::Memory) => Status::NoMemory.number(),
+    }
+}
