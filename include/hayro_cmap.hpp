@@ -46,6 +46,7 @@ using Code = hayro_cmap_code;
 using Codespace = hayro_cmap_codespace;
 using CidRange = hayro_cmap_cid_range;
 using CodeRange = hayro_cmap_code_range;
+using Codes = hayro_cmap_codes;
 using Status = hayro_cmap_status;
 
 // No budget.
@@ -53,6 +54,14 @@ inline constexpr std::uint64_t no_budget = HAYRO_CMAP_NO_BUDGET;
 
 // How many files a chain has at most, the top one included.
 inline constexpr int most_files = 16;
+
+// What a declaration gives its codes.
+enum class Kind : std::uint16_t {
+    codespace_range = HAYRO_CMAP_CODESPACE_RANGE, // they are codes, each byte between those of two
+    cid_range = HAYRO_CMAP_CID_RANGE,             // CIDs that count on
+    notdef_range = HAYRO_CMAP_NOTDEF_RANGE,       // one CID for all, where they have no other
+    text_range = HAYRO_CMAP_TEXT_RANGE            // texts whose last unit of UTF-16 counts on
+};
 
 enum class WritingMode { horizontal = HAYRO_CMAP_HORIZONTAL, vertical = HAYRO_CMAP_VERTICAL };
 
@@ -362,6 +371,16 @@ struct TextRange {
     std::u16string units;
 };
 
+// A declaration of a file that is made: for the codes of `byte_len` bytes from `first` to `last`.
+struct Declaration {
+    Kind kind;
+    std::uint16_t byte_len;
+    std::uint32_t first;
+    std::uint32_t last;
+    Cid cid = 0;      // that of `first`; of a notdef that of all
+    std::string text; // that of `first`, in UTF-8
+};
+
 // What the codes of a font stand for.
 class Map {
 public:
@@ -560,6 +579,44 @@ private:
 
     detail::Owned<hayro_cmap, hayro_cmap_free> handle_;
 };
+
+// The text of a CMap file of these declarations, in the fewest that give each code the same, and of what it
+// says of itself; a registry without an ordering is left out, as is an ordering without a registry. Nothing where
+// no file says so: a length of codes outside 1 to 4, a text that is empty or isn't UTF-8, a code with more bytes
+// than its length, a name that has a byte which no name has.
+inline std::optional<std::string> make(const Metadata &metadata,
+                                       const std::vector<Declaration> &declarations) {
+    const std::string none;
+    const bool has_collection = metadata.registry && metadata.ordering;
+    const Bytes name = metadata.name ? *metadata.name : none,
+                registry = has_collection ? *metadata.registry : none,
+                ordering = has_collection ? *metadata.ordering : none;
+    const hayro_cmap_facts facts = {
+        name.data(), name.size(), registry.data(), registry.size(), ordering.data(), ordering.size(),
+        metadata.supplement.value_or(0), metadata.name.has_value(), has_collection,
+        static_cast<std::uint16_t>(metadata.writing_mode
+                                       ? static_cast<hayro_cmap_mode>(*metadata.writing_mode)
+                                       : HAYRO_CMAP_NO_MODE)};
+    std::vector<hayro_cmap_declaration> given;
+    for (const auto &it : declarations) {
+        Bytes text = it.text;
+        given.push_back({static_cast<std::uint16_t>(it.kind), it.byte_len, it.first, it.last, it.cid,
+                         text.data(), text.size()});
+    }
+    return detail::written([&](auto room, auto len, auto needed) {
+        return hayro_cmap_make(&facts, hayro_cmap_declarations(given.data()), given.size(), room, len,
+                               needed);
+    });
+}
+
+// The text of one CMap file that answers each code as the map does, or only these codes, where there are some.
+// Nothing where no one file answers so, and of an empty map.
+inline std::optional<std::string> write(Map &map, const std::vector<Codes> &codes = {}) {
+    return detail::written([&](auto room, auto len, auto needed) {
+        return hayro_cmap_write(map.handle(), hayro_cmap_chosen(codes.data()), codes.size(), room, len,
+                                needed);
+    });
+}
 
 // A code of a string of a font.
 struct Character {

@@ -531,6 +531,179 @@ static void a_cid_has_its_codes(void) {
     CHECK(hayro_cmap_codes_of_cid(&map, 7, 1, ranges, 3, &needed) == HAYRO_CMAP_ABSENT && needed == 0);
 }
 
+static hayro_cmap_declaration declaration(uint16_t kind, uint16_t byte_len, uint32_t first, uint32_t last,
+                                          uint32_t cid) {
+    hayro_cmap_declaration made = {kind, byte_len, first, last, cid, TEXT("")};
+    return made;
+}
+
+static hayro_cmap_declaration text_declaration(uint32_t first, uint32_t last, const char *text) {
+    hayro_cmap_declaration made = declaration(HAYRO_CMAP_TEXT_RANGE, 2, first, last, 0);
+    made.text = hayro_cmap_bytes(text);
+    made.text_len = strlen(text);
+    return made;
+}
+
+// What no file says of itself.
+static hayro_cmap_facts no_facts(void) {
+    hayro_cmap_facts facts = {TEXT(""), TEXT(""), TEXT(""), 0, 0, 0, HAYRO_CMAP_NO_MODE};
+    return facts;
+}
+
+// The map of a text that was written.
+static hayro_cmap map_of_text(const uint8_t *text, size_t len) {
+    hayro_cmap map = HAYRO_CMAP_EMPTY;
+    CHECK(hayro_cmap_parse(&map, text, len, TEXT(""), hayro_cmap_files(NULL), 0, HAYRO_CMAP_NO_BUDGET) ==
+          HAYRO_CMAP_OK);
+    return map;
+}
+
+static bool has_cid(hayro_cmap *map, uint32_t code, uint8_t byte_len, uint32_t expected) {
+    uint32_t cid = 0;
+    return hayro_cmap_cid(map, code, byte_len, &cid) && cid == expected;
+}
+
+static bool has_text(hayro_cmap *map, uint32_t code, const char *expected) {
+    uint8_t room[16];
+    size_t needed = 0;
+    return hayro_cmap_text(map, code, room, sizeof room, &needed) == HAYRO_CMAP_OK &&
+           needed == strlen(expected) && same(room, expected, needed);
+}
+
+static void a_file_is_made_of_declarations(void) {
+    const hayro_cmap_declaration declarations[] = {
+        declaration(HAYRO_CMAP_CODESPACE_RANGE, 2, 0, 0xFFFF, 0),
+        declaration(HAYRO_CMAP_CID_RANGE, 2, 0x20, 0x7E, 1),
+        declaration(HAYRO_CMAP_CID_RANGE, 2, 0x7F, 0x80, 96),
+        declaration(HAYRO_CMAP_NOTDEF_RANGE, 2, 0, 0x1F, 99),
+        text_declaration(0x41, 0x42, "fi"),
+        text_declaration(0x50, 0x50, "\xF0\x9F\x98\x80"),
+    };
+    const hayro_cmap_facts facts = {TEXT("Made-V"), TEXT("Adobe"), TEXT("Japan1"), 6, 1, 1, HAYRO_CMAP_VERTICAL};
+    uint8_t room[2048] = {7};
+    size_t needed = 9, whole = 0;
+    CHECK(hayro_cmap_make(&facts, declarations, 6, room, 1, &whole) == HAYRO_CMAP_NO_ROOM && room[0] == 7);
+    CHECK(hayro_cmap_make(&facts, declarations, 6, room, whole - 1, &needed) == HAYRO_CMAP_NO_ROOM);
+    CHECK(needed == whole && room[0] == 7);
+    CHECK(hayro_cmap_make(&facts, declarations, 6, room, whole, &needed) == HAYRO_CMAP_OK && needed == whole);
+    CHECK(same(room, "%!PS-Adobe-3.0 Resource-CMap\n", 29) && room[whole] == 0);
+    hayro_cmap map = map_of_text(room, needed);
+    CHECK(has_cid(&map, 0x41, 2, 0x22) && has_cid(&map, 0x80, 2, 97) && has_cid(&map, 0x1F, 2, 99));
+    CHECK(has_text(&map, 0x41, "fi") && has_text(&map, 0x42, "fj") && has_text(&map, 0x50, "\xF0\x9F\x98\x80"));
+    hayro_cmap_cid_range ranges[2];
+    CHECK(hayro_cmap_cid_ranges(&map, 0, 2, ranges, 2, &needed) == HAYRO_CMAP_OK && needed == 1);
+    CHECK(is_cid_range(&ranges[0], 0x20, 0x80, 1));
+    uint8_t name[8] = {0};
+    int32_t supplement = 0;
+    CHECK(hayro_cmap_name(&map, name, 8, &needed) == HAYRO_CMAP_OK && needed == 6 && same(name, "Made-V", 6));
+    CHECK(hayro_cmap_ordering(&map, name, 8, &needed) == HAYRO_CMAP_OK && same(name, "Japan1", 6));
+    CHECK(hayro_cmap_supplement(&map, &supplement) && supplement == 6);
+    CHECK(hayro_cmap_writing_mode(&map) == HAYRO_CMAP_VERTICAL);
+    hayro_cmap_free(&map);
+}
+
+static void a_file_may_say_nothing(void) {
+    const hayro_cmap_facts facts = no_facts();
+    uint8_t room[512];
+    size_t needed = 0;
+    CHECK(hayro_cmap_make(&facts, hayro_cmap_declarations(NULL), 0, room, 512, &needed) == HAYRO_CMAP_OK);
+    hayro_cmap map = map_of_text(room, needed);
+    CHECK(hayro_cmap_name(&map, room, 512, &needed) == HAYRO_CMAP_ABSENT);
+    CHECK(hayro_cmap_registry(&map, room, 512, &needed) == HAYRO_CMAP_ABSENT);
+    CHECK(hayro_cmap_writing_mode(&map) == HAYRO_CMAP_NO_MODE && !has_cid(&map, 0x41, 1, 0));
+    hayro_cmap_free(&map);
+}
+
+static bool is_refused(const hayro_cmap_facts *facts, hayro_cmap_declaration declared) {
+    uint8_t room[512] = {7};
+    size_t needed = 9;
+    return hayro_cmap_make(facts, &declared, 1, room, 512, &needed) == HAYRO_CMAP_REFUSED && room[0] == 7 &&
+           needed == 9;
+}
+
+static void what_no_file_says_is_refused(void) {
+    hayro_cmap_facts facts = no_facts();
+    CHECK(is_refused(&facts, declaration(4, 2, 0, 1, 0)));
+    CHECK(is_refused(&facts, declaration(HAYRO_CMAP_CID_RANGE, 0, 0, 1, 0)));
+    CHECK(is_refused(&facts, declaration(HAYRO_CMAP_CID_RANGE, 5, 0, 1, 0)));
+    CHECK(is_refused(&facts, declaration(HAYRO_CMAP_CID_RANGE, 258, 0, 1, 0)));
+    CHECK(is_refused(&facts, declaration(HAYRO_CMAP_CID_RANGE, 1, 0x100, 0x100, 0)));
+    CHECK(is_refused(&facts, declaration(HAYRO_CMAP_CODESPACE_RANGE, 1, 0, 0x100, 0)));
+    CHECK(is_refused(&facts, text_declaration(0x41, 0x41, "")));
+    CHECK(is_refused(&facts, text_declaration(0x41, 0x41, "\xC3")));
+    CHECK(!is_refused(&facts, text_declaration(0x41, 0x41, "\xC3\xA9")));
+    facts.name = hayro_cmap_bytes("A B");
+    facts.name_len = 3;
+    CHECK(!is_refused(&facts, declaration(HAYRO_CMAP_CID_RANGE, 2, 0, 1, 0)));
+    facts.has_name = 1;
+    CHECK(is_refused(&facts, declaration(HAYRO_CMAP_CID_RANGE, 2, 0, 1, 0)));
+}
+
+#define BASE                                                                                       \
+    "begincodespacerange <00> <80> <8140> <9FFC> endcodespacerange "                               \
+    "begincidrange <8140> <81FC> 633 <20> <7E> 1 endcidrange beginbfchar <8140> <3000> endbfchar"
+
+// The map of a file over one with the name Base.
+static hayro_cmap map_over(const char *text, const char *base) {
+    const hayro_cmap_file file = {TEXT("Base"), hayro_cmap_bytes(base), strlen(base)};
+    hayro_cmap map = HAYRO_CMAP_EMPTY;
+    CHECK(hayro_cmap_parse(&map, hayro_cmap_bytes(text), strlen(text), TEXT(""), &file, 1, HAYRO_CMAP_NO_BUDGET) ==
+          HAYRO_CMAP_OK);
+    return map;
+}
+
+static void a_map_is_written_as_one_file(void) {
+    hayro_cmap map = map_over("/Base usecmap /CMapName /Top def begincidchar <8141> 7887 endcidchar", BASE);
+    uint8_t room[1024] = {7};
+    size_t needed = 0, whole = 0;
+    CHECK(hayro_cmap_write(&map, hayro_cmap_chosen(NULL), 0, room, 1, &whole) == HAYRO_CMAP_NO_ROOM);
+    CHECK(room[0] == 7 && whole > 1);
+    CHECK(hayro_cmap_write(&map, hayro_cmap_chosen(NULL), 0, room, 1024, &needed) == HAYRO_CMAP_OK);
+    CHECK(needed == whole);
+    hayro_cmap flat = map_of_text(room, needed);
+    CHECK(hayro_cmap_layers(&map) == 2 && hayro_cmap_layers(&flat) == 1);
+    CHECK(has_cid(&flat, 0x8140, 2, 633) && has_cid(&flat, 0x8141, 2, 7887) && has_cid(&flat, 0x8142, 2, 635));
+    CHECK(has_cid(&flat, 0x20, 1, 1) && has_text(&flat, 0x8140, "\xE3\x80\x80"));
+    CHECK(hayro_cmap_name(&flat, room, 1024, &needed) == HAYRO_CMAP_OK && needed == 3 && same(room, "Top", 3));
+    hayro_cmap_free(&flat);
+    hayro_cmap_free(&map);
+    needed = 9;
+    CHECK(hayro_cmap_write(&map, hayro_cmap_chosen(NULL), 0, room, 1024, &needed) == HAYRO_CMAP_ABSENT);
+    CHECK(needed == 9);
+}
+
+static void a_map_is_written_for_some_codes(void) {
+    hayro_cmap map = map_over("/Base usecmap begincidchar <8141> 7887 endcidchar", BASE);
+    hayro_cmap_codes codes[2] = {{0x8141, 0x8142, 2}, {0x41, 0x41, 1}};
+    uint8_t room[1024];
+    size_t needed = 0;
+    CHECK(hayro_cmap_write(&map, codes, 2, room, 1024, &needed) == HAYRO_CMAP_OK);
+    hayro_cmap some = map_of_text(room, needed);
+    uint32_t cid = 8;
+    CHECK(has_cid(&some, 0x8141, 2, 7887) && has_cid(&some, 0x8142, 2, 635) && has_cid(&some, 0x41, 1, 34));
+    CHECK(!hayro_cmap_cid(&some, 0x8140, 2, &cid) && !hayro_cmap_cid(&some, 0x42, 1, &cid) && cid == 8);
+    CHECK(hayro_cmap_text(&some, 0x8140, room, 1024, &needed) == HAYRO_CMAP_ABSENT);
+    hayro_cmap_free(&some);
+    needed = 9;
+    codes[1].byte_len = 5;
+    CHECK(hayro_cmap_write(&map, codes, 2, room, 1024, &needed) == HAYRO_CMAP_REFUSED && needed == 9);
+    CHECK(has_cid(&map, 0x8140, 2, 633));
+    hayro_cmap_free(&map);
+}
+
+// By the upper layer 41 has the CID of its character, and by a file of both that of the lower one.
+static void a_map_that_no_file_answers_is_not_written(void) {
+    hayro_cmap map = map_over("/Base usecmap beginbfchar <41> <0062> endbfchar", "begincidchar <41> 5 endcidchar");
+    const hayro_cmap_codes codes[] = {{0x41, 0x41, 1}}, others[] = {{0x41, 0x41, 2}};
+    uint8_t room[1024];
+    size_t needed = 9;
+    CHECK(has_cid(&map, 0x41, 1, 0x62));
+    CHECK(hayro_cmap_write(&map, hayro_cmap_chosen(NULL), 0, room, 1024, &needed) == HAYRO_CMAP_REFUSED);
+    CHECK(hayro_cmap_write(&map, codes, 1, room, 1024, &needed) == HAYRO_CMAP_REFUSED && needed == 9);
+    CHECK(hayro_cmap_write(&map, others, 1, room, 1024, &needed) == HAYRO_CMAP_OK);
+    hayro_cmap_free(&map);
+}
+
 static void the_library_has_its_version(void) {
     uint8_t room[16] = {0};
     size_t needed = 0;
@@ -569,6 +742,12 @@ int main(void) {
     layers_declare_texts();
     lower_layers_declare_too();
     a_cid_has_its_codes();
+    a_file_is_made_of_declarations();
+    a_file_may_say_nothing();
+    what_no_file_says_is_refused();
+    a_map_is_written_as_one_file();
+    a_map_is_written_for_some_codes();
+    a_map_that_no_file_answers_is_not_written();
     the_library_has_its_version();
     puts(failed ? "failed" : "ok");
     return failed;

@@ -325,6 +325,40 @@ static void predefined_files_are_found() {
     fs::remove_all(folder);
 }
 
+static void files_are_made() {
+    hayro::Metadata metadata{"Made-H", "Adobe", "Japan1", 6, hayro::WritingMode::horizontal};
+    auto text = hayro::make(metadata, {{hayro::Kind::codespace_range, 2, 0, 0xFFFF, 0, ""},
+                                       {hayro::Kind::cid_range, 2, 0x20, 0x7E, 1, ""},
+                                       {hayro::Kind::notdef_range, 2, 0, 0x1F, 99, ""},
+                                       {hayro::Kind::text_range, 2, 0x41, 0x42, 0, "fi"}});
+    CHECK(text && text->substr(0, 14) == "%!PS-Adobe-3.0");
+    auto map = hayro::Map::parse(*text);
+    CHECK(map && map->cid(0x41, 2) == 0x22u && map->cid(1, 2) == 99u && map->cid_strict(0x20, 2) == 1u);
+    CHECK(map->text(0x41) == "fi" && map->text(0x42) == "fj" && !map->text(0x43));
+    auto said = map->metadata();
+    CHECK(said.name == "Made-H" && said.registry == "Adobe" && said.ordering == "Japan1");
+    CHECK(said.supplement == 6 && said.writing_mode == hayro::WritingMode::horizontal);
+    auto nothing = hayro::make({}, {});
+    CHECK(nothing && !hayro::Map::parse(*nothing)->name() && !hayro::Map::parse(*nothing)->registry());
+    CHECK(!hayro::make({}, {{hayro::Kind::text_range, 2, 0x41, 0x41, 0, "\xC3"}}));
+    CHECK(!hayro::make({"A B", {}, {}, {}, {}}, {}));
+}
+
+static void maps_are_written() {
+    auto base = "begincodespacerange <0000> <FFFF> endcodespacerange begincidrange <0000> <00FF> 100 endcidrange"s;
+    auto map = hayro::Map::parse("/Base usecmap begincidchar <0041> 7 endcidchar", {{"Base", base}});
+    auto flat = hayro::Map::parse(hayro::write(*map).value_or("("));
+    CHECK(flat && flat->layers() == 1 && flat->cid(0x41, 2) == 7u && flat->cid(0x42, 2) == 166u);
+    auto some = hayro::Map::parse(hayro::write(*map, {{0x41, 0x41, 2}, {0, 1, 2}}).value_or("("));
+    CHECK(some && some->cid(0x41, 2) == 7u && some->cid(1, 2) == 101u && !some->cid(0x42, 2));
+    CHECK(!hayro::write(*map, {{0, 1, 5}}));
+    hayro::Map empty;
+    CHECK(!hayro::write(empty));
+    auto torn = hayro::Map::parse("/Base usecmap beginbfchar <41> <0062> endbfchar",
+                                  {{"Base", "begincidchar <41> 5 endcidchar"}});
+    CHECK(torn && torn->cid(0x41, 1) == 0x62u && !hayro::write(*torn));
+}
+
 static void threads_share_a_map() {
     auto map = hayro::Map::parse("begincidrange <0000> <FFFF> 5 endcidrange");
     std::vector<std::thread> threads;
@@ -353,6 +387,8 @@ int main() {
     bundles_have_files();
     uses_are_named();
     predefined_files_are_found();
+    files_are_made();
+    maps_are_written();
     threads_share_a_map();
     CHECK(!hayro::version().empty());
     std::puts(failed ? "failed" : "ok");

@@ -1,8 +1,9 @@
-"""The examples that decode a string, in C, C++, Rust and Python; those of a bundle, of threads and of declarations; and
-those that write a ToUnicode CMap, in Rust and Python."""
+"""The examples that decode a string, in C, C++, Rust and Python; those of a bundle, of threads, of declarations and of a
+file in C; and those that write a ToUnicode CMap into a PDF file, in Rust and Python."""
 
 from .checks import needs, run
-from .known import DECLARED, REFUSED, STRINGS, WORDS, declaring_file, has_debian_files, refused_files, rows_of_strings
+from .known import DECLARED, MADE, MADE_OF, REFUSED, STRINGS, WORDS
+from .known import declaring_file, has_debian_files, refused_files, rows_of_strings
 from .library import EXAMPLES, HELGRIND, MEMCHECK
 
 NATIVE = {"C": EXAMPLES / "decode.c", "C++": EXAMPLES / "decode.cc"}
@@ -10,6 +11,7 @@ BUNDLE = EXAMPLES / "bundle.c"
 THREADS = EXAMPLES / "threads.c"
 DECLARING = EXAMPLES / "declared.c"
 PREDEFINED = EXAMPLES / "predefined.c"
+MAKING = EXAMPLES / "to_unicode.c"
 # what glyphs stand for, one of them twice
 GLYPHS = ["o", "ffi", "c", "e", "日", "\U0001F600", "é", "o"]
 
@@ -189,6 +191,22 @@ def test_c_lists_declarations(checks, setting):
 def test_c_lists_declarations_under_memcheck(checks, setting):
     """Every block is freed, and no address is wrong."""
     check_declarations(checks, setting, [*MEMCHECK, setting.programs.path(DECLARING)])
+
+
+def check_made_file(checks, setting, command):
+    """A command makes a file that declares the texts which it is asked for, as declared.c lists them."""
+    ran = run(*command, *MADE_OF)
+    path = setting.work / "made"
+    path.write_text(ran.out)
+    checks.ended(f"{command_line(command)}: a file that is made", run(setting.programs.path(DECLARING), path), MADE)
+    checks.ended(f"{command_line(command)}: a text that isn't one", run(*command, "41="), "", status=1)
+
+
+@needs("gcc")
+def test_c_makes_a_file(checks, setting):
+    """The example of a ToUnicode CMap, plain and with the sanitizers."""
+    for program in [setting.programs.path(MAKING), setting.programs.sanitized(MAKING)]:
+        check_made_file(checks, setting, [program])
 
 
 def predefined_files(work):

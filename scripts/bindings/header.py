@@ -9,7 +9,7 @@ from .library import C_TESTS, COMPILERS, TOP, WARNINGS
 HEADER = re.sub(r"/\*.*?\*/", "", (TOP / "include" / "hayro_cmap.h").read_text(), flags=re.S)
 CRATES = TOP / "crates"
 # the crates with calls of the header
-WITH_CALLS = ["cmap_c", "cmap_c_maps"]
+WITH_CALLS = ["cmap_c", "cmap_c_maps", "cmap_c_writer"]
 VERSION = (TOP / "VERSION").read_text().strip()
 
 # how a type of the crates is written in the header
@@ -35,6 +35,9 @@ NAMED = {
     "DeclaredTexts": "hayro_cmap_text_range",
     "CodeRange": "hayro_cmap_code_range",
     "FaultNumbers": "hayro_cmap_fault",
+    "Facts<'_>": "hayro_cmap_facts",
+    "Declaration<'_>": "hayro_cmap_declaration",
+    "ChosenCodes": "hayro_cmap_codes",
 }
 RESULTS = {
     "u32": {"hayro_cmap_status", "hayro_cmap_mode"},
@@ -53,6 +56,9 @@ STRUCTS = [
     ("hayro_cmap_text_range", "cmap_handles/src/ranges.rt", "DeclaredTexts"),
     ("hayro_cmap_code_range", "cmap_handles/src/ranges.rt", "CodeRange"),
     ("hayro_cmap_fault", "cmap_c/src/fault.rt", "FaultNumbers"),
+    ("hayro_cmap_facts", "cmap_c_writer/src/facts.rt", "Facts"),
+    ("hayro_cmap_declaration", "cmap_c_writer/src/declaration.rt", "Declaration"),
+    ("hayro_cmap_codes", "cmap_c_writer/src/chosen.rt", "ChosenCodes"),
 ]
 # the same of handles, which crate cmap_handles writes with the slot that they hold
 SLOTS = "cmap_handles/src/slot.rt"
@@ -64,9 +70,11 @@ NUMBERED = r"(?P<number>\d+)(?:, [\w()]+\))? => Some\({}::(?P<name>\w+)"
 # enums of the header: what the crates have no variant for, how and where they write a variant and its number, and what
 # the header calls otherwise, since another enum has the name
 STATUSES, MODES, FAULTS = "cmap_handles/src/status.rt", "cmap_c_maps/src/metadata.rt", "cmap_c/src/fault.rt"
+KINDS = "cmap_c_writer/src/declaration.rt"
 ENUMS = [
     ("hayro_cmap_status", {}, r"Status::(?P<name>\w+) => (?P<number>\d+),", STATUSES, {"DONE": "OK"}),
     ("hayro_cmap_mode", {"NO_MODE": "2"}, r"WritingMode::(?P<name>\w+)\) => (?P<number>\d+),", MODES, {}),
+    ("hayro_cmap_kind", {}, NUMBERED.format("Kind"), KINDS, {}),
     ("hayro_cmap_cause", {}, NUMBERED.format("Cause"), FAULTS, {"OVER_BUDGET": "PAST_BUDGET"}),
     ("hayro_cmap_reason", {"NO_REASON": "0"}, NUMBERED.format("Reason"), FAULTS, {}),
     ("hayro_cmap_segment", {"NO_SEGMENT": "0"}, NUMBERED.format("Segment"), FAULTS, {"WRITING_MODE": "MODE"}),
@@ -90,7 +98,7 @@ def as_in_c(name, kind):
     """What the header declares for a parameter or a field of the crates."""
     if kind == "Global":
         return []
-    if pointed := re.fullmatch(r"&(mut )?(\w+)", kind):
+    if pointed := re.fullmatch(r"&(mut )?(\w+(?:<'_>)?)", kind):
         return [f"{'' if pointed[1] else 'const '}{NAMED.get(pointed[2], VALUES.get(pointed[2]))} *{name}"]
     if array := re.fullmatch(r"\[(\w+); (\w+)\]", kind):
         return [f"{VALUES[array[1]]} {name}[HAYRO_CMAP_{array[2]}]"]
@@ -185,7 +193,7 @@ def test_handles_are_those_of_the_crates(checks, _setting):
 
 
 def test_numbers_are_those_of_the_crates(checks, _setting):
-    """Statuses, modes, causes, reasons and segments."""
+    """Statuses, modes, kinds, causes, reasons and segments."""
     for enum, *of_crate in ENUMS:
         checks.same(f"the numbers of {enum}", numbers_of_header(enum), numbers_of_crates(*of_crate))
 

@@ -48,6 +48,14 @@ text 44 44 00660069
 7 <26> <26>
 7 <41> <41>
 """
+# codes with texts, of which to_unicode.c makes a file, and what declared.c prints of that
+MADE_OF = ["1=R", "2=é", "3=ffi", "4=😀", "5=S"]
+MADE = """text 1 1 0052
+text 2 2 00E9
+text 3 3 006600660069
+text 4 4 D83DDE00
+text 5 5 0053
+"""
 # how many codes of two bytes have a CID in UniJIS-UTF16-H, that of poppler-data and the small one
 COUNT, SMALL_COUNT = 15391, 85
 

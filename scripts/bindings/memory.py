@@ -1,7 +1,7 @@
 """Requests for memory that are refused in turn: each example then ends with a message and a status."""
 
 from .checks import Failed, needs, run
-from .known import DECLARED, declaring_file
+from .known import DECLARED, MADE_OF, declaring_file
 from .library import EXAMPLES, TOP
 
 # all that a program asks for afterwards
@@ -77,3 +77,10 @@ def test_c_lists_declarations_without_memory(checks, setting):
     """A small file, and the codes of two CIDs."""
     command = [setting.programs.path(EXAMPLES / "declared.c"), setting.once(declaring_file), "7", "34"]
     refuse_each(checks, setting, "declared.c", command, DECLARED)
+
+
+@needs("gcc")
+def test_c_makes_a_file_without_memory(checks, setting):
+    """The texts of a few codes."""
+    command = [setting.programs.path(EXAMPLES / "to_unicode.c"), *MADE_OF]
+    refuse_each(checks, setting, "to_unicode.c", command, run(*command).out)
