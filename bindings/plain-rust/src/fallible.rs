@@ -6,7 +6,7 @@
 pub mod alloc;
 mod boxed;
 pub mod collections;
-pub mod itoa;
+pub(crate) mod itoa;
 mod slices;
 mod sorting;
 mod string;

@@ -325,10 +325,10 @@ class CMap(Owned):
         count = self._ask(library.hayro_cmap_layers)
         return [Layer(self, index) for index in range(count)]
 
-    def _put(self, call, *arguments, **room_len):
+    def _put(self, call, *arguments, **options):
         """The bytes that a call on the map puts to a room, or None."""
         with self._held() as handle:
-            return put(call, handle, *arguments, **room_len)
+            return put(call, handle, *arguments, **options)
 
     def _metadata(self, layer):
         supplement = c_int32()
