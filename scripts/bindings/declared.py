@@ -32,6 +32,9 @@ OF_RUST = {
     "CidRange": "hayro_cmap_cid_range",
     "RawTextRange": "hayro_cmap_text_range",
     "RawCodeRange": "hayro_cmap_code_range",
+    "RawCodes": "hayro_cmap_codes",
+    "RawDeclaration<'_>": "hayro_cmap_declaration",
+    "RawFacts<'_>": "hayro_cmap_facts",
 }
 # the structs of Rust and of Python, with those of the header
 RUST_STRUCTS = {
@@ -46,6 +49,9 @@ RUST_STRUCTS = {
     "CidRange": "hayro_cmap_cid_range",
     "RawTextRange": "hayro_cmap_text_range",
     "RawCodeRange": "hayro_cmap_code_range",
+    "RawCodes": "hayro_cmap_codes",
+    "RawDeclaration<'a>": "hayro_cmap_declaration",
+    "RawFacts<'a>": "hayro_cmap_facts",
 }
 PYTHON_STRUCTS = {
     "File": "hayro_cmap_file",
@@ -57,6 +63,9 @@ PYTHON_STRUCTS = {
     "DeclaredCids": "hayro_cmap_cid_range",
     "DeclaredTexts": "hayro_cmap_text_range",
     "CodesInRow": "hayro_cmap_code_range",
+    "ChosenCodes": "hayro_cmap_codes",
+    "Declaration": "hayro_cmap_declaration",
+    "Facts": "hayro_cmap_facts",
 }
 ENUMS = {"hayro_cmap_status", "hayro_cmap_mode"}
 

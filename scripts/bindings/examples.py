@@ -1,4 +1,5 @@
-"""The examples that decode a string, in C, C++, Rust and Python; those of a bundle, of threads, of declarations and of a file."""
+"""The examples that decode a string, in C, C++, Rust and Python; those of a bundle, of threads, of declarations and of a
+file in C; and those that write a ToUnicode CMap into a PDF file, in Rust and Python."""
 
 from .checks import needs, run
 from .known import (
@@ -24,6 +25,8 @@ DECLARING = EXAMPLES / "declared.c"
 PREDEFINED = EXAMPLES / "predefined.c"
 MAKING = EXAMPLES / "to_unicode.c"
 WRITING = EXAMPLES / "subset.c"
+# what glyphs stand for, one of them twice
+GLYPHS = ["o", "ffi", "c", "e", "日", "\U0001F600", "é", "o"]
 
 
 def check_strings(checks, setting, what, command, **environment):
@@ -104,6 +107,28 @@ def test_python_decodes(checks, setting):
     check_strings(checks, setting, "Python", command, **environment)
     check_refusals(checks, setting, "Python", command, **environment)
     check_texts(checks, "Python", command, **environment)
+
+
+def check_to_unicode(checks, setting, what, command, **environment):
+    """A command writes a PDF file whose text pdftotext reads."""
+    path = setting.work / "to_unicode.pdf"
+    path.unlink(missing_ok=True)
+    checks.ended(f"{what} writes a PDF file", run(*command, path, *GLYPHS, **environment), "")
+    ran = run("pdftotext", "-enc", "UTF-8", "-nopgbrk", path, "-")
+    checks.same(f"{what}: its text by pdftotext", (ran.status, ran.out.strip()), (0, "".join(GLYPHS)))
+
+
+@needs("cargo", "pdftotext")
+def test_rust_writes_to_unicode(checks, setting):
+    """The example of the crate, as cargo builds it."""
+    check_to_unicode(checks, setting, "Rust", [setting.crate.example("to_unicode")])
+
+
+@needs("pip", "pdftotext")
+def test_python_writes_to_unicode(checks, setting):
+    """The example, over the package as pip installs it."""
+    command = [setting.package.python, EXAMPLES / "to_unicode.py"]
+    check_to_unicode(checks, setting, "Python", command, **setting.package.installed())
 
 
 def check_bundle(checks, setting, command):

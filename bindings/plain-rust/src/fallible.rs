@@ -6,6 +6,7 @@
 pub mod alloc;
 mod boxed;
 pub mod collections;
+pub(crate) mod itoa;
 mod slices;
 mod sorting;
 mod string;

@@ -10,8 +10,10 @@ extern crate std;
 #[cfg(target_pointer_width = "16")]
 compile_error!("hayro-cmap needs addresses of at least 32 bits");
 
+mod builder;
 mod bundle;
 mod collection;
+mod declaring;
 mod extracting;
 mod extractor;
 pub mod fallible;
@@ -29,7 +31,9 @@ mod reason;
 mod refusal;
 mod said;
 mod text;
+mod writing;
 
+pub use builder::{CMapBuilder, Codes, WriteError};
 pub use bundle::{Bundle, load_embedded};
 pub use collection::{CharacterCollection, CidFamily};
 pub use extractor::{Character, Extractor};

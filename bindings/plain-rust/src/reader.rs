@@ -14,10 +14,13 @@
 pub(crate) mod cmap_binary;
 pub(crate) mod cmap_chains;
 pub(crate) mod cmap_codespaces;
+pub(crate) mod cmap_flatten;
 pub(crate) mod cmap_layers;
 pub(crate) mod cmap_packed;
 pub(crate) mod cmap_runs;
 pub(crate) mod cmap_text;
+pub(crate) mod cmap_text_writer;
+pub(crate) mod cmap_tidy;
 pub(crate) mod cmap_tokens;
 pub(crate) mod cmap_unicode;
 pub(crate) mod cmap_values;

@@ -5,6 +5,8 @@
     with hayro_cmap.CMap.open("90ms-RKSJ-H") as cmap:
         print([code.cid for code in cmap.decode(bytes.fromhex("93FA967B8CEA"))])
 
+`to_unicode`, `CMapWriter` and `CMap.write` write such files.
+
 A file may come from anyone: each call returns on any bytes. What is refused is a `Refused`, and MemoryError says that
 memory ran out. The calls are those of the C library of this project, which has to be found: the path in the
 environment variable HAYRO_CMAP_LIBRARY, else the file in this package's folder, else the system's.
@@ -12,16 +14,18 @@ environment variable HAYRO_CMAP_LIBRARY, else the file in this package's folder,
 
 from ._bundle import Bundle
 from ._extractor import Character, Extractor
-from ._faults import Cause, NotABundle, Reason, Refused, Segment
+from ._faults import Cause, NotABundle, NotWritable, Reason, Refused, Segment
 from ._folder import folder
 from ._map import CidRange, CMap, Code, CodeRange, Codespace, Layer, Metadata, Salvaged, TextRange, WritingMode
 from ._owned import library, put
 from ._predefined import predefined
 from ._reading import uses
+from ._writer import CMapWriter, to_unicode
 
 __all__ = [
     "Bundle",
     "CMap",
+    "CMapWriter",
     "Cause",
     "Character",
     "CidRange",
@@ -32,6 +36,7 @@ __all__ = [
     "Layer",
     "Metadata",
     "NotABundle",
+    "NotWritable",
     "Reason",
     "Refused",
     "Salvaged",
@@ -40,6 +45,7 @@ __all__ = [
     "WritingMode",
     "folder",
     "predefined",
+    "to_unicode",
     "uses",
 ]
 

@@ -89,3 +89,7 @@ class Refused(ValueError):
 
 class NotABundle(ValueError):
     """The bytes are no bundle."""
+
+
+class NotWritable(ValueError):
+    """No CMap file says what one is to say."""

@@ -4,7 +4,20 @@ import ctypes
 import os
 import site
 import sys
-from ctypes import POINTER, Structure, c_bool, c_char_p, c_int, c_size_t, c_uint8, c_uint16, c_uint32, c_uint64, c_void_p
+from ctypes import (
+    POINTER,
+    Structure,
+    c_bool,
+    c_char_p,
+    c_int,
+    c_int32,
+    c_size_t,
+    c_uint8,
+    c_uint16,
+    c_uint32,
+    c_uint64,
+    c_void_p,
+)
 from pathlib import Path
 
 #: The name of the library in a system: its number is the first one of the project's version.
@@ -18,6 +31,9 @@ OK, REFUSED, NO_MEMORY, OVER_BUDGET, NOT_A_BUNDLE, ABSENT, NO_ROOM = range(7)
 
 # a hayro_cmap_mode
 NO_MODE = 2
+
+# hayro_cmap_kind
+CODESPACE_RANGE, CID_RANGE, NOTDEF_RANGE, TEXT_RANGE = range(4)
 
 NO_BUDGET = 2**64 - 1
 MOST_NAMES = 16
@@ -84,6 +100,43 @@ class CodesInRow(Structure):
     _fields_ = [("first", c_uint32), ("last", c_uint32)]
 
 
+class ChosenCodes(Structure):
+    """A hayro_cmap_codes."""
+
+    _fields_ = [("first", c_uint32), ("last", c_uint32), ("byte_len", c_uint32)]
+
+
+class Declaration(Structure):
+    """A hayro_cmap_declaration."""
+
+    _fields_ = [
+        ("kind", c_uint16),
+        ("byte_len", c_uint16),
+        ("first", c_uint32),
+        ("last", c_uint32),
+        ("cid", c_uint32),
+        ("text", c_char_p),
+        ("text_len", c_size_t),
+    ]
+
+
+class Facts(Structure):
+    """A hayro_cmap_facts."""
+
+    _fields_ = [
+        ("name", c_char_p),
+        ("name_len", c_size_t),
+        ("registry", c_char_p),
+        ("registry_len", c_size_t),
+        ("ordering", c_char_p),
+        ("ordering_len", c_size_t),
+        ("supplement", c_int32),
+        ("has_name", c_uint8),
+        ("has_collection", c_uint8),
+        ("writing_mode", c_uint16),
+    ]
+
+
 class Fault(Structure):
     """A hayro_cmap_fault."""
 
@@ -123,9 +176,10 @@ CALLS = {
     "hayro_cmap_layer_name": (c_int, [HANDLE, c_size_t, *ROOM]),
     "hayro_cmap_layer_ordering": (c_int, [HANDLE, c_size_t, *ROOM]),
     "hayro_cmap_layer_registry": (c_int, [HANDLE, c_size_t, *ROOM]),
-    "hayro_cmap_layer_supplement": (c_bool, [HANDLE, c_size_t, POINTER(ctypes.c_int32)]),
+    "hayro_cmap_layer_supplement": (c_bool, [HANDLE, c_size_t, POINTER(c_int32)]),
     "hayro_cmap_layer_writing_mode": (c_int, [HANDLE, c_size_t]),
     "hayro_cmap_layers": (c_size_t, [HANDLE]),
+    "hayro_cmap_make": (c_int, [POINTER(Facts), POINTER(Declaration), c_size_t, *ROOM]),
     "hayro_cmap_message": (c_int, [POINTER(Fault), *ROOM]),
     "hayro_cmap_notdef_ranges": (c_int, [HANDLE, c_size_t, c_uint8, POINTER(DeclaredCids), c_size_t, SIZE]),
     "hayro_cmap_open": (c_int, [HANDLE, *DATA, *OVER_FILES]),
@@ -136,6 +190,7 @@ CALLS = {
     "hayro_cmap_text_units": (c_int, [HANDLE, c_size_t, c_size_t, POINTER(c_uint16), c_size_t, SIZE]),
     "hayro_cmap_uses": (c_int, [*DATA, HANDLE, SIZE, c_size_t, SIZE, *ROOM]),
     "hayro_cmap_version": (c_int, ROOM),
+    "hayro_cmap_write": (c_int, [HANDLE, POINTER(ChosenCodes), c_size_t, *ROOM]),
 }
 
 

@@ -4,15 +4,16 @@ import enum
 import functools
 import struct
 from ctypes import c_int32, c_size_t, c_uint16, c_uint32, string_at
-from typing import List, NamedTuple, Optional, Tuple
+from typing import Iterable, List, NamedTuple, Optional, Tuple, Union
 
 from ._bundle import Bundle, held
-from ._faults import Refused
+from ._faults import NotWritable, Refused
 from ._library import (
     ABSENT,
     NO_MODE,
     NO_ROOM,
     OK,
+    ChosenCodes,
     CodeInString,
     CodesInRow,
     CodespaceRange,
@@ -33,10 +34,24 @@ from ._reading import (
     table_of,
 )
 from ._reading import uses as uses_of
-from ._values import CODE_LENGTHS, Buffer, Name, bytes_of, cid_number, code_length, code_number, name_of, number
+from ._values import (
+    CODE_LENGTHS,
+    Buffer,
+    Name,
+    bytes_of,
+    cid_number,
+    code_length,
+    code_number,
+    code_of_bytes,
+    name_of,
+    number,
+)
 
 #: A hayro_cmap_code: its fields have no gaps between them.
 CODE = struct.Struct("=IIBBBB")
+
+#: How many bytes the text of a map is written to at first.
+TEXT_ROOM = 65536
 
 
 class WritingMode(enum.IntEnum):
@@ -282,6 +297,23 @@ class CMap(Owned):
         codes = self._listed(library.hayro_cmap_codes_of_cid, CodesInRow, cid_number(cid), code_length(byte_len))
         return [CodeRange(it.first, it.last) for it in codes]
 
+    def write(self, codes: Optional[Iterable[Union[Buffer, Code]]] = None) -> bytes:
+        """One CMap file, which uses no other and answers each code as the map does: its text.
+
+        With `codes` it does so for these alone, and has nothing for others. Each is a bytes object of one to four
+        bytes, or a code of `decode`: `cmap.write(cmap.decode(string))` is for the codes of a string. Codespace ranges
+        stay.
+
+        NotWritable where no one file answers so, as where a code has no CID but a text in one layer, and a CID in a
+        lower one.
+        """
+        table = chosen(() if codes is None else codes)
+        count = 0 if codes is None else len(table)
+        text = self._put(library.hayro_cmap_write, table, count, room_len=TEXT_ROOM)
+        if text is None:
+            raise NotWritable("no one CMap file answers as the map does")
+        return text
+
     @property
     def metadata(self) -> Metadata:
         """What the file says of itself: that of layer 0."""
@@ -293,10 +325,10 @@ class CMap(Owned):
         count = self._ask(library.hayro_cmap_layers)
         return [Layer(self, index) for index in range(count)]
 
-    def _put(self, call, *arguments):
+    def _put(self, call, *arguments, **options):
         """The bytes that a call on the map puts to a room, or None."""
         with self._held() as handle:
-            return put(call, handle, *arguments)
+            return put(call, handle, *arguments, **options)
 
     def _metadata(self, layer):
         supplement = c_int32()
@@ -321,6 +353,13 @@ class CMap(Owned):
             room = (kind * needed.value)()
             status = checked(self._ask(call, *arguments, room, len(room), needed))
         return room[: needed.value] if status == OK else []
+
+
+def chosen(codes):
+    """The codes as an array. To the library an empty one stands for all codes, so the first entry has none."""
+    numbers = [code_of_bytes(bytes(code) if isinstance(code, Code) else bytes_of(code)) for code in codes]
+    entries = (ChosenCodes(code, code, byte_len) for code, byte_len in numbers)
+    return (ChosenCodes * (len(numbers) + 1))(ChosenCodes(1, 0, 1), *entries)
 
 
 class Salvaged(NamedTuple):

@@ -4,7 +4,7 @@ import contextlib
 import ctypes
 import threading
 
-from ._library import ABSENT, NO_MEMORY, NO_ROOM, Handle, load
+from ._library import NO_MEMORY, NO_ROOM, OK, Handle, load
 
 library = load()
 
@@ -16,13 +16,13 @@ def checked(status):
     return status
 
 
-def put(call, *arguments):
+def put(call, *arguments, room_len=64):
     """The bytes that a call puts to a room, its last three parameters; None where it has no answer."""
-    needed, status = ctypes.c_size_t(64), NO_ROOM
+    needed, status = ctypes.c_size_t(room_len), NO_ROOM
     while status == NO_ROOM:
         room = ctypes.create_string_buffer(needed.value)
         status = checked(call(*arguments, room, len(room), needed))
-    return None if status == ABSENT else room.raw[: needed.value]
+    return room.raw[: needed.value] if status == OK else None
 
 
 class Owned:

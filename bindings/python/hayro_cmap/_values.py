@@ -36,6 +36,18 @@ def code_length(byte_len):
     return number(byte_len, CODE_LENGTHS[0], CODE_LENGTHS[-1], "the length of a code in bytes")
 
 
+def code_of_bytes(data):
+    """The number that the bytes of a code write, and how many they are."""
+    return int.from_bytes(data, "big"), code_length(len(data))
+
+
+def code_of(code, byte_len):
+    """The same of a code that is given as its bytes, or as a number of `byte_len` bytes."""
+    if hasattr(code, "__index__"):
+        return number(code, 0, 256**byte_len - 1, "the code"), byte_len
+    return code_of_bytes(bytes_of(code))
+
+
 def bytes_of(data):
     """The bytes of a buffer; a copy of those that could change. TypeError for what holds no bytes."""
     return data if type(data) is bytes else bytes(memoryview(data))

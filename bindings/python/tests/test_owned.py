@@ -44,6 +44,7 @@ class Closing(unittest.TestCase):
             lambda: cmap.cids(0, 4, 1),
             lambda: cmap.text(0x41),
             lambda: cmap.decode(b"A"),
+            lambda: cmap.write(),
             lambda: cmap.metadata,
             lambda: cmap.layers,
             lambda: cmap.share(),

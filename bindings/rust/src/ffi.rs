@@ -5,7 +5,8 @@
 //! at a time uses it. Pointers come from references and slices: they aren't null, what is behind them
 //! outlives the call, and what is behind a `&mut` overlaps with nothing else.
 
-use crate::{CidRange, Codespace, TextRange};
+use crate::builder::{CMapBuilder, Codes, Declaration, Given};
+use crate::{CidRange, Codespace, TextRange, WritingMode};
 use std::alloc::{Layout, handle_alloc_error};
 use std::ffi::c_void;
 use std::marker::PhantomData;
@@ -111,6 +112,104 @@ struct RawTextRange {
 struct RawCodeRange {
     first: u32,
     last: u32,
+}
+
+/// Codes in a row, of a length.
+#[repr(C)]
+#[derive(Clone, Copy)]
+struct RawCodes {
+    first: u32,
+    last: u32,
+    byte_len: u32,
+}
+
+impl RawCodes {
+    /// No codes.
+    const NONE: RawCodes = RawCodes { first: 1, last: 0, byte_len: 1 };
+
+    fn of(codes: &Codes) -> RawCodes {
+        let Codes { first, last, byte_len } = *codes;
+        RawCodes { first, last, byte_len: byte_len.into() }
+    }
+}
+
+/// A declaration of a file that is made, its text lent for `'a`.
+#[repr(C)]
+struct RawDeclaration<'a> {
+    kind: u16,
+    byte_len: u16,
+    first: u32,
+    last: u32,
+    cid: u32,
+    text: *const u8,
+    text_len: usize,
+    lent: PhantomData<&'a str>,
+}
+
+impl<'a> RawDeclaration<'a> {
+    fn of(declaration: &'a Declaration) -> RawDeclaration<'a> {
+        let (kind, cid, text) = match &declaration.given {
+            Given::Codespace => (0, 0, ""),
+            Given::Cid(cid) => (1, *cid, ""),
+            Given::Notdef(cid) => (2, *cid, ""),
+            Given::Text(text) => (3, 0, text.as_str()),
+        };
+        let Codes { first, last, byte_len } = declaration.codes;
+        RawDeclaration {
+            kind,
+            byte_len: byte_len.into(),
+            first,
+            last,
+            cid,
+            text: text.as_ptr(),
+            text_len: text.len(),
+            lent: PhantomData,
+        }
+    }
+}
+
+/// What a file that is made says of itself, its names lent for `'a`.
+#[repr(C)]
+struct RawFacts<'a> {
+    name: *const u8,
+    name_len: usize,
+    registry: *const u8,
+    registry_len: usize,
+    ordering: *const u8,
+    ordering_len: usize,
+    supplement: i32,
+    has_name: u8,
+    has_collection: u8,
+    writing_mode: u16,
+    lent: PhantomData<&'a [u8]>,
+}
+
+impl<'a> RawFacts<'a> {
+    fn of(file: &'a CMapBuilder) -> RawFacts<'a> {
+        let name = file.name.as_deref().unwrap_or_default();
+        let collection = file.collection.as_ref();
+        let (registry, ordering, supplement) = match collection {
+            Some(it) => (&it.registry[..], &it.ordering[..], it.supplement),
+            None => (&[][..], &[][..], 0),
+        };
+        RawFacts {
+            name: name.as_ptr(),
+            name_len: name.len(),
+            registry: registry.as_ptr(),
+            registry_len: registry.len(),
+            ordering: ordering.as_ptr(),
+            ordering_len: ordering.len(),
+            supplement,
+            has_name: file.name.is_some().into(),
+            has_collection: collection.is_some().into(),
+            writing_mode: match file.writing_mode {
+                Some(WritingMode::Horizontal) => 0,
+                Some(WritingMode::Vertical) => 1,
+                None => 2,
+            },
+            lent: PhantomData,
+        }
+    }
 }
 
 /// Why a file gives no map.
@@ -309,6 +408,22 @@ unsafe extern "C" {
         ranges_len: usize,
         needed: *mut usize,
     ) -> u32;
+    fn hayro_cmap_make(
+        facts: *const RawFacts<'_>,
+        declarations: *const RawDeclaration<'_>,
+        declarations_len: usize,
+        room: *mut u8,
+        room_len: usize,
+        needed: *mut usize,
+    ) -> u32;
+    fn hayro_cmap_write(
+        map: *mut RawMap,
+        codes: *const RawCodes,
+        codes_len: usize,
+        room: *mut u8,
+        room_len: usize,
+        needed: *mut usize,
+    ) -> u32;
     fn hayro_cmap_version(room: *mut u8, room_len: usize, needed: *mut usize) -> u32;
 }
 
@@ -346,6 +461,9 @@ fn written<T: Clone + Default>(
 
 /// The bytes that most names and texts fit in.
 const SHORT: usize = 64;
+
+/// The bytes that many files fit in.
+const LONG: usize = 1 << 16;
 
 /// A map of the library.
 pub(crate) struct MapHandle(RawMap);
@@ -756,6 +874,25 @@ impl MapHandle {
         let ranges = ranges.unwrap_or_default().into_iter();
         ranges.map(|range| range.first..=range.last).collect()
     }
+
+    /// The text of one file that answers as the map, or for these codes alone.
+    pub(crate) fn write(&mut self, codes: Option<&[Codes]>) -> Option<Vec<u8>> {
+        let codes = codes.map(|codes| codes.iter().map(RawCodes::of).chain([RawCodes::NONE]));
+        let codes: Vec<RawCodes> = codes.into_iter().flatten().collect();
+        written(LONG, |room, needed| {
+            // SAFETY: see the head of the module.
+            unsafe {
+                hayro_cmap_write(
+                    &mut self.0,
+                    codes.as_ptr(),
+                    codes.len(),
+                    room.as_mut_ptr(),
+                    room.len(),
+                    needed,
+                )
+            }
+        })
+    }
 }
 
 /// A bundle of the library, or none.
@@ -866,6 +1003,25 @@ impl Share for BundleHandle {
         expect_memory(unsafe { hayro_cmap_bundle_share(&mut self.0, &mut other.0) });
         other
     }
+}
+
+/// The text of a file of declarations.
+pub(crate) fn make(file: &CMapBuilder) -> Option<Vec<u8>> {
+    let facts = RawFacts::of(file);
+    let declarations: Vec<_> = file.declarations.iter().map(RawDeclaration::of).collect();
+    written(LONG, |room, needed| {
+        // SAFETY: see the head of the module.
+        unsafe {
+            hayro_cmap_make(
+                &facts,
+                declarations.as_ptr(),
+                declarations.len(),
+                room.as_mut_ptr(),
+                room.len(),
+                needed,
+            )
+        }
+    })
 }
 
 /// The version of the library.

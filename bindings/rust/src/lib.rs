@@ -4,6 +4,7 @@
 
 extern crate alloc;
 
+mod builder;
 mod bundle;
 mod collection;
 mod extracting;
@@ -21,7 +22,9 @@ mod reading;
 mod reason;
 mod refusal;
 mod text;
+mod writing;
 
+pub use builder::{CMapBuilder, Codes, WriteError};
 pub use bundle::{Bundle, load_embedded};
 pub use collection::{CharacterCollection, CidFamily};
 pub use extractor::{Character, Extractor};

@@ -54,8 +54,8 @@ macro_rules! questions {
         mod $module {
             use super::*;
             use $krate::{
-                BfString, Bundle, CMap, CMapName, Extractor, ParseOptions, Refusal, Salvaged,
-                StringCode,
+                BfString, Bundle, CMap, CMapBuilder, CMapName, Codes, Extractor, ParseOptions,
+                Refusal, Salvaged, StringCode, WriteError,
             };
 
             /// What the crate answers about an input, over these files and this bundle.
@@ -156,6 +156,51 @@ macro_rules! questions {
                     }
                 }
                 ask_strings(map, numbers, answers);
+                ask_file(declared_file(map).build(), answers);
+                if is_whole {
+                    ask_file(map.write(), answers);
+                }
+            }
+
+            /// What the top layer declares, but for ranges of many codes, as a file is made of it.
+            fn declared_file(map: &CMap) -> CMapBuilder {
+                let mut file = CMapBuilder::new().collection("Adobe", "Test", 1);
+                if let Some(name) = &map.metadata().name {
+                    file = file.name(name);
+                }
+                for space in &map.layers()[0].codespaces {
+                    let (first, last, byte_len) = (space.low, space.high, space.byte_len as u8);
+                    file = file.codespace(Codes { first, last, byte_len });
+                }
+                let codes = |first: u32, last: u32, byte_len: u8| {
+                    let is_small = last.wrapping_sub(first) < 0x1000;
+                    is_small.then_some(Codes { first, last, byte_len })
+                };
+                for byte_len in 1..5 {
+                    for range in map.cid_ranges(0, byte_len) {
+                        if let Some(codes) = codes(range.first, range.last, byte_len) {
+                            file = file.cid(codes, range.cid);
+                        }
+                    }
+                    for range in map.notdef_ranges(0, byte_len) {
+                        if let Some(codes) = codes(range.first, range.last, byte_len) {
+                            file = file.notdef(codes, range.cid);
+                        }
+                    }
+                }
+                for range in map.text_ranges(0) {
+                    if let Some(codes) = codes(range.first, range.last, 4) {
+                        file = file.text(codes, String::from_utf16_lossy(&range.units));
+                    }
+                }
+                file
+            }
+
+            fn ask_file(file: Result<Vec<u8>, WriteError>, answers: &mut Answers) {
+                match file {
+                    Ok(file) => answers.shown(file.escape_ascii()),
+                    Err(fault) => answers.shown(format_args!("{fault:?}")),
+                }
             }
 
             /// All codes of a range and its neighbours; but for a whole file only its ends, and some in a row.
@@ -211,9 +256,11 @@ macro_rules! questions {
                         string.extend(&bytes[4 - space.byte_len as usize..]);
                     }
                 }
-                for code in map.decode(&string) {
-                    ask_code(&code, answers);
+                let codes = map.decode(&string);
+                for code in &codes {
+                    ask_code(code, answers);
                 }
+                ask_file(map.write_codes(codes), answers);
                 let font = Extractor::new(map.clone(), Some(map.clone()), Some(map.clone()));
                 for character in font.characters(&string) {
                     ask_code(&character.code, answers);

@@ -1,0 +1,136 @@
+"""CMap files that are made of declarations."""
+
+from typing import Iterable, List, Mapping, Optional, Tuple, Union
+
+from ._faults import NotWritable
+from ._library import CID_RANGE, CODESPACE_RANGE, NO_MODE, NOTDEF_RANGE, TEXT_RANGE, Declaration, Facts
+from ._map import WritingMode
+from ._owned import library, put
+from ._values import Buffer, Name, cid_number, code_length, code_of, name_of, number
+
+#: A code: its one to four bytes, or the number that they write.
+CodeOf = Union[int, Buffer]
+
+#: The registry, the ordering and the supplement of a character collection.
+Collection = Tuple[Name, Name, int]
+
+#: How many bytes a text is written to at first, and how many more for each declaration.
+ROOM, ROOM_EACH = 1024, 32
+
+
+class CMapWriter:
+    """Makes a CMap file of declarations.
+
+        writer = CMapWriter("Sample-H", collection=("Adobe", "Japan1", 6), writing_mode=WritingMode.HORIZONTAL)
+        writer.codespace(b"\\x00", b"\\x80")
+        writer.cid(b"\\x20", b"\\x7e", 1)
+        data = writer.write()
+
+    A declaration is for the codes from a first to a last one. A code is a bytes object of one to four bytes, or the
+    number that they write, which then are `code_len` bytes. Where several declarations of a kind contain a code, the
+    last one decides. ValueError where the two codes have unequal lengths, or the last one comes before the first.
+
+    The name, the registry and the ordering are bytes, or a str, which stands for its UTF-8. What is None isn't said.
+    """
+
+    def __init__(
+        self,
+        name: Optional[Name] = None,
+        collection: Optional[Collection] = None,
+        writing_mode: Optional[WritingMode] = None,
+        code_len: int = 2,
+    ):
+        self._facts = facts_of(name, collection, writing_mode)
+        self._code_len = code_length(code_len)
+        self._declarations: List[Declaration] = []
+
+    def codespace(self, first: CodeOf, last: CodeOf) -> None:
+        """A codespace range: codes have this length, and each of their bytes lies between those of the two."""
+        self._declare(CODESPACE_RANGE, first, last)
+
+    def cid(self, first: CodeOf, last: CodeOf, cid: int) -> None:
+        """CIDs: the first code has this one, and they count on from code to code."""
+        self._declare(CID_RANGE, first, last, cid=cid)
+
+    def notdef(self, first: CodeOf, last: CodeOf, cid: int) -> None:
+        """The CID of each of the codes that has no other."""
+        self._declare(NOTDEF_RANGE, first, last, cid=cid)
+
+    def text(self, first: CodeOf, last: CodeOf, text: str) -> None:
+        """Texts: the first code has this one, whose last unit of UTF-16 counts on from code to code.
+
+        ValueError where it is empty, or has a surrogate that stands alone.
+        """
+        data = str.encode(text)
+        if not data:
+            raise ValueError("the text is empty")
+        self._declare(TEXT_RANGE, first, last, text=data)
+
+    def write(self) -> bytes:
+        """The text of the file, in the fewest declarations that give each code the same.
+
+        NotWritable where its name has a byte that no name has, as a blank.
+        """
+        table, count = (Declaration * (len(self._declarations) + 1))(*self._declarations), len(self._declarations)
+        data = put(library.hayro_cmap_make, self._facts, table, count, room_len=ROOM + count * ROOM_EACH)
+        if data is None:
+            raise NotWritable("no CMap file has this name")
+        return data
+
+    def _declare(self, kind, first, last, cid=0, text=b""):
+        (low, byte_len), (high, length) = (code_of(code, self._code_len) for code in (first, last))
+        if byte_len != length:
+            raise ValueError("the first and the last code have unequal lengths")
+        if high < low:
+            raise ValueError("the last code comes before the first")
+        self._declarations.append(Declaration(kind, byte_len, low, high, cid_number(cid), text, len(text)))
+
+
+def facts_of(name, collection, writing_mode):
+    """What a file says of itself, as the library takes it."""
+    data = b"" if name is None else name_of(name)
+    registry, ordering, supplement = ("", "", 0) if collection is None else collection
+    registry, ordering = name_of(registry), name_of(ordering)
+    return Facts(
+        *(data, len(data), registry, len(registry), ordering, len(ordering)),
+        supplement=number(supplement, -(2**31), 2**31 - 1, "the supplement"),
+        has_name=name is not None,
+        has_collection=collection is not None,
+        writing_mode=NO_MODE if writing_mode is None else WritingMode(writing_mode),
+    )
+
+
+def to_unicode(
+    texts: Mapping[CodeOf, str],
+    code_len: int = 2,
+    name: Optional[Name] = "Adobe-Identity-UCS",
+    collection: Optional[Collection] = ("Adobe", "UCS", 0),
+    codespaces: Optional[Iterable[Tuple[CodeOf, CodeOf]]] = None,
+) -> bytes:
+    """A ToUnicode CMap, which gives the codes of a font of a PDF file their texts (ISO 32000-1, 9.10.3).
+
+        to_unicode({1: "A", 2: "ffi"})
+
+    A code is a number, of `code_len` bytes, or a bytes object of one to four bytes. Without `codespaces`, pairs of the
+    first and the last code of a range, one range has all codes of the length. ValueError where codes have several
+    lengths and there are no `codespaces`; where two codes write the same number, since a text belongs to that; and as
+    CMapWriter has it.
+    """
+    writer, codes = CMapWriter(name, collection, code_len=code_len), {}
+    for code, text in texts.items():
+        value, length = code_of(code, code_len)
+        if value in codes:
+            raise ValueError(f"the code {value:#x} has two texts")
+        codes[value] = length
+        writer.text(code, code, text)
+    for first, last in whole(set(codes.values()) or {code_len}) if codespaces is None else codespaces:
+        writer.codespace(first, last)
+    return writer.write()
+
+
+def whole(lengths):
+    """The codespace range of all codes of the one length."""
+    if len(lengths) > 1:
+        raise ValueError("codes have several lengths, and there are no codespace ranges")
+    [length] = lengths
+    return [(bytes(length), b"\xff" * length)]
