@@ -1,9 +1,21 @@
-"""The examples that decode a string, in C, C++, Rust and Python; those of a bundle, of threads, of declarations and of a
-file in C; and those that write a ToUnicode CMap into a PDF file, in Rust and Python."""
+"""The examples that decode a string, in C, C++, Rust and Python; those of a bundle, of threads, of declarations and of
+files that are written, in C; and those that write a ToUnicode CMap into a PDF file, in Rust and Python."""
 
 from .checks import needs, run
-from .known import DECLARED, MADE, MADE_OF, REFUSED, STRINGS, WORDS
-from .known import declaring_file, has_debian_files, refused_files, rows_of_strings
+from .known import (
+    DECLARED,
+    MADE,
+    MADE_OF,
+    REFUSED,
+    STRINGS,
+    WORDS,
+    WRITTEN,
+    WRITTEN_FOR,
+    declaring_file,
+    has_debian_files,
+    refused_files,
+    rows_of_strings,
+)
 from .library import EXAMPLES, HELGRIND, MEMCHECK
 
 NATIVE = {"C": EXAMPLES / "decode.c", "C++": EXAMPLES / "decode.cc"}
@@ -12,6 +24,7 @@ THREADS = EXAMPLES / "threads.c"
 DECLARING = EXAMPLES / "declared.c"
 PREDEFINED = EXAMPLES / "predefined.c"
 MAKING = EXAMPLES / "to_unicode.c"
+WRITING = EXAMPLES / "subset.c"
 # what glyphs stand for, one of them twice
 GLYPHS = ["o", "ffi", "c", "e", "日", "\U0001F600", "é", "o"]
 
@@ -207,6 +220,30 @@ def test_c_makes_a_file(checks, setting):
     """The example of a ToUnicode CMap, plain and with the sanitizers."""
     for program in [setting.programs.path(MAKING), setting.programs.sanitized(MAKING)]:
         check_made_file(checks, setting, [program])
+
+
+def check_written_file(checks, setting, command):
+    """A command writes a file for some codes, which declared.c lists as those of the whole file."""
+    ran = run(*command, setting.once(declaring_file), *WRITTEN_FOR)
+    path = setting.work / "written"
+    path.write_text(ran.out)
+    checks.ended(f"{command_line(command)}: a file for some codes", run(setting.programs.path(DECLARING), path), WRITTEN)
+    ran = run(*command, setting.once(declaring_file), "0000000041")
+    checks.ended(f"{command_line(command)}: a code of five bytes", ran, "", status=1)
+
+
+@needs("gcc")
+def test_c_writes_a_file_for_some_codes(checks, setting):
+    """The example of a subset, plain and with the sanitizers."""
+    for program in [setting.programs.path(WRITING), setting.programs.sanitized(WRITING)]:
+        check_written_file(checks, setting, [program])
+
+
+@needs("gcc", "valgrind")
+def test_c_makes_and_writes_files_under_memcheck(checks, setting):
+    """Every block is freed, and no address is wrong."""
+    check_made_file(checks, setting, [*MEMCHECK, setting.programs.path(MAKING)])
+    check_written_file(checks, setting, [*MEMCHECK, setting.programs.path(WRITING)])
 
 
 def predefined_files(work):

@@ -56,6 +56,13 @@ text 3 3 006600660069
 text 4 4 D83DDE00
 text 5 5 0053
 """
+# codes for which subset.c writes the file of DECLARING, and what declared.c prints of that
+WRITTEN_FOR = ["41", "42", "8142", "8143"]
+WRITTEN = """cid <41> <41> 7
+cid <42> <42> 35
+cid <8142> <8143> 635
+text 41 42 0061
+"""
 # how many codes of two bytes have a CID in UniJIS-UTF16-H, that of poppler-data and the small one
 COUNT, SMALL_COUNT = 15391, 85
 
