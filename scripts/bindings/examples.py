@@ -1,5 +1,5 @@
-"""The examples that decode a string, in C, C++, Rust and Python; those of a bundle, of threads, of declarations and of a
-file in C; and those that write a ToUnicode CMap into a PDF file, in Rust and Python."""
+"""The examples that decode a string, in C, C++, Rust and Python; those of a bundle, of threads, of declarations and of
+files that are written, in C; and those that write a ToUnicode CMap into a PDF file, in Rust and Python."""
 
 from .checks import needs, run
 from .known import (
