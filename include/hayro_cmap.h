@@ -531,9 +531,9 @@ hayro_cmap_status hayro_cmap_make(const hayro_cmap_facts *facts,
 /* Writes the map as one CMap file, which uses no other: its text, which answers each code as the map does.
  * Where there are `codes`, it does so for these alone, and has nothing for others; none stand for all.
  *
- * The text is written as that of hayro_cmap_make is. With HAYRO_CMAP_REFUSED no one file answers so, where
- * in the layers the character of a text stands for a code before a CID of a layer below; or no text says
- * what the file would; or `codes` have a length outside 1 to 4. An empty handle is HAYRO_CMAP_ABSENT. Then, and with HAYRO_CMAP_NO_MEMORY, nothing is
+ * The text is written as that of hayro_cmap_make is. With HAYRO_CMAP_REFUSED no such file answers so, as
+ * where in the layers the character of a text stands for a code above a CID for it; or no text says what
+ * the file would; or `codes` have a length outside 1 to 4. An empty handle is HAYRO_CMAP_ABSENT. Then, and with HAYRO_CMAP_NO_MEMORY, nothing is
  * written. */
 hayro_cmap_status hayro_cmap_write(hayro_cmap *map, const hayro_cmap_codes *codes, size_t codes_len,
                                    uint8_t *room, size_t room_len, size_t *needed);

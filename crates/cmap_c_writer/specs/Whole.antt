@@ -24,11 +24,11 @@ abbrev pub AnswersFor : List ChosenCodes → List Layer → File → Type 0
 AnswersFor [] layers file = IsFlat layers file
 AnswersFor (one ∷ more) layers file = AnswersForChosen (one ∷ more) layers file
 
--- no one file has the answers for some code
+-- some code has a contradiction
 abbrev pub HasNoFlatFile : List Layer → Type 0
 HasNoFlatFile layers = (at : Contradiction) × Contradicts layers at
 
--- some codes have no length of one to four bytes, or no one file has the answers for a chosen code
+-- some codes have no length of one to four bytes, or a chosen one has a contradiction
 abbrev pub HasNoFileOfChosen : List ChosenCodes → List Layer → Type 0
 HasNoFileOfChosen chosen layers = Any (λ one. length_given one.byte_len ≡ None) chosen
     ⊎ ((codes : List Codes) × (map chosen_seen codes ≡ chosen) × (at : Contradiction) × IsContradiction layers codes at)
