@@ -39,7 +39,7 @@ int main(int words, char **word) {
     hayro_cmap_declaration *declarations = allocated(len * sizeof *declarations);
     declarations[0] = declaration(HAYRO_CMAP_CODESPACE_RANGE, 0, 0xFFFF, NULL);
     for (size_t i = 1; i < len; i++) declarations[i] = text_of(word[i]);
-    const uint8_t *name = hayro_cmap_bytes("Adobe-Identity-UCS2"), *registry = hayro_cmap_bytes("Adobe"),
+    const uint8_t *name = hayro_cmap_bytes("Adobe-Identity-UCS"), *registry = hayro_cmap_bytes("Adobe"),
                   *ordering = hayro_cmap_bytes("UCS");
     hayro_cmap_facts facts = {name, 19, registry, 5, ordering, 3, 0, 1, 1, HAYRO_CMAP_NO_MODE};
     size_t needed = 0;
