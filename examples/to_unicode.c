@@ -41,7 +41,7 @@ int main(int words, char **word) {
     for (size_t i = 1; i < len; i++) declarations[i] = text_of(word[i]);
     const uint8_t *name = hayro_cmap_bytes("Adobe-Identity-UCS"), *registry = hayro_cmap_bytes("Adobe"),
                   *ordering = hayro_cmap_bytes("UCS");
-    hayro_cmap_facts facts = {name, 19, registry, 5, ordering, 3, 0, 1, 1, HAYRO_CMAP_NO_MODE};
+    hayro_cmap_facts facts = {name, 18, registry, 5, ordering, 3, 0, 1, 1, HAYRO_CMAP_NO_MODE};
     size_t needed = 0;
     hayro_cmap_status status =
         hayro_cmap_make(&facts, declarations, len, hayro_cmap_room(NULL), 0, &needed);
