@@ -54,7 +54,10 @@ fn codes_of(alloc: Global, map: &CMap, strings: &[Vec<u8>]) -> Result<Vec<Codes>
 /// Adds the codes of a string.
 fn add_codes(codes: &mut Vec<Codes>, map: &CMap, string: &[u8]) -> Result<(), AllocError> {
     let mut rest = string;
-    while let Some(next) = map.next_code(rest) {
+    for _ in 0..string.len() {
+        let Some(next) = map.next_code(rest) else {
+            break;
+        };
         if let Some(len) = CodeLength::of(next.byte_len) {
             let (start, end) = (next.code, next.code);
             let range = Range { start, end };

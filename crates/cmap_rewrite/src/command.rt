@@ -14,6 +14,7 @@ use cmap_sources::status::ACCEPTED;
 use cmap_text_writer::{Obstacle, TextLengths, write_text_by};
 use cmap_values::fault::Fault;
 use cmap_values::file::File;
+use cmap_values::metadata::Metadata;
 use std::alloc::{AllocError, Global};
 
 /// What the arguments of `write` and `repair` ask for.
@@ -69,12 +70,13 @@ pub fn rewrite(
 fn finish(
     rt: &HostRuntime,
     options: &RewriteOptions<'_, '_>,
-    mut file: File<'_>,
+    file: File<'_>,
     bases: &Bases<'_>,
 ) -> Result<u8, Failure> {
-    if let Some(name) = options.name {
-        file.metadata.name = Some(Vec::from_slice(rt.alloc(), name.as_bytes())?);
-    }
+    let file = match options.name {
+        Some(name) => named(rt.alloc(), file, name)?,
+        None => file,
+    };
     let bytes = if options.is_binary {
         binary_of(rt, options.file, &file, bases.bundle)?
     } else {
@@ -87,6 +89,26 @@ fn finish(
     };
     Beside::write(rt, options.output, &bytes)?.put_in_place(rt)?;
     Ok(ACCEPTED)
+}
+
+/// The file with another name.
+fn named<'d>(alloc: Global, file: File<'d>, name: &str) -> Result<File<'d>, AllocError> {
+    let File {
+        metadata,
+        lists,
+        uses,
+    } = file;
+    let name = Some(Vec::from_slice(alloc, name.as_bytes())?);
+    let metadata = Metadata {
+        character_collection: metadata.character_collection,
+        name,
+        writing_mode: metadata.writing_mode,
+    };
+    Ok(File {
+        metadata,
+        lists,
+        uses,
+    })
 }
 
 /// Checks that the output isn't `-`.

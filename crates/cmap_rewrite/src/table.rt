@@ -92,7 +92,8 @@ impl Declared {
 
     /// Counts a length of the codes of a text.
     fn add_text_length(&mut self, len: CodeLength) {
-        self.text_codes = match self.text_codes {
+        let before = self.text_codes;
+        self.text_codes = match before {
             TextCodes::Absent => TextCodes::Same(len),
             TextCodes::Same(other) if other == len => TextCodes::Same(len),
             TextCodes::Same(_) | TextCodes::Several => TextCodes::Several,
