@@ -94,7 +94,8 @@ const STRINGS: Arguments = Arguments {
     help: "Strings, two hexadecimal digits for each byte; - reads them from the standard input",
 };
 
-const SUBCOMMANDS: &[Form] = &[
+/// The subcommands that say what files are.
+const OF_FILES: &[Form] = &[
     Form {
         name: "info",
         about: "Prints what files say: their names, codespace ranges, declarations and layers",
@@ -166,6 +167,10 @@ const SUBCOMMANDS: &[Form] = &[
             help: "CMap files, and folders of them; - is the standard input",
         }),
     },
+];
+
+/// The subcommands for strings, codes and names.
+const OF_STRINGS: &[Form] = &[
     Form {
         name: "decode",
         about: "Prints the codes of strings, with their CIDs and their texts",
@@ -181,6 +186,18 @@ const SUBCOMMANDS: &[Form] = &[
         arguments: Some(STRINGS),
     },
     Form {
+        name: "lookup",
+        about: "Prints the CIDs and the texts of single codes",
+        flags: &[BASE, BUNDLE, NO_PREDEFINED, JSON, BUDGET, LENIENT],
+        files: &[CMAP_FILE],
+        arguments: Some(Arguments {
+            id: ARGUMENT,
+            value_name: "CODE",
+            unless: None,
+            help: "L:HEX for the CID of a code of L bytes, bf:HEX for the text of a code",
+        }),
+    },
+    Form {
         name: "where",
         about: "Prints the paths of the files that names stand for",
         flags: &[BASE, BUNDLE, NO_PREDEFINED, JSON],
@@ -192,6 +209,10 @@ const SUBCOMMANDS: &[Form] = &[
             help: "Names of CMaps",
         }),
     },
+];
+
+/// The subcommands that write files.
+const WRITING: &[Form] = &[
     Form {
         name: "bundle",
         about: "Makes a bundle of the files that have known names",
@@ -236,25 +257,36 @@ const SUBCOMMANDS: &[Form] = &[
         files: &[TABLE],
         arguments: None,
     },
-    Form {
-        name: "lookup",
-        about: "Prints the CIDs and the texts of single codes",
-        flags: &[BASE, BUNDLE, NO_PREDEFINED, JSON, BUDGET, LENIENT],
-        files: &[CMAP_FILE],
-        arguments: Some(Arguments {
-            id: ARGUMENT,
-            value_name: "CODE",
-            unless: None,
-            help: "L:HEX for the CID of a code of L bytes, bf:HEX for the text of a code",
-        }),
-    },
 ];
 
 /// The command line of `cmap`.
 pub(crate) fn command<'a>(alloc: Global) -> Result<Command<'a>, AllocError> {
-    let mut command = program(alloc)?;
-    for subcommand in SUBCOMMANDS {
-        command = command.subcommand(subcommand.command(alloc)?)?;
+    let command = add_of_files(alloc, program(alloc)?)?;
+    let command = add_of_strings(alloc, command)?;
+    add_writing(alloc, command)
+}
+
+// A list of subcommands takes many steps to check, so each has a function of its own.
+fn add_of_files<'a>(alloc: Global, command: Command<'a>) -> Result<Command<'a>, AllocError> {
+    add_forms(alloc, command, OF_FILES)
+}
+
+fn add_of_strings<'a>(alloc: Global, command: Command<'a>) -> Result<Command<'a>, AllocError> {
+    add_forms(alloc, command, OF_STRINGS)
+}
+
+fn add_writing<'a>(alloc: Global, command: Command<'a>) -> Result<Command<'a>, AllocError> {
+    add_forms(alloc, command, WRITING)
+}
+
+/// Adds subcommands.
+fn add_forms<'a>(
+    alloc: Global,
+    mut command: Command<'a>,
+    forms: &[Form],
+) -> Result<Command<'a>, AllocError> {
+    for form in forms {
+        command = command.subcommand(form.command(alloc)?)?;
     }
     Ok(command)
 }

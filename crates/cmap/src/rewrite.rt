@@ -55,7 +55,7 @@ impl<'m, 'w> Rewriting<'m, 'w> {
                 is_tidy: true,
                 name: None,
                 is_binary: false,
-                codes: &[],
+                codes: CODES.texts(arguments),
             },
             sources: Sources::of(arguments),
         }
