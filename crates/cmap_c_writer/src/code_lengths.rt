@@ -6,7 +6,7 @@ ghost use Rattle.cmap_c_writer.specs.Given.{length_given};
 
 use cmap_values::code_length::CodeLength;
 
-/// The length of codes of so many bytes; `None` unless these are one to four.
+/// The length of codes of `count` bytes; `None` unless these are one to four.
 pub(crate) fn code_length(count: u32) -> Option<CodeLength>
     ensures { option_map length_of result ≡ length_given count }
 {

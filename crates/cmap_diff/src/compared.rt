@@ -16,7 +16,7 @@ pub(crate) struct Comparison {
     pub(crate) more: u32,
 }
 
-/// How the CIDs of two maps compare from a first code on, for at most so many further codes.
+/// How the CIDs of two maps compare from a first code on, for up to `most` further codes.
 pub(crate) fn compared(left: Cids, right: Cids, most: u32) -> Comparison
     ensures within { result.more ≤ most }
     ensures answers { (k : ℕ) → k ≤ result.more

@@ -33,7 +33,7 @@ pub(crate) fn whole(front: Cids, first: Range, back: Cids, then: Range) -> Optio
         && count_from(back, back_more, next)).then_some(Cids::CountOn(begin))
 }
 
-/// Whether the first code and so many further ones have this CID, or none has one.
+/// Whether the first code and `more` further ones have this CID, or none has one.
 fn are_all(cids: Cids, more: u32, cid: Option<Cid>) -> bool
     ensures { IsTrue result ↔ ((k : ℕ) → k ≤ more → cid_after cids k ≡ cid) }
 {
@@ -43,7 +43,7 @@ fn are_all(cids: Cids, more: u32, cid: Option<Cid>) -> bool
     }
 }
 
-/// Whether the first code and so many further ones have the CIDs that count on from this one.
+/// Whether the first code and `more` further ones have the CIDs that count on from this one.
 fn count_from(cids: Cids, more: u32, cid: u64) -> bool
     ensures { IsTrue result ↔ ((k : ℕ) → k ≤ more → cid_after cids k ≡ Some (cid + k)) }
 {

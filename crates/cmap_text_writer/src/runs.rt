@@ -170,7 +170,7 @@ fn count_row(start: u32, entries: &[BfRange]) -> usize
     most
 }
 
-/// Whether a range is the single code that stands so many after a start, in one row with it.
+/// Whether a range is the single code that stands `place` codes after a start, in one row with it.
 fn is_in_row(start: u32, place: u32, range: &Range) -> bool
     ensures start { IsTrue result → range.now.start ≡ start + place }
     ensures end { IsTrue result → range.now.end ≡ start + place }
