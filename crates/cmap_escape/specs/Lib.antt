@@ -1,3 +1,4 @@
 pub mod Escapes
 pub mod Json
+pub mod Paths
 pub mod Shown

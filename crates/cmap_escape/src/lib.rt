@@ -6,3 +6,4 @@ pub mod digits;
 pub mod escape;
 pub mod json;
 pub mod object;
+pub mod path;

@@ -2,10 +2,10 @@
 
 use crate::failure::Failure;
 use crate::inputs::{readable, report_unreadable};
+use crate::system::{Kind, is_real_folder, kind_of, paths_in};
 use cmap_escape::count::Count;
 use std::alloc::{AllocError, Global};
-use std::fs::{self, DirEntry, read_dir};
-use std::io;
+use std::io::{self, ErrorKind};
 
 /// The most folders that are read. The loop over folders ends because each is read once and links aren't followed, but
 /// no clause says how many a file system has: so it has this bound, which no run reaches.
@@ -24,17 +24,27 @@ pub struct Found {
 
 /// Whether a folder has this path.
 pub fn is_folder(rt: &HostRuntime, path: &str) -> bool {
-    match fs::metadata(rt, path) {
-        Ok(metadata) => metadata.is_dir(),
-        Err(_) => false,
-    }
+    matches!(kind_of(rt, path), Ok(Kind::Folder))
 }
 
 /// Whether a file has this path.
 pub fn is_file(rt: &HostRuntime, path: &str) -> bool {
-    match fs::metadata(rt, path) {
-        Ok(metadata) => !metadata.is_dir(),
-        Err(_) => false,
+    matches!(kind_of(rt, path), Ok(Kind::File))
+}
+
+/// Why no file has this path.
+pub fn why_no_file(rt: &HostRuntime, path: &str) -> io::Error {
+    match kind_of(rt, path) {
+        Ok(_) => io::Error::from(ErrorKind::IsADirectory),
+        Err(error) => error,
+    }
+}
+
+/// Why no folder has this path.
+pub fn why_no_folder(rt: &HostRuntime, path: &str) -> io::Error {
+    match kind_of(rt, path) {
+        Ok(_) => io::Error::from(ErrorKind::NotADirectory),
+        Err(error) => error,
     }
 }
 
@@ -55,7 +65,7 @@ pub fn add_with_subfolders(
 ) -> Result<(), Failure> {
     folders.push(String::from_str(rt.alloc(), folder)?)?;
     let mut found = Found::new(rt.alloc());
-    if readable(found.add_entries(rt, folder))?.is_some() {
+    if readable(found.add_entries(rt, folder))?.is_ok() {
         found.waiting.sort()?;
         folders.append(&mut found.waiting)?;
     }
@@ -85,27 +95,27 @@ impl Found {
 
     /// Adds what lies in a folder, or reports that it can't be read.
     fn add_folder(&mut self, rt: &HostRuntime, folder: &str) -> Result<(), Failure> {
-        if readable(self.add_entries(rt, folder))?.is_none() {
-            report_unreadable(rt, folder)?;
+        if let Err(error) = readable(self.add_entries(rt, folder))? {
+            report_unreadable(rt, folder, &error)?;
             self.unreadable.add_one();
         }
         Ok(())
     }
 
     fn add_entries(&mut self, rt: &HostRuntime, folder: &str) -> io::Result<()> {
-        for entry in read_dir(rt, folder)? {
-            self.add(rt, &entry?)?;
+        for path in &paths_in(rt, folder)? {
+            self.add(rt, path.as_str())?;
         }
         Ok(())
     }
 
-    /// Adds an entry of a folder, unless it is hidden.
-    fn add(&mut self, rt: &HostRuntime, entry: &DirEntry) -> io::Result<()> {
-        if entry.file_name().starts_with('.') {
+    /// Adds what has a path in a folder, unless it is hidden.
+    fn add(&mut self, rt: &HostRuntime, path: &str) -> io::Result<()> {
+        if name_of(path).starts_with('.') {
             return Ok(());
         }
-        let is_folder = entry.file_type()?.is_dir();
-        Ok(self.add_path(rt, entry.path().as_str(), is_folder)?)
+        let is_waiting = is_real_folder(rt, path)?;
+        Ok(self.add_path(rt, path, is_waiting)?)
     }
 
     /// Adds a file, or a folder that isn't read yet. A link to a folder isn't followed.

@@ -3,6 +3,7 @@
 #![tactic(auto)]
 
 pub mod alone;
+pub mod arguments;
 pub mod bases;
 pub mod beside;
 pub mod failure;
@@ -10,9 +11,11 @@ pub mod fault_line;
 pub mod file_bytes;
 pub mod file_names;
 pub mod folders;
+pub mod format;
 pub mod inputs;
 pub mod paths;
 pub mod reading;
 pub mod refused;
 pub mod search;
 pub mod status;
+pub mod system;
